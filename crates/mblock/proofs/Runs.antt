@@ -16,7 +16,7 @@ use Rattle.mblock.specs.Parts.{OrderParts}
 use Rattle.mblock.specs.Slots.{is_slotted}
 use Rattle.mblock.specs.BlockMeaning.{exit_shape, exit_reads, exit_puts, Departure, depart, Outcome}
 use Rattle.mblock.specs.OrderMeaning.{exit_touches, puts_number, exit_word, slot_word, ends, operand_words, system_word, system_call, jump, order_leaves, order_left, order_effect}
-use Rattle.mblock.specs.Clean.{slot_actions, FitsSlot, kinds, IsClean}
+use Rattle.mblock.specs.Clean.{slot_actions, FitsSlot, kinds, kinds_of, IsClean}
 
 -- the actions one after another, safe or not
 abbrev pub total : List Action → State → State
@@ -26,9 +26,6 @@ total (a ∷ rest) s = total rest (after a s)
 abbrev pub AllSafe : List Action → State → Type 0
 AllSafe [] s = Unit {0}
 AllSafe (a ∷ rest) s = (is_safe a s ≡ true) × AllSafe rest (after a s)
-
-abbrev pub kinds_of : List Plain → List (Option Action) → List (Option Action)
-kinds_of insts tail = map (λ i. Some (action_of i)) insts ++ tail
 
 -- what the rest of an order, and the machine before it, keep
 pub record Ready (insts : List Plain) (exit : Exit) (tail : List (Option Action)) (f : Flow) : Type 0 where

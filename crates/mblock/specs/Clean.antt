@@ -1,10 +1,11 @@
 -- The delay rules that an order keeps so that no word of it comes too early, by places in the order.
-use Rattle.std.specs.Prelude.{◌≡◌, ℕ, suc, Bool, true, false, ◌⊎◌, ◌&&◌, ◌||◌, List, [], ◌∷◌, ◌++◌, map, length, Option, Some, None, is_some, slice_get}
+use Rattle.std.specs.Prelude.{◌≡◌, ℕ, suc, ◌+◌, Bool, true, false, ◌⊎◌, ◌&&◌, ◌||◌, List, [], ◌∷◌, ◌++◌, map, length, Option, Some, None, is_some, slice_get}
 use Rattle.mips_isa.specs.declared.inst.Plain.{Plain}
 use Rattle.mips_isa.specs.declared.action.Action.{Action}
 use Rattle.mips_isa.specs.declared.action.Action.TheVariants.{Loads}
 use Rattle.mips_isa.specs.States.{is_register}
 use Rattle.mips_isa.specs.Actions.{action_of, loads, touches, is_load, is_move, is_product}
+use Rattle.mblock.specs.declared.exit.Exit.{Exit}
 use Rattle.mblock.specs.declared.unclean.Unclean.{Unclean}
 use Rattle.mblock.specs.declared.unclean.Unclean.TheVariants.{U1, U2, U3, U4}
 use Rattle.mblock.specs.Parts.{OrderParts}
@@ -20,8 +21,14 @@ abbrev pub FitsSlot : OrderParts → Type 0
 FitsSlot o = is_some o.slot ≡ is_slotted o.exit
 
 -- the words of an order, its exit as one of no kind
+abbrev pub kinds_of : List Plain → List (Option Action) → List (Option Action)
+kinds_of insts tail = map (λ i. Some (action_of i)) insts ++ tail
+
+abbrev pub slot_words : Option Plain → List (Option Action)
+slot_words slot = None ∷ map Some (slot_actions slot)
+
 abbrev pub kinds : OrderParts → List (Option Action)
-kinds o = map (λ i. Some (action_of i)) o.insts ++ (None ∷ map Some (slot_actions o.slot))
+kinds o = kinds_of o.insts (slot_words o.slot)
 
 -- no instruction reads or writes the register that the one just before it loads
 abbrev pub IsApart : List Plain → Type 0
@@ -36,23 +43,42 @@ abbrev pub HasQuietSlot : OrderParts → Type 0
 HasQuietSlot o = (i : Plain) → o.slot ≡ Some i → (is_load (action_of i) || is_move (action_of i)) ≡ false
 
 -- the last instruction loads no register that the first word of the exit reads or writes
-abbrev pub HasQuietEnd : OrderParts → Type 0
-HasQuietEnd o = (i r : ℕ) (a : Plain) → slice_get o.insts i ≡ Some a → suc i ≡ length o.insts → loads (action_of a) r ≡ true → exit_touches o.exit r ≡ false
+abbrev pub HasQuietEnd : List Plain → Exit → Type 0
+HasQuietEnd insts exit = (i r : ℕ) (a : Plain) → slice_get insts i ≡ Some a → suc i ≡ length insts → loads (action_of a) r ≡ true → exit_touches exit r ≡ false
 
 pub record IsClean (o : OrderParts) : Type 0 where
   pub apart : IsApart o.insts
   pub behind : IsBehind (kinds o)
   pub slot : HasQuietSlot o
-  pub last : HasQuietEnd o
+  pub last : HasQuietEnd o.insts o.exit
 
 -- the rule is the least that the order breaks
 abbrev pub BreaksFirst : Unclean → OrderParts → Type 0
 BreaksFirst U1 o = IsApart o.insts → ⊥
 BreaksFirst U2 o = IsApart o.insts × (IsBehind (kinds o) → ⊥)
 BreaksFirst U3 o = IsApart o.insts × IsBehind (kinds o) × (HasQuietSlot o → ⊥)
-BreaksFirst U4 o = IsApart o.insts × IsBehind (kinds o) × HasQuietSlot o × (HasQuietEnd o → ⊥)
+BreaksFirst U4 o = IsApart o.insts × IsBehind (kinds o) × HasQuietSlot o × (HasQuietEnd o.insts o.exit → ⊥)
 
 -- the action loads a register that the test names
 abbrev pub loads_named : Action → (ℕ → Bool) → Bool
 loads_named (Loads d base offset) test = is_register d && test d
 loads_named _ test = false
+
+-- the word is a product
+abbrev pub is_product_word : Option (Option Action) → Bool
+is_product_word (Some (Some a)) = is_product a
+is_product_word _ = false
+
+abbrev pub is_move_word : Option (Option Action) → Bool
+is_move_word (Some (Some a)) = is_move a
+is_move_word _ = false
+
+-- the first of two instructions loads what the second names
+abbrev pub conflict_of : Option Plain → Option Plain → Bool
+conflict_of (Some a) (Some b) = loads_named (action_of a) (touches (action_of b))
+conflict_of (Some a) None = false
+conflict_of None second = false
+
+-- word k reads HI or LO, and one of the next two is a product
+abbrev pub early_at : List (Option Action) → ℕ → Bool
+early_at words k = is_move_word (slice_get words k) && (is_product_word (slice_get words (k + 1)) || is_product_word (slice_get words (k + 2)))

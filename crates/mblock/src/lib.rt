@@ -6,12 +6,14 @@
 #![tactic(auto)]
 
 mod block;
+mod delays;
 mod exit;
 mod number;
 mod order;
 mod unclean;
 
 pub use block::Block;
+pub use delays::clean;
 pub use exit::Exit;
 pub use number::BlockNumber;
 pub use order::Order;

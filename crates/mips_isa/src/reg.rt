@@ -135,7 +135,9 @@ impl NonzeroReg {
 
     /// The same register among all 32.
     pub fn reg(self) -> Reg
-        ensures { result ≡ self }
+        ensures value { result ≡ self }
+        ensures nonzero { 0 < self }
+        ensures range { self < 32 }
     {
         Reg { index: self.index }
     }

@@ -1,0 +1,12 @@
+use Rattle.std.proofs.Common.{◌≡◌, ℕ, ◌<◌, ◌+◌, length, slice_get, true, false, refl, sym, ◌∙◌, true≢false, arith}
+use Rattle.mblock.specs.Clean.{early_at, kinds_of, slot_words}
+use Rattle.mblock.proofs.WordPlaces.{behind_is, behind_not, below_next}
+use Rattle.mblock.proofs.delays.is_behind.Goals as goal
+
+pub loop-k-preserved : goal.loop-k-preserved
+loop-k-preserved c =
+    below_next (early_at (kinds_of c.args.insts.now (slot_words c.args.slot.now))) c.loop-k.k c.loop-k.invariant (sym c.is_early_at.ensures ∙ c.if-is_early_at.false)
+
+pub returns : goal.returns
+returns c =
+    (λ _. behind_is c.args.insts.now c.args.slot.now (λ k lt. c.loop-k.invariant k (omega (arith, lt))), λ _. refl)

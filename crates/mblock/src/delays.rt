@@ -1,0 +1,181 @@
+ghost use Rattle.std.specs.Prelude.{◌≡◌, ℕ, ◌+◌, ◌<◌, ◌≤◌, ◌↔◌, IsTrue, Bool, List, Option, slice_get, length, MatchResult};
+ghost use Rattle.mips_isa.specs.declared.inst.Plain.{Plain};
+ghost use Rattle.mips_isa.specs.Actions.{action_of, touches};
+ghost use Rattle.mblock.specs.OrderMeaning.{exit_touches};
+ghost use Rattle.mblock.specs.Clean.{loads_named, is_product_word, conflict_of, early_at, kinds_of, kinds, IsApart, IsBehind, HasQuietSlot, HasQuietEnd, IsClean, BreaksFirst, slot_words};
+
+use crate::exit::Exit;
+use crate::order::Order;
+use crate::unclean::Unclean;
+use mips_isa::{Action, Plain, Reg};
+
+/// The exit's first word reads or writes the register.
+fn exit_names(exit: &Exit, r: Reg) -> bool
+    ensures { result ≡ exit_touches exit.now r }
+{
+    let is = |q: u8| -> bool { q == r.index() };
+    match *exit {
+        Exit::Goto(_) => false,
+        Exit::BranchPair {
+            test: _,
+            rs,
+            rt,
+            then: _,
+            other: _,
+        } => { rs.index() == r.index() || rt.index() == r.index() }
+        Exit::BranchZero {
+            test: _,
+            rs,
+            then: _,
+            other: _,
+        } => rs.index() == r.index(),
+        Exit::Call {
+            function: _,
+            next: _,
+        } => is(31),
+        Exit::Return => is(31),
+        Exit::Out(_) => is(2) || is(0),
+        Exit::Halt => is(2) || is(0),
+    }
+}
+
+/// The first action loads a register that the second reads or writes.
+fn loads_for(a: &Action, b: &Action) -> bool
+    ensures { result ≡ loads_named a.now (touches b.now) }
+{
+    match *a {
+        Action::Loads {
+            d,
+            base: _,
+            offset: _,
+        } => b.touches(d.reg()),
+        _ => false,
+    }
+}
+
+/// The action loads a register that the exit's first word reads or writes.
+fn loads_for_exit(a: &Action, exit: &Exit) -> bool
+    ensures { result ≡ loads_named a.now (exit_touches exit.now) }
+{
+    match *a {
+        Action::Loads {
+            d,
+            base: _,
+            offset: _,
+        } => exit_names(exit, d.reg()),
+        _ => false,
+    }
+}
+
+/// Instruction `k` loads a register that the next one reads or writes.
+fn is_conflict_at(insts: &[Plain], k: usize) -> bool
+    requires { k ≤ 2048 }
+    ensures { result ≡ conflict_of (slice_get insts.now k) (slice_get insts.now (k + 1)) }
+{
+    let Some(first) = insts.get(k) else {
+        return false;
+    };
+    let Some(second) = insts.get(k + 1) else {
+        return false;
+    };
+    loads_for(&first.action(), &second.action())
+}
+
+fn is_apart(insts: &[Plain]) -> bool
+    requires { length insts.now ≤ 2048 }
+    ensures { IsTrue result ↔ IsApart insts.now }
+{
+    for k in 0..insts.len() {
+        if is_conflict_at(insts, k) {
+            return false;
+        }
+    }
+    true
+}
+
+fn is_slot_product(slot: &Option<Plain>) -> bool
+    ensures { result ≡ is_product_word (slice_get (slot_words slot.now) 1) }
+{
+    match slot {
+        Some(inst) => inst.action().is_product(),
+        None => false,
+    }
+}
+
+/// Whether word `k` of an order is a product: an instruction, the exit's word, or the slot.
+fn is_product_at(insts: &[Plain], slot: &Option<Plain>, k: usize) -> bool
+    requires low { k ≤ 4096 }
+    requires few { length insts.now ≤ 2048 }
+    ensures { result ≡ is_product_word (slice_get (kinds_of insts.now (slot_words slot.now)) k) }
+{
+    if k < insts.len() {
+        return insts[k].action().is_product();
+    }
+    k == insts.len() + 1 && is_slot_product(slot)
+}
+
+/// Instruction `k` reads HI or LO, and one of the two words behind it is a product.
+fn is_early_at(insts: &[Plain], slot: &Option<Plain>, k: usize) -> bool
+    requires low { k < length insts.now }
+    requires few { length insts.now ≤ 2048 }
+    ensures { result ≡ early_at (kinds_of insts.now (slot_words slot.now)) k }
+{
+    insts[k].action().is_move()
+        && (is_product_at(insts, slot, k + 1) || is_product_at(insts, slot, k + 2))
+}
+
+fn is_behind(insts: &[Plain], slot: &Option<Plain>) -> bool
+    requires { length insts.now ≤ 2048 }
+    ensures { IsTrue result ↔ IsBehind (kinds_of insts.now (slot_words slot.now)) }
+{
+    for k in 0..insts.len() {
+        if is_early_at(insts, slot, k) {
+            return false;
+        }
+    }
+    true
+}
+
+fn is_quiet_slot(order: &Order) -> bool
+    ensures { IsTrue result ↔ HasQuietSlot order.now }
+{
+    match order.slot() {
+        Some(inst) => {
+            let action = inst.action();
+            !(action.is_load() || action.is_move())
+        }
+        None => true,
+    }
+}
+
+/// The last instruction loads no register that the exit's first word reads or writes.
+fn is_quiet_end(insts: &[Plain], exit: &Exit) -> bool
+    ensures { IsTrue result ↔ HasQuietEnd insts.now exit.now }
+{
+    if insts.is_empty() {
+        return true;
+    }
+    let last = insts.len() - 1;
+    !loads_for_exit(&insts[last].action(), exit)
+}
+
+/// Whether an order keeps the delay rules; else the least rule that it breaks.
+pub fn clean(order: &Order) -> Result<(), Unclean>
+    ensures { MatchResult result (λ _. IsClean order.now) (λ rule. BreaksFirst rule order.now) }
+{
+    if !is_apart(order.insts()) {
+        return Err(Unclean::U1);
+    }
+    let slot = order.slot();
+    if !is_behind(order.insts(), &slot) {
+        return Err(Unclean::U2);
+    }
+    if !is_quiet_slot(order) {
+        return Err(Unclean::U3);
+    }
+    let exit = order.exit();
+    if !is_quiet_end(order.insts(), &exit) {
+        return Err(Unclean::U4);
+    }
+    Ok(())
+}
