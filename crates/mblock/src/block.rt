@@ -1,0 +1,52 @@
+ghost use Rattle.std.specs.Prelude.{◌≡◌, ℕ, List, ◌≤◌, length};
+ghost use Rattle.std.specs.Option.{SomeIff};
+
+use crate::exit::Exit;
+use mips_isa::Plain;
+use std::marker::Model;
+
+/// A basic block: at most 512 instructions, and an exit.
+#[derive(Drop)]
+pub struct Block {
+    insts: Vec<Plain>,
+    exit: Exit,
+}
+
+impl Model for Block {
+    ghost use Rattle.std.specs.Prelude.{◌≤◌, length};
+    ghost use Rattle.mblock.specs.Parts.{BlockParts};
+
+    ghost Value = { BlockParts };
+
+    ghost view = { λ b. record { insts = b.insts.items; exit = b.exit } };
+
+    ghost invariant = { λ b. length b.insts.items ≤ 512 };
+}
+
+impl Block {
+    /// A block of these parts, if there are at most 512 instructions.
+    pub fn new(insts: Vec<Plain>, exit: Exit) -> Option<Block>
+        ensures { SomeIff result (length insts.items ≤ 512) (record { insts = insts.items; exit = exit }) }
+    {
+        if insts.len() <= 512 {
+            Some(Block { insts, exit })
+        } else {
+            None
+        }
+    }
+
+    /// The instructions, in the order of the source.
+    pub fn insts(&self) -> &[Plain]
+        ensures value { result.now ≡ self.now.insts }
+        ensures limit { length self.now.insts ≤ 512 }
+    {
+        self.insts.as_slice()
+    }
+
+    /// How it is left.
+    pub fn exit(&self) -> Exit
+        ensures { result ≡ self.now.exit }
+    {
+        self.exit
+    }
+}

@@ -1,0 +1,43 @@
+ghost use Rattle.std.specs.Prelude.{◌≡◌, ℕ, ◌<◌, ◌^◌};
+ghost use Rattle.std.specs.Option.{SomeIff};
+
+use std::marker::Model;
+
+/// The number of a block, below 2^20.
+#[derive(Clone, Copy, Debug, PartialEq, Eq)]
+pub struct BlockNumber {
+    number: u32,
+}
+
+impl Model for BlockNumber {
+    ghost use Rattle.std.specs.Prelude.{◌<◌, ◌^◌, ℕ};
+
+    ghost Value = { ℕ };
+
+    ghost view = { λ b. b.number };
+
+    ghost invariant = { λ b. b.number < 2 ^ 20 };
+
+    ghost inverse = { λ n. record { number = n } };
+}
+
+impl BlockNumber {
+    /// The block with this number, if it is below 2^20.
+    pub fn new(number: u32) -> Option<BlockNumber>
+        ensures { SomeIff result (number < 2 ^ 20) number }
+    {
+        if number < 1048576 {
+            Some(BlockNumber { number })
+        } else {
+            None
+        }
+    }
+
+    /// The number, below 2^20.
+    pub fn number(self) -> u32
+        ensures value { result ≡ self }
+        ensures range { self < 2 ^ 20 }
+    {
+        self.number
+    }
+}

@@ -1,0 +1,62 @@
+ghost use Rattle.std.specs.Prelude.{◌≡◌, ℕ, List, ◌≤◌, length, is_some};
+ghost use Rattle.std.specs.Option.{SomeIff};
+ghost use Rattle.mblock.specs.Slots.{is_slotted};
+
+use crate::exit::Exit;
+use mips_isa::Plain;
+use std::marker::Model;
+
+/// A proposed order of a block: at most 2,048 instructions, an exit, and what runs in its slot.
+#[derive(Drop)]
+pub struct Order {
+    insts: Vec<Plain>,
+    exit: Exit,
+    slot: Option<Plain>,
+}
+
+impl Model for Order {
+    ghost use Rattle.std.specs.Prelude.{◌≤◌, ◌≡◌, length, is_some};
+    ghost use Rattle.mblock.specs.Parts.{OrderParts};
+    ghost use Rattle.mblock.specs.Slots.{is_slotted};
+
+    ghost Value = { OrderParts };
+
+    ghost view = { λ o. record { insts = o.insts.items; exit = o.exit; slot = o.slot } };
+
+    ghost invariant = { λ o. (length o.insts.items ≤ 2048) × (is_some o.slot ≡ is_slotted o.exit) };
+}
+
+impl Order {
+    /// An order of these parts, if there are at most 2048 instructions, and a slot where the exit has one.
+    pub fn new(insts: Vec<Plain>, exit: Exit, slot: Option<Plain>) -> Option<Order>
+        ensures { SomeIff result ((length insts.items ≤ 2048) × (is_some slot ≡ is_slotted exit)) (record { insts = insts.items; exit = exit; slot = slot }) }
+    {
+        if insts.len() <= 2048 && slot.is_some() == exit.has_slot() {
+            Some(Order { insts, exit, slot })
+        } else {
+            None
+        }
+    }
+
+    /// The instructions, in the order of their words.
+    pub fn insts(&self) -> &[Plain]
+        ensures value { result.now ≡ self.now.insts }
+        ensures limit { length self.now.insts ≤ 2048 }
+    {
+        self.insts.as_slice()
+    }
+
+    /// How it is left.
+    pub fn exit(&self) -> Exit
+        ensures { result ≡ self.now.exit }
+    {
+        self.exit
+    }
+
+    /// What runs behind the exit word: Some exactly where the exit has a slot.
+    pub fn slot(&self) -> Option<Plain>
+        ensures { result ≡ self.now.slot }
+    {
+        self.slot
+    }
+}

@@ -1,0 +1,16 @@
+//! The instructions of MIPS I in use, their words, and what they do (Kane, MIPS RISC Architecture).
+//!
+//! `encode` and `decode` are inverse on the table of words, which is what the layers above use.
+//! `Plain::action` turns each of the forty instructions that compute, load or store into one of nine
+//! actions; blocks, orders, cleanliness, terms and the machine are defined over actions alone.
+//! The definitions: `specs/Words.antt` (the words), `specs/Ranges.antt` (each field's range),
+//! `specs/Actions.antt` (what an instruction does), `specs/States.antt` (registers and memory).
+#![tactic(auto)]
+
+mod inst;
+mod reg;
+
+pub use inst::{
+    AluOp, Control, HiLo, ImmOp, Inst, JumpOp, LogicOp, PairTest, Plain, ShiftOp, ZeroTest,
+};
+pub use reg::{Amount, JumpTarget, NonzeroReg, Reg};
