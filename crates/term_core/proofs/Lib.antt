@@ -7,3 +7,4 @@ pub mod Joining
 pub mod Reaching
 pub mod Does
 pub mod EachItem
+pub mod Last
