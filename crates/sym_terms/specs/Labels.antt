@@ -1,0 +1,88 @@
+-- The words of labels: the kind in the upper 32 bits, the content in the lower.
+use Rattle.std.specs.Prelude.{ℕ, ◌+◌, ◌*◌, ◌/◌, ◌%◌, ◌^◌, ◌&&◌, Bool, true, Option, Some, None, if◌then◌else◌, ◌==◌, nat_lt}
+use Rattle.words.specs.declared.operator.Operator.{Operator}
+use Rattle.words.specs.declared.operator.Operator.TheVariants.{Addu, Subu, And, Or, Xor, Nor, Slt, Sltu, Sll, Srl, Sra, MultHigh, MultLow, MultuHigh, MultuLow, DivQuotient, DivRemainder, DivuQuotient, DivuRemainder}
+use Rattle.sym_terms.specs.declared.label.Place.{Place}
+use Rattle.sym_terms.specs.declared.label.Place.TheVariants.{Register, Hi, Lo, Link}
+use Rattle.sym_terms.specs.declared.label.Label.{Label}
+use Rattle.sym_terms.specs.declared.label.Label.TheVariants.{Init, Mem0, Const, Op, Load, Store}
+
+abbrev pub operator_code : Operator → ℕ
+operator_code Addu = 0
+operator_code Subu = 1
+operator_code And = 2
+operator_code Or = 3
+operator_code Xor = 4
+operator_code Nor = 5
+operator_code Slt = 6
+operator_code Sltu = 7
+operator_code Sll = 8
+operator_code Srl = 9
+operator_code Sra = 10
+operator_code MultHigh = 11
+operator_code MultLow = 12
+operator_code MultuHigh = 13
+operator_code MultuLow = 14
+operator_code DivQuotient = 15
+operator_code DivRemainder = 16
+operator_code DivuQuotient = 17
+operator_code DivuRemainder = 18
+
+-- the operator that has this code
+abbrev pub operator_at : ℕ → Option Operator
+operator_at n =
+    if n == 0 then Some Addu else (if n == 1 then Some Subu else (if n == 2 then Some And else (if n == 3 then Some Or else (if n == 4 then Some Xor else (if n == 5 then Some Nor else (if n == 6 then Some Slt else (if n == 7 then Some Sltu else (if n == 8 then Some Sll else (if n == 9 then Some Srl else (if n == 10 then Some Sra else (if n == 11 then Some MultHigh else (if n == 12 then Some MultLow else (if n == 13 then Some MultuHigh else (if n == 14 then Some MultuLow else (if n == 15 then Some DivQuotient else (if n == 16 then Some DivRemainder else (if n == 17 then Some DivuQuotient else (if n == 18 then Some DivuRemainder else None))))))))))))))))))
+
+abbrev pub place_code : Place → ℕ
+place_code (Register r) = r
+place_code Hi = 32
+place_code Lo = 33
+place_code Link = 34
+
+-- the place that has this code
+abbrev pub place_at : ℕ → Option Place
+place_at n =
+    if n == 32 then Some Hi else (if n == 33 then Some Lo else (if n == 34 then Some Link else (
+    if n == 0 then None else (if nat_lt n 32 then Some (Register n) else None))))
+
+-- the number in a place is a register's, 1 to 31
+abbrev pub is_place : Place → Bool
+is_place (Register r) = nat_lt 0 r && nat_lt r 32
+is_place Hi = true
+is_place Lo = true
+is_place Link = true
+
+abbrev pub label_word : Label → ℕ
+label_word (Init place) = 1 * 2 ^ 32 + place_code place
+label_word Mem0 = 2 * 2 ^ 32
+label_word (Const n) = 3 * 2 ^ 32 + n
+label_word (Op operator) = 4 * 2 ^ 32 + operator_code operator
+label_word Load = 5 * 2 ^ 32
+label_word Store = 6 * 2 ^ 32
+
+-- the numbers in the label are within their ranges, as those of each running label are
+abbrev pub is_label : Label → Bool
+is_label (Init place) = is_place place
+is_label Mem0 = true
+is_label (Const n) = nat_lt n (2 ^ 32)
+is_label (Op operator) = true
+is_label Load = true
+is_label Store = true
+
+abbrev pub or_place : Option Place → Label
+or_place (Some x) = Init x
+or_place None = Mem0
+
+abbrev pub or_operator : Option Operator → Label
+or_operator (Some x) = Op x
+or_operator None = Mem0
+
+-- the label of this kind with this content; Mem0 where there is none
+abbrev pub label_in : ℕ → ℕ → Label
+label_in kind content =
+    if kind == 1 then or_place (place_at content) else (if kind == 3 then Const content else (
+    if kind == 4 then or_operator (operator_at content) else (if kind == 5 then Load else (if kind == 6 then Store else Mem0))))
+
+-- the label of a word; Mem0 where there is none
+abbrev pub label_at : ℕ → Label
+label_at w = label_in (w / 2 ^ 32) (w % 2 ^ 32)

@@ -1,0 +1,194 @@
+//! Labels, and the 64-bit word of each.
+ghost use Rattle.std.specs.Prelude.{◌≡◌, ◌⊎◌, ℕ, ◌<◌, IfSome, Some, true};
+ghost use Rattle.sym_terms.specs.declared.label.Label.{Label};
+ghost use Rattle.sym_terms.specs.Labels.{operator_code, operator_at, place_code, place_at, label_word, is_label, is_place};
+ghost use Rattle.sym_terms.specs.Labels as spec;
+
+use mips_isa::NonzeroReg;
+use words::Operator;
+
+/// A place whose value at the start of a block is a term: a register 1 to 31, HI, LO, or the link that a call leaves in register 31.
+#[derive(Clone, Copy, Debug, PartialEq, Eq)]
+pub enum Place {
+    Register(NonzeroReg),
+    Hi,
+    Lo,
+    Link,
+}
+
+/// The root of a term.
+#[derive(Clone, Copy, Debug, PartialEq, Eq)]
+pub enum Label {
+    /// What the place holds at the start. No children.
+    Init(Place),
+    /// The memory at the start. No children.
+    Mem0,
+    /// The word itself. No children.
+    Const(u32),
+    /// The operator, applied to two children.
+    Op(Operator),
+    /// The word that a memory holds at an address: two children, memory and address.
+    Load,
+    /// A memory with one word replaced: three children, memory, address and word.
+    Store,
+}
+
+fn operator_number(operator: Operator) -> u32
+    ensures { result ≡ operator_code operator }
+{
+    match operator {
+        Operator::Addu => 0,
+        Operator::Subu => 1,
+        Operator::And => 2,
+        Operator::Or => 3,
+        Operator::Xor => 4,
+        Operator::Nor => 5,
+        Operator::Slt => 6,
+        Operator::Sltu => 7,
+        Operator::Sll => 8,
+        Operator::Srl => 9,
+        Operator::Sra => 10,
+        Operator::MultHigh => 11,
+        Operator::MultLow => 12,
+        Operator::MultuHigh => 13,
+        Operator::MultuLow => 14,
+        Operator::DivQuotient => 15,
+        Operator::DivRemainder => 16,
+        Operator::DivuQuotient => 17,
+        Operator::DivuRemainder => 18,
+    }
+}
+
+fn operator_of(number: u32) -> Option<Operator>
+    ensures { result ≡ operator_at number }
+{
+    match number {
+        0 => Some(Operator::Addu),
+        1 => Some(Operator::Subu),
+        2 => Some(Operator::And),
+        3 => Some(Operator::Or),
+        4 => Some(Operator::Xor),
+        5 => Some(Operator::Nor),
+        6 => Some(Operator::Slt),
+        7 => Some(Operator::Sltu),
+        8 => Some(Operator::Sll),
+        9 => Some(Operator::Srl),
+        10 => Some(Operator::Sra),
+        11 => Some(Operator::MultHigh),
+        12 => Some(Operator::MultLow),
+        13 => Some(Operator::MultuHigh),
+        14 => Some(Operator::MultuLow),
+        15 => Some(Operator::DivQuotient),
+        16 => Some(Operator::DivRemainder),
+        17 => Some(Operator::DivuQuotient),
+        18 => Some(Operator::DivuRemainder),
+        _ => None,
+    }
+}
+
+impl Place {
+    fn number(self) -> u32
+        ensures value { result ≡ place_code self }
+        ensures range { is_place self ≡ true }
+    {
+        match self {
+            Place::Register(r) => u32::from(r.index()),
+            Place::Hi => 32,
+            Place::Lo => 33,
+            Place::Link => 34,
+        }
+    }
+
+    fn at(number: u32) -> Option<Place>
+        ensures { result ≡ place_at number }
+    {
+        match number {
+            32 => Some(Place::Hi),
+            33 => Some(Place::Lo),
+            34 => Some(Place::Link),
+            _ => register_at(number),
+        }
+    }
+}
+
+fn register_at(number: u32) -> Option<Place>
+    requires { (number < 32) ⊎ (34 < number) }
+    ensures { result ≡ place_at number }
+{
+    if number >= 32 {
+        return None;
+    }
+    let r = NonzeroReg::new(number as u8)?;
+    Some(Place::Register(r))
+}
+
+/// The word of a label: its kind in the upper 32 bits, its content in the lower.
+pub fn word_of(label: Label) -> u64
+    ensures value { result ≡ label_word label }
+    ensures range { is_label label ≡ true }
+{
+    match label {
+        Label::Init(place) => 4294967296 + u64::from(place.number()),
+        Label::Mem0 => 2 * 4294967296,
+        Label::Const(n) => 3 * 4294967296 + u64::from(n),
+        Label::Op(operator) => 4 * 4294967296 + u64::from(operator_number(operator)),
+        Label::Load => 5 * 4294967296,
+        Label::Store => 6 * 4294967296,
+    }
+}
+
+/// The label that has this word, and None where no label has it.
+pub fn label_of(word: u64) -> Option<Label>
+    ensures found { IfSome result (λ l. (is_label l ≡ true) × (label_word l ≡ word)) }
+    ensures only { (l : Label) → is_label l ≡ true → label_word l ≡ word → result ≡ Some l }
+{
+    let content = (word % 4294967296) as u32;
+    match word / 4294967296 {
+        1 => {
+            let place = Place::at(content)?;
+            Some(Label::Init(place))
+        }
+        2 => if content == 0 {
+            Some(Label::Mem0)
+        } else {
+            None
+        },
+        3 => Some(Label::Const(content)),
+        4 => {
+            let operator = operator_of(content)?;
+            Some(Label::Op(operator))
+        }
+        5 => if content == 0 {
+            Some(Label::Load)
+        } else {
+            None
+        },
+        6 => if content == 0 {
+            Some(Label::Store)
+        } else {
+            None
+        },
+        _ => None,
+    }
+}
+
+/// The label of a word that is known to be one's; `Mem0` for any other word.
+pub fn label_at(word: u64) -> Label
+    ensures { result ≡ spec.label_at word }
+{
+    let content = (word % 4294967296) as u32;
+    match word / 4294967296 {
+        1 => match Place::at(content) {
+            Some(place) => Label::Init(place),
+            None => Label::Mem0,
+        },
+        3 => Label::Const(content),
+        4 => match operator_of(content) {
+            Some(operator) => Label::Op(operator),
+            None => Label::Mem0,
+        },
+        5 => Label::Load,
+        6 => Label::Store,
+        _ => Label::Mem0,
+    }
+}

@@ -1,0 +1,10 @@
+//! The labels of terms, with a word of 64 bits for each, and the trees that carry them.
+//!
+//! For the crates above: `word_of` and `label_of` are inverse. Symbolic execution and the table of
+//! terms speak of one type of trees, a label over a list of trees (`specs/Trees.antt`). The words of
+//! labels stand in `specs/Labels.antt`.
+#![tactic(auto)]
+
+mod label;
+
+pub use label::{Label, Place, label_at, label_of, word_of};

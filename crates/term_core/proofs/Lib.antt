@@ -1,0 +1,10 @@
+pub mod Replay
+pub mod Chains
+pub mod Kept
+pub mod Keys
+pub mod Turns
+pub mod Joining
+pub mod Reaching
+pub mod Does
+pub mod EachItem
+pub mod Last

@@ -1,0 +1,18 @@
+use Rattle.term_core.proofs.Reaching.{lawful}
+use Rattle.term_core.proofs.EachItem.{each_item_does, others_stand, seen_agree, words_stay}
+use Rattle.term_core.proofs.any_schedule.Goals as goal
+
+pub returns-clause-lawful : goal.returns-clause-lawful
+returns-clause-lawful c = lawful
+
+pub returns-clause-does : goal.returns-clause-does
+returns-clause-does c = each_item_does
+
+pub returns-clause-others : goal.returns-clause-others
+returns-clause-others c = others_stand
+
+pub returns-clause-agree : goal.returns-clause-agree
+returns-clause-agree c = seen_agree
+
+pub returns-clause-words : goal.returns-clause-words
+returns-clause-words c = words_stay

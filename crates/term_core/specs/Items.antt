@@ -1,0 +1,86 @@
+-- What one item does to the pass that it names, and to the others.
+use Rattle.std.specs.Prelude.{◌≡◌, ◌≢◌, ℕ, suc, ◌+◌, ◌<◌, ◌⊎◌, List, [], ◌∷◌, ◌++◌, Option, Some, None, slice_index}
+use mathlib.Core.Option.{some}
+use lib.ListN.{get_elem?}
+use Rattle.term_core.specs.declared.Call.{Call}
+use Rattle.term_core.specs.declared.Call.TheVariants.{Read}
+use Rattle.term_core.specs.declared.Answer.{Answer}
+use Rattle.term_core.specs.declared.Entry.{Entry}
+use Rattle.term_core.specs.declared.Walker.{Walker}
+use Rattle.term_core.specs.declared.Stage.{Stage}
+use Rattle.term_core.specs.declared.Stage.TheVariants.{Idle, Looking, AtLink, AtContent, Writing, Linking, Reading}
+use Rattle.term_core.specs.Terms.{StartsWith, pairs_of, tree_at}
+use Rattle.term_core.specs.World.{Shape, World, Item, IsShape, begun, step, reached, link_of}
+
+-- the call that a pass is inside
+abbrev pub call_in : Stage → Option Call
+call_in Idle = None
+call_in (Looking k) = None
+call_in (AtLink c w a) = Some c
+call_in (AtContent c w n i) = Some c
+call_in (Writing c a i) = Some c
+call_in (Linking c a) = Some c
+call_in (Reading t xs) = Some (Read t)
+
+-- the loads of a link that a call's next step makes
+abbrev pub link_loads : Stage → ℕ
+link_loads Idle = 0
+link_loads (Looking k) = 0
+link_loads (AtLink c w a) = 1
+link_loads (AtContent c w n i) = 0
+link_loads (Writing c a i) = 0
+link_loads (Linking c a) = 0
+link_loads (Reading t xs) = 0
+
+-- the call goes on and nothing is said, or it ends: its entry is the last of the history, which its pass has then seen whole
+abbrev pub GoesOn : World → World → Walker → Walker → Type 0
+GoesOn w w' b v = (w'.history ≡ w.history) × (v.mine ≡ b.mine) × (call_in v.stage ≡ call_in b.stage)
+
+pub record EndsCall (w w' : World) (b v : Walker) : Type 0 where
+  pub call : Call
+  pub answer : Answer
+  pub inside : call_in b.stage ≡ Some call
+  pub history : w'.history ≡ w.history ++ record { by = b.by; call = call; answer = answer } ∷ []
+  pub mine : v.mine ≡ b.mine ++ record { by = b.by; call = call; answer = answer } ∷ []
+  pub seen : v.seen ≡ w'.history
+  pub idle : v.stage ≡ Idle
+
+-- `b` is the pass after it has begun what the item chose
+pub record Does (w w' : World) (b v : Walker) : Type 0 where
+  pub by : v.by ≡ b.by
+  pub seen : StartsWith v.seen b.seen
+  pub said : GoesOn w w' b v ⊎ EndsCall w w' b v
+  pub probes : v.probes ≡ b.probes + link_loads b.stage
+
+abbrev pub EachItemDoes : Type 0
+EachItemDoes = (s : Shape) (items : List Item) (i : Item) (v v' : Walker) → IsShape s
+    → get_elem? (reached s items).passes i.by ≡ some v → get_elem? (step s (reached s items) i).passes i.by ≡ some v'
+    → Does (reached s items) (step s (reached s items) i) (begun s i.choice v) v'
+
+abbrev pub OthersStand : Type 0
+OthersStand = (s : Shape) (items : List Item) (i : Item) (by : ℕ) → by ≢ i.by
+    → get_elem? (step s (reached s items) i).passes by ≡ get_elem? (reached s items).passes by
+
+-- what two passes have seen: one is the beginning of the other
+abbrev pub SeenAgree : Type 0
+SeenAgree = (s : Shape) (items : List Item) (p q : ℕ) (v u : Walker) → IsShape s
+    → get_elem? (reached s items).passes p ≡ some v → get_elem? (reached s items).passes q ≡ some u
+    → StartsWith v.seen u.seen ⊎ StartsWith u.seen v.seen
+
+-- A word that an item changes is a link that was none and becomes the node of the pass, or a content word of the pass's next node, which no ticket names yet
+pub record Links (s : Shape) (w w' : World) (v : Walker) (a : ℕ) : Type 0 where
+  pub call : Call
+  pub stage : v.stage ≡ Linking call a
+  pub none : slice_index w.words a ≡ 0
+  pub own : slice_index w'.words a ≡ suc v.own
+
+pub record Writes (s : Shape) (w : World) (v : Walker) (a : ℕ) : Type 0 where
+  pub index : ℕ
+  pub below : index < 4
+  pub place : a ≡ link_of s v.own + 1 + index
+  pub unused : tree_at (pairs_of w.history) v.own ≡ None
+
+abbrev pub WordsStay : Type 0
+WordsStay = (s : Shape) (items : List Item) (i : Item) (v : Walker) (a : ℕ) → IsShape s → get_elem? (reached s items).passes i.by ≡ some v
+    → (slice_index (step s (reached s items) i).words a ≡ slice_index (reached s items).words a)
+    ⊎ (Links s (reached s items) (step s (reached s items) i) v a ⊎ Writes s (reached s items) v a)

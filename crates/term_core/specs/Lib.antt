@@ -1,0 +1,4 @@
+pub mod Terms
+pub mod World
+pub mod Law
+pub mod Items
