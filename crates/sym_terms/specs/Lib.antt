@@ -1,2 +1,4 @@
 pub mod Labels
 pub mod Trees
+pub mod Values
+pub mod Laws

@@ -6,5 +6,7 @@
 #![tactic(auto)]
 
 mod label;
+mod laws;
 
 pub use label::{Label, Place, label_at, label_of, word_of};
+pub use laws::trees_keep_values;

@@ -1,0 +1,61 @@
+-- The value of a term in a start state, and the only ways to build the terms of instructions.
+use Rattle.std.specs.Prelude.{ℕ, Bool}
+use Rattle.words.specs.declared.operator.Operator.{Operator}
+use Rattle.words.specs.Words.{wrap}
+use Rattle.words.specs.Operators.{op_value}
+use Rattle.mips_isa.specs.States.{State, load_word, store_word}
+use Rattle.sym_terms.specs.declared.label.Place.{Place}
+use Rattle.sym_terms.specs.declared.label.Place.TheVariants.{Register, Hi, Lo, Link}
+use Rattle.sym_terms.specs.declared.label.Label.{Label}
+use Rattle.sym_terms.specs.declared.label.Label.TheVariants.{Init, Mem0, Const, Op, Load, Store}
+use Rattle.sym_terms.specs.Trees.{Tree, Trees, node, none, more, leaf, binary, ternary}
+
+abbrev pub place_value : Place → State → ℕ → ℕ
+place_value (Register r) s link = s.regs r
+place_value Hi s link = s.hi
+place_value Lo s link = s.lo
+place_value Link s link = link
+
+abbrev pub leaf_value : Label → State → ℕ → ℕ
+leaf_value (Init p) s link = place_value p s link
+leaf_value (Const w) s link = wrap w
+leaf_value _ s link = 0
+
+abbrev pub binary_value : Label → (ℕ → Bool) → (ℕ → ℕ) → ℕ → ℕ → ℕ
+binary_value (Op op) mapped memory a b = op_value op a b
+binary_value Load mapped memory a b = load_word mapped memory b
+binary_value _ mapped memory a b = 0
+
+abbrev pub ternary_memory : Label → (ℕ → Bool) → (ℕ → ℕ) → ℕ → ℕ → ℕ → ℕ
+ternary_memory Store mapped memory a v = store_word mapped memory a v
+ternary_memory _ mapped memory a v = memory
+
+abbrev mutual
+  -- the word that a tree stands for in a start state, where a call would put in this link; 0 where it
+  -- is none. It is total: a load where no word is, and a division without a value, give 0.
+  pub word_at : Tree → State → ℕ → ℕ
+  word_at (node l none) s link = leaf_value l s link
+  word_at (node l (more a none)) s link = 0
+  word_at (node l (more a (more b none))) s link = binary_value l s.mapped (memory_at a s link) (word_at a s link) (word_at b s link)
+  word_at (node l (more a (more b (more c rest)))) s link = 0
+
+  -- the memory that a tree stands for; a store where no word is changes nothing
+  pub memory_at : Tree → State → ℕ → ℕ → ℕ
+  memory_at (node l none) s link = s.memory
+  memory_at (node l (more a none)) s link = s.memory
+  memory_at (node l (more a (more b none))) s link = s.memory
+  memory_at (node l (more a (more b (more c none)))) s link = ternary_memory l s.mapped (memory_at a s link) (word_at b s link) (word_at c s link)
+  memory_at (node l (more a (more b (more c (more d rest))))) s link = s.memory
+
+-- trees in normal form, made from trees in normal form: today the plain nodes
+abbrev pub const_tree : ℕ → Tree
+const_tree w = leaf (Const w)
+
+unfoldable pub op_tree : Operator → Tree → Tree → Tree
+op_tree op a b = binary (Op op) a b
+
+unfoldable pub load_tree : Tree → Tree → Tree
+load_tree m a = binary Load m a
+
+unfoldable pub store_tree : Tree → Tree → Tree → Tree
+store_tree m a v = ternary Store m a v
