@@ -23,6 +23,15 @@ impl Reg {
     /// The register that reads as 0.
     pub const ZERO: Reg = Reg { index: 0 };
 
+    /// Register 2: the number of a system call, and a function's result.
+    pub const RESULT: Reg = Reg { index: 2 };
+
+    /// Register 4: a function's first argument, and what a system call prints.
+    pub const ARGUMENT: Reg = Reg { index: 4 };
+
+    /// Register 31: where a call puts its link.
+    pub const LINK: Reg = Reg { index: 31 };
+
     /// The register of the low five bits.
     pub fn masked(index: u8) -> Reg
         ensures { result ≡ index % 32 }

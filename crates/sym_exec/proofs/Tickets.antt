@@ -1,0 +1,200 @@
+-- Tickets go on standing for their trees, also after a write.
+use Rattle.std.proofs.Common.{◌≡◌, ◌≢◌, ℕ, zero, suc, ◌+◌, ◌<◌, ◌≤◌, ◌==◌, Bool, true, false, cond, ◌&&◌, List, [], ◌∷◌, ◌++◌, length, slice_index_or, slice_set, Contains, refl, sym, ap, ap₂, ◌∙◌, subst, true≢false, eq-eqb, eqb-true, arith}
+use Rattle.std.specs.Prelude.{slice_index, nat_lt, OnOk, Result, Ok, Err}
+use Rattle.std.proofs.lemmas.List.{get_or-set_same, get_or-set_other}
+use Rattle.sym_terms.specs.Values.{const_tree}
+use Rattle.mips_isa.proofs.Registers.{put_lost, read-put}
+use Rattle.sym_terms.specs.declared.label.Place.TheVariants.{Register}
+use Rattle.sym_terms.specs.declared.label.Label.TheVariants.{Init}
+use Rattle.sym_terms.specs.Trees.{Tree, leaf}
+use Rattle.term_table.specs.Passes.{PassState, HasSeen}
+use Rattle.term_table.specs.Trees.{HasTree, Extends}
+use Rattle.term_table.proofs.Callers.{still_seen, still_tree, extends_more, extends_self}
+use Rattle.mips_isa.specs.States.{is_register, read, put}
+use Rattle.sym_exec.specs.declared.state.TermPlaces.{TermPlaces}
+use Rattle.mblock.specs.BlockMeaning.{Shape}
+use Rattle.sym_exec.specs.declared.state.TermExit.{TermExit}
+use Rattle.sym_exec.specs.declared.state.Guard.{Guard}
+use Rattle.sym_exec.specs.declared.state.Guard.TheVariants.{Address, Division}
+use Rattle.sym_exec.specs.Symbolic.{TreeState, held, start_trees, GuardTree, AtAddress, AtDivision}
+use Rattle.sym_exec.specs.Standing.{Later, Known, Stands, with_reg, IsGuard, GuardsStand, AllHave, LeavesBy, tickets_of}
+
+pub later_self : (p : PassState) → Later p p
+later_self p = record { extends = extends_self p; legal = λ h. h }
+
+pub later_more : {p q r : PassState} → Later p q → Later q r → Later p r
+later_more {p} {q} {r} e f = record { extends = extends_more e.extends f.extends; legal = λ h. f.legal (e.legal h) }
+
+pub stands_on : {p q : PassState} {s : TermPlaces} {t : TreeState} → Later p q → Stands p s t → Stands q s t
+stands_on {p} {q} {s} {t} e h = record {
+  regs = λ r lt. still_tree e.extends (h.regs r lt);
+  hi = still_tree e.extends h.hi;
+  lo = still_tree e.extends h.lo;
+  memory = still_tree e.extends h.memory;
+}
+
+pub known_on : {p q : PassState} {s : TermPlaces} → Later p q → Known p s → Known q s
+known_on {p} {q} {s} e h = record {
+  regs = λ r lt. still_seen e.extends (slice_index_or s.regs r 0) (h.regs r lt);
+  hi = still_seen e.extends s.hi h.hi;
+  lo = still_seen e.extends s.lo h.lo;
+  memory = still_seen e.extends s.memory h.memory;
+}
+
+pub get_seen : {p : PassState} {s : TermPlaces} {v r : ℕ} → Known p s → v ≡ slice_index s.regs r → r < 32 → HasSeen p v
+get_seen {p} {s} {v} {r} h e lt = subst (HasSeen p) (sym e) (h.regs r lt)
+
+pub get_tree : {p : PassState} {s : TermPlaces} {t : TreeState} {v r : ℕ} → Stands p s t → v ≡ slice_index s.regs r → r < 32 → HasTree p v (held t r)
+get_tree {p} {s} {t} {v} {r} h e lt = subst (λ n. HasTree p n (held t r)) (sym e) (h.regs r lt)
+
+written : List ℕ → ℕ → ℕ → List ℕ
+written regs d v = cond (d == 0) regs (slice_set regs d v)
+
+-- a place after a write: the new ticket, or the one that was there
+written_at : (P : ℕ → ℕ → Type 0) (regs : List ℕ) (d v r : ℕ) → d < length regs → (d ≡ 0 → P r (slice_index regs r)) → ((r == d) ≡ true → 0 < d → P r v) → ((r == d) ≡ false → P r (slice_index regs r)) → P r (slice_index (cond (d == 0) regs (slice_set regs d v)) r)
+written_at P regs d v r lt lost same other = go (d == 0) refl (r == d) refl
+  where
+    go : (z : Bool) → (d == 0) ≡ z → (b : Bool) → (r == d) ≡ b → P r (slice_index (cond z regs (slice_set regs d v)) r)
+    go true ez b eb = lost (eqb-true d 0 ez)
+    go false ez true eb =
+        let is : r ≡ d = eqb-true r d eb in
+        let some : 0 < d = Rattle.std.proofs.Common.⊎_elim (λ x. x) (λ le. let none : d ≡ 0 = omega (arith, le) in absurd (true≢false (sym (eq-eqb d 0 none) ∙ ez))) (Rattle.std.proofs.lemmas.Bool.cases_lt 0 d) in
+        subst (P r) (sym (ap (slice_index (slice_set regs d v)) is ∙ get_or-set_same regs d v 0 lt)) (same eb some)
+    go false ez false eb =
+        subst (P r) (sym (get_or-set_other regs d r v 0 (λ e. true≢false (sym (eq-eqb r d e) ∙ eb)))) (other eb)
+
+pub known_put : {p : PassState} {s s' : TermPlaces} (d v : ℕ) → Known p s → HasSeen p v → s' ≡ with_reg s d v → d < 32 → length s.regs ≡ 32 → Known p s'
+known_put {p} {s} {s'} d v h seen e lt n = subst (Known p) (sym e) (record {
+  regs = λ r low. written_at (λ _ x. HasSeen p x) s.regs d v r (omega (arith, lt, n)) (λ _. h.regs r low) (λ _ _. seen) (λ _. h.regs r low);
+  hi = h.hi;
+  lo = h.lo;
+  memory = h.memory;
+})
+
+read_put : (f : ℕ → Tree) (z x : Tree) (d r : ℕ) → 0 < d → d < 32 → r ≡ d → read z (put f d x) r ≡ x
+read_put f z x d zero some lt e = absurd (omega arith)
+read_put f z x d (suc r) some lt e =
+    ap₂ (λ a b. cond (a && b) x (f (suc r))) (is_one d some lt) (eq-eqb (suc r) d e)
+  where
+    is_one : (k : ℕ) → 0 < k → k < 32 → is_register k ≡ true
+    is_one k a b = grind arith
+
+pub stands_put : {p : PassState} {s s' : TermPlaces} {t : TreeState} {d v : ℕ} {x : Tree} → Stands p s t → HasTree p v x → s' ≡ with_reg s d v → d < 32 → length s.regs ≡ 32 → Stands p s' (record t { regs = put t.regs d x })
+stands_put {p} {s} {s'} {t} {d} {v} {x} h tree e lt n = subst (λ y. Stands p y (record t { regs = put t.regs d x })) (sym e) (record {
+  regs = λ r low.
+      written_at (λ k y. HasTree p y (read (const_tree 0) (put t.regs d x) k)) s.regs d v r (omega (arith, lt, n))
+      (λ none. subst (λ f. HasTree p (slice_index s.regs r) (read (const_tree 0) f r)) (sym (put_lost t.regs d x (ap is_register none))) (h.regs r low))
+      (λ same some. subst (HasTree p v) (sym (read_put t.regs (const_tree 0) x d r some lt (eqb-true r d same))) tree)
+      (λ other. subst (HasTree p (slice_index s.regs r)) (sym (read-put (const_tree 0) t.regs d x r other)) (h.regs r low));
+  hi = h.hi;
+  lo = h.lo;
+  memory = h.memory;
+})
+
+-- the guards play no part
+pub stands_same : {p : PassState} {s : TermPlaces} {t u : TreeState} → Stands p s t → t.regs ≡ u.regs → t.hi ≡ u.hi → t.lo ≡ u.lo → t.memory ≡ u.memory → Stands p s u
+stands_same {p} {s} {t} {u} h a b c d = record {
+  regs = λ r lt. subst (λ f. HasTree p (slice_index s.regs r) (read (const_tree 0) f r)) a (h.regs r lt);
+  hi = subst (HasTree p s.hi) b h.hi;
+  lo = subst (HasTree p s.lo) c h.lo;
+  memory = subst (HasTree p s.memory) d h.memory;
+}
+
+guard_on : {p q : PassState} → Later p q → (g : Guard) (x : GuardTree) → IsGuard p g x → IsGuard q g x
+guard_on {p} {q} e (Address t) (AtAddress x) h = still_tree e.extends h
+guard_on {p} {q} e (Address t) (AtDivision sign x y) h = h
+guard_on {p} {q} e (Division sign a b) (AtAddress x) h = h
+guard_on {p} {q} e (Division sign a b) (AtDivision other x y) h = (h.0, still_tree e.extends h.1, still_tree e.extends h.2)
+
+pub guards_on : {p q : PassState} {gs : List Guard} {xs : List GuardTree} → Later p q → GuardsStand p gs xs → GuardsStand q gs xs
+guards_on {p} {q} {gs} {xs} e h = record {
+  down = λ g c. let r = h.down g c in (r.0, r.1, guard_on e g r.0 r.2);
+  up = λ x c. let r = h.up x c in (r.0, r.1, guard_on e r.0 x r.2);
+}
+
+contains_head : {A : Type 0} (x : A) (xs : List A) → Contains (x ∷ xs) x
+contains_head x xs = (0, omega arith, refl)
+
+contains_tail : {A : Type 0} (y x : A) (xs : List A) → Contains xs x → Contains (y ∷ xs) x
+contains_tail y x xs (k, lt, e) = (suc k, omega (arith, lt), e)
+
+-- an element of a list with one more at its end
+contains_front : {A : Type 0} (xs : List A) (y x : A) → Contains xs x → Contains (xs ++ y ∷ []) x
+contains_front [] y x (k, lt, e) = absurd (omega (arith, lt))
+contains_front (z ∷ xs) y x (zero, lt, e) = (0, omega arith, e)
+contains_front (z ∷ xs) y x (suc k, lt, e) = contains_tail z x (xs ++ y ∷ []) (contains_front xs y x (k, omega (arith, lt), e))
+
+contains_last : {A : Type 0} (xs : List A) (y : A) → Contains (xs ++ y ∷ []) y
+contains_last [] y = contains_head y []
+contains_last (z ∷ xs) y = contains_tail z y (xs ++ y ∷ []) (contains_last xs y)
+
+contains_cases : {A : Type 0} {R : Type 0} (xs : List A) (y x : A) → (Contains xs x → R) → (y ≡ x → R) → Contains (xs ++ y ∷ []) x → R
+contains_cases [] y x old new (zero, lt, e) = new e
+contains_cases [] y x old new (suc k, lt, e) = absurd (omega (arith, lt))
+contains_cases (z ∷ xs) y x old new (zero, lt, e) = old (0, omega arith, e)
+contains_cases (z ∷ xs) y x old new (suc k, lt, e) = contains_cases xs y x (λ c. old (contains_tail z x xs c)) new (k, omega (arith, lt), e)
+
+contains_split : {A : Type 0} {R : Type 0} (y x : A) (xs : List A) → (y ≡ x → R) → (Contains xs x → R) → Contains (y ∷ xs) x → R
+contains_split y x xs new old (zero, lt, e) = new e
+contains_split y x xs new old (suc k, lt, e) = old (k, omega (arith, lt), e)
+
+-- one guard more on both sides
+pub guards_more : {p : PassState} {gs hs : List Guard} {xs : List GuardTree} (g : Guard) (x : GuardTree) → GuardsStand p gs xs → IsGuard p g x → hs ≡ gs ++ g ∷ [] → GuardsStand p hs (x ∷ xs)
+guards_more {p} {gs} {hs} {xs} g x h is e = subst (λ l. GuardsStand p l (x ∷ xs)) (sym e) (record {
+  down = λ f c. contains_cases gs g f
+      (λ old. let r = h.down f old in (r.0, contains_tail x r.0 xs r.1, r.2))
+      (λ new. (x, contains_head x xs, subst (λ y. IsGuard p y x) new is)) c;
+  up = λ y c. contains_split x y xs
+      (λ new. (g, contains_last gs g, subst (IsGuard p g) new is))
+      (λ old. let r = h.up y old in (r.0, contains_front gs g r.0 r.1, r.2)) c;
+})
+
+-- a fact of a success leads to another
+pub on_ok : {X E : Type 0} {A B : Type 0} (r : Result X E) → OnOk r A → (A → B) → OnOk r B
+on_ok (Ok x) h f = f h
+on_ok (Err e) h f = h
+
+all_on : {p q : PassState} → Later p q → (ts : List ℕ) (xs : List Tree) → AllHave p ts xs → AllHave q ts xs
+all_on {p} {q} e [] [] h = h
+all_on {p} {q} e [] (x ∷ xs) h = h
+all_on {p} {q} e (t ∷ ts) [] h = h
+all_on {p} {q} e (t ∷ ts) (x ∷ xs) h = (still_tree e.extends h.0, all_on e ts xs h.1)
+
+pub leaves_on : {p q : PassState} (e : TermExit) (shape : Shape) (xs : List Tree) → Later p q → LeavesBy p e shape xs → LeavesBy q e shape xs
+leaves_on {p} {q} e shape xs later h = (h.0, all_on later (tickets_of e) xs h.1)
+
+-- at the start there are no guards
+pub guards_none : {p : PassState} {gs : List Guard} → gs ≡ [] → GuardsStand p gs []
+guards_none {p} {gs} e = subst (λ l. GuardsStand p l []) (sym e) (record {
+  down = λ g (k, lt, x). absurd (omega (arith, lt));
+  up = λ g (k, lt, x). absurd (omega (arith, lt));
+})
+
+-- a list of registers' tickets after a write
+pub length_set : (xs : List ℕ) (k v : ℕ) → length (slice_set xs k v) ≡ length xs
+length_set [] k v = refl
+length_set (x ∷ xs) zero v = refl
+length_set (x ∷ xs) (suc k) v = ap suc (length_set xs k v)
+
+pub set_place : (P : ℕ → Type 0) (xs : List ℕ) (k v q : ℕ) → k < length xs → P v → P (slice_index xs q) → P (slice_index (slice_set xs k v) q)
+set_place P xs k v q lt new old = go (q == k) refl
+  where
+    go : (b : Bool) → (q == k) ≡ b → P (slice_index (slice_set xs k v) q)
+    go true e = subst P (sym (ap (slice_index (slice_set xs k v)) (eqb-true q k e) ∙ get_or-set_same xs k v 0 lt)) new
+    go false e = subst P (sym (get_or-set_other xs k q v 0 (λ same. true≢false (sym (eq-eqb q k same) ∙ e)))) old
+
+-- the registers' start terms, one more
+pub set_tree : (p : PassState) (xs : List ℕ) (k v q : ℕ) → k < length xs → 1 ≤ k → HasTree p v (leaf (Init (Register k))) → q < k + 1 → (q < k → HasTree p (slice_index xs q) (held start_trees q)) → HasTree p (slice_index (slice_set xs k v) q) (held start_trees q)
+set_tree p xs k v q lt some new low old = go (q == k) refl
+  where
+    start_of : (r : ℕ) → 1 ≤ r → held start_trees r ≡ leaf (Init (Register r))
+    start_of zero h = absurd (omega (arith, h))
+    start_of (suc r) h = refl
+
+    go : (b : Bool) → (q == k) ≡ b → HasTree p (slice_index (slice_set xs k v) q) (held start_trees q)
+    go true e =
+        let same : q ≡ k = eqb-true q k e in
+        subst (λ r. HasTree p (slice_index (slice_set xs k v) r) (held start_trees r)) (sym same) (subst (HasTree p (slice_index (slice_set xs k v) k)) (sym (start_of k some)) (subst (λ n. HasTree p n (leaf (Init (Register k)))) (sym (get_or-set_same xs k v 0 lt)) new))
+    go false e =
+        let apart : q ≢ k = λ same. true≢false (sym (eq-eqb q k same) ∙ e) in
+        subst (λ n. HasTree p n (held start_trees q)) (sym (get_or-set_other xs k q v 0 apart)) (old (Rattle.std.proofs.Common.⊎_elim (λ x. x) (λ le. absurd (apart (omega (arith, low, le)))) (Rattle.std.proofs.lemmas.Bool.cases_lt q k)))

@@ -1,0 +1,149 @@
+-- The trees that instructions leave stand for the state that the instructions leave.
+use Rattle.std.proofs.Common.{◌≡◌, ◌^◌, ℕ, zero, suc, ◌<◌, Bool, true, false, List, [], ◌∷◌, map, length, Contains, refl, sym, ap, ap₂, ◌∙◌, subst, arith}
+use Rattle.words.specs.declared.operator.Operator.{Operator}
+use Rattle.words.specs.declared.operator.Operator.TheVariants.{Addu}
+use Rattle.words.specs.Words.{wrap}
+use Rattle.words.specs.Operators.{op_value, has_quotient}
+use Rattle.mips_isa.specs.declared.action.Operand.{Operand}
+use Rattle.mips_isa.specs.declared.action.Operand.TheVariants.{Held, Fixed}
+use Rattle.mips_isa.specs.declared.action.Action.{Action}
+use Rattle.mips_isa.specs.declared.action.Action.TheVariants.{Computes, Sets, Loads, Stores, Multiplies, Divides, MovesHigh, MovesLow}
+use Rattle.mips_isa.specs.States.{State, IsWords, is_register, read, put, is_open, load_word, store_word}
+use Rattle.mips_isa.specs.Actions.{operand, address, is_safe, after, product_high, product_low, quotient_operator, remainder_operator}
+use Rattle.mips_isa.proofs.Registers.{put-value, put_outside}
+use Rattle.mblock.specs.BlockMeaning.{Shape, Goes, ChoosesPair, ChoosesZero, Calls, Returns, Prints, Halts, exit_puts}
+use Rattle.mblock.proofs.Runs.{total, AllSafe}
+use Rattle.sym_terms.specs.declared.label.Place.TheVariants.{Link}
+use Rattle.sym_terms.specs.declared.label.Label.TheVariants.{Init}
+use Rattle.sym_terms.specs.Trees.{Tree, leaf}
+use Rattle.sym_terms.specs.Values.{word_at, memory_at, const_tree, op_tree, load_tree, store_tree}
+use Rattle.sym_terms.proofs.ValueLaws.{op_tree-value, load_tree-value, store_tree-value}
+use Rattle.sym_exec.specs.Symbolic.{GuardTree, AtAddress, AtDivision, is_good, TreeState, held, operand_tree, address_tree, trees_after, all_trees}
+
+-- the state that trees stand for
+abbrev pub values : State → ℕ → TreeState → State
+values s link t = record {
+  regs = λ r. word_at (t.regs r) s link;
+  hi = word_at t.hi s link;
+  lo = word_at t.lo s link;
+  memory = memory_at t.memory s link;
+  mapped = s.mapped;
+}
+
+module _ (s : State) (link : ℕ) (words : IsWords s) (low : link < 2 ^ 32) where
+  pub held-value : (t : TreeState) (r : ℕ) → word_at (held t r) s link ≡ read 0 (values s link t).regs r
+  held-value t zero = refl
+  held-value t (suc r) = refl
+
+  operand-value : (t : TreeState) (x : Operand) → word_at (operand_tree t x) s link ≡ operand (values s link t) x
+  operand-value t (Held r) = held-value t r
+  operand-value t (Fixed w) = refl
+
+  address-value : (t : TreeState) (base offset : ℕ) → word_at (address_tree t base offset) s link ≡ address (values s link t) base offset
+  address-value t base offset =
+      op_tree-value Addu (held t base) (const_tree offset) s link words low ∙ ap (λ x. op_value Addu x (wrap offset)) (held-value t base)
+
+  two-value : (op : Operator) (t : TreeState) (a b : ℕ) → word_at (op_tree op (held t a) (held t b)) s link ≡ op_value op (read 0 (values s link t).regs a) (read 0 (values s link t).regs b)
+  two-value op t a b = op_tree-value op (held t a) (held t b) s link words low ∙ ap₂ (op_value op) (held-value t a) (held-value t b)
+
+  regs_step : (t : TreeState) (d : ℕ) (v : Tree) (w : ℕ) → word_at v s link ≡ w → (λ r. word_at (put t.regs d v r) s link) ≡ put (values s link t).regs d w
+  regs_step t d v w e = put-value (λ x. word_at x s link) t.regs d v w e
+
+  -- one action
+  pub step-value : (a : Action) (t : TreeState) → values s link (trees_after a t) ≡ after a (values s link t)
+  step-value (Computes d op a b) t =
+      ap (λ f. record (values s link t) { regs = f }) (regs_step t d _ _ (op_tree-value op (held t a) (operand_tree t b) s link words low ∙ ap₂ (op_value op) (held-value t a) (operand-value t b)))
+  step-value (Sets d w) t = ap (λ f. record (values s link t) { regs = f }) (regs_step t d _ _ refl)
+  step-value (Loads d base offset) t =
+      ap (λ f. record (values s link t) { regs = f }) (regs_step t d _ _ (load_tree-value t.memory (address_tree t base offset) s link words low ∙ ap (load_word s.mapped (memory_at t.memory s link)) (address-value t base offset)))
+  step-value (Stores r base offset) t =
+      ap (λ m. record (values s link t) { memory = m }) (store_tree-value t.memory (address_tree t base offset) (held t r) s link words low ∙ ap₂ (store_word s.mapped (memory_at t.memory s link)) (address-value t base offset) (held-value t r))
+  step-value (Multiplies sign a b) t = ap₂ (λ h l. record (values s link t) { hi = h; lo = l }) (two-value (product_high sign) t a b) (two-value (product_low sign) t a b)
+  step-value (Divides sign a b) t = ap₂ (λ h l. record (values s link t) { hi = h; lo = l }) (two-value (remainder_operator sign) t a b) (two-value (quotient_operator sign) t a b)
+  step-value (MovesHigh d) t = ap (λ f. record (values s link t) { regs = f }) (regs_step t d _ _ refl)
+  step-value (MovesLow d) t = ap (λ f. record (values s link t) { regs = f }) (regs_step t d _ _ refl)
+
+  pub all-value : (acts : List Action) (t : TreeState) → values s link (all_trees acts t) ≡ total acts (values s link t)
+  all-value [] t = refl
+  all-value (a ∷ rest) t = all-value rest (trees_after a t) ∙ ap (total rest) (step-value a t)
+
+  -- the exit's own writes
+  pub puts-value : (shape : Shape) (f : ℕ → Tree) → (λ r. word_at (exit_puts (leaf (Init Link)) (const_tree 1) (const_tree 10) shape f r) s link) ≡ exit_puts link 1 10 shape (λ r. word_at (f r) s link)
+  puts-value (Goes t) f = refl
+  puts-value (ChoosesPair x t e) f = refl
+  puts-value (ChoosesZero x t e) f = refl
+  puts-value (Calls g n) f = put-value (λ x. word_at x s link) f 31 _ _ refl
+  puts-value Returns f = refl
+  puts-value (Prints n) f = put-value (λ x. word_at x s link) f 2 _ _ refl
+  puts-value Halts f = put-value (λ x. word_at x s link) f 2 _ _ refl
+
+  -- each guard holds
+  abbrev pub AllGood : List GuardTree → Type 0
+  AllGood gs = (g : GuardTree) → Contains gs g → is_good s link g ≡ true
+
+  pub good_head : (g : GuardTree) (gs : List GuardTree) → AllGood (g ∷ gs) → is_good s link g ≡ true
+  good_head g gs h = h g (0, omega arith, refl)
+
+  pub good_tail : (g : GuardTree) (gs : List GuardTree) → AllGood (g ∷ gs) → AllGood gs
+  good_tail g gs h x (k, lt, e) = h x (suc k, omega arith, e)
+
+  pub good_more : (g : GuardTree) (gs : List GuardTree) → is_good s link g ≡ true → AllGood gs → AllGood (g ∷ gs)
+  good_more g gs e h x (zero, lt, p) = subst (λ y. is_good s link y ≡ true) p e
+  good_more g gs e h x (suc k, lt, p) = h x (k, omega arith, p)
+
+  -- the guards of one action say that it is safe
+  pub guards_down : (a : Action) (t : TreeState) → AllGood (trees_after a t).guards → (is_safe a (values s link t) ≡ true) × AllGood t.guards
+  guards_down (Computes d op a b) t h = (refl, h)
+  guards_down (Sets d w) t h = (refl, h)
+  guards_down (Loads d base offset) t h = (ap (is_open s.mapped) (sym (address-value t base offset)) ∙ good_head _ t.guards h, good_tail _ t.guards h)
+  guards_down (Stores r base offset) t h = (ap (is_open s.mapped) (sym (address-value t base offset)) ∙ good_head _ t.guards h, good_tail _ t.guards h)
+  guards_down (Multiplies sign a b) t h = (refl, h)
+  guards_down (Divides sign a b) t h = (ap₂ (has_quotient sign) (sym (held-value t a)) (sym (held-value t b)) ∙ good_head _ t.guards h, good_tail _ t.guards h)
+  guards_down (MovesHigh d) t h = (refl, h)
+  guards_down (MovesLow d) t h = (refl, h)
+
+  pub guards_up : (a : Action) (t : TreeState) → is_safe a (values s link t) ≡ true → AllGood t.guards → AllGood (trees_after a t).guards
+  guards_up (Computes d op a b) t e h = h
+  guards_up (Sets d w) t e h = h
+  guards_up (Loads d base offset) t e h = good_more _ t.guards (ap (is_open s.mapped) (address-value t base offset) ∙ e) h
+  guards_up (Stores r base offset) t e h = good_more _ t.guards (ap (is_open s.mapped) (address-value t base offset) ∙ e) h
+  guards_up (Multiplies sign a b) t e h = h
+  guards_up (Divides sign a b) t e h = good_more _ t.guards (ap₂ (has_quotient sign) (held-value t a) (held-value t b) ∙ e) h
+  guards_up (MovesHigh d) t e h = h
+  guards_up (MovesLow d) t e h = h
+
+  pub all_down : (acts : List Action) (t : TreeState) → AllGood (all_trees acts t).guards → AllSafe acts (values s link t) × AllGood t.guards
+  all_down [] t h = (tt, h)
+  all_down (a ∷ rest) t h =
+      let below = all_down rest (trees_after a t) h in
+      let here = guards_down a t below.1 in
+      ((here.0, subst (AllSafe rest) (step-value a t) below.0), here.1)
+
+  pub all_up : (acts : List Action) (t : TreeState) → AllSafe acts (values s link t) → AllGood t.guards → AllGood (all_trees acts t).guards
+  all_up [] t safe h = h
+  all_up (a ∷ rest) t safe h =
+      all_up rest (trees_after a t) (subst (AllSafe rest) (sym (step-value a t)) safe.1) (guards_up a t safe.0 h)
+
+-- what stands outside the registers stays
+pub after_outside : (a : Action) (t : TreeState) (r : ℕ) → is_register r ≡ false → (trees_after a t).regs r ≡ t.regs r
+after_outside (Computes d op a b) t r e = put_outside t.regs d _ r e
+after_outside (Sets d w) t r e = put_outside t.regs d _ r e
+after_outside (Loads d base offset) t r e = put_outside t.regs d _ r e
+after_outside (Stores q base offset) t r e = refl
+after_outside (Multiplies sign a b) t r e = refl
+after_outside (Divides sign a b) t r e = refl
+after_outside (MovesHigh d) t r e = put_outside t.regs d _ r e
+after_outside (MovesLow d) t r e = put_outside t.regs d _ r e
+
+pub all_outside : (acts : List Action) (t : TreeState) (r : ℕ) → is_register r ≡ false → (all_trees acts t).regs r ≡ t.regs r
+all_outside [] t r e = refl
+all_outside (a ∷ rest) t r e = all_outside rest (trees_after a t) r e ∙ after_outside a t r e
+
+pub puts_outside : (shape : Shape) (f : ℕ → Tree) (r : ℕ) → is_register r ≡ false → exit_puts (leaf (Init Link)) (const_tree 1) (const_tree 10) shape f r ≡ f r
+puts_outside (Goes t) f r e = refl
+puts_outside (ChoosesPair x t n) f r e = refl
+puts_outside (ChoosesZero x t n) f r e = refl
+puts_outside (Calls g n) f r e = put_outside f 31 _ r e
+puts_outside Returns f r e = refl
+puts_outside (Prints n) f r e = put_outside f 2 _ r e
+puts_outside Halts f r e = put_outside f 2 _ r e

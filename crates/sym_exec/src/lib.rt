@@ -1,0 +1,14 @@
+//! Symbolic execution of blocks and orders, to tickets of a shared table of terms.
+//!
+//! `run_block` and `run_order` answer the tickets of the trees that `block_trees` and `order_trees`
+//! define (`specs/Symbolic.antt`): what each register, HI, LO and memory hold at the end, the exit with
+//! its operands, and the guards. `specs/Standing.antt` says when tickets stand for trees.
+#![tactic(auto)]
+
+mod places;
+mod run;
+mod state;
+mod terms;
+
+pub use run::{run_block, run_order};
+pub use state::{Guard, SymFault, SymState, TermExit, TermPlaces};

@@ -1,0 +1,221 @@
+//! What one action does to the terms of the machine's places, done to their tickets.
+ghost use Rattle.std.specs.Prelude.{◌≡◌, ℕ, ◌<◌, OnOk, OnErr, IfOk, slice_index};
+ghost use Rattle.mips_isa.specs.declared.action.Action.TheVariants.{Computes, Loads, Stores, Multiplies, Divides};
+ghost use Rattle.mips_isa.specs.States.{put};
+ghost use Rattle.sym_terms.specs.Trees.{Tree, leaf};
+ghost use Rattle.term_table.specs.Passes.{IsOf, HasSeen, linked};
+ghost use Rattle.term_table.specs.Trees.{HasTree};
+ghost use Rattle.sym_exec.specs.Symbolic.{TreeState, held, operand_tree, address_tree, trees_after};
+ghost use Rattle.sym_exec.specs.Standing.{Later, Known, Stands, with_reg};
+
+use crate::state::{SymFault, TermPlaces};
+use crate::terms::{leaf_term, load_term, op_term, store_term};
+use mips_isa::{
+    NonzeroReg, Operand, Reg, product_high, product_low, quotient_operator, remainder_operator,
+};
+use sym_terms::Label;
+use term_table::{Pass, TermTable, Ticket};
+use words::{Operator, Sign};
+
+impl TermPlaces {
+    ghost use Rattle.std.specs.Prelude.{◌≡◌, ℕ, ◌<◌, OnOk, OnErr, IfOk, slice_index, length};
+    ghost use Rattle.sym_exec.specs.Standing.{Later, Known, Stands, with_reg};
+
+    pub(crate) fn get(&self, r: Reg) -> Ticket
+        ensures value { result ≡ slice_index self.now.regs r }
+        ensures range { r < 32 }
+    {
+        self.regs[r.index() as usize]
+    }
+
+    /// A write to register 0 is lost.
+    pub(crate) fn set(&mut self, d: Reg, ticket: Ticket)
+        ensures value { self.new ≡ with_reg self.old d ticket }
+        ensures range { d < 32 }
+        ensures count { length self.old.regs ≡ 32 }
+    {
+        let index = d.index() as usize;
+        if index > 0 {
+            self.regs[index] = ticket;
+        }
+    }
+
+    fn operand(
+        &self,
+        table: &TermTable,
+        pass: &mut Pass,
+        operand: &Operand,
+    ) -> Result<Ticket, SymFault>
+        requires table { IsOf table.now pass.old }
+        requires known { Known pass.old self.now }
+        ensures seen { IfOk result (λ x. HasSeen pass.new x) }
+        ensures tree { (t : TreeState) → Stands pass.old self.now t → IfOk result (λ x. HasTree pass.new x (operand_tree t operand.now)) }
+        ensures table { IsOf table.now pass.new }
+        ensures later { Later pass.old pass.new }
+        ensures full { OnErr result (linked pass.new ≡ pass.new.nodes) }
+    {
+        match *operand {
+            Operand::Held(r) => Ok(self.get(r)),
+            Operand::Fixed(word) => leaf_term(table, pass, Label::Const(word)),
+        }
+    }
+
+    fn address(
+        &self,
+        table: &TermTable,
+        pass: &mut Pass,
+        base: Reg,
+        offset: u32,
+    ) -> Result<Ticket, SymFault>
+        requires table { IsOf table.now pass.old }
+        requires known { Known pass.old self.now }
+        ensures seen { IfOk result (λ x. HasSeen pass.new x) }
+        ensures tree { (t : TreeState) → Stands pass.old self.now t → IfOk result (λ x. HasTree pass.new x (address_tree t base offset)) }
+        ensures table { IsOf table.now pass.new }
+        ensures later { Later pass.old pass.new }
+        ensures full { OnErr result (linked pass.new ≡ pass.new.nodes) }
+    {
+        let offset = leaf_term(table, pass, Label::Const(offset))?;
+        op_term(table, pass, Operator::Addu, self.get(base), offset)
+    }
+
+    pub(crate) fn computes(
+        &mut self,
+        table: &TermTable,
+        pass: &mut Pass,
+        d: Reg,
+        op: Operator,
+        a: Reg,
+        b: &Operand,
+    ) -> Result<(), SymFault>
+        requires table { IsOf table.now pass.old }
+        requires known { Known pass.old self.old }
+        ensures known { OnOk result (Known pass.new self.new) }
+        ensures stands { (t : TreeState) → Stands pass.old self.old t → OnOk result (Stands pass.new self.new (trees_after (Computes d op a b.now) t)) }
+        ensures table { IsOf table.now pass.new }
+        ensures later { Later pass.old pass.new }
+        ensures full { OnErr result (linked pass.new ≡ pass.new.nodes) }
+    {
+        let y = self.operand(table, pass, b)?;
+        let value = op_term(table, pass, op, self.get(a), y)?;
+        self.set(d, value);
+        Ok(())
+    }
+
+    /// Register `d` gets the term of a label without children.
+    pub(crate) fn put_leaf(
+        &mut self,
+        table: &TermTable,
+        pass: &mut Pass,
+        d: Reg,
+        label: Label,
+    ) -> Result<(), SymFault>
+        requires table { IsOf table.now pass.old }
+        requires known { Known pass.old self.old }
+        ensures known { OnOk result (Known pass.new self.new) }
+        ensures stands { (t : TreeState) → Stands pass.old self.old t → OnOk result (Stands pass.new self.new (record t { regs = put t.regs d (leaf label) })) }
+        ensures table { IsOf table.now pass.new }
+        ensures later { Later pass.old pass.new }
+        ensures full { OnErr result (linked pass.new ≡ pass.new.nodes) }
+    {
+        let value = leaf_term(table, pass, label)?;
+        self.set(d, value);
+        Ok(())
+    }
+
+    /// Answers the ticket of the address.
+    pub(crate) fn loads(
+        &mut self,
+        table: &TermTable,
+        pass: &mut Pass,
+        d: NonzeroReg,
+        base: Reg,
+        offset: u32,
+    ) -> Result<Ticket, SymFault>
+        requires table { IsOf table.now pass.old }
+        requires known { Known pass.old self.old }
+        ensures known { OnOk result (Known pass.new self.new) }
+        ensures stands { (t : TreeState) → Stands pass.old self.old t → OnOk result (Stands pass.new self.new (trees_after (Loads d base offset) t)) }
+        ensures address { (t : TreeState) → Stands pass.old self.old t → IfOk result (λ x. HasTree pass.new x (address_tree t base offset)) }
+        ensures table { IsOf table.now pass.new }
+        ensures later { Later pass.old pass.new }
+        ensures full { OnErr result (linked pass.new ≡ pass.new.nodes) }
+    {
+        let address = self.address(table, pass, base, offset)?;
+        let value = load_term(table, pass, self.memory, address)?;
+        self.set(d.reg(), value);
+        Ok(address)
+    }
+
+    /// Answers the ticket of the address.
+    pub(crate) fn stores(
+        &mut self,
+        table: &TermTable,
+        pass: &mut Pass,
+        r: Reg,
+        base: Reg,
+        offset: u32,
+    ) -> Result<Ticket, SymFault>
+        requires table { IsOf table.now pass.old }
+        requires known { Known pass.old self.old }
+        ensures known { OnOk result (Known pass.new self.new) }
+        ensures stands { (t : TreeState) → Stands pass.old self.old t → OnOk result (Stands pass.new self.new (trees_after (Stores r base offset) t)) }
+        ensures address { (t : TreeState) → Stands pass.old self.old t → IfOk result (λ x. HasTree pass.new x (address_tree t base offset)) }
+        ensures table { IsOf table.now pass.new }
+        ensures later { Later pass.old pass.new }
+        ensures full { OnErr result (linked pass.new ≡ pass.new.nodes) }
+    {
+        let address = self.address(table, pass, base, offset)?;
+        let value = self.get(r);
+        self.memory = store_term(table, pass, self.memory, address, value)?;
+        Ok(address)
+    }
+
+    pub(crate) fn multiplies(
+        &mut self,
+        table: &TermTable,
+        pass: &mut Pass,
+        sign: Sign,
+        a: Reg,
+        b: Reg,
+    ) -> Result<(), SymFault>
+        requires table { IsOf table.now pass.old }
+        requires known { Known pass.old self.old }
+        ensures known { OnOk result (Known pass.new self.new) }
+        ensures stands { (t : TreeState) → Stands pass.old self.old t → OnOk result (Stands pass.new self.new (trees_after (Multiplies sign a b) t)) }
+        ensures table { IsOf table.now pass.new }
+        ensures later { Later pass.old pass.new }
+        ensures full { OnErr result (linked pass.new ≡ pass.new.nodes) }
+    {
+        let (x, y) = (self.get(a), self.get(b));
+        let hi = op_term(table, pass, product_high(sign), x, y)?;
+        let lo = op_term(table, pass, product_low(sign), x, y)?;
+        self.hi = hi;
+        self.lo = lo;
+        Ok(())
+    }
+
+    pub(crate) fn divides(
+        &mut self,
+        table: &TermTable,
+        pass: &mut Pass,
+        sign: Sign,
+        a: Reg,
+        b: Reg,
+    ) -> Result<(), SymFault>
+        requires table { IsOf table.now pass.old }
+        requires known { Known pass.old self.old }
+        ensures known { OnOk result (Known pass.new self.new) }
+        ensures stands { (t : TreeState) → Stands pass.old self.old t → OnOk result (Stands pass.new self.new (trees_after (Divides sign a b) t)) }
+        ensures table { IsOf table.now pass.new }
+        ensures later { Later pass.old pass.new }
+        ensures full { OnErr result (linked pass.new ≡ pass.new.nodes) }
+    {
+        let (x, y) = (self.get(a), self.get(b));
+        let hi = op_term(table, pass, remainder_operator(sign), x, y)?;
+        let lo = op_term(table, pass, quotient_operator(sign), x, y)?;
+        self.hi = hi;
+        self.lo = lo;
+        Ok(())
+    }
+}

@@ -1,0 +1,306 @@
+//! Blocks and orders, instruction by instruction.
+ghost use Rattle.std.specs.Prelude.{◌≡◌, ℕ, List, ◌<◌, ◌++◌, [], ◌∷◌, OnOk, OnErr, IfOk, IfErr, Err, map};
+ghost use Rattle.mips_isa.specs.declared.action.Action.{Action as AnAction};
+ghost use Rattle.mips_isa.specs.Actions.{action_of};
+ghost use Rattle.mblock.specs.BlockMeaning.{exit_shape};
+ghost use Rattle.mblock.specs.Clean.{slot_actions};
+ghost use Rattle.sym_terms.specs.declared.label.Place.TheVariants.{Register};
+ghost use Rattle.sym_terms.specs.declared.label.Label.TheVariants.{Init};
+ghost use Rattle.sym_terms.specs.Trees.{leaf};
+ghost use Rattle.term_table.specs.Passes.{PassState, IsOf, linked};
+ghost use Rattle.term_table.specs.Trees.{HasTree};
+ghost use Rattle.sym_exec.specs.declared.state.SymFault.{SymFault as ASymFault};
+ghost use Rattle.sym_exec.specs.declared.state.SymFault.TheVariants.{Full};
+ghost use Rattle.sym_exec.specs.Symbolic.{TreeState, GuardTree, start_trees, trees_after, all_trees, exit_trees, exit_operands, code_trees, block_trees, order_trees};
+ghost use Rattle.sym_exec.specs.Standing.{Later, Known, Stands, GuardsStand, LeavesBy, StandsFor, IsFull};
+
+use crate::state::{Guard, SymFault, SymState, TermExit, TermPlaces};
+use crate::terms::leaf_term;
+use mblock::{Block, Exit, Order};
+use mips_isa::{Action, NonzeroReg, Plain, Reg};
+use std::alloc::Global;
+use sym_terms::{Label, Place};
+use term_table::{Pass, TermTable, Ticket};
+
+fn push_guard(guards: &mut Vec<Guard>, guard: Guard) -> Result<(), SymFault>
+    ensures pushed { OnOk result (guards.new.items ≡ guards.old.items ++ guard ∷ []) }
+    ensures memory { OnErr result (result ≡ Err SymFault.NoMemory) }
+{
+    match guards.push(guard) {
+        Ok(()) => Ok(()),
+        Err(_) => Err(SymFault::NoMemory),
+    }
+}
+
+/// What an action does to the trees, done to their tickets.
+fn step(
+    table: &TermTable,
+    pass: &mut Pass,
+    places: &mut TermPlaces,
+    guards: &mut Vec<Guard>,
+    action: &Action,
+) -> Result<(), SymFault>
+    requires table { IsOf table.now pass.old }
+    requires known { Known pass.old places.old }
+    ensures known { OnOk result (Known pass.new places.new) }
+    ensures stands { (t : TreeState) → Stands pass.old places.old t → GuardsStand pass.old guards.old.items t.guards
+        → OnOk result (Stands pass.new places.new (trees_after action.now t) × GuardsStand pass.new guards.new.items (trees_after action.now t).guards) }
+    ensures table { IsOf table.now pass.new }
+    ensures later { Later pass.old pass.new }
+    ensures full { IfErr result (IsFull pass.new) }
+{
+    match *action {
+        Action::Computes { d, op, a, b } => places.computes(table, pass, d, op, a, &b),
+        Action::Sets { d, word } => places.put_leaf(table, pass, d, Label::Const(word)),
+        Action::Loads { d, base, offset } => {
+            let address = places.loads(table, pass, d, base, offset)?;
+            push_guard(guards, Guard::Address(address))
+        }
+        Action::Stores { r, base, offset } => {
+            let address = places.stores(table, pass, r, base, offset)?;
+            push_guard(guards, Guard::Address(address))
+        }
+        Action::Multiplies { sign, a, b } => places.multiplies(table, pass, sign, a, b),
+        Action::Divides { sign, a, b } => {
+            let dividend = places.get(a);
+            let divisor = places.get(b);
+            places.divides(table, pass, sign, a, b)?;
+            push_guard(
+                guards,
+                Guard::Division {
+                    sign,
+                    dividend,
+                    divisor,
+                },
+            )
+        }
+        Action::MovesHigh { d } => {
+            places.set(d, places.hi);
+            Ok(())
+        }
+        Action::MovesLow { d } => {
+            places.set(d, places.lo);
+            Ok(())
+        }
+    }
+}
+
+fn steps(
+    table: &TermTable,
+    pass: &mut Pass,
+    places: &mut TermPlaces,
+    guards: &mut Vec<Guard>,
+    insts: &[Plain],
+) -> Result<(), SymFault>
+    requires table { IsOf table.now pass.old }
+    requires known { Known pass.old places.old }
+    ensures known { OnOk result (Known pass.new places.new) }
+    ensures stands { (t : TreeState) → Stands pass.old places.old t → GuardsStand pass.old guards.old.items t.guards
+        → OnOk result (Stands pass.new places.new (all_trees (map action_of insts.now) t) × GuardsStand pass.new guards.new.items (all_trees (map action_of insts.now) t).guards) }
+    ensures table { IsOf table.now pass.new }
+    ensures later { Later pass.old pass.new }
+    ensures full { IfErr result (IsFull pass.new) }
+{
+    for inst in insts {
+        step(table, pass, places, guards, &inst.action())?;
+    }
+    Ok(())
+}
+
+/// What register `r` holds at the start.
+fn start_reg(table: &TermTable, pass: &mut Pass, r: u8) -> Result<Ticket, SymFault>
+    requires table { IsOf table.now pass.old }
+    requires nonzero { 0 < r }
+    requires low { r < 32 }
+    ensures tree { IfOk result (λ t. HasTree pass.new t (leaf (Init (Register r)))) }
+    ensures table { IsOf table.now pass.new }
+    ensures later { Later pass.old pass.new }
+    ensures full { OnErr result (linked pass.new ≡ pass.new.nodes) }
+{
+    let Some(reg) = NonzeroReg::new(r) else {
+        unreachable!();
+    };
+    leaf_term(table, pass, Label::Init(Place::Register(reg)))
+}
+
+/// What each place holds at the start: the constant 0 in register 0, in any other its own label.
+fn start(table: &TermTable, pass: &mut Pass) -> Result<TermPlaces, SymFault>
+    requires { IsOf table.now pass.old }
+    ensures known { IfOk result (Known pass.new) }
+    ensures stands { IfOk result (λ s. Stands pass.new s start_trees) }
+    ensures table { IsOf table.now pass.new }
+    ensures later { Later pass.old pass.new }
+    ensures full { OnErr result (linked pass.new ≡ pass.new.nodes) }
+{
+    let zero = leaf_term(table, pass, Label::Const(0))?;
+    let mut regs = [zero; 32];
+    for r in 1..32u8 {
+        regs[r as usize] = start_reg(table, pass, r)?;
+    }
+    let hi = leaf_term(table, pass, Label::Init(Place::Hi))?;
+    let lo = leaf_term(table, pass, Label::Init(Place::Lo))?;
+    let memory = leaf_term(table, pass, Label::Mem0)?;
+    Ok(TermPlaces {
+        regs,
+        hi,
+        lo,
+        memory,
+    })
+}
+
+/// The exit, with the tickets of what it reads.
+fn leave(places: &TermPlaces, exit: &Exit) -> TermExit
+    ensures { (p : PassState) (t : TreeState) → Stands p places.now t → LeavesBy p result (exit_shape exit.now) (exit_operands exit.now t) }
+{
+    match *exit {
+        Exit::Goto(t) => TermExit::Goto(t),
+        Exit::BranchPair {
+            test,
+            rs,
+            rt,
+            then,
+            other,
+        } => TermExit::BranchPair {
+            test,
+            a: places.get(rs),
+            b: places.get(rt),
+            then,
+            other,
+        },
+        Exit::BranchZero {
+            test,
+            rs,
+            then,
+            other,
+        } => TermExit::BranchZero {
+            test,
+            a: places.get(rs),
+            then,
+            other,
+        },
+        Exit::Call { function, next } => TermExit::Call { function, next },
+        Exit::Return => TermExit::Return(places.get(Reg::LINK)),
+        Exit::Out(next) => TermExit::Out {
+            word: places.get(Reg::ARGUMENT),
+            next,
+        },
+        Exit::Halt => TermExit::Halt(places.get(Reg::ARGUMENT)),
+    }
+}
+
+/// What the exit itself writes: a call its link, Out and Halt the number of the system call.
+fn put_own(
+    table: &TermTable,
+    pass: &mut Pass,
+    places: &mut TermPlaces,
+    exit: &Exit,
+) -> Result<(), SymFault>
+    requires table { IsOf table.now pass.old }
+    requires known { Known pass.old places.old }
+    ensures known { OnOk result (Known pass.new places.new) }
+    ensures stands { (t : TreeState) → Stands pass.old places.old t → OnOk result (Stands pass.new places.new (exit_trees exit.now t)) }
+    ensures table { IsOf table.now pass.new }
+    ensures later { Later pass.old pass.new }
+    ensures full { OnErr result (linked pass.new ≡ pass.new.nodes) }
+{
+    match *exit {
+        Exit::Call {
+            function: _,
+            next: _,
+        } => places.put_leaf(table, pass, Reg::LINK, Label::Init(Place::Link)),
+        Exit::Out(_) => places.put_leaf(table, pass, Reg::RESULT, Label::Const(1)),
+        Exit::Halt => places.put_leaf(table, pass, Reg::RESULT, Label::Const(10)),
+        _ => Ok(()),
+    }
+}
+
+/// The slot, where there is one.
+fn run_slot(
+    table: &TermTable,
+    pass: &mut Pass,
+    places: &mut TermPlaces,
+    guards: &mut Vec<Guard>,
+    slot: &Option<Plain>,
+) -> Result<(), SymFault>
+    requires table { IsOf table.now pass.old }
+    requires known { Known pass.old places.old }
+    ensures stands { (t : TreeState) → Stands pass.old places.old t → GuardsStand pass.old guards.old.items t.guards
+        → OnOk result (Stands pass.new places.new (all_trees (slot_actions slot.now) t) × GuardsStand pass.new guards.new.items (all_trees (slot_actions slot.now) t).guards) }
+    ensures table { IsOf table.now pass.new }
+    ensures later { Later pass.old pass.new }
+    ensures full { IfErr result (IsFull pass.new) }
+{
+    match slot {
+        Some(inst) => step(table, pass, places, guards, &inst.action()),
+        None => Ok(()),
+    }
+}
+
+fn run_code(
+    alloc: Global,
+    table: &TermTable,
+    pass: &mut Pass,
+    insts: &[Plain],
+    exit: &Exit,
+    slot: &Option<Plain>,
+) -> Result<SymState, SymFault>
+    requires { IsOf table.now pass.old }
+    ensures trees { IfOk result (λ s. StandsFor pass.new s.places s.exit s.guards.items (code_trees (map action_of insts.now) exit.now (slot_actions slot.now))) }
+    ensures table { IsOf table.now pass.new }
+    ensures later { Later pass.old pass.new }
+    ensures full { IfErr result (IsFull pass.new) }
+{
+    let mut guards = Vec::new(alloc);
+    let mut places = start(table, pass)?;
+    steps(table, pass, &mut places, &mut guards, insts)?;
+    let left = leave(&places, exit);
+    put_own(table, pass, &mut places, exit)?;
+    run_slot(table, pass, &mut places, &mut guards, slot)?;
+    Ok(SymState {
+        places,
+        exit: left,
+        guards,
+    })
+}
+
+/// The tickets of what a block leaves: those of its trees.
+///
+/// `SymFault::Full` comes only where the pass has linked as many terms as it may, and `NoMemory` where
+/// memory for a guard was refused. The terms that were linked stay.
+pub fn run_block(
+    alloc: Global,
+    table: &TermTable,
+    pass: &mut Pass,
+    block: &Block,
+) -> Result<SymState, SymFault>
+    requires { IsOf table.now pass.old }
+    ensures trees { IfOk result (λ s. StandsFor pass.new s.places s.exit s.guards.items (block_trees block.now)) }
+    ensures table { IsOf table.now pass.new }
+    ensures later { Later pass.old pass.new }
+    ensures full { IfErr result (IsFull pass.new) }
+{
+    run_code(alloc, table, pass, block.insts(), &block.exit(), &None)
+}
+
+/// The tickets of what an order leaves, its slot run behind the exit; else as `run_block`.
+pub fn run_order(
+    alloc: Global,
+    table: &TermTable,
+    pass: &mut Pass,
+    order: &Order,
+) -> Result<SymState, SymFault>
+    requires { IsOf table.now pass.old }
+    ensures trees { IfOk result (λ s. StandsFor pass.new s.places s.exit s.guards.items (order_trees order.now)) }
+    ensures table { IsOf table.now pass.new }
+    ensures later { Later pass.old pass.new }
+    ensures full { IfErr result (IsFull pass.new) }
+{
+    run_code(
+        alloc,
+        table,
+        pass,
+        order.insts(),
+        &order.exit(),
+        &order.slot(),
+    )
+}

@@ -1,0 +1,74 @@
+use mblock::BlockNumber;
+use mips_isa::{PairTest, ZeroTest};
+use term_table::Ticket;
+use thiserror::Error;
+use words::Sign;
+
+/// What the code relies on, by the terms' tickets: that an address is a mapped word's, or that a
+/// division has a value.
+#[derive(Clone, Copy, Debug, PartialEq, Eq)]
+pub enum Guard {
+    Address(Ticket),
+    Division {
+        sign: Sign,
+        dividend: Ticket,
+        divisor: Ticket,
+    },
+}
+
+/// The terms that registers, HI, LO and memory hold, by tickets. Register 0 holds the constant 0.
+#[derive(Clone, Copy, Debug)]
+pub struct TermPlaces {
+    pub regs: [Ticket; 32],
+    pub hi: Ticket,
+    pub lo: Ticket,
+    pub memory: Ticket,
+}
+
+/// An exit by its kind, condition and targets, with its operands' tickets in place of registers.
+#[derive(Clone, Copy, Debug, PartialEq, Eq)]
+pub enum TermExit {
+    Goto(BlockNumber),
+    BranchPair {
+        test: PairTest,
+        a: Ticket,
+        b: Ticket,
+        then: BlockNumber,
+        other: BlockNumber,
+    },
+    BranchZero {
+        test: ZeroTest,
+        a: Ticket,
+        then: BlockNumber,
+        other: BlockNumber,
+    },
+    Call {
+        function: BlockNumber,
+        next: BlockNumber,
+    },
+    Return(Ticket),
+    Out {
+        word: Ticket,
+        next: BlockNumber,
+    },
+    Halt(Ticket),
+}
+
+/// What a block or an order leaves, by tickets: its places, its exit and its guards.
+#[derive(Debug, Drop)]
+pub struct SymState {
+    pub places: TermPlaces,
+    pub exit: TermExit,
+    pub guards: Vec<Guard>,
+}
+
+/// Why symbolic execution stopped. The terms that were linked stay.
+#[derive(Clone, Copy, Debug, PartialEq, Eq, Error)]
+pub enum SymFault {
+    /// The pass has linked as many terms as it may.
+    #[error("the pass has linked as many terms as it may")]
+    Full,
+    /// Memory for a guard was refused.
+    #[error("memory was refused")]
+    NoMemory,
+}
