@@ -1,9 +1,10 @@
 //! How fast the term table is: interns a second of distinct terms with two children each, by 1, 2
 //! and 4 threads, each with a pass of its own, half of them in the other order.
 //!
-//! With the argument `--figures` it prints a table: interns a second in the first round, where each
-//! term is linked once, and in a second round, where all are there. Without, it runs fewer terms and
-//! prints how many the passes linked together, which is the same in every run.
+//! With the argument `--figures` it prints a table: interns a second of 200,000 terms in a first
+//! round, where each term is linked once (misses), and in a second, where all are there (hits); the
+//! fastest of seven runs. Without, it runs fewer terms, and prints how many the passes linked
+//! together, which is the same in every run.
 #![tactic(auto)]
 
 ghost use Rattle.std.specs.Prelude.{◌*◌, ◌≤◌, All, IfSome, IfOk};
@@ -131,22 +132,46 @@ fn rate(interns: u64, nanoseconds: u128) -> u128 {
     u128::from(interns) * 1_000_000_000 / nanoseconds.max(1)
 }
 
+/// The fastest rounds of `runs` runs.
+fn fastest<R: Threads + Sync + Clock>(
+    rt: &R,
+    alloc: Global,
+    count: u64,
+    terms: u32,
+    runs: u32,
+) -> io::Result<Option<Figures>>
+    requires { terms ≤ 448 * 448 }
+{
+    let mut best: Option<Figures> = None;
+    for _ in 0..runs {
+        let Some(now) = run(rt, alloc, count, terms)? else {
+            return Ok(None);
+        };
+        best = match best {
+            None => Some(now),
+            Some(before) => Some(Figures {
+                misses: now.misses.min(before.misses),
+                hits: now.hits.min(before.hits),
+                ..now
+            }),
+        };
+    }
+    Ok(best)
+}
+
 fn main(rt: HostRuntime) -> io::Result<()> {
     let figures = env::args(&rt)?.len() > 1;
-    let terms = if figures { 200_000 } else { 2_000 };
+    let (terms, runs) = if figures { (200_000, 7) } else { (2_000, 1) };
     for count in [1u64, 2, 4] {
-        let Some(did) = run(&rt, rt.alloc(), count, terms)? else {
+        let Some(did) = fastest(&rt, rt.alloc(), count, terms, runs)? else {
             println!(rt; "{count} threads: no memory")?;
             continue;
         };
         println!(rt; "{count} threads: {} terms linked", did.linked)?;
         if figures {
-            println!(
-                rt;
-                "  misses {} a second, hits {} a second",
-                rate(did.answered, did.misses),
-                rate(did.answered, did.hits)
-            )?;
+            let misses = rate(did.answered, did.misses);
+            let hits = rate(did.answered, did.hits);
+            println!(rt; "  {misses:>12} misses a second {hits:>12} hits a second")?;
         }
     }
     Ok(())
