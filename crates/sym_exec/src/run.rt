@@ -8,7 +8,7 @@ ghost use Rattle.sym_terms.specs.declared.label.Place.TheVariants.{Register};
 ghost use Rattle.sym_terms.specs.declared.label.Label.TheVariants.{Init};
 ghost use Rattle.sym_terms.specs.Trees.{leaf};
 ghost use Rattle.term_table.specs.Passes.{PassState, IsOf, linked};
-ghost use Rattle.term_table.specs.Trees.{HasTree};
+ghost use Rattle.term_table.specs.Trees.{HasTree, HasLegalHistory};
 ghost use Rattle.sym_exec.specs.declared.state.SymFault.{SymFault as ASymFault};
 ghost use Rattle.sym_exec.specs.declared.state.SymFault.TheVariants.{Full};
 ghost use Rattle.sym_exec.specs.Symbolic.{TreeState, GuardTree, start_trees, trees_after, all_trees, exit_trees, exit_operands, code_trees, block_trees, order_trees};
@@ -128,6 +128,7 @@ fn start(table: &TermTable, pass: &mut Pass) -> Result<TermPlaces, SymFault>
     requires { IsOf table.now pass.old }
     ensures known { IfOk result (Known pass.new) }
     ensures stands { IfOk result (λ s. Stands pass.new s start_trees) }
+    ensures legal { HasLegalHistory pass.new }
     ensures table { IsOf table.now pass.new }
     ensures later { Later pass.old pass.new }
     ensures full { OnErr result (linked pass.new ≡ pass.new.nodes) }
@@ -246,6 +247,7 @@ fn run_code(
 ) -> Result<SymState, SymFault>
     requires { IsOf table.now pass.old }
     ensures trees { IfOk result (λ s. StandsFor pass.new s.places s.exit s.guards.items (code_trees (map action_of insts.now) exit.now (slot_actions slot.now))) }
+    ensures legal { HasLegalHistory pass.new }
     ensures table { IsOf table.now pass.new }
     ensures later { Later pass.old pass.new }
     ensures full { IfErr result (IsFull pass.new) }
@@ -275,6 +277,7 @@ pub fn run_block(
 ) -> Result<SymState, SymFault>
     requires { IsOf table.now pass.old }
     ensures trees { IfOk result (λ s. StandsFor pass.new s.places s.exit s.guards.items (block_trees block.now)) }
+    ensures legal { HasLegalHistory pass.new }
     ensures table { IsOf table.now pass.new }
     ensures later { Later pass.old pass.new }
     ensures full { IfErr result (IsFull pass.new) }
@@ -291,6 +294,7 @@ pub fn run_order(
 ) -> Result<SymState, SymFault>
     requires { IsOf table.now pass.old }
     ensures trees { IfOk result (λ s. StandsFor pass.new s.places s.exit s.guards.items (order_trees order.now)) }
+    ensures legal { HasLegalHistory pass.new }
     ensures table { IsOf table.now pass.new }
     ensures later { Later pass.old pass.new }
     ensures full { IfErr result (IsFull pass.new) }

@@ -3,7 +3,7 @@ ghost use Rattle.std.specs.Prelude.{◌≡◌, ℕ, OnErr, IfOk};
 ghost use Rattle.sym_terms.specs.Trees.{Tree, leaf, binary, ternary};
 ghost use Rattle.sym_terms.specs.Values.{op_tree, load_tree, store_tree};
 ghost use Rattle.term_table.specs.Passes.{IsOf, HasSeen, linked};
-ghost use Rattle.term_table.specs.Trees.{HasTree};
+ghost use Rattle.term_table.specs.Trees.{HasTree, HasLegalHistory};
 ghost use Rattle.sym_exec.specs.Standing.{Later};
 
 use crate::state::SymFault;
@@ -18,6 +18,7 @@ pub(crate) fn leaf_term(
 ) -> Result<Ticket, SymFault>
     requires { IsOf table.now pass.old }
     ensures tree { IfOk result (λ t. HasTree pass.new t (leaf label)) }
+    ensures legal { HasLegalHistory pass.new }
     ensures table { IsOf table.now pass.new }
     ensures later { Later pass.old pass.new }
     ensures full { OnErr result (linked pass.new ≡ pass.new.nodes) }

@@ -1,0 +1,10 @@
+-- What a worker needs: its pass is the table's and has seen each leaf, and there are enough leaves for the terms.
+use Rattle.std.specs.Prelude.{◌≡◌, ℕ, ◌*◌, ◌≤◌, length, All}
+use Rattle.term_table.specs.Passes.{TableState, IsOf, HasSeen}
+use Rattle.table_speed.specs.declared.worker.Worker.{Worker}
+
+pub record IsReady (t : TableState) (w : Worker) : Type 0 where
+  pub pass : IsOf t w.pass
+  pub count : length w.leaves.items ≡ 448
+  pub terms : w.terms ≤ 448 * 448
+  pub seen : All (HasSeen w.pass) w.leaves.items

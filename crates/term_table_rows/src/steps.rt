@@ -1,0 +1,135 @@
+//! Callers of the table.
+ghost use Rattle.std.specs.Prelude.{◌≡◌, ◌+◌, ◌^◌, ◌<◌, All, IfSome, IfOk, IfErr};
+ghost use Rattle.sym_terms.specs.Trees.{leaf, binary};
+ghost use Rattle.term_table.specs.Passes.{IsOf, HasSeen, linked};
+ghost use Rattle.term_table.specs.Trees.{HasTree, Extends};
+
+use std::alloc::Global;
+use sym_terms::Label;
+use term_table::{Interned, Node, OpenFault, Pass, TableFull, TermTable, Ticket};
+
+/// A table, with the passes that are its own.
+pub fn opened(
+    alloc: Global,
+    workers: u64,
+    nodes: u64,
+    heads: u64,
+) -> Result<(TermTable, Vec<Pass>), OpenFault>
+    ensures { IfOk result (λ t. All (IsOf t.0) t.1.items) }
+{
+    let (table, passes) = TermTable::open(alloc, workers, nodes, heads)?;
+    Ok((table, passes))
+}
+
+/// The last pass that is left.
+pub fn take(table: &TermTable, passes: &mut Vec<Pass>) -> Option<Pass>
+    requires { All (IsOf table.now) passes.old.items }
+    ensures rest { All (IsOf table.now) passes.new.items }
+    ensures pass { IfSome result (λ p. IsOf table.now p) }
+{
+    let _ = table;
+    passes.pop()
+}
+
+/// Interns a term without children.
+pub fn intern_leaf(table: &TermTable, pass: &mut Pass, label: Label) -> Result<Interned, TableFull>
+    requires { IsOf table.now pass.old }
+    ensures pass { IsOf table.now pass.new }
+    ensures extends { Extends pass.old pass.new }
+    ensures tree { IfOk result (λ i. HasTree pass.new i.ticket (leaf label)) }
+    ensures full { IfErr result (λ _. linked pass.new ≡ pass.new.nodes) }
+{
+    table.intern(pass, label, &[])
+}
+
+/// Interns a leaf, and a term over it twice.
+#[tactic(auto, using(term_table::proofs::Callers::interning))]
+pub fn intern_over(
+    table: &TermTable,
+    pass: &mut Pass,
+    leaf_label: Label,
+    over: Label,
+) -> Result<(Ticket, Ticket), TableFull>
+    requires { IsOf table.now pass.old }
+    ensures pass { IsOf table.now pass.new }
+    ensures extends { Extends pass.old pass.new }
+    ensures first { IfOk result (λ t. HasTree pass.new t.0 (leaf leaf_label)) }
+    ensures second { IfOk result (λ t. HasTree pass.new t.1 (binary over (leaf leaf_label) (leaf leaf_label))) }
+    ensures full { IfErr result (λ _. linked pass.new ≡ pass.new.nodes) }
+{
+    let a = intern_leaf(table, pass, leaf_label)?.ticket;
+    let b = table.intern(pass, over, &[a, a])?.ticket;
+    Ok((a, b))
+}
+
+/// Interns `count` constants from `from` on, upward or downward, and tells whether each had a ticket.
+pub fn intern_constants(
+    table: &TermTable,
+    mut pass: Pass,
+    from: u32,
+    count: u32,
+    downward: bool,
+) -> (Pass, bool)
+    requires table { IsOf table.now pass }
+    requires range { from + count < 2 ^ 32 }
+    ensures { IsOf table.now result.0 }
+{
+    let mut all = true;
+    for i in 0..count {
+        let n = if downward { from + count - 1 - i } else { from + i };
+        if intern_leaf(table, &mut pass, Label::Const(n)).is_err() {
+            all = false;
+        }
+    }
+    (pass, all)
+}
+
+/// The passes meet, and the second reads the term `b` of the first and interns it again.
+pub fn meet_and_read(
+    table: &TermTable,
+    first: &mut Pass,
+    second: &mut Pass,
+    over: Label,
+    a: Ticket,
+    b: Ticket,
+) -> (Node, Result<Interned, TableFull>)
+    requires first { IsOf table.now first.old }
+    requires second { IsOf table.now second.old }
+    requires seen { HasSeen first.old a × HasSeen first.old b }
+{
+    table.meet(first, second);
+    let node = table.read(second, b);
+    let again = table.intern(second, over, &[a, a]);
+    (node, again)
+}
+
+/// Whether both passes find each constant below `count` under one ticket.
+pub fn find_constants(table: &TermTable, first: &mut Pass, second: &mut Pass, count: u32) -> bool
+    requires first { IsOf table.now first.old }
+    requires second { IsOf table.now second.old }
+    ensures first { IsOf table.now first.new }
+    ensures second { IsOf table.now second.new }
+{
+    let mut all = true;
+    for n in 0..count {
+        let one = table.find(first, Label::Const(n), &[]);
+        let other = table.find(second, Label::Const(n), &[]);
+        if one.ticket.is_none() || one.ticket != other.ticket {
+            all = false;
+        }
+    }
+    all
+}
+
+/// How many links are loaded to intern the constants below `count`, where there is room.
+pub fn constants_probes(table: &TermTable, pass: &mut Pass, count: u32) -> u64
+    requires { IsOf table.now pass.old }
+{
+    let mut sum = 0u64;
+    for n in 0..count {
+        if let Ok(made) = intern_leaf(table, pass, Label::Const(n)) {
+            sum = sum.saturating_add(made.probes);
+        }
+    }
+    sum
+}
