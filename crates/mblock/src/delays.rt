@@ -2,7 +2,7 @@ ghost use Rattle.std.specs.Prelude.{◌≡◌, ℕ, ◌+◌, ◌<◌, ◌≤◌,
 ghost use Rattle.mips_isa.specs.declared.inst.Plain.{Plain};
 ghost use Rattle.mips_isa.specs.Actions.{action_of, touches};
 ghost use Rattle.mblock.specs.OrderMeaning.{exit_touches};
-ghost use Rattle.mblock.specs.Clean.{loads_named, is_product_word, conflict_of, early_at, kinds_of, kinds, IsApart, IsBehind, HasQuietSlot, HasQuietEnd, IsClean, BreaksFirst, slot_words};
+ghost use Rattle.mblock.specs.Clean.{loads_named, is_product_word, conflict_of, early_at, kinds_of, kinds, IsApart, IsBehind, HasQuietSlot, HasQuietEnd, IsClean, FitsSlot, BreaksFirst, slot_words};
 
 use crate::exit::Exit;
 use crate::order::Order;
@@ -161,12 +161,13 @@ fn is_quiet_end(insts: &[Plain], exit: &Exit) -> bool
 
 /// Whether an order keeps the delay rules; else the least rule that it breaks.
 pub fn clean(order: &Order) -> Result<(), Unclean>
-    ensures { MatchResult result (λ _. IsClean order.now) (λ rule. BreaksFirst rule order.now) }
+    ensures exact { MatchResult result (λ _. IsClean order.now) (λ rule. BreaksFirst rule order.now) }
+    ensures fits { FitsSlot order.now }
 {
+    let slot = order.slot();
     if !is_apart(order.insts()) {
         return Err(Unclean::U1);
     }
-    let slot = order.slot();
     if !is_behind(order.insts(), &slot) {
         return Err(Unclean::U2);
     }

@@ -7,7 +7,7 @@ use mips_isa::Plain;
 use std::marker::Model;
 
 /// A proposed order of a block: at most 2,048 instructions, an exit, and what runs in its slot.
-#[derive(Drop)]
+#[derive(Debug, Drop)]
 pub struct Order {
     insts: Vec<Plain>,
     exit: Exit,
@@ -55,7 +55,8 @@ impl Order {
 
     /// What runs behind the exit word: Some exactly where the exit has a slot.
     pub fn slot(&self) -> Option<Plain>
-        ensures { result ≡ self.now.slot }
+        ensures value { result ≡ self.now.slot }
+        ensures fits { is_some self.now.slot ≡ is_slotted self.now.exit }
     {
         self.slot
     }

@@ -16,8 +16,8 @@ use Rattle.mblock.specs.BlockMeaning.{Shape}
 use Rattle.sym_exec.specs.declared.state.TermExit.{TermExit}
 use Rattle.sym_exec.specs.declared.state.Guard.{Guard}
 use Rattle.sym_exec.specs.declared.state.Guard.TheVariants.{Address, Division}
-use Rattle.sym_exec.specs.Symbolic.{TreeState, held, start_trees, GuardTree, AtAddress, AtDivision}
-use Rattle.sym_exec.specs.Standing.{Later, Known, Stands, with_reg, IsGuard, GuardsStand, AllHave, LeavesBy, tickets_of}
+use Rattle.sym_exec.specs.Symbolic.{TreeState, held, start_trees, CodeTrees, GuardTree, AtAddress, AtDivision}
+use Rattle.sym_exec.specs.Standing.{Later, Known, Stands, with_reg, IsGuard, GuardsStand, AllHave, LeavesBy, StandsFor, tickets_of}
 
 pub later_self : (p : PassState) → Later p p
 later_self p = record { extends = extends_self p; legal = λ h. h }
@@ -198,3 +198,10 @@ set_tree p xs k v q lt some new low old = go (q == k) refl
     go false e =
         let apart : q ≢ k = λ same. true≢false (sym (eq-eqb q k same) ∙ e) in
         subst (λ n. HasTree p n (held start_trees q)) (sym (get_or-set_other xs k q v 0 apart)) (old (Rattle.std.proofs.Common.⊎_elim (λ x. x) (λ le. absurd (apart (omega (arith, low, le)))) (Rattle.std.proofs.lemmas.Bool.cases_lt q k)))
+
+pub stands_for_on : {p q : PassState} {s : TermPlaces} {e : TermExit} {gs : List Guard} {c : CodeTrees} → Later p q → StandsFor p s e gs c → StandsFor q s e gs c
+stands_for_on {p} {q} {s} {e} {gs} {c} later h = record {
+  places = stands_on later h.places;
+  exit = leaves_on e c.shape c.operands later h.exit;
+  guards = guards_on later h.guards;
+}

@@ -113,6 +113,7 @@ fn start_reg(table: &TermTable, pass: &mut Pass, r: u8) -> Result<Ticket, SymFau
     requires nonzero { 0 < r }
     requires low { r < 32 }
     ensures tree { IfOk result (λ t. HasTree pass.new t (leaf (Init (Register r)))) }
+    ensures legal { HasLegalHistory pass.new }
     ensures table { IsOf table.now pass.new }
     ensures later { Later pass.old pass.new }
     ensures full { OnErr result (linked pass.new ≡ pass.new.nodes) }

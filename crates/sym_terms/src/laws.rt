@@ -6,5 +6,4 @@ pub fn trees_keep_values()
     ensures operations { OpTreesHaveValues }
     ensures loads { LoadTreesHaveValues }
     ensures stores { StoreTreesHaveValues }
-{
-}
+{}

@@ -1,0 +1,14 @@
+//! The validator: whether a proposed order of a block means the block (Tristan and Leroy, POPL 2008;
+//! Six, Boulmé and Monniaux, OOPSLA 2020).
+//!
+//! `validate` answers the verdict that `IsVerdict` defines (`specs/Verdicts.antt`), and a `Checked`
+//! order means its block from every start state (`Means` in `specs/Same.antt`). Definitions compare
+//! trees; the code compares tickets of a shared table of terms.
+#![tactic(auto)]
+
+mod compare;
+mod place;
+mod verdict;
+
+pub use place::Place;
+pub use verdict::{Checked, Verdict, checked_orders_mean_their_blocks, validate};

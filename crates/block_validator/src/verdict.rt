@@ -1,0 +1,128 @@
+ghost use Rattle.std.specs.Prelude.{◌≡◌, IfOk, IfErr, MatchOption};
+ghost use Rattle.mblock.specs.Parts.{BlockParts, OrderParts};
+ghost use Rattle.mblock.specs.Clean.{IsClean};
+ghost use Rattle.mblock.specs.BlockMeaning.{exit_shape};
+ghost use Rattle.term_table.specs.Passes.{IsOf, linked};
+ghost use Rattle.sym_exec.specs.Symbolic.{block_trees, order_trees};
+ghost use Rattle.sym_exec.specs.Standing.{Later, IsFull};
+ghost use Rattle.block_validator.specs.Same.{SameTrees, DiffersFirst, Means, EachCheckedOrderMeansItsBlock};
+ghost use Rattle.block_validator.specs.Verdicts.{IsVerdict};
+
+use crate::compare::first_difference;
+use crate::place::Place;
+use mblock::{Block, Order, Unclean, clean};
+use std::alloc::Global;
+use std::marker::Model;
+use sym_exec::{SymFault, run_block, run_order};
+use term_table::{Pass, TermTable};
+
+/// A lent block, and a clean order that has its terms in every place. Only `validate` makes one.
+#[derive(Debug, Drop)]
+pub struct Checked<'a> {
+    block: &'a Block,
+    order: Order,
+}
+
+impl<'a> Model for Checked<'a> {
+    ghost use Rattle.block_validator.specs.Same.{CheckedParts, IsChecked};
+
+    ghost Value = { CheckedParts };
+
+    ghost view = { λ c. record { block = c.block.now; order = c.order } };
+
+    ghost invariant = { λ c. IsChecked (record { block = c.block.now; order = c.order }) };
+}
+
+impl<'a> Checked<'a> {
+    ghost use Rattle.mblock.specs.Clean.{IsClean};
+    ghost use Rattle.mblock.specs.BlockMeaning.{exit_shape};
+    ghost use Rattle.sym_exec.specs.Symbolic.{block_trees, order_trees};
+    ghost use Rattle.block_validator.specs.Same.{SameTrees, Means};
+
+    /// The block.
+    pub fn block(&self) -> &'a Block
+        ensures { result.now ≡ self.now.block }
+    {
+        self.block
+    }
+
+    /// The order. From every start state of words, and whatever link a call would put in: where the
+    /// block isn't stuck, the order isn't, and leaves equal registers, HI, LO, memory and exit.
+    pub fn order(&self) -> &Order
+        ensures value { result.now ≡ self.now.order }
+        ensures clean { IsClean self.now.order }
+        ensures same { SameTrees (block_trees self.now.block) (order_trees self.now.order) }
+        ensures exit { exit_shape self.now.block.exit ≡ exit_shape self.now.order.exit }
+        ensures means { Means self.now.block self.now.order }
+    {
+        &self.order
+    }
+}
+
+/// What a validator says of an order for a block.
+#[derive(Debug, Drop)]
+pub enum Verdict<'a> {
+    /// The order is clean and has the block's terms.
+    Same(Checked<'a>),
+    /// The least delay rule that the order breaks, whatever its terms are.
+    Unclean(Unclean),
+    /// The order is clean, and this is the first place in which the terms differ.
+    Differs(Place),
+    /// The order is clean, and the pass has linked as many terms as it may.
+    Full,
+    /// The order is clean, and memory was refused.
+    NoMemory,
+}
+
+fn compare(
+    alloc: Global,
+    table: &TermTable,
+    pass: &mut Pass,
+    block: &Block,
+    order: &Order,
+) -> Result<Option<Place>, SymFault>
+    requires { IsOf table.now pass.old }
+    ensures exact { IfOk result (λ r. MatchOption r (SameTrees (block_trees block.now) (order_trees order.now)) (DiffersFirst (block_trees block.now) (order_trees order.now))) }
+    ensures table { IsOf table.now pass.new }
+    ensures later { Later pass.old pass.new }
+    ensures full { IfErr result (IsFull pass.new) }
+{
+    let first = run_block(alloc, table, pass, block)?;
+    let second = run_order(alloc, table, pass, order)?;
+    Ok(first_difference(&first, &second))
+}
+
+/// The verdict on an order for a block: the least delay rule that it breaks, else the first place whose
+/// terms differ, else that it means the block.
+///
+/// `Full` comes only where the pass has linked as many terms as it may, `NoMemory` where memory for a
+/// guard was refused. Whatever the verdict, the terms that were linked stay, and the pass is the
+/// table's.
+pub fn validate<'a>(
+    alloc: Global,
+    table: &TermTable,
+    pass: &mut Pass,
+    block: &'a Block,
+    order: Order,
+) -> Verdict<'a>
+    requires { IsOf table.now pass.old }
+    ensures exact { IsVerdict block.now order result }
+    ensures table { IsOf table.now pass.new }
+    ensures later { Later pass.old pass.new }
+    ensures full { result ≡ Verdict.Full → linked pass.new ≡ pass.new.nodes }
+{
+    if let Err(rule) = clean(&order) {
+        return Verdict::Unclean(rule);
+    }
+    match compare(alloc, table, pass, block, &order) {
+        Err(SymFault::Full) => Verdict::Full,
+        Err(SymFault::NoMemory) => Verdict::NoMemory,
+        Ok(Some(place)) => Verdict::Differs(place),
+        Ok(None) => Verdict::Same(Checked { block, order }),
+    }
+}
+
+/// Each clean order that has its block's trees means the block. A law: it computes nothing.
+pub fn checked_orders_mean_their_blocks()
+    ensures { EachCheckedOrderMeansItsBlock }
+{}
