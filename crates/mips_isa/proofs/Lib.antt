@@ -1,2 +1,3 @@
 pub mod Registers
 pub mod Late
+pub mod Decoding

@@ -9,12 +9,14 @@
 #![tactic(auto)]
 
 mod action;
+mod code;
 mod inst;
 mod reg;
 
 pub use action::{
     Action, Operand, product_high, product_low, quotient_operator, remainder_operator,
 };
+pub use code::{decode, encode};
 pub use inst::{
     AluOp, Control, HiLo, ImmOp, Inst, JumpOp, LogicOp, PairTest, Plain, ShiftOp, ZeroTest,
 };

@@ -1,0 +1,136 @@
+-- The candidate for the word of an instruction is that instruction.
+use Rattle.std.proofs.Common.{◌≡◌, ℕ, ◌/◌, ◌%◌, ◌^◌, ◌<◌, ◌==◌, Bool, true, false, refl, ap, sym, ◌∙◌, arith, Some, None, cond, eqb-true}
+use Rattle.std.specs.Prelude.{FitsSigned, ℤ}
+use Rattle.std.specs.Int.{w16, cast_unsigned, cast_signed}
+use Rattle.std.proofs.lemmas.Int.{to_z-of_z, ints}
+use Rattle.words.specs.declared.sign.Sign.{Sign}
+use Rattle.words.specs.declared.sign.Sign.TheVariants.{Signed, Unsigned}
+use Rattle.mips_isa.specs.declared.inst.ShiftOp.{ShiftOp}
+use Rattle.mips_isa.specs.declared.inst.ShiftOp.TheVariants.{Sll, Srl, Sra}
+use Rattle.mips_isa.specs.declared.inst.AluOp.{AluOp}
+use Rattle.mips_isa.specs.declared.inst.AluOp.TheVariants.{Addu, Subu, And, Or, Xor, Nor, Slt, Sltu}
+use Rattle.mips_isa.specs.declared.inst.ImmOp.{ImmOp}
+use Rattle.mips_isa.specs.declared.inst.ImmOp.TheVariants.{Addiu, Slti, Sltiu}
+use Rattle.mips_isa.specs.declared.inst.LogicOp.{LogicOp}
+use Rattle.mips_isa.specs.declared.inst.LogicOp.TheVariants.{Andi, Ori, Xori}
+use Rattle.mips_isa.specs.declared.inst.HiLo.{HiLo}
+use Rattle.mips_isa.specs.declared.inst.HiLo.TheVariants.{Hi, Lo}
+use Rattle.mips_isa.specs.declared.inst.PairTest.{PairTest}
+use Rattle.mips_isa.specs.declared.inst.PairTest.TheVariants.{Equal, NotEqual}
+use Rattle.mips_isa.specs.declared.inst.ZeroTest.{ZeroTest}
+use Rattle.mips_isa.specs.declared.inst.ZeroTest.TheVariants.{AtMostZero, AboveZero, BelowZero, AtLeastZero}
+use Rattle.mips_isa.specs.declared.inst.JumpOp.{JumpOp}
+use Rattle.mips_isa.specs.declared.inst.JumpOp.TheVariants.{Jump, JumpAndLink}
+use Rattle.mips_isa.specs.declared.inst.Plain.{Plain}
+use Rattle.mips_isa.specs.declared.inst.Plain.TheVariants.{Shift, ShiftBy, Alu, Imm, Logic, LoadUpper, MoveFrom, Multiply, Divide, Load, Store}
+use Rattle.mips_isa.specs.declared.inst.Control.{Control}
+use Rattle.mips_isa.specs.declared.inst.Control.TheVariants.{BranchPair, BranchZero, JumpTo, JumpRegister, SystemCall}
+use Rattle.mips_isa.specs.declared.inst.Inst.{Inst}
+use Rattle.mips_isa.specs.declared.inst.Inst.TheVariants as insts
+use Rattle.mips_isa.specs.Ranges.{IsPlain, IsControl, IsInst}
+use Rattle.mips_isa.specs.Words.{register_word, immediate_word, jump_word, inst_word, word_of_plain, word_of_control, half, shift_code, shift_by_code, alu_code, move_code, multiply_code, divide_code, imm_code, logic_code, pair_code, jump_code, zero_code, zero_field}
+use Rattle.mips_isa.specs.Candidates.{inst_of_fields, candidate_of}
+
+-- a register form gives the instruction that its fields give
+register_gives : (rs rt rd amount funct : ℕ) → rs < 32 → rt < 32 → rd < 32 → amount < 32 → funct < 64
+    → (i : Inst) → ((imm target : ℕ) → inst_of_fields 0 rs rt rd amount funct imm target ≡ Some i)
+    → candidate_of (register_word rs rt rd amount funct) ≡ Some i
+register_gives rs rt rd amount funct a b c d e i gives =
+    let w : ℕ = register_word rs rt rd amount funct in
+    let e0 : w / 2 ^ 26 ≡ 0 = omega arith in
+    let e1 : w / 2 ^ 21 % 32 ≡ rs = omega arith in
+    let e2 : w / 2 ^ 16 % 32 ≡ rt = omega arith in
+    let e3 : w / 2 ^ 11 % 32 ≡ rd = omega arith in
+    let e4 : w / 2 ^ 6 % 32 ≡ amount = omega arith in
+    let e5 : w % 64 ≡ funct = omega arith in
+    rw (e0, e1, e2, e3, e4, e5) (gives (w % 2 ^ 16) (w % 2 ^ 26))
+
+-- and so does an immediate form
+immediate_gives : (op rs rt imm : ℕ) → op < 64 → rs < 32 → rt < 32 → imm < 2 ^ 16
+    → (i : Inst) → ((rd amount funct target : ℕ) → inst_of_fields op rs rt rd amount funct imm target ≡ Some i)
+    → candidate_of (immediate_word op rs rt imm) ≡ Some i
+immediate_gives op rs rt imm a b c d i gives =
+    let w : ℕ = immediate_word op rs rt imm in
+    let e0 : w / 2 ^ 26 ≡ op = omega arith in
+    let e1 : w / 2 ^ 21 % 32 ≡ rs = omega arith in
+    let e2 : w / 2 ^ 16 % 32 ≡ rt = omega arith in
+    let e3 : w % 2 ^ 16 ≡ imm = omega arith in
+    rw (e0, e1, e2, e3) (gives (w / 2 ^ 11 % 32) (w / 2 ^ 6 % 32) (w % 64) (w % 2 ^ 26))
+
+-- and a jump
+jump_gives : (op target : ℕ) → op < 64 → target < 2 ^ 26
+    → (i : Inst) → ((rs rt rd amount funct imm : ℕ) → inst_of_fields op rs rt rd amount funct imm target ≡ Some i)
+    → candidate_of (jump_word op target) ≡ Some i
+jump_gives op target a b i gives =
+    let w : ℕ = jump_word op target in
+    let e0 : w / 2 ^ 26 ≡ op = omega arith in
+    let e1 : w % 2 ^ 26 ≡ target = omega arith in
+    rw (e0, e1) (gives (w / 2 ^ 21 % 32) (w / 2 ^ 16 % 32) (w / 2 ^ 11 % 32) (w / 2 ^ 6 % 32) (w % 64) (w % 2 ^ 16))
+
+half_back : (imm : ℤ) → FitsSigned w16 imm → cast_signed w16 (half imm) ≡ imm
+half_back imm h = grind (arith, to_z-of_z)
+
+half_small : (imm : ℤ) → FitsSigned w16 imm → half imm < 2 ^ 16
+half_small imm h = omega (arith, ints)
+
+not_zero : (n : ℕ) → 0 < n → (n == 0) ≡ false
+not_zero n h = go (n == 0) refl
+  where
+    go : (b : Bool) → (n == 0) ≡ b → b ≡ false
+    go true e = absurd (let none : n ≡ 0 = eqb-true n 0 e in omega arith)
+    go false e = refl
+
+-- one equation for each operation, by computation
+pub candidate-word_of_plain : (i : Plain) → IsPlain i → candidate_of (word_of_plain i) ≡ Some (insts.Plain i)
+candidate-word_of_plain (Shift op rd rt amount) h =
+    register_gives 0 rt rd amount (shift_code op) (omega arith) h.1 h.0 h.2 (elim op as (λ o. shift_code o < 64) [ Sll ↦ omega arith | Srl ↦ omega arith | Sra ↦ omega arith ]) _
+    (λ imm target. elim op as (λ o. inst_of_fields 0 0 rt rd amount (shift_code o) imm target ≡ Some (insts.Plain (Shift o rd rt amount))) [ Sll ↦ refl | Srl ↦ refl | Sra ↦ refl ])
+candidate-word_of_plain (ShiftBy op rd rt rs) h =
+    register_gives rs rt rd 0 (shift_by_code op) h.2 h.1 h.0 (omega arith) (elim op as (λ o. shift_by_code o < 64) [ Sll ↦ omega arith | Srl ↦ omega arith | Sra ↦ omega arith ]) _
+    (λ imm target. elim op as (λ o. inst_of_fields 0 rs rt rd 0 (shift_by_code o) imm target ≡ Some (insts.Plain (ShiftBy o rd rt rs))) [ Sll ↦ refl | Srl ↦ refl | Sra ↦ refl ])
+candidate-word_of_plain (Alu op rd rs rt) h =
+    register_gives rs rt rd 0 (alu_code op) h.1 h.2 h.0 (omega arith) (elim op as (λ o. alu_code o < 64) [ Addu ↦ omega arith | Subu ↦ omega arith | And ↦ omega arith | Or ↦ omega arith | Xor ↦ omega arith | Nor ↦ omega arith | Slt ↦ omega arith | Sltu ↦ omega arith ]) _
+    (λ imm target. elim op as (λ o. inst_of_fields 0 rs rt rd 0 (alu_code o) imm target ≡ Some (insts.Plain (Alu o rd rs rt))) [ Addu ↦ refl | Subu ↦ refl | And ↦ refl | Or ↦ refl | Xor ↦ refl | Nor ↦ refl | Slt ↦ refl | Sltu ↦ refl ])
+candidate-word_of_plain (Imm op rt rs imm) h =
+    immediate_gives (imm_code op) rs rt (half imm) (elim op as (λ o. imm_code o < 64) [ Addiu ↦ omega arith | Slti ↦ omega arith | Sltiu ↦ omega arith ]) h.1 h.0 (half_small imm h.2) _
+    (λ rd amount funct target. elim op as (λ o. inst_of_fields (imm_code o) rs rt rd amount funct (half imm) target ≡ Some (insts.Plain (Imm o rt rs imm))) [ Addiu ↦ ap (λ z. Some (insts.Plain (Imm Addiu rt rs z))) (half_back imm h.2) | Slti ↦ ap (λ z. Some (insts.Plain (Imm Slti rt rs z))) (half_back imm h.2) | Sltiu ↦ ap (λ z. Some (insts.Plain (Imm Sltiu rt rs z))) (half_back imm h.2) ])
+candidate-word_of_plain (Logic op rt rs imm) h =
+    immediate_gives (logic_code op) rs rt imm (elim op as (λ o. logic_code o < 64) [ Andi ↦ omega arith | Ori ↦ omega arith | Xori ↦ omega arith ]) h.1 h.0 h.2 _
+    (λ rd amount funct target. elim op as (λ o. inst_of_fields (logic_code o) rs rt rd amount funct imm target ≡ Some (insts.Plain (Logic o rt rs imm))) [ Andi ↦ refl | Ori ↦ refl | Xori ↦ refl ])
+candidate-word_of_plain (LoadUpper rt imm) h = immediate_gives 15 0 rt imm (omega arith) (omega arith) h.0 h.1 _ (λ rd amount funct target. refl)
+candidate-word_of_plain (MoveFrom place rd) h =
+    register_gives 0 0 rd 0 (move_code place) (omega arith) (omega arith) h (omega arith) (elim place as (λ o. move_code o < 64) [ Hi ↦ omega arith | Lo ↦ omega arith ]) _
+    (λ imm target. elim place as (λ o. inst_of_fields 0 0 0 rd 0 (move_code o) imm target ≡ Some (insts.Plain (MoveFrom o rd))) [ Hi ↦ refl | Lo ↦ refl ])
+candidate-word_of_plain (Multiply sign rs rt) h =
+    register_gives rs rt 0 0 (multiply_code sign) h.0 h.1 (omega arith) (omega arith) (elim sign as (λ o. multiply_code o < 64) [ Signed ↦ omega arith | Unsigned ↦ omega arith ]) _
+    (λ imm target. elim sign as (λ o. inst_of_fields 0 rs rt 0 0 (multiply_code o) imm target ≡ Some (insts.Plain (Multiply o rs rt))) [ Signed ↦ refl | Unsigned ↦ refl ])
+candidate-word_of_plain (Divide sign rs rt) h =
+    register_gives rs rt 0 0 (divide_code sign) h.0 h.1 (omega arith) (omega arith) (elim sign as (λ o. divide_code o < 64) [ Signed ↦ omega arith | Unsigned ↦ omega arith ]) _
+    (λ imm target. elim sign as (λ o. inst_of_fields 0 rs rt 0 0 (divide_code o) imm target ≡ Some (insts.Plain (Divide o rs rt))) [ Signed ↦ refl | Unsigned ↦ refl ])
+candidate-word_of_plain (Load rt base offset) h =
+    immediate_gives 35 base rt (half offset) (omega arith) h.2 h.1 (half_small offset h.3) _
+    (λ rd amount funct target. ap (λ b. Rattle.mips_isa.specs.Candidates.or_else (Rattle.std.specs.Prelude.option_map insts.Plain (cond b None (Some (Load rt base (cast_signed w16 (half offset)))))) None) (not_zero rt h.0) ∙ ap (λ z. Some (insts.Plain (Load rt base z))) (half_back offset h.3))
+candidate-word_of_plain (Store rt base offset) h =
+    immediate_gives 43 base rt (half offset) (omega arith) h.1 h.0 (half_small offset h.2) _
+    (λ rd amount funct target. ap (λ z. Some (insts.Plain (Store rt base z))) (half_back offset h.2))
+
+pub candidate-word_of_control : (i : Control) → IsControl i → candidate_of (word_of_control i) ≡ Some (insts.Control i)
+candidate-word_of_control (BranchPair test rs rt offset) h =
+    immediate_gives (pair_code test) rs rt (half offset) (elim test as (λ o. pair_code o < 64) [ Equal ↦ omega arith | NotEqual ↦ omega arith ]) h.0 h.1 (half_small offset h.2) _
+    (λ rd amount funct target. elim test as (λ o. inst_of_fields (pair_code o) rs rt rd amount funct (half offset) target ≡ Some (insts.Control (BranchPair o rs rt offset))) [ Equal ↦ ap (λ z. Some (insts.Control (BranchPair Equal rs rt z))) (half_back offset h.2) | NotEqual ↦ ap (λ z. Some (insts.Control (BranchPair NotEqual rs rt z))) (half_back offset h.2) ])
+candidate-word_of_control (BranchZero AtMostZero rs offset) h = immediate_gives 6 rs 0 (half offset) (omega arith) h.0 (omega arith) (half_small offset h.1) _ (λ rd amount funct target. ap (λ z. Some (insts.Control (BranchZero AtMostZero rs z))) (half_back offset h.1))
+candidate-word_of_control (BranchZero AboveZero rs offset) h = immediate_gives 7 rs 0 (half offset) (omega arith) h.0 (omega arith) (half_small offset h.1) _ (λ rd amount funct target. ap (λ z. Some (insts.Control (BranchZero AboveZero rs z))) (half_back offset h.1))
+candidate-word_of_control (BranchZero BelowZero rs offset) h = immediate_gives 1 rs 0 (half offset) (omega arith) h.0 (omega arith) (half_small offset h.1) _ (λ rd amount funct target. ap (λ z. Some (insts.Control (BranchZero BelowZero rs z))) (half_back offset h.1))
+candidate-word_of_control (BranchZero AtLeastZero rs offset) h = immediate_gives 1 rs 1 (half offset) (omega arith) h.0 (omega arith) (half_small offset h.1) _ (λ rd amount funct target. ap (λ z. Some (insts.Control (BranchZero AtLeastZero rs z))) (half_back offset h.1))
+candidate-word_of_control (JumpTo op target) h =
+    jump_gives (jump_code op) target (elim op as (λ o. jump_code o < 64) [ Jump ↦ omega arith | JumpAndLink ↦ omega arith ]) h _
+    (λ rs rt rd amount funct imm. elim op as (λ o. inst_of_fields (jump_code o) rs rt rd amount funct imm target ≡ Some (insts.Control (JumpTo o target))) [ Jump ↦ refl | JumpAndLink ↦ refl ])
+candidate-word_of_control (JumpRegister rs) h = register_gives rs 0 0 0 8 h (omega arith) (omega arith) (omega arith) (omega arith) _ (λ imm target. refl)
+candidate-word_of_control SystemCall h = register_gives 0 0 0 0 12 (omega arith) (omega arith) (omega arith) (omega arith) (omega arith) _ (λ imm target. refl)
+
+pub candidate-inst_word : (i : Inst) → IsInst i → candidate_of (inst_word i) ≡ Some i
+candidate-inst_word (insts.Plain i) h = candidate-word_of_plain i h
+candidate-inst_word (insts.Control i) h = candidate-word_of_control i h
+
+pub candidate_at : (w : ℕ) (i : Inst) → IsInst i → inst_word i ≡ w → candidate_of w ≡ Some i
+candidate_at w i is e = ap candidate_of (sym e) ∙ candidate-inst_word i is
