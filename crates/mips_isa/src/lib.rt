@@ -9,8 +9,10 @@
 
 mod inst;
 mod reg;
+mod text;
 
 pub use inst::{
     AluOp, Control, HiLo, ImmOp, Inst, JumpOp, LogicOp, PairTest, Plain, ShiftOp, ZeroTest,
 };
 pub use reg::{Amount, JumpTarget, NonzeroReg, Reg};
+pub use text::Mnemonic;
