@@ -9,8 +9,10 @@ mod block;
 mod exit;
 mod number;
 mod order;
+mod unclean;
 
 pub use block::Block;
 pub use exit::Exit;
 pub use number::BlockNumber;
 pub use order::Order;
+pub use unclean::Unclean;

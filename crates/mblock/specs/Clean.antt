@@ -1,0 +1,58 @@
+-- The delay rules that an order keeps so that no word of it comes too early, by places in the order.
+use Rattle.std.specs.Prelude.{◌≡◌, ℕ, suc, Bool, true, false, ◌⊎◌, ◌&&◌, ◌||◌, List, [], ◌∷◌, ◌++◌, map, length, Option, Some, None, is_some, slice_get}
+use Rattle.mips_isa.specs.declared.inst.Plain.{Plain}
+use Rattle.mips_isa.specs.declared.action.Action.{Action}
+use Rattle.mips_isa.specs.declared.action.Action.TheVariants.{Loads}
+use Rattle.mips_isa.specs.States.{is_register}
+use Rattle.mips_isa.specs.Actions.{action_of, loads, touches, is_load, is_move, is_product}
+use Rattle.mblock.specs.declared.unclean.Unclean.{Unclean}
+use Rattle.mblock.specs.declared.unclean.Unclean.TheVariants.{U1, U2, U3, U4}
+use Rattle.mblock.specs.Parts.{OrderParts}
+use Rattle.mblock.specs.Slots.{is_slotted}
+use Rattle.mblock.specs.OrderMeaning.{exit_touches}
+
+abbrev pub slot_actions : Option Plain → List Action
+slot_actions None = []
+slot_actions (Some i) = action_of i ∷ []
+
+-- a slot is given exactly where the exit has one
+abbrev pub FitsSlot : OrderParts → Type 0
+FitsSlot o = is_some o.slot ≡ is_slotted o.exit
+
+-- the words of an order, its exit as one of no kind
+abbrev pub kinds : OrderParts → List (Option Action)
+kinds o = map (λ i. Some (action_of i)) o.insts ++ (None ∷ map Some (slot_actions o.slot))
+
+-- no instruction reads or writes the register that the one just before it loads
+abbrev pub IsApart : List Plain → Type 0
+IsApart insts = (i r : ℕ) (a b : Plain) → slice_get insts i ≡ Some a → slice_get insts (suc i) ≡ Some b → loads (action_of a) r ≡ true → touches (action_of b) r ≡ false
+
+-- no product is one or two words behind a move from HI or LO
+abbrev pub IsBehind : List (Option Action) → Type 0
+IsBehind words = (i : ℕ) (a b : Action) → slice_get words i ≡ Some (Some a) → is_move a ≡ true → (slice_get words (suc i) ≡ Some (Some b)) ⊎ (slice_get words (suc (suc i)) ≡ Some (Some b)) → is_product b ≡ false
+
+-- no load and no move from HI or LO is in the slot
+abbrev pub HasQuietSlot : OrderParts → Type 0
+HasQuietSlot o = (i : Plain) → o.slot ≡ Some i → (is_load (action_of i) || is_move (action_of i)) ≡ false
+
+-- the last instruction loads no register that the first word of the exit reads or writes
+abbrev pub HasQuietEnd : OrderParts → Type 0
+HasQuietEnd o = (i r : ℕ) (a : Plain) → slice_get o.insts i ≡ Some a → suc i ≡ length o.insts → loads (action_of a) r ≡ true → exit_touches o.exit r ≡ false
+
+pub record IsClean (o : OrderParts) : Type 0 where
+  pub apart : IsApart o.insts
+  pub behind : IsBehind (kinds o)
+  pub slot : HasQuietSlot o
+  pub last : HasQuietEnd o
+
+-- the rule is the least that the order breaks
+abbrev pub BreaksFirst : Unclean → OrderParts → Type 0
+BreaksFirst U1 o = IsApart o.insts → ⊥
+BreaksFirst U2 o = IsApart o.insts × (IsBehind (kinds o) → ⊥)
+BreaksFirst U3 o = IsApart o.insts × IsBehind (kinds o) × (HasQuietSlot o → ⊥)
+BreaksFirst U4 o = IsApart o.insts × IsBehind (kinds o) × HasQuietSlot o × (HasQuietEnd o → ⊥)
+
+-- the action loads a register that the test names
+abbrev pub loads_named : Action → (ℕ → Bool) → Bool
+loads_named (Loads d base offset) test = is_register d && test d
+loads_named _ test = false

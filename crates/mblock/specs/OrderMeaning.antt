@@ -1,0 +1,84 @@
+-- What an order does, word by word: a loaded register shows one word later, and an exit with a slot
+-- reads its operands and puts in its link before the slot runs. Out and Halt are two words.
+use Rattle.std.specs.Prelude.{ℕ, pred, Bool, false, ◌||◌, List, map, Option, Some, None, ◌==◌, if◌then◌else◌}
+use Rattle.words.specs.declared.operator.Operator.TheVariants.{Addu}
+use Rattle.mips_isa.specs.declared.inst.Plain.{Plain}
+use Rattle.mips_isa.specs.declared.action.Operand.TheVariants.{Fixed}
+use Rattle.mips_isa.specs.declared.action.Action.{Action}
+use Rattle.mips_isa.specs.declared.action.Action.TheVariants.{Computes}
+use Rattle.mips_isa.specs.States.{State, read}
+use Rattle.mips_isa.specs.Actions.{action_of, touches, is_load, is_move}
+use Rattle.mips_isa.specs.Flows.{Nothing, Flow, settle, on_pending, word, words_from, quiet}
+use Rattle.mblock.specs.declared.exit.Exit.{Exit}
+use Rattle.mblock.specs.declared.exit.Exit.TheVariants.{Goto, BranchPair, BranchZero, Call, Return, Out, Halt}
+use Rattle.mblock.specs.Parts.{OrderParts}
+use Rattle.mblock.specs.BlockMeaning.{exit_shape, exit_reads, exit_puts, Departure, depart, Outcome}
+
+-- the first word of a call to the system: its number into register 2
+abbrev pub puts_number : ℕ → Action
+puts_number number = Computes 2 Addu 0 (Fixed number)
+
+-- the registers that the first word of the exit reads or writes
+abbrev pub exit_touches : Exit → ℕ → Bool
+exit_touches (Goto t) r = false
+exit_touches (BranchPair test a b t e) r = (a == r) || (b == r)
+exit_touches (BranchZero test a t e) r = a == r
+exit_touches (Call f n) r = 31 == r
+exit_touches Return r = 31 == r
+exit_touches (Out n) r = touches (puts_number 1) r
+exit_touches Halt r = touches (puts_number 10) r
+
+-- the word of an exit with a slot
+abbrev pub exit_word : Exit → Flow → ℕ → Option Flow
+exit_word exit f link =
+    if on_pending f.pending (exit_touches exit) then None
+    else Some (record {
+      state = settle f.pending (record f.state { regs = exit_puts link 1 10 (exit_shape exit) f.state.regs });
+      pending = Nothing;
+      hold = pred f.hold;
+    })
+
+-- the slot: neither a load nor a move of HI or LO
+abbrev pub slot_word : Action → Option Flow → Option Flow
+slot_word a None = None
+slot_word a (Some f) = if is_load a || is_move a then None else word a f
+
+abbrev pub ends : Departure → Option Flow → Option Outcome
+ends goes None = None
+ends goes (Some f) = Some (record { state = settle f.pending f.state; goes = goes })
+
+abbrev pub operand_words : Exit → Flow → List ℕ
+operand_words exit f = map (read 0 f.state.regs) (exit_reads exit)
+
+-- a call to the system reads its number and register 4
+abbrev pub system_word : Exit → Option Flow → Option Outcome
+system_word exit None = None
+system_word exit (Some f) =
+    if on_pending f.pending (λ r. (2 == r) || (4 == r)) then None
+    else ends (depart (exit_shape exit) (operand_words exit f)) (Some f)
+
+abbrev pub system_call : Exit → ℕ → Option Plain → Flow → Option Outcome
+system_call exit number (Some i) f = None
+system_call exit number None f = system_word exit (word (puts_number number) f)
+
+abbrev pub jump : Exit → Option Plain → Flow → ℕ → Option Outcome
+jump exit None f link = None
+jump exit (Some i) f link =
+    ends (depart (exit_shape exit) (operand_words exit f)) (slot_word (action_of i) (exit_word exit f link))
+
+abbrev pub order_leaves : Exit → Option Plain → Flow → ℕ → Option Outcome
+order_leaves (Goto t) slot f link = jump (Goto t) slot f link
+order_leaves (BranchPair test a b t e) slot f link = jump (BranchPair test a b t e) slot f link
+order_leaves (BranchZero test a t e) slot f link = jump (BranchZero test a t e) slot f link
+order_leaves (Call g n) slot f link = jump (Call g n) slot f link
+order_leaves Return slot f link = jump Return slot f link
+order_leaves (Out n) slot f link = system_call (Out n) 1 slot f
+order_leaves Halt slot f link = system_call Halt 10 slot f
+
+abbrev pub order_left : Exit → Option Plain → Option Flow → ℕ → Option Outcome
+order_left exit slot None link = None
+order_left exit slot (Some f) link = order_leaves exit slot f link
+
+-- what an order does from a state, with the link that a call of it would put in; or nothing where it is stuck
+abbrev pub order_effect : OrderParts → State → ℕ → Option Outcome
+order_effect o s link = order_left o.exit o.slot (words_from (map action_of o.insts) (Some (quiet s))) link

@@ -1,0 +1,12 @@
+/// The delay rule that an order breaks.
+#[derive(Clone, Copy, Debug, PartialEq, Eq)]
+pub enum Unclean {
+    /// An instruction reads or writes the register that the instruction just before it loads.
+    U1,
+    /// Fewer than two words stand between an MFHI or MFLO and a MULT, MULTU, DIV or DIVU behind it.
+    U2,
+    /// A load, MFHI or MFLO is in the slot.
+    U3,
+    /// The last instruction loads a register that the first word of the exit reads or writes.
+    U4,
+}

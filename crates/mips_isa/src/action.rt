@@ -1,0 +1,278 @@
+ghost use Rattle.std.specs.Prelude.{◌≡◌, ℕ, ◌*◌, ◌^◌, ◌<◌, ◌||◌, ◌&&◌, ◌==◌};
+ghost use Rattle.mips_isa.specs.Actions.{action_of, extended, shift_operator, alu_operator, imm_operator, logic_operator, product_high, product_low, quotient_operator, remainder_operator, operand_touches, touches, loads, is_load, is_move, is_product};
+
+use crate::inst::{AluOp, HiLo, ImmOp, LogicOp, Plain, ShiftOp};
+use crate::reg::{NonzeroReg, Reg};
+use words::{Operator, Sign};
+
+/// A register, or a word of the instruction itself.
+#[derive(Clone, Copy, Debug, PartialEq, Eq)]
+pub enum Operand {
+    Held(Reg),
+    Fixed(u32),
+}
+
+/// What an instruction does, in one of few ways; the layers above go by these alone. Offsets are the
+/// instruction's, extended to a word; an address is the base's word plus the offset, modulo 2^32.
+#[derive(Clone, Copy, Debug, PartialEq, Eq)]
+pub enum Action {
+    /// `d` becomes the operator's value at `a` and `b`.
+    Computes {
+        d: Reg,
+        op: Operator,
+        a: Reg,
+        b: Operand,
+    },
+    /// `d` becomes the word.
+    Sets {
+        d: Reg,
+        word: u32,
+    },
+    /// `d` becomes the word in memory.
+    Loads {
+        d: NonzeroReg,
+        base: Reg,
+        offset: u32,
+    },
+    /// The word in memory becomes `r`.
+    Stores {
+        r: Reg,
+        base: Reg,
+        offset: u32,
+    },
+    /// HI and LO become the halves of the product.
+    Multiplies {
+        sign: Sign,
+        a: Reg,
+        b: Reg,
+    },
+    /// HI and LO become remainder and quotient.
+    Divides {
+        sign: Sign,
+        a: Reg,
+        b: Reg,
+    },
+    /// `d` becomes HI.
+    MovesHigh {
+        d: Reg,
+    },
+    /// `d` becomes LO.
+    MovesLow {
+        d: Reg,
+    },
+}
+
+impl ShiftOp {
+    fn operator(self) -> Operator
+        ensures { result ≡ shift_operator self }
+    {
+        match self {
+            ShiftOp::Sll => Operator::Sll,
+            ShiftOp::Srl => Operator::Srl,
+            ShiftOp::Sra => Operator::Sra,
+        }
+    }
+}
+
+impl AluOp {
+    fn operator(self) -> Operator
+        ensures { result ≡ alu_operator self }
+    {
+        match self {
+            AluOp::Addu => Operator::Addu,
+            AluOp::Subu => Operator::Subu,
+            AluOp::And => Operator::And,
+            AluOp::Or => Operator::Or,
+            AluOp::Xor => Operator::Xor,
+            AluOp::Nor => Operator::Nor,
+            AluOp::Slt => Operator::Slt,
+            AluOp::Sltu => Operator::Sltu,
+        }
+    }
+}
+
+impl ImmOp {
+    fn operator(self) -> Operator
+        ensures { result ≡ imm_operator self }
+    {
+        match self {
+            ImmOp::Addiu => Operator::Addu,
+            ImmOp::Slti => Operator::Slt,
+            ImmOp::Sltiu => Operator::Sltu,
+        }
+    }
+}
+
+impl LogicOp {
+    fn operator(self) -> Operator
+        ensures { result ≡ logic_operator self }
+    {
+        match self {
+            LogicOp::Andi => Operator::And,
+            LogicOp::Ori => Operator::Or,
+            LogicOp::Xori => Operator::Xor,
+        }
+    }
+}
+
+fn extend(imm: i16) -> u32
+    ensures { result ≡ extended imm }
+{
+    i32::from(imm).cast_unsigned()
+}
+
+impl Plain {
+    /// What the instruction does.
+    pub fn action(&self) -> Action
+        ensures { result ≡ action_of self.now }
+    {
+        match *self {
+            Plain::Shift { op, rd, rt, amount } => Action::Computes {
+                d: rd,
+                op: op.operator(),
+                a: rt,
+                b: Operand::Fixed(u32::from(amount.bits())),
+            },
+            Plain::ShiftBy { op, rd, rt, rs } => Action::Computes {
+                d: rd,
+                op: op.operator(),
+                a: rt,
+                b: Operand::Held(rs),
+            },
+            Plain::Alu { op, rd, rs, rt } => Action::Computes {
+                d: rd,
+                op: op.operator(),
+                a: rs,
+                b: Operand::Held(rt),
+            },
+            Plain::Imm { op, rt, rs, imm } => Action::Computes {
+                d: rt,
+                op: op.operator(),
+                a: rs,
+                b: Operand::Fixed(extend(imm)),
+            },
+            Plain::Logic { op, rt, rs, imm } => Action::Computes {
+                d: rt,
+                op: op.operator(),
+                a: rs,
+                b: Operand::Fixed(u32::from(imm)),
+            },
+            Plain::LoadUpper { rt, imm } => Action::Sets {
+                d: rt,
+                word: u32::from(imm) << 16,
+            },
+            Plain::MoveFrom { place, rd } => match place {
+                HiLo::Hi => Action::MovesHigh { d: rd },
+                HiLo::Lo => Action::MovesLow { d: rd },
+            },
+            Plain::Multiply { sign, rs, rt } => Action::Multiplies { sign, a: rs, b: rt },
+            Plain::Divide { sign, rs, rt } => Action::Divides { sign, a: rs, b: rt },
+            Plain::Load { rt, base, offset } => Action::Loads {
+                d: rt,
+                base,
+                offset: extend(offset),
+            },
+            Plain::Store { rt, base, offset } => Action::Stores {
+                r: rt,
+                base,
+                offset: extend(offset),
+            },
+        }
+    }
+}
+
+/// The operator whose value a product leaves in HI.
+pub fn product_high(sign: Sign) -> Operator
+    ensures { result ≡ product_high sign }
+{
+    match sign {
+        Sign::Signed => Operator::MultHigh,
+        Sign::Unsigned => Operator::MultuHigh,
+    }
+}
+
+/// The operator whose value a product leaves in LO.
+pub fn product_low(sign: Sign) -> Operator
+    ensures { result ≡ product_low sign }
+{
+    match sign {
+        Sign::Signed => Operator::MultLow,
+        Sign::Unsigned => Operator::MultuLow,
+    }
+}
+
+/// The operator whose value a division leaves in LO.
+pub fn quotient_operator(sign: Sign) -> Operator
+    ensures { result ≡ quotient_operator sign }
+{
+    match sign {
+        Sign::Signed => Operator::DivQuotient,
+        Sign::Unsigned => Operator::DivuQuotient,
+    }
+}
+
+/// The operator whose value a division leaves in HI.
+pub fn remainder_operator(sign: Sign) -> Operator
+    ensures { result ≡ remainder_operator sign }
+{
+    match sign {
+        Sign::Signed => Operator::DivRemainder,
+        Sign::Unsigned => Operator::DivuRemainder,
+    }
+}
+
+impl Operand {
+    /// Whether it is this register.
+    pub fn touches(&self, r: Reg) -> bool
+        ensures { result ≡ operand_touches self.now r }
+    {
+        match *self {
+            Operand::Held(a) => a.index() == r.index(),
+            Operand::Fixed(_) => false,
+        }
+    }
+}
+
+impl Action {
+    /// Whether it reads or writes the register.
+    pub fn touches(&self, r: Reg) -> bool
+        ensures { result ≡ touches self.now r }
+    {
+        let is = |q: Reg| -> bool { q.index() == r.index() };
+        match *self {
+            Action::Computes { d, op: _, a, b } => is(d) || (is(a) || b.touches(r)),
+            Action::Sets { d, word: _ } => is(d),
+            Action::Loads { d, base, offset: _ } => d.index() == r.index() || is(base),
+            Action::Stores {
+                r: q,
+                base,
+                offset: _,
+            } => is(q) || is(base),
+            Action::Multiplies { sign: _, a, b } => is(a) || is(b),
+            Action::Divides { sign: _, a, b } => is(a) || is(b),
+            Action::MovesHigh { d } => is(d),
+            Action::MovesLow { d } => is(d),
+        }
+    }
+
+    /// Whether it loads a register.
+    pub fn is_load(&self) -> bool
+        ensures { result ≡ is_load self.now }
+    {
+        matches!(self, Action::Loads { .. })
+    }
+
+    /// Whether it reads HI or LO.
+    pub fn is_move(&self) -> bool
+        ensures { result ≡ is_move self.now }
+    {
+        matches!(self, Action::MovesHigh { .. } | Action::MovesLow { .. })
+    }
+
+    /// Whether it writes HI and LO.
+    pub fn is_product(&self) -> bool
+        ensures { result ≡ is_product self.now }
+    {
+        matches!(self, Action::Multiplies { .. } | Action::Divides { .. })
+    }
+}
