@@ -12,6 +12,7 @@ mod action;
 mod code;
 mod inst;
 mod reg;
+mod text;
 
 pub use action::{
     Action, Operand, product_high, product_low, quotient_operator, remainder_operator,
@@ -21,3 +22,4 @@ pub use inst::{
     AluOp, Control, HiLo, ImmOp, Inst, JumpOp, LogicOp, PairTest, Plain, ShiftOp, ZeroTest,
 };
 pub use reg::{Amount, JumpTarget, NonzeroReg, Reg};
+pub use text::Mnemonic;

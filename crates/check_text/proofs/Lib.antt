@@ -1,0 +1,9 @@
+pub mod Decimals
+pub mod Marks
+pub mod Lacking
+pub mod Exits
+pub mod Runs
+pub mod Stood
+pub mod Reading
+pub mod Ends
+pub mod Addresses

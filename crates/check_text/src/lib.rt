@@ -1,0 +1,19 @@
+//! The check text: a block and an order for it, as lines.
+//!
+//! `read` gives the block and the order exactly where the text spells them, and else the first line
+//! that can't stand in its place; that is what the layer above uses. The definitions:
+//! `specs/Lines.antt` (bytes as lines), `specs/Spelling.antt` (instructions and exits as lines),
+//! `specs/Whole.antt` (the whole text, `Spells`, and where it goes wrong, `FailsAt`). The texts of
+//! instructions themselves are those of mips_isa, `specs/Texts.antt`.
+#![tactic(auto)]
+
+mod cuts;
+mod line;
+mod names;
+mod numbers;
+mod operands;
+mod place;
+mod reader;
+
+pub use line::{exit_of, plain_of};
+pub use reader::{Text, TextFault, read};

@@ -1,0 +1,111 @@
+ghost use Rattle.std.specs.Prelude.{◌≡◌, ℕ, ◌++◌, ◌∷◌, codes, IfSome, Some};
+ghost use Rattle.mips_isa.specs.declared.inst.Plain.{Plain};
+ghost use Rattle.mblock.specs.declared.exit.Exit.{Exit};
+ghost use Rattle.mblock.specs.declared.exit.Exit.TheVariants as exits;
+ghost use Rattle.check_text.specs.Spelling.{SpellsPlain, SpellsExit, HasTargets};
+ghost use Rattle.check_text.specs.declared.names.ExitName.TheVariants as names;
+ghost use Rattle.check_text.specs.declared.names.ExitName.{ExitName};
+
+use crate::cuts::{cut, parts_of};
+use crate::names::{ExitName, exit_named, mnemonic_named};
+use crate::numbers::{block_of, register_of};
+use crate::operands::operands;
+use mblock::Exit;
+use mips_isa::{Amount, PairTest, Plain, Reg, ShiftOp, ZeroTest};
+
+/// The instruction that the line spells, if it spells one: as it is printed by Plain's Display, or
+/// `sll $0,$0,0` for `nop`.
+pub fn plain_of(line: &[u8]) -> Option<Plain>
+    ensures found { IfSome result (SpellsPlain line.now) }
+    ensures only { (i : Plain) → SpellsPlain line.now i → result ≡ Some i }
+{
+    if line == b"nop".as_slice() {
+        let zero = Reg::ZERO;
+        let amount = Amount::masked(0);
+        return Some(Plain::Shift {
+            op: ShiftOp::Sll,
+            rd: zero,
+            rt: zero,
+            amount,
+        });
+    }
+    let halves = cut(line, b' ')?;
+    let name = mnemonic_named(halves.before)?;
+    operands(name, halves.after)
+}
+
+fn pair(test: PairTest, text: &[u8]) -> Option<Exit>
+    ensures found { IfSome result (HasTargets (names.BranchPair test) text.now) }
+    ensures only { (rs rt t e : ℕ) → HasTargets (names.BranchPair test) text.now (exits.BranchPair test rs rt t e) → result ≡ Some (exits.BranchPair test rs rt t e) }
+{
+    let parts = parts_of(text)?;
+    let rs = register_of(parts.first)?;
+    let rt = register_of(parts.second)?;
+    let targets = cut(parts.third, b',')?;
+    let then = block_of(targets.before)?;
+    let other = block_of(targets.after)?;
+    Some(Exit::BranchPair {
+        test,
+        rs,
+        rt,
+        then,
+        other,
+    })
+}
+
+fn zero(test: ZeroTest, text: &[u8]) -> Option<Exit>
+    ensures found { IfSome result (HasTargets (names.BranchZero test) text.now) }
+    ensures only { (rs t e : ℕ) → HasTargets (names.BranchZero test) text.now (exits.BranchZero test rs t e) → result ≡ Some (exits.BranchZero test rs t e) }
+{
+    let parts = parts_of(text)?;
+    let rs = register_of(parts.first)?;
+    let then = block_of(parts.second)?;
+    let other = block_of(parts.third)?;
+    Some(Exit::BranchZero {
+        test,
+        rs,
+        then,
+        other,
+    })
+}
+
+fn call(text: &[u8]) -> Option<Exit>
+    ensures found { IfSome result (HasTargets names.Call text.now) }
+    ensures only { (f n : ℕ) → HasTargets names.Call text.now (exits.Call f n) → result ≡ Some (exits.Call f n) }
+{
+    let halves = cut(text, b',')?;
+    let function = block_of(halves.before)?;
+    let next = block_of(halves.after)?;
+    Some(Exit::Call { function, next })
+}
+
+/// The exit of this name with the targets that the text spells.
+fn targets(name: ExitName, text: &[u8]) -> Option<Exit>
+    ensures found { IfSome result (HasTargets name text.now) }
+    ensures only { (e : Exit) → HasTargets name text.now e → result ≡ Some e }
+{
+    match name {
+        ExitName::Goto => Some(Exit::Goto(block_of(text)?)),
+        ExitName::BranchPair(test) => pair(test, text),
+        ExitName::BranchZero(test) => zero(test, text),
+        ExitName::Call => call(text),
+        ExitName::Out => Some(Exit::Out(block_of(text)?)),
+    }
+}
+
+/// The exit that the line spells, if it spells one: `goto T`, `beq $s,$t,T,E` (`bne`), `blez $s,T,E`
+/// (`bgtz`, `bltz`, `bgez`), `call F,N`, `return`, `out N` or `halt`, with numbers of blocks below 2^20.
+pub fn exit_of(line: &[u8]) -> Option<Exit>
+    ensures found { IfSome result (SpellsExit line.now) }
+    ensures only { (e : Exit) → SpellsExit line.now e → result ≡ Some e }
+{
+    if line == b"return".as_slice() {
+        return Some(Exit::Return);
+    }
+    if line == b"halt".as_slice() {
+        return Some(Exit::Halt);
+    }
+    let halves = cut(line, b' ')?;
+    let name = exit_named(halves.before)?;
+    targets(name, halves.after)
+}

@@ -1,0 +1,176 @@
+ghost use Rattle.std.specs.Prelude.{◌≡◌, ℕ, ℤ, ◌<◌, IfSome, IsSomeAnd, Some, FitsSigned};
+ghost use Rattle.std.specs.Int.{w16};
+ghost use Rattle.mips_isa.specs.Texts.{address_text};
+ghost use Rattle.mips_isa.specs.declared.inst.Plain.TheVariants as plains;
+ghost use Rattle.mips_isa.specs.declared.inst.Plain.{Plain};
+ghost use Rattle.mips_isa.specs.declared.text.Mnemonic.TheVariants as mnemonics;
+ghost use Rattle.mips_isa.specs.declared.text.Mnemonic.{Mnemonic};
+ghost use Rattle.check_text.specs.Spelling.{HasOperands};
+
+use crate::cuts::{cut, parts_of};
+use crate::numbers::{amount_of, nonzero_of, register_of, signed_of, unsigned_of};
+use mips_isa::{AluOp, HiLo, ImmOp, LogicOp, Mnemonic, Plain, Reg, ShiftOp};
+use words::Sign;
+
+fn shift(op: ShiftOp, text: &[u8]) -> Option<Plain>
+    ensures found { IfSome result (HasOperands (mnemonics.Shift op) text.now) }
+    ensures only { (rd rt n : ℕ) → HasOperands (mnemonics.Shift op) text.now (plains.Shift op rd rt n) → result ≡ Some (plains.Shift op rd rt n) }
+{
+    let parts = parts_of(text)?;
+    let rd = register_of(parts.first)?;
+    let rt = register_of(parts.second)?;
+    let amount = amount_of(parts.third)?;
+    Some(Plain::Shift { op, rd, rt, amount })
+}
+
+fn shift_by(op: ShiftOp, text: &[u8]) -> Option<Plain>
+    ensures found { IfSome result (HasOperands (mnemonics.ShiftBy op) text.now) }
+    ensures only { (rd rt rs : ℕ) → HasOperands (mnemonics.ShiftBy op) text.now (plains.ShiftBy op rd rt rs) → result ≡ Some (plains.ShiftBy op rd rt rs) }
+{
+    let parts = parts_of(text)?;
+    let rd = register_of(parts.first)?;
+    let rt = register_of(parts.second)?;
+    let rs = register_of(parts.third)?;
+    Some(Plain::ShiftBy { op, rd, rt, rs })
+}
+
+fn alu(op: AluOp, text: &[u8]) -> Option<Plain>
+    ensures found { IfSome result (HasOperands (mnemonics.Alu op) text.now) }
+    ensures only { (rd rs rt : ℕ) → HasOperands (mnemonics.Alu op) text.now (plains.Alu op rd rs rt) → result ≡ Some (plains.Alu op rd rs rt) }
+{
+    let parts = parts_of(text)?;
+    let rd = register_of(parts.first)?;
+    let rs = register_of(parts.second)?;
+    let rt = register_of(parts.third)?;
+    Some(Plain::Alu { op, rd, rs, rt })
+}
+
+fn imm(op: ImmOp, text: &[u8]) -> Option<Plain>
+    ensures found { IfSome result (HasOperands (mnemonics.Imm op) text.now) }
+    ensures only { (rt rs : ℕ) (n : ℤ) → HasOperands (mnemonics.Imm op) text.now (plains.Imm op rt rs n) → result ≡ Some (plains.Imm op rt rs n) }
+{
+    let parts = parts_of(text)?;
+    let rt = register_of(parts.first)?;
+    let rs = register_of(parts.second)?;
+    let imm = signed_of(parts.third)?;
+    Some(Plain::Imm { op, rt, rs, imm })
+}
+
+fn logic(op: LogicOp, text: &[u8]) -> Option<Plain>
+    ensures found { IfSome result (HasOperands (mnemonics.Logic op) text.now) }
+    ensures only { (rt rs n : ℕ) → HasOperands (mnemonics.Logic op) text.now (plains.Logic op rt rs n) → result ≡ Some (plains.Logic op rt rs n) }
+{
+    let parts = parts_of(text)?;
+    let rt = register_of(parts.first)?;
+    let rs = register_of(parts.second)?;
+    let imm = unsigned_of(parts.third)?;
+    Some(Plain::Logic { op, rt, rs, imm })
+}
+
+fn load_upper(text: &[u8]) -> Option<Plain>
+    ensures found { IfSome result (HasOperands mnemonics.LoadUpper text.now) }
+    ensures only { (rt n : ℕ) → HasOperands mnemonics.LoadUpper text.now (plains.LoadUpper rt n) → result ≡ Some (plains.LoadUpper rt n) }
+{
+    let halves = cut(text, b',')?;
+    let rt = register_of(halves.before)?;
+    let imm = unsigned_of(halves.after)?;
+    Some(Plain::LoadUpper { rt, imm })
+}
+
+fn move_from(place: HiLo, text: &[u8]) -> Option<Plain>
+    ensures found { IfSome result (HasOperands (mnemonics.MoveFrom place) text.now) }
+    ensures only { (rd : ℕ) → HasOperands (mnemonics.MoveFrom place) text.now (plains.MoveFrom place rd) → result ≡ Some (plains.MoveFrom place rd) }
+{
+    let rd = register_of(text)?;
+    Some(Plain::MoveFrom { place, rd })
+}
+
+fn multiply(sign: Sign, text: &[u8]) -> Option<Plain>
+    ensures found { IfSome result (HasOperands (mnemonics.Multiply sign) text.now) }
+    ensures only { (rs rt : ℕ) → HasOperands (mnemonics.Multiply sign) text.now (plains.Multiply sign rs rt) → result ≡ Some (plains.Multiply sign rs rt) }
+{
+    let halves = cut(text, b',')?;
+    let rs = register_of(halves.before)?;
+    let rt = register_of(halves.after)?;
+    Some(Plain::Multiply { sign, rs, rt })
+}
+
+fn divide(sign: Sign, text: &[u8]) -> Option<Plain>
+    ensures found { IfSome result (HasOperands (mnemonics.Divide sign) text.now) }
+    ensures only { (rs rt : ℕ) → HasOperands (mnemonics.Divide sign) text.now (plains.Divide sign rs rt) → result ≡ Some (plains.Divide sign rs rt) }
+{
+    let halves = cut(text, b',')?;
+    let rs = register_of(halves.before)?;
+    let rt = register_of(halves.after)?;
+    Some(Plain::Divide { sign, rs, rt })
+}
+
+/// An address as a register and an offset from it, in bytes.
+#[derive(Clone, Copy)]
+struct Address {
+    base: Reg,
+    offset: i16,
+}
+
+fn address_of(text: &[u8]) -> Option<Address>
+    ensures found { IfSome result (λ a. (a.base < 32) × (text.now ≡ address_text a.base a.offset)) }
+    ensures only { (base : ℕ) (n : ℤ) → base < 32 → FitsSigned w16 n → text.now ≡ address_text base n
+        → IsSomeAnd result (λ a. (a.base ≡ base) × (a.offset ≡ n)) }
+{
+    let halves = cut(text, b'(')?;
+    let offset = signed_of(halves.before)?;
+    let rest = cut(halves.after, b')')?;
+    let base = register_of(rest.before)?;
+    if !rest.after.is_empty() {
+        return None;
+    }
+    Some(Address { base, offset })
+}
+
+fn load(text: &[u8]) -> Option<Plain>
+    ensures found { IfSome result (HasOperands mnemonics.Load text.now) }
+    ensures only { (rt base : ℕ) (n : ℤ) → HasOperands mnemonics.Load text.now (plains.Load rt base n) → result ≡ Some (plains.Load rt base n) }
+{
+    let halves = cut(text, b',')?;
+    let rt = nonzero_of(halves.before)?;
+    let address = address_of(halves.after)?;
+    Some(Plain::Load {
+        rt,
+        base: address.base,
+        offset: address.offset,
+    })
+}
+
+fn store(text: &[u8]) -> Option<Plain>
+    ensures found { IfSome result (HasOperands mnemonics.Store text.now) }
+    ensures only { (rt base : ℕ) (n : ℤ) → HasOperands mnemonics.Store text.now (plains.Store rt base n) → result ≡ Some (plains.Store rt base n) }
+{
+    let halves = cut(text, b',')?;
+    let rt = register_of(halves.before)?;
+    let address = address_of(halves.after)?;
+    Some(Plain::Store {
+        rt,
+        base: address.base,
+        offset: address.offset,
+    })
+}
+
+/// The instruction of this mnemonic with the operands that the text spells.
+pub fn operands(name: Mnemonic, text: &[u8]) -> Option<Plain>
+    ensures found { IfSome result (HasOperands name text.now) }
+    ensures only { (i : Plain) → HasOperands name text.now i → result ≡ Some i }
+{
+    match name {
+        Mnemonic::Shift(op) => shift(op, text),
+        Mnemonic::ShiftBy(op) => shift_by(op, text),
+        Mnemonic::Alu(op) => alu(op, text),
+        Mnemonic::Imm(op) => imm(op, text),
+        Mnemonic::Logic(op) => logic(op, text),
+        Mnemonic::LoadUpper => load_upper(text),
+        Mnemonic::MoveFrom(place) => move_from(place, text),
+        Mnemonic::Multiply(sign) => multiply(sign, text),
+        Mnemonic::Divide(sign) => divide(sign, text),
+        Mnemonic::Load => load(text),
+        Mnemonic::Store => store(text),
+    }
+}

@@ -1,0 +1,166 @@
+// The texts of instructions.
+
+ghost use Rattle.std.specs.Prelude.{◌≡◌, Some};
+ghost use Rattle.std.specs.Fmt.{DisplaysOnOk};
+ghost use Rattle.mips_isa.specs.Texts.{address_text, is_nop, mnemonic_of, mnemonic_text, operands_text, printed, register_text};
+
+use crate::inst::{AluOp, HiLo, ImmOp, LogicOp, Plain, ShiftOp};
+use crate::reg::{NonzeroReg, Reg};
+use std::fmt;
+use words::Sign;
+
+/// The name of an instruction that computes, loads or stores, without its operands.
+#[derive(Clone, Copy, Debug, PartialEq, Eq)]
+pub enum Mnemonic {
+    Shift(ShiftOp),
+    ShiftBy(ShiftOp),
+    Alu(AluOp),
+    Imm(ImmOp),
+    Logic(LogicOp),
+    LoadUpper,
+    MoveFrom(HiLo),
+    Multiply(Sign),
+    Divide(Sign),
+    Load,
+    Store,
+}
+
+impl Mnemonic {
+    /// The name, as Kane writes it.
+    pub fn name(self) -> &'static str
+        ensures { result.now ≡ mnemonic_text self }
+    {
+        match self {
+            Mnemonic::Shift(ShiftOp::Sll) => "sll",
+            Mnemonic::Shift(ShiftOp::Srl) => "srl",
+            Mnemonic::Shift(ShiftOp::Sra) => "sra",
+            Mnemonic::ShiftBy(ShiftOp::Sll) => "sllv",
+            Mnemonic::ShiftBy(ShiftOp::Srl) => "srlv",
+            Mnemonic::ShiftBy(ShiftOp::Sra) => "srav",
+            Mnemonic::Alu(AluOp::Addu) => "addu",
+            Mnemonic::Alu(AluOp::Subu) => "subu",
+            Mnemonic::Alu(AluOp::And) => "and",
+            Mnemonic::Alu(AluOp::Or) => "or",
+            Mnemonic::Alu(AluOp::Xor) => "xor",
+            Mnemonic::Alu(AluOp::Nor) => "nor",
+            Mnemonic::Alu(AluOp::Slt) => "slt",
+            Mnemonic::Alu(AluOp::Sltu) => "sltu",
+            Mnemonic::Imm(ImmOp::Addiu) => "addiu",
+            Mnemonic::Imm(ImmOp::Slti) => "slti",
+            Mnemonic::Imm(ImmOp::Sltiu) => "sltiu",
+            Mnemonic::Logic(LogicOp::Andi) => "andi",
+            Mnemonic::Logic(LogicOp::Ori) => "ori",
+            Mnemonic::Logic(LogicOp::Xori) => "xori",
+            Mnemonic::LoadUpper => "lui",
+            Mnemonic::MoveFrom(HiLo::Hi) => "mfhi",
+            Mnemonic::MoveFrom(HiLo::Lo) => "mflo",
+            Mnemonic::Multiply(Sign::Signed) => "mult",
+            Mnemonic::Multiply(Sign::Unsigned) => "multu",
+            Mnemonic::Divide(Sign::Signed) => "div",
+            Mnemonic::Divide(Sign::Unsigned) => "divu",
+            Mnemonic::Load => "lw",
+            Mnemonic::Store => "sw",
+        }
+    }
+}
+
+impl Plain {
+    /// The instruction's mnemonic.
+    pub fn mnemonic(&self) -> Mnemonic
+        ensures { result ≡ mnemonic_of self.now }
+    {
+        match self {
+            Plain::Shift { op, .. } => Mnemonic::Shift(*op),
+            Plain::ShiftBy { op, .. } => Mnemonic::ShiftBy(*op),
+            Plain::Alu { op, .. } => Mnemonic::Alu(*op),
+            Plain::Imm { op, .. } => Mnemonic::Imm(*op),
+            Plain::Logic { op, .. } => Mnemonic::Logic(*op),
+            Plain::LoadUpper { .. } => Mnemonic::LoadUpper,
+            Plain::MoveFrom { place, .. } => Mnemonic::MoveFrom(*place),
+            Plain::Multiply { sign, .. } => Mnemonic::Multiply(*sign),
+            Plain::Divide { sign, .. } => Mnemonic::Divide(*sign),
+            Plain::Load { .. } => Mnemonic::Load,
+            Plain::Store { .. } => Mnemonic::Store,
+        }
+    }
+
+    /// Whether it is the word 0, `sll $0,$0,0`.
+    pub fn is_nop(&self) -> bool
+        ensures { result ≡ is_nop self.now }
+    {
+        match self {
+            Plain::Shift { op, rd, rt, amount } => match op {
+                ShiftOp::Sll => rd.index() == 0 && rt.index() == 0 && amount.bits() == 0,
+                ShiftOp::Srl => false,
+                ShiftOp::Sra => false,
+            },
+            _ => false,
+        }
+    }
+}
+
+impl fmt::Display for Reg {
+    ghost output = { λ r. Some (register_text r) };
+
+    fn fmt<W: fmt::Write>(&self, f: &mut fmt::Formatter<W>) -> fmt::Result {
+        let number = self.index();
+        write!(f, "${number}")
+    }
+}
+
+impl fmt::Display for NonzeroReg {
+    ghost output = { λ r. Some (register_text r) };
+
+    fn fmt<W: fmt::Write>(&self, f: &mut fmt::Formatter<W>) -> fmt::Result {
+        let number = self.index();
+        write!(f, "${number}")
+    }
+}
+
+// `offset($base)`
+fn write_address<W: fmt::Write>(base: Reg, offset: i16, f: &mut fmt::Formatter<W>) -> fmt::Result
+    ensures { DisplaysOnOk W.write_str_gives f.old result (Some (address_text base offset)) f.new }
+{
+    write!(f, "{offset}({base})")
+}
+
+fn write_operands<W: fmt::Write>(inst: &Plain, f: &mut fmt::Formatter<W>) -> fmt::Result
+    ensures { DisplaysOnOk W.write_str_gives f.old result (Some (operands_text inst.now)) f.new }
+{
+    match inst {
+        Plain::Shift { rd, rt, amount, .. } => {
+            let bits = amount.bits();
+            write!(f, "{rd},{rt},{bits}")
+        }
+        Plain::ShiftBy { rd, rt, rs, .. } => write!(f, "{rd},{rt},{rs}"),
+        Plain::Alu { rd, rs, rt, .. } => write!(f, "{rd},{rs},{rt}"),
+        Plain::Imm { rt, rs, imm, .. } => write!(f, "{rt},{rs},{imm}"),
+        Plain::Logic { rt, rs, imm, .. } => write!(f, "{rt},{rs},{imm}"),
+        Plain::LoadUpper { rt, imm } => write!(f, "{rt},{imm}"),
+        Plain::MoveFrom { rd, .. } => write!(f, "{rd}"),
+        Plain::Multiply { rs, rt, .. } => write!(f, "{rs},{rt}"),
+        Plain::Divide { rs, rt, .. } => write!(f, "{rs},{rt}"),
+        Plain::Load { rt, base, offset } => {
+            write!(f, "{rt},")?;
+            write_address(*base, *offset, f)
+        }
+        Plain::Store { rt, base, offset } => {
+            write!(f, "{rt},")?;
+            write_address(*base, *offset, f)
+        }
+    }
+}
+
+/// Kane's text, with registers by number and numbers in decimal; `nop` for the word 0.
+impl fmt::Display for Plain {
+    ghost output = { λ i. Some (printed i) };
+
+    fn fmt<W: fmt::Write>(&self, f: &mut fmt::Formatter<W>) -> fmt::Result {
+        if self.is_nop() {
+            return f.write_str("nop");
+        }
+        f.write_str(self.mnemonic().name())?;
+        f.write_str(" ")?;
+        write_operands(self, f)
+    }
+}
