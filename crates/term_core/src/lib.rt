@@ -11,7 +11,7 @@
 ghost use Rattle.std.specs.Prelude.{◌≡◌, ℕ, List};
 ghost use Rattle.term_core.specs.World.{Shape, Item, IsShape, reached};
 ghost use Rattle.term_core.specs.Law.{Lawful};
-ghost use Rattle.term_core.specs.Items.{EachItemDoes, OthersStand, SeenAgree, WordsStay};
+ghost use Rattle.term_core.specs.Items.{EachItemDoes, OthersStand, SeenAgree, WordsStay, LinksStay, ContentStays};
 
 use std::collections::LinkedList;
 use sym_terms::Label;
@@ -70,12 +70,15 @@ pub struct Walker {
 /// says nothing; what was seen stays its beginning, and the probes grow by one exactly at the load
 /// of a link. `others`: no other pass changes. `agree`: of what two passes have seen, one is the
 /// beginning of the other. `words`: a word that an item changes is a link, from none to the pass's
-/// own node, or a content word of the pass's next node, which is not linked yet; so a link never
-/// changes again, nor does the content of a linked node.
+/// own node, or a content word of the pass's next node, which is not linked yet. `links`, `content`:
+/// so a link that names a node names it for ever, and the content of a linked node never changes,
+/// whatever items follow.
 pub fn any_schedule()
     ensures lawful { (shape : Shape) (items : List Item) → IsShape shape → Lawful shape (reached shape items) }
     ensures does { EachItemDoes }
     ensures others { OthersStand }
     ensures agree { SeenAgree }
     ensures words { WordsStay }
+    ensures links { LinksStay }
+    ensures content { ContentStays }
 {}
