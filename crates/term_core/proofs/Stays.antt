@@ -1,9 +1,8 @@
 -- Links that name a node stay, and so does the content of a linked node.
-use Rattle.std.proofs.Common.{◌≡◌, ℕ, zero, suc, ◌+◌, ◌*◌, ◌<◌, ◌≤◌, ◌⊎◌, Bool, true, false, cond, List, [], ◌∷◌, ◌++◌, slice_index, refl, sym, ap, subst, ◌∙◌, inl, inr, ⊎_elim, append_assoc, append-nil, arith, Option, Some, None}
+use Rattle.std.proofs.Common.{◌≡◌, ℕ, suc, ◌+◌, ◌<◌, ◌⊎◌, Bool, true, false, cond, List, [], ◌∷◌, ◌++◌, slice_index, refl, sym, ap, subst, ◌∙◌, inl, inr, ⊎_elim, append_assoc, append-nil, arith, Some, None}
 use mathlib.Core.Option.{some, none}
 use mathlib.Core.Option as O
 use lib.ListN.{get_elem?}
-use Rattle.sym_terms.specs.declared.label.Label.{Label}
 use Rattle.sym_terms.specs.Trees.{Tree}
 use Rattle.sym_terms.specs.Labels.{label_word}
 use Rattle.term_core.specs.declared.Entry.{Entry}
@@ -11,12 +10,12 @@ use Rattle.term_core.specs.declared.Call.{Call}
 use Rattle.term_core.specs.declared.Stage.{Stage}
 use Rattle.term_core.specs.declared.Stage.TheVariants.{Linking}
 use Rattle.term_core.specs.declared.Walker.{Walker}
-use Rattle.term_core.specs.Terms.{tree_at, pairs_of, pairs_from}
-use Rattle.term_core.specs.World.{Shape, IsShape, World, Item, link_of, begun, is_idle, does, acts, steps, step, run, start, reached}
+use Rattle.term_core.specs.Terms.{tree_at, pairs_of}
+use Rattle.term_core.specs.World.{Shape, IsShape, World, Item, link_of, begun, is_idle, does, steps, step, run, start, reached}
 use Rattle.term_core.specs.Items.{Links, Writes, IsLink, LinksStay, ContentStays}
 use Rattle.term_core.proofs.Replay.{pairs_append, tree_later}
 use Rattle.term_core.proofs.Chains.{Mem, end_of, end_cases}
-use Rattle.term_core.proofs.Kept.{Spot, Inv, OnLinking, chain_of, label_of, kids_of}
+use Rattle.term_core.proofs.Kept.{Spot, OnLinking, chain_of, label_of, kids_of}
 use Rattle.term_core.proofs.Reaching.{keeps_all}
 use Rattle.term_core.proofs.EachItem.{words_stay}
 
@@ -61,9 +60,9 @@ module _ (s : Shape) (items : List Item) (i : Item) (ok : IsShape s) where
   one_link (some v) here a n l e = ⊎_elim
       (λ (same : slice_index (step s w i).words a ≡ slice_index w.words a). same ∙ e)
       (λ (d : Links s w (step s w i) v a ⊎ Writes s w v a). ⊎_elim
-        (λ (k : Links s w (step s w i) v a). absurd (let z = k.none in omega arith))
-        (λ (k : Writes s w v a). absurd (not_content s a v.own k.index l k.below k.place))
-        d)
+      (λ (k : Links s w (step s w i) v a). absurd (let z = k.none in omega arith))
+      (λ (k : Writes s w v a). absurd (not_content s a v.own k.index l k.below k.place))
+      d)
       (words_stay s items i v a ok here)
 
   one_content : (o : O.Option Walker) → get_elem? w.passes i.by ≡ o → (t : ℕ) (x : Tree) (k : ℕ) → k < 4 → tree_at (pairs_of w.history) t ≡ Some x → slice_index (step s w i).words (link_of s t + 1 + k) ≡ slice_index w.words (link_of s t + 1 + k)
@@ -71,14 +70,14 @@ module _ (s : Shape) (items : List Item) (i : Item) (ok : IsShape s) where
   one_content (some v) here t x k lt e = ⊎_elim
       (λ (same : slice_index (step s w i).words (link_of s t + 1 + k) ≡ slice_index w.words (link_of s t + 1 + k)). same)
       (λ (d : Links s w (step s w i) v (link_of s t + 1 + k) ⊎ Writes s w v (link_of s t + 1 + k)). ⊎_elim
-        (λ (j : Links s w (step s w i) v (link_of s t + 1 + k)). absurd (not_content s (link_of s t + 1 + k) t k (link_at v j.call (link_of s t + 1 + k) here j.stage) lt refl))
-        (λ (j : Writes s w v (link_of s t + 1 + k)).
-        let below = j.below in
-        let place = j.place in
-        let same : v.own ≡ t = omega arith in
-        let found : Some x ≡ None = sym e ∙ (ap (tree_at (pairs_of w.history)) (sym same) ∙ j.unused) in
-        absurd cc)
-        d)
+      (λ (j : Links s w (step s w i) v (link_of s t + 1 + k)). absurd (not_content s (link_of s t + 1 + k) t k (link_at v j.call (link_of s t + 1 + k) here j.stage) lt refl))
+      (λ (j : Writes s w v (link_of s t + 1 + k)).
+      let below = j.below in
+      let place = j.place in
+      let same : v.own ≡ t = omega arith in
+      let found : Some x ≡ None = sym e ∙ (ap (tree_at (pairs_of w.history)) (sym same) ∙ j.unused) in
+      absurd cc)
+      d)
       (words_stay s items i v (link_of s t + 1 + k) ok here)
 
 snoc : (s : Shape) (items : List Item) (i : Item) → reached s (items ++ i ∷ []) ≡ step s (reached s items) i
