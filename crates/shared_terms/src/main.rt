@@ -11,9 +11,8 @@ ghost use Rattle.term_table.specs.Trees.{HasTree};
 ghost use Rattle.shared_terms.specs.Built.{IsBuilt};
 
 use std::alloc::Global;
-use std::io;
-use std::thread;
 use std::thread::Threads;
+use std::{io, thread};
 use sym_terms::{Label, Place};
 use term_table::{OpenFault, Pass, TableFull, TermTable, Ticket};
 use words::Operator;
@@ -35,12 +34,7 @@ struct Built {
 
 /// The sum of two leaves. Which leaf is interned first makes no difference to its term.
 #[tactic(auto, using(term_table::proofs::Callers::interning))]
-fn sum_of(
-    table: &TermTable,
-    mut pass: Pass,
-    left: Label,
-    right: Label,
-) -> Result<Built, TableFull>
+fn sum_of(table: &TermTable, mut pass: Pass, left: Label, right: Label) -> Result<Built, TableFull>
     requires { IsOf table.now pass }
     ensures own { IfOk result (λ b. IsOf table.now b.pass) }
     ensures tree { IfOk result (λ b. HasTree b.pass b.ticket (binary (Op Addu) (leaf left) (leaf right))) }

@@ -1,5 +1,5 @@
 -- Leaves that a pass has seen.
-use Rattle.std.proofs.Common.{◌≡◌, ℕ, ◌<◌, List, length, All}
+use Rattle.std.proofs.Common.{ℕ, List, All}
 use Rattle.term_table.specs.Passes.{PassState, HasSeen}
 use Rattle.term_table.specs.Trees.{Extends}
 use Rattle.term_table.proofs.Callers.{still_seen}

@@ -1,5 +1,5 @@
 -- What a worker needs: its pass is the table's and has seen each leaf, and there are enough leaves for the terms.
-use Rattle.std.specs.Prelude.{◌≡◌, ℕ, ◌*◌, ◌≤◌, length, All}
+use Rattle.std.specs.Prelude.{◌≡◌, ◌*◌, ◌≤◌, length, All}
 use Rattle.term_table.specs.Passes.{TableState, IsOf, HasSeen}
 use Rattle.table_speed.specs.declared.worker.Worker.{Worker}
 

@@ -15,11 +15,9 @@ mod worker;
 
 use crate::worker::Worker;
 use std::alloc::Global;
-use std::env;
-use std::io;
-use std::thread;
 use std::thread::Threads;
 use std::time::{Clock, Instant};
+use std::{env, io, thread};
 use term_table::{OpenFault, Pass, TermTable};
 
 /// A table, with the passes that are its own.

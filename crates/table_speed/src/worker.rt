@@ -78,12 +78,7 @@ impl Worker {
 }
 
 // Interns one leaf more.
-fn add_leaf(
-    table: &TermTable,
-    pass: &mut Pass,
-    leaves: &mut Vec<Ticket>,
-    n: u32,
-) -> Option<()>
+fn add_leaf(table: &TermTable, pass: &mut Pass, leaves: &mut Vec<Ticket>, n: u32) -> Option<()>
     requires pass { IsOf table.now pass.old }
     requires seen { All (HasSeen pass.old) leaves.old.items }
     ensures pass { IsOf table.now pass.new }

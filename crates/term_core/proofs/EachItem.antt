@@ -1,6 +1,6 @@
 -- What each item does, in each world that a list of items reaches.
 use prog.Atomic.{either}
-use Rattle.std.proofs.Common.{◌≡◌, ◌≢◌, ℕ, zero, suc, ◌+◌, ◌<◌, ◌≤◌, ◌==◌, ne_eqb, ◌⊎◌, Bool, true, false, cond, List, [], ◌∷◌, ◌++◌, slice_index, slice_set, refl, sym, ap, subst, ◌∙◌, inl, inr, ⊎_elim, arith, length, Option, Some, None}
+use Rattle.std.proofs.Common.{◌≡◌, ◌≢◌, ℕ, zero, suc, ◌+◌, ◌<◌, ◌≤◌, ◌==◌, ne_eqb, ◌⊎◌, Bool, true, false, cond, List, [], ◌∷◌, ◌++◌, slice_index, slice_set, refl, sym, ap, subst, ◌∙◌, inl, inr, ⊎_elim, arith, length}
 use mathlib.Core.Option.{some, none, some-ne-none, some-injective}
 use mathlib.Core.Option as O
 use lib.ListN.{get_elem?}
@@ -11,15 +11,14 @@ use Rattle.term_core.specs.declared.Stage.{Stage}
 use Rattle.term_core.specs.declared.Stage.TheVariants.{Idle, Looking, AtLink, AtContent, Writing, Linking, Reading}
 use Rattle.term_core.specs.declared.Walker.{Walker}
 use Rattle.term_core.specs.Terms.{StartsWith, Pair, pairs_of}
-use Rattle.term_core.specs.World.{Shape, IsShape, World, Item, Choice, begins, looks, Turn, turn_at, turn, place, becomes, first_stage, may_begin, chosen, begun_at, begun, is_idle, does, acts, steps, step, reached}
-use Rattle.term_core.specs.Items.{call_in, link_loads, GoesOn, EndsCall, Does, EachItemDoes, OthersStand, SeenAgree}
+use Rattle.term_core.specs.World.{Shape, World, Item, Choice, begins, looks, Turn, turn, place, first_stage, may_begin, chosen, begun_at, begun, is_idle, does, acts, steps, step, reached}
+use Rattle.term_core.specs.Items.{link_loads, GoesOn, EndsCall, Does, EachItemDoes, OthersStand, SeenAgree}
 use Rattle.term_core.proofs.Kept.{Spot, Inv, Stands}
 use Rattle.term_core.proofs.Reaching.{keeps_all, lawful}
 use Rattle.term_core.proofs.Chains.{at_same, at_other, set_itself}
-use Rattle.term_core.specs.Terms.{tree_at}
 use Rattle.term_core.specs.World.{place_at, becomes_at, link_of}
 use Rattle.term_core.specs.Items.{Links, Writes, WordsStay}
-use Rattle.term_core.proofs.Does.{Asks, Tells, Still, Over, tells, grows, same_by, append_none}
+use Rattle.term_core.proofs.Does.{Asks, Still, Over, tells, grows, same_by, append_none}
 
 set_there : {A : Type 0} (l : List A) (i : ℕ) (a b : A) → get_elem? l i ≡ some b → get_elem? (slice_set l i a) i ≡ some a
 set_there [] i a b e = absurd (some-ne-none b (sym e))

@@ -1,13 +1,13 @@
 -- What the last entry of a legal history says.
-use Rattle.std.proofs.Common.{◌≡◌, ℕ, zero, suc, ◌+◌, ◌<◌, ◌≤◌, ◌==◌, Bool, true, false, cond, List, [], ◌∷◌, ◌++◌, Option, Some, None, refl, sym, ap, subst, ◌∙◌, inl, inr, ⊎_elim, eq-eqb, arith}
+use Rattle.std.proofs.Common.{◌≡◌, ℕ, ◌+◌, ◌<◌, ◌≤◌, ◌==◌, Bool, true, false, cond, List, [], ◌∷◌, ◌++◌, Option, Some, None, refl, sym, ap, subst, ◌∙◌, ⊎_elim, eq-eqb, arith}
 use Rattle.sym_terms.specs.declared.label.Label.{Label}
 use Rattle.term_core.specs.declared.Call.{Call}
 use Rattle.term_core.specs.declared.Call.TheVariants.{Intern, Find, Read}
 use Rattle.term_core.specs.declared.Answer.{Answer}
 use Rattle.term_core.specs.declared.Answer.TheVariants.{Ticket, Full, Found, Missing, Node}
 use Rattle.term_core.specs.declared.Entry.{Entry}
-use Rattle.sym_terms.specs.Trees.{Tree, Trees, node}
-use Rattle.term_core.specs.Terms.{Pair, tree_at, trees_at, node_if, tree_over, Has, added_by, is_there, pair_if, adds, after, pairs_from, pairs_of, IsAnswer, legal_from, IsLegal}
+use Rattle.sym_terms.specs.Trees.{Tree}
+use Rattle.term_core.specs.Terms.{Pair, tree_at, tree_over, Has, added_by, is_there, pair_if, adds, after, pairs_from, pairs_of, IsAnswer, legal_from, IsLegal}
 use Rattle.term_core.proofs.Replay.{tree_more, tree_new, pairs_append, added_append, eqb_eq}
 
 legal_back : (n : ℕ) (ps : List Pair) (h g : List Entry) → legal_from n ps (h ++ g) → legal_from n (pairs_from ps h) g

@@ -7,4 +7,5 @@ pub mod Joining
 pub mod Reaching
 pub mod Does
 pub mod EachItem
+pub mod Stays
 pub mod Last

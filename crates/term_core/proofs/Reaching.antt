@@ -433,12 +433,12 @@ both_true : (a b : Bool) → a && b ≡ true → (a ≡ true) × (b ≡ true)
 both_true true b e = (refl, e)
 both_true false b e = absurd (let f : false ≡ true = e in cc)
 
-all_known : (ps : List Pair) (h : List Entry) → ((t : ℕ) → occurs h t ≡ true → IsThere ps t) → (ts : List ℕ) → all_occur h ts ≡ true → (xs : Trees) × (trees_at ps ts ≡ Some xs)
-all_known ps h f [] e = (Rattle.sym_terms.specs.Trees.none, refl)
-all_known ps h f (t ∷ ts) e =
+all_known : (rows : List Pair) (h : List Entry) → ((t : ℕ) → occurs h t ≡ true → IsThere rows t) → (ts : List ℕ) → all_occur h ts ≡ true → (xs : Trees) × (trees_at rows ts ≡ Some xs)
+all_known rows h f [] e = (Rattle.sym_terms.specs.Trees.none, refl)
+all_known rows h f (t ∷ ts) e =
     let q = both_true (occurs h t) (all_occur h ts) e in
     let x = f t q.0 in
-    let xs = all_known ps h f ts q.1 in
+    let xs = all_known rows h f ts q.1 in
     (Rattle.sym_terms.specs.Trees.more x.0 xs.0, (λ i. Rattle.term_core.specs.Terms.more_if (x.1 i) (xs.1 i)))
 
 module _ (s : Shape) (ok : IsShape s) (w : World) (inv : Inv s w) (p : ℕ) (v : Walker) (at : get_elem? w.passes p ≡ some v) where

@@ -1,11 +1,11 @@
 -- What one item does to the pass that it names, and to the others.
 use Rattle.std.specs.Prelude.{◌≡◌, ◌≢◌, ℕ, suc, ◌+◌, ◌<◌, ◌⊎◌, List, [], ◌∷◌, ◌++◌, Option, Some, None, slice_index}
 use mathlib.Core.Option.{some}
+use Rattle.sym_terms.specs.Trees.{Tree}
 use lib.ListN.{get_elem?}
 use Rattle.term_core.specs.declared.Call.{Call}
 use Rattle.term_core.specs.declared.Call.TheVariants.{Read}
 use Rattle.term_core.specs.declared.Answer.{Answer}
-use Rattle.term_core.specs.declared.Entry.{Entry}
 use Rattle.term_core.specs.declared.Walker.{Walker}
 use Rattle.term_core.specs.declared.Stage.{Stage}
 use Rattle.term_core.specs.declared.Stage.TheVariants.{Idle, Looking, AtLink, AtContent, Writing, Linking, Reading}
@@ -84,3 +84,18 @@ abbrev pub WordsStay : Type 0
 WordsStay = (s : Shape) (items : List Item) (i : Item) (v : Walker) (a : ℕ) → IsShape s → get_elem? (reached s items).passes i.by ≡ some v
     → (slice_index (step s (reached s items) i).words a ≡ slice_index (reached s items).words a)
     ⊎ (Links s (reached s items) (step s (reached s items) i) v a ⊎ Writes s (reached s items) v a)
+
+-- a link: the head of a chain, or the link of a node
+abbrev pub IsLink : Shape → ℕ → Type 0
+IsLink s a = (a < s.heads) ⊎ ((n : ℕ) × (a ≡ link_of s n))
+
+-- a link that names a node names it for ever
+abbrev pub LinksStay : Type 0
+LinksStay = (s : Shape) (items more : List Item) (a n : ℕ) → IsShape s → IsLink s a
+    → slice_index (reached s items).words a ≡ suc n → slice_index (reached s (items ++ more)).words a ≡ suc n
+
+-- the four content words of a linked node, which the history names by a ticket, never change
+abbrev pub ContentStays : Type 0
+ContentStays = (s : Shape) (items more : List Item) (t : ℕ) (x : Tree) (k : ℕ) → IsShape s → k < 4
+    → tree_at (pairs_of (reached s items).history) t ≡ Some x
+    → slice_index (reached s (items ++ more)).words (link_of s t + 1 + k) ≡ slice_index (reached s items).words (link_of s t + 1 + k)

@@ -11,23 +11,32 @@
 ghost use Rattle.std.specs.Prelude.{◌≡◌, ℕ, List};
 ghost use Rattle.term_core.specs.World.{Shape, Item, IsShape, reached};
 ghost use Rattle.term_core.specs.Law.{Lawful};
-ghost use Rattle.term_core.specs.Items.{EachItemDoes, OthersStand, SeenAgree, WordsStay};
+ghost use Rattle.term_core.specs.Items.{EachItemDoes, OthersStand, SeenAgree, WordsStay, LinksStay, ContentStays};
 
 use std::collections::LinkedList;
 use sym_terms::Label;
 
-/// A call on the table.
+/// A call on the table. Children and tickets are numbers.
 pub enum Call {
+    /// The label, over the terms of these tickets.
     Intern(Label, LinkedList<u64>),
+    /// The same, but nothing is linked.
     Find(Label, LinkedList<u64>),
+    /// The root of this ticket's term.
     Read(u64),
 }
 
+/// What a call answers.
 pub enum Answer {
+    /// An intern: the term's ticket.
     Ticket(u64),
+    /// An intern: the term is not there, and the pass has linked as many as it may.
     Full,
+    /// A find: the term's ticket.
     Found(u64),
+    /// A find: the term is not there.
     Missing,
+    /// A read: the label, and the children's tickets.
     Node(Label, LinkedList<u64>),
 }
 
@@ -40,16 +49,24 @@ pub struct Entry {
 
 /// Where a pass stands: between calls, or before its next single step.
 pub enum Stage {
+    /// Between calls.
     Idle,
+    /// Before a look at this many entries of the history, or at more if it has seen more.
     Looking(u64),
+    /// Before the load of this link. The flag tells whether the pass's own node is written.
     AtLink(Call, bool, u64),
+    /// Before the load of a content word: the node, and which of its four words.
     AtContent(Call, bool, u64, u64),
+    /// Before the store of a content word of its own node: the link where the chain ended, and which word.
     Writing(Call, u64, u64),
+    /// Before the exchange of this link from none to its own node.
     Linking(Call, u64),
+    /// Before the load of the next content word of this node, after those that were read.
     Reading(u64, LinkedList<u64>),
 }
 
-/// One pass: its number, its next own node, how many it has left, the history that it has seen, its own calls, and the link loads of its call.
+/// One pass: its number, its next own node, how many it has left, the history that it has seen, its
+/// own finished calls, the links that its call has loaded so far, and where it stands.
 pub struct Walker {
     pub by: u64,
     pub own: u64,
@@ -70,12 +87,15 @@ pub struct Walker {
 /// says nothing; what was seen stays its beginning, and the probes grow by one exactly at the load
 /// of a link. `others`: no other pass changes. `agree`: of what two passes have seen, one is the
 /// beginning of the other. `words`: a word that an item changes is a link, from none to the pass's
-/// own node, or a content word of the pass's next node, which is not linked yet; so a link never
-/// changes again, nor does the content of a linked node.
+/// own node, or a content word of the pass's next node, which is not linked yet. `links`, `content`:
+/// so a link that names a node names it for ever, and the content of a linked node never changes,
+/// whatever items follow.
 pub fn any_schedule()
     ensures lawful { (shape : Shape) (items : List Item) → IsShape shape → Lawful shape (reached shape items) }
     ensures does { EachItemDoes }
     ensures others { OthersStand }
     ensures agree { SeenAgree }
     ensures words { WordsStay }
+    ensures links { LinksStay }
+    ensures content { ContentStays }
 {}

@@ -76,7 +76,11 @@ pub fn intern_constants(
 {
     let mut all = true;
     for i in 0..count {
-        let n = if downward { from + count - 1 - i } else { from + i };
+        let n = if downward {
+            from + count - 1 - i
+        } else {
+            from + i
+        };
         if intern_leaf(table, &mut pass, Label::Const(n)).is_err() {
             all = false;
         }

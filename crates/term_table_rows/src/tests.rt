@@ -11,7 +11,7 @@ use std::process::Abort;
 use std::test::Fail;
 use std::thread;
 use std::thread::Threads;
-use sym_terms::{Label, Place};
+use sym_terms::{Label, Place, label_of, word_of};
 use term_table::{OpenFault, Pass, TermTable};
 use words::Operator;
 
@@ -266,5 +266,42 @@ fn probes_of(rt: &impl Abort, alloc: Global, heads: u64) -> u64 {
 fn hashed_chains_are_short(rt: HostRuntime) -> Result<(), Fail> {
     assert_eq!(rt; probes_of(&rt, rt.alloc(), 1), 8390656);
     assert!(rt; probes_of(&rt, rt.alloc(), 1024) <= 1048832);
+    Ok(())
+}
+
+#[test]
+fn labels_have_their_words(rt: HostRuntime) -> Result<(), Fail> {
+    let Some(first) = init(1) else {
+        panic!(rt; "no register")
+    };
+    let Some(last) = init(31) else {
+        panic!(rt; "no register")
+    };
+    for (label, word) in [
+        (first, 0x1_0000_0001),
+        (last, 0x1_0000_001f),
+        (Label::Init(Place::Hi), 0x1_0000_0020),
+        (Label::Init(Place::Link), 0x1_0000_0022),
+        (Label::Mem0, 0x2_0000_0000),
+        (Label::Const(0xffff_ffff), 0x3_ffff_ffff),
+        (Label::Op(Operator::Addu), 0x4_0000_0000),
+        (Label::Op(Operator::DivuRemainder), 0x4_0000_0012),
+        (Label::Load, 0x5_0000_0000),
+        (Label::Store, 0x6_0000_0000),
+    ] {
+        assert_eq!(rt; word_of(label), word);
+        assert!(rt; label_of(word).is_some());
+    }
+    for word in [
+        0,
+        0x1_0000_0000,
+        0x1_0000_0023,
+        0x2_0000_0001,
+        0x4_0000_0013,
+        0x5_0000_0001,
+        0x7_0000_0000,
+    ] {
+        assert!(rt; label_of(word).is_none());
+    }
     Ok(())
 }

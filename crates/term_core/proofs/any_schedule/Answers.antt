@@ -1,5 +1,6 @@
 use Rattle.term_core.proofs.Reaching.{lawful}
 use Rattle.term_core.proofs.EachItem.{each_item_does, others_stand, seen_agree, words_stay}
+use Rattle.term_core.proofs.Stays.{links_stay, content_stays}
 use Rattle.term_core.proofs.any_schedule.Goals as goal
 
 pub returns-clause-lawful : goal.returns-clause-lawful
@@ -16,3 +17,9 @@ returns-clause-agree c = seen_agree
 
 pub returns-clause-words : goal.returns-clause-words
 returns-clause-words c = words_stay
+
+pub returns-clause-links : goal.returns-clause-links
+returns-clause-links c = links_stay
+
+pub returns-clause-content : goal.returns-clause-content
+returns-clause-content c = content_stays
