@@ -1,3 +1,2 @@
 pub mod Registers
 pub mod Late
-pub mod Decoding

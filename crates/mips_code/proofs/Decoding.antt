@@ -28,8 +28,8 @@ use Rattle.mips_isa.specs.declared.inst.Control.TheVariants.{BranchPair, BranchZ
 use Rattle.mips_isa.specs.declared.inst.Inst.{Inst}
 use Rattle.mips_isa.specs.declared.inst.Inst.TheVariants as insts
 use Rattle.mips_isa.specs.Ranges.{IsPlain, IsControl, IsInst}
-use Rattle.mips_isa.specs.Words.{register_word, immediate_word, jump_word, inst_word, word_of_plain, word_of_control, half, shift_code, shift_by_code, alu_code, move_code, multiply_code, divide_code, imm_code, logic_code, pair_code, jump_code, zero_code, zero_field}
-use Rattle.mips_isa.specs.Candidates.{inst_of_fields, candidate_of}
+use Rattle.mips_code.specs.Words.{register_word, immediate_word, jump_word, inst_word, word_of_plain, word_of_control, half, shift_code, shift_by_code, alu_code, move_code, multiply_code, divide_code, imm_code, logic_code, pair_code, jump_code, zero_code, zero_field}
+use Rattle.mips_code.specs.Candidates.{inst_of_fields, candidate_of}
 
 -- a register form gives the instruction that its fields give
 register_gives : (rs rt rd amount funct : ℕ) → rs < 32 → rt < 32 → rd < 32 → amount < 32 → funct < 64
@@ -109,7 +109,7 @@ candidate-word_of_plain (Divide sign rs rt) h =
     (λ imm target. elim sign as (λ o. inst_of_fields 0 rs rt 0 0 (divide_code o) imm target ≡ Some (insts.Plain (Divide o rs rt))) [ Signed ↦ refl | Unsigned ↦ refl ])
 candidate-word_of_plain (Load rt base offset) h =
     immediate_gives 35 base rt (half offset) (omega arith) h.2 h.1 (half_small offset h.3) _
-    (λ rd amount funct target. ap (λ b. Rattle.mips_isa.specs.Candidates.or_else (Rattle.std.specs.Prelude.option_map insts.Plain (cond b None (Some (Load rt base (cast_signed w16 (half offset)))))) None) (not_zero rt h.0) ∙ ap (λ z. Some (insts.Plain (Load rt base z))) (half_back offset h.3))
+    (λ rd amount funct target. ap (λ b. Rattle.mips_code.specs.Candidates.or_else (Rattle.std.specs.Prelude.option_map insts.Plain (cond b None (Some (Load rt base (cast_signed w16 (half offset)))))) None) (not_zero rt h.0) ∙ ap (λ z. Some (insts.Plain (Load rt base z))) (half_back offset h.3))
 candidate-word_of_plain (Store rt base offset) h =
     immediate_gives 43 base rt (half offset) (omega arith) h.1 h.0 (half_small offset h.2) _
     (λ rd amount funct target. ap (λ z. Some (insts.Plain (Store rt base z))) (half_back offset h.2))

@@ -1,13 +1,13 @@
 ghost use Rattle.std.specs.Prelude.{◌≡◌, ℕ, ◌+◌, ◌*◌, ◌/◌, ◌%◌, ◌^◌, ◌<◌, ◌↔◌, IsTrue, IfSome, Option, Some};
 ghost use Rattle.mips_isa.specs.declared.inst.Inst.{Inst as AnInst};
 ghost use Rattle.mips_isa.specs.Ranges.{IsPlain, IsControl, IsInst};
-ghost use Rattle.mips_isa.specs.Words.{register_word, immediate_word, jump_word, inst_word, word_of_plain, word_of_control, half, shift_code, shift_by_code, alu_code, move_code, multiply_code, divide_code, imm_code, logic_code, pair_code, jump_code, zero_code, zero_field};
-ghost use Rattle.mips_isa.specs.Candidates.{shift_at, shift_by_at, alu_at, move_at, multiply_at, divide_at, imm_at, logic_at, pair_at, jump_at, zero_at, computing_of, moving_of, special_of, arithmetic_of, memory_of, branch_of, candidate_of};
+ghost use Rattle.mips_code.specs.Words.{register_word, immediate_word, jump_word, inst_word, word_of_plain, word_of_control, half, shift_code, shift_by_code, alu_code, move_code, multiply_code, divide_code, imm_code, logic_code, pair_code, jump_code, zero_code, zero_field};
+ghost use Rattle.mips_code.specs.Candidates.{shift_at, shift_by_at, alu_at, move_at, multiply_at, divide_at, imm_at, logic_at, pair_at, jump_at, zero_at, computing_of, moving_of, special_of, arithmetic_of, memory_of, branch_of, candidate_of};
 
-use crate::inst::{
-    AluOp, Control, HiLo, ImmOp, Inst, JumpOp, LogicOp, PairTest, Plain, ShiftOp, ZeroTest,
+use mips_isa::{
+    AluOp, Amount, Control, HiLo, ImmOp, Inst, JumpOp, JumpTarget, LogicOp, NonzeroReg, PairTest,
+    Plain, Reg, ShiftOp, ZeroTest,
 };
-use crate::reg::{Amount, JumpTarget, NonzeroReg, Reg};
 use words::Sign;
 
 fn shift_code(op: ShiftOp) -> u8

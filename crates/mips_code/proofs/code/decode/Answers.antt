@@ -1,8 +1,8 @@
 use Rattle.std.proofs.Common.{◌≡◌, sym, ap, ◌∙◌, true≢false, Some, None}
 use Rattle.std.proofs.lemmas.Option.{same_Some, none-some}
-use Rattle.mips_isa.specs.Words.{inst_word}
-use Rattle.mips_isa.proofs.Decoding.{candidate_at}
-use Rattle.mips_isa.proofs.code.decode.Goals as goal
+use Rattle.mips_code.specs.Words.{inst_word}
+use Rattle.mips_code.proofs.Decoding.{candidate_at}
+use Rattle.mips_code.proofs.code.decode.Goals as goal
 
 pub returns-in_err-inst-clause-only : goal.returns-in_err-inst-clause-only
 returns-in_err-inst-clause-only c = λ i is e.

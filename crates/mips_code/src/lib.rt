@@ -1,0 +1,10 @@
+//! The words of MIPS I instructions (Kane, MIPS RISC Architecture, appendix A).
+//!
+//! `encode` and `decode` are inverse on the table of `specs/Words.antt`: `decode` is Some(i) exactly
+//! where the word of i is that word and i's fields are within their ranges, None exactly where no
+//! instruction has it. `specs/Candidates.antt` serves the contracts of private functions alone.
+#![tactic(auto)]
+
+mod code;
+
+pub use code::{decode, encode};
