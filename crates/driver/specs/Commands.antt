@@ -1,5 +1,5 @@
 -- The command line of `mcc`, and what its words ask for.
-use Rattle.std.specs.Prelude.{◌≡◌, ℕ, List, Some, true, codes}
+use Rattle.std.specs.Prelude.{◌≡◌, List, Some, true, codes}
 use Rattle.clap.specs.Words.{App, Row, Rule, Text, first_of, new_app, new_rule, subcommand_of, with_rule, with_subcommand}
 use Rattle.clap.specs.declared.builder.ArgAction.TheVariants.{Set}
 use Rattle.driver.specs.declared.asked.Words.{Words}

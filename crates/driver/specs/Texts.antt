@@ -32,6 +32,13 @@ answer_text (answers.Unclean rule) = codes "unclean " ++ rule_text rule
 answer_text (answers.Differs place) = codes "differs " ++ place_text place
 answer_text answers.Full = codes "full"
 
+-- the status with which the program ends
+abbrev pub exit_status : CheckAnswer → ℕ
+exit_status answers.Same = 0
+exit_status (answers.Unclean rule) = 3
+exit_status (answers.Differs place) = 3
+exit_status answers.Full = 3
+
 abbrev pub check_fault_text : CheckFault → List ℕ
 check_fault_text check_faults.Size = codes "fault 5 Size"
 check_fault_text (check_faults.Line n) = codes "fault 70 Line " ++ decimal n

@@ -1,5 +1,6 @@
-ghost use Rattle.std.specs.Prelude.{Some};
-ghost use Rattle.driver.specs.Texts.{fault_text};
+ghost use Rattle.std.specs.Prelude.{◌≡◌, ◌≤◌, IfOk, Some};
+ghost use Rattle.driver.specs.Texts.{exit_status, fault_text};
+ghost use Rattle.driver.specs.declared.checking.CheckAnswer.{CheckAnswer};
 
 use crate::asked::Words;
 use crate::checking::{CheckAnswer, CheckFault, check};
@@ -51,7 +52,9 @@ impl fmt::Display for Fault {
 }
 
 // The fault's line, which standard error may lose; the status stays.
-fn tell<E: Write>(err: &mut E, fault: Fault) -> u8 {
+fn tell<E: Write>(err: &mut E, fault: Fault) -> u8
+    ensures { result ≡ 1 }
+{
     let _ = writeln!(err, "{fault}");
     1
 }
@@ -61,7 +64,9 @@ fn print<W: Write>(out: &mut W, line: &CheckAnswer) -> io::Result<()> {
     out.flush()
 }
 
-fn status_of(answer: &CheckAnswer) -> u8 {
+fn status_of(answer: &CheckAnswer) -> u8
+    ensures { result ≡ exit_status answer.now }
+{
     match answer {
         CheckAnswer::Same => 0,
         _ => 3,
@@ -73,7 +78,9 @@ fn check_file<F: Files, W: Write>(
     file: &str,
     files: &mut F,
     out: &mut W,
-) -> Result<u8, Fault> {
+) -> Result<u8, Fault>
+    ensures { IfOk result (λ s. (a : CheckAnswer) × (s ≡ exit_status a)) }
+{
     let text = match files.read(alloc, file) {
         Ok(text) => text,
         Err(FileFault::Failed) => return Err(Fault::CannotRead),
@@ -87,7 +94,9 @@ fn check_file<F: Files, W: Write>(
 }
 
 // clap's text: help on standard output, wrong words on standard error.
-fn tell_words<W: Write, E: Write>(error: &Error, out: &mut W, err: &mut E) -> u8 {
+fn tell_words<W: Write, E: Write>(error: &Error, out: &mut W, err: &mut E) -> u8
+    ensures { result ≤ 2 }
+{
     if error.kind() == ErrorKind::OutOfMemory {
         return tell(err, Fault::NoMemory);
     }
@@ -111,7 +120,9 @@ pub fn mcc<F: Files, W: Write, E: Write>(
     files: &mut F,
     out: &mut W,
     err: &mut E,
-) -> u8 {
+) -> u8
+    ensures { result ≤ 3 }
+{
     match words(alloc, args) {
         Ok(Words::Check { file }) => match check_file(alloc, file, files, out) {
             Ok(status) => status,

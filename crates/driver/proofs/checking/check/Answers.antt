@@ -1,4 +1,3 @@
-use Rattle.std.proofs.Common.{◌≡◌}
 use Rattle.driver.specs.declared.checking.CheckAnswer.TheVariants as answers
 use Rattle.driver.proofs.Moves.{answer_moves}
 use Rattle.driver.proofs.checking.check.Goals as goal

@@ -1,4 +1,3 @@
-use Rattle.std.proofs.Common.{◌≡◌}
 use Rattle.clap.specs.Words.{app_of, kind_of}
 use Rattle.driver.specs.Commands.{mcc_app}
 use Rattle.driver.proofs.Moves.{err_of, refused_moves}
