@@ -1,0 +1,173 @@
+// The whole program, over files and streams that can fail.
+
+use driver::{FileFault, Files, Words, mcc, words};
+use std::alloc::Global;
+use std::io::{self, Write};
+use std::test::Fail;
+
+/// Files of one text, or of none where `fault` says why.
+#[derive(Drop)]
+struct OneFile<'a> {
+    text: &'a str,
+    fault: Option<FileFault>,
+}
+
+impl<'a> Files for OneFile<'a> {
+    fn read(&mut self, alloc: Global, _name: &str) -> Result<Vec<u8>, FileFault> {
+        match self.fault {
+            Some(fault) => Err(fault),
+            None => Vec::from_slice(alloc, self.text.as_bytes()).map_err(|_e| FileFault::NoMemory),
+        }
+    }
+
+    fn write(&mut self, _name: &str, _bytes: &[u8]) -> Result<(), FileFault> {
+        Err(FileFault::Failed)
+    }
+}
+
+/// A writer that takes nothing.
+#[derive(Drop)]
+struct Shut;
+
+impl Write for Shut {
+    fn write(&mut self, _buf: &[u8]) -> io::Result<usize> {
+        Err(io::Error::from(io::ErrorKind::BrokenPipe))
+    }
+
+    fn flush(&mut self) -> io::Result<()> {
+        Ok(())
+    }
+}
+
+const SAME: &str = "block\naddiu $10,$10,1\nreturn\norder\nreturn\nslot addiu $10,$10,1\n";
+
+const UNCLEAN: &str = "block\nmflo $8\nreturn\norder\nreturn\nslot mflo $8\n";
+
+const DIFFERS: &str = "block\naddiu $31,$31,4\nreturn\norder\nreturn\nslot addiu $31,$31,4\n";
+
+#[test]
+fn verdicts_and_faults_have_their_line_and_status(rt: HostRuntime) -> Result<(), Fail> {
+    for (text, fault, line, told, status) in [
+        (SAME, None, "same\n", "", 0u8),
+        (UNCLEAN, None, "unclean U3\n", "", 3),
+        (DIFFERS, None, "differs exit\n", "", 3),
+        ("block\n", None, "", "fault 70 Line 2\n", 1),
+        (
+            SAME,
+            Some(FileFault::Failed),
+            "",
+            "fault 60 CannotRead\n",
+            1,
+        ),
+        (
+            SAME,
+            Some(FileFault::NoMemory),
+            "",
+            "fault 30 NoMemory\n",
+            1,
+        ),
+    ] {
+        let mut files = OneFile { text, fault };
+        let mut out = Vec::new(rt.alloc());
+        let mut err = Vec::new(rt.alloc());
+        let args = ["mcc", "check", "x"];
+        let got = mcc(rt.alloc(), args.as_slice(), &mut files, &mut out, &mut err);
+        assert_eq!(rt; got, status, "at {line}{told}");
+        assert_eq!(rt; out.as_slice(), line.as_bytes());
+        assert_eq!(rt; err.as_slice(), told.as_bytes());
+    }
+    Ok(())
+}
+
+#[test]
+fn standard_output_that_takes_nothing_is_a_fault(rt: HostRuntime) -> Result<(), Fail> {
+    for args in [
+        ["mcc", "check", "x"].as_slice(),
+        ["mcc", "--help"].as_slice(),
+    ] {
+        let mut files = OneFile {
+            text: SAME,
+            fault: None,
+        };
+        let mut out = Shut;
+        let mut err = Vec::new(rt.alloc());
+        let got = mcc(rt.alloc(), args, &mut files, &mut out, &mut err);
+        assert_eq!(rt; got, 1);
+        assert_eq!(rt; err.as_slice(), b"fault 61 CannotWrite\n".as_slice());
+    }
+    Ok(())
+}
+
+#[test]
+fn standard_error_that_takes_nothing_keeps_the_status(rt: HostRuntime) -> Result<(), Fail> {
+    for (args, status) in [
+        (["mcc", "check", "x"].as_slice(), 1u8),
+        (["mcc", "frob"].as_slice(), 2),
+    ] {
+        let mut files = OneFile {
+            text: "",
+            fault: None,
+        };
+        let mut out = Vec::new(rt.alloc());
+        let mut err = Shut;
+        let got = mcc(rt.alloc(), args, &mut files, &mut out, &mut err);
+        assert_eq!(rt; got, status);
+        assert!(rt; out.is_empty());
+    }
+    Ok(())
+}
+
+#[test]
+fn wrong_words_are_told_on_standard_error(rt: HostRuntime) -> Result<(), Fail> {
+    for args in [
+        ["mcc"].as_slice(),
+        ["mcc", "frob"].as_slice(),
+        ["mcc", "check"].as_slice(),
+        ["mcc", "check", "x", "y"].as_slice(),
+        ["mcc", "check", "--frob", "x"].as_slice(),
+    ] {
+        let mut files = OneFile {
+            text: SAME,
+            fault: None,
+        };
+        let mut out = Vec::new(rt.alloc());
+        let mut err = Vec::new(rt.alloc());
+        let got = mcc(rt.alloc(), args, &mut files, &mut out, &mut err);
+        assert_eq!(rt; got, 2);
+        assert!(rt; out.is_empty());
+        assert!(rt; !err.is_empty());
+    }
+    Ok(())
+}
+
+#[test]
+fn help_is_on_standard_output(rt: HostRuntime) -> Result<(), Fail> {
+    for args in [
+        ["mcc", "--help"].as_slice(),
+        ["mcc", "help"].as_slice(),
+        ["mcc", "check", "--help"].as_slice(),
+        ["mcc", "help", "check"].as_slice(),
+    ] {
+        let mut files = OneFile {
+            text: SAME,
+            fault: None,
+        };
+        let mut out = Vec::new(rt.alloc());
+        let mut err = Vec::new(rt.alloc());
+        let got = mcc(rt.alloc(), args, &mut files, &mut out, &mut err);
+        assert_eq!(rt; got, 0);
+        assert!(rt; !out.is_empty());
+        assert!(rt; err.is_empty());
+    }
+    Ok(())
+}
+
+#[test]
+fn words_give_the_file(rt: HostRuntime) -> Result<(), Fail> {
+    let args = ["mcc", "check", "a text"];
+    let Ok(Words::Check { file }) = words(rt.alloc(), args.as_slice()) else {
+        panic!(rt; "no command")
+    };
+    assert_eq!(rt; file, "a text");
+    Ok(())
+}

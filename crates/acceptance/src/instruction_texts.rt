@@ -1,0 +1,279 @@
+// Each instruction prints as Kane writes it, and its text is read back.
+
+use check_text::{exit_of, plain_of};
+use mblock::{BlockNumber, Exit};
+use mips_isa::{
+    AluOp, Amount, HiLo, ImmOp, LogicOp, NonzeroReg, PairTest, Plain, Reg, ShiftOp, ZeroTest,
+};
+use std::alloc::Global;
+use std::test::Fail;
+use words::Sign;
+
+/// Whether the instruction prints as the text, and the text is read as the instruction.
+fn is_text(alloc: Global, inst: &Plain, text: &str) -> bool {
+    match inst.to_string(alloc) {
+        Ok(printed) => printed.as_str() == text && plain_of(text.as_bytes()) == Some(*inst),
+        Err(_) => false,
+    }
+}
+
+#[test]
+fn shifts_and_registers(rt: HostRuntime) -> Result<(), Fail> {
+    let (rd, rs, second) = (Reg::masked(8), Reg::masked(9), Reg::masked(31));
+    let amount = Amount::masked(31);
+    for (op, by_constant, by_register) in [
+        (ShiftOp::Sll, "sll $8,$31,31", "sllv $8,$31,$9"),
+        (ShiftOp::Srl, "srl $8,$31,31", "srlv $8,$31,$9"),
+        (ShiftOp::Sra, "sra $8,$31,31", "srav $8,$31,$9"),
+    ] {
+        let shift = Plain::Shift {
+            op,
+            rd,
+            rt: second,
+            amount,
+        };
+        let shift_by = Plain::ShiftBy {
+            op,
+            rd,
+            rt: second,
+            rs,
+        };
+        assert!(rt;
+            is_text(rt.alloc(), &shift, by_constant),
+            "at {by_constant}"
+        );
+        assert!(rt;
+            is_text(rt.alloc(), &shift_by, by_register),
+            "at {by_register}"
+        );
+    }
+    for (op, text) in [
+        (AluOp::Addu, "addu $8,$9,$31"),
+        (AluOp::Subu, "subu $8,$9,$31"),
+        (AluOp::And, "and $8,$9,$31"),
+        (AluOp::Or, "or $8,$9,$31"),
+        (AluOp::Xor, "xor $8,$9,$31"),
+        (AluOp::Nor, "nor $8,$9,$31"),
+        (AluOp::Slt, "slt $8,$9,$31"),
+        (AluOp::Sltu, "sltu $8,$9,$31"),
+    ] {
+        let alu = Plain::Alu {
+            op,
+            rd,
+            rs,
+            rt: second,
+        };
+        assert!(rt; is_text(rt.alloc(), &alu, text), "at {text}");
+    }
+    Ok(())
+}
+
+#[test]
+fn constants(rt: HostRuntime) -> Result<(), Fail> {
+    let (first, rs) = (Reg::masked(8), Reg::masked(0));
+    for (op, imm, text) in [
+        (ImmOp::Addiu, -32768i16, "addiu $8,$0,-32768"),
+        (ImmOp::Slti, 32767, "slti $8,$0,32767"),
+        (ImmOp::Sltiu, 0, "sltiu $8,$0,0"),
+    ] {
+        let inst = Plain::Imm {
+            op,
+            rt: first,
+            rs,
+            imm,
+        };
+        assert!(rt; is_text(rt.alloc(), &inst, text), "at {text}");
+    }
+    for (op, imm, text) in [
+        (LogicOp::Andi, 0u16, "andi $8,$0,0"),
+        (LogicOp::Ori, 32768, "ori $8,$0,32768"),
+        (LogicOp::Xori, 65535, "xori $8,$0,65535"),
+    ] {
+        let inst = Plain::Logic {
+            op,
+            rt: first,
+            rs,
+            imm,
+        };
+        assert!(rt; is_text(rt.alloc(), &inst, text), "at {text}");
+    }
+    let upper = Plain::LoadUpper {
+        rt: first,
+        imm: 4096,
+    };
+    assert!(rt; is_text(rt.alloc(), &upper, "lui $8,4096"));
+    Ok(())
+}
+
+#[test]
+fn products_and_memory(rt: HostRuntime) -> Result<(), Fail> {
+    let (first, second) = (Reg::masked(9), Reg::masked(10));
+    let Some(loaded) = NonzeroReg::new(8) else {
+        panic!(rt; "no register 8")
+    };
+    let zero = Reg::ZERO;
+    let amount = Amount::masked(0);
+    for (inst, text) in [
+        (
+            Plain::MoveFrom {
+                place: HiLo::Hi,
+                rd: first,
+            },
+            "mfhi $9",
+        ),
+        (
+            Plain::MoveFrom {
+                place: HiLo::Lo,
+                rd: first,
+            },
+            "mflo $9",
+        ),
+        (
+            Plain::Multiply {
+                sign: Sign::Signed,
+                rs: first,
+                rt: second,
+            },
+            "mult $9,$10",
+        ),
+        (
+            Plain::Multiply {
+                sign: Sign::Unsigned,
+                rs: first,
+                rt: second,
+            },
+            "multu $9,$10",
+        ),
+        (
+            Plain::Divide {
+                sign: Sign::Signed,
+                rs: first,
+                rt: second,
+            },
+            "div $9,$10",
+        ),
+        (
+            Plain::Divide {
+                sign: Sign::Unsigned,
+                rs: first,
+                rt: second,
+            },
+            "divu $9,$10",
+        ),
+        (
+            Plain::Load {
+                rt: loaded,
+                base: first,
+                offset: 4,
+            },
+            "lw $8,4($9)",
+        ),
+        (
+            Plain::Store {
+                rt: zero,
+                base: second,
+                offset: -4,
+            },
+            "sw $0,-4($10)",
+        ),
+        (
+            Plain::Shift {
+                op: ShiftOp::Sll,
+                rd: zero,
+                rt: zero,
+                amount,
+            },
+            "nop",
+        ),
+    ] {
+        assert!(rt; is_text(rt.alloc(), &inst, text), "at {text}");
+    }
+    let nop = Plain::Shift {
+        op: ShiftOp::Sll,
+        rd: zero,
+        rt: zero,
+        amount,
+    };
+    assert!(rt; plain_of(b"sll $0,$0,0") == Some(nop));
+    Ok(())
+}
+
+#[test]
+fn exits(rt: HostRuntime) -> Result<(), Fail> {
+    let (rs, second) = (Reg::masked(8), Reg::masked(9));
+    let (Some(then), Some(other)) = (BlockNumber::new(1048575), BlockNumber::new(0)) else {
+        panic!(rt; "no block")
+    };
+    for (exit, text) in [
+        (Exit::Goto(then), "goto 1048575"),
+        (
+            Exit::BranchPair {
+                test: PairTest::Equal,
+                rs,
+                rt: second,
+                then,
+                other,
+            },
+            "beq $8,$9,1048575,0",
+        ),
+        (
+            Exit::BranchPair {
+                test: PairTest::NotEqual,
+                rs,
+                rt: second,
+                then,
+                other,
+            },
+            "bne $8,$9,1048575,0",
+        ),
+        (
+            Exit::BranchZero {
+                test: ZeroTest::AtMostZero,
+                rs,
+                then,
+                other,
+            },
+            "blez $8,1048575,0",
+        ),
+        (
+            Exit::BranchZero {
+                test: ZeroTest::AboveZero,
+                rs,
+                then,
+                other,
+            },
+            "bgtz $8,1048575,0",
+        ),
+        (
+            Exit::BranchZero {
+                test: ZeroTest::BelowZero,
+                rs,
+                then,
+                other,
+            },
+            "bltz $8,1048575,0",
+        ),
+        (
+            Exit::BranchZero {
+                test: ZeroTest::AtLeastZero,
+                rs,
+                then,
+                other,
+            },
+            "bgez $8,1048575,0",
+        ),
+        (
+            Exit::Call {
+                function: then,
+                next: other,
+            },
+            "call 1048575,0",
+        ),
+        (Exit::Return, "return"),
+        (Exit::Out(other), "out 0"),
+        (Exit::Halt, "halt"),
+    ] {
+        assert!(rt; exit_of(text.as_bytes()) == Some(exit), "at {text}");
+    }
+    Ok(())
+}

@@ -1,0 +1,14 @@
+//! Worked examples of the whole product: tests that cross crates, with values from outside the program.
+//!
+//! It has no code of its own and stands on top of everything, so that the layers below, which a crate
+//! with tests would have proved twice, keep few.
+#![tactic(auto)]
+
+#[cfg(test)]
+mod check_program;
+#[cfg(test)]
+mod check_texts;
+#[cfg(test)]
+mod check_verdicts;
+#[cfg(test)]
+mod instruction_texts;

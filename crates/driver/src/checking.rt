@@ -1,0 +1,82 @@
+ghost use Rattle.std.specs.Prelude.{◌≡◌, ℕ, ◌≤◌, ◌^◌, length, IfOk, IfErr, IfSome, MatchResult, All};
+ghost use Rattle.mblock.specs.Parts.{BlockParts, OrderParts};
+ghost use Rattle.check_text.specs.Lines.{lines_of};
+ghost use Rattle.check_text.specs.Whole.{Spells};
+ghost use Rattle.term_table.specs.Passes.{IsOf};
+ghost use Rattle.driver.specs.Checks.{IsAnswer, IsCheckFault};
+
+use block_validator::{Place, Verdict, validate};
+use check_text::{Text, TextFault, read};
+use mblock::Unclean;
+use std::alloc::Global;
+use term_table::{Pass, TermTable};
+
+/// The verdict on the order of a text.
+#[derive(Clone, Copy, Debug, PartialEq, Eq)]
+pub enum CheckAnswer {
+    /// The order is clean, and has the terms of the block in every place.
+    Same,
+    /// The order breaks this delay rule, and no lesser one.
+    Unclean(Unclean),
+    /// The order is clean, and this is the first place whose terms differ.
+    Differs(Place),
+    /// The order is clean, and the table of terms was full.
+    Full,
+}
+
+/// Why a text has no verdict.
+#[derive(Clone, Copy, Debug, PartialEq, Eq)]
+pub enum CheckFault {
+    /// The text is longer than 1,048,576 bytes, which is tested first.
+    Size,
+    /// The first line, from 1, that can't stand in its place, or the number of lines plus 1 where the
+    /// text ends too early.
+    Line(u32),
+    /// Memory was refused.
+    NoMemory,
+}
+
+/// A table for one pass, of 16,384 nodes and 256 heads.
+fn table(alloc: Global) -> Option<(TermTable, Vec<Pass>)>
+    ensures { IfSome result (λ t. All (IsOf t.0) t.1.items) }
+{
+    match TermTable::open(alloc, 1, 16384, 256) {
+        Ok((table, passes)) => Some((table, passes)),
+        Err(_) => None,
+    }
+}
+
+fn opened(alloc: Global) -> Option<(TermTable, Pass)>
+    ensures { IfSome result (λ t. IsOf t.0 t.1) }
+{
+    let (table, mut passes) = table(alloc)?;
+    let pass = passes.pop()?;
+    Some((table, pass))
+}
+
+/// The verdict on the block and the order that the text spells.
+pub fn check(alloc: Global, text: &[u8]) -> Result<CheckAnswer, CheckFault>
+    ensures spelled { IfOk result (λ _. (length text.now ≤ 2 ^ 20) × (b : BlockParts) × (o : OrderParts) × Spells (lines_of text.now) b o) }
+    ensures answer { length text.now ≤ 2 ^ 20 → (b : BlockParts) (o : OrderParts) → Spells (lines_of text.now) b o
+        → MatchResult result (IsAnswer b o) (λ e. e ≡ CheckFault.NoMemory) }
+    ensures fault { IfErr result (IsCheckFault text.now) }
+{
+    if text.len() > 1_048_576 {
+        return Err(CheckFault::Size);
+    }
+    let Text { block, order } = match read(alloc, text) {
+        Ok(spelled) => spelled,
+        Err(TextFault::Line(line)) => return Err(CheckFault::Line(line)),
+        Err(TextFault::NoMemory) => return Err(CheckFault::NoMemory),
+    };
+    let Some((table, mut pass)) = opened(alloc) else {
+        return Err(CheckFault::NoMemory);
+    };
+    match validate(alloc, &table, &mut pass, &block, order) {
+        Verdict::Same(_) => Ok(CheckAnswer::Same),
+        Verdict::Unclean(rule) => Ok(CheckAnswer::Unclean(rule)),
+        Verdict::Differs(place) => Ok(CheckAnswer::Differs(place)),
+        Verdict::Full => Ok(CheckAnswer::Full),
+        Verdict::NoMemory => Err(CheckFault::NoMemory),
+    }
+}
