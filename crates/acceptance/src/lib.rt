@@ -12,3 +12,5 @@ mod check_texts;
 mod check_verdicts;
 #[cfg(test)]
 mod instruction_texts;
+#[cfg(test)]
+mod instruction_words;

@@ -1,0 +1,173 @@
+// Operators at their edges, and the words of instructions (Kane, MIPS RISC Architecture, appendix A).
+
+use mips_code::{decode, encode};
+use mips_isa::{
+    AluOp, Amount, Control, Inst, JumpOp, JumpTarget, NonzeroReg, PairTest, Plain, Reg, ShiftOp,
+    ZeroTest,
+};
+use std::test::Fail;
+use words::Operator;
+
+#[test]
+fn operators_have_their_values(rt: HostRuntime) -> Result<(), Fail> {
+    for (op, a, b, want) in [
+        (Operator::Addu, 0xffffffff, 0x1, Some(0x0)),
+        (Operator::Addu, 0x80000000, 0x21, Some(0x80000021)),
+        (Operator::Addu, 0x7fffffff, 0xffffffff, Some(0x7ffffffe)),
+        (Operator::Subu, 0xffffffff, 0x1, Some(0xfffffffe)),
+        (Operator::Subu, 0x80000000, 0x21, Some(0x7fffffdf)),
+        (Operator::Subu, 0x7fffffff, 0xffffffff, Some(0x80000000)),
+        (Operator::And, 0xffffffff, 0x1, Some(0x1)),
+        (Operator::And, 0x80000000, 0x21, Some(0x0)),
+        (Operator::And, 0x7fffffff, 0xffffffff, Some(0x7fffffff)),
+        (Operator::Or, 0xffffffff, 0x1, Some(0xffffffff)),
+        (Operator::Or, 0x80000000, 0x21, Some(0x80000021)),
+        (Operator::Or, 0x7fffffff, 0xffffffff, Some(0xffffffff)),
+        (Operator::Xor, 0xffffffff, 0x1, Some(0xfffffffe)),
+        (Operator::Xor, 0x80000000, 0x21, Some(0x80000021)),
+        (Operator::Xor, 0x7fffffff, 0xffffffff, Some(0x80000000)),
+        (Operator::Nor, 0xffffffff, 0x1, Some(0x0)),
+        (Operator::Nor, 0x80000000, 0x21, Some(0x7fffffde)),
+        (Operator::Nor, 0x7fffffff, 0xffffffff, Some(0x0)),
+        (Operator::Slt, 0xffffffff, 0x1, Some(0x1)),
+        (Operator::Slt, 0x80000000, 0x21, Some(0x1)),
+        (Operator::Slt, 0x7fffffff, 0xffffffff, Some(0x0)),
+        (Operator::Sltu, 0xffffffff, 0x1, Some(0x0)),
+        (Operator::Sltu, 0x80000000, 0x21, Some(0x0)),
+        (Operator::Sltu, 0x7fffffff, 0xffffffff, Some(0x1)),
+        (Operator::Sll, 0xffffffff, 0x1, Some(0xfffffffe)),
+        (Operator::Sll, 0x80000000, 0x21, Some(0x0)),
+        (Operator::Sll, 0x7fffffff, 0xffffffff, Some(0x80000000)),
+        (Operator::Srl, 0xffffffff, 0x1, Some(0x7fffffff)),
+        (Operator::Srl, 0x80000000, 0x21, Some(0x40000000)),
+        (Operator::Srl, 0x7fffffff, 0xffffffff, Some(0x0)),
+        (Operator::Sra, 0xffffffff, 0x1, Some(0xffffffff)),
+        (Operator::Sra, 0x80000000, 0x21, Some(0xc0000000)),
+        (Operator::Sra, 0x7fffffff, 0xffffffff, Some(0x0)),
+        (Operator::MultHigh, 0xffffffff, 0x1, Some(0xffffffff)),
+        (Operator::MultHigh, 0x80000000, 0x21, Some(0xffffffef)),
+        (Operator::MultHigh, 0x7fffffff, 0xffffffff, Some(0xffffffff)),
+        (Operator::MultLow, 0xffffffff, 0x1, Some(0xffffffff)),
+        (Operator::MultLow, 0x80000000, 0x21, Some(0x80000000)),
+        (Operator::MultLow, 0x7fffffff, 0xffffffff, Some(0x80000001)),
+        (Operator::MultuHigh, 0xffffffff, 0x1, Some(0x0)),
+        (Operator::MultuHigh, 0x80000000, 0x21, Some(0x10)),
+        (
+            Operator::MultuHigh,
+            0x7fffffff,
+            0xffffffff,
+            Some(0x7ffffffe),
+        ),
+        (Operator::MultuLow, 0xffffffff, 0x1, Some(0xffffffff)),
+        (Operator::MultuLow, 0x80000000, 0x21, Some(0x80000000)),
+        (Operator::MultuLow, 0x7fffffff, 0xffffffff, Some(0x80000001)),
+        (Operator::DivQuotient, 0xfffffff9, 0x2, Some(0xfffffffd)),
+        (Operator::DivRemainder, 0xfffffff9, 0x2, Some(0xffffffff)),
+        (Operator::DivuQuotient, 0xfffffff9, 0x2, Some(0x7ffffffc)),
+        (Operator::DivuRemainder, 0xfffffff9, 0x2, Some(0x1)),
+        (Operator::DivQuotient, 0x7, 0xfffffffe, Some(0xfffffffd)),
+        (Operator::DivRemainder, 0x7, 0xfffffffe, Some(0x1)),
+        (Operator::DivuQuotient, 0x7, 0xfffffffe, Some(0x0)),
+        (Operator::DivuRemainder, 0x7, 0xfffffffe, Some(0x7)),
+        (Operator::DivQuotient, 0x80000000, 0xffffffff, None),
+        (Operator::DivRemainder, 0x80000000, 0xffffffff, None),
+        (Operator::DivuQuotient, 0x80000000, 0xffffffff, Some(0x0)),
+        (
+            Operator::DivuRemainder,
+            0x80000000,
+            0xffffffff,
+            Some(0x80000000),
+        ),
+        (Operator::DivQuotient, 0x5, 0x0, None),
+        (Operator::DivRemainder, 0x5, 0x0, None),
+        (Operator::DivuQuotient, 0x5, 0x0, None),
+        (Operator::DivuRemainder, 0x5, 0x0, None),
+    ] {
+        assert_eq!(rt; op.value(a, b), want, "at {op:?} {a} {b}");
+    }
+    Ok(())
+}
+
+#[test]
+fn instructions_have_their_words(rt: HostRuntime) -> Result<(), Fail> {
+    let reg = Reg::masked;
+    let zero = reg(0);
+    let loaded = NonzeroReg::new(8).expect(&rt, "8 is a register");
+    for (inst, word) in [
+        (
+            Inst::Plain(Plain::Alu {
+                op: AluOp::Addu,
+                rd: reg(8),
+                rs: reg(9),
+                rt: reg(10),
+            }),
+            0x012a_4021u32,
+        ),
+        (
+            Inst::Plain(Plain::Load {
+                rt: loaded,
+                base: reg(29),
+                offset: 4,
+            }),
+            0x8fa8_0004,
+        ),
+        (
+            Inst::Control(Control::JumpRegister { rs: reg(31) }),
+            0x03e0_0008,
+        ),
+        (
+            Inst::Plain(Plain::Shift {
+                op: ShiftOp::Sll,
+                rd: zero,
+                rt: zero,
+                amount: Amount::masked(0),
+            }),
+            0,
+        ),
+        (
+            Inst::Control(Control::BranchPair {
+                test: PairTest::NotEqual,
+                rs: reg(8),
+                rt: reg(9),
+                offset: -1,
+            }),
+            0x1509_ffff,
+        ),
+        (
+            Inst::Control(Control::BranchZero {
+                test: ZeroTest::AtLeastZero,
+                rs: reg(8),
+                offset: 2,
+            }),
+            0x0501_0002,
+        ),
+        (
+            Inst::Control(Control::JumpTo {
+                op: JumpOp::JumpAndLink,
+                target: JumpTarget::masked(0x0010_0000),
+            }),
+            0x0c10_0000,
+        ),
+        (Inst::Control(Control::SystemCall), 0x0000_000c),
+    ] {
+        assert_eq!(rt; encode(inst), word);
+        assert_eq!(rt; decode(word), Some(inst), "at {word}");
+    }
+    Ok(())
+}
+
+#[test]
+fn words_of_no_instruction(rt: HostRuntime) -> Result<(), Fail> {
+    // An unused field that isn't 0, a load of register 0, a sign test with rt 2, an op not in use.
+    for word in [
+        0x012a_4061u32,
+        0x03e0_0048,
+        0x8fa0_0004,
+        0x0502_0002,
+        0xfc00_0000,
+        0x3c20_0001,
+    ] {
+        assert!(rt; decode(word).is_none(), "at {word}");
+    }
+    Ok(())
+}
