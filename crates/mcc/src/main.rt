@@ -3,7 +3,8 @@
 
 use driver::{FileFault, Files, mcc};
 use std::alloc::Global;
-use std::io::Read;
+use std::env::Env;
+use std::io::{Read, Write};
 use std::process::ExitCode;
 use std::rt::Files as HostFiles;
 use std::{env, fs, io};
@@ -40,22 +41,36 @@ fn fault_of(e: &io::Error) -> FileFault {
     }
 }
 
-fn main(rt: HostRuntime) -> ExitCode {
-    let Ok(args) = env::args(&rt) else {
-        return ExitCode::from(2);
-    };
-    let Ok(owned) = args.collect::<Vec<String>>(rt.alloc()) else {
+fn owned_words<R: Env + AllocGlobal>(rt: &R) -> io::Result<Vec<String>> {
+    let words = env::args(rt)?.collect::<Vec<String>>(rt.alloc())?;
+    Ok(words)
+}
+
+// The words could not be had: memory was refused, or one isn't UTF-8.
+fn tell<E: Write>(err: &mut E, e: &io::Error) -> ExitCode {
+    if e.kind() == io::ErrorKind::OutOfMemory {
+        let _ = err.write_all(b"fault 30 NoMemory\n");
         return ExitCode::from(1);
+    }
+    let _ = err.write_all(b"error: a word isn't UTF-8\n");
+    ExitCode::from(2)
+}
+
+fn main(rt: HostRuntime) -> ExitCode {
+    let mut err = rt.stderr();
+    let owned = match owned_words(&rt) {
+        Ok(owned) => owned,
+        Err(e) => return tell(&mut err, &e),
     };
-    let Ok(words) = owned
+    let words = match owned
         .iter()
         .map(|s| s.as_str())
         .collect::<Vec<&str>>(rt.alloc())
-    else {
-        return ExitCode::from(1);
+    {
+        Ok(words) => words,
+        Err(e) => return tell(&mut err, &io::Error::from(e)),
     };
     let mut disk = Disk { rt: &rt };
     let mut out = rt.stdout();
-    let mut err = rt.stderr();
     ExitCode::from(mcc(rt.alloc(), words.as_slice(), &mut disk, &mut out, &mut err))
 }
