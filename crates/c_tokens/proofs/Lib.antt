@@ -1,0 +1,5 @@
+pub mod Scanning
+pub mod Fitting
+pub mod Going
+pub mod Fronts
+pub mod Constants

@@ -1,0 +1,4 @@
+pub mod Lexing
+pub mod Texts
+pub mod Spellings
+pub mod Keywords
