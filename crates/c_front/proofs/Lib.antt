@@ -1,0 +1,5 @@
+pub mod Reading
+pub mod Ranks
+pub mod Completing
+pub mod Deriving
+pub mod Theorems
