@@ -245,16 +245,16 @@ pub record TypeStart (next : Option Token) : Type 0 where
   pub items : one_choice items next ≡ Some (N an_item ∷ N items ∷ [], items_more)
   pub item : one_choice an_item next ≡ Some (N a_type ∷ T a_name ∷ N declared ∷ T (the Semicolon) ∷ [], item_declare)
 
-type-starts : {symbols : List Symbol} {ts rest : List Token} {m : Meanings (N a_type ∷ symbols)} → Derives (N a_type ∷ symbols) ts rest m → TypeStart (first ts)
+pub type-starts : {symbols : List Symbol} {ts rest : List Token} {m : Meanings (N a_type ∷ symbols)} → Derives (N a_type ∷ symbols) ts rest m → TypeStart (first ts)
 type-starts (phrase type_int (token is_the d) f q d') = record { declarations = refl; declaration = refl; parameters = refl; items = refl; item = refl }
 type-starts (phrase type_unsigned (token is_the d) f q d') = record { declarations = refl; declaration = refl; parameters = refl; items = refl; item = refl }
 
-declaration-starts : {symbols : List Symbol} {ts rest : List Token} {m : Meanings (N a_declaration ∷ symbols)} → Derives (N a_declaration ∷ symbols) ts rest m →
+pub declaration-starts : {symbols : List Symbol} {ts rest : List Token} {m : Meanings (N a_declaration ∷ symbols)} → Derives (N a_declaration ∷ symbols) ts rest m →
     one_choice declarations (first ts) ≡ Some (N a_declaration ∷ N declarations ∷ [], declarations_more)
 declaration-starts (phrase declaration_typed d f q d') = (type-starts d).declarations
 declaration-starts (phrase declaration_void (token is_the d) f q d') = refl
 
-function-starts : {ts rest : List Token} {m : Meanings (N function_rest ∷ [])} → Derives (N function_rest ∷ []) ts rest m → one_choice after_global (first ts) ≡ Some (N function_rest ∷ [], global_function)
+pub function-starts : {ts rest : List Token} {m : Meanings (N function_rest ∷ [])} → Derives (N function_rest ∷ []) ts rest m → one_choice after_global (first ts) ≡ Some (N function_rest ∷ [], global_function)
 function-starts (phrase function_rule (token is_the d) f q d') = refl
 
 simple-given : {ts rest : List Token} {m : Meanings (N simple ∷ [])} → Derives (N simple ∷ []) ts rest m → one_choice maybe_simple (first ts) ≡ Some (N simple ∷ [], simple_some)

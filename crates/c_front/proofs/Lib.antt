@@ -3,3 +3,9 @@ pub mod Ranks
 pub mod Completing
 pub mod Deriving
 pub mod Theorems
+pub mod Paths
+pub mod Steps
+pub mod Simply
+pub mod Shapes
+pub mod StatementPaths
+pub mod DeclarationPaths

@@ -1,8 +1,8 @@
 -- What it means that tokens are, or begin, a program, and where the first wrong token is.
 use Rattle.std.specs.Prelude.{◌≡◌, ◌+◌, ◌<◌, ◌≤◌, ℕ, List, [], ◌∷◌, ◌++◌, take, length}
 use Rattle.c_tokens.specs.declared.token.Token.{Token}
-use Rattle.c_front.specs.declared.parse.Fault.{Fault}
-use Rattle.c_front.specs.declared.parse.Fault.TheVariants.{Wrong, OutOfMemory}
+use Rattle.c_front.specs.declared.declaration.Fault.{Fault}
+use Rattle.c_front.specs.declared.declaration.Fault.TheVariants.{Wrong, OutOfMemory}
 use Rattle.c_front.specs.Tree.{Declaration}
 use Rattle.c_front.specs.Grammar.{Spells}
 

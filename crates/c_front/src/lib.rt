@@ -1,5 +1,8 @@
 //! The C front end: a text to its syntax tree.
 #![tactic(auto)]
 
-pub mod parse;
+mod cursor;
+pub mod declaration;
+mod expression;
+mod statement;
 pub mod tree;
