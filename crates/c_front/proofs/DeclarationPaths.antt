@@ -268,14 +268,13 @@ pub record GoesOnDeclarations (ts middle : List Token) (all : List Declaration) 
 pub declarations-start : (ts : List Token) → length ts ≤ length ts → GoesOnDeclarations ts ts []
 declarations-start ts h = record { reads = λ more d. d; stuck = λ rest s. s; shorter = h }
 
-go-on : (ts : List Token) → ts ≢ [] → one_choice declarations (first ts) ≡ Some (N a_declaration ∷ N declarations ∷ [], declarations_more)
-go-on [] h = absurd (h refl)
-go-on (t ∷ ts) h = refl
+go-on : (ts more : List Token) (t : Token) → ts ≡ t ∷ more → one_choice declarations (first ts) ≡ Some (N a_declaration ∷ N declarations ∷ [], declarations_more)
+go-on ts more t e = ap (λ (x : List Token). one_choice declarations (first x)) e
 
-pub declarations-more : (ts middle next : List Token) (all : List Declaration) (d : Declaration) → GoesOnDeclarations ts middle all → middle ≢ [] → IsRead a_declaration middle next d → length next ≤ length ts → GoesOnDeclarations ts next (all ++ d ∷ [])
-declarations-more ts middle next all d g h q l = record {
-  reads = λ more z. rw append_assoc (g.reads (d ∷ more) (whole declarations_more (go-on middle h) (followed q z)));
-  stuck = λ rest s symbols. g.stuck rest (λ more. stuck_inside declarations_more (go-on middle h) (λ z. absurd z) (stuck_after q (s more))) symbols;
+pub declarations-more : (ts middle after next : List Token) (t : Token) (all : List Declaration) (d : Declaration) → GoesOnDeclarations ts middle all → middle ≡ t ∷ after → IsRead a_declaration middle next d → length next ≤ length ts → GoesOnDeclarations ts next (all ++ d ∷ [])
+declarations-more ts middle after next t all d g h q l = record {
+  reads = λ more z. rw append_assoc (g.reads (d ∷ more) (whole declarations_more (go-on middle after t h) (followed q z)));
+  stuck = λ rest s symbols. g.stuck rest (λ more. stuck_inside declarations_more (go-on middle after t h) (λ z. absurd z) (stuck_after q (s more))) symbols;
   shorter = l;
 }
 
@@ -285,10 +284,10 @@ declarations-spelled ts middle all g e =
     let Q : List Token → Type 0 = λ x. IsRead declarations x [] [] in
     derived (whole program_rule refl (subst P (append-nil all) (g.reads [] (subst Q (sym e) (whole declarations_end refl read_nothing)))))
 
-pub declaration-stuck : (ts middle : List Token) (all : List Declaration) (s : Stop) → GoesOnDeclarations ts middle all → middle ≢ [] → IsStuck a_declaration middle s → IsProgramStuck ts s
-declaration-stuck ts middle all (Syntax rest) g h k =
-    stuck_inside program_rule refl (λ z. absurd z) (g.stuck rest.now (λ symbols. stuck_inside declarations_more (go-on middle h) (λ z. absurd z) (k (N declarations ∷ symbols))) [])
-declaration-stuck ts middle all NoMemory g h k = tt
+pub declaration-stuck : (ts middle after : List Token) (t : Token) (all : List Declaration) (s : Stop) → GoesOnDeclarations ts middle all → middle ≡ t ∷ after → IsStuck a_declaration middle s → IsProgramStuck ts s
+declaration-stuck ts middle after t all (Syntax rest) g h k =
+    stuck_inside program_rule refl (λ z. absurd z) (g.stuck rest.now (λ symbols. stuck_inside declarations_more (go-on middle after t h) (λ z. absurd z) (k (N declarations ∷ symbols))) [])
+declaration-stuck ts middle after t all NoMemory g h k = tt
 
 pub declarations_of-append : (xs : List Rust.Declaration) (d : Rust.Declaration) → declarations_of (xs ++ d ∷ []) ≡ declarations_of xs ++ declaration_of d ∷ []
 declarations_of-append [] d = refl

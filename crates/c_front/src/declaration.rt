@@ -10,7 +10,7 @@ use std::alloc::{AllocError, AllocFailed, Global};
 
 use c_tokens::token::{Identifier, Kind, Mark, Token};
 
-use crate::cursor::{expect, literal, name, starts, Stop};
+use crate::cursor::{expect, literal, name, split, starts, Stop};
 use crate::statement::{items, kind};
 use crate::tree::{Declaration, FunctionDefinition, Initial, Item, Parameter};
 
@@ -132,7 +132,7 @@ fn declarations<'a>(alloc: Global, tokens: &'a [Token]) -> Result<Vec<Declaratio
 {
     let mut all = Vec::new(alloc);
     let mut rest = tokens;
-    'declarations: while !rest.is_empty() {
+    'declarations: while let Some(_) = split(rest) {
         let (one, next) = declaration(alloc, rest)?;
         all.push(one)?;
         rest = next;
