@@ -9,3 +9,4 @@ pub mod Simply
 pub mod Shapes
 pub mod StatementPaths
 pub mod DeclarationPaths
+pub mod Faulting

@@ -5,3 +5,5 @@ pub mod Choosing
 pub mod Reading
 pub mod Stop
 pub mod Syntax
+pub mod Texts
+pub mod Faults

@@ -4,5 +4,6 @@
 mod cursor;
 pub mod declaration;
 mod expression;
+pub mod read;
 mod statement;
 pub mod tree;

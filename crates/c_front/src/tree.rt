@@ -127,3 +127,10 @@ pub enum Declaration {
     Array(Kind, Identifier, Literal),
     Function(FunctionDefinition),
 }
+
+/// A program: its declarations in order, and the text that its names stand in.
+#[derive(Drop)]
+pub struct Program {
+    pub declarations: Vec<Declaration>,
+    pub text: Vec<u8>,
+}

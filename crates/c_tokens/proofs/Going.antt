@@ -4,6 +4,8 @@ use Rattle.c_tokens.specs.declared.token.Token.{Token}
 use Rattle.c_tokens.specs.declared.lex.Step.{Step}
 use Rattle.c_tokens.specs.declared.lex.Step.TheVariants.{Done, Skip, Take, Stop}
 use Rattle.c_tokens.specs.declared.lex.Sizes.{Sizes}
+use Rattle.c_tokens.specs.declared.lex.Refusal.{Refusal}
+use Rattle.c_tokens.specs.declared.lex.Refusal.TheVariants.{BadSize}
 use Rattle.c_tokens.specs.Texts.{IsStep, Lexes, lexes_end, lexes_skip, lexes_take, LexStops, stops_here, stops_size, stops_skip, stops_take, Counts, Within, Counted, Oversize}
 
 pub record LexGoes (text rest : List ℕ) (at : ℕ) (tokens : List Token) (places : List ℕ) (sizes : Sizes) : Type 0 where
@@ -11,7 +13,7 @@ pub record LexGoes (text rest : List ℕ) (at : ℕ) (tokens : List Token) (plac
   pub counts : Counts sizes before
   pub within : Within sizes
   pub lexes : (ts : List Token) (ks : List ℕ) → Lexes at rest before ts ks → Lexes 0 text [] (tokens ++ ts) (places ++ ks)
-  pub stops : (number k : ℕ) → LexStops at rest before number k → LexStops 0 text [] number k
+  pub stops : (r : Refusal) (k : ℕ) → LexStops at rest before r k → LexStops 0 text [] r k
   pub place : at + length rest ≡ length text
 
 pub goes-first : (text : List ℕ) (tokens : List Token) (places : List ℕ) (sizes : Sizes) → tokens ≡ [] → places ≡ [] → sizes.run ≡ 0 → sizes.open ≡ 0 → sizes.nested ≡ 0 → LexGoes text text 0 tokens places sizes
@@ -23,7 +25,7 @@ goes-first text tokens places sizes p q a b c =
       counts = record { run = a; open_braces = b; nested = c };
       within = record { run = omega (arith, a); open_braces = omega (arith, b); nested = omega (arith, c) };
       lexes = subst P (sym p) (subst Q (sym q) (λ ts ks d. d));
-      stops = λ number k d. d;
+      stops = λ r k d. d;
       place = omega arith;
     }
 
@@ -45,7 +47,7 @@ goes-skip text rest next at n tokens places sizes g e h q =
       counts = g.counts;
       within = g.within;
       lexes = λ ts ks d. g.lexes ts ks (lexes_skip e d);
-      stops = λ number k d. g.stops number k (stops_skip e d);
+      stops = λ r k d. g.stops r k (stops_skip e d);
       place = place-after text rest at n g.place h;
     } in
     subst P (sym q) start
@@ -60,13 +62,13 @@ goes-take text rest next at n t tokens moretokens places moreplaces sizes new g 
       counts = counted.0;
       within = c.0;
       lexes = λ ts ks d. rw (p, r, append_assoc, append_assoc) (g.lexes (t ∷ ts) (at ∷ ks) (lexes_take e counted.1 d));
-      stops = λ number k d. g.stops number k (stops_take e counted.1 d);
+      stops = λ r k d. g.stops r k (stops_take e counted.1 d);
       place = place-after text rest at n g.place h;
     } in
     subst P (sym q) start
 
-pub goes-big : (text rest : List ℕ) (at n : ℕ) (t : Token) (tokens : List Token) (places : List ℕ) (sizes : Sizes) → LexGoes text rest at tokens places sizes → IsStep at rest (Take t n) → Oversize sizes t → LexStops 0 text [] 5 at
-goes-big text rest at n t tokens places sizes g e h = g.stops 5 at (stops_size e (h g.before g.counts))
+pub goes-big : (text rest : List ℕ) (at n : ℕ) (t : Token) (tokens : List Token) (places : List ℕ) (sizes : Sizes) → LexGoes text rest at tokens places sizes → IsStep at rest (Take t n) → Oversize sizes t → LexStops 0 text [] BadSize at
+goes-big text rest at n t tokens places sizes g e h = g.stops BadSize at (stops_size e (h g.before g.counts))
 
-pub goes-stop : (text rest : List ℕ) (at number k : ℕ) (tokens : List Token) (places : List ℕ) (sizes : Sizes) → LexGoes text rest at tokens places sizes → IsStep at rest (Stop number k) → LexStops 0 text [] number (at + k)
-goes-stop text rest at number k tokens places sizes g e = g.stops number (at + k) (stops_here e)
+pub goes-stop : (text rest : List ℕ) (at k : ℕ) (r : Refusal) (tokens : List Token) (places : List ℕ) (sizes : Sizes) → LexGoes text rest at tokens places sizes → IsStep at rest (Stop r k) → LexStops 0 text [] r (at + k)
+goes-stop text rest at k r tokens places sizes g e = g.stops r (at + k) (stops_here e)

@@ -10,7 +10,9 @@ use Rattle.c_tokens.specs.declared.lex.Step.{Step}
 use Rattle.c_tokens.specs.declared.lex.Step.TheVariants.{Done, Skip, Take, Stop}
 use Rattle.c_tokens.specs.declared.lex.Sizes.{Sizes}
 use Rattle.c_tokens.specs.declared.lex.LexFault.{LexFault}
-use Rattle.c_tokens.specs.declared.lex.LexFault.TheVariants.{Refusal, NoMemory}
+use Rattle.c_tokens.specs.declared.lex.LexFault.TheVariants.{Refused as RefusedAt, NoMemory}
+use Rattle.c_tokens.specs.declared.lex.Refusal.{Refusal}
+use Rattle.c_tokens.specs.declared.lex.Refusal.TheVariants.{BadToken, BadConstant, BadSize}
 use Rattle.c_tokens.specs.Lexing.{lexeme_of}
 
 -- the lexeme has bytes, and no more than there are
@@ -31,13 +33,13 @@ step_of at (Word n) = Take (Name (record { at = at; length = n })) n
 step_of at (Numeral v n) = Take (Constant v) n
 step_of at (Sign m n) = Take (The m) n
 step_of at (Leap w n) = Take (Jump w at) n
-step_of at (Refused k) = Stop 2 k
-step_of at NoConstant = Stop 4 0
+step_of at (Refused k) = Stop BadToken k
+step_of at NoConstant = Stop BadConstant 0
 
 abbrev pub StepFits : Step → ℕ → Type 0
 StepFits (Skip k) n = (0 < k) × (k ≤ n)
 StepFits (Take t k) n = (0 < k) × (k ≤ n)
-StepFits (Stop number k) n = k ≤ n
+StepFits (Stop r k) n = k ≤ n
 StepFits Done n = Unit {0}
 
 -- the last tokens come first in these lists
@@ -95,16 +97,16 @@ pub data Lexes : ℕ → List ℕ → List Token → List Token → List ℕ →
   lexes_take : {at n : ℕ} {bs places : List ℕ} {before tokens : List Token} {t : Token} → IsStep at bs (Take t n) → is_oversize (t ∷ before) ≡ false →
       Lexes (at + n) (drop n bs) (t ∷ before) tokens places → Lexes at bs before (t ∷ tokens) (at ∷ places)
 
--- the first fault of the tokens: its number, and where it is
-pub data LexStops : ℕ → List ℕ → List Token → ℕ → ℕ → Type 0 where
-  stops_here : {at number k : ℕ} {bs : List ℕ} {before : List Token} → IsStep at bs (Stop number k) → LexStops at bs before number (at + k)
-  stops_size : {at n : ℕ} {bs : List ℕ} {before : List Token} {t : Token} → IsStep at bs (Take t n) → is_oversize (t ∷ before) ≡ true → LexStops at bs before 5 at
-  stops_skip : {at n number k : ℕ} {bs : List ℕ} {before : List Token} → IsStep at bs (Skip n) → LexStops (at + n) (drop n bs) before number k → LexStops at bs before number k
-  stops_take : {at n number k : ℕ} {bs : List ℕ} {before : List Token} {t : Token} → IsStep at bs (Take t n) → is_oversize (t ∷ before) ≡ false →
-      LexStops (at + n) (drop n bs) (t ∷ before) number k → LexStops at bs before number k
+-- the first refusal, and where it is
+pub data LexStops : ℕ → List ℕ → List Token → Refusal → ℕ → Type 0 where
+  stops_here : {at k : ℕ} {r : Refusal} {bs : List ℕ} {before : List Token} → IsStep at bs (Stop r k) → LexStops at bs before r (at + k)
+  stops_size : {at n : ℕ} {bs : List ℕ} {before : List Token} {t : Token} → IsStep at bs (Take t n) → is_oversize (t ∷ before) ≡ true → LexStops at bs before BadSize at
+  stops_skip : {at n k : ℕ} {r : Refusal} {bs : List ℕ} {before : List Token} → IsStep at bs (Skip n) → LexStops (at + n) (drop n bs) before r k → LexStops at bs before r k
+  stops_take : {at n k : ℕ} {r : Refusal} {bs : List ℕ} {before : List Token} {t : Token} → IsStep at bs (Take t n) → is_oversize (t ∷ before) ≡ false →
+      LexStops (at + n) (drop n bs) (t ∷ before) r k → LexStops at bs before r k
 
 abbrev pub IsLexFault : List ℕ → LexFault → Type 0
-IsLexFault text (Refusal number k) = LexStops 0 text [] number k
+IsLexFault text (RefusedAt r k) = LexStops 0 text [] r k
 IsLexFault text NoMemory = Unit {0}
 
 -- the counts of some tokens, which keep within the sizes

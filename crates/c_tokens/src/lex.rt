@@ -28,7 +28,7 @@ pub enum Step {
     Done,
     Skip(usize),
     Take(Token, usize),
-    Stop(u8, usize),
+    Stop(Refusal, usize),
 }
 
 /// How many tokens there are since the last `;`, `{` or `}`, open braces, and tokens `else` and `for` since no brace was open.
@@ -39,9 +39,18 @@ pub struct Sizes {
     pub nested: usize,
 }
 
+/// Why the bytes at a place are refused: they begin no token, they are no constant, or their token goes past a size.
+#[derive(Clone, Copy, PartialEq, Eq)]
+pub enum Refusal {
+    BadToken,
+    BadConstant,
+    BadSize,
+}
+
+/// Why a text has no tokens: the first refusal and its offset, or want of memory.
 #[derive(Clone, Copy)]
 pub enum LexFault {
-    Refusal(u8, usize),
+    Refused(Refusal, usize),
     NoMemory,
 }
 
@@ -339,8 +348,8 @@ fn step_at(at: usize, lexeme: Lexeme) -> Step
         Lexeme::Numeral(literal, n) => Step::Take(Token::Constant(literal), n),
         Lexeme::Sign(mark, n) => Step::Take(Token::The(mark), n),
         Lexeme::Leap(word, n) => Step::Take(Token::Jump(word, at), n),
-        Lexeme::Refused(k) => Step::Stop(2, k),
-        Lexeme::NoConstant => Step::Stop(4, 0),
+        Lexeme::Refused(k) => Step::Stop(Refusal::BadToken, k),
+        Lexeme::NoConstant => Step::Stop(Refusal::BadConstant, 0),
     }
 }
 /// What stands at the front.
@@ -398,7 +407,7 @@ pub fn lex(alloc: Global, text: &[u8]) -> Result<(Vec<Token>, Vec<usize>), LexFa
                 at += n;
             }
             Step::Take(token, n) => match count(sizes, token) {
-                None => return Err(LexFault::Refusal(5, at)),
+                None => return Err(LexFault::Refused(Refusal::BadSize, at)),
                 Some(new) => {
                     tokens.push(token)?;
                     places.push(at)?;
@@ -407,7 +416,7 @@ pub fn lex(alloc: Global, text: &[u8]) -> Result<(Vec<Token>, Vec<usize>), LexFa
                     at += n;
                 }
             },
-            Step::Stop(number, k) => return Err(LexFault::Refusal(number, at + k)),
+            Step::Stop(why, k) => return Err(LexFault::Refused(why, at + k)),
         }
     }
 }
