@@ -1,5 +1,5 @@
 -- Which program a text spells, and why it is refused.
-use Rattle.std.specs.Prelude.{◌≡◌, ◌<◌, ◌≤◌, ℕ, List, [], ◌∷◌, length, Bool, true, false, nat_eq, nat_le, nat_lt, ◌&&◌, ◌||◌, if◌then◌else◌, slice_index}
+use Rattle.std.specs.Prelude.{◌≡◌, ◌<◌, ◌≤◌, ℕ, List, [], ◌∷◌, length, Bool, true, false, nat_eq, nat_le, nat_lt, ◌&&◌, ◌||◌, if◌then◌else◌, slice_index, take, drop}
 use Rattle.c_tokens.specs.declared.token.Token.{Token}
 use Rattle.c_tokens.specs.declared.lex.Refusal.{Refusal}
 use Rattle.c_tokens.specs.declared.lex.Refusal.TheVariants.{BadToken, BadConstant, BadSize}
@@ -49,6 +49,10 @@ pub data IsTextFault (text : List ℕ) : FaultKind → ℕ → Type 0 where
   no_memory : IsTextFault text NoMemory (length text)
 
 -- the number that messages show
+-- the spelling of a name: its bytes in the text
+abbrev pub spelling_of : List ℕ → ℕ → ℕ → List ℕ
+spelling_of text at n = take n (drop at text)
+
 abbrev pub number_of : FaultKind → ℕ
 number_of Byte = 1
 number_of TokenFault = 2

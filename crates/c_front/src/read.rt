@@ -1,6 +1,7 @@
-ghost use Rattle.std.specs.Prelude.{◌≡◌, ◌<◌, ◌≤◌, length, IfOk, IfErr, IfSome, IfNone};
+ghost use Rattle.std.specs.Prelude.{◌≡◌, ℕ, List, length, IfOk, IfErr, IfSome, IfNone};
 ghost use Rattle.c_front.specs.Shape.{declarations_of};
-ghost use Rattle.c_front.specs.Texts.{SpellsText, IsTextFault, is_text, IsBadByte, AllText, place_or, refusal_kind, number_of};
+ghost use Rattle.c_front.specs.Texts.{SpellsText, IsTextFault, is_text, IsBadByte, AllText, place_or, refusal_kind, number_of, spelling_of};
+ghost use Rattle.c_front.specs.Tree.{Declaration};
 ghost use Rattle.c_front.specs.Faults.{lexical_fault, syntactic_fault};
 
 use c_tokens::lex::{lex, LexFault, Refusal};
@@ -98,6 +99,17 @@ fn syntactic(fault: Fault, length: usize, places: &[usize]) -> FrontFault
     }
 }
 
+impl Program {
+    /// The bytes of a name in the program's text.
+    pub fn spelling(&self, name: Identifier) -> &[u8]
+        ensures { result.now ≡ spelling_of self.now.text.items name.at name.length }
+    {
+        let text = self.text.as_slice();
+        let after = if name.at < text.len() { &text[name.at..] } else { &text[text.len()..] };
+        if name.length < after.len() { &after[..name.length] } else { after }
+    }
+}
+
 /// The program that a text spells (C99 6.4 to 6.9, in the profile of `specs/Grammar.antt`), or why it is refused:
 /// first its length is tested, then its bytes, then its tokens with their constants and sizes, then their order.
 pub fn read(alloc: Global, text: &[u8]) -> Result<Program, FrontFault>
@@ -121,4 +133,10 @@ pub fn read(alloc: Global, text: &[u8]) -> Result<Program, FrontFault>
             Err(fault) => Err(syntactic(fault, text.len(), &places)),
         },
     }
+}
+
+/// A text spells one program at most.
+pub fn one_reading()
+    ensures { (text : List ℕ) (p q : List Declaration) → SpellsText text p → SpellsText text q → p ≡ q }
+{
 }

@@ -3,3 +3,5 @@ pub mod Fitting
 pub mod Going
 pub mod Fronts
 pub mod Constants
+pub mod Finding
+pub mod Once

@@ -1,4 +1,5 @@
 pub mod Lexing
+pub mod Pieces
 pub mod Texts
 pub mod Spellings
 pub mod Keywords

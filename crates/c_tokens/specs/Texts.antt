@@ -13,7 +13,7 @@ use Rattle.c_tokens.specs.declared.lex.LexFault.{LexFault}
 use Rattle.c_tokens.specs.declared.lex.LexFault.TheVariants.{Refused as RefusedAt, NoMemory}
 use Rattle.c_tokens.specs.declared.lex.Refusal.{Refusal}
 use Rattle.c_tokens.specs.declared.lex.Refusal.TheVariants.{BadToken, BadConstant, BadSize}
-use Rattle.c_tokens.specs.Lexing.{lexeme_of}
+use Rattle.c_tokens.specs.Pieces.{IsNext}
 
 -- the lexeme has bytes, and no more than there are
 abbrev pub Fits : Lexeme → ℕ → Type 0
@@ -80,10 +80,7 @@ nests_of (t ∷ before) = (if nests t then 1 else 0) + (if nat_eq (open_of befor
 abbrev pub is_oversize : List Token → Bool
 is_oversize tokens = nat_lt 1024 (run_of tokens) || nat_lt 128 (open_of tokens) || nat_lt 512 (nests_of tokens)
 
--- what the lexeme at the front of the bytes is, which stand at `at`
-abbrev pub IsNext : List ℕ → Lexeme → Type 0
-IsNext bs l = l ≡ lexeme_of bs
-
+-- what to do at a place: the step of what stands at the front of the bytes from there on
 pub record IsStep (at : ℕ) (bs : List ℕ) (s : Step) : Type 0 where
   pub lexeme : Lexeme
   pub next : IsNext bs lexeme

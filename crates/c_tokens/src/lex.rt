@@ -1,5 +1,6 @@
-ghost use Rattle.std.specs.Prelude.{◌≡◌, ◌+◌, ◌<◌, ◌≤◌, ◌++◌, [], ◌∷◌, length, IfOk, IfErr, IfSome, IfNone, ◌^◌, drop, take, false, Some, None, map};
+ghost use Rattle.std.specs.Prelude.{◌≡◌, ◌+◌, ◌<◌, ◌≤◌, ◌++◌, [], ◌∷◌, length, IfOk, IfErr, IfSome, IfNone, ◌^◌, drop, take, List, ℕ, false, Some, None, map};
 ghost use Rattle.c_tokens.specs.Lexing.{lexeme_of, word_lexeme, keyword_lexeme, kind_of, keywords, word_length, constant_lexeme, digit_of, digits_of, up_to, is_suffix, plain_of, digits_in, last_or, greatest_of, run_length, comment_lexeme, comment_length, line_lexeme, line_length, sign_lexeme, longest, signs};
+ghost use Rattle.c_tokens.specs.declared.token.Token.{Token};
 ghost use Rattle.c_tokens.specs.Keywords.{keyword_of};
 ghost use Rattle.c_tokens.specs.Texts.{Lexes, IsStep, Fits, StepFits, step_of, IsLexFault, Within, Counted, Oversize};
 
@@ -419,4 +420,10 @@ pub fn lex(alloc: Global, text: &[u8]) -> Result<(Vec<Token>, Vec<usize>), LexFa
             Step::Stop(why, k) => return Err(LexFault::Refused(why, at + k)),
         }
     }
+}
+
+/// A text has one list of tokens at most, at one list of places.
+pub fn one_lexing()
+    ensures { (text : List ℕ) (ts us : List Token) (ks js : List ℕ) → Lexes 0 text [] ts ks → Lexes 0 text [] us js → (ts ≡ us) × (ks ≡ js) }
+{
 }
