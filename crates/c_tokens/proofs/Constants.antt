@@ -3,7 +3,8 @@ use Rattle.std.proofs.Common.{◌≡◌, ◌<◌, ◌-◌, ◌+◌, ℕ, suc, Li
 use Rattle.c_tokens.specs.declared.lex.Lexeme.{Lexeme}
 use Rattle.c_tokens.specs.declared.lex.Lexeme.TheVariants.{Numeral, NoConstant}
 use Rattle.c_tokens.specs.declared.token.Kind.{Kind}
-use Rattle.c_tokens.specs.Lexing.{up_to, within_limit, kind_of, last_or, constant_lexeme, greatest_of, plain_of, digits_in, run_length, goes_on, is_exponent}
+use Rattle.c_tokens.specs.Lexing.{up_to, within_limit, kind_of, last_or, constant_lexeme, greatest_of, plain_of, digits_in, goes_on, is_exponent}
+use Rattle.c_tokens.specs.Fronts.{run_length}
 use Rattle.c_tokens.specs.Texts.{Fits}
 
 pub within-some : (run : List ℕ) (limit v : ℕ) (x : Option ℕ) → Some v ≡ up_to limit x → Numeral (record { value = v; kind = kind_of run v }) (length run) ≡ within_limit run limit x

@@ -4,7 +4,8 @@ use Rattle.std.proofs.Common.{◌+◌, ◌-◌, ◌≡◌, ◌≢◌, ◌<◌, �
 use Rattle.c_tokens.specs.declared.token.Mark.{Mark}
 use Rattle.c_tokens.specs.declared.lex.Lexeme.{Lexeme}
 use Rattle.c_tokens.specs.declared.lex.Lexeme.TheVariants.{End, Separator, Sign, Refused}
-use Rattle.c_tokens.specs.Lexing.{is_space, is_letter, is_digit, is_word, goes_on, is_exponent, is_front, same_bytes, signs, keywords, word_lexeme, constant_lexeme, comment_length, escape_at, one_more, word_length, run_length, line_length, longest, longer, sign_lexeme, comment_lexeme, line_lexeme, lexeme_of, word_at, constant_at, comment_at, line_at, sign_at}
+use Rattle.c_tokens.specs.Lexing.{is_space, is_letter, is_digit, is_word, goes_on, is_exponent, is_front, same_bytes, signs, keywords, word_lexeme, constant_lexeme, comment_length, escape_at, one_more}
+use Rattle.c_tokens.specs.Fronts.{word_length, run_length, line_length, longest, longer, sign_lexeme, comment_lexeme, line_lexeme, lexeme_of, word_at, constant_at, comment_at, line_at, sign_at}
 use Rattle.c_tokens.specs.Pieces.{IsWord, word_end, word_more, IsRun, run_end, run_more, IsLine, line_end, line_more, IsOpen, open_end, open_more, IsClosed, closed_here, closed_later, spelled, IsPiece, a_byte, a_word, a_number, an_operator, a_line, a_comment, an_open_comment, IsLongest, comment_meaning, closed_meaning, operator_meaning, or_operator, or_line, or_comment, or_number, or_word, meaning_of, IsNext, at_end, at_piece}
 
 true-false : {x : Bool} → x ≡ true → x ≡ false → ⊥

@@ -9,7 +9,8 @@ use Rattle.c_tokens.specs.declared.sign.Entry.{Entry}
 use Rattle.c_tokens.specs.declared.lex.Lexeme.TheVariants.{Word, Sign, Leap, Refused}
 use Rattle.c_tokens.specs.declared.lex.Reserved.{Reserved}
 use Rattle.c_tokens.specs.declared.lex.Reserved.TheVariants.{Marked, Jumping, Unused}
-use Rattle.c_tokens.specs.Lexing.{is_front, longer, longest, same_bytes, word_lexeme, keyword_lexeme, word_length, is_word, run_length, goes_on, is_exponent, digit_of, digits_of, up_to}
+use Rattle.c_tokens.specs.Lexing.{is_front, same_bytes, word_lexeme, keyword_lexeme, is_word, goes_on, is_exponent, digit_of, digits_of, up_to}
+use Rattle.c_tokens.specs.Fronts.{longer, longest, word_length, run_length}
 use Rattle.c_tokens.specs.Spellings.{bytes_of, entry_of, shown}
 use Rattle.c_tokens.specs.Texts.{Fits}
 

@@ -2,7 +2,8 @@
 use Rattle.std.proofs.Common.{◌≡◌, ℕ, List, [], ◌∷◌, length, drop, take, Bool, true, false, refl, sym, ap, subst, ◌∙◌, if◌then◌else◌}
 use Rattle.c_tokens.specs.declared.lex.Lexeme.{Lexeme}
 use Rattle.c_tokens.specs.declared.lex.Lexeme.TheVariants.{End, Separator}
-use Rattle.c_tokens.specs.Lexing.{is_space, is_letter, is_digit, is_front, word_lexeme, keywords, word_length, constant_lexeme, run_length, comment_lexeme, comment_length, line_lexeme, line_length, sign_lexeme, longest, signs, sign_at, line_at, comment_at, constant_at, word_at, lexeme_of}
+use Rattle.c_tokens.specs.Lexing.{is_space, is_letter, is_digit, is_front, word_lexeme, keywords, constant_lexeme, comment_length, signs}
+use Rattle.c_tokens.specs.Fronts.{word_length, run_length, comment_lexeme, line_lexeme, line_length, sign_lexeme, longest, sign_at, line_at, comment_at, constant_at, word_at, lexeme_of}
 
 module _ (text bs : List ℕ) (b : ℕ) (e : text ≡ b ∷ bs) where
   at-front : lexeme_of text ≡ lexeme_of (b ∷ bs)

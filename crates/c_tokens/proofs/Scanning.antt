@@ -1,6 +1,7 @@
 -- Places within a scan of some bytes.
 use Rattle.std.proofs.Common.{◌≡◌, ◌≢◌, ◌<◌, ◌≤◌, ◌+◌, ℕ, suc, zero, List, [], ◌∷◌, length, Bool, true, false, Option, Some, None, refl, sym, ap, subst, ◌∙◌, arith, if◌then◌else◌, nat_eq, ◌&&◌, ◌||◌, add-one}
-use Rattle.c_tokens.specs.Lexing.{is_word, word_length, goes_on, is_exponent, run_length, is_front, one_more, comment_length, line_length, escape_at}
+use Rattle.c_tokens.specs.Lexing.{is_word, goes_on, is_exponent, is_front, one_more, comment_length, escape_at}
+use Rattle.c_tokens.specs.Fronts.{word_length, run_length, line_length}
 
 pub record Words (text rest : List ℕ) (n : ℕ) : Type 0 where
   pub resumes : word_length text ≡ n + word_length rest

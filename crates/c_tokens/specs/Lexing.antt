@@ -1,4 +1,4 @@
--- The token at the front of some bytes, by longest match.
+-- The classes of bytes, the tables of operators and keywords, and the constants (C99 6.4.1, 6.4.4.1, 6.4.6).
 use Rattle.std.specs.Prelude.{◌≡◌, ◌+◌, ◌*◌, ◌-◌, ◌<◌, ◌≤◌, ℕ, suc, zero, List, [], ◌∷◌, length, drop, take, Bool, true, false, nat_eq, nat_le, nat_lt, ◌&&◌, ◌||◌, not, if◌then◌else◌, Option, Some, None, codes}
 use Rattle.c_tokens.specs.declared.token.Kind.{Kind}
 use Rattle.c_tokens.specs.declared.token.Kind.TheVariants.{SignedInt, UnsignedInt}
@@ -30,14 +30,6 @@ is_exponent b = nat_eq b 101 || nat_eq b 69 || nat_eq b 112 || nat_eq b 80
 abbrev pub goes_on : Bool → ℕ → Bool
 goes_on after_exponent b = is_word b || nat_eq b 46 || (after_exponent && (nat_eq b 43 || nat_eq b 45))
 
-abbrev pub word_length : List ℕ → ℕ
-word_length [] = 0
-word_length (b ∷ bs) = if is_word b then suc (word_length bs) else 0
-
-abbrev pub run_length : Bool → List ℕ → ℕ
-run_length after_exponent [] = 0
-run_length after_exponent (b ∷ bs) = if goes_on after_exponent b then suc (run_length (is_exponent b) bs) else 0
-
 abbrev pub is_front : List ℕ → List ℕ → Bool
 is_front [] bs = true
 is_front (a ∷ more) [] = false
@@ -51,11 +43,6 @@ one_more (Some n) = Some (suc n)
 abbrev pub comment_length : List ℕ → Option ℕ
 comment_length [] = None
 comment_length (b ∷ bs) = if is_front (42 ∷ 47 ∷ []) (b ∷ bs) then Some 2 else one_more (comment_length bs)
-
--- how far it is to the next line feed, or the end
-abbrev pub line_length : List ℕ → ℕ
-line_length [] = 0
-line_length (b ∷ bs) = if nat_eq b 10 then 0 else suc (line_length bs)
 
 -- where the first backslash stands, or the first two question marks in a row
 abbrev pub escape_at : List ℕ → Option ℕ
@@ -74,19 +61,6 @@ signs =
     (codes "++", None) ∷ (codes "--", None) ∷ (codes "+=", None) ∷ (codes "-=", None) ∷ (codes "*=", None) ∷ (codes "/=", None) ∷ (codes "%=", None) ∷
     (codes "<<=", None) ∷ (codes ">>=", None) ∷ (codes "&=", None) ∷ (codes "|=", None) ∷ (codes "^=", None) ∷ (codes "->", None) ∷ (codes ".", None) ∷
     (codes "...", None) ∷ (codes "#", None) ∷ (codes "##", None) ∷ (codes "??", None) ∷ []
-
-abbrev pub longer : List ℕ × Option Mark → Option (List ℕ × Option Mark) → List ℕ × Option Mark
-longer e None = e
-longer e (Some f) = if nat_lt (length e.0) (length f.0) then f else e
-
--- the longest spelling that the bytes begin with
-abbrev pub longest : List (List ℕ × Option Mark) → List ℕ → Option (List ℕ × Option Mark)
-longest [] bs = None
-longest (e ∷ es) bs = if is_front e.0 bs then Some (longer e (longest es bs)) else longest es bs
-
-abbrev pub sign_lexeme : Option (List ℕ × Option Mark) → Lexeme
-sign_lexeme None = Refused 0
-sign_lexeme (Some e) = elim e.1 [ None ↦ Refused 0 | Some m ↦ Sign m (length e.0) ]
 
 -- the 37 keywords of C99; those that are not in use are refused
 abbrev pub keywords : List (List ℕ × Reserved)
@@ -162,31 +136,3 @@ digits_in run = if is_suffix (last_or 0 run) then take (length run - 1) run else
 
 abbrev pub constant_lexeme : List ℕ → Lexeme
 constant_lexeme run = within_limit run (greatest_of run) (plain_of (digits_in run))
-
-abbrev pub comment_lexeme : Option ℕ → List ℕ → Lexeme
-comment_lexeme None bs = Refused 0
-comment_lexeme (Some n) bs = elim (escape_at (take n bs)) [ None ↦ Separator (n + 2) | Some k ↦ Refused (k + 2) ]
-
-abbrev pub line_lexeme : ℕ → List ℕ → Lexeme
-line_lexeme n bs = elim (escape_at (take n bs)) [ None ↦ Separator (n + 2) | Some k ↦ Refused (k + 2) ]
-
--- what stands at the front of the bytes, where no white space and no word does, or also no number, or also no comment
-abbrev pub sign_at : ℕ → List ℕ → Lexeme
-sign_at b bs = sign_lexeme (longest signs (b ∷ bs))
-
-abbrev pub line_at : ℕ → List ℕ → Lexeme
-line_at b bs = if is_front (47 ∷ 47 ∷ []) (b ∷ bs) then line_lexeme (line_length (drop 1 bs)) (drop 1 bs) else sign_at b bs
-
-abbrev pub comment_at : ℕ → List ℕ → Lexeme
-comment_at b bs = if is_front (47 ∷ 42 ∷ []) (b ∷ bs) then comment_lexeme (comment_length (drop 1 bs)) (drop 1 bs) else line_at b bs
-
-abbrev pub constant_at : ℕ → List ℕ → Lexeme
-constant_at b bs = if is_digit b then constant_lexeme (take (run_length false (b ∷ bs)) (b ∷ bs)) else comment_at b bs
-
-abbrev pub word_at : ℕ → List ℕ → Lexeme
-word_at b bs = if is_letter b then word_lexeme keywords (take (word_length (b ∷ bs)) (b ∷ bs)) else constant_at b bs
-
--- what stands at the front of the bytes
-abbrev pub lexeme_of : List ℕ → Lexeme
-lexeme_of [] = End
-lexeme_of (b ∷ bs) = if is_space b then Separator 1 else word_at b bs

@@ -1,5 +1,6 @@
 ghost use Rattle.std.specs.Prelude.{◌≡◌, ◌+◌, ◌<◌, ◌≤◌, ◌++◌, [], ◌∷◌, length, IfOk, IfErr, IfSome, IfNone, ◌^◌, drop, take, List, ℕ, false, Some, None, map};
-ghost use Rattle.c_tokens.specs.Lexing.{lexeme_of, word_lexeme, keyword_lexeme, kind_of, keywords, word_length, constant_lexeme, digit_of, digits_of, up_to, is_suffix, plain_of, digits_in, last_or, greatest_of, run_length, comment_lexeme, comment_length, line_lexeme, line_length, sign_lexeme, longest, signs};
+ghost use Rattle.c_tokens.specs.Lexing.{word_lexeme, keyword_lexeme, kind_of, keywords, constant_lexeme, digit_of, digits_of, up_to, is_suffix, plain_of, digits_in, last_or, greatest_of, comment_length, signs};
+ghost use Rattle.c_tokens.specs.Fronts.{lexeme_of, word_length, run_length, comment_lexeme, line_lexeme, line_length, sign_lexeme, longest};
 ghost use Rattle.c_tokens.specs.declared.token.Token.{Token};
 ghost use Rattle.c_tokens.specs.Keywords.{keyword_of};
 ghost use Rattle.c_tokens.specs.Texts.{Lexes, IsStep, Fits, StepFits, step_of, IsLexFault, Within, Counted, Oversize};
@@ -307,6 +308,7 @@ fn count(sizes: Sizes, token: Token) -> Option<Sizes>
     ensures some { IfSome result (λ new. Counted sizes token new) }
 {
     let nested = if sizes.open == 0 { 0 } else { sizes.nested };
+    let is_full = sizes.run == 1024;
     match token {
         Token::The(mark) => match mark {
             Mark::Semicolon => Some(Sizes { run: 0, open: sizes.open, nested }),
@@ -318,20 +320,20 @@ fn count(sizes: Sizes, token: Token) -> Option<Sizes>
             }
             Mark::RightBrace => Some(Sizes { run: 0, open: if sizes.open == 0 { 0 } else { sizes.open - 1 }, nested }),
             Mark::Else | Mark::For => {
-                if sizes.run == 1024 || nested == 512 {
+                if is_full || nested == 512 {
                     return None;
                 }
                 Some(Sizes { run: sizes.run + 1, open: sizes.open, nested: nested + 1 })
             }
             _ => {
-                if sizes.run == 1024 {
+                if is_full {
                     return None;
                 }
                 Some(Sizes { run: sizes.run + 1, open: sizes.open, nested })
             }
         },
         _ => {
-            if sizes.run == 1024 {
+            if is_full {
                 return None;
             }
             Some(Sizes { run: sizes.run + 1, open: sizes.open, nested })

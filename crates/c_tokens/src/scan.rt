@@ -1,5 +1,6 @@
 ghost use Rattle.std.specs.Prelude.{◌≡◌, ◌∷◌, [], false, ◌<◌, ◌≤◌, length, drop, IfNone, IfSome};
-ghost use Rattle.c_tokens.specs.Lexing.{word_length, run_length, goes_on, is_word, is_exponent, is_space, is_letter, is_digit, comment_length, line_length, escape_at, is_front, same_bytes};
+ghost use Rattle.c_tokens.specs.Lexing.{goes_on, is_word, is_exponent, is_space, is_letter, is_digit, comment_length, escape_at, is_front, same_bytes};
+ghost use Rattle.c_tokens.specs.Fronts.{word_length, run_length, line_length};
 
 pub fn is_space(byte: u8) -> bool
     ensures { result ≡ is_space byte }

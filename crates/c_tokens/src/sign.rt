@@ -1,5 +1,6 @@
 ghost use Rattle.std.specs.Prelude.{◌≡◌, ◌<◌, ◌≤◌, length, map, Some};
-ghost use Rattle.c_tokens.specs.Lexing.{is_front, longest, longer, signs, sign_lexeme};
+ghost use Rattle.c_tokens.specs.Lexing.{is_front, signs};
+ghost use Rattle.c_tokens.specs.Fronts.{longest, longer, sign_lexeme};
 ghost use Rattle.c_tokens.specs.Spellings.{bytes_of, entry_of, shown};
 ghost use Rattle.c_tokens.specs.Texts.{Fits};
 

@@ -1,5 +1,5 @@
 use Rattle.std.proofs.Common.{length, ◌≡◌, ◌≤◌, drop, map}
-use Rattle.c_tokens.specs.Lexing.{longest}
+use Rattle.c_tokens.specs.Fronts.{longest}
 use Rattle.c_tokens.specs.Spellings.{shown, entry_of}
 use Rattle.c_tokens.proofs.sign.longest.Given as goal
 
