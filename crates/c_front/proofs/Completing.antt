@@ -1,24 +1,16 @@
 -- What was read before a derivation got stuck is the beginning of another.
-use Rattle.std.proofs.Common.{◌≤◌, ◌<◌, suc, arith, ◌⊎◌, inl, inr, lit≤, ◌≡◌, ◌≢◌, ℕ, List, [], ◌∷◌, ◌++◌, Option, Some, None, refl, sym, ap, subst, ◌∙◌}
+use Rattle.std.proofs.Common.{◌≤◌, suc, arith, ◌⊎◌, inl, inr, lit≤, ◌≡◌, ◌≢◌, List, [], ◌∷◌, ◌++◌, Option, Some, None, refl, ap, subst, ◌∙◌}
 use Rattle.c_tokens.specs.declared.token.Identifier.{Identifier}
-use Rattle.c_tokens.specs.declared.token.Kind.{Kind}
-use Rattle.c_tokens.specs.declared.token.Kind.TheVariants.{SignedInt, UnsignedInt}
-use Rattle.c_tokens.specs.declared.token.JumpWord.{JumpWord}
-use Rattle.c_tokens.specs.declared.token.JumpWord.TheVariants.{Break, Continue, Return}
+use Rattle.c_tokens.specs.declared.token.Kind.TheVariants.{SignedInt}
 use Rattle.c_tokens.specs.declared.token.Token.{Token}
 use Rattle.c_tokens.specs.declared.token.Token.TheVariants.{Name, Constant, Jump, The}
-use Rattle.c_tokens.specs.declared.token.Mark.{Mark}
-use Rattle.c_tokens.specs.declared.token.Mark.TheVariants.{Int, Unsigned, Void, If, Else, While, For, Semicolon, Comma, LeftBrace, RightBrace, LeftParen, RightParen, LeftBracket, RightBracket, Assign, Question, Colon, Plus, Minus, Star, Slash, Percent, Bang, Tilde, BarBar, AndAnd, Bar, Caret, Ampersand, EqualEqual, BangEqual, Less, Greater, LessEqual, GreaterEqual, LessLess, GreaterGreater}
-use Rattle.c_front.specs.declared.tree.UnaryOp.{UnaryOp}
-use Rattle.c_front.specs.declared.tree.UnaryOp.TheVariants.{Negate, Identity, Complement, Not}
-use Rattle.c_front.specs.declared.tree.BinaryOp.{BinaryOp}
-use Rattle.c_front.specs.declared.tree.BinaryOp.TheVariants.{Multiply, Divide, Remainder, Add, Subtract, ShiftLeft, ShiftRight, Below, Exceeds, AtMost, AtLeast, Same, Differs, BitAnd, BitXor, BitOr, Both, Either}
-use Rattle.c_front.specs.Grammar.{Sort, a_name, a_constant, a_jump, the, Level, units, above, products, sums, shifts, relations, equalities, bit_ands, bit_xors, bit_ors, ands, ors, Nonterminal, a_program, declarations, a_declaration, a_type, maybe_int, after_global, initial, function_rest, parameters, more_parameters, items, an_item, declared, a_statement, else_part, maybe_simple, maybe_expression, simple, value, a_call, arguments, more_arguments, an_expression, choice, operands, more_operands, Symbol, T, N, Tail, variable_tail, array_tail, function_tail, Meaning, SortMeaning, SymbolMeaning, Meanings, Operator, multiply, divide, remainder, add, subtract, shift_left, shift_right, below, exceeds, at_most, at_least, same, differs, bit_and, bit_xor, bit_or, both, either, Prefix, negate, identity, complement, not, Rule, program_rule, declarations_end, declarations_more, declaration_typed, declaration_void, type_int, type_unsigned, int_none, int_some, global_plain, global_initial, global_array, global_function, initial_plain, initial_negative, function_rule, parameters_void, parameters_some, more_parameters_end, more_parameters_more, items_end, items_more, item_declare, item_statement, declared_none, declared_some, statement_empty, statement_block, statement_if, statement_while, statement_for, statement_break, statement_continue, statement_return, statement_simple, else_none, else_some, simple_none, simple_some, expression_none, expression_some, simple_assign, simple_assign_at, simple_call, value_plain, value_call, call_rule, arguments_none, arguments_some, more_arguments_end, more_arguments_more, expression_rule, choice_none, choice_some, operands_rule, operands_end, operands_more, operand_constant, operand_name, operand_index, operand_unary, operand_paren, grouped, chosen, branched, operator_meaning, prefix_meaning, declared_as, meaning, first, second, MayPrecede, IsToken, is_name, is_constant, is_jump, is_the, Derives, nothing, token, phrase, Spells}
+use Rattle.c_tokens.specs.declared.token.Mark.TheVariants.{Int, Void, Else, Semicolon, LeftBrace, RightBrace, LeftParen, RightParen, LeftBracket, Assign}
+use Rattle.c_front.specs.Grammar.{Sort, a_name, a_constant, a_jump, the, Level, units, above, ors, Nonterminal, a_program, declarations, a_declaration, a_type, maybe_int, after_global, initial, function_rest, parameters, more_parameters, items, an_item, declared, a_statement, else_part, maybe_simple, maybe_expression, simple, value, a_call, arguments, more_arguments, an_expression, choice, operands, more_operands, Symbol, T, N, SortMeaning, Rule, program_rule, declarations_end, declarations_more, declaration_typed, declaration_void, type_int, type_unsigned, int_none, int_some, global_plain, global_initial, global_array, global_function, initial_plain, initial_negative, function_rule, parameters_void, parameters_some, more_parameters_end, more_parameters_more, items_end, items_more, item_declare, item_statement, declared_none, declared_some, statement_empty, statement_block, statement_if, statement_while, statement_for, statement_break, statement_continue, statement_return, statement_simple, else_none, else_some, simple_none, simple_some, expression_none, expression_some, simple_assign, simple_assign_at, simple_call, value_plain, value_call, call_rule, arguments_none, arguments_some, more_arguments_end, more_arguments_more, expression_rule, choice_none, choice_some, operands_rule, operands_end, operands_more, operand_constant, operand_name, operand_index, operand_unary, operand_paren, first, second, IsToken, is_name, is_constant, is_jump, is_the}
 use Rattle.c_tokens.specs.declared.token.Literal.{Literal}
-use Rattle.c_front.specs.Reading.{Reads, read_nothing, read_token, read_phrase, Stuck, stuck_extra, stuck_token, stuck_past, stuck_phrase, stuck_inside, CanRead, can_read}
-use Rattle.c_front.specs.Choosing.{Choice, operator_at, more_choice, one_choice, simple_choice, value_choice, unit_choice, chosen_rule, Peeks, EndsOperands, EndsChoice, EndsItems, EndsArguments, EndsParameters}
+use Rattle.c_front.specs.Reading.{read_nothing, read_token, read_phrase, CanRead, can_read}
+use Rattle.c_front.specs.Choosing.{Choice, one_choice, chosen_rule, Peeks}
 use Rattle.c_front.proofs.Reading.{StuckAt, at_extra, at_token, at_past, at_phrase, at_inside, ahead, ahead-two, one-token, joined, parted}
-use Rattle.c_front.proofs.Ranks.{rank_of, rank, operator-rank, ends-operands, ends-choice}
+use Rattle.c_front.proofs.Ranks.{rank_of, rank, ends-operands, ends-choice}
 
 -- tokens for each symbol
 abbrev zero_literal : Literal
@@ -266,8 +258,11 @@ name-expression x = only expression_rule refl (then-reads (name-operands ors x [
 -- tokens after the first one, where the second one has a say
 start-from : (n : Nonterminal) (t : Token) → Peeks n (Some t) → (w : List Token) × ((rest : List Token) → MayFollow n (first rest) → CanRead (N n ∷ []) (t ∷ w ++ rest) rest)
 start-from simple (Name x) k = (The Assign ∷ Constant zero_literal ∷ [], λ rest h. only simple_assign refl (token-then is_name (token-then is_the (only value_plain refl (expression-start rest h)))))
-start-from value (Name x) k = ([], λ rest h. only value_plain (name-plain x (first rest) (omega (arith, h)))
-    (only expression_rule refl (then-reads (name-operands ors x rest (omega (arith, h))) (only choice_none (ends-choice (first rest) h) end-reads))))
+start-from value (Name x) k = (
+  [],
+  λ rest h. only value_plain (name-plain x (first rest) (omega (arith, h)))
+      (only expression_rule refl (then-reads (name-operands ors x rest (omega (arith, h))) (only choice_none (ends-choice (first rest) h) end-reads))),
+)
 start-from (operands units) (Name x) k = ([], λ rest h. name-operands units x rest h)
 start-from _ _ k = absurd k
 
@@ -309,7 +304,7 @@ complete (at_inside {n = n} {inner = inner} {symbols = symbols} {p = p} {next = 
     again : (p : List Token) → ((after : Option Token) → chosen_rule n (ahead p next) (ahead-two p next after) ≡ Some (inner, r)) → (w : List Token) → CanRead (inner ++ symbols) (p ++ w) [] → (w : List Token) × CanRead (N n ∷ symbols) (p ++ w) []
     again [] c w d = (_, completion-reads (N n ∷ symbols) f)
     again (t ∷ []) c w (can_read d) = elim (peeks? n (Some t)) [
-      inl k ↦ (let z = start-from n t k in (z.0 ++ completion symbols, then-reads (z.1 (completion symbols) f.0) (completion-reads symbols f.1)))
+      | inl k ↦ (let z = start-from n t k in (z.0 ++ completion symbols, then-reads (z.1 (completion symbols) f.0) (completion-reads symbols f.1)))
       | inr k ↦ (let x = parted inner d in (w, can_read (read_phrase r (one-token n (Some t) (first w) next k ∙ c None) x.3 refl x.4)))
     ]
     again (t ∷ u ∷ p) c w (can_read d) = let x = parted inner d in (w, can_read (read_phrase r (c None) x.3 refl x.4))

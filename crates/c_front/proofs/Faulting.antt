@@ -1,5 +1,5 @@
 -- Faults of bytes and of tokens are faults of the text.
-use Rattle.std.proofs.Common.{◌≡◌, ◌≤◌, ℕ, List, [], length, refl, sym, subst}
+use Rattle.std.proofs.Common.{◌≡◌, ◌≤◌, ℕ, List, [], length, sym, subst}
 use Rattle.c_tokens.specs.declared.token.Token.{Token}
 use Rattle.c_tokens.specs.declared.lex.LexFault.{LexFault}
 use Rattle.c_tokens.specs.declared.lex.LexFault.TheVariants.{Refused, NoMemory}

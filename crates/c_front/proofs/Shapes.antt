@@ -5,7 +5,7 @@ use Rattle.std.specs.declared.alloc.Global.{Global}
 use Rattle.c_front.specs.declared.tree.Item.{Item}
 use Rattle.c_front.specs.declared.tree.Stmt.{Block, Row_of-Item, end_of-Item, more_of-Item, items-the_row-Item, items_hidden-the_row-Item-0}
 use Rattle.c_front.specs.declared.tree.Item.TheBlock.{hidden-the_row-Item-0}
-use Rattle.c_front.specs.Tree.{Items, block, more_items, no_items}
+use Rattle.c_front.specs.Tree.{block, more_items, no_items}
 use Rattle.c_front.specs.Shape.{statement_of, item_of, row_of, items_of}
 use Rattle.c_front.proofs.StatementPaths.{after_items}
 

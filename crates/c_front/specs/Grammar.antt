@@ -1,5 +1,5 @@
 -- The grammar: a rule for each alternative, with the tree that it gives.
-use Rattle.std.specs.Prelude.{◌≡◌, ◌≢◌, ℕ, List, [], ◌∷◌, Option, Some, None, Bool, true, false}
+use Rattle.std.specs.Prelude.{◌≡◌, ◌≢◌, ℕ, List, [], ◌∷◌, Option, Some, None, true, false}
 use Rattle.c_tokens.specs.declared.token.Identifier.{Identifier}
 use Rattle.c_tokens.specs.declared.token.Kind.{Kind}
 use Rattle.c_tokens.specs.declared.token.Kind.TheVariants.{SignedInt, UnsignedInt}
@@ -32,22 +32,31 @@ pub data Level : Type 0 where
 
 abbrev pub products : Level
 products = above units
+
 abbrev pub sums : Level
 sums = above products
+
 abbrev pub shifts : Level
 shifts = above sums
+
 abbrev pub relations : Level
 relations = above shifts
+
 abbrev pub equalities : Level
 equalities = above relations
+
 abbrev pub bit_ands : Level
 bit_ands = above equalities
+
 abbrev pub bit_xors : Level
 bit_xors = above bit_ands
+
 abbrev pub bit_ors : Level
 bit_ors = above bit_xors
+
 abbrev pub ands : Level
 ands = above bit_ors
+
 abbrev pub ors : Level
 ors = above ands
 

@@ -1,5 +1,5 @@
 -- The tree that a value of the program stands for.
-use Rattle.std.specs.Prelude.{ℕ, List, [], ◌∷◌, Option, Some, None}
+use Rattle.std.specs.Prelude.{List, [], ◌∷◌, Option, Some, None}
 use Rattle.c_front.specs.declared.tree.Expr.{Expr, Constant, Name, Index', Unary', Binary', Choose'}
 use Rattle.c_front.specs.declared.tree.Stmt.{Stmt, Empty, Block', If', IfElse', While', For', Break, Continue, Return, Simply, Row_of-Item, end_of-Item, more_of-Item}
 use Rattle.c_front.specs.declared.tree.Item.{Item, Declare, Statement}

@@ -1,5 +1,5 @@
 -- What it means that tokens are, or begin, a program, and where the first wrong token is.
-use Rattle.std.specs.Prelude.{◌≡◌, ◌+◌, ◌<◌, ◌≤◌, ℕ, List, [], ◌∷◌, ◌++◌, take, length}
+use Rattle.std.specs.Prelude.{◌+◌, ◌<◌, ◌≤◌, ℕ, List, ◌++◌, take, length}
 use Rattle.c_tokens.specs.declared.token.Token.{Token}
 use Rattle.c_front.specs.declared.declaration.Fault.{Fault}
 use Rattle.c_front.specs.declared.declaration.Fault.TheVariants.{Wrong, OutOfMemory}

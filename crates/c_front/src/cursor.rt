@@ -1,9 +1,8 @@
 ghost use Rattle.std.specs.Prelude.{◌≡◌, ◌∷◌, [], IfOk, IfErr, IfSome, IfNone};
 ghost use Rattle.c_front.specs.Stop.{IsMissing, StartsWith, StartsWithout, StartsWithName, IsNameMissing, StartsWithConstant, IsConstantMissing, StartsNamed, StartsUnnamed};
 
-use std::alloc::{AllocError, AllocFailed};
-
 use c_tokens::token::{Identifier, Literal, Mark, Token};
+use std::alloc::{AllocError, AllocFailed};
 
 /// Why parsing stopped: the tokens from the first wrong one on, or want of memory.
 #[derive(Drop)]
@@ -14,6 +13,7 @@ pub enum Stop<'a> {
 
 impl<'a, T: Drop> From<AllocFailed<T>> for Stop<'a> {
     ghost use Rattle.c_front.specs.declared.cursor.Stop.TheVariants.{NoMemory};
+
     ghost from_gives = { λ _ r. r ≡ NoMemory };
 
     fn from(_: AllocFailed<T>) -> Self {
@@ -39,7 +39,11 @@ pub fn expect<'a>(tokens: &'a [Token], wanted: Mark) -> Result<&'a [Token], Stop
 {
     match split(tokens) {
         Some((Token::The(mark), rest)) => {
-            if mark == wanted { Ok(rest) } else { Err(Stop::Syntax(tokens)) }
+            if mark == wanted {
+                Ok(rest)
+            } else {
+                Err(Stop::Syntax(tokens))
+            }
         }
         _ => Err(Stop::Syntax(tokens)),
     }
@@ -51,9 +55,7 @@ pub fn starts<'a>(tokens: &'a [Token], wanted: Mark) -> Option<&'a [Token]>
     ensures some { IfSome result (λ after. StartsWith wanted tokens.now after.now) }
 {
     match split(tokens)? {
-        (Token::The(mark), rest) => {
-            if mark == wanted { Some(rest) } else { None }
-        }
+        (Token::The(mark), rest) => { if mark == wanted { Some(rest) } else { None } }
         _ => None,
     }
 }

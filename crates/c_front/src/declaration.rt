@@ -6,13 +6,11 @@ ghost use Rattle.c_front.specs.Syntax.{IsFault};
 ghost use Rattle.c_tokens.specs.declared.token.Token.{Token};
 ghost use Rattle.c_front.specs.Tree as Tree;
 
-use std::alloc::{AllocError, AllocFailed, Global};
-
-use c_tokens::token::{Identifier, Kind, Mark, Token};
-
-use crate::cursor::{expect, literal, name, split, starts, Stop};
+use crate::cursor::{Stop, expect, literal, name, split, starts};
 use crate::statement::{items, kind};
 use crate::tree::{Declaration, FunctionDefinition, Initial, Item, Parameter};
+use c_tokens::token::{Identifier, Kind, Mark, Token};
+use std::alloc::{AllocError, AllocFailed, Global};
 
 /// The first value of a global variable.
 fn initial<'a>(tokens: &'a [Token]) -> Result<(Initial, &'a [Token]), Stop<'a>>
@@ -23,11 +21,23 @@ fn initial<'a>(tokens: &'a [Token]) -> Result<(Initial, &'a [Token]), Stop<'a>>
     match starts(tokens, Mark::Minus) {
         Some(after) => {
             let (found, end) = literal(after)?;
-            Ok((Initial { negative: true, literal: found }, end))
+            Ok((
+                Initial {
+                    negative: true,
+                    literal: found,
+                },
+                end,
+            ))
         }
         None => {
             let (found, end) = literal(tokens)?;
-            Ok((Initial { negative: false, literal: found }, end))
+            Ok((
+                Initial {
+                    negative: false,
+                    literal: found,
+                },
+                end,
+            ))
         }
     }
 }
@@ -46,7 +56,10 @@ fn parameter<'a>(tokens: &'a [Token]) -> Result<(Parameter, &'a [Token]), Stop<'
 }
 
 /// `void`, or the parameters of a function.
-fn parameters<'a>(alloc: Global, tokens: &'a [Token]) -> Result<(Vec<Parameter>, &'a [Token]), Stop<'a>>
+fn parameters<'a>(
+    alloc: Global,
+    tokens: &'a [Token],
+) -> Result<(Vec<Parameter>, &'a [Token]), Stop<'a>>
     ensures ok { IfOk result (λ r. IsRead parameters tokens.now r.1.now r.0.items) }
     ensures shorter { IfOk result (λ r. length r.1.now < length tokens.now) }
     ensures err { IfErr result (IsStuck parameters tokens.now) }
@@ -67,7 +80,10 @@ fn parameters<'a>(alloc: Global, tokens: &'a [Token]) -> Result<(Vec<Parameter>,
 }
 
 /// The parameters and the body of a function.
-fn function_rest<'a>(alloc: Global, tokens: &'a [Token]) -> Result<(Vec<Parameter>, Vec<Item>, &'a [Token]), Stop<'a>>
+fn function_rest<'a>(
+    alloc: Global,
+    tokens: &'a [Token],
+) -> Result<(Vec<Parameter>, Vec<Item>, &'a [Token]), Stop<'a>>
     ensures ok { IfOk result (λ r. IsRead function_rest tokens.now r.2.now (r.0.items, items_of r.1.items)) }
     ensures shorter { IfOk result (λ r. length r.2.now < length tokens.now) }
     ensures err { IfErr result (IsStuck function_rest tokens.now) }
@@ -82,7 +98,12 @@ fn function_rest<'a>(alloc: Global, tokens: &'a [Token]) -> Result<(Vec<Paramete
 }
 
 /// What stands after the type and the name of a declaration.
-fn after_global<'a>(alloc: Global, kind: Kind, name: Identifier, tokens: &'a [Token]) -> Result<(Declaration, &'a [Token]), Stop<'a>>
+fn after_global<'a>(
+    alloc: Global,
+    kind: Kind,
+    name: Identifier,
+    tokens: &'a [Token],
+) -> Result<(Declaration, &'a [Token]), Stop<'a>>
     ensures ok { IfOk result (λ r. IsTailRead kind name tokens.now r.1.now (declaration_of r.0)) }
     ensures shorter { IfOk result (λ r. length r.1.now < length tokens.now) }
     ensures err { IfErr result (IsStuck after_global tokens.now) }
@@ -103,11 +124,22 @@ fn after_global<'a>(alloc: Global, kind: Kind, name: Identifier, tokens: &'a [To
     }
     let (parameters, body, end) = function_rest(alloc, tokens)?;
     let result = Some(kind);
-    Ok((Declaration::Function(FunctionDefinition { result, name, parameters, body }), end))
+    Ok((
+        Declaration::Function(FunctionDefinition {
+            result,
+            name,
+            parameters,
+            body,
+        }),
+        end,
+    ))
 }
 
 /// A declaration at file scope.
-fn declaration<'a>(alloc: Global, tokens: &'a [Token]) -> Result<(Declaration, &'a [Token]), Stop<'a>>
+fn declaration<'a>(
+    alloc: Global,
+    tokens: &'a [Token],
+) -> Result<(Declaration, &'a [Token]), Stop<'a>>
     ensures ok { IfOk result (λ r. IsRead a_declaration tokens.now r.1.now (declaration_of r.0)) }
     ensures shorter { IfOk result (λ r. length r.1.now < length tokens.now) }
     ensures err { IfErr result (IsStuck a_declaration tokens.now) }
@@ -115,7 +147,15 @@ fn declaration<'a>(alloc: Global, tokens: &'a [Token]) -> Result<(Declaration, &
     if let Some(after) = starts(tokens, Mark::Void) {
         let (name, start) = name(after)?;
         let (parameters, body, end) = function_rest(alloc, start)?;
-        return Ok((Declaration::Function(FunctionDefinition { result: None, name, parameters, body }), end));
+        return Ok((
+            Declaration::Function(FunctionDefinition {
+                result: None,
+                name,
+                parameters,
+                body,
+            }),
+            end,
+        ));
     }
     let Some((kind, after)) = kind(tokens) else {
         return Err(Stop::Syntax(tokens));
@@ -163,5 +203,4 @@ pub fn parse(alloc: Global, tokens: &[Token]) -> Result<Vec<Declaration>, Fault>
 /// The tokens spell at most one program.
 pub fn one_program()
     ensures { (ts : List Token) (p q : List Tree.Declaration) → Spells ts p → Spells ts q → p ≡ q }
-{
-}
+{}

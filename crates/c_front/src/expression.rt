@@ -5,12 +5,10 @@ ghost use Rattle.c_front.specs.Shape.{expression_of, expressions_of, value_of};
 ghost use Rattle.c_front.specs.Stop.{IsRead, IsStuck, level_of, StartsWithOperator, EndsUpTo, EndsBelow, IsChoiceRead, IsChoiceStuck, IsNoPrefix, IsClosedRead, IsClosedStuck, IsArgumentsRead, IsArgumentsStuck, StartsCall, StartsNoCall};
 ghost use Rattle.c_tokens.specs.declared.token.Token.TheVariants.{The};
 
-use std::alloc::{AllocError, AllocFailed, Global};
-
-use c_tokens::token::{Identifier, Mark, Token};
-
-use crate::cursor::{expect, split, starts, Stop};
+use crate::cursor::{Stop, expect, split, starts};
 use crate::tree::{BinaryOp, Call, Expr, UnaryOp, Value};
+use c_tokens::token::{Identifier, Mark, Token};
+use std::alloc::{AllocError, AllocFailed, Global};
 
 /// The operator that a token is, and the level of its operands.
 fn operator_of(mark: Mark) -> Option<(usize, BinaryOp)>
@@ -79,7 +77,10 @@ pub fn expression<'a>(alloc: Global, tokens: &'a [Token]) -> Result<(Expr, &'a [
     match starts(rest, Mark::Question) {
         Some(after) => {
             let (first, second, end) = choice(alloc, after)?;
-            Ok((Expr::Choose(Box::new(alloc, condition)?, first, second), end))
+            Ok((
+                Expr::Choose(Box::new(alloc, condition)?, first, second),
+                end,
+            ))
         }
         None => Ok((condition, rest)),
     }
@@ -87,7 +88,10 @@ pub fn expression<'a>(alloc: Global, tokens: &'a [Token]) -> Result<(Expr, &'a [
 
 /// The two expressions of a choice, after its question mark.
 #[cycle(expressions)]
-fn choice<'a>(alloc: Global, tokens: &'a [Token]) -> Result<(Box<Expr>, Box<Expr>, &'a [Token]), Stop<'a>>
+fn choice<'a>(
+    alloc: Global,
+    tokens: &'a [Token],
+) -> Result<(Box<Expr>, Box<Expr>, &'a [Token]), Stop<'a>>
     ensures ok { IfOk result (λ r. IsChoiceRead tokens.now r.2.now (expression_of r.0.value) (expression_of r.1.value)) }
     ensures shorter { IfOk result (λ r. length r.2.now < length tokens.now) }
     ensures err { IfErr result (IsChoiceStuck tokens.now) }
@@ -99,7 +103,11 @@ fn choice<'a>(alloc: Global, tokens: &'a [Token]) -> Result<(Box<Expr>, Box<Expr
 
 /// An expression, and the token that has to follow it.
 #[cycle(expressions)]
-pub fn closed<'a>(alloc: Global, tokens: &'a [Token], closing: Mark) -> Result<(Expr, &'a [Token]), Stop<'a>>
+pub fn closed<'a>(
+    alloc: Global,
+    tokens: &'a [Token],
+    closing: Mark,
+) -> Result<(Expr, &'a [Token]), Stop<'a>>
     ensures ok { IfOk result (λ r. IsClosedRead closing tokens.now r.1.now (expression_of r.0)) }
     ensures shorter { IfOk result (λ r. length r.1.now < length tokens.now) }
     ensures err { IfErr result (IsClosedStuck closing tokens.now) }
@@ -111,7 +119,11 @@ pub fn closed<'a>(alloc: Global, tokens: &'a [Token], closing: Mark) -> Result<(
 
 /// Operands and the binary operators between them, up to those of a level: by precedence climbing.
 #[cycle(expressions)]
-fn operands<'a>(alloc: Global, level: usize, tokens: &'a [Token]) -> Result<(Expr, &'a [Token]), Stop<'a>>
+fn operands<'a>(
+    alloc: Global,
+    level: usize,
+    tokens: &'a [Token],
+) -> Result<(Expr, &'a [Token]), Stop<'a>>
     ensures ok { IfOk result (λ r. IsRead (operands (above (level_of level))) tokens.now r.1.now (expression_of r.0)) }
     ensures shorter { IfOk result (λ r. length r.1.now < length tokens.now) }
     ensures ends { IfOk result (λ r. EndsUpTo level (first r.1.now)) }
@@ -133,7 +145,11 @@ fn operands<'a>(alloc: Global, level: usize, tokens: &'a [Token]) -> Result<(Exp
 
 /// An operand of a binary operator of a level.
 #[cycle(expressions)]
-fn tighter<'a>(alloc: Global, level: usize, tokens: &'a [Token]) -> Result<(Expr, &'a [Token]), Stop<'a>>
+fn tighter<'a>(
+    alloc: Global,
+    level: usize,
+    tokens: &'a [Token],
+) -> Result<(Expr, &'a [Token]), Stop<'a>>
     ensures ok { IfOk result (λ r. IsRead (operands (level_of level)) tokens.now r.1.now (expression_of r.0)) }
     ensures shorter { IfOk result (λ r. length r.1.now < length tokens.now) }
     ensures ends { IfOk result (λ r. EndsBelow level (first r.1.now)) }
@@ -184,7 +200,10 @@ fn operand<'a>(alloc: Global, tokens: &'a [Token]) -> Result<(Expr, &'a [Token])
 }
 
 /// Arguments and their closing parenthesis.
-pub fn arguments<'a>(alloc: Global, tokens: &'a [Token]) -> Result<(Vec<Expr>, &'a [Token]), Stop<'a>>
+pub fn arguments<'a>(
+    alloc: Global,
+    tokens: &'a [Token],
+) -> Result<(Vec<Expr>, &'a [Token]), Stop<'a>>
     ensures ok { IfOk result (λ r. IsArgumentsRead tokens.now r.1.now (expressions_of r.0.items)) }
     ensures shorter { IfOk result (λ r. length r.1.now < length tokens.now) }
     ensures err { IfErr result (IsArgumentsStuck tokens.now) }

@@ -4,21 +4,34 @@ ghost use Rattle.c_front.specs.Texts.{SpellsText, IsTextFault, is_text, IsBadByt
 ghost use Rattle.c_front.specs.Tree.{Declaration};
 ghost use Rattle.c_front.specs.Faults.{lexical_fault, syntactic_fault};
 
-use c_tokens::lex::{lex, LexFault, Refusal};
+use crate::declaration::{Fault, parse};
+use crate::tree::Program;
+use c_tokens::lex::{LexFault, Refusal, lex};
 use c_tokens::token::Identifier;
 use std::alloc::{AllocError, AllocFailed, Global};
+use thiserror::Error;
 
-use crate::declaration::{parse, Fault};
-use crate::tree::Program;
-
-/// What is wrong with a text.
-#[derive(Clone, Copy, PartialEq, Eq)]
+/// What is wrong with a text; `{kind}` shows the variant's name.
+#[derive(Clone, Copy, PartialEq, Eq, Debug, Error)]
 pub enum FaultKind {
+    /// A byte that isn't 32 to 126, tab, LF or CR.
+    #[error("Byte")]
     Byte,
+    /// No token begins at the offset.
+    #[error("Token")]
     Token,
+    /// The first token with which the tokens so far begin no program, or the text's length.
+    #[error("Syntax")]
     Syntax,
+    /// A number that is no constant.
+    #[error("Constant")]
     Constant,
+    /// The text is above 1,048,576 bytes, or more than 1,024 tokens stand in a row with no `;`, `{` or `}`, more than
+    /// 128 braces are open, or more than 512 `else` and `for` stand since no brace was open.
+    #[error("Size")]
     Size,
+    /// Memory was refused; told at the text's length.
+    #[error("NoMemory")]
     NoMemory,
 }
 
@@ -39,7 +52,8 @@ impl FaultKind {
 }
 
 /// Why a text is refused, and at which offset.
-#[derive(Clone, Copy, PartialEq, Eq)]
+#[derive(Clone, Copy, PartialEq, Eq, Debug, Error)]
+#[error("fault {} {kind} at {at}", .kind.number())]
 pub struct FrontFault {
     pub kind: FaultKind,
     pub at: usize,
@@ -85,8 +99,14 @@ fn lexical(fault: LexFault, length: usize) -> FrontFault
     ensures { result ≡ lexical_fault length fault }
 {
     match fault {
-        LexFault::Refused(why, at) => FrontFault { kind: refusal(why), at },
-        LexFault::NoMemory => FrontFault { kind: FaultKind::NoMemory, at: length },
+        LexFault::Refused(why, at) => FrontFault {
+            kind: refusal(why),
+            at,
+        },
+        LexFault::NoMemory => FrontFault {
+            kind: FaultKind::NoMemory,
+            at: length,
+        },
     }
 }
 
@@ -94,8 +114,14 @@ fn syntactic(fault: Fault, length: usize, places: &[usize]) -> FrontFault
     ensures { result ≡ syntactic_fault length places.now fault }
 {
     match fault {
-        Fault::Wrong(k) => FrontFault { kind: FaultKind::Syntax, at: place(length, places, k) },
-        Fault::OutOfMemory => FrontFault { kind: FaultKind::NoMemory, at: length },
+        Fault::Wrong(k) => FrontFault {
+            kind: FaultKind::Syntax,
+            at: place(length, places, k),
+        },
+        Fault::OutOfMemory => FrontFault {
+            kind: FaultKind::NoMemory,
+            at: length,
+        },
     }
 }
 
@@ -105,8 +131,16 @@ impl Program {
         ensures { result.now ≡ spelling_of self.now.text.items name.at name.length }
     {
         let text = self.text.as_slice();
-        let after = if name.at < text.len() { &text[name.at..] } else { &text[text.len()..] };
-        if name.length < after.len() { &after[..name.length] } else { after }
+        let after = if name.at < text.len() {
+            &text[name.at..]
+        } else {
+            &text[text.len()..]
+        };
+        if name.length < after.len() {
+            &after[..name.length]
+        } else {
+            after
+        }
     }
 }
 
@@ -118,17 +152,26 @@ pub fn read(alloc: Global, text: &[u8]) -> Result<Program, FrontFault>
     ensures err { IfErr result (λ f. IsTextFault text.now f.kind f.at) }
 {
     if text.len() > 1_048_576 {
-        return Err(FrontFault { kind: FaultKind::Size, at: 1_048_576 });
+        return Err(FrontFault {
+            kind: FaultKind::Size,
+            at: 1_048_576,
+        });
     }
     if let Some(at) = bad_byte(text) {
-        return Err(FrontFault { kind: FaultKind::Byte, at });
+        return Err(FrontFault {
+            kind: FaultKind::Byte,
+            at,
+        });
     }
     match lex(alloc, text) {
         Err(fault) => Err(lexical(fault, text.len())),
         Ok((tokens, places)) => match parse(alloc, &tokens) {
             Ok(declarations) => match Vec::from_slice(alloc, text) {
                 Ok(text) => Ok(Program { declarations, text }),
-                Err(_) => Err(FrontFault { kind: FaultKind::NoMemory, at: text.len() }),
+                Err(_) => Err(FrontFault {
+                    kind: FaultKind::NoMemory,
+                    at: text.len(),
+                }),
             },
             Err(fault) => Err(syntactic(fault, text.len(), &places)),
         },
@@ -138,5 +181,4 @@ pub fn read(alloc: Global, text: &[u8]) -> Result<Program, FrontFault>
 /// A text spells one program at most.
 pub fn one_reading()
     ensures { (text : List ℕ) (p q : List Declaration) → SpellsText text p → SpellsText text q → p ≡ q }
-{
-}
+{}

@@ -6,13 +6,11 @@ ghost use Rattle.c_front.specs.Stop.{IsRead, IsStuck, IsConditionRead, IsConditi
 ghost use Rattle.c_tokens.specs.declared.token.Token.TheVariants.{The, Jump};
 ghost use Rattle.c_tokens.specs.declared.token.Mark.TheVariants.{While, For, Semicolon};
 
-use std::alloc::{AllocError, AllocFailed, Global};
-
-use c_tokens::token::{JumpWord, Kind, Mark, Token};
-
-use crate::cursor::{expect, first_name, name, split, starts, Stop};
+use crate::cursor::{Stop, expect, first_name, name, split, starts};
 use crate::expression::{arguments, closed, expression, value};
 use crate::tree::{Call, Expr, ForParts, Item, Simple, Stmt, Value};
+use c_tokens::token::{JumpWord, Kind, Mark, Token};
+use std::alloc::{AllocError, AllocFailed, Global};
 
 /// The value after an equals sign.
 fn assigned<'a>(alloc: Global, tokens: &'a [Token]) -> Result<(Value, &'a [Token]), Stop<'a>>
@@ -74,7 +72,11 @@ pub fn kind<'a>(tokens: &'a [Token]) -> Option<(Kind, &'a [Token])>
 }
 
 /// A simple statement, if one stands here, and the mark that has to follow.
-fn ended_simple<'a>(alloc: Global, tokens: &'a [Token], closing: Mark) -> Result<(Option<Simple>, &'a [Token]), Stop<'a>>
+fn ended_simple<'a>(
+    alloc: Global,
+    tokens: &'a [Token],
+    closing: Mark,
+) -> Result<(Option<Simple>, &'a [Token]), Stop<'a>>
     ensures ok { IfOk result (λ r. IsEndedRead maybe_simple closing tokens.now r.1.now (maybe_simple_of r.0)) }
     ensures shorter { IfOk result (λ r. length r.1.now < length tokens.now) }
     ensures err { IfErr result (IsEndedStuck maybe_simple closing tokens.now) }
@@ -93,7 +95,10 @@ fn ended_simple<'a>(alloc: Global, tokens: &'a [Token], closing: Mark) -> Result
 }
 
 /// An expression, if one stands here, and the semicolon that has to follow.
-fn ended_expression<'a>(alloc: Global, tokens: &'a [Token]) -> Result<(Option<Expr>, &'a [Token]), Stop<'a>>
+fn ended_expression<'a>(
+    alloc: Global,
+    tokens: &'a [Token],
+) -> Result<(Option<Expr>, &'a [Token]), Stop<'a>>
     ensures ok { IfOk result (λ r. IsEndedRead maybe_expression Semicolon tokens.now r.1.now (maybe_expression_of r.0)) }
     ensures shorter { IfOk result (λ r. length r.1.now < length tokens.now) }
     ensures err { IfErr result (IsEndedStuck maybe_expression Semicolon tokens.now) }
@@ -119,7 +124,12 @@ fn for_parts<'a>(alloc: Global, tokens: &'a [Token]) -> Result<(ForParts, &'a [T
 }
 
 /// What stands after `break`, `continue` or `return`.
-fn jump<'a>(alloc: Global, word: JumpWord, at: usize, tokens: &'a [Token]) -> Result<(Stmt, &'a [Token]), Stop<'a>>
+fn jump<'a>(
+    alloc: Global,
+    word: JumpWord,
+    at: usize,
+    tokens: &'a [Token],
+) -> Result<(Stmt, &'a [Token]), Stop<'a>>
     ensures ok { IfOk result (λ r. IsRead a_statement (Jump word at ∷ tokens.now) r.1.now (statement_of r.0)) }
     ensures shorter { IfOk result (λ r. length r.1.now < length tokens.now) }
     ensures err { IfErr result (IsStuck a_statement (Jump word at ∷ tokens.now)) }
@@ -225,11 +235,17 @@ fn for_loop<'a>(alloc: Global, tokens: &'a [Token]) -> Result<(Stmt, &'a [Token]
 {
     let (parts, start) = for_parts(alloc, tokens)?;
     let (body, end) = statement(alloc, start)?;
-    Ok((Stmt::For(Box::new(alloc, parts)?, Box::new(alloc, body)?), end))
+    Ok((
+        Stmt::For(Box::new(alloc, parts)?, Box::new(alloc, body)?),
+        end,
+    ))
 }
 
 /// The first value of a local variable, if one stands here.
-fn first_value<'a>(alloc: Global, tokens: &'a [Token]) -> Result<(Option<Value>, &'a [Token]), Stop<'a>>
+fn first_value<'a>(
+    alloc: Global,
+    tokens: &'a [Token],
+) -> Result<(Option<Value>, &'a [Token]), Stop<'a>>
     ensures ok { IfOk result (λ r. IsRead declared tokens.now r.1.now (maybe_value_of r.0)) }
     ensures shorter { IfOk result (λ r. length r.1.now ≤ length tokens.now) }
     ensures err { IfErr result (IsStuck declared tokens.now) }

@@ -1,11 +1,9 @@
 -- Constants within their limit.
-use Rattle.std.proofs.Common.{◌≡◌, ◌<◌, ◌-◌, ◌+◌, ℕ, suc, List, [], ◌∷◌, length, get_or, Bool, true, false, Option, Some, None, refl, sym, ap, subst, ◌∙◌, arith, if◌then◌else◌, nat_le, take, length-take}
+use Rattle.std.proofs.Common.{◌≡◌, ◌<◌, ◌-◌, ℕ, suc, List, [], ◌∷◌, length, get_or, Bool, true, false, Option, Some, None, refl, ap, ◌∙◌, arith, if◌then◌else◌, nat_le}
 use Rattle.c_tokens.specs.declared.lex.Lexeme.{Lexeme}
 use Rattle.c_tokens.specs.declared.lex.Lexeme.TheVariants.{Numeral, NoConstant}
 use Rattle.c_tokens.specs.declared.token.Kind.{Kind}
-use Rattle.c_tokens.specs.Lexing.{up_to, within_limit, kind_of, last_or, constant_lexeme, greatest_of, plain_of, digits_in, goes_on, is_exponent}
-use Rattle.c_tokens.specs.Fronts.{run_length}
-use Rattle.c_tokens.specs.Texts.{Fits}
+use Rattle.c_tokens.specs.Lexing.{up_to, within_limit, kind_of, last_or, constant_lexeme, greatest_of, plain_of, digits_in}
 
 pub within-some : (run : List ℕ) (limit v : ℕ) (x : Option ℕ) → Some v ≡ up_to limit x → Numeral (record { value = v; kind = kind_of run v }) (length run) ≡ within_limit run limit x
 within-some run limit v None h = cc
@@ -13,8 +11,10 @@ within-some run limit v (Some w) h = go (nat_le w limit) h
   where
     numeral : ℕ → Lexeme
     numeral x = Numeral (record { value = x; kind = kind_of run x }) (length run)
+
     same : {v w : ℕ} → Some v ≡ Some w → v ≡ w
     same e = cc
+
     go : (t : Bool) → Some v ≡ (if t then Some w else None) → numeral v ≡ (if t then numeral w else NoConstant)
     go true h = ap numeral (same h)
     go false h = cc

@@ -1,10 +1,10 @@
 -- The code's view of the front of a text is that of its longest piece.
 use Rattle.std.proofs.lemmas.Bool.Decides.{nat_tests}
-use Rattle.std.proofs.Common.{◌+◌, ◌-◌, ◌≡◌, ◌≢◌, ◌<◌, ◌≤◌, ℕ, suc, zero, List, [], ◌∷◌, length, drop, take, Bool, true, false, Option, Some, None, refl, sym, ap, subst, ◌∙◌, arith, if◌then◌else◌, nat_eq, nat_lt, ◌&&◌, ◌||◌, length-take, ◌⊎◌, inl, inr}
+use Rattle.std.proofs.Common.{◌+◌, ◌≡◌, ◌<◌, ◌≤◌, ℕ, suc, zero, List, [], ◌∷◌, length, drop, take, Bool, true, false, Option, Some, None, refl, sym, ap, subst, ◌∙◌, arith, if◌then◌else◌, nat_eq, nat_lt, ◌&&◌, ◌||◌, length-take, ◌⊎◌, inl, inr}
 use Rattle.c_tokens.specs.declared.token.Mark.{Mark}
 use Rattle.c_tokens.specs.declared.lex.Lexeme.{Lexeme}
-use Rattle.c_tokens.specs.declared.lex.Lexeme.TheVariants.{End, Separator, Sign, Refused}
-use Rattle.c_tokens.specs.Lexing.{is_space, is_letter, is_digit, is_word, goes_on, is_exponent, is_front, same_bytes, signs, keywords, word_lexeme, constant_lexeme, comment_length, escape_at, one_more}
+use Rattle.c_tokens.specs.declared.lex.Lexeme.TheVariants.{Separator, Refused}
+use Rattle.c_tokens.specs.Lexing.{is_space, is_letter, is_digit, is_word, goes_on, is_exponent, is_front, same_bytes, signs, keywords, word_lexeme, constant_lexeme, comment_length, one_more}
 use Rattle.c_tokens.specs.Fronts.{word_length, run_length, line_length, longest, longer, sign_lexeme, comment_lexeme, line_lexeme, lexeme_of, word_at, constant_at, comment_at, line_at, sign_at}
 use Rattle.c_tokens.specs.Pieces.{IsWord, word_end, word_more, IsRun, run_end, run_more, IsLine, line_end, line_more, IsOpen, open_end, open_more, IsClosed, closed_here, closed_later, spelled, IsPiece, a_byte, a_word, a_number, an_operator, a_line, a_comment, an_open_comment, IsLongest, comment_meaning, closed_meaning, operator_meaning, or_operator, or_line, or_comment, or_number, or_word, meaning_of, IsNext, at_end, at_piece}
 
@@ -35,6 +35,7 @@ same-is (x ∷ xs) (y ∷ ys) h =
     and-both : (a b : Bool) → a && b ≡ true → (a ≡ true) × (b ≡ true)
     and-both true b h = (refl, h)
     and-both false b h = cc
+
     equal : (x y : ℕ) → nat_eq x y ≡ true → x ≡ y
     equal x y h = grind (arith, nat_tests)
 
@@ -228,6 +229,7 @@ front-pair u v (b ∷ c ∷ cs) h =
     and-both : (a b : Bool) → a && b ≡ true → (a ≡ true) × (b ≡ true)
     and-both true b h = (refl, h)
     and-both false b h = cc
+
     equal : (x y : ℕ) → nat_eq x y ≡ true → x ≡ y
     equal x y h = grind (arith, nat_tests)
 
@@ -281,6 +283,7 @@ closes (b ∷ bs) n h = go (λ k e. closes bs k e) (is_front (42 ∷ 47 ∷ []) 
   where
     pair : (cs : List ℕ) → Closes (42 ∷ 47 ∷ cs) 2
     pair cs = record { within = omega arith; taken = closed_here; longest = longer-pair cs }
+
     later : (k : ℕ) → is_front (42 ∷ 47 ∷ []) (b ∷ bs) ≡ false → Closes bs k → Closes (b ∷ bs) (suc k)
     later k e c = record {
       within = let w = c.within in omega (arith, w);
@@ -291,6 +294,7 @@ closes (b ∷ bs) n h = go (λ k e. closes bs k e) (is_front (42 ∷ 47 ∷ []) 
         longest-later : (k : ℕ) → is_front (42 ∷ 47 ∷ []) (b ∷ bs) ≡ false → Closes bs k → (m : ℕ) → suc k < m → m ≤ length (b ∷ bs) → IsClosed (take m (b ∷ bs)) ⊎ IsOpen (take m (b ∷ bs)) → ⊥
         longest-later k e c zero h l p = omega (arith, h)
         longest-later k e c (suc m) h l p = c.longest m (omega (arith, h)) (omega (arith, l)) (closed-tail b (take m bs) (front-not-taken (42 ∷ 47 ∷ []) (b ∷ bs) (suc m) e) p)
+
     go : ((k : ℕ) → comment_length bs ≡ Some k → Closes bs k) → (x : Bool) → is_front (42 ∷ 47 ∷ []) (b ∷ bs) ≡ x → (if x then Some 2 else one_more (comment_length bs)) ≡ Some n → Closes (b ∷ bs) n
     go f true e k =
         let q = front-pair 42 47 (b ∷ bs) e in
@@ -336,6 +340,7 @@ longest-stands (e ∷ es) bs h = go (longest es bs) (longest-stands es bs h.1) (
     pick : (f : List ℕ × Option Mark) → Stands bs (Some f) → is_front e.0 bs ≡ true → (x : Bool) → Stands bs (Some (if x then f else e))
     pick f w k true = w
     pick f w k false = (k, h.0)
+
     go : (r : Option (List ℕ × Option Mark)) → Stands bs r → (x : Bool) → is_front e.0 bs ≡ x → Stands bs (if x then Some (longer e r) else r)
     go None w true k = (k, h.0)
     go (Some f) w true k = pick f w k (nat_lt (length e.0) (length f.0))
@@ -351,6 +356,7 @@ front-whole (x ∷ xs) (b ∷ bs) h =
     and-both : (a b : Bool) → a && b ≡ true → (a ≡ true) × (b ≡ true)
     and-both true b h = (refl, h)
     and-both false b h = cc
+
     equal : (x y : ℕ) → nat_eq x y ≡ true → x ≡ y
     equal x y h = grind (arith, nat_tests)
 
@@ -373,6 +379,7 @@ longest-most (e ∷ es) bs m x l h = go (λ k. longest-most es bs m x l k) (long
   where
     long : e.0 ≡ take m bs → m ≤ length e.0
     long q = let a : length e.0 ≡ length (take m bs) = ap length q in let b : length (take m bs) ≡ m = simp length-take (omega (arith, l)) in omega (arith, a, b)
+
     self : (r : Option (List ℕ × Option Mark)) → m ≤ length e.0 → AtLeastLong m (Some (longer e r))
     self None k = k
     self (Some f) k = pick (nat_lt (length e.0) (length f.0)) refl
@@ -383,6 +390,7 @@ longest-most (e ∷ es) bs m x l h = go (λ k. longest-most es bs m x l k) (long
             less : (x y : ℕ) → nat_lt x y ≡ true → x < y
             less x y h = grind (arith, nat_tests)
         pick false q = k
+
     other : (r : Option (List ℕ × Option Mark)) → AtLeastLong m r → AtLeastLong m (Some (longer e r))
     other None k = absurd k
     other (Some f) k = pick (nat_lt (length e.0) (length f.0)) refl
@@ -393,6 +401,7 @@ longest-most (e ∷ es) bs m x l h = go (λ k. longest-most es bs m x l k) (long
           where
             most : (x y : ℕ) → nat_lt x y ≡ false → y ≤ x
             most x y h = grind (arith, nat_tests)
+
     go : (spelled es (take m bs) ≡ Some x → AtLeastLong m (longest es bs)) → (r : Option (List ℕ × Option Mark)) → (y : Bool) → same_bytes e.0 (take m bs) ≡ y → (if y then Some e.1 else spelled es (take m bs)) ≡ Some x →
         (z : Bool) → is_front e.0 bs ≡ z → AtLeastLong m (if z then Some (longer e (longest es bs)) else longest es bs)
     go f r true p k true q = self (longest es bs) (long (same-is e.0 (take m bs) p))
@@ -420,7 +429,7 @@ word-next b bs h k =
     let P : ℕ → Type 0 = λ n. IsNext (b ∷ bs) (word_lexeme keywords (take n (b ∷ bs))) in
     let w = word-within bs in
     subst P (sym e) (at_piece {n = suc (word_length bs)} (record { within = omega (arith, w); piece = a_word k (word-taken bs); longest = go })
-      (sym (ap (λ (x : Bool). if x then Separator 1 else or_word b (take (word_length bs) bs)) h ∙ ap (λ (x : Bool). if x then word_lexeme keywords (b ∷ take (word_length bs) bs) else or_number b (take (word_length bs) bs)) k)))
+    (sym (ap (λ (x : Bool). if x then Separator 1 else or_word b (take (word_length bs) bs)) h ∙ ap (λ (x : Bool). if x then word_lexeme keywords (b ∷ take (word_length bs) bs) else or_number b (take (word_length bs) bs)) k)))
   where
     go : (m : ℕ) → suc (word_length bs) < m → m ≤ length (b ∷ bs) → IsPiece (take m (b ∷ bs)) → ⊥
     go zero i l p = omega (arith, i)
@@ -436,7 +445,7 @@ number-next b bs h k d =
     let w = run-within (is_exponent b) bs in
     let ys : List ℕ = take (run_length (is_exponent b) bs) bs in
     subst P (sym e) (at_piece {n = suc (run_length (is_exponent b) bs)} (record { within = omega (arith, w); piece = a_number d (run_more (digit-goes b d) (run-taken (is_exponent b) bs)); longest = go })
-      (sym (ap (λ (x : Bool). if x then Separator 1 else or_word b ys) h ∙ ap (λ (x : Bool). if x then word_lexeme keywords (b ∷ ys) else or_number b ys) k ∙ ap (λ (x : Bool). if x then constant_lexeme (b ∷ ys) else or_comment b ys) d)))
+    (sym (ap (λ (x : Bool). if x then Separator 1 else or_word b ys) h ∙ ap (λ (x : Bool). if x then word_lexeme keywords (b ∷ ys) else or_number b ys) k ∙ ap (λ (x : Bool). if x then constant_lexeme (b ∷ ys) else or_comment b ys) d)))
   where
     go : (m : ℕ) → suc (run_length (is_exponent b) bs) < m → m ≤ length (b ∷ bs) → IsPiece (take m (b ∷ bs)) → ⊥
     go zero i l p = omega (arith, i)
@@ -449,7 +458,7 @@ closed-next cs n h =
     let w = c.within in
     let e : length (47 ∷ 42 ∷ take n cs) ≡ n + 2 = simp length-take (omega (arith, w)) in
     at_piece {n = suc (suc n)} (record { within = omega (arith, w); piece = a_comment c.taken; longest = go c })
-      (sym (ap (closed_meaning (length (47 ∷ 42 ∷ take n cs)) (take n cs)) q.1 ∙ ap (λ (x : ℕ). comment_meaning x (take n cs)) e))
+    (sym (ap (closed_meaning (length (47 ∷ 42 ∷ take n cs)) (take n cs)) q.1 ∙ ap (λ (x : ℕ). comment_meaning x (take n cs)) e))
   where
     go : Closes cs n → (m : ℕ) → suc (suc n) < m → m ≤ length (47 ∷ 42 ∷ cs) → IsPiece (take m (47 ∷ 42 ∷ cs)) → ⊥
     go c zero i l p = omega (arith, i)
@@ -461,7 +470,7 @@ open-next cs h =
     let text : List ℕ = 47 ∷ 42 ∷ cs in
     let P : List ℕ → Type 0 = λ x. IsPiece x in
     at_piece {n = length (47 ∷ 42 ∷ cs)} (record { within = omega arith; piece = subst P (sym (take-all (47 ∷ 42 ∷ cs))) (an_open_comment (never-closes cs h)); longest = λ m i l p. omega (arith, i, l) })
-      (sym (ap meaning_of (take-all (47 ∷ 42 ∷ cs)) ∙ ap (closed_meaning (length (47 ∷ 42 ∷ cs)) cs) h))
+    (sym (ap meaning_of (take-all (47 ∷ 42 ∷ cs)) ∙ ap (closed_meaning (length (47 ∷ 42 ∷ cs)) cs) h))
 
 comment-next : (cs : List ℕ) (r : Option ℕ) → comment_length cs ≡ r → IsNext (47 ∷ 42 ∷ cs) (comment_lexeme r cs)
 comment-next cs None h = open-next cs h
@@ -532,7 +541,7 @@ front-length xs ys h = let e : length (take (length xs) ys) ≡ length xs = ap l
 sign-next : (b : ℕ) (bs : List ℕ) → Plain b bs → (r : Option (List ℕ × Option Mark)) → longest signs (b ∷ bs) ≡ r → IsNext (b ∷ bs) (sign_lexeme r)
 sign-next b bs q None h =
     at_piece {n = 1} (record { within = omega arith; piece = a_byte; longest = λ m i l p. (let P : Option (List ℕ × Option Mark) → Type 0 = λ x. AtLeastLong m x in subst P h (longer-plain b bs m q i l p)) })
-      (sym (plain-meaning b [] (plain-taken b bs 0 q) ∙ ap (operator_meaning (b ∷ [])) (no-spelling (spelled signs (b ∷ [])) refl)))
+    (sym (plain-meaning b [] (plain-taken b bs 0 q) ∙ ap (operator_meaning (b ∷ [])) (no-spelling (spelled signs (b ∷ [])) refl)))
   where
     no-spelling : (x : Option (Option Mark)) → spelled signs (b ∷ []) ≡ x → x ≡ None
     no-spelling None e = refl
@@ -545,7 +554,7 @@ sign-next b bs q (Some e) h =
     let w = front-whole e.0 (b ∷ bs) s.0 in
     let Q : List ℕ → Type 0 = λ x. IsPiece x in
     at_piece {n = length e.0} (record { within = front-length e.0 (b ∷ bs) s.0; piece = subst Q (sym w) (an_operator s.1); longest = go (nonempty e.0 e.1 s.1) })
-      (operator-found e.0 e.1 s.1 ∙ ap meaning_of (sym w))
+    (operator-found e.0 e.1 s.1 ∙ ap meaning_of (sym w))
   where
     go : 0 < length e.0 → (m : ℕ) → length e.0 < m → m ≤ length (b ∷ bs) → IsPiece (take m (b ∷ bs)) → ⊥
     go z m i l p =

@@ -1,17 +1,16 @@
 -- What stands at the front of some bytes is no longer than they are.
 use Rattle.std.proofs.lemmas.Bool.Decides.{nat_tests}
-use Rattle.std.proofs.Common.{◌+◌, ◌*◌, ◌≡◌, ◌<◌, ◌≤◌, ℕ, suc, zero, List, [], ◌∷◌, length, Bool, true, false, Option, Some, None, refl, sym, ap, subst, ◌∙◌, arith, if◌then◌else◌, nat_eq, nat_lt, ◌&&◌, map, take, length-take}
+use Rattle.std.proofs.Common.{◌+◌, ◌*◌, ◌≡◌, ◌<◌, ◌≤◌, ℕ, suc, zero, List, [], ◌∷◌, length, Bool, true, false, Option, Some, None, refl, sym, ap, subst, ◌∙◌, arith, if◌then◌else◌, nat_eq, nat_lt, ◌&&◌, take, length-take}
 use Rattle.c_tokens.specs.declared.token.Mark.{Mark}
 use Rattle.c_tokens.specs.declared.lex.Lexeme.{Lexeme}
 use Rattle.c_tokens.specs.declared.sign.Spelling.{Spelling}
 use Rattle.c_tokens.specs.declared.sign.Spelling.TheVariants.{One, Two, Three}
 use Rattle.c_tokens.specs.declared.sign.Entry.{Entry}
-use Rattle.c_tokens.specs.declared.lex.Lexeme.TheVariants.{Word, Sign, Leap, Refused}
 use Rattle.c_tokens.specs.declared.lex.Reserved.{Reserved}
 use Rattle.c_tokens.specs.declared.lex.Reserved.TheVariants.{Marked, Jumping, Unused}
-use Rattle.c_tokens.specs.Lexing.{is_front, same_bytes, word_lexeme, keyword_lexeme, is_word, goes_on, is_exponent, digit_of, digits_of, up_to}
-use Rattle.c_tokens.specs.Fronts.{longer, longest, word_length, run_length}
-use Rattle.c_tokens.specs.Spellings.{bytes_of, entry_of, shown}
+use Rattle.c_tokens.specs.Lexing.{is_front, same_bytes, word_lexeme, keyword_lexeme, is_word, digit_of, digits_of, up_to}
+use Rattle.c_tokens.specs.Fronts.{longer, longest, word_length}
+use Rattle.c_tokens.specs.Spellings.{bytes_of, shown}
 use Rattle.c_tokens.specs.Texts.{Fits}
 
 front-length : (xs ys : List ℕ) → is_front xs ys ≡ true → length xs ≤ length ys
@@ -94,6 +93,7 @@ over-limit limit (suc m) n (b ∷ bs) z h =
     go : up_to limit (digits_of (suc m) (n * suc m + digit_of b) bs) ≡ None → (x : Bool) → up_to limit (if x then digits_of (suc m) (n * suc m + digit_of b) bs else None) ≡ None
     go k true = k
     go k false = refl
+
     mul-up : (n m : ℕ) → n ≤ n * suc m
     mul-up n m = grind arith
 

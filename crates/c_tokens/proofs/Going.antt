@@ -1,7 +1,6 @@
 -- A place in a text that was reached token by token.
-use Rattle.std.proofs.Common.{◌≡◌, ◌≤◌, ◌<◌, ◌+◌, ◌-◌, ℕ, List, ◌++◌, ◌∷◌, [], length, drop, Bool, true, false, refl, subst, sym, ap, ◌∙◌, arith, length-drop, append_assoc, append-nil}
+use Rattle.std.proofs.Common.{◌≡◌, ◌≤◌, ◌+◌, ◌-◌, ℕ, List, ◌++◌, ◌∷◌, [], length, drop, subst, sym, arith, length-drop, append_assoc, append-nil}
 use Rattle.c_tokens.specs.declared.token.Token.{Token}
-use Rattle.c_tokens.specs.declared.lex.Step.{Step}
 use Rattle.c_tokens.specs.declared.lex.Step.TheVariants.{Done, Skip, Take, Stop}
 use Rattle.c_tokens.specs.declared.lex.Sizes.{Sizes}
 use Rattle.c_tokens.specs.declared.lex.Refusal.{Refusal}

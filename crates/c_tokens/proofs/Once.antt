@@ -1,8 +1,8 @@
 -- A text has its tokens once.
-use Rattle.std.proofs.Common.{◌≡◌, ◌+◌, ℕ, List, [], ◌∷◌, drop, Bool, true, false, refl, sym, ap, subst, ◌∙◌}
+use Rattle.std.proofs.Common.{◌≡◌, ◌+◌, ℕ, List, ◌∷◌, drop, refl, sym, ap, subst, ◌∙◌}
 use Rattle.c_tokens.specs.declared.token.Token.{Token}
 use Rattle.c_tokens.specs.declared.lex.Step.{Step}
-use Rattle.c_tokens.specs.declared.lex.Step.TheVariants.{Done, Skip, Take, Stop}
+use Rattle.c_tokens.specs.declared.lex.Step.TheVariants.{Done, Skip, Take}
 use Rattle.c_tokens.specs.Texts.{IsStep, step_of, Lexes, lexes_end, lexes_skip, lexes_take}
 use Rattle.c_tokens.proofs.Finding.{next-once}
 

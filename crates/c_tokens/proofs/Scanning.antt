@@ -1,5 +1,5 @@
 -- Places within a scan of some bytes.
-use Rattle.std.proofs.Common.{◌≡◌, ◌≢◌, ◌<◌, ◌≤◌, ◌+◌, ℕ, suc, zero, List, [], ◌∷◌, length, Bool, true, false, Option, Some, None, refl, sym, ap, subst, ◌∙◌, arith, if◌then◌else◌, nat_eq, ◌&&◌, ◌||◌, add-one}
+use Rattle.std.proofs.Common.{◌≡◌, ◌<◌, ◌≤◌, ◌+◌, ℕ, suc, List, [], ◌∷◌, length, Bool, true, false, Option, Some, None, refl, sym, ap, subst, ◌∙◌, arith, if◌then◌else◌, nat_eq, ◌&&◌, ◌||◌}
 use Rattle.c_tokens.specs.Lexing.{is_word, goes_on, is_exponent, is_front, one_more, comment_length, escape_at}
 use Rattle.c_tokens.specs.Fronts.{word_length, run_length, line_length}
 

@@ -1,16 +1,9 @@
 -- How the front of a text is cut: the words of the private functions, which find the longest piece.
-use Rattle.std.specs.Prelude.{◌≡◌, ◌+◌, ◌*◌, ◌-◌, ◌<◌, ◌≤◌, ℕ, suc, zero, List, [], ◌∷◌, length, drop, take, Bool, true, false, nat_eq, nat_le, nat_lt, ◌&&◌, ◌||◌, not, if◌then◌else◌, Option, Some, None, codes}
-use Rattle.c_tokens.specs.declared.token.Kind.{Kind}
-use Rattle.c_tokens.specs.declared.token.Kind.TheVariants.{SignedInt, UnsignedInt}
-use Rattle.c_tokens.specs.declared.token.JumpWord.{JumpWord}
-use Rattle.c_tokens.specs.declared.token.JumpWord.TheVariants.{Break, Continue, Return}
+use Rattle.std.specs.Prelude.{◌+◌, ℕ, suc, List, [], ◌∷◌, length, drop, take, Bool, false, nat_eq, nat_lt, if◌then◌else◌, Option, Some, None}
 use Rattle.c_tokens.specs.declared.token.Mark.{Mark}
-use Rattle.c_tokens.specs.declared.token.Mark.TheVariants.{Int, Unsigned, Void, If, Else, While, For, Semicolon, Comma, LeftBrace, RightBrace, LeftParen, RightParen, LeftBracket, RightBracket, Assign, Question, Colon, Plus, Minus, Star, Slash, Percent, Bang, Tilde, BarBar, AndAnd, Bar, Caret, Ampersand, EqualEqual, BangEqual, Less, Greater, LessEqual, GreaterEqual, LessLess, GreaterGreater}
 use Rattle.c_tokens.specs.declared.lex.Lexeme.{Lexeme}
-use Rattle.c_tokens.specs.declared.lex.Lexeme.TheVariants.{End, Separator, Word, Numeral, Sign, Leap, Refused, NoConstant}
-use Rattle.c_tokens.specs.declared.lex.Reserved.{Reserved}
-use Rattle.c_tokens.specs.declared.lex.Reserved.TheVariants.{Marked, Jumping, Unused}
-use Rattle.c_tokens.specs.Lexing.{is_space, is_letter, is_digit, is_word, is_exponent, goes_on, is_front, one_more, comment_length, escape_at, signs, keywords, same_bytes, keyword_lexeme, word_lexeme, digit_of, digits_of, up_to, plain_of, is_suffix, is_octal_or_hexadecimal, last_or, greatest_of, kind_of, within_limit, digits_in, constant_lexeme}
+use Rattle.c_tokens.specs.declared.lex.Lexeme.TheVariants.{End, Separator, Sign, Refused}
+use Rattle.c_tokens.specs.Lexing.{is_space, is_letter, is_digit, is_word, is_exponent, goes_on, is_front, comment_length, escape_at, signs, keywords, word_lexeme, constant_lexeme}
 
 abbrev pub word_length : List ℕ → ℕ
 word_length [] = 0
@@ -65,4 +58,3 @@ word_at b bs = if is_letter b then word_lexeme keywords (take (word_length (b �
 abbrev pub lexeme_of : List ℕ → Lexeme
 lexeme_of [] = End
 lexeme_of (b ∷ bs) = if is_space b then Separator 1 else word_at b bs
-

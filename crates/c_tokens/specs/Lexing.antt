@@ -1,13 +1,12 @@
 -- The classes of bytes, the tables of operators and keywords, and the constants (C99 6.4.1, 6.4.4.1, 6.4.6).
-use Rattle.std.specs.Prelude.{◌≡◌, ◌+◌, ◌*◌, ◌-◌, ◌<◌, ◌≤◌, ℕ, suc, zero, List, [], ◌∷◌, length, drop, take, Bool, true, false, nat_eq, nat_le, nat_lt, ◌&&◌, ◌||◌, not, if◌then◌else◌, Option, Some, None, codes}
+use Rattle.std.specs.Prelude.{◌+◌, ◌*◌, ◌-◌, ℕ, suc, List, [], ◌∷◌, length, take, Bool, true, false, nat_eq, nat_le, nat_lt, ◌&&◌, ◌||◌, if◌then◌else◌, Option, Some, None, codes}
 use Rattle.c_tokens.specs.declared.token.Kind.{Kind}
 use Rattle.c_tokens.specs.declared.token.Kind.TheVariants.{SignedInt, UnsignedInt}
-use Rattle.c_tokens.specs.declared.token.JumpWord.{JumpWord}
 use Rattle.c_tokens.specs.declared.token.JumpWord.TheVariants.{Break, Continue, Return}
 use Rattle.c_tokens.specs.declared.token.Mark.{Mark}
 use Rattle.c_tokens.specs.declared.token.Mark.TheVariants.{Int, Unsigned, Void, If, Else, While, For, Semicolon, Comma, LeftBrace, RightBrace, LeftParen, RightParen, LeftBracket, RightBracket, Assign, Question, Colon, Plus, Minus, Star, Slash, Percent, Bang, Tilde, BarBar, AndAnd, Bar, Caret, Ampersand, EqualEqual, BangEqual, Less, Greater, LessEqual, GreaterEqual, LessLess, GreaterGreater}
 use Rattle.c_tokens.specs.declared.lex.Lexeme.{Lexeme}
-use Rattle.c_tokens.specs.declared.lex.Lexeme.TheVariants.{End, Separator, Word, Numeral, Sign, Leap, Refused, NoConstant}
+use Rattle.c_tokens.specs.declared.lex.Lexeme.TheVariants.{Word, Numeral, Sign, Leap, Refused, NoConstant}
 use Rattle.c_tokens.specs.declared.lex.Reserved.{Reserved}
 use Rattle.c_tokens.specs.declared.lex.Reserved.TheVariants.{Marked, Jumping, Unused}
 

@@ -1,6 +1,5 @@
 -- The tokens of a text, the sizes that it keeps within, and why it is refused.
-use Rattle.std.specs.Prelude.{◌≡◌, ◌≢◌, ◌+◌, ◌-◌, ◌<◌, ◌≤◌, ℕ, suc, List, [], ◌∷◌, length, drop, take, Bool, true, false, nat_eq, nat_le, nat_lt, ◌&&◌, ◌||◌, if◌then◌else◌, Option, Some, None, slice_index}
-use Rattle.c_tokens.specs.declared.token.Identifier.{Identifier}
+use Rattle.std.specs.Prelude.{◌≡◌, ◌+◌, ◌-◌, ◌<◌, ◌≤◌, ℕ, suc, List, [], ◌∷◌, drop, Bool, true, false, nat_eq, nat_lt, ◌||◌, if◌then◌else◌}
 use Rattle.c_tokens.specs.declared.token.Token.{Token}
 use Rattle.c_tokens.specs.declared.token.Token.TheVariants.{Name, Constant, Jump, The}
 use Rattle.c_tokens.specs.declared.token.Mark.TheVariants.{Else, For, Semicolon, LeftBrace, RightBrace}

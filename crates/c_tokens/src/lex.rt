@@ -5,11 +5,13 @@ ghost use Rattle.c_tokens.specs.declared.token.Token.{Token};
 ghost use Rattle.c_tokens.specs.Keywords.{keyword_of};
 ghost use Rattle.c_tokens.specs.Texts.{Lexes, IsStep, Fits, StepFits, step_of, IsLexFault, Within, Counted, Oversize};
 
+use crate::scan::{
+    after, begins, comment_length, escape_at, is_digit, is_letter, is_space, line_length,
+    run_length, same, split, word_length,
+};
+use crate::sign::sign;
 use crate::token::{Identifier, JumpWord, Kind, Literal, Mark, Token};
 use std::alloc::{AllocError, AllocFailed, Global};
-
-use crate::scan::{after, begins, comment_length, escape_at, is_digit, is_letter, is_space, line_length, run_length, same, split, word_length};
-use crate::sign::sign;
 
 /// What stands at the front of a text: a word is a name, a sign a keyword, an operator or a bracket.
 #[derive(Clone, Copy)]
@@ -58,6 +60,7 @@ pub enum LexFault {
 
 impl<T: Drop> From<AllocFailed<T>> for LexFault {
     ghost use Rattle.c_tokens.specs.declared.lex.LexFault.TheVariants.{NoMemory};
+
     ghost from_gives = { λ _ r. r ≡ NoMemory };
 
     fn from(_: AllocFailed<T>) -> Self {
@@ -109,43 +112,154 @@ pub struct Keyword {
 }
 
 const KEYWORDS: [Keyword; 37] = [
-    Keyword { spelling: b"int", word: Reserved::Marked(Mark::Int) },
-    Keyword { spelling: b"unsigned", word: Reserved::Marked(Mark::Unsigned) },
-    Keyword { spelling: b"void", word: Reserved::Marked(Mark::Void) },
-    Keyword { spelling: b"if", word: Reserved::Marked(Mark::If) },
-    Keyword { spelling: b"else", word: Reserved::Marked(Mark::Else) },
-    Keyword { spelling: b"while", word: Reserved::Marked(Mark::While) },
-    Keyword { spelling: b"for", word: Reserved::Marked(Mark::For) },
-    Keyword { spelling: b"break", word: Reserved::Jumping(JumpWord::Break) },
-    Keyword { spelling: b"continue", word: Reserved::Jumping(JumpWord::Continue) },
-    Keyword { spelling: b"return", word: Reserved::Jumping(JumpWord::Return) },
-    Keyword { spelling: b"auto", word: Reserved::Unused },
-    Keyword { spelling: b"case", word: Reserved::Unused },
-    Keyword { spelling: b"char", word: Reserved::Unused },
-    Keyword { spelling: b"const", word: Reserved::Unused },
-    Keyword { spelling: b"default", word: Reserved::Unused },
-    Keyword { spelling: b"do", word: Reserved::Unused },
-    Keyword { spelling: b"double", word: Reserved::Unused },
-    Keyword { spelling: b"enum", word: Reserved::Unused },
-    Keyword { spelling: b"extern", word: Reserved::Unused },
-    Keyword { spelling: b"float", word: Reserved::Unused },
-    Keyword { spelling: b"goto", word: Reserved::Unused },
-    Keyword { spelling: b"inline", word: Reserved::Unused },
-    Keyword { spelling: b"long", word: Reserved::Unused },
-    Keyword { spelling: b"register", word: Reserved::Unused },
-    Keyword { spelling: b"restrict", word: Reserved::Unused },
-    Keyword { spelling: b"short", word: Reserved::Unused },
-    Keyword { spelling: b"signed", word: Reserved::Unused },
-    Keyword { spelling: b"sizeof", word: Reserved::Unused },
-    Keyword { spelling: b"static", word: Reserved::Unused },
-    Keyword { spelling: b"struct", word: Reserved::Unused },
-    Keyword { spelling: b"switch", word: Reserved::Unused },
-    Keyword { spelling: b"typedef", word: Reserved::Unused },
-    Keyword { spelling: b"union", word: Reserved::Unused },
-    Keyword { spelling: b"volatile", word: Reserved::Unused },
-    Keyword { spelling: b"_Bool", word: Reserved::Unused },
-    Keyword { spelling: b"_Complex", word: Reserved::Unused },
-    Keyword { spelling: b"_Imaginary", word: Reserved::Unused },
+    Keyword {
+        spelling: b"int",
+        word: Reserved::Marked(Mark::Int),
+    },
+    Keyword {
+        spelling: b"unsigned",
+        word: Reserved::Marked(Mark::Unsigned),
+    },
+    Keyword {
+        spelling: b"void",
+        word: Reserved::Marked(Mark::Void),
+    },
+    Keyword {
+        spelling: b"if",
+        word: Reserved::Marked(Mark::If),
+    },
+    Keyword {
+        spelling: b"else",
+        word: Reserved::Marked(Mark::Else),
+    },
+    Keyword {
+        spelling: b"while",
+        word: Reserved::Marked(Mark::While),
+    },
+    Keyword {
+        spelling: b"for",
+        word: Reserved::Marked(Mark::For),
+    },
+    Keyword {
+        spelling: b"break",
+        word: Reserved::Jumping(JumpWord::Break),
+    },
+    Keyword {
+        spelling: b"continue",
+        word: Reserved::Jumping(JumpWord::Continue),
+    },
+    Keyword {
+        spelling: b"return",
+        word: Reserved::Jumping(JumpWord::Return),
+    },
+    Keyword {
+        spelling: b"auto",
+        word: Reserved::Unused,
+    },
+    Keyword {
+        spelling: b"case",
+        word: Reserved::Unused,
+    },
+    Keyword {
+        spelling: b"char",
+        word: Reserved::Unused,
+    },
+    Keyword {
+        spelling: b"const",
+        word: Reserved::Unused,
+    },
+    Keyword {
+        spelling: b"default",
+        word: Reserved::Unused,
+    },
+    Keyword {
+        spelling: b"do",
+        word: Reserved::Unused,
+    },
+    Keyword {
+        spelling: b"double",
+        word: Reserved::Unused,
+    },
+    Keyword {
+        spelling: b"enum",
+        word: Reserved::Unused,
+    },
+    Keyword {
+        spelling: b"extern",
+        word: Reserved::Unused,
+    },
+    Keyword {
+        spelling: b"float",
+        word: Reserved::Unused,
+    },
+    Keyword {
+        spelling: b"goto",
+        word: Reserved::Unused,
+    },
+    Keyword {
+        spelling: b"inline",
+        word: Reserved::Unused,
+    },
+    Keyword {
+        spelling: b"long",
+        word: Reserved::Unused,
+    },
+    Keyword {
+        spelling: b"register",
+        word: Reserved::Unused,
+    },
+    Keyword {
+        spelling: b"restrict",
+        word: Reserved::Unused,
+    },
+    Keyword {
+        spelling: b"short",
+        word: Reserved::Unused,
+    },
+    Keyword {
+        spelling: b"signed",
+        word: Reserved::Unused,
+    },
+    Keyword {
+        spelling: b"sizeof",
+        word: Reserved::Unused,
+    },
+    Keyword {
+        spelling: b"static",
+        word: Reserved::Unused,
+    },
+    Keyword {
+        spelling: b"struct",
+        word: Reserved::Unused,
+    },
+    Keyword {
+        spelling: b"switch",
+        word: Reserved::Unused,
+    },
+    Keyword {
+        spelling: b"typedef",
+        word: Reserved::Unused,
+    },
+    Keyword {
+        spelling: b"union",
+        word: Reserved::Unused,
+    },
+    Keyword {
+        spelling: b"volatile",
+        word: Reserved::Unused,
+    },
+    Keyword {
+        spelling: b"_Bool",
+        word: Reserved::Unused,
+    },
+    Keyword {
+        spelling: b"_Complex",
+        word: Reserved::Unused,
+    },
+    Keyword {
+        spelling: b"_Imaginary",
+        word: Reserved::Unused,
+    },
 ];
 
 fn lexeme_of_keyword(word: Reserved, length: usize) -> Lexeme
@@ -243,7 +357,13 @@ fn constant_of(run: &[u8]) -> Lexeme
     ensures fits { Fits result (length run.now) }
 {
     match plain(greatest(run), digits(run)) {
-        Some(value) => Lexeme::Numeral(Literal { value, kind: constant_kind(run, value) }, run.len()),
+        Some(value) => Lexeme::Numeral(
+            Literal {
+                value,
+                kind: constant_kind(run, value),
+            },
+            run.len(),
+        ),
         None => Lexeme::NoConstant,
     }
 }
@@ -252,7 +372,11 @@ fn constant_kind(run: &[u8], value: u32) -> Kind
     requires { 0 < length run.now }
     ensures { result ≡ kind_of run.now value }
 {
-    if is_suffixed(run) || value > 2147483647 { Kind::UnsignedInt } else { Kind::SignedInt }
+    if is_suffixed(run) || value > 2147483647 {
+        Kind::UnsignedInt
+    } else {
+        Kind::SignedInt
+    }
 }
 
 fn is_suffixed(run: &[u8]) -> bool
@@ -267,14 +391,22 @@ fn greatest(run: &[u8]) -> u64
     ensures same { result ≡ greatest_of run.now }
     ensures bound { result < 2 ^ 32 }
 {
-    if is_suffixed(run) || run[0] == 48 { 4294967295 } else { 2147483647 }
+    if is_suffixed(run) || run[0] == 48 {
+        4294967295
+    } else {
+        2147483647
+    }
 }
 
 fn digits(run: &[u8]) -> &[u8]
     requires { 0 < length run.now }
     ensures { result.now ≡ digits_in run.now }
 {
-    if is_suffixed(run) { &run[..run.len() - 1] } else { run }
+    if is_suffixed(run) {
+        &run[..run.len() - 1]
+    } else {
+        run
+    }
 }
 
 fn is_suffix(byte: u8) -> bool
@@ -311,32 +443,56 @@ fn count(sizes: Sizes, token: Token) -> Option<Sizes>
     let is_full = sizes.run == 1024;
     match token {
         Token::The(mark) => match mark {
-            Mark::Semicolon => Some(Sizes { run: 0, open: sizes.open, nested }),
+            Mark::Semicolon => Some(Sizes {
+                run: 0,
+                open: sizes.open,
+                nested,
+            }),
             Mark::LeftBrace => {
                 if sizes.open == 128 {
                     return None;
                 }
-                Some(Sizes { run: 0, open: sizes.open + 1, nested })
+                Some(Sizes {
+                    run: 0,
+                    open: sizes.open + 1,
+                    nested,
+                })
             }
-            Mark::RightBrace => Some(Sizes { run: 0, open: if sizes.open == 0 { 0 } else { sizes.open - 1 }, nested }),
+            Mark::RightBrace => Some(Sizes {
+                run: 0,
+                open: if sizes.open == 0 { 0 } else { sizes.open - 1 },
+                nested,
+            }),
             Mark::Else | Mark::For => {
                 if is_full || nested == 512 {
                     return None;
                 }
-                Some(Sizes { run: sizes.run + 1, open: sizes.open, nested: nested + 1 })
+                Some(Sizes {
+                    run: sizes.run + 1,
+                    open: sizes.open,
+                    nested: nested + 1,
+                })
             }
             _ => {
                 if is_full {
                     return None;
                 }
-                Some(Sizes { run: sizes.run + 1, open: sizes.open, nested })
+                Some(Sizes {
+                    run: sizes.run + 1,
+                    open: sizes.open,
+                    nested,
+                })
             }
         },
         _ => {
             if is_full {
                 return None;
             }
-            Some(Sizes { run: sizes.run + 1, open: sizes.open, nested })
+            Some(Sizes {
+                run: sizes.run + 1,
+                open: sizes.open,
+                nested,
+            })
         }
     }
 }
@@ -401,7 +557,11 @@ pub fn lex(alloc: Global, text: &[u8]) -> Result<(Vec<Token>, Vec<usize>), LexFa
     let mut places = Vec::new(alloc);
     let mut rest = text;
     let mut at: usize = 0;
-    let mut sizes = Sizes { run: 0, open: 0, nested: 0 };
+    let mut sizes = Sizes {
+        run: 0,
+        open: 0,
+        nested: 0,
+    };
     'lexemes: loop {
         match next_step(at, rest) {
             Step::Done => return Ok((tokens, places)),
@@ -427,5 +587,4 @@ pub fn lex(alloc: Global, text: &[u8]) -> Result<(Vec<Token>, Vec<usize>), LexFa
 /// A text has one list of tokens at most, at one list of places.
 pub fn one_lexing()
     ensures { (text : List ℕ) (ts us : List Token) (ks js : List ℕ) → Lexes 0 text [] ts ks → Lexes 0 text [] us js → (ts ≡ us) × (ks ≡ js) }
-{
-}
+{}

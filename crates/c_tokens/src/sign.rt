@@ -4,10 +4,9 @@ ghost use Rattle.c_tokens.specs.Fronts.{longest, longer, sign_lexeme};
 ghost use Rattle.c_tokens.specs.Spellings.{bytes_of, entry_of, shown};
 ghost use Rattle.c_tokens.specs.Texts.{Fits};
 
-use crate::token::Mark;
-
 use crate::lex::Lexeme;
 use crate::scan::{begins, split};
+use crate::token::Mark;
 
 /// The bytes of an operator or a bracket.
 #[derive(Clone, Copy)]
@@ -25,55 +24,202 @@ pub struct Entry {
 }
 
 const SIGNS: [Entry; 49] = [
-    Entry { spelling: Spelling::One(40), mark: Some(Mark::LeftParen) },
-    Entry { spelling: Spelling::One(41), mark: Some(Mark::RightParen) },
-    Entry { spelling: Spelling::One(123), mark: Some(Mark::LeftBrace) },
-    Entry { spelling: Spelling::One(125), mark: Some(Mark::RightBrace) },
-    Entry { spelling: Spelling::One(91), mark: Some(Mark::LeftBracket) },
-    Entry { spelling: Spelling::One(93), mark: Some(Mark::RightBracket) },
-    Entry { spelling: Spelling::One(59), mark: Some(Mark::Semicolon) },
-    Entry { spelling: Spelling::One(44), mark: Some(Mark::Comma) },
-    Entry { spelling: Spelling::One(61), mark: Some(Mark::Assign) },
-    Entry { spelling: Spelling::One(63), mark: Some(Mark::Question) },
-    Entry { spelling: Spelling::One(58), mark: Some(Mark::Colon) },
-    Entry { spelling: Spelling::Two(124, 124), mark: Some(Mark::BarBar) },
-    Entry { spelling: Spelling::Two(38, 38), mark: Some(Mark::AndAnd) },
-    Entry { spelling: Spelling::One(124), mark: Some(Mark::Bar) },
-    Entry { spelling: Spelling::One(94), mark: Some(Mark::Caret) },
-    Entry { spelling: Spelling::One(38), mark: Some(Mark::Ampersand) },
-    Entry { spelling: Spelling::Two(61, 61), mark: Some(Mark::EqualEqual) },
-    Entry { spelling: Spelling::Two(33, 61), mark: Some(Mark::BangEqual) },
-    Entry { spelling: Spelling::One(60), mark: Some(Mark::Less) },
-    Entry { spelling: Spelling::One(62), mark: Some(Mark::Greater) },
-    Entry { spelling: Spelling::Two(60, 61), mark: Some(Mark::LessEqual) },
-    Entry { spelling: Spelling::Two(62, 61), mark: Some(Mark::GreaterEqual) },
-    Entry { spelling: Spelling::Two(60, 60), mark: Some(Mark::LessLess) },
-    Entry { spelling: Spelling::Two(62, 62), mark: Some(Mark::GreaterGreater) },
-    Entry { spelling: Spelling::One(43), mark: Some(Mark::Plus) },
-    Entry { spelling: Spelling::One(45), mark: Some(Mark::Minus) },
-    Entry { spelling: Spelling::One(42), mark: Some(Mark::Star) },
-    Entry { spelling: Spelling::One(47), mark: Some(Mark::Slash) },
-    Entry { spelling: Spelling::One(37), mark: Some(Mark::Percent) },
-    Entry { spelling: Spelling::One(126), mark: Some(Mark::Tilde) },
-    Entry { spelling: Spelling::One(33), mark: Some(Mark::Bang) },
-    Entry { spelling: Spelling::Two(43, 43), mark: None },
-    Entry { spelling: Spelling::Two(45, 45), mark: None },
-    Entry { spelling: Spelling::Two(43, 61), mark: None },
-    Entry { spelling: Spelling::Two(45, 61), mark: None },
-    Entry { spelling: Spelling::Two(42, 61), mark: None },
-    Entry { spelling: Spelling::Two(47, 61), mark: None },
-    Entry { spelling: Spelling::Two(37, 61), mark: None },
-    Entry { spelling: Spelling::Three(60, 60, 61), mark: None },
-    Entry { spelling: Spelling::Three(62, 62, 61), mark: None },
-    Entry { spelling: Spelling::Two(38, 61), mark: None },
-    Entry { spelling: Spelling::Two(124, 61), mark: None },
-    Entry { spelling: Spelling::Two(94, 61), mark: None },
-    Entry { spelling: Spelling::Two(45, 62), mark: None },
-    Entry { spelling: Spelling::One(46), mark: None },
-    Entry { spelling: Spelling::Three(46, 46, 46), mark: None },
-    Entry { spelling: Spelling::One(35), mark: None },
-    Entry { spelling: Spelling::Two(35, 35), mark: None },
-    Entry { spelling: Spelling::Two(63, 63), mark: None },
+    Entry {
+        spelling: Spelling::One(40),
+        mark: Some(Mark::LeftParen),
+    },
+    Entry {
+        spelling: Spelling::One(41),
+        mark: Some(Mark::RightParen),
+    },
+    Entry {
+        spelling: Spelling::One(123),
+        mark: Some(Mark::LeftBrace),
+    },
+    Entry {
+        spelling: Spelling::One(125),
+        mark: Some(Mark::RightBrace),
+    },
+    Entry {
+        spelling: Spelling::One(91),
+        mark: Some(Mark::LeftBracket),
+    },
+    Entry {
+        spelling: Spelling::One(93),
+        mark: Some(Mark::RightBracket),
+    },
+    Entry {
+        spelling: Spelling::One(59),
+        mark: Some(Mark::Semicolon),
+    },
+    Entry {
+        spelling: Spelling::One(44),
+        mark: Some(Mark::Comma),
+    },
+    Entry {
+        spelling: Spelling::One(61),
+        mark: Some(Mark::Assign),
+    },
+    Entry {
+        spelling: Spelling::One(63),
+        mark: Some(Mark::Question),
+    },
+    Entry {
+        spelling: Spelling::One(58),
+        mark: Some(Mark::Colon),
+    },
+    Entry {
+        spelling: Spelling::Two(124, 124),
+        mark: Some(Mark::BarBar),
+    },
+    Entry {
+        spelling: Spelling::Two(38, 38),
+        mark: Some(Mark::AndAnd),
+    },
+    Entry {
+        spelling: Spelling::One(124),
+        mark: Some(Mark::Bar),
+    },
+    Entry {
+        spelling: Spelling::One(94),
+        mark: Some(Mark::Caret),
+    },
+    Entry {
+        spelling: Spelling::One(38),
+        mark: Some(Mark::Ampersand),
+    },
+    Entry {
+        spelling: Spelling::Two(61, 61),
+        mark: Some(Mark::EqualEqual),
+    },
+    Entry {
+        spelling: Spelling::Two(33, 61),
+        mark: Some(Mark::BangEqual),
+    },
+    Entry {
+        spelling: Spelling::One(60),
+        mark: Some(Mark::Less),
+    },
+    Entry {
+        spelling: Spelling::One(62),
+        mark: Some(Mark::Greater),
+    },
+    Entry {
+        spelling: Spelling::Two(60, 61),
+        mark: Some(Mark::LessEqual),
+    },
+    Entry {
+        spelling: Spelling::Two(62, 61),
+        mark: Some(Mark::GreaterEqual),
+    },
+    Entry {
+        spelling: Spelling::Two(60, 60),
+        mark: Some(Mark::LessLess),
+    },
+    Entry {
+        spelling: Spelling::Two(62, 62),
+        mark: Some(Mark::GreaterGreater),
+    },
+    Entry {
+        spelling: Spelling::One(43),
+        mark: Some(Mark::Plus),
+    },
+    Entry {
+        spelling: Spelling::One(45),
+        mark: Some(Mark::Minus),
+    },
+    Entry {
+        spelling: Spelling::One(42),
+        mark: Some(Mark::Star),
+    },
+    Entry {
+        spelling: Spelling::One(47),
+        mark: Some(Mark::Slash),
+    },
+    Entry {
+        spelling: Spelling::One(37),
+        mark: Some(Mark::Percent),
+    },
+    Entry {
+        spelling: Spelling::One(126),
+        mark: Some(Mark::Tilde),
+    },
+    Entry {
+        spelling: Spelling::One(33),
+        mark: Some(Mark::Bang),
+    },
+    Entry {
+        spelling: Spelling::Two(43, 43),
+        mark: None,
+    },
+    Entry {
+        spelling: Spelling::Two(45, 45),
+        mark: None,
+    },
+    Entry {
+        spelling: Spelling::Two(43, 61),
+        mark: None,
+    },
+    Entry {
+        spelling: Spelling::Two(45, 61),
+        mark: None,
+    },
+    Entry {
+        spelling: Spelling::Two(42, 61),
+        mark: None,
+    },
+    Entry {
+        spelling: Spelling::Two(47, 61),
+        mark: None,
+    },
+    Entry {
+        spelling: Spelling::Two(37, 61),
+        mark: None,
+    },
+    Entry {
+        spelling: Spelling::Three(60, 60, 61),
+        mark: None,
+    },
+    Entry {
+        spelling: Spelling::Three(62, 62, 61),
+        mark: None,
+    },
+    Entry {
+        spelling: Spelling::Two(38, 61),
+        mark: None,
+    },
+    Entry {
+        spelling: Spelling::Two(124, 61),
+        mark: None,
+    },
+    Entry {
+        spelling: Spelling::Two(94, 61),
+        mark: None,
+    },
+    Entry {
+        spelling: Spelling::Two(45, 62),
+        mark: None,
+    },
+    Entry {
+        spelling: Spelling::One(46),
+        mark: None,
+    },
+    Entry {
+        spelling: Spelling::Three(46, 46, 46),
+        mark: None,
+    },
+    Entry {
+        spelling: Spelling::One(35),
+        mark: None,
+    },
+    Entry {
+        spelling: Spelling::Two(35, 35),
+        mark: None,
+    },
+    Entry {
+        spelling: Spelling::Two(63, 63),
+        mark: None,
+    },
 ];
 
 fn stands(spelling: Spelling, text: &[u8]) -> bool
@@ -108,7 +254,11 @@ fn longer(entry: Entry, best: Option<Entry>) -> Entry
     match best {
         None => entry,
         Some(other) => {
-            if length_of(entry.spelling) < length_of(other.spelling) { other } else { entry }
+            if length_of(entry.spelling) < length_of(other.spelling) {
+                other
+            } else {
+                entry
+            }
         }
     }
 }

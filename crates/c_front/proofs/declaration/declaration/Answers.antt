@@ -1,4 +1,4 @@
-use Rattle.std.proofs.Common.{rules, arith, ◌≡◌, ◌<◌, ◌≤◌, ◌∷◌, ◌++◌, suc, List, [], length, ap, sym, ◌∙◌}
+use Rattle.std.proofs.Common.{rules}
 use Rattle.c_front.specs.Stop.{IsStuck}
 use Rattle.c_front.specs.Grammar.{a_declaration}
 use Rattle.c_front.proofs.DeclarationPaths.{void-name-stuck, void-rest-stuck, void-read, no-declaration, typed-name-stuck, typed-rest-stuck, typed-read}

@@ -1,4 +1,4 @@
-use Rattle.std.proofs.Common.{rules, arith, ◌≡◌, ◌<◌, ◌≤◌, ◌∷◌, ◌++◌, suc, List, [], length, ap, sym, ◌∙◌}
+use Rattle.std.proofs.Common.{rules}
 use Rattle.c_front.specs.Stop.{IsStuck}
 use Rattle.c_front.specs.Grammar.{function_rest}
 use Rattle.c_front.proofs.DeclarationPaths.{function-open-stuck, function-parameters-stuck, function-close-stuck, function-brace-stuck, function-body-stuck, function-end-stuck, function-read}

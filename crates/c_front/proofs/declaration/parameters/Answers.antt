@@ -1,4 +1,4 @@
-use Rattle.std.proofs.Common.{rules, arith, ◌≡◌, ◌<◌, ◌≤◌, ◌∷◌, ◌++◌, suc, List, [], length, ap, sym, ◌∙◌}
+use Rattle.std.proofs.Common.{rules, arith, ◌≡◌, ◌<◌, suc, length, ap}
 use Rattle.c_front.specs.Stop.{IsStuck}
 use Rattle.c_front.specs.Grammar.{parameters}
 use Rattle.c_front.proofs.DeclarationPaths.{no-parameters-read, first-parameter-stuck, parameters-first, parameters-more, next-parameter-stuck, parameters-read}

@@ -1,4 +1,3 @@
-use Rattle.std.proofs.Common.{◌≡◌}
 use Rattle.c_front.proofs.Theorems.{first-wrong}
 use Rattle.c_front.proofs.declaration.parse.Goals as goal
 

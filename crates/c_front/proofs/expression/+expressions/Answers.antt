@@ -1,9 +1,9 @@
-use Rattle.std.proofs.Common.{rules, arith, ◌≡◌, ◌<◌, ◌≤◌, ◌≢◌, ◌+◌, ◌∷◌, suc, List, [], Option, Some, None, length, ap, refl, sym, ◌∙◌, subst, ℕ}
+use Rattle.std.proofs.Common.{rules, arith, ◌≡◌, ◌<◌, ◌∷◌, suc, length, ap, refl, ◌∙◌}
 use Rattle.c_tokens.specs.declared.token.Token.{Token}
-use Rattle.c_tokens.specs.declared.token.Token.TheVariants.{The, Constant, Name, Jump}
-use Rattle.c_tokens.specs.declared.token.Mark.TheVariants.{Question, LeftParen, RightParen, LeftBracket, RightBracket}
-use Rattle.c_front.specs.Grammar.{operands, above, units, an_expression, first}
-use Rattle.c_front.specs.Stop.{IsRead, IsStuck, IsChoiceStuck, IsClosedStuck, level_of, EndsUpTo, EndsBelow}
+use Rattle.c_tokens.specs.declared.token.Token.TheVariants.{The}
+use Rattle.c_tokens.specs.declared.token.Mark.TheVariants.{LeftParen}
+use Rattle.c_front.specs.Grammar.{operands, above, units, an_expression}
+use Rattle.c_front.specs.Stop.{IsStuck, IsChoiceStuck, IsClosedStuck, level_of}
 use Rattle.c_front.proofs.Paths.{one-less-stuck, climbs-first, climbs-more, climbs-end, further-out, climbs-first-stuck, climbs-more-stuck, closed-inner-stuck, closed-end-stuck, closed-read, choice-first-stuck, choice-second-stuck, choice-read, condition-stuck, expression-alone, expression-choice, expression-choice-stuck, constant-read, name-read, index-read, index-stuck, prefix-read, prefix-stuck, parens-read, parens-stuck, no-operand, nothing-stuck, no-phrase}
 use Rattle.c_front.proofs.expression.+expressions.Goals as goal
 
@@ -50,7 +50,7 @@ operand-returns-in_default-clause-err t c = nothing-stuck (operands units) _ c.i
 pub operand-returns-in_err-index-in-Some-starts-clause-err : goal.operand-returns-in_err-index-in-Some-starts-clause-err
 operand-returns-in_err-index-in-Some-starts-clause-err t c =
     let h : IsStuck (operands units) c.args.tokens.now c.in_err-index-in-Some-starts.field-0.0 =
-      index-stuck _ _ _ _ _ (c.in-Some.ensures.some ∙ ap (λ (x : Token). x ∷ c.in-Some.rest.now) c.in-Name.is) c.in-Some-starts.ensures.some c.in_err-index-in-Some-starts.ensures.err in search rules
+    index-stuck _ _ _ _ _ (c.in-Some.ensures.some ∙ ap (λ (x : Token). x ∷ c.in-Some.rest.now) c.in-Name.is) c.in-Some-starts.ensures.some c.in_err-index-in-Some-starts.ensures.err in search rules
 
 pub operand-returns-in_ok-new-in-Some-starts-clause-ok : goal.operand-returns-in_ok-new-in-Some-starts-clause-ok
 operand-returns-in_ok-new-in-Some-starts-clause-ok t c =
@@ -65,7 +65,7 @@ operand-returns-in-Constant-clause-ok t c = constant-read _ _ _ (c.in-Some.ensur
 pub operand-returns-in_err-inner-in-The-clause-err : goal.operand-returns-in_err-inner-in-The-clause-err
 operand-returns-in_err-inner-in-The-clause-err t c =
     let h : IsStuck (operands units) c.args.tokens.now c.in_err-inner-in-The.field-0.0 =
-      prefix-stuck _ _ _ _ _ (c.in-Some.ensures.some ∙ ap (λ (x : Token). x ∷ c.in-Some.rest.now) c.in-The.is) c.in-Some-prefix_of.ensures.some c.in_err-inner-in-The.ensures.err in search rules
+    prefix-stuck _ _ _ _ _ (c.in-Some.ensures.some ∙ ap (λ (x : Token). x ∷ c.in-Some.rest.now) c.in-The.is) c.in-Some-prefix_of.ensures.some c.in_err-inner-in-The.ensures.err in search rules
 
 pub operand-returns-in-Some-prefix_of-clause-ok : goal.operand-returns-in-Some-prefix_of-clause-ok
 operand-returns-in-Some-prefix_of-clause-ok t c =
@@ -105,7 +105,7 @@ operands-returns-then-found-level-clause-ends t c = further-out _ _ _ _ _ c.in-S
 pub operands-returns-in_err-right-clause-err : goal.operands-returns-in_err-right-clause-err
 operands-returns-in_err-right-clause-err t c =
     let h : IsStuck (operands (above (level_of c.args.level))) c.args.tokens.now c.in_err-right.field-0.0 =
-      climbs-more-stuck _ _ _ _ _ _ _ _ c.climbing.invariant c.in-Some.ensures.some c.if-found-level.false c.in_err-right.ensures.err in search rules
+    climbs-more-stuck _ _ _ _ _ _ _ _ c.climbing.invariant c.in-Some.ensures.some c.if-found-level.false c.in_err-right.ensures.err in search rules
 
 pub operands-climbing-preserved : goal.operands-climbing-preserved
 operands-climbing-preserved t c =

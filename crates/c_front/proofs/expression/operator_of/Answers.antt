@@ -1,4 +1,3 @@
-use Rattle.std.proofs.Common.{◌≡◌}
 use Rattle.c_front.specs.Grammar.{multiply, divide, remainder, add, subtract, shift_left, shift_right, below, exceeds, at_most, at_least, same, differs, bit_and, bit_xor, bit_or, both, either}
 use Rattle.c_front.proofs.Paths.{no-operator}
 use Rattle.c_front.proofs.expression.operator_of.Goals as goal

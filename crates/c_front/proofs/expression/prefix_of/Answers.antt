@@ -1,4 +1,3 @@
-use Rattle.std.proofs.Common.{◌≡◌}
 use Rattle.c_front.specs.Grammar.{negate, identity, complement, not}
 use Rattle.c_front.proofs.expression.prefix_of.Goals as goal
 

@@ -1,4 +1,4 @@
-use Rattle.std.proofs.Common.{◌≡◌, List, subst, sym}
+use Rattle.std.proofs.Common.{List, subst}
 use Rattle.c_tokens.specs.declared.token.Token.{Token}
 use Rattle.c_tokens.proofs.Once.{lexes-once}
 use Rattle.c_front.specs.Grammar.{Spells}

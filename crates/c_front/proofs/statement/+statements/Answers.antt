@@ -1,16 +1,13 @@
-use Rattle.std.proofs.Common.{rules, arith, ◌≡◌, ◌<◌, ◌≤◌, ◌∷◌, ◌++◌, List, [], Option, Some, None, length, Bool, true, false, ap, refl, sym, subst, ◌∙◌}
+use Rattle.std.proofs.Common.{rules, arith, ◌≡◌, ◌<◌, ◌≤◌, ◌∷◌, [], length, Bool, true, false, ap, refl, ◌∙◌}
 use Rattle.c_tokens.specs.declared.token.Token.{Token}
-use Rattle.c_tokens.specs.declared.token.Token.TheVariants.{Name, The}
-use Rattle.c_tokens.specs.declared.token.Mark.TheVariants.{Semicolon, LeftBrace, RightBrace, If, While, For}
-use Rattle.c_front.specs.declared.tree.Item.{Item}
-use Rattle.c_front.specs.Tree.{Items}
+use Rattle.c_tokens.specs.declared.token.Token.TheVariants.{The}
+use Rattle.c_tokens.specs.declared.token.Mark.TheVariants.{LeftBrace, While, For}
 use Rattle.c_front.specs.Grammar.{a_statement, an_item, items, first}
 use Rattle.c_front.specs.Choosing.{EndsItems}
-use Rattle.c_front.specs.Shape.{items_of, item_of, statement_of}
-use Rattle.c_front.specs.Stop.{IsRead, IsStuck, IsBranchStuck}
+use Rattle.c_front.specs.Stop.{IsStuck, IsBranchStuck}
 use Rattle.c_front.proofs.Paths.{nothing-stuck}
 use Rattle.c_front.proofs.Shapes.{block-is, items_of-append}
-use Rattle.c_front.proofs.StatementPaths.{GoesOnItems, empty-read, block-read, block-stuck, block-close-stuck, if-read, if-stuck, simply-read, simply-stuck, simply-end-stuck, no-statement, no-mark, declare-end-stuck, branch-first-stuck, branch-second-stuck, branch-alone-read, branch-else-read, declare-read, declare-name-stuck, declare-value-stuck, item-statement-read, item-statement-stuck, goes-on-items-start, goes-on-items-more, items-end-read, items-item-stuck, while-read, while-test-stuck, while-body-stuck, for-read, for-head-stuck, for-body-stuck}
+use Rattle.c_front.proofs.StatementPaths.{empty-read, block-read, block-stuck, block-close-stuck, if-read, if-stuck, simply-read, simply-stuck, simply-end-stuck, no-statement, no-mark, declare-end-stuck, branch-first-stuck, branch-second-stuck, branch-alone-read, branch-else-read, declare-read, declare-name-stuck, declare-value-stuck, item-statement-read, item-statement-stuck, goes-on-items-more, items-end-read, items-item-stuck, while-read, while-test-stuck, while-body-stuck, for-read, for-head-stuck, for-body-stuck}
 use Rattle.c_front.proofs.Steps.{moved-read, moved-stuck}
 use Rattle.c_front.proofs.statement.+statements.Goals as goal
 

@@ -1,4 +1,4 @@
-use Rattle.std.proofs.Common.{rules, arith, ◌≡◌, ◌<◌, ◌≤◌, ◌∷◌, ◌++◌, suc, List, [], length, ap, sym, ◌∙◌}
+use Rattle.std.proofs.Common.{rules}
 use Rattle.c_front.specs.Stop.{IsEndedStuck}
 use Rattle.c_front.specs.Grammar.{maybe_expression}
 use Rattle.c_tokens.specs.declared.token.Mark.TheVariants.{Semicolon}

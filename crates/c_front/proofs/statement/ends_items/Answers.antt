@@ -1,9 +1,8 @@
-use Rattle.std.proofs.Common.{◌≡◌, Option, Some, ap, sym, subst, ◌∙◌}
+use Rattle.std.proofs.Common.{Option, Some, ap, subst, ◌∙◌}
 use Rattle.c_tokens.specs.declared.token.Token.{Token}
-use Rattle.c_tokens.specs.declared.token.Token.TheVariants.{The}
 use Rattle.c_front.specs.Grammar.{first}
 use Rattle.c_front.specs.Choosing.{EndsItems}
-use Rattle.c_front.proofs.StatementPaths.{not-end, mark-not-end, other-not-end}
+use Rattle.c_front.proofs.StatementPaths.{mark-not-end, other-not-end}
 use Rattle.c_front.proofs.statement.ends_items.Goals as goal
 
 pub returns-in_default : goal.returns-in_default

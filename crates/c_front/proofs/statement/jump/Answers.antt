@@ -1,4 +1,4 @@
-use Rattle.std.proofs.Common.{rules, arith, ◌≡◌, ◌<◌, ◌≤◌, ◌∷◌, ◌++◌, suc, List, [], length, ap, sym, ◌∙◌}
+use Rattle.std.proofs.Common.{rules, ◌∷◌}
 use Rattle.c_front.specs.Stop.{IsStuck}
 use Rattle.c_front.specs.Grammar.{a_statement}
 use Rattle.c_tokens.specs.declared.token.Token.TheVariants.{Jump}

@@ -1,4 +1,3 @@
-use Rattle.std.proofs.Common.{rules, arith, ◌≡◌, ◌<◌, ◌≤◌, ◌∷◌, ◌++◌, suc, List, [], length, ap, sym, ◌∙◌}
 use Rattle.c_front.proofs.StatementPaths.{int-read, unsigned-int-read, unsigned-read}
 use Rattle.c_front.proofs.statement.kind.Goals as goal
 

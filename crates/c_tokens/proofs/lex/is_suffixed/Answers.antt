@@ -1,4 +1,4 @@
-use Rattle.std.proofs.Common.{◌≡◌, ap, ◌∙◌, ℕ, List}
+use Rattle.std.proofs.Common.{ap, ◌∙◌}
 use Rattle.c_tokens.specs.Lexing.{is_suffix}
 use Rattle.c_tokens.proofs.Constants.{last-at}
 use Rattle.c_tokens.proofs.lex.is_suffixed.Goals as goal

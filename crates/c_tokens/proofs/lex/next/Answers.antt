@@ -1,4 +1,4 @@
-use Rattle.std.proofs.Common.{sym, ◌∙◌, ◌≡◌, ap, List, ℕ}
+use Rattle.std.proofs.Common.{sym, ◌∙◌, ap, List, ℕ}
 use Rattle.c_tokens.specs.Lexing.{comment_length}
 use Rattle.c_tokens.specs.Fronts.{comment_lexeme, line_lexeme, line_length}
 use Rattle.c_tokens.proofs.Fronts.{space-front, word-front, constant-front, comment-front, line-front, sign-front}
