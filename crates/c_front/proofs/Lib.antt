@@ -10,3 +10,4 @@ pub mod Shapes
 pub mod StatementPaths
 pub mod DeclarationPaths
 pub mod Faulting
+pub mod Excluding

@@ -2,6 +2,8 @@ ghost use Rattle.std.specs.Prelude.{◌≡◌, ℕ, List, length, IfOk, IfErr, I
 ghost use Rattle.c_front.specs.Shape.{declarations_of};
 ghost use Rattle.c_front.specs.Texts.{SpellsText, IsTextFault, is_text, IsBadByte, AllText, place_or, refusal_kind, number_of, spelling_of};
 ghost use Rattle.c_front.specs.Tree.{Declaration};
+ghost use Rattle.c_front.specs.declared.read.FaultKind.{FaultKind};
+ghost use Rattle.c_front.specs.declared.read.FaultKind.TheVariants.{NoMemory};
 ghost use Rattle.c_front.specs.Faults.{lexical_fault, syntactic_fault};
 
 use crate::declaration::{Fault, parse};
@@ -178,7 +180,8 @@ pub fn read(alloc: Global, text: &[u8]) -> Result<Program, FrontFault>
     }
 }
 
-/// A text spells one program at most.
+/// A text spells one program at most, and none where it has a fault other than want of memory.
 pub fn one_reading()
-    ensures { (text : List ℕ) (p q : List Declaration) → SpellsText text p → SpellsText text q → p ≡ q }
+    ensures once { (text : List ℕ) (p q : List Declaration) → SpellsText text p → SpellsText text q → p ≡ q }
+    ensures refused { (text : List ℕ) (k : FaultKind) (at : ℕ) (p : List Declaration) → IsTextFault text k at → (k ≡ NoMemory → ⊥) → SpellsText text p → ⊥ }
 {}

@@ -1,9 +1,10 @@
 -- A text has its tokens once.
-use Rattle.std.proofs.Common.{◌≡◌, ◌+◌, ℕ, List, ◌∷◌, drop, refl, sym, ap, subst, ◌∙◌}
+use Rattle.std.proofs.Common.{◌≡◌, ◌+◌, ℕ, List, ◌∷◌, drop, Bool, true, false, refl, sym, ap, subst, ◌∙◌}
 use Rattle.c_tokens.specs.declared.token.Token.{Token}
 use Rattle.c_tokens.specs.declared.lex.Step.{Step}
-use Rattle.c_tokens.specs.declared.lex.Step.TheVariants.{Done, Skip, Take}
-use Rattle.c_tokens.specs.Texts.{IsStep, step_of, Lexes, lexes_end, lexes_skip, lexes_take}
+use Rattle.c_tokens.specs.declared.lex.Step.TheVariants.{Done, Skip, Take, Stop}
+use Rattle.c_tokens.specs.Texts.{IsStep, step_of, is_oversize, Lexes, lexes_end, lexes_skip, lexes_take, LexStops, stops_here, stops_size, stops_skip, stops_take}
+use Rattle.c_tokens.specs.declared.lex.Refusal.{Refusal}
 use Rattle.c_tokens.proofs.Finding.{next-once}
 
 step-once : (at : ℕ) (bs : List ℕ) (s t : Step) → IsStep at bs s → IsStep at bs t → s ≡ t
@@ -46,3 +47,38 @@ lexes-once {at = at} {bs = bs} {before = before} (lexes_take {n = n} {tokens = t
     let Q : Token → Type 0 = λ x. Lexes (at + n) (drop n bs) (x ∷ before) us ks in
     let r = lexes-once c us ks (subst Q (sym q) (subst P (sym (take-length t u n m same)) d)) in
     (ap (λ (x : Token). x ∷ ts) q ∙ ap (λ (x : List Token). u ∷ x) r.0, ap (λ (x : List ℕ). at ∷ x) r.1)
+
+stop-done : (r : Refusal) (k : ℕ) → Stop r k ≡ Done → ⊥
+stop-done r k e = cc
+
+stop-skip : (r : Refusal) (k n : ℕ) → Stop r k ≡ Skip n → ⊥
+stop-skip r k n e = cc
+
+stop-take : (r : Refusal) (k n : ℕ) (t : Token) → Stop r k ≡ Take t n → ⊥
+stop-take r k n t e = cc
+
+true-false : {x : Bool} → x ≡ true → x ≡ false → ⊥
+true-false e f = cc
+
+-- a text that is refused has no tokens
+pub never-lexes : {at : ℕ} {bs : List ℕ} {before : List Token} {r : Refusal} {k : ℕ} → LexStops at bs before r k → (tokens : List Token) (places : List ℕ) → Lexes at bs before tokens places → ⊥
+never-lexes {at = at} {bs = bs} (stops_here {k = k} {r = r} e) ts ks (lexes_end f) = stop-done r k (step-once at bs _ _ e f)
+never-lexes {at = at} {bs = bs} (stops_here {k = k} {r = r} e) ts ks (lexes_skip {n = m} f d) = stop-skip r k m (step-once at bs _ _ e f)
+never-lexes {at = at} {bs = bs} (stops_here {k = k} {r = r} e) _ _ (lexes_take {n = m} {t = u} f h d) = stop-take r k m u (step-once at bs _ _ e f)
+never-lexes {at = at} {bs = bs} (stops_size {n = n} {t = t} e h) ts ks (lexes_end f) = done-take t n (step-once at bs _ _ f e)
+never-lexes {at = at} {bs = bs} (stops_size {n = n} {t = t} e h) ts ks (lexes_skip {n = m} f d) = skip-take t n m (step-once at bs _ _ f e)
+never-lexes {at = at} {bs = bs} {before = before} (stops_size {n = n} {t = t} e h) _ _ (lexes_take {n = m} {t = u} f k d) =
+    let q : t ≡ u = take-token t u n m (step-once at bs _ _ e f) in
+    true-false (ap (λ (x : Token). is_oversize (x ∷ before)) (sym q) ∙ h) k
+never-lexes {at = at} {bs = bs} (stops_skip {n = n} e s) ts ks (lexes_end f) = done-skip n (step-once at bs _ _ f e)
+never-lexes {at = at} {bs = bs} {before = before} (stops_skip {n = n} e s) ts ks (lexes_skip {n = m} f d) =
+    let P : ℕ → Type 0 = λ x. Lexes (at + x) (drop x bs) before ts ks in
+    never-lexes s ts ks (subst P (sym (skip-same n m (step-once at bs _ _ e f))) d)
+never-lexes {at = at} {bs = bs} (stops_skip {n = n} e s) _ _ (lexes_take {n = m} {t = u} f k d) = skip-take u m n (step-once at bs _ _ e f)
+never-lexes {at = at} {bs = bs} (stops_take {n = n} {t = t} e h s) ts ks (lexes_end f) = done-take t n (step-once at bs _ _ f e)
+never-lexes {at = at} {bs = bs} (stops_take {n = n} {t = t} e h s) ts ks (lexes_skip {n = m} f d) = skip-take t n m (step-once at bs _ _ f e)
+never-lexes {at = at} {bs = bs} {before = before} (stops_take {n = n} {t = t} e h s) _ _ (lexes_take {n = m} {places = ks} {tokens = us} {t = u} f k d) =
+    let same = step-once at bs _ _ e f in
+    let P : ℕ → Type 0 = λ x. Lexes (at + x) (drop x bs) (u ∷ before) us ks in
+    let Q : Token → Type 0 = λ x. Lexes (at + n) (drop n bs) (x ∷ before) us ks in
+    never-lexes s us ks (subst Q (sym (take-token t u n m same)) (subst P (sym (take-length t u n m same)) d))

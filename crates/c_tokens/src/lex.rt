@@ -2,8 +2,9 @@ ghost use Rattle.std.specs.Prelude.{◌≡◌, ◌+◌, ◌<◌, ◌≤◌, ◌+
 ghost use Rattle.c_tokens.specs.Lexing.{word_lexeme, keyword_lexeme, kind_of, keywords, constant_lexeme, digit_of, digits_of, up_to, is_suffix, plain_of, digits_in, last_or, greatest_of, comment_length, signs};
 ghost use Rattle.c_tokens.specs.Fronts.{lexeme_of, word_length, run_length, comment_lexeme, line_lexeme, line_length, sign_lexeme, longest};
 ghost use Rattle.c_tokens.specs.declared.token.Token.{Token};
+ghost use Rattle.c_tokens.specs.declared.lex.Refusal.{Refusal};
 ghost use Rattle.c_tokens.specs.Keywords.{keyword_of};
-ghost use Rattle.c_tokens.specs.Texts.{Lexes, IsStep, Fits, StepFits, step_of, IsLexFault, Within, Counted, Oversize};
+ghost use Rattle.c_tokens.specs.Texts.{Lexes, LexStops, IsStep, Fits, StepFits, step_of, IsLexFault, Within, Counted, Oversize};
 
 use crate::scan::{
     after, begins, comment_length, escape_at, is_digit, is_letter, is_space, line_length,
@@ -584,7 +585,8 @@ pub fn lex(alloc: Global, text: &[u8]) -> Result<(Vec<Token>, Vec<usize>), LexFa
     }
 }
 
-/// A text has one list of tokens at most, at one list of places.
+/// A text has one list of tokens at most, at one list of places, and none where it is refused.
 pub fn one_lexing()
-    ensures { (text : List ℕ) (ts us : List Token) (ks js : List ℕ) → Lexes 0 text [] ts ks → Lexes 0 text [] us js → (ts ≡ us) × (ks ≡ js) }
+    ensures once { (text : List ℕ) (ts us : List Token) (ks js : List ℕ) → Lexes 0 text [] ts ks → Lexes 0 text [] us js → (ts ≡ us) × (ks ≡ js) }
+    ensures refused { (text : List ℕ) (r : Refusal) (k : ℕ) (ts : List Token) (ks : List ℕ) → LexStops 0 text [] r k → Lexes 0 text [] ts ks → ⊥ }
 {}
