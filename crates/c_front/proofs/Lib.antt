@@ -1,0 +1,13 @@
+pub mod Reading
+pub mod Ranks
+pub mod Completing
+pub mod Deriving
+pub mod Theorems
+pub mod Paths
+pub mod Steps
+pub mod Simply
+pub mod Shapes
+pub mod StatementPaths
+pub mod DeclarationPaths
+pub mod Faulting
+pub mod Excluding

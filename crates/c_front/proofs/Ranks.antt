@@ -1,0 +1,97 @@
+-- How tightly the token after some operands would bind them.
+use Rattle.std.proofs.Common.{◌≡◌, ◌≢◌, ◌≤◌, ℕ, suc, [], ◌∷◌, Option, Some, None, refl, ap, arith}
+use Rattle.c_tokens.specs.declared.token.Token.{Token}
+use Rattle.c_tokens.specs.declared.token.Token.TheVariants.{The}
+use Rattle.c_tokens.specs.declared.token.Mark.{Mark}
+use Rattle.c_tokens.specs.declared.token.Mark.TheVariants.{LeftParen, LeftBracket, Question, Plus, Minus, Star, Slash, Percent, BarBar, AndAnd, Bar, Caret, Ampersand, EqualEqual, BangEqual, Less, Greater, LessEqual, GreaterEqual, LessLess, GreaterGreater}
+use Rattle.c_front.specs.declared.tree.BinaryOp.{BinaryOp}
+use Rattle.c_front.specs.Grammar.{the, Level, units, above, operands, more_operands, T, N, Operator, multiply, divide, remainder, add, subtract, shift_left, shift_right, below, exceeds, at_most, at_least, same, differs, bit_and, bit_xor, bit_or, both, either, operands_end, operands_more}
+use Rattle.c_front.specs.Choosing.{operator_at, more_choice, one_choice, EndsOperands, EndsChoice}
+
+-- an index or an argument binds tightest, then each level of operators, then a condition, then all that ends an expression
+abbrev pub rank_of : Option Token → ℕ
+rank_of (Some (The LeftParen)) = 0
+rank_of (Some (The LeftBracket)) = 0
+rank_of (Some (The Star)) = 1
+rank_of (Some (The Slash)) = 1
+rank_of (Some (The Percent)) = 1
+rank_of (Some (The Plus)) = 2
+rank_of (Some (The Minus)) = 2
+rank_of (Some (The LessLess)) = 3
+rank_of (Some (The GreaterGreater)) = 3
+rank_of (Some (The Less)) = 4
+rank_of (Some (The Greater)) = 4
+rank_of (Some (The LessEqual)) = 4
+rank_of (Some (The GreaterEqual)) = 4
+rank_of (Some (The EqualEqual)) = 5
+rank_of (Some (The BangEqual)) = 5
+rank_of (Some (The Ampersand)) = 6
+rank_of (Some (The Caret)) = 7
+rank_of (Some (The Bar)) = 8
+rank_of (Some (The AndAnd)) = 9
+rank_of (Some (The BarBar)) = 10
+rank_of (Some (The Question)) = 11
+rank_of _ = 12
+
+abbrev pub rank : Level → ℕ
+rank units = 1
+rank (above l) = suc (rank l)
+
+pub operator-rank : {l : Level} {o : BinaryOp} {t : Mark} → Operator l o t → rank_of (Some (The t)) ≡ rank l
+operator-rank multiply = refl
+operator-rank divide = refl
+operator-rank remainder = refl
+operator-rank add = refl
+operator-rank subtract = refl
+operator-rank shift_left = refl
+operator-rank shift_right = refl
+operator-rank below = refl
+operator-rank exceeds = refl
+operator-rank at_most = refl
+operator-rank at_least = refl
+operator-rank same = refl
+operator-rank differs = refl
+operator-rank bit_and = refl
+operator-rank bit_xor = refl
+operator-rank bit_or = refl
+operator-rank both = refl
+operator-rank either = refl
+
+pub operator-found : {l : Level} {o : BinaryOp} {t : Mark} (r : Operator l o t) → operator_at l t ≡ Some (o, r)
+operator-found multiply = refl
+operator-found divide = refl
+operator-found remainder = refl
+operator-found add = refl
+operator-found subtract = refl
+operator-found shift_left = refl
+operator-found shift_right = refl
+operator-found below = refl
+operator-found exceeds = refl
+operator-found at_most = refl
+operator-found at_least = refl
+operator-found same = refl
+operator-found differs = refl
+operator-found bit_and = refl
+operator-found bit_xor = refl
+operator-found bit_or = refl
+operator-found both = refl
+operator-found either = refl
+
+pub chosen-operator : {l : Level} {o : BinaryOp} {t : Mark} (r : Operator l o t) →
+    one_choice (more_operands l) (Some (The t)) ≡ Some (T (the t) ∷ N (operands l) ∷ N (more_operands l) ∷ [], operands_more r)
+chosen-operator {l = l} {t = t} r = ap (λ (x : Option ((o : BinaryOp) × Operator l o t)). Some (more_choice l t x)) (operator-found r)
+
+no-more : (l : Level) (t : Mark) → rank_of (Some (The t)) ≢ rank l → (x : Option ((o : BinaryOp) × Operator l o t)) → Some (more_choice l t x) ≡ Some ([], operands_end)
+no-more l t h None = refl
+no-more l t h (Some r) = absurd (h (operator-rank r.1))
+
+-- a token of another rank ends the operands of a level
+pub ends-operands : (l : Level) (next : Option Token) → rank_of next ≢ rank l → EndsOperands l next
+ends-operands l None h = refl
+ends-operands l (Some (The t)) h = no-more l t h (operator_at l t)
+ends-operands l (Some _) h = refl
+
+pub ends-choice : (next : Option Token) → 12 ≤ rank_of next → EndsChoice next
+ends-choice None h = refl
+ends-choice (Some (The Question)) h = absurd (omega (arith, h))
+ends-choice (Some _) h = refl

@@ -1,0 +1,8 @@
+use Rattle.c_front.proofs.Excluding.{once, excluded}
+use Rattle.c_front.proofs.read.one_reading.Goals as goal
+
+pub returns-clause-once : goal.returns-clause-once
+returns-clause-once c = once
+
+pub returns-clause-refused : goal.returns-clause-refused
+returns-clause-refused c = λ text k at p f n s. excluded f p n s

@@ -1,0 +1,28 @@
+use Rattle.std.proofs.Common.{◌+◌, ◌*◌, length}
+use Rattle.c_front.specs.Shape.{items_of}
+use Rattle.c_front.proofs.StatementPaths.{GoesOnItems}
+use Rattle.c_front.proofs.statement.+statements.Given as goal
+
+abbrev pub decreases-statement : goal.decreases-statement
+decreases-statement l = 4 * length l.tokens.now + 1
+
+abbrev pub decreases-branch : goal.decreases-branch
+decreases-branch l = 4 * length l.tokens.now + 1
+
+abbrev pub decreases-while_loop : goal.decreases-while_loop
+decreases-while_loop l = 4 * length l.tokens.now + 1
+
+abbrev pub decreases-for_loop : goal.decreases-for_loop
+decreases-for_loop l = 4 * length l.tokens.now + 1
+
+abbrev pub decreases-item : goal.decreases-item
+decreases-item l = 4 * length l.tokens.now + 2
+
+abbrev pub decreases-items : goal.decreases-items
+decreases-items l = 4 * length l.tokens.now + 3
+
+abbrev pub invariant-items-items : goal.invariant-items-items
+invariant-items-items l = GoesOnItems l.fn.tokens l.rest (items_of l.all.items)
+
+abbrev pub decreases-items-items : goal.decreases-items-items
+decreases-items-items l = length l.rest

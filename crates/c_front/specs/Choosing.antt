@@ -1,0 +1,155 @@
+-- The rule that the next two tokens choose.
+use Rattle.std.specs.Prelude.{◌≡◌, List, [], ◌∷◌, Option, Some, None}
+use Rattle.c_tokens.specs.declared.token.JumpWord.TheVariants.{Break, Continue, Return}
+use Rattle.c_tokens.specs.declared.token.Token.{Token}
+use Rattle.c_tokens.specs.declared.token.Token.TheVariants.{Name, Constant, Jump, The}
+use Rattle.c_tokens.specs.declared.token.Mark.{Mark}
+use Rattle.c_tokens.specs.declared.token.Mark.TheVariants.{Int, Unsigned, Void, If, Else, While, For, Semicolon, Comma, LeftBrace, RightBrace, LeftParen, RightParen, LeftBracket, Assign, Question, Plus, Minus, Star, Slash, Percent, Bang, Tilde, BarBar, AndAnd, Bar, Caret, Ampersand, EqualEqual, BangEqual, Less, Greater, LessEqual, GreaterEqual, LessLess, GreaterGreater}
+use Rattle.c_front.specs.declared.tree.BinaryOp.{BinaryOp}
+use Rattle.c_front.specs.Grammar.{the, Level, units, above, Nonterminal, a_program, declarations, a_declaration, a_type, maybe_int, after_global, initial, function_rest, parameters, more_parameters, items, an_item, declared, a_statement, else_part, maybe_simple, maybe_expression, simple, value, a_call, arguments, more_arguments, an_expression, choice, operands, more_operands, Symbol, T, N, Operator, multiply, divide, remainder, add, subtract, shift_left, shift_right, below, exceeds, at_most, at_least, same, differs, bit_and, bit_xor, bit_or, both, either, negate, identity, complement, not, Rule, program_rule, declarations_end, declarations_more, declaration_typed, declaration_void, type_int, type_unsigned, int_none, int_some, global_plain, global_initial, global_array, global_function, initial_plain, initial_negative, function_rule, parameters_void, parameters_some, more_parameters_end, more_parameters_more, items_end, items_more, item_declare, item_statement, declared_none, declared_some, statement_empty, statement_block, statement_if, statement_while, statement_for, statement_break, statement_continue, statement_return, statement_simple, else_none, else_some, simple_none, simple_some, expression_none, expression_some, simple_assign, simple_assign_at, simple_call, value_plain, value_call, call_rule, arguments_none, arguments_some, more_arguments_end, more_arguments_more, expression_rule, choice_none, choice_some, operands_rule, operands_end, operands_more, operand_constant, operand_name, operand_index, operand_unary, operand_paren}
+
+abbrev pub Choice : Nonterminal → Type 0
+Choice n = (symbols : List Symbol) × Rule n symbols
+
+-- the operator of a level that a token is
+abbrev pub operator_at : (l : Level) (t : Mark) → Option ((o : BinaryOp) × Operator l o t)
+operator_at units Star = Some (_, multiply)
+operator_at units Slash = Some (_, divide)
+operator_at units Percent = Some (_, remainder)
+operator_at (above units) Plus = Some (_, add)
+operator_at (above units) Minus = Some (_, subtract)
+operator_at (above (above units)) LessLess = Some (_, shift_left)
+operator_at (above (above units)) GreaterGreater = Some (_, shift_right)
+operator_at (above (above (above units))) Less = Some (_, below)
+operator_at (above (above (above units))) Greater = Some (_, exceeds)
+operator_at (above (above (above units))) LessEqual = Some (_, at_most)
+operator_at (above (above (above units))) GreaterEqual = Some (_, at_least)
+operator_at (above (above (above (above units)))) EqualEqual = Some (_, same)
+operator_at (above (above (above (above units)))) BangEqual = Some (_, differs)
+operator_at (above (above (above (above (above units))))) Ampersand = Some (_, bit_and)
+operator_at (above (above (above (above (above (above units)))))) Caret = Some (_, bit_xor)
+operator_at (above (above (above (above (above (above (above units))))))) Bar = Some (_, bit_or)
+operator_at (above (above (above (above (above (above (above (above units)))))))) AndAnd = Some (_, both)
+operator_at (above (above (above (above (above (above (above (above (above units))))))))) BarBar = Some (_, either)
+operator_at _ _ = None
+
+abbrev pub more_choice : (l : Level) (t : Mark) → Option ((o : BinaryOp) × Operator l o t) → Choice (more_operands l)
+more_choice l t None = ([], operands_end)
+more_choice l t (Some r) = (T (the t) ∷ N (operands l) ∷ N (more_operands l) ∷ [], operands_more r.1)
+
+-- the rule that one token chooses, for the phrases where one is enough
+abbrev pub one_choice : (n : Nonterminal) → Option Token → Option (Choice n)
+one_choice a_program _ = Some (_, program_rule)
+one_choice declarations None = Some (_, declarations_end)
+one_choice declarations (Some _) = Some (_, declarations_more)
+one_choice a_declaration (Some (The Void)) = Some (_, declaration_void)
+one_choice a_declaration _ = Some (_, declaration_typed)
+one_choice a_type (Some (The Int)) = Some (_, type_int)
+one_choice a_type (Some (The Unsigned)) = Some (_, type_unsigned)
+one_choice a_type _ = None
+one_choice maybe_int (Some (The Int)) = Some (_, int_some)
+one_choice maybe_int _ = Some (_, int_none)
+one_choice after_global (Some (The Semicolon)) = Some (_, global_plain)
+one_choice after_global (Some (The Assign)) = Some (_, global_initial)
+one_choice after_global (Some (The LeftBracket)) = Some (_, global_array)
+one_choice after_global _ = Some (_, global_function)
+one_choice initial (Some (The Minus)) = Some (_, initial_negative)
+one_choice initial _ = Some (_, initial_plain)
+one_choice function_rest _ = Some (_, function_rule)
+one_choice parameters (Some (The Void)) = Some (_, parameters_void)
+one_choice parameters _ = Some (_, parameters_some)
+one_choice more_parameters (Some (The Comma)) = Some (_, more_parameters_more)
+one_choice more_parameters _ = Some (_, more_parameters_end)
+one_choice items None = Some (_, items_end)
+one_choice items (Some (The RightBrace)) = Some (_, items_end)
+one_choice items (Some _) = Some (_, items_more)
+one_choice an_item (Some (The Int)) = Some (_, item_declare)
+one_choice an_item (Some (The Unsigned)) = Some (_, item_declare)
+one_choice an_item _ = Some (_, item_statement)
+one_choice declared (Some (The Assign)) = Some (_, declared_some)
+one_choice declared _ = Some (_, declared_none)
+one_choice a_statement (Some (The Semicolon)) = Some (_, statement_empty)
+one_choice a_statement (Some (The LeftBrace)) = Some (_, statement_block)
+one_choice a_statement (Some (The If)) = Some (_, statement_if)
+one_choice a_statement (Some (The While)) = Some (_, statement_while)
+one_choice a_statement (Some (The For)) = Some (_, statement_for)
+one_choice a_statement (Some (Jump Break at)) = Some (_, statement_break)
+one_choice a_statement (Some (Jump Continue at)) = Some (_, statement_continue)
+one_choice a_statement (Some (Jump Return at)) = Some (_, statement_return)
+one_choice a_statement (Some (Name x)) = Some (_, statement_simple)
+one_choice a_statement _ = None
+one_choice maybe_simple (Some (Name x)) = Some (_, simple_some)
+one_choice maybe_simple _ = Some (_, simple_none)
+one_choice maybe_expression (Some (The Semicolon)) = Some (_, expression_none)
+one_choice maybe_expression _ = Some (_, expression_some)
+one_choice else_part (Some (The Else)) = Some (_, else_some)
+one_choice else_part _ = Some (_, else_none)
+one_choice a_call _ = Some (_, call_rule)
+one_choice arguments (Some (The RightParen)) = Some (_, arguments_none)
+one_choice arguments _ = Some (_, arguments_some)
+one_choice more_arguments (Some (The Comma)) = Some (_, more_arguments_more)
+one_choice more_arguments _ = Some (_, more_arguments_end)
+one_choice an_expression _ = Some (_, expression_rule)
+one_choice choice (Some (The Question)) = Some (_, choice_some)
+one_choice choice _ = Some (_, choice_none)
+one_choice (operands (above l)) _ = Some (_, operands_rule)
+one_choice (more_operands l) None = Some (_, operands_end)
+one_choice (more_operands l) (Some (The t)) = Some (more_choice l t (operator_at l t))
+one_choice (more_operands l) (Some _) = Some (_, operands_end)
+one_choice simple _ = None
+one_choice value _ = None
+one_choice (operands units) _ = None
+
+abbrev pub simple_choice : Option Token → Option Token → Option (Choice simple)
+simple_choice (Some (Name x)) (Some (The LeftParen)) = Some (_, simple_call)
+simple_choice (Some (Name x)) (Some (The LeftBracket)) = Some (_, simple_assign_at)
+simple_choice (Some (Name x)) _ = Some (_, simple_assign)
+simple_choice _ _ = None
+
+abbrev pub value_choice : Option Token → Option Token → Option (Choice value)
+value_choice (Some (Name x)) (Some (The LeftParen)) = Some (_, value_call)
+value_choice _ _ = Some (_, value_plain)
+
+abbrev pub unit_choice : Option Token → Option Token → Option (Choice (operands units))
+unit_choice (Some (Constant k)) _ = Some (_, operand_constant)
+unit_choice (Some (Name x)) (Some (The LeftBracket)) = Some (_, operand_index)
+unit_choice (Some (Name x)) _ = Some (_, operand_name)
+unit_choice (Some (The Minus)) _ = Some (_, operand_unary negate)
+unit_choice (Some (The Plus)) _ = Some (_, operand_unary identity)
+unit_choice (Some (The Tilde)) _ = Some (_, operand_unary complement)
+unit_choice (Some (The Bang)) _ = Some (_, operand_unary not)
+unit_choice (Some (The LeftParen)) _ = Some (_, operand_paren)
+unit_choice _ _ = None
+
+abbrev pub chosen_rule : (n : Nonterminal) → Option Token → Option Token → Option (Choice n)
+chosen_rule simple next after = simple_choice next after
+chosen_rule value next after = value_choice next after
+chosen_rule (operands units) next after = unit_choice next after
+chosen_rule n next after = one_choice n next
+
+-- the second token has a say
+abbrev pub Peeks : Nonterminal → Option Token → Type 0
+Peeks simple (Some (Name x)) = Unit {0}
+Peeks value (Some (Name x)) = Unit {0}
+Peeks (operands units) (Some (Name x)) = Unit {0}
+Peeks _ _ = ⊥
+
+-- the token ends the operands of a level
+abbrev pub EndsOperands : Level → Option Token → Type 0
+EndsOperands l next = chosen_rule (more_operands l) next None ≡ Some ([], operands_end)
+
+-- the token ends an expression after its condition
+abbrev pub EndsChoice : Option Token → Type 0
+EndsChoice next = chosen_rule choice next None ≡ Some ([], choice_none)
+
+-- the token ends a list of items
+abbrev pub EndsItems : Option Token → Type 0
+EndsItems next = chosen_rule items next None ≡ Some ([], items_end)
+
+-- the token ends a list of arguments after its first
+abbrev pub EndsArguments : Option Token → Type 0
+EndsArguments next = chosen_rule more_arguments next None ≡ Some ([], more_arguments_end)
+
+-- the token ends a list of parameters after its first
+abbrev pub EndsParameters : Option Token → Type 0
+EndsParameters next = chosen_rule more_parameters next None ≡ Some ([], more_parameters_end)

@@ -1,0 +1,57 @@
+-- The trees that texts spell, without the places where a program keeps them.
+use Rattle.std.specs.Prelude.{ℕ, List, Option}
+use Rattle.c_tokens.specs.declared.token.Identifier.{Identifier}
+use Rattle.c_tokens.specs.declared.token.Kind.{Kind}
+use Rattle.c_tokens.specs.declared.token.Literal.{Literal}
+use Rattle.c_front.specs.declared.tree.UnaryOp.{UnaryOp}
+use Rattle.c_front.specs.declared.tree.BinaryOp.{BinaryOp}
+use Rattle.c_front.specs.declared.tree.Initial.{Initial}
+use Rattle.c_front.specs.declared.tree.Parameter.{Parameter}
+
+pub data Expression : Type 0 where
+  constant : Literal → Expression
+  name : Identifier → Expression
+  index : Identifier → Expression → Expression
+  unary : UnaryOp → Expression → Expression
+  binary : BinaryOp → Expression → Expression → Expression
+  choose : Expression → Expression → Expression → Expression
+
+-- a name with arguments
+pub data Call : Type 0 where
+  call : Identifier → List Expression → Call
+
+pub data Value : Type 0 where
+  plain : Expression → Value
+  called : Call → Value
+
+pub data Simple : Type 0 where
+  assign : Identifier → Value → Simple
+  assign_at : Identifier → Expression → Expression → Simple
+  run : Call → Simple
+
+mutual
+  pub data Statement : Type 0 where
+    empty : Statement
+    block : Items → Statement
+    branch : Expression → Statement → Statement
+    branch_else : Expression → Statement → Statement → Statement
+    repeat : Expression → Statement → Statement
+    repeat_for : Option Simple → Option Expression → Option Simple → Statement → Statement
+    break_at : ℕ → Statement
+    continue_at : ℕ → Statement
+    return_at : ℕ → Option Expression → Statement
+    simply : Simple → Statement
+
+  pub data Item : Type 0 where
+    declare : Kind → Identifier → Option Value → Item
+    statement : Statement → Item
+
+  pub data Items : Type 0 where
+    no_items : Items
+    more_items : Item → Items → Items
+
+-- a declaration at file scope; a function without a kind has no result
+pub data Declaration : Type 0 where
+  variable : Kind → Identifier → Option Initial → Declaration
+  array : Kind → Identifier → Literal → Declaration
+  function : Option Kind → Identifier → List Parameter → Items → Declaration

@@ -1,0 +1,94 @@
+ghost use Rattle.std.specs.Prelude.{◌≡◌, ◌∷◌, [], IfOk, IfErr, IfSome, IfNone};
+ghost use Rattle.c_front.specs.Stop.{IsMissing, StartsWith, StartsWithout, StartsWithName, IsNameMissing, StartsWithConstant, IsConstantMissing, StartsNamed, StartsUnnamed};
+
+use c_tokens::token::{Identifier, Literal, Mark, Token};
+use std::alloc::{AllocError, AllocFailed};
+
+/// Why parsing stopped: the tokens from the first wrong one on, or want of memory.
+#[derive(Drop)]
+pub enum Stop<'a> {
+    Syntax(&'a [Token]),
+    NoMemory,
+}
+
+impl<'a, T: Drop> From<AllocFailed<T>> for Stop<'a> {
+    ghost use Rattle.c_front.specs.declared.cursor.Stop.TheVariants.{NoMemory};
+
+    ghost from_gives = { λ _ r. r ≡ NoMemory };
+
+    fn from(_: AllocFailed<T>) -> Self {
+        Stop::NoMemory
+    }
+}
+
+/// The first token, and the tokens after it.
+pub fn split<'a>(tokens: &'a [Token]) -> Option<(Token, &'a [Token])>
+    ensures none { IfNone result (tokens.now ≡ []) }
+    ensures some { IfSome result (λ r. tokens.now ≡ r.0 ∷ r.1.now) }
+{
+    if tokens.is_empty() {
+        return None;
+    }
+    Some((tokens[0], &tokens[1..]))
+}
+
+/// The tokens after a mark that has to stand here.
+pub fn expect<'a>(tokens: &'a [Token], wanted: Mark) -> Result<&'a [Token], Stop<'a>>
+    ensures ok { IfOk result (λ rest. StartsWith wanted tokens.now rest.now) }
+    ensures err { IfErr result (IsMissing wanted tokens.now) }
+{
+    match split(tokens) {
+        Some((Token::The(mark), rest)) => {
+            if mark == wanted {
+                Ok(rest)
+            } else {
+                Err(Stop::Syntax(tokens))
+            }
+        }
+        _ => Err(Stop::Syntax(tokens)),
+    }
+}
+
+/// The tokens after a mark, if it stands here.
+pub fn starts<'a>(tokens: &'a [Token], wanted: Mark) -> Option<&'a [Token]>
+    ensures none { IfNone result (StartsWithout wanted tokens.now) }
+    ensures some { IfSome result (λ after. StartsWith wanted tokens.now after.now) }
+{
+    match split(tokens)? {
+        (Token::The(mark), rest) => { if mark == wanted { Some(rest) } else { None } }
+        _ => None,
+    }
+}
+
+/// The name that has to stand here, and the tokens after it.
+pub fn name<'a>(tokens: &'a [Token]) -> Result<(Identifier, &'a [Token]), Stop<'a>>
+    ensures ok { IfOk result (λ r. StartsWithName tokens.now r.0 r.1.now) }
+    ensures err { IfErr result (IsNameMissing tokens.now) }
+{
+    match split(tokens) {
+        Some((Token::Name(name), rest)) => Ok((name, rest)),
+        _ => Err(Stop::Syntax(tokens)),
+    }
+}
+
+/// The constant that has to stand here, and the tokens after it.
+pub fn literal<'a>(tokens: &'a [Token]) -> Result<(Literal, &'a [Token]), Stop<'a>>
+    ensures ok { IfOk result (λ r. StartsWithConstant tokens.now r.0 r.1.now) }
+    ensures err { IfErr result (IsConstantMissing tokens.now) }
+{
+    match split(tokens) {
+        Some((Token::Constant(literal), rest)) => Ok((literal, rest)),
+        _ => Err(Stop::Syntax(tokens)),
+    }
+}
+
+/// The name that stands here, if one does.
+pub fn first_name(tokens: &[Token]) -> Option<Identifier>
+    ensures none { IfNone result (StartsUnnamed tokens.now) }
+    ensures some { IfSome result (λ x. StartsNamed tokens.now x) }
+{
+    match split(tokens)? {
+        (Token::Name(name), _) => Some(name),
+        _ => None,
+    }
+}

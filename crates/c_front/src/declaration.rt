@@ -1,0 +1,206 @@
+ghost use Rattle.std.specs.Prelude.{◌≡◌, ◌<◌, length, IfOk, IfErr, List};
+ghost use Rattle.c_front.specs.Grammar.{Spells, initial, parameters, function_rest, after_global, a_declaration};
+ghost use Rattle.c_front.specs.Shape.{items_of, declaration_of, declarations_of};
+ghost use Rattle.c_front.specs.Stop.{IsRead, IsStuck, IsParameterRead, IsParameterStuck, IsTailRead, IsProgramStuck};
+ghost use Rattle.c_front.specs.Syntax.{IsFault};
+ghost use Rattle.c_tokens.specs.declared.token.Token.{Token};
+ghost use Rattle.c_front.specs.Tree as Tree;
+
+use crate::cursor::{Stop, expect, literal, name, split, starts};
+use crate::statement::{items, kind};
+use crate::tree::{Declaration, FunctionDefinition, Initial, Item, Parameter};
+use c_tokens::token::{Identifier, Kind, Mark, Token};
+use std::alloc::{AllocError, AllocFailed, Global};
+
+/// The first value of a global variable.
+fn initial<'a>(tokens: &'a [Token]) -> Result<(Initial, &'a [Token]), Stop<'a>>
+    ensures ok { IfOk result (λ r. IsRead initial tokens.now r.1.now r.0) }
+    ensures shorter { IfOk result (λ r. length r.1.now < length tokens.now) }
+    ensures err { IfErr result (IsStuck initial tokens.now) }
+{
+    match starts(tokens, Mark::Minus) {
+        Some(after) => {
+            let (found, end) = literal(after)?;
+            Ok((
+                Initial {
+                    negative: true,
+                    literal: found,
+                },
+                end,
+            ))
+        }
+        None => {
+            let (found, end) = literal(tokens)?;
+            Ok((
+                Initial {
+                    negative: false,
+                    literal: found,
+                },
+                end,
+            ))
+        }
+    }
+}
+
+/// A parameter: its type and its name.
+fn parameter<'a>(tokens: &'a [Token]) -> Result<(Parameter, &'a [Token]), Stop<'a>>
+    ensures ok { IfOk result (λ r. IsParameterRead tokens.now r.1.now r.0) }
+    ensures shorter { IfOk result (λ r. length r.1.now < length tokens.now) }
+    ensures err { IfErr result (IsParameterStuck tokens.now) }
+{
+    let Some((kind, after)) = kind(tokens) else {
+        return Err(Stop::Syntax(tokens));
+    };
+    let (name, end) = name(after)?;
+    Ok((Parameter { kind, name }, end))
+}
+
+/// `void`, or the parameters of a function.
+fn parameters<'a>(
+    alloc: Global,
+    tokens: &'a [Token],
+) -> Result<(Vec<Parameter>, &'a [Token]), Stop<'a>>
+    ensures ok { IfOk result (λ r. IsRead parameters tokens.now r.1.now r.0.items) }
+    ensures shorter { IfOk result (λ r. length r.1.now < length tokens.now) }
+    ensures err { IfErr result (IsStuck parameters tokens.now) }
+{
+    let mut all = Vec::new(alloc);
+    if let Some(end) = starts(tokens, Mark::Void) {
+        return Ok((all, end));
+    }
+    let (one, next) = parameter(tokens)?;
+    all.push(one)?;
+    let mut rest = next;
+    'more: while let Some(after) = starts(rest, Mark::Comma) {
+        let (another, next) = parameter(after)?;
+        all.push(another)?;
+        rest = next;
+    }
+    Ok((all, rest))
+}
+
+/// The parameters and the body of a function.
+fn function_rest<'a>(
+    alloc: Global,
+    tokens: &'a [Token],
+) -> Result<(Vec<Parameter>, Vec<Item>, &'a [Token]), Stop<'a>>
+    ensures ok { IfOk result (λ r. IsRead function_rest tokens.now r.2.now (r.0.items, items_of r.1.items)) }
+    ensures shorter { IfOk result (λ r. length r.2.now < length tokens.now) }
+    ensures err { IfErr result (IsStuck function_rest tokens.now) }
+{
+    let open = expect(tokens, Mark::LeftParen)?;
+    let (given, close) = parameters(alloc, open)?;
+    let brace = expect(close, Mark::RightParen)?;
+    let start = expect(brace, Mark::LeftBrace)?;
+    let (body, last) = items(alloc, start)?;
+    let end = expect(last, Mark::RightBrace)?;
+    Ok((given, body, end))
+}
+
+/// What stands after the type and the name of a declaration.
+fn after_global<'a>(
+    alloc: Global,
+    kind: Kind,
+    name: Identifier,
+    tokens: &'a [Token],
+) -> Result<(Declaration, &'a [Token]), Stop<'a>>
+    ensures ok { IfOk result (λ r. IsTailRead kind name tokens.now r.1.now (declaration_of r.0)) }
+    ensures shorter { IfOk result (λ r. length r.1.now < length tokens.now) }
+    ensures err { IfErr result (IsStuck after_global tokens.now) }
+{
+    if let Some(end) = starts(tokens, Mark::Semicolon) {
+        return Ok((Declaration::Variable(kind, name, None), end));
+    }
+    if let Some(start) = starts(tokens, Mark::Assign) {
+        let (given, close) = initial(start)?;
+        let end = expect(close, Mark::Semicolon)?;
+        return Ok((Declaration::Variable(kind, name, Some(given)), end));
+    }
+    if let Some(start) = starts(tokens, Mark::LeftBracket) {
+        let (length, close) = literal(start)?;
+        let last = expect(close, Mark::RightBracket)?;
+        let end = expect(last, Mark::Semicolon)?;
+        return Ok((Declaration::Array(kind, name, length), end));
+    }
+    let (parameters, body, end) = function_rest(alloc, tokens)?;
+    let result = Some(kind);
+    Ok((
+        Declaration::Function(FunctionDefinition {
+            result,
+            name,
+            parameters,
+            body,
+        }),
+        end,
+    ))
+}
+
+/// A declaration at file scope.
+fn declaration<'a>(
+    alloc: Global,
+    tokens: &'a [Token],
+) -> Result<(Declaration, &'a [Token]), Stop<'a>>
+    ensures ok { IfOk result (λ r. IsRead a_declaration tokens.now r.1.now (declaration_of r.0)) }
+    ensures shorter { IfOk result (λ r. length r.1.now < length tokens.now) }
+    ensures err { IfErr result (IsStuck a_declaration tokens.now) }
+{
+    if let Some(after) = starts(tokens, Mark::Void) {
+        let (name, start) = name(after)?;
+        let (parameters, body, end) = function_rest(alloc, start)?;
+        return Ok((
+            Declaration::Function(FunctionDefinition {
+                result: None,
+                name,
+                parameters,
+                body,
+            }),
+            end,
+        ));
+    }
+    let Some((kind, after)) = kind(tokens) else {
+        return Err(Stop::Syntax(tokens));
+    };
+    let (name, start) = name(after)?;
+    let (found, end) = after_global(alloc, kind, name, start)?;
+    Ok((found, end))
+}
+
+/// The declarations up to the last token.
+fn declarations<'a>(alloc: Global, tokens: &'a [Token]) -> Result<Vec<Declaration>, Stop<'a>>
+    ensures ok { IfOk result (λ all. Spells tokens.now (declarations_of all.items)) }
+    ensures err { IfErr result (IsProgramStuck tokens.now) }
+{
+    let mut all = Vec::new(alloc);
+    let mut rest = tokens;
+    'declarations: while let Some(_) = split(rest) {
+        let (one, next) = declaration(alloc, rest)?;
+        all.push(one)?;
+        rest = next;
+    }
+    Ok(all)
+}
+
+/// The place of the first wrong token, or want of memory.
+#[derive(Clone, Copy)]
+pub enum Fault {
+    Wrong(usize),
+    OutOfMemory,
+}
+
+/// The declarations that the tokens spell, or the number of the first token with which the tokens so far begin no
+/// program (how many tokens there are, where they end too early).
+pub fn parse(alloc: Global, tokens: &[Token]) -> Result<Vec<Declaration>, Fault>
+    ensures ok { IfOk result (λ all. Spells tokens.now (declarations_of all.items)) }
+    ensures err { IfErr result (IsFault tokens.now) }
+{
+    match declarations(alloc, tokens) {
+        Ok(found) => Ok(found),
+        Err(Stop::Syntax(rest)) => Err(Fault::Wrong(tokens.len() - rest.len())),
+        Err(Stop::NoMemory) => Err(Fault::OutOfMemory),
+    }
+}
+
+/// The tokens spell at most one program.
+pub fn one_program()
+    ensures { (ts : List Token) (p q : List Tree.Declaration) → Spells ts p → Spells ts q → p ≡ q }
+{}

@@ -1,0 +1,257 @@
+ghost use Rattle.std.specs.Prelude.{◌≡◌, ◌<◌, length, IfOk, IfErr, IfSome, IfNone, Some};
+ghost use Rattle.c_front.specs.Grammar.{an_expression, operands, units, above, Level, Operator, Prefix, first, value, arguments};
+ghost use Rattle.c_front.specs.Choosing.{EndsOperands};
+ghost use Rattle.c_front.specs.Shape.{expression_of, expressions_of, value_of};
+ghost use Rattle.c_front.specs.Stop.{IsRead, IsStuck, level_of, StartsWithOperator, EndsUpTo, EndsBelow, IsChoiceRead, IsChoiceStuck, IsNoPrefix, IsClosedRead, IsClosedStuck, IsArgumentsRead, IsArgumentsStuck, StartsCall, StartsNoCall};
+ghost use Rattle.c_tokens.specs.declared.token.Token.TheVariants.{The};
+
+use crate::cursor::{Stop, expect, split, starts};
+use crate::tree::{BinaryOp, Call, Expr, UnaryOp, Value};
+use c_tokens::token::{Identifier, Mark, Token};
+use std::alloc::{AllocError, AllocFailed, Global};
+
+/// The operator that a token is, and the level of its operands.
+fn operator_of(mark: Mark) -> Option<(usize, BinaryOp)>
+    ensures none { IfNone result ((l : Level) → EndsOperands l (Some (The mark))) }
+    ensures some { IfSome result (λ r. Operator (level_of r.0) r.1 mark) }
+{
+    match mark {
+        Mark::Star => Some((0, BinaryOp::Multiply)),
+        Mark::Slash => Some((0, BinaryOp::Divide)),
+        Mark::Percent => Some((0, BinaryOp::Remainder)),
+        Mark::Plus => Some((1, BinaryOp::Add)),
+        Mark::Minus => Some((1, BinaryOp::Subtract)),
+        Mark::LessLess => Some((2, BinaryOp::ShiftLeft)),
+        Mark::GreaterGreater => Some((2, BinaryOp::ShiftRight)),
+        Mark::Less => Some((3, BinaryOp::Below)),
+        Mark::Greater => Some((3, BinaryOp::Exceeds)),
+        Mark::LessEqual => Some((3, BinaryOp::AtMost)),
+        Mark::GreaterEqual => Some((3, BinaryOp::AtLeast)),
+        Mark::EqualEqual => Some((4, BinaryOp::Same)),
+        Mark::BangEqual => Some((4, BinaryOp::Differs)),
+        Mark::Ampersand => Some((5, BinaryOp::BitAnd)),
+        Mark::Caret => Some((6, BinaryOp::BitXor)),
+        Mark::Bar => Some((7, BinaryOp::BitOr)),
+        Mark::AndAnd => Some((8, BinaryOp::Both)),
+        Mark::BarBar => Some((9, BinaryOp::Either)),
+        _ => None,
+    }
+}
+
+/// The binary operator at the front, with its level and the tokens after it.
+fn operator<'a>(tokens: &'a [Token]) -> Option<(usize, BinaryOp, &'a [Token])>
+    ensures none { IfNone result ((l : Level) → EndsOperands l (first tokens.now)) }
+    ensures some { IfSome result (λ r. StartsWithOperator (level_of r.0) r.1 tokens.now r.2.now) }
+{
+    match split(tokens)? {
+        (Token::The(mark), rest) => {
+            let (level, operator) = operator_of(mark)?;
+            Some((level, operator, rest))
+        }
+        _ => None,
+    }
+}
+
+/// The prefix operator that a mark is.
+fn prefix_of(mark: Mark) -> Option<UnaryOp>
+    ensures none { IfNone result (IsNoPrefix mark) }
+    ensures some { IfSome result (λ o. Prefix o mark) }
+{
+    match mark {
+        Mark::Minus => Some(UnaryOp::Negate),
+        Mark::Plus => Some(UnaryOp::Identity),
+        Mark::Tilde => Some(UnaryOp::Complement),
+        Mark::Bang => Some(UnaryOp::Not),
+        _ => None,
+    }
+}
+
+/// An expression.
+#[cycle(expressions)]
+pub fn expression<'a>(alloc: Global, tokens: &'a [Token]) -> Result<(Expr, &'a [Token]), Stop<'a>>
+    ensures ok { IfOk result (λ r. IsRead an_expression tokens.now r.1.now (expression_of r.0)) }
+    ensures shorter { IfOk result (λ r. length r.1.now < length tokens.now) }
+    ensures err { IfErr result (IsStuck an_expression tokens.now) }
+{
+    let (condition, rest) = operands(alloc, 9, tokens)?;
+    match starts(rest, Mark::Question) {
+        Some(after) => {
+            let (first, second, end) = choice(alloc, after)?;
+            Ok((
+                Expr::Choose(Box::new(alloc, condition)?, first, second),
+                end,
+            ))
+        }
+        None => Ok((condition, rest)),
+    }
+}
+
+/// The two expressions of a choice, after its question mark.
+#[cycle(expressions)]
+fn choice<'a>(
+    alloc: Global,
+    tokens: &'a [Token],
+) -> Result<(Box<Expr>, Box<Expr>, &'a [Token]), Stop<'a>>
+    ensures ok { IfOk result (λ r. IsChoiceRead tokens.now r.2.now (expression_of r.0.value) (expression_of r.1.value)) }
+    ensures shorter { IfOk result (λ r. length r.2.now < length tokens.now) }
+    ensures err { IfErr result (IsChoiceStuck tokens.now) }
+{
+    let (first, rest) = closed(alloc, tokens, Mark::Colon)?;
+    let (second, end) = expression(alloc, rest)?;
+    Ok((Box::new(alloc, first)?, Box::new(alloc, second)?, end))
+}
+
+/// An expression, and the token that has to follow it.
+#[cycle(expressions)]
+pub fn closed<'a>(
+    alloc: Global,
+    tokens: &'a [Token],
+    closing: Mark,
+) -> Result<(Expr, &'a [Token]), Stop<'a>>
+    ensures ok { IfOk result (λ r. IsClosedRead closing tokens.now r.1.now (expression_of r.0)) }
+    ensures shorter { IfOk result (λ r. length r.1.now < length tokens.now) }
+    ensures err { IfErr result (IsClosedStuck closing tokens.now) }
+{
+    let (inner, close) = expression(alloc, tokens)?;
+    let end = expect(close, closing)?;
+    Ok((inner, end))
+}
+
+/// Operands and the binary operators between them, up to those of a level: by precedence climbing.
+#[cycle(expressions)]
+fn operands<'a>(
+    alloc: Global,
+    level: usize,
+    tokens: &'a [Token],
+) -> Result<(Expr, &'a [Token]), Stop<'a>>
+    ensures ok { IfOk result (λ r. IsRead (operands (above (level_of level))) tokens.now r.1.now (expression_of r.0)) }
+    ensures shorter { IfOk result (λ r. length r.1.now < length tokens.now) }
+    ensures ends { IfOk result (λ r. EndsUpTo level (first r.1.now)) }
+    ensures err { IfErr result (IsStuck (operands (above (level_of level))) tokens.now) }
+{
+    let (mut left, mut rest) = operand(alloc, tokens)?;
+    'climbing: loop {
+        let Some((found, operator, after)) = operator(rest) else {
+            return Ok((left, rest));
+        };
+        if found > level {
+            return Ok((left, rest));
+        }
+        let (right, next) = tighter(alloc, found, after)?;
+        left = Expr::Binary(operator, Box::new(alloc, left)?, Box::new(alloc, right)?);
+        rest = next;
+    }
+}
+
+/// An operand of a binary operator of a level.
+#[cycle(expressions)]
+fn tighter<'a>(
+    alloc: Global,
+    level: usize,
+    tokens: &'a [Token],
+) -> Result<(Expr, &'a [Token]), Stop<'a>>
+    ensures ok { IfOk result (λ r. IsRead (operands (level_of level)) tokens.now r.1.now (expression_of r.0)) }
+    ensures shorter { IfOk result (λ r. length r.1.now < length tokens.now) }
+    ensures ends { IfOk result (λ r. EndsBelow level (first r.1.now)) }
+    ensures err { IfErr result (IsStuck (operands (level_of level)) tokens.now) }
+{
+    if level == 0 {
+        let (inner, end) = operand(alloc, tokens)?;
+        return Ok((inner, end));
+    }
+    let (inner, end) = operands(alloc, level - 1, tokens)?;
+    Ok((inner, end))
+}
+
+/// An operand: a constant, a name, a name with an index, a prefix with its operand, or an expression in parentheses.
+#[cycle(expressions)]
+fn operand<'a>(alloc: Global, tokens: &'a [Token]) -> Result<(Expr, &'a [Token]), Stop<'a>>
+    ensures ok { IfOk result (λ r. IsRead (operands units) tokens.now r.1.now (expression_of r.0)) }
+    ensures shorter { IfOk result (λ r. length r.1.now < length tokens.now) }
+    ensures err { IfErr result (IsStuck (operands units) tokens.now) }
+{
+    let Some((token, rest)) = split(tokens) else {
+        return Err(Stop::Syntax(tokens));
+    };
+    match token {
+        Token::Constant(literal) => Ok((Expr::Constant(literal), rest)),
+        Token::Jump(_, _) => Err(Stop::Syntax(tokens)),
+        Token::Name(name) => match starts(rest, Mark::LeftBracket) {
+            Some(after) => {
+                let (index, end) = closed(alloc, after, Mark::RightBracket)?;
+                Ok((Expr::Index(name, Box::new(alloc, index)?), end))
+            }
+            None => Ok((Expr::Name(name), rest)),
+        },
+        Token::The(mark) => {
+            if let Some(operator) = prefix_of(mark) {
+                let (inner, end) = operand(alloc, rest)?;
+                return Ok((Expr::Unary(operator, Box::new(alloc, inner)?), end));
+            }
+            match mark {
+                Mark::LeftParen => {
+                    let (inner, end) = closed(alloc, rest, Mark::RightParen)?;
+                    Ok((inner, end))
+                }
+                _ => Err(Stop::Syntax(tokens)),
+            }
+        }
+    }
+}
+
+/// Arguments and their closing parenthesis.
+pub fn arguments<'a>(
+    alloc: Global,
+    tokens: &'a [Token],
+) -> Result<(Vec<Expr>, &'a [Token]), Stop<'a>>
+    ensures ok { IfOk result (λ r. IsArgumentsRead tokens.now r.1.now (expressions_of r.0.items)) }
+    ensures shorter { IfOk result (λ r. length r.1.now < length tokens.now) }
+    ensures err { IfErr result (IsArgumentsStuck tokens.now) }
+{
+    let mut all = Vec::new(alloc);
+    if let Some(end) = starts(tokens, Mark::RightParen) {
+        return Ok((all, end));
+    }
+    let (one, next) = expression(alloc, tokens)?;
+    all.push(one)?;
+    let mut rest = next;
+    'more: while let Some(after) = starts(rest, Mark::Comma) {
+        let (another, next) = expression(alloc, after)?;
+        all.push(another)?;
+        rest = next;
+    }
+    let end = expect(rest, Mark::RightParen)?;
+    Ok((all, end))
+}
+
+/// The name of a call, and what stands after its opening parenthesis.
+fn call_start<'a>(tokens: &'a [Token]) -> Option<(Identifier, &'a [Token])>
+    ensures none { IfNone result (StartsNoCall tokens.now) }
+    ensures some { IfSome result (λ r. StartsCall tokens.now r.0 r.1.now) }
+{
+    match split(tokens)? {
+        (Token::Name(name), rest) => {
+            let after = starts(rest, Mark::LeftParen)?;
+            Some((name, after))
+        }
+        _ => None,
+    }
+}
+
+/// What a name may be given: an expression or a call.
+pub fn value<'a>(alloc: Global, tokens: &'a [Token]) -> Result<(Value, &'a [Token]), Stop<'a>>
+    ensures ok { IfOk result (λ r. IsRead value tokens.now r.1.now (value_of r.0)) }
+    ensures shorter { IfOk result (λ r. length r.1.now < length tokens.now) }
+    ensures err { IfErr result (IsStuck value tokens.now) }
+{
+    match call_start(tokens) {
+        Some((name, after)) => {
+            let (arguments, end) = arguments(alloc, after)?;
+            Ok((Value::Called(Call { name, arguments }), end))
+        }
+        None => {
+            let (inner, end) = expression(alloc, tokens)?;
+            Ok((Value::Plain(inner), end))
+        }
+    }
+}

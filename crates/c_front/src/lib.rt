@@ -1,0 +1,16 @@
+//! The C front end: a text to its syntax tree (C99 6.4 to 6.9, the integer subset that `specs/Grammar.antt` lists).
+//!
+//! For the layer above there is one contract: `read::read` is `Ok(p)` exactly where the text spells `p` and breaks no
+//! size (memory aside), and else tells the fault that comes first in the order of the tests. `specs/Texts.antt` says
+//! what a text spells and which fault it has, `specs/Grammar.antt` is the grammar as a table of rules,
+//! `specs/Tree.antt` has the trees and `specs/Shape.antt` the tree that a Rust value stands for. The tokens are those
+//! of `c_tokens`. `specs/Choosing.antt`, `specs/Reading.antt` and `specs/Stop.antt` are words of the private
+//! functions: the rule that the next two tokens choose, and where a derivation gets stuck.
+#![tactic(auto)]
+
+mod cursor;
+pub mod declaration;
+mod expression;
+pub mod read;
+mod statement;
+pub mod tree;

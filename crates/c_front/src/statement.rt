@@ -1,0 +1,314 @@
+ghost use Rattle.std.specs.Prelude.{◌≡◌, ◌∷◌, ◌<◌, ◌≤◌, ◌↔◌, length, IfOk, IfErr, IfSome, IfNone, IsTrue};
+ghost use Rattle.c_front.specs.Grammar.{first, a_statement, an_item, items, simple, a_type, declared, maybe_simple, maybe_expression};
+ghost use Rattle.c_front.specs.Choosing.{EndsItems};
+ghost use Rattle.c_front.specs.Shape.{expression_of, value_of, maybe_value_of, simple_of, maybe_simple_of, maybe_expression_of, statement_of, item_of, items_of};
+ghost use Rattle.c_front.specs.Stop.{IsRead, IsStuck, IsConditionRead, IsConditionStuck, IsAssignedRead, IsAssignedStuck, IsBranchRead, IsBranchStuck, IsEndedRead, IsEndedStuck, IsHeadRead, IsHeadStuck, HasNoType};
+ghost use Rattle.c_tokens.specs.declared.token.Token.TheVariants.{The, Jump};
+ghost use Rattle.c_tokens.specs.declared.token.Mark.TheVariants.{While, For, Semicolon};
+
+use crate::cursor::{Stop, expect, first_name, name, split, starts};
+use crate::expression::{arguments, closed, expression, value};
+use crate::tree::{Call, Expr, ForParts, Item, Simple, Stmt, Value};
+use c_tokens::token::{JumpWord, Kind, Mark, Token};
+use std::alloc::{AllocError, AllocFailed, Global};
+
+/// The value after an equals sign.
+fn assigned<'a>(alloc: Global, tokens: &'a [Token]) -> Result<(Value, &'a [Token]), Stop<'a>>
+    ensures ok { IfOk result (λ r. IsAssignedRead tokens.now r.1.now (value_of r.0)) }
+    ensures shorter { IfOk result (λ r. length r.1.now < length tokens.now) }
+    ensures err { IfErr result (IsAssignedStuck tokens.now) }
+{
+    let start = expect(tokens, Mark::Assign)?;
+    let (given, end) = value(alloc, start)?;
+    Ok((given, end))
+}
+
+/// An assignment, an indexed assignment or a call.
+fn simple<'a>(alloc: Global, tokens: &'a [Token]) -> Result<(Simple, &'a [Token]), Stop<'a>>
+    ensures ok { IfOk result (λ r. IsRead simple tokens.now r.1.now (simple_of r.0)) }
+    ensures shorter { IfOk result (λ r. length r.1.now < length tokens.now) }
+    ensures err { IfErr result (IsStuck simple tokens.now) }
+{
+    let (name, rest) = name(tokens)?;
+    if let Some(after) = starts(rest, Mark::LeftParen) {
+        let (arguments, end) = arguments(alloc, after)?;
+        return Ok((Simple::CallOf(Call { name, arguments }), end));
+    }
+    if let Some(after) = starts(rest, Mark::LeftBracket) {
+        let (index, close) = closed(alloc, after, Mark::RightBracket)?;
+        let start = expect(close, Mark::Assign)?;
+        let (given, end) = expression(alloc, start)?;
+        return Ok((Simple::AssignAt(name, index, given), end));
+    }
+    let (given, end) = assigned(alloc, rest)?;
+    Ok((Simple::Assign(name, given), end))
+}
+
+/// A condition in parentheses.
+fn condition<'a>(alloc: Global, tokens: &'a [Token]) -> Result<(Expr, &'a [Token]), Stop<'a>>
+    ensures ok { IfOk result (λ r. IsConditionRead tokens.now r.1.now (expression_of r.0)) }
+    ensures shorter { IfOk result (λ r. length r.1.now < length tokens.now) }
+    ensures err { IfErr result (IsConditionStuck tokens.now) }
+{
+    let open = expect(tokens, Mark::LeftParen)?;
+    let (inner, end) = closed(alloc, open, Mark::RightParen)?;
+    Ok((inner, end))
+}
+
+/// The type at the front, if one stands here: `int`, `unsigned` or `unsigned int`.
+pub fn kind<'a>(tokens: &'a [Token]) -> Option<(Kind, &'a [Token])>
+    ensures none { IfNone result (HasNoType tokens.now) }
+    ensures some { IfSome result (λ r. IsRead a_type tokens.now r.1.now r.0) }
+    ensures shorter { IfSome result (λ r. length r.1.now < length tokens.now) }
+{
+    if let Some(rest) = starts(tokens, Mark::Int) {
+        return Some((Kind::SignedInt, rest));
+    }
+    let rest = starts(tokens, Mark::Unsigned)?;
+    match starts(rest, Mark::Int) {
+        Some(after) => Some((Kind::UnsignedInt, after)),
+        None => Some((Kind::UnsignedInt, rest)),
+    }
+}
+
+/// A simple statement, if one stands here, and the mark that has to follow.
+fn ended_simple<'a>(
+    alloc: Global,
+    tokens: &'a [Token],
+    closing: Mark,
+) -> Result<(Option<Simple>, &'a [Token]), Stop<'a>>
+    ensures ok { IfOk result (λ r. IsEndedRead maybe_simple closing tokens.now r.1.now (maybe_simple_of r.0)) }
+    ensures shorter { IfOk result (λ r. length r.1.now < length tokens.now) }
+    ensures err { IfErr result (IsEndedStuck maybe_simple closing tokens.now) }
+{
+    match first_name(tokens) {
+        None => {
+            let end = expect(tokens, closing)?;
+            Ok((None, end))
+        }
+        Some(_) => {
+            let (inner, close) = simple(alloc, tokens)?;
+            let end = expect(close, closing)?;
+            Ok((Some(inner), end))
+        }
+    }
+}
+
+/// An expression, if one stands here, and the semicolon that has to follow.
+fn ended_expression<'a>(
+    alloc: Global,
+    tokens: &'a [Token],
+) -> Result<(Option<Expr>, &'a [Token]), Stop<'a>>
+    ensures ok { IfOk result (λ r. IsEndedRead maybe_expression Semicolon tokens.now r.1.now (maybe_expression_of r.0)) }
+    ensures shorter { IfOk result (λ r. length r.1.now < length tokens.now) }
+    ensures err { IfErr result (IsEndedStuck maybe_expression Semicolon tokens.now) }
+{
+    if let Some(end) = starts(tokens, Mark::Semicolon) {
+        return Ok((None, end));
+    }
+    let (inner, end) = closed(alloc, tokens, Mark::Semicolon)?;
+    Ok((Some(inner), end))
+}
+
+/// The parts of a `for` in their parentheses.
+fn for_parts<'a>(alloc: Global, tokens: &'a [Token]) -> Result<(ForParts, &'a [Token]), Stop<'a>>
+    ensures ok { IfOk result (λ r. IsHeadRead tokens.now r.1.now (maybe_simple_of r.0.first) (maybe_expression_of r.0.test) (maybe_simple_of r.0.last)) }
+    ensures shorter { IfOk result (λ r. length r.1.now < length tokens.now) }
+    ensures err { IfErr result (IsHeadStuck tokens.now) }
+{
+    let open = expect(tokens, Mark::LeftParen)?;
+    let (first, second) = ended_simple(alloc, open, Mark::Semicolon)?;
+    let (test, third) = ended_expression(alloc, second)?;
+    let (last, end) = ended_simple(alloc, third, Mark::RightParen)?;
+    Ok((ForParts { first, test, last }, end))
+}
+
+/// What stands after `break`, `continue` or `return`.
+fn jump<'a>(
+    alloc: Global,
+    word: JumpWord,
+    at: usize,
+    tokens: &'a [Token],
+) -> Result<(Stmt, &'a [Token]), Stop<'a>>
+    ensures ok { IfOk result (λ r. IsRead a_statement (Jump word at ∷ tokens.now) r.1.now (statement_of r.0)) }
+    ensures shorter { IfOk result (λ r. length r.1.now < length tokens.now) }
+    ensures err { IfErr result (IsStuck a_statement (Jump word at ∷ tokens.now)) }
+{
+    match word {
+        JumpWord::Break => {
+            let end = expect(tokens, Mark::Semicolon)?;
+            Ok((Stmt::Break(at), end))
+        }
+        JumpWord::Continue => {
+            let end = expect(tokens, Mark::Semicolon)?;
+            Ok((Stmt::Continue(at), end))
+        }
+        JumpWord::Return => {
+            let (given, end) = ended_expression(alloc, tokens)?;
+            Ok((Stmt::Return(at, given), end))
+        }
+    }
+}
+
+/// A statement.
+#[cycle(statements)]
+fn statement<'a>(alloc: Global, tokens: &'a [Token]) -> Result<(Stmt, &'a [Token]), Stop<'a>>
+    ensures ok { IfOk result (λ r. IsRead a_statement tokens.now r.1.now (statement_of r.0)) }
+    ensures shorter { IfOk result (λ r. length r.1.now < length tokens.now) }
+    ensures err { IfErr result (IsStuck a_statement tokens.now) }
+{
+    let Some((token, rest)) = split(tokens) else {
+        return Err(Stop::Syntax(tokens));
+    };
+    match token {
+        Token::Name(_) => {
+            let (inner, close) = simple(alloc, tokens)?;
+            let end = expect(close, Mark::Semicolon)?;
+            Ok((Stmt::Simply(inner), end))
+        }
+        Token::The(mark) => match mark {
+            Mark::Semicolon => Ok((Stmt::Empty, rest)),
+            Mark::LeftBrace => {
+                let (all, close) = items(alloc, rest)?;
+                let end = expect(close, Mark::RightBrace)?;
+                Ok((Stmt::Block(all), end))
+            }
+            Mark::If => {
+                let (whole, end) = branch(alloc, rest)?;
+                Ok((whole, end))
+            }
+            Mark::While => {
+                let (whole, end) = while_loop(alloc, rest)?;
+                Ok((whole, end))
+            }
+            Mark::For => {
+                let (whole, end) = for_loop(alloc, rest)?;
+                Ok((whole, end))
+            }
+            _ => Err(Stop::Syntax(tokens)),
+        },
+        Token::Jump(word, at) => {
+            let (whole, end) = jump(alloc, word, at, rest)?;
+            Ok((whole, end))
+        }
+        Token::Constant(_) => Err(Stop::Syntax(tokens)),
+    }
+}
+
+/// What stands after `if`.
+#[cycle(statements)]
+fn branch<'a>(alloc: Global, tokens: &'a [Token]) -> Result<(Stmt, &'a [Token]), Stop<'a>>
+    ensures ok { IfOk result (λ r. IsBranchRead tokens.now r.1.now (statement_of r.0)) }
+    ensures shorter { IfOk result (λ r. length r.1.now < length tokens.now) }
+    ensures err { IfErr result (IsBranchStuck tokens.now) }
+{
+    let (test, start) = condition(alloc, tokens)?;
+    let (first, rest) = statement(alloc, start)?;
+    let first = Box::new(alloc, first)?;
+    match starts(rest, Mark::Else) {
+        Some(after) => {
+            let (second, end) = statement(alloc, after)?;
+            Ok((Stmt::IfElse(test, first, Box::new(alloc, second)?), end))
+        }
+        None => Ok((Stmt::If(test, first), rest)),
+    }
+}
+
+/// What stands after `while`.
+#[cycle(statements)]
+fn while_loop<'a>(alloc: Global, tokens: &'a [Token]) -> Result<(Stmt, &'a [Token]), Stop<'a>>
+    ensures ok { IfOk result (λ r. IsRead a_statement (The While ∷ tokens.now) r.1.now (statement_of r.0)) }
+    ensures shorter { IfOk result (λ r. length r.1.now < length tokens.now) }
+    ensures err { IfErr result (IsStuck a_statement (The While ∷ tokens.now)) }
+{
+    let (test, start) = condition(alloc, tokens)?;
+    let (body, end) = statement(alloc, start)?;
+    Ok((Stmt::While(test, Box::new(alloc, body)?), end))
+}
+
+/// What stands after `for`.
+#[cycle(statements)]
+fn for_loop<'a>(alloc: Global, tokens: &'a [Token]) -> Result<(Stmt, &'a [Token]), Stop<'a>>
+    ensures ok { IfOk result (λ r. IsRead a_statement (The For ∷ tokens.now) r.1.now (statement_of r.0)) }
+    ensures shorter { IfOk result (λ r. length r.1.now < length tokens.now) }
+    ensures err { IfErr result (IsStuck a_statement (The For ∷ tokens.now)) }
+{
+    let (parts, start) = for_parts(alloc, tokens)?;
+    let (body, end) = statement(alloc, start)?;
+    Ok((
+        Stmt::For(Box::new(alloc, parts)?, Box::new(alloc, body)?),
+        end,
+    ))
+}
+
+/// The first value of a local variable, if one stands here.
+fn first_value<'a>(
+    alloc: Global,
+    tokens: &'a [Token],
+) -> Result<(Option<Value>, &'a [Token]), Stop<'a>>
+    ensures ok { IfOk result (λ r. IsRead declared tokens.now r.1.now (maybe_value_of r.0)) }
+    ensures shorter { IfOk result (λ r. length r.1.now ≤ length tokens.now) }
+    ensures err { IfErr result (IsStuck declared tokens.now) }
+{
+    match starts(tokens, Mark::Assign) {
+        None => Ok((None, tokens)),
+        Some(start) => {
+            let (given, end) = value(alloc, start)?;
+            Ok((Some(given), end))
+        }
+    }
+}
+
+/// A declaration of a local variable, or a statement.
+#[cycle(statements)]
+fn item<'a>(alloc: Global, tokens: &'a [Token]) -> Result<(Item, &'a [Token]), Stop<'a>>
+    ensures ok { IfOk result (λ r. IsRead an_item tokens.now r.1.now (item_of r.0)) }
+    ensures shorter { IfOk result (λ r. length r.1.now < length tokens.now) }
+    ensures err { IfErr result (IsStuck an_item tokens.now) }
+{
+    match kind(tokens) {
+        Some((kind, after)) => {
+            let (name, start) = name(after)?;
+            let (given, close) = first_value(alloc, start)?;
+            let end = expect(close, Mark::Semicolon)?;
+            Ok((Item::Declare(kind, name, given), end))
+        }
+        None => {
+            let (inner, end) = statement(alloc, tokens)?;
+            Ok((Item::Statement(inner), end))
+        }
+    }
+}
+
+/// Whether no item can stand here: at a closing brace, or at the end.
+fn ends_items(tokens: &[Token]) -> bool
+    ensures { IsTrue result ↔ EndsItems (first tokens.now) }
+{
+    match split(tokens) {
+        None => true,
+        Some((token, _)) => match token {
+            Token::The(mark) => match mark {
+                Mark::RightBrace => true,
+                _ => false,
+            },
+            _ => false,
+        },
+    }
+}
+
+/// The items up to a closing brace, or to the end.
+#[cycle(statements)]
+pub fn items<'a>(alloc: Global, tokens: &'a [Token]) -> Result<(Vec<Item>, &'a [Token]), Stop<'a>>
+    ensures ok { IfOk result (λ r. IsRead items tokens.now r.1.now (items_of r.0.items)) }
+    ensures shorter { IfOk result (λ r. length r.1.now ≤ length tokens.now) }
+    ensures err { IfErr result (IsStuck items tokens.now) }
+{
+    let mut all = Vec::new(alloc);
+    let mut rest = tokens;
+    'items: while !ends_items(rest) {
+        let (one, next) = item(alloc, rest)?;
+        all.push(one)?;
+        rest = next;
+    }
+    Ok((all, rest))
+}

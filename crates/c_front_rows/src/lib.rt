@@ -1,0 +1,9 @@
+//! Worked texts for the C front end: faults with their offsets, sizes at their limits, and the deepest legal texts.
+#![tactic(auto)]
+
+#[cfg(test)]
+mod faults;
+#[cfg(test)]
+mod sizes;
+#[cfg(test)]
+mod texts;

@@ -1,0 +1,9 @@
+use Rattle.std.proofs.Common.{length}
+use Rattle.c_tokens.proofs.Scanning.{Words}
+use Rattle.c_tokens.proofs.scan.word_length.Given as goal
+
+abbrev pub invariant-word : goal.invariant-word
+invariant-word l = Words l.fn.text l.rest l.n
+
+abbrev pub decreases-word : goal.decreases-word
+decreases-word l = length l.rest

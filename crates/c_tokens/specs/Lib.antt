@@ -1,0 +1,6 @@
+pub mod Lexing
+pub mod Pieces
+pub mod Fronts
+pub mod Texts
+pub mod Spellings
+pub mod Keywords

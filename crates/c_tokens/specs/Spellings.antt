@@ -1,0 +1,18 @@
+-- The spellings that a table of the program holds.
+use Rattle.std.specs.Prelude.{ℕ, List, [], ◌∷◌, Option, Some, None}
+use Rattle.c_tokens.specs.declared.token.Mark.{Mark}
+use Rattle.c_tokens.specs.declared.sign.Spelling.{Spelling}
+use Rattle.c_tokens.specs.declared.sign.Spelling.TheVariants.{One, Two, Three}
+use Rattle.c_tokens.specs.declared.sign.Entry.{Entry}
+
+abbrev pub bytes_of : Spelling → List ℕ
+bytes_of (One a) = a ∷ []
+bytes_of (Two a b) = a ∷ b ∷ []
+bytes_of (Three a b c) = a ∷ b ∷ c ∷ []
+
+abbrev pub entry_of : Entry → List ℕ × Option Mark
+entry_of e = (bytes_of e.spelling, e.mark)
+
+abbrev pub shown : Option Entry → Option (List ℕ × Option Mark)
+shown None = None
+shown (Some e) = Some (entry_of e)

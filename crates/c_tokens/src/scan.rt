@@ -1,0 +1,202 @@
+ghost use Rattle.std.specs.Prelude.{◌≡◌, ◌∷◌, [], false, ◌<◌, ◌≤◌, length, drop, IfNone, IfSome};
+ghost use Rattle.c_tokens.specs.Lexing.{goes_on, is_word, is_exponent, is_space, is_letter, is_digit, comment_length, escape_at, is_front, same_bytes};
+ghost use Rattle.c_tokens.specs.Fronts.{word_length, run_length, line_length};
+
+pub fn is_space(byte: u8) -> bool
+    ensures { result ≡ is_space byte }
+{
+    byte == 32 || byte == 9 || byte == 10 || byte == 13
+}
+
+pub fn is_letter(byte: u8) -> bool
+    ensures { result ≡ is_letter byte }
+{
+    (65 <= byte && byte <= 90) || (97 <= byte && byte <= 122) || byte == 95
+}
+
+pub fn is_digit(byte: u8) -> bool
+    ensures { result ≡ is_digit byte }
+{
+    48 <= byte && byte <= 57
+}
+
+pub fn is_word(byte: u8) -> bool
+    ensures { result ≡ is_word byte }
+{
+    is_letter(byte) || is_digit(byte)
+}
+
+fn is_exponent(byte: u8) -> bool
+    ensures { result ≡ is_exponent byte }
+{
+    byte == 101 || byte == 69 || byte == 112 || byte == 80
+}
+
+fn goes_on(after_exponent: bool, byte: u8) -> bool
+    ensures { result ≡ goes_on after_exponent byte }
+{
+    is_word(byte) || byte == 46 || (after_exponent && (byte == 43 || byte == 45))
+}
+
+pub fn split(text: &[u8]) -> Option<(u8, &[u8])>
+    ensures none { IfNone result (text.now ≡ []) }
+    ensures some { IfSome result (λ r. text.now ≡ r.0 ∷ r.1.now) }
+{
+    if text.is_empty() {
+        return None;
+    }
+    Some((text[0], &text[1..]))
+}
+
+pub fn after(text: &[u8], n: usize) -> &[u8]
+    requires { n ≤ length text.now }
+    ensures { result.now ≡ drop n text.now }
+{
+    &text[n..]
+}
+
+/// The length of the longest word at the front.
+pub fn word_length(text: &[u8]) -> usize
+    ensures same { result ≡ word_length text.now }
+    ensures fits { result ≤ length text.now }
+{
+    let mut n: usize = 0;
+    let mut rest = text;
+    'word: loop {
+        match split(rest) {
+            None => return n,
+            Some((byte, next)) => {
+                if !is_word(byte) {
+                    return n;
+                }
+                n += 1;
+                rest = next;
+            }
+        }
+    }
+}
+
+/// The length of the run that a number begins: letters, digits, `_`, `.`, and a sign after an exponent's letter.
+pub fn run_length(text: &[u8]) -> usize
+    ensures same { result ≡ run_length false text.now }
+    ensures fits { result ≤ length text.now }
+{
+    let mut n: usize = 0;
+    let mut rest = text;
+    let mut after_exponent = false;
+    'run: loop {
+        match split(rest) {
+            None => return n,
+            Some((byte, next)) => {
+                if !goes_on(after_exponent, byte) {
+                    return n;
+                }
+                n += 1;
+                rest = next;
+                after_exponent = is_exponent(byte);
+            }
+        }
+    }
+}
+
+/// The two bytes stand at the front.
+pub fn begins(text: &[u8], first: u8, second: u8) -> bool
+    ensures { result ≡ is_front (first ∷ second ∷ []) text.now }
+{
+    match split(text) {
+        None => false,
+        Some((one, rest)) => match split(rest) {
+            None => false,
+            Some((two, _)) => one == first && two == second,
+        },
+    }
+}
+
+/// How far it is past the end of a comment.
+pub fn comment_length(text: &[u8]) -> Option<usize>
+    ensures same { result ≡ comment_length text.now }
+    ensures fits { IfSome result (λ n. n ≤ length text.now) }
+{
+    let mut n: usize = 0;
+    let mut rest = text;
+    'comment: loop {
+        if begins(rest, 42, 47) {
+            return Some(n + 2);
+        }
+        match split(rest) {
+            None => return None,
+            Some((_, next)) => {
+                n += 1;
+                rest = next;
+            }
+        }
+    }
+}
+
+/// Where the first backslash or pair of question marks stands.
+pub fn escape_at(text: &[u8]) -> Option<usize>
+    ensures same { result ≡ escape_at text.now }
+    ensures fits { IfSome result (λ n. n < length text.now) }
+{
+    let mut n: usize = 0;
+    let mut rest = text;
+    'escape: loop {
+        match split(rest) {
+            None => return None,
+            Some((byte, next)) => {
+                if byte == 92 {
+                    return Some(n);
+                }
+                if begins(rest, 63, 63) {
+                    return Some(n);
+                }
+                n += 1;
+                rest = next;
+            }
+        }
+    }
+}
+
+/// How far it is to the next line feed, or the end.
+pub fn line_length(text: &[u8]) -> usize
+    ensures same { result ≡ line_length text.now }
+    ensures fits { result ≤ length text.now }
+{
+    let mut n: usize = 0;
+    let mut rest = text;
+    'line: loop {
+        match split(rest) {
+            None => return n,
+            Some((byte, next)) => {
+                if byte == 10 {
+                    return n;
+                }
+                n += 1;
+                rest = next;
+            }
+        }
+    }
+}
+
+/// The two texts are the same.
+pub fn same(left: &[u8], right: &[u8]) -> bool
+    ensures { result ≡ same_bytes left.now right.now }
+{
+    let mut first = left;
+    let mut second = right;
+    'same: loop {
+        match split(first) {
+            None => return second.is_empty(),
+            Some((a, more)) => match split(second) {
+                None => return false,
+                Some((b, rest)) => {
+                    if a != b {
+                        return false;
+                    }
+                    first = more;
+                    second = rest;
+                }
+            },
+        }
+    }
+}
