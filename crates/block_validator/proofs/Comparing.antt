@@ -6,14 +6,14 @@ use Rattle.std.proofs.lemmas.Option.{same_Some}
 use Rattle.mblock.specs.BlockMeaning.{Shape, Goes, ChoosesPair, ChoosesZero, Calls, Returns, Prints, Halts}
 use Rattle.sym_terms.specs.Trees.{Tree}
 use Rattle.term_table.specs.Passes.{PassState}
-use Rattle.term_table.specs.Trees.{HasTree, HasLegalHistory}
+use Rattle.term_table.specs.Trees.{HasLegalHistory}
 use Rattle.term_table.proofs.Callers.{same_trees, one_tree}
 use Rattle.sym_exec.specs.declared.state.Guard.{Guard}
 use Rattle.sym_exec.specs.declared.state.Guard.TheVariants.{Address, Division}
 use Rattle.sym_exec.specs.declared.state.TermExit.{TermExit}
 use Rattle.sym_exec.specs.declared.state.TermExit.TheVariants as exits
 use Rattle.sym_exec.specs.declared.state.SymState.{SymState}
-use Rattle.sym_exec.specs.Symbolic.{GuardTree, AtAddress, AtDivision, CodeTrees, held}
+use Rattle.sym_exec.specs.Symbolic.{GuardTree, AtAddress, AtDivision, CodeTrees}
 use Rattle.sym_exec.specs.Standing.{IsGuard, AllHave, StandsFor, shape_of, tickets_of}
 use Rattle.block_validator.specs.declared.place.Place.{Place}
 use Rattle.block_validator.specs.declared.place.Place.TheVariants as places

@@ -1,5 +1,5 @@
 -- An order with its block's trees means the block.
-use Rattle.std.proofs.Common.{◌≡◌, ◌<◌, ◌^◌, ℕ, zero, suc, Bool, true, false, cond, List, [], ◌∷◌, map, Contains, Option, Some, None, refl, sym, ap, ap₂, ◌∙◌, subst, true≢false, arith}
+use Rattle.std.proofs.Common.{◌≡◌, ◌<◌, ◌^◌, ℕ, Bool, true, false, cond, List, [], ◌∷◌, map, Option, Some, None, refl, sym, ap, ap₂, ◌∙◌, subst, arith}
 use Rattle.std.proofs.lemmas.Option.{same_Some, none-some}
 use Rattle.mips_isa.specs.States.{State, is_register, read, IsWords}
 use Rattle.mips_isa.specs.declared.action.Action.{Action}
@@ -7,15 +7,13 @@ use Rattle.mips_isa.specs.Actions.{action_of, is_safe, after}
 use Rattle.mblock.specs.declared.exit.Exit.{Exit}
 use Rattle.mblock.specs.Parts.{BlockParts, OrderParts}
 use Rattle.mblock.specs.BlockMeaning.{exit_shape, exit_reads, depart, Outcome, run, leave, left, block_effect}
-use Rattle.mblock.specs.OrderMeaning.{order_effect}
-use Rattle.mblock.specs.Clean.{slot_actions, FitsSlot, IsClean}
+use Rattle.mblock.specs.Clean.{slot_actions}
 use Rattle.mblock.proofs.Runs.{total, AllSafe, exited, leaves_total, order_runs}
-use Rattle.sym_terms.specs.Trees.{Tree}
 use Rattle.sym_terms.specs.Values.{word_at, memory_at}
-use Rattle.sym_exec.specs.Symbolic.{GuardTree, TreeState, start_trees, held, all_trees, exit_trees, CodeTrees, code_trees, block_trees, order_trees}
+use Rattle.sym_exec.specs.Symbolic.{TreeState, start_trees, held, all_trees, exit_trees, CodeTrees, code_trees, block_trees, order_trees}
 use Rattle.sym_exec.proofs.Values.{values, held-value, all-value, puts-value, AllGood, all_down, all_up, all_outside, puts_outside}
 use Rattle.block_validator.specs.declared.place.Place.TheVariants as places
-use Rattle.block_validator.specs.Same.{SameTrees, IsPlace, Means, EachCheckedOrderMeansItsBlock}
+use Rattle.block_validator.specs.Same.{SameTrees, IsPlace, EachCheckedOrderMeansItsBlock}
 
 register_place : (r : ℕ) → is_register r ≡ true → IsPlace (places.Register r)
 register_place r e = let p = Rattle.std.proofs.lemmas.Bool.and_parts (Rattle.std.specs.Prelude.nat_lt 0 r) (Rattle.std.specs.Prelude.nat_lt r 32) e in (grind arith, grind arith)

@@ -1,5 +1,5 @@
 -- A clean order does, word by word, what its actions do one after another.
-use Rattle.std.proofs.Common.{◌≡◌, ℕ, zero, suc, pred, ◌<◌, ◌⊎◌, inl, inr, Bool, true, false, cond, not, ◌&&◌, ◌||◌, nat_lt, ◌==◌, List, [], ◌∷◌, ◌++◌, map, length, slice_get, Option, Some, None, is_some, refl, sym, ap, ap₂, ◌∙◌, subst, true≢false, eq-eqb, arith}
+use Rattle.std.proofs.Common.{◌≡◌, ℕ, zero, suc, pred, ◌<◌, ◌⊎◌, inl, inr, Bool, true, false, cond, ◌&&◌, ◌||◌, nat_lt, List, [], ◌∷◌, map, length, slice_get, Option, Some, None, is_some, refl, sym, ap, ap₂, ◌∙◌, subst, true≢false, eq-eqb, arith}
 use Rattle.words.specs.declared.operator.Operator.TheVariants.{Addu}
 use Rattle.words.specs.Operators.{op_value}
 use Rattle.mips_isa.specs.declared.inst.Plain.{Plain}
@@ -7,7 +7,7 @@ use Rattle.mips_isa.specs.declared.action.Action.{Action}
 use Rattle.mips_isa.specs.declared.action.Action.TheVariants.{Computes, Sets, Loads, Stores, Multiplies, Divides, MovesHigh, MovesLow}
 use Rattle.mips_isa.specs.States.{State, is_register, read, put}
 use Rattle.mips_isa.specs.Actions.{action_of, is_safe, after, touches, loads, is_load, is_move, is_product}
-use Rattle.mips_isa.specs.Flows.{Pending, Nothing, Loaded, Flow, settle, pending_of, shown, on_pending, flow_after, word, words_from, quiet}
+use Rattle.mips_isa.specs.Flows.{Pending, Nothing, Loaded, Flow, settle, pending_of, on_pending, flow_after, word, words_from, quiet}
 use Rattle.mips_isa.proofs.Registers.{read-put, put-put, put_lost}
 use Rattle.mips_isa.proofs.Late.{settled, word_runs, settled_after, or_left, or_right, settle_lost}
 use Rattle.mblock.specs.declared.exit.Exit.{Exit}
@@ -16,7 +16,7 @@ use Rattle.mblock.specs.Parts.{OrderParts}
 use Rattle.mblock.specs.Slots.{is_slotted}
 use Rattle.mblock.specs.BlockMeaning.{exit_shape, exit_reads, exit_puts, Departure, depart, Outcome}
 use Rattle.mblock.specs.OrderMeaning.{exit_touches, puts_number, exit_word, slot_word, ends, operand_words, system_word, system_call, jump, order_leaves, order_left, order_effect}
-use Rattle.mblock.specs.Clean.{slot_actions, FitsSlot, kinds, kinds_of, IsClean}
+use Rattle.mblock.specs.Clean.{slot_actions, FitsSlot, kinds_of, IsClean}
 
 -- the actions one after another, safe or not
 abbrev pub total : List Action → State → State

@@ -1,5 +1,5 @@
 -- What a block does: its instructions one after another, a load showing at once, then its exit.
-use Rattle.std.specs.Prelude.{ℕ, Bool, not, ◌&&◌, ◌||◌, List, [], ◌∷◌, map, Option, Some, None, nat_lt, ◌==◌, ◌^◌, slice_index, if◌then◌else◌}
+use Rattle.std.specs.Prelude.{ℕ, Bool, not, ◌||◌, List, [], ◌∷◌, map, Option, Some, None, nat_lt, ◌==◌, ◌^◌, slice_index, if◌then◌else◌}
 use Rattle.mips_isa.specs.declared.inst.PairTest.{PairTest}
 use Rattle.mips_isa.specs.declared.inst.PairTest.TheVariants.{Equal, NotEqual}
 use Rattle.mips_isa.specs.declared.inst.ZeroTest.{ZeroTest}

@@ -3,23 +3,14 @@ use Rattle.std.proofs.Common.{◌≡◌, ℕ, ◌/◌, ◌%◌, ◌^◌, ◌<◌
 use Rattle.std.specs.Prelude.{FitsSigned, ℤ}
 use Rattle.std.specs.Int.{w16, cast_unsigned, cast_signed}
 use Rattle.std.proofs.lemmas.Int.{to_z-of_z, ints}
-use Rattle.words.specs.declared.sign.Sign.{Sign}
 use Rattle.words.specs.declared.sign.Sign.TheVariants.{Signed, Unsigned}
-use Rattle.mips_isa.specs.declared.inst.ShiftOp.{ShiftOp}
 use Rattle.mips_isa.specs.declared.inst.ShiftOp.TheVariants.{Sll, Srl, Sra}
-use Rattle.mips_isa.specs.declared.inst.AluOp.{AluOp}
 use Rattle.mips_isa.specs.declared.inst.AluOp.TheVariants.{Addu, Subu, And, Or, Xor, Nor, Slt, Sltu}
-use Rattle.mips_isa.specs.declared.inst.ImmOp.{ImmOp}
 use Rattle.mips_isa.specs.declared.inst.ImmOp.TheVariants.{Addiu, Slti, Sltiu}
-use Rattle.mips_isa.specs.declared.inst.LogicOp.{LogicOp}
 use Rattle.mips_isa.specs.declared.inst.LogicOp.TheVariants.{Andi, Ori, Xori}
-use Rattle.mips_isa.specs.declared.inst.HiLo.{HiLo}
 use Rattle.mips_isa.specs.declared.inst.HiLo.TheVariants.{Hi, Lo}
-use Rattle.mips_isa.specs.declared.inst.PairTest.{PairTest}
 use Rattle.mips_isa.specs.declared.inst.PairTest.TheVariants.{Equal, NotEqual}
-use Rattle.mips_isa.specs.declared.inst.ZeroTest.{ZeroTest}
 use Rattle.mips_isa.specs.declared.inst.ZeroTest.TheVariants.{AtMostZero, AboveZero, BelowZero, AtLeastZero}
-use Rattle.mips_isa.specs.declared.inst.JumpOp.{JumpOp}
 use Rattle.mips_isa.specs.declared.inst.JumpOp.TheVariants.{Jump, JumpAndLink}
 use Rattle.mips_isa.specs.declared.inst.Plain.{Plain}
 use Rattle.mips_isa.specs.declared.inst.Plain.TheVariants.{Shift, ShiftBy, Alu, Imm, Logic, LoadUpper, MoveFrom, Multiply, Divide, Load, Store}
@@ -28,7 +19,7 @@ use Rattle.mips_isa.specs.declared.inst.Control.TheVariants.{BranchPair, BranchZ
 use Rattle.mips_isa.specs.declared.inst.Inst.{Inst}
 use Rattle.mips_isa.specs.declared.inst.Inst.TheVariants as insts
 use Rattle.mips_isa.specs.Ranges.{IsPlain, IsControl, IsInst}
-use Rattle.mips_code.specs.Words.{register_word, immediate_word, jump_word, inst_word, word_of_plain, word_of_control, half, shift_code, shift_by_code, alu_code, move_code, multiply_code, divide_code, imm_code, logic_code, pair_code, jump_code, zero_code, zero_field}
+use Rattle.mips_code.specs.Words.{register_word, immediate_word, jump_word, inst_word, word_of_plain, word_of_control, half, shift_code, shift_by_code, alu_code, move_code, multiply_code, divide_code, imm_code, logic_code, pair_code, jump_code}
 use Rattle.mips_code.specs.Candidates.{inst_of_fields, candidate_of}
 
 -- a register form gives the instruction that its fields give

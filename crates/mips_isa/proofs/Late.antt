@@ -1,7 +1,5 @@
 -- A load that shows one word later, where that word doesn't name its register.
-use Rattle.std.proofs.Common.{◌≡◌, ℤ, ℕ, zero, suc, ◌<◌, Bool, true, false, cond, not, ◌&&◌, ◌||◌, nat_lt, ◌==◌, List, [], ◌∷◌, map, Option, Some, None, refl, sym, ap, ap₂, ◌∙◌, subst, true≢false}
-use mathlib.Core.Path.{fun_ext}
-use Rattle.words.specs.declared.sign.Sign.{Sign}
+use Rattle.std.proofs.Common.{◌≡◌, ℕ, Bool, true, false, cond, not, ◌&&◌, ◌||◌, nat_lt, ◌==◌, Some, None, refl, sym, ap, ap₂, ◌∙◌, subst}
 use Rattle.words.specs.declared.operator.Operator.TheVariants as operators
 use Rattle.words.specs.Words.{wrap}
 use Rattle.words.specs.Operators.{op_value, has_quotient}
@@ -11,7 +9,7 @@ use Rattle.mips_isa.specs.declared.action.Operand.TheVariants.{Held, Fixed}
 use Rattle.mips_isa.specs.declared.action.Action.{Action}
 use Rattle.mips_isa.specs.declared.action.Action.TheVariants.{Computes, Sets, Loads, Stores, Multiplies, Divides, MovesHigh, MovesLow}
 use Rattle.mips_isa.specs.Actions.{operand, address, is_safe, after, operand_touches, touches, is_product, product_high, product_low, quotient_operator, remainder_operator}
-use Rattle.mips_isa.specs.Flows.{Pending, Nothing, Loaded, Flow, settle, pending_of, shown, on_pending, is_stuck, flow_after, word}
+use Rattle.mips_isa.specs.Flows.{Pending, Nothing, Loaded, Flow, settle, pending_of, shown, on_pending, flow_after, word}
 use Rattle.mips_isa.proofs.Registers.{put_lost, read-put, put-put}
 
 pub or_left : (a b : Bool) → (a || b) ≡ false → a ≡ false

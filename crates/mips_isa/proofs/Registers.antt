@@ -1,7 +1,7 @@
 -- Registers: reads and writes.
-use Rattle.std.proofs.Common.{◌≡◌, ℕ, zero, suc, Bool, true, false, cond, ◌&&◌, ◌||◌, ◌==◌, refl, sym, ap, ◌∙◌, eq-eqb, eqb-true, ne_eqb, true≢false}
+use Rattle.std.proofs.Common.{◌≡◌, ℕ, zero, suc, Bool, true, false, cond, ◌&&◌, ◌==◌, refl, sym, ap, ◌∙◌, eq-eqb, eqb-true, true≢false}
 use mathlib.Core.Path.{fun_ext}
-use Rattle.mips_isa.specs.States.{State, is_register, read, put}
+use Rattle.mips_isa.specs.States.{is_register, read, put}
 
 -- a function of a choice
 pub cond-ap : {A B : Type 0} (g : A → B) (b : Bool) (x y : A) → g (cond b x y) ≡ cond b (g x) (g y)

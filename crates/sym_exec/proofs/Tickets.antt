@@ -1,6 +1,6 @@
 -- Tickets go on standing for their trees, also after a write.
 use Rattle.std.proofs.Common.{◌≡◌, ◌≢◌, ℕ, zero, suc, ◌+◌, ◌<◌, ◌≤◌, ◌==◌, Bool, true, false, cond, ◌&&◌, List, [], ◌∷◌, ◌++◌, length, slice_index_or, slice_set, Contains, refl, sym, ap, ap₂, ◌∙◌, subst, true≢false, eq-eqb, eqb-true, arith}
-use Rattle.std.specs.Prelude.{slice_index, nat_lt, OnOk, Result, Ok, Err}
+use Rattle.std.specs.Prelude.{slice_index, OnOk, Result, Ok, Err}
 use Rattle.std.proofs.lemmas.List.{get_or-set_same, get_or-set_other}
 use Rattle.sym_terms.specs.Values.{const_tree}
 use Rattle.mips_isa.proofs.Registers.{put_lost, read-put}
@@ -8,7 +8,7 @@ use Rattle.sym_terms.specs.declared.label.Place.TheVariants.{Register}
 use Rattle.sym_terms.specs.declared.label.Label.TheVariants.{Init}
 use Rattle.sym_terms.specs.Trees.{Tree, leaf}
 use Rattle.term_table.specs.Passes.{PassState, HasSeen}
-use Rattle.term_table.specs.Trees.{HasTree, Extends}
+use Rattle.term_table.specs.Trees.{HasTree}
 use Rattle.term_table.proofs.Callers.{still_seen, still_tree, extends_more, extends_self}
 use Rattle.mips_isa.specs.States.{is_register, read, put}
 use Rattle.sym_exec.specs.declared.state.TermPlaces.{TermPlaces}

@@ -1,5 +1,5 @@
 -- The trees that instructions leave stand for the state that the instructions leave.
-use Rattle.std.proofs.Common.{◌≡◌, ◌^◌, ℕ, zero, suc, ◌<◌, Bool, true, false, List, [], ◌∷◌, map, length, Contains, refl, sym, ap, ap₂, ◌∙◌, subst, arith}
+use Rattle.std.proofs.Common.{◌≡◌, ◌^◌, ℕ, zero, suc, ◌<◌, true, false, List, [], ◌∷◌, Contains, refl, sym, ap, ap₂, ◌∙◌, subst, arith}
 use Rattle.words.specs.declared.operator.Operator.{Operator}
 use Rattle.words.specs.declared.operator.Operator.TheVariants.{Addu}
 use Rattle.words.specs.Words.{wrap}
@@ -16,9 +16,9 @@ use Rattle.mblock.proofs.Runs.{total, AllSafe}
 use Rattle.sym_terms.specs.declared.label.Place.TheVariants.{Link}
 use Rattle.sym_terms.specs.declared.label.Label.TheVariants.{Init}
 use Rattle.sym_terms.specs.Trees.{Tree, leaf}
-use Rattle.sym_terms.specs.Values.{word_at, memory_at, const_tree, op_tree, load_tree, store_tree}
+use Rattle.sym_terms.specs.Values.{word_at, memory_at, const_tree, op_tree}
 use Rattle.sym_terms.proofs.ValueLaws.{op_tree-value, load_tree-value, store_tree-value}
-use Rattle.sym_exec.specs.Symbolic.{GuardTree, AtAddress, AtDivision, is_good, TreeState, held, operand_tree, address_tree, trees_after, all_trees}
+use Rattle.sym_exec.specs.Symbolic.{GuardTree, is_good, TreeState, held, operand_tree, address_tree, trees_after, all_trees}
 
 -- the state that trees stand for
 abbrev pub values : State → ℕ → TreeState → State

@@ -1,5 +1,5 @@
 -- Tickets that stand for trees in what a pass has seen.
-use Rattle.std.specs.Prelude.{◌≡◌, ℕ, ◌<◌, List, [], ◌∷◌, slice_index, slice_set, length, Contains, ◌==◌, if◌then◌else◌}
+use Rattle.std.specs.Prelude.{◌≡◌, ℕ, ◌<◌, List, [], ◌∷◌, slice_index, slice_set, Contains, ◌==◌, if◌then◌else◌}
 use Rattle.sym_terms.specs.Trees.{Tree}
 use Rattle.term_table.specs.Passes.{PassState, HasSeen, linked}
 use Rattle.term_table.specs.Trees.{HasTree, Extends, HasLegalHistory}

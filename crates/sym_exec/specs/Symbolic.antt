@@ -1,10 +1,9 @@
 -- Symbolic execution: the trees that instructions leave, the exit's operands, and what the code relies
 -- on (Tristan and Leroy, POPL 2008).
-use Rattle.std.specs.Prelude.{ℕ, Bool, List, [], ◌∷◌, map, Option, Some, None}
+use Rattle.std.specs.Prelude.{ℕ, Bool, List, [], ◌∷◌, map}
 use Rattle.words.specs.declared.sign.Sign.{Sign}
 use Rattle.words.specs.declared.operator.Operator.TheVariants.{Addu}
 use Rattle.words.specs.Operators.{has_quotient}
-use Rattle.mips_isa.specs.declared.inst.Plain.{Plain}
 use Rattle.mips_isa.specs.declared.action.Operand.{Operand}
 use Rattle.mips_isa.specs.declared.action.Operand.TheVariants.{Held, Fixed}
 use Rattle.mips_isa.specs.declared.action.Action.{Action}

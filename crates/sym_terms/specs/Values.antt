@@ -7,8 +7,8 @@ use Rattle.mips_isa.specs.States.{State, load_word, store_word}
 use Rattle.sym_terms.specs.declared.label.Place.{Place}
 use Rattle.sym_terms.specs.declared.label.Place.TheVariants.{Register, Hi, Lo, Link}
 use Rattle.sym_terms.specs.declared.label.Label.{Label}
-use Rattle.sym_terms.specs.declared.label.Label.TheVariants.{Init, Mem0, Const, Op, Load, Store}
-use Rattle.sym_terms.specs.Trees.{Tree, Trees, node, none, more, leaf, binary, ternary}
+use Rattle.sym_terms.specs.declared.label.Label.TheVariants.{Init, Const, Op, Load, Store}
+use Rattle.sym_terms.specs.Trees.{Tree, node, none, more, leaf, binary, ternary}
 
 abbrev pub place_value : Place → State → ℕ → ℕ
 place_value (Register r) s link = s.regs r

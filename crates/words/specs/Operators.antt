@@ -1,5 +1,5 @@
 -- What each operator makes of two words (Kane, MIPS RISC Architecture, chapter 3 and appendix A).
-use Rattle.std.specs.Prelude.{ℕ, ◌+◌, ◌-◌, ◌*◌, ◌/◌, ◌%◌, ◌^◌, ℤ, ◌*ℤ◌, Bool, not, ◌&&◌, ◌==◌, nat_lt, int_lt, int_div, int_rem, Option, Some, None, if◌then◌else◌, bit_and, bit_or, bit_xor}
+use Rattle.std.specs.Prelude.{ℕ, ◌+◌, ◌-◌, ◌*◌, ◌/◌, ◌%◌, ◌^◌, ◌*ℤ◌, Bool, not, ◌&&◌, ◌==◌, nat_lt, int_lt, int_div, int_rem, Option, Some, None, if◌then◌else◌, bit_and, bit_or, bit_xor}
 use Rattle.std.specs.Int.{w64, cast_unsigned}
 use Rattle.words.specs.declared.sign.Sign.{Sign}
 use Rattle.words.specs.declared.sign.Sign.TheVariants.{Signed, Unsigned}

@@ -1,5 +1,4 @@
-use Rattle.std.proofs.Common.{◌≡◌, ℕ, ◌<◌, rules, sym, subst, ◌∙◌, true≢false, Contains}
-use Rattle.std.specs.Prelude.{slice_index}
+use Rattle.std.proofs.Common.{rules, sym, subst, ◌∙◌, true≢false, Contains}
 use Rattle.block_validator.proofs.Comparing.{all_places, guards_differ}
 use Rattle.block_validator.proofs.compare.first_difference.Goals as goal
 

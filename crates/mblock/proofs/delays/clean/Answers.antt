@@ -1,4 +1,4 @@
-use Rattle.std.proofs.Common.{◌≡◌, sym, ◌∙◌, subst, true≢false}
+use Rattle.std.proofs.Common.{sym, ◌∙◌, subst, true≢false}
 use Rattle.mblock.specs.Clean.{IsApart}
 use Rattle.mblock.proofs.WordPlaces.{behind_along}
 use Rattle.mblock.proofs.delays.clean.Goals as goal

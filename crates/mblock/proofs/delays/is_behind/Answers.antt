@@ -1,6 +1,6 @@
-use Rattle.std.proofs.Common.{◌≡◌, ℕ, ◌<◌, ◌+◌, length, slice_get, true, false, refl, sym, ◌∙◌, true≢false, arith}
+use Rattle.std.proofs.Common.{refl, sym, ◌∙◌, arith}
 use Rattle.mblock.specs.Clean.{early_at, kinds_of, slot_words}
-use Rattle.mblock.proofs.WordPlaces.{behind_is, behind_not, below_next}
+use Rattle.mblock.proofs.WordPlaces.{behind_is, below_next}
 use Rattle.mblock.proofs.delays.is_behind.Goals as goal
 
 pub loop-k-preserved : goal.loop-k-preserved

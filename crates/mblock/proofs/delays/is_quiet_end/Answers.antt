@@ -1,4 +1,4 @@
-use Rattle.std.proofs.Common.{◌≡◌, ℕ, suc, ◌-◌, ◌<◌, ◌==◌, length, false, true, refl, sym, ap, ◌∙◌, true≢false, eq-eqb, arith}
+use Rattle.std.proofs.Common.{◌≡◌, suc, ◌-◌, ◌<◌, length, refl, ap, ◌∙◌, arith}
 use Rattle.std.proofs.lemmas.Option.{slice_get_read}
 use Rattle.mblock.specs.OrderMeaning.{exit_touches}
 use Rattle.mblock.specs.Clean.{loads_named}

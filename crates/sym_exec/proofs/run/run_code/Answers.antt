@@ -1,4 +1,4 @@
-use Rattle.std.proofs.Common.{◌≡◌, map}
+use Rattle.std.proofs.Common.{map}
 use Rattle.mips_isa.specs.Actions.{action_of}
 use Rattle.mblock.specs.BlockMeaning.{exit_shape}
 use Rattle.sym_exec.specs.Symbolic.{start_trees, all_trees, exit_trees, exit_operands}

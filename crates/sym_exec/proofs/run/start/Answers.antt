@@ -1,7 +1,6 @@
 use Rattle.std.proofs.Common.{◌≡◌, ℕ, zero, suc, ◌<◌, ◌+◌, length, sym, ap, ◌∙◌, subst, arith, ⊎_elim}
-use Rattle.std.specs.Prelude.{slice_index, replicate, slice_set}
-use Rattle.std.proofs.lemmas.Bool.{cases_lt}
-use Rattle.std.proofs.lemmas.List.{get_or-replicate, get_or-set_same, get_or-set_other}
+use Rattle.std.specs.Prelude.{slice_index, replicate}
+use Rattle.std.proofs.lemmas.List.{get_or-replicate}
 use Rattle.term_table.specs.Passes.{HasSeen}
 use Rattle.term_table.specs.Trees.{HasTree}
 use Rattle.term_table.proofs.Callers.{still_seen, still_tree}

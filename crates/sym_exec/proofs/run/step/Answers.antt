@@ -1,12 +1,11 @@
-use Rattle.std.proofs.Common.{◌≡◌, ℕ, refl, sym, ap, subst, ◌∷◌}
+use Rattle.std.proofs.Common.{refl, sym, subst}
 use Rattle.std.specs.Prelude.{OnOk}
-use Rattle.words.specs.declared.sign.Sign.{Sign}
 use Rattle.mips_isa.specs.declared.action.Action.{Action}
-use Rattle.term_table.proofs.Callers.{still_seen, still_tree}
+use Rattle.term_table.proofs.Callers.{still_tree}
 use Rattle.sym_exec.specs.declared.state.Guard.TheVariants.{Address, Division}
-use Rattle.sym_exec.specs.Symbolic.{TreeState, AtAddress, AtDivision, held, address_tree, trees_after}
+use Rattle.sym_exec.specs.Symbolic.{AtAddress, AtDivision, held, address_tree, trees_after}
 use Rattle.sym_exec.specs.Standing.{Stands, GuardsStand}
-use Rattle.sym_exec.proofs.Tickets.{later_more, stands_on, known_on, get_tree, guards_on, guards_more, on_ok}
+use Rattle.sym_exec.proofs.Tickets.{get_tree, guards_on, guards_more, on_ok}
 use Rattle.sym_exec.proofs.run.step.Goals as goal
 
 pub returns-in-Computes-clause-stands : goal.returns-in-Computes-clause-stands

@@ -1,4 +1,4 @@
-use Rattle.std.proofs.Common.{◌≡◌, ℕ, List, map, drop}
+use Rattle.std.proofs.Common.{◌≡◌, map, drop}
 use Rattle.mips_isa.specs.Actions.{action_of}
 use Rattle.term_table.specs.Passes.{IsOf}
 use Rattle.sym_exec.specs.Symbolic.{TreeState, all_trees}

@@ -1,4 +1,3 @@
-use Rattle.std.proofs.Common.{◌≡◌, refl}
 use Rattle.term_table.proofs.Callers.{answer_seen, full_linked, intern_binary}
 use Rattle.term_table.proofs.Public.{has_one}
 use Rattle.sym_exec.proofs.terms.binary_term.Goals as goal

@@ -1,6 +1,4 @@
-use Rattle.std.proofs.Common.{◌≡◌, refl}
-use Rattle.term_table.proofs.Callers.{answer_seen, full_linked, intern_leaf}
-use Rattle.term_table.proofs.Public.{has_one}
+use Rattle.term_table.proofs.Callers.{full_linked, intern_leaf}
 use Rattle.sym_exec.proofs.terms.leaf_term.Goals as goal
 
 pub returns-in-Err-clause-full : goal.returns-in-Err-clause-full

@@ -1,11 +1,6 @@
-use Rattle.std.proofs.Common.{◌≡◌, ℕ, refl, sym, ap, subst}
-use Rattle.sym_terms.specs.Values.{op_tree, store_tree}
 use Rattle.term_table.proofs.Callers.{still_seen, still_tree}
-use Rattle.sym_exec.specs.Symbolic.{TreeState, held, address_tree}
-use Rattle.sym_exec.specs.Standing.{Stands, Known}
-use Rattle.term_table.specs.Passes.{HasSeen}
-use Rattle.term_table.specs.Trees.{HasTree}
-use Rattle.sym_exec.proofs.Tickets.{later_more, stands_on, known_on, get_seen, get_tree, known_put, stands_put, stands_same}
+use Rattle.sym_exec.specs.Symbolic.{held}
+use Rattle.sym_exec.proofs.Tickets.{get_seen, get_tree}
 use Rattle.sym_exec.proofs.state.TermPlaces.address.Goals as goal
 
 pub op_term-requires-clause-a : goal.op_term-requires-clause-a

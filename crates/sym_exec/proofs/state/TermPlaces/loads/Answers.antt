@@ -1,11 +1,9 @@
-use Rattle.std.proofs.Common.{◌≡◌, ℕ, refl, sym, ap, subst}
+use Rattle.std.proofs.Common.{refl, subst}
 use Rattle.sym_terms.specs.Values.{op_tree, store_tree}
 use Rattle.term_table.proofs.Callers.{still_seen, still_tree}
-use Rattle.sym_exec.specs.Symbolic.{TreeState, held, address_tree}
-use Rattle.sym_exec.specs.Standing.{Stands, Known}
-use Rattle.term_table.specs.Passes.{HasSeen}
-use Rattle.term_table.specs.Trees.{HasTree}
-use Rattle.sym_exec.proofs.Tickets.{later_more, stands_on, known_on, get_seen, get_tree, known_put, stands_put, stands_same}
+use Rattle.sym_exec.specs.Symbolic.{address_tree}
+use Rattle.sym_exec.specs.Standing.{Stands}
+use Rattle.sym_exec.proofs.Tickets.{later_more, stands_on, known_on, known_put, stands_put, stands_same}
 use Rattle.sym_exec.proofs.state.TermPlaces.loads.Goals as goal
 
 pub load_term-requires-clause-memory : goal.load_term-requires-clause-memory
