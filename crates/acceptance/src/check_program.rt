@@ -140,13 +140,20 @@ fn wrong_words_are_told_on_standard_error(rt: HostRuntime) -> Result<(), Fail> {
     Ok(())
 }
 
+fn teaches(out: &[u8], part: &str) -> bool {
+    match str::from_utf8(out) {
+        Ok(text) => text.contains(part),
+        Err(_) => false,
+    }
+}
+
 #[test]
 fn help_is_on_standard_output(rt: HostRuntime) -> Result<(), Fail> {
-    for args in [
-        ["mcc", "--help"].as_slice(),
-        ["mcc", "help"].as_slice(),
-        ["mcc", "check", "--help"].as_slice(),
-        ["mcc", "help", "check"].as_slice(),
+    for (args, taught) in [
+        (["mcc", "--help"].as_slice(), "Exit status: 0"),
+        (["mcc", "help"].as_slice(), "mcc check examples/"),
+        (["mcc", "check", "--help"].as_slice(), "`same`"),
+        (["mcc", "help", "check"].as_slice(), "unclean U1"),
     ] {
         let mut files = OneFile {
             text: SAME,
@@ -156,7 +163,7 @@ fn help_is_on_standard_output(rt: HostRuntime) -> Result<(), Fail> {
         let mut err = Vec::new(rt.alloc());
         let got = mcc(rt.alloc(), args, &mut files, &mut out, &mut err);
         assert_eq!(rt; got, 0);
-        assert!(rt; !out.is_empty());
+        assert!(rt; teaches(out.as_slice(), taught));
         assert!(rt; err.is_empty());
     }
     Ok(())

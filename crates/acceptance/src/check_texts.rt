@@ -10,11 +10,12 @@ use std::test::Fail;
 const WHOLE: &str = "block\naddiu $10,$10,1\nlw $8,-4($29)\nbeq $8,$9,1,2\n\
                      order\nlw $8,-4($29)\naddiu $10,$10,1\nbeq $8,$9,1,2\nslot nop\n";
 
-/// The line of the fault, or 0 where there is none.
+/// The line of the fault, 0 where there is a verdict, and no line's number for any other fault.
 fn fault_line(alloc: Global, text: &[u8]) -> u32 {
     match check(alloc, text) {
+        Ok(_) => 0,
         Err(CheckFault::Line(line)) => line,
-        _ => 0,
+        Err(_) => u32::MAX,
     }
 }
 

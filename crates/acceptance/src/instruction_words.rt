@@ -88,6 +88,11 @@ fn operators_have_their_values(rt: HostRuntime) -> Result<(), Fail> {
     Ok(())
 }
 
+/// Whether the instruction has the word, and the word is read as the instruction.
+fn has_word(inst: &Inst, word: u32) -> bool {
+    encode(*inst) == word && decode(word) == Some(*inst)
+}
+
 #[test]
 fn instructions_have_their_words(rt: HostRuntime) -> Result<(), Fail> {
     let reg = Reg::masked;
@@ -150,8 +155,7 @@ fn instructions_have_their_words(rt: HostRuntime) -> Result<(), Fail> {
         ),
         (Inst::Control(Control::SystemCall), 0x0000_000c),
     ] {
-        assert_eq!(rt; encode(inst), word);
-        assert_eq!(rt; decode(word), Some(inst), "at {word}");
+        assert!(rt; has_word(&inst, word), "at {word}");
     }
     Ok(())
 }

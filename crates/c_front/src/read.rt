@@ -148,6 +148,9 @@ impl Program {
 
 /// The program that a text spells (C99 6.4 to 6.9, in the profile of `specs/Grammar.antt`), or why it is refused:
 /// first its length is tested, then its bytes, then its tokens with their constants and sizes, then their order.
+///
+/// It descends into the text: about 1,400 bytes of stack for each nested statement, of which the sizes allow about
+/// 163,000, and as much to drop the program. Read a hostile text on a thread with 256 MB of stack.
 pub fn read(alloc: Global, text: &[u8]) -> Result<Program, FrontFault>
     ensures ok { IfOk result (λ p. SpellsText text.now (declarations_of p.declarations.items)) }
     ensures text { IfOk result (λ p. p.text.items ≡ text.now) }

@@ -2,24 +2,28 @@ ghost use Rattle.std.specs.Prelude.{◌≡◌, ◌∷◌, [], false, ◌<◌, �
 ghost use Rattle.c_tokens.specs.Lexing.{goes_on, is_word, is_exponent, is_space, is_letter, is_digit, comment_length, escape_at, is_front, same_bytes};
 ghost use Rattle.c_tokens.specs.Fronts.{word_length, run_length, line_length};
 
+/// A byte that separates tokens: a space, a tab, LF or CR.
 pub fn is_space(byte: u8) -> bool
     ensures { result ≡ is_space byte }
 {
     byte == 32 || byte == 9 || byte == 10 || byte == 13
 }
 
+/// A letter or `_`.
 pub fn is_letter(byte: u8) -> bool
     ensures { result ≡ is_letter byte }
 {
     (65 <= byte && byte <= 90) || (97 <= byte && byte <= 122) || byte == 95
 }
 
+/// A decimal digit.
 pub fn is_digit(byte: u8) -> bool
     ensures { result ≡ is_digit byte }
 {
     48 <= byte && byte <= 57
 }
 
+/// A byte that a word goes on with: a letter, `_` or a digit.
 pub fn is_word(byte: u8) -> bool
     ensures { result ≡ is_word byte }
 {
@@ -38,6 +42,7 @@ fn goes_on(after_exponent: bool, byte: u8) -> bool
     is_word(byte) || byte == 46 || (after_exponent && (byte == 43 || byte == 45))
 }
 
+/// The first byte and what is behind it; None for the empty text.
 pub fn split(text: &[u8]) -> Option<(u8, &[u8])>
     ensures none { IfNone result (text.now ≡ []) }
     ensures some { IfSome result (λ r. text.now ≡ r.0 ∷ r.1.now) }
@@ -48,6 +53,7 @@ pub fn split(text: &[u8]) -> Option<(u8, &[u8])>
     Some((text[0], &text[1..]))
 }
 
+/// The text behind its first `n` bytes.
 pub fn after(text: &[u8], n: usize) -> &[u8]
     requires { n ≤ length text.now }
     ensures { result.now ≡ drop n text.now }

@@ -9,7 +9,7 @@ use block_validator::{Place, Verdict, validate};
 use check_text::{Text, TextFault, read};
 use mblock::Unclean;
 use std::alloc::Global;
-use term_table::{Pass, TermTable};
+use term_table::{OpenFault, Pass, TermTable};
 
 /// The verdict on the order of a text.
 #[derive(Clone, Copy, Debug, PartialEq, Eq)]
@@ -38,19 +38,24 @@ pub enum CheckFault {
 
 /// A table for one pass, of 16,384 nodes and 256 heads.
 fn table(alloc: Global) -> Option<(TermTable, Vec<Pass>)>
-    ensures { IfSome result (λ t. All (IsOf t.0) t.1.items) }
+    ensures each { IfSome result (λ t. All (IsOf t.0) t.1.items) }
+    ensures one { IfSome result (λ t. length t.1.items ≡ 1) }
 {
     match TermTable::open(alloc, 1, 16384, 256) {
         Ok((table, passes)) => Some((table, passes)),
-        Err(_) => None,
+        Err(OpenFault::NoMemory) => None,
+        Err(OpenFault::Range) => unreachable!(),
     }
 }
 
+/// The table and its pass; None only where memory was refused.
 fn opened(alloc: Global) -> Option<(TermTable, Pass)>
     ensures { IfSome result (λ t. IsOf t.0 t.1) }
 {
     let (table, mut passes) = table(alloc)?;
-    let pass = passes.pop()?;
+    let Some(pass) = passes.pop() else {
+        unreachable!();
+    };
     Some((table, pass))
 }
 

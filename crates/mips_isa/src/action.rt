@@ -1,4 +1,6 @@
 ghost use Rattle.std.specs.Prelude.{◌≡◌, ℕ, ◌*◌, ◌^◌, ◌<◌, ◌||◌, ◌&&◌, ◌==◌};
+ghost use Rattle.mips_isa.specs.declared.action.Operand.TheVariants.{Fixed, Held};
+ghost use Rattle.mips_isa.specs.declared.action.Action.TheVariants.{Computes};
 ghost use Rattle.mips_isa.specs.Actions.{action_of, extended, shift_operator, alu_operator, imm_operator, logic_operator, product_high, product_low, quotient_operator, remainder_operator, operand_touches, touches, loads, is_load, is_move, is_product};
 
 use crate::inst::{AluOp, HiLo, ImmOp, LogicOp, Plain, ShiftOp};
@@ -121,42 +123,41 @@ fn extend(imm: i16) -> u32
     i32::from(imm).cast_unsigned()
 }
 
+fn with_register(d: Reg, op: Operator, a: Reg, b: Reg) -> Action
+    ensures { result ≡ Computes d op a (Held b) }
+{
+    Action::Computes {
+        d,
+        op,
+        a,
+        b: Operand::Held(b),
+    }
+}
+
+fn with_word(d: Reg, op: Operator, a: Reg, word: u32) -> Action
+    ensures { result ≡ Computes d op a (Fixed word) }
+{
+    Action::Computes {
+        d,
+        op,
+        a,
+        b: Operand::Fixed(word),
+    }
+}
+
 impl Plain {
     /// What the instruction does.
     pub fn action(&self) -> Action
         ensures { result ≡ action_of self.now }
     {
         match *self {
-            Plain::Shift { op, rd, rt, amount } => Action::Computes {
-                d: rd,
-                op: op.operator(),
-                a: rt,
-                b: Operand::Fixed(u32::from(amount.bits())),
-            },
-            Plain::ShiftBy { op, rd, rt, rs } => Action::Computes {
-                d: rd,
-                op: op.operator(),
-                a: rt,
-                b: Operand::Held(rs),
-            },
-            Plain::Alu { op, rd, rs, rt } => Action::Computes {
-                d: rd,
-                op: op.operator(),
-                a: rs,
-                b: Operand::Held(rt),
-            },
-            Plain::Imm { op, rt, rs, imm } => Action::Computes {
-                d: rt,
-                op: op.operator(),
-                a: rs,
-                b: Operand::Fixed(extend(imm)),
-            },
-            Plain::Logic { op, rt, rs, imm } => Action::Computes {
-                d: rt,
-                op: op.operator(),
-                a: rs,
-                b: Operand::Fixed(u32::from(imm)),
-            },
+            Plain::Shift { op, rd, rt, amount } => {
+                with_word(rd, op.operator(), rt, u32::from(amount.bits()))
+            }
+            Plain::ShiftBy { op, rd, rt, rs } => with_register(rd, op.operator(), rt, rs),
+            Plain::Alu { op, rd, rs, rt } => with_register(rd, op.operator(), rs, rt),
+            Plain::Imm { op, rt, rs, imm } => with_word(rt, op.operator(), rs, extend(imm)),
+            Plain::Logic { op, rt, rs, imm } => with_word(rt, op.operator(), rs, u32::from(imm)),
             Plain::LoadUpper { rt, imm } => Action::Sets {
                 d: rt,
                 word: u32::from(imm) << 16,

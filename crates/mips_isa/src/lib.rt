@@ -1,6 +1,6 @@
 //! The instructions of MIPS I in use, their text, and what they do (Kane, MIPS RISC Architecture).
 //!
-//! `Plain::action` turns each of the forty instructions that compute, load or store into one of eight
+//! `Plain::action` turns each of the 29 instructions that compute, load or store into one of eight
 //! actions, exactly `action_of`; blocks, orders, cleanliness, terms and the machine are defined over
 //! actions alone.
 //! The definitions: `specs/Ranges.antt` (each field's range), `specs/Texts.antt` (the text),
