@@ -1,0 +1,6 @@
+pub mod Names
+pub mod Faults
+pub mod Uses
+pub mod Typed
+pub mod Shape
+pub mod Types
