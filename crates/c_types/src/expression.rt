@@ -50,7 +50,7 @@ fn operation(operator: BinaryOp, left: Kind, right: Kind) -> Kind
 }
 
 /// A use of a name that is a fault.
-fn misuse(kind: FaultKind, name: Identifier) -> Stop
+pub fn misuse(kind: FaultKind, name: Identifier) -> Stop
     ensures { result ≡ Fault (record { kind = kind; at = name.at }) }
 {
     Stop::Fault(TypeFault { kind, at: name.at })

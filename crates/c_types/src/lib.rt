@@ -6,6 +6,7 @@
 //! read; `specs/Shape.antt` is the typed tree that a Rust value stands for, and `specs/Names.antt` what a name means.
 #![tactic(auto)]
 
+pub mod call;
 pub mod expression;
 pub mod fault;
 pub mod names;
