@@ -1,11 +1,11 @@
 -- Calls: which of their faults is the least.
-use Rattle.std.proofs.Common.{◌≡◌, ◌≢◌, ◌≤◌, ℕ, Option, Some, Bool, true, false, refl, sym, subst, arith}
+use Rattle.std.proofs.Common.{◌≡◌, ◌≢◌, ◌≤◌, ℕ, Option, Some, Bool, true, false, subst, arith}
 use Rattle.c_tokens.specs.declared.token.Identifier.{Identifier}
 use Rattle.c_types.specs.declared.names.Named.{Named}
 use Rattle.c_types.specs.declared.names.Named.TheVariants.{Local, Global, Array, Function, Out}
 use Rattle.c_types.specs.declared.call.Target.{Target}
 use Rattle.c_types.specs.declared.fault.FaultKind.{FaultKind}
-use Rattle.c_types.specs.declared.fault.FaultKind.TheVariants.{Undeclared, Kind as KindFault, Count}
+use Rattle.c_types.specs.declared.fault.FaultKind.TheVariants.{Kind as KindFault, Count}
 use Rattle.c_types.specs.Calls.{IsTarget, function_target, out_target, Signs, function_signs, out_signs, IsNoFunction}
 use Rattle.c_types.specs.Faults.{number_of, IsFirstFault, HasNone}
 use Rattle.c_types.specs.Names.{Sight}

@@ -1,5 +1,5 @@
 -- The first fault of two parts together.
-use Rattle.std.proofs.Common.{◌≡◌, ◌<◌, ◌≤◌, ◌⊎◌, ℕ, Bool, true, false, Result, Ok, Err, IfOk, IfErr, inl, inr, refl, sym, subst, arith, rules, nat_lt, nat_eq, ◌&&◌, ◌||◌, if◌then◌else◌}
+use Rattle.std.proofs.Common.{◌≡◌, ◌<◌, ◌≤◌, ◌⊎◌, ℕ, Bool, true, false, Result, Ok, Err, IfOk, IfErr, inl, inr, refl, sym, subst, arith, nat_lt, nat_eq, ◌&&◌, ◌||◌, if◌then◌else◌}
 use Rattle.c_types.specs.declared.fault.FaultKind.{FaultKind}
 use Rattle.c_types.specs.declared.fault.TypeFault.{TypeFault}
 use Rattle.c_types.specs.declared.fault.Stop.{Stop}

@@ -1,11 +1,9 @@
 -- An expression has at most one typed tree.
-use Rattle.std.proofs.Common.{◌≡◌, ℕ, Option, Some, refl, sym, ap, subst, ◌∙◌}
-use Rattle.c_tokens.specs.declared.token.Kind.{Kind}
+use Rattle.std.proofs.Common.{◌≡◌, Option, Some, refl, ap}
 use Rattle.c_front.specs.Tree as Tree
 use Rattle.c_types.specs.declared.names.Named.{Named}
-use Rattle.c_types.specs.declared.names.Named.TheVariants.{Local, Global, Array}
 use Rattle.c_types.specs.Names.{Sight}
-use Rattle.c_types.specs.Typed.{Typed, constant, local, global, element, unary, binary, choose, kind_of, prefix_kind, operation_kind, common_kind}
+use Rattle.c_types.specs.Typed.{Typed, unary, kind_of, prefix_kind}
 use Rattle.c_types.specs.Types.{Types, constant_typed, local_typed, global_typed, element_typed, unary_typed, binary_typed, choose_typed}
 
 same-named : {m : Option Named} {a b : Named} → m ≡ Some a → m ≡ Some b → a ≡ b

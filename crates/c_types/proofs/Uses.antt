@@ -1,12 +1,12 @@
 -- Uses of a name: the one fault that each has.
-use Rattle.std.proofs.Common.{◌≡◌, ◌<◌, ◌≤◌, ◌⊎◌, ℕ, Option, Some, None, Bool, inl, inr, refl, sym, subst, arith}
+use Rattle.std.proofs.Common.{◌≡◌, ◌≤◌, ℕ, Option, Some, None, inr, refl, sym, subst, arith}
 use Rattle.c_tokens.specs.declared.token.Identifier.{Identifier}
 use Rattle.c_tokens.specs.declared.token.Kind.{Kind}
 use Rattle.c_types.specs.declared.names.Named.{Named}
 use Rattle.c_types.specs.declared.names.Named.TheVariants.{Local, Global, Array, Function, Out}
 use Rattle.c_types.specs.declared.fault.FaultKind.{FaultKind}
 use Rattle.c_types.specs.declared.fault.FaultKind.TheVariants.{Undeclared, Kind as KindFault, Count}
-use Rattle.c_types.specs.Faults.{number_of, IsFirstFault, HasNone}
+use Rattle.c_types.specs.Faults.{number_of, IsFirstFault}
 use Rattle.c_types.specs.Names.{Sight}
 use Rattle.c_types.specs.Uses.{Use, as_value, with_index, IsWrong, Misused, not_declared, array_alone, function_alone, out_alone, local_indexed, global_indexed, function_indexed, out_indexed}
 

@@ -88,12 +88,7 @@ fn array(program: &Program, names: &[Entry], name: Identifier) -> Result<(usize,
 }
 
 /// The typed tree of an expression under the names in sight, or its first fault.
-pub fn expression(
-    alloc: Global,
-    program: &Program,
-    names: &[Entry],
-    e: &Expr,
-) -> Result<Term, Stop>
+pub fn expression(alloc: Global, program: &Program, names: &[Entry], e: &Expr) -> Result<Term, Stop>
     ensures ok { IfOk result (λ t. Types (sight_of program.now.text.items names.now) (expression_of e.now) (term_of t)) }
     ensures none { IfOk result (λ t. HasNone (Faulty (sight_of program.now.text.items names.now) (expression_of e.now))) }
     ensures err { IfErr result (StopsAtFirst (Faulty (sight_of program.now.text.items names.now) (expression_of e.now))) }
@@ -119,7 +114,12 @@ pub fn expression(
             let second = expression(alloc, program, names, second);
             let (left, right) = both(first, second)?;
             let kind = operation(*operator, left.kind(), right.kind());
-            Ok(Term::Binary(*operator, kind, Box::new(alloc, left)?, Box::new(alloc, right)?))
+            Ok(Term::Binary(
+                *operator,
+                kind,
+                Box::new(alloc, left)?,
+                Box::new(alloc, right)?,
+            ))
         }
         Expr::Choose(test, first, second) => {
             let test = expression(alloc, program, names, test);
@@ -127,7 +127,12 @@ pub fn expression(
             let second = expression(alloc, program, names, second);
             let (test, (yes, no)) = both(test, both(first, second))?;
             let kind = common(yes.kind(), no.kind());
-            Ok(Term::Choose(kind, Box::new(alloc, test)?, Box::new(alloc, yes)?, Box::new(alloc, no)?))
+            Ok(Term::Choose(
+                kind,
+                Box::new(alloc, test)?,
+                Box::new(alloc, yes)?,
+                Box::new(alloc, no)?,
+            ))
         }
     }
 }

@@ -88,9 +88,7 @@ pub fn first(a: Stop, b: Stop) -> Stop
     ensures { result ≡ first_of a b }
 {
     match (a, b) {
-        (Stop::Fault(left), Stop::Fault(right)) => {
-            if is_later(left, right) { b } else { a }
-        }
+        (Stop::Fault(left), Stop::Fault(right)) => { if is_later(left, right) { b } else { a } }
         _ => Stop::NoMemory,
     }
 }

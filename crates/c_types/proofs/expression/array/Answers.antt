@@ -1,4 +1,4 @@
-use Rattle.std.proofs.Common.{rules, sym}
+use Rattle.std.proofs.Common.{sym}
 use Rattle.c_types.specs.Names.{sight_of}
 use Rattle.c_types.proofs.Uses.{undeclared-first, index-first}
 use Rattle.c_types.proofs.expression.array.Goals as goal

@@ -1,4 +1,4 @@
-use Rattle.std.proofs.Common.{rules, sym, ap, Some, ◌∙◌}
+use Rattle.std.proofs.Common.{sym, ap, Some, ◌∙◌}
 use Rattle.c_types.specs.declared.names.Named.{Named}
 use Rattle.c_types.specs.Types.{local_typed, global_typed}
 use Rattle.c_types.specs.Names.{sight_of}
