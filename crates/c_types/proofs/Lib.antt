@@ -1,0 +1,4 @@
+pub mod Firsts
+pub mod Uses
+pub mod Once
+pub mod Calls

@@ -1,0 +1,60 @@
+ghost use Rattle.std.specs.Prelude.{◌≡◌, IfOk, IfErr, IfSome, IfNone, Some};
+ghost use Rattle.c_types.specs.Calls.{Signs, IsNoFunction, IsTarget};
+ghost use Rattle.c_types.specs.Faults.{HasNone, StopsAtFirst};
+ghost use Rattle.c_types.specs.Names.{sight_of};
+ghost use Rattle.c_types.specs.Uses.{Misused, as_call};
+
+use crate::expression::misuse;
+use crate::fault::{FaultKind, Stop};
+use crate::names::{Entry, Named, find};
+use c_front::tree::Program;
+use c_tokens::token::Identifier;
+
+/// What a call goes to: a function of the program, by its number, or `out`.
+#[derive(Clone, Copy, PartialEq, Eq)]
+pub enum Target {
+    Function(usize),
+    Out,
+}
+
+/// What a call of the name goes to, the number of its parameters and whether it gives a result, if it is a function.
+fn signature(named: Named) -> Option<(Target, usize, bool)>
+    ensures some { IfSome result (λ s. Signs named s.0 s.1 s.2) }
+    ensures none { IfNone result (IsNoFunction named) }
+{
+    match named {
+        Named::Function(number, parameters, gives) => {
+            Some((Target::Function(number), parameters, gives))
+        }
+        Named::Out => Some((Target::Out, 1, false)),
+        _ => None,
+    }
+}
+
+/// What a call with so many arguments goes to; `wanted` says that its result is used. A call of what isn't a function
+/// and a void result that is used are faults before another number of arguments than parameters, all at the name.
+pub fn callee(
+    program: &Program,
+    names: &[Entry],
+    name: Identifier,
+    count: usize,
+    wanted: bool,
+) -> Result<Target, Stop>
+    ensures ok { IfOk result (IsTarget (sight_of program.now.text.items names.now name)) }
+    ensures none { IfOk result (λ t. HasNone (Misused (sight_of program.now.text.items names.now) name (as_call count wanted))) }
+    ensures err { IfErr result (StopsAtFirst (Misused (sight_of program.now.text.items names.now) name (as_call count wanted))) }
+{
+    let Some(named) = find(program, names, name) else {
+        return Err(misuse(FaultKind::Undeclared, name));
+    };
+    let Some((target, parameters, gives)) = signature(named) else {
+        return Err(misuse(FaultKind::Kind, name));
+    };
+    if wanted && !gives {
+        return Err(misuse(FaultKind::Kind, name));
+    }
+    if count != parameters {
+        return Err(misuse(FaultKind::Count, name));
+    }
+    Ok(target)
+}
