@@ -106,7 +106,7 @@ impl Amount {
 /// A register that can be written, 1 to 31: register 0 loses what is written to it.
 #[derive(Clone, Copy, Debug, PartialEq, Eq)]
 pub struct NonzeroReg {
-    index: u8,
+    number: u8,
 }
 
 impl Model for NonzeroReg {
@@ -114,11 +114,11 @@ impl Model for NonzeroReg {
 
     ghost Value = { ℕ };
 
-    ghost view = { λ r. r.index };
+    ghost view = { λ r. r.number };
 
-    ghost invariant = { λ r. (0 < r.index) × (r.index < 32) };
+    ghost invariant = { λ r. (0 < r.number) × (r.number < 32) };
 
-    ghost inverse = { λ n. record { index = n } };
+    ghost inverse = { λ n. record { number = n } };
 }
 
 impl NonzeroReg {
@@ -127,7 +127,7 @@ impl NonzeroReg {
         ensures { SomeIff result ((0 < index) × (index < 32)) index }
     {
         if 0 < index && index < 32 {
-            Some(NonzeroReg { index })
+            Some(NonzeroReg { number: index })
         } else {
             None
         }
@@ -139,7 +139,7 @@ impl NonzeroReg {
         ensures nonzero { 0 < self }
         ensures range { self < 32 }
     {
-        self.index
+        self.number
     }
 
     /// The same register among all 32.
@@ -148,7 +148,7 @@ impl NonzeroReg {
         ensures nonzero { 0 < self }
         ensures range { self < 32 }
     {
-        Reg { index: self.index }
+        Reg { index: self.number }
     }
 }
 
