@@ -1,5 +1,5 @@
--- Typed trees, and the kinds of their values (C99 6.3.1.8, 6.5.3 to 6.5.15).
-use Rattle.std.specs.Prelude.{ℕ}
+-- Trees whose names are numbers, and the kinds of their values (C99 6.3.1.8, 6.5.3 to 6.5.15).
+use Rattle.std.specs.Prelude.{ℕ, List, Option}
 use Rattle.c_tokens.specs.declared.token.Kind.{Kind}
 use Rattle.c_tokens.specs.declared.token.Kind.TheVariants.{SignedInt, UnsignedInt}
 use Rattle.c_tokens.specs.declared.token.Literal.{Literal}
@@ -7,16 +7,53 @@ use Rattle.c_front.specs.declared.tree.UnaryOp.{UnaryOp}
 use Rattle.c_front.specs.declared.tree.UnaryOp.TheVariants.{Not}
 use Rattle.c_front.specs.declared.tree.BinaryOp.{BinaryOp}
 use Rattle.c_front.specs.declared.tree.BinaryOp.TheVariants.{ShiftLeft, ShiftRight, Below, Exceeds, AtMost, AtLeast, Same, Differs, Both, Either}
+use Rattle.c_types.specs.declared.typed.Place.{Place}
+use Rattle.c_types.specs.declared.typed.Global.{Global}
 
 -- an expression whose names are numbers; an operator has the kind that it computes in
-pub data Typed : Type 0 where
-  constant : Literal → Typed
-  local : ℕ → Kind → Typed
-  global : ℕ → Kind → Typed
-  element : ℕ → Kind → Typed → Typed
-  unary : UnaryOp → Kind → Typed → Typed
-  binary : BinaryOp → Kind → Typed → Typed → Typed
-  choose : Kind → Typed → Typed → Typed → Typed
+pub data TypedExpression : Type 0 where
+  constant : Literal → TypedExpression
+  local : ℕ → Kind → TypedExpression
+  global : ℕ → Kind → TypedExpression
+  element : ℕ → Kind → TypedExpression → TypedExpression
+  unary : UnaryOp → Kind → TypedExpression → TypedExpression
+  binary : BinaryOp → Kind → TypedExpression → TypedExpression → TypedExpression
+  choose : Kind → TypedExpression → TypedExpression → TypedExpression → TypedExpression
+
+mutual
+  pub data TypedStatement : Type 0 where
+    empty : TypedStatement
+    block : TypedStatements → TypedStatement
+    -- a declaration without a first value
+    unset : ℕ → TypedStatement
+    assign : Place → TypedExpression → TypedStatement
+    -- an array, an index and a value
+    store : ℕ → TypedExpression → TypedExpression → TypedStatement
+    -- where the result goes, if anywhere, the function and the arguments
+    run : Option Place → ℕ → List TypedExpression → TypedStatement
+    output : TypedExpression → TypedStatement
+    branch : TypedExpression → TypedStatement → TypedStatement → TypedStatement
+    -- a test, the last part of a turn and the body
+    loop : TypedExpression → TypedStatement → TypedStatement → TypedStatement
+    leave : TypedStatement
+    next_turn : TypedStatement
+    return_with : Option TypedExpression → TypedStatement
+
+  pub data TypedStatements : Type 0 where
+    no_statements : TypedStatements
+    more_statements : TypedStatement → TypedStatements → TypedStatements
+
+-- the parameters are the first of the locals
+pub record TypedFunction : Type 0 where
+  pub result : Option Kind
+  pub parameters : ℕ
+  pub locals : ℕ
+  pub body : TypedStatements
+
+pub record TypedProgram : Type 0 where
+  pub functions : List TypedFunction
+  pub globals : List Global
+  pub main : ℕ
 
 abbrev pub common_kind : Kind → Kind → Kind
 common_kind SignedInt SignedInt = SignedInt
@@ -46,7 +83,7 @@ value_kind Both k = SignedInt
 value_kind Either k = SignedInt
 value_kind _ k = k
 
-abbrev pub kind_of : Typed → Kind
+abbrev pub kind_of : TypedExpression → Kind
 kind_of (constant c) = c.kind
 kind_of (local n k) = k
 kind_of (global n k) = k

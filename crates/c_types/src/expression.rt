@@ -6,7 +6,7 @@ ghost use Rattle.c_front.specs.Tree as Tree;
 ghost use Rattle.c_types.specs.Faults.{HasNone, StopsAtFirst};
 ghost use Rattle.c_types.specs.Names.{Sight, sight_of};
 ghost use Rattle.c_types.specs.Shape.{term_of};
-ghost use Rattle.c_types.specs.Typed.{Typed, common_kind, prefix_kind, operation_kind};
+ghost use Rattle.c_types.specs.Typed.{TypedExpression, common_kind, prefix_kind, operation_kind};
 ghost use Rattle.c_types.specs.Types.{Types};
 ghost use Rattle.c_types.specs.Uses.{Faulty, Misused, as_value, with_index};
 
@@ -139,5 +139,5 @@ pub fn expression(alloc: Global, program: &Program, names: &[Entry], e: &Expr) -
 
 /// An expression has at most one typed tree under the names in sight.
 pub fn one_typing()
-    ensures { (sight : Sight) (e : Tree.Expression) (t u : Typed) → Types sight e t → Types sight e u → t ≡ u }
+    ensures { (sight : Sight) (e : Tree.Expression) (t u : TypedExpression) → Types sight e t → Types sight e u → t ≡ u }
 {}

@@ -18,6 +18,58 @@ pub enum Term {
     Choose(Kind, Box<Term>, Box<Term>, Box<Term>),
 }
 
+/// Where a value is stored: a local of the function, or a global variable.
+#[derive(Clone, Copy, PartialEq, Eq)]
+pub enum Place {
+    Local(usize),
+    Global(usize),
+}
+
+/// A statement whose names are numbers (C99 6.8). `Unset` is a declaration without a first value. `Call` has the place
+/// that its result goes to, if it goes anywhere, the function and the arguments. `Loop` has its test, its last part and
+/// its body: a `while` has an empty last part, and a `for` is the block of its first part and the loop.
+#[derive(Drop)]
+pub enum Statement {
+    Empty,
+    Block(Vec<Statement>),
+    Unset(usize),
+    Assign(Place, Term),
+    Store(usize, Term, Term),
+    Call(Option<Place>, usize, Vec<Term>),
+    Output(Term),
+    If(Term, Box<Statement>, Box<Statement>),
+    Loop(Term, Box<Statement>, Box<Statement>),
+    Break,
+    Continue,
+    Return(Option<Term>),
+}
+
+/// A function: the kind of its result, if it has one, the numbers of its parameters and of all its locals (the
+/// parameters are the first of them), and its body. The return at the end brace of a function without result, and the
+/// `return 0` at that of `main`, stand in the body as its last statement; control never leaves the body otherwise.
+#[derive(Drop)]
+pub struct Function {
+    pub result: Option<Kind>,
+    pub parameters: usize,
+    pub locals: usize,
+    pub body: Vec<Statement>,
+}
+
+/// A global variable or array: its length in words, 1 for a variable, and the word that each of them has at first.
+#[derive(Clone, Copy, PartialEq, Eq)]
+pub struct Global {
+    pub length: usize,
+    pub first: u32,
+}
+
+/// A program whose names are numbers: its functions and globals in order, and the number of `main`.
+#[derive(Drop)]
+pub struct Typed {
+    pub functions: Vec<Function>,
+    pub globals: Vec<Global>,
+    pub main: usize,
+}
+
 impl Term {
     /// The kind of the expression's value (C99 6.5): `int` for comparisons, `!`, `&&` and `||`.
     pub fn kind(&self) -> Kind
