@@ -4,4 +4,6 @@ pub mod Uses
 pub mod Typed
 pub mod Calls
 pub mod Shape
+pub mod Statements
 pub mod Types
+pub mod Held

@@ -55,6 +55,10 @@ pub record TypedProgram : Type 0 where
   pub globals : List Global
   pub main : ℕ
 
+-- the constant 1
+abbrev pub one : Literal
+one = record { value = 1; kind = SignedInt }
+
 abbrev pub common_kind : Kind → Kind → Kind
 common_kind SignedInt SignedInt = SignedInt
 common_kind _ _ = UnsignedInt

@@ -1,12 +1,14 @@
 ghost use Rattle.std.specs.Prelude.{◌≡◌, IfOk, IfErr, IfSome, IfNone, Some};
 ghost use Rattle.c_types.specs.Calls.{Signs, IsNoFunction, IsTarget};
 ghost use Rattle.c_types.specs.Faults.{HasNone, StopsAtFirst};
-ghost use Rattle.c_types.specs.Names.{sight_of};
+ghost use Rattle.c_types.specs.Held.{scopes_of};
+ghost use Rattle.c_types.specs.Names.{sight_in};
 ghost use Rattle.c_types.specs.Uses.{Misused, as_call};
 
 use crate::expression::misuse;
 use crate::fault::{FaultKind, Stop};
-use crate::names::{Entry, Named, find};
+use crate::names::Named;
+use crate::scopes::Frame;
 use c_front::tree::Program;
 use c_tokens::token::Identifier;
 
@@ -35,16 +37,16 @@ fn signature(named: Named) -> Option<(Target, usize, bool)>
 /// and a void result that is used are faults before another number of arguments than parameters, all at the name.
 pub fn callee(
     program: &Program,
-    names: &[Entry],
+    frame: &Frame,
     name: Identifier,
     count: usize,
     wanted: bool,
 ) -> Result<Target, Stop>
-    ensures ok { IfOk result (IsTarget (sight_of program.now.text.items names.now name)) }
-    ensures none { IfOk result (λ t. HasNone (Misused (sight_of program.now.text.items names.now) name (as_call count wanted))) }
-    ensures err { IfErr result (StopsAtFirst (Misused (sight_of program.now.text.items names.now) name (as_call count wanted))) }
+    ensures ok { IfOk result (IsTarget (sight_in program.now.text.items (scopes_of frame.now) name)) }
+    ensures none { IfOk result (λ t. HasNone (Misused (sight_in program.now.text.items (scopes_of frame.now)) name (as_call count wanted))) }
+    ensures err { IfErr result (StopsAtFirst (Misused (sight_in program.now.text.items (scopes_of frame.now)) name (as_call count wanted))) }
 {
-    let Some(named) = find(program, names, name) else {
+    let Some(named) = frame.find(program, name) else {
         return Err(misuse(FaultKind::Undeclared, name));
     };
     let Some((target, parameters, gives)) = signature(named) else {

@@ -4,14 +4,16 @@ ghost use Rattle.c_types.specs.declared.fault.Stop.TheVariants.{Fault};
 ghost use Rattle.c_front.specs.Shape.{expression_of};
 ghost use Rattle.c_front.specs.Tree as Tree;
 ghost use Rattle.c_types.specs.Faults.{HasNone, StopsAtFirst};
-ghost use Rattle.c_types.specs.Names.{Sight, sight_of};
+ghost use Rattle.c_types.specs.Held.{scopes_of};
+ghost use Rattle.c_types.specs.Names.{Sight, sight_in};
 ghost use Rattle.c_types.specs.Shape.{term_of};
 ghost use Rattle.c_types.specs.Typed.{TypedExpression, common_kind, prefix_kind, operation_kind};
 ghost use Rattle.c_types.specs.Types.{Types};
 ghost use Rattle.c_types.specs.Uses.{Faulty, Misused, as_value, with_index};
 
 use crate::fault::{FaultKind, Stop, TypeFault, both};
-use crate::names::{Entry, Named, find};
+use crate::names::Named;
+use crate::scopes::Frame;
 use crate::typed::Term;
 use c_front::tree::{BinaryOp, Expr, Program, UnaryOp};
 use c_tokens::token::{Identifier, Kind};
@@ -57,12 +59,12 @@ pub fn misuse(kind: FaultKind, name: Identifier) -> Stop
 }
 
 /// The variable that a name stands for as a value.
-fn variable(program: &Program, names: &[Entry], name: Identifier) -> Result<Term, Stop>
-    ensures ok { IfOk result (λ t. Types (sight_of program.now.text.items names.now) (Tree.name name) (term_of t)) }
-    ensures none { IfOk result (λ t. HasNone (Misused (sight_of program.now.text.items names.now) name as_value)) }
-    ensures err { IfErr result (StopsAtFirst (Misused (sight_of program.now.text.items names.now) name as_value)) }
+fn variable(program: &Program, frame: &Frame, name: Identifier) -> Result<Term, Stop>
+    ensures ok { IfOk result (λ t. Types (sight_in program.now.text.items (scopes_of frame.now)) (Tree.name name) (term_of t)) }
+    ensures none { IfOk result (λ t. HasNone (Misused (sight_in program.now.text.items (scopes_of frame.now)) name as_value)) }
+    ensures err { IfErr result (StopsAtFirst (Misused (sight_in program.now.text.items (scopes_of frame.now)) name as_value)) }
 {
-    let Some(named) = find(program, names, name) else {
+    let Some(named) = frame.find(program, name) else {
         return Err(misuse(FaultKind::Undeclared, name));
     };
     match named {
@@ -73,12 +75,12 @@ fn variable(program: &Program, names: &[Entry], name: Identifier) -> Result<Term
 }
 
 /// The number and the kind of the array that a name with an index stands for.
-fn array(program: &Program, names: &[Entry], name: Identifier) -> Result<(usize, Kind), Stop>
-    ensures ok { IfOk result (λ r. sight_of program.now.text.items names.now name ≡ Some (Array r.0 r.1)) }
-    ensures none { IfOk result (λ r. HasNone (Misused (sight_of program.now.text.items names.now) name with_index)) }
-    ensures err { IfErr result (StopsAtFirst (Misused (sight_of program.now.text.items names.now) name with_index)) }
+fn array(program: &Program, frame: &Frame, name: Identifier) -> Result<(usize, Kind), Stop>
+    ensures ok { IfOk result (λ r. sight_in program.now.text.items (scopes_of frame.now) name ≡ Some (Array r.0 r.1)) }
+    ensures none { IfOk result (λ r. HasNone (Misused (sight_in program.now.text.items (scopes_of frame.now)) name with_index)) }
+    ensures err { IfErr result (StopsAtFirst (Misused (sight_in program.now.text.items (scopes_of frame.now)) name with_index)) }
 {
-    let Some(named) = find(program, names, name) else {
+    let Some(named) = frame.find(program, name) else {
         return Err(misuse(FaultKind::Undeclared, name));
     };
     match named {
@@ -88,30 +90,30 @@ fn array(program: &Program, names: &[Entry], name: Identifier) -> Result<(usize,
 }
 
 /// The typed tree of an expression under the names in sight, or its first fault.
-pub fn expression(alloc: Global, program: &Program, names: &[Entry], e: &Expr) -> Result<Term, Stop>
-    ensures ok { IfOk result (λ t. Types (sight_of program.now.text.items names.now) (expression_of e.now) (term_of t)) }
-    ensures none { IfOk result (λ t. HasNone (Faulty (sight_of program.now.text.items names.now) (expression_of e.now))) }
-    ensures err { IfErr result (StopsAtFirst (Faulty (sight_of program.now.text.items names.now) (expression_of e.now))) }
+pub fn expression(alloc: Global, program: &Program, frame: &Frame, e: &Expr) -> Result<Term, Stop>
+    ensures ok { IfOk result (λ t. Types (sight_in program.now.text.items (scopes_of frame.now)) (expression_of e.now) (term_of t)) }
+    ensures none { IfOk result (λ t. HasNone (Faulty (sight_in program.now.text.items (scopes_of frame.now)) (expression_of e.now))) }
+    ensures err { IfErr result (StopsAtFirst (Faulty (sight_in program.now.text.items (scopes_of frame.now)) (expression_of e.now))) }
 {
     match e {
         Expr::Constant(literal) => Ok(Term::Constant(*literal)),
         Expr::Name(name) => {
-            let term = variable(program, names, *name)?;
+            let term = variable(program, frame, *name)?;
             Ok(term)
         }
         Expr::Index(name, inner) => {
-            let index = expression(alloc, program, names, inner);
-            let ((number, kind), index) = both(array(program, names, *name), index)?;
+            let index = expression(alloc, program, frame, inner);
+            let ((number, kind), index) = both(array(program, frame, *name), index)?;
             Ok(Term::Element(number, kind, Box::new(alloc, index)?))
         }
         Expr::Unary(operator, inner) => {
-            let operand = expression(alloc, program, names, inner)?;
+            let operand = expression(alloc, program, frame, inner)?;
             let kind = prefix(*operator, operand.kind());
             Ok(Term::Unary(*operator, kind, Box::new(alloc, operand)?))
         }
         Expr::Binary(operator, first, second) => {
-            let first = expression(alloc, program, names, first);
-            let second = expression(alloc, program, names, second);
+            let first = expression(alloc, program, frame, first);
+            let second = expression(alloc, program, frame, second);
             let (left, right) = both(first, second)?;
             let kind = operation(*operator, left.kind(), right.kind());
             Ok(Term::Binary(
@@ -122,9 +124,9 @@ pub fn expression(alloc: Global, program: &Program, names: &[Entry], e: &Expr) -
             ))
         }
         Expr::Choose(test, first, second) => {
-            let test = expression(alloc, program, names, test);
-            let first = expression(alloc, program, names, first);
-            let second = expression(alloc, program, names, second);
+            let test = expression(alloc, program, frame, test);
+            let first = expression(alloc, program, frame, first);
+            let second = expression(alloc, program, frame, second);
             let (test, (yes, no)) = both(test, both(first, second))?;
             let kind = common(yes.kind(), no.kind());
             Ok(Term::Choose(

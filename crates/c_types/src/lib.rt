@@ -11,4 +11,5 @@ pub mod call;
 pub mod expression;
 pub mod fault;
 pub mod names;
+pub mod scopes;
 pub mod typed;
