@@ -4,3 +4,5 @@ pub mod Once
 pub mod Calls
 pub mod Declared
 pub mod Parameters
+pub mod Closing
+pub mod Functions

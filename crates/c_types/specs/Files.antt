@@ -1,11 +1,16 @@
 -- What the walk over the declarations keeps.
-use Rattle.std.specs.Prelude.{◌≡◌, ◌<◌, ◌⊎◌, ℕ, List, Option, Some, Bool, true, false, nat_eq, bytes_eq}
-use Rattle.c_front.specs.Tree.{Declaration, variable, array, function}
+use Rattle.std.specs.Prelude.{length, [], ◌≡◌, ◌<◌, ◌⊎◌, ℕ, List, Option, Some, Bool, true, false, nat_eq, bytes_eq}
+use Rattle.c_front.specs.Tree.{Declaration, Items, variable, array, function}
 use Rattle.c_types.specs.declared.declaration.Tally.{Tally}
 use Rattle.c_types.specs.declared.scopes.Frame.{Frame}
 use Rattle.c_types.specs.Held.{held}
-use Rattle.c_types.specs.Names.{spelled}
-use Rattle.c_types.specs.Programs.{File, IsNotMain, main_name, name_of}
+use Rattle.c_front.specs.declared.tree.Parameter.{Parameter}
+use Rattle.c_tokens.specs.declared.token.Identifier.{Identifier}
+use Rattle.c_tokens.specs.declared.token.Kind.{Kind}
+use Rattle.c_types.specs.Names.{Meaning, Scopes, spelled, behind_items}
+use Rattle.c_types.specs.Programs.{File, IsNotMain, main_name, name_of, scopes_at, behind_parameters, closing, with_last}
+use Rattle.c_types.specs.Typed.{TypedFunction, TypedStatements}
+use Rattle.c_types.specs.Types.{TypesItems}
 
 abbrev pub file_of : Frame → Tally → File
 file_of f t = record { names = held f.inner; tally = t }
@@ -24,3 +29,18 @@ is_array_of_nothing (function r x ps body) = false
 -- a `main` that isn't `int main(void)`, or an array of length 0
 abbrev pub IsOtherKind : List ℕ → Declaration → Type 0
 IsOtherKind text d = (is_array_of_nothing d ≡ true) ⊎ ((bytes_eq main_name (spelled text (name_of d)) ≡ true) × IsNotMain d)
+
+-- at file scope, with these names
+abbrev pub file_scopes : Meaning → Scopes
+file_scopes names = record { inner = names; around = []; locals = 0 }
+
+-- what a function at file scope comes to, under the names there
+pub record IsFunction (text : List ℕ) (names : Meaning) (r : Option Kind) (x : Identifier) (ps : List Parameter) (body : Items) (t : TypedFunction) : Type 0 where
+  pub typed : TypedStatements
+  pub types : TypesItems text (behind_parameters text (scopes_at names) ps) body typed
+  pub is : t ≡ record {
+    result = r;
+    parameters = length ps;
+    locals = (behind_items text (behind_parameters text (scopes_at names) ps) body).locals;
+    body = with_last typed (closing (bytes_eq main_name (spelled text x)) r);
+  }

@@ -4,7 +4,6 @@ ghost use Rattle.c_types.specs.Faults.{HasNone, StopsAtFirst};
 ghost use Rattle.c_types.specs.Files.{file_of, Exceeds, IsOtherKind, is_array_of_nothing};
 ghost use Rattle.c_types.specs.Held.{scopes_of};
 ghost use Rattle.c_types.specs.Names.{spelled};
-ghost use Rattle.c_types.specs.declared.fault.Stop.TheVariants.{NoMemory};
 ghost use Rattle.c_types.specs.Programs.{FaultyName, FaultyParameter, FaultyParameters, behind_parameters, IsNotMain, first_word, main_name, name_of, named_by, room_after, tally_after, words_of};
 
 use crate::expression::misuse;
@@ -13,6 +12,7 @@ use crate::names::Named;
 use crate::scopes::Frame;
 use c_front::tree::{Declaration, Initial, Parameter, Program};
 use c_tokens::token::{Identifier, Kind};
+use std::alloc::AllocError;
 
 /// How many globals and functions stand at file scope so far, and how many of the 262,144 words are left for globals,
 /// until they are exceeded.
@@ -202,23 +202,19 @@ fn parameter_fault(program: &Program, frame: &Frame, name: Identifier) -> Result
 }
 
 /// Puts the parameters of a function into its scope.
-fn parameters<'a>(
+pub fn parameters<'a>(
     program: &'a Program,
     frame: &mut Frame<'a>,
     all: &[Parameter],
-) -> Result<Result<(), Stop>, Stop>
+) -> Result<Result<(), Stop>, AllocError>
     ensures none { IfOk result (λ r. IfOk r (λ _. HasNone (FaultyParameters program.now.text.items (scopes_of frame.old) all.now))) }
     ensures err { IfOk result (λ r. IfErr r (StopsAtFirst (FaultyParameters program.now.text.items (scopes_of frame.old) all.now))) }
     ensures scopes { IfOk result (λ r. scopes_of frame.new ≡ behind_parameters program.now.text.items (scopes_of frame.old) all.now) }
-    ensures memory { IfErr result (λ s. s ≡ NoMemory) }
 {
     let mut fault = Ok(());
     for parameter in all {
         fault = either(fault, parameter_fault(program, frame, parameter.name));
-        match frame.declare_local(program, parameter.kind, parameter.name) {
-            Ok(()) => {}
-            Err(_) => return Err(Stop::NoMemory),
-        }
+        frame.declare_local(program, parameter.kind, parameter.name)?;
     }
     Ok(fault)
 }

@@ -12,5 +12,6 @@ mod declaration;
 pub mod expression;
 pub mod fault;
 pub mod names;
+mod program;
 pub mod scopes;
 pub mod typed;

@@ -1,0 +1,26 @@
+-- A statement behind others.
+use Rattle.std.proofs.Common.{◌≡◌, List, [], ◌∷◌, ◌++◌, refl, sym, ap, ◌∙◌, Bool, true, false, Option, Some, None}
+use Rattle.c_tokens.specs.declared.token.Kind.{Kind}
+use Rattle.c_types.specs.declared.typed.Statement.{Statement}
+use Rattle.c_types.specs.Programs.{with_last, closing}
+use Rattle.c_types.specs.Shape.{statement_of, statements_of}
+use Rattle.c_types.specs.Typed.{TypedStatements, no_statements, more_statements}
+
+pub one-more : (all : List Statement) (s : Statement) → statements_of (all ++ s ∷ []) ≡ with_last (statements_of all) (more_statements (statement_of s) no_statements)
+one-more [] s = refl
+one-more (t ∷ rest) s = ap (more_statements (statement_of t)) (one-more rest s)
+
+none-more : (all : TypedStatements) → all ≡ with_last all no_statements
+none-more no_statements = refl
+none-more (more_statements t rest) = ap (more_statements t) (none-more rest)
+
+pub closed-main : (new old : List Statement) (s : Statement) (main : Bool) (gives : Option Kind) → new ≡ old ++ s ∷ [] → main ≡ true → more_statements (statement_of s) no_statements ≡ closing true gives
+    → statements_of new ≡ with_last (statements_of old) (closing main gives)
+closed-main new old s main gives e m c = rw (e, m) (one-more old s ∙ ap (with_last (statements_of old)) c)
+
+pub closed-void : (new old : List Statement) (s : Statement) (main : Bool) (gives : Option Kind) → new ≡ old ++ s ∷ [] → main ≡ false → gives ≡ None → more_statements (statement_of s) no_statements ≡ closing false None
+    → statements_of new ≡ with_last (statements_of old) (closing main gives)
+closed-void new old s main gives e m g c = rw (e, m, g) (one-more old s ∙ ap (with_last (statements_of old)) c)
+
+pub left-open : (old : List Statement) (main : Bool) (gives : Option Kind) (k : Kind) → main ≡ false → gives ≡ Some k → statements_of old ≡ with_last (statements_of old) (closing main gives)
+left-open old main gives k m g = rw (m, g) (none-more (statements_of old))

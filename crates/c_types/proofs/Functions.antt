@@ -1,0 +1,44 @@
+-- The scopes and the faults of a function.
+use Rattle.std.proofs.Common.{◌≡◌, ◌≢◌, ℕ, List, [], ◌∷◌, refl, sym, ap, ◌∙◌, subst, Result, Ok, Err, IfOk, IfErr, Option, Bool, false}
+use Rattle.std.specs.Prelude.{is_some}
+use Rattle.c_front.specs.declared.tree.Parameter.{Parameter}
+use Rattle.c_front.specs.Tree.{Item, Items, declare, statement, no_items, more_items, function}
+use Rattle.c_tokens.specs.declared.token.Identifier.{Identifier}
+use Rattle.c_tokens.specs.declared.token.Kind.{Kind}
+use Rattle.c_types.specs.declared.fault.Stop.{Stop}
+use Rattle.c_types.specs.Faults.{Faults, HasNone, StopsAtFirst, StopsBoth}
+use Rattle.c_types.specs.Files.{file_scopes}
+use Rattle.c_types.specs.Names.{Meaning, Scopes, left, without_first, without_locals, entered, declared, behind, behind_item, behind_items}
+use Rattle.c_types.specs.Programs.{FaultyParameters, FaultyBody, behind_parameters, scopes_at}
+use Rattle.c_types.specs.Statements.{FaultyItems}
+use Rattle.c_types.proofs.Firsts.{Both, both-stop}
+
+around-item : (text : List ℕ) (sc : Scopes) (i : Item) → (behind_item text sc i).around ≡ sc.around
+around-item text sc (declare k x v) = refl
+around-item text sc (statement s) = refl
+
+around-items : (text : List ℕ) (sc : Scopes) (all : Items) → (behind_items text sc all).around ≡ sc.around
+around-items text sc no_items = refl
+around-items text sc (more_items i rest) = around-items text (behind_item text sc i) rest ∙ around-item text sc i
+
+around-parameters : (text : List ℕ) (sc : Scopes) (ps : List Parameter) → (behind_parameters text sc ps).around ≡ sc.around
+around-parameters text sc [] = refl
+around-parameters text sc (p ∷ rest) = around-parameters text (declared text sc p.kind p.name) rest
+
+pub back : (text : List ℕ) (old s1 s2 s3 s4 s5 : Scopes) (ps : List Parameter) (body : Items) → old ≡ file_scopes old.inner → s1 ≡ entered old → s2 ≡ behind_parameters text s1 ps → s3 ≡ behind_items text s2 body
+    → s4 ≡ left s3 → s5 ≡ without_locals s4 → s5 ≡ old
+back text old s1 s2 s3 s4 s5 ps body o a b d e f = f ∙ ap without_locals e ∙ ap (λ (m : List Meaning). without_locals (without_first m s3)) there ∙ sym o
+  where
+    there : s3.around ≡ old.inner ∷ []
+    there = ap (λ (s : Scopes). s.around) d ∙ around-items text s2 body ∙ ap (λ (s : Scopes). s.around) b ∙ around-parameters text s1 ps ∙ ap (λ (s : Scopes). s.around) a ∙ ap (λ (s : Scopes). old.inner ∷ s.around) o
+
+pub at-parameters : (old s1 : Scopes) → old ≡ file_scopes old.inner → s1 ≡ entered old → s1 ≡ scopes_at old.inner
+at-parameters old s1 o a = a ∙ ap entered o
+
+pub body-stop : {A B : Type 0} (text : List ℕ) (old s1 s2 : Scopes) (r : Option Kind) (x : Identifier) (ps : List Parameter) (body : Items) (a : Result A Stop) (b : Result B Stop) (s : Stop) → old ≡ file_scopes old.inner
+    → s1 ≡ entered old → s2 ≡ behind_parameters text s1 ps → IfOk a (λ y. HasNone (FaultyParameters text s1 ps)) → IfErr a (StopsAtFirst (FaultyParameters text s1 ps))
+    → IfOk b (λ y. HasNone (FaultyItems text (is_some r) false s2 body)) → IfErr b (StopsAtFirst (FaultyItems text (is_some r) false s2 body)) → StopsBoth a b s → StopsAtFirst (FaultyBody text old.inner (function r x ps body)) s
+body-stop text old s1 s2 r x ps body a b s o e f n h m l t =
+    let Q : Scopes → Type 0 = λ y. StopsAtFirst (Both (FaultyParameters text y ps) (FaultyItems text (is_some r) false (behind_parameters text y ps) body)) s in
+    subst Q (at-parameters old s1 o e) (let R : Scopes → Type 0 = λ y. StopsAtFirst (Both (FaultyParameters text s1 ps) (FaultyItems text (is_some r) false y body)) s in
+    subst R f (both-stop (FaultyParameters text s1 ps) (FaultyItems text (is_some r) false s2 body) a b s n h m l t))
