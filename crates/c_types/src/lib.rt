@@ -12,4 +12,5 @@ pub mod expression;
 pub mod fault;
 pub mod names;
 pub mod scopes;
+pub mod simple;
 pub mod typed;
