@@ -4,3 +4,4 @@ pub mod Once
 pub mod Calls
 pub mod Joined
 pub mod Arguments
+pub mod CallsTyped

@@ -13,4 +13,5 @@ pub mod fault;
 pub mod names;
 pub mod scopes;
 pub mod simple;
+pub mod statement;
 pub mod typed;

@@ -16,6 +16,6 @@ loop-one-preserved c =
 pub returns : goal.returns
 returns c =
     let h : SoFar (sight_in c.args.program.now.text.items (scopes_of c.args.frame.now)) c.args.all.now c.loop-one.typed =
-        rw (take_all c.loop-one.one-index c.args.all.now c.loop-one-test.false) at c.loop-one.invariant
+    rw (take_all c.loop-one.one-index c.args.all.now c.loop-one-test.false) at c.loop-one.invariant
     in
     record { ok = h.ok; none = h.none; err = h.err }
