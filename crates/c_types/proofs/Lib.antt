@@ -5,3 +5,6 @@ pub mod Calls
 pub mod Joined
 pub mod Arguments
 pub mod CallsTyped
+pub mod Declarators
+pub mod Items
+pub mod Weights
