@@ -8,3 +8,5 @@ pub mod CallsTyped
 pub mod Declarators
 pub mod Items
 pub mod Weights
+pub mod Declared
+pub mod Parameters

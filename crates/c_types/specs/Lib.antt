@@ -7,3 +7,5 @@ pub mod Shape
 pub mod Statements
 pub mod Types
 pub mod Held
+pub mod Programs
+pub mod Files

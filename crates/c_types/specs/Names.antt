@@ -27,7 +27,7 @@ abbrev pub nothing : Meaning
 nothing w = None
 
 abbrev pub with_name : Meaning → List ℕ → Named → Meaning
-with_name names x m = λ w. if bytes_eq w x then Some m else names w
+with_name names x m = λ w. if bytes_eq x w then Some m else names w
 
 -- the innermost scope so far, the scopes around it from the inside out, and how many locals the function has declared
 pub record Scopes : Type 0 where
@@ -39,8 +39,11 @@ abbrev pub meaning_in : List Meaning → Meaning
 meaning_in [] w = None
 meaning_in (m ∷ rest) w = hides (m w) (meaning_in rest w)
 
+abbrev pub named_in : Scopes → Meaning
+named_in s = meaning_in (s.inner ∷ s.around)
+
 abbrev pub sight_in : List ℕ → Scopes → Sight
-sight_in text s x = meaning_in (s.inner ∷ s.around) (spelled text x)
+sight_in text s x = named_in s (spelled text x)
 
 -- at the beginning of a block
 abbrev pub entered : Scopes → Scopes
@@ -62,8 +65,11 @@ abbrev pub without_locals : Scopes → Scopes
 without_locals s = record { inner = s.inner; around = s.around; locals = 0 }
 
 -- behind a declarator
+abbrev pub with_spelling : Scopes → List ℕ → Named → Scopes
+with_spelling s x m = record { inner = with_name s.inner x m; around = s.around; locals = s.locals }
+
 abbrev pub with_declared : List ℕ → Scopes → Identifier → Named → Scopes
-with_declared text s x m = record { inner = with_name s.inner (spelled text x) m; around = s.around; locals = s.locals }
+with_declared text s x m = with_spelling s (spelled text x) m
 
 -- behind the declarator of a local, which has the next number
 abbrev pub declared : List ℕ → Scopes → Kind → Identifier → Scopes

@@ -105,3 +105,12 @@ pub fn both<A: Drop, B: Drop>(a: Result<A, Stop>, b: Result<B, Stop>) -> Result<
         (Err(left), Err(right)) => Err(first(left, right)),
     }
 }
+
+/// The faults of two parts that have no answer.
+pub fn either(a: Result<(), Stop>, b: Result<(), Stop>) -> Result<(), Stop>
+    ensures ok { IfOk result (λ r. (a ≡ Ok tt) × (b ≡ Ok tt)) }
+    ensures err { IfErr result (StopsBoth a b) }
+{
+    both(a, b)?;
+    Ok(())
+}

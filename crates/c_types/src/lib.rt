@@ -8,6 +8,7 @@
 #![tactic(auto)]
 
 pub mod call;
+mod declaration;
 pub mod expression;
 pub mod fault;
 pub mod names;

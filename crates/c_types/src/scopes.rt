@@ -1,6 +1,6 @@
 ghost use Rattle.std.specs.Prelude.{◌≡◌, OnOk, is_some};
 ghost use Rattle.c_types.specs.Held.{scopes_of};
-ghost use Rattle.c_types.specs.Names.{Scopes, sight_in, no_scopes, entered, left, with_declared, declared, without_locals, spelled};
+ghost use Rattle.c_types.specs.Names.{Scopes, named_in, sight_in, with_spelling, no_scopes, entered, left, with_declared, declared, without_locals, spelled};
 
 use crate::fault::Stop;
 use crate::names::Named;
@@ -33,11 +33,10 @@ impl<'a> Frame<'a> {
         }
     }
 
-    /// What a name stands for: its declaration in the innermost scope that has one.
-    pub fn find(&self, program: &Program, name: Identifier) -> Option<Named>
-        ensures { result ≡ sight_in program.now.text.items (scopes_of self.now) name }
+    /// What a name of this spelling stands for: its declaration in the innermost scope that has one.
+    pub fn find_spelling(&self, spelling: &[u8]) -> Option<Named>
+        ensures { result ≡ named_in (scopes_of self.now) spelling.now }
     {
-        let spelling = program.spelling(name);
         if let Some(named) = self.inner.get(spelling) {
             return Some(*named);
         }
@@ -47,6 +46,13 @@ impl<'a> Frame<'a> {
             }
         }
         None
+    }
+
+    /// What a name stands for.
+    pub fn find(&self, program: &Program, name: Identifier) -> Option<Named>
+        ensures { result ≡ sight_in program.now.text.items (scopes_of self.now) name }
+    {
+        self.find_spelling(program.spelling(name))
     }
 
     /// Whether the innermost scope declares the name.
@@ -63,6 +69,14 @@ impl<'a> Frame<'a> {
         self.locals.len()
     }
 
+    /// Puts a spelling into the innermost scope.
+    pub fn declare_spelling(&mut self, spelling: &'a [u8], named: Named) -> Result<(), Stop>
+        ensures { OnOk result (scopes_of self.new ≡ with_spelling (scopes_of self.old) spelling.now named) }
+    {
+        self.inner.insert(spelling, named)?;
+        Ok(())
+    }
+
     /// Puts a name into the innermost scope.
     pub fn declare(
         &mut self,
@@ -72,7 +86,7 @@ impl<'a> Frame<'a> {
     ) -> Result<(), Stop>
         ensures { OnOk result (scopes_of self.new ≡ with_declared program.now.text.items (scopes_of self.old) name named) }
     {
-        self.inner.insert(program.spelling(name), named)?;
+        self.declare_spelling(program.spelling(name), named)?;
         Ok(())
     }
 
@@ -85,7 +99,8 @@ impl<'a> Frame<'a> {
     ) -> Result<(), Stop>
         ensures { OnOk result (scopes_of self.new ≡ declared program.now.text.items (scopes_of self.old) kind name) }
     {
-        self.declare(program, name, Named::Local(self.locals.len(), kind))?;
+        let number = self.locals.len();
+        self.declare(program, name, Named::Local(number, kind))?;
         self.locals.push(kind)?;
         Ok(())
     }

@@ -1,0 +1,178 @@
+-- The faults of a program, and which typed program it has (C99 6.9, 5.1.2.2.1).
+use Rattle.std.specs.Prelude.{◌≡◌, ◌≢◌, ◌⊎◌, ◌<◌, ◌-◌, ◌%◌, ◌^◌, ℕ, suc, List, [], ◌∷◌, Option, Some, None, Bool, true, false, length, is_some, nat_lt, if◌then◌else◌, bytes_eq}
+use Rattle.c_tokens.specs.declared.token.Identifier.{Identifier}
+use Rattle.c_tokens.specs.declared.token.Kind.{Kind}
+use Rattle.c_tokens.specs.declared.token.Kind.TheVariants.{SignedInt, UnsignedInt}
+use Rattle.c_tokens.specs.declared.token.Literal.{Literal}
+use Rattle.c_front.specs.declared.tree.Initial.{Initial}
+use Rattle.c_front.specs.declared.tree.Parameter.{Parameter}
+use Rattle.c_front.specs.Tree.{Declaration, variable, array, function, Items}
+use Rattle.c_types.specs.declared.fault.FaultKind.{FaultKind}
+use Rattle.c_types.specs.declared.fault.FaultKind.TheVariants.{Redeclared, Kind as KindFault, Count, NoMain, Limit}
+use Rattle.c_types.specs.declared.names.Named.{Named}
+use Rattle.c_types.specs.declared.names.Named.TheVariants.{Global, Array, Function, Out}
+use Rattle.c_types.specs.declared.declaration.Tally.{Tally}
+use Rattle.c_types.specs.declared.typed.Global as Typed
+use Rattle.c_types.specs.Names.{Meaning, Scopes, spelled, nothing, with_name, entered, declared, behind_items}
+use Rattle.c_types.specs.Statements.{FaultyDeclarator, FaultyItems}
+use Rattle.c_types.specs.Typed.{TypedFunction, TypedStatements, TypedProgram, no_statements, more_statements, return_with, constant}
+use Rattle.c_types.specs.Types.{TypesItems}
+
+-- the bytes of `main` and of `out`
+abbrev pub main_name : List ℕ
+main_name = 109 ∷ 97 ∷ 105 ∷ 110 ∷ []
+
+abbrev pub out_name : List ℕ
+out_name = 111 ∷ 117 ∷ 116 ∷ []
+
+-- what stands at file scope so far: the names, the numbers of globals and functions, and how many of the 262,144 words
+-- are left for globals, until they are exceeded
+pub record File : Type 0 where
+  pub names : Meaning
+  pub tally : Tally
+
+-- `out` is declared at file scope
+abbrev pub no_declarations : File
+no_declarations = record { names = with_name nothing out_name Out; tally = record { globals = 0; functions = 0; room = Some 262144 } }
+
+abbrev pub name_of : Declaration → Identifier
+name_of (variable k x i) = x
+name_of (array k x n) = x
+name_of (function r x ps body) = x
+
+abbrev pub words_of : Declaration → ℕ
+words_of (variable k x i) = 1
+words_of (array k x n) = n.value
+words_of (function r x ps body) = 0
+
+abbrev pub named_by : Tally → Declaration → Named
+named_by t (variable k x i) = Global t.globals k
+named_by t (array k x n) = Array t.globals k
+named_by t (function r x ps body) = Function t.functions (length ps) (is_some r)
+
+abbrev pub room_after : Option ℕ → ℕ → Option ℕ
+room_after None n = None
+room_after (Some r) n = if nat_lt r n then None else Some (r - n)
+
+abbrev pub tally_after : Tally → Declaration → Tally
+tally_after t (variable k x i) = record { globals = suc t.globals; functions = t.functions; room = room_after t.room 1 }
+tally_after t (array k x n) = record { globals = suc t.globals; functions = t.functions; room = room_after t.room n.value }
+tally_after t (function r x ps body) = record { globals = t.globals; functions = suc t.functions; room = t.room }
+
+abbrev pub after : List ℕ → File → Declaration → File
+after text f d = record { names = with_name f.names (spelled text (name_of d)) (named_by f.tally d); tally = tally_after f.tally d }
+
+abbrev pub after_all : List ℕ → File → List Declaration → File
+after_all text f [] = f
+after_all text f (d ∷ rest) = after_all text (after text f d) rest
+
+-- a declaration that isn't `int main(void)`
+abbrev pub IsNotMain : Declaration → Type 0
+IsNotMain (variable k x i) = Unit {0}
+IsNotMain (array k x n) = Unit {0}
+IsNotMain (function r x ps body) = (r ≢ Some SignedInt) ⊎ (ps ≢ [])
+
+-- what is wrong with the name that is declared at file scope, at that name
+pub data FaultyName (text : List ℕ) (f : File) : Declaration → FaultKind → ℕ → Type 0 where
+  declared_again : {d : Declaration} → f.names (spelled text (name_of d)) ≢ None → FaultyName text f d Redeclared (name_of d).at
+  other_main : {d : Declaration} → bytes_eq main_name (spelled text (name_of d)) ≡ true → IsNotMain d → FaultyName text f d KindFault (name_of d).at
+  array_of_nothing : {k : Kind} {x : Identifier} {n : Literal} → n.value ≡ 0 → FaultyName text f (array k x n) KindFault x.at
+  too_many_words : {d : Declaration} {r : ℕ} → f.tally.room ≡ Some r → r < words_of d → FaultyName text f d Limit (name_of d).at
+  too_many_functions : {r : Option Kind} {x : Identifier} {ps : List Parameter} {body : Items} → f.tally.functions ≡ 256 →
+      FaultyName text f (function r x ps body) Limit x.at
+
+-- a declarator in the function's outermost scope, and the fifth parameter
+pub data FaultyParameter (text : List ℕ) (sc : Scopes) (x : Identifier) : FaultKind → ℕ → Type 0 where
+  faulty_declarator : {k : FaultKind} {at : ℕ} → FaultyDeclarator text sc x k at → FaultyParameter text sc x k at
+  fifth_parameter : sc.locals ≡ 4 → FaultyParameter text sc x Count x.at
+
+abbrev pub FaultyParameters : List ℕ → Scopes → List Parameter → FaultKind → ℕ → Type 0
+FaultyParameters text sc [] k at = ⊥
+FaultyParameters text sc (p ∷ rest) k at = FaultyParameter text sc p.name k at ⊎ FaultyParameters text (declared text sc p.kind p.name) rest k at
+
+abbrev pub behind_parameters : List ℕ → Scopes → List Parameter → Scopes
+behind_parameters text sc [] = sc
+behind_parameters text sc (p ∷ rest) = behind_parameters text (declared text sc p.kind p.name) rest
+
+-- the scopes at a function's parameters: its own, and that of the file, which has its name already
+abbrev pub scopes_at : Meaning → Scopes
+scopes_at names = record { inner = nothing; around = names ∷ []; locals = 0 }
+
+abbrev pub FaultyBody : List ℕ → Meaning → Declaration → FaultKind → ℕ → Type 0
+FaultyBody text names (variable kind x i) k at = ⊥
+FaultyBody text names (array kind x n) k at = ⊥
+FaultyBody text names (function r x ps body) k at =
+    FaultyParameters text (scopes_at names) ps k at ⊎ FaultyItems text (is_some r) false (behind_parameters text (scopes_at names) ps) body k at
+
+abbrev pub FaultyDeclaration : List ℕ → File → Declaration → FaultKind → ℕ → Type 0
+FaultyDeclaration text f d k at = FaultyName text f d k at ⊎ FaultyBody text (after text f d).names d k at
+
+abbrev pub FaultyDeclarations : List ℕ → File → List Declaration → FaultKind → ℕ → Type 0
+FaultyDeclarations text f [] k at = ⊥
+FaultyDeclarations text f (d ∷ rest) k at = FaultyDeclaration text f d k at ⊎ FaultyDeclarations text (after text f d) rest k at
+
+-- a program in which no declaration is named `main`
+pub data LacksMain (text : List ℕ) (f : File) : FaultKind → ℕ → Type 0 where
+  no_main : f.names main_name ≡ None → LacksMain text f NoMain (length text)
+
+abbrev pub FaultyProgram : List ℕ → List Declaration → FaultKind → ℕ → Type 0
+FaultyProgram text all k at = FaultyDeclarations text no_declarations all k at ⊎ LacksMain text (after_all text no_declarations all) k at
+
+-- the word of a first value
+abbrev pub first_word : Option Initial → ℕ
+first_word None = 0
+first_word (Some i) = if i.negative then (2 ^ 32 - i.literal.value) % 2 ^ 32 else i.literal.value
+
+abbrev pub with_last : TypedStatements → TypedStatements → TypedStatements
+with_last no_statements last = last
+with_last (more_statements s rest) last = more_statements s (with_last rest last)
+
+-- the constant 0
+abbrev pub zero_literal : Literal
+zero_literal = record { value = 0; kind = SignedInt }
+
+-- what the end brace does (C99 5.1.2.2.3, 6.9.1): `main` returns 0, a function without result returns
+abbrev pub closing : (is_main : Bool) → Option Kind → TypedStatements
+closing true r = more_statements (return_with (Some (constant zero_literal))) no_statements
+closing false None = more_statements (return_with None) no_statements
+closing false (Some k) = no_statements
+
+-- what a declaration at file scope comes to
+pub data TypedDeclaration : Type 0 where
+  a_global : Typed.Global → TypedDeclaration
+  a_function : TypedFunction → TypedDeclaration
+
+pub data TypesDeclaration (text : List ℕ) (f : File) : Declaration → TypedDeclaration → Type 0 where
+  variable_typed : {k : Kind} {x : Identifier} {i : Option Initial} → TypesDeclaration text f (variable k x i) (a_global (record { length = 1; first = first_word i }))
+  array_typed : {k : Kind} {x : Identifier} {n : Literal} → TypesDeclaration text f (array k x n) (a_global (record { length = n.value; first = 0 }))
+  function_typed : {r : Option Kind} {x : Identifier} {ps : List Parameter} {body : Items} {typed : TypedStatements} →
+      TypesItems text (behind_parameters text (scopes_at (after text f (function r x ps body)).names) ps) body typed →
+      TypesDeclaration text f (function r x ps body) (a_function (record {
+        result = r;
+        parameters = length ps;
+        locals = (behind_items text (behind_parameters text (scopes_at (after text f (function r x ps body)).names) ps) body).locals;
+        body = with_last typed (closing (bytes_eq main_name (spelled text x)) r);
+      }))
+
+pub data TypesDeclarations (text : List ℕ) : File → List Declaration → List TypedDeclaration → Type 0 where
+  all_declared : {f : File} → TypesDeclarations text f [] []
+  more_declared : {f : File} {d : Declaration} {t : TypedDeclaration} {rest : List Declaration} {typed : List TypedDeclaration} →
+      TypesDeclaration text f d t → TypesDeclarations text (after text f d) rest typed → TypesDeclarations text f (d ∷ rest) (t ∷ typed)
+
+abbrev pub functions_in : List TypedDeclaration → List TypedFunction
+functions_in [] = []
+functions_in (a_global g ∷ rest) = functions_in rest
+functions_in (a_function f ∷ rest) = f ∷ functions_in rest
+
+abbrev pub globals_in : List TypedDeclaration → List Typed.Global
+globals_in [] = []
+globals_in (a_global g ∷ rest) = g ∷ globals_in rest
+globals_in (a_function f ∷ rest) = globals_in rest
+
+-- the typed program of the declarations that a text spells
+pub record TypesProgram (text : List ℕ) (all : List Declaration) (program : TypedProgram) : Type 0 where
+  pub declarations : List TypedDeclaration
+  pub typed : TypesDeclarations text no_declarations all declarations
+  pub functions : program.functions ≡ functions_in declarations
+  pub globals : program.globals ≡ globals_in declarations
+  pub entry : (after_all text no_declarations all).names main_name ≡ Some (Function program.main 0 true)

@@ -1,0 +1,224 @@
+ghost use Rattle.std.specs.Prelude.{◌≡◌, ◌<◌, ◌+◌, ◌^◌, IfOk, IfErr, true, false, bytes_eq};
+ghost use Rattle.c_front.specs.Shape.{declaration_of};
+ghost use Rattle.c_types.specs.Faults.{HasNone, StopsAtFirst};
+ghost use Rattle.c_types.specs.Files.{file_of, Exceeds, IsOtherKind, is_array_of_nothing};
+ghost use Rattle.c_types.specs.Held.{scopes_of};
+ghost use Rattle.c_types.specs.Names.{spelled};
+ghost use Rattle.c_types.specs.declared.fault.Stop.TheVariants.{NoMemory};
+ghost use Rattle.c_types.specs.Programs.{FaultyName, FaultyParameter, FaultyParameters, behind_parameters, IsNotMain, first_word, main_name, name_of, named_by, room_after, tally_after, words_of};
+
+use crate::expression::misuse;
+use crate::fault::{FaultKind, Stop, either};
+use crate::names::Named;
+use crate::scopes::Frame;
+use c_front::tree::{Declaration, Initial, Parameter, Program};
+use c_tokens::token::{Identifier, Kind};
+
+/// How many globals and functions stand at file scope so far, and how many of the 262,144 words are left for globals,
+/// until they are exceeded.
+#[derive(Clone, Copy)]
+pub struct Tally {
+    pub globals: usize,
+    pub functions: usize,
+    pub room: Option<usize>,
+}
+
+/// Whether a name is `main`.
+pub fn is_main(program: &Program, name: Identifier) -> bool
+    ensures { result ≡ bytes_eq main_name (spelled program.now.text.items name) }
+{
+    b"main".as_slice() == program.spelling(name)
+}
+
+/// The name that is declared.
+pub fn declared_name(declaration: &Declaration) -> Identifier
+    ensures { result ≡ name_of (declaration_of declaration.now) }
+{
+    match declaration {
+        Declaration::Variable(_, name, _) => *name,
+        Declaration::Array(_, name, _) => *name,
+        Declaration::Function(function) => function.name,
+    }
+}
+
+/// The words that a declaration takes of those for globals.
+fn words(declaration: &Declaration) -> usize
+    ensures { result ≡ words_of (declaration_of declaration.now) }
+{
+    match declaration {
+        Declaration::Variable(_, _, _) => 1,
+        Declaration::Array(_, _, length) => length.value as usize,
+        Declaration::Function(_) => 0,
+    }
+}
+
+/// Whether a declaration is of a function without parameters whose result is `int`.
+fn is_int_function(declaration: &Declaration) -> bool
+    ensures other { result ≡ false → IsNotMain (declaration_of declaration.now) }
+    ensures fits { result ≡ true → IsNotMain (declaration_of declaration.now) → ⊥ }
+{
+    match declaration {
+        Declaration::Function(function) => {
+            function.parameters.is_empty() && function.result == Some(Kind::SignedInt)
+        }
+        _ => false,
+    }
+}
+
+/// Whether a declaration is of an array of length 0.
+fn is_empty_array(declaration: &Declaration) -> bool
+    ensures { result ≡ is_array_of_nothing (declaration_of declaration.now) }
+{
+    match declaration {
+        Declaration::Array(_, _, length) => length.value == 0,
+        _ => false,
+    }
+}
+
+/// The word of a first value; 0 without one.
+pub fn first(initial: &Option<Initial>) -> u32
+    ensures { result ≡ first_word initial.now }
+{
+    match initial {
+        None => 0,
+        Some(initial) => {
+            if initial.negative {
+                initial.literal.value.wrapping_neg()
+            } else {
+                initial.literal.value
+            }
+        }
+    }
+}
+
+impl Tally {
+    /// What the name of the next declaration stands for.
+    fn named(&self, declaration: &Declaration) -> Named
+        ensures { result ≡ named_by self.now (declaration_of declaration.now) }
+    {
+        match declaration {
+            Declaration::Variable(kind, _, _) => Named::Global(self.globals, *kind),
+            Declaration::Array(kind, _, _) => Named::Array(self.globals, *kind),
+            Declaration::Function(function) => Named::Function(
+                self.functions,
+                function.parameters.len(),
+                function.result.is_some(),
+            ),
+        }
+    }
+
+    /// Whether a declaration is the 257th function, or the global with which the words are exceeded.
+    fn exceeded_by(&self, declaration: &Declaration) -> bool
+        ensures yes { result ≡ true → Exceeds self.now (declaration_of declaration.now) }
+        ensures no { result ≡ false → Exceeds self.now (declaration_of declaration.now) → ⊥ }
+    {
+        if let Declaration::Function(_) = declaration {
+            return self.functions == 256;
+        }
+        match self.room {
+            Some(room) => room < words(declaration),
+            None => false,
+        }
+    }
+
+    /// The room that is left behind a global of so many words.
+    fn room_after(&self, words: usize) -> Option<usize>
+        ensures { result ≡ room_after self.now.room words }
+    {
+        let room = self.room?;
+        room.checked_sub(words)
+    }
+
+    /// The tally behind a declaration.
+    pub fn after(&self, declaration: &Declaration) -> Tally
+        requires globals { self.now.globals + 1 < 2 ^ 64 }
+        requires functions { self.now.functions + 1 < 2 ^ 64 }
+        ensures { result ≡ tally_after self.now (declaration_of declaration.now) }
+    {
+        match declaration {
+            Declaration::Function(_) => Tally {
+                globals: self.globals,
+                functions: self.functions + 1,
+                room: self.room,
+            },
+            _ => Tally {
+                globals: self.globals + 1,
+                functions: self.functions,
+                room: self.room_after(words(declaration)),
+            },
+        }
+    }
+}
+
+/// Whether a declaration is of a `main` that isn't `int main(void)`, or of an array of length 0.
+fn is_other_kind(program: &Program, declaration: &Declaration) -> bool
+    ensures yes { result ≡ true → IsOtherKind program.now.text.items (declaration_of declaration.now) }
+    ensures no { result ≡ false → IsOtherKind program.now.text.items (declaration_of declaration.now) → ⊥ }
+{
+    if is_empty_array(declaration) {
+        return true;
+    }
+    is_main(program, declared_name(declaration)) && !is_int_function(declaration)
+}
+
+/// What is wrong with the name of a declaration at file scope.
+pub fn name_fault(
+    program: &Program,
+    frame: &Frame,
+    tally: &Tally,
+    declaration: &Declaration,
+) -> Result<(), Stop>
+    ensures none { IfOk result (λ _. HasNone (FaultyName program.now.text.items (file_of frame.now tally.now) (declaration_of declaration.now))) }
+    ensures err { IfErr result (StopsAtFirst (FaultyName program.now.text.items (file_of frame.now tally.now) (declaration_of declaration.now))) }
+{
+    let name = declared_name(declaration);
+    if frame.declares(program, name) {
+        return Err(misuse(FaultKind::Redeclared, name));
+    }
+    if is_other_kind(program, declaration) {
+        return Err(misuse(FaultKind::Kind, name));
+    }
+    if tally.exceeded_by(declaration) {
+        return Err(misuse(FaultKind::Limit, name));
+    }
+    Ok(())
+}
+
+/// What is wrong with the name of a parameter.
+fn parameter_fault(program: &Program, frame: &Frame, name: Identifier) -> Result<(), Stop>
+    ensures none { IfOk result (λ _. HasNone (FaultyParameter program.now.text.items (scopes_of frame.now) name)) }
+    ensures err { IfErr result (StopsAtFirst (FaultyParameter program.now.text.items (scopes_of frame.now) name)) }
+{
+    if frame.declares(program, name) {
+        return Err(misuse(FaultKind::Redeclared, name));
+    }
+    if frame.locals() == 4 {
+        return Err(misuse(FaultKind::Count, name));
+    }
+    if frame.locals() == 128 {
+        return Err(misuse(FaultKind::Limit, name));
+    }
+    Ok(())
+}
+
+/// Puts the parameters of a function into its scope.
+fn parameters<'a>(
+    program: &'a Program,
+    frame: &mut Frame<'a>,
+    all: &[Parameter],
+) -> Result<Result<(), Stop>, Stop>
+    ensures none { IfOk result (λ r. IfOk r (λ _. HasNone (FaultyParameters program.now.text.items (scopes_of frame.old) all.now))) }
+    ensures err { IfOk result (λ r. IfErr r (StopsAtFirst (FaultyParameters program.now.text.items (scopes_of frame.old) all.now))) }
+    ensures scopes { IfOk result (λ r. scopes_of frame.new ≡ behind_parameters program.now.text.items (scopes_of frame.old) all.now) }
+    ensures memory { IfErr result (λ s. s ≡ NoMemory) }
+{
+    let mut fault = Ok(());
+    for parameter in all {
+        fault = either(fault, parameter_fault(program, frame, parameter.name));
+        match frame.declare_local(program, parameter.kind, parameter.name) {
+            Ok(()) => {}
+            Err(_) => return Err(Stop::NoMemory),
+        }
+    }
+    Ok(fault)
+}
