@@ -109,12 +109,12 @@ one-so-far text g b sc all i x typed r one l is h a f e =
     (same-faults text g b sc (take i all) x) (λ ts t p q. typed-more text sc (take i all) x ts t p q) h a f e)
 
 -- the scopes behind a block are those around it, and the locals of its items
-behind-around : (text : List ℕ) (sc : Scopes) (xs : Items) → (behind_items text sc xs).around ≡ sc.around
+pub behind-around : (text : List ℕ) (sc : Scopes) (xs : Items) → (behind_items text sc xs).around ≡ sc.around
 behind-around text sc no_items = refl
 behind-around text sc (more_items (declare k x v) rest) = behind-around text (declared text sc k x) rest
 behind-around text sc (more_items (statement s) rest) = behind-around text (behind sc s) rest
 
-behind-locals : (text : List ℕ) (sc : Scopes) (xs : Items) → (behind_items text sc xs).locals ≡ sc.locals + declared_in_all xs
+pub behind-locals : (text : List ℕ) (sc : Scopes) (xs : Items) → (behind_items text sc xs).locals ≡ sc.locals + declared_in_all xs
 behind-locals text sc no_items = omega arith
 behind-locals text sc (more_items (declare k x v) rest) = let h = behind-locals text (declared text sc k x) rest in omega (arith, h)
 behind-locals text sc (more_items (statement s) rest) = let h = behind-locals text (behind sc s) rest in omega (arith, h)

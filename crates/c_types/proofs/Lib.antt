@@ -10,3 +10,4 @@ pub mod Items
 pub mod Weights
 pub mod Declared
 pub mod Parameters
+pub mod Joins

@@ -76,6 +76,14 @@ impl<T: Drop> From<AllocFailed<T>> for Stop {
     }
 }
 
+impl From<AllocError> for Stop {
+    ghost from_gives = { λ _ r. r ≡ NoMemory };
+
+    fn from(_: AllocError) -> Self {
+        Stop::NoMemory
+    }
+}
+
 /// Whether a fault comes after another: at a greater offset, or at the same with a greater number.
 fn is_later(a: TypeFault, b: TypeFault) -> bool
     ensures { result ≡ is_later a b }

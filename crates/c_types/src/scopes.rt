@@ -2,7 +2,6 @@ ghost use Rattle.std.specs.Prelude.{◌≡◌, OnOk, is_some};
 ghost use Rattle.c_types.specs.Held.{scopes_of};
 ghost use Rattle.c_types.specs.Names.{Scopes, named_in, sight_in, with_spelling, no_scopes, entered, left, with_declared, declared, without_locals, spelled};
 
-use crate::fault::Stop;
 use crate::names::Named;
 use c_front::tree::Program;
 use c_tokens::token::{Identifier, Kind};
@@ -70,7 +69,7 @@ impl<'a> Frame<'a> {
     }
 
     /// Puts a spelling into the innermost scope.
-    pub fn declare_spelling(&mut self, spelling: &'a [u8], named: Named) -> Result<(), Stop>
+    pub fn declare_spelling(&mut self, spelling: &'a [u8], named: Named) -> Result<(), AllocError>
         ensures { OnOk result (scopes_of self.new ≡ with_spelling (scopes_of self.old) spelling.now named) }
     {
         self.inner.insert(spelling, named)?;
@@ -83,7 +82,7 @@ impl<'a> Frame<'a> {
         program: &'a Program,
         name: Identifier,
         named: Named,
-    ) -> Result<(), Stop>
+    ) -> Result<(), AllocError>
         ensures { OnOk result (scopes_of self.new ≡ with_declared program.now.text.items (scopes_of self.old) name named) }
     {
         self.declare_spelling(program.spelling(name), named)?;
@@ -96,7 +95,7 @@ impl<'a> Frame<'a> {
         program: &'a Program,
         kind: Kind,
         name: Identifier,
-    ) -> Result<(), Stop>
+    ) -> Result<(), AllocError>
         ensures { OnOk result (scopes_of self.new ≡ declared program.now.text.items (scopes_of self.old) kind name) }
     {
         let number = self.locals.len();
@@ -106,7 +105,7 @@ impl<'a> Frame<'a> {
     }
 
     /// Opens a scope.
-    pub fn enter(&mut self, alloc: Global) -> Result<(), Stop>
+    pub fn enter(&mut self, alloc: Global) -> Result<(), AllocError>
         ensures { OnOk result (scopes_of self.new ≡ entered (scopes_of self.old)) }
     {
         let outer = replace(&mut self.inner, HashMap::new(alloc));
