@@ -11,3 +11,4 @@ pub mod Weights
 pub mod Declared
 pub mod Parameters
 pub mod Joins
+pub mod OnceStatements

@@ -1,13 +1,14 @@
-ghost use Rattle.std.specs.Prelude.{◌≡◌, ◌≢◌, IfOk, IfErr, Err, false};
+ghost use Rattle.std.specs.Prelude.{◌≡◌, ◌≢◌, ℕ, List, IfOk, IfErr, Err, false};
 ghost use Rattle.c_front.specs.Shape.{expression_of, maybe_expression_of, maybe_simple_of, statement_of, item_of, items_of};
+ghost use Rattle.c_front.specs.Tree as Tree;
 ghost use Rattle.c_front.specs.Tree.{block, branch, branch_else, repeat, repeat_for, return_at, more_items, no_items};
 ghost use Rattle.c_types.specs.declared.fault.Stop.TheVariants.{NoMemory};
 ghost use Rattle.c_types.specs.Faults.{HasNone, StopsAtFirst};
 ghost use Rattle.c_types.specs.Held.{scopes_of};
-ghost use Rattle.c_types.specs.Names.{sight_in, behind, behind_item, behind_items};
+ghost use Rattle.c_types.specs.Names.{Scopes, sight_in, behind, behind_item, behind_items};
 ghost use Rattle.c_types.specs.Shape.{maybe_term_of, statement_of as typed_of, statements_of};
 ghost use Rattle.c_types.specs.Statements.{FaultyMaybe, FaultyReturn, FaultyJump, FaultyDeclarator, FaultyStatement, FaultyItems};
-ghost use Rattle.c_types.specs.Typed.{more_statements, no_statements};
+ghost use Rattle.c_types.specs.Typed.{TypedStatement, TypedStatements, more_statements, no_statements};
 ghost use Rattle.c_types.specs.Types.{TypesMaybe, TypesStatement, TypesItems};
 
 use crate::expression::{expression, misuse};
@@ -330,3 +331,9 @@ pub fn items<'a>(
     }
     typed
 }
+
+/// A statement, and the items of a block, have at most one typed tree under the scopes before them.
+pub fn one_typing_of_statements()
+    ensures statement { (text : List ℕ) (scopes : Scopes) (s : Tree.Statement) (t u : TypedStatement) → TypesStatement text scopes s t → TypesStatement text scopes s u → t ≡ u }
+    ensures items { (text : List ℕ) (scopes : Scopes) (all : Tree.Items) (t u : TypedStatements) → TypesItems text scopes all t → TypesItems text scopes all u → t ≡ u }
+{}
