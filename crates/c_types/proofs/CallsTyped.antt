@@ -1,10 +1,10 @@
 -- Calls put together from their target and their arguments.
-use Rattle.std.proofs.Common.{◌≡◌, ◌⊎◌, ◌++◌, ℕ, suc, zero, List, [], ◌∷◌, length, Option, Some, Bool, true, false, is_some, None, Result, Ok, IfOk, IfErr, refl, sym, subst, ap, ◌∙◌, arith}
+use Rattle.std.proofs.Common.{◌≡◌, ◌++◌, ℕ, suc, zero, List, [], ◌∷◌, length, Option, Some, Bool, true, is_some, None, Result, IfOk, IfErr, refl, sym, subst, ap, ◌∙◌, arith}
 use Rattle.std.specs.declared.vec.Vec.{Vec}
 use Rattle.std.specs.declared.alloc.Global.{Global}
 use Rattle.c_tokens.specs.declared.token.Identifier.{Identifier}
 use Rattle.c_front.specs.declared.tree.Expr.{Expr}
-use Rattle.c_front.specs.Shape.{expression_of, expressions_of}
+use Rattle.c_front.specs.Shape.{expressions_of}
 use Rattle.c_front.specs.Tree.{Expression, call}
 use Rattle.c_types.specs.declared.call.Target.{Target}
 use Rattle.c_types.specs.declared.call.Target.TheVariants.{Function as ToFunction, Out as ToOut}
@@ -21,7 +21,7 @@ use Rattle.c_types.specs.Names.{Sight}
 use Rattle.c_types.specs.Shape.{term_of, terms_of}
 use Rattle.c_types.specs.Statements.{FaultyAll, FaultyCall}
 use Rattle.c_types.specs.Typed.{TypedExpression, run, output}
-use Rattle.c_types.specs.Types.{Types, TypesAll, all_typed, more_typed, TypesCall, function_called, out_called}
+use Rattle.c_types.specs.Types.{Types, TypesAll, more_typed, TypesCall, function_called, out_called}
 use Rattle.c_types.specs.Uses.{as_call, IsWrong, Misused, out_used, other_count_out}
 use Rattle.c_types.proofs.Firsts.{Both, both-stop, both-none}
 

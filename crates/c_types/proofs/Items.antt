@@ -12,7 +12,7 @@ use Rattle.c_types.specs.declared.fault.FaultKind.{FaultKind}
 use Rattle.c_types.specs.declared.fault.Stop.{Stop}
 use Rattle.c_types.specs.declared.fault.Stop.TheVariants.{NoMemory}
 use Rattle.c_types.specs.Faults.{StopsBoth}
-use Rattle.c_types.specs.Names.{Scopes, entered, left, declared, behind, behind_item, behind_items, declared_in, declared_by, declared_in_all}
+use Rattle.c_types.specs.Names.{Scopes, declared, behind, behind_item, behind_items, declared_in_all}
 use Rattle.c_types.specs.Shape.{statement_of, statements_of}
 use Rattle.c_types.specs.Statements.{FaultyItems}
 use Rattle.c_types.specs.Typed.{TypedStatement, TypedStatements, no_statements, more_statements}

@@ -1,5 +1,5 @@
 -- Statements put together from their parts.
-use Rattle.std.proofs.Common.{◌≡◌, ◌⊎◌, ◌+◌, ℕ, List, [], ◌∷◌, ◌++◌, Option, Bool, true, Result, Ok, Err, IfOk, IfErr, OnOk, inl, inr, refl, sym, subst, ap, ◌∙◌, arith}
+use Rattle.std.proofs.Common.{◌≡◌, ◌⊎◌, ◌+◌, ℕ, List, [], ◌∷◌, ◌++◌, Option, Bool, Result, Ok, Err, IfOk, IfErr, inl, inr, refl, sym, subst, ap, ◌∙◌, arith}
 use Rattle.std.specs.declared.vec.Vec.{Vec}
 use Rattle.std.specs.declared.alloc.Global.{Global}
 use Rattle.c_tokens.specs.declared.token.Identifier.{Identifier}
@@ -8,16 +8,14 @@ use Rattle.c_front.specs.Tree as Tree
 use Rattle.c_front.specs.Tree.{Expression, Simple, Items}
 use Rattle.c_types.specs.declared.fault.FaultKind.{FaultKind}
 use Rattle.c_types.specs.declared.fault.Stop.{Stop}
-use Rattle.c_types.specs.declared.fault.Stop.TheVariants.{NoMemory}
 use Rattle.c_types.specs.declared.typed.Statement.{Statement, Block, Row_of-Statement, end_of-Statement, more_of-Statement, items-the_row-Statement, items_hidden-the_row-Statement-0}
 use Rattle.c_types.specs.declared.typed.Statement.TheBlock.{hidden-the_row-Statement-0}
 use Rattle.c_types.specs.Faults.{Faults, StopsAtFirst, HasNone, StopsBoth}
 use Rattle.c_types.specs.Names.{Scopes, sight_in, entered, left, declared, behind, behind_items, declared_in, declared_in_all}
 use Rattle.c_types.specs.Shape.{statement_of, row_of, statements_of}
-use Rattle.c_types.specs.Statements.{FaultyMaybe, FaultyPart, FaultyFirst, FaultyDeclarator, FaultyStatement, FaultyItems}
+use Rattle.c_types.specs.Statements.{FaultyFirst, FaultyDeclarator, FaultyItems}
 use Rattle.c_types.specs.Typed.{TypedExpression, TypedStatement, block, loop, no_statements, more_statements}
 use Rattle.c_types.specs.Types.{TypesPart, TypesTest, TypesStatement, repeat_for_typed}
-use Rattle.c_types.specs.Uses.{Faulty}
 use Rattle.c_types.proofs.Firsts.{Both, Tells, same-stop, both-stop, both-none, ok-at}
 use Rattle.c_types.proofs.Items.{behind-around, behind-locals}
 

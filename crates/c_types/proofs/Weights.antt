@@ -1,7 +1,5 @@
 -- How much there is to read in a statement: each call of the walk has less than its caller.
-use Rattle.std.proofs.Common.{◌≡◌, ◌≤◌, ◌<◌, ◌+◌, ℕ, suc, zero, List, [], ◌∷◌, length, get_or, refl, ap, ◌∙◌, arith}
-use Rattle.std.specs.declared.vec.Vec.{Vec}
-use Rattle.std.specs.declared.alloc.Global.{Global}
+use Rattle.std.proofs.Common.{◌≡◌, ◌≤◌, ◌<◌, ◌+◌, ℕ, suc, zero, List, [], ◌∷◌, length, get_or, ap, arith}
 use Rattle.c_front.specs.declared.tree.Item.{Item}
 use Rattle.c_front.specs.Shape.{item_of, items_of}
 use Rattle.c_front.specs.Tree.{Statement, Item as ItemTree, Items, empty, block, branch, branch_else, repeat, repeat_for, break_at, continue_at, return_at, simply, declare, statement, no_items, more_items}

@@ -1,4 +1,3 @@
-use Rattle.std.proofs.Common.{◌≡◌, take, subst}
 use Rattle.std.proofs.lemmas.List.{take_all}
 use Rattle.c_types.specs.Held.{scopes_of}
 use Rattle.c_types.specs.Names.{sight_in}

@@ -1,11 +1,11 @@
-use Rattle.std.proofs.Common.{◌≡◌, ◌+◌, ℕ, List, Bool, true, Ok, take, rules, refl, sym, subst, ap, arith, ◌∙◌}
+use Rattle.std.proofs.Common.{◌≡◌, ◌+◌, ℕ, List, true, Ok, rules, refl, sym, subst, ap, arith, ◌∙◌}
 use Rattle.c_front.specs.declared.tree.Item.{Item}
 use Rattle.c_front.specs.Shape.{expression_of, maybe_expression_of, maybe_value_of, simple_of, maybe_simple_of, statement_of, item_of, items_of}
 use Rattle.c_front.specs.Tree.{block, branch, branch_else, repeat, repeat_for, simply, statement, more_items, no_items}
 use Rattle.c_front.proofs.Shapes.{block-is as read-block-is}
 use Rattle.c_types.specs.Faults.{StopsAtFirst}
 use Rattle.c_types.specs.Held.{scopes_of}
-use Rattle.c_types.specs.Names.{Scopes, sight_in, declared, behind, behind_item, behind_items}
+use Rattle.c_types.specs.Names.{Scopes, sight_in, declared, behind, behind_item}
 use Rattle.c_types.specs.Shape.{term_of, statement_of as typed_of, statements_of}
 use Rattle.c_types.specs.Statements.{FaultyMaybe, FaultyPart, FaultyFirst, FaultyDeclarator, FaultyStatement, FaultyItems}
 use Rattle.c_types.specs.Typed.{TypedStatement, more_statements, no_statements}
