@@ -2,7 +2,15 @@ pub mod Firsts
 pub mod Uses
 pub mod Once
 pub mod Calls
+pub mod Joined
+pub mod Arguments
+pub mod CallsTyped
+pub mod Declarators
+pub mod Items
+pub mod Weights
 pub mod Declared
 pub mod Parameters
 pub mod Closing
 pub mod Functions
+pub mod Joins
+pub mod OnceStatements

@@ -1,7 +1,6 @@
 -- The faults of statements and of declarations of locals.
 use Rattle.std.specs.Prelude.{◌≡◌, ◌≢◌, ◌⊎◌, ℕ, List, [], ◌∷◌, Option, Some, None, Bool, true, false, length}
 use Rattle.c_tokens.specs.declared.token.Identifier.{Identifier}
-use Rattle.c_tokens.specs.declared.token.Kind.{Kind}
 use Rattle.c_front.specs.Tree as Tree
 use Rattle.c_front.specs.Tree.{Expression, Statement, Items, empty, block, branch, branch_else, repeat, repeat_for, break_at, continue_at, return_at, simply, declare, statement, no_items, more_items, call, plain, called, assign, assign_at, run}
 use Rattle.c_types.specs.declared.fault.FaultKind.{FaultKind}
@@ -9,7 +8,7 @@ use Rattle.c_types.specs.declared.fault.FaultKind.TheVariants.{Redeclared, Kind 
 use Rattle.c_types.specs.Faults.{Faults}
 use Rattle.c_types.specs.Names.{Sight, spelled}
 use Rattle.c_types.specs.Names.{Scopes, sight_in, entered, declared, behind}
-use Rattle.c_types.specs.Uses.{Use, as_value, with_index, as_call, Misused, Faulty}
+use Rattle.c_types.specs.Uses.{as_value, with_index, as_call, Misused, Faulty}
 
 abbrev pub NoFault : Faults
 NoFault k at = ⊥

@@ -10,7 +10,6 @@ use Rattle.c_front.specs.Tree.{Expression}
 use Rattle.c_types.specs.declared.names.Named.TheVariants.{Local, Global, Array}
 use Rattle.c_types.specs.declared.names.Named.TheVariants as Named
 use Rattle.c_types.specs.declared.typed.Place.{Place}
-use Rattle.c_types.specs.declared.typed.Place.TheVariants as Place
 use Rattle.c_types.specs.Names.{Sight}
 use Rattle.c_types.specs.Names.{Scopes, sight_in, entered, declared, behind}
 use Rattle.c_types.specs.Typed.{TypedExpression, TypedStatement, TypedStatements, constant, local, global, element, unary, binary, choose, kind_of, prefix_kind, operation_kind, common_kind, one, empty, block, unset, assign, store, run, output, branch, loop, leave, next_turn, return_with, no_statements, more_statements}

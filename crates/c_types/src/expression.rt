@@ -75,7 +75,7 @@ fn variable(program: &Program, frame: &Frame, name: Identifier) -> Result<Term, 
 }
 
 /// The number and the kind of the array that a name with an index stands for.
-fn array(program: &Program, frame: &Frame, name: Identifier) -> Result<(usize, Kind), Stop>
+pub fn array(program: &Program, frame: &Frame, name: Identifier) -> Result<(usize, Kind), Stop>
     ensures ok { IfOk result (λ r. sight_in program.now.text.items (scopes_of frame.now) name ≡ Some (Array r.0 r.1)) }
     ensures none { IfOk result (λ r. HasNone (Misused (sight_in program.now.text.items (scopes_of frame.now)) name with_index)) }
     ensures err { IfErr result (StopsAtFirst (Misused (sight_in program.now.text.items (scopes_of frame.now)) name with_index)) }

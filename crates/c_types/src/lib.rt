@@ -14,4 +14,6 @@ pub mod fault;
 pub mod names;
 mod program;
 pub mod scopes;
+pub mod simple;
+pub mod statement;
 pub mod typed;

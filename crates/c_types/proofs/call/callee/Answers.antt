@@ -2,7 +2,7 @@ use Rattle.std.proofs.Common.{sym}
 use Rattle.c_types.specs.Names.{sight_in}
 use Rattle.c_types.specs.Held.{scopes_of}
 use Rattle.c_types.proofs.Uses.{undeclared-first}
-use Rattle.c_types.proofs.Calls.{Serves, no-function-first, void-first, count-first, target-is, serves-result, serves-unwanted}
+use Rattle.c_types.proofs.Calls.{Serves, no-function-first, void-first, count-first, call-right, target-is, serves-result, serves-unwanted}
 use Rattle.c_types.proofs.call.callee.Goals.{else-wanted-via-then-wanted+else-not-gives, else-wanted-via-else-wanted}
 use Rattle.c_types.proofs.call.callee.Goals as goal
 
@@ -31,3 +31,14 @@ returns-then-count-parameters-clause-err c =
 
 pub returns-clause-ok : goal.returns-clause-ok
 returns-clause-ok c = target-is _ c.in-Some.named _ c.in-Some-signature.parameters c.in-Some-signature.gives (sym c.in-Some.ensures) c.in-Some-signature.ensures.some
+
+pub returns-clause-none : goal.returns-clause-none
+returns-clause-none c =
+    let s : Serves c.args.wanted c.in-Some-signature.gives =
+    elim c.else-wanted.branch [
+      | else-wanted-via-then-wanted+else-not-gives w ↦ serves-result _ _ w.if-not-gives.false
+      | else-wanted-via-else-wanted w ↦ serves-unwanted _ _ w.if-wanted.false
+    ]
+    in
+    call-right (sight_in c.args.program.now.text.items (scopes_of c.args.frame.now)) c.args.name c.in-Some.named c.in-Some-signature.target c.in-Some-signature.parameters c.in-Some-signature.gives c.args.count c.args.wanted
+    (sym c.in-Some.ensures) c.in-Some-signature.ensures.some s c.if-count-parameters.false

@@ -1,0 +1,31 @@
+-- How much there is to read in a statement: each call of the walk has less than its caller.
+use Rattle.std.proofs.Common.{◌≡◌, ◌≤◌, ◌<◌, ◌+◌, ℕ, suc, zero, List, [], ◌∷◌, length, get_or, ap, arith}
+use Rattle.c_front.specs.declared.tree.Item.{Item}
+use Rattle.c_front.specs.Shape.{item_of, items_of}
+use Rattle.c_front.specs.Tree.{Statement, Item as ItemTree, Items, empty, block, branch, branch_else, repeat, repeat_for, break_at, continue_at, return_at, simply, declare, statement, no_items, more_items}
+
+abbrev mutual
+  pub weight : Statement → ℕ
+  weight empty = 0
+  weight (block all) = weight_all all + 3
+  weight (branch c s) = weight s + 2
+  weight (branch_else c s t) = weight s + weight t + 2
+  weight (repeat c s) = weight s + 2
+  weight (repeat_for f c l s) = weight s + 2
+  weight (break_at at) = 0
+  weight (continue_at at) = 0
+  weight (return_at at e) = 0
+  weight (simply s) = 0
+
+  pub weight_of : ItemTree → ℕ
+  weight_of (declare k x v) = 0
+  weight_of (statement s) = weight s + 1
+
+  pub weight_all : Items → ℕ
+  weight_all no_items = 0
+  weight_all (more_items i rest) = weight_of i + weight_all rest
+
+pub weight-within : (all : List Item) (i : ℕ) (x : Item) → i < length all → x ≡ get_or all i x → weight_of (item_of x) ≤ weight_all (items_of all)
+weight-within [] i x l e = omega (arith, l)
+weight-within (y ∷ all) zero x l e = let h : weight_of (item_of x) ≡ weight_of (item_of y) = ap (λ (z : Item). weight_of (item_of z)) e in omega (arith, h)
+weight-within (y ∷ all) (suc i) x l e = let k : i < length all = omega (arith, l) in let h = weight-within all i x k e in omega (arith, h)
