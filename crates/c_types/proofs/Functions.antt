@@ -35,10 +35,11 @@ back text old s1 s2 s3 s4 s5 ps body o a b d e f = f ∙ ap without_locals e ∙
 pub at-parameters : (old s1 : Scopes) → old ≡ file_scopes old.inner → s1 ≡ entered old → s1 ≡ scopes_at old.inner
 at-parameters old s1 o a = a ∙ ap entered o
 
-pub body-stop : {A B : Type 0} (text : List ℕ) (old s1 s2 : Scopes) (r : Option Kind) (x : Identifier) (ps : List Parameter) (body : Items) (a : Result A Stop) (b : Result B Stop) (s : Stop) → old ≡ file_scopes old.inner
+pub body-stop : {A B : Type 0} (text : List ℕ) (old s1 s2 : Scopes) (r : Option Kind) (x : Identifier) (ps : List Parameter) (body : Items) (a : Result A Stop) (b : Result B Stop) (s : Stop) (g : Bool) → g ≡ is_some r → old ≡ file_scopes old.inner
     → s1 ≡ entered old → s2 ≡ behind_parameters text s1 ps → IfOk a (λ y. HasNone (FaultyParameters text s1 ps)) → IfErr a (StopsAtFirst (FaultyParameters text s1 ps))
-    → IfOk b (λ y. HasNone (FaultyItems text (is_some r) false s2 body)) → IfErr b (StopsAtFirst (FaultyItems text (is_some r) false s2 body)) → StopsBoth a b s → StopsAtFirst (FaultyBody text old.inner (function r x ps body)) s
-body-stop text old s1 s2 r x ps body a b s o e f n h m l t =
+    → IfOk b (λ y. HasNone (FaultyItems text g false s2 body)) → IfErr b (StopsAtFirst (FaultyItems text g false s2 body)) → StopsBoth a b s → StopsAtFirst (FaultyBody text old.inner (function r x ps body)) s
+body-stop text old s1 s2 r x ps body a b s g q o e f n h m l t =
     let Q : Scopes → Type 0 = λ y. StopsAtFirst (Both (FaultyParameters text y ps) (FaultyItems text (is_some r) false (behind_parameters text y ps) body)) s in
     subst Q (at-parameters old s1 o e) (let R : Scopes → Type 0 = λ y. StopsAtFirst (Both (FaultyParameters text s1 ps) (FaultyItems text (is_some r) false y body)) s in
-    subst R f (both-stop (FaultyParameters text s1 ps) (FaultyItems text (is_some r) false s2 body) a b s n h m l t))
+    subst R f (let P : Bool → Type 0 = λ y. StopsAtFirst (Both (FaultyParameters text s1 ps) (FaultyItems text y false s2 body)) s in
+    subst P q (both-stop (FaultyParameters text s1 ps) (FaultyItems text g false s2 body) a b s n h m l t)))

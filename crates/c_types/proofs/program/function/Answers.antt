@@ -16,7 +16,7 @@ returns-in_err-body-clause-err c =
     in
     let h : StopsAtFirst (FaultyBody c.args.program.now.text.items (scopes_of c.args.frame.now).inner (function c.args.f.now.result c.args.f.now.name c.args.f.now.parameters.items (items_of c.args.f.now.body.items))) c.in_err-body.field-0.0 =
     rw (sym c.as_slice.ensures.value, sym c.as_slice-2.ensures.value) (body-stop c.args.program.now.text.items (scopes_of c.args.frame.now) (scopes_of c.enter.new.self) (scopes_of c.parameters.new.frame) c.args.f.now.result c.args.f.now.name c.as_slice.result.now (items_of c.as_slice-2.result.now)
-    c.in_ok-fault.fault c.items.result c.in_err-body.field-0.0 c.requires c.in_ok-enter.ensures c.in_ok-fault.ensures.scopes c.in_ok-fault.ensures.none c.in_ok-fault.ensures.err c.items.ensures.none c.items.ensures.err t)
+    c.in_ok-fault.fault c.items.result c.in_err-body.field-0.0 c.is_some.result c.is_some.ensures c.requires c.in_ok-enter.ensures c.in_ok-fault.ensures.scopes c.in_ok-fault.ensures.none c.in_ok-fault.ensures.err c.items.ensures.none c.items.ensures.err t)
     in
     search rules
 
