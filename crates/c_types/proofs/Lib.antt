@@ -14,3 +14,4 @@ pub mod Closing
 pub mod Functions
 pub mod Joins
 pub mod OnceStatements
+pub mod Declarations

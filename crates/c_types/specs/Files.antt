@@ -1,5 +1,5 @@
 -- What the walk over the declarations keeps.
-use Rattle.std.specs.Prelude.{length, [], ◌≡◌, ◌<◌, ◌⊎◌, ℕ, List, Option, Some, Bool, true, false, nat_eq, bytes_eq}
+use Rattle.std.specs.Prelude.{length, [], ◌∷◌, ◌++◌, Result, Ok, ◌≡◌, ◌<◌, ◌⊎◌, ℕ, List, Option, Some, Bool, true, false, nat_eq, bytes_eq}
 use Rattle.c_front.specs.Tree.{Declaration, Items, variable, array, function}
 use Rattle.c_types.specs.declared.declaration.Tally.{Tally}
 use Rattle.c_types.specs.declared.scopes.Frame.{Frame}
@@ -8,7 +8,12 @@ use Rattle.c_front.specs.declared.tree.Parameter.{Parameter}
 use Rattle.c_tokens.specs.declared.token.Identifier.{Identifier}
 use Rattle.c_tokens.specs.declared.token.Kind.{Kind}
 use Rattle.c_types.specs.Names.{Meaning, Scopes, spelled, behind_items}
-use Rattle.c_types.specs.Programs.{File, IsNotMain, main_name, name_of, scopes_at, behind_parameters, closing, with_last}
+use Rattle.c_types.specs.Programs.{File, IsNotMain, main_name, name_of, scopes_at, behind_parameters, closing, with_last, TypedDeclaration, a_global, a_function, TypesDeclarations, no_declarations, functions_in, globals_in}
+use Rattle.c_types.specs.Shape.{function_of, functions_of}
+use Rattle.c_types.specs.declared.program.Declared.{Declared}
+use Rattle.c_types.specs.declared.program.Declared.TheVariants.{Variable, Function}
+use Rattle.c_types.specs.declared.program.Parts.{Parts}
+use Rattle.c_types.specs.declared.fault.Stop.{Stop}
 use Rattle.c_types.specs.Typed.{TypedFunction, TypedStatements}
 use Rattle.c_types.specs.Types.{TypesItems}
 
@@ -44,3 +49,26 @@ pub record IsFunction (text : List ℕ) (names : Meaning) (r : Option Kind) (x :
     locals = (behind_items text (behind_parameters text (scopes_at names) ps) body).locals;
     body = with_last typed (closing (bytes_eq main_name (spelled text x)) r);
   }
+
+abbrev pub declared_of : Declared → TypedDeclaration
+declared_of (Variable g) = a_global g
+declared_of (Function f) = a_function (function_of f)
+
+-- the functions and the globals of these declarations
+pub record AreParts (p : Parts) (all : List TypedDeclaration) : Type 0 where
+  pub functions : functions_of p.functions.items ≡ functions_in all
+  pub globals : p.globals.items ≡ globals_in all
+
+-- one declaration more
+pub record IsWith (parts : Result Parts Stop) (next : Result Declared Stop) (r : Parts) : Type 0 where
+  pub old : Parts
+  pub more : Declared
+  pub before : parts ≡ Ok old
+  pub last : next ≡ Ok more
+  pub is : (all : List TypedDeclaration) → AreParts old all → AreParts r (all ++ declared_of more ∷ [])
+
+-- what these declarations come to
+pub record AreTyped (text : List ℕ) (all : List Declaration) (p : Parts) : Type 0 where
+  pub declarations : List TypedDeclaration
+  pub typed : TypesDeclarations text no_declarations all declarations
+  pub parts : AreParts p declarations

@@ -93,7 +93,7 @@ pub fn first(initial: &Option<Initial>) -> u32
 
 impl Tally {
     /// What the name of the next declaration stands for.
-    fn named(&self, declaration: &Declaration) -> Named
+    pub fn named(&self, declaration: &Declaration) -> Named
         ensures { result ≡ named_by self.now (declaration_of declaration.now) }
     {
         match declaration {

@@ -1,21 +1,35 @@
-ghost use Rattle.std.specs.Prelude.{◌≡◌, IfOk, IfErr, OnOk, Err};
-ghost use Rattle.c_front.specs.Shape.{items_of};
+ghost use Rattle.std.specs.Prelude.{◌≡◌, ◌⊎◌, IfOk, IfErr, OnOk, Err};
+ghost use Rattle.c_front.specs.Shape.{declaration_of, declarations_of, items_of};
 ghost use Rattle.c_front.specs.Tree.{function};
 ghost use Rattle.c_types.specs.declared.fault.Stop.TheVariants.{NoMemory};
-ghost use Rattle.c_types.specs.Faults.{HasNone, StopsAtFirst};
-ghost use Rattle.c_types.specs.Files.{IsFunction, file_scopes};
+ghost use Rattle.c_types.specs.Faults.{HasNone, StopsAtFirst, StopsBoth};
+ghost use Rattle.c_types.specs.Files.{AreTyped, IsFunction, IsWith, declared_of, file_of, file_scopes};
 ghost use Rattle.c_types.specs.Held.{scopes_of};
-ghost use Rattle.c_types.specs.Programs.{FaultyBody, closing, with_last};
+ghost use Rattle.c_types.specs.Programs.{File, FaultyBody, FaultyDeclaration, FaultyDeclarations, TypesDeclaration, after, after_all, closing, no_declarations, with_last};
 ghost use Rattle.c_types.specs.Shape.{function_of, statements_of};
 
-use crate::declaration::{is_main, parameters};
+use crate::declaration::{Tally, declared_name, first, is_main, name_fault, parameters};
 use crate::fault::{Stop, both};
 use crate::scopes::Frame;
 use crate::statement::{items, lasting};
-use crate::typed::{Function, Statement, Term};
-use c_front::tree::{FunctionDefinition, Program};
+use crate::typed::{Function, Global as Variable, Statement, Term};
+use c_front::tree::{Declaration, FunctionDefinition, Program};
 use c_tokens::token::{Kind, Literal};
 use std::alloc::{AllocError, AllocFailed, Global};
+
+/// What a declaration at file scope comes to.
+#[derive(Drop)]
+enum Declared {
+    Variable(Variable),
+    Function(Function),
+}
+
+/// What the declarations so far come to.
+#[derive(Drop)]
+struct Parts {
+    functions: Vec<Function>,
+    globals: Vec<Variable>,
+}
 
 /// Puts what the end brace does behind a body: `main` returns 0, and a function without result returns.
 fn close(body: &mut Vec<Statement>, main: bool, gives: Option<Kind>) -> Result<(), AllocError>
@@ -72,4 +86,97 @@ fn function<'a>(
         locals,
         body,
     })
+}
+
+/// What a declaration comes to, behind its name.
+fn body<'a>(
+    alloc: Global,
+    program: &'a Program,
+    frame: &mut Frame<'a>,
+    d: &Declaration,
+) -> Result<Declared, Stop>
+    requires { scopes_of frame.now ≡ file_scopes (scopes_of frame.now).inner }
+    ensures ok { IfOk result (λ t. (f : File) → (after program.now.text.items f (declaration_of d.now)).names ≡ (scopes_of frame.old).inner → TypesDeclaration program.now.text.items f (declaration_of d.now) (declared_of t)) }
+    ensures none { IfOk result (λ t. HasNone (FaultyBody program.now.text.items (scopes_of frame.old).inner (declaration_of d.now))) }
+    ensures err { IfErr result (StopsAtFirst (FaultyBody program.now.text.items (scopes_of frame.old).inner (declaration_of d.now))) }
+    ensures scopes { (result ≡ Err NoMemory → ⊥) → scopes_of frame.new ≡ scopes_of frame.old }
+{
+    match d {
+        Declaration::Variable(_, _, initial) => Ok(Declared::Variable(Variable {
+            length: 1,
+            first: first(initial),
+        })),
+        Declaration::Array(_, _, length) => Ok(Declared::Variable(Variable {
+            length: length.value as usize,
+            first: 0,
+        })),
+        Declaration::Function(f) => match function(alloc, program, frame, f) {
+            Ok(typed) => Ok(Declared::Function(typed)),
+            Err(stop) => Err(stop),
+        },
+    }
+}
+
+/// What a declaration comes to; its name is in sight behind it.
+fn declaration<'a>(
+    alloc: Global,
+    program: &'a Program,
+    frame: &mut Frame<'a>,
+    tally: &Tally,
+    d: &Declaration,
+) -> Result<Declared, Stop>
+    requires { scopes_of frame.now ≡ file_scopes (scopes_of frame.now).inner }
+    ensures ok { IfOk result (λ t. TypesDeclaration program.now.text.items (file_of frame.old tally.now) (declaration_of d.now) (declared_of t)) }
+    ensures none { IfOk result (λ t. HasNone (FaultyDeclaration program.now.text.items (file_of frame.old tally.now) (declaration_of d.now))) }
+    ensures err { IfErr result (StopsAtFirst (FaultyDeclaration program.now.text.items (file_of frame.old tally.now) (declaration_of d.now))) }
+    ensures scopes { (result ≡ Err NoMemory → ⊥) → scopes_of frame.new ≡ file_scopes (after program.now.text.items (file_of frame.old tally.now) (declaration_of d.now)).names }
+{
+    let fault = name_fault(program, frame, tally, d);
+    frame.declare(program, declared_name(d), tally.named(d))?;
+    let typed = lasting(body(alloc, program, frame, d))?;
+    let (_, typed) = both(fault, typed)?;
+    Ok(typed)
+}
+
+/// One declaration more.
+fn with_declared(parts: Result<Parts, Stop>, next: Result<Declared, Stop>) -> Result<Parts, Stop>
+    ensures ok { IfOk result (λ r. IsWith parts next r) }
+    ensures err { IfErr result (λ s. (s ≡ NoMemory) ⊎ StopsBoth parts next s) }
+{
+    let (mut parts, next) = both(parts, next)?;
+    match next {
+        Declared::Variable(global) => parts.globals.push(global)?,
+        Declared::Function(function) => parts.functions.push(function)?,
+    }
+    Ok(parts)
+}
+
+/// What the declarations come to; their names are in sight behind them.
+fn declarations<'a>(
+    alloc: Global,
+    program: &'a Program,
+    frame: &mut Frame<'a>,
+    all: &[Declaration],
+) -> Result<Parts, Stop>
+    requires { scopes_of frame.now ≡ file_scopes no_declarations.names }
+    ensures ok { IfOk result (AreTyped program.now.text.items (declarations_of all.now)) }
+    ensures none { IfOk result (λ p. HasNone (FaultyDeclarations program.now.text.items no_declarations (declarations_of all.now))) }
+    ensures err { IfErr result (StopsAtFirst (FaultyDeclarations program.now.text.items no_declarations (declarations_of all.now))) }
+    ensures scopes { (result ≡ Err NoMemory → ⊥) → scopes_of frame.new ≡ file_scopes (after_all program.now.text.items no_declarations (declarations_of all.now)).names }
+{
+    let mut tally = Tally {
+        globals: 0,
+        functions: 0,
+        room: Some(262_144),
+    };
+    let mut parts = Ok(Parts {
+        functions: Vec::new(alloc),
+        globals: Vec::new(alloc),
+    });
+    for one in all {
+        let next = lasting(declaration(alloc, program, frame, &tally, one))?;
+        parts = with_declared(parts, next);
+        tally = tally.after(one);
+    }
+    parts
 }
