@@ -1,5 +1,5 @@
 -- Declarations at file scope with one more at the end.
-use Rattle.std.proofs.Common.{◌≡◌, ◌⊎◌, ◌+◌, ◌<◌, ℕ, List, [], ◌∷◌, ◌++◌, length, get_or, take, Result, Ok, Err, IfOk, IfErr, inl, inr, refl, sym, subst, ap, ◌∙◌, Option}
+use Rattle.std.proofs.Common.{◌≡◌, ◌⊎◌, ◌+◌, ◌<◌, ◌≤◌, arith, ℕ, List, [], ◌∷◌, ◌++◌, length, get_or, take, Result, Ok, Err, IfOk, IfErr, inl, inr, refl, sym, subst, ap, ◌∙◌, Option}
 use Rattle.std.proofs.lemmas.List.{take_more}
 use Rattle.c_front.specs.declared.tree.Declaration.{Declaration}
 use Rattle.c_front.specs.declared.tree.Parameter.{Parameter}
@@ -20,7 +20,7 @@ use Rattle.c_types.specs.declared.typed.Global as OneGlobal
 use Rattle.c_types.specs.Faults.{Faults, HasNone, StopsAtFirst, StopsBoth}
 use Rattle.c_types.specs.Files.{AreParts, AreTyped, IsFunction, IsWith, declared_of}
 use Rattle.c_types.specs.Names.{Meaning, Scopes, with_declared}
-use Rattle.c_types.specs.Programs.{File, FaultyBody, FaultyDeclaration, FaultyDeclarations, FaultyName, TypedDeclaration, TypesDeclaration, TypesDeclarations, a_function, a_global, after, after_all, all_declared, function_typed, functions_in, globals_in, more_declared, name_of, named_by, no_declarations}
+use Rattle.c_types.specs.Programs.{File, FaultyBody, FaultyDeclaration, FaultyDeclarations, FaultyName, TypedDeclaration, TypesDeclaration, TypesDeclarations, a_function, a_global, after, after_all, all_declared, function_typed, functions_in, globals_in, more_declared, name_of, named_by, tally_after, no_declarations}
 use Rattle.c_types.specs.Shape.{function_of, functions_of}
 use Rattle.c_types.specs.Typed.{TypedFunction}
 use Rattle.c_types.proofs.Firsts.{Both, both-none, both-stop, ok-at}
@@ -143,3 +143,13 @@ after-more text all i x l is = sym (ap (after_all text no_declarations) (next-of
 
 pub none-so-far : (text : List ℕ) (p : Parts) → p.functions.items ≡ [] → p.globals.items ≡ [] → SoFar text [] (Ok p)
 none-so-far text p e f = record { ok = record { declarations = []; typed = all_declared; parts = record { functions = ap functions_of e; globals = f } }; none = λ k at h. h; err = tt }
+
+pub globals-grow : (t : Tally) (d : Tree.Declaration) → (tally_after t d).globals ≤ t.globals + 1
+globals-grow t (Tree.variable k x i) = omega arith
+globals-grow t (Tree.array k x n) = omega arith
+globals-grow t (Tree.function r x ps body) = omega arith
+
+pub functions-grow : (t : Tally) (d : Tree.Declaration) → (tally_after t d).functions ≤ t.functions + 1
+functions-grow t (Tree.variable k x i) = omega arith
+functions-grow t (Tree.array k x n) = omega arith
+functions-grow t (Tree.function r x ps body) = omega arith

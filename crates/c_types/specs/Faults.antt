@@ -1,5 +1,5 @@
 -- Numbers of faults, and which fault is the first.
-use Rattle.std.specs.Prelude.{◌≡◌, ◌<◌, ◌≤◌, ◌⊎◌, ℕ, Bool, nat_lt, nat_eq, ◌&&◌, ◌||◌, if◌then◌else◌, Result, Ok, Err}
+use Rattle.std.specs.Prelude.{◌≡◌, ◌<◌, ◌≤◌, ◌⊎◌, ℕ, Bool, nat_lt, nat_eq, ◌&&◌, ◌||◌, if◌then◌else◌, Result, Ok, Err, List, length}
 use Rattle.c_types.specs.declared.fault.FaultKind.{FaultKind}
 use Rattle.c_types.specs.declared.fault.FaultKind.TheVariants.{Undeclared, Redeclared, Kind, Count, NoMain, Outside, Limit, NoMemory as WantOfMemory}
 use Rattle.c_types.specs.declared.fault.TypeFault.{TypeFault}
@@ -51,3 +51,7 @@ StopsBoth (Ok x) (Ok y) s = ⊥
 StopsBoth (Ok x) (Err b) s = s ≡ b
 StopsBoth (Err a) (Ok y) s = s ≡ a
 StopsBoth (Err a) (Err b) s = s ≡ first_of a b
+
+-- the fault that is told of a text: the first of the set, or want of memory at the text's length
+abbrev pub IsCheckFault : List ℕ → Faults → TypeFault → Type 0
+IsCheckFault text faults f = ((f.kind ≡ WantOfMemory) × (f.at ≡ length text)) ⊎ IsFirstFault faults f.kind f.at

@@ -33,7 +33,7 @@ is_array_of_nothing (function r x ps body) = false
 
 -- a `main` that isn't `int main(void)`, or an array of length 0
 abbrev pub IsOtherKind : List ℕ → Declaration → Type 0
-IsOtherKind text d = (is_array_of_nothing d ≡ true) ⊎ ((bytes_eq main_name (spelled text (name_of d)) ≡ true) × IsNotMain d)
+IsOtherKind text d = (is_array_of_nothing d ≡ true) ⊎ ((bytes_eq (spelled text (name_of d)) main_name ≡ true) × IsNotMain d)
 
 -- at file scope, with these names
 abbrev pub file_scopes : Meaning → Scopes
@@ -47,7 +47,7 @@ pub record IsFunction (text : List ℕ) (names : Meaning) (r : Option Kind) (x :
     result = r;
     parameters = length ps;
     locals = (behind_items text (behind_parameters text (scopes_at names) ps) body).locals;
-    body = with_last typed (closing (bytes_eq main_name (spelled text x)) r);
+    body = with_last typed (closing (bytes_eq (spelled text x) main_name) r);
   }
 
 abbrev pub declared_of : Declared → TypedDeclaration

@@ -75,7 +75,7 @@ IsNotMain (function r x ps body) = (r ≢ Some SignedInt) ⊎ (ps ≢ [])
 -- what is wrong with the name that is declared at file scope, at that name
 pub data FaultyName (text : List ℕ) (f : File) : Declaration → FaultKind → ℕ → Type 0 where
   declared_again : {d : Declaration} → f.names (spelled text (name_of d)) ≢ None → FaultyName text f d Redeclared (name_of d).at
-  other_main : {d : Declaration} → bytes_eq main_name (spelled text (name_of d)) ≡ true → IsNotMain d → FaultyName text f d KindFault (name_of d).at
+  other_main : {d : Declaration} → bytes_eq (spelled text (name_of d)) main_name ≡ true → IsNotMain d → FaultyName text f d KindFault (name_of d).at
   array_of_nothing : {k : Kind} {x : Identifier} {n : Literal} → n.value ≡ 0 → FaultyName text f (array k x n) KindFault x.at
   too_many_words : {d : Declaration} {r : ℕ} → f.tally.room ≡ Some r → r < words_of d → FaultyName text f d Limit (name_of d).at
   too_many_functions : {r : Option Kind} {x : Identifier} {ps : List Parameter} {body : Items} → f.tally.functions ≡ 256 →
@@ -112,11 +112,11 @@ FaultyDeclarations text f [] k at = ⊥
 FaultyDeclarations text f (d ∷ rest) k at = FaultyDeclaration text f d k at ⊎ FaultyDeclarations text (after text f d) rest k at
 
 -- a program in which no declaration is named `main`
-pub data LacksMain (text : List ℕ) (f : File) : FaultKind → ℕ → Type 0 where
-  no_main : f.names main_name ≡ None → LacksMain text f NoMain (length text)
+pub data LacksMain (text : List ℕ) (names : Meaning) : FaultKind → ℕ → Type 0 where
+  no_main : names main_name ≡ None → LacksMain text names NoMain (length text)
 
 abbrev pub FaultyProgram : List ℕ → List Declaration → FaultKind → ℕ → Type 0
-FaultyProgram text all k at = FaultyDeclarations text no_declarations all k at ⊎ LacksMain text (after_all text no_declarations all) k at
+FaultyProgram text all k at = FaultyDeclarations text no_declarations all k at ⊎ LacksMain text (after_all text no_declarations all).names k at
 
 -- the word of a first value
 abbrev pub first_word : Option Initial → ℕ
@@ -151,7 +151,7 @@ pub data TypesDeclaration (text : List ℕ) (f : File) : Declaration → TypedDe
         result = r;
         parameters = length ps;
         locals = (behind_items text (behind_parameters text (scopes_at (after text f (function r x ps body)).names) ps) body).locals;
-        body = with_last typed (closing (bytes_eq main_name (spelled text x)) r);
+        body = with_last typed (closing (bytes_eq (spelled text x) main_name) r);
       }))
 
 pub data TypesDeclarations (text : List ℕ) : File → List Declaration → List TypedDeclaration → Type 0 where

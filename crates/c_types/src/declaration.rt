@@ -25,9 +25,9 @@ pub struct Tally {
 
 /// Whether a name is `main`.
 pub fn is_main(program: &Program, name: Identifier) -> bool
-    ensures { result ≡ bytes_eq main_name (spelled program.now.text.items name) }
+    ensures { result ≡ bytes_eq (spelled program.now.text.items name) main_name }
 {
-    b"main".as_slice() == program.spelling(name)
+    program.spelling(name) == b"main".as_slice()
 }
 
 /// The name that is declared.

@@ -12,7 +12,7 @@ mod declaration;
 pub mod expression;
 pub mod fault;
 pub mod names;
-mod program;
+pub mod program;
 pub mod scopes;
 pub mod simple;
 pub mod statement;

@@ -1,18 +1,20 @@
-ghost use Rattle.std.specs.Prelude.{◌≡◌, ◌⊎◌, IfOk, IfErr, OnOk, Err};
+ghost use Rattle.std.specs.Prelude.{◌≡◌, ◌⊎◌, ℕ, List, IfOk, IfErr, OnOk, Err};
 ghost use Rattle.c_front.specs.Shape.{declaration_of, declarations_of, items_of};
-ghost use Rattle.c_front.specs.Tree.{function};
+ghost use Rattle.c_front.specs.Tree.{function, Declaration as DeclarationTree};
 ghost use Rattle.c_types.specs.declared.fault.Stop.TheVariants.{NoMemory};
-ghost use Rattle.c_types.specs.Faults.{HasNone, StopsAtFirst, StopsBoth};
+ghost use Rattle.c_types.specs.Faults.{HasNone, IsCheckFault, StopsAtFirst, StopsBoth};
 ghost use Rattle.c_types.specs.Files.{AreTyped, IsFunction, IsWith, declared_of, file_of, file_scopes};
 ghost use Rattle.c_types.specs.Held.{scopes_of};
-ghost use Rattle.c_types.specs.Programs.{File, FaultyBody, FaultyDeclaration, FaultyDeclarations, TypesDeclaration, after, after_all, closing, no_declarations, with_last};
-ghost use Rattle.c_types.specs.Shape.{function_of, statements_of};
+ghost use Rattle.c_types.specs.Programs.{File, FaultyBody, FaultyDeclaration, FaultyDeclarations, FaultyProgram, LacksMain, TypesDeclaration, TypesProgram, after, after_all, closing, no_declarations, with_last};
+ghost use Rattle.c_types.specs.Shape.{function_of, program_of, statements_of};
+ghost use Rattle.c_types.specs.Typed.{TypedProgram};
 
 use crate::declaration::{Tally, declared_name, first, is_main, name_fault, parameters};
-use crate::fault::{Stop, both};
+use crate::fault::{FaultKind, Stop, TypeFault, both};
+use crate::names::Named;
 use crate::scopes::Frame;
 use crate::statement::{items, lasting};
-use crate::typed::{Function, Global as Variable, Statement, Term};
+use crate::typed::{Function, Global as Variable, Statement, Term, Typed};
 use c_front::tree::{Declaration, FunctionDefinition, Program};
 use c_tokens::token::{Kind, Literal};
 use std::alloc::{AllocError, AllocFailed, Global};
@@ -180,3 +182,61 @@ fn declarations<'a>(
     }
     parts
 }
+
+/// Whether a name `main` is declared; if not it is a fault, at the text's length.
+fn has_main(program: &Program, frame: &Frame) -> Result<(), Stop>
+    ensures none { IfOk result (λ _. HasNone (LacksMain program.now.text.items (scopes_of frame.now).inner)) }
+    ensures err { IfErr result (StopsAtFirst (LacksMain program.now.text.items (scopes_of frame.now).inner)) }
+{
+    match frame.innermost(b"main") {
+        Some(_) => Ok(()),
+        None => {
+            let kind = FaultKind::NoMain;
+            let at = program.text.len();
+            Err(Stop::Fault(TypeFault { kind, at }))
+        }
+    }
+}
+
+/// The typed program, or its first fault.
+fn typed(alloc: Global, program: &Program) -> Result<Typed, Stop>
+    ensures ok { IfOk result (λ t. TypesProgram program.now.text.items (declarations_of program.now.declarations.items) (program_of t)) }
+    ensures none { IfOk result (λ t. HasNone (FaultyProgram program.now.text.items (declarations_of program.now.declarations.items))) }
+    ensures err { IfErr result (StopsAtFirst (FaultyProgram program.now.text.items (declarations_of program.now.declarations.items))) }
+{
+    let mut frame = Frame::new(alloc);
+    frame.declare_spelling(b"out", Named::Out)?;
+    let all = program.declarations.as_slice();
+    let parts = lasting(declarations(alloc, program, &mut frame, all))?;
+    let (parts, _) = both(parts, has_main(program, &frame))?;
+    match frame.innermost(b"main") {
+        Some(Named::Function(main, _, _)) => Ok(Typed {
+            functions: parts.functions,
+            globals: parts.globals,
+            main,
+        }),
+        _ => unreachable!(),
+    }
+}
+
+/// The typed program of a program that was read, exactly where it has no fault; else the fault with the least offset,
+/// and of these the least number. Where memory is refused that is told in place of any of these, at the text's length.
+pub fn check(alloc: Global, program: Program) -> Result<Typed, TypeFault>
+    ensures ok { IfOk result (λ t. TypesProgram program.text.items (declarations_of program.declarations.items) (program_of t)) }
+    ensures none { IfOk result (λ t. HasNone (FaultyProgram program.text.items (declarations_of program.declarations.items))) }
+    ensures err { IfErr result (IsCheckFault program.text.items (FaultyProgram program.text.items (declarations_of program.declarations.items))) }
+{
+    match typed(alloc, &program) {
+        Ok(typed) => Ok(typed),
+        Err(Stop::Fault(fault)) => Err(fault),
+        Err(Stop::NoMemory) => Err(TypeFault {
+            kind: FaultKind::NoMemory,
+            at: program.text.len(),
+        }),
+    }
+}
+
+/// A program has at most one typed program.
+pub fn one_typing_of_programs()
+    ensures { (text : List ℕ) (all : List DeclarationTree) (p q : TypedProgram) → TypesProgram text all p → TypesProgram text all q → p ≡ q }
+{}

@@ -32,6 +32,16 @@ impl<'a> Frame<'a> {
         }
     }
 
+    /// What a name of this spelling stands for in the innermost scope, if it is declared there.
+    pub fn innermost(&self, spelling: &[u8]) -> Option<Named>
+        ensures { result ≡ (scopes_of self.now).inner spelling.now }
+    {
+        match self.inner.get(spelling) {
+            Some(named) => Some(*named),
+            None => None,
+        }
+    }
+
     /// What a name of this spelling stands for: its declaration in the innermost scope that has one.
     pub fn find_spelling(&self, spelling: &[u8]) -> Option<Named>
         ensures { result ≡ named_in (scopes_of self.now) spelling.now }

@@ -1,0 +1,55 @@
+use Rattle.std.proofs.Common.{◌≡◌, sym, ap, ◌∙◌, subst, take, arith, Result}
+use Rattle.std.proofs.lemmas.List.{take_all}
+use Rattle.c_front.specs.Shape.{declaration_of, declarations_of}
+use Rattle.c_front.specs.Tree as Tree
+use Rattle.c_types.specs.declared.declaration.Tally.{Tally}
+use Rattle.c_types.specs.declared.fault.Stop.{Stop}
+use Rattle.c_types.specs.declared.program.Declared.{Declared}
+use Rattle.c_types.specs.Files.{declared_of, file_of, file_scopes}
+use Rattle.c_types.specs.Held.{scopes_of}
+use Rattle.c_types.specs.Names.{Scopes}
+use Rattle.c_types.specs.Programs.{File, FaultyDeclaration, TypesDeclaration, after, after_all, no_declarations}
+use Rattle.c_types.proofs.Declarations.{SoFar, after-more, functions-grow, globals-grow, none-so-far, one-so-far}
+use Rattle.c_types.proofs.Joined.{Answered}
+use Rattle.c_types.proofs.program.declarations.Goals as goal
+
+pub loop-one-init : goal.loop-one-init
+loop-one-init c = record {
+  so_far = none-so-far c.args.program.now.text.items (record { functions = c.new.result; globals = c.new-2.result }) c.new.ensures.items c.new-2.ensures.items;
+  file = ap (λ (s : Scopes). let f : File = record { names = s.inner; tally = no_declarations.tally } in f) c.requires;
+  scopes = c.requires ∙ ap (λ (s : Scopes). file_scopes s.inner) (sym c.requires);
+  globals = omega arith;
+  functions = omega arith;
+}
+
+pub loop-one-preserved : goal.loop-one-preserved
+loop-one-preserved c =
+    let text = c.args.program.now.text.items in
+    let d : Tree.Declaration = declaration_of c.one-item.result in
+    let before : File = file_of c.loop-one.frame c.loop-one.tally in
+    let At : File → Result Declared Stop → Type 0 = λ f r. Answered (λ t. TypesDeclaration c.args.program.now.text.items f (declaration_of c.one-item.result) (declared_of t)) (FaultyDeclaration c.args.program.now.text.items f (declaration_of c.one-item.result)) r in
+    let answered : At before c.declaration.result = record { ok = c.declaration.ensures.ok; none = c.declaration.ensures.none; err = c.declaration.ensures.err } in
+    let kept : At before c.in_ok-next.next = subst (At before) (sym c.in_ok-next.ensures.ok.0) answered in
+    let moved : At (after_all c.args.program.now.text.items no_declarations (declarations_of (take c.loop-one.one-index c.args.all.now))) c.in_ok-next.next = subst (λ f. At f c.in_ok-next.next) c.loop-one.invariant.file kept in
+    let there : scopes_of c.declaration.new.frame ≡ file_scopes (after c.args.program.now.text.items (file_of c.loop-one.frame c.loop-one.tally) (declaration_of c.one-item.result)).names = c.declaration.ensures.scopes c.in_ok-next.ensures.ok.1 in
+    let g = globals-grow c.loop-one.tally (declaration_of c.one-item.result) in
+    let h = functions-grow c.loop-one.tally (declaration_of c.one-item.result) in
+    let i = c.loop-one.invariant.globals in
+    let j = c.loop-one.invariant.functions in
+    record {
+      so_far = one-so-far c.args.program.now.text.items c.args.all.now c.loop-one.one-index c.one-item.result c.loop-one.parts c.with_declared-parts.result c.in_ok-next.next c.loop-one-test.true c.one-item.is c.loop-one.invariant.so_far moved
+          c.with_declared-parts.ensures.ok c.with_declared-parts.ensures.err;
+      file = ap (λ (s : Scopes). let f : File = record { names = s.inner; tally = c.after-tally.result } in f) there
+          ∙ ap (λ (t : Tally). let f : File = record { names = (after c.args.program.now.text.items (file_of c.loop-one.frame c.loop-one.tally) (declaration_of c.one-item.result)).names; tally = t } in f) c.after-tally.ensures
+          ∙ ap (λ (f : File). after c.args.program.now.text.items f (declaration_of c.one-item.result)) c.loop-one.invariant.file ∙ after-more c.args.program.now.text.items c.args.all.now c.loop-one.one-index c.one-item.result c.loop-one-test.true c.one-item.is;
+      scopes = there ∙ ap (λ (s : Scopes). file_scopes s.inner) (sym there);
+      globals = rw c.after-tally.ensures (omega (arith, g, i));
+      functions = rw c.after-tally.ensures (omega (arith, h, j));
+    }
+
+pub returns-clause-err : goal.returns-clause-err
+returns-clause-err c =
+    let h : SoFar c.args.program.now.text.items c.args.all.now c.loop-one.parts =
+    rw (take_all c.loop-one.one-index c.args.all.now c.loop-one-test.false) at c.loop-one.invariant.so_far
+    in
+    h.err
