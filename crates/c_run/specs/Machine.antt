@@ -4,8 +4,9 @@ use Rattle.std.specs.declared.vec.Vec.{Vec}
 use Rattle.std.specs.declared.alloc.Global.{Global}
 use Rattle.words.specs.Stores.{Places, Arrays}
 use Rattle.words.specs.Runs.{Running, Ended, Failed}
+use Rattle.c_types.specs.Typed.{TypedProgram}
 use Rattle.c_types.specs.Shape.{statement_of, statements_of}
-use Rattle.c_run.specs.Meaning.{Todo, Do, Next, before, before_all, Frame, Run}
+use Rattle.c_run.specs.Meaning.{Todo, Do, Next, before, before_all, Frame, Run, step_at}
 use Rattle.c_run.specs.declared.pending.Pending.{Pending}
 use Rattle.c_run.specs.declared.pending.Pending.TheVariants.{One, Rest, Turn}
 use Rattle.c_run.specs.declared.pending.Head.{Head}
@@ -43,6 +44,12 @@ headed Heads.Nothing k = []
 headed (Heads.Statement s) k = Do (statement_of s.now) ∷ k
 headed (Heads.Turn last again) k = Next (statement_of last.now) (statement_of again.now) ∷ k
 
+-- the same of a statement that may be a list
+abbrev pub taken : Head → List Todo → List Todo
+taken Heads.Nothing k = []
+taken (Heads.Statement s) k = before (statement_of s.now) k
+taken (Heads.Turn last again) k = Next (statement_of last.now) (statement_of again.now) ∷ k
+
 abbrev pub frame_of : Call → Frame
 frame_of c = record { locals = places c.locals.items; todo = todos c.todo.items; result_to = c.result_to }
 
@@ -58,3 +65,18 @@ abbrev pub reached : Reached → Machine → Run
 reached Reach.Going m = state_of m
 reached (Reach.Ended w) m = Ended w m.output.items
 reached Reach.Failed m = Failed m.output.items
+
+-- the same machine with other locals and globals
+abbrev pub going_on : Machine → Places → Arrays → Run
+going_on m l g =
+    Running (record { locals = l; todo = todos m.call.todo.items; result_to = m.call.result_to } ∷ frames_of m.waiting.items) g m.output.items
+
+-- a step at this list
+abbrev pub stepped : TypedProgram → (depth : ℕ) → List Todo → Machine → Run
+stepped p depth k m =
+    step_at p depth (places m.call.locals.items) k m.call.result_to (frames_of m.waiting.items) (arrays m.globals.items) m.output.items
+
+-- a run that has a first call, or has none
+abbrev pub started : Option Machine → Run
+started None = Failed []
+started (Some m) = state_of m

@@ -1,5 +1,5 @@
 -- The value of a typed expression (C99 6.5): a word, or none where C leaves it undefined or a local isn't set.
-use Rattle.std.specs.Prelude.{ℕ, ◌-◌, ◌^◌, Bool, not, ◌==◌, List, [], ◌∷◌, Option, Some, None, if◌then◌else◌, bit_and, bit_or, bit_xor}
+use Rattle.std.specs.Prelude.{ℕ, ◌-◌, ◌^◌, Bool, not, ◌==◌, List, [], ◌∷◌, Option, Some, if◌then◌else◌, bit_and, bit_or, bit_xor}
 use Rattle.c_tokens.specs.declared.token.Kind.{Kind}
 use Rattle.c_tokens.specs.declared.token.Kind.TheVariants.{SignedInt, UnsignedInt}
 use Rattle.c_front.specs.declared.tree.UnaryOp.{UnaryOp}

@@ -1,7 +1,9 @@
-ghost use Rattle.std.specs.Prelude.{◌≡◌, ℕ, ◌++◌, ◌∷◌, [], OnOk, IfOk, None, length, ◌≤◌};
+ghost use Rattle.std.specs.Prelude.{◌≡◌, ℕ, ◌++◌, ◌∷◌, [], OnOk, IfOk, None, length, ◌+◌, ◌≤◌};
 ghost use Rattle.words.specs.Stores.{written};
 ghost use Rattle.c_run.specs.Meaning.{settled, Going};
-ghost use Rattle.c_run.specs.Machine.{places, todos, headed, past_turn, at_turn};
+ghost use Rattle.c_run.specs.Machine.{places, todos, headed, taken};
+ghost use Rattle.c_run.specs.Sizes.{weights, head_size};
+ghost use Rattle.c_run.specs.Turns.{past_turn, at_turn};
 
 use c_types::typed::Statement;
 use std::alloc::AllocError;
@@ -31,29 +33,41 @@ pub(crate) fn put<'a>(todo: &mut Vec<Pending<'a>>, t: Pending<'a>) -> Result<(),
     Ok(())
 }
 
+// Takes a statement, which may be a list of them, or the end of a turn off the list.
+fn take_one<'a>(todo: &mut Vec<Pending<'a>>) -> Result<Head<'a>, AllocError>
+    ensures same { IfOk result (λ h. todos todo.old.items ≡ taken h (todos todo.new.items)) }
+    ensures less { IfOk result (λ h. weights todo.new.items + head_size h ≤ weights todo.old.items) }
+{
+    while let Some(t) = todo.pop() {
+        match t {
+            Pending::Turn(last, again) => return Ok(Head::Turn(last, again)),
+            Pending::One(s) => return Ok(Head::Statement(s)),
+            Pending::Rest(all) => {
+                if let Some((s, rest)) = all.split_first() {
+                    put(todo, Pending::Rest(rest))?;
+                    return Ok(Head::Statement(s));
+                }
+            }
+        }
+    }
+    Ok(Head::Nothing)
+}
+
 // Takes what comes first off the list.
 fn first<'a>(todo: &mut Vec<Pending<'a>>) -> Result<Head<'a>, AllocError>
     ensures { IfOk result (λ h. todos todo.old.items ≡ headed h (todos todo.new.items)) }
 {
-    while let Some(t) = todo.pop() {
-        let s = match t {
-            Pending::Turn(last, again) => return Ok(Head::Turn(last, again)),
-            Pending::One(s) => s,
-            Pending::Rest(all) => {
-                let Some((s, rest)) = all.split_first() else {
-                    continue;
-                };
-                put(todo, Pending::Rest(rest))?;
-                s
-            }
-        };
-        match s {
-            Statement::Empty => {}
-            Statement::Block(all) => put(todo, Pending::Rest(all.as_slice()))?,
-            _ => return Ok(Head::Statement(s)),
+    loop {
+        let head = take_one(todo)?;
+        match head {
+            Head::Statement(s) => match s {
+                Statement::Empty => {}
+                Statement::Block(all) => put(todo, Pending::Rest(all.as_slice()))?,
+                _ => return Ok(head),
+            },
+            Head::Nothing | Head::Turn(_, _) => return Ok(head),
         }
     }
-    Ok(Head::Nothing)
 }
 
 // Past the end of the turn: what `break` leaves.
@@ -61,8 +75,9 @@ fn leave_turn(todo: &mut Vec<Pending>)
     ensures { todos todo.new.items ≡ past_turn (todos todo.old.items) }
 {
     while let Some(t) = todo.pop() {
-        if let Pending::Turn(_, _) = t {
-            return;
+        match t {
+            Pending::Turn(_, _) => return,
+            Pending::One(_) | Pending::Rest(_) => {}
         }
     }
 }
@@ -72,9 +87,12 @@ fn to_turn(todo: &mut Vec<Pending>) -> Result<(), AllocError>
     ensures { OnOk result (todos todo.new.items ≡ at_turn (todos todo.old.items)) }
 {
     while let Some(t) = todo.pop() {
-        if let Pending::Turn(_, _) = t {
-            put(todo, t)?;
-            return Ok(());
+        match t {
+            Pending::Turn(_, _) => {
+                put(todo, t)?;
+                return Ok(());
+            }
+            Pending::One(_) | Pending::Rest(_) => {}
         }
     }
     Ok(())
@@ -90,7 +108,10 @@ fn unset(locals: &mut [Option<u32>], number: usize)
 }
 
 // On to the next statement that takes a step, which is taken off the list.
-pub(crate) fn settle<'a>(todo: &mut Vec<Pending<'a>>, locals: &mut [Option<u32>]) -> Result<Head<'a>, AllocError>
+pub(crate) fn settle<'a>(
+    todo: &mut Vec<Pending<'a>>,
+    locals: &mut [Option<u32>],
+) -> Result<Head<'a>, AllocError>
     ensures { IfOk result (λ h. settled Going (places locals.old) (todos todo.old.items) ≡ record { locals = places locals.new; todo = headed h (todos todo.new.items) }) }
 {
     loop {

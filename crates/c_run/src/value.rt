@@ -1,4 +1,5 @@
-ghost use Rattle.std.specs.Prelude.{◌≡◌, ℕ, Option, IfOk};
+ghost use Rattle.std.specs.Prelude.{◌≡◌, ℕ, Option, Some, IfOk, map};
+ghost use Rattle.std.specs.Option.{option_map};
 ghost use Rattle.c_types.specs.Shape.{term_of, terms_of};
 ghost use Rattle.words.specs.Stores.{word_at};
 ghost use Rattle.c_run.specs.Values.{sign_of, truth, unary_of, binary_of, value_of, values_of};
@@ -118,8 +119,13 @@ pub(crate) fn value(e: &Term, locals: &[Option<u32>], globals: &[Vec<u32>]) -> O
 }
 
 /// The values of the arguments of a call, each a local that is set; None where one has none.
-pub(crate) fn arguments(alloc: Global, terms: &[Term], locals: &[Option<u32>], globals: &[Vec<u32>]) -> Result<Option<Vec<Option<u32>>>, AllocError>
-    ensures { IfOk result (λ r. Passes (values_of (terms_of terms.now) (places locals.now) (arrays globals.now)) r) }
+pub(crate) fn arguments(
+    alloc: Global,
+    terms: &[Term],
+    locals: &[Option<u32>],
+    globals: &[Vec<u32>],
+) -> Result<Option<Vec<Option<u32>>>, AllocError>
+    ensures { IfOk result (λ r. option_map (λ v. v.items) r ≡ option_map (map Some) (values_of (terms_of terms.now) (places locals.now) (arrays globals.now))) }
 {
     let mut values = Vec::with_capacity(alloc, terms.len())?;
     for term in terms {
