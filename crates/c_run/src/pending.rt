@@ -34,6 +34,7 @@ pub(crate) fn put<'a>(todo: &mut Vec<Pending<'a>>, t: Pending<'a>) -> Result<(),
 }
 
 // Takes a statement, which may be a list of them, or the end of a turn off the list.
+#[inline]
 fn take_one<'a>(todo: &mut Vec<Pending<'a>>) -> Result<Head<'a>, AllocError>
     ensures same { IfOk result (λ h. todos todo.old.items ≡ taken h (todos todo.new.items)) }
     ensures less { IfOk result (λ h. weights todo.new.items + head_size h ≤ weights todo.old.items) }
@@ -54,6 +55,7 @@ fn take_one<'a>(todo: &mut Vec<Pending<'a>>) -> Result<Head<'a>, AllocError>
 }
 
 // Takes what comes first off the list.
+#[inline]
 fn first<'a>(todo: &mut Vec<Pending<'a>>) -> Result<Head<'a>, AllocError>
     ensures { IfOk result (λ h. todos todo.old.items ≡ headed h (todos todo.new.items)) }
 {

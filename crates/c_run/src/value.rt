@@ -12,6 +12,7 @@ use std::alloc::{AllocError, Global};
 use words::Sign;
 
 /// How the words of a type are read.
+#[inline]
 fn sign(kind: Kind) -> Sign
     ensures { result ≡ sign_of kind }
 {
@@ -22,6 +23,7 @@ fn sign(kind: Kind) -> Sign
 }
 
 /// The word of a global at an index; None outside.
+#[inline]
 pub(crate) fn word(globals: &[Vec<u32>], array: usize, index: usize) -> Option<u32>
     ensures { result ≡ word_at (arrays globals.now) array index }
 {
@@ -35,6 +37,7 @@ pub(crate) fn word(globals: &[Vec<u32>], array: usize, index: usize) -> Option<u
 }
 
 /// The word of a local; None where it isn't set.
+#[inline]
 fn local(locals: &[Option<u32>], number: usize) -> Option<u32>
     ensures { result ≡ places locals.now number }
 {
@@ -46,6 +49,7 @@ fn local(locals: &[Option<u32>], number: usize) -> Option<u32>
 }
 
 /// A prefix operator on a word.
+#[inline]
 fn prefixed(operator: UnaryOp, kind: Kind, x: u32) -> Option<u32>
     ensures { result ≡ unary_of operator (sign_of kind) x }
 {
@@ -58,6 +62,7 @@ fn prefixed(operator: UnaryOp, kind: Kind, x: u32) -> Option<u32>
 }
 
 /// An operator on two words, both of which are evaluated.
+#[inline(always)]
 fn computed(operator: BinaryOp, kind: Kind, x: u32, y: u32) -> Option<u32>
     ensures { result ≡ binary_of operator (sign_of kind) x y }
 {
