@@ -87,7 +87,21 @@ fn computed(operator: BinaryOp, kind: Kind, x: u32, y: u32) -> Option<u32>
     }
 }
 
+/// The same as `value`, without a call for a constant and a local.
+#[cycle(value)]
+#[inline(always)]
+fn operand(e: &Term, locals: &[Option<u32>], globals: &[Vec<u32>]) -> Option<u32>
+    ensures { result ≡ value_of (term_of e.now) (places locals.now) (arrays globals.now) }
+{
+    match e {
+        Term::Constant(literal) => Some(literal.value),
+        Term::Local(number, _) => local(locals, *number),
+        _ => value(e, locals, globals),
+    }
+}
+
 /// The value of an expression at these locals and globals; None where C leaves it undefined, or a local isn't set.
+#[cycle(value)]
 pub(crate) fn value(e: &Term, locals: &[Option<u32>], globals: &[Vec<u32>]) -> Option<u32>
     ensures { result ≡ value_of (term_of e.now) (places locals.now) (arrays globals.now) }
 {
@@ -96,28 +110,28 @@ pub(crate) fn value(e: &Term, locals: &[Option<u32>], globals: &[Vec<u32>]) -> O
         Term::Local(number, _) => local(locals, *number),
         Term::Global(number, _) => word(globals, *number, 0),
         Term::Element(number, _, index) => {
-            let index = value(index, locals, globals)?;
+            let index = operand(index, locals, globals)?;
             word(globals, *number, index as usize)
         }
-        Term::Unary(operator, kind, operand) => {
-            let x = value(operand, locals, globals)?;
+        Term::Unary(operator, kind, part) => {
+            let x = operand(part, locals, globals)?;
             prefixed(*operator, *kind, x)
         }
         Term::Binary(operator, kind, left, right) => {
-            let x = value(left, locals, globals)?;
+            let x = operand(left, locals, globals)?;
             match operator {
                 BinaryOp::Both if x == 0 => return Some(0),
                 BinaryOp::Either if x != 0 => return Some(1),
                 _ => {}
             }
-            let y = value(right, locals, globals)?;
+            let y = operand(right, locals, globals)?;
             computed(*operator, *kind, x, y)
         }
         Term::Choose(_, test, first, second) => {
-            if value(test, locals, globals)? == 0 {
-                value(second, locals, globals)
+            if operand(test, locals, globals)? == 0 {
+                operand(second, locals, globals)
             } else {
-                value(first, locals, globals)
+                operand(first, locals, globals)
             }
         }
     }
