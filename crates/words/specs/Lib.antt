@@ -1,2 +1,5 @@
 pub mod Words
 pub mod Operators
+pub mod C
+pub mod Stores
+pub mod Runs

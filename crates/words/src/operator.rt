@@ -55,7 +55,7 @@ fn less_unsigned(a: u32, b: u32) -> u32
     u32::from(a < b)
 }
 
-fn shift_keeping_sign(a: u32, amount: u32) -> u32
+pub(crate) fn shift_keeping_sign(a: u32, amount: u32) -> u32
     ensures { result ≡ sra a amount }
 {
     let by = amount % 32;

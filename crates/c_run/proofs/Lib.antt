@@ -1,0 +1,5 @@
+pub mod Calls
+pub mod Running
+pub mod Sizes
+pub mod Stores
+pub mod Turns

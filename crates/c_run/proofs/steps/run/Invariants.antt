@@ -1,0 +1,10 @@
+use Rattle.std.proofs.Common.{◌≡◌, ◌-◌}
+use Rattle.words.specs.Runs.{outcome}
+use Rattle.c_types.specs.Shape.{program_of}
+use Rattle.c_run.specs.Meaning.{source_steps, source_run}
+use Rattle.c_run.specs.Machine.{state_of}
+use Rattle.c_run.proofs.steps.run.Given as goal
+
+abbrev pub invariant-loop : goal.invariant-loop
+invariant-loop l =
+    outcome (source_steps (program_of l.program) l.depth (l.steps - l.counter) (state_of l.machine)) ≡ source_run (program_of l.program) l.depth l.steps

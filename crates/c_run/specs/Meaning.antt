@@ -1,0 +1,148 @@
+-- What a program does, one step after another (C99 5.1.2.3, 6.8): each assignment, test, call, return and output is one
+-- step. A declaration, `break` and `continue` are none.
+use Rattle.std.specs.Prelude.{ℕ, zero, suc, List, [], ◌∷◌, ◌++◌, Option, Some, None, length, nat_lt, if◌then◌else◌, ◌==◌, slice_get, map, replicate}
+use Rattle.words.specs.Stores.{Places, unset_places, written, Arrays, stored}
+use Rattle.words.specs.Runs.{Outcome, State, Running, Ended, Failed, with_value, outcome}
+use Rattle.c_types.specs.declared.typed.Place.{Place}
+use Rattle.c_types.specs.declared.typed.Place.TheVariants.{Local, Global as Variable}
+use Rattle.c_types.specs.declared.typed.Global.{Global}
+use Rattle.c_types.specs.Typed.{TypedStatement, TypedStatements, empty, block, unset, assign, store, run, output, branch, loop, leave, next_turn, return_with, no_statements, more_statements, TypedProgram}
+use Rattle.c_run.specs.Values.{value_of, values_of}
+
+-- what is still to do: a statement, or the end of a loop's turn, where its last part comes and then the loop again
+pub data Todo : Type 0 where
+  Do : TypedStatement → Todo
+  Next : (last again : TypedStatement) → Todo
+
+-- a statement before the others; lists of statements are taken apart
+abbrev mutual
+  pub before : TypedStatement → List Todo → List Todo
+  before empty k = k
+  before (block all) k = before_all all k
+  before (unset x) k = Do (unset x) ∷ k
+  before (assign x e) k = Do (assign x e) ∷ k
+  before (store a i e) k = Do (store a i e) ∷ k
+  before (run to f all) k = Do (run to f all) ∷ k
+  before (output e) k = Do (output e) ∷ k
+  before (branch c a b) k = Do (branch c a b) ∷ k
+  before (loop c last body) k = Do (loop c last body) ∷ k
+  before leave k = Do leave ∷ k
+  before next_turn k = Do next_turn ∷ k
+  before (return_with e) k = Do (return_with e) ∷ k
+
+  pub before_all : TypedStatements → List Todo → List Todo
+  before_all no_statements k = k
+  before_all (more_statements s rest) k = before s (before_all rest k)
+
+-- going on, or leaving a loop by `break`, or its turn by `continue`
+pub data Mode : Type 0 where
+  Going : Mode
+  Breaking : Mode
+  Continuing : Mode
+
+-- the locals, and what is still to do
+pub record Point : Type 0 where
+  pub locals : Places
+  pub todo : List Todo
+
+-- on to the next statement that takes a step
+abbrev pub settled : Mode → Places → List Todo → Point
+settled m l [] = record { locals = l; todo = [] }
+settled Going l (Do (unset x) ∷ k) = settled Going (written l x None) k
+settled Going l (Do leave ∷ k) = settled Breaking l k
+settled Going l (Do next_turn ∷ k) = settled Continuing l k
+settled Going l (Next last again ∷ k) = record { locals = l; todo = before last (before again k) }
+settled Going l (Do s ∷ k) = record { locals = l; todo = Do s ∷ k }
+settled Breaking l (Do s ∷ k) = settled Breaking l k
+settled Breaking l (Next last again ∷ k) = settled Going l k
+settled Continuing l (Do s ∷ k) = settled Continuing l k
+settled Continuing l (Next last again ∷ k) = record { locals = l; todo = before last (before again k) }
+
+-- a call that runs or waits, and where its result goes, if anywhere
+pub record Frame : Type 0 where
+  pub locals : Places
+  pub todo : List Todo
+  pub result_to : Option Place
+
+abbrev pub Run : Type 0
+Run = State Frame
+
+-- a word goes to a local, or to a global variable
+abbrev pub placed : Place → ℕ → Places → Arrays → List ℕ → (Places → Arrays → Run) → Run
+placed (Local x) v l g out go = go (written l x (Some v)) g
+placed (Variable x) v l g out go = with_value (stored g x 0 v) out (λ g'. go l g')
+
+-- the arguments are the first locals
+abbrev pub arguments : List ℕ → Places
+arguments vs = λ x. slice_get vs x
+
+-- a call of a function, where the bound on the calls that are active lets it
+abbrev pub called : TypedProgram → (depth f : ℕ) → List ℕ → Option Place → List Frame → Arrays → List ℕ → Run
+called p depth f vs to frames g out =
+    with_value (slice_get p.functions f) out (λ function.
+    if nat_lt (length frames) depth
+    then Running (record { locals = arguments vs; todo = before_all function.body []; result_to = to } ∷ frames) g out
+    else Failed out)
+
+-- a return with a word or without, to the call below: where a word is wanted there has to be one. The last call's word
+-- ends the run
+abbrev pub returned : Option ℕ → Option Place → List Frame → Arrays → List ℕ → Run
+returned v to [] g out = with_value v out (λ w. Ended w out)
+returned v None (f ∷ frames) g out = Running (f ∷ frames) g out
+returned v (Some place) (f ∷ frames) g out =
+    with_value v out (λ w. placed place w f.locals g out (λ l g'.
+    Running (record { locals = l; todo = f.todo; result_to = f.result_to } ∷ frames) g' out))
+
+-- by the word of a test
+abbrev pub chosen : ℕ → List Todo → List Todo → List Todo
+chosen v a b = if v == 0 then b else a
+
+-- one step, at a statement that takes one
+abbrev pub step_at : TypedProgram → (depth : ℕ) → Places → List Todo → Option Place → List Frame → Arrays → List ℕ → Run
+step_at p depth l (Do (assign x e) ∷ k) to frames g out =
+    with_value (value_of e l g) out (λ v. placed x v l g out (λ l' g'.
+    Running (record { locals = l'; todo = k; result_to = to } ∷ frames) g' out))
+step_at p depth l (Do (store a i e) ∷ k) to frames g out =
+    with_value (value_of i l g) out (λ x. with_value (value_of e l g) out (λ v. with_value (stored g a x v) out (λ g'.
+    Running (record { locals = l; todo = k; result_to = to } ∷ frames) g' out)))
+step_at p depth l (Do (run x f all) ∷ k) to frames g out =
+    with_value (values_of all l g) out (λ vs.
+    called p depth f vs x (record { locals = l; todo = k; result_to = to } ∷ frames) g out)
+step_at p depth l (Do (output e) ∷ k) to frames g out =
+    with_value (value_of e l g) out (λ v.
+    Running (record { locals = l; todo = k; result_to = to } ∷ frames) g (out ++ v ∷ []))
+step_at p depth l (Do (branch c a b) ∷ k) to frames g out =
+    with_value (value_of c l g) out (λ v.
+    Running (record { locals = l; todo = chosen v (before a k) (before b k); result_to = to } ∷ frames) g out)
+step_at p depth l (Do (loop c last body) ∷ k) to frames g out =
+    with_value (value_of c l g) out (λ v.
+    Running (record { locals = l; todo = chosen v (before body (Next last (loop c last body) ∷ k)) k; result_to = to } ∷ frames) g out)
+step_at p depth l (Do (return_with None) ∷ k) to frames g out = returned None to frames g out
+step_at p depth l (Do (return_with (Some e)) ∷ k) to frames g out =
+    with_value (value_of e l g) out (λ v. returned (Some v) to frames g out)
+step_at p depth l _ to frames g out = Failed out
+
+abbrev pub source_step : TypedProgram → ℕ → Run → Run
+source_step p depth (Running [] g out) = Failed out
+source_step p depth (Running (f ∷ frames) g out) =
+    let at = settled Going f.locals f.todo in step_at p depth at.locals at.todo f.result_to frames g out
+source_step p depth (Ended w out) = Ended w out
+source_step p depth (Failed out) = Failed out
+
+abbrev pub source_steps : TypedProgram → ℕ → ℕ → Run → Run
+source_steps p depth zero s = s
+source_steps p depth (suc n) s = source_steps p depth n (source_step p depth s)
+
+-- the words of a global at first
+abbrev pub first_words : Global → List ℕ
+first_words a = replicate a.length a.first
+
+-- before the first step: a call of `main`
+abbrev pub source_start : TypedProgram → Run
+source_start p =
+    with_value (slice_get p.functions p.main) [] (λ main.
+    Running (record { locals = unset_places; todo = before_all main.body []; result_to = None } ∷ []) (map first_words p.globals) [])
+
+-- what so many steps of a program come to, with at most so many calls active at once
+abbrev pub source_run : TypedProgram → (depth n : ℕ) → Outcome
+source_run p depth n = outcome (source_steps p depth n (source_start p))

@@ -1,0 +1,137 @@
+ghost use Rattle.std.specs.Prelude.{◌≡◌, ℕ, ◌++◌, ◌∷◌, [], OnOk, IfOk, None, length, ◌+◌, ◌≤◌};
+ghost use Rattle.words.specs.Stores.{written};
+ghost use Rattle.c_run.specs.Meaning.{settled, Going};
+ghost use Rattle.c_run.specs.Machine.{places, todos, headed, taken};
+ghost use Rattle.c_run.specs.Sizes.{weights, head_size};
+ghost use Rattle.c_run.specs.Turns.{past_turn, at_turn};
+
+use c_types::typed::Statement;
+use std::alloc::AllocError;
+
+/// What is still to do: a statement, a list of statements, or the end of a turn: its last part, and the loop. A list
+/// is lent, so to enter a block is one push.
+#[derive(Clone, Copy)]
+pub enum Pending<'a> {
+    One(&'a Statement),
+    Rest(&'a [Statement]),
+    Turn(&'a Statement, &'a Statement),
+}
+
+/// What comes first: nothing, a statement that is no list, or the end of a turn.
+#[derive(Clone, Copy)]
+pub enum Head<'a> {
+    Nothing,
+    Statement(&'a Statement),
+    Turn(&'a Statement, &'a Statement),
+}
+
+// One more thing to do first.
+pub(crate) fn put<'a>(todo: &mut Vec<Pending<'a>>, t: Pending<'a>) -> Result<(), AllocError>
+    ensures { OnOk result (todo.new.items ≡ todo.old.items ++ t.entry ∷ []) }
+{
+    todo.push(t)?;
+    Ok(())
+}
+
+// Takes a statement, which may be a list of them, or the end of a turn off the list.
+#[inline]
+fn take_one<'a>(todo: &mut Vec<Pending<'a>>) -> Result<Head<'a>, AllocError>
+    ensures same { IfOk result (λ h. todos todo.old.items ≡ taken h (todos todo.new.items)) }
+    ensures less { IfOk result (λ h. weights todo.new.items + head_size h ≤ weights todo.old.items) }
+{
+    while let Some(t) = todo.pop() {
+        match t {
+            Pending::Turn(last, again) => return Ok(Head::Turn(last, again)),
+            Pending::One(s) => return Ok(Head::Statement(s)),
+            Pending::Rest(all) => {
+                if let Some((s, rest)) = all.split_first() {
+                    put(todo, Pending::Rest(rest))?;
+                    return Ok(Head::Statement(s));
+                }
+            }
+        }
+    }
+    Ok(Head::Nothing)
+}
+
+// Takes what comes first off the list.
+#[inline]
+fn first<'a>(todo: &mut Vec<Pending<'a>>) -> Result<Head<'a>, AllocError>
+    ensures { IfOk result (λ h. todos todo.old.items ≡ headed h (todos todo.new.items)) }
+{
+    loop {
+        let head = take_one(todo)?;
+        match head {
+            Head::Statement(s) => match s {
+                Statement::Empty => {}
+                Statement::Block(all) => put(todo, Pending::Rest(all.as_slice()))?,
+                _ => return Ok(head),
+            },
+            Head::Nothing | Head::Turn(_, _) => return Ok(head),
+        }
+    }
+}
+
+// Past the end of the turn: what `break` leaves.
+fn leave_turn(todo: &mut Vec<Pending>)
+    ensures { todos todo.new.items ≡ past_turn (todos todo.old.items) }
+{
+    while let Some(t) = todo.pop() {
+        match t {
+            Pending::Turn(_, _) => return,
+            Pending::One(_) | Pending::Rest(_) => {}
+        }
+    }
+}
+
+// To the end of the turn: where `continue` leads.
+fn to_turn(todo: &mut Vec<Pending>) -> Result<(), AllocError>
+    ensures { OnOk result (todos todo.new.items ≡ at_turn (todos todo.old.items)) }
+{
+    while let Some(t) = todo.pop() {
+        match t {
+            Pending::Turn(_, _) => {
+                put(todo, t)?;
+                return Ok(());
+            }
+            Pending::One(_) | Pending::Rest(_) => {}
+        }
+    }
+    Ok(())
+}
+
+// A local is unset.
+fn unset(locals: &mut [Option<u32>], number: usize)
+    ensures { places locals.new ≡ written (places locals.old) number None }
+{
+    if number < locals.len() {
+        locals[number] = None;
+    }
+}
+
+// On to the next statement that takes a step, which is taken off the list.
+pub(crate) fn settle<'a>(
+    todo: &mut Vec<Pending<'a>>,
+    locals: &mut [Option<u32>],
+) -> Result<Head<'a>, AllocError>
+    ensures { IfOk result (λ h. settled Going (places locals.old) (todos todo.old.items) ≡ record { locals = places locals.new; todo = headed h (todos todo.new.items) }) }
+{
+    loop {
+        let head = first(todo)?;
+        match head {
+            Head::Nothing => return Ok(head),
+            Head::Turn(last, again) => {
+                put(todo, Pending::One(again))?;
+                put(todo, Pending::One(last))?;
+                let head = first(todo)?;
+                return Ok(head);
+            }
+            Head::Statement(s) => match s {
+                Statement::Unset(number) => unset(locals, *number),
+                Statement::Break => leave_turn(todo),
+                Statement::Continue => to_turn(todo)?,
+                _ => return Ok(head),
+            },
+        }
+    }
+}

@@ -1,0 +1,157 @@
+ghost use Rattle.std.specs.Prelude.{◌≡◌, ℕ, Option, Some, IfOk, map};
+ghost use Rattle.std.specs.Option.{option_map};
+ghost use Rattle.c_types.specs.Shape.{term_of, terms_of};
+ghost use Rattle.words.specs.Stores.{word_at};
+ghost use Rattle.c_run.specs.Values.{sign_of, truth, unary_of, binary_of, value_of, values_of};
+ghost use Rattle.c_run.specs.Machine.{places, arrays};
+
+use c_front::tree::{BinaryOp, UnaryOp};
+use c_tokens::token::Kind;
+use c_types::typed::Term;
+use std::alloc::{AllocError, Global};
+use words::Sign;
+
+/// How the words of a type are read.
+#[inline]
+fn sign(kind: Kind) -> Sign
+    ensures { result ≡ sign_of kind }
+{
+    match kind {
+        Kind::SignedInt => Sign::Signed,
+        Kind::UnsignedInt => Sign::Unsigned,
+    }
+}
+
+/// The word of a global at an index; None outside.
+#[inline]
+pub(crate) fn word(globals: &[Vec<u32>], array: usize, index: usize) -> Option<u32>
+    ensures { result ≡ word_at (arrays globals.now) array index }
+{
+    if array < globals.len() {
+        let words = &globals[array];
+        if index < words.len() {
+            return Some(words[index]);
+        }
+    }
+    None
+}
+
+/// The word of a local; None where it isn't set.
+#[inline]
+fn local(locals: &[Option<u32>], number: usize) -> Option<u32>
+    ensures { result ≡ places locals.now number }
+{
+    if number < locals.len() {
+        locals[number]
+    } else {
+        None
+    }
+}
+
+/// A prefix operator on a word.
+#[inline]
+fn prefixed(operator: UnaryOp, kind: Kind, x: u32) -> Option<u32>
+    ensures { result ≡ unary_of operator (sign_of kind) x }
+{
+    match operator {
+        UnaryOp::Negate => sign(kind).negation(x),
+        UnaryOp::Identity => Some(x),
+        UnaryOp::Complement => Some(!x),
+        UnaryOp::Not => Some(u32::from(x == 0)),
+    }
+}
+
+/// An operator on two words, both of which are evaluated.
+#[inline(always)]
+fn computed(operator: BinaryOp, kind: Kind, x: u32, y: u32) -> Option<u32>
+    ensures { result ≡ binary_of operator (sign_of kind) x y }
+{
+    match operator {
+        BinaryOp::Multiply => sign(kind).times(x, y),
+        BinaryOp::Divide => sign(kind).quotient(x, y),
+        BinaryOp::Remainder => sign(kind).remainder(x, y),
+        BinaryOp::Add => sign(kind).sum(x, y),
+        BinaryOp::Subtract => sign(kind).difference(x, y),
+        BinaryOp::ShiftLeft => sign(kind).left_shift(x, y),
+        BinaryOp::ShiftRight => sign(kind).right_shift(x, y),
+        BinaryOp::Below => Some(u32::from(sign(kind).is_below(x, y))),
+        BinaryOp::Exceeds => Some(u32::from(sign(kind).is_below(y, x))),
+        BinaryOp::AtMost => Some(u32::from(!sign(kind).is_below(y, x))),
+        BinaryOp::AtLeast => Some(u32::from(!sign(kind).is_below(x, y))),
+        BinaryOp::Same => Some(u32::from(x == y)),
+        BinaryOp::Differs => Some(u32::from(x != y)),
+        BinaryOp::BitAnd => Some(x & y),
+        BinaryOp::BitXor => Some(x ^ y),
+        BinaryOp::BitOr => Some(x | y),
+        BinaryOp::Both | BinaryOp::Either => Some(u32::from(y != 0)),
+    }
+}
+
+/// The same as `value`, without a call for a constant and a local.
+#[cycle(value)]
+#[inline(always)]
+fn operand(e: &Term, locals: &[Option<u32>], globals: &[Vec<u32>]) -> Option<u32>
+    ensures { result ≡ value_of (term_of e.now) (places locals.now) (arrays globals.now) }
+{
+    match e {
+        Term::Constant(literal) => Some(literal.value),
+        Term::Local(number, _) => local(locals, *number),
+        _ => value(e, locals, globals),
+    }
+}
+
+/// The value of an expression at these locals and globals; None where C leaves it undefined, or a local isn't set.
+#[cycle(value)]
+pub(crate) fn value(e: &Term, locals: &[Option<u32>], globals: &[Vec<u32>]) -> Option<u32>
+    ensures { result ≡ value_of (term_of e.now) (places locals.now) (arrays globals.now) }
+{
+    match e {
+        Term::Constant(literal) => Some(literal.value),
+        Term::Local(number, _) => local(locals, *number),
+        Term::Global(number, _) => word(globals, *number, 0),
+        Term::Element(number, _, index) => {
+            let index = operand(index, locals, globals)?;
+            word(globals, *number, index as usize)
+        }
+        Term::Unary(operator, kind, part) => {
+            let x = operand(part, locals, globals)?;
+            prefixed(*operator, *kind, x)
+        }
+        Term::Binary(operator, kind, left, right) => {
+            let x = operand(left, locals, globals)?;
+            match operator {
+                BinaryOp::Both if x == 0 => return Some(0),
+                BinaryOp::Either if x != 0 => return Some(1),
+                _ => {}
+            }
+            let y = operand(right, locals, globals)?;
+            computed(*operator, *kind, x, y)
+        }
+        Term::Choose(_, test, first, second) => {
+            if operand(test, locals, globals)? == 0 {
+                operand(second, locals, globals)
+            } else {
+                operand(first, locals, globals)
+            }
+        }
+    }
+}
+
+/// The values of the arguments of a call, each a local that is set; None where one has none.
+pub(crate) fn arguments(
+    alloc: Global,
+    terms: &[Term],
+    locals: &[Option<u32>],
+    globals: &[Vec<u32>],
+) -> Result<Option<Vec<Option<u32>>>, AllocError>
+    ensures { IfOk result (λ r. option_map (λ v. v.items) r ≡ option_map (map Some) (values_of (terms_of terms.now) (places locals.now) (arrays globals.now))) }
+{
+    let mut values = Vec::with_capacity(alloc, terms.len())?;
+    for term in terms {
+        let Some(v) = value(term, locals, globals) else {
+            return Ok(None);
+        };
+        values.push(Some(v))?;
+    }
+    Ok(Some(values))
+}

@@ -1,0 +1,30 @@
+-- How a run of a program ended, and what it wrote.
+use Rattle.std.specs.Prelude.{ℕ, List, Option, Some, None}
+use Rattle.words.specs.declared.ran.End.{End}
+use Rattle.words.specs.declared.ran.End.TheVariants.{Done, Wrong, More}
+use Rattle.words.specs.declared.ran.Ran.{Ran}
+use Rattle.words.specs.Stores.{Arrays}
+
+pub record Outcome : Type 0 where
+  pub end : End
+  pub output : List ℕ
+
+abbrev pub outcome_of : Ran → Outcome
+outcome_of r = record { end = r.end; output = r.output.items }
+
+-- how far a run has come, with its output so far: the calls that run or wait, and the globals
+pub data State (Call : Type 0) : Type 0 where
+  Running : List Call → Arrays → List ℕ → State Call
+  Ended : ℕ → List ℕ → State Call
+  Failed : List ℕ → State Call
+
+-- goes on with a value, or fails
+abbrev pub with_value : {Call A : Type 0} → Option A → List ℕ → (A → State Call) → State Call
+with_value None out go = Failed out
+with_value (Some a) out go = go a
+
+-- what a run that goes no further comes to
+abbrev pub outcome : {Call : Type 0} → State Call → Outcome
+outcome (Running calls g out) = record { end = More; output = out }
+outcome (Ended w out) = record { end = Done w; output = out }
+outcome (Failed out) = record { end = Wrong; output = out }

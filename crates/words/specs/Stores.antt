@@ -1,0 +1,28 @@
+-- What a running program keeps: a word for each local or register that is set, and the words of each global.
+use Rattle.std.specs.Prelude.{ℕ, List, Option, Some, None, nat_eq, if◌then◌else◌, slice_get, slice_set}
+
+abbrev pub Places : Type 0
+Places = ℕ → Option ℕ
+
+-- none is set
+abbrev pub unset_places : Places
+unset_places x = None
+
+-- one is set to a word, or unset
+abbrev pub written : Places → ℕ → Option ℕ → Places
+written p x v = λ y. if nat_eq y x then v else p y
+
+abbrev pub Arrays : Type 0
+Arrays = List (List ℕ)
+
+abbrev pub chain : {A B : Type 0} → Option A → (A → Option B) → Option B
+chain None f = None
+chain (Some a) f = f a
+
+-- the word of a global at an index, or none outside
+abbrev pub word_at : Arrays → ℕ → ℕ → Option ℕ
+word_at g a i = chain (slice_get g a) (λ words. slice_get words i)
+
+-- the globals after a write, or none outside
+abbrev pub stored : Arrays → ℕ → ℕ → ℕ → Option Arrays
+stored g a i v = chain (slice_get g a) (λ words. chain (slice_get words i) (λ _. Some (slice_set g a (slice_set words i v))))
