@@ -128,6 +128,7 @@ pub fn mcc<F: Files, W: Write, E: Write>(
             Ok(status) => status,
             Err(fault) => tell(err, fault),
         },
+        Ok(Words::Interp { .. }) => 1,
         Err(error) => tell_words(&error, out, err),
     }
 }
