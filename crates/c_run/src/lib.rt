@@ -9,7 +9,7 @@
 //! of them, the globals are written in place, and only a call, a block within a block and an output may need memory.
 //! `specs/Machine.antt` says which state of the meaning the interpreter's parts stand for, `specs/Turns.antt` what
 //! `break` and `continue` skip, and `specs/Sizes.antt` why taking lists apart ends. `value` calls itself on the parts of
-//! an expression, so its stack grows with their depth.
+//! an expression, by 64 bytes of stack for each level as LLVM builds it.
 #![tactic(auto)]
 
 mod machine;

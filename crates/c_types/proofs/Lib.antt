@@ -15,3 +15,4 @@ pub mod Functions
 pub mod Joins
 pub mod OnceStatements
 pub mod Declarations
+pub mod Main

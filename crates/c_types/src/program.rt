@@ -1,7 +1,8 @@
-ghost use Rattle.std.specs.Prelude.{◌≡◌, ◌⊎◌, ℕ, List, IfOk, IfErr, OnOk, Err};
+ghost use Rattle.std.specs.Prelude.{◌≡◌, ◌⊎◌, ℕ, List, Some, true, IfOk, IfErr, OnOk, Err};
 ghost use Rattle.c_front.specs.Shape.{declaration_of, declarations_of, items_of};
 ghost use Rattle.c_front.specs.Tree.{function, Declaration as DeclarationTree};
 ghost use Rattle.c_types.specs.declared.fault.Stop.TheVariants.{NoMemory};
+ghost use Rattle.c_types.specs.declared.names.Named.TheVariants.{Function as NamedFunction};
 ghost use Rattle.c_types.specs.Faults.{HasNone, IsCheckFault, StopsAtFirst, StopsBoth};
 ghost use Rattle.c_types.specs.Files.{AreTyped, IsFunction, IsWith, declared_of, file_of, file_scopes};
 ghost use Rattle.c_types.specs.Held.{scopes_of};
@@ -198,6 +199,20 @@ fn has_main(program: &Program, frame: &Frame) -> Result<(), Stop>
     }
 }
 
+/// The number of `main`, which a program without faults has.
+fn number_of(found: Option<Named>) -> usize
+    requires { (n : ℕ) × (found ≡ Some (NamedFunction n 0 true)) }
+    ensures { found ≡ Some (NamedFunction result 0 true) }
+{
+    let Some(named) = found else {
+        unreachable!();
+    };
+    match named {
+        Named::Function(main, _, _) => main,
+        _ => unreachable!(),
+    }
+}
+
 /// The typed program, or its first fault.
 fn typed(alloc: Global, program: &Program) -> Result<Typed, Stop>
     ensures ok { IfOk result (λ t. TypesProgram program.now.text.items (declarations_of program.now.declarations.items) (program_of t)) }
@@ -209,14 +224,12 @@ fn typed(alloc: Global, program: &Program) -> Result<Typed, Stop>
     let all = program.declarations.as_slice();
     let parts = lasting(declarations(alloc, program, &mut frame, all))?;
     let (parts, _) = both(parts, has_main(program, &frame))?;
-    match frame.innermost(b"main") {
-        Some(Named::Function(main, _, _)) => Ok(Typed {
-            functions: parts.functions,
-            globals: parts.globals,
-            main,
-        }),
-        _ => unreachable!(),
-    }
+    let main = number_of(frame.innermost(b"main"));
+    Ok(Typed {
+        functions: parts.functions,
+        globals: parts.globals,
+        main,
+    })
 }
 
 /// The typed program of a program that was read, exactly where it has no fault; else the fault with the least offset,
