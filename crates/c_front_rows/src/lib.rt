@@ -6,6 +6,8 @@ mod depths;
 #[cfg(test)]
 mod faults;
 #[cfg(test)]
+mod memory;
+#[cfg(test)]
 mod sizes;
 #[cfg(test)]
 mod texts;

@@ -5,7 +5,6 @@ use Rattle.c_tokens.specs.declared.token.Mark.{Mark}
 use Rattle.c_tokens.specs.declared.lex.Lexeme.{Lexeme}
 use Rattle.c_tokens.specs.declared.sign.Spelling.{Spelling}
 use Rattle.c_tokens.specs.declared.sign.Spelling.TheVariants.{One, Two, Three}
-use Rattle.c_tokens.specs.declared.sign.Entry.{Entry}
 use Rattle.c_tokens.specs.declared.lex.Reserved.{Reserved}
 use Rattle.c_tokens.specs.declared.lex.Reserved.TheVariants.{Marked, Jumping, Unused}
 use Rattle.c_tokens.specs.Lexing.{is_front, same_bytes, word_lexeme, keyword_lexeme, is_word, digit_of, digits_of, up_to}
@@ -47,11 +46,11 @@ spelled (One a) = omega arith
 spelled (Two a b) = omega arith
 spelled (Three a b c) = omega arith
 
-pub sign-fits : (es : List (List ℕ × Option Mark)) (bs : List ℕ) (e : Entry) (l : ℕ) → shown (Some e) ≡ longest es bs → l ≡ length (bytes_of e.spelling) → (0 < l) × (l ≤ length bs)
+pub sign-fits : (es : List (List ℕ × Option Mark)) (bs : List ℕ) (e : Spelling × Option Mark) (l : ℕ) → shown (Some e) ≡ longest es bs → l ≡ length (bytes_of e.0) → (0 < l) × (l ≤ length bs)
 sign-fits es bs e l h k =
     let P : Option (List ℕ × Option Mark) → Type 0 = λ x. FitsIn x (length bs) in
-    let a = spelled e.spelling in
-    let b : length (bytes_of e.spelling) ≤ length bs = subst P (sym h) (longest-fits es bs) in
+    let a = spelled e.0 in
+    let b : length (bytes_of e.0) ≤ length bs = subst P (sym h) (longest-fits es bs) in
     (omega (arith, a, k), omega (arith, b, k))
 
 pub word-fits : (ks : List (List ℕ × Reserved)) (word : List ℕ) (n : ℕ) → 0 < length word → length word ≤ n → Fits (word_lexeme ks word) n

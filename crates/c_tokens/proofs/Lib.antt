@@ -5,3 +5,4 @@ pub mod Fronts
 pub mod Constants
 pub mod Finding
 pub mod Once
+pub mod Beginning

@@ -1,5 +1,5 @@
 -- How the front of a text is cut: the words of the private functions, which find the longest piece.
-use Rattle.std.specs.Prelude.{◌+◌, ℕ, suc, List, [], ◌∷◌, length, drop, take, Bool, false, nat_eq, nat_lt, if◌then◌else◌, Option, Some, None}
+use Rattle.std.specs.Prelude.{◌+◌, ℕ, suc, List, [], ◌∷◌, length, drop, take, Bool, true, false, nat_eq, nat_lt, if◌then◌else◌, Option, Some, None}
 use Rattle.c_tokens.specs.declared.token.Mark.{Mark}
 use Rattle.c_tokens.specs.declared.lex.Lexeme.{Lexeme}
 use Rattle.c_tokens.specs.declared.lex.Lexeme.TheVariants.{End, Separator, Sign, Refused}
@@ -17,6 +17,15 @@ run_length after_exponent (b ∷ bs) = if goes_on after_exponent b then suc (run
 abbrev pub line_length : List ℕ → ℕ
 line_length [] = 0
 line_length (b ∷ bs) = if nat_eq b 10 then 0 else suc (line_length bs)
+
+-- the spellings that may stand at the front of bytes that begin with a byte
+abbrev pub may_begin : ℕ → List ℕ → Bool
+may_begin b [] = true
+may_begin b (a ∷ more) = nat_eq a b
+
+abbrev pub beginning : ℕ → List (List ℕ × Option Mark) → List (List ℕ × Option Mark)
+beginning b [] = []
+beginning b (e ∷ es) = if may_begin b e.0 then e ∷ beginning b es else beginning b es
 
 abbrev pub longer : List ℕ × Option Mark → Option (List ℕ × Option Mark) → List ℕ × Option Mark
 longer e None = e

@@ -1,10 +1,10 @@
-ghost use Rattle.std.specs.Prelude.{◌≡◌, ◌+◌, ◌<◌, ◌≤◌, ◌++◌, [], ◌∷◌, length, IfOk, IfErr, IfSome, IfNone, ◌^◌, drop, take, List, ℕ, false, Some, None, map};
+ghost use Rattle.std.specs.Prelude.{◌≡◌, ◌+◌, ◌-◌, ◌<◌, ◌≤◌, ◌++◌, [], ◌∷◌, length, IfOk, IfErr, IfSome, IfNone, ◌^◌, drop, take, List, ℕ, suc, false, Some, None, map, if◌then◌else◌};
 ghost use Rattle.c_tokens.specs.Lexing.{word_lexeme, keyword_lexeme, kind_of, keywords, constant_lexeme, digit_of, digits_of, up_to, is_suffix, plain_of, digits_in, last_or, greatest_of, comment_length, signs};
 ghost use Rattle.c_tokens.specs.Fronts.{lexeme_of, word_length, run_length, comment_lexeme, line_lexeme, line_length, sign_lexeme, longest};
 ghost use Rattle.c_tokens.specs.declared.token.Token.{Token};
 ghost use Rattle.c_tokens.specs.declared.lex.Refusal.{Refusal};
 ghost use Rattle.c_tokens.specs.Keywords.{keyword_of};
-ghost use Rattle.c_tokens.specs.Texts.{Lexes, LexStops, IsStep, Fits, StepFits, step_of, IsLexFault, Within, Counted, Oversize};
+ghost use Rattle.c_tokens.specs.Texts.{Lexes, LexStops, IsStep, Fits, StepFits, step_of, IsLexFault, Within, Counted, Oversize, ends_run, opens, closes, nests};
 
 use crate::scan::{
     after, begins, comment_length, escape_at, is_digit, is_letter, is_space, line_length,
@@ -434,68 +434,56 @@ fn plain(limit: u64, run: &[u8]) -> Option<u32>
     Some(number(8, limit, more)? as u32)
 }
 
+/// How many tokens stand after the last `;`, `{` or `}` once this one stands there.
+fn run_after(run: usize, token: &Token) -> usize
+    requires { run ≤ 1024 }
+    ensures { result ≡ (if ends_run token.now then 0 else suc run) }
+{
+    match token {
+        Token::The(Mark::Semicolon | Mark::LeftBrace | Mark::RightBrace) => 0,
+        _ => run + 1,
+    }
+}
+
+/// How many braces are open after the token.
+fn open_after(braces: usize, token: &Token) -> usize
+    requires { braces ≤ 128 }
+    ensures { result ≡ (if opens token.now then suc braces else (if closes token.now then braces - 1 else braces)) }
+{
+    match token {
+        Token::The(Mark::LeftBrace) => braces + 1,
+        Token::The(Mark::RightBrace) => braces.saturating_sub(1),
+        _ => braces,
+    }
+}
+
+/// How many `else` and `for` stand since no brace was open, with this token, after `nested` of them.
+fn nested_after(nested: usize, token: &Token) -> usize
+    requires { nested ≤ 512 }
+    ensures { result ≡ (if nests token.now then 1 else 0) + nested }
+{
+    match token {
+        Token::The(Mark::Else | Mark::For) => nested + 1,
+        _ => nested,
+    }
+}
+
 /// The counts after one more token, or None where it goes past a size.
-fn count(sizes: Sizes, token: Token) -> Option<Sizes>
+fn count(sizes: Sizes, token: &Token) -> Option<Sizes>
     requires { Within sizes }
-    ensures none { IfNone result (Oversize sizes token) }
-    ensures some { IfSome result (λ new. Counted sizes token new) }
+    ensures none { IfNone result (Oversize sizes token.now) }
+    ensures some { IfSome result (λ new. Counted sizes token.now new) }
 {
     let nested = if sizes.open == 0 { 0 } else { sizes.nested };
-    let is_full = sizes.run == 1024;
-    match token {
-        Token::The(mark) => match mark {
-            Mark::Semicolon => Some(Sizes {
-                run: 0,
-                open: sizes.open,
-                nested,
-            }),
-            Mark::LeftBrace => {
-                if sizes.open == 128 {
-                    return None;
-                }
-                Some(Sizes {
-                    run: 0,
-                    open: sizes.open + 1,
-                    nested,
-                })
-            }
-            Mark::RightBrace => Some(Sizes {
-                run: 0,
-                open: if sizes.open == 0 { 0 } else { sizes.open - 1 },
-                nested,
-            }),
-            Mark::Else | Mark::For => {
-                if is_full || nested == 512 {
-                    return None;
-                }
-                Some(Sizes {
-                    run: sizes.run + 1,
-                    open: sizes.open,
-                    nested: nested + 1,
-                })
-            }
-            _ => {
-                if is_full {
-                    return None;
-                }
-                Some(Sizes {
-                    run: sizes.run + 1,
-                    open: sizes.open,
-                    nested,
-                })
-            }
-        },
-        _ => {
-            if is_full {
-                return None;
-            }
-            Some(Sizes {
-                run: sizes.run + 1,
-                open: sizes.open,
-                nested,
-            })
-        }
+    let new = Sizes {
+        run: run_after(sizes.run, token),
+        open: open_after(sizes.open, token),
+        nested: nested_after(nested, token),
+    };
+    if new.run > 1024 || new.open > 128 || new.nested > 512 {
+        return None;
     }
+    Some(new)
 }
 
 fn step_at(at: usize, lexeme: Lexeme) -> Step
@@ -570,7 +558,7 @@ pub fn lex(alloc: Global, text: &[u8]) -> Result<(Vec<Token>, Vec<usize>), LexFa
                 rest = after(rest, n);
                 at += n;
             }
-            Step::Take(token, n) => match count(sizes, token) {
+            Step::Take(token, n) => match count(sizes, &token) {
                 None => return Err(LexFault::Refused(Refusal::BadSize, at)),
                 Some(new) => {
                     tokens.push(token)?;

@@ -1,6 +1,6 @@
 ghost use Rattle.std.specs.Prelude.{◌≡◌, ◌<◌, ◌≤◌, length, map, Some};
 ghost use Rattle.c_tokens.specs.Lexing.{is_front, signs};
-ghost use Rattle.c_tokens.specs.Fronts.{longest, longer, sign_lexeme};
+ghost use Rattle.c_tokens.specs.Fronts.{beginning, longest, longer, sign_lexeme};
 ghost use Rattle.c_tokens.specs.Spellings.{bytes_of, entry_of, shown};
 ghost use Rattle.c_tokens.specs.Texts.{Fits};
 
@@ -17,210 +17,145 @@ pub enum Spelling {
 }
 
 /// A spelling, and its mark if it is in use.
-#[derive(Clone, Copy)]
-pub struct Entry {
-    pub spelling: Spelling,
-    pub mark: Option<Mark>,
-}
+pub type Entry = (Spelling, Option<Mark>);
 
-const SIGNS: [Entry; 49] = [
-    Entry {
-        spelling: Spelling::One(40),
-        mark: Some(Mark::LeftParen),
-    },
-    Entry {
-        spelling: Spelling::One(41),
-        mark: Some(Mark::RightParen),
-    },
-    Entry {
-        spelling: Spelling::One(123),
-        mark: Some(Mark::LeftBrace),
-    },
-    Entry {
-        spelling: Spelling::One(125),
-        mark: Some(Mark::RightBrace),
-    },
-    Entry {
-        spelling: Spelling::One(91),
-        mark: Some(Mark::LeftBracket),
-    },
-    Entry {
-        spelling: Spelling::One(93),
-        mark: Some(Mark::RightBracket),
-    },
-    Entry {
-        spelling: Spelling::One(59),
-        mark: Some(Mark::Semicolon),
-    },
-    Entry {
-        spelling: Spelling::One(44),
-        mark: Some(Mark::Comma),
-    },
-    Entry {
-        spelling: Spelling::One(61),
-        mark: Some(Mark::Assign),
-    },
-    Entry {
-        spelling: Spelling::One(63),
-        mark: Some(Mark::Question),
-    },
-    Entry {
-        spelling: Spelling::One(58),
-        mark: Some(Mark::Colon),
-    },
-    Entry {
-        spelling: Spelling::Two(124, 124),
-        mark: Some(Mark::BarBar),
-    },
-    Entry {
-        spelling: Spelling::Two(38, 38),
-        mark: Some(Mark::AndAnd),
-    },
-    Entry {
-        spelling: Spelling::One(124),
-        mark: Some(Mark::Bar),
-    },
-    Entry {
-        spelling: Spelling::One(94),
-        mark: Some(Mark::Caret),
-    },
-    Entry {
-        spelling: Spelling::One(38),
-        mark: Some(Mark::Ampersand),
-    },
-    Entry {
-        spelling: Spelling::Two(61, 61),
-        mark: Some(Mark::EqualEqual),
-    },
-    Entry {
-        spelling: Spelling::Two(33, 61),
-        mark: Some(Mark::BangEqual),
-    },
-    Entry {
-        spelling: Spelling::One(60),
-        mark: Some(Mark::Less),
-    },
-    Entry {
-        spelling: Spelling::One(62),
-        mark: Some(Mark::Greater),
-    },
-    Entry {
-        spelling: Spelling::Two(60, 61),
-        mark: Some(Mark::LessEqual),
-    },
-    Entry {
-        spelling: Spelling::Two(62, 61),
-        mark: Some(Mark::GreaterEqual),
-    },
-    Entry {
-        spelling: Spelling::Two(60, 60),
-        mark: Some(Mark::LessLess),
-    },
-    Entry {
-        spelling: Spelling::Two(62, 62),
-        mark: Some(Mark::GreaterGreater),
-    },
-    Entry {
-        spelling: Spelling::One(43),
-        mark: Some(Mark::Plus),
-    },
-    Entry {
-        spelling: Spelling::One(45),
-        mark: Some(Mark::Minus),
-    },
-    Entry {
-        spelling: Spelling::One(42),
-        mark: Some(Mark::Star),
-    },
-    Entry {
-        spelling: Spelling::One(47),
-        mark: Some(Mark::Slash),
-    },
-    Entry {
-        spelling: Spelling::One(37),
-        mark: Some(Mark::Percent),
-    },
-    Entry {
-        spelling: Spelling::One(126),
-        mark: Some(Mark::Tilde),
-    },
-    Entry {
-        spelling: Spelling::One(33),
-        mark: Some(Mark::Bang),
-    },
-    Entry {
-        spelling: Spelling::Two(43, 43),
-        mark: None,
-    },
-    Entry {
-        spelling: Spelling::Two(45, 45),
-        mark: None,
-    },
-    Entry {
-        spelling: Spelling::Two(43, 61),
-        mark: None,
-    },
-    Entry {
-        spelling: Spelling::Two(45, 61),
-        mark: None,
-    },
-    Entry {
-        spelling: Spelling::Two(42, 61),
-        mark: None,
-    },
-    Entry {
-        spelling: Spelling::Two(47, 61),
-        mark: None,
-    },
-    Entry {
-        spelling: Spelling::Two(37, 61),
-        mark: None,
-    },
-    Entry {
-        spelling: Spelling::Three(60, 60, 61),
-        mark: None,
-    },
-    Entry {
-        spelling: Spelling::Three(62, 62, 61),
-        mark: None,
-    },
-    Entry {
-        spelling: Spelling::Two(38, 61),
-        mark: None,
-    },
-    Entry {
-        spelling: Spelling::Two(124, 61),
-        mark: None,
-    },
-    Entry {
-        spelling: Spelling::Two(94, 61),
-        mark: None,
-    },
-    Entry {
-        spelling: Spelling::Two(45, 62),
-        mark: None,
-    },
-    Entry {
-        spelling: Spelling::One(46),
-        mark: None,
-    },
-    Entry {
-        spelling: Spelling::Three(46, 46, 46),
-        mark: None,
-    },
-    Entry {
-        spelling: Spelling::One(35),
-        mark: None,
-    },
-    Entry {
-        spelling: Spelling::Two(35, 35),
-        mark: None,
-    },
-    Entry {
-        spelling: Spelling::Two(63, 63),
-        mark: None,
-    },
+const LEFT_PAREN: [Entry; 1] = [(Spelling::One(b'('), Some(Mark::LeftParen))];
+
+const RIGHT_PAREN: [Entry; 1] = [(Spelling::One(b')'), Some(Mark::RightParen))];
+
+const LEFT_BRACE: [Entry; 1] = [(Spelling::One(b'{'), Some(Mark::LeftBrace))];
+
+const RIGHT_BRACE: [Entry; 1] = [(Spelling::One(b'}'), Some(Mark::RightBrace))];
+
+const LEFT_BRACKET: [Entry; 1] = [(Spelling::One(b'['), Some(Mark::LeftBracket))];
+
+const RIGHT_BRACKET: [Entry; 1] = [(Spelling::One(b']'), Some(Mark::RightBracket))];
+
+const SEMICOLON: [Entry; 1] = [(Spelling::One(b';'), Some(Mark::Semicolon))];
+
+const COMMA: [Entry; 1] = [(Spelling::One(b','), Some(Mark::Comma))];
+
+const EQUAL: [Entry; 2] = [
+    (Spelling::One(b'='), Some(Mark::Assign)),
+    (Spelling::Two(b'=', b'='), Some(Mark::EqualEqual)),
 ];
+
+const QUESTION: [Entry; 2] = [
+    (Spelling::One(b'?'), Some(Mark::Question)),
+    (Spelling::Two(b'?', b'?'), None),
+];
+
+const COLON: [Entry; 1] = [(Spelling::One(b':'), Some(Mark::Colon))];
+
+const BAR: [Entry; 3] = [
+    (Spelling::Two(b'|', b'|'), Some(Mark::BarBar)),
+    (Spelling::One(b'|'), Some(Mark::Bar)),
+    (Spelling::Two(b'|', b'='), None),
+];
+
+const AMPERSAND: [Entry; 3] = [
+    (Spelling::Two(b'&', b'&'), Some(Mark::AndAnd)),
+    (Spelling::One(b'&'), Some(Mark::Ampersand)),
+    (Spelling::Two(b'&', b'='), None),
+];
+
+const CARET: [Entry; 2] = [
+    (Spelling::One(b'^'), Some(Mark::Caret)),
+    (Spelling::Two(b'^', b'='), None),
+];
+
+const BANG: [Entry; 2] = [
+    (Spelling::Two(b'!', b'='), Some(Mark::BangEqual)),
+    (Spelling::One(b'!'), Some(Mark::Bang)),
+];
+
+const LESS: [Entry; 4] = [
+    (Spelling::One(b'<'), Some(Mark::Less)),
+    (Spelling::Two(b'<', b'='), Some(Mark::LessEqual)),
+    (Spelling::Two(b'<', b'<'), Some(Mark::LessLess)),
+    (Spelling::Three(b'<', b'<', b'='), None),
+];
+
+const GREATER: [Entry; 4] = [
+    (Spelling::One(b'>'), Some(Mark::Greater)),
+    (Spelling::Two(b'>', b'='), Some(Mark::GreaterEqual)),
+    (Spelling::Two(b'>', b'>'), Some(Mark::GreaterGreater)),
+    (Spelling::Three(b'>', b'>', b'='), None),
+];
+
+const PLUS: [Entry; 3] = [
+    (Spelling::One(b'+'), Some(Mark::Plus)),
+    (Spelling::Two(b'+', b'+'), None),
+    (Spelling::Two(b'+', b'='), None),
+];
+
+const MINUS: [Entry; 4] = [
+    (Spelling::One(b'-'), Some(Mark::Minus)),
+    (Spelling::Two(b'-', b'-'), None),
+    (Spelling::Two(b'-', b'='), None),
+    (Spelling::Two(b'-', b'>'), None),
+];
+
+const STAR: [Entry; 2] = [
+    (Spelling::One(b'*'), Some(Mark::Star)),
+    (Spelling::Two(b'*', b'='), None),
+];
+
+const SLASH: [Entry; 2] = [
+    (Spelling::One(b'/'), Some(Mark::Slash)),
+    (Spelling::Two(b'/', b'='), None),
+];
+
+const PERCENT: [Entry; 2] = [
+    (Spelling::One(b'%'), Some(Mark::Percent)),
+    (Spelling::Two(b'%', b'='), None),
+];
+
+const TILDE: [Entry; 1] = [(Spelling::One(b'~'), Some(Mark::Tilde))];
+
+const DOT: [Entry; 2] = [
+    (Spelling::One(b'.'), None),
+    (Spelling::Three(b'.', b'.', b'.'), None),
+];
+
+const HASH: [Entry; 2] = [
+    (Spelling::One(b'#'), None),
+    (Spelling::Two(b'#', b'#'), None),
+];
+
+/// The spellings that begin with a byte.
+fn beginning(first: u8) -> &'static [Entry]
+    ensures { map entry_of result.now ≡ beginning first signs }
+{
+    match first {
+        b'(' => &LEFT_PAREN,
+        b')' => &RIGHT_PAREN,
+        b'{' => &LEFT_BRACE,
+        b'}' => &RIGHT_BRACE,
+        b'[' => &LEFT_BRACKET,
+        b']' => &RIGHT_BRACKET,
+        b';' => &SEMICOLON,
+        b',' => &COMMA,
+        b'=' => &EQUAL,
+        b'?' => &QUESTION,
+        b':' => &COLON,
+        b'|' => &BAR,
+        b'&' => &AMPERSAND,
+        b'^' => &CARET,
+        b'!' => &BANG,
+        b'<' => &LESS,
+        b'>' => &GREATER,
+        b'+' => &PLUS,
+        b'-' => &MINUS,
+        b'*' => &STAR,
+        b'/' => &SLASH,
+        b'%' => &PERCENT,
+        b'~' => &TILDE,
+        b'.' => &DOT,
+        b'#' => &HASH,
+        _ => &[],
+    }
+}
 
 fn stands(spelling: Spelling, text: &[u8]) -> bool
     ensures { result ≡ is_front (bytes_of spelling) text.now }
@@ -254,7 +189,7 @@ fn longer(entry: Entry, best: Option<Entry>) -> Entry
     match best {
         None => entry,
         Some(other) => {
-            if length_of(entry.spelling) < length_of(other.spelling) {
+            if length_of(entry.0) < length_of(other.0) {
                 other
             } else {
                 entry
@@ -272,11 +207,19 @@ fn longest(table: &[Entry], text: &[u8]) -> Option<Entry>
     'table: while i > 0 {
         i -= 1;
         let entry = table[i];
-        if stands(entry.spelling, text) {
+        if stands(entry.0, text) {
             best = Some(longer(entry, best));
         }
     }
     best
+}
+
+/// The longest operator or bracket at the front.
+fn operator(text: &[u8]) -> Option<Entry>
+    ensures { shown result ≡ longest signs text.now }
+{
+    let (first, _) = split(text)?;
+    longest(beginning(first), text)
 }
 
 /// The operator or bracket at the front.
@@ -284,11 +227,11 @@ pub fn sign(text: &[u8]) -> Lexeme
     ensures same { result ≡ sign_lexeme (longest signs text.now) }
     ensures fits { Fits result (length text.now) }
 {
-    match longest(&SIGNS, text) {
+    match operator(text) {
         None => Lexeme::Refused(0),
-        Some(entry) => match entry.mark {
+        Some(entry) => match entry.1 {
             None => Lexeme::Refused(0),
-            Some(mark) => Lexeme::Sign(mark, length_of(entry.spelling)),
+            Some(mark) => Lexeme::Sign(mark, length_of(entry.0)),
         },
     }
 }

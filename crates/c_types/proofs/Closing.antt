@@ -1,5 +1,5 @@
 -- A statement behind others.
-use Rattle.std.proofs.Common.{◌≡◌, List, [], ◌∷◌, ◌++◌, refl, sym, ap, ◌∙◌, Bool, true, false, Option, Some, None}
+use Rattle.std.proofs.Common.{◌≡◌, List, [], ◌∷◌, ◌++◌, refl, ap, ◌∙◌, Bool, true, false, Option, Some, None}
 use Rattle.c_tokens.specs.declared.token.Kind.{Kind}
 use Rattle.c_types.specs.declared.typed.Statement.{Statement}
 use Rattle.c_types.specs.Programs.{with_last, closing}

@@ -13,7 +13,6 @@ use Rattle.c_types.specs.declared.fault.Stop.{Stop}
 use Rattle.c_types.specs.declared.fault.Stop.TheVariants.{NoMemory}
 use Rattle.c_types.specs.declared.names.Named.{Named}
 use Rattle.c_types.specs.declared.program.Declared.{Declared}
-use Rattle.c_types.specs.declared.program.Declared.TheVariants.{Variable, Function}
 use Rattle.c_types.specs.declared.program.Parts.{Parts}
 use Rattle.c_types.specs.declared.typed.Function as OneFunction
 use Rattle.c_types.specs.declared.typed.Global as OneGlobal
@@ -24,7 +23,7 @@ use Rattle.c_types.specs.Programs.{File, FaultyBody, FaultyDeclaration, FaultyDe
 use Rattle.c_types.specs.Shape.{function_of, functions_of}
 use Rattle.c_types.specs.Typed.{TypedFunction}
 use Rattle.c_types.proofs.Firsts.{Both, both-none, both-stop, ok-at}
-use Rattle.c_types.proofs.Joined.{Answered, Same, same-none, same-stop}
+use Rattle.c_types.proofs.Joined.{Answered, same-stop}
 
 -- a function under the names that its own name is among
 pub function-typed : (text : List ℕ) (f : File) (names : Meaning) (r : Option Kind) (x : Identifier) (ps : List Parameter) (body : Tree.Items) (t : TypedFunction) → (after text f (Tree.function r x ps body)).names ≡ names

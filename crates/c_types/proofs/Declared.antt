@@ -1,5 +1,5 @@
 -- Names at file scope: the one fault that each has.
-use Rattle.std.proofs.Common.{◌≡◌, ◌≢◌, ◌<◌, ◌≤◌, ℕ, List, Option, Some, None, inl, inr, refl, sym, ap, ◌∙◌, arith, nat_eq, Bool, true, false}
+use Rattle.std.proofs.Common.{◌≡◌, ◌≢◌, ◌≤◌, ℕ, List, Option, Some, None, inl, inr, refl, sym, ap, ◌∙◌, arith, nat_eq, Bool, true, false}
 use Rattle.std.proofs.lemmas.Option.{none-some}
 use Rattle.std.specs.Prelude.{is_some}
 use Rattle.c_tokens.specs.declared.token.Identifier.{Identifier}
@@ -9,9 +9,9 @@ use Rattle.c_types.specs.declared.fault.FaultKind.TheVariants.{Redeclared, Kind 
 use Rattle.c_types.specs.declared.fault.Stop.{Stop}
 use Rattle.c_types.specs.declared.fault.Stop.TheVariants.{Fault}
 use Rattle.c_types.specs.Faults.{number_of, IsFirstFault, HasNone, StopsAtFirst}
-use Rattle.c_types.specs.Files.{Exceeds, IsOtherKind, is_array_of_nothing}
+use Rattle.c_types.specs.Files.{Exceeds, IsOtherKind}
 use Rattle.c_types.specs.Names.{spelled}
-use Rattle.c_types.specs.Programs.{File, FaultyName, declared_again, other_main, array_of_nothing, too_many_words, too_many_functions, name_of, words_of}
+use Rattle.c_types.specs.Programs.{File, FaultyName, declared_again, other_main, array_of_nothing, too_many_words, too_many_functions, name_of}
 
 zero : (n : ℕ) → nat_eq n 0 ≡ true → n ≡ 0
 zero n h = grind (arith, h)

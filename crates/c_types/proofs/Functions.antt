@@ -1,14 +1,14 @@
 -- The scopes and the faults of a function.
-use Rattle.std.proofs.Common.{◌≡◌, ◌≢◌, ℕ, List, [], ◌∷◌, refl, sym, ap, ◌∙◌, subst, Result, Ok, Err, IfOk, IfErr, Option, Bool, false}
+use Rattle.std.proofs.Common.{◌≡◌, ℕ, List, [], ◌∷◌, refl, sym, ap, ◌∙◌, subst, Result, IfOk, IfErr, Option, Bool, false}
 use Rattle.std.specs.Prelude.{is_some}
 use Rattle.c_front.specs.declared.tree.Parameter.{Parameter}
 use Rattle.c_front.specs.Tree.{Item, Items, declare, statement, no_items, more_items, function}
 use Rattle.c_tokens.specs.declared.token.Identifier.{Identifier}
 use Rattle.c_tokens.specs.declared.token.Kind.{Kind}
 use Rattle.c_types.specs.declared.fault.Stop.{Stop}
-use Rattle.c_types.specs.Faults.{Faults, HasNone, StopsAtFirst, StopsBoth}
+use Rattle.c_types.specs.Faults.{HasNone, StopsAtFirst, StopsBoth}
 use Rattle.c_types.specs.Files.{file_scopes}
-use Rattle.c_types.specs.Names.{Meaning, Scopes, left, without_first, without_locals, entered, declared, behind, behind_item, behind_items}
+use Rattle.c_types.specs.Names.{Meaning, Scopes, left, without_first, without_locals, entered, declared, behind_item, behind_items}
 use Rattle.c_types.specs.Programs.{FaultyParameters, FaultyBody, behind_parameters, scopes_at}
 use Rattle.c_types.specs.Statements.{FaultyItems}
 use Rattle.c_types.proofs.Firsts.{Both, both-stop}

@@ -16,3 +16,4 @@ pub mod Joins
 pub mod OnceStatements
 pub mod Declarations
 pub mod Main
+pub mod OncePrograms

@@ -1,11 +1,8 @@
 -- The meaning of `main` in a program without faults.
-use Rattle.std.proofs.Common.{◌≡◌, ◌≢◌, ◌⊎◌, ◌≤◌, ℕ, List, [], ◌∷◌, length, Bool, true, false, Option, Some, None, inl, inr, refl, sym, subst, ap, ◌∙◌, arith, Result, Ok, IfOk, IfErr}
+use Rattle.std.proofs.Common.{◌≡◌, ◌≢◌, ◌⊎◌, ℕ, List, [], ◌∷◌, length, Bool, true, false, Option, Some, None, inl, inr, refl, sym, subst, ap, ◌∙◌, arith, Result, Ok, IfOk, IfErr}
 use Rattle.std.specs.Prelude.{bytes_eq, if◌then◌else◌}
 use Rattle.std.proofs.lemmas.Option.{none-some}
-use Rattle.c_front.specs.declared.tree.Parameter.{Parameter}
 use Rattle.c_front.specs.Tree as Tree
-use Rattle.c_tokens.specs.declared.token.Identifier.{Identifier}
-use Rattle.c_tokens.specs.declared.token.Kind.{Kind}
 use Rattle.c_tokens.specs.declared.token.Kind.TheVariants.{SignedInt, UnsignedInt}
 use Rattle.c_types.specs.declared.fault.FaultKind.TheVariants.{NoMain}
 use Rattle.c_types.specs.declared.names.Named.{Named}
@@ -15,7 +12,7 @@ use Rattle.c_types.specs.declared.program.Parts.{Parts}
 use Rattle.c_types.specs.Faults.{Faults, HasNone, IsFirstFault, IsNoLater, StopsAtFirst, StopsBoth}
 use Rattle.c_types.specs.Files.{AreTyped}
 use Rattle.c_types.specs.Shape.{functions_of}
-use Rattle.c_types.specs.Names.{Meaning, spelled, with_name}
+use Rattle.c_types.specs.Names.{Meaning, spelled}
 use Rattle.c_types.specs.Programs.{File, FaultyDeclarations, FaultyName, FaultyProgram, IsNotMain, LacksMain, TypesProgram, after, after_all, main_name, name_of, named_by, no_declarations, no_main, other_main}
 use Rattle.c_types.proofs.Firsts.{Both, both-stop, ok-at}
 

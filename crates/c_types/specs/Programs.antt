@@ -2,7 +2,7 @@
 use Rattle.std.specs.Prelude.{◌≡◌, ◌≢◌, ◌⊎◌, ◌<◌, ◌-◌, ◌%◌, ◌^◌, ℕ, suc, List, [], ◌∷◌, Option, Some, None, Bool, true, false, length, is_some, nat_lt, if◌then◌else◌, bytes_eq}
 use Rattle.c_tokens.specs.declared.token.Identifier.{Identifier}
 use Rattle.c_tokens.specs.declared.token.Kind.{Kind}
-use Rattle.c_tokens.specs.declared.token.Kind.TheVariants.{SignedInt, UnsignedInt}
+use Rattle.c_tokens.specs.declared.token.Kind.TheVariants.{SignedInt}
 use Rattle.c_tokens.specs.declared.token.Literal.{Literal}
 use Rattle.c_front.specs.declared.tree.Initial.{Initial}
 use Rattle.c_front.specs.declared.tree.Parameter.{Parameter}
@@ -13,7 +13,7 @@ use Rattle.c_types.specs.declared.names.Named.{Named}
 use Rattle.c_types.specs.declared.names.Named.TheVariants.{Global, Array, Function, Out}
 use Rattle.c_types.specs.declared.declaration.Tally.{Tally}
 use Rattle.c_types.specs.declared.typed.Global as Typed
-use Rattle.c_types.specs.Names.{Meaning, Scopes, spelled, nothing, with_name, entered, declared, behind_items}
+use Rattle.c_types.specs.Names.{Meaning, Scopes, spelled, nothing, with_name, declared, behind_items}
 use Rattle.c_types.specs.Statements.{FaultyDeclarator, FaultyItems}
 use Rattle.c_types.specs.Typed.{TypedFunction, TypedStatements, TypedProgram, no_statements, more_statements, return_with, constant}
 use Rattle.c_types.specs.Types.{TypesItems}

@@ -108,7 +108,7 @@ impl<'a> Frame<'a> {
     ) -> Result<(), AllocError>
         ensures { OnOk result (scopes_of self.new ≡ declared program.now.text.items (scopes_of self.old) kind name) }
     {
-        let number = self.locals.len();
+        let number = self.locals();
         self.declare(program, name, Named::Local(number, kind))?;
         self.locals.push(kind)?;
         Ok(())

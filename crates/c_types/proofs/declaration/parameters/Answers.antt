@@ -1,4 +1,4 @@
-use Rattle.std.proofs.Common.{◌∙◌, sym, ap, subst, take, get_or}
+use Rattle.std.proofs.Common.{◌∙◌, sym, ap, take, get_or}
 use Rattle.std.proofs.lemmas.List.{take_all, take_more}
 use Rattle.c_front.specs.declared.tree.Parameter.{Parameter}
 use Rattle.c_tokens.specs.declared.token.Kind.TheVariants.{SignedInt}

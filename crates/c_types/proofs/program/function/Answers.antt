@@ -1,4 +1,4 @@
-use Rattle.std.proofs.Common.{rules, sym, ap, subst, Result}
+use Rattle.std.proofs.Common.{rules, sym, subst, Result}
 use Rattle.c_front.specs.Shape.{items_of}
 use Rattle.c_front.specs.Tree.{function}
 use Rattle.c_types.specs.declared.fault.Stop.{Stop}

@@ -1,8 +1,8 @@
-use Rattle.std.proofs.Common.{◌≡◌, ◌∙◌, sym, ap, List, ℕ, map, Bor}
+use Rattle.std.proofs.Common.{ap, map}
 use Rattle.std.specs.Prelude.{reverse, length}
 use mathlib.Core.Path.{fun_ext}
 use Rattle.c_types.specs.Held.{held}
-use Rattle.c_types.specs.Names.{Meaning, Scopes, with_name}
+use Rattle.c_types.specs.Names.{Meaning, Scopes}
 use Rattle.c_types.proofs.scopes.Frame.declare_spelling.Goals as goal
 
 pub returns : goal.returns
