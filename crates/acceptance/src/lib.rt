@@ -14,3 +14,9 @@ mod check_verdicts;
 mod instruction_texts;
 #[cfg(test)]
 mod instruction_words;
+#[cfg(test)]
+mod interp_examples;
+#[cfg(test)]
+mod interp_program;
+#[cfg(test)]
+mod one_text;

@@ -1,3 +1,4 @@
 pub mod Commands
 pub mod Checks
+pub mod Interps
 pub mod Texts

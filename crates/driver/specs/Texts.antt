@@ -5,6 +5,16 @@ use Rattle.mblock.specs.declared.unclean.Unclean.{Unclean}
 use Rattle.mblock.specs.declared.unclean.Unclean.TheVariants.{U1, U2, U3, U4}
 use Rattle.block_validator.specs.declared.place.Place.{Place}
 use Rattle.block_validator.specs.declared.place.Place.TheVariants as places
+use Rattle.words.specs.declared.ran.End.{End}
+use Rattle.words.specs.declared.ran.End.TheVariants.{Done, Wrong, More}
+use Rattle.c_front.specs.declared.read.FaultKind.{FaultKind}
+use Rattle.c_front.specs.declared.read.FaultKind.TheVariants as front
+use Rattle.c_front.specs.Texts.{number_of}
+use Rattle.c_types.specs.declared.fault.FaultKind.{FaultKind as TypeFaultKind}
+use Rattle.c_types.specs.declared.fault.FaultKind.TheVariants as types
+use Rattle.c_types.specs.Faults.{number_of as type_number_of}
+use Rattle.driver.specs.declared.interpreting.InterpFault.{InterpFault}
+use Rattle.driver.specs.declared.interpreting.InterpFault.TheVariants as interp_faults
 use Rattle.driver.specs.declared.checking.CheckAnswer.{CheckAnswer}
 use Rattle.driver.specs.declared.checking.CheckAnswer.TheVariants as answers
 use Rattle.driver.specs.declared.checking.CheckFault.{CheckFault}
@@ -44,8 +54,47 @@ check_fault_text check_faults.Size = codes "fault 5 Size"
 check_fault_text (check_faults.Line n) = codes "fault 70 Line " ++ decimal n
 check_fault_text check_faults.NoMemory = codes "fault 30 NoMemory"
 
+-- the names of faults
+abbrev pub front_name : FaultKind → List ℕ
+front_name front.Byte = codes "Byte"
+front_name front.Token = codes "Token"
+front_name front.Syntax = codes "Syntax"
+front_name front.Constant = codes "Constant"
+front_name front.Size = codes "Size"
+front_name front.NoMemory = codes "NoMemory"
+
+abbrev pub type_name : TypeFaultKind → List ℕ
+type_name types.Undeclared = codes "Undeclared"
+type_name types.Redeclared = codes "Redeclared"
+type_name types.Kind = codes "Kind"
+type_name types.Count = codes "Count"
+type_name types.NoMain = codes "NoMain"
+type_name types.Outside = codes "Outside"
+type_name types.Limit = codes "Limit"
+type_name types.NoMemory = codes "NoMemory"
+
+abbrev pub placed_fault_text : (number : ℕ) → (name : List ℕ) → (at : ℕ) → List ℕ
+placed_fault_text number name at = codes "fault " ++ decimal number ++ codes " " ++ name ++ codes " at " ++ decimal at
+
+abbrev pub interp_fault_text : InterpFault → List ℕ
+interp_fault_text (interp_faults.Front f) = placed_fault_text (number_of f.kind) (front_name f.kind) f.at
+interp_fault_text (interp_faults.Types f) = placed_fault_text (type_number_of f.kind) (type_name f.kind) f.at
+interp_fault_text interp_faults.NoMemory = codes "fault 30 NoMemory"
+
+-- the last line of a run, and its status
+abbrev pub end_text : End → List ℕ
+end_text (Done w) = codes "done " ++ decimal w
+end_text Wrong = codes "wrong"
+end_text More = codes "more"
+
+abbrev pub end_status : End → ℕ
+end_status (Done w) = 0
+end_status Wrong = 3
+end_status More = 4
+
 abbrev pub fault_text : Fault → List ℕ
 fault_text (faults.Check fault) = check_fault_text fault
+fault_text (faults.Interp fault) = interp_fault_text fault
 fault_text faults.CannotRead = codes "fault 60 CannotRead"
 fault_text faults.CannotWrite = codes "fault 61 CannotWrite"
 fault_text faults.NoMemory = codes "fault 30 NoMemory"

@@ -9,11 +9,14 @@
 
 mod asked;
 mod checking;
+mod interpreting;
+mod place;
 mod printed;
 mod program;
 mod reading;
 
 pub use asked::Words;
 pub use checking::{CheckAnswer, CheckFault, check};
+pub use interpreting::{InterpFault, interp};
 pub use program::{FileFault, Files, mcc};
 pub use reading::words;

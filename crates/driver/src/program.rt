@@ -1,15 +1,19 @@
 ghost use Rattle.std.specs.Prelude.{◌≡◌, ◌≤◌, IfOk, Some};
-ghost use Rattle.driver.specs.Texts.{exit_status, fault_text};
+ghost use Rattle.driver.specs.Texts.{end_status, exit_status, fault_text};
 ghost use Rattle.driver.specs.declared.checking.CheckAnswer.{CheckAnswer};
 
 use crate::asked::Words;
 use crate::checking::{CheckAnswer, CheckFault, check};
+use crate::interpreting::{InterpFault, interp};
+use crate::place::place_lines;
+use crate::printed::EndLine;
 use crate::reading::words;
 use clap::Error;
 use clap::error::ErrorKind;
 use std::alloc::Global;
 use std::fmt;
 use std::io::{self, Write};
+use words::{End, Ran};
 
 /// Why a file could not be read or written.
 #[derive(Clone, Copy, Debug, PartialEq, Eq)]
@@ -33,6 +37,7 @@ pub trait Files {
 #[derive(Clone, Copy, Debug, PartialEq, Eq)]
 enum Fault {
     Check(CheckFault),
+    Interp(InterpFault),
     CannotRead,
     CannotWrite,
     NoMemory,
@@ -44,6 +49,7 @@ impl fmt::Display for Fault {
     fn fmt<W: fmt::Write>(&self, f: &mut fmt::Formatter<W>) -> fmt::Result {
         match self {
             Fault::Check(fault) => write!(f, "{fault}"),
+            Fault::Interp(fault) => write!(f, "{fault}"),
             Fault::CannotRead => f.write_str("fault 60 CannotRead"),
             Fault::CannotWrite => f.write_str("fault 61 CannotWrite"),
             Fault::NoMemory => f.write_str("fault 30 NoMemory"),
@@ -73,6 +79,14 @@ fn status_of(answer: &CheckAnswer) -> u8
     }
 }
 
+fn read_file<F: Files>(alloc: Global, name: &str, files: &mut F) -> Result<Vec<u8>, Fault> {
+    match files.read(alloc, name) {
+        Ok(text) => Ok(text),
+        Err(FileFault::Failed) => Err(Fault::CannotRead),
+        Err(FileFault::NoMemory) => Err(Fault::NoMemory),
+    }
+}
+
 fn check_file<F: Files, W: Write>(
     alloc: Global,
     file: &str,
@@ -81,15 +95,79 @@ fn check_file<F: Files, W: Write>(
 ) -> Result<u8, Fault>
     ensures { IfOk result (λ s. (a : CheckAnswer) × (s ≡ exit_status a)) }
 {
-    let text = match files.read(alloc, file) {
-        Ok(text) => text,
-        Err(FileFault::Failed) => return Err(Fault::CannotRead),
-        Err(FileFault::NoMemory) => return Err(Fault::NoMemory),
-    };
+    let text = read_file(alloc, file, files)?;
     let answer = check(alloc, text.as_slice()).map_err(Fault::Check)?;
     match print(out, &answer) {
         Ok(()) => Ok(status_of(&answer)),
         Err(_) => Err(Fault::CannotWrite),
+    }
+}
+
+// Each word of output in unsigned decimal, and how the run ended, each on a line.
+fn print_run<W: Write>(out: &mut W, ran: &Ran) -> io::Result<()> {
+    for word in ran.output.as_slice() {
+        writeln!(out, "{word}")?;
+    }
+    let end = EndLine(ran.end);
+    writeln!(out, "{end}")?;
+    out.flush()
+}
+
+fn end_status(end: End) -> u8
+    ensures { result ≡ end_status end }
+{
+    match end {
+        End::Done(_) => 0,
+        End::Wrong => 3,
+        End::More => 4,
+    }
+}
+
+/// The fault's line, and then the line of the text with a mark under its place.
+fn tell_place<E: Write>(alloc: Global, err: &mut E, text: &[u8], fault: InterpFault) -> u8
+    ensures { result ≡ 1 }
+{
+    let status = tell(err, Fault::Interp(fault));
+    let at = match fault {
+        InterpFault::Front(fault) => fault.at,
+        InterpFault::Types(fault) => fault.at,
+        InterpFault::NoMemory => text.len(),
+    };
+    if at < text.len() {
+        if let Ok(lines) = place_lines(alloc, text, at) {
+            let _ = err.write_all(lines.as_slice());
+        }
+    }
+    status
+}
+
+/// How far a program runs.
+#[derive(Clone, Copy, Debug)]
+struct Bounds {
+    depth: u32,
+    steps: u64,
+}
+
+fn interp_file<F: Files, W: Write, E: Write>(
+    alloc: Global,
+    source: &str,
+    bounds: Bounds,
+    files: &mut F,
+    out: &mut W,
+    err: &mut E,
+) -> u8
+    ensures { result ≤ 4 }
+{
+    let text = match read_file(alloc, source, files) {
+        Ok(text) => text,
+        Err(fault) => return tell(err, fault),
+    };
+    match interp(alloc, text.as_slice(), bounds.depth, bounds.steps) {
+        Ok(ran) => match print_run(out, &ran) {
+            Ok(()) => end_status(ran.end),
+            Err(_) => tell(err, Fault::CannotWrite),
+        },
+        Err(fault) => tell_place(alloc, err, text.as_slice(), fault),
     }
 }
 
@@ -112,8 +190,8 @@ fn tell_words<W: Write, E: Write>(error: &Error, out: &mut W, err: &mut E) -> u8
 }
 
 /// The whole program over its words (the first is its name), its files and two writers. The answer is
-/// the exit status: 0 for `same` and for help, 1 for a fault, 2 for wrong words, 3 for any other
-/// verdict.
+/// the exit status: 0 for `same`, `done` and help, 1 for a fault, 2 for wrong words, 4 for `more`, 3
+/// for any other answer.
 pub fn mcc<F: Files, W: Write, E: Write>(
     alloc: Global,
     args: &[&str],
@@ -121,13 +199,20 @@ pub fn mcc<F: Files, W: Write, E: Write>(
     out: &mut W,
     err: &mut E,
 ) -> u8
-    ensures { result ≤ 3 }
+    ensures { result ≤ 4 }
 {
     match words(alloc, args) {
         Ok(Words::Check { file }) => match check_file(alloc, file, files, out) {
             Ok(status) => status,
             Err(fault) => tell(err, fault),
         },
+        Ok(
+            Words::Interp {
+                source,
+                depth,
+                steps,
+            },
+        ) => interp_file(alloc, source, Bounds { depth, steps }, files, out, err),
         Err(error) => tell_words(&error, out, err),
     }
 }

@@ -1,0 +1,22 @@
+-- The run of a program's text, or why it has none.
+use Rattle.std.specs.Prelude.{◌≡◌, ℕ, List}
+use Rattle.words.specs.Runs.{Outcome}
+use Rattle.c_front.specs.Tree.{Declaration}
+use Rattle.c_front.specs.Texts.{SpellsText, IsTextFault}
+use Rattle.c_types.specs.Typed.{TypedProgram}
+use Rattle.c_types.specs.Faults.{IsCheckFault}
+use Rattle.c_types.specs.Programs.{FaultyProgram, TypesProgram}
+use Rattle.c_run.specs.Meaning.{source_run}
+use Rattle.driver.specs.declared.interpreting.InterpFault.{InterpFault}
+use Rattle.driver.specs.declared.interpreting.InterpFault.TheVariants as faults
+
+-- what the program that a text spells comes to
+abbrev pub IsRun : List ℕ → (depth steps : ℕ) → Outcome → Type 0
+IsRun text depth steps o =
+    (all : List Declaration) × (p : TypedProgram) × SpellsText text all × TypesProgram text all p × (o ≡ source_run p depth steps)
+
+-- the text's own fault, or one of the program that it spells
+abbrev pub IsInterpFault : List ℕ → InterpFault → Type 0
+IsInterpFault text (faults.Front f) = IsTextFault text f.kind f.at
+IsInterpFault text (faults.Types f) = (all : List Declaration) × SpellsText text all × IsCheckFault text (FaultyProgram text all) f
+IsInterpFault text faults.NoMemory = Unit {0}
