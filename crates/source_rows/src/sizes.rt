@@ -28,7 +28,10 @@ fn functions_up_to_256(rt: HostRuntime) -> Result<(), Fail> {
     let most = numbered(alloc, "", "void f", 255, "(void){}", "int main(void){}")?;
     assert_eq!(rt; fault(alloc, most.as_bytes()), (0, 0));
     let more = numbered(alloc, "", "void f", 256, "(void){}", "int main(void){}")?;
-    assert_eq!(rt; fault(alloc, more.as_bytes()), (20, more.len().saturating_sub(12)));
+    assert_eq!(rt;
+        fault(alloc, more.as_bytes()),
+        (20, more.len().saturating_sub(12))
+    );
     Ok(())
 }
 
@@ -38,7 +41,10 @@ fn locals_up_to_128(rt: HostRuntime) -> Result<(), Fail> {
     let most = numbered(alloc, "int main(void){", "int v", 128, ";", "}")?;
     assert_eq!(rt; fault(alloc, most.as_bytes()), (0, 0));
     let more = numbered(alloc, "int main(void){", "{int v", 129, ";}", "}")?;
-    assert_eq!(rt; fault(alloc, more.as_bytes()), (20, more.len().saturating_sub(7)));
+    assert_eq!(rt;
+        fault(alloc, more.as_bytes()),
+        (20, more.len().saturating_sub(7))
+    );
     Ok(())
 }
 
