@@ -1,10 +1,17 @@
-//! Names and kinds of a C program (C99 6.2.1, 6.3.1.8, 6.5): the typed syntax, and the faults of declarations and uses.
+//! Names and kinds of a C program (C99 6.2.1, 6.3.1.8, 6.5 to 6.9): scopes, the faults of declarations and uses, and the
+//! typed program.
 //!
-//! For the layer above there are two contracts so far: `expression::expression` types an expression under the names
-//! in sight, or tells its first fault, and `call::callee` does so for the name of a call. `specs/Uses.antt` says which
-//! uses of a name are faults, `specs/Faults.antt` which fault is the first, `specs/Typed.antt` has the typed trees and
-//! `specs/Types.antt` ties them to the trees that were read; `specs/Shape.antt` is the typed tree that a Rust value
-//! stands for, `specs/Names.antt` what a name means and `specs/Calls.antt` what a call goes to.
+//! For the layer above there is one contract: `program::check` is Ok exactly where a program has no fault, memory aside,
+//! and then gives its typed program, of which there is one at most (`program::one_typing_of_programs`). Else it tells
+//! the fault with the least offset, at one offset that with the least number.
+//!
+//! Definitions: `specs/Programs.antt` has the faults and the typing of declarations at file scope, `specs/Statements.antt`
+//! and `specs/Uses.antt` the faults of statements, expressions and names, `specs/Types.antt` the typing of statements and
+//! expressions, `specs/Names.antt` the scopes, `specs/Typed.antt` the typed trees, `specs/Faults.antt` which fault is the
+//! first. `specs/Shape.antt` and `specs/Held.antt` say which tree and which scopes a Rust value stands for;
+//! `specs/Calls.antt` and `specs/Files.antt` are words of private functions.
+//!
+//! `statement` and `expression` call themselves on the parts of a tree, so the stack grows with its depth.
 #![tactic(auto)]
 
 pub mod call;
