@@ -1,13 +1,19 @@
-//! The program `mcc`: `driver::mcc` over the real files and streams.
+//! The program `mcc`: `driver::mcc` over the real files and streams, on a thread whose stack holds the
+//! deepest text that the sizes of `c_front` allow.
 #![tactic(auto)]
 
 use driver::{FileFault, Files, mcc};
 use std::alloc::Global;
 use std::env::Env;
-use std::io::{Read, Write};
+use std::io::{BufWriter, Read, Write};
 use std::process::ExitCode;
 use std::rt::Files as HostFiles;
-use std::{env, fs, io};
+use std::sync::Wait;
+use std::thread::{Builder, Threads};
+use std::{env, fs, io, thread};
+
+/// The address space that the working thread's stack takes; memory is had as the stack grows.
+const STACK: usize = 0x4000_0000;
 
 /// The host's files. `/dev/stdin` is read from standard input itself, since a pipe can't always be
 /// opened by that name.
@@ -56,6 +62,35 @@ fn tell<E: Write>(err: &mut E, e: &io::Error) -> ExitCode {
     ExitCode::from(2)
 }
 
+fn work<R: HostFiles + AllocGlobal + Input, W: Write + Drop, E: Write + Drop>(
+    rt: &R,
+    words: &[&str],
+    out: W,
+    mut err: E,
+) -> u8 {
+    let mut disk = Disk { rt };
+    match BufWriter::new(rt.alloc(), out) {
+        Ok(mut out) => mcc(rt.alloc(), words, &mut disk, &mut out, &mut err),
+        Err(_) => {
+            let _ = err.write_all(b"fault 30 NoMemory\n");
+            1
+        }
+    }
+}
+
+/// The work on a thread with a large stack; None where no such thread can be had.
+fn work_apart(threads: &(impl Threads + Wait), rt: &HostRuntime, words: &[&str]) -> Option<u8> {
+    thread::scope(thread::scope_env(), threads, |scope| {
+        let started = Builder::new()
+            .stack_size(STACK)
+            .spawn_scoped(scope, move || work(rt, words, rt.stdout(), rt.stderr()));
+        match started {
+            Ok(worker) => Some(worker.join(threads)),
+            Err(_) => None,
+        }
+    })
+}
+
 fn main(rt: HostRuntime) -> ExitCode {
     let mut err = rt.stderr();
     let owned = match owned_words(&rt) {
@@ -70,7 +105,9 @@ fn main(rt: HostRuntime) -> ExitCode {
         Ok(words) => words,
         Err(e) => return tell(&mut err, &io::Error::from(e)),
     };
-    let mut disk = Disk { rt: &rt };
-    let mut out = rt.stdout();
-    ExitCode::from(mcc(rt.alloc(), words.as_slice(), &mut disk, &mut out, &mut err))
+    let words = words.as_slice();
+    match work_apart(&rt, &rt, words) {
+        Some(status) => ExitCode::from(status),
+        None => ExitCode::from(work(&rt, words, rt.stdout(), rt.stderr())),
+    }
 }
