@@ -44,7 +44,10 @@ fn hire(
 {
     let pass = passes.pop()?;
     let worker = Worker::new(alloc, table, pass, terms, workers.len() % 2 == 1)?;
-    workers.push(worker).ok()
+    if workers.push(worker).is_err() {
+        return None;
+    }
+    Some(())
 }
 
 /// Workers for the passes, which have interned their leaves.
