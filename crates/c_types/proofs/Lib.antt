@@ -17,3 +17,5 @@ pub mod OnceStatements
 pub mod Declarations
 pub mod Main
 pub mod OncePrograms
+pub mod FitsStatements
+pub mod FitsPrograms

@@ -9,3 +9,4 @@ pub mod Types
 pub mod Held
 pub mod Programs
 pub mod Files
+pub mod WellFormed

@@ -9,6 +9,7 @@ ghost use Rattle.c_types.specs.Held.{scopes_of};
 ghost use Rattle.c_types.specs.Programs.{File, FaultyBody, FaultyDeclaration, FaultyDeclarations, FaultyProgram, LacksMain, TypesDeclaration, TypesProgram, after, after_all, closing, no_declarations, with_last};
 ghost use Rattle.c_types.specs.Shape.{function_of, program_of, statements_of};
 ghost use Rattle.c_types.specs.Typed.{TypedProgram};
+ghost use Rattle.c_types.specs.WellFormed.{EachTypedProgramIsWellFormed};
 
 use crate::declaration::{Tally, declared_name, first, is_main, name_fault, parameters};
 use crate::fault::{FaultKind, Stop, TypeFault, both};
@@ -252,4 +253,9 @@ pub fn check(alloc: Global, program: Program) -> Result<Typed, TypeFault>
 /// A program has at most one typed program.
 pub fn one_typing_of_programs()
     ensures { (text : List ℕ) (all : List DeclarationTree) (p q : TypedProgram) → TypesProgram text all p → TypesProgram text all q → p ≡ q }
+{}
+
+/// Each typed program is well formed. A law: it computes nothing.
+pub fn each_typed_program_is_well_formed()
+    ensures { EachTypedProgramIsWellFormed }
 {}

@@ -1,0 +1,260 @@
+-- Typed programs without faults are well formed.
+use Rattle.std.proofs.Common.{◌≡◌, ◌≢◌, ◌<◌, ◌≤◌, ◌+◌, ◌-◌, ℕ, zero, suc, List, [], ◌∷◌, ◌++◌, Option, Some, None, Bool, true, false, length, nat_lt, inl, inr, refl, sym, subst, ap, ◌∙◌, arith, if◌then◌else◌}
+use Rattle.std.specs.Prelude.{is_some, slice_get, bytes_eq, All}
+use Rattle.std.proofs.lemmas.List.{length-append}
+use Rattle.std.proofs.lemmas.List.Elements.{All-nil, All-cons, All-same}
+use Rattle.std.proofs.lemmas.Option.{same_Some, none-some}
+use Rattle.c_tokens.specs.declared.token.Identifier.{Identifier}
+use Rattle.c_tokens.specs.declared.token.Kind.{Kind}
+use Rattle.c_front.specs.declared.tree.Parameter.{Parameter}
+use Rattle.c_front.specs.Tree as Tree
+use Rattle.c_types.specs.declared.fault.FaultKind.TheVariants.{Kind as KindFault, Count, Limit}
+use Rattle.c_types.specs.declared.names.Named.{Named}
+use Rattle.c_types.specs.declared.names.Named.TheVariants.{Local, Global, Array, Function, Out}
+use Rattle.c_types.specs.declared.typed.Global as Typed
+use Rattle.c_types.specs.Faults.{HasNone}
+use Rattle.c_types.specs.Names.{Meaning, Scopes, hides, named_in, nothing, spelled, with_name, declared, behind_items, declared_in_all}
+use Rattle.c_types.specs.Programs.{File, no_declarations, out_name, main_name, name_of, named_by, room_after, after, after_all, IsNotMain, array_of_nothing, other_main, too_many_words, too_many_functions, FaultyName, FaultyParameter, fifth_parameter, FaultyParameters, behind_parameters, scopes_at, FaultyBody, FaultyDeclaration, FaultyDeclarations, with_last, closing, TypedDeclaration, a_global, a_function, TypesDeclaration, variable_typed, array_typed, function_typed, TypesDeclarations, all_declared, more_declared, functions_in, globals_in}
+use Rattle.c_types.specs.Typed.{TypedStatements, TypedFunction, TypedProgram, no_statements, more_statements}
+use Rattle.c_types.specs.Types.{TypesItems}
+use Rattle.c_types.specs.WellFormed.{FitsStatements, FitsFunction, words_in, IsWellFormed, IsTyped}
+use Rattle.c_types.proofs.FitsStatements.{IsThere, AreThere, declared-there, fits-items, all-locals-fit, behind-locals}
+
+-- the parameters
+
+parameters-there : (p : TypedProgram) (n : ℕ) (text : List ℕ) (sc : Scopes) (ps : List Parameter) → AreThere p n (named_in sc) → sc.locals + length ps ≤ n → AreThere p n (named_in (behind_parameters text sc ps))
+parameters-there p n text sc [] h room = h
+parameters-there p n text sc (q ∷ rest) h room =
+    parameters-there p n text (declared text sc q.kind q.name) rest (declared-there p n text sc q.kind q.name h (omega (arith, room))) (omega (arith, room))
+
+behind-parameters : (text : List ℕ) (sc : Scopes) (ps : List Parameter) → (behind_parameters text sc ps).locals ≡ sc.locals + length ps
+behind-parameters text sc [] = omega arith
+behind-parameters text sc (q ∷ rest) = let h = behind-parameters text (declared text sc q.kind q.name) rest in omega (arith, h)
+
+parameters-fit : (text : List ℕ) (sc : Scopes) (ps : List Parameter) → sc.locals ≤ 4 → HasNone (FaultyParameters text sc ps) → sc.locals + length ps ≤ 4
+parameters-fit text sc [] few none = omega (arith, few)
+parameters-fit text sc (q ∷ rest) few none =
+    let other : sc.locals ≢ 4 = λ e. none Count q.name.at (inl (fifth_parameter e)) in
+    let more : suc sc.locals ≤ 4 = omega (arith, few, other) in
+    let h = parameters-fit text (declared text sc q.kind q.name) rest more (λ k at w. none k at (inr w)) in
+    omega (arith, h)
+
+-- the end of a body
+
+fits-last : (p : TypedProgram) (n : ℕ) (g l : Bool) (all last : TypedStatements) → FitsStatements p n g l all → FitsStatements p n g l last → FitsStatements p n g l (with_last all last)
+fits-last p n g l no_statements last h end = end
+fits-last p n g l (more_statements s rest) last h end = (h.0, fits-last p n g l rest last h.1 end)
+
+fits-closing : (p : TypedProgram) (n : ℕ) (is_main : Bool) (r : Option Kind) → (is_main ≡ true → is_some r ≡ true) → FitsStatements p n (is_some r) false (closing is_main r)
+fits-closing p n true r h = ((sym (h refl), tt), tt)
+fits-closing p n false None h = ((refl, tt), tt)
+fits-closing p n false (Some k) h = tt
+
+-- names at file scope are there in each function
+
+wider : (p : TypedProgram) (n : ℕ) (m : Named) → IsThere p 0 m → IsThere p n m
+wider p n (Local x k) h = absurd (omega (arith, h))
+wider p n (Global x k) h = h
+wider p n (Array x k) h = h
+wider p n (Function f m r) h = h
+wider p n Out h = h
+
+at-file : (p : TypedProgram) (n : ℕ) (m : Option Named) (i : Named) → ((j : Named) → m ≡ Some j → IsThere p 0 j) → hides m None ≡ Some i → IsThere p n i
+at-file p n (Some j) i h e = wider p n i (h i e)
+at-file p n None i h e = absurd (none-some _ e)
+
+gives-main : (r : Option Kind) (x : Identifier) (ps : List Parameter) (body : Tree.Items) → (IsNotMain (Tree.function r x ps body) → ⊥) → is_some r ≡ true
+gives-main (Some k) x ps body h = refl
+gives-main None x ps body h = absurd (h (inl (none-some _)))
+
+-- a function, under the names at file scope and its own
+fits-function : (p : TypedProgram) (text : List ℕ) (f : File) (r : Option Kind) (x : Identifier) (ps : List Parameter) (body : Tree.Items) (t : TypedStatements) → AreThere p 0 (after text f (Tree.function r x ps body)).names
+    → TypesItems text (behind_parameters text (scopes_at (after text f (Tree.function r x ps body)).names) ps) body t → HasNone (FaultyDeclaration text f (Tree.function r x ps body)) → FitsFunction p (record {
+      result = r;
+      parameters = length ps;
+      locals = (behind_items text (behind_parameters text (scopes_at (after text f (Tree.function r x ps body)).names) ps) body).locals;
+      body = with_last t (closing (bytes_eq (spelled text x) main_name) r);
+    })
+fits-function p text f r x ps body t there typed none =
+    let names = (after text f (Tree.function r x ps body)).names in
+    let outer = scopes_at names in
+    let inner = behind_parameters text outer ps in
+    let n = (behind_items text inner body).locals in
+    let faultless : HasNone (FaultyBody text names (Tree.function r x ps body)) = λ k at w. none k at (inr w) in
+    let first : inner.locals ≡ 0 + length ps = behind-parameters text outer ps in
+    let all : n ≡ inner.locals + declared_in_all body = behind-locals text inner body in
+    let four : 0 + length ps ≤ 4 = parameters-fit text outer ps (omega arith) (λ k at w. faultless k at (inl w)) in
+    let few : inner.locals + declared_in_all body ≤ 128 = all-locals-fit text (is_some r) false inner body (omega (arith, four, first)) (λ k at w. faultless k at (inr w)) in
+    let outside : AreThere p n (named_in outer) = λ w m e. at-file p n (names w) m (there w) e in
+    let inside : AreThere p n (named_in inner) = parameters-there p n text outer ps outside (omega (arith, first, all)) in
+    let main : bytes_eq (spelled text x) main_name ≡ true → is_some r ≡ true = λ e. gives-main r x ps body (λ w. none KindFault x.at (inl (other_main e w))) in
+    record {
+      parameters = omega (arith, four);
+      first = omega (arith, first, all);
+      locals = omega (arith, few, all);
+      body = fits-last p n (is_some r) false t (closing (bytes_eq (spelled text x) main_name) r) (fits-items p n (is_some r) false inside (omega (arith, all)) typed (λ k at w. faultless k at (inr w))) (fits-closing p n (bytes_eq (spelled text x) main_name) r main);
+    }
+
+-- the declarations, one after another
+
+at-seam : {X : Type 0} (xs : List X) (y : X) (ys : List X) → slice_get (xs ++ y ∷ ys) (length xs) ≡ Some y
+at-seam [] y ys = refl
+at-seam (x ∷ xs) y ys = at-seam xs y ys
+
+one-further : {X : Type 0} (xs : List X) (y : X) (ys : List X) → xs ++ y ∷ ys ≡ (xs ++ y ∷ []) ++ ys
+one-further [] y ys = refl
+one-further (x ∷ xs) y ys = ap (λ (l : List _). x ∷ l) (one-further xs y ys)
+
+one-longer : {X : Type 0} (xs : List X) (y : X) → length (xs ++ y ∷ []) ≡ suc (length xs)
+one-longer [] y = refl
+one-longer (x ∷ xs) y = ap suc (one-longer xs y)
+
+-- what stands before a declaration: as many functions and globals as were counted, and names of what is there
+record IsAt (p : TypedProgram) (f : File) (rest : List TypedDeclaration) : Type 0 where
+  functions : List TypedFunction
+  are_functions : p.functions ≡ functions ++ functions_in rest
+  functions_counted : length functions ≡ f.tally.functions
+  globals : List Typed.Global
+  are_globals : p.globals ≡ globals ++ globals_in rest
+  globals_counted : length globals ≡ f.tally.globals
+  names : AreThere p 0 f.names
+
+named : (p : TypedProgram) (names : Meaning) (x : List ℕ) (m : Named) → AreThere p 0 names → IsThere p 0 m → AreThere p 0 (with_name names x m)
+named p names x m h there w i e = by (bytes_eq x w) e
+  where
+    by : (b : Bool) → (if b then Some m else names w) ≡ Some i → IsThere p 0 i
+    by true e = subst (IsThere p 0) (same_Some _ _ e) there
+    by false e = h w i e
+
+global-here : {p : TypedProgram} {f : File} {g : Typed.Global} {rest : List TypedDeclaration} → IsAt p f (a_global g ∷ rest) → f.tally.globals < length p.globals
+global-here {p = p} {f = f} {g = g} {rest = rest} h =
+    let e : length p.globals ≡ length h.globals + length (g ∷ globals_in rest) = ap (λ (l : List Typed.Global). length l) h.are_globals ∙ length-append h.globals (g ∷ globals_in rest) in
+    let c = h.globals_counted in
+    omega (arith, e, c)
+
+function-here : {p : TypedProgram} {f : File} {g : TypedFunction} {rest : List TypedDeclaration} → IsAt p f (a_function g ∷ rest) → slice_get p.functions f.tally.functions ≡ Some g
+function-here {p = p} {f = f} {g = g} {rest = rest} h =
+    ap (λ (l : List TypedFunction). slice_get l f.tally.functions) h.are_functions ∙ ap (λ (i : ℕ). slice_get (h.functions ++ g ∷ functions_in rest) i) (sym h.functions_counted) ∙ at-seam h.functions g (functions_in rest)
+
+next : {p : TypedProgram} {text : List ℕ} {f : File} {d : Tree.Declaration} {t : TypedDeclaration} {rest : List TypedDeclaration} → IsAt p f (t ∷ rest) → TypesDeclaration text f d t → IsAt p (after text f d) rest
+next {p = p} {text = text} {f = f} {rest = rest} h (variable_typed {k = k} {x = x}) = record {
+  functions = h.functions;
+  are_functions = h.are_functions;
+  functions_counted = h.functions_counted;
+  globals = h.globals ++ _ ∷ [];
+  are_globals = h.are_globals ∙ one-further h.globals _ (globals_in rest);
+  globals_counted = one-longer h.globals _ ∙ ap suc h.globals_counted;
+  names = named p f.names (spelled text x) (Global f.tally.globals k) h.names (global-here h);
+}
+next {p = p} {text = text} {f = f} {rest = rest} h (array_typed {k = k} {x = x}) = record {
+  functions = h.functions;
+  are_functions = h.are_functions;
+  functions_counted = h.functions_counted;
+  globals = h.globals ++ _ ∷ [];
+  are_globals = h.are_globals ∙ one-further h.globals _ (globals_in rest);
+  globals_counted = one-longer h.globals _ ∙ ap suc h.globals_counted;
+  names = named p f.names (spelled text x) (Array f.tally.globals k) h.names (global-here h);
+}
+next {p = p} {text = text} {f = f} {rest = rest} h (function_typed {r = r} {x = x} {ps = ps} typed) = record {
+  functions = h.functions ++ _ ∷ [];
+  are_functions = h.are_functions ∙ one-further h.functions _ (functions_in rest);
+  functions_counted = one-longer h.functions _ ∙ ap suc h.functions_counted;
+  globals = h.globals;
+  are_globals = h.are_globals;
+  globals_counted = h.globals_counted;
+  names = named p f.names (spelled text x) (Function f.tally.functions (length ps) (is_some r)) h.names (_, (function-here h, (refl, refl)));
+}
+
+first-fits : (p : TypedProgram) {text : List ℕ} {f : File} {d : Tree.Declaration} {t : TypedDeclaration} (rest : List TypedDeclaration) → AreThere p 0 (after text f d).names → TypesDeclaration text f d t → HasNone (FaultyDeclaration text f d)
+    → All (FitsFunction p) (functions_in rest) → All (FitsFunction p) (functions_in (t ∷ rest))
+first-fits p rest there variable_typed none h = h
+first-fits p rest there array_typed none h = h
+first-fits p {text = text} {f = f} rest there (function_typed {r = r} {x = x} {ps = ps} {body = body} {typed = t} typed) none h =
+    All-cons (FitsFunction p) _ (functions_in rest) (fits-function p text f r x ps body t there typed none) h
+
+functions-fit : {p : TypedProgram} {text : List ℕ} {f : File} {ds : List Tree.Declaration} {ts : List TypedDeclaration} → IsAt p f ts → TypesDeclarations text f ds ts → HasNone (FaultyDeclarations text f ds) → All (FitsFunction p) (functions_in ts)
+functions-fit {p = p} h all_declared none = All-nil (FitsFunction p)
+functions-fit {p = p} h (more_declared {typed = ts} one more) none =
+    let after-it = next h one in
+    first-fits p ts after-it.names one (λ k at w. none k at (inl w)) (functions-fit after-it more (λ k at w. none k at (inr w)))
+
+names-there : {p : TypedProgram} {text : List ℕ} {f : File} {ds : List Tree.Declaration} {ts : List TypedDeclaration} → IsAt p f ts → TypesDeclarations text f ds ts → AreThere p 0 (after_all text f ds).names
+names-there h all_declared = h.names
+names-there h (more_declared one more) = names-there (next h one) more
+
+-- the sizes
+
+abbrev IsWord : Typed.Global → Type 0
+IsWord g = 1 ≤ g.length
+
+positive : (n : ℕ) → n ≢ 0 → 1 ≤ n
+positive n h = omega (arith, h)
+
+globals-fit : {text : List ℕ} {f : File} {ds : List Tree.Declaration} {ts : List TypedDeclaration} → TypesDeclarations text f ds ts → HasNone (FaultyDeclarations text f ds) → All IsWord (globals_in ts)
+globals-fit all_declared none = All-nil IsWord
+globals-fit (more_declared variable_typed more) none = All-cons IsWord _ _ (omega arith) (globals-fit more (λ k at w. none k at (inr w)))
+globals-fit (more_declared (array_typed {x = x} {n = n}) more) none =
+    All-cons IsWord _ _ (positive n.value (λ e. none KindFault x.at (inl (inl (array_of_nothing e))))) (globals-fit more (λ k at w. none k at (inr w)))
+globals-fit (more_declared (function_typed typed) more) none = globals-fit more (λ k at w. none k at (inr w))
+
+counted : {text : List ℕ} {f : File} {ds : List Tree.Declaration} {ts : List TypedDeclaration} → TypesDeclarations text f ds ts → HasNone (FaultyDeclarations text f ds) → f.tally.functions ≤ 256 → f.tally.functions + length (functions_in ts) ≤ 256
+counted all_declared none few = omega (arith, few)
+counted (more_declared variable_typed more) none few = counted more (λ k at w. none k at (inr w)) few
+counted (more_declared array_typed more) none few = counted more (λ k at w. none k at (inr w)) few
+counted {f = f} (more_declared (function_typed {x = x} typed) more) none few =
+    let other : f.tally.functions ≢ 256 = λ e. none Limit x.at (inl (inl (too_many_functions e))) in
+    let h = counted more (λ k at w. none k at (inr w)) (omega (arith, few, other)) in
+    omega (arith, h)
+
+room-left : (o : Option ℕ) (r n : ℕ) → o ≡ Some r → (r < n → ⊥) → room_after o n ≡ Some (r - n)
+room-left o r n e h = ap (λ (x : Option ℕ). room_after x n) e ∙ by (nat_lt r n) refl
+  where
+    by : (b : Bool) → nat_lt r n ≡ b → (if b then None else Some (r - n)) ≡ Some (r - n)
+    by true i = absurd (h (grind (arith, i)))
+    by false i = refl
+
+words-fit : {text : List ℕ} {f : File} {ds : List Tree.Declaration} {ts : List TypedDeclaration} (r : ℕ) → TypesDeclarations text f ds ts → HasNone (FaultyDeclarations text f ds) → f.tally.room ≡ Some r → words_in (globals_in ts) ≤ r
+words-fit r all_declared none e = omega arith
+words-fit {f = f} r (more_declared (variable_typed {k = k} {x = x} {i = i}) more) none e =
+    let fits : r < 1 → ⊥ = λ l. none Limit x.at (inl (inl (too_many_words e l))) in
+    let h = words-fit (r - 1) more (λ k at w. none k at (inr w)) (room-left f.tally.room r 1 e fits) in
+    omega (arith, h, fits)
+words-fit {f = f} r (more_declared (array_typed {k = k} {x = x} {n = n}) more) none e =
+    let fits : r < n.value → ⊥ = λ l. none Limit x.at (inl (inl (too_many_words e l))) in
+    let h = words-fit (r - n.value) more (λ k at w. none k at (inr w)) (room-left f.tally.room r n.value e fits) in
+    omega (arith, h, fits)
+words-fit r (more_declared (function_typed typed) more) none e = words-fit r more (λ k at w. none k at (inr w)) e
+
+-- the program
+
+at-first : {p : TypedProgram} {ts : List TypedDeclaration} → p.functions ≡ functions_in ts → p.globals ≡ globals_in ts → IsAt p no_declarations ts
+at-first {p = p} f g = record {
+  functions = [];
+  are_functions = f;
+  functions_counted = refl;
+  globals = [];
+  are_globals = g;
+  globals_counted = refl;
+  names = named p nothing out_name Out (λ w m e. absurd (none-some _ e)) tt;
+}
+
+pub each-typed-program-is-well-formed : (p : TypedProgram) → IsTyped p → IsWellFormed p
+each-typed-program-is-well-formed p h =
+    let ts = h.types.declarations in
+    let start : IsAt p no_declarations ts = at-first h.types.functions h.types.globals in
+    let none : HasNone (FaultyDeclarations h.text no_declarations h.declarations) = λ k at w. h.faultless k at (inl w) in
+    let main : IsThere p 0 (Function p.main 0 true) = names-there start h.types.typed main_name (Function p.main 0 true) h.types.entry in
+    let count = counted h.types.typed none (omega arith) in
+    let words = words-fit 262144 h.types.typed none refl in
+    let f = h.types.functions in
+    let g = h.types.globals in
+    record {
+      functions = All-same (FitsFunction p) p.functions (functions_in ts) f (functions-fit start h.types.typed none);
+      functions_fit = rw f (omega (arith, count));
+      globals = rw g (globals-fit h.types.typed none);
+      words_fit = rw g words;
+      main = main.0;
+      entry = main.1.0;
+      alone = sym main.1.1.0;
+      gives = main.1.1.1;
+    }
