@@ -6,6 +6,7 @@ use Rattle.std.proofs.lemmas.List.Elements.{All-nil, All-cons, All-same}
 use Rattle.std.proofs.lemmas.Option.{same_Some, none-some}
 use Rattle.c_tokens.specs.declared.token.Identifier.{Identifier}
 use Rattle.c_tokens.specs.declared.token.Kind.{Kind}
+use Rattle.c_tokens.specs.declared.token.Kind.TheVariants.{SignedInt, UnsignedInt}
 use Rattle.c_front.specs.declared.tree.Parameter.{Parameter}
 use Rattle.c_front.specs.Tree as Tree
 use Rattle.c_types.specs.declared.fault.FaultKind.TheVariants.{Kind as KindFault, Count, Limit}
@@ -63,9 +64,14 @@ at-file : (p : TypedProgram) (n : ℕ) (m : Option Named) (i : Named) → ((j : 
 at-file p n (Some j) i h e = wider p n i (h i e)
 at-file p n None i h e = absurd (none-some _ e)
 
-gives-main : (r : Option Kind) (x : Identifier) (ps : List Parameter) (body : Tree.Items) → (IsNotMain (Tree.function r x ps body) → ⊥) → is_some r ≡ true
-gives-main (Some k) x ps body h = refl
-gives-main None x ps body h = absurd (h (inl (none-some _)))
+-- a declaration that may be `main`
+int-result : (r : Option Kind) (x : Identifier) (ps : List Parameter) (body : Tree.Items) → (IsNotMain (Tree.function r x ps body) → ⊥) → r ≡ Some SignedInt
+int-result (Some SignedInt) x ps body h = refl
+int-result (Some UnsignedInt) x ps body h = absurd (h (inl other))
+  where
+    other : Some UnsignedInt ≢ Some SignedInt
+    other e = cc
+int-result None x ps body h = absurd (h (inl (none-some _)))
 
 -- a function, under the names at file scope and its own
 fits-function : (p : TypedProgram) (text : List ℕ) (f : File) (r : Option Kind) (x : Identifier) (ps : List Parameter) (body : Tree.Items) (t : TypedStatements) → AreThere p 0 (after text f (Tree.function r x ps body)).names
@@ -87,7 +93,7 @@ fits-function p text f r x ps body t there typed none =
     let few : inner.locals + declared_in_all body ≤ 128 = all-locals-fit text (is_some r) false inner body (omega (arith, four, first)) (λ k at w. faultless k at (inr w)) in
     let outside : AreThere p n (named_in outer) = λ w m e. at-file p n (names w) m (there w) e in
     let inside : AreThere p n (named_in inner) = parameters-there p n text outer ps outside (omega (arith, first, all)) in
-    let main : bytes_eq (spelled text x) main_name ≡ true → is_some r ≡ true = λ e. gives-main r x ps body (λ w. none KindFault x.at (inl (other_main e w))) in
+    let main : bytes_eq (spelled text x) main_name ≡ true → is_some r ≡ true = λ e. ap (λ (k : Option Kind). is_some k) (int-result r x ps body (λ w. none KindFault x.at (inl (other_main e w)))) in
     record {
       parameters = omega (arith, four);
       first = omega (arith, first, all);
@@ -182,6 +188,36 @@ names-there : {p : TypedProgram} {text : List ℕ} {f : File} {ds : List Tree.De
 names-there h all_declared = h.names
 names-there h (more_declared one more) = names-there (next h one) more
 
+-- `main`, once it is declared, gives an `int`
+abbrev GivesInt : TypedProgram → Meaning → Type 0
+GivesInt p names = (n m : ℕ) (r : Bool) → names main_name ≡ Some (Function n m r) → (g : TypedFunction) × ((slice_get p.functions n ≡ Some g) × (g.result ≡ Some SignedInt))
+
+abbrev IsFunction : TypedProgram → Named → Type 0
+IsFunction p (Function n m r) = (g : TypedFunction) × ((slice_get p.functions n ≡ Some g) × (g.result ≡ Some SignedInt))
+IsFunction p i = Unit {0}
+
+named-main : (p : TypedProgram) (names : Meaning) (x : List ℕ) (i : Named) → GivesInt p names → (bytes_eq x main_name ≡ true → IsFunction p i) → GivesInt p (with_name names x i)
+named-main p names x i h there n m r e = by (bytes_eq x main_name) refl e
+  where
+    by : (b : Bool) → bytes_eq x main_name ≡ b → (if b then Some i else names main_name) ≡ Some (Function n m r) → IsFunction p (Function n m r)
+    by true q e = subst (IsFunction p) (same_Some _ _ e) (there q)
+    by false q e = h n m r e
+
+next-main : {p : TypedProgram} {text : List ℕ} {f : File} {d : Tree.Declaration} {t : TypedDeclaration} {rest : List TypedDeclaration} → IsAt p f (t ∷ rest) → TypesDeclaration text f d t → HasNone (FaultyDeclaration text f d) → GivesInt p f.names
+    → GivesInt p (after text f d).names
+next-main {p = p} {text = text} {f = f} at (variable_typed {k = k} {x = x}) none h = named-main p f.names (spelled text x) (Global f.tally.globals k) h (λ e. tt)
+next-main {p = p} {text = text} {f = f} at (array_typed {k = k} {x = x}) none h = named-main p f.names (spelled text x) (Array f.tally.globals k) h (λ e. tt)
+next-main {p = p} {text = text} {f = f} at (function_typed {r = r} {x = x} {ps = ps} {body = body} typed) none h =
+    named-main p f.names (spelled text x) (Function f.tally.functions (length ps) (is_some r)) h (λ e. (_, (function-here at, int-result r x ps body (λ w. none KindFault x.at (inl (other_main e w))))))
+
+gives-int : {p : TypedProgram} {text : List ℕ} {f : File} {ds : List Tree.Declaration} {ts : List TypedDeclaration} → IsAt p f ts → TypesDeclarations text f ds ts → HasNone (FaultyDeclarations text f ds) → GivesInt p f.names
+    → GivesInt p (after_all text f ds).names
+gives-int at all_declared none h = h
+gives-int at (more_declared one more) none h = gives-int (next at one) more (λ k n w. none k n (inr w)) (next-main at one (λ k n w. none k n (inl w)) h)
+
+same-function : (o : Option TypedFunction) (f g : TypedFunction) → o ≡ Some f → o ≡ Some g → f ≡ g
+same-function o f g e h = cc
+
 -- the sizes
 
 abbrev IsWord : Typed.Global → Type 0
@@ -244,6 +280,8 @@ each-typed-program-is-well-formed p h =
     let start : IsAt p no_declarations ts = at-first h.types.functions h.types.globals in
     let none : HasNone (FaultyDeclarations h.text no_declarations h.declarations) = λ k at w. h.faultless k at (inl w) in
     let main : IsThere p 0 (Function p.main 0 true) = names-there start h.types.typed main_name (Function p.main 0 true) h.types.entry in
+    let none_yet : GivesInt p no_declarations.names = named-main p nothing out_name Out (λ n m r e. absurd (none-some _ e)) (λ e. tt) in
+    let int = gives-int start h.types.typed none none_yet p.main 0 true h.types.entry in
     let count = counted h.types.typed none (omega arith) in
     let words = words-fit 262144 h.types.typed none refl in
     let f = h.types.functions in
@@ -256,5 +294,5 @@ each-typed-program-is-well-formed p h =
       main = main.0;
       entry = main.1.0;
       alone = sym main.1.1.0;
-      gives = main.1.1.1;
+      gives = ap (λ (g : TypedFunction). g.result) (same-function (slice_get p.functions p.main) main.0 int.0 main.1.0 int.1.0) ∙ int.1.1;
     }

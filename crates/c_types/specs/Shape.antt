@@ -3,8 +3,7 @@ use Rattle.std.specs.Prelude.{List, [], ◌∷◌, Option, Some, None}
 use Rattle.c_types.specs.declared.typed.Term.{Term, Constant, Local, Global, Element', Unary', Binary', Choose'}
 use Rattle.c_types.specs.declared.typed.Statement.{Statement, Empty, Block', Unset, Assign, Store, Call, Output, If', Loop', Break, Continue, Return, Row_of-Statement, end_of-Statement, more_of-Statement}
 use Rattle.c_types.specs.declared.typed.Function.{Function}
-use Rattle.c_types.specs.declared.typed.Typed.{Typed}
-use Rattle.c_types.specs.Typed.{TypedExpression, constant, local, global, element, unary, binary, choose, TypedStatement, TypedStatements, empty, block, unset, assign, store, run, output, branch, loop, leave, next_turn, return_with, no_statements, more_statements, TypedFunction, TypedProgram}
+use Rattle.c_types.specs.Typed.{TypedExpression, constant, local, global, element, unary, binary, choose, TypedStatement, TypedStatements, empty, block, unset, assign, store, run, output, branch, loop, leave, next_turn, return_with, no_statements, more_statements, TypedFunction}
 
 abbrev pub term_of : Term → TypedExpression
 term_of (Constant c) = constant c
@@ -52,6 +51,3 @@ function_of f = record { result = f.result; parameters = f.parameters; locals = 
 abbrev pub functions_of : List Function → List TypedFunction
 functions_of [] = []
 functions_of (f ∷ rest) = function_of f ∷ functions_of rest
-
-abbrev pub program_of : Typed → TypedProgram
-program_of p = record { functions = functions_of p.functions.items; globals = p.globals.items; main = p.main }

@@ -1,6 +1,7 @@
 -- What each typed program keeps, so that no layer above tests it again: names stand for what is there, calls fit their
 -- functions, operators compute in the kinds of their operands, jumps stand in loops, and the sizes are within the limits.
 use Rattle.std.specs.Prelude.{◌≡◌, ◌<◌, ◌≤◌, ◌+◌, ℕ, List, [], ◌∷◌, Option, Some, None, Bool, true, false, length, is_some, slice_get, All}
+use Rattle.c_tokens.specs.declared.token.Kind.TheVariants.{SignedInt}
 use Rattle.c_front.specs.Tree.{Declaration}
 use Rattle.c_types.specs.declared.typed.Place.{Place}
 use Rattle.c_types.specs.declared.typed.Place.TheVariants.{Local, Global as Variable}
@@ -76,8 +77,7 @@ abbrev pub words_in : List Global → ℕ
 words_in [] = 0
 words_in (g ∷ rest) = g.length + words_in rest
 
--- at most 256 functions and 262,144 words of globals, each global of a word at least, and a `main` that has no parameter
--- and gives a result
+-- at most 256 functions and 262,144 words of globals, each global of a word at least, and an `int main(void)`
 pub record IsWellFormed (p : TypedProgram) : Type 0 where
   pub functions : All (FitsFunction p) p.functions
   pub functions_fit : length p.functions ≤ 256
@@ -86,7 +86,7 @@ pub record IsWellFormed (p : TypedProgram) : Type 0 where
   pub main : TypedFunction
   pub entry : slice_get p.functions p.main ≡ Some main
   pub alone : main.parameters ≡ 0
-  pub gives : is_some main.result ≡ true
+  pub gives : main.result ≡ Some SignedInt
 
 -- the typed program of a program without faults
 pub record IsTyped (p : TypedProgram) : Type 0 where

@@ -7,7 +7,7 @@ ghost use Rattle.c_types.specs.Faults.{HasNone, IsCheckFault, StopsAtFirst, Stop
 ghost use Rattle.c_types.specs.Files.{AreTyped, IsFunction, IsWith, declared_of, file_of, file_scopes};
 ghost use Rattle.c_types.specs.Held.{scopes_of};
 ghost use Rattle.c_types.specs.Programs.{File, FaultyBody, FaultyDeclaration, FaultyDeclarations, FaultyProgram, LacksMain, TypesDeclaration, TypesProgram, after, after_all, closing, no_declarations, with_last};
-ghost use Rattle.c_types.specs.Shape.{function_of, program_of, statements_of};
+ghost use Rattle.c_types.specs.Shape.{function_of, statements_of};
 ghost use Rattle.c_types.specs.Typed.{TypedProgram};
 ghost use Rattle.c_types.specs.WellFormed.{EachTypedProgramIsWellFormed};
 
@@ -216,7 +216,7 @@ fn number_of(found: Option<Named>) -> usize
 
 /// The typed program, or its first fault.
 fn typed(alloc: Global, program: &Program) -> Result<Typed, Stop>
-    ensures ok { IfOk result (λ t. TypesProgram program.now.text.items (declarations_of program.now.declarations.items) (program_of t)) }
+    ensures ok { IfOk result (TypesProgram program.now.text.items (declarations_of program.now.declarations.items)) }
     ensures none { IfOk result (λ t. HasNone (FaultyProgram program.now.text.items (declarations_of program.now.declarations.items))) }
     ensures err { IfErr result (StopsAtFirst (FaultyProgram program.now.text.items (declarations_of program.now.declarations.items))) }
 {
@@ -226,17 +226,13 @@ fn typed(alloc: Global, program: &Program) -> Result<Typed, Stop>
     let parts = lasting(declarations(alloc, program, &mut frame, all))?;
     let (parts, _) = both(parts, has_main(program, &frame))?;
     let main = number_of(frame.innermost(b"main"));
-    Ok(Typed {
-        functions: parts.functions,
-        globals: parts.globals,
-        main,
-    })
+    Ok(Typed::new(parts.functions, parts.globals, main))
 }
 
 /// The typed program of a program that was read, exactly where it has no fault; else the fault with the least offset,
 /// and of these the least number. Where memory is refused that is told in place of any of these, at the text's length.
 pub fn check(alloc: Global, program: Program) -> Result<Typed, TypeFault>
-    ensures ok { IfOk result (λ t. TypesProgram program.text.items (declarations_of program.declarations.items) (program_of t)) }
+    ensures ok { IfOk result (TypesProgram program.text.items (declarations_of program.declarations.items)) }
     ensures none { IfOk result (λ t. HasNone (FaultyProgram program.text.items (declarations_of program.declarations.items))) }
     ensures err { IfErr result (IsCheckFault program.text.items (FaultyProgram program.text.items (declarations_of program.declarations.items))) }
 {

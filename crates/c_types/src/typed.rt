@@ -4,6 +4,7 @@ ghost use Rattle.c_types.specs.Typed.{kind_of};
 
 use c_front::tree::{BinaryOp, UnaryOp};
 use c_tokens::token::{Kind, Literal};
+use std::marker::Model;
 
 /// A typed expression. A local, a global variable and an array stand as their numbers. An operator keeps the kind that
 /// it computes in: for a comparison that is the operands' common kind.
@@ -62,12 +63,68 @@ pub struct Global {
     pub first: u32,
 }
 
-/// A program whose names are numbers: its functions and globals in order, and the number of `main`.
+/// A program whose names are numbers: its functions and globals in order, and the number of `main`. Its value is the typed
+/// tree of the program. Only `program::check` makes one, of a program without faults, so it is well formed: names stand for
+/// what is there, calls fit their functions, jumps stand in loops, and the sizes are within the limits
+/// (`specs/WellFormed.antt`).
 #[derive(Drop)]
 pub struct Typed {
-    pub functions: Vec<Function>,
-    pub globals: Vec<Global>,
-    pub main: usize,
+    functions: Vec<Function>,
+    globals: Vec<Global>,
+    main: usize,
+}
+
+impl Model for Typed {
+    ghost use Rattle.c_types.specs.Shape.{functions_of};
+    ghost use Rattle.c_types.specs.Typed.{TypedProgram};
+    ghost use Rattle.c_types.specs.WellFormed.{IsTyped};
+
+    ghost Value = { TypedProgram };
+
+    ghost view = { λ t. record { functions = functions_of t.functions.items; globals = t.globals.items; main = t.main } };
+
+    ghost invariant = { λ t. IsTyped (record { functions = functions_of t.functions.items; globals = t.globals.items; main = t.main }) };
+}
+
+impl Typed {
+    ghost use Rattle.std.specs.Prelude.{◌<◌, length};
+    ghost use Rattle.c_types.specs.Shape.{functions_of};
+    ghost use Rattle.c_types.specs.WellFormed.{IsTyped, IsWellFormed};
+
+    /// The typed program of these parts.
+    pub(crate) fn new(functions: Vec<Function>, globals: Vec<Global>, main: usize) -> Typed
+        requires { IsTyped (record { functions = functions_of functions.items; globals = globals.items; main = main }) }
+        ensures { result ≡ record { functions = functions_of functions.items; globals = globals.items; main = main } }
+    {
+        Typed {
+            functions,
+            globals,
+            main,
+        }
+    }
+
+    /// The functions, in the order of their numbers.
+    pub fn functions(&self) -> &[Function]
+        ensures value { functions_of result.now ≡ self.now.functions }
+        ensures fits { IsWellFormed self.now }
+    {
+        self.functions.as_slice()
+    }
+
+    /// The global variables and arrays, in the order of their numbers.
+    pub fn globals(&self) -> &[Global]
+        ensures { result.now ≡ self.now.globals }
+    {
+        self.globals.as_slice()
+    }
+
+    /// The number of `main`.
+    pub fn main(&self) -> usize
+        ensures value { result ≡ self.now.main }
+        ensures there { result < length self.now.functions }
+    {
+        self.main
+    }
 }
 
 impl Term {
