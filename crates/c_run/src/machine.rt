@@ -1,12 +1,14 @@
 ghost use Rattle.std.specs.Prelude.{◌≡◌, ℕ, ◌<◌, ◌∷◌, [], length, Option, IfOk, OnOk, None, Some, if◌then◌else◌, List, map};
 ghost use Rattle.words.specs.Stores.{Places, Arrays, written, stored};
-ghost use Rattle.c_types.specs.Shape.{program_of, statement_of};
+ghost use Rattle.c_statements.specs.Shape.{statement_of};
+ghost use Rattle.c_types.specs.Shape.{program_of};
 ghost use Rattle.c_run.specs.Meaning.{Do, placed, called, returned, source_step};
 ghost use Rattle.c_run.specs.Machine.{places, arrays, todos, frame_of, frames_of, state_of, reached, going_on, stepped};
 
 use crate::pending::{Head, Pending, put, settle};
 use crate::value::{arguments, value};
-use c_types::typed::{Place, Statement, Typed};
+use c_statements::typed::{Place, Statement};
+use c_types::typed::Typed;
 use std::alloc::{AllocError, Global};
 use std::mem;
 

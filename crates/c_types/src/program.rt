@@ -1,22 +1,24 @@
 ghost use Rattle.std.specs.Prelude.{◌≡◌, ◌⊎◌, ℕ, List, Some, true, IfOk, IfErr, OnOk, Err};
 ghost use Rattle.c_front.specs.Shape.{declaration_of, declarations_of, items_of};
 ghost use Rattle.c_front.specs.Tree.{function, Declaration as DeclarationTree};
-ghost use Rattle.c_types.specs.declared.fault.Stop.TheVariants.{NoMemory};
-ghost use Rattle.c_types.specs.declared.names.Named.TheVariants.{Function as NamedFunction};
-ghost use Rattle.c_types.specs.Faults.{HasNone, IsCheckFault, StopsAtFirst, StopsBoth};
+ghost use Rattle.c_statements.specs.declared.fault.Stop.TheVariants.{NoMemory};
+ghost use Rattle.c_statements.specs.declared.names.Named.TheVariants.{Function as NamedFunction};
+ghost use Rattle.c_statements.specs.Faults.{HasNone, IsCheckFault, StopsAtFirst, StopsBoth};
+ghost use Rattle.c_statements.specs.Held.{scopes_of};
+ghost use Rattle.c_statements.specs.Shape.{function_of, statements_of};
+ghost use Rattle.c_statements.specs.Typed.{TypedProgram};
 ghost use Rattle.c_types.specs.Files.{AreTyped, IsFunction, IsWith, declared_of, file_of, file_scopes};
-ghost use Rattle.c_types.specs.Held.{scopes_of};
 ghost use Rattle.c_types.specs.Programs.{File, FaultyBody, FaultyDeclaration, FaultyDeclarations, FaultyProgram, LacksMain, TypesDeclaration, TypesProgram, after, after_all, closing, no_declarations, with_last};
-ghost use Rattle.c_types.specs.Shape.{function_of, program_of, statements_of};
-ghost use Rattle.c_types.specs.Typed.{TypedProgram};
+ghost use Rattle.c_types.specs.Shape.{program_of};
 
 use crate::declaration::{Tally, declared_name, first, is_main, name_fault, parameters};
-use crate::fault::{FaultKind, Stop, TypeFault, both};
-use crate::names::Named;
-use crate::scopes::Frame;
-use crate::statement::{items, lasting};
-use crate::typed::{Function, Global as Variable, Statement, Term, Typed};
+use crate::typed::Typed;
 use c_front::tree::{Declaration, FunctionDefinition, Program};
+use c_statements::fault::{FaultKind, Stop, TypeFault, both};
+use c_statements::names::Named;
+use c_statements::scopes::Frame;
+use c_statements::statement::{items, lasting};
+use c_statements::typed::{Function, Global as Variable, Statement, Term};
 use c_tokens::token::{Kind, Literal};
 use std::alloc::{AllocError, AllocFailed, Global};
 

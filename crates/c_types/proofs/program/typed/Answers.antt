@@ -1,13 +1,13 @@
 use Rattle.std.proofs.Common.{◌≡◌, rules, sym, ap, ◌∙◌, subst, Result}
 use Rattle.c_front.specs.Shape.{declarations_of}
-use Rattle.c_types.specs.declared.fault.Stop.{Stop}
+use Rattle.c_statements.specs.declared.fault.Stop.{Stop}
+use Rattle.c_statements.specs.Faults.{StopsAtFirst, StopsBoth}
+use Rattle.c_statements.specs.Held.{scopes_of}
+use Rattle.c_statements.specs.Names.{Scopes}
+use Rattle.c_statements.proofs.Firsts.{ok-at}
 use Rattle.c_types.specs.declared.program.Parts.{Parts}
-use Rattle.c_types.specs.Faults.{StopsAtFirst, StopsBoth}
 use Rattle.c_types.specs.Files.{AreTyped}
-use Rattle.c_types.specs.Held.{scopes_of}
-use Rattle.c_types.specs.Names.{Scopes}
 use Rattle.c_types.specs.Programs.{FaultyProgram, after_all, no_declarations}
-use Rattle.c_types.proofs.Firsts.{ok-at}
 use Rattle.c_types.proofs.Main.{main-found, program-stop, typed-program}
 use Rattle.c_types.proofs.program.typed.Goals as goal
 
