@@ -12,12 +12,13 @@ use Rattle.c_run.proofs.Turns.{popped}
 use Rattle.std.proofs.lemmas.Option.{slice_get_past}
 use Rattle.words.specs.Stores.{Places, Arrays, unset_places}
 use Rattle.words.specs.Runs.{Running, Failed, with_value}
-use Rattle.c_types.specs.declared.typed.Place.{Place}
-use Rattle.c_types.specs.declared.typed.Function.{Function}
-use Rattle.c_types.specs.declared.typed.Statement.{Statement}
-use Rattle.c_types.specs.Typed.{TypedFunction}
+use Rattle.c_statements.specs.declared.typed.Place.{Place}
+use Rattle.c_statements.specs.declared.typed.Function.{Function}
+use Rattle.c_statements.specs.declared.typed.Statement.{Statement}
+use Rattle.c_statements.specs.Typed.{TypedFunction}
+use Rattle.c_statements.specs.Shape.{function_of, functions_of, statements_of}
 use Rattle.c_types.specs.declared.typed.Typed.{Typed}
-use Rattle.c_types.specs.Shape.{program_of, function_of, functions_of, statements_of}
+use Rattle.c_types.specs.Shape.{program_of}
 use Rattle.c_run.specs.Meaning.{Todo, Frame, Run, arguments, called, before_all, first_words, source_start}
 use Rattle.c_run.specs.Machine.{places, arrays, todos, frame_of, frames_of}
 use Rattle.c_run.specs.declared.machine.Call.{Call}

@@ -2,7 +2,7 @@
 use Rattle.std.proofs.Common.{◌≡◌, ℕ, zero, suc, ◌+◌, ◌-◌, ◌<◌, ◌≤◌, List, [], Option, None, Some, refl, sym, ◌∙◌, ap, arith}
 use Rattle.words.specs.Runs.{Outcome, Ended, Failed, outcome}
 use Rattle.words.specs.declared.ran.End.TheVariants.{Done, Wrong}
-use Rattle.c_types.specs.Typed.{TypedProgram}
+use Rattle.c_statements.specs.Typed.{TypedProgram}
 use Rattle.c_run.specs.Meaning.{Run, source_step, source_steps, source_start, source_run}
 use Rattle.c_run.specs.Machine.{started, state_of}
 use Rattle.c_run.specs.declared.machine.Machine.{Machine}

@@ -2,8 +2,8 @@
 use Rattle.std.proofs.Common.{◌≡◌, ◌≤◌, ◌<◌, ℕ, ◌+◌, List, [], ◌∷◌, ◌++◌, Bor, refl, ap, ◌∙◌, arith}
 use Rattle.c_run.specs.declared.pending.Pending.{Pending}
 use Rattle.c_run.specs.declared.pending.Pending.TheVariants.{One, Rest, Turn}
-use Rattle.c_types.specs.declared.typed.Statement.{Statement, Block}
-use Rattle.c_types.specs.Shape.{statement_of, statements_of}
+use Rattle.c_statements.specs.declared.typed.Statement.{Statement, Block}
+use Rattle.c_statements.specs.Shape.{statement_of, statements_of}
 use Rattle.std.specs.declared.vec.Vec.{Vec}
 use Rattle.std.specs.declared.alloc.Global.{Global}
 use Rattle.c_run.specs.declared.pending.Head.{Head}

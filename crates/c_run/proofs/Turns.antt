@@ -5,10 +5,10 @@ use Rattle.std.specs.declared.vec.Vec.{Vec}
 use Rattle.std.specs.declared.alloc.Global.{Global}
 use Rattle.std.proofs.lemmas.List.{reverse-append}
 use Rattle.words.specs.Stores.{Places}
-use Rattle.c_types.specs.declared.typed.Statement.{Statement, Block, Row_of-Statement, end_of-Statement, more_of-Statement, items-the_row-Statement, items_hidden-the_row-Statement-0}
-use Rattle.c_types.specs.declared.typed.Statement.TheBlock.{hidden-the_row-Statement-0}
-use Rattle.c_types.specs.Typed.{TypedStatement, TypedStatements, empty, block, unset, assign, store, run, output, branch, loop, leave, next_turn, return_with, no_statements, more_statements}
-use Rattle.c_types.specs.Shape.{statement_of, statements_of, row_of}
+use Rattle.c_statements.specs.declared.typed.Statement.{Statement, Block, Row_of-Statement, end_of-Statement, more_of-Statement, items-the_row-Statement, items_hidden-the_row-Statement-0}
+use Rattle.c_statements.specs.declared.typed.Statement.TheBlock.{hidden-the_row-Statement-0}
+use Rattle.c_statements.specs.Typed.{TypedStatement, TypedStatements, empty, block, unset, assign, store, run, output, branch, loop, leave, next_turn, return_with, no_statements, more_statements}
+use Rattle.c_statements.specs.Shape.{statement_of, statements_of, row_of}
 use Rattle.c_run.specs.Meaning.{Todo, Do, Next, before, before_all, settled, Going, Breaking, Continuing}
 use Rattle.c_run.specs.Turns.{past_turn, at_turn}
 use Rattle.c_run.specs.Machine.{put, flattened, todos, taken, headed}

@@ -3,10 +3,10 @@
 use Rattle.std.specs.Prelude.{ℕ, zero, suc, List, [], ◌∷◌, ◌++◌, Option, Some, None, length, nat_lt, if◌then◌else◌, ◌==◌, slice_get, map, replicate}
 use Rattle.words.specs.Stores.{Places, unset_places, written, Arrays, stored}
 use Rattle.words.specs.Runs.{Outcome, State, Running, Ended, Failed, with_value, outcome}
-use Rattle.c_types.specs.declared.typed.Place.{Place}
-use Rattle.c_types.specs.declared.typed.Place.TheVariants.{Local, Global as Variable}
-use Rattle.c_types.specs.declared.typed.Global.{Global}
-use Rattle.c_types.specs.Typed.{TypedStatement, TypedStatements, empty, block, unset, assign, store, run, output, branch, loop, leave, next_turn, return_with, no_statements, more_statements, TypedProgram}
+use Rattle.c_statements.specs.declared.typed.Place.{Place}
+use Rattle.c_statements.specs.declared.typed.Place.TheVariants.{Local, Global as Variable}
+use Rattle.c_statements.specs.declared.typed.Global.{Global}
+use Rattle.c_statements.specs.Typed.{TypedStatement, TypedStatements, empty, block, unset, assign, store, run, output, branch, loop, leave, next_turn, return_with, no_statements, more_statements, TypedProgram}
 use Rattle.c_run.specs.Values.{value_of, values_of}
 
 -- what is still to do: a statement, or the end of a loop's turn, where its last part comes and then the loop again

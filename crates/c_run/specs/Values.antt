@@ -6,7 +6,7 @@ use Rattle.c_front.specs.declared.tree.UnaryOp.{UnaryOp}
 use Rattle.c_front.specs.declared.tree.UnaryOp.TheVariants.{Negate, Identity, Complement, Not}
 use Rattle.c_front.specs.declared.tree.BinaryOp.{BinaryOp}
 use Rattle.c_front.specs.declared.tree.BinaryOp.TheVariants.{Multiply, Divide, Remainder, Add, Subtract, ShiftLeft, ShiftRight, Below, Exceeds, AtMost, AtLeast, Same, Differs, BitAnd, BitXor, BitOr, Both, Either}
-use Rattle.c_types.specs.Typed.{TypedExpression, constant, local, global, element, unary, binary, choose}
+use Rattle.c_statements.specs.Typed.{TypedExpression, constant, local, global, element, unary, binary, choose}
 use Rattle.words.specs.declared.sign.Sign.{Sign}
 use Rattle.words.specs.declared.sign.Sign.TheVariants.{Signed, Unsigned}
 use Rattle.words.specs.Operators.{quotient_of, remainder_of}

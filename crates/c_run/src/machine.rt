@@ -1,12 +1,14 @@
 ghost use Rattle.std.specs.Prelude.{◌≡◌, ℕ, ◌<◌, ◌∷◌, [], length, Option, IfOk, OnOk, None, Some, if◌then◌else◌, List, map};
 ghost use Rattle.words.specs.Stores.{Places, Arrays, written, stored};
-ghost use Rattle.c_types.specs.Shape.{program_of, statement_of};
+ghost use Rattle.c_statements.specs.Shape.{statement_of};
+ghost use Rattle.c_types.specs.Shape.{program_of};
 ghost use Rattle.c_run.specs.Meaning.{Do, placed, called, returned, source_step};
 ghost use Rattle.c_run.specs.Machine.{places, arrays, todos, frame_of, frames_of, state_of, reached, going_on, stepped};
 
 use crate::pending::{Head, Pending, put, settle};
 use crate::value::{arguments, value};
-use c_types::typed::{Place, Statement, Typed};
+use c_statements::typed::{Place, Statement};
+use c_types::typed::Typed;
 use std::alloc::{AllocError, Global};
 use std::mem;
 
@@ -100,17 +102,14 @@ fn enter<'a>(
 ) -> Result<Reached, AllocError>
     ensures { IfOk result (λ r. (vs : List ℕ) → values.items ≡ map Some vs → called (program_of program.now) depth function vs to (frame_of machine.old.call ∷ frames_of machine.old.waiting.items) (arrays machine.old.globals.items) machine.old.output.items ≡ reached r machine.new) }
 {
-    if function >= program.functions.len() {
+    let Some(function) = program.functions().get(function) else {
         return Ok(Reached::Failed);
-    }
+    };
     if machine.waiting.len() + 1 >= depth as usize {
         return Ok(Reached::Failed);
     }
     let mut todo = Vec::new(alloc);
-    put(
-        &mut todo,
-        Pending::Rest(program.functions[function].body.as_slice()),
-    )?;
+    put(&mut todo, Pending::Rest(function.body.as_slice()))?;
     let call = Call {
         locals: values,
         todo,

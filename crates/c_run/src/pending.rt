@@ -5,7 +5,7 @@ ghost use Rattle.c_run.specs.Machine.{places, todos, headed, taken};
 ghost use Rattle.c_run.specs.Sizes.{weights, head_size};
 ghost use Rattle.c_run.specs.Turns.{past_turn, at_turn};
 
-use c_types::typed::Statement;
+use c_statements::typed::Statement;
 use std::alloc::AllocError;
 
 /// What is still to do: a statement, a list of statements, or the end of a turn: its last part, and the loop. A list

@@ -1,8 +1,8 @@
-ghost use Rattle.std.specs.Prelude.{◌≡◌, ℕ, List, Option, Some, None, IfOk, map};
+ghost use Rattle.std.specs.Prelude.{◌≡◌, IfOk, map};
 ghost use Rattle.words.specs.Runs.{outcome_of};
 ghost use Rattle.c_types.specs.Shape.{program_of};
 ghost use Rattle.c_run.specs.Meaning.{first_words, source_start, source_run};
-ghost use Rattle.c_run.specs.Machine.{arrays, started};
+ghost use Rattle.c_run.specs.Machine.{arrays, state_of};
 
 use crate::machine::{Call, Machine, Reached, step};
 use crate::pending::{Pending, put};
@@ -12,40 +12,35 @@ use words::{End, Ran};
 
 // The globals before the first step.
 fn first_globals(alloc: Global, program: &Typed) -> Result<Vec<Vec<u32>>, AllocError>
-    ensures { IfOk result (λ g. arrays g.items ≡ map first_words program.now.globals.items) }
+    ensures { IfOk result (λ g. arrays g.items ≡ map first_words program.now.globals) }
 {
-    let mut globals = Vec::with_capacity(alloc, program.globals.len())?;
-    for global in &program.globals {
+    let mut globals = Vec::with_capacity(alloc, program.globals().len())?;
+    for global in program.globals() {
         let words = vec![in alloc; global.first; global.length]?;
         globals.push(words)?;
     }
     Ok(globals)
 }
 
-// The run before its first step; None where `main` is no function.
-fn start<'a>(alloc: Global, program: &'a Typed) -> Result<Option<Machine<'a>>, AllocError>
-    ensures { IfOk result (λ r. source_start (program_of program.now) ≡ started r) }
+// The run before its first step.
+fn start<'a>(alloc: Global, program: &'a Typed) -> Result<Machine<'a>, AllocError>
+    ensures { IfOk result (λ r. source_start (program_of program.now) ≡ state_of r) }
 {
-    if program.main >= program.functions.len() {
-        return Ok(None);
-    }
+    let main = &program.functions()[program.main()];
     let mut todo = Vec::new(alloc);
-    put(
-        &mut todo,
-        Pending::Rest(program.functions[program.main].body.as_slice()),
-    )?;
+    put(&mut todo, Pending::Rest(main.body.as_slice()))?;
     let call = Call {
         locals: Vec::new(alloc),
         todo,
         result_to: None,
     };
     let globals = first_globals(alloc, program)?;
-    Ok(Some(Machine {
+    Ok(Machine {
         call,
         waiting: Vec::new(alloc),
         globals,
         output: Vec::new(alloc),
-    }))
+    })
 }
 
 /// What so many steps of a program come to, with at most `depth` calls active at once, `main` among them. `Err` only
@@ -53,12 +48,7 @@ fn start<'a>(alloc: Global, program: &'a Typed) -> Result<Option<Machine<'a>>, A
 pub fn run(alloc: Global, program: &Typed, depth: u32, steps: u64) -> Result<Ran, AllocError>
     ensures { IfOk result (λ r. outcome_of r ≡ source_run (program_of program.now) depth steps) }
 {
-    let Some(mut machine) = start(alloc, program)? else {
-        return Ok(Ran {
-            end: End::Wrong,
-            output: Vec::new(alloc),
-        });
-    };
+    let mut machine = start(alloc, program)?;
     for _ in 0..steps {
         let reached = step(alloc, program, depth, &mut machine)?;
         match reached {

@@ -1,13 +1,13 @@
 ghost use Rattle.std.specs.Prelude.{◌≡◌, ℕ, Option, Some, IfOk, map};
 ghost use Rattle.std.specs.Option.{option_map};
-ghost use Rattle.c_types.specs.Shape.{term_of, terms_of};
+ghost use Rattle.c_statements.specs.Shape.{term_of, terms_of};
 ghost use Rattle.words.specs.Stores.{word_at};
 ghost use Rattle.c_run.specs.Values.{sign_of, truth, unary_of, binary_of, value_of, values_of};
 ghost use Rattle.c_run.specs.Machine.{places, arrays};
 
 use c_front::tree::{BinaryOp, UnaryOp};
+use c_statements::typed::Term;
 use c_tokens::token::Kind;
-use c_types::typed::Term;
 use std::alloc::{AllocError, Global};
 use words::Sign;
 

@@ -2,8 +2,9 @@
 
 use c_front::tree::{BinaryOp, UnaryOp};
 use c_run::run;
+use c_statements::typed::{Function, Global as Variable, Place, Statement, Term};
 use c_tokens::token::{Kind, Literal};
-use c_types::typed::{Function, Global as Variable, Place, Statement, Term, Typed};
+use c_types::typed::Typed;
 use std::alloc::{AllocError, Global};
 use std::process::Abort;
 use words::End;

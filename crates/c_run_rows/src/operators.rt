@@ -2,8 +2,8 @@
 
 use crate::make::{binary, choose, comes_to, constant, int_binary, main_alone, unary};
 use c_front::tree::{BinaryOp, UnaryOp};
+use c_statements::typed::{Statement, Term};
 use c_tokens::token::Kind;
-use c_types::typed::{Statement, Term};
 use std::alloc::{AllocError, Global};
 use std::process::Abort;
 use std::test::Fail;

@@ -4,8 +4,9 @@ use crate::make::{
     comes_to, constant, function, int_binary, local, main_alone, next, program, repeat, set, when,
 };
 use c_front::tree::BinaryOp;
+use c_statements::typed::{Global as Variable, Place, Statement, Term};
 use c_tokens::token::Kind;
-use c_types::typed::{Global as Variable, Place, Statement, Term, Typed};
+use c_types::typed::Typed;
 use std::alloc::{AllocError, Global};
 use std::test::Fail;
 use words::End;

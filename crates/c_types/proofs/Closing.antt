@@ -1,10 +1,10 @@
 -- A statement behind others.
 use Rattle.std.proofs.Common.{◌≡◌, List, [], ◌∷◌, ◌++◌, refl, ap, ◌∙◌, Bool, true, false, Option, Some, None}
 use Rattle.c_tokens.specs.declared.token.Kind.{Kind}
-use Rattle.c_types.specs.declared.typed.Statement.{Statement}
+use Rattle.c_statements.specs.declared.typed.Statement.{Statement}
+use Rattle.c_statements.specs.Shape.{statement_of, statements_of}
+use Rattle.c_statements.specs.Typed.{TypedStatements, no_statements, more_statements}
 use Rattle.c_types.specs.Programs.{with_last, closing}
-use Rattle.c_types.specs.Shape.{statement_of, statements_of}
-use Rattle.c_types.specs.Typed.{TypedStatements, no_statements, more_statements}
 
 pub one-more : (all : List Statement) (s : Statement) → statements_of (all ++ s ∷ []) ≡ with_last (statements_of all) (more_statements (statement_of s) no_statements)
 one-more [] s = refl

@@ -7,23 +7,23 @@ use Rattle.c_front.specs.Shape.{declaration_of, declarations_of}
 use Rattle.c_front.specs.Tree as Tree
 use Rattle.c_tokens.specs.declared.token.Identifier.{Identifier}
 use Rattle.c_tokens.specs.declared.token.Kind.{Kind}
+use Rattle.c_statements.specs.declared.fault.FaultKind.{FaultKind}
+use Rattle.c_statements.specs.declared.fault.Stop.{Stop}
+use Rattle.c_statements.specs.declared.fault.Stop.TheVariants.{NoMemory}
+use Rattle.c_statements.specs.declared.names.Named.{Named}
+use Rattle.c_statements.specs.declared.typed.Function as OneFunction
+use Rattle.c_statements.specs.declared.typed.Global as OneGlobal
+use Rattle.c_statements.specs.Faults.{Faults, HasNone, StopsAtFirst, StopsBoth}
+use Rattle.c_statements.specs.Names.{Meaning, Scopes, with_declared}
+use Rattle.c_statements.specs.Shape.{function_of, functions_of}
+use Rattle.c_statements.specs.Typed.{TypedFunction}
+use Rattle.c_statements.proofs.Firsts.{Both, both-none, both-stop, ok-at}
+use Rattle.c_statements.proofs.Joined.{Answered, same-stop}
 use Rattle.c_types.specs.declared.declaration.Tally.{Tally}
-use Rattle.c_types.specs.declared.fault.FaultKind.{FaultKind}
-use Rattle.c_types.specs.declared.fault.Stop.{Stop}
-use Rattle.c_types.specs.declared.fault.Stop.TheVariants.{NoMemory}
-use Rattle.c_types.specs.declared.names.Named.{Named}
 use Rattle.c_types.specs.declared.program.Declared.{Declared}
 use Rattle.c_types.specs.declared.program.Parts.{Parts}
-use Rattle.c_types.specs.declared.typed.Function as OneFunction
-use Rattle.c_types.specs.declared.typed.Global as OneGlobal
-use Rattle.c_types.specs.Faults.{Faults, HasNone, StopsAtFirst, StopsBoth}
 use Rattle.c_types.specs.Files.{AreParts, AreTyped, IsFunction, IsWith, declared_of}
-use Rattle.c_types.specs.Names.{Meaning, Scopes, with_declared}
 use Rattle.c_types.specs.Programs.{File, FaultyBody, FaultyDeclaration, FaultyDeclarations, FaultyName, TypedDeclaration, TypesDeclaration, TypesDeclarations, a_function, a_global, after, after_all, all_declared, function_typed, functions_in, globals_in, more_declared, name_of, named_by, tally_after, no_declarations}
-use Rattle.c_types.specs.Shape.{function_of, functions_of}
-use Rattle.c_types.specs.Typed.{TypedFunction}
-use Rattle.c_types.proofs.Firsts.{Both, both-none, both-stop, ok-at}
-use Rattle.c_types.proofs.Joined.{Answered, same-stop}
 
 -- a function under the names that its own name is among
 pub function-typed : (text : List ℕ) (f : File) (names : Meaning) (r : Option Kind) (x : Identifier) (ps : List Parameter) (body : Tree.Items) (t : TypedFunction) → (after text f (Tree.function r x ps body)).names ≡ names

@@ -4,13 +4,13 @@ use Rattle.std.proofs.lemmas.Option.{none-some}
 use Rattle.std.specs.Prelude.{is_some}
 use Rattle.c_tokens.specs.declared.token.Identifier.{Identifier}
 use Rattle.c_front.specs.Tree.{Declaration, variable, array, function}
-use Rattle.c_types.specs.declared.fault.FaultKind.{FaultKind}
-use Rattle.c_types.specs.declared.fault.FaultKind.TheVariants.{Redeclared, Kind as KindFault, Limit}
-use Rattle.c_types.specs.declared.fault.Stop.{Stop}
-use Rattle.c_types.specs.declared.fault.Stop.TheVariants.{Fault}
-use Rattle.c_types.specs.Faults.{number_of, IsFirstFault, HasNone, StopsAtFirst}
+use Rattle.c_statements.specs.declared.fault.FaultKind.{FaultKind}
+use Rattle.c_statements.specs.declared.fault.FaultKind.TheVariants.{Redeclared, Kind as KindFault, Limit}
+use Rattle.c_statements.specs.declared.fault.Stop.{Stop}
+use Rattle.c_statements.specs.declared.fault.Stop.TheVariants.{Fault}
+use Rattle.c_statements.specs.Faults.{number_of, IsFirstFault, HasNone, StopsAtFirst}
+use Rattle.c_statements.specs.Names.{spelled}
 use Rattle.c_types.specs.Files.{Exceeds, IsOtherKind}
-use Rattle.c_types.specs.Names.{spelled}
 use Rattle.c_types.specs.Programs.{File, FaultyName, declared_again, other_main, array_of_nothing, too_many_words, too_many_functions, name_of}
 
 zero : (n : ℕ) → nat_eq n 0 ≡ true → n ≡ 0

@@ -1,23 +1,26 @@
 -- Typed programs without faults are well formed.
-use Rattle.std.proofs.Common.{◌≡◌, ◌≢◌, ◌<◌, ◌≤◌, ◌+◌, ◌-◌, ℕ, zero, suc, List, [], ◌∷◌, ◌++◌, Option, Some, None, Bool, true, false, length, nat_lt, inl, inr, refl, sym, subst, ap, ◌∙◌, arith, if◌then◌else◌}
+use Rattle.std.proofs.Common.{◌≡◌, ◌≢◌, ◌<◌, ◌≤◌, ◌+◌, ◌-◌, ℕ, suc, List, [], ◌∷◌, ◌++◌, Option, Some, None, Bool, true, false, length, nat_lt, inl, inr, refl, sym, subst, ap, ◌∙◌, arith, if◌then◌else◌}
 use Rattle.std.specs.Prelude.{is_some, slice_get, bytes_eq, All}
 use Rattle.std.proofs.lemmas.List.{length-append}
 use Rattle.std.proofs.lemmas.List.Elements.{All-nil, All-cons, All-same}
-use Rattle.std.proofs.lemmas.Option.{same_Some, none-some}
+use Rattle.std.proofs.lemmas.Option.{same_Some, none-some, slice_get_within}
 use Rattle.c_tokens.specs.declared.token.Identifier.{Identifier}
 use Rattle.c_tokens.specs.declared.token.Kind.{Kind}
 use Rattle.c_tokens.specs.declared.token.Kind.TheVariants.{SignedInt, UnsignedInt}
 use Rattle.c_front.specs.declared.tree.Parameter.{Parameter}
 use Rattle.c_front.specs.Tree as Tree
-use Rattle.c_types.specs.declared.fault.FaultKind.TheVariants.{Kind as KindFault, Count, Limit}
-use Rattle.c_types.specs.declared.names.Named.{Named}
-use Rattle.c_types.specs.declared.names.Named.TheVariants.{Local, Global, Array, Function, Out}
-use Rattle.c_types.specs.declared.typed.Global as Typed
-use Rattle.c_types.specs.Faults.{HasNone}
-use Rattle.c_types.specs.Names.{Meaning, Scopes, hides, named_in, nothing, spelled, with_name, declared, behind_items, declared_in_all}
-use Rattle.c_types.specs.Programs.{File, no_declarations, out_name, main_name, name_of, named_by, room_after, after, after_all, IsNotMain, array_of_nothing, other_main, too_many_words, too_many_functions, FaultyName, FaultyParameter, fifth_parameter, FaultyParameters, behind_parameters, scopes_at, FaultyBody, FaultyDeclaration, FaultyDeclarations, with_last, closing, TypedDeclaration, a_global, a_function, TypesDeclaration, variable_typed, array_typed, function_typed, TypesDeclarations, all_declared, more_declared, functions_in, globals_in}
-use Rattle.c_types.specs.Typed.{TypedStatements, TypedFunction, TypedProgram, no_statements, more_statements}
-use Rattle.c_types.specs.Types.{TypesItems}
+use Rattle.c_statements.specs.declared.fault.FaultKind.TheVariants.{Kind as KindFault, Count, Limit}
+use Rattle.c_statements.specs.declared.names.Named.{Named}
+use Rattle.c_statements.specs.declared.names.Named.TheVariants.{Local, Global, Array, Function, Out}
+use Rattle.c_statements.specs.declared.typed.Global as Typed
+use Rattle.c_statements.specs.Faults.{HasNone}
+use Rattle.c_statements.specs.Names.{Meaning, Scopes, hides, named_in, nothing, spelled, with_name, declared, behind_items, declared_in_all}
+use Rattle.c_types.specs.Programs.{File, no_declarations, out_name, main_name, room_after, after, after_all, IsNotMain, array_of_nothing, other_main, too_many_words, too_many_functions, fifth_parameter, FaultyParameters, behind_parameters, scopes_at, FaultyBody, FaultyDeclaration, FaultyDeclarations, with_last, closing, TypedDeclaration, a_global, a_function, TypesDeclaration, variable_typed, array_typed, function_typed, TypesDeclarations, all_declared, more_declared, functions_in, globals_in}
+use Rattle.c_statements.specs.Typed.{TypedStatements, TypedFunction, TypedProgram, no_statements, more_statements}
+use Rattle.c_statements.specs.Types.{TypesItems}
+use Rattle.c_statements.specs.declared.typed.Function as Rust
+use Rattle.c_statements.specs.Shape.{functions_of}
+use Rattle.c_types.specs.Shape.{TypedParts, program_of}
 use Rattle.c_types.specs.WellFormed.{FitsStatements, FitsFunction, words_in, IsWellFormed, IsTyped}
 use Rattle.c_types.proofs.FitsStatements.{IsThere, AreThere, declared-there, fits-items, all-locals-fit, behind-locals}
 
@@ -296,3 +299,14 @@ each-typed-program-is-well-formed p h =
       alone = sym main.1.1.0;
       gives = ap (λ (g : TypedFunction). g.result) (same-function (slice_get p.functions p.main) main.0 int.0 main.1.0 int.1.0) ∙ int.1.1;
     }
+
+functions-length : (fs : List Rust.Function) → length (functions_of fs) ≡ length fs
+functions-length [] = refl
+functions-length (f ∷ fs) = ap suc (functions-length fs)
+
+pub main-there : (p : TypedParts) → IsTyped (program_of p) → p.main < length p.functions
+main-there p h =
+    let w = each-typed-program-is-well-formed (program_of p) h in
+    let here : p.main < length (functions_of p.functions) = slice_get_within (functions_of p.functions) p.main w.main w.entry in
+    let e = functions-length p.functions in
+    omega (arith, here, e)

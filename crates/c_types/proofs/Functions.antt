@@ -5,13 +5,13 @@ use Rattle.c_front.specs.declared.tree.Parameter.{Parameter}
 use Rattle.c_front.specs.Tree.{Item, Items, declare, statement, no_items, more_items, function}
 use Rattle.c_tokens.specs.declared.token.Identifier.{Identifier}
 use Rattle.c_tokens.specs.declared.token.Kind.{Kind}
-use Rattle.c_types.specs.declared.fault.Stop.{Stop}
-use Rattle.c_types.specs.Faults.{HasNone, StopsAtFirst, StopsBoth}
+use Rattle.c_statements.specs.declared.fault.Stop.{Stop}
+use Rattle.c_statements.specs.Faults.{HasNone, StopsAtFirst, StopsBoth}
+use Rattle.c_statements.specs.Names.{Meaning, Scopes, left, without_first, without_locals, entered, declared, behind_item, behind_items}
+use Rattle.c_statements.specs.Statements.{FaultyItems}
+use Rattle.c_statements.proofs.Firsts.{Both, both-stop}
 use Rattle.c_types.specs.Files.{file_scopes}
-use Rattle.c_types.specs.Names.{Meaning, Scopes, left, without_first, without_locals, entered, declared, behind_item, behind_items}
 use Rattle.c_types.specs.Programs.{FaultyParameters, FaultyBody, behind_parameters, scopes_at}
-use Rattle.c_types.specs.Statements.{FaultyItems}
-use Rattle.c_types.proofs.Firsts.{Both, both-stop}
 
 around-item : (text : List ℕ) (sc : Scopes) (i : Item) → (behind_item text sc i).around ≡ sc.around
 around-item text sc (declare k x v) = refl

@@ -4,17 +4,17 @@ use Rattle.std.specs.Prelude.{bytes_eq, if◌then◌else◌}
 use Rattle.std.proofs.lemmas.Option.{none-some}
 use Rattle.c_front.specs.Tree as Tree
 use Rattle.c_tokens.specs.declared.token.Kind.TheVariants.{SignedInt, UnsignedInt}
-use Rattle.c_types.specs.declared.fault.FaultKind.TheVariants.{NoMain}
-use Rattle.c_types.specs.declared.names.Named.{Named}
-use Rattle.c_types.specs.declared.names.Named.TheVariants.{Function}
-use Rattle.c_types.specs.declared.fault.Stop.{Stop}
+use Rattle.c_statements.specs.declared.fault.FaultKind.TheVariants.{NoMain}
+use Rattle.c_statements.specs.declared.names.Named.{Named}
+use Rattle.c_statements.specs.declared.names.Named.TheVariants.{Function}
+use Rattle.c_statements.specs.declared.fault.Stop.{Stop}
+use Rattle.c_statements.specs.Faults.{Faults, HasNone, IsFirstFault, IsNoLater, StopsAtFirst, StopsBoth}
+use Rattle.c_statements.specs.Shape.{functions_of}
+use Rattle.c_statements.specs.Names.{Meaning, spelled}
+use Rattle.c_statements.proofs.Firsts.{Both, both-stop, ok-at}
 use Rattle.c_types.specs.declared.program.Parts.{Parts}
-use Rattle.c_types.specs.Faults.{Faults, HasNone, IsFirstFault, IsNoLater, StopsAtFirst, StopsBoth}
 use Rattle.c_types.specs.Files.{AreTyped}
-use Rattle.c_types.specs.Shape.{functions_of}
-use Rattle.c_types.specs.Names.{Meaning, spelled}
 use Rattle.c_types.specs.Programs.{File, FaultyDeclarations, FaultyName, FaultyProgram, IsNotMain, LacksMain, TypesProgram, after, after_all, main_name, name_of, named_by, no_declarations, no_main, other_main}
-use Rattle.c_types.proofs.Firsts.{Both, both-stop, ok-at}
 
 -- `main` isn't declared yet, or is a function without parameters that gives a result
 abbrev pub IsMainOr : Meaning → Type 0

@@ -1,12 +1,12 @@
 -- A program has at most one typed program.
 use Rattle.std.proofs.Common.{◌≡◌, ℕ, List, Option, Some, refl, sym, ap, ◌∙◌}
 use Rattle.c_front.specs.Tree as Tree
-use Rattle.c_types.specs.declared.names.Named.{Named}
-use Rattle.c_types.specs.declared.names.Named.TheVariants.{Function}
-use Rattle.c_types.specs.declared.typed.Global.{Global}
+use Rattle.c_statements.specs.declared.names.Named.{Named}
+use Rattle.c_statements.specs.declared.names.Named.TheVariants.{Function}
+use Rattle.c_statements.specs.declared.typed.Global.{Global}
+use Rattle.c_statements.specs.Typed.{TypedFunction, TypedProgram}
+use Rattle.c_statements.proofs.OnceStatements.{once-items}
 use Rattle.c_types.specs.Programs.{File, TypedDeclaration, TypesDeclaration, TypesDeclarations, TypesProgram, all_declared, array_typed, function_typed, functions_in, globals_in, more_declared, variable_typed}
-use Rattle.c_types.specs.Typed.{TypedFunction, TypedProgram}
-use Rattle.c_types.proofs.OnceStatements.{once-items}
 
 once-declaration : {text : List ℕ} {f : File} {d : Tree.Declaration} {t u : TypedDeclaration} → TypesDeclaration text f d t → TypesDeclaration text f d u → t ≡ u
 once-declaration variable_typed variable_typed = refl

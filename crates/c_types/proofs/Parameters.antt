@@ -3,16 +3,16 @@ use Rattle.std.proofs.Common.{◌≡◌, ◌≢◌, ◌≤◌, ℕ, List, Option
 use Rattle.std.specs.Prelude.{is_some}
 use Rattle.std.proofs.lemmas.Option.{none-some}
 use Rattle.c_tokens.specs.declared.token.Identifier.{Identifier}
-use Rattle.c_types.specs.declared.fault.FaultKind.{FaultKind}
-use Rattle.c_types.specs.declared.fault.FaultKind.TheVariants.{Redeclared, Count, Limit}
-use Rattle.c_types.specs.declared.fault.Stop.{Stop}
-use Rattle.c_types.specs.declared.fault.Stop.TheVariants.{Fault}
+use Rattle.c_statements.specs.declared.fault.FaultKind.{FaultKind}
+use Rattle.c_statements.specs.declared.fault.FaultKind.TheVariants.{Redeclared, Count, Limit}
+use Rattle.c_statements.specs.declared.fault.Stop.{Stop}
+use Rattle.c_statements.specs.declared.fault.Stop.TheVariants.{Fault}
 use Rattle.c_front.specs.declared.tree.Parameter.{Parameter}
-use Rattle.c_types.specs.Faults.{number_of, Faults, HasNone, StopsAtFirst, StopsBoth}
-use Rattle.c_types.specs.Names.{Scopes, spelled, declared}
-use Rattle.c_types.specs.Statements.{declared_before, local_too_many}
+use Rattle.c_statements.specs.Faults.{number_of, Faults, HasNone, StopsAtFirst, StopsBoth}
+use Rattle.c_statements.specs.Names.{Scopes, spelled, declared}
+use Rattle.c_statements.specs.Statements.{declared_before, local_too_many}
+use Rattle.c_statements.proofs.Firsts.{Both, Tells, tells-same, tells-both}
 use Rattle.c_types.specs.Programs.{FaultyParameter, FaultyParameters, behind_parameters, faulty_declarator, fifth_parameter}
-use Rattle.c_types.proofs.Firsts.{Both, Tells, tells-same, tells-both}
 
 some-there : {A : Type 0} (o : Option A) → is_some o ≡ true → o ≢ None
 some-there (Some a) h e = none-some _ (sym e)

@@ -1,24 +1,24 @@
 -- What the walk over the declarations keeps.
 use Rattle.std.specs.Prelude.{length, [], ◌∷◌, ◌++◌, Result, Ok, ◌≡◌, ◌<◌, ◌⊎◌, ℕ, List, Option, Some, Bool, true, false, nat_eq, bytes_eq}
 use Rattle.c_front.specs.Tree.{Declaration, Items, variable, array, function}
+use Rattle.c_statements.specs.declared.scopes.Frame.{Frame}
+use Rattle.c_statements.specs.Held.{scopes_of}
 use Rattle.c_types.specs.declared.declaration.Tally.{Tally}
-use Rattle.c_types.specs.declared.scopes.Frame.{Frame}
-use Rattle.c_types.specs.Held.{held}
 use Rattle.c_front.specs.declared.tree.Parameter.{Parameter}
 use Rattle.c_tokens.specs.declared.token.Identifier.{Identifier}
 use Rattle.c_tokens.specs.declared.token.Kind.{Kind}
-use Rattle.c_types.specs.Names.{Meaning, Scopes, spelled, behind_items}
+use Rattle.c_statements.specs.Names.{Meaning, Scopes, spelled, behind_items}
+use Rattle.c_statements.specs.Shape.{function_of, functions_of}
+use Rattle.c_statements.specs.declared.fault.Stop.{Stop}
+use Rattle.c_statements.specs.Typed.{TypedFunction, TypedStatements}
+use Rattle.c_statements.specs.Types.{TypesItems}
 use Rattle.c_types.specs.Programs.{File, IsNotMain, main_name, name_of, scopes_at, behind_parameters, closing, with_last, TypedDeclaration, a_global, a_function, TypesDeclarations, no_declarations, functions_in, globals_in}
-use Rattle.c_types.specs.Shape.{function_of, functions_of}
 use Rattle.c_types.specs.declared.program.Declared.{Declared}
 use Rattle.c_types.specs.declared.program.Declared.TheVariants.{Variable, Function}
 use Rattle.c_types.specs.declared.program.Parts.{Parts}
-use Rattle.c_types.specs.declared.fault.Stop.{Stop}
-use Rattle.c_types.specs.Typed.{TypedFunction, TypedStatements}
-use Rattle.c_types.specs.Types.{TypesItems}
 
 abbrev pub file_of : Frame → Tally → File
-file_of f t = record { names = held f.inner; tally = t }
+file_of f t = record { names = (scopes_of f).inner; tally = t }
 
 -- the 257th function, or the global with which the words are exceeded
 abbrev pub Exceeds : Tally → Declaration → Type 0

@@ -1,12 +1,4 @@
-pub mod Names
-pub mod Faults
-pub mod Uses
-pub mod Typed
-pub mod Calls
 pub mod Shape
-pub mod Statements
-pub mod Types
-pub mod Held
 pub mod Programs
 pub mod Files
 pub mod WellFormed

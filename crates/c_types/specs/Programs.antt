@@ -7,16 +7,16 @@ use Rattle.c_tokens.specs.declared.token.Literal.{Literal}
 use Rattle.c_front.specs.declared.tree.Initial.{Initial}
 use Rattle.c_front.specs.declared.tree.Parameter.{Parameter}
 use Rattle.c_front.specs.Tree.{Declaration, variable, array, function, Items}
-use Rattle.c_types.specs.declared.fault.FaultKind.{FaultKind}
-use Rattle.c_types.specs.declared.fault.FaultKind.TheVariants.{Redeclared, Kind as KindFault, Count, NoMain, Limit}
-use Rattle.c_types.specs.declared.names.Named.{Named}
-use Rattle.c_types.specs.declared.names.Named.TheVariants.{Global, Array, Function, Out}
+use Rattle.c_statements.specs.declared.fault.FaultKind.{FaultKind}
+use Rattle.c_statements.specs.declared.fault.FaultKind.TheVariants.{Redeclared, Kind as KindFault, Count, NoMain, Limit}
+use Rattle.c_statements.specs.declared.names.Named.{Named}
+use Rattle.c_statements.specs.declared.names.Named.TheVariants.{Global, Array, Function, Out}
+use Rattle.c_statements.specs.declared.typed.Global as Typed
+use Rattle.c_statements.specs.Names.{Meaning, Scopes, spelled, nothing, with_name, declared, behind_items}
+use Rattle.c_statements.specs.Statements.{FaultyDeclarator, FaultyItems}
+use Rattle.c_statements.specs.Typed.{TypedFunction, TypedStatements, TypedProgram, no_statements, more_statements, return_with, constant}
+use Rattle.c_statements.specs.Types.{TypesItems}
 use Rattle.c_types.specs.declared.declaration.Tally.{Tally}
-use Rattle.c_types.specs.declared.typed.Global as Typed
-use Rattle.c_types.specs.Names.{Meaning, Scopes, spelled, nothing, with_name, declared, behind_items}
-use Rattle.c_types.specs.Statements.{FaultyDeclarator, FaultyItems}
-use Rattle.c_types.specs.Typed.{TypedFunction, TypedStatements, TypedProgram, no_statements, more_statements, return_with, constant}
-use Rattle.c_types.specs.Types.{TypesItems}
 
 -- the bytes of `main` and of `out`
 abbrev pub main_name : List ℕ

@@ -3,12 +3,12 @@
 use Rattle.std.specs.Prelude.{◌≡◌, ◌<◌, ◌≤◌, ◌+◌, ℕ, List, [], ◌∷◌, Option, Some, None, Bool, true, false, length, is_some, slice_get, All}
 use Rattle.c_tokens.specs.declared.token.Kind.TheVariants.{SignedInt}
 use Rattle.c_front.specs.Tree.{Declaration}
-use Rattle.c_types.specs.declared.typed.Place.{Place}
-use Rattle.c_types.specs.declared.typed.Place.TheVariants.{Local, Global as Variable}
-use Rattle.c_types.specs.declared.typed.Global.{Global}
-use Rattle.c_types.specs.Faults.{HasNone}
+use Rattle.c_statements.specs.declared.typed.Place.{Place}
+use Rattle.c_statements.specs.declared.typed.Place.TheVariants.{Local, Global as Variable}
+use Rattle.c_statements.specs.declared.typed.Global.{Global}
+use Rattle.c_statements.specs.Faults.{HasNone}
 use Rattle.c_types.specs.Programs.{FaultyProgram, TypesProgram}
-use Rattle.c_types.specs.Typed.{TypedExpression, TypedStatement, TypedStatements, TypedFunction, TypedProgram, constant, local, global, element, unary, binary, choose, kind_of, prefix_kind, operation_kind, common_kind, empty, block, unset, assign, store, run, output, branch, loop, leave, next_turn, return_with, no_statements, more_statements}
+use Rattle.c_statements.specs.Typed.{TypedExpression, TypedStatement, TypedStatements, TypedFunction, TypedProgram, constant, local, global, element, unary, binary, choose, kind_of, prefix_kind, operation_kind, common_kind, empty, block, unset, assign, store, run, output, branch, loop, leave, next_turn, return_with, no_statements, more_statements}
 
 -- in a function with so many locals, each local and global is there, and an operator computes in the kind that its
 -- operands give (C99 6.3.1.8, 6.5)

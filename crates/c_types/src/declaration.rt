@@ -1,16 +1,16 @@
 ghost use Rattle.std.specs.Prelude.{◌≡◌, ◌<◌, ◌+◌, ◌^◌, IfOk, IfErr, true, false, bytes_eq};
 ghost use Rattle.c_front.specs.Shape.{declaration_of};
-ghost use Rattle.c_types.specs.Faults.{HasNone, StopsAtFirst};
+ghost use Rattle.c_statements.specs.Faults.{HasNone, StopsAtFirst};
+ghost use Rattle.c_statements.specs.Held.{scopes_of};
+ghost use Rattle.c_statements.specs.Names.{spelled};
 ghost use Rattle.c_types.specs.Files.{file_of, Exceeds, IsOtherKind, is_array_of_nothing};
-ghost use Rattle.c_types.specs.Held.{scopes_of};
-ghost use Rattle.c_types.specs.Names.{spelled};
 ghost use Rattle.c_types.specs.Programs.{FaultyName, FaultyParameter, FaultyParameters, behind_parameters, IsNotMain, first_word, main_name, name_of, named_by, room_after, tally_after, words_of};
 
-use crate::expression::misuse;
-use crate::fault::{FaultKind, Stop, either};
-use crate::names::Named;
-use crate::scopes::Frame;
 use c_front::tree::{Declaration, Initial, Parameter, Program};
+use c_statements::expression::misuse;
+use c_statements::fault::{FaultKind, Stop, either};
+use c_statements::names::Named;
+use c_statements::scopes::Frame;
 use c_tokens::token::{Identifier, Kind};
 use std::alloc::AllocError;
 

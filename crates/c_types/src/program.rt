@@ -1,23 +1,25 @@
 ghost use Rattle.std.specs.Prelude.{◌≡◌, ◌⊎◌, ℕ, List, Some, true, IfOk, IfErr, OnOk, Err};
 ghost use Rattle.c_front.specs.Shape.{declaration_of, declarations_of, items_of};
 ghost use Rattle.c_front.specs.Tree.{function, Declaration as DeclarationTree};
-ghost use Rattle.c_types.specs.declared.fault.Stop.TheVariants.{NoMemory};
-ghost use Rattle.c_types.specs.declared.names.Named.TheVariants.{Function as NamedFunction};
-ghost use Rattle.c_types.specs.Faults.{HasNone, IsCheckFault, StopsAtFirst, StopsBoth};
+ghost use Rattle.c_statements.specs.declared.fault.Stop.TheVariants.{NoMemory};
+ghost use Rattle.c_statements.specs.declared.names.Named.TheVariants.{Function as NamedFunction};
+ghost use Rattle.c_statements.specs.Faults.{HasNone, IsCheckFault, StopsAtFirst, StopsBoth};
+ghost use Rattle.c_statements.specs.Held.{scopes_of};
+ghost use Rattle.c_statements.specs.Shape.{function_of, statements_of};
+ghost use Rattle.c_statements.specs.Typed.{TypedProgram};
 ghost use Rattle.c_types.specs.Files.{AreTyped, IsFunction, IsWith, declared_of, file_of, file_scopes};
-ghost use Rattle.c_types.specs.Held.{scopes_of};
 ghost use Rattle.c_types.specs.Programs.{File, FaultyBody, FaultyDeclaration, FaultyDeclarations, FaultyProgram, LacksMain, TypesDeclaration, TypesProgram, after, after_all, closing, no_declarations, with_last};
-ghost use Rattle.c_types.specs.Shape.{function_of, statements_of};
-ghost use Rattle.c_types.specs.Typed.{TypedProgram};
+ghost use Rattle.c_types.specs.Shape.{program_of};
 ghost use Rattle.c_types.specs.WellFormed.{EachTypedProgramIsWellFormed};
 
 use crate::declaration::{Tally, declared_name, first, is_main, name_fault, parameters};
-use crate::fault::{FaultKind, Stop, TypeFault, both};
-use crate::names::Named;
-use crate::scopes::Frame;
-use crate::statement::{items, lasting};
-use crate::typed::{Function, Global as Variable, Statement, Term, Typed};
+use crate::typed::Typed;
 use c_front::tree::{Declaration, FunctionDefinition, Program};
+use c_statements::fault::{FaultKind, Stop, TypeFault, both};
+use c_statements::names::Named;
+use c_statements::scopes::Frame;
+use c_statements::statement::{items, lasting};
+use c_statements::typed::{Function, Global as Variable, Statement, Term};
 use c_tokens::token::{Kind, Literal};
 use std::alloc::{AllocError, AllocFailed, Global};
 
@@ -216,7 +218,7 @@ fn number_of(found: Option<Named>) -> usize
 
 /// The typed program, or its first fault.
 fn typed(alloc: Global, program: &Program) -> Result<Typed, Stop>
-    ensures ok { IfOk result (TypesProgram program.now.text.items (declarations_of program.now.declarations.items)) }
+    ensures ok { IfOk result (λ t. TypesProgram program.now.text.items (declarations_of program.now.declarations.items) (program_of t)) }
     ensures none { IfOk result (λ t. HasNone (FaultyProgram program.now.text.items (declarations_of program.now.declarations.items))) }
     ensures err { IfErr result (StopsAtFirst (FaultyProgram program.now.text.items (declarations_of program.now.declarations.items))) }
 {
@@ -232,7 +234,7 @@ fn typed(alloc: Global, program: &Program) -> Result<Typed, Stop>
 /// The typed program of a program that was read, exactly where it has no fault; else the fault with the least offset,
 /// and of these the least number. Where memory is refused that is told in place of any of these, at the text's length.
 pub fn check(alloc: Global, program: Program) -> Result<Typed, TypeFault>
-    ensures ok { IfOk result (TypesProgram program.text.items (declarations_of program.declarations.items)) }
+    ensures ok { IfOk result (λ t. TypesProgram program.text.items (declarations_of program.declarations.items) (program_of t)) }
     ensures none { IfOk result (λ t. HasNone (FaultyProgram program.text.items (declarations_of program.declarations.items))) }
     ensures err { IfErr result (IsCheckFault program.text.items (FaultyProgram program.text.items (declarations_of program.declarations.items))) }
 {

@@ -3,8 +3,8 @@ use Rattle.std.specs.Prelude.{◌≡◌, ℕ, List}
 use Rattle.words.specs.Runs.{Outcome}
 use Rattle.c_front.specs.Tree.{Declaration}
 use Rattle.c_front.specs.Texts.{SpellsText, IsTextFault}
-use Rattle.c_types.specs.Typed.{TypedProgram}
-use Rattle.c_types.specs.Faults.{IsCheckFault}
+use Rattle.c_statements.specs.Typed.{TypedProgram}
+use Rattle.c_statements.specs.Faults.{IsCheckFault}
 use Rattle.c_types.specs.Programs.{FaultyProgram, TypesProgram}
 use Rattle.c_run.specs.Meaning.{source_run}
 use Rattle.driver.specs.declared.interpreting.InterpFault.{InterpFault}

@@ -10,9 +10,9 @@ use Rattle.words.specs.declared.ran.End.TheVariants.{Done, Wrong, More}
 use Rattle.c_front.specs.declared.read.FaultKind.{FaultKind}
 use Rattle.c_front.specs.declared.read.FaultKind.TheVariants as front
 use Rattle.c_front.specs.Texts.{number_of}
-use Rattle.c_types.specs.declared.fault.FaultKind.{FaultKind as TypeFaultKind}
-use Rattle.c_types.specs.declared.fault.FaultKind.TheVariants as types
-use Rattle.c_types.specs.Faults.{number_of as type_number_of}
+use Rattle.c_statements.specs.declared.fault.FaultKind.{FaultKind as TypeFaultKind}
+use Rattle.c_statements.specs.declared.fault.FaultKind.TheVariants as types
+use Rattle.c_statements.specs.Faults.{number_of as type_number_of}
 use Rattle.driver.specs.declared.interpreting.InterpFault.{InterpFault}
 use Rattle.driver.specs.declared.interpreting.InterpFault.TheVariants as interp_faults
 use Rattle.driver.specs.declared.checking.CheckAnswer.{CheckAnswer}

@@ -4,7 +4,7 @@ ghost use Rattle.driver.specs.Interps.{IsInterpFault, IsRun};
 
 use c_front::read::{FrontFault, read};
 use c_run::run;
-use c_types::fault::TypeFault;
+use c_statements::fault::TypeFault;
 use c_types::program::check;
 use std::alloc::Global;
 use words::Ran;

@@ -8,7 +8,7 @@ use crate::checking::{CheckAnswer, CheckFault};
 use crate::interpreting::InterpFault;
 use block_validator::Place;
 use c_front::read::FaultKind as FrontKind;
-use c_types::fault::FaultKind as TypeKind;
+use c_statements::fault::FaultKind as TypeKind;
 use mblock::Unclean;
 use std::fmt;
 use words::End;

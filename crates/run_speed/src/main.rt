@@ -4,8 +4,9 @@
 
 use c_front::tree::BinaryOp;
 use c_run::run;
+use c_statements::typed::{Function, Global as Variable, Place, Statement, Term};
 use c_tokens::token::{Kind, Literal};
-use c_types::typed::{Function, Global as Variable, Place, Statement, Term, Typed};
+use c_types::typed::Typed;
 use std::alloc::{AllocError, Global};
 use std::io;
 use std::time::Instant;

@@ -1,5 +1,5 @@
 use Rattle.std.proofs.Common.{sym, ◌∙◌}
-use Rattle.c_types.specs.Held.{scopes_of}
+use Rattle.c_statements.specs.Held.{scopes_of}
 use Rattle.c_types.proofs.Parameters.{again-stops, fifth-stops, limit-stops}
 use Rattle.c_types.proofs.declaration.parameter_fault.Goals as goal
 

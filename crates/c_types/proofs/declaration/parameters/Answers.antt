@@ -2,10 +2,10 @@ use Rattle.std.proofs.Common.{◌∙◌, sym, ap, take, get_or}
 use Rattle.std.proofs.lemmas.List.{take_all, take_more}
 use Rattle.c_front.specs.declared.tree.Parameter.{Parameter}
 use Rattle.c_tokens.specs.declared.token.Kind.TheVariants.{SignedInt}
-use Rattle.c_types.specs.Held.{scopes_of}
-use Rattle.c_types.specs.Names.{Scopes, declared}
+use Rattle.c_statements.specs.Held.{scopes_of}
+use Rattle.c_statements.specs.Names.{Scopes, declared}
+use Rattle.c_statements.proofs.Firsts.{Tells}
 use Rattle.c_types.specs.Programs.{FaultyParameters}
-use Rattle.c_types.proofs.Firsts.{Tells}
 use Rattle.c_types.proofs.Parameters.{one-more, behind-more}
 use Rattle.c_types.proofs.declaration.parameters.Goals as goal
 

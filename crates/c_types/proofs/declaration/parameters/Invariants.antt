@@ -1,7 +1,7 @@
 use Rattle.std.proofs.Common.{◌≡◌, take}
-use Rattle.c_types.specs.Held.{scopes_of}
+use Rattle.c_statements.specs.Held.{scopes_of}
+use Rattle.c_statements.proofs.Firsts.{Tells}
 use Rattle.c_types.specs.Programs.{FaultyParameters, behind_parameters}
-use Rattle.c_types.proofs.Firsts.{Tells}
 use Rattle.c_types.proofs.declaration.parameters.Given as goal
 
 abbrev pub invariant-loop-parameter : goal.invariant-loop-parameter

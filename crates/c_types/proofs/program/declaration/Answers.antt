@@ -1,9 +1,9 @@
 use Rattle.std.proofs.Common.{rules, refl, subst, Result}
 use Rattle.c_front.specs.Shape.{declaration_of}
-use Rattle.c_types.specs.declared.fault.Stop.{Stop}
-use Rattle.c_types.specs.Faults.{StopsAtFirst, StopsBoth}
+use Rattle.c_statements.specs.declared.fault.Stop.{Stop}
+use Rattle.c_statements.specs.Faults.{StopsAtFirst, StopsBoth}
+use Rattle.c_statements.specs.Held.{scopes_of}
 use Rattle.c_types.specs.Files.{file_of}
-use Rattle.c_types.specs.Held.{scopes_of}
 use Rattle.c_types.specs.Programs.{FaultyDeclaration}
 use Rattle.c_types.proofs.Declarations.{declaration-stop}
 use Rattle.c_types.proofs.program.declaration.Goals as goal

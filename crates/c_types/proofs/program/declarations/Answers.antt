@@ -2,15 +2,15 @@ use Rattle.std.proofs.Common.{◌≡◌, sym, ap, ◌∙◌, subst, take, arith,
 use Rattle.std.proofs.lemmas.List.{take_all}
 use Rattle.c_front.specs.Shape.{declaration_of, declarations_of}
 use Rattle.c_front.specs.Tree as Tree
+use Rattle.c_statements.specs.declared.fault.Stop.{Stop}
+use Rattle.c_statements.specs.Held.{scopes_of}
+use Rattle.c_statements.specs.Names.{Scopes}
+use Rattle.c_statements.proofs.Joined.{Answered}
 use Rattle.c_types.specs.declared.declaration.Tally.{Tally}
-use Rattle.c_types.specs.declared.fault.Stop.{Stop}
 use Rattle.c_types.specs.declared.program.Declared.{Declared}
 use Rattle.c_types.specs.Files.{declared_of, file_of, file_scopes}
-use Rattle.c_types.specs.Held.{scopes_of}
-use Rattle.c_types.specs.Names.{Scopes}
 use Rattle.c_types.specs.Programs.{File, FaultyDeclaration, TypesDeclaration, after, after_all, no_declarations}
 use Rattle.c_types.proofs.Declarations.{SoFar, after-more, functions-grow, globals-grow, none-so-far, one-so-far}
-use Rattle.c_types.proofs.Joined.{Answered}
 use Rattle.c_types.proofs.program.declarations.Goals as goal
 
 pub loop-one-init : goal.loop-one-init

@@ -1,7 +1,7 @@
 use Rattle.std.proofs.Common.{◌≡◌, ◌≤◌, take}
 use Rattle.c_front.specs.Shape.{declarations_of}
+use Rattle.c_statements.specs.Held.{scopes_of}
 use Rattle.c_types.specs.Files.{file_of, file_scopes}
-use Rattle.c_types.specs.Held.{scopes_of}
 use Rattle.c_types.specs.Programs.{after_all, no_declarations}
 use Rattle.c_types.proofs.Declarations.{SoFar}
 use Rattle.c_types.proofs.program.declarations.Given as goal

@@ -1,9 +1,9 @@
 use Rattle.std.proofs.Common.{rules, sym, subst, Result}
 use Rattle.c_front.specs.Shape.{items_of}
 use Rattle.c_front.specs.Tree.{function}
-use Rattle.c_types.specs.declared.fault.Stop.{Stop}
-use Rattle.c_types.specs.Faults.{StopsAtFirst, StopsBoth}
-use Rattle.c_types.specs.Held.{scopes_of}
+use Rattle.c_statements.specs.declared.fault.Stop.{Stop}
+use Rattle.c_statements.specs.Faults.{StopsAtFirst, StopsBoth}
+use Rattle.c_statements.specs.Held.{scopes_of}
 use Rattle.c_types.specs.Programs.{FaultyBody}
 use Rattle.c_types.proofs.Functions.{back, body-stop}
 use Rattle.c_types.proofs.program.function.Goals as goal

@@ -1,5 +1,5 @@
 use Rattle.std.proofs.Common.{rules, sym, ◌∙◌}
-use Rattle.c_types.specs.Held.{scopes_of}
+use Rattle.c_statements.specs.Held.{scopes_of}
 use Rattle.c_types.proofs.Main.{no-main-first}
 use Rattle.c_types.proofs.program.has_main.Goals as goal
 

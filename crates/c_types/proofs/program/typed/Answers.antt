@@ -1,13 +1,13 @@
 use Rattle.std.proofs.Common.{◌≡◌, rules, sym, ap, ◌∙◌, subst, Result}
 use Rattle.c_front.specs.Shape.{declarations_of}
-use Rattle.c_types.specs.declared.fault.Stop.{Stop}
+use Rattle.c_statements.specs.declared.fault.Stop.{Stop}
+use Rattle.c_statements.specs.Faults.{StopsAtFirst, StopsBoth}
+use Rattle.c_statements.specs.Held.{scopes_of}
+use Rattle.c_statements.specs.Names.{Scopes}
+use Rattle.c_statements.proofs.Firsts.{ok-at}
 use Rattle.c_types.specs.declared.program.Parts.{Parts}
-use Rattle.c_types.specs.Faults.{StopsAtFirst, StopsBoth}
 use Rattle.c_types.specs.Files.{AreTyped}
-use Rattle.c_types.specs.Held.{scopes_of}
-use Rattle.c_types.specs.Names.{Scopes}
 use Rattle.c_types.specs.Programs.{FaultyProgram, after_all, no_declarations}
-use Rattle.c_types.proofs.Firsts.{ok-at}
 use Rattle.c_types.proofs.Main.{main-found, program-stop, typed-program}
 use Rattle.c_types.proofs.program.typed.Goals as goal
 
@@ -30,5 +30,5 @@ pub returns-clause-ok : goal.returns-clause-ok
 returns-clause-ok c =
     let there : (scopes_of c.declarations.new.frame).inner ≡ (after_all c.args.program.now.text.items no_declarations (declarations_of c.as_slice-all.result.now)).names = ap (λ (s : Scopes). s.inner) (c.declarations.ensures.scopes c.in_ok-parts.ensures.ok.1) in
     let e : c.declarations.result ≡ _ = sym c.in_ok-parts.ensures.ok.0 ∙ c.in_ok-parts-2.ensures.ok.0 in
-    rw (sym c.as_slice-all.ensures.value) (typed-program c.args.program.now.text.items (declarations_of c.as_slice-all.result.now) (scopes_of c.declarations.new.frame).inner c.in_ok-parts-2.parts c.number_of-main.result c.innermost.result
+    rw (c.new.ensures, sym c.as_slice-all.ensures.value) (typed-program c.args.program.now.text.items (declarations_of c.as_slice-all.result.now) (scopes_of c.declarations.new.frame).inner c.in_ok-parts-2.parts c.number_of-main.result c.innermost.result
     (ok-at (AreTyped c.args.program.now.text.items (declarations_of c.as_slice-all.result.now)) c.declarations.result c.in_ok-parts-2.parts e c.declarations.ensures.ok) there c.innermost.ensures c.number_of-main.ensures)

@@ -1,0 +1,89 @@
+-- Calls: which of their faults is the least.
+use Rattle.std.proofs.Common.{◌≡◌, ◌≢◌, ◌≤◌, ℕ, Option, Some, Bool, true, false, subst, arith}
+use Rattle.c_tokens.specs.declared.token.Identifier.{Identifier}
+use Rattle.c_statements.specs.declared.names.Named.{Named}
+use Rattle.c_statements.specs.declared.names.Named.TheVariants.{Local, Global, Array, Function, Out}
+use Rattle.c_statements.specs.declared.call.Target.{Target}
+use Rattle.c_statements.specs.declared.fault.FaultKind.{FaultKind}
+use Rattle.c_statements.specs.declared.fault.FaultKind.TheVariants.{Kind as KindFault, Count}
+use Rattle.c_statements.specs.Calls.{IsTarget, function_target, out_target, Signs, function_signs, out_signs, IsNoFunction}
+use Rattle.c_statements.specs.Faults.{number_of, IsFirstFault, HasNone}
+use Rattle.c_statements.specs.Names.{Sight}
+use Rattle.c_statements.specs.Uses.{Use, as_call, IsWrong, Misused, local_called, global_called, array_called, void_used, out_used, other_count, other_count_out}
+use Rattle.c_statements.proofs.Uses.{first-misuse}
+
+-- the result is used only where there is one
+abbrev pub Serves : Bool → Bool → Type 0
+Serves true false = ⊥
+Serves true true = Unit {0}
+Serves false r = Unit {0}
+
+no-function : (m : Named) (c : ℕ) (w : Bool) → IsNoFunction m → IsWrong (Some m) (as_call c w) KindFault
+no-function (Local n k) c w h = local_called
+no-function (Global n k) c w h = global_called
+no-function (Array n k) c w h = array_called
+no-function (Function f n r) c w h = absurd h
+no-function Out c w h = absurd h
+
+void-wrong : (m : Named) (t : Target) (n : ℕ) (r : Bool) (c : ℕ) → Signs m t n r → r ≡ false → IsWrong (Some m) (as_call c true) KindFault
+void-wrong m t n r c function_signs e = rw e void_used
+void-wrong m t n r c out_signs e = out_used
+
+count-wrong : (m : Named) (t : Target) (n : ℕ) (r : Bool) (c : ℕ) (w : Bool) → Signs m t n r → c ≢ n → IsWrong (Some m) (as_call c w) Count
+count-wrong m t n r c w function_signs h = other_count h
+count-wrong m t n r c w out_signs h = other_count_out h
+
+call-least : (m : Named) (c : ℕ) (w : Bool) (j : FaultKind) → IsWrong (Some m) (as_call c w) j → 12 ≤ number_of j
+call-least m c w j local_called = omega arith
+call-least m c w j global_called = omega arith
+call-least m c w j array_called = omega arith
+call-least m c w j void_used = omega arith
+call-least m c w j out_used = omega arith
+call-least m c w j (other_count h) = omega arith
+call-least m c w j (other_count_out h) = omega arith
+
+count-least : (m : Named) (t : Target) (n : ℕ) (r : Bool) (c : ℕ) (w : Bool) (j : FaultKind) → Signs m t n r → Serves w r → IsWrong (Some m) (as_call c w) j → 13 ≤ number_of j
+count-least m t n r c w j function_signs s void_used = absurd s
+count-least m t n r c w j function_signs s (other_count h) = omega arith
+count-least m t n r c w j out_signs s out_used = absurd s
+count-least m t n r c w j out_signs s (other_count_out h) = omega arith
+
+right : (m : Named) (t : Target) (n : ℕ) (r : Bool) (c : ℕ) (w : Bool) (j : FaultKind) → Signs m t n r → Serves w r → c ≡ n → IsWrong (Some m) (as_call c w) j → ⊥
+right m t n r c w j function_signs s e void_used = s
+right m t n r c w j function_signs s e (other_count h) = h e
+right m t n r c w j out_signs s e out_used = s
+right m t n r c w j out_signs s e (other_count_out h) = h e
+
+moved : (x : Option Named) (m : Named) (u : Use) (j : FaultKind) → x ≡ Some m → IsWrong x u j → IsWrong (Some m) u j
+moved x m u j e w = let Q : Option Named → Type 0 = λ y. IsWrong y u j in subst Q e w
+
+pub no-function-first : (sight : Sight) (x : Identifier) (m : Named) (c : ℕ) (w : Bool) → sight x ≡ Some m → IsNoFunction m → IsFirstFault (Misused sight x (as_call c w)) KindFault x.at
+no-function-first sight x m c w e h = first-misuse sight x (as_call c w) KindFault (rw e (no-function m c w h)) (λ j v. call-least m c w j (moved _ m _ j e v))
+
+pub void-first : (sight : Sight) (x : Identifier) (m : Named) (t : Target) (n : ℕ) (r : Bool) (c : ℕ) (w : Bool) → sight x ≡ Some m → Signs m t n r → w ≡ true → r ≡ false → IsFirstFault (Misused sight x (as_call c w)) KindFault x.at
+void-first sight x m t n r c w e h i f = first-misuse sight x (as_call c w) KindFault (rw (e, i) (void-wrong m t n r c h f)) (λ j v. call-least m c w j (moved _ m _ j e v))
+
+pub count-first : (sight : Sight) (x : Identifier) (m : Named) (t : Target) (n : ℕ) (r : Bool) (c : ℕ) (w : Bool) → sight x ≡ Some m → Signs m t n r → Serves w r → c ≢ n → IsFirstFault (Misused sight x (as_call c w)) Count x.at
+count-first sight x m t n r c w e h s i = first-misuse sight x (as_call c w) Count (rw e (count-wrong m t n r c w h i)) (λ j v. count-least m t n r c w j h s (moved _ m _ j e v))
+
+pub call-right : (sight : Sight) (x : Identifier) (m : Named) (t : Target) (n : ℕ) (r : Bool) (c : ℕ) (w : Bool) → sight x ≡ Some m → Signs m t n r → Serves w r → c ≡ n → HasNone (Misused sight x (as_call c w))
+call-right sight x m t n r c w e h s i k at v = right m t n r c w k h s i (moved _ m _ k e v.0)
+
+pub target-is : (y : Option Named) (m : Named) (t : Target) (n : ℕ) (r : Bool) → y ≡ Some m → Signs m t n r → IsTarget y t
+target-is y m t n r e function_signs = rw e function_target
+target-is y m t n r e out_signs = rw e out_target
+
+pub serves-result : (w r : Bool) → r ≡ true → Serves w r
+serves-result true true e = tt
+serves-result true false e = absurd-bool e
+  where
+    absurd-bool : false ≡ true → ⊥
+    absurd-bool e = cc
+serves-result false r e = tt
+
+pub serves-unwanted : (w r : Bool) → w ≡ false → Serves w r
+serves-unwanted true r e = absurd (differ e)
+  where
+    differ : true ≡ false → ⊥
+    differ e = cc
+serves-unwanted false r e = tt

@@ -1,0 +1,43 @@
+-- What a function that types a part answers, and such answers put together.
+use Rattle.std.proofs.Common.{◌≡◌, ◌⊎◌, ℕ, List, [], ◌∷◌, ◌++◌, Result, Ok, Err, IfOk, IfErr, inl, inr, sym, subst}
+use Rattle.std.specs.declared.vec.Vec.{Vec}
+use Rattle.std.specs.declared.alloc.Global.{Global}
+use Rattle.c_statements.specs.declared.fault.FaultKind.{FaultKind}
+use Rattle.c_statements.specs.declared.fault.Stop.{Stop}
+use Rattle.c_statements.specs.declared.fault.Stop.TheVariants.{Fault, NoMemory}
+use Rattle.c_statements.specs.Faults.{Faults, StopsAtFirst, HasNone, StopsBoth}
+use Rattle.c_statements.proofs.Firsts.{Both, both-none, both-stop, ok-at}
+
+-- a part whose typed trees have a property, and which has these faults
+pub record Answered {A : Type 0} (P : A → Type 0) (p : Faults) (r : Result A Stop) : Type 0 where
+  pub ok : IfOk r P
+  pub none : IfOk r (λ x. HasNone p)
+  pub err : IfErr r (StopsAtFirst p)
+
+-- two sets with the same members
+pub record Same (p q : Faults) : Type 0 where
+  pub to : (k : FaultKind) (at : ℕ) → p k at → q k at
+  pub from : (k : FaultKind) (at : ℕ) → q k at → p k at
+
+pub same-none : (p q : Faults) → Same p q → HasNone p → HasNone q
+same-none p q s h k at x = h k at (s.from k at x)
+
+pub same-stop : (p q : Faults) (s : Stop) → Same p q → StopsAtFirst p s → StopsAtFirst q s
+same-stop p q (Fault f) s h = record { has = s.to _ _ h.has; first = λ j n x. h.first j n (s.from j n x) }
+same-stop p q NoMemory s h = tt
+
+-- a list with one more part
+pub one-more : {T : Type 0} (P W : List T → Type 0) (Q : T → Type 0) (p q w : Faults) (all r : Result (Vec T Global) Stop) (one : Result T Stop) → Same (Both p q) w
+    → ((xs : List T) (x : T) → P xs → Q x → W (xs ++ x ∷ [])) → Answered (λ (v : Vec T Global). P v.items) p all → Answered Q q one
+    → IfOk r (λ v. (xs : Vec T Global) × (x : T) × (all ≡ Ok xs) × (one ≡ Ok x) × (v.items ≡ xs.items ++ x ∷ [])) → IfErr r (λ s. (s ≡ NoMemory) ⊎ StopsBoth all one s)
+    → Answered (λ (v : Vec T Global). W v.items) w r
+one-more P W Q p q w all (Ok v) one s more h l e f = record {
+  ok = subst W (sym e.4) (more e.0.items e.1 (ok-at (λ y. P y.items) all e.0 e.2 h.ok) (ok-at Q one e.1 e.3 l.ok));
+  none = same-none (Both p q) w s (both-none p q (ok-at (λ y. HasNone p) all e.0 e.2 h.none) (ok-at (λ y. HasNone q) one e.1 e.3 l.none));
+  err = tt;
+}
+one-more P W Q p q w all (Err t) one s more h l e f = record { ok = tt; none = tt; err = stopped f }
+  where
+    stopped : (t ≡ NoMemory) ⊎ StopsBoth all one t → StopsAtFirst w t
+    stopped (inl g) = subst (StopsAtFirst w) (sym g) tt
+    stopped (inr g) = same-stop (Both p q) w t s (both-stop p q all one t h.none h.err l.none l.err g)

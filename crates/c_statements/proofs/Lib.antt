@@ -1,0 +1,12 @@
+pub mod Firsts
+pub mod Uses
+pub mod Once
+pub mod Calls
+pub mod Joined
+pub mod Arguments
+pub mod CallsTyped
+pub mod Declarators
+pub mod Items
+pub mod Weights
+pub mod Joins
+pub mod OnceStatements

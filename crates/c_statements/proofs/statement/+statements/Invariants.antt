@@ -1,0 +1,37 @@
+use Rattle.std.proofs.Common.{◌≡◌, ◌+◌, take}
+use Rattle.c_front.specs.Shape.{statement_of, item_of, items_of}
+use Rattle.c_statements.specs.Held.{scopes_of}
+use Rattle.c_statements.specs.Names.{behind_items}
+use Rattle.c_statements.proofs.Items.{ItemsSoFar}
+use Rattle.c_statements.proofs.Weights.{weight, weight_of, weight_all}
+use Rattle.c_statements.proofs.statement.+statements.Given as goal
+
+abbrev pub decreases-statement : goal.decreases-statement
+decreases-statement l = weight (statement_of l.s.now)
+
+abbrev pub decreases-block : goal.decreases-block
+decreases-block l = weight_all (items_of l.all.now) + 2
+
+abbrev pub decreases-items : goal.decreases-items
+decreases-items l = weight_all (items_of l.all.now) + 1
+
+abbrev pub decreases-item : goal.decreases-item
+decreases-item l = weight_of (item_of l.one.now)
+
+abbrev pub decreases-branch : goal.decreases-branch
+decreases-branch l = weight (statement_of l.first.now) + 1
+
+abbrev pub decreases-branch_else : goal.decreases-branch_else
+decreases-branch_else l = weight (statement_of l.first.now) + weight (statement_of l.second.now) + 1
+
+abbrev pub decreases-while_loop : goal.decreases-while_loop
+decreases-while_loop l = weight (statement_of l.body.now) + 1
+
+abbrev pub decreases-for_loop : goal.decreases-for_loop
+decreases-for_loop l = weight (statement_of l.body.now) + 1
+
+abbrev pub invariant-items-loop-one : goal.invariant-items-loop-one
+invariant-items-loop-one l = record {
+  so_far : ItemsSoFar l.program.text.items l.gives l.in_loop (scopes_of l.fn.frame) (take l.one-index l.all) l.typed;
+  scopes : scopes_of l.frame ≡ behind_items l.program.text.items (scopes_of l.fn.frame) (items_of (take l.one-index l.all));
+}

@@ -1,0 +1,62 @@
+ghost use Rattle.std.specs.Prelude.{◌≡◌, IfOk, IfErr, IfSome, IfNone, Some};
+ghost use Rattle.c_statements.specs.Calls.{Signs, IsNoFunction, IsTarget};
+ghost use Rattle.c_statements.specs.Faults.{HasNone, StopsAtFirst};
+ghost use Rattle.c_statements.specs.Held.{scopes_of};
+ghost use Rattle.c_statements.specs.Names.{sight_in};
+ghost use Rattle.c_statements.specs.Uses.{Misused, as_call};
+
+use crate::expression::misuse;
+use crate::fault::{FaultKind, Stop};
+use crate::names::Named;
+use crate::scopes::Frame;
+use c_front::tree::Program;
+use c_tokens::token::Identifier;
+
+/// What a call goes to: a function of the program, by its number, or `out`.
+#[derive(Clone, Copy, PartialEq, Eq)]
+pub enum Target {
+    Function(usize),
+    Out,
+}
+
+/// What a call of the name goes to, the number of its parameters and whether it gives a result, if it is a function.
+fn signature(named: Named) -> Option<(Target, usize, bool)>
+    ensures some { IfSome result (λ s. Signs named s.0 s.1 s.2) }
+    ensures none { IfNone result (IsNoFunction named) }
+{
+    match named {
+        Named::Function(number, parameters, gives) => {
+            Some((Target::Function(number), parameters, gives))
+        }
+        Named::Out => Some((Target::Out, 1, false)),
+        _ => None,
+    }
+}
+
+/// What a call with so many arguments goes to; `wanted` says that its result is used. A call of what isn't a function
+/// and a void result that is used are faults before another number of arguments than parameters, all at the name.
+pub fn callee(
+    program: &Program,
+    frame: &Frame,
+    name: Identifier,
+    count: usize,
+    wanted: bool,
+) -> Result<Target, Stop>
+    ensures ok { IfOk result (IsTarget (sight_in program.now.text.items (scopes_of frame.now) name)) }
+    ensures none { IfOk result (λ t. HasNone (Misused (sight_in program.now.text.items (scopes_of frame.now)) name (as_call count wanted))) }
+    ensures err { IfErr result (StopsAtFirst (Misused (sight_in program.now.text.items (scopes_of frame.now)) name (as_call count wanted))) }
+{
+    let Some(named) = frame.find(program, name) else {
+        return Err(misuse(FaultKind::Undeclared, name));
+    };
+    let Some((target, parameters, gives)) = signature(named) else {
+        return Err(misuse(FaultKind::Kind, name));
+    };
+    if wanted && !gives {
+        return Err(misuse(FaultKind::Kind, name));
+    }
+    if count != parameters {
+        return Err(misuse(FaultKind::Count, name));
+    }
+    Ok(target)
+}

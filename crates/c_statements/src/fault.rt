@@ -1,0 +1,124 @@
+ghost use Rattle.std.specs.Prelude.{◌≡◌, IfOk, IfErr, Ok};
+ghost use Rattle.c_statements.specs.Faults.{number_of, is_later, first_of, StopsBoth};
+ghost use Rattle.c_statements.specs.declared.fault.Stop.TheVariants.{NoMemory};
+
+use std::alloc::{AllocError, AllocFailed};
+use thiserror::Error;
+
+/// What is wrong with a program; `{kind}` shows the variant's name.
+#[derive(Clone, Copy, PartialEq, Eq, Debug, Error)]
+pub enum FaultKind {
+    /// A name with no declaration in sight.
+    #[error("Undeclared")]
+    Undeclared,
+    /// A second declaration of a name in one scope.
+    #[error("Redeclared")]
+    Redeclared,
+    /// A name that is used as what it isn't, a void result used, an array of length 0, a `return` that doesn't fit its
+    /// function, or a `main` that isn't `int main(void)`.
+    #[error("Kind")]
+    Kind,
+    /// Another number of arguments than parameters, or a fifth parameter.
+    #[error("Count")]
+    Count,
+    /// No `main`; told at the text's length.
+    #[error("NoMain")]
+    NoMain,
+    /// `break` or `continue` outside a loop.
+    #[error("Outside")]
+    Outside,
+    /// The 257th function, the 129th local of a function, or the global with which the globals exceed 262,144 words.
+    #[error("Limit")]
+    Limit,
+    /// Memory was refused; told at the text's length.
+    #[error("NoMemory")]
+    NoMemory,
+}
+
+impl FaultKind {
+    /// The number that messages show.
+    pub fn number(self) -> u8
+        ensures { result ≡ number_of self }
+    {
+        match self {
+            FaultKind::Undeclared => 10,
+            FaultKind::Redeclared => 11,
+            FaultKind::Kind => 12,
+            FaultKind::Count => 13,
+            FaultKind::NoMain => 15,
+            FaultKind::Outside => 17,
+            FaultKind::Limit => 20,
+            FaultKind::NoMemory => 30,
+        }
+    }
+}
+
+/// Why a program is refused, and at which offset of its text.
+#[derive(Clone, Copy, PartialEq, Eq, Debug, Error)]
+#[error("fault {} {kind} at {at}", .kind.number())]
+pub struct TypeFault {
+    pub kind: FaultKind,
+    pub at: usize,
+}
+
+/// Why a part of a program gets no type: its first fault, or want of memory.
+#[derive(Clone, Copy, PartialEq, Eq)]
+pub enum Stop {
+    Fault(TypeFault),
+    NoMemory,
+}
+
+impl<T: Drop> From<AllocFailed<T>> for Stop {
+    ghost from_gives = { λ _ r. r ≡ NoMemory };
+
+    fn from(_: AllocFailed<T>) -> Self {
+        Stop::NoMemory
+    }
+}
+
+impl From<AllocError> for Stop {
+    ghost from_gives = { λ _ r. r ≡ NoMemory };
+
+    fn from(_: AllocError) -> Self {
+        Stop::NoMemory
+    }
+}
+
+/// Whether a fault comes after another: at a greater offset, or at the same with a greater number.
+fn is_later(a: TypeFault, b: TypeFault) -> bool
+    ensures { result ≡ is_later a b }
+{
+    b.at < a.at || (a.at == b.at && b.kind.number() < a.kind.number())
+}
+
+/// The one of two stops that comes first; want of memory comes before all faults.
+pub fn first(a: Stop, b: Stop) -> Stop
+    ensures { result ≡ first_of a b }
+{
+    match (a, b) {
+        (Stop::Fault(left), Stop::Fault(right)) => { if is_later(left, right) { b } else { a } }
+        _ => Stop::NoMemory,
+    }
+}
+
+/// Two parts of a program together: both answers, or the stop that comes first.
+pub fn both<A: Drop, B: Drop>(a: Result<A, Stop>, b: Result<B, Stop>) -> Result<(A, B), Stop>
+    ensures ok { IfOk result (λ r. (a ≡ Ok r.0) × (b ≡ Ok r.1)) }
+    ensures err { IfErr result (StopsBoth a b) }
+{
+    match (a, b) {
+        (Ok(left), Ok(right)) => Ok((left, right)),
+        (Ok(_), Err(stop)) => Err(stop),
+        (Err(stop), Ok(_)) => Err(stop),
+        (Err(left), Err(right)) => Err(first(left, right)),
+    }
+}
+
+/// The faults of two parts that have no answer.
+pub fn either(a: Result<(), Stop>, b: Result<(), Stop>) -> Result<(), Stop>
+    ensures ok { IfOk result (λ r. (a ≡ Ok tt) × (b ≡ Ok tt)) }
+    ensures err { IfErr result (StopsBoth a b) }
+{
+    both(a, b)?;
+    Ok(())
+}

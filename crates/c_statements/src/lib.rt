@@ -1,0 +1,25 @@
+//! Names and kinds in the body of a C function (C99 6.2.1, 6.3.1.8, 6.5, 6.7, 6.8): scopes, the faults of declarations
+//! of locals and of uses of names, and the typed trees of expressions and statements.
+//!
+//! For the layer above there is one contract: `statement::items` gives the typed trees of a body under the scopes before
+//! it exactly where it has no fault, memory aside, and of these there is one list at most
+//! (`statement::one_typing_of_statements`). Else it stops at the fault with the least offset, at one offset that with
+//! the least number. The scopes are left as they were, but for the names that the body itself puts into the innermost
+//! one and for the count of locals; only after want of memory nothing is known of them.
+//!
+//! Definitions: `specs/Statements.antt` and `specs/Uses.antt` have the faults of statements, expressions and names,
+//! `specs/Types.antt` the typing of statements and expressions, `specs/Names.antt` the scopes, `specs/Typed.antt` the
+//! typed trees, `specs/Faults.antt` which fault is the first. `specs/Shape.antt` and `specs/Held.antt` say which tree
+//! and which scopes a Rust value stands for; `specs/Calls.antt` are words of functions that only this layer calls.
+//!
+//! `statement` and `expression` call themselves on the parts of a tree, so the stack grows with its depth.
+#![tactic(auto)]
+
+pub mod call;
+pub mod expression;
+pub mod fault;
+pub mod names;
+pub mod scopes;
+pub mod simple;
+pub mod statement;
+pub mod typed;

@@ -1,0 +1,141 @@
+ghost use Rattle.std.specs.Prelude.{◌≡◌, OnOk, is_some};
+ghost use Rattle.c_statements.specs.Held.{scopes_of};
+ghost use Rattle.c_statements.specs.Names.{Scopes, named_in, sight_in, with_spelling, no_scopes, entered, left, with_declared, declared, without_locals, spelled};
+
+use crate::names::Named;
+use c_front::tree::Program;
+use c_tokens::token::{Identifier, Kind};
+use std::alloc::{AllocError, AllocFailed, Global};
+use std::collections::HashMap;
+use std::mem::replace;
+
+/// The names of one scope by their spelling.
+type Scope<'a> = HashMap<&'a [u8], Named>;
+
+/// The names in sight at a place of a program, scope by scope, and the locals that the function has declared so far.
+#[derive(Drop)]
+pub struct Frame<'a> {
+    inner: Scope<'a>,
+    around: Vec<Scope<'a>>,
+    locals: Vec<Kind>,
+}
+
+impl<'a> Frame<'a> {
+    /// No name in sight, and no local.
+    pub fn new(alloc: Global) -> Frame<'a>
+        ensures { scopes_of result ≡ no_scopes }
+    {
+        Frame {
+            inner: HashMap::new(alloc),
+            around: Vec::new(alloc),
+            locals: Vec::new(alloc),
+        }
+    }
+
+    /// What a name of this spelling stands for in the innermost scope, if it is declared there.
+    pub fn innermost(&self, spelling: &[u8]) -> Option<Named>
+        ensures { result ≡ (scopes_of self.now).inner spelling.now }
+    {
+        match self.inner.get(spelling) {
+            Some(named) => Some(*named),
+            None => None,
+        }
+    }
+
+    /// What a name of this spelling stands for: its declaration in the innermost scope that has one.
+    pub fn find_spelling(&self, spelling: &[u8]) -> Option<Named>
+        ensures { result ≡ named_in (scopes_of self.now) spelling.now }
+    {
+        if let Some(named) = self.inner.get(spelling) {
+            return Some(*named);
+        }
+        for i in (0..self.around.len()).rev() {
+            if let Some(named) = self.around[i].get(spelling) {
+                return Some(*named);
+            }
+        }
+        None
+    }
+
+    /// What a name stands for.
+    pub fn find(&self, program: &Program, name: Identifier) -> Option<Named>
+        ensures { result ≡ sight_in program.now.text.items (scopes_of self.now) name }
+    {
+        self.find_spelling(program.spelling(name))
+    }
+
+    /// Whether the innermost scope declares the name.
+    pub fn declares(&self, program: &Program, name: Identifier) -> bool
+        ensures { result ≡ is_some ((scopes_of self.now).inner (spelled program.now.text.items name)) }
+    {
+        self.inner.contains_key(program.spelling(name))
+    }
+
+    /// How many locals the function has declared so far.
+    pub fn locals(&self) -> usize
+        ensures { result ≡ (scopes_of self.now).locals }
+    {
+        self.locals.len()
+    }
+
+    /// Puts a spelling into the innermost scope.
+    pub fn declare_spelling(&mut self, spelling: &'a [u8], named: Named) -> Result<(), AllocError>
+        ensures { OnOk result (scopes_of self.new ≡ with_spelling (scopes_of self.old) spelling.now named) }
+    {
+        self.inner.insert(spelling, named)?;
+        Ok(())
+    }
+
+    /// Puts a name into the innermost scope.
+    pub fn declare(
+        &mut self,
+        program: &'a Program,
+        name: Identifier,
+        named: Named,
+    ) -> Result<(), AllocError>
+        ensures { OnOk result (scopes_of self.new ≡ with_declared program.now.text.items (scopes_of self.old) name named) }
+    {
+        self.declare_spelling(program.spelling(name), named)?;
+        Ok(())
+    }
+
+    /// Puts a local into the innermost scope; it has the next number.
+    pub fn declare_local(
+        &mut self,
+        program: &'a Program,
+        kind: Kind,
+        name: Identifier,
+    ) -> Result<(), AllocError>
+        ensures { OnOk result (scopes_of self.new ≡ declared program.now.text.items (scopes_of self.old) kind name) }
+    {
+        let number = self.locals();
+        self.declare(program, name, Named::Local(number, kind))?;
+        self.locals.push(kind)?;
+        Ok(())
+    }
+
+    /// Opens a scope.
+    pub fn enter(&mut self, alloc: Global) -> Result<(), AllocError>
+        ensures { OnOk result (scopes_of self.new ≡ entered (scopes_of self.old)) }
+    {
+        let outer = replace(&mut self.inner, HashMap::new(alloc));
+        self.around.push(outer)?;
+        Ok(())
+    }
+
+    /// Closes the innermost scope; the locals stay counted. Without a scope around nothing changes.
+    pub fn leave(&mut self)
+        ensures { scopes_of self.new ≡ left (scopes_of self.old) }
+    {
+        if let Some(outer) = self.around.pop() {
+            self.inner = outer;
+        }
+    }
+
+    /// Forgets how many locals there were, at the beginning of a function.
+    pub fn start_function(&mut self)
+        ensures { scopes_of self.new ≡ without_locals (scopes_of self.old) }
+    {
+        self.locals.clear();
+    }
+}

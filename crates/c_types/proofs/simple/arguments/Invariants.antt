@@ -1,8 +1,0 @@
-use Rattle.std.proofs.Common.{take}
-use Rattle.c_types.specs.Held.{scopes_of}
-use Rattle.c_types.specs.Names.{sight_in}
-use Rattle.c_types.proofs.Arguments.{SoFar}
-use Rattle.c_types.proofs.simple.arguments.Given as goal
-
-abbrev pub invariant-loop-one : goal.invariant-loop-one
-invariant-loop-one l = SoFar (sight_in l.program.text.items (scopes_of l.frame)) (take l.one-index l.all) l.typed
