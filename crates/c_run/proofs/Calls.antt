@@ -1,7 +1,7 @@
 -- Calls of functions.
-use Rattle.std.proofs.Common.{◌≡◌, ℕ, zero, suc, ◌+◌, ◌<◌, ◌≤◌, List, [], ◌∷◌, ◌++◌, Option, Some, None, refl, sym, ◌∙◌, ap, length, nat_lt, get_or, map, Bor, arith}
+use Rattle.std.proofs.Common.{◌≡◌, ℕ, zero, suc, ◌+◌, ◌<◌, ◌≤◌, List, [], ◌∷◌, ◌++◌, Option, Some, None, refl, sym, ◌∙◌, ap, subst, Bool, true, false, length, nat_lt, get_or, map, Bor, arith}
 use mathlib.Core.Path.{fun_ext}
-use Rattle.std.specs.Prelude.{if◌then◌else◌}
+use Rattle.std.specs.Prelude.{if◌then◌else◌, is_some, IfSome}
 use Rattle.std.specs.List.{slice_get}
 use Rattle.std.specs.Option.{option_map}
 use Rattle.std.specs.declared.vec.Vec.{Vec}
@@ -9,7 +9,7 @@ use Rattle.std.specs.declared.alloc.Global.{Global}
 use Rattle.std.proofs.lemmas.List.{reverse-append, length-map, length-reverse}
 use Rattle.std.proofs.lemmas.Bool.{lt-ltb, le-ltb}
 use Rattle.c_run.proofs.Turns.{popped}
-use Rattle.std.proofs.lemmas.Option.{slice_get_past}
+use Rattle.std.proofs.lemmas.Option.{slice_get_past, slice_get_read, same_Some}
 use Rattle.words.specs.Stores.{Places, Arrays, unset_places}
 use Rattle.words.specs.Runs.{Running, Failed, with_value}
 use Rattle.c_statements.specs.declared.typed.Place.{Place}
@@ -17,8 +17,7 @@ use Rattle.c_statements.specs.declared.typed.Function.{Function}
 use Rattle.c_statements.specs.declared.typed.Statement.{Statement}
 use Rattle.c_statements.specs.Typed.{TypedFunction}
 use Rattle.c_statements.specs.Shape.{function_of, functions_of, statements_of}
-use Rattle.c_types.specs.declared.typed.Typed.{Typed}
-use Rattle.c_types.specs.Shape.{program_of}
+use Rattle.c_types.specs.Shape.{TypedParts, program_of}
 use Rattle.c_run.specs.Meaning.{Todo, Frame, Run, arguments, called, before_all, first_words, source_start}
 use Rattle.c_run.specs.Machine.{places, arrays, todos, frame_of, frames_of}
 use Rattle.c_run.specs.declared.machine.Call.{Call}
@@ -46,23 +45,38 @@ function-get [] i = refl
 function-get (f ∷ fs) zero = refl
 function-get (f ∷ fs) (suc i) = function-get fs i
 
+-- what a function's number finds
+found-in : (fs : List Function) (i : ℕ) (r : Option (Bor Function)) (x : Bor Function) → is_some r ≡ nat_lt i (length fs) → IfSome r (λ y. y.now ≡ get_or fs i y.now) → r ≡ Some x → slice_get fs i ≡ Some x.now
+found-in fs i None x b h e = cc
+found-in fs i (Some y) x b h e =
+    let here : nat_lt i (length fs) ≡ true = sym b in
+    slice_get_read fs (length fs) i x.now refl (grind (arith, here)) (subst (λ (z : Bor Function). z.now ≡ get_or fs i z.now) (same_Some _ _ e) h)
+
+pub found : (all fs : List Function) (i : ℕ) (r : Option (Bor Function)) (x : Bor Function) → fs ≡ all → is_some r ≡ nat_lt i (length fs) → IfSome r (λ y. y.now ≡ get_or fs i y.now) → r ≡ Some x → slice_get all i ≡ Some x.now
+found all fs i r x same b h e = ap (λ (l : List Function). slice_get l i) (sym same) ∙ found-in fs i r x b h e
+
+pub past-last : (fs : List Function) (i : ℕ) (r : Option (Bor Function)) → is_some r ≡ nat_lt i (length fs) → r ≡ None → length fs ≤ i
+past-last fs i r b e =
+    let none : nat_lt i (length fs) ≡ false = sym b ∙ ap (λ (x : Option (Bor Function)). is_some x) e in
+    grind (arith, none)
+
 pub frames-push : (calls : List Call) (c : Call) → frames_of (calls ++ c ∷ []) ≡ frame_of c ∷ frames_of calls
 frames-push calls c = ap (map frame_of) (reverse-append calls (c ∷ []))
 
-pub called-there : (p : Typed) (depth i : ℕ) (vs : List ℕ) (to : Option Place) (frames : List Frame) (g : Arrays) (out : List ℕ) (x : Function) → slice_get p.functions.items i ≡ Some x → length frames < depth → called (program_of p) depth i vs to frames g out ≡ Running (record { locals = arguments vs; todo = before_all (statements_of x.body.items) []; result_to = to } ∷ frames) g out
+pub called-there : (p : TypedParts) (depth i : ℕ) (vs : List ℕ) (to : Option Place) (frames : List Frame) (g : Arrays) (out : List ℕ) (x : Function) → slice_get p.functions i ≡ Some x → length frames < depth → called (program_of p) depth i vs to frames g out ≡ Running (record { locals = arguments vs; todo = before_all (statements_of x.body.items) []; result_to = to } ∷ frames) g out
 called-there p depth i vs to frames g out x there lt =
-    ap (λ o. with_value o out (λ (f : TypedFunction). if nat_lt (length frames) depth then called_frame f vs to frames g out else Failed out)) (function-get p.functions.items i ∙ ap (option_map function_of) there)
+    ap (λ o. with_value o out (λ (f : TypedFunction). if nat_lt (length frames) depth then called_frame f vs to frames g out else Failed out)) (function-get p.functions i ∙ ap (option_map function_of) there)
     ∙ ap (λ b. if b then called_frame (function_of x) vs to frames g out else Failed out) (lt-ltb (length frames) depth lt)
 
-pub called-nowhere : (p : Typed) (depth i : ℕ) (vs : List ℕ) (to : Option Place) (frames : List Frame) (g : Arrays) (out : List ℕ) → length p.functions.items ≤ i → called (program_of p) depth i vs to frames g out ≡ Failed out
+pub called-nowhere : (p : TypedParts) (depth i : ℕ) (vs : List ℕ) (to : Option Place) (frames : List Frame) (g : Arrays) (out : List ℕ) → length p.functions ≤ i → called (program_of p) depth i vs to frames g out ≡ Failed out
 called-nowhere p depth i vs to frames g out past =
-    ap (λ o. with_value o out (λ (f : TypedFunction). if nat_lt (length frames) depth then called_frame f vs to frames g out else Failed out)) (function-get p.functions.items i ∙ ap (option_map function_of) (slice_get_past p.functions.items i past))
+    ap (λ o. with_value o out (λ (f : TypedFunction). if nat_lt (length frames) depth then called_frame f vs to frames g out else Failed out)) (function-get p.functions i ∙ ap (option_map function_of) (slice_get_past p.functions i past))
 
 fails : (o : Option TypedFunction) (out : List ℕ) → with_value o out (λ (f : TypedFunction). failed out) ≡ Failed out
 fails None out = refl
 fails (Some f) out = refl
 
-pub called-deep : (p : Typed) (depth i : ℕ) (vs : List ℕ) (to : Option Place) (frames : List Frame) (g : Arrays) (out : List ℕ) → depth ≤ length frames → called (program_of p) depth i vs to frames g out ≡ Failed out
+pub called-deep : (p : TypedParts) (depth i : ℕ) (vs : List ℕ) (to : Option Place) (frames : List Frame) (g : Arrays) (out : List ℕ) → depth ≤ length frames → called (program_of p) depth i vs to frames g out ≡ Failed out
 called-deep p depth i vs to frames g out le =
     ap (λ b. with_value (slice_get (program_of p).functions i) out (λ (f : TypedFunction). if b then called_frame f vs to frames g out else Failed out)) (le-ltb (length frames) depth le)
     ∙ fails (slice_get (program_of p).functions i) out
@@ -82,13 +96,13 @@ frames-length calls = simp (length-map, length-reverse)
 pub pushed-frames : (calls new : List Call) (c waits : Call) → new ≡ calls ++ waits ∷ [] → waits ≡ c → frames_of new ≡ frame_of c ∷ frames_of calls
 pushed-frames calls new c waits e is = ap frames_of e ∙ frames-push calls waits ∙ ap (λ c. frame_of c ∷ frames_of calls) is
 
-pub entered : (p : Typed) (depth i : ℕ) (vs : List ℕ) (to : Option Place) (g : Arrays) (out : List ℕ) (x : Function) (calls new : List Call) (c waits call : Call) → slice_get p.functions.items i ≡ Some x → length calls + 1 < depth → new ≡ calls ++ waits ∷ [] → waits ≡ c → frame_of call ≡ record { locals = arguments vs; todo = before_all (statements_of x.body.items) []; result_to = to } → called (program_of p) depth i vs to (frame_of c ∷ frames_of calls) g out ≡ Running (frame_of call ∷ frames_of new) g out
+pub entered : (p : TypedParts) (depth i : ℕ) (vs : List ℕ) (to : Option Place) (g : Arrays) (out : List ℕ) (x : Function) (calls new : List Call) (c waits call : Call) → slice_get p.functions i ≡ Some x → length calls + 1 < depth → new ≡ calls ++ waits ∷ [] → waits ≡ c → frame_of call ≡ record { locals = arguments vs; todo = before_all (statements_of x.body.items) []; result_to = to } → called (program_of p) depth i vs to (frame_of c ∷ frames_of calls) g out ≡ Running (frame_of call ∷ frames_of new) g out
 entered p depth i vs to g out x calls new c waits call there lt e is f =
     called-there p depth i vs to (frame_of c ∷ frames_of calls) g out x there (omega (arith, frames-length calls))
     ∙ ap (λ f. Running (f ∷ frame_of c ∷ frames_of calls) g out) (sym f)
     ∙ ap (λ fs. Running (frame_of call ∷ fs) g out) (sym (pushed-frames calls new c waits e is))
 
-pub refused : (p : Typed) (depth i : ℕ) (vs : List ℕ) (to : Option Place) (g : Arrays) (out : List ℕ) (calls : List Call) (c : Call) → depth ≤ length calls + 1 → called (program_of p) depth i vs to (frame_of c ∷ frames_of calls) g out ≡ Failed out
+pub refused : (p : TypedParts) (depth i : ℕ) (vs : List ℕ) (to : Option Place) (g : Arrays) (out : List ℕ) (calls : List Call) (c : Call) → depth ≤ length calls + 1 → called (program_of p) depth i vs to (frame_of c ∷ frames_of calls) g out ≡ Failed out
 refused p depth i vs to g out calls c le = called-deep p depth i vs to (frame_of c ∷ frames_of calls) g out (omega (arith, frames-length calls))
 
 none_set : (x : ℕ) → get_or {A = Option ℕ} [] x None ≡ None
@@ -98,18 +112,14 @@ none_set (suc x) = refl
 abbrev first_state : Arrays → List ℕ → TypedFunction → Run
 first_state g out f = Running (frame unset_places (before_all f.body []) None ∷ []) g out
 
-pub starts : (p : Typed) (x : Function) (locals : List (Option ℕ)) (todo fresh : List Pending) (slice : Bor (List Statement)) (waiting : List Call) (globals : List (Vec ℕ Global)) (output : List ℕ) → slice_get p.functions.items p.main ≡ Some x → locals ≡ [] → todo ≡ fresh ++ Rest slice ∷ [] → fresh ≡ [] → slice.now ≡ x.body.items → waiting ≡ [] → arrays globals ≡ map first_words p.globals.items → output ≡ [] → source_start (program_of p) ≡ Running (frame (places locals) (todos todo) None ∷ frames_of waiting) (arrays globals) output
+pub starts : (p : TypedParts) (x : Function) (locals : List (Option ℕ)) (todo fresh : List Pending) (slice : Bor (List Statement)) (waiting : List Call) (globals : List (Vec ℕ Global)) (output : List ℕ) → slice_get p.functions p.main ≡ Some x → locals ≡ [] → todo ≡ fresh ++ Rest slice ∷ [] → fresh ≡ [] → slice.now ≡ x.body.items → waiting ≡ [] → arrays globals ≡ map first_words p.globals → output ≡ [] → source_start (program_of p) ≡ Running (frame (places locals) (todos todo) None ∷ frames_of waiting) (arrays globals) output
 starts p x locals todo fresh slice waiting globals output there no-locals pushed empty-first body none-wait words none-out =
-    let g = map first_words p.globals.items in
+    let g = map first_words p.globals in
     let is : todos todo ≡ before_all (statements_of x.body.items) [] =
     popped todo fresh (Rest slice) pushed ∙ ap (λ k. before_all (statements_of slice.now) (todos k)) empty-first ∙ ap (λ all. before_all (statements_of all) []) body in
-    ap (λ o. with_value o [] (λ (f : TypedFunction). first_state g [] f)) (function-get p.functions.items p.main ∙ ap (option_map function_of) there)
+    ap (λ o. with_value o [] (λ (f : TypedFunction). first_state g [] f)) (function-get p.functions p.main ∙ ap (option_map function_of) there)
     ∙ ap (λ l. Running (frame l (before_all (statements_of x.body.items) []) None ∷ []) g []) (sym (ap places no-locals ∙ fun_ext none_set))
     ∙ ap (λ k. Running (frame (places locals) k None ∷ []) g []) (sym is)
     ∙ ap (λ calls. Running (frame (places locals) (todos todo) None ∷ calls) g []) (sym (ap frames_of none-wait))
     ∙ ap (λ g. Running (frame (places locals) (todos todo) None ∷ frames_of waiting) g []) (sym words)
     ∙ ap (λ out. Running (frame (places locals) (todos todo) None ∷ frames_of waiting) (arrays globals) out) (sym none-out)
-
-pub starts-nowhere : (p : Typed) → length p.functions.items ≤ p.main → source_start (program_of p) ≡ Failed []
-starts-nowhere p past =
-    ap (λ o. with_value o [] (λ (f : TypedFunction). first_state (map first_words p.globals.items) [] f)) (function-get p.functions.items p.main ∙ ap (option_map function_of) (slice_get_past p.functions.items p.main past))

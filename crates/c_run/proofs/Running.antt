@@ -1,10 +1,10 @@
 -- Steps, one after another.
-use Rattle.std.proofs.Common.{◌≡◌, ℕ, zero, suc, ◌+◌, ◌-◌, ◌<◌, ◌≤◌, List, [], Option, None, Some, refl, sym, ◌∙◌, ap, arith}
+use Rattle.std.proofs.Common.{◌≡◌, ℕ, zero, suc, ◌+◌, ◌-◌, ◌<◌, ◌≤◌, List, [], refl, sym, ◌∙◌, ap, arith}
 use Rattle.words.specs.Runs.{Outcome, Ended, Failed, outcome}
 use Rattle.words.specs.declared.ran.End.TheVariants.{Done, Wrong}
 use Rattle.c_statements.specs.Typed.{TypedProgram}
 use Rattle.c_run.specs.Meaning.{Run, source_step, source_steps, source_start, source_run}
-use Rattle.c_run.specs.Machine.{started, state_of}
+use Rattle.c_run.specs.Machine.{state_of}
 use Rattle.c_run.specs.declared.machine.Machine.{Machine}
 
 pub stays-ended : (p : TypedProgram) (depth n w : ℕ) (out : List ℕ) → source_steps p depth n (Ended w out) ≡ Ended w out
@@ -19,13 +19,6 @@ pub one-step : (p : TypedProgram) (depth n i : ℕ) (s t : Run) → i < n → so
 one-step p depth n i s t lt e =
     let one : n - i ≡ suc (n - (i + 1)) = omega arith in
     ap (λ k. source_steps p depth k s) one ∙ ap (source_steps p depth (n - (i + 1))) e
-
-abbrev wrong : List ℕ → Outcome
-wrong out = record { end = Wrong; output = out }
-
-pub never-starts : (p : TypedProgram) (depth n : ℕ) (o : Option Machine) (out : List ℕ) → source_start p ≡ started o → o ≡ None → out ≡ [] → record { end = Wrong; output = out } ≡ source_run p depth n
-never-starts p depth n o out e is none =
-    ap wrong none ∙ sym (ap (λ s. outcome (source_steps p depth n s)) (e ∙ ap started is) ∙ ap outcome (stays-failed p depth n []))
 
 -- a step that ends the run
 pub ends : (p : TypedProgram) (depth n i w : ℕ) (s : Run) (out : List ℕ) → i < n → outcome (source_steps p depth (n - i) s) ≡ source_run p depth n → source_step p depth s ≡ Ended w out → record { end = Done w; output = out } ≡ source_run p depth n
@@ -44,7 +37,7 @@ bound-reached p depth n i s le e =
     let zero-left : n - i ≡ 0 = omega arith in
     ap (λ k. outcome (source_steps p depth k s)) (sym zero-left) ∙ e
 
-pub begins : (p : TypedProgram) (depth n : ℕ) (o : Option Machine) (m : Machine) → source_start p ≡ started o → o ≡ Some m → outcome (source_steps p depth (n - 0) (state_of m)) ≡ source_run p depth n
-begins p depth n o m e is =
+pub begins : (p : TypedProgram) (depth n : ℕ) (m : Machine) → source_start p ≡ state_of m → outcome (source_steps p depth (n - 0) (state_of m)) ≡ source_run p depth n
+begins p depth n m e =
     let all : n - 0 ≡ n = omega arith in
-    ap (λ k. outcome (source_steps p depth k (state_of m))) all ∙ sym (ap (λ s. outcome (source_steps p depth n s)) (e ∙ ap started is))
+    ap (λ k. outcome (source_steps p depth k (state_of m))) all ∙ sym (ap (λ s. outcome (source_steps p depth n s)) e)

@@ -75,8 +75,3 @@ going_on m l g =
 abbrev pub stepped : TypedProgram → (depth : ℕ) → List Todo → Machine → Run
 stepped p depth k m =
     step_at p depth (places m.call.locals.items) k m.call.result_to (frames_of m.waiting.items) (arrays m.globals.items) m.output.items
-
--- a run that has a first call, or has none
-abbrev pub started : Option Machine → Run
-started None = Failed []
-started (Some m) = state_of m

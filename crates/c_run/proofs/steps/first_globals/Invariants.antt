@@ -4,4 +4,4 @@ use Rattle.c_run.specs.Machine.{arrays}
 use Rattle.c_run.proofs.steps.first_globals.Given as goal
 
 abbrev pub invariant-loop-global : goal.invariant-loop-global
-invariant-loop-global l = arrays l.globals.items ≡ map first_words (take l.global-index l.program.globals.items)
+invariant-loop-global l = arrays l.globals.items ≡ map first_words (take l.global-index l.program.globals)

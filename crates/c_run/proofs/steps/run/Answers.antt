@@ -1,14 +1,11 @@
 use Rattle.std.proofs.Common.{◌∙◌, ap}
 use Rattle.c_types.specs.Shape.{program_of}
 use Rattle.c_run.specs.Machine.{state_of, reached}
-use Rattle.c_run.proofs.Running.{never-starts, begins, ends, fails, goes-on, bound-reached}
+use Rattle.c_run.proofs.Running.{begins, ends, fails, goes-on, bound-reached}
 use Rattle.c_run.proofs.steps.run.Goals as goal
 
-pub returns-in_default : goal.returns-in_default
-returns-in_default c = never-starts (program_of c.args.program.now) c.args.depth c.args.steps c.in_ok-machine.field-0 c.new.result.items c.in_ok-machine.ensures c.in_default.is c.new.ensures.items
-
 pub loop-init : goal.loop-init
-loop-init c = begins (program_of c.args.program.now) c.args.depth c.args.steps c.in_ok-machine.field-0 c.in-Some.machine c.in_ok-machine.ensures c.in-Some.is
+loop-init c = begins (program_of c.args.program.now) c.args.depth c.args.steps c.in_ok-machine.machine c.in_ok-machine.ensures
 
 pub loop-preserved : goal.loop-preserved
 loop-preserved c = goes-on (program_of c.args.program.now) c.args.depth c.args.steps c.loop.counter (state_of c.loop.machine) (state_of c.step.new.machine) c.loop-test.true c.loop.invariant (c.in_ok-reached.ensures ∙ ap (λ r. reached r c.step.new.machine) c.in-Going.is)
