@@ -1,10 +1,10 @@
 -- What the interpreter keeps, and the state that it stands for.
-use Rattle.std.specs.Prelude.{ℕ, List, [], ◌∷◌, Option, Some, None, map, reverse, slice_index_or}
+use Rattle.std.specs.Prelude.{◌≡◌, ℕ, List, [], ◌∷◌, Option, Some, None, map, reverse, slice_index_or}
 use Rattle.std.specs.declared.vec.Vec.{Vec}
 use Rattle.std.specs.declared.alloc.Global.{Global}
 use Rattle.words.specs.Stores.{Places, Arrays}
 use Rattle.words.specs.Runs.{Running, Ended, Failed}
-use Rattle.c_statements.specs.Typed.{TypedProgram}
+use Rattle.c_statements.specs.Typed.{TypedStatement, TypedProgram}
 use Rattle.c_statements.specs.Shape.{statement_of, statements_of}
 use Rattle.c_run.specs.Meaning.{Todo, Do, Next, before, before_all, Frame, Run, step_at}
 use Rattle.c_run.specs.declared.pending.Pending.{Pending}
@@ -75,3 +75,7 @@ going_on m l g =
 abbrev pub stepped : TypedProgram → (depth : ℕ) → List Todo → Machine → Run
 stepped p depth k m =
     step_at p depth (places m.call.locals.items) k m.call.result_to (frames_of m.waiting.items) (arrays m.globals.items) m.output.items
+
+-- this statement takes a machine to another in one step, in any program
+abbrev pub Does : TypedStatement → Machine → Reached → Machine → Type 0
+Does s before r after = (p : TypedProgram) (depth : ℕ) → stepped p depth (Do s ∷ todos before.call.todo.items) before ≡ reached r after

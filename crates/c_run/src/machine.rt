@@ -1,13 +1,14 @@
 ghost use Rattle.std.specs.Prelude.{◌≡◌, ℕ, ◌<◌, ◌∷◌, [], length, Option, IfOk, OnOk, None, Some, if◌then◌else◌, List, map};
 ghost use Rattle.words.specs.Stores.{Places, Arrays, written, stored};
-ghost use Rattle.c_statements.specs.Shape.{statement_of};
+ghost use Rattle.c_statements.specs.Shape.{statement_of, term_of, terms_of, maybe_term_of};
+ghost use Rattle.c_statements.specs.Typed.{assign, store, run, output, branch, loop, return_with};
 ghost use Rattle.c_types.specs.Shape.{program_of};
 ghost use Rattle.c_run.specs.Meaning.{Do, placed, called, returned, source_step};
-ghost use Rattle.c_run.specs.Machine.{places, arrays, todos, frame_of, frames_of, state_of, reached, going_on, stepped};
+ghost use Rattle.c_run.specs.Machine.{places, arrays, todos, frame_of, frames_of, state_of, reached, going_on, stepped, Does};
 
 use crate::pending::{Head, Pending, put, settle};
 use crate::value::{arguments, value};
-use c_statements::typed::{Place, Statement};
+use c_statements::typed::{Place, Statement, Term};
 use c_types::typed::Typed;
 use std::alloc::{AllocError, Global};
 use std::mem;
@@ -141,6 +142,120 @@ fn leave(machine: &mut Machine, result_word: Option<u32>) -> Result<Reached, All
     Ok(r)
 }
 
+// `place = e`
+fn assign_to(machine: &mut Machine, place: Place, e: &Term) -> Result<Reached, AllocError>
+    ensures { IfOk result (λ r. Does (assign place (term_of e.now)) machine.old r machine.new) }
+{
+    let Some(v) = value(e, &machine.call.locals, &machine.globals) else {
+        return Ok(Reached::Failed);
+    };
+    put_at(machine, place, v)
+}
+
+// `array[i] = e`
+fn store_at(machine: &mut Machine, array: usize, i: &Term, e: &Term) -> Result<Reached, AllocError>
+    ensures { IfOk result (λ r. Does (store array (term_of i.now) (term_of e.now)) machine.old r machine.new) }
+{
+    let Some(index) = value(i, &machine.call.locals, &machine.globals) else {
+        return Ok(Reached::Failed);
+    };
+    let Some(v) = value(e, &machine.call.locals, &machine.globals) else {
+        return Ok(Reached::Failed);
+    };
+    if store(&mut machine.globals, array, index as usize, v) {
+        Ok(Reached::Going)
+    } else {
+        Ok(Reached::Failed)
+    }
+}
+
+// `f(..)` or `place = f(..)`
+fn call_function<'a>(
+    alloc: Global,
+    program: &'a Typed,
+    depth: u32,
+    machine: &mut Machine<'a>,
+    to: Option<Place>,
+    function: usize,
+    terms: &[Term],
+) -> Result<Reached, AllocError>
+    ensures { IfOk result (λ r. stepped (program_of program.now) depth (Do (run to function (terms_of terms.now)) ∷ todos machine.old.call.todo.items) machine.old ≡ reached r machine.new) }
+{
+    let values = arguments(alloc, terms, &machine.call.locals, &machine.globals)?;
+    let Some(values) = values else {
+        return Ok(Reached::Failed);
+    };
+    let r = enter(alloc, program, depth, machine, function, values, to)?;
+    Ok(r)
+}
+
+// `out(e)`
+fn write_out(machine: &mut Machine, e: &Term) -> Result<Reached, AllocError>
+    ensures { IfOk result (λ r. Does (output (term_of e.now)) machine.old r machine.new) }
+{
+    let Some(v) = value(e, &machine.call.locals, &machine.globals) else {
+        return Ok(Reached::Failed);
+    };
+    machine.output.push(v)?;
+    Ok(Reached::Going)
+}
+
+// `if (test) first else second`
+fn branch_on<'a>(
+    machine: &mut Machine<'a>,
+    test: &Term,
+    first: &'a Statement,
+    second: &'a Statement,
+) -> Result<Reached, AllocError>
+    ensures { IfOk result (λ r. Does (branch (term_of test.now) (statement_of first.now) (statement_of second.now)) machine.old r machine.new) }
+{
+    let Some(v) = value(test, &machine.call.locals, &machine.globals) else {
+        return Ok(Reached::Failed);
+    };
+    if v == 0 {
+        put(&mut machine.call.todo, Pending::One(second))?;
+    } else {
+        put(&mut machine.call.todo, Pending::One(first))?;
+    }
+    Ok(Reached::Going)
+}
+
+// A test of a loop: its body is next, and then its last part and the loop again.
+fn repeat<'a>(
+    machine: &mut Machine<'a>,
+    again: &'a Statement,
+    test: &Term,
+    last: &'a Statement,
+    body: &'a Statement,
+) -> Result<Reached, AllocError>
+    requires { statement_of again.now ≡ loop (term_of test.now) (statement_of last.now) (statement_of body.now) }
+    ensures { IfOk result (λ r. Does (statement_of again.now) machine.old r machine.new) }
+{
+    let Some(v) = value(test, &machine.call.locals, &machine.globals) else {
+        return Ok(Reached::Failed);
+    };
+    if v != 0 {
+        put(&mut machine.call.todo, Pending::Turn(last, again))?;
+        put(&mut machine.call.todo, Pending::One(body))?;
+    }
+    Ok(Reached::Going)
+}
+
+// `return` or `return e`
+fn return_word(machine: &mut Machine, e: &Option<Term>) -> Result<Reached, AllocError>
+    ensures { IfOk result (λ r. Does (return_with (maybe_term_of e.now)) machine.old r machine.new) }
+{
+    let Some(e) = e else {
+        let r = leave(machine, None)?;
+        return Ok(r);
+    };
+    let Some(v) = value(e, &machine.call.locals, &machine.globals) else {
+        return Ok(Reached::Failed);
+    };
+    let r = leave(machine, Some(v))?;
+    Ok(r)
+}
+
 // A statement that was first is done.
 fn act<'a>(
     alloc: Global,
@@ -152,73 +267,13 @@ fn act<'a>(
     ensures { IfOk result (λ r. stepped (program_of program.now) depth (Do (statement_of s.now) ∷ todos machine.old.call.todo.items) machine.old ≡ reached r machine.new) }
 {
     match s {
-        Statement::Assign(place, e) => {
-            let Some(v) = value(e, &machine.call.locals, &machine.globals) else {
-                return Ok(Reached::Failed);
-            };
-            let r = put_at(machine, *place, v)?;
-            Ok(r)
-        }
-        Statement::Store(array, i, e) => {
-            let Some(index) = value(i, &machine.call.locals, &machine.globals) else {
-                return Ok(Reached::Failed);
-            };
-            let Some(v) = value(e, &machine.call.locals, &machine.globals) else {
-                return Ok(Reached::Failed);
-            };
-            if store(&mut machine.globals, *array, index as usize, v) {
-                Ok(Reached::Going)
-            } else {
-                Ok(Reached::Failed)
-            }
-        }
-        Statement::Call(to, function, terms) => {
-            let values = arguments(alloc, terms, &machine.call.locals, &machine.globals)?;
-            let Some(values) = values else {
-                return Ok(Reached::Failed);
-            };
-            let r = enter(alloc, program, depth, machine, *function, values, *to)?;
-            Ok(r)
-        }
-        Statement::Output(e) => {
-            let Some(v) = value(e, &machine.call.locals, &machine.globals) else {
-                return Ok(Reached::Failed);
-            };
-            machine.output.push(v)?;
-            Ok(Reached::Going)
-        }
-        Statement::If(test, first, second) => {
-            let Some(v) = value(test, &machine.call.locals, &machine.globals) else {
-                return Ok(Reached::Failed);
-            };
-            if v == 0 {
-                put(&mut machine.call.todo, Pending::One(second))?;
-            } else {
-                put(&mut machine.call.todo, Pending::One(first))?;
-            }
-            Ok(Reached::Going)
-        }
-        Statement::Loop(test, last, body) => {
-            let Some(v) = value(test, &machine.call.locals, &machine.globals) else {
-                return Ok(Reached::Failed);
-            };
-            if v != 0 {
-                put(&mut machine.call.todo, Pending::Turn(last, s))?;
-                put(&mut machine.call.todo, Pending::One(body))?;
-            }
-            Ok(Reached::Going)
-        }
-        Statement::Return(None) => {
-            let r = leave(machine, None)?;
-            Ok(r)
-        }
-        Statement::Return(Some(e)) => {
-            let Some(v) = value(e, &machine.call.locals, &machine.globals) else {
-                return Ok(Reached::Failed);
-            };
-            let r = leave(machine, Some(v))?;
-            Ok(r)
-        }
+        Statement::Assign(place, e) => assign_to(machine, *place, e),
+        Statement::Store(array, i, e) => store_at(machine, *array, i, e),
+        Statement::Call(to, f, all) => call_function(alloc, program, depth, machine, *to, *f, all),
+        Statement::Output(e) => write_out(machine, e),
+        Statement::If(test, first, second) => branch_on(machine, test, first, second),
+        Statement::Loop(test, last, body) => repeat(machine, s, test, last, body),
+        Statement::Return(e) => return_word(machine, e),
         Statement::Empty
         | Statement::Block(_)
         | Statement::Unset(_)

@@ -332,7 +332,7 @@ module _ (s : Shape) (ok : IsShape s) (w : World) (inv : Inv s w) (p : ℕ) (v :
       (move a (Reading t (xs ++ n ∷ [])) b.probes st.probes (record {
         there = k.there;
         below = let lt = k.below in omega (arith, length-append xs (n ∷ []));
-        alike = λ j lt. row j (omega (arith, length-append xs (n ∷ [])));
+        alike = λ j lt. loaded_word j (omega (arith, length-append xs (n ∷ [])));
         probes = k.probes;
       })))
     where
@@ -347,8 +347,8 @@ module _ (s : Shape) (ok : IsShape s) (w : World) (inv : Inv s w) (p : ℕ) (v :
           (λ (g : ((j ≡ length xs) × (slice_index (xs ++ n ∷ []) j ≡ n)) ⊎ (length xs < j)). inr (⊎_elim (λ (h : (j ≡ length xs) × (slice_index (xs ++ n ∷ []) j ≡ n)). inl (ap suc h.0, h.1)) (λ (l : length xs < j). inr (omega arith)) g))
           (by_index xs n j)
 
-      row : (j : ℕ) → j ≤ length xs → slice_index (xs ++ n ∷ []) j ≡ word s w.words t j
-      row j le = ⊎_elim (λ (h : (j < length xs) × (slice_index (xs ++ n ∷ []) j ≡ slice_index xs j)). h.1 ∙ k.alike j h.0)
+      loaded_word : (j : ℕ) → j ≤ length xs → slice_index (xs ++ n ∷ []) j ≡ word s w.words t j
+      loaded_word j le = ⊎_elim (λ (h : (j < length xs) × (slice_index (xs ++ n ∷ []) j ≡ slice_index xs j)). h.1 ∙ k.alike j h.0)
           (λ (g : ((j ≡ length xs) × (slice_index (xs ++ n ∷ []) j ≡ n)) ⊎ (length xs < j)). ⊎_elim (λ (h : (j ≡ length xs) × (slice_index (xs ++ n ∷ []) j ≡ n)). h.1 ∙ (e ∙ ap (word s w.words t) (sym h.0))) (λ (l : length xs < j). absurd (omega arith)) g)
           (by_index xs n j)
 
@@ -356,7 +356,7 @@ module _ (s : Shape) (ok : IsShape s) (w : World) (inv : Inv s w) (p : ℕ) (v :
       answers last =
           let x = k.there in
           let o = (inv.shared.there t x.0 x.1).0 in
-          let y0 = row 0 (omega arith) in let y1 = row 1 (omega arith) in let y2 = row 2 (omega arith) in let y3 = row 3 (omega arith) in
+          let y0 = loaded_word 0 (omega arith) in let y1 = loaded_word 1 (omega arith) in let y2 = loaded_word 2 (omega arith) in let y3 = loaded_word 3 (omega arith) in
           let l : label_at (slice_index (xs ++ n ∷ []) 0) ≡ o.label = ap label_at (y0 ∙ Rattle.term_core.proofs.Keys.label_is s w.words t o.label o.kids o.three o.holds) ∙ label_back o.label o.proper in
           let ks : Rattle.term_core.specs.World.kid_in (slice_index (xs ++ n ∷ []) 1) (Rattle.term_core.specs.World.kid_in (slice_index (xs ++ n ∷ []) 2) (Rattle.term_core.specs.World.kid_in (slice_index (xs ++ n ∷ []) 3) [])) ≡ o.kids
           = (λ i. Rattle.term_core.specs.World.kid_in (y1 i) (Rattle.term_core.specs.World.kid_in (y2 i) (Rattle.term_core.specs.World.kid_in (y3 i) []))) ∙ Rattle.term_core.proofs.Keys.kids_is s w.words t o.label o.kids o.three o.holds in
