@@ -1,6 +1,6 @@
 -- Steps, one after another.
-use Rattle.std.proofs.Common.{◌≡◌, ℕ, zero, suc, ◌+◌, ◌-◌, ◌<◌, ◌≤◌, List, [], refl, sym, ◌∙◌, ap, arith}
-use Rattle.words.specs.Runs.{Outcome, Ended, Failed, outcome}
+use Rattle.std.proofs.Common.{◌≡◌, ℕ, zero, suc, ◌+◌, ◌-◌, ◌<◌, ◌≤◌, List, refl, sym, ◌∙◌, ap, arith}
+use Rattle.words.specs.Runs.{Ended, Failed, outcome}
 use Rattle.words.specs.declared.ran.End.TheVariants.{Done, Wrong}
 use Rattle.c_statements.specs.Typed.{TypedProgram}
 use Rattle.c_run.specs.Meaning.{Run, source_step, source_steps, source_start, source_run}

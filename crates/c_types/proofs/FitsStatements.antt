@@ -142,9 +142,10 @@ module _ (p : TypedProgram) (n : ℕ) where
         (fits (seen text sc h) c, (fits-statement g l h (omega (arith, room)) a (λ k at w. none k at (inr (inl w))), fits-statement g l h (omega (arith, room)) b (λ k at w. none k at (inr (inr w)))))
     fits-statement {text = text} {sc = sc} g l h room (repeat_typed c s) none = (fits (seen text sc h) c, (tt, fits-statement g true h room s (λ k at w. none k at (inr w))))
     fits-statement {text = text} {sc = sc} g l h room (repeat_for_typed f c last s) none =
-        let sees = seen text sc h in
-        (fits-part g l sees f (λ k at w. none k at (inl w)),
-        ((fits-test sees c, (fits-part g false sees last (λ k at w. none k at (inr (inr (inl w)))), fits-statement g true h room s (λ k at w. none k at (inr (inr (inr w)))))), tt))
+        let sees = seen text sc h in (
+          fits-part g l sees f (λ k at w. none k at (inl w)),
+          ((fits-test sees c, (fits-part g false sees last (λ k at w. none k at (inr (inr (inl w)))), fits-statement g true h room s (λ k at w. none k at (inr (inr (inr w)))))), tt),
+        )
     fits-statement g l h room (break_typed {at = at}) none = in-loop l at none
     fits-statement g l h room (continue_typed {at = at}) none = in-loop l at none
     fits-statement {text = text} {sc = sc} g l h room (return_typed {at = at} {e = e} v) none =
