@@ -78,7 +78,7 @@ pub one-more : (text : List ℕ) (sc now : Scopes) (done : List Parameter) (p : 
 one-more text sc now done p a b c e h n s o t =
     let q : Faults = FaultyParameter text (behind_parameters text sc done) p.name in
     let l : Tells q b = rw (sym e) (n, s) in
-    tells-same (Both (FaultyParameters text sc done) q) (FaultyParameters text sc (done ++ p ∷ [])) c (faults-to text sc done p) (faults-from text sc done p)
+    tells-same (Both (FaultyParameters text sc done) q) (FaultyParameters text sc (done ++ p ∷ [])) c (record { to = faults-to text sc done p; from = faults-from text sc done p })
     (tells-both (FaultyParameters text sc done) q a b c h l (shaped c o) t)
   where
     shaped : (r : Result Unit Stop) → IfOk r (λ x. (a ≡ Ok tt) × (b ≡ Ok tt)) → IfOk r (λ r. (x : Unit) × (y : Unit) × (a ≡ Ok x) × (b ≡ Ok y))
