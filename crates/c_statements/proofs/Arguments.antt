@@ -17,8 +17,8 @@ use Rattle.c_statements.specs.Statements.{FaultyAll}
 use Rattle.c_statements.specs.Typed.{TypedExpression}
 use Rattle.c_statements.specs.Types.{Types, TypesAll, all_typed, more_typed}
 use Rattle.c_statements.specs.Uses.{Faulty}
-use Rattle.c_statements.proofs.Firsts.{Both}
-use Rattle.c_statements.proofs.Joined.{Answered, Same, one-more}
+use Rattle.c_statements.proofs.Firsts.{Both, Same}
+use Rattle.c_statements.proofs.Joined.{Answered, one-more}
 
 pub expressions-append : (xs : List Expr) (e : Expr) → expressions_of (xs ++ e ∷ []) ≡ expressions_of xs ++ expression_of e ∷ []
 expressions-append [] e = refl

@@ -103,20 +103,24 @@ pub three-stop : {A B C : Type 0} (p q r : Faults) (a : Result A Stop) (b : Resu
 three-stop p q r a b c d s n h m l o i e f g = both-stop p (Both q r) a d s n h (both-ok q r b c d m o e) (both-err q r b c d m l o i f) g
 
 -- two sets with the same members
-pub same-stop : (p q : Faults) (s : Stop) → ((k : FaultKind) (at : ℕ) → p k at → q k at) → ((k : FaultKind) (at : ℕ) → q k at → p k at) → StopsAtFirst p s → StopsAtFirst q s
-same-stop p q (Fault f) to from h = record { has = to _ _ h.has; first = λ j n w. h.first j n (from j n w) }
-same-stop p q NoMemory to from h = tt
+pub record Same (p q : Faults) : Type 0 where
+  pub to : (k : FaultKind) (at : ℕ) → p k at → q k at
+  pub from : (k : FaultKind) (at : ℕ) → q k at → p k at
 
-pub same-none : (p q : Faults) → ((k : FaultKind) (at : ℕ) → q k at → p k at) → HasNone p → HasNone q
-same-none p q from h k at w = h k at (from k at w)
+pub same-none : (p q : Faults) → Same p q → HasNone p → HasNone q
+same-none p q s h k at x = h k at (s.from k at x)
+
+pub same-stop : (p q : Faults) (s : Stop) → Same p q → StopsAtFirst p s → StopsAtFirst q s
+same-stop p q (Fault f) s h = record { has = s.to _ _ h.has; first = λ j n x. h.first j n (s.from j n x) }
+same-stop p q NoMemory s h = tt
 
 -- an answer whose faults are those of a set
 abbrev pub Tells : {A : Type 0} → Faults → Result A Stop → Type 0
 Tells faults r = IfOk r (λ x. HasNone faults) × IfErr r (StopsAtFirst faults)
 
-pub tells-same : {A : Type 0} (p q : Faults) (r : Result A Stop) → ((k : FaultKind) (at : ℕ) → p k at → q k at) → ((k : FaultKind) (at : ℕ) → q k at → p k at) → Tells p r → Tells q r
-tells-same p q (Ok x) to from h = (same-none p q from h.0, tt)
-tells-same p q (Err s) to from h = (tt, same-stop p q s to from h.1)
+pub tells-same : {A : Type 0} (p q : Faults) (r : Result A Stop) → Same p q → Tells p r → Tells q r
+tells-same p q (Ok x) s h = (same-none p q s h.0, tt)
+tells-same p q (Err t) s h = (tt, same-stop p q t s h.1)
 
 -- two parts and what they come to together
 pub tells-both : {A B C : Type 0} (p q : Faults) (a : Result A Stop) (b : Result B Stop) (c : Result C Stop) → Tells p a → Tells q b → IfOk c (λ r. (x : A) × (y : B) × (a ≡ Ok x) × (b ≡ Ok y)) → IfErr c (StopsBoth a b) → Tells (Both p q) c

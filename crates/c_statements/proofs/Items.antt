@@ -17,8 +17,8 @@ use Rattle.c_statements.specs.Shape.{statement_of, statements_of}
 use Rattle.c_statements.specs.Statements.{FaultyItems}
 use Rattle.c_statements.specs.Typed.{TypedStatement, TypedStatements, no_statements, more_statements}
 use Rattle.c_statements.specs.Types.{TypesItems, no_items_typed, statement_typed, declare_typed}
-use Rattle.c_statements.proofs.Firsts.{Both}
-use Rattle.c_statements.proofs.Joined.{Answered, Same, one-more}
+use Rattle.c_statements.proofs.Firsts.{Both, Same}
+use Rattle.c_statements.proofs.Joined.{Answered, one-more}
 
 abbrev pub with_item : Items → Tree.Item → Items
 with_item no_items i = more_items i no_items

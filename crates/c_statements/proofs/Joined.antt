@@ -1,30 +1,17 @@
 -- What a function that types a part answers, and such answers put together.
-use Rattle.std.proofs.Common.{◌≡◌, ◌⊎◌, ℕ, List, [], ◌∷◌, ◌++◌, Result, Ok, Err, IfOk, IfErr, inl, inr, sym, subst}
+use Rattle.std.proofs.Common.{◌≡◌, ◌⊎◌, List, [], ◌∷◌, ◌++◌, Result, Ok, Err, IfOk, IfErr, inl, inr, sym, subst}
 use Rattle.std.specs.declared.vec.Vec.{Vec}
 use Rattle.std.specs.declared.alloc.Global.{Global}
-use Rattle.c_statements.specs.declared.fault.FaultKind.{FaultKind}
 use Rattle.c_statements.specs.declared.fault.Stop.{Stop}
-use Rattle.c_statements.specs.declared.fault.Stop.TheVariants.{Fault, NoMemory}
+use Rattle.c_statements.specs.declared.fault.Stop.TheVariants.{NoMemory}
 use Rattle.c_statements.specs.Faults.{Faults, StopsAtFirst, HasNone, StopsBoth}
-use Rattle.c_statements.proofs.Firsts.{Both, both-none, both-stop, ok-at}
+use Rattle.c_statements.proofs.Firsts.{Both, Same, same-none, same-stop, both-none, both-stop, ok-at}
 
 -- a part whose typed trees have a property, and which has these faults
 pub record Answered {A : Type 0} (P : A → Type 0) (p : Faults) (r : Result A Stop) : Type 0 where
   pub ok : IfOk r P
   pub none : IfOk r (λ x. HasNone p)
   pub err : IfErr r (StopsAtFirst p)
-
--- two sets with the same members
-pub record Same (p q : Faults) : Type 0 where
-  pub to : (k : FaultKind) (at : ℕ) → p k at → q k at
-  pub from : (k : FaultKind) (at : ℕ) → q k at → p k at
-
-pub same-none : (p q : Faults) → Same p q → HasNone p → HasNone q
-same-none p q s h k at x = h k at (s.from k at x)
-
-pub same-stop : (p q : Faults) (s : Stop) → Same p q → StopsAtFirst p s → StopsAtFirst q s
-same-stop p q (Fault f) s h = record { has = s.to _ _ h.has; first = λ j n x. h.first j n (s.from j n x) }
-same-stop p q NoMemory s h = tt
 
 -- a list with one more part
 pub one-more : {T : Type 0} (P W : List T → Type 0) (Q : T → Type 0) (p q w : Faults) (all r : Result (Vec T Global) Stop) (one : Result T Stop) → Same (Both p q) w

@@ -70,7 +70,7 @@ for-ok text sc f l c s new mid v first turns t last body n m e i p q r h =
 -- the faults of one declaration alone
 pub declare-stop : (text : List ℕ) (g b : Bool) (sc : Scopes) (k : Kind) (x : Identifier) (v : Option Tree.Value) (s : Stop)
     → StopsAtFirst (Both (FaultyDeclarator text sc x) (FaultyFirst (sight_in text (declared text sc k x)) v)) s → StopsAtFirst (FaultyItems text g b sc (Tree.more_items (Tree.declare k x v) Tree.no_items)) s
-declare-stop text g b sc k x v s h = same-stop _ _ s (λ j n w. to j n w) (λ j n w. from j n w) h
+declare-stop text g b sc k x v s h = same-stop _ _ s (record { to = λ j n w. to j n w; from = λ j n w. from j n w }) h
   where
     to : (j : FaultKind) (n : ℕ) → FaultyDeclarator text sc x j n ⊎ FaultyFirst (sight_in text (declared text sc k x)) v j n → FaultyItems text g b sc (Tree.more_items (Tree.declare k x v) Tree.no_items) j n
     to j n (inl w) = inl w

@@ -1,13 +1,13 @@
 ghost use Rattle.std.specs.Prelude.{◌≡◌, IfOk, IfErr, Some};
 ghost use Rattle.c_statements.specs.declared.names.Named.TheVariants.{Array};
-ghost use Rattle.c_statements.specs.declared.fault.Stop.TheVariants.{Fault};
+ghost use Rattle.c_statements.specs.declared.fault.Stop.TheVariants.{Fault, NoMemory};
 ghost use Rattle.c_front.specs.Shape.{expression_of};
 ghost use Rattle.c_front.specs.Tree as Tree;
 ghost use Rattle.c_statements.specs.Faults.{HasNone, StopsAtFirst};
 ghost use Rattle.c_statements.specs.Held.{scopes_of};
 ghost use Rattle.c_statements.specs.Names.{Sight, sight_in};
 ghost use Rattle.c_statements.specs.Shape.{term_of};
-ghost use Rattle.c_statements.specs.Typed.{TypedExpression, common_kind, prefix_kind, operation_kind};
+ghost use Rattle.c_statements.specs.Typed.{TypedExpression, binary, choose, kind_of, common_kind, prefix_kind, operation_kind};
 ghost use Rattle.c_statements.specs.Types.{Types};
 ghost use Rattle.c_statements.specs.Uses.{Faulty, Misused, as_value, with_index};
 
@@ -89,6 +89,34 @@ pub fn array(program: &Program, frame: &Frame, name: Identifier) -> Result<(usiz
     }
 }
 
+/// A binary operator with its operands, in the kind that it computes in.
+fn binary(alloc: Global, operator: BinaryOp, left: Term, right: Term) -> Result<Term, Stop>
+    ensures ok { IfOk result (λ t. term_of t ≡ binary operator (operation_kind operator (kind_of (term_of left)) (kind_of (term_of right))) (term_of left) (term_of right)) }
+    ensures err { IfErr result (λ s. s ≡ NoMemory) }
+{
+    let kind = operation(operator, left.kind(), right.kind());
+    Ok(Term::Binary(
+        operator,
+        kind,
+        Box::new(alloc, left)?,
+        Box::new(alloc, right)?,
+    ))
+}
+
+/// A choice between two values by a test, in the common kind of the values.
+fn choice(alloc: Global, test: Term, yes: Term, no: Term) -> Result<Term, Stop>
+    ensures ok { IfOk result (λ t. term_of t ≡ choose (common_kind (kind_of (term_of yes)) (kind_of (term_of no))) (term_of test) (term_of yes) (term_of no)) }
+    ensures err { IfErr result (λ s. s ≡ NoMemory) }
+{
+    let kind = common(yes.kind(), no.kind());
+    Ok(Term::Choose(
+        kind,
+        Box::new(alloc, test)?,
+        Box::new(alloc, yes)?,
+        Box::new(alloc, no)?,
+    ))
+}
+
 /// The typed tree of an expression under the names in sight, or its first fault.
 pub fn expression(alloc: Global, program: &Program, frame: &Frame, e: &Expr) -> Result<Term, Stop>
     ensures ok { IfOk result (λ t. Types (sight_in program.now.text.items (scopes_of frame.now)) (expression_of e.now) (term_of t)) }
@@ -115,26 +143,16 @@ pub fn expression(alloc: Global, program: &Program, frame: &Frame, e: &Expr) -> 
             let first = expression(alloc, program, frame, first);
             let second = expression(alloc, program, frame, second);
             let (left, right) = both(first, second)?;
-            let kind = operation(*operator, left.kind(), right.kind());
-            Ok(Term::Binary(
-                *operator,
-                kind,
-                Box::new(alloc, left)?,
-                Box::new(alloc, right)?,
-            ))
+            let term = binary(alloc, *operator, left, right)?;
+            Ok(term)
         }
         Expr::Choose(test, first, second) => {
             let test = expression(alloc, program, frame, test);
             let first = expression(alloc, program, frame, first);
             let second = expression(alloc, program, frame, second);
             let (test, (yes, no)) = both(test, both(first, second))?;
-            let kind = common(yes.kind(), no.kind());
-            Ok(Term::Choose(
-                kind,
-                Box::new(alloc, test)?,
-                Box::new(alloc, yes)?,
-                Box::new(alloc, no)?,
-            ))
+            let term = choice(alloc, test, yes, no)?;
+            Ok(term)
         }
     }
 }

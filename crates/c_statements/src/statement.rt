@@ -21,7 +21,7 @@ use c_tokens::token::Identifier;
 use std::alloc::{AllocError, AllocFailed, Global};
 
 /// The most locals that a function may have, its parameters counted.
-const MAX_LOCALS: usize = 128;
+pub const MAX_LOCALS: usize = 128;
 
 /// An answer that isn't want of memory; want of memory is an error at once, since the scopes behind it aren't known.
 pub fn lasting<T: Drop>(answer: Result<T, Stop>) -> Result<Result<T, Stop>, Stop>

@@ -17,8 +17,8 @@ use Rattle.c_statements.specs.Faults.{Faults, HasNone, StopsAtFirst, StopsBoth}
 use Rattle.c_statements.specs.Names.{Meaning, Scopes, with_declared}
 use Rattle.c_statements.specs.Shape.{function_of, functions_of}
 use Rattle.c_statements.specs.Typed.{TypedFunction}
-use Rattle.c_statements.proofs.Firsts.{Both, both-none, both-stop, ok-at}
-use Rattle.c_statements.proofs.Joined.{Answered, same-stop}
+use Rattle.c_statements.proofs.Firsts.{Both, both-none, both-stop, ok-at, same-stop}
+use Rattle.c_statements.proofs.Joined.{Answered}
 use Rattle.c_types.specs.declared.declaration.Tally.{Tally}
 use Rattle.c_types.specs.declared.program.Declared.{Declared}
 use Rattle.c_types.specs.declared.program.Parts.{Parts}

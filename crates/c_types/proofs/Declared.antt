@@ -72,11 +72,11 @@ limit-first text f d e k h = record { has = too-many text f d h; first = λ j n 
 pub no-fault : (text : List ℕ) (f : File) (d : Declaration) → f.names (spelled text (name_of d)) ≡ None → (IsOtherKind text d → ⊥) → (Exceeds f.tally d → ⊥) → HasNone (FaultyName text f d)
 no-fault text f d e k h j n w = h (exceeds e k w).0
 
-some-there : {A : Type 0} (o : Option A) → is_some o ≡ true → o ≢ None
+pub some-there : {A : Type 0} (o : Option A) → is_some o ≡ true → o ≢ None
 some-there (Some a) h e = none-some _ (sym e)
 some-there None h e = cc
 
-none-there : {A : Type 0} (o : Option A) → is_some o ≡ false → o ≡ None
+pub none-there : {A : Type 0} (o : Option A) → is_some o ≡ false → o ≡ None
 none-there (Some a) h = cc
 none-there None h = refl
 

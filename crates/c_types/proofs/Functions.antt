@@ -2,24 +2,17 @@
 use Rattle.std.proofs.Common.{◌≡◌, ℕ, List, [], ◌∷◌, refl, sym, ap, ◌∙◌, subst, Result, IfOk, IfErr, Option, Bool, false}
 use Rattle.std.specs.Prelude.{is_some}
 use Rattle.c_front.specs.declared.tree.Parameter.{Parameter}
-use Rattle.c_front.specs.Tree.{Item, Items, declare, statement, no_items, more_items, function}
+use Rattle.c_front.specs.Tree.{Items, function}
 use Rattle.c_tokens.specs.declared.token.Identifier.{Identifier}
 use Rattle.c_tokens.specs.declared.token.Kind.{Kind}
 use Rattle.c_statements.specs.declared.fault.Stop.{Stop}
 use Rattle.c_statements.specs.Faults.{HasNone, StopsAtFirst, StopsBoth}
-use Rattle.c_statements.specs.Names.{Meaning, Scopes, left, without_first, without_locals, entered, declared, behind_item, behind_items}
+use Rattle.c_statements.specs.Names.{Meaning, Scopes, left, without_first, without_locals, entered, declared, behind_items}
 use Rattle.c_statements.specs.Statements.{FaultyItems}
 use Rattle.c_statements.proofs.Firsts.{Both, both-stop}
+use Rattle.c_statements.proofs.Items.{behind-around}
 use Rattle.c_types.specs.Files.{file_scopes}
 use Rattle.c_types.specs.Programs.{FaultyParameters, FaultyBody, behind_parameters, scopes_at}
-
-around-item : (text : List ℕ) (sc : Scopes) (i : Item) → (behind_item text sc i).around ≡ sc.around
-around-item text sc (declare k x v) = refl
-around-item text sc (statement s) = refl
-
-around-items : (text : List ℕ) (sc : Scopes) (all : Items) → (behind_items text sc all).around ≡ sc.around
-around-items text sc no_items = refl
-around-items text sc (more_items i rest) = around-items text (behind_item text sc i) rest ∙ around-item text sc i
 
 around-parameters : (text : List ℕ) (sc : Scopes) (ps : List Parameter) → (behind_parameters text sc ps).around ≡ sc.around
 around-parameters text sc [] = refl
@@ -30,7 +23,7 @@ pub back : (text : List ℕ) (old s1 s2 s3 s4 s5 : Scopes) (ps : List Parameter)
 back text old s1 s2 s3 s4 s5 ps body o a b d e f = f ∙ ap without_locals e ∙ ap (λ (m : List Meaning). without_locals (without_first m s3)) there ∙ sym o
   where
     there : s3.around ≡ old.inner ∷ []
-    there = ap (λ (s : Scopes). s.around) d ∙ around-items text s2 body ∙ ap (λ (s : Scopes). s.around) b ∙ around-parameters text s1 ps ∙ ap (λ (s : Scopes). s.around) a ∙ ap (λ (s : Scopes). old.inner ∷ s.around) o
+    there = ap (λ (s : Scopes). s.around) d ∙ behind-around text s2 body ∙ ap (λ (s : Scopes). s.around) b ∙ around-parameters text s1 ps ∙ ap (λ (s : Scopes). s.around) a ∙ ap (λ (s : Scopes). old.inner ∷ s.around) o
 
 pub at-parameters : (old s1 : Scopes) → old ≡ file_scopes old.inner → s1 ≡ entered old → s1 ≡ scopes_at old.inner
 at-parameters old s1 o a = a ∙ ap entered o

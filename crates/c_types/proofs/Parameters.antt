@@ -1,7 +1,6 @@
 -- The one fault of a parameter's name.
-use Rattle.std.proofs.Common.{◌≡◌, ◌≢◌, ◌≤◌, ℕ, List, Option, Some, None, inl, inr, refl, sym, ◌∙◌, arith, Bool, true, false, [], ◌∷◌, ◌++◌, Result, Ok, Err, IfOk, IfErr}
+use Rattle.std.proofs.Common.{◌≡◌, ◌≤◌, ℕ, List, None, inl, inr, refl, sym, ◌∙◌, arith, Bool, true, false, [], ◌∷◌, ◌++◌, Result, Ok, Err, IfOk, IfErr}
 use Rattle.std.specs.Prelude.{is_some}
-use Rattle.std.proofs.lemmas.Option.{none-some}
 use Rattle.c_tokens.specs.declared.token.Identifier.{Identifier}
 use Rattle.c_statements.specs.declared.fault.FaultKind.{FaultKind}
 use Rattle.c_statements.specs.declared.fault.FaultKind.TheVariants.{Redeclared, Count, Limit}
@@ -12,15 +11,8 @@ use Rattle.c_statements.specs.Faults.{number_of, Faults, HasNone, StopsAtFirst, 
 use Rattle.c_statements.specs.Names.{Scopes, spelled, declared}
 use Rattle.c_statements.specs.Statements.{declared_before, local_too_many}
 use Rattle.c_statements.proofs.Firsts.{Both, Tells, tells-same, tells-both}
+use Rattle.c_types.proofs.Declared.{some-there, none-there}
 use Rattle.c_types.specs.Programs.{FaultyParameter, FaultyParameters, behind_parameters, faulty_declarator, fifth_parameter}
-
-some-there : {A : Type 0} (o : Option A) → is_some o ≡ true → o ≢ None
-some-there (Some a) h e = none-some _ (sym e)
-some-there None h e = cc
-
-none-there : {A : Type 0} (o : Option A) → is_some o ≡ false → o ≡ None
-none-there (Some a) h = cc
-none-there None h = refl
 
 place : {text : List ℕ} {sc : Scopes} {x : Identifier} {j : FaultKind} {n : ℕ} → FaultyParameter text sc x j n → x.at ≡ n
 place (faulty_declarator (declared_before h)) = refl
@@ -78,7 +70,7 @@ pub one-more : (text : List ℕ) (sc now : Scopes) (done : List Parameter) (p : 
 one-more text sc now done p a b c e h n s o t =
     let q : Faults = FaultyParameter text (behind_parameters text sc done) p.name in
     let l : Tells q b = rw (sym e) (n, s) in
-    tells-same (Both (FaultyParameters text sc done) q) (FaultyParameters text sc (done ++ p ∷ [])) c (faults-to text sc done p) (faults-from text sc done p)
+    tells-same (Both (FaultyParameters text sc done) q) (FaultyParameters text sc (done ++ p ∷ [])) c (record { to = faults-to text sc done p; from = faults-from text sc done p })
     (tells-both (FaultyParameters text sc done) q a b c h l (shaped c o) t)
   where
     shaped : (r : Result Unit Stop) → IfOk r (λ x. (a ≡ Ok tt) × (b ≡ Ok tt)) → IfOk r (λ r. (x : Unit) × (y : Unit) × (a ≡ Ok x) × (b ≡ Ok y))

@@ -11,8 +11,18 @@ use c_statements::expression::misuse;
 use c_statements::fault::{FaultKind, Stop, either};
 use c_statements::names::Named;
 use c_statements::scopes::Frame;
+use c_statements::statement::MAX_LOCALS;
 use c_tokens::token::{Identifier, Kind};
 use std::alloc::AllocError;
+
+/// The most parameters that a function may have.
+const MAX_PARAMETERS: usize = 4;
+
+/// The most functions that a program may have.
+const MAX_FUNCTIONS: usize = 256;
+
+/// The most words that the globals of a program may take together.
+pub const MAX_GLOBAL_WORDS: usize = 262_144;
 
 /// How many globals and functions stand at file scope so far, and how many of the 262,144 words are left for globals,
 /// until they are exceeded.
@@ -113,7 +123,7 @@ impl Tally {
         ensures no { result ≡ false → Exceeds self.now (declaration_of declaration.now) → ⊥ }
     {
         if let Declaration::Function(_) = declaration {
-            return self.functions == 256;
+            return self.functions == MAX_FUNCTIONS;
         }
         match self.room {
             Some(room) => room < words(declaration),
@@ -192,10 +202,10 @@ fn parameter_fault(program: &Program, frame: &Frame, name: Identifier) -> Result
     if frame.declares(program, name) {
         return Err(misuse(FaultKind::Redeclared, name));
     }
-    if frame.locals() == 4 {
+    if frame.locals() == MAX_PARAMETERS {
         return Err(misuse(FaultKind::Count, name));
     }
-    if frame.locals() == 128 {
+    if frame.locals() == MAX_LOCALS {
         return Err(misuse(FaultKind::Limit, name));
     }
     Ok(())

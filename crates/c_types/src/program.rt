@@ -12,7 +12,9 @@ ghost use Rattle.c_types.specs.Programs.{File, FaultyBody, FaultyDeclaration, Fa
 ghost use Rattle.c_types.specs.Shape.{program_of};
 ghost use Rattle.c_types.specs.WellFormed.{EachTypedProgramIsWellFormed};
 
-use crate::declaration::{Tally, declared_name, first, is_main, name_fault, parameters};
+use crate::declaration::{
+    MAX_GLOBAL_WORDS, Tally, declared_name, first, is_main, name_fault, parameters,
+};
 use crate::typed::Typed;
 use c_front::tree::{Declaration, FunctionDefinition, Program};
 use c_statements::fault::{FaultKind, Stop, TypeFault, both};
@@ -173,7 +175,7 @@ fn declarations<'a>(
     let mut tally = Tally {
         globals: 0,
         functions: 0,
-        room: Some(262_144),
+        room: Some(MAX_GLOBAL_WORDS),
     };
     let mut parts = Ok(Parts {
         functions: Vec::new(alloc),

@@ -37,13 +37,13 @@ returns-in_ok-new-in-Index-clause-ok t c =
 pub returns-in_ok-new-in-Unary-clause-ok : goal.returns-in_ok-new-in-Unary-clause-ok
 returns-in_ok-new-in-Unary-clause-ok t c = rw (c.in-Unary.is, sym c.deref-in-Unary.ensures, c.in_ok-new-in-Unary.ensures.ok, c.prefix-kind.ensures, c.kind.ensures) (unary_typed c.in_ok-operand-in-Unary.ensures.ok)
 
-pub returns-in_ok-new-in-Binary-2-clause-ok : goal.returns-in_ok-new-in-Binary-2-clause-ok
-returns-in_ok-new-in-Binary-2-clause-ok t c =
-    rw (c.in-Binary.is, sym c.deref-in-Binary.ensures, sym c.deref-in-Binary-2.ensures, c.in_ok-new-in-Binary.ensures.ok, c.in_ok-new-in-Binary-2.ensures.ok, c.operation-kind.ensures, c.kind-in-Binary.ensures, c.kind-in-Binary-2.ensures)
+pub returns-in_ok-term-in-Binary-clause-ok : goal.returns-in_ok-term-in-Binary-clause-ok
+returns-in_ok-term-in-Binary-clause-ok t c =
+    rw (c.in-Binary.is, sym c.deref-in-Binary.ensures, sym c.deref-in-Binary-2.ensures, c.in_ok-term-in-Binary.ensures.ok)
     (binary_typed (ok-at _ _ _ c.in_ok-left-in-Binary.ensures.ok.0 c.expression-first.ensures.ok) (ok-at _ _ _ c.in_ok-left-in-Binary.ensures.ok.1 c.expression-second.ensures.ok))
 
-pub returns-in_ok-new-in-Choose-3-clause-ok : goal.returns-in_ok-new-in-Choose-3-clause-ok
-returns-in_ok-new-in-Choose-3-clause-ok t c =
+pub returns-in_ok-term-in-Choose-clause-ok : goal.returns-in_ok-term-in-Choose-clause-ok
+returns-in_ok-term-in-Choose-clause-ok t c =
     let e = ok-at _ _ _ c.in_ok-test-in-Choose.ensures.ok.1 c.both-in-Choose.ensures.ok in
-    rw (c.in-Choose.is, sym c.deref-in-Choose.ensures, sym c.deref-in-Choose-2.ensures, sym c.deref-in-Choose-3.ensures, c.in_ok-new-in-Choose.ensures.ok, c.in_ok-new-in-Choose-2.ensures.ok, c.in_ok-new-in-Choose-3.ensures.ok, c.common-kind.ensures, c.kind-in-Choose.ensures, c.kind-in-Choose-2.ensures)
+    rw (c.in-Choose.is, sym c.deref-in-Choose.ensures, sym c.deref-in-Choose-2.ensures, sym c.deref-in-Choose-3.ensures, c.in_ok-term-in-Choose.ensures.ok)
     (choose_typed (ok-at _ _ _ c.in_ok-test-in-Choose.ensures.ok.0 c.expression-test.ensures.ok) (ok-at _ _ _ e.0 c.expression-first-in-Choose.ensures.ok) (ok-at _ _ _ e.1 c.expression-second-in-Choose.ensures.ok))
