@@ -18,7 +18,7 @@ fn is_text(alloc: Global, inst: &Plain, text: &str) -> bool {
 }
 
 #[test]
-fn shifts_and_registers(rt: HostRuntime) -> Result<(), Fail> {
+fn shifts(rt: HostRuntime) -> Result<(), Fail> {
     let (rd, rs, second) = (Reg::masked(8), Reg::masked(9), Reg::masked(31));
     let amount = Amount::masked(31);
     for (op, by_constant, by_register) in [
@@ -32,6 +32,10 @@ fn shifts_and_registers(rt: HostRuntime) -> Result<(), Fail> {
             rt: second,
             amount,
         };
+        assert!(rt;
+            is_text(rt.alloc(), &shift, by_constant),
+            "at {by_constant}"
+        );
         let shift_by = Plain::ShiftBy {
             op,
             rd,
@@ -39,14 +43,16 @@ fn shifts_and_registers(rt: HostRuntime) -> Result<(), Fail> {
             rs,
         };
         assert!(rt;
-            is_text(rt.alloc(), &shift, by_constant),
-            "at {by_constant}"
-        );
-        assert!(rt;
             is_text(rt.alloc(), &shift_by, by_register),
             "at {by_register}"
         );
     }
+    Ok(())
+}
+
+#[test]
+fn registers(rt: HostRuntime) -> Result<(), Fail> {
+    let (rd, rs, second) = (Reg::masked(8), Reg::masked(9), Reg::masked(31));
     for (op, text) in [
         (AluOp::Addu, "addu $8,$9,$31"),
         (AluOp::Subu, "subu $8,$9,$31"),
@@ -106,171 +112,111 @@ fn constants(rt: HostRuntime) -> Result<(), Fail> {
 }
 
 #[test]
-fn products_and_memory(rt: HostRuntime) -> Result<(), Fail> {
-    let (first, second) = (Reg::masked(9), Reg::masked(10));
+fn products(rt: HostRuntime) -> Result<(), Fail> {
+    let (rs, second) = (Reg::masked(9), Reg::masked(10));
+    for (sign, product, quotient) in [
+        (Sign::Signed, "mult $9,$10", "div $9,$10"),
+        (Sign::Unsigned, "multu $9,$10", "divu $9,$10"),
+    ] {
+        let multiply = Plain::Multiply {
+            sign,
+            rs,
+            rt: second,
+        };
+        assert!(rt; is_text(rt.alloc(), &multiply, product), "at {product}");
+        let divide = Plain::Divide {
+            sign,
+            rs,
+            rt: second,
+        };
+        assert!(rt; is_text(rt.alloc(), &divide, quotient), "at {quotient}");
+    }
+    for (place, text) in [(HiLo::Hi, "mfhi $9"), (HiLo::Lo, "mflo $9")] {
+        let moved = Plain::MoveFrom { place, rd: rs };
+        assert!(rt; is_text(rt.alloc(), &moved, text), "at {text}");
+    }
+    Ok(())
+}
+
+#[test]
+fn memory(rt: HostRuntime) -> Result<(), Fail> {
     let Some(loaded) = NonzeroReg::new(8) else {
         panic!(rt; "no register 8")
     };
-    let zero = Reg::ZERO;
-    let amount = Amount::masked(0);
-    for (inst, text) in [
-        (
-            Plain::MoveFrom {
-                place: HiLo::Hi,
-                rd: first,
-            },
-            "mfhi $9",
-        ),
-        (
-            Plain::MoveFrom {
-                place: HiLo::Lo,
-                rd: first,
-            },
-            "mflo $9",
-        ),
-        (
-            Plain::Multiply {
-                sign: Sign::Signed,
-                rs: first,
-                rt: second,
-            },
-            "mult $9,$10",
-        ),
-        (
-            Plain::Multiply {
-                sign: Sign::Unsigned,
-                rs: first,
-                rt: second,
-            },
-            "multu $9,$10",
-        ),
-        (
-            Plain::Divide {
-                sign: Sign::Signed,
-                rs: first,
-                rt: second,
-            },
-            "div $9,$10",
-        ),
-        (
-            Plain::Divide {
-                sign: Sign::Unsigned,
-                rs: first,
-                rt: second,
-            },
-            "divu $9,$10",
-        ),
-        (
-            Plain::Load {
-                rt: loaded,
-                base: first,
-                offset: 4,
-            },
-            "lw $8,4($9)",
-        ),
-        (
-            Plain::Store {
-                rt: zero,
-                base: second,
-                offset: -4,
-            },
-            "sw $0,-4($10)",
-        ),
-        (
-            Plain::Shift {
-                op: ShiftOp::Sll,
-                rd: zero,
-                rt: zero,
-                amount,
-            },
-            "nop",
-        ),
-    ] {
-        assert!(rt; is_text(rt.alloc(), &inst, text), "at {text}");
-    }
+    let load = Plain::Load {
+        rt: loaded,
+        base: Reg::masked(9),
+        offset: 4,
+    };
+    assert!(rt; is_text(rt.alloc(), &load, "lw $8,4($9)"));
+    let store = Plain::Store {
+        rt: Reg::ZERO,
+        base: Reg::masked(10),
+        offset: -4,
+    };
+    assert!(rt; is_text(rt.alloc(), &store, "sw $0,-4($10)"));
+    Ok(())
+}
+
+#[test]
+fn no_operation(rt: HostRuntime) -> Result<(), Fail> {
     let nop = Plain::Shift {
         op: ShiftOp::Sll,
-        rd: zero,
-        rt: zero,
-        amount,
+        rd: Reg::ZERO,
+        rt: Reg::ZERO,
+        amount: Amount::masked(0),
     };
+    assert!(rt; is_text(rt.alloc(), &nop, "nop"));
     assert!(rt; plain_of(b"sll $0,$0,0") == Some(nop));
     Ok(())
 }
 
 #[test]
-fn exits(rt: HostRuntime) -> Result<(), Fail> {
+fn branches(rt: HostRuntime) -> Result<(), Fail> {
     let (rs, second) = (Reg::masked(8), Reg::masked(9));
     let (Some(then), Some(other)) = (BlockNumber::new(1048575), BlockNumber::new(0)) else {
         panic!(rt; "no block")
     };
+    for (test, text) in [
+        (PairTest::Equal, "beq $8,$9,1048575,0"),
+        (PairTest::NotEqual, "bne $8,$9,1048575,0"),
+    ] {
+        let exit = Exit::BranchPair {
+            test,
+            rs,
+            rt: second,
+            then,
+            other,
+        };
+        assert!(rt; exit_of(text.as_bytes()) == Some(exit), "at {text}");
+    }
+    for (test, text) in [
+        (ZeroTest::AtMostZero, "blez $8,1048575,0"),
+        (ZeroTest::AboveZero, "bgtz $8,1048575,0"),
+        (ZeroTest::BelowZero, "bltz $8,1048575,0"),
+        (ZeroTest::AtLeastZero, "bgez $8,1048575,0"),
+    ] {
+        let exit = Exit::BranchZero {
+            test,
+            rs,
+            then,
+            other,
+        };
+        assert!(rt; exit_of(text.as_bytes()) == Some(exit), "at {text}");
+    }
+    Ok(())
+}
+
+#[test]
+fn other_exits(rt: HostRuntime) -> Result<(), Fail> {
+    let (Some(function), Some(next)) = (BlockNumber::new(1048575), BlockNumber::new(0)) else {
+        panic!(rt; "no block")
+    };
     for (exit, text) in [
-        (Exit::Goto(then), "goto 1048575"),
-        (
-            Exit::BranchPair {
-                test: PairTest::Equal,
-                rs,
-                rt: second,
-                then,
-                other,
-            },
-            "beq $8,$9,1048575,0",
-        ),
-        (
-            Exit::BranchPair {
-                test: PairTest::NotEqual,
-                rs,
-                rt: second,
-                then,
-                other,
-            },
-            "bne $8,$9,1048575,0",
-        ),
-        (
-            Exit::BranchZero {
-                test: ZeroTest::AtMostZero,
-                rs,
-                then,
-                other,
-            },
-            "blez $8,1048575,0",
-        ),
-        (
-            Exit::BranchZero {
-                test: ZeroTest::AboveZero,
-                rs,
-                then,
-                other,
-            },
-            "bgtz $8,1048575,0",
-        ),
-        (
-            Exit::BranchZero {
-                test: ZeroTest::BelowZero,
-                rs,
-                then,
-                other,
-            },
-            "bltz $8,1048575,0",
-        ),
-        (
-            Exit::BranchZero {
-                test: ZeroTest::AtLeastZero,
-                rs,
-                then,
-                other,
-            },
-            "bgez $8,1048575,0",
-        ),
-        (
-            Exit::Call {
-                function: then,
-                next: other,
-            },
-            "call 1048575,0",
-        ),
+        (Exit::Goto(function), "goto 1048575"),
+        (Exit::Call { function, next }, "call 1048575,0"),
         (Exit::Return, "return"),
-        (Exit::Out(other), "out 0"),
+        (Exit::Out(next), "out 0"),
         (Exit::Halt, "halt"),
     ] {
         assert!(rt; exit_of(text.as_bytes()) == Some(exit), "at {text}");

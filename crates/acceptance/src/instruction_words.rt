@@ -8,81 +8,83 @@ use mips_isa::{
 use std::test::Fail;
 use words::Operator;
 
+const OPERATORS: [(Operator, u32, u32, Option<u32>); 61] = [
+    (Operator::Addu, 0xffffffff, 0x1, Some(0x0)),
+    (Operator::Addu, 0x80000000, 0x21, Some(0x80000021)),
+    (Operator::Addu, 0x7fffffff, 0xffffffff, Some(0x7ffffffe)),
+    (Operator::Subu, 0xffffffff, 0x1, Some(0xfffffffe)),
+    (Operator::Subu, 0x80000000, 0x21, Some(0x7fffffdf)),
+    (Operator::Subu, 0x7fffffff, 0xffffffff, Some(0x80000000)),
+    (Operator::And, 0xffffffff, 0x1, Some(0x1)),
+    (Operator::And, 0x80000000, 0x21, Some(0x0)),
+    (Operator::And, 0x7fffffff, 0xffffffff, Some(0x7fffffff)),
+    (Operator::Or, 0xffffffff, 0x1, Some(0xffffffff)),
+    (Operator::Or, 0x80000000, 0x21, Some(0x80000021)),
+    (Operator::Or, 0x7fffffff, 0xffffffff, Some(0xffffffff)),
+    (Operator::Xor, 0xffffffff, 0x1, Some(0xfffffffe)),
+    (Operator::Xor, 0x80000000, 0x21, Some(0x80000021)),
+    (Operator::Xor, 0x7fffffff, 0xffffffff, Some(0x80000000)),
+    (Operator::Nor, 0xffffffff, 0x1, Some(0x0)),
+    (Operator::Nor, 0x80000000, 0x21, Some(0x7fffffde)),
+    (Operator::Nor, 0x7fffffff, 0xffffffff, Some(0x0)),
+    (Operator::Slt, 0xffffffff, 0x1, Some(0x1)),
+    (Operator::Slt, 0x80000000, 0x21, Some(0x1)),
+    (Operator::Slt, 0x7fffffff, 0xffffffff, Some(0x0)),
+    (Operator::Sltu, 0xffffffff, 0x1, Some(0x0)),
+    (Operator::Sltu, 0x80000000, 0x21, Some(0x0)),
+    (Operator::Sltu, 0x7fffffff, 0xffffffff, Some(0x1)),
+    (Operator::Sll, 0xffffffff, 0x1, Some(0xfffffffe)),
+    (Operator::Sll, 0x80000000, 0x21, Some(0x0)),
+    (Operator::Sll, 0x7fffffff, 0xffffffff, Some(0x80000000)),
+    (Operator::Srl, 0xffffffff, 0x1, Some(0x7fffffff)),
+    (Operator::Srl, 0x80000000, 0x21, Some(0x40000000)),
+    (Operator::Srl, 0x7fffffff, 0xffffffff, Some(0x0)),
+    (Operator::Sra, 0xffffffff, 0x1, Some(0xffffffff)),
+    (Operator::Sra, 0x80000000, 0x21, Some(0xc0000000)),
+    (Operator::Sra, 0x7fffffff, 0xffffffff, Some(0x0)),
+    (Operator::MultHigh, 0xffffffff, 0x1, Some(0xffffffff)),
+    (Operator::MultHigh, 0x80000000, 0x21, Some(0xffffffef)),
+    (Operator::MultHigh, 0x7fffffff, 0xffffffff, Some(0xffffffff)),
+    (Operator::MultLow, 0xffffffff, 0x1, Some(0xffffffff)),
+    (Operator::MultLow, 0x80000000, 0x21, Some(0x80000000)),
+    (Operator::MultLow, 0x7fffffff, 0xffffffff, Some(0x80000001)),
+    (Operator::MultuHigh, 0xffffffff, 0x1, Some(0x0)),
+    (Operator::MultuHigh, 0x80000000, 0x21, Some(0x10)),
+    (
+        Operator::MultuHigh,
+        0x7fffffff,
+        0xffffffff,
+        Some(0x7ffffffe),
+    ),
+    (Operator::MultuLow, 0xffffffff, 0x1, Some(0xffffffff)),
+    (Operator::MultuLow, 0x80000000, 0x21, Some(0x80000000)),
+    (Operator::MultuLow, 0x7fffffff, 0xffffffff, Some(0x80000001)),
+    (Operator::DivQuotient, 0xfffffff9, 0x2, Some(0xfffffffd)),
+    (Operator::DivRemainder, 0xfffffff9, 0x2, Some(0xffffffff)),
+    (Operator::DivuQuotient, 0xfffffff9, 0x2, Some(0x7ffffffc)),
+    (Operator::DivuRemainder, 0xfffffff9, 0x2, Some(0x1)),
+    (Operator::DivQuotient, 0x7, 0xfffffffe, Some(0xfffffffd)),
+    (Operator::DivRemainder, 0x7, 0xfffffffe, Some(0x1)),
+    (Operator::DivuQuotient, 0x7, 0xfffffffe, Some(0x0)),
+    (Operator::DivuRemainder, 0x7, 0xfffffffe, Some(0x7)),
+    (Operator::DivQuotient, 0x80000000, 0xffffffff, None),
+    (Operator::DivRemainder, 0x80000000, 0xffffffff, None),
+    (Operator::DivuQuotient, 0x80000000, 0xffffffff, Some(0x0)),
+    (
+        Operator::DivuRemainder,
+        0x80000000,
+        0xffffffff,
+        Some(0x80000000),
+    ),
+    (Operator::DivQuotient, 0x5, 0x0, None),
+    (Operator::DivRemainder, 0x5, 0x0, None),
+    (Operator::DivuQuotient, 0x5, 0x0, None),
+    (Operator::DivuRemainder, 0x5, 0x0, None),
+];
+
 #[test]
 fn operators_have_their_values(rt: HostRuntime) -> Result<(), Fail> {
-    for (op, a, b, want) in [
-        (Operator::Addu, 0xffffffff, 0x1, Some(0x0)),
-        (Operator::Addu, 0x80000000, 0x21, Some(0x80000021)),
-        (Operator::Addu, 0x7fffffff, 0xffffffff, Some(0x7ffffffe)),
-        (Operator::Subu, 0xffffffff, 0x1, Some(0xfffffffe)),
-        (Operator::Subu, 0x80000000, 0x21, Some(0x7fffffdf)),
-        (Operator::Subu, 0x7fffffff, 0xffffffff, Some(0x80000000)),
-        (Operator::And, 0xffffffff, 0x1, Some(0x1)),
-        (Operator::And, 0x80000000, 0x21, Some(0x0)),
-        (Operator::And, 0x7fffffff, 0xffffffff, Some(0x7fffffff)),
-        (Operator::Or, 0xffffffff, 0x1, Some(0xffffffff)),
-        (Operator::Or, 0x80000000, 0x21, Some(0x80000021)),
-        (Operator::Or, 0x7fffffff, 0xffffffff, Some(0xffffffff)),
-        (Operator::Xor, 0xffffffff, 0x1, Some(0xfffffffe)),
-        (Operator::Xor, 0x80000000, 0x21, Some(0x80000021)),
-        (Operator::Xor, 0x7fffffff, 0xffffffff, Some(0x80000000)),
-        (Operator::Nor, 0xffffffff, 0x1, Some(0x0)),
-        (Operator::Nor, 0x80000000, 0x21, Some(0x7fffffde)),
-        (Operator::Nor, 0x7fffffff, 0xffffffff, Some(0x0)),
-        (Operator::Slt, 0xffffffff, 0x1, Some(0x1)),
-        (Operator::Slt, 0x80000000, 0x21, Some(0x1)),
-        (Operator::Slt, 0x7fffffff, 0xffffffff, Some(0x0)),
-        (Operator::Sltu, 0xffffffff, 0x1, Some(0x0)),
-        (Operator::Sltu, 0x80000000, 0x21, Some(0x0)),
-        (Operator::Sltu, 0x7fffffff, 0xffffffff, Some(0x1)),
-        (Operator::Sll, 0xffffffff, 0x1, Some(0xfffffffe)),
-        (Operator::Sll, 0x80000000, 0x21, Some(0x0)),
-        (Operator::Sll, 0x7fffffff, 0xffffffff, Some(0x80000000)),
-        (Operator::Srl, 0xffffffff, 0x1, Some(0x7fffffff)),
-        (Operator::Srl, 0x80000000, 0x21, Some(0x40000000)),
-        (Operator::Srl, 0x7fffffff, 0xffffffff, Some(0x0)),
-        (Operator::Sra, 0xffffffff, 0x1, Some(0xffffffff)),
-        (Operator::Sra, 0x80000000, 0x21, Some(0xc0000000)),
-        (Operator::Sra, 0x7fffffff, 0xffffffff, Some(0x0)),
-        (Operator::MultHigh, 0xffffffff, 0x1, Some(0xffffffff)),
-        (Operator::MultHigh, 0x80000000, 0x21, Some(0xffffffef)),
-        (Operator::MultHigh, 0x7fffffff, 0xffffffff, Some(0xffffffff)),
-        (Operator::MultLow, 0xffffffff, 0x1, Some(0xffffffff)),
-        (Operator::MultLow, 0x80000000, 0x21, Some(0x80000000)),
-        (Operator::MultLow, 0x7fffffff, 0xffffffff, Some(0x80000001)),
-        (Operator::MultuHigh, 0xffffffff, 0x1, Some(0x0)),
-        (Operator::MultuHigh, 0x80000000, 0x21, Some(0x10)),
-        (
-            Operator::MultuHigh,
-            0x7fffffff,
-            0xffffffff,
-            Some(0x7ffffffe),
-        ),
-        (Operator::MultuLow, 0xffffffff, 0x1, Some(0xffffffff)),
-        (Operator::MultuLow, 0x80000000, 0x21, Some(0x80000000)),
-        (Operator::MultuLow, 0x7fffffff, 0xffffffff, Some(0x80000001)),
-        (Operator::DivQuotient, 0xfffffff9, 0x2, Some(0xfffffffd)),
-        (Operator::DivRemainder, 0xfffffff9, 0x2, Some(0xffffffff)),
-        (Operator::DivuQuotient, 0xfffffff9, 0x2, Some(0x7ffffffc)),
-        (Operator::DivuRemainder, 0xfffffff9, 0x2, Some(0x1)),
-        (Operator::DivQuotient, 0x7, 0xfffffffe, Some(0xfffffffd)),
-        (Operator::DivRemainder, 0x7, 0xfffffffe, Some(0x1)),
-        (Operator::DivuQuotient, 0x7, 0xfffffffe, Some(0x0)),
-        (Operator::DivuRemainder, 0x7, 0xfffffffe, Some(0x7)),
-        (Operator::DivQuotient, 0x80000000, 0xffffffff, None),
-        (Operator::DivRemainder, 0x80000000, 0xffffffff, None),
-        (Operator::DivuQuotient, 0x80000000, 0xffffffff, Some(0x0)),
-        (
-            Operator::DivuRemainder,
-            0x80000000,
-            0xffffffff,
-            Some(0x80000000),
-        ),
-        (Operator::DivQuotient, 0x5, 0x0, None),
-        (Operator::DivRemainder, 0x5, 0x0, None),
-        (Operator::DivuQuotient, 0x5, 0x0, None),
-        (Operator::DivuRemainder, 0x5, 0x0, None),
-    ] {
+    for (op, a, b, want) in OPERATORS {
         assert_eq!(rt; op.value(a, b), want, "at {op:?} {a} {b}");
     }
     Ok(())
@@ -94,68 +96,74 @@ fn has_word(inst: &Inst, word: u32) -> bool {
 }
 
 #[test]
-fn instructions_have_their_words(rt: HostRuntime) -> Result<(), Fail> {
+fn plain_instructions_have_their_words(rt: HostRuntime) -> Result<(), Fail> {
     let reg = Reg::masked;
-    let zero = reg(0);
     let loaded = NonzeroReg::new(8).expect(&rt, "8 is a register");
     for (inst, word) in [
         (
-            Inst::Plain(Plain::Alu {
+            Plain::Alu {
                 op: AluOp::Addu,
                 rd: reg(8),
                 rs: reg(9),
                 rt: reg(10),
-            }),
+            },
             0x012a_4021u32,
         ),
         (
-            Inst::Plain(Plain::Load {
+            Plain::Load {
                 rt: loaded,
                 base: reg(29),
                 offset: 4,
-            }),
+            },
             0x8fa8_0004,
         ),
         (
-            Inst::Control(Control::JumpRegister { rs: reg(31) }),
-            0x03e0_0008,
-        ),
-        (
-            Inst::Plain(Plain::Shift {
+            Plain::Shift {
                 op: ShiftOp::Sll,
-                rd: zero,
-                rt: zero,
+                rd: reg(0),
+                rt: reg(0),
                 amount: Amount::masked(0),
-            }),
+            },
             0,
         ),
+    ] {
+        assert!(rt; has_word(&Inst::Plain(inst), word), "at {word}");
+    }
+    Ok(())
+}
+
+#[test]
+fn jumps_and_branches_have_their_words(rt: HostRuntime) -> Result<(), Fail> {
+    let reg = Reg::masked;
+    for (control, word) in [
+        (Control::JumpRegister { rs: reg(31) }, 0x03e0_0008u32),
         (
-            Inst::Control(Control::BranchPair {
+            Control::BranchPair {
                 test: PairTest::NotEqual,
                 rs: reg(8),
                 rt: reg(9),
                 offset: -1,
-            }),
+            },
             0x1509_ffff,
         ),
         (
-            Inst::Control(Control::BranchZero {
+            Control::BranchZero {
                 test: ZeroTest::AtLeastZero,
                 rs: reg(8),
                 offset: 2,
-            }),
+            },
             0x0501_0002,
         ),
         (
-            Inst::Control(Control::JumpTo {
+            Control::JumpTo {
                 op: JumpOp::JumpAndLink,
                 target: JumpTarget::masked(0x0010_0000),
-            }),
+            },
             0x0c10_0000,
         ),
-        (Inst::Control(Control::SystemCall), 0x0000_000c),
+        (Control::SystemCall, 0x0000_000c),
     ] {
-        assert!(rt; has_word(&inst, word), "at {word}");
+        assert!(rt; has_word(&Inst::Control(control), word), "at {word}");
     }
     Ok(())
 }

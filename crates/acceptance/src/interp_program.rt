@@ -28,40 +28,42 @@ const DEEP: &str =
 const TOO_DEEP: &str =
     "int f(int n){int r;if(n==1)return 1;r=f(n-1);return r+1;}int main(void){int r=f(256);out(r);}";
 
+const PROGRAMS: [(&str, &str, u8); 10] = [
+    ("int main(void){}", "done 0\n", 0),
+    (
+        "int main(void){out(0x80000000);}",
+        "2147483648\ndone 0\n",
+        0,
+    ),
+    (
+        "int main(void){out(4294967295u);}",
+        "4294967295\ndone 0\n",
+        0,
+    ),
+    (
+        "int main(void){int a=-7;out(a/2);out(a%2);}",
+        "4294967293\n4294967295\ndone 0\n",
+        0,
+    ),
+    (
+        "int main(void){int a=-1;unsigned b=1;out(a<b);}",
+        "0\ndone 0\n",
+        0,
+    ),
+    ("int main(void){return -1;}", "done 4294967295\n", 0),
+    (COUNTS, "3\ndone 0\n", 0),
+    (
+        "int main(void){int a=2147483647;out(1);a=a+1;}",
+        "1\nwrong\n",
+        3,
+    ),
+    (DEEP, "255\ndone 0\n", 0),
+    (TOO_DEEP, "wrong\n", 3),
+];
+
 #[test]
 fn programs_print_their_output_and_end(rt: HostRuntime) -> Result<(), Fail> {
-    for (text, printed, status) in [
-        ("int main(void){}", "done 0\n", 0u8),
-        (
-            "int main(void){out(0x80000000);}",
-            "2147483648\ndone 0\n",
-            0,
-        ),
-        (
-            "int main(void){out(4294967295u);}",
-            "4294967295\ndone 0\n",
-            0,
-        ),
-        (
-            "int main(void){int a=-7;out(a/2);out(a%2);}",
-            "4294967293\n4294967295\ndone 0\n",
-            0,
-        ),
-        (
-            "int main(void){int a=-1;unsigned b=1;out(a<b);}",
-            "0\ndone 0\n",
-            0,
-        ),
-        ("int main(void){return -1;}", "done 4294967295\n", 0),
-        (COUNTS, "3\ndone 0\n", 0),
-        (
-            "int main(void){int a=2147483647;out(1);a=a+1;}",
-            "1\nwrong\n",
-            3,
-        ),
-        (DEEP, "255\ndone 0\n", 0),
-        (TOO_DEEP, "wrong\n", 3),
-    ] {
+    for (text, printed, status) in PROGRAMS {
         let mut files = OneText { text };
         let mut out = Vec::new(rt.alloc());
         let mut err = Vec::new(rt.alloc());
@@ -102,58 +104,60 @@ fn options_bound_the_run(rt: HostRuntime) -> Result<(), Fail> {
     Ok(())
 }
 
+const FAULTS: [(&str, &str); 14] = [
+    (
+        "int main(void){\n\tout(\u{1});\n}\n",
+        "fault 1 Byte at 21\n\tout(?);\n\t    ^\n",
+    ),
+    (
+        "int main(void){out(1--1);}",
+        "fault 2 Token at 20\nint main(void){out(1--1);}\n                    ^\n",
+    ),
+    (
+        "int main(void){x=;}",
+        "fault 3 Syntax at 17\nint main(void){x=;}\n                 ^\n",
+    ),
+    ("int main(void){", "fault 3 Syntax at 15\n"),
+    (
+        "int main(void){out(2147483648);}",
+        "fault 4 Constant at 19\nint main(void){out(2147483648);}\n                   ^\n",
+    ),
+    (
+        "int main(void){out(0x1e+2);}",
+        "fault 4 Constant at 19\nint main(void){out(0x1e+2);}\n                   ^\n",
+    ),
+    (
+        "int main(void){\r\n\tint a;\r\n\ta=b;\r\n}\r\n",
+        "fault 10 Undeclared at 29\n\ta=b; \n\t  ^\n",
+    ),
+    (
+        "int a;\nint a;\nint main(void){}",
+        "fault 11 Redeclared at 11\nint a;\n    ^\n",
+    ),
+    (
+        "int a[1];int main(void){\na=1;}",
+        "fault 12 Kind at 25\na=1;}\n^\n",
+    ),
+    (
+        "int main(void){\nout(1,2);}",
+        "fault 13 Count at 16\nout(1,2);}\n^\n",
+    ),
+    ("", "fault 15 NoMain at 0\n"),
+    ("int a;\n", "fault 15 NoMain at 7\n"),
+    (
+        "int main(void){\n  break;}",
+        "fault 17 Outside at 18\n  break;}\n  ^\n",
+    ),
+    (
+        "int a[262144];\nint b;int main(void){}",
+        "fault 20 Limit at 19\nint b;int main(void){}\n    ^\n",
+    ),
+];
+
 // The fault's line, then the line of the text in which it lies, and a caret under its place.
 #[test]
 fn faults_tell_their_place(rt: HostRuntime) -> Result<(), Fail> {
-    for (text, told) in [
-        (
-            "int main(void){\n\tout(\u{1});\n}\n",
-            "fault 1 Byte at 21\n\tout(?);\n\t    ^\n",
-        ),
-        (
-            "int main(void){out(1--1);}",
-            "fault 2 Token at 20\nint main(void){out(1--1);}\n                    ^\n",
-        ),
-        (
-            "int main(void){x=;}",
-            "fault 3 Syntax at 17\nint main(void){x=;}\n                 ^\n",
-        ),
-        ("int main(void){", "fault 3 Syntax at 15\n"),
-        (
-            "int main(void){out(2147483648);}",
-            "fault 4 Constant at 19\nint main(void){out(2147483648);}\n                   ^\n",
-        ),
-        (
-            "int main(void){out(0x1e+2);}",
-            "fault 4 Constant at 19\nint main(void){out(0x1e+2);}\n                   ^\n",
-        ),
-        (
-            "int main(void){\r\n\tint a;\r\n\ta=b;\r\n}\r\n",
-            "fault 10 Undeclared at 29\n\ta=b; \n\t  ^\n",
-        ),
-        (
-            "int a;\nint a;\nint main(void){}",
-            "fault 11 Redeclared at 11\nint a;\n    ^\n",
-        ),
-        (
-            "int a[1];int main(void){\na=1;}",
-            "fault 12 Kind at 25\na=1;}\n^\n",
-        ),
-        (
-            "int main(void){\nout(1,2);}",
-            "fault 13 Count at 16\nout(1,2);}\n^\n",
-        ),
-        ("", "fault 15 NoMain at 0\n"),
-        ("int a;\n", "fault 15 NoMain at 7\n"),
-        (
-            "int main(void){\n  break;}",
-            "fault 17 Outside at 18\n  break;}\n  ^\n",
-        ),
-        (
-            "int a[262144];\nint b;int main(void){}",
-            "fault 20 Limit at 19\nint b;int main(void){}\n    ^\n",
-        ),
-    ] {
+    for (text, told) in FAULTS {
         let mut files = OneText { text };
         let mut out = Vec::new(rt.alloc());
         let mut err = Vec::new(rt.alloc());

@@ -4,8 +4,9 @@ use crate::texts::comes_to;
 use std::test::Fail;
 use words::End;
 
-const TURNS: &str =
-    "int main(void) { int i; for (i = 0; i < 5; i = i + 1) { if (i == 1) { { continue; } } if (i == 3) break; out(i); } out(99); return 0; }";
+const TURNS: &str = "int main(void) { int i; \
+    for (i = 0; i < 5; i = i + 1) { if (i == 1) { { continue; } } if (i == 3) break; out(i); } \
+    out(99); return 0; }";
 
 #[test]
 fn loops(rt: HostRuntime) -> Result<(), Fail> {
@@ -31,8 +32,9 @@ fn loops(rt: HostRuntime) -> Result<(), Fail> {
     Ok(())
 }
 
-const NESTED: &str =
-    "int g = 9; int f(int n) { int r; if (n == 0) return 0; r = f(n - 1); return n; } int main(void) { out(7); g = f(3); out(g); return 5; }";
+const NESTED: &str = "int g = 9; \
+    int f(int n) { int r; if (n == 0) return 0; r = f(n - 1); return n; } \
+    int main(void) { out(7); g = f(3); out(g); return 5; }";
 
 #[test]
 fn calls(rt: HostRuntime) -> Result<(), Fail> {
@@ -58,11 +60,11 @@ fn calls(rt: HostRuntime) -> Result<(), Fail> {
 #[test]
 fn locals_that_are_not_set(rt: HostRuntime) -> Result<(), Fail> {
     let alloc = rt.alloc();
-    let inside =
-        "int main(void) { int i; for (i = 0; i < 2; i = i + 1) { int x; if (i == 1) out(x); x = 5; } return 0; }";
+    let inside = "int main(void) { int i; \
+        for (i = 0; i < 2; i = i + 1) { int x; if (i == 1) out(x); x = 5; } return 0; }";
     comes_to(&rt, alloc, inside, 1, 100, End::Wrong, &[])?;
-    let before =
-        "int main(void) { int i; int x; for (i = 0; i < 2; i = i + 1) { if (i == 1) out(x); x = 5; } return 0; }";
+    let before = "int main(void) { int i; int x; \
+        for (i = 0; i < 2; i = i + 1) { if (i == 1) out(x); x = 5; } return 0; }";
     comes_to(&rt, alloc, before, 1, 100, End::Done(0), &[5])?;
     Ok(())
 }
@@ -77,7 +79,8 @@ fn globals(rt: HostRuntime) -> Result<(), Fail> {
         ("-1", End::Wrong),
     ] {
         let text = format!(in alloc;
-            "int g = 42; int a[4]; int main(void) {{ out(g); a[{index}] = 8; out(a[{index}]); return 0; }}"
+            "int g = 42; int a[4]; \
+            int main(void) {{ out(g); a[{index}] = 8; out(a[{index}]); return 0; }}"
         )?;
         let output: &[u32] = if end == End::Wrong { &[42] } else { &[42, 8] };
         comes_to(&rt, alloc, &text, 1, 4, end, output)?;
