@@ -16,6 +16,10 @@ mod instruction_texts;
 #[cfg(test)]
 mod instruction_words;
 #[cfg(test)]
+mod interp_memory;
+#[cfg(test)]
 mod interp_program;
+#[cfg(test)]
+mod interp_sizes;
 #[cfg(test)]
 mod one_text;
