@@ -151,7 +151,10 @@ fn teaches(out: &[u8], part: &str) -> bool {
 fn help_is_on_standard_output(rt: HostRuntime) -> Result<(), Fail> {
     for (args, taught) in [
         (["mcc", "--help"].as_slice(), "Exit status: 0"),
-        (["mcc", "help"].as_slice(), "mcc check examples/"),
+        (
+            ["mcc", "help"].as_slice(),
+            "mcc check crates/examples/data/",
+        ),
         (["mcc", "check", "--help"].as_slice(), "`same`"),
         (["mcc", "help", "check"].as_slice(), "unclean U1"),
     ] {

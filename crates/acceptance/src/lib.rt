@@ -1,7 +1,8 @@
 //! Worked examples of the whole product: tests that cross crates, with values from outside the program.
 //!
 //! It has no code of its own and stands on top of everything, so that the layers below, which a crate
-//! with tests would have proved twice, keep few.
+//! with tests would have proved twice, keep few. The texts of crates/examples aren't here again: that
+//! program runs them.
 #![tactic(auto)]
 
 #[cfg(test)]
@@ -15,8 +16,10 @@ mod instruction_texts;
 #[cfg(test)]
 mod instruction_words;
 #[cfg(test)]
-mod interp_examples;
+mod interp_memory;
 #[cfg(test)]
 mod interp_program;
+#[cfg(test)]
+mod interp_sizes;
 #[cfg(test)]
 mod one_text;
