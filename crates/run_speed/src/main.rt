@@ -24,7 +24,7 @@ const PROGRAMS: [(usize, usize, &str); 4] = [
 ];
 
 /// A text with so many functions and words of globals, whose `main` does the statement in each turn.
-fn text(
+fn program_text(
     alloc: Global,
     functions: usize,
     words: usize,
@@ -32,12 +32,12 @@ fn text(
 ) -> Result<String, AllocError> {
     let mut text = format!(in alloc; "unsigned g[{words}]; unsigned a[64];\n")?;
     for number in 0..functions {
-        write!(text, "unsigned f{number}(unsigned n) {{ return n + 1; }}\n")?;
+        writeln!(text, "unsigned f{number}(unsigned n) {{ return n + 1; }}")?;
     }
-    write!(
+    writeln!(
         text,
         "int main(void) {{ unsigned i = 0; unsigned s = 1; \
-        while (i < {TURNS}) {{ {statement} i = i + 1; }} out(s); return 0; }}\n"
+        while (i < {TURNS}) {{ {statement} i = i + 1; }} out(s); return 0; }}"
     )?;
     Ok(text)
 }
@@ -45,7 +45,7 @@ fn text(
 fn main(rt: HostRuntime) -> anyhow::Result<()> {
     let alloc = rt.alloc();
     for (number, (functions, words, statement)) in PROGRAMS.into_iter().enumerate() {
-        let text = text(alloc, functions, words, statement)?;
+        let text = program_text(alloc, functions, words, statement)?;
         let typed = check(alloc, read(alloc, text.as_bytes())?)?;
         let start = Instant::now(&rt)?;
         let ran = run(alloc, &typed, 2, u64::MAX)?;
