@@ -1,10 +1,11 @@
 //! The program's commands over bytes, files and writers.
 //!
 //! `check` is the whole path of `mcc check`: its answer is the verdict of the block and order that the
-//! text spells, or the fault of the text (`specs/Checks.antt`). `words` reads the command line: where
-//! it is Ok, the command and its values are clap's matches of the words (`specs/Commands.antt`).
-//! `mcc` is the whole program, which `main` calls with the real files and streams. What is printed
-//! stands in `specs/Texts.antt`.
+//! text spells, or the fault of the text (`specs/Checks.antt`). `interp` is that of `mcc interp`: the run
+//! of the program that the text spells, or its first fault (`specs/Interps.antt`). `words` reads the
+//! command line: where it is Ok, the command and its values are clap's matches of the words
+//! (`specs/Commands.antt`). `mcc` is the whole program, which `main` calls with the real files and
+//! streams. What is printed stands in `specs/Texts.antt`.
 #![tactic(auto)]
 
 mod asked;

@@ -1,4 +1,7 @@
-ghost use Rattle.std.specs.Prelude.{◌≡◌, ◌≤◌, IfOk, Some};
+ghost use Rattle.std.specs.Prelude.{◌≡◌, ◌≢◌, ◌≤◌, IfOk, Some, map, true};
+ghost use Rattle.clap.specs.declared.error.ErrorKind.TheVariants.{OutOfMemory};
+ghost use Rattle.clap.specs.Words.{kind_of, takes};
+ghost use Rattle.driver.specs.Commands.{mcc_app};
 ghost use Rattle.driver.specs.Texts.{end_status, exit_status, fault_text};
 ghost use Rattle.driver.specs.declared.checking.CheckAnswer.{CheckAnswer};
 
@@ -71,7 +74,8 @@ fn print<W: Write>(out: &mut W, line: &CheckAnswer) -> io::Result<()> {
 }
 
 fn status_of(answer: &CheckAnswer) -> u8
-    ensures { result ≡ exit_status answer.now }
+    ensures status { result ≡ exit_status answer.now }
+    ensures not_wrong_words { result ≢ 2 }
 {
     match answer {
         CheckAnswer::Same => 0,
@@ -93,7 +97,8 @@ fn check_file<F: Files, W: Write>(
     files: &mut F,
     out: &mut W,
 ) -> Result<u8, Fault>
-    ensures { IfOk result (λ s. (a : CheckAnswer) × (s ≡ exit_status a)) }
+    ensures status { IfOk result (λ s. (a : CheckAnswer) × (s ≡ exit_status a)) }
+    ensures not_wrong_words { IfOk result (λ s. s ≢ 2) }
 {
     let text = read_file(alloc, file, files)?;
     let answer = check(alloc, text.as_slice()).map_err(Fault::Check)?;
@@ -114,7 +119,8 @@ fn print_run<W: Write>(out: &mut W, ran: &Ran) -> io::Result<()> {
 }
 
 fn end_status(end: End) -> u8
-    ensures { result ≡ end_status end }
+    ensures status { result ≡ end_status end }
+    ensures not_wrong_words { result ≢ 2 }
 {
     match end {
         End::Done(_) => 0,
@@ -156,7 +162,8 @@ fn interp_file<F: Files, W: Write, E: Write>(
     out: &mut W,
     err: &mut E,
 ) -> u8
-    ensures { result ≤ 4 }
+    ensures most { result ≤ 4 }
+    ensures not_wrong_words { result ≢ 2 }
 {
     let text = match read_file(alloc, source, files) {
         Ok(text) => text,
@@ -173,7 +180,8 @@ fn interp_file<F: Files, W: Write, E: Write>(
 
 // clap's text: help on standard output, wrong words on standard error.
 fn tell_words<W: Write, E: Write>(error: &Error, out: &mut W, err: &mut E) -> u8
-    ensures { result ≤ 2 }
+    ensures most { result ≤ 2 }
+    ensures refused { kind_of error.now ≡ OutOfMemory → result ≢ 2 }
 {
     if error.kind() == ErrorKind::OutOfMemory {
         return tell(err, Fault::NoMemory);
@@ -199,7 +207,8 @@ pub fn mcc<F: Files, W: Write, E: Write>(
     out: &mut W,
     err: &mut E,
 ) -> u8
-    ensures { result ≤ 4 }
+    ensures most { result ≤ 4 }
+    ensures taken { takes mcc_app (map (λ s. s.now) args.entry.now) ≡ true → result ≢ 2 }
 {
     match words(alloc, args) {
         Ok(Words::Check { file }) => match check_file(alloc, file, files, out) {
