@@ -1,43 +1,8 @@
 // The whole program, over files and streams that can fail.
 
-use driver::{FileFault, Files, Words, mcc, words};
-use std::alloc::Global;
-use std::io::{self, Write};
+use crate::stand_ins::{OneText, Shut, tells};
+use driver::{FileFault, Words, mcc, words};
 use std::test::Fail;
-
-/// Files of one text, or of none where `fault` says why.
-#[derive(Drop)]
-struct OneFile<'a> {
-    text: &'a str,
-    fault: Option<FileFault>,
-}
-
-impl<'a> Files for OneFile<'a> {
-    fn read(&mut self, alloc: Global, _name: &str) -> Result<Vec<u8>, FileFault> {
-        match self.fault {
-            Some(fault) => Err(fault),
-            None => Vec::from_slice(alloc, self.text.as_bytes()).map_err(|_e| FileFault::NoMemory),
-        }
-    }
-
-    fn write(&mut self, _name: &str, _bytes: &[u8]) -> Result<(), FileFault> {
-        Err(FileFault::Failed)
-    }
-}
-
-/// A writer that takes nothing.
-#[derive(Drop)]
-struct Shut;
-
-impl Write for Shut {
-    fn write(&mut self, _buf: &[u8]) -> io::Result<usize> {
-        Err(io::Error::from(io::ErrorKind::BrokenPipe))
-    }
-
-    fn flush(&mut self) -> io::Result<()> {
-        Ok(())
-    }
-}
 
 const SAME: &str = "block\naddiu $10,$10,1\nreturn\norder\nreturn\nslot addiu $10,$10,1\n";
 
@@ -67,7 +32,7 @@ fn verdicts_and_faults_have_their_line_and_status(rt: HostRuntime) -> Result<(),
             1,
         ),
     ] {
-        let mut files = OneFile { text, fault };
+        let mut files = OneText { text, fault };
         let mut out = Vec::new(rt.alloc());
         let mut err = Vec::new(rt.alloc());
         let args = ["mcc", "check", "x"];
@@ -85,7 +50,7 @@ fn standard_output_that_takes_nothing_is_a_fault(rt: HostRuntime) -> Result<(), 
         ["mcc", "check", "x"].as_slice(),
         ["mcc", "--help"].as_slice(),
     ] {
-        let mut files = OneFile {
+        let mut files = OneText {
             text: SAME,
             fault: None,
         };
@@ -104,7 +69,7 @@ fn standard_error_that_takes_nothing_keeps_the_status(rt: HostRuntime) -> Result
         (["mcc", "check", "x"].as_slice(), 1u8),
         (["mcc", "frob"].as_slice(), 2),
     ] {
-        let mut files = OneFile {
+        let mut files = OneText {
             text: "",
             fault: None,
         };
@@ -126,7 +91,7 @@ fn wrong_words_are_told_on_standard_error(rt: HostRuntime) -> Result<(), Fail> {
         ["mcc", "check", "x", "y"].as_slice(),
         ["mcc", "check", "--frob", "x"].as_slice(),
     ] {
-        let mut files = OneFile {
+        let mut files = OneText {
             text: SAME,
             fault: None,
         };
@@ -140,13 +105,6 @@ fn wrong_words_are_told_on_standard_error(rt: HostRuntime) -> Result<(), Fail> {
     Ok(())
 }
 
-fn teaches(out: &[u8], part: &str) -> bool {
-    match str::from_utf8(out) {
-        Ok(text) => text.contains(part),
-        Err(_) => false,
-    }
-}
-
 #[test]
 fn help_is_on_standard_output(rt: HostRuntime) -> Result<(), Fail> {
     for (args, taught) in [
@@ -158,7 +116,7 @@ fn help_is_on_standard_output(rt: HostRuntime) -> Result<(), Fail> {
         (["mcc", "check", "--help"].as_slice(), "`same`"),
         (["mcc", "help", "check"].as_slice(), "unclean U1"),
     ] {
-        let mut files = OneFile {
+        let mut files = OneText {
             text: SAME,
             fault: None,
         };
@@ -166,7 +124,7 @@ fn help_is_on_standard_output(rt: HostRuntime) -> Result<(), Fail> {
         let mut err = Vec::new(rt.alloc());
         let got = mcc(rt.alloc(), args, &mut files, &mut out, &mut err);
         assert_eq!(rt; got, 0);
-        assert!(rt; teaches(out.as_slice(), taught));
+        assert!(rt; tells(out.as_slice(), taught));
         assert!(rt; err.is_empty());
     }
     Ok(())

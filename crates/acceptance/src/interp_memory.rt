@@ -1,7 +1,7 @@
 // Memory that is really refused to `mcc interp`: each test is a process of its own, and takes all that
 // it can get. With each block that it gives back the program comes further.
 
-use crate::one_text::OneText;
+use crate::stand_ins::OneText;
 use driver::{InterpFault, interp, mcc};
 use std::alloc::{AllocError, Global};
 use std::test::Fail;
@@ -95,6 +95,7 @@ fn mcc_tells_refused_memory_alone(rt: HostRuntime) -> Result<(), Fail> {
     for k in 0..blocks.len() {
         let mut files = OneText {
             text: text.as_str(),
+            fault: None,
         };
         out.clear();
         err.clear();

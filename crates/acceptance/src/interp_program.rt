@@ -1,23 +1,8 @@
 // `mcc interp` over a text in memory: its output, its faults and its statuses.
 
-use crate::one_text::OneText;
+use crate::stand_ins::{OneText, Shut, tells};
 use driver::{Words, mcc, words};
-use std::io::{self, Write};
 use std::test::Fail;
-
-/// A writer that takes nothing.
-#[derive(Drop)]
-struct Shut;
-
-impl Write for Shut {
-    fn write(&mut self, _buf: &[u8]) -> io::Result<usize> {
-        Err(io::Error::from(io::ErrorKind::BrokenPipe))
-    }
-
-    fn flush(&mut self) -> io::Result<()> {
-        Ok(())
-    }
-}
 
 const COUNTS: &str =
     "int a[3];int main(void){int i=0;a[0]=5;a[1]=6;a[2]=7;while(i<3&&a[i])i=i+1;out(i);}";
@@ -64,7 +49,7 @@ const PROGRAMS: [(&str, &str, u8); 10] = [
 #[test]
 fn programs_print_their_output_and_end(rt: HostRuntime) -> Result<(), Fail> {
     for (text, printed, status) in PROGRAMS {
-        let mut files = OneText { text };
+        let mut files = OneText { text, fault: None };
         let mut out = Vec::new(rt.alloc());
         let mut err = Vec::new(rt.alloc());
         let args = ["mcc", "interp", "x"];
@@ -92,7 +77,7 @@ fn options_bound_the_run(rt: HostRuntime) -> Result<(), Fail> {
         (DEEP, "--depth", "255", "wrong\n", 3),
         ("int main(void){}", "--depth", "1", "done 0\n", 0),
     ] {
-        let mut files = OneText { text };
+        let mut files = OneText { text, fault: None };
         let mut out = Vec::new(rt.alloc());
         let mut err = Vec::new(rt.alloc());
         let args = ["mcc", "interp", "x", option, bound];
@@ -158,7 +143,7 @@ const FAULTS: [(&str, &str); 14] = [
 #[test]
 fn faults_tell_their_place(rt: HostRuntime) -> Result<(), Fail> {
     for (text, told) in FAULTS {
-        let mut files = OneText { text };
+        let mut files = OneText { text, fault: None };
         let mut out = Vec::new(rt.alloc());
         let mut err = Vec::new(rt.alloc());
         let args = ["mcc", "interp", "x"];
@@ -174,6 +159,7 @@ fn faults_tell_their_place(rt: HostRuntime) -> Result<(), Fail> {
 fn output_that_is_not_taken_is_a_fault(rt: HostRuntime) -> Result<(), Fail> {
     let mut files = OneText {
         text: "int main(void){out(1);}",
+        fault: None,
     };
     let mut out = Shut;
     let mut err = Vec::new(rt.alloc());
@@ -182,13 +168,6 @@ fn output_that_is_not_taken_is_a_fault(rt: HostRuntime) -> Result<(), Fail> {
     assert_eq!(rt; got, 1);
     assert_eq!(rt; err.as_slice(), b"fault 61 CannotWrite\n".as_slice());
     Ok(())
-}
-
-fn tells(told: &[u8], part: &str) -> bool {
-    match str::from_utf8(told) {
-        Ok(text) => text.contains(part),
-        Err(_) => false,
-    }
 }
 
 #[test]
@@ -202,6 +181,7 @@ fn wrong_numbers_are_wrong_words(rt: HostRuntime) -> Result<(), Fail> {
     ] {
         let mut files = OneText {
             text: "int main(void){}",
+            fault: None,
         };
         let mut out = Vec::new(rt.alloc());
         let mut err = Vec::new(rt.alloc());

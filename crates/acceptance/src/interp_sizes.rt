@@ -1,6 +1,6 @@
 // `mcc interp` at the limits of a text's sizes: what fits runs, and the first thing that doesn't is fault 5.
 
-use crate::one_text::OneText;
+use crate::stand_ins::OneText;
 use driver::mcc;
 use std::alloc::Global;
 use std::test::Fail;
@@ -14,7 +14,7 @@ struct Told {
 }
 
 fn interp_told(alloc: Global, text: &str) -> Told {
-    let mut files = OneText { text };
+    let mut files = OneText { text, fault: None };
     let mut out = Vec::new(alloc);
     let mut err = Vec::new(alloc);
     let args = ["mcc", "interp", "x"];

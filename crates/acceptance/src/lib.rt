@@ -22,4 +22,4 @@ mod interp_program;
 #[cfg(test)]
 mod interp_sizes;
 #[cfg(test)]
-mod one_text;
+mod stand_ins;

@@ -1,0 +1,47 @@
+// What stands in for files and streams.
+
+use driver::{FileFault, Files};
+use std::alloc::Global;
+use std::io::{self, Write};
+
+/// Files of one text, or of none where `fault` says why.
+#[derive(Drop)]
+pub struct OneText<'a> {
+    pub text: &'a str,
+    pub fault: Option<FileFault>,
+}
+
+impl<'a> Files for OneText<'a> {
+    fn read(&mut self, alloc: Global, _name: &str) -> Result<Vec<u8>, FileFault> {
+        match self.fault {
+            Some(fault) => Err(fault),
+            None => Vec::from_slice(alloc, self.text.as_bytes()).map_err(|_e| FileFault::NoMemory),
+        }
+    }
+
+    fn write(&mut self, _name: &str, _bytes: &[u8]) -> Result<(), FileFault> {
+        Err(FileFault::Failed)
+    }
+}
+
+/// A writer that takes nothing.
+#[derive(Drop)]
+pub struct Shut;
+
+impl Write for Shut {
+    fn write(&mut self, _buf: &[u8]) -> io::Result<usize> {
+        Err(io::Error::from(io::ErrorKind::BrokenPipe))
+    }
+
+    fn flush(&mut self) -> io::Result<()> {
+        Ok(())
+    }
+}
+
+/// Whether what was written has this part.
+pub fn tells(written: &[u8], part: &str) -> bool {
+    match str::from_utf8(written) {
+        Ok(text) => text.contains(part),
+        Err(_) => false,
+    }
+}
