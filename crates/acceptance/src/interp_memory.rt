@@ -7,35 +7,31 @@ use std::alloc::{AllocError, Global};
 use std::test::Fail;
 use words::End;
 
-// All that can be had in blocks of this size, to which nothing is written.
-fn take_all(alloc: Global, size: usize, blocks: &mut Vec<Vec<u8>>) -> Result<(), AllocError> {
-    for _ in 0..200_000 {
-        let Ok(block) = Vec::with_capacity(alloc, size) else {
-            break;
-        };
-        blocks.push(block)?;
+// A thousand blocks of 4 KB, to be given back one by one, and all other memory that can be had, in blocks
+// of halving size. Nothing is written to them.
+fn all_memory(alloc: Global) -> Result<(Vec<Vec<u8>>, Vec<Vec<u8>>), AllocError> {
+    let mut others = Vec::with_capacity(alloc, 200_000)?;
+    let mut pages = Vec::with_capacity(alloc, 1000)?;
+    for _ in 0..1000 {
+        pages.push(Vec::with_capacity(alloc, 4096)?)?;
     }
-    Ok(())
-}
-
-// All the memory that can be had: blocks of halving size down to 1 MB, and then small ones, so that a
-// step of giving back is small.
-fn all_memory(alloc: Global) -> Result<Vec<Vec<u8>>, AllocError> {
-    let mut blocks = Vec::with_capacity(alloc, 500_000)?;
     let mut size: usize = 0x4000_0000_0000;
-    for _ in 0..27 {
-        take_all(alloc, size, &mut blocks)?;
+    for _ in 0..38 {
+        for _ in 0..200_000 {
+            let Ok(block) = Vec::with_capacity(alloc, size) else {
+                break;
+            };
+            others.push(block)?;
+        }
         size /= 2;
     }
-    take_all(alloc, 4096, &mut blocks)?;
-    take_all(alloc, 512, &mut blocks)?;
-    Ok(blocks)
+    Ok((pages, others))
 }
 
-// An empty statement takes the types more memory than its token takes the reader, and the array takes
-// the run a megabyte.
+// The statements take the types 300 KB more than they take the reader, and the array takes the run a
+// megabyte, so that each is refused many times.
 fn program(alloc: Global) -> Result<String, AllocError> {
-    let statements = ";\n".repeat(alloc, 1000)?;
+    let statements = ";\n".repeat(alloc, 2100)?;
     format!(in alloc; "int a[262144];int main(void){{\n{statements}out(3);}}\n")
 }
 
@@ -45,7 +41,7 @@ fn interp_tells_refused_memory_alone(rt: HostRuntime) -> Result<(), Fail> {
     let alloc = rt.alloc();
     let text = program(alloc)?;
     let length = text.len();
-    let mut blocks = all_memory(alloc)?;
+    let (mut blocks, others) = all_memory(alloc)?;
     let mut read = 0;
     let mut typed = 0;
     let mut run = 0;
@@ -69,6 +65,7 @@ fn interp_tells_refused_memory_alone(rt: HostRuntime) -> Result<(), Fail> {
         drop(blocks.pop());
     }
     drop(blocks);
+    drop(others);
     // Each of the three has been refused memory.
     assert_eq!(rt; (read, typed, run), (1, 1, 1));
     let Ok(ran) = interp(alloc, text.as_bytes(), 1, 2) else {
@@ -89,7 +86,7 @@ fn mcc_tells_refused_memory_alone(rt: HostRuntime) -> Result<(), Fail> {
     let mut out = Vec::with_capacity(alloc, 64)?;
     let mut err = Vec::with_capacity(alloc, 64)?;
     let args = ["mcc", "interp", "x"];
-    let mut blocks = all_memory(alloc)?;
+    let (mut blocks, others) = all_memory(alloc)?;
     let mut with_place = 0;
     let mut without = 0;
     for k in 0..blocks.len() {
@@ -114,6 +111,7 @@ fn mcc_tells_refused_memory_alone(rt: HostRuntime) -> Result<(), Fail> {
         drop(blocks.pop());
     }
     drop(blocks);
+    drop(others);
     assert_eq!(rt; (with_place, without), (1, 1));
     assert_eq!(rt; out.as_slice(), b"3\ndone 0\n".as_slice());
     assert!(rt; err.is_empty());
