@@ -1,26 +1,9 @@
 // `mcc interp` at the limits of a text's sizes: what fits runs, and the first thing that doesn't is fault 5.
 
-use crate::stand_ins::OneText;
-use driver::mcc;
-use std::alloc::Global;
+use crate::stand_ins::told;
 use std::test::Fail;
 
-/// What `mcc interp` writes for a text, and its status.
-#[derive(Drop)]
-struct Told {
-    out: Vec<u8>,
-    err: Vec<u8>,
-    status: u8,
-}
-
-fn interp_told(alloc: Global, text: &str) -> Told {
-    let mut files = OneText { text, fault: None };
-    let mut out = Vec::new(alloc);
-    let mut err = Vec::new(alloc);
-    let args = ["mcc", "interp", "x"];
-    let status = mcc(alloc, args.as_slice(), &mut files, &mut out, &mut err);
-    Told { out, err, status }
-}
+const INTERP: [&str; 3] = ["mcc", "interp", "x"];
 
 // In each row the text is the first part, the second so many times, the third, and the fourth so many times.
 #[test]
@@ -53,10 +36,10 @@ fn what_fits_runs(rt: HostRuntime) -> Result<(), Fail> {
         let middle = part.repeat(rt.alloc(), times)?;
         let end = close.repeat(rt.alloc(), times)?;
         let text = format!(in rt.alloc(); "{before}{middle}{after}{end}")?;
-        let told = interp_told(rt.alloc(), text.as_str());
-        assert_eq!(rt; told.status, 0, "{times} times {part}");
-        assert_eq!(rt; told.out.as_slice(), printed.as_bytes());
-        assert!(rt; told.err.is_empty());
+        let got = told(rt.alloc(), text.as_str(), INTERP.as_slice());
+        assert_eq!(rt; got.status, 0, "{times} times {part}");
+        assert_eq!(rt; got.out.as_slice(), printed.as_bytes());
+        assert!(rt; got.err.is_empty());
     }
     Ok(())
 }
@@ -113,10 +96,10 @@ fn the_first_that_does_not_fit_is_told(rt: HostRuntime) -> Result<(), Fail> {
     ] {
         let middle = part.repeat(rt.alloc(), times)?;
         let text = format!(in rt.alloc(); "{before}{middle}{after}")?;
-        let told = interp_told(rt.alloc(), text.as_str());
-        assert_eq!(rt; told.status, 1, "{times} times {part}");
-        assert!(rt; told.out.is_empty());
-        assert_eq!(rt; told.err.as_slice(), fault.as_bytes());
+        let got = told(rt.alloc(), text.as_str(), INTERP.as_slice());
+        assert_eq!(rt; got.status, 1, "{times} times {part}");
+        assert!(rt; got.out.is_empty());
+        assert_eq!(rt; got.err.as_slice(), fault.as_bytes());
     }
     Ok(())
 }

@@ -22,4 +22,6 @@ mod interp_program;
 #[cfg(test)]
 mod interp_sizes;
 #[cfg(test)]
+mod interp_texts;
+#[cfg(test)]
 mod stand_ins;

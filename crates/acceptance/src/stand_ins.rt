@@ -1,6 +1,6 @@
 // What stands in for files and streams.
 
-use driver::{FileFault, Files};
+use driver::{FileFault, Files, mcc};
 use std::alloc::Global;
 use std::io::{self, Write};
 
@@ -44,4 +44,21 @@ pub fn tells(written: &[u8], part: &str) -> bool {
         Ok(text) => text.contains(part),
         Err(_) => false,
     }
+}
+
+/// What `mcc` wrote to its two streams, and its status.
+#[derive(Drop)]
+pub struct Written {
+    pub out: Vec<u8>,
+    pub err: Vec<u8>,
+    pub status: u8,
+}
+
+/// What `mcc` does with these words, where every file has this text.
+pub fn told(alloc: Global, text: &str, words: &[&str]) -> Written {
+    let mut files = OneText { text, fault: None };
+    let mut out = Vec::new(alloc);
+    let mut err = Vec::new(alloc);
+    let status = mcc(alloc, words, &mut files, &mut out, &mut err);
+    Written { out, err, status }
 }
