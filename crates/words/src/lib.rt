@@ -8,10 +8,12 @@
 #![tactic(auto)]
 
 mod c;
+mod laws;
 mod operator;
 mod ran;
 mod sign;
 
+pub use laws::{c_computes_as_the_machine, operators_give_words};
 pub use operator::Operator;
 pub use ran::{End, Ran};
 pub use sign::Sign;
