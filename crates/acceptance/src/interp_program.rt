@@ -92,50 +92,50 @@ fn options_bound_the_run(rt: HostRuntime) -> Result<(), Fail> {
 const FAULTS: [(&str, &str); 14] = [
     (
         "int main(void){\n\tout(\u{1});\n}\n",
-        "fault 1 Byte at 21\n\tout(?);\n\t    ^\n",
+        "fault 1 Byte at 21\nx:2:6:\n\tout(?);\n\t    ^\n",
     ),
     (
         "int main(void){out(1--1);}",
-        "fault 2 Token at 20\nint main(void){out(1--1);}\n                    ^\n",
+        "fault 2 Token at 20\nx:1:21:\nint main(void){out(1--1);}\n                    ^\n",
     ),
     (
         "int main(void){x=;}",
-        "fault 3 Syntax at 17\nint main(void){x=;}\n                 ^\n",
+        "fault 3 Syntax at 17\nx:1:18:\nint main(void){x=;}\n                 ^\n",
     ),
-    ("int main(void){", "fault 3 Syntax at 15\n"),
+    ("int main(void){", "fault 3 Syntax at 15\nx:1:16:\n"),
     (
         "int main(void){out(2147483648);}",
-        "fault 4 Constant at 19\nint main(void){out(2147483648);}\n                   ^\n",
+        "fault 4 Constant at 19\nx:1:20:\nint main(void){out(2147483648);}\n                   ^\n",
     ),
     (
         "int main(void){out(0x1e+2);}",
-        "fault 4 Constant at 19\nint main(void){out(0x1e+2);}\n                   ^\n",
+        "fault 4 Constant at 19\nx:1:20:\nint main(void){out(0x1e+2);}\n                   ^\n",
     ),
     (
         "int main(void){\r\n\tint a;\r\n\ta=b;\r\n}\r\n",
-        "fault 10 Undeclared at 29\n\ta=b; \n\t  ^\n",
+        "fault 10 Undeclared at 29\nx:3:4:\n\ta=b; \n\t  ^\n",
     ),
     (
         "int a;\nint a;\nint main(void){}",
-        "fault 11 Redeclared at 11\nint a;\n    ^\n",
+        "fault 11 Redeclared at 11\nx:2:5:\nint a;\n    ^\n",
     ),
     (
         "int a[1];int main(void){\na=1;}",
-        "fault 12 Kind at 25\na=1;}\n^\n",
+        "fault 12 Kind at 25\nx:2:1:\na=1;}\n^\n",
     ),
     (
         "int main(void){\nout(1,2);}",
-        "fault 13 Count at 16\nout(1,2);}\n^\n",
+        "fault 13 Count at 16\nx:2:1:\nout(1,2);}\n^\n",
     ),
-    ("", "fault 15 NoMain at 0\n"),
-    ("int a;\n", "fault 15 NoMain at 7\n"),
+    ("", "fault 15 NoMain at 0\nx:1:1:\n"),
+    ("int a;\n", "fault 15 NoMain at 7\nx:2:1:\n"),
     (
         "int main(void){\n  break;}",
-        "fault 17 Outside at 18\n  break;}\n  ^\n",
+        "fault 17 Outside at 18\nx:2:3:\n  break;}\n  ^\n",
     ),
     (
         "int a[262144];\nint b;int main(void){}",
-        "fault 20 Limit at 19\nint b;int main(void){}\n    ^\n",
+        "fault 20 Limit at 19\nx:2:5:\nint b;int main(void){}\n    ^\n",
     ),
 ];
 

@@ -22,4 +22,4 @@ IsAnswer b o answers.Full = IsClean o
 abbrev pub IsCheckFault : List ℕ → CheckFault → Type 0
 IsCheckFault text faults.Size = 2 ^ 20 < length text
 IsCheckFault text (faults.Line n) = (length text ≤ 2 ^ 20) × ((k : ℕ) × (n ≡ k + 1) × FailsAt (lines_of text) k)
-IsCheckFault text faults.NoMemory = Unit {0}
+IsCheckFault text faults.NoMemory = length text ≤ 2 ^ 20
