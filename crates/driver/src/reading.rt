@@ -49,8 +49,8 @@ const STATUS_HELP: &str = "\
 Exit status: 0 for `same`, `done` and help, 1 for a fault (`fault N NAME` on standard error), 2 for
 wrong words, 4 for `more`, 3 for any other answer.
 
-Examples: mcc check crates/examples/data/slot-filled.check
-          mcc interp crates/examples/data/squares.c";
+Examples: mcc check crates/example_files/data/slot-filled.check
+          mcc interp crates/example_files/data/squares.c";
 
 fn check_command<'a>(alloc: Global) -> Result<Command<'a>, AllocError>
     ensures app { IfOk result (λ c. app_of c ≡ check_app) }

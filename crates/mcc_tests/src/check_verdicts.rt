@@ -75,3 +75,28 @@ fn the_first_place_that_differs_is_told(rt: HostRuntime) -> Result<(), Fail> {
     }
     Ok(())
 }
+
+/// A text of the most instructions that a block and an order may have, each a store at an offset of its own, and one
+/// more in the slot.
+fn longest(alloc: Global) -> Result<String, AllocError> {
+    let mut text = String::new(alloc);
+    text.push_str("block\n")?;
+    for k in 0..512u32 {
+        writeln!(text, "sw $8,{}($29)", 4 * k)?;
+    }
+    text.push_str("return\norder\n")?;
+    for k in 0..2048u32 {
+        writeln!(text, "sw $8,{}($29)", 4 * k)?;
+    }
+    text.push_str("return\nslot sw $8,8192($29)\n")?;
+    Ok(text)
+}
+
+// Some 7,700 terms: `check`'s table has room for more than twice as many.
+#[test]
+fn the_longest_text_has_a_verdict(rt: HostRuntime) -> Result<(), Fail> {
+    let text = longest(rt.alloc())?;
+    let line = printed(rt.alloc(), text.as_str())?;
+    assert_eq!(rt; line.as_str(), "differs mem");
+    Ok(())
+}

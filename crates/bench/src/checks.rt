@@ -1,18 +1,13 @@
-//! How long `driver::check` takes for the longest legal text, of 512 and 2,048 instructions, against
-//! one of an eighth of it. Each instruction of the block loads at an offset of its own; the order loads
-//! the last two again and again into the block's two registers, so each of its guards is looked for
-//! among all of the block's, and the verdict is `same`.
-//!
-//! With the argument `--figures` it prints the fastest of several runs in microseconds, and their
-//! ratio. Without, it prints the verdicts alone, which are the same in every run.
-#![tactic(auto)]
+// How long `driver::check` takes for the longest legal text, of 512 and 2,048 instructions, against one of an eighth of
+// it. Each instruction of the block loads at an offset of its own; the order loads the last two again and again into the
+// block's two registers, so each of its guards is looked for among all of the block's, and the verdict is `same`.
 
 ghost use Rattle.std.specs.Prelude.{◌≡◌, ◌≤◌, ◌%◌};
 
 use driver::{CheckAnswer, check};
 use std::alloc::{AllocError, Global};
 use std::time::{Clock, Instant};
-use std::{env, io};
+use std::io;
 
 /// A check text with `count` loads in its block, and four times as many in its order.
 fn loads(alloc: Global, count: u32) -> Result<String, AllocError>
@@ -59,13 +54,13 @@ fn fastest<R: Clock>(
     Ok(best)
 }
 
-fn main(rt: HostRuntime) -> io::Result<()> {
-    let figures = env::args(&rt)?.len() > 1;
+/// The verdicts, and with figures the fastest of five runs and the ratio.
+pub(crate) fn show(rt: &HostRuntime, figures: bool) -> anyhow::Result<()> {
     let runs = if figures { 5 } else { 1 };
     let mut shorter = 1u128;
     for count in [64u32, 512] {
         let text = loads(rt.alloc(), count)?;
-        let Some((answer, took)) = fastest(&rt, rt.alloc(), text.as_str(), runs)? else {
+        let Some((answer, took)) = fastest(rt, rt.alloc(), text.as_str(), runs)? else {
             println!(rt; "{count}: no verdict")?;
             continue;
         };

@@ -1,10 +1,7 @@
-//! Reads a text of 64 KiB and one of 1 MiB, and says how each ends. Given the words `time`, `ifs N` or `parens N`, it
-//! says how long each took, or reads N nested statements or parentheses, to see what stack they take.
-#![tactic(auto)]
+// How long the reader takes for a text of 1 MiB against one of 64 KiB, and nested texts, to see what stack they take.
 
 use c_front::read::read;
 use std::alloc::{AllocError, Global};
-use std::env;
 use std::time::Instant;
 
 const FUNCTION: &[u8] =
@@ -47,37 +44,29 @@ fn nested_parens(alloc: Global, depth: usize) -> Result<Vec<u8>, AllocError> {
     Ok(text)
 }
 
-fn main(rt: HostRuntime) -> anyhow::Result<()> {
-    let alloc = rt.alloc();
-    let mut words = env::args(&rt)?.skip(1);
-    let mode = words.next();
-    let depth: usize = match words.next() {
-        Some(word) => word.parse()?,
-        None => 0,
+/// Reads a text of so many nested statements (`ifs`) or parentheses (`parens`).
+pub(crate) fn nested(rt: &HostRuntime, shape: &str, depth: usize) -> anyhow::Result<()> {
+    let text = if shape == "ifs" {
+        nested_ifs(rt.alloc(), depth)?
+    } else {
+        nested_parens(rt.alloc(), depth)?
     };
-    if let Some(mode) = mode.as_ref() {
-        if mode.as_str() == "ifs" || mode.as_str() == "parens" {
-            let text = if mode.as_str() == "ifs" {
-                nested_ifs(alloc, depth)?
-            } else {
-                nested_parens(alloc, depth)?
-            };
-            println!(rt;
-                "{} {depth}: accepted {}",
-                mode.as_str(),
-                read(alloc, &text).is_ok()
-            )?;
-            return Ok(());
-        }
-    }
+    let accepted = read(rt.alloc(), &text).is_ok();
+    println!(rt; "{shape} {depth}: accepted {accepted}")?;
+    Ok(())
+}
+
+/// Whether the two texts are read, and with figures how long each took.
+pub(crate) fn show(rt: &HostRuntime, figures: bool) -> anyhow::Result<()> {
+    let alloc = rt.alloc();
     for length in [65_536, 1_048_576] {
         let text = functions(alloc, length)?;
-        let start = Instant::now(&rt)?;
+        let start = Instant::now(rt)?;
         let accepted = read(alloc, &text).is_ok();
-        let took = start.elapsed(&rt)?;
-        println!(rt; "{length}: accepted {accepted}")?;
-        if mode.is_some() {
-            println!(rt; "{} bytes in {} us", text.len(), took.as_micros())?;
+        let took = start.elapsed(rt)?;
+        println!(rt; "{length} bytes of C: read {accepted}")?;
+        if figures {
+            println!(rt; "  {} bytes in {} microseconds", text.len(), took.as_micros())?;
         }
     }
     Ok(())

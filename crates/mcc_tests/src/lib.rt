@@ -1,7 +1,7 @@
 //! Worked examples of the whole product: tests that cross crates, with values from outside the program.
 //!
 //! It has no code of its own and stands on top of everything, so that the layers below, which a crate
-//! with tests would have proved twice, keep few. The texts of crates/examples aren't here again: that
+//! with tests would have proved twice, keep few. The texts of crates/example_files aren't here again: that
 //! program runs them.
 #![tactic(auto)]
 

@@ -1,6 +1,4 @@
-//! Runs C texts of some million steps, and says what each comes to, and on standard error how
-//! long the run took: three steps a turn, and four in the last.
-#![tactic(auto)]
+// How long C texts of some million steps run: three steps a turn, and four in the last.
 
 use c_front::read::read;
 use c_run::run;
@@ -42,20 +40,20 @@ fn program_text(
     Ok(text)
 }
 
-fn main(rt: HostRuntime) -> anyhow::Result<()> {
+/// What each program comes to, and with figures how long the run took.
+pub(crate) fn show(rt: &HostRuntime, figures: bool) -> anyhow::Result<()> {
     let alloc = rt.alloc();
     for (number, (functions, words, statement)) in PROGRAMS.into_iter().enumerate() {
         let text = program_text(alloc, functions, words, statement)?;
         let typed = check(alloc, read(alloc, text.as_bytes())?)?;
-        let start = Instant::now(&rt)?;
+        let start = Instant::now(rt)?;
         let ran = run(alloc, &typed, 2, u64::MAX)?;
-        let took = start.elapsed(&rt)?;
-        println!(rt;
-            "{number}: done {}, {} words out",
-            ran.end == End::Done(0),
-            ran.output.len()
-        )?;
-        eprintln!(rt; "{} us", took.as_micros())?;
+        let took = start.elapsed(rt)?;
+        let done = ran.end == End::Done(0);
+        println!(rt; "program {number}: done {done}, {} words out", ran.output.len())?;
+        if figures {
+            println!(rt; "  {} microseconds", took.as_micros())?;
+        }
     }
     Ok(())
 }

@@ -118,7 +118,7 @@ fn help_is_on_standard_output(rt: HostRuntime) -> Result<(), Fail> {
         (["mcc", "--help"].as_slice(), "Exit status: 0"),
         (
             ["mcc", "help"].as_slice(),
-            "mcc check crates/examples/data/",
+            "mcc check crates/example_files/data/",
         ),
         (["mcc", "check", "--help"].as_slice(), "`same`"),
         (["mcc", "help", "check"].as_slice(), "unclean U1"),
