@@ -1,0 +1,18 @@
+// Laws of the definitions.
+
+ghost use Rattle.mips_isa.specs.Laws.{EachBrokenRuleIsLeast, ReadsAndWritesAreTouched, SafeActionsKeepTheirRules};
+
+/// An action is safe exactly where it breaks no rule on divisions (M4) or addresses (M5, M6).
+pub fn safe_actions_keep_their_rules()
+    ensures { SafeActionsKeepTheirRules }
+{}
+
+/// The rule that an action is stuck by is the least that it breaks.
+pub fn each_broken_rule_is_least()
+    ensures { EachBrokenRuleIsLeast }
+{}
+
+/// An action touches what it writes and what it reads.
+pub fn reads_and_writes_are_touched()
+    ensures { ReadsAndWritesAreTouched }
+{}
