@@ -5,6 +5,7 @@
 //! actions alone.
 //! The definitions: `specs/Ranges.antt` (each field's range), `specs/Texts.antt` (the text),
 //! `specs/Actions.antt` (what an instruction does), `specs/States.antt` (registers and memory),
+//! `specs/Starting.antt` (the state in which a program starts),
 //! `specs/Flows.antt` (the machine between two words), `specs/Controls.antt` (branches, jumps and calls
 //! to the system), `specs/Rules.antt` (the rules M1 to M9 that make it stuck), `specs/Steps.antt` (one word).
 #![tactic(auto)]
