@@ -1,5 +1,5 @@
 -- Plain orders break no delay rule.
-use Rattle.std.proofs.Common.{◌≡◌, ℕ, zero, suc, ◌<◌, ◌≤◌, ◌⊎◌, ⊎_elim, Bool, true, false, cond, ◌||◌, ◌==◌, ne_eqb, List, [], ◌∷◌, ◌++◌, map, flat_map, length, slice_get, Option, Some, None, refl, sym, ap, ◌∙◌, subst, true≢false, append_assoc, length-append, arith}
+use Rattle.std.proofs.Common.{◌≡◌, ℕ, zero, suc, ◌<◌, ◌≤◌, ◌⊎◌, ⊎_elim, Bool, true, false, cond, ◌||◌, ◌==◌, ne_eqb, List, [], ◌∷◌, ◌++◌, map, flat_map, length, slice_get, Option, Some, None, refl, sym, ap, ◌∙◌, subst, true≢false, append_assoc, length-append, arith, ◌*◌}
 use Rattle.std.proofs.lemmas.Option.{same_Some, none-some}
 use Rattle.mips_isa.specs.declared.inst.Plain.{Plain}
 use Rattle.mips_isa.specs.declared.action.Action.{Action}
@@ -147,3 +147,13 @@ pub plain_at : (blocks : List BlockParts) (t : ℕ) (b : BlockParts) → slice_g
 plain_at [] t b e = absurd (none-some b e)
 plain_at (x ∷ rest) zero b e = ap (λ y. Some (plain_order_of y)) (same_Some x b e)
 plain_at (x ∷ rest) (suc t) b e = plain_at rest t b e
+
+-- at most three words for an instruction
+pads_short : (l m : Bool) → length (pads l m) ≤ 2
+pads_short true m = omega arith
+pads_short false true = omega arith
+pads_short false false = omega arith
+
+pub padded_short : (l : List Plain) → length (flat_map padded l) ≤ 3 * length l
+padded_short [] = omega arith
+padded_short (x ∷ l) = omega (arith, padded_short l, pads_short (is_load (action_of x)) (is_move (action_of x)), length-append (padded x) (flat_map padded l))
