@@ -1,10 +1,13 @@
 -- The operators make words of words, and actions keep a state's words.
-use Rattle.std.proofs.Common.{◌≡◌, ℕ, zero, suc, ◌+◌, ◌-◌, ◌*◌, ◌/◌, ◌%◌, ◌^◌, ◌<◌, ◌≤◌, Bool, true, false, cond, ◌&&◌, ◌==◌, nat_lt, ℤ, pos, negsuc, Some, None, refl, sym, subst, arith}
-use Rattle.std.specs.Prelude.{int_div, int_rem, int_lt, neg_ℤ, ◌*ℤ◌}
+use Rattle.std.proofs.Common.{◌≡◌, ℕ, zero, suc, ◌+◌, ◌-◌, ◌*◌, ◌/◌, ◌%◌, ◌^◌, ◌<◌, ◌≤◌, Bool, true, false, cond, ◌&&◌, ◌==◌, nat_lt, nat_le, ℤ, pos, negsuc, List, length, inl, inr, Some, None, refl, sym, subst, arith}
+use Rattle.std.specs.Prelude.{All, slice_index, int_div, int_rem, int_lt, neg_ℤ, ◌*ℤ◌}
 use Rattle.std.specs.Int.{w32, w64, cast_unsigned}
 use Rattle.std.specs.Int.RustNames.{unsigned_abs}
 use Rattle.std.proofs.lemmas.Int.{ints, unsigned_abs-mul}
 use Rattle.std.proofs.lemmas.Nat.{and_le_l, or_of_32, xor_of_32, mul-lt}
+use Rattle.std.proofs.lemmas.Bool.{cases_lt}
+use Rattle.std.proofs.lemmas.List.{get_or_past}
+use Rattle.std.proofs.lemmas.List.Elements.{All-get_or}
 use native.Mathlib.Nat.{div-le_self, mod-le}
 use Rattle.words.specs.declared.sign.Sign.{Sign}
 use Rattle.words.specs.declared.sign.Sign.TheVariants.{Signed, Unsigned}
@@ -17,6 +20,7 @@ use Rattle.mips_isa.specs.declared.action.Operand.TheVariants.{Held, Fixed}
 use Rattle.mips_isa.specs.declared.action.Action.{Action}
 use Rattle.mips_isa.specs.declared.action.Action.TheVariants.{Computes, Sets, Loads, Stores, Multiplies, Divides, MovesHigh, MovesLow}
 use Rattle.mips_isa.specs.States.{State, IsWords, is_register, read, put, is_open, is_inside, byte_of, load_word, store_word}
+use Rattle.mips_isa.specs.Starting.{data_base, stack_base, stack_end, start_state}
 use Rattle.mips_isa.specs.Flows.{Pending, Nothing, Loaded, settle}
 use Rattle.mips_isa.specs.Actions.{operand, address, after, product_high, product_low, quotient_operator, remainder_operator}
 
@@ -154,3 +158,18 @@ IsWordPending (Loaded r v) = v < 2 ^ 32
 pub settle_words : (p : Pending) (s : State) → IsWords s → IsWordPending p → IsWords (settle p s)
 settle_words Nothing s h w = h
 settle_words (Loaded r v) s h w = record { regs = put_below s.regs r v h.regs w; hi = h.hi; lo = h.lo; memory = h.memory }
+
+-- the state at the start has words in its registers, and bytes in its memory
+pub index_small : (bytes : List ℕ) (k : ℕ) → All (λ b. b < 2 ^ 8) bytes → slice_index bytes k < 2 ^ 8
+index_small bytes k h = elim (cases_lt k (length bytes)) [
+  | inl lt ↦ All-get_or (λ b. b < 2 ^ 8) bytes k 0 lt h
+  | inr le ↦ subst (λ x. x < 2 ^ 8) (sym (get_or_past bytes k 0 le)) (omega arith)
+]
+
+pub start_words : (bytes : List ℕ) → All (λ b. b < 2 ^ 8) bytes → IsWords (start_state bytes)
+start_words bytes h = record {
+  regs = put_below (λ r. 0) 29 stack_end (λ r. omega arith) (omega arith);
+  hi = omega arith;
+  lo = omega arith;
+  memory = λ a. either_byte (nat_le stack_base a) 0 _ (omega arith) (either_byte (nat_le data_base a) (slice_index bytes (a - data_base)) 0 (index_small bytes (a - data_base) h) (omega arith));
+}

@@ -11,6 +11,7 @@
 #![tactic(auto)]
 
 mod action;
+mod control;
 mod inst;
 mod laws;
 mod reg;
