@@ -11,8 +11,8 @@ use Rattle.mips_isa.specs.States.{is_aligned, read}
 use Rattle.mips_isa.specs.Actions.{address, is_safe, touches, is_product}
 use Rattle.words.specs.Operators.{has_quotient}
 use Rattle.mips_isa.specs.Flows.{Flow, on_pending}
-use Rattle.mips_isa.specs.Rules.{rules, rule_number, action_breaks, is_stuck, IsLeastRule}
-use Rattle.mips_isa.specs.Laws.{SafeActionsKeepTheirRules, EachBrokenRuleIsLeast, ReadsAndWritesAreTouched}
+use Rattle.mips_isa.specs.Rules.{rules, rule_number, action_breaks, broken_by, is_stuck, IsLeastRule}
+use Rattle.mips_isa.specs.Laws.{StuckActionsBreakARule, SafeActionsKeepTheirRules, EachBrokenRuleIsLeast, ReadsAndWritesAreTouched}
 
 -- ---- the least rule
 
@@ -87,6 +87,27 @@ pub nothing_found : (o : Option Rule) → is_some o ≡ false → o ≡ None
 nothing_found None e = refl
 nothing_found (Some r) e = absurd (true≢false e)
 
+kept_first : (test : Rule → Bool) (x : Rule) (xs : List Rule) → find test (x ∷ xs) ≡ None → (test x ≡ false) × (find test xs ≡ None)
+kept_first test x xs e = go (test x) refl e
+  where
+    go : (b : Bool) → test x ≡ b → cond b (Some x) (find test xs) ≡ None → (test x ≡ false) × (find test xs ≡ None)
+    go true eb h = absurd (none-some x (sym h))
+    go false eb h = (eb, h)
+
+-- where none is found no rule is broken
+pub each_kept : (test : Rule → Bool) → find test rules ≡ None → (r : Rule) → test r ≡ false
+each_kept test e r =
+    let a = kept_first test M1 (M2 ∷ M3 ∷ M4 ∷ M5 ∷ M6 ∷ M7 ∷ M8 ∷ M9 ∷ []) e in
+    let b = kept_first test M2 (M3 ∷ M4 ∷ M5 ∷ M6 ∷ M7 ∷ M8 ∷ M9 ∷ []) a.1 in
+    let c = kept_first test M3 (M4 ∷ M5 ∷ M6 ∷ M7 ∷ M8 ∷ M9 ∷ []) b.1 in
+    let d = kept_first test M4 (M5 ∷ M6 ∷ M7 ∷ M8 ∷ M9 ∷ []) c.1 in
+    let f = kept_first test M5 (M6 ∷ M7 ∷ M8 ∷ M9 ∷ []) d.1 in
+    let g = kept_first test M6 (M7 ∷ M8 ∷ M9 ∷ []) f.1 in
+    let h = kept_first test M7 (M8 ∷ M9 ∷ []) g.1 in
+    let i = kept_first test M8 (M9 ∷ []) h.1 in
+    let j = kept_first test M9 [] i.1 in
+    elim r as (λ q. test q ≡ false) [ M1 ↦ a.0 | M2 ↦ b.0 | M3 ↦ c.0 | M4 ↦ d.0 | M5 ↦ f.0 | M6 ↦ g.0 | M7 ↦ h.0 | M8 ↦ i.0 | M9 ↦ j.0 ]
+
 -- ---- safe actions
 
 opens : (a b : Bool) → (a && b) ≡ not (not a || not b)
@@ -134,6 +155,16 @@ not_stuck a f free ready safe = ap is_some (none_found (λ r. action_breaks r a 
 
 pub broken_is_least : EachBrokenRuleIsLeast
 broken_is_least a f r e = first_is_least (λ q. action_breaks q a f) r e
+
+some_found : (a : Action) (f : Flow) (o : Option Rule) → broken_by a f ≡ o → is_some o ≡ true → (r : Rule) × (action_breaks r a f ≡ true)
+some_found a f None e h = absurd (true≢false (sym h))
+some_found a f (Some r) e h = (r, (broken_is_least a f r e).broken)
+
+pub stuck_is : StuckActionsBreakARule
+stuck_is = record {
+  some = λ a f e. some_found a f (broken_by a f) refl e;
+  none = λ a f e r. each_kept (λ q. action_breaks q a f) (nothing_found (broken_by a f) e) r;
+}
 
 -- ---- what an action names
 

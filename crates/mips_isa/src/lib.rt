@@ -26,6 +26,7 @@ pub use inst::{
 };
 pub use laws::{
     each_broken_rule_is_least, reads_and_writes_are_touched, safe_actions_keep_their_rules,
+    stuck_actions_break_a_rule,
 };
 pub use reg::{Amount, JumpTarget, NonzeroReg, Reg};
 pub use rule::Rule;
