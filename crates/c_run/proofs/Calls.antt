@@ -10,8 +10,8 @@ use Rattle.std.proofs.lemmas.List.{reverse-append, length-map, length-reverse}
 use Rattle.std.proofs.lemmas.Bool.{lt-ltb, le-ltb}
 use Rattle.c_run.proofs.Turns.{popped}
 use Rattle.std.proofs.lemmas.Option.{slice_get_past, slice_get_read, same_Some}
-use Rattle.words.specs.Stores.{Places, Arrays, unset_places}
-use Rattle.words.specs.Runs.{Running, Failed, with_value}
+use Rattle.runs.specs.Stores.{Places, Arrays, unset_places}
+use Rattle.runs.specs.Runs.{Running, Failed, with_value}
 use Rattle.c_statements.specs.declared.typed.Place.{Place}
 use Rattle.c_statements.specs.declared.typed.Function.{Function}
 use Rattle.c_statements.specs.declared.typed.Statement.{Statement}

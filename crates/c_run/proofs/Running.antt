@@ -1,7 +1,7 @@
 -- Steps, one after another.
 use Rattle.std.proofs.Common.{◌≡◌, ℕ, zero, suc, ◌+◌, ◌-◌, ◌<◌, ◌≤◌, List, refl, sym, ◌∙◌, ap, arith}
-use Rattle.words.specs.Runs.{Ended, Failed, outcome}
-use Rattle.words.specs.declared.ran.End.TheVariants.{Done, Wrong}
+use Rattle.runs.specs.Runs.{Ended, Failed, outcome}
+use Rattle.runs.specs.declared.ran.End.TheVariants.{Done, Wrong}
 use Rattle.c_statements.specs.Typed.{TypedProgram}
 use Rattle.c_run.specs.Meaning.{Run, source_step, source_steps, source_start, source_run}
 use Rattle.c_run.specs.Machine.{state_of}

@@ -4,7 +4,7 @@ use Rattle.std.specs.Prelude.{◌⊎◌}
 use Rattle.std.specs.declared.vec.Vec.{Vec}
 use Rattle.std.specs.declared.alloc.Global.{Global}
 use Rattle.std.proofs.lemmas.List.{reverse-append}
-use Rattle.words.specs.Stores.{Places}
+use Rattle.runs.specs.Stores.{Places}
 use Rattle.c_statements.specs.declared.typed.Statement.{Statement, Block, Row_of-Statement, end_of-Statement, more_of-Statement, items-the_row-Statement, items_hidden-the_row-Statement-0}
 use Rattle.c_statements.specs.declared.typed.Statement.TheBlock.{hidden-the_row-Statement-0}
 use Rattle.c_statements.specs.Typed.{TypedStatement, TypedStatements, empty, block, unset, assign, store, run, output, branch, loop, leave, next_turn, return_with, no_statements, more_statements}

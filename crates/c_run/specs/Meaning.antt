@@ -1,8 +1,8 @@
 -- What a program does, one step after another (C99 5.1.2.3, 6.8): each assignment, test, call, return and output is one
 -- step. A declaration, `break` and `continue` are none.
 use Rattle.std.specs.Prelude.{ℕ, zero, suc, List, [], ◌∷◌, ◌++◌, Option, Some, None, length, nat_lt, if◌then◌else◌, ◌==◌, slice_get, map, replicate}
-use Rattle.words.specs.Stores.{Places, unset_places, written, Arrays, stored}
-use Rattle.words.specs.Runs.{Outcome, State, Running, Ended, Failed, with_value, outcome}
+use Rattle.runs.specs.Stores.{Places, unset_places, written, Arrays, stored}
+use Rattle.runs.specs.Runs.{Outcome, State, Running, Ended, Failed, with_value, outcome}
 use Rattle.c_statements.specs.declared.typed.Place.{Place}
 use Rattle.c_statements.specs.declared.typed.Place.TheVariants.{Local, Global as Variable}
 use Rattle.c_statements.specs.declared.typed.Global.{Global}

@@ -11,7 +11,7 @@ use Rattle.words.specs.declared.sign.Sign.{Sign}
 use Rattle.words.specs.declared.sign.Sign.TheVariants.{Signed, Unsigned}
 use Rattle.words.specs.Operators.{quotient_of, remainder_of}
 use Rattle.words.specs.C.{sum_of, difference_of, times_of, negation_of, left_shift_of, right_shift_of, is_below}
-use Rattle.words.specs.Stores.{Places, Arrays, chain, word_at}
+use Rattle.runs.specs.Stores.{Places, Arrays, chain, word_at}
 
 -- how the words of a type are read (C99 6.2.5)
 abbrev pub sign_of : Kind → Sign

@@ -1,5 +1,5 @@
 ghost use Rattle.std.specs.Prelude.{◌≡◌, ℕ, ◌<◌, ◌∷◌, [], length, Option, IfOk, OnOk, None, Some, if◌then◌else◌, List, map};
-ghost use Rattle.words.specs.Stores.{Places, Arrays, written, stored};
+ghost use Rattle.runs.specs.Stores.{Places, Arrays, written, stored};
 ghost use Rattle.c_statements.specs.Shape.{statement_of, term_of, terms_of, maybe_term_of};
 ghost use Rattle.c_statements.specs.Typed.{assign, store, run, output, branch, loop, return_with};
 ghost use Rattle.c_types.specs.Shape.{program_of};

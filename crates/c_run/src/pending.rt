@@ -1,5 +1,5 @@
 ghost use Rattle.std.specs.Prelude.{◌≡◌, ℕ, ◌++◌, ◌∷◌, [], OnOk, IfOk, None, length, ◌+◌, ◌≤◌};
-ghost use Rattle.words.specs.Stores.{written};
+ghost use Rattle.runs.specs.Stores.{written};
 ghost use Rattle.c_run.specs.Meaning.{settled, Going};
 ghost use Rattle.c_run.specs.Machine.{places, todos, headed, taken};
 ghost use Rattle.c_run.specs.Sizes.{weights, head_size};

@@ -1,7 +1,7 @@
 ghost use Rattle.std.specs.Prelude.{◌≡◌, ℕ, Option, Some, IfOk, map};
 ghost use Rattle.std.specs.Option.{option_map};
 ghost use Rattle.c_statements.specs.Shape.{term_of, terms_of};
-ghost use Rattle.words.specs.Stores.{word_at};
+ghost use Rattle.runs.specs.Stores.{word_at};
 ghost use Rattle.c_run.specs.Values.{sign_of, truth, unary_of, binary_of, value_of, values_of};
 ghost use Rattle.c_run.specs.Machine.{places, arrays};
 

@@ -1,9 +1,9 @@
 -- How a run of a program ended, and what it wrote.
 use Rattle.std.specs.Prelude.{ℕ, List, Option, Some, None}
-use Rattle.words.specs.declared.ran.End.{End}
-use Rattle.words.specs.declared.ran.End.TheVariants.{Done, Wrong, More}
-use Rattle.words.specs.declared.ran.Ran.{Ran}
-use Rattle.words.specs.Stores.{Arrays}
+use Rattle.runs.specs.declared.ran.End.{End}
+use Rattle.runs.specs.declared.ran.End.TheVariants.{Done, Wrong, More}
+use Rattle.runs.specs.declared.ran.Ran.{Ran}
+use Rattle.runs.specs.Stores.{Arrays}
 
 pub record Outcome : Type 0 where
   pub end : End
