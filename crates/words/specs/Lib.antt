@@ -1,3 +1,4 @@
 pub mod Words
 pub mod Operators
 pub mod C
+pub mod Laws

@@ -7,8 +7,10 @@
 #![tactic(auto)]
 
 mod c;
+mod laws;
 mod operator;
 mod sign;
 
+pub use laws::{c_computes_as_the_machine, operators_give_words};
 pub use operator::Operator;
 pub use sign::Sign;

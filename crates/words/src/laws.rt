@@ -1,0 +1,12 @@
+ghost use Rattle.words.specs.Laws.{OperatorsGiveWords, CComputesAsTheMachine};
+
+/// Each operator of the machine gives a word at two words. A law: it computes nothing.
+pub fn operators_give_words()
+    ensures { OperatorsGiveWords }
+{}
+
+/// Where C gives an operation on two words a value, that value is a word, and the machine's operators
+/// compute it. A law: it computes nothing.
+pub fn c_computes_as_the_machine()
+    ensures { CComputesAsTheMachine }
+{}
