@@ -1,7 +1,7 @@
 ghost use Rattle.std.specs.Prelude.{◌≡◌, IfOk, map};
 ghost use Rattle.runs.specs.Runs.{outcome_of};
 ghost use Rattle.c_types.specs.Shape.{program_of};
-ghost use Rattle.c_run.specs.Meaning.{first_words, source_start, source_run};
+ghost use Rattle.c_typed.specs.Meaning.{first_words, source_start, source_run};
 ghost use Rattle.c_run.specs.Machine.{arrays, state_of};
 
 use crate::machine::{Call, Machine, Reached, step};

@@ -22,4 +22,3 @@ pub mod names;
 pub mod scopes;
 pub mod simple;
 pub mod statement;
-pub mod typed;

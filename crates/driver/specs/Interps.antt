@@ -3,10 +3,10 @@ use Rattle.std.specs.Prelude.{◌≡◌, ℕ, List}
 use Rattle.runs.specs.Runs.{Outcome}
 use Rattle.c_front.specs.Tree.{Declaration}
 use Rattle.c_front.specs.Texts.{SpellsText, IsTextFault}
-use Rattle.c_statements.specs.Typed.{TypedProgram}
+use Rattle.c_typed.specs.Trees.{TypedProgram}
 use Rattle.c_statements.specs.Faults.{IsCheckFault}
 use Rattle.c_types.specs.Programs.{FaultyProgram, TypesProgram}
-use Rattle.c_run.specs.Meaning.{source_run}
+use Rattle.c_typed.specs.Meaning.{source_run}
 use Rattle.driver.specs.declared.interpreting.InterpFault.{InterpFault}
 use Rattle.driver.specs.declared.interpreting.InterpFault.TheVariants as faults
 
