@@ -5,7 +5,7 @@ use Rattle.c_tokens.specs.declared.lex.Step.{Step}
 use Rattle.c_tokens.specs.declared.lex.Step.TheVariants.{Done, Skip, Take, Stop}
 use Rattle.c_tokens.specs.Texts.{IsStep, step_of, is_oversize, Lexes, lexes_end, lexes_skip, lexes_take, LexStops, stops_here, stops_size, stops_skip, stops_take}
 use Rattle.c_tokens.specs.declared.lex.Refusal.{Refusal}
-use Rattle.c_tokens.proofs.Finding.{next-once}
+use Rattle.c_tokens.proofs.Pieces.{next-once}
 
 step-once : (at : ℕ) (bs : List ℕ) (s t : Step) → IsStep at bs s → IsStep at bs t → s ≡ t
 step-once at bs s t p q = p.step ∙ ap (step_of at) (next-once bs p.lexeme q.lexeme p.next q.next) ∙ sym q.step
