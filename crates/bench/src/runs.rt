@@ -6,7 +6,7 @@ use c_types::program::check;
 use std::alloc::{AllocError, Global};
 use std::fmt::Write;
 use std::time::Instant;
-use words::End;
+use runs::End;
 
 const TURNS: u32 = 2_000_000;
 

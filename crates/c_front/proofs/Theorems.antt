@@ -1,5 +1,6 @@
 -- Programs: at most one for the tokens, and the first wrong token.
-use Rattle.std.proofs.Common.{◌≡◌, ◌+◌, ◌<◌, ◌≤◌, ℕ, suc, List, [], ◌∷◌, ◌++◌, take, length, Option, Some, refl, sym, ap, subst, ◌∙◌, arith, add-one, length-append, ◌-◌}
+use Rattle.std.proofs.lemmas.List.{take-append-drop, take-take}
+use Rattle.std.proofs.Common.{drop, append_assoc, ◌≡◌, ◌+◌, ◌<◌, ◌≤◌, ℕ, suc, List, [], ◌∷◌, ◌++◌, take, length, Option, Some, refl, sym, ap, subst, ◌∙◌, arith, add-one, length-append, ◌-◌}
 use Rattle.c_tokens.specs.declared.token.Token.{Token}
 use Rattle.c_front.specs.Grammar.{a_program, N, first, Spells}
 use Rattle.c_front.specs.Reading.{Reads, Stuck, CanRead, can_read}
@@ -64,3 +65,22 @@ first-wrong ts rest s =
     let P : ℕ → Type 0 = λ x. IsFirstWrong ts x in
     let Q : List Token → Type 0 = λ x. IsFirstWrong x (length r.0) in
     (omega (arith, n), subst P k (subst Q (sym e) (first-wrong-at r.0 rest r.2)))
+
+-- what begins a program has only beginnings of programs before it
+begins-before : (ts : List Token) (i j : ℕ) → i ≤ j → Begins (take j ts) → Begins (take i ts)
+begins-before ts i j le b =
+    let P : List Token → Type 0 = λ x. Spells (x ++ b.0) b.1 in
+    let parts : take i (take j ts) ++ drop i (take j ts) ≡ take j ts = take-append-drop i (take j ts) in
+    let front : take i (take j ts) ≡ take i ts = take-take i j ts le in
+    let Q : List Token → Type 0 = λ x. Spells x b.1 in
+    subst Begins front (drop i (take j ts) ++ b.0, b.1, subst Q (append_assoc (take i (take j ts)) (drop i (take j ts)) b.0) (subst P (sym parts) b.2))
+
+no-later : (ts : List Token) (k j : ℕ) → IsFirstWrong ts k → IsFirstWrong ts j → k < j → ⊥
+no-later ts k j p q lt = let within = q.within in p.wrong (omega arith) (begins-before ts (k + 1) j (omega arith) q.before)
+
+-- there is one first wrong token
+pub one-wrong : (ts : List Token) (k j : ℕ) → IsFirstWrong ts k → IsFirstWrong ts j → k ≡ j
+one-wrong ts k j p q = by-order k j (no-later ts k j p q) (no-later ts j k q p)
+  where
+    by-order : (k j : ℕ) → (k < j → ⊥) → (j < k → ⊥) → k ≡ j
+    by-order k j a b = omega arith

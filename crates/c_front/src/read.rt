@@ -183,8 +183,10 @@ pub fn read(alloc: Global, text: &[u8]) -> Result<Program, FrontFault>
     }
 }
 
-/// A text spells one program at most, and none where it has a fault other than want of memory.
+/// A text spells one program at most, and none where it has a fault other than want of memory; of these it has one at
+/// most, at one place. A law: it computes nothing.
 pub fn one_reading()
     ensures once { (text : List ℕ) (p q : List Declaration) → SpellsText text p → SpellsText text q → p ≡ q }
     ensures refused { (text : List ℕ) (k : FaultKind) (at : ℕ) (p : List Declaration) → IsTextFault text k at → (k ≡ NoMemory → ⊥) → SpellsText text p → ⊥ }
+    ensures one_fault { (text : List ℕ) (k j : FaultKind) (at n : ℕ) → IsTextFault text k at → IsTextFault text j n → (k ≡ NoMemory → ⊥) → (j ≡ NoMemory → ⊥) → (k ≡ j) × (at ≡ n) }
 {}

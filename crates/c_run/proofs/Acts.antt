@@ -1,10 +1,10 @@
 -- The step of a statement, by its kind.
 use Rattle.std.proofs.Common.{◌≡◌, ◌∙◌, ℕ, ◌∷◌, ap, Result, IfOk}
 use Rattle.std.proofs.lemmas.Result.{IfOk-weaker}
-use Rattle.c_statements.specs.declared.typed.Statement.{Statement}
-use Rattle.c_statements.specs.Typed.{TypedStatement, TypedProgram}
-use Rattle.c_statements.specs.Shape.{statement_of}
-use Rattle.c_run.specs.Meaning.{Do}
+use Rattle.c_typed.specs.declared.tree.Statement.{Statement}
+use Rattle.c_typed.specs.Trees.{TypedStatement, TypedProgram}
+use Rattle.c_typed.specs.Shape.{statement_of}
+use Rattle.c_typed.specs.Meaning.{Do}
 use Rattle.c_run.specs.Machine.{Does, stepped, reached, todos}
 use Rattle.c_run.specs.declared.machine.Machine.{Machine}
 use Rattle.c_run.specs.declared.machine.Reached.{Reached}

@@ -10,15 +10,15 @@ use Rattle.std.proofs.lemmas.List.{reverse-append, length-map, length-reverse}
 use Rattle.std.proofs.lemmas.Bool.{lt-ltb, le-ltb}
 use Rattle.c_run.proofs.Turns.{popped}
 use Rattle.std.proofs.lemmas.Option.{slice_get_past, slice_get_read, same_Some}
-use Rattle.words.specs.Stores.{Places, Arrays, unset_places}
-use Rattle.words.specs.Runs.{Running, Failed, with_value}
-use Rattle.c_statements.specs.declared.typed.Place.{Place}
-use Rattle.c_statements.specs.declared.typed.Function.{Function}
-use Rattle.c_statements.specs.declared.typed.Statement.{Statement}
-use Rattle.c_statements.specs.Typed.{TypedFunction}
-use Rattle.c_statements.specs.Shape.{function_of, functions_of, statements_of}
+use Rattle.runs.specs.Stores.{Places, Arrays, unset_places}
+use Rattle.runs.specs.Runs.{Running, Failed, with_value}
+use Rattle.c_typed.specs.declared.tree.Place.{Place}
+use Rattle.c_typed.specs.declared.tree.Function.{Function}
+use Rattle.c_typed.specs.declared.tree.Statement.{Statement}
+use Rattle.c_typed.specs.Trees.{TypedFunction}
+use Rattle.c_typed.specs.Shape.{function_of, functions_of, statements_of}
 use Rattle.c_types.specs.Shape.{TypedParts, program_of}
-use Rattle.c_run.specs.Meaning.{Todo, Frame, Run, arguments, called, before_all, first_words, source_start}
+use Rattle.c_typed.specs.Meaning.{Todo, Frame, Run, arguments, called, before_all, first_words, source_start}
 use Rattle.c_run.specs.Machine.{places, arrays, todos, frame_of, frames_of}
 use Rattle.c_run.specs.declared.machine.Call.{Call}
 use Rattle.c_run.specs.declared.pending.Pending.{Pending}

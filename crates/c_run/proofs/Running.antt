@@ -1,19 +1,12 @@
 -- Steps, one after another.
 use Rattle.std.proofs.Common.{◌≡◌, ℕ, zero, suc, ◌+◌, ◌-◌, ◌<◌, ◌≤◌, List, refl, sym, ◌∙◌, ap, arith}
-use Rattle.words.specs.Runs.{Ended, Failed, outcome}
-use Rattle.words.specs.declared.ran.End.TheVariants.{Done, Wrong}
-use Rattle.c_statements.specs.Typed.{TypedProgram}
-use Rattle.c_run.specs.Meaning.{Run, source_step, source_steps, source_start, source_run}
+use Rattle.runs.specs.Runs.{Ended, Failed, outcome}
+use Rattle.runs.specs.declared.ran.End.TheVariants.{Done, Wrong}
+use Rattle.runs.proofs.Steps.{steps-stay}
+use Rattle.c_typed.specs.Trees.{TypedProgram}
+use Rattle.c_typed.specs.Meaning.{Run, source_step, source_steps, source_start, source_run}
 use Rattle.c_run.specs.Machine.{state_of}
 use Rattle.c_run.specs.declared.machine.Machine.{Machine}
-
-pub stays-ended : (p : TypedProgram) (depth n w : ℕ) (out : List ℕ) → source_steps p depth n (Ended w out) ≡ Ended w out
-stays-ended p depth zero w out = refl
-stays-ended p depth (suc n) w out = stays-ended p depth n w out
-
-pub stays-failed : (p : TypedProgram) (depth n : ℕ) (out : List ℕ) → source_steps p depth n (Failed out) ≡ Failed out
-stays-failed p depth zero out = refl
-stays-failed p depth (suc n) out = stays-failed p depth n out
 
 pub one-step : (p : TypedProgram) (depth n i : ℕ) (s t : Run) → i < n → source_step p depth s ≡ t → source_steps p depth (n - i) s ≡ source_steps p depth (n - (i + 1)) t
 one-step p depth n i s t lt e =
@@ -23,11 +16,11 @@ one-step p depth n i s t lt e =
 -- a step that ends the run
 pub ends : (p : TypedProgram) (depth n i w : ℕ) (s : Run) (out : List ℕ) → i < n → outcome (source_steps p depth (n - i) s) ≡ source_run p depth n → source_step p depth s ≡ Ended w out → record { end = Done w; output = out } ≡ source_run p depth n
 ends p depth n i w s out lt e is =
-    sym (ap outcome (one-step p depth n i s (Ended w out) lt is ∙ stays-ended p depth (n - (i + 1)) w out)) ∙ e
+    sym (ap outcome (one-step p depth n i s (Ended w out) lt is ∙ steps-stay (source_step p depth) (n - (i + 1)) (Ended w out) refl)) ∙ e
 
 pub fails : (p : TypedProgram) (depth n i : ℕ) (s : Run) (out : List ℕ) → i < n → outcome (source_steps p depth (n - i) s) ≡ source_run p depth n → source_step p depth s ≡ Failed out → record { end = Wrong; output = out } ≡ source_run p depth n
 fails p depth n i s out lt e is =
-    sym (ap outcome (one-step p depth n i s (Failed out) lt is ∙ stays-failed p depth (n - (i + 1)) out)) ∙ e
+    sym (ap outcome (one-step p depth n i s (Failed out) lt is ∙ steps-stay (source_step p depth) (n - (i + 1)) (Failed out) refl)) ∙ e
 
 pub goes-on : (p : TypedProgram) (depth n i : ℕ) (s t : Run) → i < n → outcome (source_steps p depth (n - i) s) ≡ source_run p depth n → source_step p depth s ≡ t → outcome (source_steps p depth (n - (i + 1)) t) ≡ source_run p depth n
 goes-on p depth n i s t lt e is = sym (ap outcome (one-step p depth n i s t lt is)) ∙ e

@@ -2,14 +2,14 @@
 use Rattle.std.proofs.Common.{◌≡◌, ◌≤◌, ◌<◌, ℕ, ◌+◌, List, [], ◌∷◌, ◌++◌, Bor, refl, ap, ◌∙◌, arith}
 use Rattle.c_run.specs.declared.pending.Pending.{Pending}
 use Rattle.c_run.specs.declared.pending.Pending.TheVariants.{One, Rest, Turn}
-use Rattle.c_statements.specs.declared.typed.Statement.{Statement, Block}
-use Rattle.c_statements.specs.Shape.{statement_of, statements_of}
+use Rattle.c_typed.specs.declared.tree.Statement.{Statement, Block}
+use Rattle.c_typed.specs.Shape.{statement_of, statements_of}
 use Rattle.std.specs.declared.vec.Vec.{Vec}
 use Rattle.std.specs.declared.alloc.Global.{Global}
 use Rattle.c_run.specs.declared.pending.Head.{Head}
 use Rattle.c_run.specs.declared.pending.Head.TheVariants as Heads
 use Rattle.c_run.specs.Sizes.{size, sizes, weight, weights, head_size}
-use Rattle.c_run.proofs.Turns.{block-is}
+use Rattle.c_typed.proofs.Shapes.{block-is}
 
 pub weights-push : (ts : List Pending) (t : Pending) → weights (ts ++ t ∷ []) ≡ weights ts + weight t
 weights-push [] t = omega arith

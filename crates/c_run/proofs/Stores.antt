@@ -9,7 +9,7 @@ use Rattle.std.proofs.lemmas.Option.{slice_get-map, slice_get-get_or, slice_get_
 use mathlib.Core.Path.{fun_ext}
 use Rattle.std.specs.Prelude.{if◌then◌else◌}
 use Rattle.std.proofs.lemmas.Bool.{eqb-false}
-use Rattle.words.specs.Stores.{written, chain, stored}
+use Rattle.runs.specs.Stores.{written, chain, stored}
 use Rattle.c_run.specs.Machine.{places, arrays}
 
 one_unset : (xs : List (Option ℕ)) (y : ℕ) → get_or (xs ++ None ∷ []) y None ≡ get_or xs y None

@@ -4,25 +4,18 @@ use Rattle.std.specs.Prelude.{◌⊎◌}
 use Rattle.std.specs.declared.vec.Vec.{Vec}
 use Rattle.std.specs.declared.alloc.Global.{Global}
 use Rattle.std.proofs.lemmas.List.{reverse-append}
-use Rattle.words.specs.Stores.{Places}
-use Rattle.c_statements.specs.declared.typed.Statement.{Statement, Block, Row_of-Statement, end_of-Statement, more_of-Statement, items-the_row-Statement, items_hidden-the_row-Statement-0}
-use Rattle.c_statements.specs.declared.typed.Statement.TheBlock.{hidden-the_row-Statement-0}
-use Rattle.c_statements.specs.Typed.{TypedStatement, TypedStatements, empty, block, unset, assign, store, run, output, branch, loop, leave, next_turn, return_with, no_statements, more_statements}
-use Rattle.c_statements.specs.Shape.{statement_of, statements_of, row_of}
-use Rattle.c_run.specs.Meaning.{Todo, Do, Next, before, before_all, settled, Going, Breaking, Continuing}
+use Rattle.runs.specs.Stores.{Places}
+use Rattle.c_typed.specs.declared.tree.Statement.{Statement, Block}
+use Rattle.c_typed.specs.Trees.{TypedStatement, TypedStatements, empty, block, unset, assign, store, run, output, branch, loop, leave, next_turn, return_with, no_statements, more_statements}
+use Rattle.c_typed.specs.Shape.{statement_of, statements_of}
+use Rattle.c_typed.specs.Meaning.{Todo, Do, Next, before, before_all, settled, Going, Breaking, Continuing}
 use Rattle.c_run.specs.Turns.{past_turn, at_turn}
 use Rattle.c_run.specs.Machine.{put, flattened, todos, taken, headed}
 use Rattle.c_run.specs.declared.pending.Head.{Head}
 use Rattle.c_run.specs.declared.pending.Head.TheVariants as Heads
 use Rattle.c_run.specs.declared.pending.Pending.{Pending}
 use Rattle.c_run.specs.declared.pending.Pending.TheVariants.{One, Rest}
-
-row-is : {n : _} (k : Row_of-Statement n) → row_of k ≡ statements_of (items-the_row-Statement n k)
-row-is end_of-Statement = refl
-row-is (more_of-Statement s rest) = ap (more_statements (statement_of s)) (row-is rest)
-
-pub block-is : (v : Vec Statement Global) → statement_of (Block v) ≡ block (statements_of v.items)
-block-is v = ap block (row-is (hidden-the_row-Statement-0 v) ∙ ap statements_of (items_hidden-the_row-Statement-0 v))
+use Rattle.c_typed.proofs.Shapes.{block-is}
 
 pub todos-push : (ts : List Pending) (t : Pending) → todos (ts ++ t ∷ []) ≡ put t (todos ts)
 todos-push ts t = ap flattened (reverse-append ts (t ∷ []))

@@ -1,5 +1,3 @@
-pub mod Values
-pub mod Meaning
 pub mod Turns
 pub mod Machine
 pub mod Sizes

@@ -2,11 +2,11 @@
 use Rattle.std.specs.Prelude.{◌≡◌, ℕ, List, [], ◌∷◌, Option, None, map, reverse, slice_index_or}
 use Rattle.std.specs.declared.vec.Vec.{Vec}
 use Rattle.std.specs.declared.alloc.Global.{Global}
-use Rattle.words.specs.Stores.{Places, Arrays}
-use Rattle.words.specs.Runs.{Running, Ended, Failed}
-use Rattle.c_statements.specs.Typed.{TypedStatement, TypedProgram}
-use Rattle.c_statements.specs.Shape.{statement_of, statements_of}
-use Rattle.c_run.specs.Meaning.{Todo, Do, Next, before, before_all, Frame, Run, step_at}
+use Rattle.runs.specs.Stores.{Places, Arrays}
+use Rattle.runs.specs.Runs.{Running, Ended, Failed}
+use Rattle.c_typed.specs.Trees.{TypedStatement, TypedProgram}
+use Rattle.c_typed.specs.Shape.{statement_of, statements_of}
+use Rattle.c_typed.specs.Meaning.{Todo, Do, Next, before, before_all, Frame, Run, step_at}
 use Rattle.c_run.specs.declared.pending.Pending.{Pending}
 use Rattle.c_run.specs.declared.pending.Pending.TheVariants.{One, Rest, Turn}
 use Rattle.c_run.specs.declared.pending.Head.{Head}

@@ -1,7 +1,7 @@
 -- How much is pending, for the loops that take it apart.
 use Rattle.std.specs.Prelude.{ℕ, ◌+◌, List, [], ◌∷◌}
-use Rattle.c_statements.specs.Typed.{TypedStatement, TypedStatements, block, no_statements, more_statements}
-use Rattle.c_statements.specs.Shape.{statement_of, statements_of}
+use Rattle.c_typed.specs.Trees.{TypedStatement, TypedStatements, block, no_statements, more_statements}
+use Rattle.c_typed.specs.Shape.{statement_of, statements_of}
 use Rattle.c_run.specs.declared.pending.Pending.{Pending}
 use Rattle.c_run.specs.declared.pending.Pending.TheVariants.{One, Rest, Turn}
 use Rattle.c_run.specs.declared.pending.Head.{Head}

@@ -1,6 +1,6 @@
 -- What `break` and `continue` skip.
 use Rattle.std.specs.Prelude.{List, [], ◌∷◌}
-use Rattle.c_run.specs.Meaning.{Todo, Do, Next}
+use Rattle.c_typed.specs.Meaning.{Todo, Do, Next}
 
 -- past the end of the turn that is nearest
 abbrev pub past_turn : List Todo → List Todo

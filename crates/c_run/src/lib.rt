@@ -1,9 +1,8 @@
 //! Runs a typed program: an interpreter that is exactly the meaning of C at each bound (C99 5.1.2.3, 6.5, 6.8).
 //!
 //! For the layer above there is one contract: what `run` gives for a program, a depth and a number of steps is
-//! `source_run` of `specs/Meaning.antt`, and an `Err` comes from refused memory alone. That definition stands on the
-//! typed trees of `c_statements`, on the values of expressions in `specs/Values.antt`, and on the operators and the
-//! stores of `words`. It has one step for each assignment, test, call, return and output.
+//! `source_run` of the typed language, `c_typed`, and an `Err` comes from refused memory alone. A run has one step for
+//! each assignment, test, call, return and output.
 //!
 //! A step takes time by its statement and its expressions alone: what is still to do lies as lent statements and lists
 //! of them, the globals are written in place, and only a call, a block within a block and an output may need memory.

@@ -1,14 +1,14 @@
 ghost use Rattle.std.specs.Prelude.{◌≡◌, ℕ, ◌<◌, ◌∷◌, [], length, Option, IfOk, OnOk, None, Some, if◌then◌else◌, List, map};
-ghost use Rattle.words.specs.Stores.{Places, Arrays, written, stored};
-ghost use Rattle.c_statements.specs.Shape.{statement_of, term_of, terms_of, maybe_term_of};
-ghost use Rattle.c_statements.specs.Typed.{assign, store, run, output, branch, loop, return_with};
+ghost use Rattle.runs.specs.Stores.{Places, Arrays, written, stored};
+ghost use Rattle.c_typed.specs.Shape.{statement_of, term_of, terms_of, maybe_term_of};
+ghost use Rattle.c_typed.specs.Trees.{assign, store, run, output, branch, loop, return_with};
 ghost use Rattle.c_types.specs.Shape.{program_of};
-ghost use Rattle.c_run.specs.Meaning.{Do, placed, called, returned, source_step};
+ghost use Rattle.c_typed.specs.Meaning.{Do, placed, called, returned, source_step};
 ghost use Rattle.c_run.specs.Machine.{places, arrays, todos, frame_of, frames_of, state_of, reached, going_on, stepped, Does};
 
 use crate::pending::{Head, Pending, put, settle};
 use crate::value::{arguments, value};
-use c_statements::typed::{Place, Statement, Term};
+use c_typed::{Place, Statement, Term};
 use c_types::typed::Typed;
 use std::alloc::{AllocError, Global};
 use std::mem;

@@ -1,11 +1,11 @@
 ghost use Rattle.std.specs.Prelude.{◌≡◌, ℕ, ◌++◌, ◌∷◌, [], OnOk, IfOk, None, length, ◌+◌, ◌≤◌};
-ghost use Rattle.words.specs.Stores.{written};
-ghost use Rattle.c_run.specs.Meaning.{settled, Going};
+ghost use Rattle.runs.specs.Stores.{written};
+ghost use Rattle.c_typed.specs.Meaning.{settled, Going};
 ghost use Rattle.c_run.specs.Machine.{places, todos, headed, taken};
 ghost use Rattle.c_run.specs.Sizes.{weights, head_size};
 ghost use Rattle.c_run.specs.Turns.{past_turn, at_turn};
 
-use c_statements::typed::Statement;
+use c_typed::Statement;
 use std::alloc::AllocError;
 
 /// What is still to do: a statement, a list of statements, or the end of a turn: its last part, and the loop. A list

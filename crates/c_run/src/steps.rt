@@ -1,14 +1,14 @@
 ghost use Rattle.std.specs.Prelude.{◌≡◌, IfOk, map};
-ghost use Rattle.words.specs.Runs.{outcome_of};
+ghost use Rattle.runs.specs.Runs.{outcome_of};
 ghost use Rattle.c_types.specs.Shape.{program_of};
-ghost use Rattle.c_run.specs.Meaning.{first_words, source_start, source_run};
+ghost use Rattle.c_typed.specs.Meaning.{first_words, source_start, source_run};
 ghost use Rattle.c_run.specs.Machine.{arrays, state_of};
 
 use crate::machine::{Call, Machine, Reached, step};
 use crate::pending::{Pending, put};
 use c_types::typed::Typed;
 use std::alloc::{AllocError, Global};
-use words::{End, Ran};
+use runs::{End, Ran};
 
 // The globals before the first step.
 fn first_globals(alloc: Global, program: &Typed) -> Result<Vec<Vec<u32>>, AllocError>

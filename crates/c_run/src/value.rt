@@ -1,12 +1,13 @@
 ghost use Rattle.std.specs.Prelude.{◌≡◌, ℕ, Option, Some, IfOk, map};
 ghost use Rattle.std.specs.Option.{option_map};
-ghost use Rattle.c_statements.specs.Shape.{term_of, terms_of};
-ghost use Rattle.words.specs.Stores.{word_at};
-ghost use Rattle.c_run.specs.Values.{sign_of, truth, unary_of, binary_of, value_of, values_of};
+ghost use Rattle.c_typed.specs.Shape.{term_of, terms_of};
+ghost use Rattle.words.specs.Words.{wrap};
+ghost use Rattle.runs.specs.Stores.{word_at};
+ghost use Rattle.c_typed.specs.Values.{sign_of, truth, unary_of, binary_of, value_of, values_of};
 ghost use Rattle.c_run.specs.Machine.{places, arrays};
 
 use c_front::tree::{BinaryOp, UnaryOp};
-use c_statements::typed::Term;
+use c_typed::Term;
 use c_tokens::token::Kind;
 use std::alloc::{AllocError, Global};
 use words::Sign;
@@ -20,6 +21,14 @@ fn sign(kind: Kind) -> Sign
         Kind::SignedInt => Sign::Signed,
         Kind::UnsignedInt => Sign::Unsigned,
     }
+}
+
+/// The word that a constant means.
+#[inline(always)]
+fn constant(value: u32) -> u32
+    ensures { result ≡ wrap value }
+{
+    value
 }
 
 /// The word of a global at an index; None outside.
@@ -94,7 +103,7 @@ fn operand(e: &Term, locals: &[Option<u32>], globals: &[Vec<u32>]) -> Option<u32
     ensures { result ≡ value_of (term_of e.now) (places locals.now) (arrays globals.now) }
 {
     match e {
-        Term::Constant(literal) => Some(literal.value),
+        Term::Constant(literal) => Some(constant(literal.value)),
         Term::Local(number, _) => local(locals, *number),
         _ => value(e, locals, globals),
     }
@@ -106,7 +115,7 @@ pub(crate) fn value(e: &Term, locals: &[Option<u32>], globals: &[Vec<u32>]) -> O
     ensures { result ≡ value_of (term_of e.now) (places locals.now) (arrays globals.now) }
 {
     match e {
-        Term::Constant(literal) => Some(literal.value),
+        Term::Constant(literal) => Some(constant(literal.value)),
         Term::Local(number, _) => local(locals, *number),
         Term::Global(number, _) => word(globals, *number, 0),
         Term::Element(number, _, index) => {

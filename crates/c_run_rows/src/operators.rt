@@ -4,7 +4,8 @@ use crate::texts::comes_to;
 use std::alloc::{AllocError, Global};
 use std::process::Abort;
 use std::test::Fail;
-use words::{End, Sign};
+use runs::End;
+use words::Sign;
 
 const S: Sign = Sign::Signed;
 

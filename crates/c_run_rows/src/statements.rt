@@ -2,7 +2,7 @@
 
 use crate::texts::comes_to;
 use std::test::Fail;
-use words::End;
+use runs::End;
 
 const TURNS: &str = "int main(void) { int i; \
     for (i = 0; i < 5; i = i + 1) { if (i == 1) { { continue; } } if (i == 3) break; out(i); } \

@@ -3,7 +3,7 @@ use c_run::run;
 use c_types::program::check;
 use std::alloc::{AllocError, Global};
 use std::process::Abort;
-use words::End;
+use runs::End;
 
 /// The program of a text comes to this end and this output within its bounds.
 pub fn comes_to(

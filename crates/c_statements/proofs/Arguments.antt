@@ -6,15 +6,15 @@ use Rattle.std.specs.declared.alloc.Global.{Global}
 use Rattle.c_front.specs.declared.tree.Expr.{Expr}
 use Rattle.c_front.specs.Shape.{expression_of, expressions_of}
 use Rattle.c_front.specs.Tree.{Expression}
-use Rattle.c_statements.specs.declared.typed.Term.{Term}
+use Rattle.c_typed.specs.declared.tree.Term.{Term}
 use Rattle.c_statements.specs.declared.fault.FaultKind.{FaultKind}
 use Rattle.c_statements.specs.declared.fault.Stop.{Stop}
 use Rattle.c_statements.specs.declared.fault.Stop.TheVariants.{NoMemory}
 use Rattle.c_statements.specs.Faults.{StopsBoth}
 use Rattle.c_statements.specs.Names.{Sight}
-use Rattle.c_statements.specs.Shape.{term_of, terms_of}
+use Rattle.c_typed.specs.Shape.{term_of, terms_of}
 use Rattle.c_statements.specs.Statements.{FaultyAll}
-use Rattle.c_statements.specs.Typed.{TypedExpression}
+use Rattle.c_typed.specs.Trees.{TypedExpression}
 use Rattle.c_statements.specs.Types.{Types, TypesAll, all_typed, more_typed}
 use Rattle.c_statements.specs.Uses.{Faulty}
 use Rattle.c_statements.proofs.Firsts.{Both, Same}

@@ -13,14 +13,14 @@ use Rattle.c_statements.specs.declared.fault.FaultKind.TheVariants.{Kind as Kind
 use Rattle.c_statements.specs.declared.fault.Stop.{Stop}
 use Rattle.c_statements.specs.declared.names.Named.{Named}
 use Rattle.c_statements.specs.declared.names.Named.TheVariants.{Function, Out}
-use Rattle.c_statements.specs.declared.typed.Place.{Place}
-use Rattle.c_statements.specs.declared.typed.Term.{Term}
+use Rattle.c_typed.specs.declared.tree.Place.{Place}
+use Rattle.c_typed.specs.declared.tree.Term.{Term}
 use Rattle.c_statements.specs.Calls.{IsTarget, function_target, out_target}
 use Rattle.c_statements.specs.Faults.{StopsAtFirst, HasNone, StopsBoth}
 use Rattle.c_statements.specs.Names.{Sight}
-use Rattle.c_statements.specs.Shape.{term_of, terms_of}
+use Rattle.c_typed.specs.Shape.{term_of, terms_of}
 use Rattle.c_statements.specs.Statements.{FaultyAll, FaultyCall}
-use Rattle.c_statements.specs.Typed.{TypedExpression, run, output}
+use Rattle.c_typed.specs.Trees.{TypedExpression, run, output}
 use Rattle.c_statements.specs.Types.{Types, TypesAll, more_typed, TypesCall, function_called, out_called}
 use Rattle.c_statements.specs.Uses.{as_call, IsWrong, Misused, out_used, other_count_out}
 use Rattle.c_statements.proofs.Firsts.{Both, both-stop, both-none}

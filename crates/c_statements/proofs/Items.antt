@@ -7,15 +7,15 @@ use Rattle.c_front.specs.declared.tree.Item.{Item}
 use Rattle.c_front.specs.Shape.{item_of, items_of}
 use Rattle.c_front.specs.Tree as Tree
 use Rattle.c_front.specs.Tree.{Items, no_items, more_items, declare, statement}
-use Rattle.c_statements.specs.declared.typed.Statement.{Statement}
+use Rattle.c_typed.specs.declared.tree.Statement.{Statement}
 use Rattle.c_statements.specs.declared.fault.FaultKind.{FaultKind}
 use Rattle.c_statements.specs.declared.fault.Stop.{Stop}
 use Rattle.c_statements.specs.declared.fault.Stop.TheVariants.{NoMemory}
 use Rattle.c_statements.specs.Faults.{StopsBoth}
 use Rattle.c_statements.specs.Names.{Scopes, declared, behind, behind_item, behind_items, declared_in_all}
-use Rattle.c_statements.specs.Shape.{statement_of, statements_of}
+use Rattle.c_typed.specs.Shape.{statement_of, statements_of}
 use Rattle.c_statements.specs.Statements.{FaultyItems}
-use Rattle.c_statements.specs.Typed.{TypedStatement, TypedStatements, no_statements, more_statements}
+use Rattle.c_typed.specs.Trees.{TypedStatement, TypedStatements, no_statements, more_statements}
 use Rattle.c_statements.specs.Types.{TypesItems, no_items_typed, statement_typed, declare_typed}
 use Rattle.c_statements.proofs.Firsts.{Both, Same}
 use Rattle.c_statements.proofs.Joined.{Answered, one-more}

@@ -8,23 +8,16 @@ use Rattle.c_front.specs.Tree as Tree
 use Rattle.c_front.specs.Tree.{Expression, Simple, Items}
 use Rattle.c_statements.specs.declared.fault.FaultKind.{FaultKind}
 use Rattle.c_statements.specs.declared.fault.Stop.{Stop}
-use Rattle.c_statements.specs.declared.typed.Statement.{Statement, Block, Row_of-Statement, end_of-Statement, more_of-Statement, items-the_row-Statement, items_hidden-the_row-Statement-0}
-use Rattle.c_statements.specs.declared.typed.Statement.TheBlock.{hidden-the_row-Statement-0}
+use Rattle.c_typed.specs.declared.tree.Statement.{Statement, Block}
 use Rattle.c_statements.specs.Faults.{Faults, StopsAtFirst, HasNone, StopsBoth}
 use Rattle.c_statements.specs.Names.{Scopes, sight_in, entered, left, declared, behind, behind_items, declared_in, declared_in_all}
-use Rattle.c_statements.specs.Shape.{statement_of, row_of, statements_of}
+use Rattle.c_typed.specs.Shape.{statement_of, statements_of}
 use Rattle.c_statements.specs.Statements.{FaultyFirst, FaultyDeclarator, FaultyItems}
-use Rattle.c_statements.specs.Typed.{TypedExpression, TypedStatement, block, loop, no_statements, more_statements}
+use Rattle.c_typed.specs.Trees.{TypedExpression, TypedStatement, block, loop, no_statements, more_statements}
 use Rattle.c_statements.specs.Types.{TypesPart, TypesTest, TypesStatement, repeat_for_typed}
 use Rattle.c_statements.proofs.Firsts.{Both, Tells, same-stop, both-stop, both-none, ok-at}
 use Rattle.c_statements.proofs.Items.{behind-around, behind-locals}
-
-row-is : {n : _} (k : Row_of-Statement n) → row_of k ≡ statements_of (items-the_row-Statement n k)
-row-is end_of-Statement = refl
-row-is (more_of-Statement s rest) = ap (more_statements (statement_of s)) (row-is rest)
-
-pub block-is : (v : Vec Statement Global) → statement_of (Block v) ≡ block (statements_of v.items)
-block-is v = ap block (row-is (hidden-the_row-Statement-0 v) ∙ ap statements_of (items_hidden-the_row-Statement-0 v))
+use Rattle.c_typed.proofs.Shapes.{block-is}
 
 -- what is known of an answer that lasts is known of it in its place
 pub moved : {T : Type 0} (P : Result T Stop → Type 0) (r a : Result T Stop) → r ≡ a → P a → P r

@@ -3,7 +3,7 @@ use Rattle.std.proofs.Common.{◌≡◌, Option, Some, refl, ap}
 use Rattle.c_front.specs.Tree as Tree
 use Rattle.c_statements.specs.declared.names.Named.{Named}
 use Rattle.c_statements.specs.Names.{Sight}
-use Rattle.c_statements.specs.Typed.{TypedExpression, unary, kind_of, prefix_kind}
+use Rattle.c_typed.specs.Trees.{TypedExpression, unary, kind_of, prefix_kind}
 use Rattle.c_statements.specs.Types.{Types, constant_typed, local_typed, global_typed, element_typed, unary_typed, binary_typed, choose_typed}
 
 same-named : {m : Option Named} {a b : Named} → m ≡ Some a → m ≡ Some b → a ≡ b

@@ -4,9 +4,9 @@ use Rattle.c_tokens.specs.declared.token.Identifier.{Identifier}
 use Rattle.c_front.specs.Tree as Tree
 use Rattle.c_front.specs.Tree.{Expression}
 use Rattle.c_statements.specs.declared.names.Named.{Named}
-use Rattle.c_statements.specs.declared.typed.Place.{Place}
+use Rattle.c_typed.specs.declared.tree.Place.{Place}
 use Rattle.c_statements.specs.Names.{Sight, Scopes}
-use Rattle.c_statements.specs.Typed.{TypedExpression, TypedStatement, TypedStatements, block, return_with}
+use Rattle.c_typed.specs.Trees.{TypedExpression, TypedStatement, TypedStatements, block, return_with}
 use Rattle.c_statements.specs.Types.{TypesAll, all_typed, more_typed, TypesMaybe, missing_typed, present_typed, TypesPlace, local_place, global_place, TypesCall, function_called, out_called, TypesValue, plain_typed, called_typed, TypesSimple, assign_typed, store_typed, run_typed, TypesPart, no_part, some_part, TypesTest, no_test, some_test, TypesFirst, no_first, some_first, TypesStatement, empty_typed, block_typed, branch_typed, branch_else_typed, repeat_typed, repeat_for_typed, break_typed, continue_typed, return_typed, simply_typed, TypesItems, no_items_typed, statement_typed, declare_typed}
 use Rattle.c_statements.proofs.Once.{once}
 

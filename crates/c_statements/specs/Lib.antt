@@ -1,9 +1,7 @@
 pub mod Names
 pub mod Faults
 pub mod Uses
-pub mod Typed
 pub mod Calls
-pub mod Shape
 pub mod Statements
 pub mod Types
 pub mod Held

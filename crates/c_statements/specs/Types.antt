@@ -9,10 +9,10 @@ use Rattle.c_front.specs.Tree as Tree
 use Rattle.c_front.specs.Tree.{Expression}
 use Rattle.c_statements.specs.declared.names.Named.TheVariants.{Local, Global, Array}
 use Rattle.c_statements.specs.declared.names.Named.TheVariants as Named
-use Rattle.c_statements.specs.declared.typed.Place.{Place}
+use Rattle.c_typed.specs.declared.tree.Place.{Place}
 use Rattle.c_statements.specs.Names.{Sight}
 use Rattle.c_statements.specs.Names.{Scopes, sight_in, entered, declared, behind}
-use Rattle.c_statements.specs.Typed.{TypedExpression, TypedStatement, TypedStatements, constant, local, global, element, unary, binary, choose, kind_of, prefix_kind, operation_kind, common_kind, one, empty, block, unset, assign, store, run, output, branch, loop, leave, next_turn, return_with, no_statements, more_statements}
+use Rattle.c_typed.specs.Trees.{TypedExpression, TypedStatement, TypedStatements, constant, local, global, element, unary, binary, choose, kind_of, prefix_kind, operation_kind, common_kind, one, empty, block, unset, assign, store, run, output, branch, loop, leave, next_turn, return_with, no_statements, more_statements}
 
 pub data Types (sight : Sight) : Expression → TypedExpression → Type 0 where
   constant_typed : {c : Literal} → Types sight (Tree.constant c) (constant c)

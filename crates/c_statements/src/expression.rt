@@ -6,15 +6,15 @@ ghost use Rattle.c_front.specs.Tree as Tree;
 ghost use Rattle.c_statements.specs.Faults.{HasNone, StopsAtFirst};
 ghost use Rattle.c_statements.specs.Held.{scopes_of};
 ghost use Rattle.c_statements.specs.Names.{Sight, sight_in};
-ghost use Rattle.c_statements.specs.Shape.{term_of};
-ghost use Rattle.c_statements.specs.Typed.{TypedExpression, binary, choose, kind_of, common_kind, prefix_kind, operation_kind};
+ghost use Rattle.c_typed.specs.Shape.{term_of};
+ghost use Rattle.c_typed.specs.Trees.{TypedExpression, binary, choose, kind_of, common_kind, prefix_kind, operation_kind};
 ghost use Rattle.c_statements.specs.Types.{Types};
 ghost use Rattle.c_statements.specs.Uses.{Faulty, Misused, as_value, with_index};
 
 use crate::fault::{FaultKind, Stop, TypeFault, both};
 use crate::names::Named;
 use crate::scopes::Frame;
-use crate::typed::Term;
+use c_typed::Term;
 use c_front::tree::{BinaryOp, Expr, Program, UnaryOp};
 use c_tokens::token::{Identifier, Kind};
 use std::alloc::{AllocError, AllocFailed, Global};

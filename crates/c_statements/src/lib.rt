@@ -8,9 +8,9 @@
 //! one and for the count of locals; only after want of memory nothing is known of them.
 //!
 //! Definitions: `specs/Statements.antt` and `specs/Uses.antt` have the faults of statements, expressions and names,
-//! `specs/Types.antt` the typing of statements and expressions, `specs/Names.antt` the scopes, `specs/Typed.antt` the
-//! typed trees, `specs/Faults.antt` which fault is the first. `specs/Shape.antt` and `specs/Held.antt` say which tree
-//! and which scopes a Rust value stands for; `specs/Calls.antt` are words of functions that only this layer calls.
+//! `specs/Types.antt` the typing of statements and expressions by the typed trees of `c_typed`, `specs/Names.antt` the
+//! scopes, `specs/Faults.antt` which fault is the first. `specs/Held.antt` says which scopes a Rust value stands for;
+//! `specs/Calls.antt` are words of functions that only this layer calls.
 //!
 //! `statement` and `expression` call themselves on the parts of a tree, so the stack grows with its depth.
 #![tactic(auto)]
@@ -22,4 +22,3 @@ pub mod names;
 pub mod scopes;
 pub mod simple;
 pub mod statement;
-pub mod typed;

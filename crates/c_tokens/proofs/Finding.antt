@@ -6,19 +6,20 @@ use Rattle.c_tokens.specs.declared.lex.Lexeme.{Lexeme}
 use Rattle.c_tokens.specs.declared.lex.Lexeme.TheVariants.{Separator, Refused}
 use Rattle.c_tokens.specs.Lexing.{is_space, is_letter, is_digit, is_word, goes_on, is_exponent, is_front, same_bytes, signs, keywords, word_lexeme, constant_lexeme, comment_length, one_more}
 use Rattle.c_tokens.specs.Fronts.{word_length, run_length, line_length, longest, longer, sign_lexeme, comment_lexeme, line_lexeme, lexeme_of, word_at, constant_at, comment_at, line_at, sign_at}
-use Rattle.c_tokens.specs.Pieces.{IsWord, word_end, word_more, IsRun, run_end, run_more, IsLine, line_end, line_more, IsOpen, open_end, open_more, IsClosed, closed_here, closed_later, spelled, IsPiece, a_byte, a_word, a_number, an_operator, a_line, a_comment, an_open_comment, IsLongest, comment_meaning, closed_meaning, operator_meaning, or_operator, or_line, or_comment, or_number, or_word, meaning_of, IsNext, at_end, at_piece}
+use Rattle.c_tokens.specs.Pieces.{IsWord, word_end, word_more, IsRun, run_end, run_more, IsLine, line_end, line_more, IsOpen, open_end, open_more, IsClosed, closed_here, closed_later, spelled, comment_meaning}
+use Rattle.c_tokens.proofs.Shapes.{IsShape, a_byte, a_word, a_number, an_operator, a_line, a_comment, an_open_comment, IsLongestShape, closed_meaning, operator_meaning, or_operator, or_line, or_comment, or_number, or_word, meaning_of, IsShapeNext, at_end, at_piece}
 
-true-false : {x : Bool} → x ≡ true → x ≡ false → ⊥
+pub true-false : {x : Bool} → x ≡ true → x ≡ false → ⊥
 true-false e f = cc
 
 -- classes of bytes
-space-letter : (b : ℕ) → is_space b ≡ true → is_letter b ≡ true → ⊥
+pub space-letter : (b : ℕ) → is_space b ≡ true → is_letter b ≡ true → ⊥
 space-letter b h k = grind (arith, nat_tests)
 
-space-digit : (b : ℕ) → is_space b ≡ true → is_digit b ≡ true → ⊥
+pub space-digit : (b : ℕ) → is_space b ≡ true → is_digit b ≡ true → ⊥
 space-digit b h k = grind (arith, nat_tests)
 
-letter-digit : (b : ℕ) → is_letter b ≡ true → is_digit b ≡ true → ⊥
+pub letter-digit : (b : ℕ) → is_letter b ≡ true → is_digit b ≡ true → ⊥
 letter-digit b h k = grind (arith, nat_tests)
 
 letter-word : (b : ℕ) → is_letter b ≡ true → is_word b ≡ true
@@ -67,7 +68,7 @@ pub record Begins (b : ℕ) (bs : List ℕ) : Type 0 where
   pub comment : is_front (47 ∷ 42 ∷ []) (b ∷ bs) ≡ false
   pub line : is_front (47 ∷ 47 ∷ []) (b ∷ bs) ≡ false
 
-operator-begins : (b : ℕ) (bs : List ℕ) (m : Option Mark) → spelled signs (b ∷ bs) ≡ Some m → Begins b bs
+pub operator-begins : (b : ℕ) (bs : List ℕ) (m : Option Mark) → spelled signs (b ∷ bs) ≡ Some m → Begins b bs
 operator-begins b bs m h = go (is_space b) (is_letter b) (is_digit b) (is_front (47 ∷ 42 ∷ []) (b ∷ bs)) (is_front (47 ∷ 47 ∷ []) (b ∷ bs)) refl refl refl refl refl (spelled-begins signs (b ∷ bs) m table-begins h)
   where
     go : (x y z u v : Bool) → is_space b ≡ x → is_letter b ≡ y → is_digit b ≡ z → is_front (47 ∷ 42 ∷ []) (b ∷ bs) ≡ u → is_front (47 ∷ 47 ∷ []) (b ∷ bs) ≡ v →
@@ -79,10 +80,10 @@ operator-begins b bs m h = go (is_space b) (is_letter b) (is_digit b) (is_front 
     go false false false false true p q r s t h = cc
     go false false false false false p q r s t h = record { space = p; letter = q; digit = r; comment = s; line = t }
 
-no-empty : IsPiece [] → ⊥
+no-empty : IsShape [] → ⊥
 no-empty p = go [] p refl
   where
-    go : (o : List ℕ) → IsPiece o → o ≡ [] → ⊥
+    go : (o : List ℕ) → IsShape o → o ≡ [] → ⊥
     go _ a_byte e = cc
     go _ (a_word i w) e = cc
     go _ (a_number i r) e = cc
@@ -93,7 +94,7 @@ no-empty p = go [] p refl
     go _ (an_open_comment l) e = cc
 
 -- the pieces that begin with a byte of a class
-space-piece : (b c : ℕ) (xs : List ℕ) → is_space b ≡ true → IsPiece (b ∷ c ∷ xs) → ⊥
+space-piece : (b c : ℕ) (xs : List ℕ) → is_space b ≡ true → IsShape (b ∷ c ∷ xs) → ⊥
 space-piece b c xs h (a_word i w) = space-letter b h i
 space-piece b c xs h (a_number i r) = space-digit b h i
 space-piece b c xs h (an_operator {m = m} o) = true-false h (operator-begins b (c ∷ xs) m o).space
@@ -101,7 +102,7 @@ space-piece b c xs h (a_line l) = cc
 space-piece b c xs h (a_comment l) = cc
 space-piece b c xs h (an_open_comment l) = cc
 
-letter-piece : (b : ℕ) (xs : List ℕ) → is_letter b ≡ true → IsPiece (b ∷ xs) → IsWord xs
+letter-piece : (b : ℕ) (xs : List ℕ) → is_letter b ≡ true → IsShape (b ∷ xs) → IsWord xs
 letter-piece b xs h a_byte = word_end
 letter-piece b xs h (a_word i w) = w
 letter-piece b xs h (a_number i r) = absurd (letter-digit b h i)
@@ -110,10 +111,10 @@ letter-piece b xs h (a_line l) = cc
 letter-piece b xs h (a_comment l) = cc
 letter-piece b xs h (an_open_comment l) = cc
 
-digit-goes : (b : ℕ) → is_digit b ≡ true → goes_on false b ≡ true
+pub digit-goes : (b : ℕ) → is_digit b ≡ true → goes_on false b ≡ true
 digit-goes b h = grind (arith, nat_tests)
 
-digit-piece : (b : ℕ) (xs : List ℕ) → is_digit b ≡ true → IsPiece (b ∷ xs) → IsRun false (b ∷ xs)
+digit-piece : (b : ℕ) (xs : List ℕ) → is_digit b ≡ true → IsShape (b ∷ xs) → IsRun false (b ∷ xs)
 digit-piece b xs h a_byte = run_more (digit-goes b h) run_end
 digit-piece b xs h (a_word i w) = absurd (letter-digit b i h)
 digit-piece b xs h (a_number i r) = r
@@ -122,20 +123,20 @@ digit-piece b xs h (a_line l) = cc
 digit-piece b xs h (a_comment l) = cc
 digit-piece b xs h (an_open_comment l) = cc
 
-comment-piece : (xs : List ℕ) → IsPiece (47 ∷ 42 ∷ xs) → IsClosed xs ⊎ IsOpen xs
+comment-piece : (xs : List ℕ) → IsShape (47 ∷ 42 ∷ xs) → IsClosed xs ⊎ IsOpen xs
 comment-piece xs (a_word i w) = cc
 comment-piece xs (a_number i r) = cc
 comment-piece xs (an_operator {m = m} o) = let x = (operator-begins 47 (42 ∷ xs) m o).comment in cc
 comment-piece xs (a_comment l) = inl l
 comment-piece xs (an_open_comment l) = inr l
 
-line-piece : (xs : List ℕ) → IsPiece (47 ∷ 47 ∷ xs) → IsLine xs
+line-piece : (xs : List ℕ) → IsShape (47 ∷ 47 ∷ xs) → IsLine xs
 line-piece xs (a_word i w) = cc
 line-piece xs (a_number i r) = cc
 line-piece xs (an_operator {m = m} o) = let x = (operator-begins 47 (47 ∷ xs) m o).line in cc
 line-piece xs (a_line l) = l
 
-other-piece : (b c : ℕ) (xs : List ℕ) → is_letter b ≡ false → is_digit b ≡ false → is_front (47 ∷ 42 ∷ []) (b ∷ c ∷ xs) ≡ false → is_front (47 ∷ 47 ∷ []) (b ∷ c ∷ xs) ≡ false → IsPiece (b ∷ c ∷ xs) → (m : Option Mark) × (spelled signs (b ∷ c ∷ xs) ≡ Some m)
+other-piece : (b c : ℕ) (xs : List ℕ) → is_letter b ≡ false → is_digit b ≡ false → is_front (47 ∷ 42 ∷ []) (b ∷ c ∷ xs) ≡ false → is_front (47 ∷ 47 ∷ []) (b ∷ c ∷ xs) ≡ false → IsShape (b ∷ c ∷ xs) → (m : Option Mark) × (spelled signs (b ∷ c ∷ xs) ≡ Some m)
 other-piece b c xs h k p q (a_word i w) = absurd (true-false i h)
 other-piece b c xs h k p q (a_number i r) = absurd (true-false i k)
 other-piece b c xs h k p q (an_operator {m = m} o) = (m, o)
@@ -315,11 +316,16 @@ never-closes (b ∷ bs) h = go (λ e. never-closes bs e) (is_front (42 ∷ 47 �
     go f true e k = cc
     go f false e k = open_more e (f (one-more-none (comment_length bs) k))
 
-closed-length : (bs : List ℕ) → IsClosed bs → (k : ℕ) × (comment_length bs ≡ Some k)
+pub closed-length : (bs : List ℕ) → IsClosed bs → (k : ℕ) × (comment_length bs ≡ Some k)
 closed-length _ closed_here = (2, refl)
 closed-length (b ∷ bs) (closed_later h w) =
     let q = closed-length bs w in
     (suc q.0, ap (λ (x : Bool). if x then Some 2 else one_more (comment_length bs)) h ∙ ap one_more q.1)
+
+pub open-length : (bs : List ℕ) → IsOpen bs → comment_length bs ≡ None
+open-length [] open_end = refl
+open-length (b ∷ bs) (open_more h w) =
+    ap (λ (x : Bool). if x then Some 2 else one_more (comment_length bs)) h ∙ ap one_more (open-length bs w)
 
 -- operators
 abbrev EachSpelled : List (List ℕ × Option Mark) → Type 0
@@ -414,44 +420,44 @@ take-all : (bs : List ℕ) → take (length bs) bs ≡ bs
 take-all [] = refl
 take-all (b ∷ bs) = ap (λ (x : List ℕ). b ∷ x) (take-all bs)
 
-space-next : (b : ℕ) (bs : List ℕ) → is_space b ≡ true → IsNext (b ∷ bs) (Separator 1)
+space-next : (b : ℕ) (bs : List ℕ) → is_space b ≡ true → IsShapeNext (b ∷ bs) (Separator 1)
 space-next b bs h = at_piece {n = 1} (record { within = omega arith; piece = a_byte; longest = longest-one bs }) (sym (ap (λ (x : Bool). if x then Separator 1 else or_word b []) h))
   where
-    longest-one : (bs : List ℕ) (m : ℕ) → 1 < m → m ≤ length (b ∷ bs) → IsPiece (take m (b ∷ bs)) → ⊥
+    longest-one : (bs : List ℕ) (m : ℕ) → 1 < m → m ≤ length (b ∷ bs) → IsShape (take m (b ∷ bs)) → ⊥
     longest-one bs zero k l p = omega (arith, k)
     longest-one bs (suc zero) k l p = omega (arith, k)
     longest-one [] (suc (suc m)) k l p = omega (arith, l)
     longest-one (c ∷ cs) (suc (suc m)) k l p = space-piece b c (take m cs) h p
 
-word-next : (b : ℕ) (bs : List ℕ) → is_space b ≡ false → is_letter b ≡ true → IsNext (b ∷ bs) (word_lexeme keywords (take (word_length (b ∷ bs)) (b ∷ bs)))
+word-next : (b : ℕ) (bs : List ℕ) → is_space b ≡ false → is_letter b ≡ true → IsShapeNext (b ∷ bs) (word_lexeme keywords (take (word_length (b ∷ bs)) (b ∷ bs)))
 word-next b bs h k =
     let e : word_length (b ∷ bs) ≡ suc (word_length bs) = ap (λ (x : Bool). if x then suc (word_length bs) else 0) (letter-word b k) in
-    let P : ℕ → Type 0 = λ n. IsNext (b ∷ bs) (word_lexeme keywords (take n (b ∷ bs))) in
+    let P : ℕ → Type 0 = λ n. IsShapeNext (b ∷ bs) (word_lexeme keywords (take n (b ∷ bs))) in
     let w = word-within bs in
     subst P (sym e) (at_piece {n = suc (word_length bs)} (record { within = omega (arith, w); piece = a_word k (word-taken bs); longest = go })
     (sym (ap (λ (x : Bool). if x then Separator 1 else or_word b (take (word_length bs) bs)) h ∙ ap (λ (x : Bool). if x then word_lexeme keywords (b ∷ take (word_length bs) bs) else or_number b (take (word_length bs) bs)) k)))
   where
-    go : (m : ℕ) → suc (word_length bs) < m → m ≤ length (b ∷ bs) → IsPiece (take m (b ∷ bs)) → ⊥
+    go : (m : ℕ) → suc (word_length bs) < m → m ≤ length (b ∷ bs) → IsShape (take m (b ∷ bs)) → ⊥
     go zero i l p = omega (arith, i)
     go (suc m) i l p = word-longest bs m (omega (arith, i)) (omega (arith, l)) (letter-piece b (take m bs) k p)
 
 run-tail : (after : Bool) (b : ℕ) (xs : List ℕ) → IsRun after (b ∷ xs) → IsRun (is_exponent b) xs
 run-tail after b xs (run_more k w) = w
 
-number-next : (b : ℕ) (bs : List ℕ) → is_space b ≡ false → is_letter b ≡ false → is_digit b ≡ true → IsNext (b ∷ bs) (constant_lexeme (take (run_length false (b ∷ bs)) (b ∷ bs)))
+number-next : (b : ℕ) (bs : List ℕ) → is_space b ≡ false → is_letter b ≡ false → is_digit b ≡ true → IsShapeNext (b ∷ bs) (constant_lexeme (take (run_length false (b ∷ bs)) (b ∷ bs)))
 number-next b bs h k d =
     let e : run_length false (b ∷ bs) ≡ suc (run_length (is_exponent b) bs) = ap (λ (x : Bool). if x then suc (run_length (is_exponent b) bs) else 0) (digit-goes b d) in
-    let P : ℕ → Type 0 = λ n. IsNext (b ∷ bs) (constant_lexeme (take n (b ∷ bs))) in
+    let P : ℕ → Type 0 = λ n. IsShapeNext (b ∷ bs) (constant_lexeme (take n (b ∷ bs))) in
     let w = run-within (is_exponent b) bs in
     let ys : List ℕ = take (run_length (is_exponent b) bs) bs in
     subst P (sym e) (at_piece {n = suc (run_length (is_exponent b) bs)} (record { within = omega (arith, w); piece = a_number d (run_more (digit-goes b d) (run-taken (is_exponent b) bs)); longest = go })
     (sym (ap (λ (x : Bool). if x then Separator 1 else or_word b ys) h ∙ ap (λ (x : Bool). if x then word_lexeme keywords (b ∷ ys) else or_number b ys) k ∙ ap (λ (x : Bool). if x then constant_lexeme (b ∷ ys) else or_comment b ys) d)))
   where
-    go : (m : ℕ) → suc (run_length (is_exponent b) bs) < m → m ≤ length (b ∷ bs) → IsPiece (take m (b ∷ bs)) → ⊥
+    go : (m : ℕ) → suc (run_length (is_exponent b) bs) < m → m ≤ length (b ∷ bs) → IsShape (take m (b ∷ bs)) → ⊥
     go zero i l p = omega (arith, i)
     go (suc m) i l p = run-longest (is_exponent b) bs m (omega (arith, i)) (omega (arith, l)) (run-tail false b (take m bs) (digit-piece b (take m bs) d p))
 
-closed-next : (cs : List ℕ) (n : ℕ) → comment_length cs ≡ Some n → IsNext (47 ∷ 42 ∷ cs) (comment_lexeme (Some n) cs)
+closed-next : (cs : List ℕ) (n : ℕ) → comment_length cs ≡ Some n → IsShapeNext (47 ∷ 42 ∷ cs) (comment_lexeme (Some n) cs)
 closed-next cs n h =
     let c = closes cs n h in
     let q = closed-length (take n cs) c.taken in
@@ -460,29 +466,29 @@ closed-next cs n h =
     at_piece {n = suc (suc n)} (record { within = omega (arith, w); piece = a_comment c.taken; longest = go c })
     (sym (ap (closed_meaning (length (47 ∷ 42 ∷ take n cs)) (take n cs)) q.1 ∙ ap (λ (x : ℕ). comment_meaning x (take n cs)) e))
   where
-    go : Closes cs n → (m : ℕ) → suc (suc n) < m → m ≤ length (47 ∷ 42 ∷ cs) → IsPiece (take m (47 ∷ 42 ∷ cs)) → ⊥
+    go : Closes cs n → (m : ℕ) → suc (suc n) < m → m ≤ length (47 ∷ 42 ∷ cs) → IsShape (take m (47 ∷ 42 ∷ cs)) → ⊥
     go c zero i l p = omega (arith, i)
     go c (suc zero) i l p = omega (arith, i)
     go c (suc (suc m)) i l p = c.longest m (omega (arith, i)) (omega (arith, l)) (comment-piece (take m cs) p)
 
-open-next : (cs : List ℕ) → comment_length cs ≡ None → IsNext (47 ∷ 42 ∷ cs) (Refused 0)
+open-next : (cs : List ℕ) → comment_length cs ≡ None → IsShapeNext (47 ∷ 42 ∷ cs) (Refused 0)
 open-next cs h =
     let text : List ℕ = 47 ∷ 42 ∷ cs in
-    let P : List ℕ → Type 0 = λ x. IsPiece x in
+    let P : List ℕ → Type 0 = λ x. IsShape x in
     at_piece {n = length (47 ∷ 42 ∷ cs)} (record { within = omega arith; piece = subst P (sym (take-all (47 ∷ 42 ∷ cs))) (an_open_comment (never-closes cs h)); longest = λ m i l p. omega (arith, i, l) })
     (sym (ap meaning_of (take-all (47 ∷ 42 ∷ cs)) ∙ ap (closed_meaning (length (47 ∷ 42 ∷ cs)) cs) h))
 
-comment-next : (cs : List ℕ) (r : Option ℕ) → comment_length cs ≡ r → IsNext (47 ∷ 42 ∷ cs) (comment_lexeme r cs)
+comment-next : (cs : List ℕ) (r : Option ℕ) → comment_length cs ≡ r → IsShapeNext (47 ∷ 42 ∷ cs) (comment_lexeme r cs)
 comment-next cs None h = open-next cs h
 comment-next cs (Some n) h = closed-next cs n h
 
-line-next : (cs : List ℕ) → IsNext (47 ∷ 47 ∷ cs) (line_lexeme (line_length cs) cs)
+line-next : (cs : List ℕ) → IsShapeNext (47 ∷ 47 ∷ cs) (line_lexeme (line_length cs) cs)
 line-next cs =
     let w = line-within cs in
     let e : length (47 ∷ 47 ∷ take (line_length cs) cs) ≡ line_length cs + 2 = simp length-take (omega (arith, w)) in
     at_piece {n = suc (suc (line_length cs))} (record { within = omega (arith, w); piece = a_line (line-taken cs); longest = go }) (sym (ap (λ (x : ℕ). comment_meaning x (take (line_length cs) cs)) e))
   where
-    go : (m : ℕ) → suc (suc (line_length cs)) < m → m ≤ length (47 ∷ 47 ∷ cs) → IsPiece (take m (47 ∷ 47 ∷ cs)) → ⊥
+    go : (m : ℕ) → suc (suc (line_length cs)) < m → m ≤ length (47 ∷ 47 ∷ cs) → IsShape (take m (47 ∷ 47 ∷ cs)) → ⊥
     go zero i l p = omega (arith, i)
     go (suc zero) i l p = omega (arith, i)
     go (suc (suc m)) i l p = line-longest cs m (omega (arith, i)) (omega (arith, l)) (line-piece (take m cs) p)
@@ -495,7 +501,7 @@ pub record Plain (b : ℕ) (bs : List ℕ) : Type 0 where
   pub comment : is_front (47 ∷ 42 ∷ []) (b ∷ bs) ≡ false
   pub line : is_front (47 ∷ 47 ∷ []) (b ∷ bs) ≡ false
 
-plain-meaning : (b : ℕ) (bs : List ℕ) → Plain b bs → meaning_of (b ∷ bs) ≡ or_operator b bs
+pub plain-meaning : (b : ℕ) (bs : List ℕ) → Plain b bs → meaning_of (b ∷ bs) ≡ or_operator b bs
 plain-meaning b bs p =
     ap (λ (x : Bool). if x then Separator 1 else or_word b bs) p.space ∙ ap (λ (x : Bool). if x then word_lexeme keywords (b ∷ bs) else or_number b bs) p.letter ∙
     ap (λ (x : Bool). if x then constant_lexeme (b ∷ bs) else or_comment b bs) p.digit ∙
@@ -511,7 +517,7 @@ plain-taken b bs m p = record {
   line = front-not-taken (47 ∷ 47 ∷ []) (b ∷ bs) (suc m) p.line;
 }
 
-longer-plain : (b : ℕ) (bs : List ℕ) (m : ℕ) → Plain b bs → 1 < m → m ≤ length (b ∷ bs) → IsPiece (take m (b ∷ bs)) → AtLeastLong m (longest signs (b ∷ bs))
+longer-plain : (b : ℕ) (bs : List ℕ) (m : ℕ) → Plain b bs → 1 < m → m ≤ length (b ∷ bs) → IsShape (take m (b ∷ bs)) → AtLeastLong m (longest signs (b ∷ bs))
 longer-plain b bs zero q h l p = absurd (omega (arith, h))
 longer-plain b bs (suc zero) q h l p = absurd (omega (arith, h))
 longer-plain b [] (suc (suc m)) q h l p = absurd (omega (arith, l))
@@ -538,7 +544,7 @@ nonempty (x ∷ xs) m h = omega arith
 front-length : (xs ys : List ℕ) → is_front xs ys ≡ true → length xs ≤ length ys
 front-length xs ys h = let e : length (take (length xs) ys) ≡ length xs = ap length (front-whole xs ys h) in grind (arith, length-take)
 
-sign-next : (b : ℕ) (bs : List ℕ) → Plain b bs → (r : Option (List ℕ × Option Mark)) → longest signs (b ∷ bs) ≡ r → IsNext (b ∷ bs) (sign_lexeme r)
+sign-next : (b : ℕ) (bs : List ℕ) → Plain b bs → (r : Option (List ℕ × Option Mark)) → longest signs (b ∷ bs) ≡ r → IsShapeNext (b ∷ bs) (sign_lexeme r)
 sign-next b bs q None h =
     at_piece {n = 1} (record { within = omega arith; piece = a_byte; longest = λ m i l p. (let P : Option (List ℕ × Option Mark) → Type 0 = λ x. AtLeastLong m x in subst P h (longer-plain b bs m q i l p)) })
     (sym (plain-meaning b [] (plain-taken b bs 0 q) ∙ ap (operator_meaning (b ∷ [])) (no-spelling (spelled signs (b ∷ [])) refl)))
@@ -552,49 +558,49 @@ sign-next b bs q (Some e) h =
     let P : Option (List ℕ × Option Mark) → Type 0 = λ x. Stands (b ∷ bs) x in
     let s : Stands (b ∷ bs) (Some e) = subst P h (longest-stands signs (b ∷ bs) each-spelled) in
     let w = front-whole e.0 (b ∷ bs) s.0 in
-    let Q : List ℕ → Type 0 = λ x. IsPiece x in
+    let Q : List ℕ → Type 0 = λ x. IsShape x in
     at_piece {n = length e.0} (record { within = front-length e.0 (b ∷ bs) s.0; piece = subst Q (sym w) (an_operator s.1); longest = go (nonempty e.0 e.1 s.1) })
     (operator-found e.0 e.1 s.1 ∙ ap meaning_of (sym w))
   where
-    go : 0 < length e.0 → (m : ℕ) → length e.0 < m → m ≤ length (b ∷ bs) → IsPiece (take m (b ∷ bs)) → ⊥
+    go : 0 < length e.0 → (m : ℕ) → length e.0 < m → m ≤ length (b ∷ bs) → IsShape (take m (b ∷ bs)) → ⊥
     go z m i l p =
         let P : Option (List ℕ × Option Mark) → Type 0 = λ x. AtLeastLong m x in
         let a : m ≤ length e.0 = subst P h (longer-plain b bs m q (omega (arith, z, i)) l p) in
         omega (arith, a, i)
 
 slash-next : (b : ℕ) (bs : List ℕ) → is_space b ≡ false → is_letter b ≡ false → is_digit b ≡ false → is_front (47 ∷ 42 ∷ []) (b ∷ bs) ≡ false → (x : Bool) → is_front (47 ∷ 47 ∷ []) (b ∷ bs) ≡ x →
-    IsNext (b ∷ bs) (if x then line_lexeme (line_length (drop 1 bs)) (drop 1 bs) else sign_at b bs)
+    IsShapeNext (b ∷ bs) (if x then line_lexeme (line_length (drop 1 bs)) (drop 1 bs) else sign_at b bs)
 slash-next b bs h k d c true e =
     let q = front-pair 47 47 (b ∷ bs) e in
-    let P : List ℕ → Type 0 = λ x. IsNext x (line_lexeme (line_length (drop 2 x)) (drop 2 x)) in
+    let P : List ℕ → Type 0 = λ x. IsShapeNext x (line_lexeme (line_length (drop 2 x)) (drop 2 x)) in
     subst P (sym q.1) (line-next q.0)
 slash-next b bs h k d c false e = sign-next b bs (record { space = h; letter = k; digit = d; comment = c; line = e }) (longest signs (b ∷ bs)) refl
 
 star-next : (b : ℕ) (bs : List ℕ) → is_space b ≡ false → is_letter b ≡ false → is_digit b ≡ false → (x : Bool) → is_front (47 ∷ 42 ∷ []) (b ∷ bs) ≡ x →
-    IsNext (b ∷ bs) (if x then comment_lexeme (comment_length (drop 1 bs)) (drop 1 bs) else line_at b bs)
+    IsShapeNext (b ∷ bs) (if x then comment_lexeme (comment_length (drop 1 bs)) (drop 1 bs) else line_at b bs)
 star-next b bs h k d true e =
     let q = front-pair 47 42 (b ∷ bs) e in
-    let P : List ℕ → Type 0 = λ x. IsNext x (comment_lexeme (comment_length (drop 2 x)) (drop 2 x)) in
+    let P : List ℕ → Type 0 = λ x. IsShapeNext x (comment_lexeme (comment_length (drop 2 x)) (drop 2 x)) in
     subst P (sym q.1) (comment-next q.0 (comment_length q.0) refl)
 star-next b bs h k d false e = slash-next b bs h k d e (is_front (47 ∷ 47 ∷ []) (b ∷ bs)) refl
 
-digit-next : (b : ℕ) (bs : List ℕ) → is_space b ≡ false → is_letter b ≡ false → (x : Bool) → is_digit b ≡ x → IsNext (b ∷ bs) (if x then constant_lexeme (take (run_length false (b ∷ bs)) (b ∷ bs)) else comment_at b bs)
+digit-next : (b : ℕ) (bs : List ℕ) → is_space b ≡ false → is_letter b ≡ false → (x : Bool) → is_digit b ≡ x → IsShapeNext (b ∷ bs) (if x then constant_lexeme (take (run_length false (b ∷ bs)) (b ∷ bs)) else comment_at b bs)
 digit-next b bs h k true e = number-next b bs h k e
 digit-next b bs h k false e = star-next b bs h k e (is_front (47 ∷ 42 ∷ []) (b ∷ bs)) refl
 
-letter-next : (b : ℕ) (bs : List ℕ) → is_space b ≡ false → (x : Bool) → is_letter b ≡ x → IsNext (b ∷ bs) (if x then word_lexeme keywords (take (word_length (b ∷ bs)) (b ∷ bs)) else constant_at b bs)
+letter-next : (b : ℕ) (bs : List ℕ) → is_space b ≡ false → (x : Bool) → is_letter b ≡ x → IsShapeNext (b ∷ bs) (if x then word_lexeme keywords (take (word_length (b ∷ bs)) (b ∷ bs)) else constant_at b bs)
 letter-next b bs h true e = word-next b bs h e
 letter-next b bs h false e = digit-next b bs h e (is_digit b) refl
 
-byte-next : (b : ℕ) (bs : List ℕ) → (x : Bool) → is_space b ≡ x → IsNext (b ∷ bs) (if x then Separator 1 else word_at b bs)
+byte-next : (b : ℕ) (bs : List ℕ) → (x : Bool) → is_space b ≡ x → IsShapeNext (b ∷ bs) (if x then Separator 1 else word_at b bs)
 byte-next b bs true e = space-next b bs e
 byte-next b bs false e = letter-next b bs e (is_letter b) refl
 
-pub found : (text : List ℕ) → IsNext text (lexeme_of text)
-found [] = at_end
-found (b ∷ bs) = byte-next b bs (is_space b) refl
+pub found-shape : (text : List ℕ) → IsShapeNext text (lexeme_of text)
+found-shape [] = at_end
+found-shape (b ∷ bs) = byte-next b bs (is_space b) refl
 
-longest-once : (bs : List ℕ) (n m : ℕ) → IsLongest bs n → IsLongest bs m → n ≡ m
+longest-once : (bs : List ℕ) (n m : ℕ) → IsLongestShape bs n → IsLongestShape bs m → n ≡ m
 longest-once bs n m p q =
     let a : n < m → ⊥ = λ h. p.longest m h q.within q.piece in
     let b : m < n → ⊥ = λ h. q.longest n h p.within p.piece in
@@ -605,8 +611,8 @@ nothing-taken zero = refl
 nothing-taken (suc n) = refl
 
 -- what stands at the front is one thing
-pub next-once : (bs : List ℕ) (k l : Lexeme) → IsNext bs k → IsNext bs l → k ≡ l
-next-once [] k l at_end at_end = refl
-next-once [] k l at_end (at_piece {n = n} p e) = absurd (no-empty (subst (λ (x : List ℕ). IsPiece x) (nothing-taken n) p.piece))
-next-once [] k l (at_piece {n = n} p e) q = absurd (no-empty (subst (λ (x : List ℕ). IsPiece x) (nothing-taken n) p.piece))
-next-once (b ∷ bs) k l (at_piece {n = n} p e) (at_piece {n = m} q f) = e ∙ ap (λ (x : ℕ). meaning_of (take x (b ∷ bs))) (longest-once (b ∷ bs) n m p q) ∙ sym f
+pub shape-once : (bs : List ℕ) (k l : Lexeme) → IsShapeNext bs k → IsShapeNext bs l → k ≡ l
+shape-once [] k l at_end at_end = refl
+shape-once [] k l at_end (at_piece {n = n} p e) = absurd (no-empty (subst (λ (x : List ℕ). IsShape x) (nothing-taken n) p.piece))
+shape-once [] k l (at_piece {n = n} p e) q = absurd (no-empty (subst (λ (x : List ℕ). IsShape x) (nothing-taken n) p.piece))
+shape-once (b ∷ bs) k l (at_piece {n = n} p e) (at_piece {n = m} q f) = e ∙ ap (λ (x : ℕ). meaning_of (take x (b ∷ bs))) (longest-once (b ∷ bs) n m p q) ∙ sym f

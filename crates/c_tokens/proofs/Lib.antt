@@ -3,6 +3,9 @@ pub mod Fitting
 pub mod Going
 pub mod Fronts
 pub mod Constants
+pub mod Shapes
 pub mod Finding
+pub mod Numbers
+pub mod Pieces
 pub mod Once
 pub mod Beginning

@@ -5,7 +5,7 @@ use Rattle.c_tokens.specs.declared.lex.Step.{Step}
 use Rattle.c_tokens.specs.declared.lex.Step.TheVariants.{Done, Skip, Take, Stop}
 use Rattle.c_tokens.specs.Texts.{IsStep, step_of, is_oversize, Lexes, lexes_end, lexes_skip, lexes_take, LexStops, stops_here, stops_size, stops_skip, stops_take}
 use Rattle.c_tokens.specs.declared.lex.Refusal.{Refusal}
-use Rattle.c_tokens.proofs.Finding.{next-once}
+use Rattle.c_tokens.proofs.Pieces.{next-once}
 
 step-once : (at : ℕ) (bs : List ℕ) (s t : Step) → IsStep at bs s → IsStep at bs t → s ≡ t
 step-once at bs s t p q = p.step ∙ ap (step_of at) (next-once bs p.lexeme q.lexeme p.next q.next) ∙ sym q.step
@@ -82,3 +82,40 @@ never-lexes {at = at} {bs = bs} {before = before} (stops_take {n = n} {t = t} e 
     let P : ℕ → Type 0 = λ x. Lexes (at + x) (drop x bs) (u ∷ before) us ks in
     let Q : Token → Type 0 = λ x. Lexes (at + n) (drop n bs) (x ∷ before) us ks in
     never-lexes s us ks (subst Q (sym (take-token t u n m same)) (subst P (sym (take-length t u n m same)) d))
+
+stop-refusal : (r q : Refusal) (k m : ℕ) → Stop r k ≡ Stop q m → r ≡ q
+stop-refusal r q k m e = cc
+
+stop-distance : (r q : Refusal) (k m : ℕ) → Stop r k ≡ Stop q m → k ≡ m
+stop-distance r q k m e = cc
+
+-- a text is refused for one reason at one place
+pub stops-once : {at : ℕ} {bs : List ℕ} {before : List Token} {r : Refusal} {k : ℕ} → LexStops at bs before r k → (q : Refusal) (j : ℕ) → LexStops at bs before q j → (r ≡ q) × (k ≡ j)
+stops-once {at = at} {bs = bs} (stops_here {k = k} {r = r} e) _ _ (stops_here {k = m} {r = q} f) =
+    let same = step-once at bs _ _ e f in
+    (stop-refusal r q k m same, ap (λ (x : ℕ). at + x) (stop-distance r q k m same))
+stops-once {at = at} {bs = bs} (stops_here {k = k} {r = r} e) _ _ (stops_size {n = m} {t = u} f h) = absurd (stop-take r k m u (step-once at bs _ _ e f))
+stops-once {at = at} {bs = bs} (stops_here {k = k} {r = r} e) _ _ (stops_skip {n = m} f d) = absurd (stop-skip r k m (step-once at bs _ _ e f))
+stops-once {at = at} {bs = bs} (stops_here {k = k} {r = r} e) _ _ (stops_take {n = m} {t = u} f h d) = absurd (stop-take r k m u (step-once at bs _ _ e f))
+stops-once {at = at} {bs = bs} (stops_size {n = n} {t = t} e h) _ _ (stops_here {k = k} {r = q} f) = absurd (stop-take q k n t (step-once at bs _ _ f e))
+stops-once (stops_size e h) _ _ (stops_size f i) = (refl, refl)
+stops-once {at = at} {bs = bs} (stops_size {n = n} {t = t} e h) _ _ (stops_skip {n = m} f d) = absurd (skip-take t n m (step-once at bs _ _ f e))
+stops-once {at = at} {bs = bs} {before = before} (stops_size {n = n} {t = t} e h) _ _ (stops_take {n = m} {t = u} f i d) =
+    let q : t ≡ u = take-token t u n m (step-once at bs _ _ e f) in
+    absurd (true-false (ap (λ (x : Token). is_oversize (x ∷ before)) (sym q) ∙ h) i)
+stops-once {at = at} {bs = bs} (stops_skip {n = n} e c) _ _ (stops_here {k = k} {r = q} f) = absurd (stop-skip q k n (step-once at bs _ _ f e))
+stops-once {at = at} {bs = bs} (stops_skip {n = n} e c) _ _ (stops_size {n = m} {t = u} f h) = absurd (skip-take u m n (step-once at bs _ _ e f))
+stops-once {at = at} {bs = bs} {before = before} (stops_skip {n = n} e c) _ _ (stops_skip {n = m} {k = j} {r = q} f d) =
+    let P : ℕ → Type 0 = λ x. LexStops (at + x) (drop x bs) before q j in
+    stops-once c q j (subst P (sym (skip-same n m (step-once at bs _ _ e f))) d)
+stops-once {at = at} {bs = bs} (stops_skip {n = n} e c) _ _ (stops_take {n = m} {t = u} f h d) = absurd (skip-take u m n (step-once at bs _ _ e f))
+stops-once {at = at} {bs = bs} (stops_take {n = n} {t = t} e h c) _ _ (stops_here {k = k} {r = q} f) = absurd (stop-take q k n t (step-once at bs _ _ f e))
+stops-once {at = at} {bs = bs} {before = before} (stops_take {n = n} {t = t} e h c) _ _ (stops_size {n = m} {t = u} f i) =
+    let q : t ≡ u = take-token t u n m (step-once at bs _ _ e f) in
+    absurd (true-false (ap (λ (x : Token). is_oversize (x ∷ before)) q ∙ i) h)
+stops-once {at = at} {bs = bs} (stops_take {n = n} {t = t} e h c) _ _ (stops_skip {n = m} f d) = absurd (skip-take t n m (step-once at bs _ _ f e))
+stops-once {at = at} {bs = bs} {before = before} (stops_take {n = n} {t = t} e h c) _ _ (stops_take {n = m} {k = j} {r = q} {t = u} f i d) =
+    let same = step-once at bs _ _ e f in
+    let P : ℕ → Type 0 = λ x. LexStops (at + x) (drop x bs) (u ∷ before) q j in
+    let Q : Token → Type 0 = λ x. LexStops (at + n) (drop n bs) (x ∷ before) q j in
+    stops-once c q j (subst Q (sym (take-token t u n m same)) (subst P (sym (take-length t u n m same)) d))

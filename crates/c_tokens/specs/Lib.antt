@@ -1,4 +1,5 @@
 pub mod Lexing
+pub mod Constants
 pub mod Pieces
 pub mod Fronts
 pub mod Texts

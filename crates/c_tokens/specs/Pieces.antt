@@ -1,9 +1,11 @@
 -- The pieces that a text consists of (C99 6.4), and which of them stands at its front: the longest.
 use Rattle.std.specs.Prelude.{◌≡◌, ◌+◌, ◌<◌, ◌≤◌, ℕ, List, [], ◌∷◌, length, drop, take, Bool, true, false, nat_eq, if◌then◌else◌, Option, Some, None}
 use Rattle.c_tokens.specs.declared.token.Mark.{Mark}
+use Rattle.c_tokens.specs.declared.token.Literal.{Literal}
 use Rattle.c_tokens.specs.declared.lex.Lexeme.{Lexeme}
-use Rattle.c_tokens.specs.declared.lex.Lexeme.TheVariants.{End, Separator, Sign, Refused}
-use Rattle.c_tokens.specs.Lexing.{is_space, is_letter, is_digit, is_word, goes_on, is_exponent, is_front, same_bytes, signs, keywords, word_lexeme, constant_lexeme, comment_length, escape_at}
+use Rattle.c_tokens.specs.declared.lex.Lexeme.TheVariants.{End, Separator, Numeral, Sign, Refused, NoConstant}
+use Rattle.c_tokens.specs.Lexing.{is_space, is_letter, is_digit, is_word, goes_on, is_exponent, is_front, same_bytes, signs, keywords, word_lexeme, escape_at}
+use Rattle.c_tokens.specs.Constants.{IsConstant}
 
 -- letters, digits and `_`
 pub data IsWord : List ℕ → Type 0 where
@@ -35,55 +37,30 @@ abbrev pub spelled : List (List ℕ × Option Mark) → List ℕ → Option (Opt
 spelled [] o = None
 spelled (e ∷ es) o = if same_bytes e.0 o then Some e.1 else spelled es o
 
--- a comment that isn't closed is a piece too, which is refused
-pub data IsPiece : List ℕ → Type 0 where
-  a_byte : {b : ℕ} → IsPiece (b ∷ [])
-  a_word : {b : ℕ} {bs : List ℕ} → is_letter b ≡ true → IsWord bs → IsPiece (b ∷ bs)
-  a_number : {b : ℕ} {bs : List ℕ} → is_digit b ≡ true → IsRun false (b ∷ bs) → IsPiece (b ∷ bs)
-  an_operator : {o : List ℕ} {m : Option Mark} → spelled signs o ≡ Some m → IsPiece o
-  a_line : {bs : List ℕ} → IsLine bs → IsPiece (47 ∷ 47 ∷ bs)
-  a_comment : {bs : List ℕ} → IsClosed bs → IsPiece (47 ∷ 42 ∷ bs)
-  an_open_comment : {bs : List ℕ} → IsOpen bs → IsPiece (47 ∷ 42 ∷ bs)
-
--- the longest front of the bytes that is a piece has this length
-pub record IsLongest (bs : List ℕ) (n : ℕ) : Type 0 where
-  pub within : n ≤ length bs
-  pub piece : IsPiece (take n bs)
-  pub longest : (m : ℕ) → n < m → m ≤ length bs → IsPiece (take m bs) → ⊥
-
--- what pieces are: a space, a word, a number, a comment to the end of its line, a comment or an operator
+-- a comment is a separator, and refused where a backslash or two question marks in a row stand in it
 abbrev pub comment_meaning : ℕ → List ℕ → Lexeme
 comment_meaning n inside = elim (escape_at inside) [ None ↦ Separator n | Some k ↦ Refused (k + 2) ]
 
-abbrev pub closed_meaning : ℕ → List ℕ → Option ℕ → Lexeme
-closed_meaning n inside None = Refused 0
-closed_meaning n inside (Some k) = comment_meaning n inside
+-- the pieces, and what each of them is; a comment that isn't closed is a piece too, and so is a byte that begins no other
+pub data IsPiece : List ℕ → Lexeme → Type 0 where
+  a_space : {b : ℕ} → is_space b ≡ true → IsPiece (b ∷ []) (Separator 1)
+  a_word : {b : ℕ} {bs : List ℕ} → is_letter b ≡ true → IsWord bs → IsPiece (b ∷ bs) (word_lexeme keywords (b ∷ bs))
+  a_constant : {b : ℕ} {bs : List ℕ} {c : Literal} → is_digit b ≡ true → IsRun false (b ∷ bs) → IsConstant (b ∷ bs) c → IsPiece (b ∷ bs) (Numeral c (length (b ∷ bs)))
+  no_constant : {b : ℕ} {bs : List ℕ} → is_digit b ≡ true → IsRun false (b ∷ bs) → ((c : Literal) → IsConstant (b ∷ bs) c → ⊥) → IsPiece (b ∷ bs) NoConstant
+  an_operator : {o : List ℕ} {m : Mark} → spelled signs o ≡ Some (Some m) → IsPiece o (Sign m (length o))
+  an_unused_operator : {o : List ℕ} → spelled signs o ≡ Some None → IsPiece o (Refused 0)
+  a_line : {bs : List ℕ} → IsLine bs → IsPiece (47 ∷ 47 ∷ bs) (comment_meaning (length bs + 2) bs)
+  a_comment : {bs : List ℕ} → IsClosed bs → IsPiece (47 ∷ 42 ∷ bs) (comment_meaning (length bs + 2) bs)
+  an_open_comment : {bs : List ℕ} → IsOpen bs → IsPiece (47 ∷ 42 ∷ bs) (Refused 0)
+  a_stray_byte : {b : ℕ} → is_space b ≡ false → is_letter b ≡ false → is_digit b ≡ false → spelled signs (b ∷ []) ≡ None → IsPiece (b ∷ []) (Refused 0)
 
-abbrev pub operator_meaning : List ℕ → Option (Option Mark) → Lexeme
-operator_meaning o None = Refused 0
-operator_meaning o (Some None) = Refused 0
-operator_meaning o (Some (Some m)) = Sign m (length o)
-
-abbrev pub or_operator : ℕ → List ℕ → Lexeme
-or_operator b bs = operator_meaning (b ∷ bs) (spelled signs (b ∷ bs))
-
-abbrev pub or_line : ℕ → List ℕ → Lexeme
-or_line b bs = if is_front (47 ∷ 47 ∷ []) (b ∷ bs) then comment_meaning (length (b ∷ bs)) (drop 1 bs) else or_operator b bs
-
-abbrev pub or_comment : ℕ → List ℕ → Lexeme
-or_comment b bs = if is_front (47 ∷ 42 ∷ []) (b ∷ bs) then closed_meaning (length (b ∷ bs)) (drop 1 bs) (comment_length (drop 1 bs)) else or_line b bs
-
-abbrev pub or_number : ℕ → List ℕ → Lexeme
-or_number b bs = if is_digit b then constant_lexeme (b ∷ bs) else or_comment b bs
-
-abbrev pub or_word : ℕ → List ℕ → Lexeme
-or_word b bs = if is_letter b then word_lexeme keywords (b ∷ bs) else or_number b bs
-
-abbrev pub meaning_of : List ℕ → Lexeme
-meaning_of [] = End
-meaning_of (b ∷ bs) = if is_space b then Separator 1 else or_word b bs
+-- the longest front of the bytes that is a piece has this length, and is this
+pub record IsLongest (bs : List ℕ) (n : ℕ) (l : Lexeme) : Type 0 where
+  pub within : n ≤ length bs
+  pub piece : IsPiece (take n bs) l
+  pub longest : (m : ℕ) (k : Lexeme) → n < m → m ≤ length bs → IsPiece (take m bs) k → ⊥
 
 -- what stands at the front of a text
 pub data IsNext : List ℕ → Lexeme → Type 0 where
   at_end : IsNext [] End
-  at_piece : {bs : List ℕ} {n : ℕ} {l : Lexeme} → IsLongest bs n → l ≡ meaning_of (take n bs) → IsNext bs l
+  at_piece : {bs : List ℕ} {n : ℕ} {l : Lexeme} → IsLongest bs n l → IsNext bs l

@@ -1,9 +1,9 @@
 -- A statement behind others.
 use Rattle.std.proofs.Common.{◌≡◌, List, [], ◌∷◌, ◌++◌, refl, ap, ◌∙◌, Bool, true, false, Option, Some, None}
 use Rattle.c_tokens.specs.declared.token.Kind.{Kind}
-use Rattle.c_statements.specs.declared.typed.Statement.{Statement}
-use Rattle.c_statements.specs.Shape.{statement_of, statements_of}
-use Rattle.c_statements.specs.Typed.{TypedStatements, no_statements, more_statements}
+use Rattle.c_typed.specs.declared.tree.Statement.{Statement}
+use Rattle.c_typed.specs.Shape.{statement_of, statements_of}
+use Rattle.c_typed.specs.Trees.{TypedStatements, no_statements, more_statements}
 use Rattle.c_types.specs.Programs.{with_last, closing}
 
 pub one-more : (all : List Statement) (s : Statement) → statements_of (all ++ s ∷ []) ≡ with_last (statements_of all) (more_statements (statement_of s) no_statements)

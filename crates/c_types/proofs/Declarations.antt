@@ -11,19 +11,18 @@ use Rattle.c_statements.specs.declared.fault.FaultKind.{FaultKind}
 use Rattle.c_statements.specs.declared.fault.Stop.{Stop}
 use Rattle.c_statements.specs.declared.fault.Stop.TheVariants.{NoMemory}
 use Rattle.c_statements.specs.declared.names.Named.{Named}
-use Rattle.c_statements.specs.declared.typed.Function as OneFunction
-use Rattle.c_statements.specs.declared.typed.Global as OneGlobal
+use Rattle.c_typed.specs.declared.tree.Function as OneFunction
+use Rattle.c_typed.specs.declared.tree.Global as OneGlobal
 use Rattle.c_statements.specs.Faults.{Faults, HasNone, StopsAtFirst, StopsBoth}
 use Rattle.c_statements.specs.Names.{Meaning, Scopes, with_declared}
-use Rattle.c_statements.specs.Shape.{function_of, functions_of}
-use Rattle.c_statements.specs.Typed.{TypedFunction}
+use Rattle.c_typed.specs.Shape.{function_of, functions_of}
+use Rattle.c_typed.specs.Trees.{TypedFunction}
 use Rattle.c_statements.proofs.Firsts.{Both, both-none, both-stop, ok-at, same-stop}
 use Rattle.c_statements.proofs.Joined.{Answered}
-use Rattle.c_types.specs.declared.declaration.Tally.{Tally}
 use Rattle.c_types.specs.declared.program.Declared.{Declared}
 use Rattle.c_types.specs.declared.program.Parts.{Parts}
 use Rattle.c_types.specs.Files.{AreParts, AreTyped, IsFunction, IsWith, declared_of}
-use Rattle.c_types.specs.Programs.{File, FaultyBody, FaultyDeclaration, FaultyDeclarations, FaultyName, TypedDeclaration, TypesDeclaration, TypesDeclarations, a_function, a_global, after, after_all, all_declared, function_typed, functions_in, globals_in, more_declared, name_of, named_by, tally_after, no_declarations}
+use Rattle.c_types.specs.Programs.{Counts, File, FaultyBody, FaultyDeclaration, FaultyDeclarations, FaultyName, TypedDeclaration, TypesDeclaration, TypesDeclarations, a_function, a_global, after, after_all, all_declared, function_typed, functions_in, globals_in, more_declared, name_of, named_by, counts_after, no_declarations}
 
 -- a function under the names that its own name is among
 pub function-typed : (text : List ℕ) (f : File) (names : Meaning) (r : Option Kind) (x : Identifier) (ps : List Parameter) (body : Tree.Items) (t : TypedFunction) → (after text f (Tree.function r x ps body)).names ≡ names
@@ -36,7 +35,7 @@ function-typed text f names r x ps body t e h =
 
 -- the name of a declaration and what follows it together
 pub declaration-stop : {A B : Type 0} (text : List ℕ) (f : File) (d : Tree.Declaration) (x : Identifier) (m : Named) (old new : Scopes) (a : Result A Stop) (b : Result B Stop) (s : Stop) → old.inner ≡ f.names → new ≡ with_declared text old x m
-    → x ≡ name_of d → m ≡ named_by f.tally d → IfOk a (λ y. HasNone (FaultyName text f d)) → IfErr a (StopsAtFirst (FaultyName text f d)) → IfOk b (λ y. HasNone (FaultyBody text new.inner d))
+    → x ≡ name_of d → m ≡ named_by f.counts d → IfOk a (λ y. HasNone (FaultyName text f d)) → IfErr a (StopsAtFirst (FaultyName text f d)) → IfOk b (λ y. HasNone (FaultyBody text new.inner d))
     → IfErr b (StopsAtFirst (FaultyBody text new.inner d)) → StopsBoth a b s → StopsAtFirst (FaultyDeclaration text f d) s
 declaration-stop text f d x m old new a b s o e i j n h k l t =
     let there : new.inner ≡ (after text f d).names = ap (λ (y : Scopes). y.inner) e ∙ rw (i, j, o) refl in
@@ -143,12 +142,12 @@ after-more text all i x l is = sym (ap (after_all text no_declarations) (next-of
 pub none-so-far : (text : List ℕ) (p : Parts) → p.functions.items ≡ [] → p.globals.items ≡ [] → SoFar text [] (Ok p)
 none-so-far text p e f = record { ok = record { declarations = []; typed = all_declared; parts = record { functions = ap functions_of e; globals = f } }; none = λ k at h. h; err = tt }
 
-pub globals-grow : (t : Tally) (d : Tree.Declaration) → (tally_after t d).globals ≤ t.globals + 1
-globals-grow t (Tree.variable k x i) = omega arith
-globals-grow t (Tree.array k x n) = omega arith
-globals-grow t (Tree.function r x ps body) = omega arith
+pub globals-grow : (n : Counts) (d : Tree.Declaration) → (counts_after n d).globals ≤ n.globals + 1
+globals-grow n (Tree.variable k x i) = omega arith
+globals-grow n (Tree.array k x l) = omega arith
+globals-grow n (Tree.function r x ps body) = omega arith
 
-pub functions-grow : (t : Tally) (d : Tree.Declaration) → (tally_after t d).functions ≤ t.functions + 1
-functions-grow t (Tree.variable k x i) = omega arith
-functions-grow t (Tree.array k x n) = omega arith
-functions-grow t (Tree.function r x ps body) = omega arith
+pub functions-grow : (n : Counts) (d : Tree.Declaration) → (counts_after n d).functions ≤ n.functions + 1
+functions-grow n (Tree.variable k x i) = omega arith
+functions-grow n (Tree.array k x l) = omega arith
+functions-grow n (Tree.function r x ps body) = omega arith

@@ -40,13 +40,13 @@ least-new e (array_of_nothing h) = omega arith
 least-new e (too_many_words h l) = omega arith
 least-new e (too_many_functions h) = omega arith
 
-exceeds : {text : List ℕ} {f : File} {d : Declaration} {j : FaultKind} {n : ℕ} → f.names (spelled text (name_of d)) ≡ None → (IsOtherKind text d → ⊥) → FaultyName text f d j n → Exceeds f.tally d × (20 ≤ number_of j)
+exceeds : {text : List ℕ} {f : File} {d : Declaration} {j : FaultKind} {n : ℕ} → f.names (spelled text (name_of d)) ≡ None → (IsOtherKind text d → ⊥) → FaultyName text f d j n → Exceeds f.counts d × (20 ≤ number_of j)
 exceeds e k (declared_again h) = absurd (h e)
 exceeds e k (other_main h i) = absurd (k (inr (h, i)))
 exceeds e k (array_of_nothing {n = n} h) = absurd (k (inl (is_zero n.value h)))
-exceeds {d = variable kind x i} e k (too_many_words {r = r} h l) = ((r, h, l), omega arith)
-exceeds {d = array kind x n} e k (too_many_words {r = r} h l) = ((r, h, l), omega arith)
-exceeds {d = function t x ps body} e k (too_many_words {r = r} h l) = absurd (omega (arith, l))
+exceeds {d = variable kind x i} e k (too_many_words h l) = ((h, l), omega arith)
+exceeds {d = array kind x n} e k (too_many_words h l) = ((h, l), omega arith)
+exceeds {d = function t x ps body} e k (too_many_words h l) = absurd (omega (arith, h, l))
 exceeds e k (too_many_functions h) = (h, omega arith)
 
 pub again-first : (text : List ℕ) (f : File) (d : Declaration) → f.names (spelled text (name_of d)) ≢ None → IsFirstFault (FaultyName text f d) Redeclared (name_of d).at
@@ -61,15 +61,15 @@ wrong-kind text f (function r x ps body) (inl h) = cc
 pub kind-first : (text : List ℕ) (f : File) (d : Declaration) → f.names (spelled text (name_of d)) ≡ None → IsOtherKind text d → IsFirstFault (FaultyName text f d) KindFault (name_of d).at
 kind-first text f d e h = record { has = wrong-kind text f d h; first = λ j n w. inr (place w, least-new e w) }
 
-too-many : (text : List ℕ) (f : File) (d : Declaration) → Exceeds f.tally d → FaultyName text f d Limit (name_of d).at
-too-many text f (variable k x i) h = too_many_words h.1 h.2
-too-many text f (array k x n) h = too_many_words h.1 h.2
+too-many : (text : List ℕ) (f : File) (d : Declaration) → Exceeds f.counts d → FaultyName text f d Limit (name_of d).at
+too-many text f (variable k x i) h = too_many_words h.0 h.1
+too-many text f (array k x n) h = too_many_words h.0 h.1
 too-many text f (function r x ps body) h = too_many_functions h
 
-pub limit-first : (text : List ℕ) (f : File) (d : Declaration) → f.names (spelled text (name_of d)) ≡ None → (IsOtherKind text d → ⊥) → Exceeds f.tally d → IsFirstFault (FaultyName text f d) Limit (name_of d).at
+pub limit-first : (text : List ℕ) (f : File) (d : Declaration) → f.names (spelled text (name_of d)) ≡ None → (IsOtherKind text d → ⊥) → Exceeds f.counts d → IsFirstFault (FaultyName text f d) Limit (name_of d).at
 limit-first text f d e k h = record { has = too-many text f d h; first = λ j n w. inr (place w, (exceeds e k w).1) }
 
-pub no-fault : (text : List ℕ) (f : File) (d : Declaration) → f.names (spelled text (name_of d)) ≡ None → (IsOtherKind text d → ⊥) → (Exceeds f.tally d → ⊥) → HasNone (FaultyName text f d)
+pub no-fault : (text : List ℕ) (f : File) (d : Declaration) → f.names (spelled text (name_of d)) ≡ None → (IsOtherKind text d → ⊥) → (Exceeds f.counts d → ⊥) → HasNone (FaultyName text f d)
 no-fault text f d e k h j n w = h (exceeds e k w).0
 
 pub some-there : {A : Type 0} (o : Option A) → is_some o ≡ true → o ≢ None
@@ -92,10 +92,10 @@ pub kind-stops : (text : List ℕ) (f : File) (d : Declaration) (x : Identifier)
     → s ≡ Fault (record { kind = KindFault; at = x.at }) → StopsAtFirst (FaultyName text f d) s
 kind-stops text f d x b s e i t k q = rw (q, e) (kind-first text f d (unseen text f d x b e i t) k)
 
-pub limit-stops : (text : List ℕ) (f : File) (d : Declaration) (x : Identifier) (b : Bool) (s : Stop) → x ≡ name_of d → b ≡ is_some (f.names (spelled text x)) → b ≡ false → (IsOtherKind text d → ⊥) → Exceeds f.tally d
+pub limit-stops : (text : List ℕ) (f : File) (d : Declaration) (x : Identifier) (b : Bool) (s : Stop) → x ≡ name_of d → b ≡ is_some (f.names (spelled text x)) → b ≡ false → (IsOtherKind text d → ⊥) → Exceeds f.counts d
     → s ≡ Fault (record { kind = Limit; at = x.at }) → StopsAtFirst (FaultyName text f d) s
 limit-stops text f d x b s e i t k h q = rw (q, e) (limit-first text f d (unseen text f d x b e i t) k h)
 
-pub no-stop : (text : List ℕ) (f : File) (d : Declaration) (x : Identifier) (b : Bool) → x ≡ name_of d → b ≡ is_some (f.names (spelled text x)) → b ≡ false → (IsOtherKind text d → ⊥) → (Exceeds f.tally d → ⊥)
+pub no-stop : (text : List ℕ) (f : File) (d : Declaration) (x : Identifier) (b : Bool) → x ≡ name_of d → b ≡ is_some (f.names (spelled text x)) → b ≡ false → (IsOtherKind text d → ⊥) → (Exceeds f.counts d → ⊥)
     → HasNone (FaultyName text f d)
 no-stop text f d x b e i t k h = no-fault text f d (unseen text f d x b e i t) k h

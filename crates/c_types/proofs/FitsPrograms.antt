@@ -12,16 +12,17 @@ use Rattle.c_front.specs.Tree as Tree
 use Rattle.c_statements.specs.declared.fault.FaultKind.TheVariants.{Kind as KindFault, Count, Limit}
 use Rattle.c_statements.specs.declared.names.Named.{Named}
 use Rattle.c_statements.specs.declared.names.Named.TheVariants.{Local, Global, Array, Function, Out}
-use Rattle.c_statements.specs.declared.typed.Global as Typed
+use Rattle.c_typed.specs.declared.tree.Global as Typed
 use Rattle.c_statements.specs.Faults.{HasNone}
 use Rattle.c_statements.specs.Names.{Meaning, Scopes, hides, named_in, nothing, spelled, with_name, declared, behind_items, declared_in_all}
-use Rattle.c_types.specs.Programs.{File, no_declarations, out_name, main_name, room_after, after, after_all, IsNotMain, array_of_nothing, other_main, too_many_words, too_many_functions, fifth_parameter, FaultyParameters, behind_parameters, scopes_at, FaultyBody, FaultyDeclaration, FaultyDeclarations, with_last, closing, TypedDeclaration, a_global, a_function, TypesDeclaration, variable_typed, array_typed, function_typed, TypesDeclarations, all_declared, more_declared, functions_in, globals_in}
-use Rattle.c_statements.specs.Typed.{TypedStatements, TypedFunction, TypedProgram, no_statements, more_statements}
+use Rattle.c_types.specs.Programs.{File, no_declarations, out_name, main_name, after, after_all, IsNotMain, array_of_nothing, other_main, too_many_words, too_many_functions, fifth_parameter, FaultyParameters, behind_parameters, scopes_at, FaultyBody, FaultyDeclaration, FaultyDeclarations, with_last, closing, TypedDeclaration, a_global, a_function, TypesDeclaration, variable_typed, array_typed, function_typed, TypesDeclarations, all_declared, more_declared, functions_in, globals_in}
+use Rattle.c_typed.specs.Trees.{TypedStatements, TypedFunction, TypedProgram, no_statements, more_statements}
 use Rattle.c_statements.specs.Types.{TypesItems}
-use Rattle.c_statements.specs.declared.typed.Function as Rust
-use Rattle.c_statements.specs.Shape.{functions_of}
+use Rattle.c_typed.specs.declared.tree.Function as Rust
+use Rattle.c_typed.specs.Shape.{functions_of}
 use Rattle.c_types.specs.Shape.{TypedParts, program_of}
-use Rattle.c_types.specs.WellFormed.{FitsStatements, FitsFunction, words_in, IsWellFormed, IsTyped}
+use Rattle.c_typed.specs.WellFormed.{FitsStatements, FitsFunction, words_in, IsWellFormed}
+use Rattle.c_types.specs.Typed.{IsTyped}
 use Rattle.c_types.proofs.FitsStatements.{IsThere, AreThere, declared-there, fits-items, all-locals-fit, behind-locals}
 
 -- the parameters
@@ -122,10 +123,10 @@ one-longer (x ∷ xs) y = ap suc (one-longer xs y)
 record IsAt (p : TypedProgram) (f : File) (rest : List TypedDeclaration) : Type 0 where
   functions : List TypedFunction
   are_functions : p.functions ≡ functions ++ functions_in rest
-  functions_counted : length functions ≡ f.tally.functions
+  functions_counted : length functions ≡ f.counts.functions
   globals : List Typed.Global
   are_globals : p.globals ≡ globals ++ globals_in rest
-  globals_counted : length globals ≡ f.tally.globals
+  globals_counted : length globals ≡ f.counts.globals
   names : AreThere p 0 f.names
 
 named : (p : TypedProgram) (names : Meaning) (x : List ℕ) (m : Named) → AreThere p 0 names → IsThere p 0 m → AreThere p 0 (with_name names x m)
@@ -135,15 +136,15 @@ named p names x m h there w i e = by (bytes_eq x w) e
     by true e = subst (IsThere p 0) (same_Some _ _ e) there
     by false e = h w i e
 
-global-here : {p : TypedProgram} {f : File} {g : Typed.Global} {rest : List TypedDeclaration} → IsAt p f (a_global g ∷ rest) → f.tally.globals < length p.globals
+global-here : {p : TypedProgram} {f : File} {g : Typed.Global} {rest : List TypedDeclaration} → IsAt p f (a_global g ∷ rest) → f.counts.globals < length p.globals
 global-here {p = p} {f = f} {g = g} {rest = rest} h =
     let e : length p.globals ≡ length h.globals + length (g ∷ globals_in rest) = ap (λ (l : List Typed.Global). length l) h.are_globals ∙ length-append h.globals (g ∷ globals_in rest) in
     let c = h.globals_counted in
     omega (arith, e, c)
 
-function-here : {p : TypedProgram} {f : File} {g : TypedFunction} {rest : List TypedDeclaration} → IsAt p f (a_function g ∷ rest) → slice_get p.functions f.tally.functions ≡ Some g
+function-here : {p : TypedProgram} {f : File} {g : TypedFunction} {rest : List TypedDeclaration} → IsAt p f (a_function g ∷ rest) → slice_get p.functions f.counts.functions ≡ Some g
 function-here {p = p} {f = f} {g = g} {rest = rest} h =
-    ap (λ (l : List TypedFunction). slice_get l f.tally.functions) h.are_functions ∙ ap (λ (i : ℕ). slice_get (h.functions ++ g ∷ functions_in rest) i) (sym h.functions_counted) ∙ at-seam h.functions g (functions_in rest)
+    ap (λ (l : List TypedFunction). slice_get l f.counts.functions) h.are_functions ∙ ap (λ (i : ℕ). slice_get (h.functions ++ g ∷ functions_in rest) i) (sym h.functions_counted) ∙ at-seam h.functions g (functions_in rest)
 
 next : {p : TypedProgram} {text : List ℕ} {f : File} {d : Tree.Declaration} {t : TypedDeclaration} {rest : List TypedDeclaration} → IsAt p f (t ∷ rest) → TypesDeclaration text f d t → IsAt p (after text f d) rest
 next {p = p} {text = text} {f = f} {rest = rest} h (variable_typed {k = k} {x = x}) = record {
@@ -153,7 +154,7 @@ next {p = p} {text = text} {f = f} {rest = rest} h (variable_typed {k = k} {x = 
   globals = h.globals ++ _ ∷ [];
   are_globals = h.are_globals ∙ one-further h.globals _ (globals_in rest);
   globals_counted = one-longer h.globals _ ∙ ap suc h.globals_counted;
-  names = named p f.names (spelled text x) (Global f.tally.globals k) h.names (global-here h);
+  names = named p f.names (spelled text x) (Global f.counts.globals k) h.names (global-here h);
 }
 next {p = p} {text = text} {f = f} {rest = rest} h (array_typed {k = k} {x = x}) = record {
   functions = h.functions;
@@ -162,7 +163,7 @@ next {p = p} {text = text} {f = f} {rest = rest} h (array_typed {k = k} {x = x})
   globals = h.globals ++ _ ∷ [];
   are_globals = h.are_globals ∙ one-further h.globals _ (globals_in rest);
   globals_counted = one-longer h.globals _ ∙ ap suc h.globals_counted;
-  names = named p f.names (spelled text x) (Array f.tally.globals k) h.names (global-here h);
+  names = named p f.names (spelled text x) (Array f.counts.globals k) h.names (global-here h);
 }
 next {p = p} {text = text} {f = f} {rest = rest} h (function_typed {r = r} {x = x} {ps = ps} typed) = record {
   functions = h.functions ++ _ ∷ [];
@@ -171,7 +172,7 @@ next {p = p} {text = text} {f = f} {rest = rest} h (function_typed {r = r} {x = 
   globals = h.globals;
   are_globals = h.are_globals;
   globals_counted = h.globals_counted;
-  names = named p f.names (spelled text x) (Function f.tally.functions (length ps) (is_some r)) h.names (_, (function-here h, (refl, refl)));
+  names = named p f.names (spelled text x) (Function f.counts.functions (length ps) (is_some r)) h.names (_, (function-here h, (refl, refl)));
 }
 
 first-fits : (p : TypedProgram) {text : List ℕ} {f : File} {d : Tree.Declaration} {t : TypedDeclaration} (rest : List TypedDeclaration) → AreThere p 0 (after text f d).names → TypesDeclaration text f d t → HasNone (FaultyDeclaration text f d)
@@ -208,10 +209,10 @@ named-main p names x i h there n m r e = by (bytes_eq x main_name) refl e
 
 next-main : {p : TypedProgram} {text : List ℕ} {f : File} {d : Tree.Declaration} {t : TypedDeclaration} {rest : List TypedDeclaration} → IsAt p f (t ∷ rest) → TypesDeclaration text f d t → HasNone (FaultyDeclaration text f d) → GivesInt p f.names
     → GivesInt p (after text f d).names
-next-main {p = p} {text = text} {f = f} at (variable_typed {k = k} {x = x}) none h = named-main p f.names (spelled text x) (Global f.tally.globals k) h (λ e. tt)
-next-main {p = p} {text = text} {f = f} at (array_typed {k = k} {x = x}) none h = named-main p f.names (spelled text x) (Array f.tally.globals k) h (λ e. tt)
+next-main {p = p} {text = text} {f = f} at (variable_typed {k = k} {x = x}) none h = named-main p f.names (spelled text x) (Global f.counts.globals k) h (λ e. tt)
+next-main {p = p} {text = text} {f = f} at (array_typed {k = k} {x = x}) none h = named-main p f.names (spelled text x) (Array f.counts.globals k) h (λ e. tt)
 next-main {p = p} {text = text} {f = f} at (function_typed {r = r} {x = x} {ps = ps} {body = body} typed) none h =
-    named-main p f.names (spelled text x) (Function f.tally.functions (length ps) (is_some r)) h (λ e. (_, (function-here at, int-result r x ps body (λ w. none KindFault x.at (inl (other_main e w))))))
+    named-main p f.names (spelled text x) (Function f.counts.functions (length ps) (is_some r)) h (λ e. (_, (function-here at, int-result r x ps body (λ w. none KindFault x.at (inl (other_main e w))))))
 
 gives-int : {p : TypedProgram} {text : List ℕ} {f : File} {ds : List Tree.Declaration} {ts : List TypedDeclaration} → IsAt p f ts → TypesDeclarations text f ds ts → HasNone (FaultyDeclarations text f ds) → GivesInt p f.names
     → GivesInt p (after_all text f ds).names
@@ -236,33 +237,26 @@ globals-fit (more_declared (array_typed {x = x} {n = n}) more) none =
     All-cons IsWord _ _ (positive n.value (λ e. none KindFault x.at (inl (inl (array_of_nothing e))))) (globals-fit more (λ k at w. none k at (inr w)))
 globals-fit (more_declared (function_typed typed) more) none = globals-fit more (λ k at w. none k at (inr w))
 
-counted : {text : List ℕ} {f : File} {ds : List Tree.Declaration} {ts : List TypedDeclaration} → TypesDeclarations text f ds ts → HasNone (FaultyDeclarations text f ds) → f.tally.functions ≤ 256 → f.tally.functions + length (functions_in ts) ≤ 256
+counted : {text : List ℕ} {f : File} {ds : List Tree.Declaration} {ts : List TypedDeclaration} → TypesDeclarations text f ds ts → HasNone (FaultyDeclarations text f ds) → f.counts.functions ≤ 256 → f.counts.functions + length (functions_in ts) ≤ 256
 counted all_declared none few = omega (arith, few)
 counted (more_declared variable_typed more) none few = counted more (λ k at w. none k at (inr w)) few
 counted (more_declared array_typed more) none few = counted more (λ k at w. none k at (inr w)) few
 counted {f = f} (more_declared (function_typed {x = x} typed) more) none few =
-    let other : f.tally.functions ≢ 256 = λ e. none Limit x.at (inl (inl (too_many_functions e))) in
+    let other : f.counts.functions ≢ 256 = λ e. none Limit x.at (inl (inl (too_many_functions e))) in
     let h = counted more (λ k at w. none k at (inr w)) (omega (arith, few, other)) in
     omega (arith, h)
 
-room-left : (o : Option ℕ) (r n : ℕ) → o ≡ Some r → (r < n → ⊥) → room_after o n ≡ Some (r - n)
-room-left o r n e h = ap (λ (x : Option ℕ). room_after x n) e ∙ by (nat_lt r n) refl
-  where
-    by : (b : Bool) → nat_lt r n ≡ b → (if b then None else Some (r - n)) ≡ Some (r - n)
-    by true i = absurd (h (grind (arith, i)))
-    by false i = refl
-
-words-fit : {text : List ℕ} {f : File} {ds : List Tree.Declaration} {ts : List TypedDeclaration} (r : ℕ) → TypesDeclarations text f ds ts → HasNone (FaultyDeclarations text f ds) → f.tally.room ≡ Some r → words_in (globals_in ts) ≤ r
-words-fit r all_declared none e = omega arith
-words-fit {f = f} r (more_declared (variable_typed {k = k} {x = x} {i = i}) more) none e =
-    let fits : r < 1 → ⊥ = λ l. none Limit x.at (inl (inl (too_many_words e l))) in
-    let h = words-fit (r - 1) more (λ k at w. none k at (inr w)) (room-left f.tally.room r 1 e fits) in
-    omega (arith, h, fits)
-words-fit {f = f} r (more_declared (array_typed {k = k} {x = x} {n = n}) more) none e =
-    let fits : r < n.value → ⊥ = λ l. none Limit x.at (inl (inl (too_many_words e l))) in
-    let h = words-fit (r - n.value) more (λ k at w. none k at (inr w)) (room-left f.tally.room r n.value e fits) in
-    omega (arith, h, fits)
-words-fit r (more_declared (function_typed typed) more) none e = words-fit r more (λ k at w. none k at (inr w)) e
+words-fit : {text : List ℕ} {f : File} {ds : List Tree.Declaration} {ts : List TypedDeclaration} → TypesDeclarations text f ds ts → HasNone (FaultyDeclarations text f ds) → f.counts.words ≤ 262144 → f.counts.words + words_in (globals_in ts) ≤ 262144
+words-fit all_declared none few = omega (arith, few)
+words-fit {f = f} (more_declared (variable_typed {x = x}) more) none few =
+    let fits : 262144 < f.counts.words + 1 → ⊥ = λ l. none Limit x.at (inl (inl (too_many_words few l))) in
+    let h = words-fit more (λ k at w. none k at (inr w)) (omega (arith, fits)) in
+    omega (arith, h)
+words-fit {f = f} (more_declared (array_typed {x = x} {n = n}) more) none few =
+    let fits : 262144 < f.counts.words + n.value → ⊥ = λ l. none Limit x.at (inl (inl (too_many_words few l))) in
+    let h = words-fit more (λ k at w. none k at (inr w)) (omega (arith, fits)) in
+    omega (arith, h)
+words-fit (more_declared (function_typed typed) more) none few = words-fit more (λ k at w. none k at (inr w)) few
 
 -- the program
 
@@ -286,14 +280,14 @@ each-typed-program-is-well-formed p h =
     let none_yet : GivesInt p no_declarations.names = named-main p nothing out_name Out (λ n m r e. absurd (none-some _ e)) (λ e. tt) in
     let int = gives-int start h.types.typed none none_yet p.main 0 true h.types.entry in
     let count = counted h.types.typed none (omega arith) in
-    let words = words-fit 262144 h.types.typed none refl in
+    let words = words-fit h.types.typed none (omega arith) in
     let f = h.types.functions in
     let g = h.types.globals in
     record {
       functions = All-same (FitsFunction p) p.functions (functions_in ts) f (functions-fit start h.types.typed none);
       functions_fit = rw f (omega (arith, count));
       globals = rw g (globals-fit h.types.typed none);
-      words_fit = rw g words;
+      words_fit = rw g (omega (arith, words));
       main = main.0;
       entry = main.1.0;
       alone = sym main.1.1.0;

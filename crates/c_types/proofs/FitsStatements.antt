@@ -10,14 +10,14 @@ use Rattle.c_statements.specs.declared.fault.FaultKind.{FaultKind}
 use Rattle.c_statements.specs.declared.fault.FaultKind.TheVariants.{Kind as KindFault, Count, Outside, Limit}
 use Rattle.c_statements.specs.declared.names.Named.{Named}
 use Rattle.c_statements.specs.declared.names.Named.TheVariants.{Local, Global, Array, Function, Out}
-use Rattle.c_statements.specs.declared.typed.Place.{Place}
+use Rattle.c_typed.specs.declared.tree.Place.{Place}
 use Rattle.c_statements.specs.Faults.{HasNone}
 use Rattle.c_statements.specs.Names.{Sight, Meaning, Scopes, hides, meaning_in, named_in, sight_in, spelled, entered, declared, behind, behind_items, declared_in, declared_in_all}
 use Rattle.c_statements.specs.Uses.{IsWrong, as_call, void_used, other_count}
 use Rattle.c_statements.specs.Statements.{FaultyCall, FaultyValue, FaultyFirst, FaultySimple, FaultyPart, FaultyReturn, FaultyJump, FaultyDeclarator, FaultyStatement, FaultyItems, local_too_many}
-use Rattle.c_statements.specs.Typed.{TypedExpression, TypedStatement, TypedStatements, TypedFunction, TypedProgram}
+use Rattle.c_typed.specs.Trees.{TypedExpression, TypedStatement, TypedStatements, TypedFunction, TypedProgram}
 use Rattle.c_statements.specs.Types.{Types, constant_typed, local_typed, global_typed, element_typed, unary_typed, binary_typed, choose_typed, TypesAll, all_typed, more_typed, TypesMaybe, missing_typed, present_typed, TypesPlace, local_place, global_place, TypesCall, function_called, out_called, TypesValue, plain_typed, called_typed, TypesSimple, assign_typed, store_typed, run_typed, TypesPart, no_part, some_part, TypesTest, no_test, some_test, TypesFirst, no_first, some_first, TypesStatement, empty_typed, block_typed, branch_typed, branch_else_typed, repeat_typed, repeat_for_typed, break_typed, continue_typed, return_typed, simply_typed, TypesItems, no_items_typed, statement_typed, declare_typed}
-use Rattle.c_types.specs.WellFormed.{FitsExpression, FitsAll, FitsMaybe, FitsPlace, FitsTarget, FitsStatement, FitsStatements}
+use Rattle.c_typed.specs.WellFormed.{FitsExpression, FitsAll, FitsMaybe, FitsPlace, FitsTarget, FitsStatement, FitsStatements}
 
 -- what a name stands for is there, in a function with so many locals
 abbrev pub IsThere : TypedProgram → (locals : ℕ) → Named → Type 0

@@ -9,7 +9,7 @@ use Rattle.c_statements.specs.declared.names.Named.{Named}
 use Rattle.c_statements.specs.declared.names.Named.TheVariants.{Function}
 use Rattle.c_statements.specs.declared.fault.Stop.{Stop}
 use Rattle.c_statements.specs.Faults.{Faults, HasNone, IsFirstFault, IsNoLater, StopsAtFirst, StopsBoth}
-use Rattle.c_statements.specs.Shape.{functions_of}
+use Rattle.c_typed.specs.Shape.{functions_of}
 use Rattle.c_statements.specs.Names.{Meaning, spelled}
 use Rattle.c_statements.proofs.Firsts.{Both, both-stop, ok-at}
 use Rattle.c_types.specs.declared.program.Parts.{Parts}
@@ -20,7 +20,7 @@ use Rattle.c_types.specs.Programs.{File, FaultyDeclarations, FaultyName, FaultyP
 abbrev pub IsMainOr : Meaning → Type 0
 IsMainOr names = (names main_name ≡ None) ⊎ ((n : ℕ) × (names main_name ≡ Some (Function n 0 true)))
 
-is-main : (f : File) (d : Tree.Declaration) → (IsNotMain d → ⊥) → (n : ℕ) × (named_by f.tally d ≡ Function n 0 true)
+is-main : (f : File) (d : Tree.Declaration) → (IsNotMain d → ⊥) → (n : ℕ) × (named_by f.counts d ≡ Function n 0 true)
 is-main f (Tree.variable k x i) h = absurd (h tt)
 is-main f (Tree.array k x n) h = absurd (h tt)
 is-main f (Tree.function None x ps body) h = absurd (h (inl (λ e. none-some _ e)))
@@ -28,14 +28,14 @@ is-main f (Tree.function (Some UnsignedInt) x ps body) h = absurd (h (inl other)
   where
     other : Some UnsignedInt ≢ Some SignedInt
     other e = cc
-is-main f (Tree.function (Some SignedInt) x [] body) h = (f.tally.functions, refl)
+is-main f (Tree.function (Some SignedInt) x [] body) h = (f.counts.functions, refl)
 is-main f (Tree.function (Some SignedInt) x (p ∷ ps) body) h = absurd (h (inr some))
   where
     some : (p ∷ ps) ≢ []
     some e = cc
 
 step-by : (text : List ℕ) (f : File) (d : Tree.Declaration) (b : Bool) → bytes_eq (spelled text (name_of d)) main_name ≡ b → IsMainOr f.names → HasNone (FaultyName text f d)
-    → ((if b then Some (named_by f.tally d) else f.names main_name) ≡ None) ⊎ ((n : ℕ) × ((if b then Some (named_by f.tally d) else f.names main_name) ≡ Some (Function n 0 true)))
+    → ((if b then Some (named_by f.counts d) else f.names main_name) ≡ None) ⊎ ((n : ℕ) × ((if b then Some (named_by f.counts d) else f.names main_name) ≡ Some (Function n 0 true)))
 step-by text f d true e h n = let m = is-main f d (λ w. n _ _ (other_main e w)) in inr (m.0, ap (λ (x : Named). Some x) m.1)
 step-by text f d false e h n = h
 

@@ -1,11 +1,13 @@
 -- A program has at most one typed program.
-use Rattle.std.proofs.Common.{◌≡◌, ℕ, List, Option, Some, refl, sym, ap, ◌∙◌}
+use Rattle.std.proofs.Common.{◌≡◌, ℕ, List, Option, Some, refl, sym, ap, subst, ◌∙◌}
 use Rattle.c_front.specs.Tree as Tree
 use Rattle.c_statements.specs.declared.names.Named.{Named}
 use Rattle.c_statements.specs.declared.names.Named.TheVariants.{Function}
-use Rattle.c_statements.specs.declared.typed.Global.{Global}
-use Rattle.c_statements.specs.Typed.{TypedFunction, TypedProgram}
+use Rattle.c_typed.specs.declared.tree.Global.{Global}
+use Rattle.c_typed.specs.Trees.{TypedFunction, TypedProgram}
 use Rattle.c_statements.proofs.OnceStatements.{once-items}
+use Rattle.c_front.proofs.Excluding.{once}
+use Rattle.c_types.specs.Typed.{SpellsTyped}
 use Rattle.c_types.specs.Programs.{File, TypedDeclaration, TypesDeclaration, TypesDeclarations, TypesProgram, all_declared, array_typed, function_typed, functions_in, globals_in, more_declared, variable_typed}
 
 once-declaration : {text : List ℕ} {f : File} {d : Tree.Declaration} {t u : TypedDeclaration} → TypesDeclaration text f d t → TypesDeclaration text f d u → t ≡ u
@@ -30,3 +32,9 @@ pub once-program : (text : List ℕ) (all : List Tree.Declaration) (p q : TypedP
 once-program text all p q h l =
     let e : h.declarations ≡ l.declarations = once-declarations h.typed l.typed in
     same p q (h.functions ∙ ap functions_in e ∙ sym l.functions) (h.globals ∙ ap globals_in e ∙ sym l.globals) (ap number (sym h.entry ∙ l.entry))
+
+pub once-spelled : (text : List ℕ) (p q : TypedProgram) → SpellsTyped text p → SpellsTyped text q → p ≡ q
+once-spelled text p q s t =
+    let same : s.declarations ≡ t.declarations = once text s.declarations t.declarations s.spells t.spells in
+    let P : List Tree.Declaration → Type 0 = λ x. TypesProgram text x p in
+    once-program text t.declarations p q (subst P same s.types) t.types

@@ -1,5 +1,5 @@
 -- What the walk over the declarations keeps.
-use Rattle.std.specs.Prelude.{length, [], ◌∷◌, ◌++◌, Result, Ok, ◌≡◌, ◌<◌, ◌⊎◌, ℕ, List, Option, Some, Bool, true, false, nat_eq, bytes_eq}
+use Rattle.std.specs.Prelude.{length, [], ◌∷◌, ◌++◌, Result, Ok, ◌≡◌, ◌+◌, ◌<◌, ◌≤◌, ◌⊎◌, ℕ, List, Option, Some, Bool, true, false, nat_eq, bytes_eq}
 use Rattle.c_front.specs.Tree.{Declaration, Items, variable, array, function}
 use Rattle.c_statements.specs.declared.scopes.Frame.{Frame}
 use Rattle.c_statements.specs.Held.{scopes_of}
@@ -8,23 +8,26 @@ use Rattle.c_front.specs.declared.tree.Parameter.{Parameter}
 use Rattle.c_tokens.specs.declared.token.Identifier.{Identifier}
 use Rattle.c_tokens.specs.declared.token.Kind.{Kind}
 use Rattle.c_statements.specs.Names.{Meaning, Scopes, spelled, behind_items}
-use Rattle.c_statements.specs.Shape.{function_of, functions_of}
+use Rattle.c_typed.specs.Shape.{function_of, functions_of}
 use Rattle.c_statements.specs.declared.fault.Stop.{Stop}
-use Rattle.c_statements.specs.Typed.{TypedFunction, TypedStatements}
+use Rattle.c_typed.specs.Trees.{TypedFunction, TypedStatements}
 use Rattle.c_statements.specs.Types.{TypesItems}
-use Rattle.c_types.specs.Programs.{File, IsNotMain, main_name, name_of, scopes_at, behind_parameters, closing, with_last, TypedDeclaration, a_global, a_function, TypesDeclarations, no_declarations, functions_in, globals_in}
+use Rattle.c_types.specs.Programs.{Counts, File, IsNotMain, main_name, name_of, scopes_at, behind_parameters, closing, with_last, TypedDeclaration, a_global, a_function, TypesDeclarations, no_declarations, functions_in, globals_in}
 use Rattle.c_types.specs.declared.program.Declared.{Declared}
 use Rattle.c_types.specs.declared.program.Declared.TheVariants.{Variable, Function}
 use Rattle.c_types.specs.declared.program.Parts.{Parts}
 
+abbrev pub counts_of : Tally → Counts
+counts_of t = record { globals = t.globals; functions = t.functions; words = t.words }
+
 abbrev pub file_of : Frame → Tally → File
-file_of f t = record { names = (scopes_of f).inner; tally = t }
+file_of f t = record { names = (scopes_of f).inner; counts = counts_of t }
 
 -- the 257th function, or the global with which the words are exceeded
-abbrev pub Exceeds : Tally → Declaration → Type 0
-Exceeds t (variable k x i) = (r : ℕ) × (t.room ≡ Some r) × (r < 1)
-Exceeds t (array k x n) = (r : ℕ) × (t.room ≡ Some r) × (r < n.value)
-Exceeds t (function r x ps body) = t.functions ≡ 256
+abbrev pub Exceeds : Counts → Declaration → Type 0
+Exceeds n (variable k x i) = (n.words ≤ 262144) × (262144 < n.words + 1)
+Exceeds n (array k x l) = (n.words ≤ 262144) × (262144 < n.words + l.value)
+Exceeds n (function r x ps body) = n.functions ≡ 256
 
 abbrev pub is_array_of_nothing : Declaration → Bool
 is_array_of_nothing (variable k x i) = false

@@ -1,4 +1,4 @@
 pub mod Shape
 pub mod Programs
 pub mod Files
-pub mod WellFormed
+pub mod Typed

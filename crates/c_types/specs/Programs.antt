@@ -1,5 +1,5 @@
 -- The faults of a program, and which typed program it has (C99 6.9, 5.1.2.2.1).
-use Rattle.std.specs.Prelude.{◌≡◌, ◌≢◌, ◌⊎◌, ◌<◌, ◌-◌, ◌%◌, ◌^◌, ℕ, suc, List, [], ◌∷◌, Option, Some, None, Bool, true, false, length, is_some, nat_lt, if◌then◌else◌, bytes_eq}
+use Rattle.std.specs.Prelude.{◌≡◌, ◌≢◌, ◌⊎◌, ◌+◌, ◌<◌, ◌≤◌, ◌-◌, ◌%◌, ◌^◌, ℕ, suc, List, [], ◌∷◌, Option, Some, None, Bool, true, false, length, is_some, if◌then◌else◌, bytes_eq}
 use Rattle.c_tokens.specs.declared.token.Identifier.{Identifier}
 use Rattle.c_tokens.specs.declared.token.Kind.{Kind}
 use Rattle.c_tokens.specs.declared.token.Kind.TheVariants.{SignedInt}
@@ -11,12 +11,11 @@ use Rattle.c_statements.specs.declared.fault.FaultKind.{FaultKind}
 use Rattle.c_statements.specs.declared.fault.FaultKind.TheVariants.{Redeclared, Kind as KindFault, Count, NoMain, Limit}
 use Rattle.c_statements.specs.declared.names.Named.{Named}
 use Rattle.c_statements.specs.declared.names.Named.TheVariants.{Global, Array, Function, Out}
-use Rattle.c_statements.specs.declared.typed.Global as Typed
+use Rattle.c_typed.specs.declared.tree.Global as Typed
 use Rattle.c_statements.specs.Names.{Meaning, Scopes, spelled, nothing, with_name, declared, behind_items}
 use Rattle.c_statements.specs.Statements.{FaultyDeclarator, FaultyItems}
-use Rattle.c_statements.specs.Typed.{TypedFunction, TypedStatements, TypedProgram, no_statements, more_statements, return_with, constant}
+use Rattle.c_typed.specs.Trees.{TypedFunction, TypedStatements, TypedProgram, no_statements, more_statements, return_with, constant}
 use Rattle.c_statements.specs.Types.{TypesItems}
-use Rattle.c_types.specs.declared.declaration.Tally.{Tally}
 
 -- the bytes of `main` and of `out`
 abbrev pub main_name : List ℕ
@@ -25,15 +24,20 @@ main_name = 109 ∷ 97 ∷ 105 ∷ 110 ∷ []
 abbrev pub out_name : List ℕ
 out_name = 111 ∷ 117 ∷ 116 ∷ []
 
--- what stands at file scope so far: the names, the numbers of globals and functions, and how many of the 262,144 words
--- are left for globals, until they are exceeded
+-- how many globals and functions are declared so far, and how many words the globals have together
+pub record Counts : Type 0 where
+  pub globals : ℕ
+  pub functions : ℕ
+  pub words : ℕ
+
+-- what stands at file scope so far
 pub record File : Type 0 where
   pub names : Meaning
-  pub tally : Tally
+  pub counts : Counts
 
 -- `out` is declared at file scope
 abbrev pub no_declarations : File
-no_declarations = record { names = with_name nothing out_name Out; tally = record { globals = 0; functions = 0; room = Some 262144 } }
+no_declarations = record { names = with_name nothing out_name Out; counts = record { globals = 0; functions = 0; words = 0 } }
 
 abbrev pub name_of : Declaration → Identifier
 name_of (variable k x i) = x
@@ -45,22 +49,18 @@ words_of (variable k x i) = 1
 words_of (array k x n) = n.value
 words_of (function r x ps body) = 0
 
-abbrev pub named_by : Tally → Declaration → Named
-named_by t (variable k x i) = Global t.globals k
-named_by t (array k x n) = Array t.globals k
-named_by t (function r x ps body) = Function t.functions (length ps) (is_some r)
+abbrev pub named_by : Counts → Declaration → Named
+named_by n (variable k x i) = Global n.globals k
+named_by n (array k x l) = Array n.globals k
+named_by n (function r x ps body) = Function n.functions (length ps) (is_some r)
 
-abbrev pub room_after : Option ℕ → ℕ → Option ℕ
-room_after None n = None
-room_after (Some r) n = if nat_lt r n then None else Some (r - n)
-
-abbrev pub tally_after : Tally → Declaration → Tally
-tally_after t (variable k x i) = record { globals = suc t.globals; functions = t.functions; room = room_after t.room 1 }
-tally_after t (array k x n) = record { globals = suc t.globals; functions = t.functions; room = room_after t.room n.value }
-tally_after t (function r x ps body) = record { globals = t.globals; functions = suc t.functions; room = t.room }
+abbrev pub counts_after : Counts → Declaration → Counts
+counts_after n (variable k x i) = record { globals = suc n.globals; functions = n.functions; words = n.words + 1 }
+counts_after n (array k x l) = record { globals = suc n.globals; functions = n.functions; words = n.words + l.value }
+counts_after n (function r x ps body) = record { globals = n.globals; functions = suc n.functions; words = n.words }
 
 abbrev pub after : List ℕ → File → Declaration → File
-after text f d = record { names = with_name f.names (spelled text (name_of d)) (named_by f.tally d); tally = tally_after f.tally d }
+after text f d = record { names = with_name f.names (spelled text (name_of d)) (named_by f.counts d); counts = counts_after f.counts d }
 
 abbrev pub after_all : List ℕ → File → List Declaration → File
 after_all text f [] = f
@@ -72,13 +72,14 @@ IsNotMain (variable k x i) = Unit {0}
 IsNotMain (array k x n) = Unit {0}
 IsNotMain (function r x ps body) = (r ≢ Some SignedInt) ⊎ (ps ≢ [])
 
--- what is wrong with the name that is declared at file scope, at that name
+-- what is wrong with the name that is declared at file scope, at that name; too many words are told at the global with
+-- which the globals exceed 262,144
 pub data FaultyName (text : List ℕ) (f : File) : Declaration → FaultKind → ℕ → Type 0 where
   declared_again : {d : Declaration} → f.names (spelled text (name_of d)) ≢ None → FaultyName text f d Redeclared (name_of d).at
   other_main : {d : Declaration} → bytes_eq (spelled text (name_of d)) main_name ≡ true → IsNotMain d → FaultyName text f d KindFault (name_of d).at
   array_of_nothing : {k : Kind} {x : Identifier} {n : Literal} → n.value ≡ 0 → FaultyName text f (array k x n) KindFault x.at
-  too_many_words : {d : Declaration} {r : ℕ} → f.tally.room ≡ Some r → r < words_of d → FaultyName text f d Limit (name_of d).at
-  too_many_functions : {r : Option Kind} {x : Identifier} {ps : List Parameter} {body : Items} → f.tally.functions ≡ 256 →
+  too_many_words : {d : Declaration} → f.counts.words ≤ 262144 → 262144 < f.counts.words + words_of d → FaultyName text f d Limit (name_of d).at
+  too_many_functions : {r : Option Kind} {x : Identifier} {ps : List Parameter} {body : Items} → f.counts.functions ≡ 256 →
       FaultyName text f (function r x ps body) Limit x.at
 
 -- a declarator in the function's outermost scope, and the fifth parameter

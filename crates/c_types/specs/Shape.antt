@@ -1,9 +1,9 @@
 -- A typed program as contracts see it, and its tree.
 use Rattle.std.specs.Prelude.{ℕ, List}
-use Rattle.c_statements.specs.declared.typed.Function.{Function}
-use Rattle.c_statements.specs.declared.typed.Global.{Global}
-use Rattle.c_statements.specs.Shape.{functions_of}
-use Rattle.c_statements.specs.Typed.{TypedProgram}
+use Rattle.c_typed.specs.declared.tree.Function.{Function}
+use Rattle.c_typed.specs.declared.tree.Global.{Global}
+use Rattle.c_typed.specs.Shape.{functions_of}
+use Rattle.c_typed.specs.Trees.{TypedProgram}
 
 pub record TypedParts : Type 0 where
   pub functions : List Function

@@ -1,10 +1,10 @@
-ghost use Rattle.std.specs.Prelude.{◌≡◌, ◌<◌, ◌+◌, ◌^◌, IfOk, IfErr, true, false, bytes_eq};
+ghost use Rattle.std.specs.Prelude.{◌≡◌, ◌<◌, ◌≤◌, ◌+◌, ◌^◌, IfOk, IfErr, true, false, bytes_eq};
 ghost use Rattle.c_front.specs.Shape.{declaration_of};
 ghost use Rattle.c_statements.specs.Faults.{HasNone, StopsAtFirst};
 ghost use Rattle.c_statements.specs.Held.{scopes_of};
 ghost use Rattle.c_statements.specs.Names.{spelled};
-ghost use Rattle.c_types.specs.Files.{file_of, Exceeds, IsOtherKind, is_array_of_nothing};
-ghost use Rattle.c_types.specs.Programs.{FaultyName, FaultyParameter, FaultyParameters, behind_parameters, IsNotMain, first_word, main_name, name_of, named_by, room_after, tally_after, words_of};
+ghost use Rattle.c_types.specs.Files.{counts_of, file_of, Exceeds, IsOtherKind, is_array_of_nothing};
+ghost use Rattle.c_types.specs.Programs.{FaultyName, FaultyParameter, FaultyParameters, behind_parameters, IsNotMain, first_word, main_name, name_of, named_by, counts_after, words_of};
 
 use c_front::tree::{Declaration, Initial, Parameter, Program};
 use c_statements::expression::misuse;
@@ -22,15 +22,15 @@ const MAX_PARAMETERS: usize = 4;
 const MAX_FUNCTIONS: usize = 256;
 
 /// The most words that the globals of a program may take together.
-pub const MAX_GLOBAL_WORDS: usize = 262_144;
+const MAX_GLOBAL_WORDS: u128 = 262_144;
 
-/// How many globals and functions stand at file scope so far, and how many of the 262,144 words are left for globals,
-/// until they are exceeded.
+/// How many globals and functions are declared so far, and how many words the globals have together. An array has less
+/// than 2^32 words and a program less than 2^64 declarations, so 128 bits hold the sum.
 #[derive(Clone, Copy)]
 pub struct Tally {
     pub globals: usize,
     pub functions: usize,
-    pub room: Option<usize>,
+    pub words: u128,
 }
 
 /// Whether a name is `main`.
@@ -52,12 +52,12 @@ pub fn declared_name(declaration: &Declaration) -> Identifier
 }
 
 /// The words that a declaration takes of those for globals.
-fn words(declaration: &Declaration) -> usize
+fn words(declaration: &Declaration) -> u32
     ensures { result ≡ words_of (declaration_of declaration.now) }
 {
     match declaration {
         Declaration::Variable(_, _, _) => 1,
-        Declaration::Array(_, _, length) => length.value as usize,
+        Declaration::Array(_, _, length) => length.value,
         Declaration::Function(_) => 0,
     }
 }
@@ -104,7 +104,7 @@ pub fn first(initial: &Option<Initial>) -> u32
 impl Tally {
     /// What the name of the next declaration stands for.
     pub fn named(&self, declaration: &Declaration) -> Named
-        ensures { result ≡ named_by self.now (declaration_of declaration.now) }
+        ensures { result ≡ named_by (counts_of self.now) (declaration_of declaration.now) }
     {
         match declaration {
             Declaration::Variable(kind, _, _) => Named::Global(self.globals, *kind),
@@ -119,42 +119,34 @@ impl Tally {
 
     /// Whether a declaration is the 257th function, or the global with which the words are exceeded.
     fn exceeded_by(&self, declaration: &Declaration) -> bool
-        ensures yes { result ≡ true → Exceeds self.now (declaration_of declaration.now) }
-        ensures no { result ≡ false → Exceeds self.now (declaration_of declaration.now) → ⊥ }
+        ensures yes { result ≡ true → Exceeds (counts_of self.now) (declaration_of declaration.now) }
+        ensures no { result ≡ false → Exceeds (counts_of self.now) (declaration_of declaration.now) → ⊥ }
     {
         if let Declaration::Function(_) = declaration {
             return self.functions == MAX_FUNCTIONS;
         }
-        match self.room {
-            Some(room) => room < words(declaration),
-            None => false,
-        }
-    }
-
-    /// The room that is left behind a global of so many words.
-    fn room_after(&self, words: usize) -> Option<usize>
-        ensures { result ≡ room_after self.now.room words }
-    {
-        let room = self.room?;
-        room.checked_sub(words)
+        self.words <= MAX_GLOBAL_WORDS
+            && MAX_GLOBAL_WORDS < self.words + u128::from(words(declaration))
     }
 
     /// The tally behind a declaration.
     pub fn after(&self, declaration: &Declaration) -> Tally
         requires globals { self.now.globals + 1 < 2 ^ 64 }
         requires functions { self.now.functions + 1 < 2 ^ 64 }
-        ensures { result ≡ tally_after self.now (declaration_of declaration.now) }
+        requires words { self.now.words + 2 ^ 32 < 2 ^ 128 }
+        ensures value { counts_of result ≡ counts_after (counts_of self.now) (declaration_of declaration.now) }
+        ensures words { result.words ≤ self.now.words + 2 ^ 32 }
     {
         match declaration {
             Declaration::Function(_) => Tally {
                 globals: self.globals,
                 functions: self.functions + 1,
-                room: self.room,
+                words: self.words,
             },
             _ => Tally {
                 globals: self.globals + 1,
                 functions: self.functions,
-                room: self.room_after(words(declaration)),
+                words: self.words + u128::from(words(declaration)),
             },
         }
     }

@@ -2,14 +2,15 @@
 //! The bodies of functions are the part of `c_statements`.
 //!
 //! For the layer above there is one contract: `program::check` is Ok exactly where a program has no fault, memory
-//! aside, and then gives its typed program, of which there is one at most (`program::one_typing_of_programs`). Else it
-//! tells the fault with the least offset, at one offset that with the least number. Nothing else makes a `typed::Typed`,
-//! so each is well formed (`program::each_typed_program_is_well_formed`), and no layer above tests that again.
+//! aside, and then gives its typed program, of which there is one at most (`program::one_typing_of_programs`,
+//! `program::one_typed_program` of a text). Else it tells the fault with the least offset, at one offset that with the
+//! least number. Nothing else makes a `typed::Typed`, so each is well formed
+//! (`program::each_typed_program_is_well_formed`), and no layer above tests that again.
 //!
-//! Definitions: `specs/Programs.antt` has the faults and the typing of declarations at file scope and of programs, by
-//! those of statements in `c_statements/specs`, where the scopes, the typed trees and the first fault stand too.
-//! `specs/WellFormed.antt` says what a typed program keeps, `specs/Shape.antt` which typed program a Rust value stands
-//! for; `specs/Files.antt` are words of private functions.
+//! Definitions: `specs/Typed.antt` says which typed program a text has. `specs/Programs.antt` has the faults and the
+//! typing of declarations at file scope and of programs, by those of statements in `c_statements/specs`, where the
+//! scopes and the first fault stand too; the typed trees are those of `c_typed`. `specs/Shape.antt` says which typed
+//! program a Rust value stands for; `specs/Files.antt` are words of private functions.
 //!
 //! `c_statements` calls itself on the parts of a tree, so the stack grows with its depth.
 #![tactic(auto)]

@@ -5,15 +5,15 @@ ghost use Rattle.c_statements.specs.declared.fault.Stop.TheVariants.{NoMemory};
 ghost use Rattle.c_statements.specs.declared.names.Named.TheVariants.{Function as NamedFunction};
 ghost use Rattle.c_statements.specs.Faults.{HasNone, IsCheckFault, StopsAtFirst, StopsBoth};
 ghost use Rattle.c_statements.specs.Held.{scopes_of};
-ghost use Rattle.c_statements.specs.Shape.{function_of, statements_of};
-ghost use Rattle.c_statements.specs.Typed.{TypedProgram};
+ghost use Rattle.c_typed.specs.Shape.{function_of, statements_of};
+ghost use Rattle.c_typed.specs.Trees.{TypedProgram};
 ghost use Rattle.c_types.specs.Files.{AreTyped, IsFunction, IsWith, declared_of, file_of, file_scopes};
 ghost use Rattle.c_types.specs.Programs.{File, FaultyBody, FaultyDeclaration, FaultyDeclarations, FaultyProgram, LacksMain, TypesDeclaration, TypesProgram, after, after_all, closing, no_declarations, with_last};
 ghost use Rattle.c_types.specs.Shape.{program_of};
-ghost use Rattle.c_types.specs.WellFormed.{EachTypedProgramIsWellFormed};
+ghost use Rattle.c_types.specs.Typed.{EachTypedProgramIsWellFormed, SpellsTyped};
 
 use crate::declaration::{
-    MAX_GLOBAL_WORDS, Tally, declared_name, first, is_main, name_fault, parameters,
+    Tally, declared_name, first, is_main, name_fault, parameters,
 };
 use crate::typed::Typed;
 use c_front::tree::{Declaration, FunctionDefinition, Program};
@@ -21,7 +21,7 @@ use c_statements::fault::{FaultKind, Stop, TypeFault, both};
 use c_statements::names::Named;
 use c_statements::scopes::Frame;
 use c_statements::statement::{items, lasting};
-use c_statements::typed::{Function, Global as Variable, Statement, Term};
+use c_typed::{Function, Global as Variable, Statement, Term};
 use c_tokens::token::{Kind, Literal};
 use std::alloc::{AllocError, AllocFailed, Global};
 
@@ -175,7 +175,7 @@ fn declarations<'a>(
     let mut tally = Tally {
         globals: 0,
         functions: 0,
-        room: Some(MAX_GLOBAL_WORDS),
+        words: 0,
     };
     let mut parts = Ok(Parts {
         functions: Vec::new(alloc),
@@ -253,6 +253,11 @@ pub fn check(alloc: Global, program: Program) -> Result<Typed, TypeFault>
 /// A program has at most one typed program.
 pub fn one_typing_of_programs()
     ensures { (text : List ℕ) (all : List DeclarationTree) (p q : TypedProgram) → TypesProgram text all p → TypesProgram text all q → p ≡ q }
+{}
+
+/// A text has at most one typed program. A law: it computes nothing.
+pub fn one_typed_program()
+    ensures { (text : List ℕ) (p q : TypedProgram) → SpellsTyped text p → SpellsTyped text q → p ≡ q }
 {}
 
 /// Each typed program is well formed. A law: it computes nothing.

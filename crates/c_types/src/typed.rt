@@ -1,6 +1,6 @@
 ghost use Rattle.std.specs.Prelude.{◌≡◌};
 
-use c_statements::typed::{Function, Global};
+use c_typed::{Function, Global};
 use std::marker::Model;
 
 /// A program whose names are numbers: its functions and globals in order, and the number of `main`. Only
@@ -15,9 +15,9 @@ pub struct Typed {
 
 impl Model for Typed {
     ghost use Rattle.std.specs.Coded.{codes};
-    ghost use Rattle.c_statements.specs.contracts.typed.Statement as statement;
+    ghost use Rattle.c_typed.specs.contracts.tree.Statement as statement;
     ghost use Rattle.c_types.specs.Shape.{TypedParts, program_of};
-    ghost use Rattle.c_types.specs.WellFormed.{IsTyped};
+    ghost use Rattle.c_types.specs.Typed.{IsTyped};
 
     ghost Value = { TypedParts };
 
@@ -31,7 +31,8 @@ impl Model for Typed {
 impl Typed {
     ghost use Rattle.std.specs.Prelude.{◌<◌, length};
     ghost use Rattle.c_types.specs.Shape.{program_of};
-    ghost use Rattle.c_types.specs.WellFormed.{IsTyped, IsWellFormed};
+    ghost use Rattle.c_types.specs.Typed.{IsTyped};
+    ghost use Rattle.c_typed.specs.WellFormed.{IsWellFormed};
 
     /// The typed program of these parts.
     pub(crate) fn new(functions: Vec<Function>, globals: Vec<Global>, main: usize) -> Typed

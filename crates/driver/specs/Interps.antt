@@ -1,19 +1,21 @@
 -- The run of a program's text, or why it has none.
 use Rattle.std.specs.Prelude.{◌≡◌, ℕ, List}
-use Rattle.words.specs.Runs.{Outcome}
+use Rattle.runs.specs.Runs.{Outcome}
 use Rattle.c_front.specs.Tree.{Declaration}
 use Rattle.c_front.specs.Texts.{SpellsText, IsTextFault}
-use Rattle.c_statements.specs.Typed.{TypedProgram}
+use Rattle.c_typed.specs.Trees.{TypedProgram}
 use Rattle.c_statements.specs.Faults.{IsCheckFault}
-use Rattle.c_types.specs.Programs.{FaultyProgram, TypesProgram}
-use Rattle.c_run.specs.Meaning.{source_run}
+use Rattle.c_types.specs.Programs.{FaultyProgram}
+use Rattle.c_types.specs.Typed.{SpellsTyped}
+use Rattle.c_typed.specs.Meaning.{source_run}
 use Rattle.driver.specs.declared.interpreting.InterpFault.{InterpFault}
 use Rattle.driver.specs.declared.interpreting.InterpFault.TheVariants as faults
 
--- what the program that a text spells comes to
-abbrev pub IsRun : List ℕ → (depth steps : ℕ) → Outcome → Type 0
-IsRun text depth steps o =
-    (all : List Declaration) × (p : TypedProgram) × SpellsText text all × TypesProgram text all p × (o ≡ source_run p depth steps)
+-- what the program that a text spells comes to, which has no fault
+pub record IsRun (text : List ℕ) (depth steps : ℕ) (o : Outcome) : Type 0 where
+  pub program : TypedProgram
+  pub spelled : SpellsTyped text program
+  pub run : o ≡ source_run program depth steps
 
 -- the text's own fault, or one of the program that it spells
 abbrev pub IsInterpFault : List ℕ → InterpFault → Type 0

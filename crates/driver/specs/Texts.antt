@@ -5,8 +5,8 @@ use Rattle.mblock.specs.declared.unclean.Unclean.{Unclean}
 use Rattle.mblock.specs.declared.unclean.Unclean.TheVariants.{U1, U2, U3, U4}
 use Rattle.block_validator.specs.declared.place.Place.{Place}
 use Rattle.block_validator.specs.declared.place.Place.TheVariants as places
-use Rattle.words.specs.declared.ran.End.{End}
-use Rattle.words.specs.declared.ran.End.TheVariants.{Done, Wrong, More}
+use Rattle.runs.specs.declared.ran.End.{End}
+use Rattle.runs.specs.declared.ran.End.TheVariants.{Done, Wrong, More}
 use Rattle.c_front.specs.declared.read.FaultKind.{FaultKind}
 use Rattle.c_front.specs.declared.read.FaultKind.TheVariants as front
 use Rattle.c_front.specs.Texts.{number_of}

@@ -1,5 +1,5 @@
 ghost use Rattle.std.specs.Prelude.{IfOk, IfErr};
-ghost use Rattle.words.specs.Runs.{outcome_of};
+ghost use Rattle.runs.specs.Runs.{outcome_of};
 ghost use Rattle.driver.specs.Interps.{IsInterpFault, IsRun};
 
 use c_front::read::{FrontFault, read};
@@ -7,7 +7,7 @@ use c_run::run;
 use c_statements::fault::TypeFault;
 use c_types::program::check;
 use std::alloc::Global;
-use words::Ran;
+use runs::Ran;
 
 /// Why a text has no run.
 #[derive(Clone, Copy, Debug, PartialEq, Eq)]

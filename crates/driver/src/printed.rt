@@ -11,7 +11,7 @@ use c_front::read::FaultKind as FrontKind;
 use c_statements::fault::FaultKind as TypeKind;
 use mblock::Unclean;
 use std::fmt;
-use words::End;
+use runs::End;
 
 fn rule_name(rule: Unclean) -> &'static str
     ensures { result.now ≡ rule_text rule }

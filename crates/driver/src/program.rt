@@ -18,7 +18,7 @@ use clap::error::ErrorKind;
 use std::alloc::Global;
 use std::fmt;
 use std::io::{self, Write};
-use words::{End, Ran};
+use runs::{End, Ran};
 
 /// Why a file could not be read or written.
 #[derive(Clone, Copy, Debug, PartialEq, Eq)]

@@ -6,7 +6,7 @@ use c_types::program::check;
 use std::alloc::{AllocError, Global};
 use std::test::Fail;
 use std::thread::Builder;
-use words::End;
+use runs::End;
 
 fn around(
     alloc: Global,

@@ -6,7 +6,7 @@ mod depths;
 #[cfg(test)]
 mod faults;
 #[cfg(test)]
-mod runs;
+mod programs;
 #[cfg(test)]
 mod sizes;
 #[cfg(test)]

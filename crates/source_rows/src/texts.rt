@@ -3,7 +3,7 @@ use c_run::run;
 use c_types::program::check;
 use std::alloc::{AllocError, Global};
 use std::process::Abort;
-use words::End;
+use runs::End;
 
 /// The number and the offset of a text's fault; 0 and 0 where it has none.
 pub fn fault(alloc: Global, text: &[u8]) -> (u8, usize) {

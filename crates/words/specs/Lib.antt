@@ -2,5 +2,3 @@ pub mod Words
 pub mod Operators
 pub mod C
 pub mod Laws
-pub mod Stores
-pub mod Runs

@@ -3,17 +3,14 @@
 //! A word is a `u32`, and in contracts a number below 2^32. The definitions are in `specs/Words.antt`,
 //! `specs/Operators.antt` and `specs/C.antt`; `Operator::value` is exactly `value_of` there, which is what
 //! the layers above cite, for the meaning of instructions and for the value of terms alike, and the methods
-//! of `Sign` are exactly C's operators, by the sign of the type that they compute in. `Ran` is what a run of
-//! a program comes to, at any level, with `Outcome` in `specs/Runs.antt` as what it stands for.
+//! of `Sign` are exactly C's operators, by the sign of the type that they compute in.
 #![tactic(auto)]
 
 mod c;
 mod laws;
 mod operator;
-mod ran;
 mod sign;
 
 pub use laws::{c_computes_as_the_machine, operators_give_words};
 pub use operator::Operator;
-pub use ran::{End, Ran};
 pub use sign::Sign;

@@ -1,7 +1,7 @@
 use Rattle.std.proofs.Common.{◌≡◌, ap, rules}
-use Rattle.c_statements.specs.Shape.{statement_of, term_of}
+use Rattle.c_typed.specs.Shape.{statement_of, term_of}
 use Rattle.c_types.specs.Shape.{program_of}
-use Rattle.c_statements.specs.Typed.{branch}
+use Rattle.c_typed.specs.Trees.{branch}
 use Rattle.c_run.proofs.Acts.{acted}
 use Rattle.c_run.proofs.machine.act.Goals as goal
 

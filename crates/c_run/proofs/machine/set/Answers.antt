@@ -1,5 +1,5 @@
 use Rattle.std.proofs.Common.{ap, ◌∙◌, Some}
-use Rattle.words.specs.Stores.{Places, written}
+use Rattle.runs.specs.Stores.{Places, written}
 use Rattle.c_run.proofs.Stores.{places-set}
 use Rattle.c_run.proofs.machine.set.Goals as goal
 

@@ -1,5 +1,5 @@
 use Rattle.std.proofs.Common.{◌≡◌, length}
-use Rattle.c_run.specs.Meaning.{settled, Going}
+use Rattle.c_typed.specs.Meaning.{settled, Going}
 use Rattle.c_run.specs.Machine.{todos, places}
 use Rattle.c_run.proofs.pending.settle.Given as goal
 

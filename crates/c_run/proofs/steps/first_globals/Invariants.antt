@@ -1,5 +1,5 @@
 use Rattle.std.proofs.Common.{◌≡◌, map, take}
-use Rattle.c_run.specs.Meaning.{first_words}
+use Rattle.c_typed.specs.Meaning.{first_words}
 use Rattle.c_run.specs.Machine.{arrays}
 use Rattle.c_run.proofs.steps.first_globals.Given as goal
 

@@ -1,7 +1,7 @@
 use Rattle.std.proofs.Common.{◌≡◌, ◌-◌}
-use Rattle.words.specs.Runs.{outcome}
+use Rattle.runs.specs.Runs.{outcome}
 use Rattle.c_types.specs.Shape.{program_of}
-use Rattle.c_run.specs.Meaning.{source_steps, source_run}
+use Rattle.c_typed.specs.Meaning.{source_steps, source_run}
 use Rattle.c_run.specs.Machine.{state_of}
 use Rattle.c_run.proofs.steps.run.Given as goal
 

@@ -1,7 +1,7 @@
 use Rattle.std.proofs.Common.{◌≡◌, ◌++◌, Some, map, drop}
 use Rattle.std.specs.Option.{option_map}
-use Rattle.c_statements.specs.Shape.{terms_of}
-use Rattle.c_run.specs.Values.{values_of}
+use Rattle.c_typed.specs.Shape.{terms_of}
+use Rattle.c_typed.specs.Values.{values_of}
 use Rattle.c_run.specs.Machine.{places, arrays}
 use Rattle.c_run.proofs.value.arguments.Given as goal
 

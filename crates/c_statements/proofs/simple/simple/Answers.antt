@@ -1,9 +1,9 @@
 use Rattle.std.proofs.Common.{◌≡◌, Result, rules, subst, ap, ◌∙◌}
 use Rattle.std.specs.Result.{result_unwrap_or}
 use Rattle.c_statements.specs.declared.fault.Stop.{Stop}
-use Rattle.c_statements.specs.declared.typed.Place.{Place}
-use Rattle.c_statements.specs.declared.typed.Place.TheVariants.{Local}
-use Rattle.c_statements.specs.Shape.{statement_of}
+use Rattle.c_typed.specs.declared.tree.Place.{Place}
+use Rattle.c_typed.specs.declared.tree.Place.TheVariants.{Local}
+use Rattle.c_typed.specs.Shape.{statement_of}
 use Rattle.c_front.specs.Shape.{expression_of, value_of, simple_of}
 use Rattle.c_statements.specs.Faults.{StopsAtFirst}
 use Rattle.c_statements.specs.Held.{scopes_of}

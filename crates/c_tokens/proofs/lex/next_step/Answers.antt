@@ -1,7 +1,7 @@
 use Rattle.std.proofs.Common.{sym, subst}
 use Rattle.c_tokens.specs.declared.lex.Lexeme.{Lexeme}
 use Rattle.c_tokens.specs.Pieces.{IsNext}
-use Rattle.c_tokens.proofs.Finding.{found}
+use Rattle.c_tokens.proofs.Pieces.{found}
 use Rattle.c_tokens.proofs.lex.next_step.Goals as goal
 
 pub returns-clause-found : goal.returns-clause-found

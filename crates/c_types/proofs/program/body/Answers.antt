@@ -1,6 +1,6 @@
 use Rattle.c_front.specs.Shape.{items_of}
 use Rattle.c_statements.specs.Held.{scopes_of}
-use Rattle.c_statements.specs.Shape.{function_of}
+use Rattle.c_typed.specs.Shape.{function_of}
 use Rattle.c_types.specs.Programs.{variable_typed, array_typed}
 use Rattle.c_types.proofs.Declarations.{function-typed}
 use Rattle.c_types.proofs.program.body.Goals as goal

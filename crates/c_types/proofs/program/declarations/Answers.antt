@@ -6,20 +6,20 @@ use Rattle.c_statements.specs.declared.fault.Stop.{Stop}
 use Rattle.c_statements.specs.Held.{scopes_of}
 use Rattle.c_statements.specs.Names.{Scopes}
 use Rattle.c_statements.proofs.Joined.{Answered}
-use Rattle.c_types.specs.declared.declaration.Tally.{Tally}
 use Rattle.c_types.specs.declared.program.Declared.{Declared}
-use Rattle.c_types.specs.Files.{declared_of, file_of, file_scopes}
-use Rattle.c_types.specs.Programs.{File, FaultyDeclaration, TypesDeclaration, after, after_all, no_declarations}
+use Rattle.c_types.specs.Files.{counts_of, declared_of, file_of, file_scopes}
+use Rattle.c_types.specs.Programs.{Counts, File, FaultyDeclaration, TypesDeclaration, after, after_all, no_declarations}
 use Rattle.c_types.proofs.Declarations.{SoFar, after-more, functions-grow, globals-grow, none-so-far, one-so-far}
 use Rattle.c_types.proofs.program.declarations.Goals as goal
 
 pub loop-one-init : goal.loop-one-init
 loop-one-init c = record {
   so_far = none-so-far c.args.program.now.text.items (record { functions = c.new.result; globals = c.new-2.result }) c.new.ensures.items c.new-2.ensures.items;
-  file = ap (λ (s : Scopes). let f : File = record { names = s.inner; tally = no_declarations.tally } in f) c.requires;
+  file = ap (λ (s : Scopes). let f : File = record { names = s.inner; counts = no_declarations.counts } in f) c.requires;
   scopes = c.requires ∙ ap (λ (s : Scopes). file_scopes s.inner) (sym c.requires);
   globals = omega arith;
   functions = omega arith;
+  words = omega arith;
 }
 
 pub loop-one-preserved : goal.loop-one-preserved
@@ -32,19 +32,20 @@ loop-one-preserved c =
     let kept : At before c.in_ok-next.next = subst (At before) (sym c.in_ok-next.ensures.ok.0) answered in
     let moved : At (after_all c.args.program.now.text.items no_declarations (declarations_of (take c.loop-one.one-index c.args.all.now))) c.in_ok-next.next = subst (λ f. At f c.in_ok-next.next) c.loop-one.invariant.file kept in
     let there : scopes_of c.declaration.new.frame ≡ file_scopes (after c.args.program.now.text.items (file_of c.loop-one.frame c.loop-one.tally) (declaration_of c.one-item.result)).names = c.declaration.ensures.scopes c.in_ok-next.ensures.ok.1 in
-    let g = globals-grow c.loop-one.tally (declaration_of c.one-item.result) in
-    let h = functions-grow c.loop-one.tally (declaration_of c.one-item.result) in
+    let g = globals-grow (counts_of c.loop-one.tally) (declaration_of c.one-item.result) in
+    let h = functions-grow (counts_of c.loop-one.tally) (declaration_of c.one-item.result) in
     let i = c.loop-one.invariant.globals in
     let j = c.loop-one.invariant.functions in
     record {
       so_far = one-so-far c.args.program.now.text.items c.args.all.now c.loop-one.one-index c.one-item.result c.loop-one.parts c.with_declared-parts.result c.in_ok-next.next c.loop-one-test.true c.one-item.is c.loop-one.invariant.so_far moved
           c.with_declared-parts.ensures.ok c.with_declared-parts.ensures.err;
-      file = ap (λ (s : Scopes). let f : File = record { names = s.inner; tally = c.after-tally.result } in f) there
-          ∙ ap (λ (t : Tally). let f : File = record { names = (after c.args.program.now.text.items (file_of c.loop-one.frame c.loop-one.tally) (declaration_of c.one-item.result)).names; tally = t } in f) c.after-tally.ensures
+      file = ap (λ (s : Scopes). let f : File = record { names = s.inner; counts = counts_of c.after-tally.result } in f) there
+          ∙ ap (λ (n : Counts). let f : File = record { names = (after c.args.program.now.text.items (file_of c.loop-one.frame c.loop-one.tally) (declaration_of c.one-item.result)).names; counts = n } in f) c.after-tally.ensures.value
           ∙ ap (λ (f : File). after c.args.program.now.text.items f (declaration_of c.one-item.result)) c.loop-one.invariant.file ∙ after-more c.args.program.now.text.items c.args.all.now c.loop-one.one-index c.one-item.result c.loop-one-test.true c.one-item.is;
       scopes = there ∙ ap (λ (s : Scopes). file_scopes s.inner) (sym there);
-      globals = rw c.after-tally.ensures (omega (arith, g, i));
-      functions = rw c.after-tally.ensures (omega (arith, h, j));
+      globals = omega (arith, g, i, ap (λ (n : Counts). n.globals) c.after-tally.ensures.value);
+      functions = omega (arith, h, j, ap (λ (n : Counts). n.functions) c.after-tally.ensures.value);
+      words = omega (arith, c.after-tally.ensures.words, c.loop-one.invariant.words);
     }
 
 pub returns-clause-err : goal.returns-clause-err

@@ -1,4 +1,4 @@
-use Rattle.std.proofs.Common.{◌≡◌, ◌≤◌, take}
+use Rattle.std.proofs.Common.{◌≡◌, ◌*◌, ◌^◌, ◌≤◌, take}
 use Rattle.c_front.specs.Shape.{declarations_of}
 use Rattle.c_statements.specs.Held.{scopes_of}
 use Rattle.c_types.specs.Files.{file_of, file_scopes}
@@ -13,4 +13,5 @@ invariant-loop-one l = record {
   scopes : scopes_of l.frame ≡ file_scopes (scopes_of l.frame).inner;
   globals : l.tally.globals ≤ l.one-index;
   functions : l.tally.functions ≤ l.one-index;
+  words : l.tally.words ≤ l.one-index * 2 ^ 32;
 }

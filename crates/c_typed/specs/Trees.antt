@@ -7,8 +7,8 @@ use Rattle.c_front.specs.declared.tree.UnaryOp.{UnaryOp}
 use Rattle.c_front.specs.declared.tree.UnaryOp.TheVariants.{Not}
 use Rattle.c_front.specs.declared.tree.BinaryOp.{BinaryOp}
 use Rattle.c_front.specs.declared.tree.BinaryOp.TheVariants.{ShiftLeft, ShiftRight, Below, Exceeds, AtMost, AtLeast, Same, Differs, Both, Either}
-use Rattle.c_statements.specs.declared.typed.Place.{Place}
-use Rattle.c_statements.specs.declared.typed.Global.{Global}
+use Rattle.c_typed.specs.declared.tree.Place.{Place}
+use Rattle.c_typed.specs.declared.tree.Global.{Global}
 
 -- an expression whose names are numbers; an operator has the kind that it computes in
 pub data TypedExpression : Type 0 where

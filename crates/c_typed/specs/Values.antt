@@ -6,12 +6,13 @@ use Rattle.c_front.specs.declared.tree.UnaryOp.{UnaryOp}
 use Rattle.c_front.specs.declared.tree.UnaryOp.TheVariants.{Negate, Identity, Complement, Not}
 use Rattle.c_front.specs.declared.tree.BinaryOp.{BinaryOp}
 use Rattle.c_front.specs.declared.tree.BinaryOp.TheVariants.{Multiply, Divide, Remainder, Add, Subtract, ShiftLeft, ShiftRight, Below, Exceeds, AtMost, AtLeast, Same, Differs, BitAnd, BitXor, BitOr, Both, Either}
-use Rattle.c_statements.specs.Typed.{TypedExpression, constant, local, global, element, unary, binary, choose}
+use Rattle.c_typed.specs.Trees.{TypedExpression, constant, local, global, element, unary, binary, choose}
 use Rattle.words.specs.declared.sign.Sign.{Sign}
 use Rattle.words.specs.declared.sign.Sign.TheVariants.{Signed, Unsigned}
+use Rattle.words.specs.Words.{wrap}
 use Rattle.words.specs.Operators.{quotient_of, remainder_of}
 use Rattle.words.specs.C.{sum_of, difference_of, times_of, negation_of, left_shift_of, right_shift_of, is_below}
-use Rattle.words.specs.Stores.{Places, Arrays, chain, word_at}
+use Rattle.runs.specs.Stores.{Places, Arrays, chain, word_at}
 
 -- how the words of a type are read (C99 6.2.5)
 abbrev pub sign_of : Kind → Sign
@@ -56,9 +57,9 @@ combined Both s left right = chain left (λ x. if x == 0 then Some 0 else chain 
 combined Either s left right = chain left (λ x. if x == 0 then chain right (λ y. binary_of Either s x y) else Some 1)
 combined o s left right = chain left (λ x. chain right (λ y. binary_of o s x y))
 
--- the value at these locals and globals
+-- the value at these locals and globals; a constant means a word, whatever number a tree has
 abbrev pub value_of : TypedExpression → Places → Arrays → Option ℕ
-value_of (constant c) l g = Some c.value
+value_of (constant c) l g = Some (wrap c.value)
 value_of (local n k) l g = l n
 value_of (global n k) l g = word_at g n 0
 value_of (element n k e) l g = chain (value_of e l g) (λ i. word_at g n i)

@@ -1,13 +1,14 @@
 -- What a program does, one step after another (C99 5.1.2.3, 6.8): each assignment, test, call, return and output is one
 -- step. A declaration, `break` and `continue` are none.
-use Rattle.std.specs.Prelude.{ℕ, zero, suc, List, [], ◌∷◌, ◌++◌, Option, Some, None, length, nat_lt, if◌then◌else◌, ◌==◌, slice_get, map, replicate}
-use Rattle.words.specs.Stores.{Places, unset_places, written, Arrays, stored}
-use Rattle.words.specs.Runs.{Outcome, State, Running, Ended, Failed, with_value, outcome}
-use Rattle.c_statements.specs.declared.typed.Place.{Place}
-use Rattle.c_statements.specs.declared.typed.Place.TheVariants.{Local, Global as Variable}
-use Rattle.c_statements.specs.declared.typed.Global.{Global}
-use Rattle.c_statements.specs.Typed.{TypedStatement, TypedStatements, empty, block, unset, assign, store, run, output, branch, loop, leave, next_turn, return_with, no_statements, more_statements, TypedProgram}
-use Rattle.c_run.specs.Values.{value_of, values_of}
+use Rattle.std.specs.Prelude.{ℕ, List, [], ◌∷◌, ◌++◌, Option, Some, None, length, nat_lt, if◌then◌else◌, ◌==◌, slice_get, map, replicate}
+use Rattle.runs.specs.Stores.{Places, unset_places, written, Arrays, stored}
+use Rattle.runs.specs.Runs.{Outcome, State, Running, Ended, Failed, with_value, steps, outcome}
+use Rattle.words.specs.Words.{wrap}
+use Rattle.c_typed.specs.declared.tree.Place.{Place}
+use Rattle.c_typed.specs.declared.tree.Place.TheVariants.{Local, Global as Variable}
+use Rattle.c_typed.specs.declared.tree.Global.{Global}
+use Rattle.c_typed.specs.Trees.{TypedStatement, TypedStatements, empty, block, unset, assign, store, run, output, branch, loop, leave, next_turn, return_with, no_statements, more_statements, TypedProgram}
+use Rattle.c_typed.specs.Values.{value_of, values_of}
 
 -- what is still to do: a statement, or the end of a loop's turn, where its last part comes and then the loop again
 pub data Todo : Type 0 where
@@ -129,13 +130,12 @@ source_step p depth (Running (f ∷ frames) g out) =
 source_step p depth (Ended w out) = Ended w out
 source_step p depth (Failed out) = Failed out
 
-abbrev pub source_steps : TypedProgram → ℕ → ℕ → Run → Run
-source_steps p depth zero s = s
-source_steps p depth (suc n) s = source_steps p depth n (source_step p depth s)
+abbrev pub source_steps : TypedProgram → (depth n : ℕ) → Run → Run
+source_steps p depth n s = steps (source_step p depth) n s
 
 -- the words of a global at first
 abbrev pub first_words : Global → List ℕ
-first_words a = replicate a.length a.first
+first_words a = replicate a.length (wrap a.first)
 
 -- before the first step: a call of `main`
 abbrev pub source_start : TypedProgram → Run

@@ -1,6 +1,6 @@
 ghost use Rattle.std.specs.Prelude.{◌≡◌};
-ghost use Rattle.c_statements.specs.Shape.{term_of};
-ghost use Rattle.c_statements.specs.Typed.{kind_of};
+ghost use Rattle.c_typed.specs.Shape.{term_of};
+ghost use Rattle.c_typed.specs.Trees.{kind_of};
 
 use c_front::tree::{BinaryOp, UnaryOp};
 use c_tokens::token::{Kind, Literal};

@@ -2,13 +2,10 @@
 -- functions, operators compute in the kinds of their operands, jumps stand in loops, and the sizes are within the limits.
 use Rattle.std.specs.Prelude.{◌≡◌, ◌<◌, ◌≤◌, ◌+◌, ℕ, List, [], ◌∷◌, Option, Some, None, Bool, true, false, length, is_some, slice_get, All}
 use Rattle.c_tokens.specs.declared.token.Kind.TheVariants.{SignedInt}
-use Rattle.c_front.specs.Tree.{Declaration}
-use Rattle.c_statements.specs.declared.typed.Place.{Place}
-use Rattle.c_statements.specs.declared.typed.Place.TheVariants.{Local, Global as Variable}
-use Rattle.c_statements.specs.declared.typed.Global.{Global}
-use Rattle.c_statements.specs.Faults.{HasNone}
-use Rattle.c_types.specs.Programs.{FaultyProgram, TypesProgram}
-use Rattle.c_statements.specs.Typed.{TypedExpression, TypedStatement, TypedStatements, TypedFunction, TypedProgram, constant, local, global, element, unary, binary, choose, kind_of, prefix_kind, operation_kind, common_kind, empty, block, unset, assign, store, run, output, branch, loop, leave, next_turn, return_with, no_statements, more_statements}
+use Rattle.c_typed.specs.declared.tree.Place.{Place}
+use Rattle.c_typed.specs.declared.tree.Place.TheVariants.{Local, Global as Variable}
+use Rattle.c_typed.specs.declared.tree.Global.{Global}
+use Rattle.c_typed.specs.Trees.{TypedExpression, TypedStatement, TypedStatements, TypedFunction, TypedProgram, constant, local, global, element, unary, binary, choose, kind_of, prefix_kind, operation_kind, common_kind, empty, block, unset, assign, store, run, output, branch, loop, leave, next_turn, return_with, no_statements, more_statements}
 
 -- in a function with so many locals, each local and global is there, and an operator computes in the kind that its
 -- operands give (C99 6.3.1.8, 6.5)
@@ -87,13 +84,3 @@ pub record IsWellFormed (p : TypedProgram) : Type 0 where
   pub entry : slice_get p.functions p.main ≡ Some main
   pub alone : main.parameters ≡ 0
   pub gives : main.result ≡ Some SignedInt
-
--- the typed program of a program without faults
-pub record IsTyped (p : TypedProgram) : Type 0 where
-  pub text : List ℕ
-  pub declarations : List Declaration
-  pub types : TypesProgram text declarations p
-  pub faultless : HasNone (FaultyProgram text declarations)
-
-abbrev pub EachTypedProgramIsWellFormed : Type 0
-EachTypedProgramIsWellFormed = (p : TypedProgram) → IsTyped p → IsWellFormed p

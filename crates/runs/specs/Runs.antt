@@ -1,9 +1,9 @@
 -- How a run of a program ended, and what it wrote.
-use Rattle.std.specs.Prelude.{ℕ, List, Option, Some, None}
-use Rattle.words.specs.declared.ran.End.{End}
-use Rattle.words.specs.declared.ran.End.TheVariants.{Done, Wrong, More}
-use Rattle.words.specs.declared.ran.Ran.{Ran}
-use Rattle.words.specs.Stores.{Arrays}
+use Rattle.std.specs.Prelude.{◌≡◌, ◌+◌, ℕ, zero, suc, List, Option, Some, None, All}
+use Rattle.runs.specs.declared.ran.End.{End}
+use Rattle.runs.specs.declared.ran.End.TheVariants.{Done, Wrong, More}
+use Rattle.runs.specs.declared.ran.Ran.{Ran}
+use Rattle.runs.specs.Stores.{Arrays, IsWord, ArraysHoldWords}
 
 pub record Outcome : Type 0 where
   pub end : End
@@ -28,3 +28,14 @@ abbrev pub outcome : {Call : Type 0} → State Call → Outcome
 outcome (Running calls g out) = record { end = More; output = out }
 outcome (Ended w out) = record { end = Done w; output = out }
 outcome (Failed out) = record { end = Wrong; output = out }
+
+-- so many steps
+abbrev pub steps : {S : Type 0} → (S → S) → ℕ → S → S
+steps step zero s = s
+steps step (suc n) s = steps step n (step s)
+
+-- nothing but words: in its calls by their own rule, in its globals, in its output, and as its result
+abbrev pub HoldsWords : {Call : Type 0} → (Call → Type 0) → State Call → Type 0
+HoldsWords Holds (Running calls g out) = All Holds calls × (ArraysHoldWords g × All IsWord out)
+HoldsWords Holds (Ended w out) = IsWord w × All IsWord out
+HoldsWords Holds (Failed out) = All IsWord out

@@ -1,5 +1,5 @@
 -- What a running program keeps: a word for each local or register that is set, and the words of each global.
-use Rattle.std.specs.Prelude.{ℕ, List, Option, Some, None, nat_eq, if◌then◌else◌, slice_get, slice_set}
+use Rattle.std.specs.Prelude.{◌≡◌, ◌<◌, ◌^◌, ℕ, List, Option, Some, None, All, nat_eq, if◌then◌else◌, slice_get, slice_set}
 
 abbrev pub Places : Type 0
 Places = ℕ → Option ℕ
@@ -26,3 +26,14 @@ word_at g a i = chain (slice_get g a) (λ words. slice_get words i)
 -- the globals after a write, or none outside
 abbrev pub stored : Arrays → ℕ → ℕ → ℕ → Option Arrays
 stored g a i v = chain (slice_get g a) (λ words. chain (slice_get words i) (λ _. Some (slice_set g a (slice_set words i v))))
+
+-- a number of 32 bits
+abbrev pub IsWord : ℕ → Type 0
+IsWord w = w < 2 ^ 32
+
+-- each place that is set holds a word
+abbrev pub PlacesHoldWords : Places → Type 0
+PlacesHoldWords p = (x v : ℕ) → p x ≡ Some v → IsWord v
+
+abbrev pub ArraysHoldWords : Arrays → Type 0
+ArraysHoldWords g = All (All IsWord) g

@@ -1,9 +1,9 @@
 -- The typed tree that a value of the program stands for.
 use Rattle.std.specs.Prelude.{List, [], ◌∷◌, Option, Some, None}
-use Rattle.c_statements.specs.declared.typed.Term.{Term, Constant, Local, Global, Element', Unary', Binary', Choose'}
-use Rattle.c_statements.specs.declared.typed.Statement.{Statement, Empty, Block', Unset, Assign, Store, Call, Output, If', Loop', Break, Continue, Return, Row_of-Statement, end_of-Statement, more_of-Statement}
-use Rattle.c_statements.specs.declared.typed.Function.{Function}
-use Rattle.c_statements.specs.Typed.{TypedExpression, constant, local, global, element, unary, binary, choose, TypedStatement, TypedStatements, empty, block, unset, assign, store, run, output, branch, loop, leave, next_turn, return_with, no_statements, more_statements, TypedFunction}
+use Rattle.c_typed.specs.declared.tree.Term.{Term, Constant, Local, Global, Element', Unary', Binary', Choose'}
+use Rattle.c_typed.specs.declared.tree.Statement.{Statement, Empty, Block', Unset, Assign, Store, Call, Output, If', Loop', Break, Continue, Return, Row_of-Statement, end_of-Statement, more_of-Statement}
+use Rattle.c_typed.specs.declared.tree.Function.{Function}
+use Rattle.c_typed.specs.Trees.{TypedExpression, constant, local, global, element, unary, binary, choose, TypedStatement, TypedStatements, empty, block, unset, assign, store, run, output, branch, loop, leave, next_turn, return_with, no_statements, more_statements, TypedFunction}
 
 abbrev pub term_of : Term → TypedExpression
 term_of (Constant c) = constant c

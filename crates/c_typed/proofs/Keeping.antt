@@ -1,0 +1,124 @@
+-- Each step of a run keeps to words.
+use Rattle.std.proofs.Common.{◌≡◌, ℕ, List, [], ◌∷◌, ◌++◌, Bool, true, false, Option, Some, None, refl, sym, subst, length, nat_lt, arith, ◌^◌, ◌%◌}
+use Rattle.std.specs.Prelude.{All, map, replicate, if◌then◌else◌}
+use Rattle.std.specs.List.{slice_get}
+use Rattle.std.proofs.lemmas.Option.{same_Some}
+use Rattle.std.proofs.lemmas.List.Elements.{All-nil, All-cons, All-head, All-tail, All-push, All-replicate, All-map}
+use Rattle.words.specs.Words.{wrap}
+use Rattle.runs.specs.Stores.{Places, Arrays, unset_places, written, stored, IsWord, PlacesHoldWords, ArraysHoldWords}
+use Rattle.runs.specs.Runs.{Running, Ended, Failed, with_value}
+use Rattle.runs.proofs.Words.{at-index, unset-words, written-words, stored-words}
+use Rattle.runs.proofs.Steps.{steps-keep}
+use Rattle.c_typed.specs.declared.tree.Place.{Place}
+use Rattle.c_typed.specs.declared.tree.Place.TheVariants.{Local, Global as Variable}
+use Rattle.c_typed.specs.declared.tree.Global.{Global}
+use Rattle.c_typed.specs.Trees.{TypedStatement, TypedFunction, TypedProgram, empty, block, unset, assign, store, run, output, branch, loop, leave, next_turn, return_with}
+use Rattle.c_typed.specs.Values.{value_of, values_of}
+use Rattle.c_typed.specs.Meaning.{Todo, Do, Next, Mode, Going, Breaking, Continuing, Frame, Run, before, before_all, settled, placed, arguments, called, returned, chosen, step_at, source_step, source_steps, source_start, first_words}
+use Rattle.c_typed.specs.Laws.{FrameHoldsWords, RunHoldsWords}
+use Rattle.c_typed.proofs.Values.{value-word, values-words}
+
+none-set : (l : Places) (x : ℕ) → PlacesHoldWords l → PlacesHoldWords (written l x None)
+none-set l x h = written-words l x None h (λ v e. let never = e in cc)
+
+settled-words : (m : Mode) (l : Places) (k : List Todo) → PlacesHoldWords l → PlacesHoldWords (settled m l k).locals
+settled-words Going l [] h = h
+settled-words Breaking l [] h = h
+settled-words Continuing l [] h = h
+settled-words Going l (Do (unset x) ∷ k) h = settled-words Going (written l x None) k (none-set l x h)
+settled-words Going l (Do leave ∷ k) h = settled-words Breaking l k h
+settled-words Going l (Do next_turn ∷ k) h = settled-words Continuing l k h
+settled-words Going l (Next last again ∷ k) h = h
+settled-words Going l (Do s ∷ k) h = h
+settled-words Breaking l (Do s ∷ k) h = settled-words Breaking l k h
+settled-words Breaking l (Next last again ∷ k) h = settled-words Going l k h
+settled-words Continuing l (Do s ∷ k) h = settled-words Continuing l k h
+settled-words Continuing l (Next last again ∷ k) h = h
+
+with-words : {A : Type 0} (o : Option A) (out : List ℕ) (go : A → Run) → All IsWord out → ((a : A) → o ≡ Some a → RunHoldsWords (go a)) → RunHoldsWords (with_value o out go)
+with-words None out go h k = h
+with-words (Some a) out go h k = k a refl
+
+running : (f : Frame) (frames : List Frame) (g : Arrays) (out : List ℕ) → PlacesHoldWords f.locals → All FrameHoldsWords frames → ArraysHoldWords g → All IsWord out → RunHoldsWords (Running (f ∷ frames) g out)
+running f frames g out a b c d = (All-cons FrameHoldsWords f frames a b, (c, d))
+
+placed-words : (to : Place) (v : ℕ) (l : Places) (g : Arrays) (out : List ℕ) (go : Places → Arrays → Run) → IsWord v → PlacesHoldWords l → ArraysHoldWords g → All IsWord out
+    → ((l : Places) (g : Arrays) → PlacesHoldWords l → ArraysHoldWords g → RunHoldsWords (go l g)) → RunHoldsWords (placed to v l g out go)
+placed-words (Local x) v l g out go w a b c k = k (written l x (Some v)) g (written-words l x (Some v) a (λ u e. subst IsWord (same_Some v u e) w)) b
+placed-words (Variable x) v l g out go w a b c k =
+    with-words (stored g x 0 v) out (λ g'. go l g') c (λ g' e. k l g' a (stored-words g x 0 v g' b w e))
+
+arguments-words : (vs : List ℕ) → All IsWord vs → PlacesHoldWords (arguments vs)
+arguments-words vs h x v e = at-index IsWord vs x v h e
+
+called-words : (p : TypedProgram) (depth f : ℕ) (vs : List ℕ) (to : Option Place) (frames : List Frame) (g : Arrays) (out : List ℕ) → All IsWord vs → All FrameHoldsWords frames → ArraysHoldWords g → All IsWord out
+    → RunHoldsWords (called p depth f vs to frames g out)
+called-words p depth f vs to frames g out a b c d =
+    with-words (slice_get p.functions f) out (λ function. if nat_lt (length frames) depth then Running (record { locals = arguments vs; todo = before_all function.body []; result_to = to } ∷ frames) g out else Failed out) d
+    (λ function e. by function (nat_lt (length frames) depth))
+  where
+    by : (function : TypedFunction) (t : Bool) → RunHoldsWords (if t then Running (record { locals = arguments vs; todo = before_all function.body []; result_to = to } ∷ frames) g out else Failed out)
+    by function true = running (record { locals = arguments vs; todo = before_all function.body []; result_to = to }) frames g out (arguments-words vs a) b c d
+    by function false = d
+
+returned-words : (v : Option ℕ) (to : Option Place) (frames : List Frame) (g : Arrays) (out : List ℕ) → ((w : ℕ) → v ≡ Some w → IsWord w) → All FrameHoldsWords frames → ArraysHoldWords g → All IsWord out
+    → RunHoldsWords (returned v to frames g out)
+returned-words v to [] g out a b c d = with-words v out (λ w. Ended w out) d (λ w e. (a w e, d))
+returned-words v None (f ∷ frames) g out a b c d = (b, (c, d))
+returned-words v (Some place) (f ∷ frames) g out a b c d =
+    with-words v out (λ w. placed place w f.locals g out (λ l g'. Running (record { locals = l; todo = f.todo; result_to = f.result_to } ∷ frames) g' out)) d
+    (λ w e. placed-words place w f.locals g out (λ l g'. Running (record { locals = l; todo = f.todo; result_to = f.result_to } ∷ frames) g' out) (a w e) (All-head FrameHoldsWords f frames b) c d
+    (λ l g' h i. running (record { locals = l; todo = f.todo; result_to = f.result_to }) frames g' out h (All-tail FrameHoldsWords f frames b) i d))
+
+step-words : (p : TypedProgram) (depth : ℕ) (l : Places) (k : List Todo) (to : Option Place) (frames : List Frame) (g : Arrays) (out : List ℕ) → PlacesHoldWords l → All FrameHoldsWords frames → ArraysHoldWords g → All IsWord out
+    → RunHoldsWords (step_at p depth l k to frames g out)
+step-words p depth l (Do (assign x e) ∷ k) to frames g out a b c d =
+    with-words (value_of e l g) out (λ v. placed x v l g out (λ l' g'. Running (record { locals = l'; todo = k; result_to = to } ∷ frames) g' out)) d
+    (λ v is. placed-words x v l g out (λ l' g'. Running (record { locals = l'; todo = k; result_to = to } ∷ frames) g' out) (value-word e l g a c v is) a c d
+    (λ l' g' h i. running (record { locals = l'; todo = k; result_to = to }) frames g' out h b i d))
+step-words p depth l (Do (store x i e) ∷ k) to frames g out a b c d =
+    with-words (value_of i l g) out (λ j. with_value (value_of e l g) out (λ v. with_value (stored g x j v) out (λ g'. Running (record { locals = l; todo = k; result_to = to } ∷ frames) g' out))) d
+    (λ j at. with-words (value_of e l g) out (λ v. with_value (stored g x j v) out (λ g'. Running (record { locals = l; todo = k; result_to = to } ∷ frames) g' out)) d
+    (λ v is. with-words (stored g x j v) out (λ g'. Running (record { locals = l; todo = k; result_to = to } ∷ frames) g' out) d
+    (λ g' w. running (record { locals = l; todo = k; result_to = to }) frames g' out a b (stored-words g x j v g' c (value-word e l g a c v is) w) d)))
+step-words p depth l (Do (run x f all) ∷ k) to frames g out a b c d =
+    with-words (values_of all l g) out (λ vs. called p depth f vs x (record { locals = l; todo = k; result_to = to } ∷ frames) g out) d
+    (λ vs is. called-words p depth f vs x (record { locals = l; todo = k; result_to = to } ∷ frames) g out (values-words all l g a c vs is)
+    (All-cons FrameHoldsWords (record { locals = l; todo = k; result_to = to }) frames a b) c d)
+step-words p depth l (Do (output e) ∷ k) to frames g out a b c d =
+    with-words (value_of e l g) out (λ v. Running (record { locals = l; todo = k; result_to = to } ∷ frames) g (out ++ v ∷ [])) d
+    (λ v is. running (record { locals = l; todo = k; result_to = to }) frames g (out ++ v ∷ []) a b c (All-push IsWord out v d (value-word e l g a c v is)))
+step-words p depth l (Do (branch t s u) ∷ k) to frames g out a b c d =
+    with-words (value_of t l g) out (λ v. Running (record { locals = l; todo = chosen v (before s k) (before u k); result_to = to } ∷ frames) g out) d
+    (λ v is. running (record { locals = l; todo = chosen v (before s k) (before u k); result_to = to }) frames g out a b c d)
+step-words p depth l (Do (loop t last body) ∷ k) to frames g out a b c d =
+    with-words (value_of t l g) out (λ v. Running (record { locals = l; todo = chosen v (before body (Next last (loop t last body) ∷ k)) k; result_to = to } ∷ frames) g out) d
+    (λ v is. running (record { locals = l; todo = chosen v (before body (Next last (loop t last body) ∷ k)) k; result_to = to }) frames g out a b c d)
+step-words p depth l (Do (return_with None) ∷ k) to frames g out a b c d = returned-words None to frames g out (λ w e. let never = e in cc) b c d
+step-words p depth l (Do (return_with (Some e)) ∷ k) to frames g out a b c d =
+    with-words (value_of e l g) out (λ v. returned (Some v) to frames g out) d
+    (λ v is. returned-words (Some v) to frames g out (λ w same. subst IsWord (same_Some v w same) (value-word e l g a c v is)) b c d)
+step-words p depth l _ to frames g out a b c d = d
+
+pub source-step-words : (p : TypedProgram) (depth : ℕ) (s : Run) → RunHoldsWords s → RunHoldsWords (source_step p depth s)
+source-step-words p depth (Running [] g out) h = h.1.1
+source-step-words p depth (Running (f ∷ frames) g out) h =
+    step-words p depth (settled Going f.locals f.todo).locals (settled Going f.locals f.todo).todo f.result_to frames g out
+    (settled-words Going f.locals f.todo (All-head FrameHoldsWords f frames h.0)) (All-tail FrameHoldsWords f frames h.0) h.1.0 h.1.1
+source-step-words p depth (Ended w out) h = h
+source-step-words p depth (Failed out) h = h
+
+wrapped : (n : ℕ) → IsWord (wrap n)
+wrapped n = omega arith
+
+globals-words : (all : List Global) → ArraysHoldWords (map first_words all)
+globals-words [] = All-nil (All IsWord)
+globals-words (a ∷ rest) = All-cons (All IsWord) (first_words a) (map first_words rest) (All-replicate IsWord a.length (wrap a.first) (wrapped a.first)) (globals-words rest)
+
+pub source-start-words : (p : TypedProgram) → RunHoldsWords (source_start p)
+source-start-words p =
+    with-words (slice_get p.functions p.main) [] (λ main. Running (record { locals = unset_places; todo = before_all main.body []; result_to = None } ∷ []) (map first_words p.globals) []) (All-nil IsWord)
+    (λ main e. running (record { locals = unset_places; todo = before_all main.body []; result_to = None }) [] (map first_words p.globals) [] unset-words (All-nil FrameHoldsWords) (globals-words p.globals) (All-nil IsWord))
+
+pub source-steps-words : (p : TypedProgram) (depth n : ℕ) → RunHoldsWords (source_steps p depth n (source_start p))
+source-steps-words p depth n = steps-keep RunHoldsWords (source_step p depth) (source-step-words p depth) n (source_start p) (source-start-words p)

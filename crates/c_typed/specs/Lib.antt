@@ -1,0 +1,6 @@
+pub mod Trees
+pub mod Shape
+pub mod WellFormed
+pub mod Values
+pub mod Meaning
+pub mod Laws
