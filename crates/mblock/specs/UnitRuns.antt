@@ -1,5 +1,5 @@
 -- What a unit of blocks does, item by item: an item is one instruction or one exit.
-use Rattle.std.specs.Prelude.{◌≡◌, ℕ, zero, suc, ◌<◌, ◌^◌, Bool, true, false, ◌==◌, List, [], ◌∷◌, ◌++◌, Option, Some, None, slice_get, if◌then◌else◌}
+use Rattle.std.specs.Prelude.{◌≡◌, ℕ, zero, suc, ◌<◌, ◌≤◌, ◌^◌, Bool, true, false, ◌==◌, List, [], ◌∷◌, ◌++◌, Option, Some, None, slice_get, if◌then◌else◌}
 use Rattle.words.specs.declared.ran.End.TheVariants.{Done, Wrong, More}
 use Rattle.words.specs.Runs.{Outcome}
 use Rattle.mips_isa.specs.declared.inst.Plain.{Plain}
@@ -74,3 +74,7 @@ is_call Halt = false
 pub record TellsApart (links : ℕ → ℕ) (blocks : List BlockParts) : Type 0 where
   pub words : (k : ℕ) → links k < 2 ^ 32
   pub apart : (i j : ℕ) (a b : BlockParts) → slice_get blocks i ≡ Some a → slice_get blocks j ≡ Some b → is_call a.exit ≡ true → is_call b.exit ≡ true → links i ≡ links j → i ≡ j
+
+-- after so many items or more the unit has this end and output, whatever the links
+abbrev pub ComesTo : List BlockParts → State → ℕ → Outcome → Type 0
+ComesTo blocks s r end = (links : ℕ → ℕ) → TellsApart links blocks → (i : ℕ) × (r ≤ i) × (unit_run blocks links s i ≡ end)
