@@ -3,9 +3,9 @@ use Rattle.std.proofs.Common.{◌≡◌, ◌≢◌, ℕ, zero, suc, ◌+◌, ◌
 use Rattle.std.specs.Prelude.{is_some}
 use Rattle.std.proofs.lemmas.Bool.{cases_lt}
 use Rattle.std.proofs.lemmas.Option.{same_Some, none-some, slice_get_within}
-use Rattle.words.specs.declared.ran.End.{End}
-use Rattle.words.specs.declared.ran.End.TheVariants.{Done, Wrong, More}
-use Rattle.words.specs.Runs.{Outcome}
+use Rattle.runs.specs.declared.ran.End.{End}
+use Rattle.runs.specs.declared.ran.End.TheVariants.{Done, Wrong, More}
+use Rattle.runs.specs.Runs.{Outcome}
 use Rattle.mips_isa.specs.declared.inst.Plain.{Plain}
 use Rattle.mips_isa.specs.declared.inst.Inst.{Inst}
 use Rattle.mips_isa.specs.declared.inst.Inst.TheVariants as I

@@ -1,6 +1,6 @@
 -- What laid out orders do: the words of their instructions run as the unit of their blocks.
 use Rattle.std.specs.Prelude.{◌≢◌, ℕ, ◌+◌, ◌*◌, ◌<◌, ◌≤◌, List, [], None, map, All, length}
-use Rattle.words.specs.declared.ran.End.TheVariants.{Wrong}
+use Rattle.runs.specs.declared.ran.End.TheVariants.{Wrong}
 use Rattle.mips_isa.specs.Ranges.{IsInst}
 use Rattle.mips_isa.specs.States.{State, IsWords}
 use Rattle.mips_isa.specs.Flows.{quiet}

@@ -2,7 +2,7 @@
 use Rattle.std.proofs.Common.{◌≡◌, ℕ, List, Some, refl, sym, ap, ◌∙◌, arith}
 use Rattle.std.specs.Prelude.{slice_get}
 use Rattle.std.proofs.lemmas.Option.{slice_get_within}
-use Rattle.words.specs.Runs.{Outcome}
+use Rattle.runs.specs.Runs.{Outcome}
 use Rattle.mblock.specs.declared.exit.Exit.{Exit}
 use Rattle.mblock.specs.declared.exit.Exit.TheVariants.{Goto, BranchPair, BranchZero, Call, Return, Out, Halt}
 use Rattle.mblock.specs.Parts.{BlockParts}

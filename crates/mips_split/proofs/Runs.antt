@@ -6,7 +6,7 @@ use Rattle.std.proofs.lemmas.Option.{same_Some, none-some}
 use Rattle.mips_isa.specs.declared.inst.Plain.{Plain}
 use Rattle.mips_isa.specs.States.{State}
 use Rattle.mips_isa.specs.Actions.{action_of, is_safe, after}
-use Rattle.words.specs.Runs.{Outcome}
+use Rattle.runs.specs.Runs.{Outcome}
 use Rattle.mblock.specs.declared.exit.Exit.{Exit}
 use Rattle.mblock.specs.declared.exit.Exit.TheVariants.{Goto}
 use Rattle.mblock.specs.Parts.{BlockParts}

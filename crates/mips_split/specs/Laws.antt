@@ -1,7 +1,7 @@
 -- The theorems of splitting.
 use Rattle.std.specs.Prelude.{◌≡◌, ℕ, ◌≤◌, List, length, Some, slice_get}
 use Rattle.mips_isa.specs.States.{State}
-use Rattle.words.specs.Runs.{Outcome}
+use Rattle.runs.specs.Runs.{Outcome}
 use Rattle.mblock.specs.Parts.{BlockParts}
 use Rattle.mblock.specs.UnitRuns.{unit_run, TellsApart, ComesTo}
 use Rattle.mblock.specs.Units.{AreLinked, AreOwners}

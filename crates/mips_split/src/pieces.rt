@@ -3,7 +3,7 @@
 ghost use Rattle.std.specs.Prelude.{◌≡◌, ℕ, suc, ◌+◌, ◌-◌, ◌/◌, ◌^◌, ◌<◌, ◌≤◌, ◌++◌, ◌∷◌, [], length, IfOk, OnOk, IfErr, slice_index, replicate};
 ghost use Rattle.mips_split.specs.Split.{renumbered, more_pieces, piece, pieces, count_of, total, firsts, split_from, owners_from, split_blocks, split_owners};
 ghost use Rattle.mips_isa.specs.States.{State};
-ghost use Rattle.words.specs.Runs.{Outcome};
+ghost use Rattle.runs.specs.Runs.{Outcome};
 ghost use Rattle.mblock.specs.UnitRuns.{ComesTo};
 ghost use Rattle.mblock.specs.Units.{AreLinked, AreOwners, unit_parts};
 

@@ -1,8 +1,8 @@
 -- A run of a program beside one of the machine: both end alike and write the same.
 use Rattle.std.specs.Prelude.{◌≡◌}
-use Rattle.words.specs.declared.ran.End.{End}
-use Rattle.words.specs.declared.ran.End.TheVariants.{Done, Wrong, More}
-use Rattle.words.specs.Runs.{Outcome}
+use Rattle.runs.specs.declared.ran.End.{End}
+use Rattle.runs.specs.declared.ran.End.TheVariants.{Done, Wrong, More}
+use Rattle.runs.specs.Runs.{Outcome}
 use Rattle.mips_steps.specs.declared.steps.Ending.{Ending}
 use Rattle.mips_steps.specs.declared.steps.Ending.TheVariants as endings
 use Rattle.mips_steps.specs.Machines as machine
