@@ -3,14 +3,14 @@ ghost use Rattle.clap.specs.declared.error.ErrorKind.TheVariants.{OutOfMemory};
 ghost use Rattle.clap.specs.Words.{kind_of, takes};
 ghost use Rattle.driver.specs.Commands.{mcc_app};
 ghost use Rattle.driver.specs.Texts.{end_status, exit_status, fault_text};
-ghost use Rattle.driver.specs.declared.checking.CheckAnswer.{CheckAnswer};
+ghost use Rattle.driver.specs.declared.verdicts.CheckAnswer.{CheckAnswer};
 
-use crate::asked::Words;
-use crate::checking::{CheckAnswer, CheckFault, check};
-use crate::interpreting::{InterpFault, interp};
+use crate::command::Command;
+use crate::verdicts::{CheckAnswer, CheckFault, check};
+use crate::source_runs::{InterpFault, interp};
 use crate::place::{Spot, line_offset, place_lines, spot_of};
-use crate::printed::EndLine;
-use crate::reading::words;
+use crate::texts::EndLine;
+use crate::command_line::words;
 use c_front::read::FaultKind as FrontKind;
 use c_statements::fault::FaultKind as TypeKind;
 use clap::Error;
@@ -255,9 +255,9 @@ pub fn mcc<F: Files, W: Write, E: Write>(
     ensures taken { takes mcc_app (map (λ s. s.now) args.entry.now) ≡ true → result ≢ 2 }
 {
     match words(alloc, args) {
-        Ok(Words::Check { file }) => check_file(alloc, file, files, out, err),
+        Ok(Command::Check { file }) => check_file(alloc, file, files, out, err),
         Ok(
-            Words::Interp {
+            Command::Interp {
                 source,
                 depth,
                 steps,

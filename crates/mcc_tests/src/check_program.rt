@@ -1,7 +1,7 @@
 // The whole program, over files and streams that can fail.
 
 use crate::stand_ins::{OneText, Shut, tells};
-use driver::{FileFault, Words, mcc, words};
+use driver::{FileFault, Command, mcc, words};
 use std::test::Fail;
 
 const SAME: &str = "block\naddiu $10,$10,1\nreturn\norder\nreturn\nslot addiu $10,$10,1\n";
@@ -140,7 +140,7 @@ fn help_is_on_standard_output(rt: HostRuntime) -> Result<(), Fail> {
 #[test]
 fn words_give_the_file(rt: HostRuntime) -> Result<(), Fail> {
     let args = ["mcc", "check", "a text"];
-    let Ok(Words::Check { file }) = words(rt.alloc(), args.as_slice()) else {
+    let Ok(Command::Check { file }) = words(rt.alloc(), args.as_slice()) else {
         panic!(rt; "no command")
     };
     assert_eq!(rt; file, "a text");

@@ -1,7 +1,7 @@
 // `mcc interp` over a text in memory: its output, its faults and its statuses.
 
 use crate::stand_ins::{OneText, Shut, tells};
-use driver::{Words, mcc, words};
+use driver::{Command, mcc, words};
 use std::test::Fail;
 
 const COUNTS: &str =
@@ -206,7 +206,7 @@ fn words_give_the_bounds(rt: HostRuntime) -> Result<(), Fail> {
         "4096",
     ];
     let Ok(
-        Words::Interp {
+        Command::Interp {
             source,
             depth,
             steps,
@@ -219,7 +219,7 @@ fn words_give_the_bounds(rt: HostRuntime) -> Result<(), Fail> {
     assert_eq!(rt; depth, 4096);
     assert_eq!(rt; steps, 4294967295);
     let left_out = ["mcc", "interp", "a.c"];
-    let Ok(Words::Interp { depth, steps, .. }) = words(rt.alloc(), left_out.as_slice()) else {
+    let Ok(Command::Interp { depth, steps, .. }) = words(rt.alloc(), left_out.as_slice()) else {
         panic!(rt; "no command")
     };
     assert_eq!(rt; depth, 256);

@@ -4,8 +4,8 @@ ghost use Rattle.std.specs.Prelude.{◌≡◌, Some};
 ghost use Rattle.std.specs.Fmt.{DisplaysOnOk};
 ghost use Rattle.driver.specs.Texts.{answer_text, check_fault_text, end_text, front_name, interp_fault_text, place_text, rule_text, type_name};
 
-use crate::checking::{CheckAnswer, CheckFault};
-use crate::interpreting::InterpFault;
+use crate::verdicts::{CheckAnswer, CheckFault};
+use crate::source_runs::InterpFault;
 use block_validator::Place;
 use c_front::read::FaultKind as FrontKind;
 use c_statements::fault::FaultKind as TypeKind;

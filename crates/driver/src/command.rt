@@ -1,6 +1,6 @@
 /// A command of the program with its values.
 #[derive(Clone, Copy, Debug)]
-pub enum Words<'a> {
+pub enum Command<'a> {
     /// The verdict on the check text of a file.
     Check {
         file: &'a str,

@@ -4,9 +4,9 @@ ghost use Rattle.clap.specs.declared.error.ErrorKind.TheVariants.{OutOfMemory};
 ghost use Rattle.clap.specs.Words.{app_of, found_of, kind_of, one_of, rows_of, rule_of, subcommand_rows_of, takes};
 ghost use Rattle.driver.specs.Commands.{check_app, interp_app, mcc_app, source_app, number_rule, HasValues, IsCommand, IsNumber};
 
-use crate::asked::Words;
+use crate::command::Command;
 use clap::builder::ValueParser;
-use clap::{Arg, ArgAction, ArgMatches, Command, Error};
+use clap::{Arg, ArgAction, ArgMatches, Command as CommandLine, Error};
 use std::alloc::{AllocError, Global};
 
 const CHECK_HELP: &str = "\
@@ -52,7 +52,7 @@ wrong words, 4 for `more`, 3 for any other answer.
 Examples: mcc check crates/example_files/data/slot-filled.check
           mcc interp crates/example_files/data/squares.c";
 
-fn check_command<'a>(alloc: Global) -> Result<Command<'a>, AllocError>
+fn check_command<'a>(alloc: Global) -> Result<CommandLine<'a>, AllocError>
     ensures app { IfOk result (λ c. app_of c ≡ check_app) }
     ensures local { IfOk result (λ c. (out-Command c).has_globals ≡ false) }
 {
@@ -60,7 +60,7 @@ fn check_command<'a>(alloc: Global) -> Result<Command<'a>, AllocError>
         .required(true)
         .action(ArgAction::Set)
         .help("The check text");
-    Command::new(alloc, "check")
+    CommandLine::new(alloc, "check")
         .about("Says whether an order may stand for a block")
         .after_help(CHECK_HELP)
         .arg(file)
@@ -78,7 +78,7 @@ fn number<'a>(alloc: Global, id: &'a str, low: u64, high: u64, about: &'a str) -
         .help(about)
 }
 
-fn source_command<'a>(alloc: Global) -> Result<Command<'a>, AllocError>
+fn source_command<'a>(alloc: Global) -> Result<CommandLine<'a>, AllocError>
     ensures app { IfOk result (λ c. app_of c ≡ source_app) }
     ensures local { IfOk result (λ c. (out-Command c).has_globals ≡ false) }
 {
@@ -86,13 +86,13 @@ fn source_command<'a>(alloc: Global) -> Result<Command<'a>, AllocError>
         .required(true)
         .action(ArgAction::Set)
         .help("The C program");
-    Command::new(alloc, "interp")
+    CommandLine::new(alloc, "interp")
         .about("Runs a C program by its meaning")
         .after_help(INTERP_HELP)
         .arg(source)
 }
 
-fn interp_command<'a>(alloc: Global) -> Result<Command<'a>, AllocError>
+fn interp_command<'a>(alloc: Global) -> Result<CommandLine<'a>, AllocError>
     ensures app { IfOk result (λ c. app_of c ≡ interp_app) }
     ensures local { IfOk result (λ c. (out-Command c).has_globals ≡ false) }
 {
@@ -103,12 +103,12 @@ fn interp_command<'a>(alloc: Global) -> Result<Command<'a>, AllocError>
 }
 
 /// The command line of `mcc`.
-fn command<'a>(alloc: Global) -> Result<Command<'a>, AllocError>
+fn grammar<'a>(alloc: Global) -> Result<CommandLine<'a>, AllocError>
     ensures { IfOk result (λ c. app_of c ≡ mcc_app) }
 {
     let check = check_command(alloc)?;
     let interp = interp_command(alloc)?;
-    Command::new(alloc, "mcc")
+    CommandLine::new(alloc, "mcc")
         .about("A checked scheduler for MIPS I, and a C interpreter")
         .after_help(STATUS_HELP)
         .subcommand_required(true)
@@ -116,11 +116,11 @@ fn command<'a>(alloc: Global) -> Result<Command<'a>, AllocError>
         .subcommand(interp)
 }
 
-fn check_words<'a>(values: &ArgMatches<'a>) -> Option<Words<'a>>
+fn entered_check<'a>(values: &ArgMatches<'a>) -> Option<Command<'a>>
     ensures { IfSome result (HasValues (codes "check") (rows_of (found_of values.now))) }
 {
     let file = values.get_str("FILE")?;
-    Some(Words::Check { file })
+    Some(Command::Check { file })
 }
 
 /// The value of an option, or the number that stands for it; None where its text is no number.
@@ -134,7 +134,7 @@ fn number_or(values: &ArgMatches<'_>, id: &str, default: u32) -> Option<u32>
     }
 }
 
-fn interp_words<'a>(values: &ArgMatches<'a>) -> Option<Words<'a>>
+fn entered_interp<'a>(values: &ArgMatches<'a>) -> Option<Command<'a>>
     ensures { IfSome result (HasValues (codes "interp") (rows_of (found_of values.now))) }
 {
     let source = values.get_str("SOURCE")?;
@@ -143,21 +143,21 @@ fn interp_words<'a>(values: &ArgMatches<'a>) -> Option<Words<'a>>
     if depth < 1 || depth > 4096 {
         return None;
     }
-    Some(Words::Interp {
+    Some(Command::Interp {
         source,
         depth,
         steps: steps as u64,
     })
 }
 
-fn entered<'a>(matches: &ArgMatches<'a>) -> Option<Words<'a>>
+fn entered<'a>(matches: &ArgMatches<'a>) -> Option<Command<'a>>
     ensures { IfSome result (λ w. (name : _) × (rows : _) × (subcommand_rows_of matches.now ≡ Some (name, rows)) × HasValues name rows w) }
 {
     let (name, values) = matches.subcommand()?;
     if name == "check" {
-        check_words(values)
+        entered_check(values)
     } else if name == "interp" {
-        interp_words(values)
+        entered_interp(values)
     } else {
         None
     }
@@ -165,11 +165,11 @@ fn entered<'a>(matches: &ArgMatches<'a>) -> Option<Words<'a>>
 
 /// What the words ask for; the first is the program's name. An error is clap's: help, wrong words, or
 /// out of memory, which is all that it can be where clap takes the words.
-pub fn words<'a>(alloc: Global, words: &'a [&'a str]) -> Result<Words<'a>, Error>
+pub fn words<'a>(alloc: Global, words: &'a [&'a str]) -> Result<Command<'a>, Error>
     ensures command { IfOk result (IsCommand (map (λ s. s.now) words.entry.now)) }
     ensures refused { IfErr result (λ e. takes mcc_app (map (λ s. s.now) words.entry.now) ≡ true → kind_of e ≡ OutOfMemory) }
 {
-    let command = command(alloc)?;
+    let command = grammar(alloc)?;
     let matches = command.try_get_matches_from(words)?;
     match entered(&matches) {
         Some(asked) => Ok(asked),
