@@ -2,7 +2,7 @@
 //! says how long each took, or reads N nested statements or parentheses, to see what stack they take.
 #![tactic(auto)]
 
-use c_front::read::read;
+use c_front::read;
 use std::alloc::{AllocError, Global};
 use std::env;
 use std::time::Instant;

@@ -2,9 +2,9 @@
 //! long the run took: three steps a turn, and four in the last.
 #![tactic(auto)]
 
-use c_front::read::read;
+use c_front::read;
 use c_run::run;
-use c_types::program::check;
+use c_types::check;
 use std::alloc::{AllocError, Global};
 use std::fmt::Write;
 use std::time::Instant;
