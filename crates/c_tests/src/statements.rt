@@ -1,6 +1,6 @@
 // Statements, the steps that they take, and calls.
 
-use crate::texts::comes_to;
+use crate::runs_of_texts::comes_to;
 use std::test::Fail;
 use runs::End;
 

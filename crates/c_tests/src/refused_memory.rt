@@ -1,6 +1,6 @@
 // Memory that is really refused: each test is a process of its own, and this one takes all that it can get.
 
-use crate::texts::{answer, around};
+use crate::syntax::{answer, around};
 use std::alloc::{AllocError, Global};
 use std::test::Fail;
 

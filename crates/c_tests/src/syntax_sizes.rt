@@ -1,4 +1,4 @@
-use crate::texts::{answer, around};
+use crate::syntax::{answer, around};
 use std::test::Fail;
 
 #[test]

@@ -1,4 +1,4 @@
-use crate::texts::fault;
+use crate::sources::fault;
 use std::test::Fail;
 
 const ROWS: [(&[u8], u8, usize); 87] = [

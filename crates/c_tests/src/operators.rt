@@ -1,6 +1,6 @@
 // Operators at their edges. The expected words are C's own.
 
-use crate::texts::comes_to;
+use crate::runs_of_texts::comes_to;
 use std::alloc::{AllocError, Global};
 use std::process::Abort;
 use std::test::Fail;

@@ -1,6 +1,6 @@
 // The deepest nests of statements that the sizes allow, each read on a thread with a large stack.
 
-use crate::texts::{answer, around};
+use crate::syntax::{answer, around};
 use std::alloc::{AllocError, Global};
 use std::test::Fail;
 use std::thread::Builder;

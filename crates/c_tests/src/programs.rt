@@ -1,4 +1,4 @@
-use crate::texts::comes_to;
+use crate::sources::comes_to;
 use std::test::Fail;
 use runs::End;
 

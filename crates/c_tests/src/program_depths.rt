@@ -1,8 +1,8 @@
 // The deepest nests that the sizes allow, each run on a thread with a large stack.
 
-use c_front::read::read;
+use c_front::read;
 use c_run::run;
-use c_types::program::check;
+use c_types::check;
 use std::alloc::{AllocError, Global};
 use std::test::Fail;
 use std::thread::Builder;

@@ -1,4 +1,4 @@
-use crate::texts::{answer, around};
+use crate::syntax::{answer, around};
 use std::test::Fail;
 
 const ROWS: [(&[u8], u8, usize); 71] = [

@@ -1,4 +1,4 @@
-use crate::texts::fault;
+use crate::sources::fault;
 use std::alloc::{AllocError, Global};
 use std::fmt::Write;
 use std::test::Fail;

@@ -1,6 +1,6 @@
-use c_front::read::read;
+use c_front::read;
 use c_run::run;
-use c_types::program::check;
+use c_types::check;
 use std::alloc::{AllocError, Global};
 use std::process::Abort;
 use runs::End;
