@@ -1,3 +1,4 @@
+//! What two sides can differ in.
 use mips_isa::NonzeroReg;
 
 /// What the sides of a comparison can differ in, in the order in which it is compared.

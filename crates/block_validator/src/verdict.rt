@@ -1,12 +1,14 @@
+//! The verdict on an order for a block, and the orders that were checked.
 ghost use Rattle.std.specs.Prelude.{◌≡◌, IfOk, IfErr, MatchOption};
 ghost use Rattle.mblock.specs.Parts.{BlockParts, OrderParts};
 ghost use Rattle.mblock.specs.Clean.{IsClean};
 ghost use Rattle.mblock.specs.BlockMeaning.{exit_shape};
 ghost use Rattle.term_table.specs.Passes.{IsOf, linked};
+ghost use Rattle.term_table.specs.Trees.{HasLegalHistory};
 ghost use Rattle.sym_exec.specs.Symbolic.{block_trees, order_trees};
 ghost use Rattle.sym_exec.specs.Standing.{Later, IsFull};
 ghost use Rattle.block_validator.specs.Same.{SameTrees, DiffersFirst, Means, EachCheckedOrderMeansItsBlock};
-ghost use Rattle.block_validator.specs.Verdicts.{IsVerdict};
+ghost use Rattle.block_validator.specs.Verdicts.{IsVerdict, OneDecision};
 
 use crate::compare::first_difference;
 use crate::place::Place;
@@ -34,7 +36,7 @@ impl<'a> Model for Checked<'a> {
 }
 
 impl<'a> Checked<'a> {
-    ghost use Rattle.mblock.specs.Clean.{IsClean};
+    ghost use Rattle.mblock.specs.Clean.{IsClean, FitsSlot};
     ghost use Rattle.mblock.specs.BlockMeaning.{exit_shape};
     ghost use Rattle.sym_exec.specs.Symbolic.{block_trees, order_trees};
     ghost use Rattle.block_validator.specs.Same.{SameTrees, Means};
@@ -51,6 +53,7 @@ impl<'a> Checked<'a> {
     pub fn order(&self) -> &Order
         ensures value { result.now ≡ self.now.order }
         ensures clean { IsClean self.now.order }
+        ensures fits { FitsSlot self.now.order }
         ensures same { SameTrees (block_trees self.now.block) (order_trees self.now.order) }
         ensures exit { exit_shape self.now.block.exit ≡ exit_shape self.now.order.exit }
         ensures means { Means self.now.block self.now.order }
@@ -85,6 +88,7 @@ fn compare(
     ensures exact { IfOk result (λ r. MatchOption r (SameTrees (block_trees block.now) (order_trees order.now)) (DiffersFirst (block_trees block.now) (order_trees order.now))) }
     ensures table { IsOf table.now pass.new }
     ensures later { Later pass.old pass.new }
+    ensures legal { HasLegalHistory pass.new }
     ensures full { IfErr result (IsFull pass.new) }
 {
     let first = run_block(alloc, table, pass, block)?;
@@ -109,9 +113,12 @@ pub fn validate<'a>(
     ensures exact { IsVerdict block.now order result }
     ensures table { IsOf table.now pass.new }
     ensures later { Later pass.old pass.new }
+    ensures legal { HasLegalHistory pass.new }
     ensures full { result ≡ Verdict.Full → linked pass.new ≡ pass.new.nodes }
 {
     if let Err(rule) = clean(&order) {
+        // No call is made here, so the check has to be told that the history is legal.
+        let _linked = pass.linked();
         return Verdict::Unclean(rule);
     }
     match compare(alloc, table, pass, block, &order) {
@@ -125,4 +132,10 @@ pub fn validate<'a>(
 /// Each clean order that has its block's trees means the block. A law: it computes nothing.
 pub fn checked_orders_mean_their_blocks()
     ensures { EachCheckedOrderMeansItsBlock }
+{}
+
+/// A block and an order have one verdict: no two of what `Decides` says of them differ. A law: it
+/// computes nothing.
+pub fn one_verdict()
+    ensures { OneDecision }
 {}

@@ -5,7 +5,7 @@ use Rattle.clap.specs.Words.{App, Text, takes}
 use Rattle.clap.specs.declared.error.ErrorKind.{ErrorKind}
 use Rattle.clap.specs.declared.error.ErrorKind.TheVariants.{OutOfMemory}
 use Rattle.mblock.specs.Parts.{BlockParts, OrderParts}
-use Rattle.driver.specs.declared.checking.CheckAnswer.{CheckAnswer}
+use Rattle.driver.specs.declared.verdicts.CheckAnswer.{CheckAnswer}
 use Rattle.driver.specs.Checks.{IsAnswer}
 
 pub answer_moves : (a b : BlockParts) (o p : OrderParts) (answer : CheckAnswer) → a ≡ b → o ≡ p → IsAnswer a o answer → IsAnswer b p answer

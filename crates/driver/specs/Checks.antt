@@ -6,10 +6,10 @@ use Rattle.check_text.specs.Whole.{FailsAt}
 use Rattle.mblock.specs.Clean.{IsClean, BreaksFirst}
 use Rattle.sym_exec.specs.Symbolic.{block_trees, order_trees}
 use Rattle.block_validator.specs.Same.{SameTrees, DiffersFirst}
-use Rattle.driver.specs.declared.checking.CheckAnswer.{CheckAnswer}
-use Rattle.driver.specs.declared.checking.CheckAnswer.TheVariants as answers
-use Rattle.driver.specs.declared.checking.CheckFault.{CheckFault}
-use Rattle.driver.specs.declared.checking.CheckFault.TheVariants as faults
+use Rattle.driver.specs.declared.verdicts.CheckAnswer.{CheckAnswer}
+use Rattle.driver.specs.declared.verdicts.CheckAnswer.TheVariants as answers
+use Rattle.driver.specs.declared.verdicts.CheckFault.{CheckFault}
+use Rattle.driver.specs.declared.verdicts.CheckFault.TheVariants as faults
 
 -- the verdict, without what a checked order keeps
 abbrev pub IsAnswer : BlockParts → OrderParts → CheckAnswer → Type 0
@@ -22,4 +22,4 @@ IsAnswer b o answers.Full = IsClean o
 abbrev pub IsCheckFault : List ℕ → CheckFault → Type 0
 IsCheckFault text faults.Size = 2 ^ 20 < length text
 IsCheckFault text (faults.Line n) = (length text ≤ 2 ^ 20) × ((k : ℕ) × (n ≡ k + 1) × FailsAt (lines_of text) k)
-IsCheckFault text faults.NoMemory = Unit {0}
+IsCheckFault text faults.NoMemory = length text ≤ 2 ^ 20

@@ -4,8 +4,8 @@ use Rattle.std.specs.Str.Parse.{IsNumeral, digits_value, without_leading_plus}
 use Rattle.clap.specs.Words.{App, Row, Rule, Text, first_of, one_of, new_app, new_rule, subcommand_of, with_rule, with_subcommand}
 use Rattle.clap.specs.declared.builder.ArgAction.TheVariants.{Set}
 use Rattle.clap.specs.declared.builder.value_parser.ValueParser.TheVariants as parsers
-use Rattle.driver.specs.declared.asked.Words.{Words}
-use Rattle.driver.specs.declared.asked.Words.TheVariants.{Check, Interp}
+use Rattle.driver.specs.declared.command.Command.{Command}
+use Rattle.driver.specs.declared.command.Command.TheVariants.{Check, Interp}
 
 -- an argument by its place, which must be there
 abbrev pub required_rule : Text → Rule
@@ -38,7 +38,7 @@ IsNumber None default n = n ≡ default
 IsNumber (Some text) default n = IsNumeral 10 (without_leading_plus text) × (digits_value 10 (without_leading_plus text) ≡ n)
 
 -- the command's name, and the values that its arguments have
-abbrev pub HasValues : Text → List Row → Words → Type 0
+abbrev pub HasValues : Text → List Row → Command → Type 0
 HasValues name rows (Check file) = (name ≡ codes "check") × (first_of (codes "FILE") rows ≡ Some file.now)
 HasValues name rows (Interp source depth steps) =
     (name ≡ codes "interp") × (first_of (codes "SOURCE") rows ≡ Some source.now)
@@ -46,5 +46,5 @@ HasValues name rows (Interp source depth steps) =
     × IsNumber (one_of (codes "steps") rows) 1000000 steps × (steps < 2 ^ 32)
 
 -- the subcommand and its values are clap's matches of the words
-abbrev pub IsCommand : List Text → Words → Type 0
+abbrev pub IsCommand : List Text → Command → Type 0
 IsCommand words w = (name : Text) × (rows : List Row) × (subcommand_of mcc_app words ≡ Some (name, rows)) × HasValues name rows w

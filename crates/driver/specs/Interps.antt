@@ -8,8 +8,8 @@ use Rattle.c_statements.specs.Faults.{IsCheckFault}
 use Rattle.c_types.specs.Programs.{FaultyProgram}
 use Rattle.c_types.specs.Typed.{SpellsTyped}
 use Rattle.c_typed.specs.Meaning.{source_run}
-use Rattle.driver.specs.declared.interpreting.InterpFault.{InterpFault}
-use Rattle.driver.specs.declared.interpreting.InterpFault.TheVariants as faults
+use Rattle.driver.specs.declared.source_runs.InterpFault.{InterpFault}
+use Rattle.driver.specs.declared.source_runs.InterpFault.TheVariants as faults
 
 -- what the program that a text spells comes to, which has no fault
 pub record IsRun (text : List ℕ) (depth steps : ℕ) (o : Outcome) : Type 0 where

@@ -13,12 +13,12 @@ use Rattle.c_front.specs.Texts.{number_of}
 use Rattle.c_statements.specs.declared.fault.FaultKind.{FaultKind as TypeFaultKind}
 use Rattle.c_statements.specs.declared.fault.FaultKind.TheVariants as types
 use Rattle.c_statements.specs.Faults.{number_of as type_number_of}
-use Rattle.driver.specs.declared.interpreting.InterpFault.{InterpFault}
-use Rattle.driver.specs.declared.interpreting.InterpFault.TheVariants as interp_faults
-use Rattle.driver.specs.declared.checking.CheckAnswer.{CheckAnswer}
-use Rattle.driver.specs.declared.checking.CheckAnswer.TheVariants as answers
-use Rattle.driver.specs.declared.checking.CheckFault.{CheckFault}
-use Rattle.driver.specs.declared.checking.CheckFault.TheVariants as check_faults
+use Rattle.driver.specs.declared.source_runs.InterpFault.{InterpFault}
+use Rattle.driver.specs.declared.source_runs.InterpFault.TheVariants as interp_faults
+use Rattle.driver.specs.declared.verdicts.CheckAnswer.{CheckAnswer}
+use Rattle.driver.specs.declared.verdicts.CheckAnswer.TheVariants as answers
+use Rattle.driver.specs.declared.verdicts.CheckFault.{CheckFault}
+use Rattle.driver.specs.declared.verdicts.CheckFault.TheVariants as check_faults
 use Rattle.driver.specs.declared.program.Fault.{Fault}
 use Rattle.driver.specs.declared.program.Fault.TheVariants as faults
 

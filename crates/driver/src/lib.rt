@@ -8,16 +8,16 @@
 //! streams. What is printed stands in `specs/Texts.antt`.
 #![tactic(auto)]
 
-mod asked;
-mod checking;
-mod interpreting;
+mod command;
+mod command_line;
 mod place;
-mod printed;
 mod program;
-mod reading;
+mod source_runs;
+mod texts;
+mod verdicts;
 
-pub use asked::Words;
-pub use checking::{CheckAnswer, CheckFault, check};
-pub use interpreting::{InterpFault, interp};
+pub use command::Command;
+pub use command_line::words;
 pub use program::{FileFault, Files, mcc};
-pub use reading::words;
+pub use source_runs::{InterpFault, interp};
+pub use verdicts::{CheckAnswer, CheckFault, check};

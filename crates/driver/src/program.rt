@@ -3,14 +3,16 @@ ghost use Rattle.clap.specs.declared.error.ErrorKind.TheVariants.{OutOfMemory};
 ghost use Rattle.clap.specs.Words.{kind_of, takes};
 ghost use Rattle.driver.specs.Commands.{mcc_app};
 ghost use Rattle.driver.specs.Texts.{end_status, exit_status, fault_text};
-ghost use Rattle.driver.specs.declared.checking.CheckAnswer.{CheckAnswer};
+ghost use Rattle.driver.specs.declared.verdicts.CheckAnswer.{CheckAnswer};
 
-use crate::asked::Words;
-use crate::checking::{CheckAnswer, CheckFault, check};
-use crate::interpreting::{InterpFault, interp};
-use crate::place::place_lines;
-use crate::printed::EndLine;
-use crate::reading::words;
+use crate::command::Command;
+use crate::verdicts::{CheckAnswer, CheckFault, check};
+use crate::source_runs::{InterpFault, interp};
+use crate::place::{Spot, line_offset, place_lines, spot_of};
+use crate::texts::EndLine;
+use crate::command_line::words;
+use c_front::FaultKind as FrontKind;
+use c_statements::FaultKind as TypeKind;
 use clap::Error;
 use clap::error::ErrorKind;
 use std::alloc::Global;
@@ -91,20 +93,54 @@ fn read_file<F: Files>(alloc: Global, name: &str, files: &mut F) -> Result<Vec<u
     }
 }
 
-fn check_file<F: Files, W: Write>(
+/// The verdict on a text, printed.
+fn check_text<W: Write>(alloc: Global, text: &[u8], out: &mut W) -> Result<u8, Fault>
+    ensures status { IfOk result (λ s. (a : CheckAnswer) × (s ≡ exit_status a)) }
+    ensures not_wrong_words { IfOk result (λ s. s ≢ 2) }
+{
+    let answer = check(alloc, text).map_err(Fault::Check)?;
+    match print(out, &answer) {
+        Ok(()) => Ok(status_of(&answer)),
+        Err(_) => Err(Fault::CannotWrite),
+    }
+}
+
+/// Below a fault's line: where it lies, as editors read it, and the line of the text with a caret under the place. At the
+/// text's end there is no such line.
+fn show_place<E: Write>(alloc: Global, err: &mut E, source: &str, text: &[u8], at: usize) {
+    let Spot { line, column } = spot_of(text, at);
+    let _ = writeln!(err, "{source}:{line}:{column}:");
+    if at < text.len() {
+        if let Ok(lines) = place_lines(alloc, text, at) {
+            let _ = err.write_all(lines.as_slice());
+        }
+    }
+}
+
+fn check_file<F: Files, W: Write, E: Write>(
     alloc: Global,
     file: &str,
     files: &mut F,
     out: &mut W,
-) -> Result<u8, Fault>
-    ensures status { IfOk result (λ s. (a : CheckAnswer) × (s ≡ exit_status a)) }
-    ensures not_wrong_words { IfOk result (λ s. s ≢ 2) }
+    err: &mut E,
+) -> u8
+    ensures most { result ≤ 4 }
+    ensures not_wrong_words { result ≢ 2 }
 {
-    let text = read_file(alloc, file, files)?;
-    let answer = check(alloc, text.as_slice()).map_err(Fault::Check)?;
-    match print(out, &answer) {
-        Ok(()) => Ok(status_of(&answer)),
-        Err(_) => Err(Fault::CannotWrite),
+    let text = match read_file(alloc, file, files) {
+        Ok(text) => text,
+        Err(fault) => return tell(err, fault),
+    };
+    match check_text(alloc, text.as_slice(), out) {
+        Ok(status) => status,
+        Err(fault) => {
+            let status = tell(err, fault);
+            if let Fault::Check(CheckFault::Line(line)) = fault {
+                let at = line_offset(text.as_slice(), line);
+                show_place(alloc, err, file, text.as_slice(), at);
+            }
+            status
+        }
     }
 }
 
@@ -129,20 +165,28 @@ fn end_status(end: End) -> u8
     }
 }
 
-/// The fault's line, and then the line of the text with a mark under its place.
-fn tell_place<E: Write>(alloc: Global, err: &mut E, text: &[u8], fault: InterpFault) -> u8
+/// Where a fault lies in its text; none where memory was refused.
+fn offset_of(fault: InterpFault) -> Option<usize> {
+    match fault {
+        InterpFault::Front(fault) if fault.kind != FrontKind::NoMemory => Some(fault.at),
+        InterpFault::Types(fault) if fault.kind != TypeKind::NoMemory => Some(fault.at),
+        _ => None,
+    }
+}
+
+/// The fault's line, and below it where it lies.
+fn tell_place<E: Write>(
+    alloc: Global,
+    err: &mut E,
+    source: &str,
+    text: &[u8],
+    fault: InterpFault,
+) -> u8
     ensures { result ≡ 1 }
 {
     let status = tell(err, Fault::Interp(fault));
-    let at = match fault {
-        InterpFault::Front(fault) => fault.at,
-        InterpFault::Types(fault) => fault.at,
-        InterpFault::NoMemory => text.len(),
-    };
-    if at < text.len() {
-        if let Ok(lines) = place_lines(alloc, text, at) {
-            let _ = err.write_all(lines.as_slice());
-        }
+    if let Some(at) = offset_of(fault) {
+        show_place(alloc, err, source, text, at);
     }
     status
 }
@@ -174,7 +218,7 @@ fn interp_file<F: Files, W: Write, E: Write>(
             Ok(()) => end_status(ran.end),
             Err(_) => tell(err, Fault::CannotWrite),
         },
-        Err(fault) => tell_place(alloc, err, text.as_slice(), fault),
+        Err(fault) => tell_place(alloc, err, source, text.as_slice(), fault),
     }
 }
 
@@ -211,12 +255,9 @@ pub fn mcc<F: Files, W: Write, E: Write>(
     ensures taken { takes mcc_app (map (λ s. s.now) args.entry.now) ≡ true → result ≢ 2 }
 {
     match words(alloc, args) {
-        Ok(Words::Check { file }) => match check_file(alloc, file, files, out) {
-            Ok(status) => status,
-            Err(fault) => tell(err, fault),
-        },
+        Ok(Command::Check { file }) => check_file(alloc, file, files, out, err),
         Ok(
-            Words::Interp {
+            Command::Interp {
                 source,
                 depth,
                 steps,

@@ -7,7 +7,8 @@ use Rattle.mips_isa.specs.declared.action.Action.{Action}
 use Rattle.mips_isa.specs.declared.action.Action.TheVariants.{Computes, Sets, Loads, Stores, Multiplies, Divides, MovesHigh, MovesLow}
 use Rattle.mips_isa.specs.States.{State, is_register, read, put}
 use Rattle.mips_isa.specs.Actions.{action_of, is_safe, after, touches, loads, is_load, is_move, is_product}
-use Rattle.mips_isa.specs.Flows.{Pending, Nothing, Loaded, Flow, settle, pending_of, on_pending, flow_after, word, words_from, quiet}
+use Rattle.mips_isa.specs.Flows.{Pending, Nothing, Loaded, Flow, settle, pending_of, on_pending, flow_after, quiet}
+use Rattle.mips_isa.specs.Steps.{word, words_from}
 use Rattle.mips_isa.proofs.Registers.{read-put, put-put, put_lost}
 use Rattle.mips_isa.proofs.Late.{settled, word_runs, settled_after, or_left, or_right, settle_lost}
 use Rattle.mblock.specs.declared.exit.Exit.{Exit}

@@ -1,12 +1,11 @@
 -- What a block does: its instructions one after another, a load showing at once, then its exit.
-use Rattle.std.specs.Prelude.{ℕ, Bool, not, ◌||◌, List, [], ◌∷◌, map, Option, Some, None, nat_lt, ◌==◌, ◌^◌, slice_index, if◌then◌else◌}
+use Rattle.std.specs.Prelude.{ℕ, List, [], ◌∷◌, map, Option, Some, None, slice_index, if◌then◌else◌}
 use Rattle.mips_isa.specs.declared.inst.PairTest.{PairTest}
-use Rattle.mips_isa.specs.declared.inst.PairTest.TheVariants.{Equal, NotEqual}
 use Rattle.mips_isa.specs.declared.inst.ZeroTest.{ZeroTest}
-use Rattle.mips_isa.specs.declared.inst.ZeroTest.TheVariants.{AtMostZero, AboveZero, BelowZero, AtLeastZero}
 use Rattle.mips_isa.specs.declared.action.Action.{Action}
 use Rattle.mips_isa.specs.States.{State, read, put}
 use Rattle.mips_isa.specs.Actions.{action_of, is_safe, after}
+use Rattle.mips_isa.specs.Controls.{pair_passes, zero_passes}
 use Rattle.mblock.specs.declared.exit.Exit.{Exit}
 use Rattle.mblock.specs.declared.exit.Exit.TheVariants.{Goto, BranchPair, BranchZero, Call, Return, Out, Halt}
 use Rattle.mblock.specs.Parts.{BlockParts}
@@ -54,20 +53,6 @@ pub data Departure : Type 0 where
   GoesBack : (link : ℕ) → Departure
   PrintsTo : (word n : ℕ) → Departure
   HaltsWith : (word : ℕ) → Departure
-
-abbrev pub is_negative : ℕ → Bool
-is_negative w = not (nat_lt w (2 ^ 31))
-
--- a branch's condition on the words that it reads
-abbrev pub pair_passes : PairTest → ℕ → ℕ → Bool
-pair_passes Equal a b = a == b
-pair_passes NotEqual a b = not (a == b)
-
-abbrev pub zero_passes : ZeroTest → ℕ → Bool
-zero_passes AtMostZero a = (a == 0) || is_negative a
-zero_passes AboveZero a = not ((a == 0) || is_negative a)
-zero_passes BelowZero a = is_negative a
-zero_passes AtLeastZero a = not (is_negative a)
 
 abbrev pub depart : Shape → List ℕ → Departure
 depart (Goes t) words = GoesTo t

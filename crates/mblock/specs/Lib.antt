@@ -4,3 +4,7 @@ pub mod Slots
 pub mod BlockMeaning
 pub mod OrderMeaning
 pub mod Clean
+pub mod PlainOrders
+pub mod Orders
+pub mod UnitRuns
+pub mod Units

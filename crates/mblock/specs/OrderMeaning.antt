@@ -1,14 +1,18 @@
 -- What an order does, word by word: a loaded register shows one word later, and an exit with a slot
 -- reads its operands and puts in its link before the slot runs. Out and Halt are two words.
-use Rattle.std.specs.Prelude.{ℕ, pred, Bool, false, ◌||◌, List, map, Option, Some, None, ◌==◌, if◌then◌else◌}
+use Rattle.std.specs.Prelude.{ℕ, pos, Bool, ◌||◌, List, map, Option, Some, None, if◌then◌else◌}
 use Rattle.words.specs.declared.operator.Operator.TheVariants.{Addu}
 use Rattle.mips_isa.specs.declared.inst.Plain.{Plain}
+use Rattle.mips_isa.specs.declared.inst.JumpOp.TheVariants.{Jump, JumpAndLink}
+use Rattle.mips_isa.specs.declared.inst.Control.TheVariants as controls
 use Rattle.mips_isa.specs.declared.action.Operand.TheVariants.{Fixed}
 use Rattle.mips_isa.specs.declared.action.Action.{Action}
 use Rattle.mips_isa.specs.declared.action.Action.TheVariants.{Computes}
 use Rattle.mips_isa.specs.States.{State, read}
 use Rattle.mips_isa.specs.Actions.{action_of, touches, is_load, is_move}
-use Rattle.mips_isa.specs.Flows.{Nothing, Flow, settle, on_pending, word, words_from, quiet}
+use Rattle.mips_isa.specs.Flows.{Flow, settle, on_pending, quiet}
+use Rattle.mips_isa.specs.Controls.{control_touches, flow_past}
+use Rattle.mips_isa.specs.Steps.{word, words_from}
 use Rattle.mblock.specs.declared.exit.Exit.{Exit}
 use Rattle.mblock.specs.declared.exit.Exit.TheVariants.{Goto, BranchPair, BranchZero, Call, Return, Out, Halt}
 use Rattle.mblock.specs.Parts.{OrderParts}
@@ -18,13 +22,13 @@ use Rattle.mblock.specs.BlockMeaning.{exit_shape, exit_reads, exit_puts, Departu
 abbrev pub puts_number : ℕ → Action
 puts_number number = Computes 2 Addu 0 (Fixed number)
 
--- the registers that the first word of the exit reads or writes
+-- the registers that the first word of the exit reads or writes, wherever it leads to
 abbrev pub exit_touches : Exit → ℕ → Bool
-exit_touches (Goto t) r = false
-exit_touches (BranchPair test a b t e) r = (a == r) || (b == r)
-exit_touches (BranchZero test a t e) r = a == r
-exit_touches (Call f n) r = 31 == r
-exit_touches Return r = 31 == r
+exit_touches (Goto t) r = control_touches (controls.JumpTo Jump t) r
+exit_touches (BranchPair test a b t e) r = control_touches (controls.BranchPair test a b (pos 0)) r
+exit_touches (BranchZero test a t e) r = control_touches (controls.BranchZero test a (pos 0)) r
+exit_touches (Call f n) r = control_touches (controls.JumpTo JumpAndLink f) r
+exit_touches Return r = control_touches (controls.JumpRegister 31) r
 exit_touches (Out n) r = touches (puts_number 1) r
 exit_touches Halt r = touches (puts_number 10) r
 
@@ -32,11 +36,7 @@ exit_touches Halt r = touches (puts_number 10) r
 abbrev pub exit_word : Exit → Flow → ℕ → Option Flow
 exit_word exit f link =
     if on_pending f.pending (exit_touches exit) then None
-    else Some (record {
-      state = settle f.pending (record f.state { regs = exit_puts link 1 10 (exit_shape exit) f.state.regs });
-      pending = Nothing;
-      hold = pred f.hold;
-    })
+    else Some (flow_past (record f.state { regs = exit_puts link 1 10 (exit_shape exit) f.state.regs }) f)
 
 -- the slot: neither a load nor a move of HI or LO
 abbrev pub slot_word : Action → Option Flow → Option Flow
@@ -54,7 +54,7 @@ operand_words exit f = map (read 0 f.state.regs) (exit_reads exit)
 abbrev pub system_word : Exit → Option Flow → Option Outcome
 system_word exit None = None
 system_word exit (Some f) =
-    if on_pending f.pending (λ r. (2 == r) || (4 == r)) then None
+    if on_pending f.pending (control_touches controls.SystemCall) then None
     else ends (depart (exit_shape exit) (operand_words exit f)) (Some f)
 
 abbrev pub system_call : Exit → ℕ → Option Plain → Flow → Option Outcome

@@ -38,6 +38,15 @@ impl Order {
         }
     }
 
+    /// The order of these parts.
+    pub(crate) fn of(insts: Vec<Plain>, exit: Exit, slot: Option<Plain>) -> Order
+        requires few { length insts.items ≤ 2048 }
+        requires fits { is_some slot ≡ is_slotted exit }
+        ensures { result ≡ record { insts = insts.items; exit = exit; slot = slot } }
+    {
+        Order { insts, exit, slot }
+    }
+
     /// The instructions, in the order of their words.
     pub fn insts(&self) -> &[Plain]
         ensures value { result.now ≡ self.now.insts }

@@ -1,2 +1,3 @@
 pub mod Words
 pub mod Candidates
+pub mod Decoding

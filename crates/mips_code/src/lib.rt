@@ -2,9 +2,12 @@
 //!
 //! `encode` and `decode` are inverse on the table of `specs/Words.antt`: `decode` is Some(i) exactly
 //! where the word of i is that word and i's fields are within their ranges, None exactly where no
-//! instruction has it. `specs/Candidates.antt` serves the contracts of private functions alone.
+//! instruction has it; it is the function `instruction_of` of `specs/Decoding.antt`, over which the
+//! machine is defined. `specs/Candidates.antt` serves the contracts of private functions alone.
 #![tactic(auto)]
 
-mod code;
+mod decoder;
+mod encoder;
 
-pub use code::{decode, encode};
+pub use decoder::{decode, decoding_is_exact};
+pub use encoder::encode;

@@ -1,5 +1,5 @@
 -- A load that shows one word later, where that word doesn't name its register.
-use Rattle.std.proofs.Common.{◌≡◌, ℕ, Bool, true, false, cond, not, ◌&&◌, ◌||◌, nat_lt, ◌==◌, Some, None, refl, sym, ap, ap₂, ◌∙◌, subst}
+use Rattle.std.proofs.Common.{◌≡◌, ℕ, Bool, true, false, cond, ◌&&◌, ◌||◌, nat_lt, ◌==◌, Some, None, refl, sym, ap, ap₂, ◌∙◌}
 use Rattle.words.specs.declared.operator.Operator.TheVariants as operators
 use Rattle.words.specs.Words.{wrap}
 use Rattle.words.specs.Operators.{op_value, has_quotient}
@@ -9,7 +9,9 @@ use Rattle.mips_isa.specs.declared.action.Operand.TheVariants.{Held, Fixed}
 use Rattle.mips_isa.specs.declared.action.Action.{Action}
 use Rattle.mips_isa.specs.declared.action.Action.TheVariants.{Computes, Sets, Loads, Stores, Multiplies, Divides, MovesHigh, MovesLow}
 use Rattle.mips_isa.specs.Actions.{operand, address, is_safe, after, operand_touches, touches, is_product, product_high, product_low, quotient_operator, remainder_operator}
-use Rattle.mips_isa.specs.Flows.{Pending, Nothing, Loaded, Flow, settle, pending_of, shown, on_pending, flow_after, word}
+use Rattle.mips_isa.specs.Flows.{Pending, Nothing, Loaded, Flow, settle, pending_of, shown, on_pending, flow_after}
+use Rattle.mips_isa.specs.Steps.{word}
+use Rattle.mips_isa.proofs.Rules.{not_stuck}
 use Rattle.mips_isa.proofs.Registers.{put_lost, read-put, put-put}
 
 pub or_left : (a b : Bool) → (a || b) ≡ false → a ≡ false
@@ -95,13 +97,10 @@ after_settled (Loaded q w) a s e = go (is_register q) refl e
     go true eb h = after_late s q w a h
     go false eb h = ap (settle (pending_of a s)) (settle_lost (shown a s) q w eb) ∙ after_now a s ∙ ap (after a) (sym (settle_lost s q w eb))
 
-not_stuck : (a b c : Bool) → a ≡ false → b ≡ false → c ≡ true → (a || (b || not c)) ≡ false
-not_stuck a b c ea eb ec = subst (λ x. (x || (b || not c)) ≡ false) (sym ea) (subst (λ x. (x || not c) ≡ false) (sym eb) (ap not ec))
-
 -- one word does what the action does, where no rule is broken
 pub word_runs : (a : Action) (f : Flow) → on_pending f.pending (touches a) ≡ false → (is_product a && nat_lt 0 f.hold) ≡ false → is_safe a (settled f) ≡ true → word a f ≡ Some (flow_after a f)
 word_runs a f free ready safe =
-    ap (λ b. cond b None (Some (flow_after a f))) (not_stuck (on_pending f.pending (touches a)) (is_product a && nat_lt 0 f.hold) (is_safe a f.state) free ready (sym (safe_settled f.pending a f.state free) ∙ safe))
+    ap (λ b. cond b None (Some (flow_after a f))) (not_stuck a f free ready (sym (safe_settled f.pending a f.state free) ∙ safe))
 
 pub settled_after : (a : Action) (f : Flow) → on_pending f.pending (touches a) ≡ false → settled (flow_after a f) ≡ after a (settled f)
 settled_after a f free = after_settled f.pending a f.state free

@@ -9,6 +9,8 @@ use Rattle.mips_isa.specs.declared.inst.LogicOp.TheVariants.{Andi, Ori, Xori}
 use Rattle.mips_isa.specs.declared.inst.HiLo.TheVariants.{Hi, Lo}
 use Rattle.mips_isa.specs.declared.inst.Plain.{Plain}
 use Rattle.mips_isa.specs.declared.inst.Plain.TheVariants.{Shift, ShiftBy, Alu, Imm, Logic, LoadUpper, MoveFrom, Multiply, Divide, Load, Store}
+use Rattle.mips_isa.specs.declared.rule.Rule.{Rule}
+use Rattle.mips_isa.specs.declared.rule.Rule.TheVariants.{M1, M2, M3, M4, M5, M6, M7, M8, M9}
 use Rattle.mips_isa.specs.declared.text.Mnemonic.{Mnemonic}
 use Rattle.mips_isa.specs.declared.text.Mnemonic.TheVariants as mnemonics
 
@@ -100,3 +102,14 @@ is_nop (Store rt base offset) = false
 -- as an instruction is printed
 abbrev pub printed : Plain → List ℕ
 printed i = (if is_nop i then codes "nop" else plain_text i)
+
+abbrev pub rule_text : Rule → List ℕ
+rule_text M1 = codes "M1"
+rule_text M2 = codes "M2"
+rule_text M3 = codes "M3"
+rule_text M4 = codes "M4"
+rule_text M5 = codes "M5"
+rule_text M6 = codes "M6"
+rule_text M7 = codes "M7"
+rule_text M8 = codes "M8"
+rule_text M9 = codes "M9"

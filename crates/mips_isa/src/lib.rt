@@ -5,12 +5,17 @@
 //! actions alone.
 //! The definitions: `specs/Ranges.antt` (each field's range), `specs/Texts.antt` (the text),
 //! `specs/Actions.antt` (what an instruction does), `specs/States.antt` (registers and memory),
-//! `specs/Flows.antt` (the machine from word to word).
+//! `specs/Starting.antt` (the state in which a program starts),
+//! `specs/Flows.antt` (the machine between two words), `specs/Controls.antt` (branches, jumps and calls
+//! to the system), `specs/Rules.antt` (the rules M1 to M9 that make it stuck), `specs/Steps.antt` (one word).
 #![tactic(auto)]
 
 mod action;
+mod control;
 mod inst;
+mod laws;
 mod reg;
+mod rule;
 mod text;
 
 pub use action::{
@@ -19,5 +24,10 @@ pub use action::{
 pub use inst::{
     AluOp, Control, HiLo, ImmOp, Inst, JumpOp, LogicOp, PairTest, Plain, ShiftOp, ZeroTest,
 };
+pub use laws::{
+    each_broken_rule_is_least, reads_and_writes_are_touched, safe_actions_keep_their_rules,
+    stuck_actions_break_a_rule,
+};
 pub use reg::{Amount, JumpTarget, NonzeroReg, Reg};
+pub use rule::Rule;
 pub use text::Mnemonic;

@@ -2,10 +2,11 @@
 
 ghost use Rattle.std.specs.Prelude.{◌≡◌, Some};
 ghost use Rattle.std.specs.Fmt.{DisplaysOnOk};
+ghost use Rattle.mips_isa.specs.Actions.{nop};
 ghost use Rattle.mips_isa.specs.Texts.{address_text, is_nop, mnemonic_of, mnemonic_text, operands_text, printed, register_text};
 
 use crate::inst::{AluOp, HiLo, ImmOp, LogicOp, Plain, ShiftOp};
-use crate::reg::{NonzeroReg, Reg};
+use crate::reg::{Amount, NonzeroReg, Reg};
 use std::fmt;
 use words::Sign;
 
@@ -81,6 +82,18 @@ impl Plain {
             Plain::Divide { sign, .. } => Mnemonic::Divide(*sign),
             Plain::Load { .. } => Mnemonic::Load,
             Plain::Store { .. } => Mnemonic::Store,
+        }
+    }
+
+    /// The word 0, `sll $0,$0,0`, which does nothing.
+    pub fn nop() -> Plain
+        ensures { result ≡ nop }
+    {
+        Plain::Shift {
+            op: ShiftOp::Sll,
+            rd: Reg::ZERO,
+            rt: Reg::ZERO,
+            amount: Amount::masked(0),
         }
     }
 

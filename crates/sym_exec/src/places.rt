@@ -8,13 +8,13 @@ ghost use Rattle.term_table.specs.Trees.{HasTree};
 ghost use Rattle.sym_exec.specs.Symbolic.{TreeState, held, operand_tree, address_tree, trees_after};
 ghost use Rattle.sym_exec.specs.Standing.{Later, Known, Stands, with_reg};
 
-use crate::state::{SymFault, TermPlaces};
+use crate::state::TermPlaces;
 use crate::terms::{leaf_term, load_term, op_term, store_term};
 use mips_isa::{
     NonzeroReg, Operand, Reg, product_high, product_low, quotient_operator, remainder_operator,
 };
 use sym_terms::Label;
-use term_table::{Pass, TermTable, Ticket};
+use term_table::{Pass, TableFull, TermTable, Ticket};
 use words::{Operator, Sign};
 
 impl TermPlaces {
@@ -45,7 +45,7 @@ impl TermPlaces {
         table: &TermTable,
         pass: &mut Pass,
         operand: &Operand,
-    ) -> Result<Ticket, SymFault>
+    ) -> Result<Ticket, TableFull>
         requires table { IsOf table.now pass.old }
         requires known { Known pass.old self.now }
         ensures seen { IfOk result (λ x. HasSeen pass.new x) }
@@ -66,7 +66,7 @@ impl TermPlaces {
         pass: &mut Pass,
         base: Reg,
         offset: u32,
-    ) -> Result<Ticket, SymFault>
+    ) -> Result<Ticket, TableFull>
         requires table { IsOf table.now pass.old }
         requires known { Known pass.old self.now }
         ensures seen { IfOk result (λ x. HasSeen pass.new x) }
@@ -87,7 +87,7 @@ impl TermPlaces {
         op: Operator,
         a: Reg,
         b: &Operand,
-    ) -> Result<(), SymFault>
+    ) -> Result<(), TableFull>
         requires table { IsOf table.now pass.old }
         requires known { Known pass.old self.old }
         ensures known { OnOk result (Known pass.new self.new) }
@@ -109,7 +109,7 @@ impl TermPlaces {
         pass: &mut Pass,
         d: Reg,
         label: Label,
-    ) -> Result<(), SymFault>
+    ) -> Result<(), TableFull>
         requires table { IsOf table.now pass.old }
         requires known { Known pass.old self.old }
         ensures known { OnOk result (Known pass.new self.new) }
@@ -131,7 +131,7 @@ impl TermPlaces {
         d: NonzeroReg,
         base: Reg,
         offset: u32,
-    ) -> Result<Ticket, SymFault>
+    ) -> Result<Ticket, TableFull>
         requires table { IsOf table.now pass.old }
         requires known { Known pass.old self.old }
         ensures known { OnOk result (Known pass.new self.new) }
@@ -155,7 +155,7 @@ impl TermPlaces {
         r: Reg,
         base: Reg,
         offset: u32,
-    ) -> Result<Ticket, SymFault>
+    ) -> Result<Ticket, TableFull>
         requires table { IsOf table.now pass.old }
         requires known { Known pass.old self.old }
         ensures known { OnOk result (Known pass.new self.new) }
@@ -178,7 +178,7 @@ impl TermPlaces {
         sign: Sign,
         a: Reg,
         b: Reg,
-    ) -> Result<(), SymFault>
+    ) -> Result<(), TableFull>
         requires table { IsOf table.now pass.old }
         requires known { Known pass.old self.old }
         ensures known { OnOk result (Known pass.new self.new) }
@@ -202,7 +202,7 @@ impl TermPlaces {
         sign: Sign,
         a: Reg,
         b: Reg,
-    ) -> Result<(), SymFault>
+    ) -> Result<(), TableFull>
         requires table { IsOf table.now pass.old }
         requires known { Known pass.old self.old }
         ensures known { OnOk result (Known pass.new self.new) }

@@ -20,7 +20,7 @@ use mblock::{Block, Exit, Order};
 use mips_isa::{Action, NonzeroReg, Plain, Reg};
 use std::alloc::Global;
 use sym_terms::{Label, Place};
-use term_table::{Pass, TermTable, Ticket};
+use term_table::{Pass, TableFull, TermTable, Ticket};
 
 fn push_guard(guards: &mut Vec<Guard>, guard: Guard) -> Result<(), SymFault>
     ensures pushed { OnOk result (guards.new.items ≡ guards.old.items ++ guard ∷ []) }
@@ -50,8 +50,14 @@ fn step(
     ensures full { IfErr result (IsFull pass.new) }
 {
     match *action {
-        Action::Computes { d, op, a, b } => places.computes(table, pass, d, op, a, &b),
-        Action::Sets { d, word } => places.put_leaf(table, pass, d, Label::Const(word)),
+        Action::Computes { d, op, a, b } => {
+            places.computes(table, pass, d, op, a, &b)?;
+            Ok(())
+        }
+        Action::Sets { d, word } => {
+            places.put_leaf(table, pass, d, Label::Const(word))?;
+            Ok(())
+        }
         Action::Loads { d, base, offset } => {
             let address = places.loads(table, pass, d, base, offset)?;
             push_guard(guards, Guard::Address(address))
@@ -60,7 +66,10 @@ fn step(
             let address = places.stores(table, pass, r, base, offset)?;
             push_guard(guards, Guard::Address(address))
         }
-        Action::Multiplies { sign, a, b } => places.multiplies(table, pass, sign, a, b),
+        Action::Multiplies { sign, a, b } => {
+            places.multiplies(table, pass, sign, a, b)?;
+            Ok(())
+        }
         Action::Divides { sign, a, b } => {
             let dividend = places.get(a);
             let divisor = places.get(b);
@@ -108,7 +117,7 @@ fn steps(
 }
 
 /// What register `r` holds at the start.
-fn start_reg(table: &TermTable, pass: &mut Pass, r: u8) -> Result<Ticket, SymFault>
+fn start_reg(table: &TermTable, pass: &mut Pass, r: u8) -> Result<Ticket, TableFull>
     requires table { IsOf table.now pass.old }
     requires nonzero { 0 < r }
     requires low { r < 32 }
@@ -125,7 +134,7 @@ fn start_reg(table: &TermTable, pass: &mut Pass, r: u8) -> Result<Ticket, SymFau
 }
 
 /// What each place holds at the start: the constant 0 in register 0, in any other its own label.
-fn start(table: &TermTable, pass: &mut Pass) -> Result<TermPlaces, SymFault>
+fn start(table: &TermTable, pass: &mut Pass) -> Result<TermPlaces, TableFull>
     requires { IsOf table.now pass.old }
     ensures known { IfOk result (Known pass.new) }
     ensures stands { IfOk result (λ s. Stands pass.new s start_trees) }
@@ -196,7 +205,7 @@ fn put_own(
     pass: &mut Pass,
     places: &mut TermPlaces,
     exit: &Exit,
-) -> Result<(), SymFault>
+) -> Result<(), TableFull>
     requires table { IsOf table.now pass.old }
     requires known { Known pass.old places.old }
     ensures known { OnOk result (Known pass.new places.new) }

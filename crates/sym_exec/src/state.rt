@@ -1,6 +1,7 @@
+//! What symbolic execution answers: the terms of the machine's places, of an exit and of the guards, by tickets.
 use mblock::BlockNumber;
 use mips_isa::{PairTest, ZeroTest};
-use term_table::Ticket;
+use term_table::{TableFull, Ticket};
 use thiserror::Error;
 use words::Sign;
 
@@ -71,4 +72,15 @@ pub enum SymFault {
     /// Memory for a guard was refused.
     #[error("memory was refused")]
     NoMemory,
+}
+
+impl From<TableFull> for SymFault {
+    ghost use Rattle.std.specs.Prelude.{◌≡◌};
+    ghost use Rattle.sym_exec.specs.declared.state.SymFault.TheVariants.{Full};
+
+    ghost from_gives = { λ _ r. r ≡ Full };
+
+    fn from(_full: TableFull) -> SymFault {
+        SymFault::Full
+    }
 }

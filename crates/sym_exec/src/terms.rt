@@ -1,4 +1,5 @@
-//! Terms of labels, operations, loads and stores.
+//! Terms of labels, operations, loads and stores. They allocate nothing, so their only error is that
+//! the pass is full.
 ghost use Rattle.std.specs.Prelude.{◌≡◌, ℕ, OnErr, IfOk};
 ghost use Rattle.sym_terms.specs.Trees.{Tree, leaf, binary, ternary};
 ghost use Rattle.sym_terms.specs.Values.{op_tree, load_tree, store_tree};
@@ -6,16 +7,15 @@ ghost use Rattle.term_table.specs.Passes.{IsOf, HasSeen, linked};
 ghost use Rattle.term_table.specs.Trees.{HasTree, HasLegalHistory};
 ghost use Rattle.sym_exec.specs.Standing.{Later};
 
-use crate::state::SymFault;
 use sym_terms::Label;
-use term_table::{Pass, TermTable, Ticket};
+use term_table::{Pass, TableFull, TermTable, Ticket};
 use words::Operator;
 
 pub(crate) fn leaf_term(
     table: &TermTable,
     pass: &mut Pass,
     label: Label,
-) -> Result<Ticket, SymFault>
+) -> Result<Ticket, TableFull>
     requires { IsOf table.now pass.old }
     ensures tree { IfOk result (λ t. HasTree pass.new t (leaf label)) }
     ensures legal { HasLegalHistory pass.new }
@@ -23,10 +23,8 @@ pub(crate) fn leaf_term(
     ensures later { Later pass.old pass.new }
     ensures full { OnErr result (linked pass.new ≡ pass.new.nodes) }
 {
-    match table.intern(pass, label, &[]) {
-        Ok(interned) => Ok(interned.ticket),
-        Err(_) => Err(SymFault::Full),
-    }
+    let interned = table.intern(pass, label, &[])?;
+    Ok(interned.ticket)
 }
 
 fn binary_term(
@@ -35,7 +33,7 @@ fn binary_term(
     label: Label,
     a: Ticket,
     b: Ticket,
-) -> Result<Ticket, SymFault>
+) -> Result<Ticket, TableFull>
     requires table { IsOf table.now pass.old }
     requires a { HasSeen pass.old a }
     requires b { HasSeen pass.old b }
@@ -45,10 +43,8 @@ fn binary_term(
     ensures later { Later pass.old pass.new }
     ensures full { OnErr result (linked pass.new ≡ pass.new.nodes) }
 {
-    match table.intern(pass, label, &[a, b]) {
-        Ok(interned) => Ok(interned.ticket),
-        Err(_) => Err(SymFault::Full),
-    }
+    let interned = table.intern(pass, label, &[a, b])?;
+    Ok(interned.ticket)
 }
 
 fn ternary_term(
@@ -58,7 +54,7 @@ fn ternary_term(
     a: Ticket,
     b: Ticket,
     c: Ticket,
-) -> Result<Ticket, SymFault>
+) -> Result<Ticket, TableFull>
     requires table { IsOf table.now pass.old }
     requires a { HasSeen pass.old a }
     requires b { HasSeen pass.old b }
@@ -69,10 +65,8 @@ fn ternary_term(
     ensures later { Later pass.old pass.new }
     ensures full { OnErr result (linked pass.new ≡ pass.new.nodes) }
 {
-    match table.intern(pass, label, &[a, b, c]) {
-        Ok(interned) => Ok(interned.ticket),
-        Err(_) => Err(SymFault::Full),
-    }
+    let interned = table.intern(pass, label, &[a, b, c])?;
+    Ok(interned.ticket)
 }
 
 #[tactic(auto, unfolding(sym_terms::specs::Values::op_tree))]
@@ -82,7 +76,7 @@ pub(crate) fn op_term(
     op: Operator,
     a: Ticket,
     b: Ticket,
-) -> Result<Ticket, SymFault>
+) -> Result<Ticket, TableFull>
     requires table { IsOf table.now pass.old }
     requires a { HasSeen pass.old a }
     requires b { HasSeen pass.old b }
@@ -101,7 +95,7 @@ pub(crate) fn load_term(
     pass: &mut Pass,
     memory: Ticket,
     address: Ticket,
-) -> Result<Ticket, SymFault>
+) -> Result<Ticket, TableFull>
     requires table { IsOf table.now pass.old }
     requires memory { HasSeen pass.old memory }
     requires address { HasSeen pass.old address }
@@ -121,7 +115,7 @@ pub(crate) fn store_term(
     memory: Ticket,
     address: Ticket,
     value: Ticket,
-) -> Result<Ticket, SymFault>
+) -> Result<Ticket, TableFull>
     requires table { IsOf table.now pass.old }
     requires memory { HasSeen pass.old memory }
     requires address { HasSeen pass.old address }

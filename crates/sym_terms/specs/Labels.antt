@@ -1,5 +1,5 @@
 -- The words of labels: the kind in the upper 32 bits, the content in the lower.
-use Rattle.std.specs.Prelude.{ℕ, ◌+◌, ◌*◌, ◌/◌, ◌%◌, ◌^◌, ◌&&◌, Bool, true, Option, Some, None, if◌then◌else◌, ◌==◌, nat_lt}
+use Rattle.std.specs.Prelude.{ℕ, ◌+◌, ◌*◌, ◌/◌, ◌%◌, ◌^◌, ◌&&◌, Bool, true, Option, Some, None, if◌then◌else◌, ◌==◌, nat_lt, unwrap_or}
 use Rattle.words.specs.declared.operator.Operator.{Operator}
 use Rattle.words.specs.declared.operator.Operator.TheVariants.{Addu, Subu, And, Or, Xor, Nor, Slt, Sltu, Sll, Srl, Sra, MultHigh, MultLow, MultuHigh, MultuLow, DivQuotient, DivRemainder, DivuQuotient, DivuRemainder}
 use Rattle.sym_terms.specs.declared.label.Place.{Place}
@@ -69,20 +69,25 @@ is_label (Op operator) = true
 is_label Load = true
 is_label Store = true
 
-abbrev pub or_place : Option Place → Label
-or_place (Some x) = Init x
-or_place None = Mem0
+abbrev pub init_if : Option Place → Option Label
+init_if (Some x) = Some (Init x)
+init_if None = None
 
-abbrev pub or_operator : Option Operator → Label
-or_operator (Some x) = Op x
-or_operator None = Mem0
+abbrev pub op_if : Option Operator → Option Label
+op_if (Some x) = Some (Op x)
+op_if None = None
 
--- the label of this kind with this content; Mem0 where there is none
-abbrev pub label_in : ℕ → ℕ → Label
+-- the label of this kind with this content
+abbrev pub label_in : ℕ → ℕ → Option Label
 label_in kind content =
-    if kind == 1 then or_place (place_at content) else (if kind == 3 then Const content else (
-    if kind == 4 then or_operator (operator_at content) else (if kind == 5 then Load else (if kind == 6 then Store else Mem0))))
+    if kind == 1 then init_if (place_at content) else (if kind == 2 then (if content == 0 then Some Mem0 else None) else (
+    if kind == 3 then Some (Const content) else (if kind == 4 then op_if (operator_at content) else (
+    if kind == 5 then (if content == 0 then Some Load else None) else (if kind == 6 then (if content == 0 then Some Store else None) else None)))))
 
--- the label of a word; Mem0 where there is none
+-- the label that has this word
+abbrev pub label_with : ℕ → Option Label
+label_with w = label_in (w / 2 ^ 32) (w % 2 ^ 32)
+
+-- the label of a word that is one's
 abbrev pub label_at : ℕ → Label
-label_at w = label_in (w / 2 ^ 32) (w % 2 ^ 32)
+label_at w = unwrap_or (label_with w) Mem0

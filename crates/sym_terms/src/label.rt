@@ -1,8 +1,7 @@
 //! Labels, and the 64-bit word of each.
 ghost use Rattle.std.specs.Prelude.{◌≡◌, ◌⊎◌, ℕ, ◌<◌, IfSome, Some, true};
 ghost use Rattle.sym_terms.specs.declared.label.Label.{Label};
-ghost use Rattle.sym_terms.specs.Labels.{operator_code, operator_at, place_code, place_at, label_word, is_label, is_place};
-ghost use Rattle.sym_terms.specs.Labels as spec;
+ghost use Rattle.sym_terms.specs.Labels.{operator_code, operator_at, place_code, place_at, label_word, label_with, is_label, is_place};
 
 use mips_isa::NonzeroReg;
 use words::Operator;
@@ -139,6 +138,7 @@ pub fn word_of(label: Label) -> u64
 
 /// The label that has this word, and None where no label has it.
 pub fn label_of(word: u64) -> Option<Label>
+    ensures value { result ≡ label_with word }
     ensures found { IfSome result (λ l. (is_label l ≡ true) × (label_word l ≡ word)) }
     ensures only { (l : Label) → is_label l ≡ true → label_word l ≡ word → result ≡ Some l }
 {
@@ -169,26 +169,5 @@ pub fn label_of(word: u64) -> Option<Label>
             None
         },
         _ => None,
-    }
-}
-
-/// The label of a word that is known to be one's; `Mem0` for any other word.
-pub fn label_at(word: u64) -> Label
-    ensures { result ≡ spec.label_at word }
-{
-    let content = (word % 4294967296) as u32;
-    match word / 4294967296 {
-        1 => match Place::at(content) {
-            Some(place) => Label::Init(place),
-            None => Label::Mem0,
-        },
-        3 => Label::Const(content),
-        4 => match operator_of(content) {
-            Some(operator) => Label::Op(operator),
-            None => Label::Mem0,
-        },
-        5 => Label::Load,
-        6 => Label::Store,
-        _ => Label::Mem0,
     }
 }

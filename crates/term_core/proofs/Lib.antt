@@ -9,3 +9,4 @@ pub mod Does
 pub mod EachItem
 pub mod Stays
 pub mod Last
+pub mod Places

@@ -476,6 +476,27 @@ module _ (s : Shape) (ok : IsShape s) (w : World) (inv : Inv s w) (p : ℕ) (v :
   begun_call (Find l ks) e = with_spot (AtLink (Find l ks) false (s.chain (label_word l) ks)) 0 (omega arith) (at_start (Find l ks) tt e)
   begun_call (Read t) e = with_spot (Reading t []) 0 (omega arith) (record { there = known t e; below = omega arith; alike = λ j lt. absurd (omega arith); probes = refl })
 
+  looking : (n : ℕ) → Stands s w.words w.history inv.chains p (record v { stage = Looking n })
+  looking n = record { number = st.number; low = st.low; begins = st.begins; own_calls = st.own_calls; all_calls = st.all_calls; count = st.count; probes = st.probes; range = st.range; base = st.base; free = st.free; spot = tt }
+
+  call_or : (c : Call) (x : Bool) → may_begin v.seen c ≡ x → Stands s w.words w.history inv.chains p (cond x (record v { stage = first_stage s c; probes = 0 }) v)
+  call_or c true e = begun_call c e
+  call_or c false e = st
+
+  chosen_stands : (choice : Choice) → Stands s w.words w.history inv.chains p (chosen s choice v)
+  chosen_stands (begins c) = call_or c (may_begin v.seen c) refl
+  chosen_stands (looks n) = looking n
+
+  -- so does one that begins what was chosen, or goes on
+  pub begun_stands : (choice : Choice) (g : Stage) → Stands s w.words w.history inv.chains p (begun_at s choice v g)
+  begun_stands choice Idle = chosen_stands choice
+  begun_stands choice (Looking n) = st
+  begun_stands choice (AtLink c wr a) = st
+  begun_stands choice (AtContent c wr n i) = st
+  begun_stands choice (Writing c a i) = st
+  begun_stands choice (Linking c a) = st
+  begun_stands choice (Reading t xs) = st
+
   go_on : (b : Walker) → b.room ≡ v.room → Stands s w.words w.history inv.chains p b → Inv s (acts s w p b)
   go_on b r sb = busy_or (is_idle b.stage) refl
     where
@@ -489,7 +510,7 @@ module _ (s : Shape) (ok : IsShape s) (w : World) (inv : Inv s w) (p : ℕ) (v :
 
   chosen_goes : (choice : Choice) → Inv s (acts s w p (chosen s choice v))
   chosen_goes (begins c) = begins_or c (may_begin v.seen c) refl
-  chosen_goes (looks n) = go_on (record v { stage = Looking n }) refl (record { number = st.number; low = st.low; begins = st.begins; own_calls = st.own_calls; all_calls = st.all_calls; count = st.count; probes = st.probes; range = st.range; base = st.base; free = st.free; spot = tt })
+  chosen_goes (looks n) = go_on (record v { stage = Looking n }) refl (looking n)
 
   begun_goes : (choice : Choice) (g : Stage) → Inv s (acts s w p (begun_at s choice v g))
   begun_goes choice Idle = chosen_goes choice

@@ -10,7 +10,7 @@ use Rattle.term_core.specs.declared.Walker.{Walker}
 use Rattle.term_core.specs.declared.Stage.{Stage}
 use Rattle.term_core.specs.declared.Stage.TheVariants.{Idle, Looking, AtLink, AtContent, Writing, Linking, Reading}
 use Rattle.term_core.specs.Terms.{StartsWith, pairs_of, tree_at}
-use Rattle.term_core.specs.World.{Shape, World, Item, IsShape, begun, step, reached, link_of}
+use Rattle.term_core.specs.World.{Shape, World, Item, IsShape, Kind, load_link, load_content, store_content, exchange_link, kind, place, begun, step, reached, link_of}
 
 -- the call that a pass is inside
 abbrev pub call_in : Stage → Option Call
@@ -99,3 +99,28 @@ abbrev pub ContentStays : Type 0
 ContentStays = (s : Shape) (items more : List Item) (t : ℕ) (x : Tree) (k : ℕ) → IsShape s → k < 4
     → tree_at (pairs_of (reached s items).history) t ≡ Some x
     → slice_index (reached s (items ++ more)).words (link_of s t + 1 + k) ≡ slice_index (reached s items).words (link_of s t + 1 + k)
+
+-- a link that a walk comes to: the head of a chain, or the link of a node that is linked
+abbrev pub IsReachedLink : Shape → World → ℕ → Type 0
+IsReachedLink s w a = (a < s.heads) ⊎ ((n : ℕ) × (x : Tree) × (tree_at (pairs_of w.history) n ≡ Some x) × (a ≡ link_of s n))
+
+-- one of the four content words of a node that is linked
+pub record IsContentWord (s : Shape) (w : World) (a : ℕ) : Type 0 where
+  pub node : ℕ
+  pub tree : Tree
+  pub linked : tree_at (pairs_of w.history) node ≡ Some tree
+  pub index : ℕ
+  pub below : index < 4
+  pub place : a ≡ link_of s node + 1 + index
+
+-- the word that a step of this kind may be on
+abbrev pub IsPlaceOf : Shape → World → Walker → Kind → ℕ → Type 0
+IsPlaceOf s w v load_link a = IsReachedLink s w a
+IsPlaceOf s w v load_content a = IsContentWord s w a
+IsPlaceOf s w v store_content a = Writes s w v a
+IsPlaceOf s w v exchange_link a = IsReachedLink s w a
+
+-- the word of each step that an item takes is one that its kind may be on
+abbrev pub EachStepHasItsPlace : Type 0
+EachStepHasItsPlace = (s : Shape) (items : List Item) (i : Item) (v : Walker) → IsShape s → get_elem? (reached s items).passes i.by ≡ some v
+    → IsPlaceOf s (reached s items) (begun s i.choice v) (kind (begun s i.choice v).stage) (place s (begun s i.choice v))

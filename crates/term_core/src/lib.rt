@@ -11,7 +11,7 @@
 ghost use Rattle.std.specs.Prelude.{◌≡◌, ℕ, List};
 ghost use Rattle.term_core.specs.World.{Shape, Item, IsShape, reached};
 ghost use Rattle.term_core.specs.Law.{Lawful};
-ghost use Rattle.term_core.specs.Items.{EachItemDoes, OthersStand, SeenAgree, WordsStay, LinksStay, ContentStays};
+ghost use Rattle.term_core.specs.Items.{EachItemDoes, OthersStand, SeenAgree, WordsStay, LinksStay, ContentStays, EachStepHasItsPlace};
 
 use std::collections::LinkedList;
 use sym_terms::Label;
@@ -89,7 +89,9 @@ pub struct Walker {
 /// beginning of the other. `words`: a word that an item changes is a link, from none to the pass's
 /// own node, or a content word of the pass's next node, which is not linked yet. `links`, `content`:
 /// so a link that names a node names it for ever, and the content of a linked node never changes,
-/// whatever items follow.
+/// whatever items follow. `places`: a load of a link and an exchange are at the head of a chain or at
+/// the link of a linked node, a load of content at a content word of a linked node, and a store at one
+/// of the pass's next node, which is not linked.
 pub fn any_schedule()
     ensures lawful { (shape : Shape) (items : List Item) → IsShape shape → Lawful shape (reached shape items) }
     ensures does { EachItemDoes }
@@ -98,4 +100,5 @@ pub fn any_schedule()
     ensures words { WordsStay }
     ensures links { LinksStay }
     ensures content { ContentStays }
+    ensures places { EachStepHasItsPlace }
 {}

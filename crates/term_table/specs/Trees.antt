@@ -1,6 +1,7 @@
 -- What the crates above say of a pass: which tree a ticket has, and that a pass has gone on.
 use Rattle.std.specs.Prelude.{◌≡◌, ℕ, List, [], ◌∷◌, Some}
-use Rattle.sym_terms.specs.Trees.{Tree, Trees, none, more}
+use Rattle.sym_terms.specs.declared.label.Label.{Label}
+use Rattle.sym_terms.specs.Trees.{Tree, Trees, node, none, more}
 use Rattle.term_core.specs.Terms.{StartsWith, IsLegal, pairs_of, tree_at}
 use Rattle.term_table.specs.Passes.{PassState, HasSeen, IsSamePass}
 
@@ -24,3 +25,18 @@ pub record Extends (p q : PassState) : Type 0 where
 -- the history that the pass has seen is legal, as it is of each running pass
 abbrev pub HasLegalHistory : PassState → Type 0
 HasLegalHistory p = IsLegal p.nodes p.seen
+
+-- no ticket has the tree in what the pass has seen
+abbrev pub IsAbsent : PassState → Tree → Type 0
+IsAbsent p x = (t : ℕ) → tree_at (pairs_of p.seen) t ≡ Some x → ⊥
+
+-- the tree is the label over the trees of these tickets
+pub record IsNode (p : PassState) (label : Label) (children : List ℕ) (x : Tree) : Type 0 where
+  pub trees : Trees
+  pub tree : x ≡ node label trees
+  pub have : HaveTrees p children trees
+
+-- q knows all that p knew: the tickets that p had seen, and their trees
+pub record Learns (q p : PassState) : Type 0 where
+  pub seen : (t : ℕ) → HasSeen p t → HasSeen q t
+  pub trees : (t : ℕ) (x : Tree) → HasTree p t x → HasTree q t x

@@ -4,11 +4,11 @@ ghost use Rattle.sym_terms.specs.Labels.{label_word};
 ghost use Rattle.term_core.specs.declared.Stage.TheVariants.{Idle};
 ghost use Rattle.term_core.specs.declared.Call.TheVariants.{Find, Intern};
 ghost use Rattle.term_core.specs.World.{may_begin, kid_word};
+ghost use Rattle.term_table.specs.Rule as spec;
 ghost use Rattle.term_table.specs.Rule.{shape_of, mix, chain_of};
-ghost use Rattle.term_table.specs.Calls.{walker_of, told_of, Ended};
+ghost use Rattle.term_table.specs.Calls.{Ended};
 ghost use Rattle.term_table.specs.Ends.{Done};
 ghost use Rattle.term_table.specs.Answers.{sought_answer};
-ghost use Rattle.term_table.specs.Meets.{Gathered};
 ghost use Rattle.term_table.specs.declared.view.View.TheVariants.{Walking};
 
 use crate::nodes::Nodes;
@@ -18,6 +18,9 @@ use crate::view::{Outcome, View};
 use atomic_table::Seat;
 use sym_terms::Label;
 
+// An odd number near 2^64 divided by the golden ratio: multiples of it lie far apart modulo 2^64.
+const SCATTER: u64 = 11400714819323198485;
+
 // The content word of a child: its ticket and one, or 0.
 fn kid_at(kids: &[Ticket], i: usize) -> u64
     ensures { result ≡ kid_word kids.now i }
@@ -25,12 +28,19 @@ fn kid_at(kids: &[Ticket], i: usize) -> u64
     if i < kids.len() { kids[i].word() } else { 0 }
 }
 
+// The upper 32 bits of the product.
+fn scattered(number: u64) -> u64
+    ensures value { result ≡ spec.scattered number }
+    ensures range { result < 2 ^ 32 }
+{
+    number.wrapping_mul(SCATTER) / 4294967296
+}
+
 // One number more in a hash.
 fn mixed(hash: u64, number: u64) -> u64
-    requires { (hash < 2 ^ 32) × (number < 2 ^ 62) }
     ensures { result ≡ mix hash number }
 {
-    (hash * 2654435769 + number + 1) % 4294967296
+    scattered(scattered(hash) + number / 64) + number % 64
 }
 
 // The chain of a term.
@@ -39,7 +49,7 @@ fn chain_at(heads: u64, word: u64, kids: &[Ticket]) -> u64
     ensures value { result ≡ chain_of heads word kids.now }
     ensures range { result < heads }
 {
-    let mut hash = mixed(word / 4294967296, word % 4294967296);
+    let mut hash = mixed(0, word);
     for kid in kids {
         hash = mixed(hash, kid.number());
     }
@@ -73,23 +83,6 @@ impl Nodes {
             own,
             room,
         )
-    }
-
-    pub(crate) fn meet_as<C: Act>(&self, p: &mut Seat<(), View>, q: &mut Seat<(), View>)
-        requires table { (p.old.table_id ≡ self.now.table.shared.table_id) × (q.old.table_id ≡ self.now.table.shared.table_id) × (C.shape ≡ shape_of self.now.size) }
-        requires p { (p.old.me ≡ (Walking (walker_of p.old.me.0) (told_of p.old.me.0), [])) × ((walker_of p.old.me.0).stage ≡ Idle) }
-        requires q { (q.old.me ≡ (Walking (walker_of q.old.me.0) (told_of q.old.me.0), [])) × ((walker_of q.old.me.0).stage ≡ Idle) }
-        ensures table { (p.new.table_id ≡ p.old.table_id) × (q.new.table_id ≡ q.old.table_id) }
-        ensures p { p.new.me ≡ (Walking (walker_of p.new.me.0) (told_of p.new.me.0), []) }
-        ensures q { q.new.me ≡ (Walking (walker_of q.new.me.0) (told_of q.new.me.0), []) }
-        ensures gathered { Gathered self.now.size.nodes (self.now.size.workers * self.now.size.nodes) (walker_of p.old.me.0) (walker_of q.old.me.0) (walker_of p.new.me.0) (walker_of q.new.me.0) }
-    {
-        let note = self.note(p);
-        self.inform(q, note);
-        self.see::<C>(q);
-        let note = self.note(q);
-        self.inform(p, note);
-        self.see::<C>(p);
     }
 
     pub(crate) fn find_with<C: Act>(

@@ -1,6 +1,7 @@
 use Rattle.term_core.proofs.Reaching.{lawful}
 use Rattle.term_core.proofs.EachItem.{each_item_does, others_stand, seen_agree, words_stay}
 use Rattle.term_core.proofs.Stays.{links_stay, content_stays}
+use Rattle.term_core.proofs.Places.{each_step_has_its_place}
 use Rattle.term_core.proofs.any_schedule.Goals as goal
 
 pub returns-clause-lawful : goal.returns-clause-lawful
@@ -23,3 +24,6 @@ returns-clause-links c = links_stay
 
 pub returns-clause-content : goal.returns-clause-content
 returns-clause-content c = content_stays
+
+pub returns-clause-places : goal.returns-clause-places
+returns-clause-places c = each_step_has_its_place

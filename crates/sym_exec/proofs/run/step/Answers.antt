@@ -8,15 +8,17 @@ use Rattle.sym_exec.specs.Standing.{Stands, GuardsStand}
 use Rattle.sym_exec.proofs.Tickets.{get_tree, guards_on, guards_more, on_ok}
 use Rattle.sym_exec.proofs.run.step.Goals as goal
 
-pub returns-in-Computes-clause-stands : goal.returns-in-Computes-clause-stands
-returns-in-Computes-clause-stands c = λ t h g.
-    let P : Action → Type 0 = λ a. OnOk c.computes.result (Stands c.computes.new.pass c.computes.new.self (trees_after a t) × GuardsStand c.computes.new.pass c.args.guards.now.items (trees_after a t).guards) in
-    subst P (sym c.in-Computes.is) (on_ok c.computes.result (c.computes.ensures.stands t h) (λ s. (s, guards_on c.computes.ensures.later g)))
+pub returns-in_ok-computes-in-Computes-clause-stands : goal.returns-in_ok-computes-in-Computes-clause-stands
+returns-in_ok-computes-in-Computes-clause-stands c = λ t h g.
+    let d = c.in_ok-computes-in-Computes.ensures in
+    let P : Action → Type 0 = λ a. Stands c.computes.new.pass c.computes.new.self (trees_after a t) × GuardsStand c.computes.new.pass c.args.guards.now.items (trees_after a t).guards in
+    subst P (sym c.in-Computes.is) (d.stands t h, guards_on d.later g)
 
-pub returns-in-Sets-clause-stands : goal.returns-in-Sets-clause-stands
-returns-in-Sets-clause-stands c = λ t h g.
-    let P : Action → Type 0 = λ a. OnOk c.put_leaf.result (Stands c.put_leaf.new.pass c.put_leaf.new.self (trees_after a t) × GuardsStand c.put_leaf.new.pass c.args.guards.now.items (trees_after a t).guards) in
-    subst P (sym c.in-Sets.is) (on_ok c.put_leaf.result (c.put_leaf.ensures.stands t h) (λ s. (s, guards_on c.put_leaf.ensures.later g)))
+pub returns-in_ok-put_leaf-in-Sets-clause-stands : goal.returns-in_ok-put_leaf-in-Sets-clause-stands
+returns-in_ok-put_leaf-in-Sets-clause-stands c = λ t h g.
+    let d = c.in_ok-put_leaf-in-Sets.ensures in
+    let P : Action → Type 0 = λ a. Stands c.put_leaf.new.pass c.put_leaf.new.self (trees_after a t) × GuardsStand c.put_leaf.new.pass c.args.guards.now.items (trees_after a t).guards in
+    subst P (sym c.in-Sets.is) (d.stands t h, guards_on d.later g)
 
 pub returns-in_ok-address-in-Loads-clause-stands : goal.returns-in_ok-address-in-Loads-clause-stands
 returns-in_ok-address-in-Loads-clause-stands c = λ t h g.
@@ -28,10 +30,11 @@ returns-in_ok-address-in-Stores-clause-stands c = λ t h g.
     let P : Action → Type 0 = λ a. OnOk c.push_guard-in-Stores.result (Stands c.stores.new.pass c.stores.new.self (trees_after a t) × GuardsStand c.stores.new.pass c.push_guard-in-Stores.new.guards.items (trees_after a t).guards) in
     subst P (sym c.in-Stores.is) (on_ok c.push_guard-in-Stores.result c.push_guard-in-Stores.ensures.pushed (λ e. (c.in_ok-address-in-Stores.ensures.stands t h, guards_more (Address c.in_ok-address-in-Stores.address) (AtAddress (address_tree t c.in-Stores.base c.in-Stores.offset)) (guards_on c.in_ok-address-in-Stores.ensures.later g) (c.in_ok-address-in-Stores.ensures.address t h) e)))
 
-pub returns-in-Multiplies-clause-stands : goal.returns-in-Multiplies-clause-stands
-returns-in-Multiplies-clause-stands c = λ t h g.
-    let P : Action → Type 0 = λ a. OnOk c.multiplies.result (Stands c.multiplies.new.pass c.multiplies.new.self (trees_after a t) × GuardsStand c.multiplies.new.pass c.args.guards.now.items (trees_after a t).guards) in
-    subst P (sym c.in-Multiplies.is) (on_ok c.multiplies.result (c.multiplies.ensures.stands t h) (λ s. (s, guards_on c.multiplies.ensures.later g)))
+pub returns-in_ok-multiplies-in-Multiplies-clause-stands : goal.returns-in_ok-multiplies-in-Multiplies-clause-stands
+returns-in_ok-multiplies-in-Multiplies-clause-stands c = λ t h g.
+    let d = c.in_ok-multiplies-in-Multiplies.ensures in
+    let P : Action → Type 0 = λ a. Stands c.multiplies.new.pass c.multiplies.new.self (trees_after a t) × GuardsStand c.multiplies.new.pass c.args.guards.now.items (trees_after a t).guards in
+    subst P (sym c.in-Multiplies.is) (d.stands t h, guards_on d.later g)
 
 pub returns-in_ok-divides-in-Divides-clause-stands : goal.returns-in_ok-divides-in-Divides-clause-stands
 returns-in_ok-divides-in-Divides-clause-stands c = λ t h g.

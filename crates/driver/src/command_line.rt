@@ -1,0 +1,178 @@
+ghost use Rattle.std.specs.Prelude.{◌≡◌, ℕ, false, true, Some, IfOk, IfErr, IfSome, map, codes};
+ghost use Rattle.clap.specs.declared.builder.command.Command.TheViews.{out-Command};
+ghost use Rattle.clap.specs.declared.error.ErrorKind.TheVariants.{OutOfMemory};
+ghost use Rattle.clap.specs.Words.{app_of, found_of, kind_of, one_of, rows_of, rule_of, subcommand_rows_of, takes};
+ghost use Rattle.driver.specs.Commands.{check_app, interp_app, mcc_app, source_app, number_rule, HasValues, IsCommand, IsNumber};
+
+use crate::command::Command;
+use clap::builder::ValueParser;
+use clap::{Arg, ArgAction, ArgMatches, Command as CommandLine, Error};
+use std::alloc::{AllocError, Global};
+
+const CHECK_HELP: &str = "\
+FILE spells a block and an order for it, one instruction a line:
+
+    block
+    addiu $10,$10,1
+    return
+    order
+    return
+    slot addiu $10,$10,1
+
+Of this text the answer is `same`: the order breaks no delay rule and leaves each register, HI, LO,
+memory and the exit as the block does. Other answers: `unclean U1` (to U4, the least delay rule that
+is broken), `differs P` (the first place whose terms differ), `full` (the table of terms is full).
+`mcc check /dev/stdin` reads standard input.";
+
+const INTERP_HELP: &str = "\
+SOURCE is a program in an integer subset of C99; `out(e)` writes the word of an expression:
+
+    int main(void) {
+        int i = 0;
+        while (i < 3) {
+            out(i);
+            i = i + 1;
+        }
+    }
+
+Of this text standard output gets 0, 1 and 2, each on a line in unsigned decimal, and then `done 0`:
+main has returned 0. Other ends: `wrong` (the program did what C gives no meaning, as a signed
+overflow or an index outside its array, or called too deep), `more` (it would go on). An assignment,
+a test, a call, a return and an output are one step each.
+`mcc interp --steps 100 /dev/stdin` reads standard input, and stops after 100 steps.";
+
+const DEPTH_HELP: &str = "Calls active at once, main counted: 1 to 4096, or 256 if left out";
+
+const STEPS_HELP: &str = "Steps until the run stops: 0 to 4294967295, or 1000000 if left out";
+
+const STATUS_HELP: &str = "\
+Exit status: 0 for `same`, `done` and help, 1 for a fault (`fault N NAME` on standard error), 2 for
+wrong words, 4 for `more`, 3 for any other answer.
+
+Examples: mcc check crates/example_files/data/slot-filled.check
+          mcc interp crates/example_files/data/squares.c";
+
+fn check_command<'a>(alloc: Global) -> Result<CommandLine<'a>, AllocError>
+    ensures app { IfOk result (λ c. app_of c ≡ check_app) }
+    ensures local { IfOk result (λ c. (out-Command c).has_globals ≡ false) }
+{
+    let file = Arg::new(alloc, "FILE")
+        .required(true)
+        .action(ArgAction::Set)
+        .help("The check text");
+    CommandLine::new(alloc, "check")
+        .about("Says whether an order may stand for a block")
+        .after_help(CHECK_HELP)
+        .arg(file)
+}
+
+/// The option `--id N` with N from low to high.
+fn number<'a>(alloc: Global, id: &'a str, low: u64, high: u64, about: &'a str) -> Arg<'a>
+    ensures rule { rule_of result ≡ number_rule id.entry.now low high }
+    ensures local { result.global ≡ false }
+{
+    Arg::new(alloc, id)
+        .long(id)
+        .action(ArgAction::Set)
+        .value_parser(ValueParser::unsigned(low, high))
+        .help(about)
+}
+
+fn source_command<'a>(alloc: Global) -> Result<CommandLine<'a>, AllocError>
+    ensures app { IfOk result (λ c. app_of c ≡ source_app) }
+    ensures local { IfOk result (λ c. (out-Command c).has_globals ≡ false) }
+{
+    let source = Arg::new(alloc, "SOURCE")
+        .required(true)
+        .action(ArgAction::Set)
+        .help("The C program");
+    CommandLine::new(alloc, "interp")
+        .about("Runs a C program by its meaning")
+        .after_help(INTERP_HELP)
+        .arg(source)
+}
+
+fn interp_command<'a>(alloc: Global) -> Result<CommandLine<'a>, AllocError>
+    ensures app { IfOk result (λ c. app_of c ≡ interp_app) }
+    ensures local { IfOk result (λ c. (out-Command c).has_globals ≡ false) }
+{
+    let command = source_command(alloc)?;
+    let depth = number(alloc, "depth", 1, 4096, DEPTH_HELP);
+    let steps = number(alloc, "steps", 0, 4294967295, STEPS_HELP);
+    command.arg(depth)?.arg(steps)
+}
+
+/// The command line of `mcc`.
+fn grammar<'a>(alloc: Global) -> Result<CommandLine<'a>, AllocError>
+    ensures { IfOk result (λ c. app_of c ≡ mcc_app) }
+{
+    let check = check_command(alloc)?;
+    let interp = interp_command(alloc)?;
+    CommandLine::new(alloc, "mcc")
+        .about("A checked scheduler for MIPS I, and a C interpreter")
+        .after_help(STATUS_HELP)
+        .subcommand_required(true)
+        .subcommand(check)?
+        .subcommand(interp)
+}
+
+fn entered_check<'a>(values: &ArgMatches<'a>) -> Option<Command<'a>>
+    ensures { IfSome result (HasValues (codes "check") (rows_of (found_of values.now))) }
+{
+    let file = values.get_str("FILE")?;
+    Some(Command::Check { file })
+}
+
+/// The value of an option, or the number that stands for it; None where its text is no number.
+fn number_or(values: &ArgMatches<'_>, id: &str, default: u32) -> Option<u32>
+    ensures { IfSome result (IsNumber (one_of id.now (rows_of (found_of values.now))) default) }
+{
+    match values.try_get_one::<u32>(id) {
+        Err(_) => None,
+        Ok(None) => Some(default),
+        Ok(Some(n)) => Some(n),
+    }
+}
+
+fn entered_interp<'a>(values: &ArgMatches<'a>) -> Option<Command<'a>>
+    ensures { IfSome result (HasValues (codes "interp") (rows_of (found_of values.now))) }
+{
+    let source = values.get_str("SOURCE")?;
+    let depth = number_or(values, "depth", 256)?;
+    let steps = number_or(values, "steps", 1000000)?;
+    if depth < 1 || depth > 4096 {
+        return None;
+    }
+    Some(Command::Interp {
+        source,
+        depth,
+        steps: steps as u64,
+    })
+}
+
+fn entered<'a>(matches: &ArgMatches<'a>) -> Option<Command<'a>>
+    ensures { IfSome result (λ w. (name : _) × (rows : _) × (subcommand_rows_of matches.now ≡ Some (name, rows)) × HasValues name rows w) }
+{
+    let (name, values) = matches.subcommand()?;
+    if name == "check" {
+        entered_check(values)
+    } else if name == "interp" {
+        entered_interp(values)
+    } else {
+        None
+    }
+}
+
+/// What the words ask for; the first is the program's name. An error is clap's: help, wrong words, or
+/// out of memory, which is all that it can be where clap takes the words.
+pub fn words<'a>(alloc: Global, words: &'a [&'a str]) -> Result<Command<'a>, Error>
+    ensures command { IfOk result (IsCommand (map (λ s. s.now) words.entry.now)) }
+    ensures refused { IfErr result (λ e. takes mcc_app (map (λ s. s.now) words.entry.now) ≡ true → kind_of e ≡ OutOfMemory) }
+{
+    let command = grammar(alloc)?;
+    let matches = command.try_get_matches_from(words)?;
+    match entered(&matches) {
+        Some(asked) => Ok(asked),
+        None => Err(Error::from(AllocError)),
+    }
+}

@@ -1,0 +1,82 @@
+use std::marker::Model;
+
+/// How many blocks of a build had which verdict.
+#[derive(Clone, Copy, Debug, PartialEq, Eq)]
+pub struct Counts {
+    pub same: u32,
+    pub unclean: u32,
+    pub differs: u32,
+    pub full: u32,
+    pub no_memory: u32,
+    pub missed: u32,
+}
+
+/// A program as the machine runs it: version 1 where there are no counts, else version 2.
+#[derive(Debug, Drop)]
+pub struct Image {
+    counts: Option<Counts>,
+    entry: u32,
+    code: Vec<u32>,
+    bytes: Vec<u8>,
+}
+
+impl Model for Image {
+    ghost use Rattle.image.specs.Images.{ImageParts, IsImage};
+    ghost use Rattle.image.specs.Views.{version_of};
+
+    ghost Value = { ImageParts };
+
+    ghost view = { λ i. record { version = version_of i.counts; entry = i.entry; code = i.code.items; bytes = i.bytes.items } };
+
+    ghost invariant = { λ i. IsImage (record { version = version_of i.counts; entry = i.entry; code = i.code.items; bytes = i.bytes.items }) };
+}
+
+impl Image {
+    ghost use Rattle.std.specs.Prelude.{◌≡◌};
+    ghost use Rattle.image.specs.Images.{IsImage};
+    ghost use Rattle.image.specs.Views.{version_of};
+
+    /// The image of these parts.
+    pub(crate) fn of(counts: Option<Counts>, entry: u32, code: Vec<u32>, bytes: Vec<u8>) -> Image
+        requires { IsImage (record { version = version_of counts; entry = entry; code = code.items; bytes = bytes.items }) }
+        ensures { result ≡ record { version = version_of counts; entry = entry; code = code.items; bytes = bytes.items } }
+    {
+        Image {
+            counts,
+            entry,
+            code,
+            bytes,
+        }
+    }
+
+    /// The counts, of version 2.
+    pub fn counts(&self) -> Option<Counts>
+        ensures value { version_of result ≡ self.now.version }
+    {
+        self.counts
+    }
+
+    /// The address of the word that runs first.
+    pub fn entry(&self) -> u32
+        ensures value { result ≡ self.now.entry }
+        ensures fits { IsImage self.now }
+    {
+        self.entry
+    }
+
+    /// The code words, the first one at 0x00400000.
+    pub fn code(&self) -> &[u32]
+        ensures value { result.now ≡ self.now.code }
+        ensures fits { IsImage self.now }
+    {
+        self.code.as_slice()
+    }
+
+    /// The data bytes, the first one at 0x10000000.
+    pub fn bytes(&self) -> &[u8]
+        ensures value { result.now ≡ self.now.bytes }
+        ensures fits { IsImage self.now }
+    {
+        self.bytes.as_slice()
+    }
+}

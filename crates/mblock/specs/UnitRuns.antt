@@ -1,0 +1,80 @@
+-- What a unit of blocks does, item by item: an item is one instruction or one exit.
+use Rattle.std.specs.Prelude.{◌≡◌, ℕ, zero, suc, ◌<◌, ◌≤◌, ◌^◌, Bool, true, false, ◌==◌, List, [], ◌∷◌, ◌++◌, Option, Some, None, slice_get, if◌then◌else◌}
+use Rattle.runs.specs.declared.ran.End.TheVariants.{Done, Wrong, More}
+use Rattle.runs.specs.Runs.{Outcome}
+use Rattle.mips_isa.specs.declared.inst.Plain.{Plain}
+use Rattle.mips_isa.specs.States.{State}
+use Rattle.mips_isa.specs.Actions.{action_of, is_safe, after}
+use Rattle.mblock.specs.declared.exit.Exit.{Exit}
+use Rattle.mblock.specs.declared.exit.Exit.TheVariants.{Goto, BranchPair, BranchZero, Call, Return, Out, Halt}
+use Rattle.mblock.specs.Parts.{BlockParts}
+use Rattle.mblock.specs.BlockMeaning.{Departure, GoesTo, CallsTo, GoesBack, PrintsTo, HaltsWith, leave}
+
+abbrev pub wrong : List ℕ → Outcome
+wrong out = record { end = Wrong; output = out }
+
+-- the block in which a run is, what is left of its instructions, the state and the output
+abbrev pub Next : Type 0
+Next = ℕ → List Plain → State → List ℕ → Outcome
+
+abbrev pub call_goes_on : Exit → Bool → Option ℕ → Option ℕ
+call_goes_on (Call f n) true rest = Some n
+call_goes_on exit found rest = rest
+
+-- where the call with that link goes on
+abbrev pub returns_to : (ℕ → ℕ) → ℕ → ℕ → List BlockParts → Option ℕ
+returns_to links word k [] = None
+returns_to links word k (b ∷ rest) = call_goes_on b.exit (links k == word) (returns_to links word (suc k) rest)
+
+abbrev pub enter_at : ℕ → Option BlockParts → Next → State → List ℕ → Outcome
+enter_at t None next s out = wrong out
+enter_at t (Some b) next s out = next t b.insts s out
+
+abbrev pub enter_if : List BlockParts → Option ℕ → Next → State → List ℕ → Outcome
+enter_if blocks None next s out = wrong out
+enter_if blocks (Some t) next s out = enter_at t (slice_get blocks t) next s out
+
+abbrev pub goes_on : List BlockParts → (ℕ → ℕ) → Departure → Next → State → List ℕ → Outcome
+goes_on blocks links (GoesTo t) next s out = enter_at t (slice_get blocks t) next s out
+goes_on blocks links (CallsTo f n) next s out = enter_at f (slice_get blocks f) next s out
+goes_on blocks links (GoesBack word) next s out = enter_if blocks (returns_to links word 0 blocks) next s out
+goes_on blocks links (PrintsTo word n) next s out = enter_at n (slice_get blocks n) next s (out ++ word ∷ [])
+goes_on blocks links (HaltsWith word) next s out = record { end = Done word; output = out }
+
+abbrev pub exit_item : List BlockParts → (ℕ → ℕ) → ℕ → Option BlockParts → Next → State → List ℕ → Outcome
+exit_item blocks links k None next s out = wrong out
+exit_item blocks links k (Some b) next s out =
+    goes_on blocks links (leave b.exit s (links k)).goes next (leave b.exit s (links k)).state out
+
+-- one item
+abbrev pub item : List BlockParts → (ℕ → ℕ) → Next → Next
+item blocks links next k [] s out = exit_item blocks links k (slice_get blocks k) next s out
+item blocks links next k (i ∷ rest) s out =
+    if is_safe (action_of i) s then next k rest (after (action_of i) s) out else wrong out
+
+-- at most n items
+abbrev pub items : List BlockParts → (ℕ → ℕ) → ℕ → Next
+items blocks links zero k rest s out = record { end = More; output = out }
+items blocks links (suc n) k rest s out = item blocks links (items blocks links n) k rest s out
+
+-- a run of n items from the start of block 0
+abbrev pub unit_run : List BlockParts → (ℕ → ℕ) → State → ℕ → Outcome
+unit_run blocks links s n = enter_at 0 (slice_get blocks 0) (items blocks links n) s []
+
+abbrev pub is_call : Exit → Bool
+is_call (Goto t) = false
+is_call (BranchPair test a b t e) = false
+is_call (BranchZero test a t e) = false
+is_call (Call f n) = true
+is_call Return = false
+is_call (Out n) = false
+is_call Halt = false
+
+-- a word for each call, and none twice
+pub record TellsApart (links : ℕ → ℕ) (blocks : List BlockParts) : Type 0 where
+  pub words : (k : ℕ) → links k < 2 ^ 32
+  pub apart : (i j : ℕ) (a b : BlockParts) → slice_get blocks i ≡ Some a → slice_get blocks j ≡ Some b → is_call a.exit ≡ true → is_call b.exit ≡ true → links i ≡ links j → i ≡ j
+
+-- after so many items or more the unit has this end and output, whatever the links
+abbrev pub ComesTo : List BlockParts → State → ℕ → Outcome → Type 0
+ComesTo blocks s r end = (links : ℕ → ℕ) → TellsApart links blocks → (i : ℕ) × (r ≤ i) × (unit_run blocks links s i ≡ end)

@@ -1,0 +1,42 @@
+// The order that keeps every instruction in place.
+
+ghost use Rattle.std.specs.Prelude.{◌≡◌, ◌++◌, OnOk, IfOk};
+ghost use Rattle.mblock.specs.PlainOrders.{padded, plain_order_of};
+
+use crate::block::Block;
+use crate::order::Order;
+use mips_isa::Plain;
+use std::alloc::{AllocError, Global};
+
+// An instruction, and the Nops that have to stand behind it.
+fn push_padded(insts: &mut Vec<Plain>, inst: &Plain) -> Result<(), AllocError>
+    ensures { OnOk result (insts.new.items ≡ insts.old.items ++ padded inst.now) }
+{
+    insts.push(*inst)?;
+    let action = inst.action();
+    if action.is_load() {
+        insts.push(Plain::nop())?;
+    } else if action.is_move() {
+        insts.push(Plain::nop())?;
+        insts.push(Plain::nop())?;
+    }
+    Ok(())
+}
+
+/// The plain order of a block: its instructions in place, a Nop behind each load and two behind each move from HI or LO,
+/// and a Nop in the slot. It is clean and means the block (`each_plain_order_means_its_block`).
+pub fn plain(alloc: Global, block: &Block) -> Result<Order, AllocError>
+    ensures { IfOk result (λ o. o ≡ plain_order_of block.now) }
+{
+    let mut insts = Vec::new(alloc);
+    for inst in block.insts() {
+        push_padded(&mut insts, inst)?;
+    }
+    let exit = block.exit();
+    let slot = if exit.has_slot() {
+        Some(Plain::nop())
+    } else {
+        None
+    };
+    Ok(Order::of(insts, exit, slot))
+}

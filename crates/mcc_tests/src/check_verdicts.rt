@@ -1,0 +1,102 @@
+// Blocks and orders with their verdicts.
+
+use driver::check;
+use std::alloc::{AllocError, Global};
+use std::test::Fail;
+
+fn printed(alloc: Global, text: &str) -> Result<String, AllocError> {
+    match check(alloc, text.as_bytes()) {
+        Ok(answer) => answer.to_string(alloc),
+        Err(fault) => fault.to_string(alloc),
+    }
+}
+
+const DELAYS: [(&str, &str); 5] = [
+    (
+        "block\nmflo $8\nmultu $9,$10\nreturn\norder\nmflo $8\nmultu $9,$10\nreturn\nslot nop\n",
+        "unclean U2",
+    ),
+    (
+        "block\nmflo $8\nmultu $9,$10\nreturn\norder\nmflo $8\nreturn\nslot multu $9,$10\n",
+        "unclean U2",
+    ),
+    (
+        "block\nmflo $8\nreturn\norder\nreturn\nslot mflo $8\n",
+        "unclean U3",
+    ),
+    (
+        "block\nlw $2,0($29)\nhalt\norder\nlw $2,0($29)\nhalt\n",
+        "unclean U4",
+    ),
+    (
+        "block\nlw $4,0($29)\nout 1\norder\nlw $4,0($29)\nout 1\n",
+        "same",
+    ),
+];
+
+#[test]
+fn delays_are_kept_or_the_least_broken_rule_is_told(rt: HostRuntime) -> Result<(), Fail> {
+    for (text, want) in DELAYS {
+        let line = printed(rt.alloc(), text)?;
+        assert_eq!(rt; line.as_str(), want, "at {text}");
+    }
+    Ok(())
+}
+
+const DIFFERENCES: [(&str, &str); 5] = [
+    (
+        "block\naddiu $8,$0,1\naddu $9,$8,$8\nreturn\n\
+         order\naddu $9,$8,$8\naddiu $8,$0,1\nreturn\nslot nop\n",
+        "differs $9",
+    ),
+    (
+        "block\naddiu $31,$31,4\nreturn\norder\nreturn\nslot addiu $31,$31,4\n",
+        "differs exit",
+    ),
+    (
+        "block\ndiv $9,$10\nmult $9,$10\nreturn\norder\nmult $9,$10\nreturn\nslot nop\n",
+        "same",
+    ),
+    (
+        "block\nmult $9,$10\nreturn\norder\ndiv $9,$10\nmult $9,$10\nreturn\nslot nop\n",
+        "differs guards",
+    ),
+    (
+        "block\naddiu $8,$0,1\nreturn\norder\ndiv $9,$10\naddiu $8,$0,1\nreturn\nslot nop\n",
+        "differs hi",
+    ),
+];
+
+#[test]
+fn the_first_place_that_differs_is_told(rt: HostRuntime) -> Result<(), Fail> {
+    for (text, want) in DIFFERENCES {
+        let line = printed(rt.alloc(), text)?;
+        assert_eq!(rt; line.as_str(), want, "at {text}");
+    }
+    Ok(())
+}
+
+/// A text of the most instructions that a block and an order may have, each a store at an offset of its own, and one
+/// more in the slot.
+fn longest(alloc: Global) -> Result<String, AllocError> {
+    let mut text = String::new(alloc);
+    text.push_str("block\n")?;
+    for k in 0..512u32 {
+        writeln!(text, "sw $8,{}($29)", 4 * k)?;
+    }
+    text.push_str("return\norder\n")?;
+    for k in 0..2048u32 {
+        writeln!(text, "sw $8,{}($29)", 4 * k)?;
+    }
+    text.push_str("return\nslot sw $8,8192($29)\n")?;
+    Ok(text)
+}
+
+// Some 7,700 terms: `check`'s table has room for more than twice as many.
+#[test]
+fn the_longest_text_has_a_verdict(rt: HostRuntime) -> Result<(), Fail> {
+    let text = longest(rt.alloc())?;
+    let line = printed(rt.alloc(), text.as_str())?;
+    assert_eq!(rt; line.as_str(), "differs mem");
+    Ok(())
+}

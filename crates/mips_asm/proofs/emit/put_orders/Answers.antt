@@ -1,0 +1,44 @@
+use Rattle.std.proofs.Common.{◌≡◌, ◌+◌, ◌++◌, ◌≤◌, ℕ, length, map, drop, sym, ap, subst, ◌∙◌, arith}
+use Rattle.mips_code.specs.Words.{inst_word}
+use Rattle.mips_layout.specs.Layout.{place, insts_of}
+use Rattle.mips_asm.specs.Emitted.{Fit, IsNear, start_of}
+use Rattle.mips_asm.proofs.Starts.{got, place_step, place_room, first_place, words_on, fit_on}
+use Rattle.mips_asm.proofs.emit.put_orders.Goals as goal
+
+pub loop-order-init : goal.loop-order-init
+loop-order-init c = (Rattle.std.proofs.Common.refl, λ h. h, first_place c.args.orders.now)
+
+pub put_order-requires-clause-here : goal.put_order-requires-clause-here
+put_order-requires-clause-here c =
+    let room = place_room c.args.orders.now c.loop-order.order-index c.order-item.result c.loop-order-test.true c.order-item.is c.requires.room in
+    let at = c.loop-order.invariant.2 in
+    omega arith
+
+pub put_order-requires-clause-near : goal.put_order-requires-clause-near
+put_order-requires-clause-near c =
+    let o = c.order-item.result in
+    let near = c.requires.near c.loop-order.order-index o (got c.args.orders.now c.loop-order.order-index o c.loop-order-test.true c.order-item.is) in
+    subst (λ h. IsNear (start_of c.args.places.now) (h + length o.insts) o.exit) (sym c.loop-order.invariant.2) near
+
+pub overflow_add-here : goal.overflow_add-here
+overflow_add-here c =
+    let room = place_room c.args.orders.now c.loop-order.order-index c.order-item.result c.loop-order-test.true c.order-item.is c.requires.room in
+    let at = c.loop-order.invariant.2 in
+    let v = c.size-here.ensures.value in
+    omega arith
+
+pub loop-order-preserved : goal.loop-order-preserved
+loop-order-preserved c =
+    let os = c.args.orders.now in
+    let start = start_of c.args.places.now in
+    let here = c.loop-order.here in
+    let k = c.loop-order.order-index in
+    let o = c.order-item.result in
+    let v = c.size-here.ensures.value in
+    let step = place_step os k o c.loop-order-test.true c.order-item.is in
+    let at = c.loop-order.invariant.2 in
+    let words = words_on start os here k o c.loop-order.code.items c.put_order.new.code.items (c.args.code.now.items ++ map inst_word (insts_of start 0 os)) c.loop-order-test.true c.order-item.is c.in_ok-put_order.ensures.word c.loop-order.invariant.0 in
+    let fit = fit_on start os here k o c.loop-order-test.true c.order-item.is c.in_ok-put_order.ensures.fit c.loop-order.invariant.1 in
+    let P : ℕ → Type 0 = λ n. (c.put_order.new.code.items ++ map inst_word (insts_of start (here + n) (drop (k + 1) os)) ≡ c.args.code.now.items ++ map inst_word (insts_of start 0 os))
+    × (Fit (insts_of start (here + n) (drop (k + 1) os)) → Fit (insts_of start 0 os)) × (here + n ≡ place os (k + 1)) in
+    subst P (sym v) (words, fit, omega arith)

@@ -1,0 +1,32 @@
+ghost use Rattle.std.specs.Prelude.{◌≡◌};
+ghost use Rattle.mips_asm.specs.declared.fault.AsmFault.TheVariants as faults;
+
+use std::alloc::{AllocError, AllocFailed};
+use thiserror::Error;
+
+/// Why there is no code.
+#[derive(Clone, Copy, Debug, PartialEq, Eq, Error)]
+pub enum AsmFault {
+    /// A function has more than 32,000 words, or the code more than 1,048,576.
+    #[error("fault 20 Limit")]
+    Limit,
+    /// Memory was refused.
+    #[error("fault 30 NoMemory")]
+    NoMemory,
+}
+
+impl From<AllocError> for AsmFault {
+    ghost from_gives = { λ _ e. e ≡ faults.NoMemory };
+
+    fn from(_: AllocError) -> Self {
+        AsmFault::NoMemory
+    }
+}
+
+impl<T: Drop> From<AllocFailed<T>> for AsmFault {
+    ghost from_gives = { λ _ e. e ≡ faults.NoMemory };
+
+    fn from(_: AllocFailed<T>) -> Self {
+        AsmFault::NoMemory
+    }
+}

@@ -1,0 +1,56 @@
+// Where orders stand, in words.
+
+ghost use Rattle.std.specs.Prelude.{◌≡◌, ℕ, ◌≤◌, IfOk, length};
+ghost use Rattle.mips_layout.specs.Layout.{exit_size, place, size};
+ghost use Rattle.mips_asm.specs.Emitted.{places_from};
+
+use mblock::{Exit, Order};
+use std::alloc::{AllocError, Global};
+
+fn exit_size(exit: Exit) -> u32
+    ensures { result ≡ exit_size exit }
+{
+    match exit {
+        Exit::Goto(_) => 2,
+        Exit::BranchPair { .. } => 4,
+        Exit::BranchZero { .. } => 4,
+        Exit::Call { .. } => 4,
+        Exit::Return => 2,
+        Exit::Out(_) => 4,
+        Exit::Halt => 2,
+    }
+}
+
+/// How many words an order has.
+pub fn size(order: &Order) -> u32
+    ensures value { result ≡ size order.now }
+    ensures small { result ≤ 2052 }
+{
+    order.insts().len() as u32 + exit_size(order.exit())
+}
+
+/// Where each order begins, in words.
+pub fn places(alloc: Global, orders: &[Order]) -> Result<Vec<u32>, AllocError>
+    requires { length orders.now ≤ 1048576 }
+    ensures { IfOk result (λ p. p.items ≡ places_from 0 orders.now) }
+{
+    let mut places = Vec::with_capacity(alloc, orders.len())?;
+    let mut here = 0;
+    for order in orders {
+        places.push(here)?;
+        here += size(order);
+    }
+    Ok(places)
+}
+
+/// How many words there are.
+pub fn total(orders: &[Order]) -> u32
+    requires { length orders.now ≤ 1048576 }
+    ensures { result ≡ place orders.now (length orders.now) }
+{
+    let mut words = 0;
+    for order in orders {
+        words += size(order);
+    }
+    words
+}

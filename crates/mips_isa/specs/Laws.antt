@@ -1,0 +1,24 @@
+-- Laws of the definitions.
+use Rattle.std.specs.Prelude.{◌≡◌, ℕ, true, false, not, ◌||◌, Some}
+use Rattle.mips_isa.specs.declared.action.Action.{Action}
+use Rattle.mips_isa.specs.declared.rule.Rule.{Rule}
+use Rattle.mips_isa.specs.declared.rule.Rule.TheVariants.{M4, M5, M6}
+use Rattle.mips_isa.specs.Actions.{is_safe, touches, reads, writes}
+use Rattle.mips_isa.specs.Flows.{Flow}
+use Rattle.mips_isa.specs.Rules.{action_breaks, broken_by, is_stuck, IsLeastRule}
+
+-- a safe action is one that breaks no rule on divisions and addresses
+abbrev pub SafeActionsKeepTheirRules : Type 0
+SafeActionsKeepTheirRules = (a : Action) (f : Flow) → is_safe a f.state ≡ not (action_breaks M4 a f || (action_breaks M5 a f || action_breaks M6 a f))
+
+-- an action is stuck exactly where it breaks some rule
+pub record StuckActionsBreakARule : Type 0 where
+  pub some : (a : Action) (f : Flow) → is_stuck a f ≡ true → (r : Rule) × (action_breaks r a f ≡ true)
+  pub none : (a : Action) (f : Flow) → is_stuck a f ≡ false → (r : Rule) → action_breaks r a f ≡ false
+
+-- a stuck action has broken a rule, and no lesser one
+abbrev pub EachBrokenRuleIsLeast : Type 0
+EachBrokenRuleIsLeast = (a : Action) (f : Flow) (r : Rule) → broken_by a f ≡ Some r → IsLeastRule (λ q. action_breaks q a f) r
+
+abbrev pub ReadsAndWritesAreTouched : Type 0
+ReadsAndWritesAreTouched = (a : Action) (r : ℕ) → touches a r ≡ (writes a r || reads a r)

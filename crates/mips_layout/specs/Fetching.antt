@@ -1,0 +1,20 @@
+-- Code of instructions, and code of their words.
+use Rattle.std.specs.Prelude.{◌≡◌, ℕ, ◌-◌, ◌/◌, List, map, All, Option, Some, None, slice_get, if◌then◌else◌}
+use Rattle.mips_isa.specs.declared.inst.Inst.{Inst}
+use Rattle.mips_isa.specs.Ranges.{IsInst}
+use Rattle.mips_code.specs.Words.{inst_word}
+use Rattle.mips_steps.specs.declared.steps.Fetched.{Fetched}
+use Rattle.mips_steps.specs.declared.steps.Fetched.TheVariants.{NoWord, Fetches}
+use Rattle.mips_steps.specs.Machines.{Code, Machine, code_base, is_code_address, words_code, machine_run}
+
+abbrev pub of_inst : Option Inst → Fetched
+of_inst None = NoWord
+of_inst (Some i) = Fetches i
+
+-- the code of these instructions
+abbrev pub insts_code : List Inst → Code
+insts_code insts pc = if is_code_address pc then of_inst (slice_get insts ((pc - code_base) / 4)) else NoWord
+
+abbrev pub WordsRunAsInstructions : Type 0
+WordsRunAsInstructions = (insts : List Inst) → All IsInst insts → (n : ℕ) (m : Machine)
+    → machine_run (words_code (map inst_word insts)) n m ≡ machine_run (insts_code insts) n m

@@ -1,0 +1,4 @@
+pub mod Layout
+pub mod Functions
+pub mod Fetching
+pub mod LayoutRuns

@@ -1,0 +1,28 @@
+ghost use Rattle.mips_layout.specs.Fetching.{WordsRunAsInstructions};
+ghost use Rattle.mips_layout.specs.Functions.{EachLayoutFits};
+ghost use Rattle.mips_layout.specs.LayoutRuns.{EachLayoutRuns, EachLayoutTellsCallsApart, EachPlainLayoutRuns};
+
+/// Where each instruction's fields are in their ranges, the words of instructions run as the instructions.
+pub fn words_run_as_instructions()
+    ensures { WordsRunAsInstructions }
+{}
+
+/// Laid out orders have their fields in their ranges, also the 16 bits of each branch.
+pub fn each_layout_fits()
+    ensures { EachLayoutFits }
+{}
+
+/// Wherever a unit isn't stuck, the words of its orders come to the same, 513 items a word at most.
+pub fn each_layout_runs()
+    ensures { EachLayoutRuns }
+{}
+
+/// Plain orders keep every instruction in place: one item a word at most.
+pub fn each_plain_layout_runs()
+    ensures { EachPlainLayoutRuns }
+{}
+
+/// The links of a layout are words, and no two calls have one.
+pub fn each_layout_tells_calls_apart()
+    ensures { EachLayoutTellsCallsApart }
+{}

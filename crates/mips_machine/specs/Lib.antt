@@ -1,0 +1,3 @@
+pub mod ImageRuns
+pub mod Places
+pub mod Views

@@ -1,0 +1,126 @@
+ghost use Rattle.std.specs.Prelude.{replicate, IfOk, ◌≡◌, ℕ, ◌<◌, ◌≤◌, ◌+◌, ◌*◌, ◌-◌, ◌/◌, ◌^◌, slice_set, slice_index, Some, None, true, length, if◌then◌else◌};
+ghost use Rattle.mips_isa.specs.States.{is_open, load_word, store_word};
+ghost use Rattle.mips_isa.specs.Starting.{words_mapped, first_bytes};
+ghost use Rattle.mips_machine.specs.Places.{bytes_in, word_in};
+
+use std::alloc::{AllocError, Global};
+
+const DATA_BASE: u32 = 0x1000_0000;
+
+const STACK_BASE: u32 = 0x6f00_0000;
+
+const STACK_WORDS: usize = 0x40_0000;
+
+/// The words of data and stack.
+#[derive(Drop)]
+pub struct Memory {
+    pub globals: Vec<u32>,
+    pub stack: Vec<u32>,
+    ghost globals_fit: { length globals.items ≤ 262144 },
+    ghost stack_fits: { length stack.items ≡ 4194304 },
+}
+
+fn word_of(words: &[u32], place: usize) -> u32
+    requires { place < length words.now }
+    ensures value { result ≡ slice_index words.now place }
+    ensures range { result < 2 ^ 32 }
+{
+    words[place]
+}
+
+impl Memory {
+    /// Whether the address of a byte is mapped.
+    pub fn is_mapped(&self, a: u32) -> bool
+        ensures { result ≡ words_mapped (length self.now.globals.items) a }
+    {
+        (DATA_BASE <= a && u64::from(a) < u64::from(DATA_BASE) + 4 * self.globals.len() as u64)
+            || (STACK_BASE <= a && a < 0x7000_0000)
+    }
+
+    /// The word at an address.
+    pub fn load(&self, a: u32) -> u32
+        requires { is_open (words_mapped (length self.now.globals.items)) a ≡ true }
+        ensures { result ≡ load_word (words_mapped (length self.now.globals.items)) (bytes_in self.now.globals.items self.now.stack.items) a }
+    {
+        if STACK_BASE <= a {
+            word_of(&self.stack, ((a - STACK_BASE) / 4) as usize)
+        } else {
+            word_of(&self.globals, ((a - DATA_BASE) / 4) as usize)
+        }
+    }
+
+    /// Writes the word at an address.
+    pub fn store(&mut self, a: u32, word: u32)
+        requires { is_open (words_mapped (length self.old.globals.items)) a ≡ true }
+        ensures bytes { bytes_in self.new.globals.items self.new.stack.items ≡ store_word (words_mapped (length self.old.globals.items)) (bytes_in self.old.globals.items self.old.stack.items) a word }
+        ensures length { length self.new.globals.items ≡ length self.old.globals.items }
+    {
+        if STACK_BASE <= a {
+            self.stack[((a - STACK_BASE) / 4) as usize] = word;
+        } else {
+            self.globals[((a - DATA_BASE) / 4) as usize] = word;
+        }
+    }
+}
+
+fn copies_of_zero(alloc: Global, count: usize) -> Result<Vec<u32>, AllocError>
+    ensures { IfOk result (λ v. v.items ≡ replicate count 0) }
+{
+    let zeros = vec![in alloc; 0; count]?;
+    Ok(zeros)
+}
+
+// So many zeros, said of each: a numeral for the count must not meet `replicate`, which would compute.
+fn zeros(alloc: Global, count: usize) -> Result<Vec<u32>, AllocError>
+    ensures length { IfOk result (λ v. length v.items ≡ count) }
+    ensures zero { IfOk result (λ v. (k : ℕ) → slice_index v.items k ≡ 0) }
+{
+    copies_of_zero(alloc, count)
+}
+
+// A byte, 0 behind the end.
+fn byte_at(bytes: &[u8], at: usize) -> u32
+    ensures value { result ≡ slice_index bytes.now at }
+    ensures small { result < 2 ^ 8 }
+{
+    match bytes.get(at) {
+        Some(byte) => u32::from(*byte),
+        None => 0,
+    }
+}
+
+fn word_in(bytes: &[u8], k: usize) -> u32
+    requires { k < 262144 }
+    ensures { result ≡ word_in bytes.now k }
+{
+    let at = 4 * k;
+    (byte_at(bytes, at) << 24)
+        + (byte_at(bytes, at + 1) << 16)
+        + (byte_at(bytes, at + 2) << 8)
+        + byte_at(bytes, at + 3)
+}
+
+// The words of bytes, the last one filled up with zeros.
+fn words_of(alloc: Global, bytes: &[u8]) -> Result<Vec<u32>, AllocError>
+    requires { length bytes.now ≤ 1048576 }
+    ensures count { IfOk result (λ w. length w.items ≡ (length bytes.now + 3) / 4) }
+    ensures words { IfOk result (λ w. (k : ℕ) → k < (length bytes.now + 3) / 4 → slice_index w.items k ≡ word_in bytes.now k) }
+{
+    let count = (bytes.len() + 3) / 4;
+    let mut words = Vec::with_capacity(alloc, count)?;
+    for k in 0..count {
+        words.push(word_in(bytes, k))?;
+    }
+    Ok(words)
+}
+
+/// The memory at the start: these bytes of data, and a stack of zeros.
+pub fn memory_of(alloc: Global, bytes: &[u8]) -> Result<Memory, AllocError>
+    requires { length bytes.now ≤ 1048576 }
+    ensures words { IfOk result (λ m. length m.globals.items ≡ (length bytes.now + 3) / 4) }
+    ensures bytes { IfOk result (λ m. bytes_in m.globals.items m.stack.items ≡ first_bytes bytes.now) }
+{
+    let globals = words_of(alloc, bytes)?;
+    let stack = zeros(alloc, STACK_WORDS)?;
+    Ok(Memory { globals, stack })
+}

@@ -1,0 +1,19 @@
+// Where branches and jumps lead, seen from the word behind them.
+
+ghost use Rattle.std.specs.Prelude.{◌≡◌, ℕ, ◌<◌, ◌^◌};
+ghost use Rattle.mips_steps.specs.Machines.{branch_target, jump_target};
+
+use mips_isa::JumpTarget;
+
+pub fn branch_target(slot: u32, offset: i16) -> u32
+    ensures { result ≡ branch_target slot offset }
+{
+    let by = 4 * i32::from(offset);
+    slot.wrapping_add(by.cast_unsigned())
+}
+
+pub fn jump_target(slot: u32, target: JumpTarget) -> u32
+    ensures { result ≡ jump_target slot target }
+{
+    slot / 0x1000_0000 * 0x1000_0000 + 4 * target.words()
+}

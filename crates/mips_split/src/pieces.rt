@@ -1,0 +1,249 @@
+// Long blocks to pieces.
+
+ghost use Rattle.std.specs.Prelude.{◌≡◌, ℕ, suc, ◌+◌, ◌-◌, ◌/◌, ◌^◌, ◌<◌, ◌≤◌, ◌++◌, ◌∷◌, [], length, IfOk, OnOk, IfErr, slice_index, replicate};
+ghost use Rattle.mips_split.specs.Split.{renumbered, more_pieces, piece, pieces, count_of, total, firsts, split_from, owners_from, split_blocks, split_owners};
+ghost use Rattle.mips_isa.specs.States.{State};
+ghost use Rattle.runs.specs.Runs.{Outcome};
+ghost use Rattle.mblock.specs.UnitRuns.{ComesTo};
+ghost use Rattle.mblock.specs.Units.{AreLinked, AreOwners, unit_parts};
+
+use crate::fault::SelectFault;
+use crate::long::LongBlock;
+use mblock::{Block, BlockNumber, Exit, Unit};
+use mips_isa::Plain;
+use std::alloc::{AllocError, Global};
+
+/// How many instructions a block has at most.
+const MOST: usize = 512;
+
+/// How many blocks a unit has at most.
+const FEW: usize = 1_048_576;
+
+// How many pieces come behind the first.
+fn count_more(block: &LongBlock) -> usize
+    ensures value { result ≡ more_pieces 512 block.now }
+    ensures small { result < 2 ^ 63 }
+{
+    let n = block.insts().len();
+    if n == 0 { 0 } else { (n - 1) / MOST }
+}
+
+// One more number.
+fn push_number(numbers: &mut Vec<BlockNumber>, n: BlockNumber) -> Result<(), AllocError>
+    ensures { OnOk result (numbers.new.items ≡ numbers.old.items ++ n ∷ []) }
+{
+    numbers.push(n)?;
+    Ok(())
+}
+
+// The number of a block.
+fn number(n: usize) -> BlockNumber
+    requires { n < 1048576 }
+    ensures { result ≡ n }
+{
+    match BlockNumber::new(n as u32) {
+        Some(number) => number,
+        None => unreachable!(),
+    }
+}
+
+// The number of each block's first piece.
+fn number_pieces(alloc: Global, long: &[LongBlock]) -> Result<Vec<BlockNumber>, SelectFault>
+    ensures numbers { IfOk result (λ ns. ns.items ≡ firsts 512 0 long.now) }
+    ensures few { IfOk result (λ _. total 512 long.now ≤ 1048576) }
+    ensures limit { IfErr result (λ e. e ≡ SelectFault.Limit → 1048576 < total 512 long.now) }
+{
+    let mut numbers = Vec::new(alloc);
+    let mut k: usize = 0;
+    for block in long {
+        let more = count_more(block);
+        if more >= FEW - k {
+            return Err(SelectFault::Limit);
+        }
+        push_number(&mut numbers, number(k))?;
+        k += 1 + more;
+    }
+    Ok(numbers)
+}
+
+// A number of the table, 0 behind its end.
+fn number_at(numbers: &[BlockNumber], n: BlockNumber) -> BlockNumber
+    ensures { result ≡ slice_index numbers.now n }
+{
+    let i = n.number() as usize;
+    if i < numbers.len() {
+        numbers[i]
+    } else {
+        number(0)
+    }
+}
+
+// The exit with the numbers of pieces.
+fn renumber(numbers: &[BlockNumber], exit: Exit) -> Exit
+    ensures { result ≡ renumbered (λ n. slice_index numbers.now n) exit }
+{
+    match exit {
+        Exit::Goto(t) => Exit::Goto(number_at(numbers, t)),
+        Exit::BranchPair {
+            test,
+            rs,
+            rt,
+            then,
+            other,
+        } => Exit::BranchPair {
+            test,
+            rs,
+            rt,
+            then: number_at(numbers, then),
+            other: number_at(numbers, other),
+        },
+        Exit::BranchZero {
+            test,
+            rs,
+            then,
+            other,
+        } => Exit::BranchZero {
+            test,
+            rs,
+            then: number_at(numbers, then),
+            other: number_at(numbers, other),
+        },
+        Exit::Call { function, next } => Exit::Call {
+            function: number_at(numbers, function),
+            next: number_at(numbers, next),
+        },
+        Exit::Return => Exit::Return,
+        Exit::Out(next) => Exit::Out(number_at(numbers, next)),
+        Exit::Halt => Exit::Halt,
+    }
+}
+
+// A copy of some instructions.
+fn copy_insts(alloc: Global, insts: &[Plain]) -> Result<Vec<Plain>, AllocError>
+    ensures { IfOk result (λ copy. copy.items ≡ insts.now) }
+{
+    let mut copy = Vec::with_capacity(alloc, insts.len())?;
+    for inst in insts {
+        copy.push(*inst)?;
+    }
+    Ok(copy)
+}
+
+// One more piece.
+fn push_piece(
+    alloc: Global,
+    out: &mut Vec<Block>,
+    insts: &[Plain],
+    exit: Exit,
+) -> Result<(), AllocError>
+    requires { length insts.now ≤ 512 }
+    ensures { OnOk result (out.new.items ≡ out.old.items ++ piece insts.now exit ∷ []) }
+{
+    let copy = copy_insts(alloc, insts)?;
+    match Block::new(copy, exit) {
+        Some(block) => out.push(block)?,
+        None => unreachable!(),
+    }
+    Ok(())
+}
+
+// The pieces of a block, the exit having the numbers of pieces.
+fn push_pieces(
+    alloc: Global,
+    out: &mut Vec<Block>,
+    insts: &[Plain],
+    exit: Exit,
+) -> Result<(), AllocError>
+    requires { length out.old.items + (length insts.now - 1) / 512 < 1048576 }
+    ensures { OnOk result (out.new.items ≡ out.old.items ++ pieces 512 exit ((length insts.now - 1) / 512) (length out.old.items) insts.now) }
+{
+    let mut rest = insts;
+    while rest.len() > MOST {
+        let (front, back) = rest.split_at(MOST);
+        let next = number(out.len() + 1);
+        push_piece(alloc, out, front, Exit::Goto(next))?;
+        rest = back;
+    }
+    push_piece(alloc, out, rest, exit)
+}
+
+// The pieces of all blocks.
+fn pieces_of(
+    alloc: Global,
+    numbers: &[BlockNumber],
+    long: &[LongBlock],
+) -> Result<Vec<Block>, AllocError>
+    requires { total 512 long.now ≤ 1048576 }
+    ensures { IfOk result (λ blocks. blocks.items ≡ split_from 512 (λ n. slice_index numbers.now n) 0 long.now) }
+{
+    let mut out = Vec::new(alloc);
+    for block in long {
+        let exit = renumber(numbers, block.exit());
+        push_pieces(alloc, &mut out, block.insts(), exit)?;
+    }
+    Ok(out)
+}
+
+/// The blocks cut into pieces of at most 512 instructions.
+pub fn split(alloc: Global, long: &[LongBlock]) -> Result<Vec<Block>, SelectFault>
+    ensures pieces { IfOk result (λ blocks. blocks.items ≡ split_blocks long.now) }
+    ensures few { IfOk result (λ blocks. length blocks.items ≤ 1048576) }
+    ensures limit { IfErr result (λ e. e ≡ SelectFault.Limit → 1048576 < length (split_blocks long.now)) }
+{
+    let numbers = number_pieces(alloc, long)?;
+    let blocks = pieces_of(alloc, numbers.as_slice(), long)?;
+    Ok(blocks)
+}
+
+// One owner, several times.
+fn push_copies(
+    owners: &mut Vec<BlockNumber>,
+    o: BlockNumber,
+    count: usize,
+) -> Result<(), AllocError>
+    ensures { OnOk result (owners.new.items ≡ owners.old.items ++ replicate count o) }
+{
+    for _ in 0..count {
+        push_number(owners, o)?;
+    }
+    Ok(())
+}
+
+// The owner of each piece.
+fn owners_of(
+    alloc: Global,
+    numbers: &[BlockNumber],
+    long: &[LongBlock],
+    owner: &[BlockNumber],
+) -> Result<Vec<BlockNumber>, AllocError>
+    requires { length owner.now ≡ length long.now }
+    ensures { IfOk result (λ os. os.items ≡ owners_from 512 (λ n. slice_index numbers.now n) long.now owner.now) }
+{
+    let mut owners = Vec::new(alloc);
+    for i in 0..long.len() {
+        let first = number_at(numbers, owner[i]);
+        push_copies(&mut owners, first, 1 + count_more(&long[i]))?;
+    }
+    Ok(owners)
+}
+
+/// The unit of the pieces of blocks with their owners.
+pub fn split_unit(
+    alloc: Global,
+    long: &[LongBlock],
+    owner: &[BlockNumber],
+    globals: Vec<u8>,
+) -> Result<Unit, SelectFault>
+    requires linked { AreLinked long.now }
+    requires owners { AreOwners long.now owner.now }
+    requires some { 0 < length long.now }
+    requires few { length globals.items ≤ 1048576 }
+    ensures unit { IfOk result (λ u. u ≡ unit_parts (split_blocks long.now) (split_owners long.now owner.now) globals.items) }
+    ensures runs { IfOk result (λ u. (s : State) (r : ℕ) (end : Outcome) → ComesTo long.now s r end → ComesTo u.blocks s r end) }
+    ensures limit { IfErr result (λ e. e ≡ SelectFault.Limit → 1048576 < length (split_blocks long.now)) }
+{
+    let numbers = number_pieces(alloc, long)?;
+    let blocks = pieces_of(alloc, numbers.as_slice(), long)?;
+    let owners = owners_of(alloc, numbers.as_slice(), long, owner)?;
+    Ok(Unit::of(blocks, owners, globals))
+}

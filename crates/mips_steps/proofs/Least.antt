@@ -1,0 +1,46 @@
+-- A stuck machine tells the least rule that is broken.
+use Rattle.std.proofs.Common.{◌≡◌, ℕ, ◌==◌, Bool, true, false, cond, Option, Some, None, refl, sym, ap, ◌∙◌, true≢false}
+use Rattle.std.proofs.lemmas.Option.{none-some}
+use Rattle.mips_isa.specs.declared.inst.JumpOp.TheVariants.{Jump, JumpAndLink}
+use Rattle.mips_isa.specs.declared.inst.Control.TheVariants.{BranchPair, BranchZero, JumpTo, JumpRegister, SystemCall}
+use Rattle.mips_isa.specs.declared.inst.Inst.{Inst}
+use Rattle.mips_isa.specs.declared.inst.Inst.TheVariants as insts
+use Rattle.mips_isa.specs.declared.rule.Rule.{Rule}
+use Rattle.mips_isa.specs.declared.rule.Rule.TheVariants.{M7, M8}
+use Rattle.mips_isa.specs.States.{read}
+use Rattle.mips_isa.proofs.Rules.{first_is_least}
+use Rattle.mips_steps.specs.declared.steps.Fetched.{Fetched}
+use Rattle.mips_steps.specs.declared.steps.Fetched.TheVariants.{NoWord, NoInstruction, Fetches}
+use Rattle.mips_steps.specs.Machines.{Machine, Stepped, Goes, Halts, Sticks, breaks, broken, unless_broken, moved, called, printed, EachRuleIsLeast}
+
+-- an instruction that breaks no rule isn't stuck
+abbrev is_stuck_step : Stepped → Bool
+is_stuck_step (Goes m) = false
+is_stuck_step (Halts w) = false
+is_stuck_step (Sticks r) = true
+
+abbrev rule_of : Rule → Stepped → Rule
+rule_of d (Goes m) = d
+rule_of d (Halts w) = d
+rule_of d (Sticks r) = r
+
+called_moves : (number : ℕ) (m : Machine) → is_stuck_step (called number m) ≡ false
+called_moves number m = elim (number == 10) as (λ b. is_stuck_step (cond b (Halts (read 0 m.flow.state.regs 4)) (printed m)) ≡ false) [ true ↦ refl | false ↦ refl ]
+
+moves : (i : Inst) (m : Machine) → is_stuck_step (moved i m) ≡ false
+moves (insts.Plain p) m = refl
+moves (insts.Control (BranchPair test a b offset)) m = refl
+moves (insts.Control (BranchZero test a offset)) m = refl
+moves (insts.Control (JumpTo Jump field)) m = refl
+moves (insts.Control (JumpTo JumpAndLink field)) m = refl
+moves (insts.Control (JumpRegister a)) m = refl
+moves (insts.Control SystemCall) m = called_moves (read 0 m.flow.state.regs 2) m
+
+sticks_by : (o : Option Rule) (f : Fetched) (m : Machine) (r : Rule) → broken f m ≡ o → unless_broken o f m ≡ Sticks r → broken f m ≡ Some r
+sticks_by (Some q) f m r is e = is ∙ ap (λ s. Some (rule_of q s)) e
+sticks_by None NoWord m r is e = absurd (none-some M7 (sym is))
+sticks_by None NoInstruction m r is e = absurd (none-some M8 (sym is))
+sticks_by None (Fetches i) m r is e = absurd (true≢false (sym (ap is_stuck_step e) ∙ moves i m))
+
+pub least : EachRuleIsLeast
+least f m r e = first_is_least (λ q. breaks q f m) r (sticks_by (broken f m) f m r refl e)

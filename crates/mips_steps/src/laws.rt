@@ -1,0 +1,6 @@
+ghost use Rattle.mips_steps.specs.Machines.{EachRuleIsLeast};
+
+/// A stuck machine tells the least rule that is broken.
+pub fn each_rule_is_least()
+    ensures { EachRuleIsLeast }
+{}
