@@ -1,6 +1,6 @@
 // How long the reader takes for a text of 1 MiB against one of 64 KiB, and nested texts, to see what stack they take.
 
-use c_front::read::read;
+use c_front::read;
 use std::alloc::{AllocError, Global};
 use std::time::Instant;
 

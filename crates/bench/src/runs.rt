@@ -1,8 +1,8 @@
 // How long C texts of some million steps run: three steps a turn, and four in the last.
 
-use c_front::read::read;
+use c_front::read;
 use c_run::run;
-use c_types::program::check;
+use c_types::check;
 use std::alloc::{AllocError, Global};
 use std::fmt::Write;
 use std::time::Instant;

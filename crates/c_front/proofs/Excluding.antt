@@ -2,13 +2,13 @@
 use Rattle.std.proofs.Common.{◌≡◌, ◌<◌, ℕ, List, [], ◌∙◌, Bool, true, false, length, refl, sym, ap, subst, arith}
 use Rattle.c_tokens.specs.declared.token.Token.{Token}
 use Rattle.c_tokens.proofs.Once.{lexes-once, never-lexes, stops-once}
-use Rattle.c_front.specs.declared.read.FaultKind.{FaultKind}
-use Rattle.c_front.specs.declared.read.FaultKind.TheVariants.{NoMemory}
+use Rattle.c_front.specs.declared.text.FaultKind.{FaultKind}
+use Rattle.c_front.specs.declared.text.FaultKind.TheVariants.{NoMemory}
 use Rattle.c_front.specs.Tree.{Declaration}
 use Rattle.c_front.specs.Grammar.{Spells}
 use Rattle.c_front.specs.Texts.{SpellsText, IsTextFault, IsBadByte, place_or, refusal_kind, too_long, bad_byte, bad_token, bad_syntax, no_memory}
 use Rattle.c_front.proofs.Theorems.{one-program, one-wrong}
-use Rattle.c_tokens.specs.declared.lex.Refusal.{Refusal}
+use Rattle.c_tokens.specs.declared.lexer.Refusal.{Refusal}
 use Rattle.c_tokens.specs.Texts.{Lexes, LexStops}
 use Rattle.c_front.specs.Syntax.{IsFirstWrong}
 

@@ -1,13 +1,13 @@
 -- Faults of bytes and of tokens are faults of the text.
 use Rattle.std.proofs.Common.{◌≡◌, ◌≤◌, ℕ, List, [], length, sym, subst}
 use Rattle.c_tokens.specs.declared.token.Token.{Token}
-use Rattle.c_tokens.specs.declared.lex.LexFault.{LexFault}
-use Rattle.c_tokens.specs.declared.lex.LexFault.TheVariants.{Refused, NoMemory}
+use Rattle.c_tokens.specs.declared.lexer.LexFault.{LexFault}
+use Rattle.c_tokens.specs.declared.lexer.LexFault.TheVariants.{Refused, NoMemory}
 use Rattle.c_tokens.specs.Texts.{IsLexFault, Lexes}
 use Rattle.c_front.specs.declared.declaration.Fault.{Fault}
 use Rattle.c_front.specs.declared.declaration.Fault.TheVariants.{Wrong, OutOfMemory}
 use Rattle.c_front.specs.Syntax.{IsFault}
-use Rattle.c_front.specs.declared.read.FrontFault.{FrontFault}
+use Rattle.c_front.specs.declared.text.FrontFault.{FrontFault}
 use Rattle.c_front.specs.Texts.{IsTextFault, AllText, bad_token, bad_syntax, no_memory}
 use Rattle.c_front.specs.Faults.{lexical_fault, syntactic_fault}
 

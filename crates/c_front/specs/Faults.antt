@@ -1,11 +1,11 @@
 -- The fault of a text, by that of its tokens.
 use Rattle.std.specs.Prelude.{ℕ, List}
-use Rattle.c_tokens.specs.declared.lex.LexFault.{LexFault}
-use Rattle.c_tokens.specs.declared.lex.LexFault.TheVariants.{Refused, NoMemory}
+use Rattle.c_tokens.specs.declared.lexer.LexFault.{LexFault}
+use Rattle.c_tokens.specs.declared.lexer.LexFault.TheVariants.{Refused, NoMemory}
 use Rattle.c_front.specs.declared.declaration.Fault.{Fault}
 use Rattle.c_front.specs.declared.declaration.Fault.TheVariants.{Wrong, OutOfMemory}
-use Rattle.c_front.specs.declared.read.FrontFault.{FrontFault}
-use Rattle.c_front.specs.declared.read.FaultKind.TheVariants.{Syntax, NoMemory as WantOfMemory}
+use Rattle.c_front.specs.declared.text.FrontFault.{FrontFault}
+use Rattle.c_front.specs.declared.text.FaultKind.TheVariants.{Syntax, NoMemory as WantOfMemory}
 use Rattle.c_front.specs.Texts.{place_or, refusal_kind}
 
 abbrev pub lexical_fault : ℕ → LexFault → FrontFault

@@ -1,11 +1,11 @@
 -- Which program a text spells, and why it is refused.
 use Rattle.std.specs.Prelude.{◌≡◌, ◌<◌, ◌≤◌, ℕ, List, [], length, Bool, true, false, nat_eq, nat_le, nat_lt, ◌&&◌, ◌||◌, if◌then◌else◌, slice_index, take, drop}
 use Rattle.c_tokens.specs.declared.token.Token.{Token}
-use Rattle.c_tokens.specs.declared.lex.Refusal.{Refusal}
-use Rattle.c_tokens.specs.declared.lex.Refusal.TheVariants.{BadToken, BadConstant, BadSize}
+use Rattle.c_tokens.specs.declared.lexer.Refusal.{Refusal}
+use Rattle.c_tokens.specs.declared.lexer.Refusal.TheVariants.{BadToken, BadConstant, BadSize}
 use Rattle.c_tokens.specs.Texts.{Lexes, LexStops}
-use Rattle.c_front.specs.declared.read.FaultKind.{FaultKind}
-use Rattle.c_front.specs.declared.read.FaultKind.TheVariants.{Byte, Token as TokenFault, Syntax, Constant, Size, NoMemory}
+use Rattle.c_front.specs.declared.text.FaultKind.{FaultKind}
+use Rattle.c_front.specs.declared.text.FaultKind.TheVariants.{Byte, Token as TokenFault, Syntax, Constant, Size, NoMemory}
 use Rattle.c_front.specs.Tree.{Declaration}
 use Rattle.c_front.specs.Grammar.{Spells}
 use Rattle.c_front.specs.Syntax.{IsFirstWrong}

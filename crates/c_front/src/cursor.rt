@@ -1,7 +1,7 @@
 ghost use Rattle.std.specs.Prelude.{◌≡◌, ◌∷◌, [], IfOk, IfErr, IfSome, IfNone};
 ghost use Rattle.c_front.specs.Stop.{IsMissing, StartsWith, StartsWithout, StartsWithName, IsNameMissing, StartsWithConstant, IsConstantMissing, StartsNamed, StartsUnnamed};
 
-use c_tokens::token::{Identifier, Literal, Mark, Token};
+use c_tokens::{Identifier, Literal, Mark, Token};
 use std::alloc::{AllocError, AllocFailed};
 
 /// Why parsing stopped: the tokens from the first wrong one on, or want of memory.

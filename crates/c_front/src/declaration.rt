@@ -9,7 +9,7 @@ ghost use Rattle.c_front.specs.Tree as Tree;
 use crate::cursor::{Stop, expect, literal, name, split, starts};
 use crate::statement::{items, kind};
 use crate::tree::{Declaration, FunctionDefinition, Initial, Item, Parameter};
-use c_tokens::token::{Identifier, Kind, Mark, Token};
+use c_tokens::{Identifier, Kind, Mark, Token};
 use std::alloc::{AllocError, AllocFailed, Global};
 
 /// The first value of a global variable.

@@ -7,7 +7,7 @@ ghost use Rattle.c_tokens.specs.declared.token.Token.TheVariants.{The};
 
 use crate::cursor::{Stop, expect, split, starts};
 use crate::tree::{BinaryOp, Call, Expr, UnaryOp, Value};
-use c_tokens::token::{Identifier, Mark, Token};
+use c_tokens::{Identifier, Mark, Token};
 use std::alloc::{AllocError, AllocFailed, Global};
 
 /// The operator that a token is, and the level of its operands.

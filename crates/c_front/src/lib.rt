@@ -1,6 +1,6 @@
 //! The C front end: a text to its syntax tree (C99 6.4 to 6.9, the integer subset that `specs/Grammar.antt` lists).
 //!
-//! For the layer above there is one contract: `read::read` is `Ok(p)` exactly where the text spells `p` and breaks no
+//! For the layer above there is one contract: `read` is `Ok(p)` exactly where the text spells `p` and breaks no
 //! size (memory aside), and else tells the fault that comes first in the order of the tests. `specs/Texts.antt` says
 //! what a text spells and which fault it has, `specs/Grammar.antt` is the grammar as a table of rules,
 //! `specs/Tree.antt` has the trees and `specs/Shape.antt` the tree that a Rust value stands for. The tokens are those
@@ -9,8 +9,15 @@
 #![tactic(auto)]
 
 mod cursor;
-pub mod declaration;
+mod declaration;
 mod expression;
-pub mod read;
 mod statement;
-pub mod tree;
+mod text;
+mod tree;
+
+pub use declaration::one_program;
+pub use text::{FaultKind, FrontFault, one_reading, read};
+pub use tree::{
+    BinaryOp, Call, Declaration, Expr, ForParts, FunctionDefinition, Initial, Item, Parameter,
+    Program, Simple, Stmt, UnaryOp, Value,
+};

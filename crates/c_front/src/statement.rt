@@ -9,7 +9,7 @@ ghost use Rattle.c_tokens.specs.declared.token.Mark.TheVariants.{While, For, Sem
 use crate::cursor::{Stop, expect, first_name, name, split, starts};
 use crate::expression::{arguments, closed, expression, value};
 use crate::tree::{Call, Expr, ForParts, Item, Simple, Stmt, Value};
-use c_tokens::token::{JumpWord, Kind, Mark, Token};
+use c_tokens::{JumpWord, Kind, Mark, Token};
 use std::alloc::{AllocError, AllocFailed, Global};
 
 /// The value after an equals sign.

@@ -1,4 +1,4 @@
-use c_tokens::token::{Identifier, Kind, Literal};
+use c_tokens::{Identifier, Kind, Literal};
 
 /// An operator before its operand: `-`, `+`, `~`, `!`.
 #[derive(Clone, Copy, PartialEq, Eq)]

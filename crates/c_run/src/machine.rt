@@ -9,7 +9,7 @@ ghost use Rattle.c_run.specs.Machine.{places, arrays, todos, frame_of, frames_of
 use crate::pending::{Head, Pending, put, settle};
 use crate::value::{arguments, value};
 use c_typed::{Place, Statement, Term};
-use c_types::typed::Typed;
+use c_types::Typed;
 use std::alloc::{AllocError, Global};
 use std::mem;
 

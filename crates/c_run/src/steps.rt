@@ -6,7 +6,7 @@ ghost use Rattle.c_run.specs.Machine.{arrays, state_of};
 
 use crate::machine::{Call, Machine, Reached, step};
 use crate::pending::{Pending, put};
-use c_types::typed::Typed;
+use c_types::Typed;
 use std::alloc::{AllocError, Global};
 use runs::{End, Ran};
 

@@ -6,9 +6,9 @@ ghost use Rattle.runs.specs.Stores.{word_at};
 ghost use Rattle.c_typed.specs.Values.{sign_of, truth, unary_of, binary_of, value_of, values_of};
 ghost use Rattle.c_run.specs.Machine.{places, arrays};
 
-use c_front::tree::{BinaryOp, UnaryOp};
+use c_front::{BinaryOp, UnaryOp};
 use c_typed::Term;
-use c_tokens::token::Kind;
+use c_tokens::Kind;
 use std::alloc::{AllocError, Global};
 use words::Sign;
 

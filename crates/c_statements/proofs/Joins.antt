@@ -16,7 +16,7 @@ use Rattle.c_statements.specs.Statements.{FaultyFirst, FaultyDeclarator, FaultyI
 use Rattle.c_typed.specs.Trees.{TypedExpression, TypedStatement, block, loop, no_statements, more_statements}
 use Rattle.c_statements.specs.Types.{TypesPart, TypesTest, TypesStatement, repeat_for_typed}
 use Rattle.c_statements.proofs.Firsts.{Both, Tells, same-stop, both-stop, both-none, ok-at}
-use Rattle.c_statements.proofs.Items.{behind-around, behind-locals}
+use Rattle.c_statements.proofs.BlockItems.{behind-around, behind-locals}
 use Rattle.c_typed.proofs.Shapes.{block-is}
 
 -- what is known of an answer that lasts is known of it in its place

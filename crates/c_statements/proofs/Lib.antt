@@ -6,7 +6,7 @@ pub mod Joined
 pub mod Arguments
 pub mod CallsTyped
 pub mod Declarators
-pub mod Items
+pub mod BlockItems
 pub mod Weights
 pub mod Joins
 pub mod OnceStatements

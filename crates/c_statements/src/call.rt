@@ -9,8 +9,8 @@ use crate::expression::misuse;
 use crate::fault::{FaultKind, Stop};
 use crate::names::Named;
 use crate::scopes::Frame;
-use c_front::tree::Program;
-use c_tokens::token::Identifier;
+use c_front::Program;
+use c_tokens::Identifier;
 
 /// What a call goes to: a function of the program, by its number, or `out`.
 #[derive(Clone, Copy, PartialEq, Eq)]

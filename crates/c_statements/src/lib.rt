@@ -1,9 +1,9 @@
 //! Names and kinds in the body of a C function (C99 6.2.1, 6.3.1.8, 6.5, 6.7, 6.8): scopes, the faults of declarations
 //! of locals and of uses of names, and the typed trees of expressions and statements.
 //!
-//! For the layer above there is one contract: `statement::items` gives the typed trees of a body under the scopes before
+//! For the layer above there is one contract: `items` gives the typed trees of a body under the scopes before
 //! it exactly where it has no fault, memory aside, and of these there is one list at most
-//! (`statement::one_typing_of_statements`). Else it stops at the fault with the least offset, at one offset that with
+//! (`one_typing_of_statements`). Else it stops at the fault with the least offset, at one offset that with
 //! the least number. The scopes are left as they were, but for the names that the body itself puts into the innermost
 //! one and for the count of locals; only after want of memory nothing is known of them.
 //!
@@ -15,10 +15,16 @@
 //! `statement` and `expression` call themselves on the parts of a tree, so the stack grows with its depth.
 #![tactic(auto)]
 
-pub mod call;
-pub mod expression;
-pub mod fault;
-pub mod names;
-pub mod scopes;
-pub mod simple;
-pub mod statement;
+mod call;
+mod expression;
+mod fault;
+mod names;
+mod scopes;
+mod simple;
+mod statement;
+
+pub use expression::{misuse, one_typing};
+pub use fault::{FaultKind, Stop, TypeFault, both, either};
+pub use names::Named;
+pub use scopes::Frame;
+pub use statement::{MAX_LOCALS, items, lasting, one_typing_of_statements};

@@ -1,4 +1,4 @@
-use c_tokens::token::Kind;
+use c_tokens::Kind;
 
 /// What a name stands for. Locals are numbered within their function, global variables, arrays and functions within
 /// the program; a function has its number of parameters, and whether it gives a result. `Out` is the function `out`,

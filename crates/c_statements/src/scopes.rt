@@ -3,8 +3,8 @@ ghost use Rattle.c_statements.specs.Held.{scopes_of};
 ghost use Rattle.c_statements.specs.Names.{Scopes, named_in, sight_in, with_spelling, no_scopes, entered, left, with_declared, declared, without_locals, spelled};
 
 use crate::names::Named;
-use c_front::tree::Program;
-use c_tokens::token::{Identifier, Kind};
+use c_front::Program;
+use c_tokens::{Identifier, Kind};
 use std::alloc::{AllocError, AllocFailed, Global};
 use std::collections::HashMap;
 use std::mem::replace;

@@ -15,8 +15,8 @@ use crate::fault::{FaultKind, Stop, both};
 use crate::names::Named;
 use crate::scopes::Frame;
 use c_typed::{Place, Statement, Term};
-use c_front::tree::{Call, Expr, Program, Simple, Value};
-use c_tokens::token::{Identifier, Kind, Literal};
+use c_front::{Call, Expr, Program, Simple, Value};
+use c_tokens::{Identifier, Kind, Literal};
 use std::alloc::{AllocError, AllocFailed, Global};
 
 /// A list of typed parts with one more at its end.

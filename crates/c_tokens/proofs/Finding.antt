@@ -2,8 +2,8 @@
 use Rattle.std.proofs.lemmas.Bool.Decides.{nat_tests}
 use Rattle.std.proofs.Common.{◌+◌, ◌≡◌, ◌<◌, ◌≤◌, ℕ, suc, zero, List, [], ◌∷◌, length, drop, take, Bool, true, false, Option, Some, None, refl, sym, ap, subst, ◌∙◌, arith, if◌then◌else◌, nat_eq, nat_lt, ◌&&◌, ◌||◌, length-take, ◌⊎◌, inl, inr}
 use Rattle.c_tokens.specs.declared.token.Mark.{Mark}
-use Rattle.c_tokens.specs.declared.lex.Lexeme.{Lexeme}
-use Rattle.c_tokens.specs.declared.lex.Lexeme.TheVariants.{Separator, Refused}
+use Rattle.c_tokens.specs.declared.lexer.Lexeme.{Lexeme}
+use Rattle.c_tokens.specs.declared.lexer.Lexeme.TheVariants.{Separator, Refused}
 use Rattle.c_tokens.specs.Lexing.{is_space, is_letter, is_digit, is_word, goes_on, is_exponent, is_front, same_bytes, signs, keywords, word_lexeme, constant_lexeme, comment_length, one_more}
 use Rattle.c_tokens.specs.Fronts.{word_length, run_length, line_length, longest, longer, sign_lexeme, comment_lexeme, line_lexeme, lexeme_of, word_at, constant_at, comment_at, line_at, sign_at}
 use Rattle.c_tokens.specs.Pieces.{IsWord, word_end, word_more, IsRun, run_end, run_more, IsLine, line_end, line_more, IsOpen, open_end, open_more, IsClosed, closed_here, closed_later, spelled, comment_meaning}

@@ -2,11 +2,11 @@
 use Rattle.std.proofs.lemmas.Bool.Decides.{nat_tests}
 use Rattle.std.proofs.Common.{◌+◌, ◌*◌, ◌≡◌, ◌<◌, ◌≤◌, ℕ, suc, zero, List, [], ◌∷◌, length, Bool, true, false, Option, Some, None, refl, sym, ap, subst, ◌∙◌, arith, if◌then◌else◌, nat_eq, nat_lt, ◌&&◌, take, length-take}
 use Rattle.c_tokens.specs.declared.token.Mark.{Mark}
-use Rattle.c_tokens.specs.declared.lex.Lexeme.{Lexeme}
+use Rattle.c_tokens.specs.declared.lexer.Lexeme.{Lexeme}
 use Rattle.c_tokens.specs.declared.sign.Spelling.{Spelling}
 use Rattle.c_tokens.specs.declared.sign.Spelling.TheVariants.{One, Two, Three}
-use Rattle.c_tokens.specs.declared.lex.Reserved.{Reserved}
-use Rattle.c_tokens.specs.declared.lex.Reserved.TheVariants.{Marked, Jumping, Unused}
+use Rattle.c_tokens.specs.declared.keywords.Reserved.{Reserved}
+use Rattle.c_tokens.specs.declared.keywords.Reserved.TheVariants.{Marked, Jumping, Unused}
 use Rattle.c_tokens.specs.Lexing.{is_front, same_bytes, word_lexeme, keyword_lexeme, is_word, digit_of, digits_of, up_to}
 use Rattle.c_tokens.specs.Fronts.{longer, longest, word_length}
 use Rattle.c_tokens.specs.Spellings.{bytes_of, shown}

@@ -1,10 +1,10 @@
 -- A place in a text that was reached token by token.
 use Rattle.std.proofs.Common.{◌≡◌, ◌≤◌, ◌+◌, ◌-◌, ℕ, List, ◌++◌, ◌∷◌, [], length, drop, subst, sym, arith, length-drop, append_assoc, append-nil}
 use Rattle.c_tokens.specs.declared.token.Token.{Token}
-use Rattle.c_tokens.specs.declared.lex.Step.TheVariants.{Done, Skip, Take, Stop}
-use Rattle.c_tokens.specs.declared.lex.Sizes.{Sizes}
-use Rattle.c_tokens.specs.declared.lex.Refusal.{Refusal}
-use Rattle.c_tokens.specs.declared.lex.Refusal.TheVariants.{BadSize}
+use Rattle.c_tokens.specs.declared.lexer.Step.TheVariants.{Done, Skip, Take, Stop}
+use Rattle.c_tokens.specs.declared.sizes.Sizes.{Sizes}
+use Rattle.c_tokens.specs.declared.lexer.Refusal.{Refusal}
+use Rattle.c_tokens.specs.declared.lexer.Refusal.TheVariants.{BadSize}
 use Rattle.c_tokens.specs.Texts.{IsStep, Lexes, lexes_end, lexes_skip, lexes_take, LexStops, stops_here, stops_size, stops_skip, stops_take, Counts, Within, Counted, Oversize}
 
 pub record LexGoes (text rest : List ℕ) (at : ℕ) (tokens : List Token) (places : List ℕ) (sizes : Sizes) : Type 0 where

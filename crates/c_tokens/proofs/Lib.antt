@@ -2,7 +2,7 @@ pub mod Scanning
 pub mod Fitting
 pub mod Going
 pub mod Fronts
-pub mod Constants
+pub mod Limits
 pub mod Shapes
 pub mod Finding
 pub mod Numbers

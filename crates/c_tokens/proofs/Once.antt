@@ -1,10 +1,10 @@
 -- A text has its tokens once.
 use Rattle.std.proofs.Common.{◌≡◌, ◌+◌, ℕ, List, ◌∷◌, drop, Bool, true, false, refl, sym, ap, subst, ◌∙◌}
 use Rattle.c_tokens.specs.declared.token.Token.{Token}
-use Rattle.c_tokens.specs.declared.lex.Step.{Step}
-use Rattle.c_tokens.specs.declared.lex.Step.TheVariants.{Done, Skip, Take, Stop}
+use Rattle.c_tokens.specs.declared.lexer.Step.{Step}
+use Rattle.c_tokens.specs.declared.lexer.Step.TheVariants.{Done, Skip, Take, Stop}
 use Rattle.c_tokens.specs.Texts.{IsStep, step_of, is_oversize, Lexes, lexes_end, lexes_skip, lexes_take, LexStops, stops_here, stops_size, stops_skip, stops_take}
-use Rattle.c_tokens.specs.declared.lex.Refusal.{Refusal}
+use Rattle.c_tokens.specs.declared.lexer.Refusal.{Refusal}
 use Rattle.c_tokens.proofs.Pieces.{next-once}
 
 step-once : (at : ℕ) (bs : List ℕ) (s t : Step) → IsStep at bs s → IsStep at bs t → s ≡ t

@@ -1,8 +1,8 @@
 -- How the front of a text is cut: the words of the private functions, which find the longest piece.
 use Rattle.std.specs.Prelude.{◌+◌, ℕ, suc, List, [], ◌∷◌, length, drop, take, Bool, true, false, nat_eq, nat_lt, if◌then◌else◌, Option, Some, None}
 use Rattle.c_tokens.specs.declared.token.Mark.{Mark}
-use Rattle.c_tokens.specs.declared.lex.Lexeme.{Lexeme}
-use Rattle.c_tokens.specs.declared.lex.Lexeme.TheVariants.{End, Separator, Sign, Refused}
+use Rattle.c_tokens.specs.declared.lexer.Lexeme.{Lexeme}
+use Rattle.c_tokens.specs.declared.lexer.Lexeme.TheVariants.{End, Separator, Sign, Refused}
 use Rattle.c_tokens.specs.Lexing.{is_space, is_letter, is_digit, is_word, is_exponent, goes_on, is_front, comment_length, escape_at, signs, keywords, word_lexeme, constant_lexeme}
 
 abbrev pub word_length : List ℕ → ℕ

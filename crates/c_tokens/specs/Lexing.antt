@@ -5,10 +5,10 @@ use Rattle.c_tokens.specs.declared.token.Kind.TheVariants.{SignedInt, UnsignedIn
 use Rattle.c_tokens.specs.declared.token.JumpWord.TheVariants.{Break, Continue, Return}
 use Rattle.c_tokens.specs.declared.token.Mark.{Mark}
 use Rattle.c_tokens.specs.declared.token.Mark.TheVariants.{Int, Unsigned, Void, If, Else, While, For, Semicolon, Comma, LeftBrace, RightBrace, LeftParen, RightParen, LeftBracket, RightBracket, Assign, Question, Colon, Plus, Minus, Star, Slash, Percent, Bang, Tilde, BarBar, AndAnd, Bar, Caret, Ampersand, EqualEqual, BangEqual, Less, Greater, LessEqual, GreaterEqual, LessLess, GreaterGreater}
-use Rattle.c_tokens.specs.declared.lex.Lexeme.{Lexeme}
-use Rattle.c_tokens.specs.declared.lex.Lexeme.TheVariants.{Word, Numeral, Sign, Leap, Refused, NoConstant}
-use Rattle.c_tokens.specs.declared.lex.Reserved.{Reserved}
-use Rattle.c_tokens.specs.declared.lex.Reserved.TheVariants.{Marked, Jumping, Unused}
+use Rattle.c_tokens.specs.declared.lexer.Lexeme.{Lexeme}
+use Rattle.c_tokens.specs.declared.lexer.Lexeme.TheVariants.{Word, Numeral, Sign, Leap, Refused, NoConstant}
+use Rattle.c_tokens.specs.declared.keywords.Reserved.{Reserved}
+use Rattle.c_tokens.specs.declared.keywords.Reserved.TheVariants.{Marked, Jumping, Unused}
 
 abbrev pub is_space : ℕ → Bool
 is_space b = nat_eq b 32 || nat_eq b 9 || nat_eq b 10 || nat_eq b 13

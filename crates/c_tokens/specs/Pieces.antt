@@ -2,8 +2,8 @@
 use Rattle.std.specs.Prelude.{◌≡◌, ◌+◌, ◌<◌, ◌≤◌, ℕ, List, [], ◌∷◌, length, drop, take, Bool, true, false, nat_eq, if◌then◌else◌, Option, Some, None}
 use Rattle.c_tokens.specs.declared.token.Mark.{Mark}
 use Rattle.c_tokens.specs.declared.token.Literal.{Literal}
-use Rattle.c_tokens.specs.declared.lex.Lexeme.{Lexeme}
-use Rattle.c_tokens.specs.declared.lex.Lexeme.TheVariants.{End, Separator, Numeral, Sign, Refused, NoConstant}
+use Rattle.c_tokens.specs.declared.lexer.Lexeme.{Lexeme}
+use Rattle.c_tokens.specs.declared.lexer.Lexeme.TheVariants.{End, Separator, Numeral, Sign, Refused, NoConstant}
 use Rattle.c_tokens.specs.Lexing.{is_space, is_letter, is_digit, is_word, goes_on, is_exponent, is_front, same_bytes, signs, keywords, word_lexeme, escape_at}
 use Rattle.c_tokens.specs.Constants.{IsConstant}
 

@@ -3,15 +3,15 @@ use Rattle.std.specs.Prelude.{◌≡◌, ◌+◌, ◌-◌, ◌<◌, ◌≤◌, �
 use Rattle.c_tokens.specs.declared.token.Token.{Token}
 use Rattle.c_tokens.specs.declared.token.Token.TheVariants.{Name, Constant, Jump, The}
 use Rattle.c_tokens.specs.declared.token.Mark.TheVariants.{Else, For, Semicolon, LeftBrace, RightBrace}
-use Rattle.c_tokens.specs.declared.lex.Lexeme.{Lexeme}
-use Rattle.c_tokens.specs.declared.lex.Lexeme.TheVariants.{End, Separator, Word, Numeral, Sign, Leap, Refused, NoConstant}
-use Rattle.c_tokens.specs.declared.lex.Step.{Step}
-use Rattle.c_tokens.specs.declared.lex.Step.TheVariants.{Done, Skip, Take, Stop}
-use Rattle.c_tokens.specs.declared.lex.Sizes.{Sizes}
-use Rattle.c_tokens.specs.declared.lex.LexFault.{LexFault}
-use Rattle.c_tokens.specs.declared.lex.LexFault.TheVariants.{Refused as RefusedAt, NoMemory}
-use Rattle.c_tokens.specs.declared.lex.Refusal.{Refusal}
-use Rattle.c_tokens.specs.declared.lex.Refusal.TheVariants.{BadToken, BadConstant, BadSize}
+use Rattle.c_tokens.specs.declared.lexer.Lexeme.{Lexeme}
+use Rattle.c_tokens.specs.declared.lexer.Lexeme.TheVariants.{End, Separator, Word, Numeral, Sign, Leap, Refused, NoConstant}
+use Rattle.c_tokens.specs.declared.lexer.Step.{Step}
+use Rattle.c_tokens.specs.declared.lexer.Step.TheVariants.{Done, Skip, Take, Stop}
+use Rattle.c_tokens.specs.declared.sizes.Sizes.{Sizes}
+use Rattle.c_tokens.specs.declared.lexer.LexFault.{LexFault}
+use Rattle.c_tokens.specs.declared.lexer.LexFault.TheVariants.{Refused as RefusedAt, NoMemory}
+use Rattle.c_tokens.specs.declared.lexer.Refusal.{Refusal}
+use Rattle.c_tokens.specs.declared.lexer.Refusal.TheVariants.{BadToken, BadConstant, BadSize}
 use Rattle.c_tokens.specs.Pieces.{IsNext}
 
 -- the lexeme has bytes, and no more than there are

@@ -1,12 +1,19 @@
 //! The tokens of a C text, by longest match (C99 6.4), where they stand, and the sizes that they keep within.
 //!
-//! For the layer above: `lex::lex` answers a text's tokens with their offsets, or the first refusal. Its contract
-//! speaks of `Lexes` and `LexStops` of `specs/Texts.antt`; which pieces there are is `specs/Pieces.antt`, and what a
-//! piece means (the tables of operators and keywords, the constants) is `specs/Lexing.antt`. `specs/Fronts.antt` has
-//! the words of the private functions that find the longest piece.
+//! For the layer above: `lex` answers a text's tokens with their offsets, or the first refusal. Its contract speaks of
+//! `Lexes` and `LexStops` of `specs/Texts.antt`; which pieces there are and what each of them is stands in
+//! `specs/Pieces.antt`, with the constants of `specs/Constants.antt` and the tables of operators and keywords of
+//! `specs/Lexing.antt`. `specs/Fronts.antt`, and in `specs/Lexing.antt` what comes behind the tables, are words of the
+//! private functions that find the longest piece.
 #![tactic(auto)]
 
-pub mod lex;
+mod constants;
+mod keywords;
+mod lexer;
 mod scan;
 mod sign;
-pub mod token;
+mod sizes;
+mod token;
+
+pub use lexer::{LexFault, Refusal, lex, one_lexing};
+pub use token::{Identifier, JumpWord, Kind, Literal, Mark, Token};

@@ -4,7 +4,7 @@ ghost use Rattle.c_tokens.specs.Fronts.{beginning, longest, longer, sign_lexeme}
 ghost use Rattle.c_tokens.specs.Spellings.{bytes_of, entry_of, shown};
 ghost use Rattle.c_tokens.specs.Texts.{Fits};
 
-use crate::lex::Lexeme;
+use crate::lexer::Lexeme;
 use crate::scan::{begins, split};
 use crate::token::Mark;
 

@@ -2,8 +2,8 @@ ghost use Rattle.std.specs.Prelude.{◌≡◌};
 ghost use Rattle.c_typed.specs.Shape.{term_of};
 ghost use Rattle.c_typed.specs.Trees.{kind_of};
 
-use c_front::tree::{BinaryOp, UnaryOp};
-use c_tokens::token::{Kind, Literal};
+use c_front::{BinaryOp, UnaryOp};
+use c_tokens::{Kind, Literal};
 
 /// A typed expression. A local, a global variable and an array stand as their numbers. An operator keeps the kind that
 /// it computes in: for a comparison that is the operands' common kind.

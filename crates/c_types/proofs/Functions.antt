@@ -10,7 +10,7 @@ use Rattle.c_statements.specs.Faults.{HasNone, StopsAtFirst, StopsBoth}
 use Rattle.c_statements.specs.Names.{Meaning, Scopes, left, without_first, without_locals, entered, declared, behind_items}
 use Rattle.c_statements.specs.Statements.{FaultyItems}
 use Rattle.c_statements.proofs.Firsts.{Both, both-stop}
-use Rattle.c_statements.proofs.Items.{behind-around}
+use Rattle.c_statements.proofs.BlockItems.{behind-around}
 use Rattle.c_types.specs.Files.{file_scopes}
 use Rattle.c_types.specs.Programs.{FaultyParameters, FaultyBody, behind_parameters, scopes_at}
 

@@ -6,13 +6,9 @@ ghost use Rattle.c_statements.specs.Names.{spelled};
 ghost use Rattle.c_types.specs.Files.{counts_of, file_of, Exceeds, IsOtherKind, is_array_of_nothing};
 ghost use Rattle.c_types.specs.Programs.{FaultyName, FaultyParameter, FaultyParameters, behind_parameters, IsNotMain, first_word, main_name, name_of, named_by, counts_after, words_of};
 
-use c_front::tree::{Declaration, Initial, Parameter, Program};
-use c_statements::expression::misuse;
-use c_statements::fault::{FaultKind, Stop, either};
-use c_statements::names::Named;
-use c_statements::scopes::Frame;
-use c_statements::statement::MAX_LOCALS;
-use c_tokens::token::{Identifier, Kind};
+use c_front::{Declaration, Initial, Parameter, Program};
+use c_statements::{FaultKind, Frame, MAX_LOCALS, Named, Stop, either, misuse};
+use c_tokens::{Identifier, Kind};
 use std::alloc::AllocError;
 
 /// The most parameters that a function may have.

@@ -15,14 +15,11 @@ ghost use Rattle.c_types.specs.Typed.{EachTypedProgramIsWellFormed, SpellsTyped}
 use crate::declaration::{
     Tally, declared_name, first, is_main, name_fault, parameters,
 };
-use crate::typed::Typed;
-use c_front::tree::{Declaration, FunctionDefinition, Program};
-use c_statements::fault::{FaultKind, Stop, TypeFault, both};
-use c_statements::names::Named;
-use c_statements::scopes::Frame;
-use c_statements::statement::{items, lasting};
+use crate::typed_program::Typed;
+use c_front::{Declaration, FunctionDefinition, Program};
+use c_statements::{FaultKind, Frame, Named, Stop, TypeFault, both, items, lasting};
 use c_typed::{Function, Global as Variable, Statement, Term};
-use c_tokens::token::{Kind, Literal};
+use c_tokens::{Kind, Literal};
 use std::alloc::{AllocError, AllocFailed, Global};
 
 /// What a declaration at file scope comes to.

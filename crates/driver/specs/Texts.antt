@@ -7,8 +7,8 @@ use Rattle.block_validator.specs.declared.place.Place.{Place}
 use Rattle.block_validator.specs.declared.place.Place.TheVariants as places
 use Rattle.runs.specs.declared.ran.End.{End}
 use Rattle.runs.specs.declared.ran.End.TheVariants.{Done, Wrong, More}
-use Rattle.c_front.specs.declared.read.FaultKind.{FaultKind}
-use Rattle.c_front.specs.declared.read.FaultKind.TheVariants as front
+use Rattle.c_front.specs.declared.text.FaultKind.{FaultKind}
+use Rattle.c_front.specs.declared.text.FaultKind.TheVariants as front
 use Rattle.c_front.specs.Texts.{number_of}
 use Rattle.c_statements.specs.declared.fault.FaultKind.{FaultKind as TypeFaultKind}
 use Rattle.c_statements.specs.declared.fault.FaultKind.TheVariants as types

@@ -2,10 +2,10 @@ ghost use Rattle.std.specs.Prelude.{IfOk, IfErr};
 ghost use Rattle.runs.specs.Runs.{outcome_of};
 ghost use Rattle.driver.specs.Interps.{IsInterpFault, IsRun};
 
-use c_front::read::{FrontFault, read};
+use c_front::{FrontFault, read};
 use c_run::run;
-use c_statements::fault::TypeFault;
-use c_types::program::check;
+use c_statements::TypeFault;
+use c_types::check;
 use std::alloc::Global;
 use runs::Ran;
 

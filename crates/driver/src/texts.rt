@@ -7,8 +7,8 @@ ghost use Rattle.driver.specs.Texts.{answer_text, check_fault_text, end_text, fr
 use crate::verdicts::{CheckAnswer, CheckFault};
 use crate::source_runs::InterpFault;
 use block_validator::Place;
-use c_front::read::FaultKind as FrontKind;
-use c_statements::fault::FaultKind as TypeKind;
+use c_front::FaultKind as FrontKind;
+use c_statements::FaultKind as TypeKind;
 use mblock::Unclean;
 use std::fmt;
 use runs::End;

@@ -12,7 +12,7 @@ use Rattle.c_typed.specs.Trees.{TypedStatement, more_statements, no_statements}
 use Rattle.c_statements.specs.Types.{TypesSimple, TypesFirst, TypesStatement, TypesItems, empty_typed, block_typed, branch_typed, branch_else_typed, repeat_typed, break_typed, continue_typed, simply_typed, no_items_typed, statement_typed, declare_typed}
 use Rattle.c_statements.specs.Uses.{Faulty}
 use Rattle.c_statements.proofs.Firsts.{Both, Tells, both-stop, three-stop, ok-at}
-use Rattle.c_statements.proofs.Items.{NextItem, none-so-far, one-so-far, behind-so-far}
+use Rattle.c_statements.proofs.BlockItems.{NextItem, none-so-far, one-so-far, behind-so-far}
 use Rattle.c_typed.proofs.Shapes.{block-is}
 use Rattle.c_statements.proofs.Joins.{moved, behind-block, if-ok, tells-moved, together, for-ok, declare-stop}
 use Rattle.c_statements.proofs.Weights.{weight, weight_all, weight-within}

@@ -2,7 +2,7 @@ use Rattle.std.proofs.Common.{◌≡◌, ◌+◌, take}
 use Rattle.c_front.specs.Shape.{statement_of, item_of, items_of}
 use Rattle.c_statements.specs.Held.{scopes_of}
 use Rattle.c_statements.specs.Names.{behind_items}
-use Rattle.c_statements.proofs.Items.{ItemsSoFar}
+use Rattle.c_statements.proofs.BlockItems.{ItemsSoFar}
 use Rattle.c_statements.proofs.Weights.{weight, weight_of, weight_all}
 use Rattle.c_statements.proofs.statement.+statements.Given as goal
 

@@ -1,7 +1,0 @@
-use Rattle.std.proofs.Common.{ap, ◌∙◌}
-use Rattle.c_tokens.specs.Lexing.{is_suffix}
-use Rattle.c_tokens.proofs.Constants.{last-at}
-use Rattle.c_tokens.proofs.lex.is_suffixed.Goals as goal
-
-pub returns : goal.returns
-returns c = c.is_suffix.ensures ∙ ap is_suffix (last-at _ 0 c.requires)

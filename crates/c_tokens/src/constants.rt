@@ -1,0 +1,144 @@
+ghost use Rattle.std.specs.Prelude.{◌≡◌, ◌<◌, ◌≤◌, ◌^◌, length, take, false};
+ghost use Rattle.c_tokens.specs.Lexing.{kind_of, constant_lexeme, digit_of, digits_of, up_to, is_suffix, plain_of, digits_in, last_or, greatest_of};
+ghost use Rattle.c_tokens.specs.Fronts.{run_length};
+ghost use Rattle.c_tokens.specs.Texts.{Fits};
+
+use crate::lexer::Lexeme;
+use crate::scan::{is_digit, run_length, split};
+use crate::token::{Kind, Literal};
+
+/// A constant.
+pub fn constant(text: &[u8]) -> Lexeme
+    requires { 0 < run_length false text.now }
+    ensures same { result ≡ constant_lexeme (take (run_length false text.now) text.now) }
+    ensures fits { Fits result (length text.now) }
+{
+    constant_of(&text[..run_length(text)])
+}
+
+/// The constant that a run is.
+fn constant_of(run: &[u8]) -> Lexeme
+    requires { 0 < length run.now }
+    ensures same { result ≡ constant_lexeme run.now }
+    ensures fits { Fits result (length run.now) }
+{
+    match plain(greatest(run), digits(run)) {
+        Some(value) => Lexeme::Numeral(
+            Literal {
+                value,
+                kind: constant_kind(run, value),
+            },
+            run.len(),
+        ),
+        None => Lexeme::NoConstant,
+    }
+}
+
+fn constant_kind(run: &[u8], value: u32) -> Kind
+    requires { 0 < length run.now }
+    ensures { result ≡ kind_of run.now value }
+{
+    if is_suffixed(run) || value > 2147483647 {
+        Kind::UnsignedInt
+    } else {
+        Kind::SignedInt
+    }
+}
+
+fn is_suffixed(run: &[u8]) -> bool
+    requires { 0 < length run.now }
+    ensures { result ≡ is_suffix (last_or 0 run.now) }
+{
+    is_suffix(run[run.len() - 1])
+}
+
+fn is_suffix(byte: u8) -> bool
+    ensures { result ≡ is_suffix byte }
+{
+    byte == 117 || byte == 85
+}
+
+fn greatest(run: &[u8]) -> u64
+    requires { 0 < length run.now }
+    ensures same { result ≡ greatest_of run.now }
+    ensures bound { result < 2 ^ 32 }
+{
+    if is_suffixed(run) || run[0] == 48 {
+        4294967295
+    } else {
+        2147483647
+    }
+}
+
+fn digits(run: &[u8]) -> &[u8]
+    requires { 0 < length run.now }
+    ensures { result.now ≡ digits_in run.now }
+{
+    if is_suffixed(run) {
+        &run[..run.len() - 1]
+    } else {
+        run
+    }
+}
+
+/// The value of a constant without suffix, if it is no greater than `limit`.
+fn plain(limit: u64, run: &[u8]) -> Option<u32>
+    requires { limit < 2 ^ 32 }
+    ensures { result ≡ up_to limit (plain_of run.now) }
+{
+    let (first, more) = split(run)?;
+    if first != 48 {
+        return Some(number(10, limit, run)? as u32);
+    }
+    let Some((second, digits)) = split(more) else {
+        return Some(0);
+    };
+    if (second == 120 || second == 88) && !digits.is_empty() {
+        return Some(number(16, limit, digits)? as u32);
+    }
+    Some(number(8, limit, more)? as u32)
+}
+
+/// The number that digits spell, if it is no greater than `limit`.
+fn number(base: u64, limit: u64, digits: &[u8]) -> Option<u64>
+    requires low { base ≤ 16 }
+    requires positive { 0 < base }
+    requires bound { limit < 2 ^ 32 }
+    ensures { result ≡ up_to limit (digits_of base 0 digits.now) }
+{
+    let mut n: u64 = 0;
+    let mut rest = digits;
+    'digits: loop {
+        match split(rest) {
+            None => return Some(n),
+            Some((byte, next)) => {
+                let value = digit(byte);
+                if value >= base {
+                    return None;
+                }
+                n = n * base + value;
+                if n > limit {
+                    return None;
+                }
+                rest = next;
+            }
+        }
+    }
+}
+
+/// The value of a digit, or 99.
+fn digit(byte: u8) -> u64
+    ensures same { result ≡ digit_of byte }
+    ensures low { result < 100 }
+{
+    if is_digit(byte) {
+        return (byte - 48) as u64;
+    }
+    if 97 <= byte && byte <= 102 {
+        return (byte - 87) as u64;
+    }
+    if 65 <= byte && byte <= 70 {
+        return (byte - 55) as u64;
+    }
+    99
+}

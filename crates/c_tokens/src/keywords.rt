@@ -1,0 +1,210 @@
+ghost use Rattle.std.specs.Prelude.{◌≡◌, ◌<◌, length, take, map};
+ghost use Rattle.c_tokens.specs.Lexing.{word_lexeme, keyword_lexeme, keywords};
+ghost use Rattle.c_tokens.specs.Fronts.{word_length};
+ghost use Rattle.c_tokens.specs.Keywords.{keyword_of};
+ghost use Rattle.c_tokens.specs.Texts.{Fits};
+
+use crate::lexer::Lexeme;
+use crate::scan::{same, word_length};
+use crate::token::{JumpWord, Mark};
+
+/// What a keyword is: a mark, a word that leaves a place in the tree, or not in use.
+#[derive(Clone, Copy)]
+pub enum Reserved {
+    Marked(Mark),
+    Jumping(JumpWord),
+    Unused,
+}
+
+/// A keyword and what it is.
+#[derive(Clone, Copy)]
+pub struct Keyword {
+    pub spelling: &'static [u8],
+    pub word: Reserved,
+}
+
+const KEYWORDS: [Keyword; 37] = [
+    Keyword {
+        spelling: b"int",
+        word: Reserved::Marked(Mark::Int),
+    },
+    Keyword {
+        spelling: b"unsigned",
+        word: Reserved::Marked(Mark::Unsigned),
+    },
+    Keyword {
+        spelling: b"void",
+        word: Reserved::Marked(Mark::Void),
+    },
+    Keyword {
+        spelling: b"if",
+        word: Reserved::Marked(Mark::If),
+    },
+    Keyword {
+        spelling: b"else",
+        word: Reserved::Marked(Mark::Else),
+    },
+    Keyword {
+        spelling: b"while",
+        word: Reserved::Marked(Mark::While),
+    },
+    Keyword {
+        spelling: b"for",
+        word: Reserved::Marked(Mark::For),
+    },
+    Keyword {
+        spelling: b"break",
+        word: Reserved::Jumping(JumpWord::Break),
+    },
+    Keyword {
+        spelling: b"continue",
+        word: Reserved::Jumping(JumpWord::Continue),
+    },
+    Keyword {
+        spelling: b"return",
+        word: Reserved::Jumping(JumpWord::Return),
+    },
+    Keyword {
+        spelling: b"auto",
+        word: Reserved::Unused,
+    },
+    Keyword {
+        spelling: b"case",
+        word: Reserved::Unused,
+    },
+    Keyword {
+        spelling: b"char",
+        word: Reserved::Unused,
+    },
+    Keyword {
+        spelling: b"const",
+        word: Reserved::Unused,
+    },
+    Keyword {
+        spelling: b"default",
+        word: Reserved::Unused,
+    },
+    Keyword {
+        spelling: b"do",
+        word: Reserved::Unused,
+    },
+    Keyword {
+        spelling: b"double",
+        word: Reserved::Unused,
+    },
+    Keyword {
+        spelling: b"enum",
+        word: Reserved::Unused,
+    },
+    Keyword {
+        spelling: b"extern",
+        word: Reserved::Unused,
+    },
+    Keyword {
+        spelling: b"float",
+        word: Reserved::Unused,
+    },
+    Keyword {
+        spelling: b"goto",
+        word: Reserved::Unused,
+    },
+    Keyword {
+        spelling: b"inline",
+        word: Reserved::Unused,
+    },
+    Keyword {
+        spelling: b"long",
+        word: Reserved::Unused,
+    },
+    Keyword {
+        spelling: b"register",
+        word: Reserved::Unused,
+    },
+    Keyword {
+        spelling: b"restrict",
+        word: Reserved::Unused,
+    },
+    Keyword {
+        spelling: b"short",
+        word: Reserved::Unused,
+    },
+    Keyword {
+        spelling: b"signed",
+        word: Reserved::Unused,
+    },
+    Keyword {
+        spelling: b"sizeof",
+        word: Reserved::Unused,
+    },
+    Keyword {
+        spelling: b"static",
+        word: Reserved::Unused,
+    },
+    Keyword {
+        spelling: b"struct",
+        word: Reserved::Unused,
+    },
+    Keyword {
+        spelling: b"switch",
+        word: Reserved::Unused,
+    },
+    Keyword {
+        spelling: b"typedef",
+        word: Reserved::Unused,
+    },
+    Keyword {
+        spelling: b"union",
+        word: Reserved::Unused,
+    },
+    Keyword {
+        spelling: b"volatile",
+        word: Reserved::Unused,
+    },
+    Keyword {
+        spelling: b"_Bool",
+        word: Reserved::Unused,
+    },
+    Keyword {
+        spelling: b"_Complex",
+        word: Reserved::Unused,
+    },
+    Keyword {
+        spelling: b"_Imaginary",
+        word: Reserved::Unused,
+    },
+];
+
+fn lexeme_of_keyword(word: Reserved, length: usize) -> Lexeme
+    ensures { result ≡ keyword_lexeme word length }
+{
+    match word {
+        Reserved::Marked(mark) => Lexeme::Sign(mark, length),
+        Reserved::Jumping(jump) => Lexeme::Leap(jump, length),
+        Reserved::Unused => Lexeme::Refused(0),
+    }
+}
+
+fn look_up(table: &[Keyword], word: &[u8]) -> Lexeme
+    ensures { result ≡ word_lexeme (map keyword_of table.now) word.now }
+{
+    let mut found = Lexeme::Word(word.len());
+    let mut i = table.len();
+    'table: while i > 0 {
+        i -= 1;
+        let entry = table[i];
+        if same(entry.spelling, word) {
+            found = lexeme_of_keyword(entry.word, word.len());
+        }
+    }
+    found
+}
+
+/// A word: a keyword or a name.
+pub fn word(text: &[u8]) -> Lexeme
+    requires { 0 < word_length text.now }
+    ensures same { result ≡ word_lexeme keywords (take (word_length text.now) text.now) }
+    ensures fits { Fits result (length text.now) }
+{
+    let n = word_length(text);
+    look_up(&KEYWORDS, &text[..n])
+}

@@ -1,0 +1,187 @@
+ghost use Rattle.std.specs.Prelude.{◌≡◌, ◌+◌, ◌<◌, ◌≤◌, ◌^◌, [], length, IfOk, IfErr, List, ℕ};
+ghost use Rattle.c_tokens.specs.Lexing.{comment_length};
+ghost use Rattle.c_tokens.specs.Fronts.{lexeme_of, comment_lexeme, line_lexeme, line_length};
+ghost use Rattle.c_tokens.specs.declared.token.Token.{Token};
+ghost use Rattle.c_tokens.specs.declared.lexer.Refusal.{Refusal};
+ghost use Rattle.c_tokens.specs.Texts.{Lexes, LexStops, IsStep, Fits, StepFits, step_of, IsLexFault};
+
+use crate::constants::constant;
+use crate::keywords::word;
+use crate::scan::{
+    after, begins, comment_length, escape_at, is_digit, is_letter, is_space, line_length, split,
+};
+use crate::sign::sign;
+use crate::sizes::{Sizes, count};
+use crate::token::{Identifier, JumpWord, Literal, Mark, Token};
+use std::alloc::{AllocError, AllocFailed, Global};
+
+/// What stands at the front of a text: a word is a name, a sign a keyword, an operator or a bracket.
+#[derive(Clone, Copy)]
+pub enum Lexeme {
+    End,
+    Separator(usize),
+    Word(usize),
+    Numeral(Literal, usize),
+    Sign(Mark, usize),
+    Leap(JumpWord, usize),
+    Refused(usize),
+    NoConstant,
+}
+
+/// What to do at a place in a text.
+#[derive(Clone, Copy)]
+pub enum Step {
+    Done,
+    Skip(usize),
+    Take(Token, usize),
+    Stop(Refusal, usize),
+}
+
+/// Why the bytes at a place are refused: they begin no token, they are no constant, or their token goes past a size.
+#[derive(Clone, Copy, PartialEq, Eq)]
+pub enum Refusal {
+    BadToken,
+    BadConstant,
+    BadSize,
+}
+
+/// Why a text has no tokens: the first refusal and its offset, or want of memory.
+#[derive(Clone, Copy)]
+pub enum LexFault {
+    Refused(Refusal, usize),
+    NoMemory,
+}
+
+impl<T: Drop> From<AllocFailed<T>> for LexFault {
+    ghost use Rattle.c_tokens.specs.declared.lexer.LexFault.TheVariants.{NoMemory};
+
+    ghost from_gives = { λ _ r. r ≡ NoMemory };
+
+    fn from(_: AllocFailed<T>) -> Self {
+        LexFault::NoMemory
+    }
+}
+
+/// A comment, after its first two bytes.
+fn comment(rest: &[u8]) -> Lexeme
+    requires { length rest.now < 2 ^ 32 }
+    ensures same { result ≡ comment_lexeme (comment_length rest.now) rest.now }
+    ensures fits { Fits result (length rest.now + 2) }
+{
+    match comment_length(rest) {
+        None => Lexeme::Refused(0),
+        Some(n) => match escape_at(&rest[..n]) {
+            None => Lexeme::Separator(n + 2),
+            Some(k) => Lexeme::Refused(k + 2),
+        },
+    }
+}
+
+/// A comment to the end of its line, after its first two bytes.
+fn line(rest: &[u8]) -> Lexeme
+    requires { length rest.now < 2 ^ 32 }
+    ensures same { result ≡ line_lexeme (line_length rest.now) rest.now }
+    ensures fits { Fits result (length rest.now + 2) }
+{
+    let n = line_length(rest);
+    match escape_at(&rest[..n]) {
+        None => Lexeme::Separator(n + 2),
+        Some(k) => Lexeme::Refused(k + 2),
+    }
+}
+
+/// What stands at the front.
+fn next(text: &[u8]) -> Lexeme
+    requires { length text.now < 2 ^ 32 }
+    ensures same { result ≡ lexeme_of text.now }
+    ensures fits { Fits result (length text.now) }
+{
+    let Some((byte, rest)) = split(text) else {
+        return Lexeme::End;
+    };
+    if is_space(byte) {
+        return Lexeme::Separator(1);
+    }
+    if is_letter(byte) {
+        return word(text);
+    }
+    if is_digit(byte) {
+        return constant(text);
+    }
+    if begins(text, b'/', b'*') {
+        return comment(after(rest, 1));
+    }
+    if begins(text, b'/', b'/') {
+        return line(after(rest, 1));
+    }
+    sign(text)
+}
+
+fn step_at(at: usize, lexeme: Lexeme) -> Step
+    ensures { result ≡ step_of at lexeme }
+{
+    match lexeme {
+        Lexeme::End => Step::Done,
+        Lexeme::Separator(n) => Step::Skip(n),
+        Lexeme::Word(n) => Step::Take(Token::Name(Identifier { at, length: n }), n),
+        Lexeme::Numeral(literal, n) => Step::Take(Token::Constant(literal), n),
+        Lexeme::Sign(mark, n) => Step::Take(Token::The(mark), n),
+        Lexeme::Leap(word, n) => Step::Take(Token::Jump(word, at), n),
+        Lexeme::Refused(k) => Step::Stop(Refusal::BadToken, k),
+        Lexeme::NoConstant => Step::Stop(Refusal::BadConstant, 0),
+    }
+}
+
+/// The step at a place.
+fn next_step(at: usize, text: &[u8]) -> Step
+    requires { length text.now < 2 ^ 32 }
+    ensures found { IsStep at text.now result }
+    ensures fits { StepFits result (length text.now) }
+{
+    step_at(at, next(text))
+}
+
+/// The tokens of a text, and where they stand.
+pub fn lex(alloc: Global, text: &[u8]) -> Result<(Vec<Token>, Vec<usize>), LexFault>
+    requires { length text.now ≤ 1048576 }
+    ensures ok { IfOk result (λ r. Lexes 0 text.now [] r.0.items r.1.items) }
+    ensures err { IfErr result (IsLexFault text.now) }
+{
+    let mut tokens = Vec::new(alloc);
+    let mut places = Vec::new(alloc);
+    let mut rest = text;
+    let mut at: usize = 0;
+    let mut sizes = Sizes {
+        run: 0,
+        open: 0,
+        nested: 0,
+    };
+    'lexemes: loop {
+        match next_step(at, rest) {
+            Step::Done => return Ok((tokens, places)),
+            Step::Skip(n) => {
+                rest = after(rest, n);
+                at += n;
+            }
+            Step::Take(token, n) => match count(sizes, &token) {
+                None => return Err(LexFault::Refused(Refusal::BadSize, at)),
+                Some(new) => {
+                    tokens.push(token)?;
+                    places.push(at)?;
+                    sizes = new;
+                    rest = after(rest, n);
+                    at += n;
+                }
+            },
+            Step::Stop(why, k) => return Err(LexFault::Refused(why, at + k)),
+        }
+    }
+}
+
+/// A text has one list of tokens at most, at one list of places, and none where it is refused, which it is for one
+/// reason at one place. A law: it computes nothing.
+pub fn one_lexing()
+    ensures once { (text : List ℕ) (ts us : List Token) (ks js : List ℕ) → Lexes 0 text [] ts ks → Lexes 0 text [] us js → (ts ≡ us) × (ks ≡ js) }
+    ensures refused { (text : List ℕ) (r : Refusal) (k : ℕ) (ts : List Token) (ks : List ℕ) → LexStops 0 text [] r k → Lexes 0 text [] ts ks → ⊥ }
+    ensures one_refusal { (text : List ℕ) (r q : Refusal) (k j : ℕ) → LexStops 0 text [] r k → LexStops 0 text [] q j → (r ≡ q) × (k ≡ j) }
+{}

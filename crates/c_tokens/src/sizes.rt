@@ -1,0 +1,64 @@
+ghost use Rattle.std.specs.Prelude.{◌≡◌, ◌+◌, ◌-◌, ◌≤◌, suc, IfSome, IfNone, if◌then◌else◌};
+ghost use Rattle.c_tokens.specs.Texts.{Within, Counted, Oversize, ends_run, opens, closes, nests};
+
+use crate::token::{Mark, Token};
+
+/// How many tokens there are since the last `;`, `{` or `}`, open braces, and tokens `else` and `for` since no brace was open.
+#[derive(Clone, Copy)]
+pub struct Sizes {
+    pub run: usize,
+    pub open: usize,
+    pub nested: usize,
+}
+
+/// How many tokens stand after the last `;`, `{` or `}` once this one stands there.
+fn run_after(run: usize, token: &Token) -> usize
+    requires { run ≤ 1024 }
+    ensures { result ≡ (if ends_run token.now then 0 else suc run) }
+{
+    match token {
+        Token::The(Mark::Semicolon | Mark::LeftBrace | Mark::RightBrace) => 0,
+        _ => run + 1,
+    }
+}
+
+/// How many braces are open after the token.
+fn open_after(braces: usize, token: &Token) -> usize
+    requires { braces ≤ 128 }
+    ensures { result ≡ (if opens token.now then suc braces else (if closes token.now then braces - 1 else braces)) }
+{
+    match token {
+        Token::The(Mark::LeftBrace) => braces + 1,
+        Token::The(Mark::RightBrace) => braces.saturating_sub(1),
+        _ => braces,
+    }
+}
+
+/// How many `else` and `for` stand since no brace was open, with this token, after `nested` of them.
+fn nested_after(nested: usize, token: &Token) -> usize
+    requires { nested ≤ 512 }
+    ensures { result ≡ (if nests token.now then 1 else 0) + nested }
+{
+    match token {
+        Token::The(Mark::Else | Mark::For) => nested + 1,
+        _ => nested,
+    }
+}
+
+/// The counts after one more token, or None where it goes past a size.
+pub fn count(sizes: Sizes, token: &Token) -> Option<Sizes>
+    requires { Within sizes }
+    ensures none { IfNone result (Oversize sizes token.now) }
+    ensures some { IfSome result (λ new. Counted sizes token.now new) }
+{
+    let nested = if sizes.open == 0 { 0 } else { sizes.nested };
+    let new = Sizes {
+        run: run_after(sizes.run, token),
+        open: open_after(sizes.open, token),
+        nested: nested_after(nested, token),
+    };
+    if new.run > 1024 || new.open > 128 || new.nested > 512 {
+        return None;
+    }
+    Some(new)
+}
