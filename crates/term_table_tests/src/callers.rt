@@ -1,25 +1,12 @@
-//! Callers of the table.
+//! Small callers of the table, with their contracts.
 ghost use Rattle.std.specs.Prelude.{◌≡◌, ◌+◌, ◌^◌, ◌<◌, All, IfSome, IfOk, IfErr};
 ghost use Rattle.sym_terms.specs.Trees.{leaf, binary};
 ghost use Rattle.term_table.specs.Passes.{IsOf, HasSeen, linked};
 ghost use Rattle.term_table.specs.Trees.{HasTree, Extends};
 
-use std::alloc::Global;
 use sym_terms::Label;
-use term_table::{Interned, Node, OpenFault, Pass, TableFull, TermTable, Ticket};
-
-/// A table, with the passes that are its own.
-pub fn opened(
-    alloc: Global,
-    workers: u64,
-    nodes: u64,
-    heads: u64,
-) -> Result<(TermTable, Vec<Pass>), OpenFault>
-    ensures { IfOk result (λ t. All (IsOf t.0) t.1.items) }
-{
-    let (table, passes) = TermTable::open(alloc, workers, nodes, heads)?;
-    Ok((table, passes))
-}
+use term_table::{Interned, Node, Pass, TableFull, TermTable, Ticket};
+use words::Operator;
 
 /// The last pass that is left.
 pub fn take(table: &TermTable, passes: &mut Vec<Pass>) -> Option<Pass>
@@ -125,15 +112,47 @@ pub fn find_constants(table: &TermTable, first: &mut Pass, second: &mut Pass, co
     all
 }
 
-/// How many links are loaded to intern the constants below `count`, where there is room.
-pub fn constants_probes(table: &TermTable, pass: &mut Pass, count: u32) -> u64
-    requires { IsOf table.now pass.old }
+/// How many links are loaded to intern the constants below `count`, shifted to the left, where there
+/// is room.
+pub fn constants_probes(table: &TermTable, pass: &mut Pass, count: u32, shift: u32) -> u64
+    requires table { IsOf table.now pass.old }
+    requires shift { shift < 32 }
+    ensures { IsOf table.now pass.new }
 {
     let mut sum = 0u64;
     for n in 0..count {
-        if let Ok(made) = intern_leaf(table, pass, Label::Const(n)) {
+        if let Ok(made) = intern_leaf(table, pass, Label::Const(n << shift)) {
             sum = sum.saturating_add(made.probes);
         }
     }
     sum
+}
+
+/// How many links are loaded to intern the sums of the constant `n` and each constant below `count`,
+/// without those that are loaded for the constants.
+#[tactic(auto, using(term_table::proofs::Callers::interning))]
+pub fn sums_probes(table: &TermTable, pass: &mut Pass, n: u32, count: u32) -> Result<u64, TableFull>
+    requires { IsOf table.now pass.old }
+    ensures { IsOf table.now pass.new }
+{
+    let left = intern_leaf(table, pass, Label::Const(n))?.ticket;
+    let mut sum = 0u64;
+    for m in 0..count {
+        let right = intern_leaf(table, pass, Label::Const(m))?.ticket;
+        let made = table.intern(pass, Label::Op(Operator::Addu), &[left, right])?;
+        sum = sum.saturating_add(made.probes);
+    }
+    Ok(sum)
+}
+
+/// How many links are loaded to intern the sums of all pairs of the constants below `count`.
+pub fn pairs_probes(table: &TermTable, pass: &mut Pass, count: u32) -> Result<u64, TableFull>
+    requires { IsOf table.now pass.old }
+    ensures { IsOf table.now pass.new }
+{
+    let mut sum = 0u64;
+    for n in 0..count {
+        sum = sum.saturating_add(sums_probes(table, pass, n, count)?);
+    }
+    Ok(sum)
 }

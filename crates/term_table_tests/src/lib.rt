@@ -1,12 +1,13 @@
-//! Worked examples of the table of terms: small callers with their contracts, and tests of what
-//! threads do with one table.
+//! Tests of the table of terms: small callers with their contracts, and what threads do with one table.
 #![tactic(auto)]
 
-mod steps;
+mod callers;
+#[cfg(test)]
+mod full_tests;
 #[cfg(test)]
 mod tests;
 
-pub use steps::{
+pub use callers::{
     constants_probes, find_constants, intern_constants, intern_leaf, intern_over, meet_and_read,
-    opened, take,
+    pairs_probes, sums_probes, take,
 };

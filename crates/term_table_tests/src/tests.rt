@@ -1,9 +1,9 @@
 ghost use Rattle.std.specs.Prelude.{◌+◌, ◌^◌, ◌<◌};
 ghost use Rattle.term_table.specs.Passes.{IsOf};
 
-use crate::steps::{
+use crate::callers::{
     constants_probes, find_constants, intern_constants, intern_leaf, intern_over, meet_and_read,
-    opened, take,
+    pairs_probes, take,
 };
 use mips_isa::NonzeroReg;
 use std::alloc::Global;
@@ -25,7 +25,7 @@ fn one_pass_interns_and_finds(rt: HostRuntime) -> Result<(), Fail> {
     let (Some(one), Some(two), Some(three)) = (init(1), init(2), init(3)) else {
         panic!(rt; "no register")
     };
-    let Ok((table, mut passes)) = opened(rt.alloc(), 1, 4, 1) else {
+    let Ok((table, mut passes)) = TermTable::open(rt.alloc(), 1, 4, 1) else {
         panic!(rt; "not opened")
     };
     let Some(mut pass) = take(&table, &mut passes) else {
@@ -54,7 +54,7 @@ fn passes_that_met_find_each_others_terms(rt: HostRuntime) -> Result<(), Fail> {
         let Some(one) = init(1) else {
             panic!(rt; "no register")
         };
-        let Ok((table, mut passes)) = opened(rt.alloc(), 2, 4, heads) else {
+        let Ok((table, mut passes)) = TermTable::open(rt.alloc(), 2, 4, heads) else {
             panic!(rt; "not opened")
         };
         let (Some(mut second), Some(mut first)) = (
@@ -78,7 +78,7 @@ fn a_full_pass_still_answers(rt: HostRuntime) -> Result<(), Fail> {
     let (Some(one), Some(two)) = (init(1), init(2)) else {
         panic!(rt; "no register")
     };
-    let Ok((table, mut passes)) = opened(rt.alloc(), 1, 1, 1) else {
+    let Ok((table, mut passes)) = TermTable::open(rt.alloc(), 1, 1, 1) else {
         panic!(rt; "not opened")
     };
     let Some(mut pass) = take(&table, &mut passes) else {
@@ -128,8 +128,8 @@ fn the_largest_table_is_opened_or_memory_is_refused(rt: HostRuntime) -> Result<(
 #[test]
 fn a_pass_of_a_table_of_other_sizes_is_told_apart(rt: HostRuntime) -> Result<(), Fail> {
     let (Ok((one, mut passes)), Ok((other, _))) = (
-        opened(rt.alloc(), 1, 4, 1),
-        opened(rt.alloc(), 1, 5, 1),
+        TermTable::open(rt.alloc(), 1, 4, 1),
+        TermTable::open(rt.alloc(), 1, 5, 1),
     ) else {
         panic!(rt; "not opened")
     };
@@ -146,7 +146,7 @@ fn a_term_of_another_pass_is_read(rt: HostRuntime) -> Result<(), Fail> {
         panic!(rt; "no register")
     };
     let over = Label::Op(Operator::Addu);
-    let Ok((table, mut passes)) = opened(rt.alloc(), 2, 8, 1) else {
+    let Ok((table, mut passes)) = TermTable::open(rt.alloc(), 2, 8, 1) else {
         panic!(rt; "not opened")
     };
     let (Some(mut second), Some(mut first)) = (take(&table, &mut passes), take(&table, &mut passes))
@@ -165,7 +165,7 @@ fn a_term_of_another_pass_is_read(rt: HostRuntime) -> Result<(), Fail> {
 
 // Two threads intern the constants below 1,000, one of them downward.
 fn two_share(rt: &(impl Abort + Threads), alloc: Global, heads: u64) {
-    let Ok((table, mut passes)) = opened(alloc, 2, 1000, heads) else {
+    let Ok((table, mut passes)) = TermTable::open(alloc, 2, 1000, heads) else {
         panic!(rt; "not opened")
     };
     let (Some(second), Some(first)) = (take(&table, &mut passes), take(&table, &mut passes)) else {
@@ -214,7 +214,7 @@ fn two_halves(
 
 // Four threads intern 500 constants each, which overlap: 1,250 in all.
 fn four_share(rt: &(impl Abort + Threads + Sync), alloc: Global, heads: u64) {
-    let Ok((table, mut passes)) = opened(alloc, 4, 500, heads) else {
+    let Ok((table, mut passes)) = TermTable::open(alloc, 4, 500, heads) else {
         panic!(rt; "not opened")
     };
     let (Some(a), Some(b)) = (take(&table, &mut passes), take(&table, &mut passes)) else {
@@ -252,20 +252,54 @@ fn four_threads_intern_overlapping_constants(rt: HostRuntime) -> Result<(), Fail
 }
 
 // How many links are loaded to intern the constants below 4096.
-fn probes_of(rt: &impl Abort, alloc: Global, heads: u64) -> u64 {
-    let Ok((table, mut passes)) = opened(alloc, 1, 4096, heads) else {
+fn constants_in(rt: &impl Abort, alloc: Global, heads: u64, shift: u32) -> u64
+    requires { shift < 32 }
+{
+    let Ok((table, mut passes)) = TermTable::open(alloc, 1, 4096, heads) else {
         panic!(rt; "not opened")
     };
     let Some(mut pass) = take(&table, &mut passes) else {
         panic!(rt; "no pass")
     };
-    constants_probes(&table, &mut pass, 4096)
+    constants_probes(&table, &mut pass, 4096, shift)
 }
 
 #[test]
-fn hashed_chains_are_short(rt: HostRuntime) -> Result<(), Fail> {
-    assert_eq!(rt; probes_of(&rt, rt.alloc(), 1), 8390656);
-    assert!(rt; probes_of(&rt, rt.alloc(), 1024) <= 1048832);
+fn chains_of_constants_are_short(rt: HostRuntime) -> Result<(), Fail> {
+    assert_eq!(rt; constants_in(&rt, rt.alloc(), 1, 0), 8390656);
+    assert!(rt; constants_in(&rt, rt.alloc(), 1024, 0) <= 16384);
+    assert!(rt; constants_in(&rt, rt.alloc(), 1024, 8) <= 16384);
+    assert!(rt; constants_in(&rt, rt.alloc(), 1024, 16) <= 16384);
+    Ok(())
+}
+
+// The sums of all pairs of the constants below 256.
+fn sums_in(rt: &impl Abort, alloc: Global) -> u64 {
+    let Ok((table, mut passes)) = TermTable::open(alloc, 1, 66000, 65536) else {
+        panic!(rt; "not opened")
+    };
+    let Some(mut pass) = take(&table, &mut passes) else {
+        panic!(rt; "no pass")
+    };
+    constants_probes(&table, &mut pass, 256, 0);
+    let Ok(probes) = pairs_probes(&table, &mut pass, 256) else {
+        panic!(rt; "full")
+    };
+    probes
+}
+
+#[test]
+fn chains_of_sums_are_short(rt: HostRuntime) -> Result<(), Fail> {
+    assert!(rt; sums_in(&rt, rt.alloc()) <= 163840);
+    Ok(())
+}
+
+#[test]
+fn sixty_four_passes_are_opened(rt: HostRuntime) -> Result<(), Fail> {
+    let Ok((_, passes)) = TermTable::open(rt.alloc(), 64, 4, 65536) else {
+        panic!(rt; "not opened")
+    };
+    assert_eq!(rt; passes.len(), 64);
     Ok(())
 }
 

@@ -1,5 +1,5 @@
 use Rattle.term_table.proofs.Callers.{extends_answered, still_seen, met_seen}
-use Rattle.term_table_rows.proofs.steps.meet_and_read.Goals as goal
+use Rattle.term_table_tests.proofs.callers.meet_and_read.Goals as goal
 
 pub read-node-requires-clause-seen : goal.read-node-requires-clause-seen
 read-node-requires-clause-seen c = met_seen c.meet.ensures.met c.args.b c.requires.seen.1

@@ -1,0 +1,5 @@
+use Rattle.term_table.specs.Passes.{IsOf, HasSeen}
+use Rattle.term_table_tests.proofs.callers.sums_probes.Given as goal
+
+abbrev pub invariant-loop-m : goal.invariant-loop-m
+invariant-loop-m l = IsOf l.table l.pass × HasSeen l.pass l.left
