@@ -8,6 +8,7 @@ use Rattle.mblock.specs.declared.exit.Exit.{Exit}
 use Rattle.mblock.specs.Parts.{BlockParts, OrderParts}
 use Rattle.mblock.specs.BlockMeaning.{exit_shape, exit_reads, depart, Outcome, run, leave, left, block_effect}
 use Rattle.mblock.specs.Clean.{slot_actions}
+use Rattle.mblock.proofs.Totals.{block_total}
 use Rattle.mblock.proofs.Runs.{total, AllSafe, exited, leaves_total, order_runs}
 use Rattle.sym_terms.specs.Values.{word_at, memory_at}
 use Rattle.sym_exec.specs.Symbolic.{TreeState, start_trees, held, all_trees, exit_trees, CodeTrees, code_trees, block_trees, order_trees}
@@ -17,24 +18,6 @@ use Rattle.block_validator.specs.Same.{SameTrees, IsPlace, EachCheckedOrderMeans
 
 register_place : (r : ℕ) → is_register r ≡ true → IsPlace (places.Register r)
 register_place r e = let p = Rattle.std.proofs.lemmas.Bool.and_parts (Rattle.std.specs.Prelude.nat_lt 0 r) (Rattle.std.specs.Prelude.nat_lt r 32) e in (grind arith, grind arith)
-
--- a block that isn't stuck
-run_total : (acts : List Action) (s s' : State) → run acts s ≡ Some s' → AllSafe acts s × (s' ≡ total acts s)
-run_total [] s s' e = (tt, sym (same_Some s s' e))
-run_total (a ∷ rest) s s' e = go (λ h. run_total rest (after a s) s' h) (is_safe a s) refl e
-  where
-    go : (run rest (after a s) ≡ Some s' → AllSafe rest (after a s) × (s' ≡ total rest (after a s))) → (b : Bool) → is_safe a s ≡ b → cond b (run rest (after a s)) None ≡ Some s' → AllSafe (a ∷ rest) s × (s' ≡ total (a ∷ rest) s)
-    go next true eb h = let r = next h in ((eb, r.0), r.1)
-    go next false eb h = absurd (none-some s' h)
-
-pub block_total : (b : BlockParts) (s : State) (link : ℕ) (r : Outcome) → block_effect b s link ≡ Some r → AllSafe (map action_of b.insts) s × (r ≡ leaves_total b.exit [] link (total (map action_of b.insts) s))
-block_total b s link r e = go (run (map action_of b.insts) s) refl e
-  where
-    go : (o : Option State) → run (map action_of b.insts) s ≡ o → left b.exit o link ≡ Some r → AllSafe (map action_of b.insts) s × (r ≡ leaves_total b.exit [] link (total (map action_of b.insts) s))
-    go None eo h = absurd (none-some r h)
-    go (Some x) eo h =
-        let t = run_total (map action_of b.insts) s x eo in
-        (t.0, sym (same_Some (leave b.exit x link) r h) ∙ ap (λ y. leave b.exit y link) t.1)
 
 -- the outcome that trees stand for
 abbrev outcome_at : CodeTrees → State → ℕ → Outcome

@@ -1,10 +1,8 @@
 -- When an order has its block's trees, and what it then promises.
-use Rattle.std.specs.Prelude.{◌≡◌, ℕ, ◌<◌, ◌^◌, Some, Contains, slice_index}
-use Rattle.mips_isa.specs.States.{State, IsWords}
+use Rattle.std.specs.Prelude.{◌≡◌, ℕ, ◌<◌, Contains, slice_index}
 use Rattle.mblock.specs.Parts.{BlockParts, OrderParts}
-use Rattle.mblock.specs.BlockMeaning.{Outcome, block_effect}
-use Rattle.mblock.specs.OrderMeaning.{order_effect}
 use Rattle.mblock.specs.Clean.{FitsSlot, IsClean}
+use Rattle.mblock.specs.Orders.{Means}
 use Rattle.sym_exec.specs.declared.state.Guard.{Guard}
 use Rattle.sym_exec.specs.declared.state.SymState.{SymState}
 use Rattle.sym_exec.specs.Symbolic.{GuardTree, CodeTrees, block_trees, order_trees}
@@ -47,10 +45,6 @@ pub record DiffersFirst (x y : CodeTrees) (p : Place) : Type 0 where
   pub place : IsPlace p
   pub differs : SameAt p x y → ⊥
   pub before : (q : Place) → IsPlace q → place_rank q < place_rank p → SameAt q x y
-
--- where the block isn't stuck, the order isn't and leaves the same registers, HI, LO, memory and exit
-abbrev pub Means : BlockParts → OrderParts → Type 0
-Means b o = (s : State) (link : ℕ) (r : Outcome) → IsWords s → link < 2 ^ 32 → block_effect b s link ≡ Some r → order_effect o s link ≡ Some r
 
 abbrev pub EachCheckedOrderMeansItsBlock : Type 0
 EachCheckedOrderMeansItsBlock = (b : BlockParts) (o : OrderParts) → FitsSlot o → IsClean o → SameTrees (block_trees b) (order_trees o) → Means b o

@@ -2,8 +2,8 @@
 //! Six, Boulmé and Monniaux, OOPSLA 2020).
 //!
 //! `validate` answers the verdict that `IsVerdict` defines (`specs/Verdicts.antt`), of which a block and
-//! an order have one, and a `Checked` order means its block from every start state (`Means` in
-//! `specs/Same.antt`). Definitions compare trees; the code compares tickets of a shared table of terms.
+//! an order have one, and a `Checked` order means its block from every start state (`Means` of mblock).
+//! Definitions compare trees; the code compares tickets of a shared table of terms.
 #![tactic(auto)]
 
 mod compare;

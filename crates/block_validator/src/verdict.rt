@@ -7,7 +7,8 @@ ghost use Rattle.term_table.specs.Passes.{IsOf, linked};
 ghost use Rattle.term_table.specs.Trees.{HasLegalHistory};
 ghost use Rattle.sym_exec.specs.Symbolic.{block_trees, order_trees};
 ghost use Rattle.sym_exec.specs.Standing.{Later, IsFull};
-ghost use Rattle.block_validator.specs.Same.{SameTrees, DiffersFirst, Means, EachCheckedOrderMeansItsBlock};
+ghost use Rattle.mblock.specs.Orders.{Means};
+ghost use Rattle.block_validator.specs.Same.{SameTrees, DiffersFirst, EachCheckedOrderMeansItsBlock};
 ghost use Rattle.block_validator.specs.Verdicts.{IsVerdict, OneDecision};
 
 use crate::compare::first_difference;
@@ -39,7 +40,8 @@ impl<'a> Checked<'a> {
     ghost use Rattle.mblock.specs.Clean.{IsClean, FitsSlot};
     ghost use Rattle.mblock.specs.BlockMeaning.{exit_shape};
     ghost use Rattle.sym_exec.specs.Symbolic.{block_trees, order_trees};
-    ghost use Rattle.block_validator.specs.Same.{SameTrees, Means};
+    ghost use Rattle.mblock.specs.Orders.{Means};
+    ghost use Rattle.block_validator.specs.Same.{SameTrees};
 
     /// The block.
     pub fn block(&self) -> &'a Block

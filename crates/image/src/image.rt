@@ -37,7 +37,7 @@ impl Image {
     ghost use Rattle.image.specs.Views.{version_of};
 
     /// The image of these parts.
-    pub(crate) fn of(counts: Option<Counts>, entry: u32, code: Vec<u32>, bytes: Vec<u8>) -> Image
+    pub fn of(counts: Option<Counts>, entry: u32, code: Vec<u32>, bytes: Vec<u8>) -> Image
         requires { IsImage (record { version = version_of counts; entry = entry; code = code.items; bytes = bytes.items }) }
         ensures { result ≡ record { version = version_of counts; entry = entry; code = code.items; bytes = bytes.items } }
     {

@@ -220,7 +220,7 @@ fn put_orders(code: &mut Vec<u32>, places: &[u32], orders: &[Order]) -> Result<(
 }
 
 /// The words of orders whose targets are there; Limit exactly where the limits don't allow them.
-pub fn code_of(alloc: Global, owner: &[u32], orders: &[Order]) -> Result<Vec<u32>, AsmFault>
+pub fn code_of(alloc: Global, owner: &[BlockNumber], orders: &[Order]) -> Result<Vec<u32>, AsmFault>
     requires owner { length owner.now ≡ length orders.now }
     requires unit { AreUnits (slice_index owner.now) orders.now }
     ensures word { IfOk result (λ w. w.items ≡ map inst_word (layout orders.now)) }

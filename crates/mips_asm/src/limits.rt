@@ -5,17 +5,18 @@ ghost use Rattle.mips_layout.specs.Functions.{AreFunctions};
 ghost use Rattle.mips_asm.specs.Limits.{FunctionsFit};
 
 use crate::places::size;
-use mblock::Order;
+use mblock::{BlockNumber, Order};
 
 /// Whether no function has more than 32,000 words.
-pub fn functions_fit(owner: &[u32], orders: &[Order]) -> bool
+pub fn functions_fit(owner: &[BlockNumber], orders: &[Order]) -> bool
     requires length { length owner.now ≡ length orders.now }
     requires functions { AreFunctions (length orders.now) (slice_index owner.now) }
     ensures { IsTrue result ↔ FunctionsFit (slice_index owner.now) orders.now }
 {
     let mut words = 0;
     for (k, order) in orders.iter().enumerate() {
-        if owner[k] as usize == k {
+        let first = owner[k].number() as usize;
+        if first == k {
             words = 0;
         }
         words += size(order);

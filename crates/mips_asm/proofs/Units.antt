@@ -1,0 +1,201 @@
+-- A unit's orders are what the emitter asks for, and its words and bytes are an image's.
+use Rattle.std.proofs.Common.{◌≡◌, ℕ, zero, suc, ◌+◌, ◌^◌, ◌<◌, ◌≤◌, true, List, [], ◌∷◌, map, length, All, length-append, inl, inr, Some, slice_get, refl, sym, ap, ◌∙◌, subst, arith}
+use Rattle.std.specs.Prelude.{slice_index}
+use Rattle.std.proofs.lemmas.Bool.{cases_eq, lt-ltb}
+use Rattle.std.proofs.lemmas.Option.{same_Some, none-some, slice_get_within}
+use Rattle.mips_isa.specs.declared.inst.Inst.{Inst}
+use Rattle.mips_isa.specs.Ranges.{IsInst}
+use Rattle.mips_code.specs.Words.{inst_word}
+use Rattle.mips_code.proofs.Bounds.{words_below}
+use Rattle.mblock.specs.declared.exit.Exit.{Exit}
+use Rattle.mblock.specs.declared.exit.Exit.TheVariants.{Goto, BranchPair, BranchZero, Call, Return, Out, Halt}
+use Rattle.mblock.specs.Parts.{BlockParts, OrderParts}
+use Rattle.mblock.specs.BlockMeaning.{Shape, Goes, ChoosesPair, ChoosesZero, Calls, Returns, Prints, Halts, exit_shape}
+use Rattle.mblock.specs.Clean.{FitsSlot}
+use Rattle.mblock.specs.PlainOrders.{plain_order_of}
+use Rattle.mblock.specs.Orders.{AreOrders}
+use Rattle.mblock.specs.Units.{UnitParts, IsUnit, GoesBelow, BranchesWithin, AreOwners}
+use Rattle.image.specs.Images.{Version, IsImage, FitsVersion, is_entry}
+use Rattle.mips_layout.specs.Layout.{exit_size, size, place, order_insts, insts_of, layout}
+use Rattle.mips_layout.specs.Functions.{AreFunctions}
+use Rattle.mips_layout.specs.LayoutRuns.{RunsAs}
+use Rattle.mips_layout.proofs.Within.{place_mono, place_next}
+use Rattle.mips_layout.proofs.Places.{words_length}
+use Rattle.mips_layout.proofs.Composed.{each_layout_runs, each_layout_tells_calls_apart}
+use Rattle.mips_layout.proofs.PlainRuns.{each_plain_layout_runs}
+use Rattle.mips_asm.specs.Emitted.{AreThere, IsOwn, AreUnits}
+use Rattle.mips_asm.specs.Assembled.{EachAssembledImageRuns}
+
+-- ---- targets, by the shape of an exit alone
+
+abbrev BelowShape : ℕ → Shape → Type 0
+BelowShape n (Goes t) = t < n
+BelowShape n (ChoosesPair x t e) = (t < n) × (e < n)
+BelowShape n (ChoosesZero x t e) = (t < n) × (e < n)
+BelowShape n (Calls f m) = (f < n) × (m < n)
+BelowShape n Returns = Unit {0}
+BelowShape n (Prints m) = m < n
+BelowShape n Halts = Unit {0}
+
+goes_below : (n : ℕ) (exit : Exit) → GoesBelow n exit → BelowShape n (exit_shape exit)
+goes_below n (Goto t) h = h
+goes_below n (BranchPair x a b t e) h = h
+goes_below n (BranchZero x a t e) h = h
+goes_below n (Call f m) h = h
+goes_below n Return h = h
+goes_below n (Out m) h = h
+goes_below n Halt h = h
+
+are_there : (n : ℕ) (exit : Exit) → BelowShape n (exit_shape exit) → AreThere n exit
+are_there n (Goto t) h = h
+are_there n (BranchPair x a b t e) h = h
+are_there n (BranchZero x a t e) h = h
+are_there n (Call f m) h = h
+are_there n Return h = h
+are_there n (Out m) h = h
+are_there n Halt h = h
+
+abbrev OwnShape : (ℕ → ℕ) → ℕ → Shape → Type 0
+OwnShape owner k (Goes t) = Unit {0}
+OwnShape owner k (ChoosesPair x t e) = owner t ≡ owner k
+OwnShape owner k (ChoosesZero x t e) = owner t ≡ owner k
+OwnShape owner k (Calls f m) = Unit {0}
+OwnShape owner k Returns = Unit {0}
+OwnShape owner k (Prints m) = Unit {0}
+OwnShape owner k Halts = Unit {0}
+
+read_at : (xs : List ℕ) (i x : ℕ) → slice_get xs i ≡ Some x → slice_index xs i ≡ x
+read_at [] i x e = absurd (none-some x e)
+read_at (y ∷ xs) zero x e = same_Some y x e
+read_at (y ∷ xs) (suc i) x e = read_at xs i x e
+
+branches_within : (owner : List ℕ) (k o : ℕ) (exit : Exit) → slice_get owner k ≡ Some o → BranchesWithin owner o exit → OwnShape (slice_index owner) k (exit_shape exit)
+branches_within owner k o (Goto t) at h = tt
+branches_within owner k o (BranchPair x a b t e) at h = read_at owner t o h.0 ∙ sym (read_at owner k o at)
+branches_within owner k o (BranchZero x a t e) at h = read_at owner t o h.0 ∙ sym (read_at owner k o at)
+branches_within owner k o (Call f m) at h = tt
+branches_within owner k o Return at h = tt
+branches_within owner k o (Out m) at h = tt
+branches_within owner k o Halt at h = tt
+
+is_own : (owner : ℕ → ℕ) (k : ℕ) (exit : Exit) → OwnShape owner k (exit_shape exit) → IsOwn owner k exit
+is_own owner k (Goto t) h = h
+is_own owner k (BranchPair x a b t e) h = h
+is_own owner k (BranchZero x a t e) h = h
+is_own owner k (Call f m) h = h
+is_own owner k Return h = h
+is_own owner k (Out m) h = h
+is_own owner k Halt h = h
+
+-- ---- units
+
+there_is : {A : Type 0} (l : List A) (q : ℕ) → q < length l → (x : A) × (slice_get l q ≡ Some x)
+there_is [] q lt = absurd (omega arith)
+there_is (x ∷ l) zero lt = (x, refl)
+there_is (x ∷ l) (suc q) lt = there_is l q (omega arith)
+
+functions_are : (blocks : List BlockParts) (owner : List ℕ) → AreOwners blocks owner → 0 < length blocks → AreFunctions (length blocks) (slice_index owner)
+functions_are blocks owner h some = record {
+  first = (let p = there_is owner 0 (omega (arith, h.lengths)) in read_at owner 0 p.0 p.1 ∙ h.continues 0 p.0 p.1);
+  each = λ k lt.
+      let p = there_is owner (suc k) (omega (arith, h.lengths)) in
+      let here = read_at owner (suc k) p.0 p.1 in
+      elim (cases_eq p.0 (suc k)) [
+        | inl e ↦ inl (here ∙ e)
+        | inr ne ↦ inr (here ∙ sym (read_at owner k p.0 (h.continues (suc k) p.0 p.1 ne)))
+      ];
+}
+
+pub unit_orders : (u : UnitParts) (orders : List OrderParts) → IsUnit u → AreOrders u.blocks orders → AreUnits (slice_index u.owner) orders
+unit_orders u orders is h = record {
+  count = omega (arith, is.few, h.long);
+  functions = subst (λ n. AreFunctions n (slice_index u.owner)) (sym h.long) (functions_are u.blocks u.owner is.owners is.some);
+  there = λ k o e.
+      let p = block_at k o e in
+      let below = subst (BelowShape (length u.blocks)) (h.exits k p.0 o p.1 e) (goes_below (length u.blocks) p.0.exit (is.linked.by k p.0 p.1)) in
+      subst (λ n. AreThere n o.exit) (sym h.long) (are_there (length u.blocks) o.exit below);
+  own = λ k o e.
+      let p = block_at k o e in
+      let q = there_is u.owner k (let lt = slice_get_within u.blocks k p.0 p.1 in omega (arith, is.owners.lengths)) in
+      let own = branches_within u.owner k q.0 p.0.exit q.1 (is.owners.within k q.0 p.0 p.1 q.1) in
+      is_own (slice_index u.owner) k o.exit (subst (OwnShape (slice_index u.owner) k) (h.exits k p.0 o p.1 e) own);
+}
+  where
+    block_at : (k : ℕ) (o : OrderParts) → slice_get orders k ≡ Some o → (b : BlockParts) × (slice_get u.blocks k ≡ Some b)
+    block_at k o e = there_is u.blocks k (let lt = slice_get_within orders k o e in omega (arith, h.long))
+
+pub owner_length : (u : UnitParts) (orders : List OrderParts) → IsUnit u → AreOrders u.blocks orders → length u.owner ≡ length orders
+owner_length u orders is h = is.owners.lengths ∙ sym h.long
+
+-- ---- images
+
+insts_length : (start : ℕ → ℕ) (os : List OrderParts) (here : ℕ) → ((k : ℕ) (o : OrderParts) → slice_get os k ≡ Some o → FitsSlot o) → length (insts_of start here os) ≡ place os (length os)
+insts_length start [] here fits = refl
+insts_length start (x ∷ rest) here fits =
+    length-append (order_insts start here x) (insts_of start (here + size x) rest)
+    ∙ ap (λ n. n + length (insts_of start (here + size x) rest)) (words_length start here x (fits 0 x refl))
+    ∙ ap (λ n. size x + n) (insts_length start rest (here + size x) (λ k. fits (suc k)))
+
+two_words : (exit : Exit) → 2 ≤ exit_size exit
+two_words (Goto t) = omega arith
+two_words (BranchPair x a b t e) = omega arith
+two_words (BranchZero x a t e) = omega arith
+two_words (Call f m) = omega arith
+two_words Return = omega arith
+two_words (Out m) = omega arith
+two_words Halt = omega arith
+
+some_words : (os : List OrderParts) → 0 < length os → 1 ≤ place os (length os)
+some_words os lt =
+    let p = there_is os 0 lt in
+    let first = place_next os 0 p.0 p.1 in
+    let later = place_mono os 1 (length os) (omega arith) in
+    omega (arith, two_words p.0.exit, first, later)
+
+as_many : (l : List Inst) → length (map inst_word l) ≡ length l
+as_many [] = refl
+as_many (i ∷ l) = ap suc (as_many l)
+
+is_first : (n : ℕ) → 1 ≤ n → is_entry n 4194304 ≡ true
+is_first n lt = lt-ltb 0 n (omega arith)
+
+pub image_made : (u : UnitParts) (orders : List OrderParts) (v : Version) (code bytes : List ℕ) → IsUnit u → AreOrders u.blocks orders → place orders (length orders) ≤ 1048576
+    → FitsVersion v u.globals → code ≡ map inst_word (layout orders) → bytes ≡ u.globals → All IsInst (layout orders)
+    → IsImage (record { version = v; entry = 4194304; code = code; bytes = bytes })
+image_made u orders v code bytes is h room fits code_is bytes_is fit = record {
+  some = omega (arith, long, some);
+  code_fits = omega (arith, long);
+  bytes_fit = (let most = is.data_fits in let same = ap (λ (l : List ℕ). length l) bytes_is in omega arith);
+  entry = is_first (length code) (omega (arith, long, some));
+  version = subst (FitsVersion v) (sym bytes_is) fits;
+  code = subst (All (λ w. w < 2 ^ 32)) (sym code_is) (words_below (layout orders) fit);
+  bytes = subst (All (λ b. b < 2 ^ 8)) (sym bytes_is) is.data_bytes;
+}
+  where
+    long : length code ≡ place orders (length orders)
+    long = ap (λ (l : List ℕ). length l) code_is ∙ as_many (layout orders) ∙ insts_length (place orders) orders 0 h.fits
+
+    some : 1 ≤ place orders (length orders)
+    some = some_words orders (let lt = is.some in omega (arith, h.long))
+
+pub each_assembled_image_runs : EachAssembledImageRuns
+each_assembled_image_runs u orders i h made image fit =
+    let many = as_many (layout orders) in
+    let code = ap (λ (w : List ℕ). length w) made.code in
+    let most = image.code_fits in
+    let room : length (layout orders) ≤ 1048576 = omega arith in
+    let over : List ℕ → Type 0 = λ w. RunsAs 513 u.blocks orders w in
+    record {
+      apart = each_layout_tells_calls_apart u.blocks orders h room;
+      runs = subst over (sym made.code) (each_layout_runs u.blocks orders h room fit);
+      plain = λ plain. plain_runs plain room;
+    }
+  where
+    Plain : List OrderParts → Type 0
+    Plain os = AreOrders u.blocks os → length (layout os) ≤ 1048576 → All IsInst (layout os) → RunsAs 1 u.blocks os (map inst_word (layout os))
+
+    plain_runs : orders ≡ map plain_order_of u.blocks → length (layout orders) ≤ 1048576 → RunsAs 1 u.blocks orders i.code
+    plain_runs plain room =
+        let all = subst Plain (sym plain) (each_plain_layout_runs u.blocks) in
+        let over : List ℕ → Type 0 = λ w. RunsAs 1 u.blocks orders w in
+        subst over (sym made.code) (all h room fit)

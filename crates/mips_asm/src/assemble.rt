@@ -1,0 +1,44 @@
+// The image of a unit.
+
+ghost use Rattle.std.specs.Prelude.{◌≡◌, ℕ, IfOk, OnOk, IfErr, slice_index};
+ghost use Rattle.mblock.specs.Orders.{AreOrders};
+ghost use Rattle.image.specs.Images.{IsImage, FitsVersion};
+ghost use Rattle.image.specs.Views.{version_of};
+ghost use Rattle.mips_asm.specs.Emitted.{IsWithin};
+ghost use Rattle.mips_asm.specs.Assembled.{EachAssembledImageRuns, IsAssembled, RunsAsUnit};
+
+use crate::emit::code_of;
+use crate::fault::AsmFault;
+use image::{Counts, Image};
+use mblock::{Order, Unit};
+use std::alloc::Global;
+
+/// Where the code begins, with block 0.
+const ENTRY: u32 = 0x0040_0000;
+
+/// The image of a unit whose blocks have these orders: their words, one order behind another, and the unit's data. It runs
+/// as the unit. `Limit` exactly where a function has more than 32,000 words, or the code more than 1,048,576.
+pub fn image_of(
+    alloc: Global,
+    unit: &Unit,
+    orders: &[Order],
+    counts: Option<Counts>,
+) -> Result<Image, AsmFault>
+    requires orders { AreOrders unit.now.blocks orders.now }
+    requires version { FitsVersion (version_of counts) unit.now.globals }
+    ensures assembled { IfOk result (IsAssembled unit.now orders.now) }
+    ensures version { IfOk result (λ i. i.version ≡ version_of counts) }
+    ensures fits { IfOk result IsImage }
+    ensures runs { IfOk result (RunsAsUnit unit.now orders.now) }
+    ensures within { OnOk result (IsWithin (slice_index unit.now.owner) orders.now) }
+    ensures limit { IfErr result (λ e. e ≡ AsmFault.Limit → IsWithin (slice_index unit.now.owner) orders.now → ⊥) }
+{
+    let code = code_of(alloc, unit.owner(), orders)?;
+    let bytes = Vec::from_slice(alloc, unit.globals())?;
+    Ok(Image::of(counts, ENTRY, code, bytes))
+}
+
+/// An image that has the words of a unit's orders runs as the unit.
+pub fn each_assembled_image_runs()
+    ensures { EachAssembledImageRuns }
+{}
