@@ -1,31 +1,64 @@
 //! How fast the term table is: interns a second of distinct terms with two children each, by 1, 2
-//! and 4 threads, each with a pass of its own, half of them in the other order.
+//! and 4 threads, each with a pass of its own.
 //!
-//! With the argument `--figures` it prints a table: interns a second of 200,000 terms in a first
-//! round, where each term is linked once (misses), and in a second, where all are there (hits); the
-//! fastest of seven runs. Without, it runs fewer terms, and prints how many the passes linked
-//! together, which is the same in every run.
+//! Four plans: the terms divided among the threads, so that each term is linked once and by one thread,
+//! in order or shuffled; each thread interns all terms, every other one downward; and the same again,
+//! where all terms are there. With the argument `--figures` it prints a table of interns a second of
+//! 200,000 terms, the fastest of seven runs. Without, it runs fewer terms, and prints how many the
+//! passes linked together, which is the same in every run.
 #![tactic(auto)]
 
-ghost use Rattle.std.specs.Prelude.{◌*◌, ◌≤◌, All, IfSome, IfOk};
+ghost use Rattle.std.specs.Prelude.{◌*◌, ◌<◌, ◌≤◌, All, IfSome};
 ghost use Rattle.term_table.specs.Passes.{IsOf};
 ghost use Rattle.table_speed.specs.Ready.{IsReady};
 
 mod worker;
 
-use crate::worker::Worker;
+use crate::worker::{Order, Part, Worker};
 use std::alloc::Global;
 use std::thread::Threads;
 use std::time::{Clock, Instant};
 use std::{env, io, thread};
-use term_table::{OpenFault, Pass, TermTable};
+use term_table::{Pass, TermTable};
 
-/// A table, with the passes that are its own.
-fn opened(alloc: Global, count: u64) -> Result<(TermTable, Vec<Pass>), OpenFault>
-    ensures { IfOk result (λ t. All (IsOf t.0) t.1.items) }
+/// Which terms each thread interns.
+#[derive(Clone, Copy)]
+enum Plan {
+    Divided,
+    DividedShuffled,
+    Shared,
+}
+
+/// Where the part of worker `k` of `count` begins.
+fn cut(terms: u32, k: u32, count: u32) -> u32
+    requires { 0 < count }
 {
-    let (table, passes) = TermTable::open(alloc, count, 262144, 65536)?;
-    Ok((table, passes))
+    let at = u64::from(terms) * u64::from(k) / u64::from(count);
+    at.min(u64::from(terms)) as u32
+}
+
+/// The part of worker `k` of `count`.
+fn part_of(plan: Plan, terms: u32, k: u32, count: u32) -> Part
+    requires { 0 < count }
+{
+    let order = match plan {
+        Plan::Divided => Order::Upward,
+        Plan::DividedShuffled => Order::Shuffled,
+        Plan::Shared if k % 2 == 1 => Order::Downward,
+        Plan::Shared => Order::Upward,
+    };
+    match plan {
+        Plan::Shared => Part {
+            from: 0,
+            until: terms,
+            order,
+        },
+        _ => Part {
+            from: cut(terms, k, count),
+            until: cut(terms, k.saturating_add(1), count),
+            order,
+        },
+    }
 }
 
 /// A worker more, for the last pass that is left.
@@ -35,6 +68,7 @@ fn hire(
     passes: &mut Vec<Pass>,
     workers: &mut Vec<Worker>,
     terms: u32,
+    part: Part,
 ) -> Option<()>
     requires passes { All (IsOf table.now) passes.old.items }
     requires workers { All (IsReady table.now) workers.old.items }
@@ -43,7 +77,7 @@ fn hire(
     ensures workers { All (IsReady table.now) workers.new.items }
 {
     let pass = passes.pop()?;
-    let worker = Worker::new(alloc, table, pass, terms, workers.len() % 2 == 1)?;
+    let worker = Worker::new(alloc, table, pass, terms, part)?;
     if workers.push(worker).is_err() {
         return None;
     }
@@ -51,19 +85,28 @@ fn hire(
 }
 
 /// Workers for the passes, which have interned their leaves.
-fn staff(alloc: Global, table: &TermTable, mut passes: Vec<Pass>, terms: u32) -> Option<Vec<Worker>>
+fn staff(
+    alloc: Global,
+    table: &TermTable,
+    mut passes: Vec<Pass>,
+    terms: u32,
+    plan: Plan,
+    count: u32,
+) -> Option<Vec<Worker>>
     requires passes { All (IsOf table.now) passes.items }
     requires terms { terms ≤ 448 * 448 }
+    requires count { 0 < count }
     ensures { IfSome result (λ w. All (IsReady table.now) w.items) }
 {
     let mut workers = Vec::new(alloc);
-    for _ in 0..passes.len() {
-        hire(alloc, table, &mut passes, &mut workers, terms)?;
+    for k in 0..count {
+        let part = part_of(plan, terms, k, count);
+        hire(alloc, table, &mut passes, &mut workers, terms, part)?;
     }
     Some(workers)
 }
 
-/// Each worker interns all terms, in a thread of its own.
+/// Each worker interns its terms, in a thread of its own.
 fn round<R: Threads + Sync>(rt: &R, table: &TermTable, workers: &mut [Worker])
     requires { All (IsReady table.now) workers.old }
     ensures { All (IsReady table.now) workers.new }
@@ -95,36 +138,38 @@ fn linked(workers: &[Worker]) -> u64 {
 struct Figures {
     linked: u64,
     answered: u64,
-    misses: u128,
-    hits: u128,
+    first: u128,
+    again: u128,
 }
 
 /// Two rounds of `count` workers. None where memory was refused.
 fn run<R: Threads + Sync + Clock>(
     rt: &R,
     alloc: Global,
-    count: u64,
+    plan: Plan,
+    count: u32,
     terms: u32,
 ) -> io::Result<Option<Figures>>
-    requires { terms ≤ 448 * 448 }
+    requires terms { terms ≤ 448 * 448 }
+    requires count { 0 < count }
 {
-    let Ok((table, passes)) = opened(alloc, count) else {
+    let Ok((table, passes)) = TermTable::open(alloc, u64::from(count), 262144, 65536) else {
         return Ok(None);
     };
-    let Some(mut workers) = staff(alloc, &table, passes, terms) else {
+    let Some(mut workers) = staff(alloc, &table, passes, terms, plan, count) else {
         return Ok(None);
     };
     let start = Instant::now(rt)?;
     round(rt, &table, &mut workers);
-    let misses = start.elapsed(rt)?.as_nanos();
+    let first = start.elapsed(rt)?.as_nanos();
     let start = Instant::now(rt)?;
     round(rt, &table, &mut workers);
-    let hits = start.elapsed(rt)?.as_nanos();
+    let again = start.elapsed(rt)?.as_nanos();
     Ok(Some(Figures {
         linked: linked(&workers),
         answered: answered(&workers),
-        misses,
-        hits,
+        first,
+        again,
     }))
 }
 
@@ -137,22 +182,24 @@ fn rate(interns: u64, nanoseconds: u128) -> u128 {
 fn fastest<R: Threads + Sync + Clock>(
     rt: &R,
     alloc: Global,
-    count: u64,
+    plan: Plan,
+    count: u32,
     terms: u32,
     runs: u32,
 ) -> io::Result<Option<Figures>>
-    requires { terms ≤ 448 * 448 }
+    requires terms { terms ≤ 448 * 448 }
+    requires count { 0 < count }
 {
     let mut best: Option<Figures> = None;
     for _ in 0..runs {
-        let Some(now) = run(rt, alloc, count, terms)? else {
+        let Some(now) = run(rt, alloc, plan, count, terms)? else {
             return Ok(None);
         };
         best = match best {
             None => Some(now),
             Some(before) => Some(Figures {
-                misses: now.misses.min(before.misses),
-                hits: now.hits.min(before.hits),
+                first: now.first.min(before.first),
+                again: now.again.min(before.again),
                 ..now
             }),
         };
@@ -160,20 +207,35 @@ fn fastest<R: Threads + Sync + Clock>(
     Ok(best)
 }
 
-fn main(rt: HostRuntime) -> io::Result<()> {
-    let figures = env::args(&rt)?.len() > 1;
+/// One plan by 1, 2 and 4 threads.
+fn compare<R: Threads + Sync + Clock + Print>(
+    rt: &R,
+    alloc: Global,
+    plan: Plan,
+    figures: bool,
+) -> io::Result<()> {
     let (terms, runs) = if figures { (200_000, 7) } else { (2_000, 1) };
-    for count in [1u64, 2, 4] {
-        let Some(did) = fastest(&rt, rt.alloc(), count, terms, runs)? else {
+    for count in [1u32, 2, 4] {
+        let Some(did) = fastest(rt, alloc, plan, count, terms, runs)? else {
             println!(rt; "{count} threads: no memory")?;
             continue;
         };
         println!(rt; "{count} threads: {} terms linked", did.linked)?;
         if figures {
-            let misses = rate(did.answered, did.misses);
-            let hits = rate(did.answered, did.hits);
-            println!(rt; "  {misses:>12} misses a second {hits:>12} hits a second")?;
+            let first = rate(did.answered, did.first);
+            let again = rate(did.answered, did.again);
+            println!(rt; "  {first:>12} a second at first {again:>12} a second again")?;
         }
     }
     Ok(())
+}
+
+fn main(rt: HostRuntime) -> io::Result<()> {
+    let figures = env::args(&rt)?.len() > 1;
+    println!(rt; "terms divided among the threads, in order:")?;
+    compare(&rt, rt.alloc(), Plan::Divided, figures)?;
+    println!(rt; "terms divided among the threads, shuffled:")?;
+    compare(&rt, rt.alloc(), Plan::DividedShuffled, figures)?;
+    println!(rt; "all terms by each thread:")?;
+    compare(&rt, rt.alloc(), Plan::Shared, figures)
 }

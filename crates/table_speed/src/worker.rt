@@ -1,4 +1,4 @@
-//! One thread's work: it interns terms with two children each.
+//! One thread's work: it interns a part of the terms, which have two children each.
 ghost use Rattle.std.specs.Prelude.{◌≡◌, ◌+◌, ◌*◌, ◌<◌, ◌≤◌, IfSome, All, length};
 ghost use Rattle.term_table.specs.Passes.{IsOf, HasSeen};
 ghost use Rattle.table_speed.specs.Ready.{IsReady};
@@ -11,14 +11,34 @@ use words::Operator;
 /// How many leaves there are; each pair of leaves makes a term.
 pub const LEAVES: u32 = 448;
 
-/// A pass, the tickets of its leaves, and how it goes through the terms.
+/// In which order a worker goes through the terms.
+#[derive(Clone, Copy)]
+pub enum Order {
+    Upward,
+    Downward,
+    Shuffled,
+}
+
+/// The terms from `from` on and below `until`, as they come in an order.
+#[derive(Clone, Copy)]
+pub struct Part {
+    pub from: u32,
+    pub until: u32,
+    pub order: Order,
+}
+
+/// A pass, the tickets of its leaves, how many terms there are, and which of them are its own.
 #[derive(Drop)]
 pub struct Worker {
     pub pass: Pass,
     pub leaves: Vec<Ticket>,
     pub terms: u32,
-    pub downward: bool,
+    pub from: u32,
+    pub until: u32,
+    pub order: Order,
     pub answered: u64,
+    // Keeps two workers of a list on different cache lines: a pass is written at each link.
+    pub apart: [u64; 16],
 }
 
 impl Worker {
@@ -28,7 +48,7 @@ impl Worker {
         table: &TermTable,
         mut pass: Pass,
         terms: u32,
-        downward: bool,
+        part: Part,
     ) -> Option<Worker>
         requires pass { IsOf table.now pass }
         requires terms { terms ≤ LEAVES * LEAVES }
@@ -42,21 +62,24 @@ impl Worker {
             pass,
             leaves,
             terms,
-            downward,
+            from: part.from,
+            until: part.until.min(terms),
+            order: part.order,
             answered: 0,
+            apart: [0; 16],
         })
     }
 
-    /// Interns each term once.
+    /// Interns each of its terms once.
     pub fn intern_all(&mut self, table: &TermTable)
         requires { IsReady table.now self.old }
         ensures { IsReady table.now self.new }
     {
         let mut answered = 0u64;
-        for i in 0..self.terms {
-            let n = if self.downward { self.terms - 1 - i } else { i };
+        for i in self.from..self.until {
+            let n = placed(self.order, self.terms, i);
             if self.intern_pair(table, n) {
-                answered += 1;
+                answered = answered.saturating_add(1);
             }
         }
         self.answered = answered;
@@ -67,13 +90,25 @@ impl Worker {
         requires ready { IsReady table.now self.old }
         requires term { n < self.old.terms }
         ensures ready { IsReady table.now self.new }
-        ensures terms { self.new.terms ≡ self.old.terms }
+        ensures part { (self.new.terms ≡ self.old.terms) × (self.new.until ≡ self.old.until) }
     {
         let first = self.leaves[(n / LEAVES) as usize];
         let second = self.leaves[(n % LEAVES) as usize];
         table
             .intern(&mut self.pass, Label::Op(Operator::Addu), &[first, second])
             .is_ok()
+    }
+}
+
+// The term that comes at `i` of so many. The multiplier has no divisor in common with 200,000 nor 2,000.
+fn placed(order: Order, terms: u32, i: u32) -> u32
+    requires { i < terms }
+    ensures { result < terms }
+{
+    match order {
+        Order::Upward => i,
+        Order::Downward => terms - 1 - i,
+        Order::Shuffled => (u64::from(i) * 123_607 % u64::from(terms)) as u32,
     }
 }
 

@@ -1,6 +1,6 @@
-use Rattle.std.proofs.Common.{◌≡◌, ◌≤◌}
+use Rattle.std.proofs.Common.{◌≡◌}
 use Rattle.table_speed.specs.Ready.{IsReady}
 use Rattle.table_speed.proofs.worker.Worker.intern_all.Given as goal
 
 abbrev pub invariant-loop-i : goal.invariant-loop-i
-invariant-loop-i l = IsReady l.table l.self × (l.i ≤ l.self.terms) × (l.answered ≤ l.i) × (l.i-end ≡ l.self.terms)
+invariant-loop-i l = IsReady l.table l.self × (l.i-end ≡ l.self.until)

@@ -5,4 +5,4 @@ use Rattle.table_speed.proofs.worker.Worker.intern_pair.Goals as goal
 pub returns-clause-ready : goal.returns-clause-ready
 returns-clause-ready c =
     let r = c.requires.ready in
-    record { pass = still_of c.intern.ensures.extends r.pass; count = r.count; terms = r.terms; seen = still_all _ c.intern.ensures.extends r.seen }
+    record { pass = still_of c.intern.ensures.extends r.pass; count = r.count; terms = r.terms; last = r.last; seen = still_all _ c.intern.ensures.extends r.seen }

@@ -1,5 +1,0 @@
-use Rattle.term_table.proofs.Callers.{all_of}
-use Rattle.table_speed.proofs.opened.Goals as goal
-
-pub returns : goal.returns
-returns c = all_of _ _ _ _ _ c.in_ok-table.ensures.ok.1
