@@ -5,11 +5,14 @@
 //! - `front`: the reader on 1 MiB of C against 64 KiB; `front ifs N` and `front parens N` read N nested statements or
 //!   parentheses, to see what stack they take
 //! - `run`: C programs of some million steps
+//! - `table`: interns a second by 1, 2 and 4 threads
 #![tactic(auto)]
 
 mod checks;
 mod fronts;
 mod runs;
+mod tables;
+mod worker;
 
 use anyhow::bail;
 use std::env;
@@ -19,7 +22,8 @@ fn main(rt: HostRuntime) -> anyhow::Result<()> {
     let Some(figure) = words.first() else {
         checks::show(&rt, false)?;
         fronts::show(&rt, false)?;
-        return runs::show(&rt, false);
+        runs::show(&rt, false)?;
+        return tables::show(&rt, false);
     };
     match figure.as_str() {
         "check" => checks::show(&rt, true),
@@ -28,6 +32,7 @@ fn main(rt: HostRuntime) -> anyhow::Result<()> {
             _ => fronts::show(&rt, true),
         },
         "run" => runs::show(&rt, true),
-        _ => bail!(rt.alloc(); "the words are check, front and run"),
+        "table" => tables::show(&rt, true),
+        _ => bail!("the words are check, front, run and table"),
     }
 }

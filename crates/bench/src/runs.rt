@@ -3,12 +3,10 @@
 use c_front::read;
 use c_run::run;
 use c_types::check;
+use runs::End;
 use std::alloc::{AllocError, Global};
 use std::fmt::Write;
 use std::time::Instant;
-use runs::End;
-
-const TURNS: u32 = 2_000_000;
 
 const SUM: &str = "s = s * 3 + i;";
 
@@ -27,6 +25,7 @@ fn program_text(
     functions: usize,
     words: usize,
     statement: &str,
+    turns: u32,
 ) -> Result<String, AllocError> {
     let mut text = format!(in alloc; "unsigned g[{words}]; unsigned a[64];\n")?;
     for number in 0..functions {
@@ -35,7 +34,7 @@ fn program_text(
     writeln!(
         text,
         "int main(void) {{ unsigned i = 0; unsigned s = 1; \
-        while (i < {TURNS}) {{ {statement} i = i + 1; }} out(s); return 0; }}"
+        while (i < {turns}) {{ {statement} i = i + 1; }} out(s); return 0; }}"
     )?;
     Ok(text)
 }
@@ -43,14 +42,18 @@ fn program_text(
 /// What each program comes to, and with figures how long the run took.
 pub(crate) fn show(rt: &HostRuntime, figures: bool) -> anyhow::Result<()> {
     let alloc = rt.alloc();
+    let turns = if figures { 2_000_000 } else { 20_000 };
     for (number, (functions, words, statement)) in PROGRAMS.into_iter().enumerate() {
-        let text = program_text(alloc, functions, words, statement)?;
+        let text = program_text(alloc, functions, words, statement, turns)?;
         let typed = check(alloc, read(alloc, text.as_bytes())?)?;
         let start = Instant::now(rt)?;
         let ran = run(alloc, &typed, 2, u64::MAX)?;
         let took = start.elapsed(rt)?;
         let done = ran.end == End::Done(0);
-        println!(rt; "program {number}: done {done}, {} words out", ran.output.len())?;
+        println!(rt;
+            "program {number}: done {done}, {} words out",
+            ran.output.len()
+        )?;
         if figures {
             println!(rt; "  {} microseconds", took.as_micros())?;
         }

@@ -8,6 +8,7 @@ const WIDTH: usize = 160;
 
 /// What is shown of a long line: bytes before the place, and in all, without the dots.
 const BEFORE: usize = 77;
+
 const SHOWN: usize = WIDTH - 2 * DOTS.len();
 
 const DOTS: &[u8] = b"...";

@@ -6,19 +6,19 @@ ghost use Rattle.driver.specs.Texts.{end_status, exit_status, fault_text};
 ghost use Rattle.driver.specs.declared.verdicts.CheckAnswer.{CheckAnswer};
 
 use crate::command::Command;
-use crate::verdicts::{CheckAnswer, CheckFault, check};
-use crate::source_runs::{InterpFault, interp};
-use crate::place::{Spot, line_offset, place_lines, spot_of};
-use crate::texts::EndLine;
 use crate::command_line::words;
+use crate::place::{Spot, line_offset, place_lines, spot_of};
+use crate::source_runs::{InterpFault, interp};
+use crate::texts::EndLine;
+use crate::verdicts::{CheckAnswer, CheckFault, check};
 use c_front::FaultKind as FrontKind;
 use c_statements::FaultKind as TypeKind;
 use clap::Error;
 use clap::error::ErrorKind;
+use runs::{End, Ran};
 use std::alloc::Global;
 use std::fmt;
 use std::io::{self, Write};
-use runs::{End, Ran};
 
 /// Why a file could not be read or written.
 #[derive(Clone, Copy, Debug, PartialEq, Eq)]

@@ -6,8 +6,8 @@ use c_front::{FrontFault, read};
 use c_run::run;
 use c_statements::TypeFault;
 use c_types::check;
-use std::alloc::Global;
 use runs::Ran;
+use std::alloc::Global;
 
 /// Why a text has no run.
 #[derive(Clone, Copy, Debug, PartialEq, Eq)]

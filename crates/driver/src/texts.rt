@@ -4,14 +4,14 @@ ghost use Rattle.std.specs.Prelude.{◌≡◌, Some};
 ghost use Rattle.std.specs.Fmt.{DisplaysOnOk};
 ghost use Rattle.driver.specs.Texts.{answer_text, check_fault_text, end_text, front_name, interp_fault_text, place_text, rule_text, type_name};
 
-use crate::verdicts::{CheckAnswer, CheckFault};
 use crate::source_runs::InterpFault;
+use crate::verdicts::{CheckAnswer, CheckFault};
 use block_validator::Place;
 use c_front::FaultKind as FrontKind;
 use c_statements::FaultKind as TypeKind;
 use mblock::Unclean;
-use std::fmt;
 use runs::End;
+use std::fmt;
 
 fn rule_name(rule: Unclean) -> &'static str
     ensures { result.now ≡ rule_text rule }

@@ -1,7 +1,7 @@
 // The whole program, over files and streams that can fail.
 
 use crate::stand_ins::{OneText, Shut, tells};
-use driver::{FileFault, Command, mcc, words};
+use driver::{Command, FileFault, mcc, words};
 use std::test::Fail;
 
 const SAME: &str = "block\naddiu $10,$10,1\nreturn\norder\nreturn\nslot addiu $10,$10,1\n";

@@ -3,9 +3,9 @@
 
 use crate::stand_ins::OneText;
 use driver::{InterpFault, interp, mcc};
+use runs::End;
 use std::alloc::{AllocError, Global};
 use std::test::Fail;
-use runs::End;
 
 // A thousand blocks of 4 KB, to be given back one by one, and all other memory that can be had, in blocks
 // of halving size. Nothing is written to them.

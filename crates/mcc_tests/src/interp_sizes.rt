@@ -129,9 +129,15 @@ fn a_long_line_is_shown_around_its_place(rt: HostRuntime) -> Result<(), Fail> {
         let margin = if left.is_empty() { "" } else { "   " };
         let at = before + 1;
         let place = format!(in rt.alloc(); "fault 1 Byte at {at}\nx:2:{at}:\n")?;
-        let lines = format!(in rt.alloc(); "{left}{shown_a}?{shown_b}{right}\n{margin}{blanks}^\n")?;
+        let lines = format!(in rt.alloc();
+            "{left}{shown_a}?{shown_b}{right}\n{margin}{blanks}^\n"
+        )?;
         let expected = format!(in rt.alloc(); "{place}{lines}")?;
-        assert_eq!(rt; got.err.as_slice(), expected.as_bytes(), "{before} and {behind}");
+        assert_eq!(rt;
+            got.err.as_slice(),
+            expected.as_bytes(),
+            "{before} and {behind}"
+        );
     }
     Ok(())
 }

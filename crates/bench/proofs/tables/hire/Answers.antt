@@ -2,8 +2,8 @@ use Rattle.std.proofs.Common.{◌≡◌, ◌∙◌, All, Result, Ok, Err, false,
 use Rattle.std.specs.Bool.{if◌then◌else◌}
 use Rattle.std.specs.Result.{is_err, is_ok}
 use Rattle.std.proofs.lemmas.List.Elements.{All-push}
-use Rattle.table_speed.specs.Ready.{IsReady}
-use Rattle.table_speed.proofs.hire.Goals as goal
+use Rattle.bench.specs.Ready.{IsReady}
+use Rattle.bench.proofs.tables.hire.Goals as goal
 
 taken : {A B X : Type 0} (r : Result A B) (x y : X) → is_err r ≡ false → (if is_ok r then x else y) ≡ x
 taken (Ok a) x y e = refl

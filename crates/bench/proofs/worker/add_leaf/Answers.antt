@@ -2,8 +2,8 @@ use Rattle.std.proofs.Common.{[], ◌∷◌, All, sym, subst}
 use Rattle.std.proofs.lemmas.List.Elements.{All-append, All-cons, All-nil}
 use Rattle.term_table.specs.Passes.{HasSeen}
 use Rattle.term_table.proofs.Callers.{intern_leaf}
-use Rattle.table_speed.proofs.Leaves.{still_all}
-use Rattle.table_speed.proofs.worker.add_leaf.Goals as goal
+use Rattle.bench.proofs.Leaves.{still_all}
+use Rattle.bench.proofs.worker.add_leaf.Goals as goal
 
 pub returns-clause-seen : goal.returns-clause-seen
 returns-clause-seen c =

@@ -1,6 +1,6 @@
 use Rattle.term_table.proofs.Callers.{still_of}
-use Rattle.table_speed.proofs.Leaves.{still_all}
-use Rattle.table_speed.proofs.worker.Worker.intern_pair.Goals as goal
+use Rattle.bench.proofs.Leaves.{still_all}
+use Rattle.bench.proofs.worker.Worker.intern_pair.Goals as goal
 
 pub returns-clause-ready : goal.returns-clause-ready
 returns-clause-ready c =

@@ -1,24 +1,19 @@
-//! How fast the term table is: interns a second of distinct terms with two children each, by 1, 2
-//! and 4 threads, each with a pass of its own.
-//!
-//! Four plans: the terms divided among the threads, so that each term is linked once and by one thread,
-//! in order or shuffled; each thread interns all terms, every other one downward; and the same again,
-//! where all terms are there. With the argument `--figures` it prints a table of interns a second of
-//! 200,000 terms, the fastest of seven runs. Without, it runs fewer terms, and prints how many the
-//! passes linked together, which is the same in every run.
-#![tactic(auto)]
+// How fast the term table is: interns a second of distinct terms with two children each, by 1, 2 and 4 threads, each
+// with a pass of its own.
+//
+// Three plans, each in two rounds: the terms divided among the threads, so that each term is linked once and by one
+// thread, in order or shuffled; and each thread interns all terms, every other one downward. In the second round all
+// terms are there.
 
 ghost use Rattle.std.specs.Prelude.{◌*◌, ◌<◌, ◌≤◌, All, IfSome};
 ghost use Rattle.term_table.specs.Passes.{IsOf};
-ghost use Rattle.table_speed.specs.Ready.{IsReady};
-
-mod worker;
+ghost use Rattle.bench.specs.Ready.{IsReady};
 
 use crate::worker::{Order, Part, Worker};
 use std::alloc::Global;
 use std::thread::Threads;
 use std::time::{Clock, Instant};
-use std::{env, io, thread};
+use std::{io, thread};
 use term_table::{Pass, TermTable};
 
 /// Which terms each thread interns.
@@ -230,12 +225,17 @@ fn compare<R: Threads + Sync + Clock + Print>(
     Ok(())
 }
 
-fn main(rt: HostRuntime) -> io::Result<()> {
-    let figures = env::args(&rt)?.len() > 1;
+/// How many terms the passes linked together, which is the same in every run; and with figures the interns a second of
+/// 200,000 terms, the fastest of seven runs.
+pub(crate) fn show<R: Threads + Sync + Clock + Print + AllocGlobal>(
+    rt: &R,
+    figures: bool,
+) -> anyhow::Result<()> {
     println!(rt; "terms divided among the threads, in order:")?;
-    compare(&rt, rt.alloc(), Plan::Divided, figures)?;
+    compare(rt, rt.alloc(), Plan::Divided, figures)?;
     println!(rt; "terms divided among the threads, shuffled:")?;
-    compare(&rt, rt.alloc(), Plan::DividedShuffled, figures)?;
+    compare(rt, rt.alloc(), Plan::DividedShuffled, figures)?;
     println!(rt; "all terms by each thread:")?;
-    compare(&rt, rt.alloc(), Plan::Shared, figures)
+    compare(rt, rt.alloc(), Plan::Shared, figures)?;
+    Ok(())
 }

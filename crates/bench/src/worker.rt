@@ -1,7 +1,7 @@
 //! One thread's work: it interns a part of the terms, which have two children each.
 ghost use Rattle.std.specs.Prelude.{◌≡◌, ◌+◌, ◌*◌, ◌<◌, ◌≤◌, IfSome, All, length};
 ghost use Rattle.term_table.specs.Passes.{IsOf, HasSeen};
-ghost use Rattle.table_speed.specs.Ready.{IsReady};
+ghost use Rattle.bench.specs.Ready.{IsReady};
 
 use std::alloc::Global;
 use sym_terms::Label;
