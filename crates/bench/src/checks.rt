@@ -6,8 +6,8 @@ ghost use Rattle.std.specs.Prelude.{◌≡◌, ◌≤◌, ◌%◌};
 
 use driver::{CheckAnswer, check};
 use std::alloc::{AllocError, Global};
-use std::time::{Clock, Instant};
 use std::io;
+use std::time::{Clock, Instant};
 
 /// A check text with `count` loads in its block, and four times as many in its order.
 fn loads(alloc: Global, count: u32) -> Result<String, AllocError>

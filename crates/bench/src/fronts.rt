@@ -66,7 +66,11 @@ pub(crate) fn show(rt: &HostRuntime, figures: bool) -> anyhow::Result<()> {
         let took = start.elapsed(rt)?;
         println!(rt; "{length} bytes of C: read {accepted}")?;
         if figures {
-            println!(rt; "  {} bytes in {} microseconds", text.len(), took.as_micros())?;
+            println!(rt;
+                "  {} bytes in {} microseconds",
+                text.len(),
+                took.as_micros()
+            )?;
         }
     }
     Ok(())

@@ -3,10 +3,10 @@
 use c_front::read;
 use c_run::run;
 use c_types::check;
+use runs::End;
 use std::alloc::{AllocError, Global};
 use std::fmt::Write;
 use std::time::Instant;
-use runs::End;
 
 const TURNS: u32 = 2_000_000;
 
@@ -50,7 +50,10 @@ pub(crate) fn show(rt: &HostRuntime, figures: bool) -> anyhow::Result<()> {
         let ran = run(alloc, &typed, 2, u64::MAX)?;
         let took = start.elapsed(rt)?;
         let done = ran.end == End::Done(0);
-        println!(rt; "program {number}: done {done}, {} words out", ran.output.len())?;
+        println!(rt;
+            "program {number}: done {done}, {} words out",
+            ran.output.len()
+        )?;
         if figures {
             println!(rt; "  {} microseconds", took.as_micros())?;
         }
