@@ -7,8 +7,8 @@ ghost use Rattle.c_run.specs.Machine.{arrays, state_of};
 use crate::machine::{Call, Machine, Reached, step};
 use crate::pending::{Pending, put};
 use c_types::Typed;
-use std::alloc::{AllocError, Global};
 use runs::{End, Ran};
+use std::alloc::{AllocError, Global};
 
 // The globals before the first step.
 fn first_globals(alloc: Global, program: &Typed) -> Result<Vec<Vec<u32>>, AllocError>

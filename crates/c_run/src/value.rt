@@ -7,8 +7,8 @@ ghost use Rattle.c_typed.specs.Values.{sign_of, truth, unary_of, binary_of, valu
 ghost use Rattle.c_run.specs.Machine.{places, arrays};
 
 use c_front::{BinaryOp, UnaryOp};
-use c_typed::Term;
 use c_tokens::Kind;
+use c_typed::Term;
 use std::alloc::{AllocError, Global};
 use words::Sign;
 

@@ -14,9 +14,9 @@ ghost use Rattle.c_statements.specs.Uses.{Faulty, Misused, as_value, with_index}
 use crate::fault::{FaultKind, Stop, TypeFault, both};
 use crate::names::Named;
 use crate::scopes::Frame;
-use c_typed::Term;
 use c_front::{BinaryOp, Expr, Program, UnaryOp};
 use c_tokens::{Identifier, Kind};
+use c_typed::Term;
 use std::alloc::{AllocError, AllocFailed, Global};
 
 /// The kind that two operands are converted to (C99 6.3.1.8): `unsigned int` if one of them is.

@@ -14,9 +14,9 @@ use crate::expression::{array, expression, misuse};
 use crate::fault::{FaultKind, Stop, both};
 use crate::names::Named;
 use crate::scopes::Frame;
-use c_typed::{Place, Statement, Term};
 use c_front::{Call, Expr, Program, Simple, Value};
 use c_tokens::{Identifier, Kind, Literal};
+use c_typed::{Place, Statement, Term};
 use std::alloc::{AllocError, AllocFailed, Global};
 
 /// A list of typed parts with one more at its end.

@@ -15,9 +15,9 @@ use crate::expression::{expression, misuse};
 use crate::fault::{FaultKind, Stop, TypeFault, both};
 use crate::scopes::Frame;
 use crate::simple::{first_value, part, simple, test, with_one};
-use c_typed::{Statement, Term};
 use c_front::{Expr, ForParts, Item, Program, Stmt};
 use c_tokens::Identifier;
+use c_typed::{Statement, Term};
 use std::alloc::{AllocError, AllocFailed, Global};
 
 /// The most locals that a function may have, its parameters counted.

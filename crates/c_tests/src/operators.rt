@@ -1,10 +1,10 @@
 // Operators at their edges. The expected words are C's own.
 
 use crate::runs_of_texts::comes_to;
+use runs::End;
 use std::alloc::{AllocError, Global};
 use std::process::Abort;
 use std::test::Fail;
-use runs::End;
 use words::Sign;
 
 const S: Sign = Sign::Signed;

@@ -3,10 +3,10 @@
 use c_front::read;
 use c_run::run;
 use c_types::check;
+use runs::End;
 use std::alloc::{AllocError, Global};
 use std::test::Fail;
 use std::thread::Builder;
-use runs::End;
 
 fn around(
     alloc: Global,

@@ -1,6 +1,6 @@
 use crate::sources::comes_to;
-use std::test::Fail;
 use runs::End;
+use std::test::Fail;
 
 const ROWS: [(&[u8], u32, u64, End, &[u32]); 30] = [
     (b"int main(void){}", 256, 1000000, End::Done(0), &[]),

@@ -1,9 +1,9 @@
 use c_front::read;
 use c_run::run;
 use c_types::check;
+use runs::End;
 use std::alloc::{AllocError, Global};
 use std::process::Abort;
-use runs::End;
 
 /// The program of a text comes to this end and this output within its bounds.
 pub fn comes_to(

@@ -1,9 +1,9 @@
 use c_front::read;
 use c_run::run;
 use c_types::check;
+use runs::End;
 use std::alloc::{AllocError, Global};
 use std::process::Abort;
-use runs::End;
 
 /// The number and the offset of a text's fault; 0 and 0 where it has none.
 pub fn fault(alloc: Global, text: &[u8]) -> (u8, usize) {

@@ -1,8 +1,8 @@
 // Statements, the steps that they take, and calls.
 
 use crate::runs_of_texts::comes_to;
-use std::test::Fail;
 use runs::End;
+use std::test::Fail;
 
 const TURNS: &str = "int main(void) { int i; \
     for (i = 0; i < 5; i = i + 1) { if (i == 1) { { continue; } } if (i == 3) break; out(i); } \

@@ -145,9 +145,10 @@ integer-value : {digits : List ℕ} {greatest v : ℕ} → IsInteger digits grea
 integer-value (decimal {b = b} {bs = []} h n) = (number-value n, ap (λ (x : Bool). if x then 4294967295 else 2147483647) h)
 integer-value (decimal {b = b} {bs = c ∷ []} h n) =
     (ap (λ (x : Bool). if x then digits_of 8 0 (c ∷ []) else digits_of 10 0 (b ∷ c ∷ [])) h ∙ number-value n, ap (λ (x : Bool). if x then 4294967295 else 2147483647) h)
-integer-value (decimal {b = b} {bs = c ∷ d ∷ ds} h n) =
-    (ap (λ (x : Bool). if x then (if nat_eq c 120 || nat_eq c 88 then digits_of 16 0 (d ∷ ds) else digits_of 8 0 (c ∷ d ∷ ds)) else digits_of 10 0 (b ∷ c ∷ d ∷ ds)) h ∙ number-value n,
-      ap (λ (x : Bool). if x then 4294967295 else 2147483647) h)
+integer-value (decimal {b = b} {bs = c ∷ d ∷ ds} h n) = (
+  ap (λ (x : Bool). if x then (if nat_eq c 120 || nat_eq c 88 then digits_of 16 0 (d ∷ ds) else digits_of 8 0 (c ∷ d ∷ ds)) else digits_of 10 0 (b ∷ c ∷ d ∷ ds)) h ∙ number-value n,
+  ap (λ (x : Bool). if x then 4294967295 else 2147483647) h,
+)
 integer-value (octal {bs = []} n) = (number-value n, refl)
 integer-value (octal {bs = c ∷ []} n) = (number-value n, refl)
 integer-value (octal {bs = c ∷ d ∷ ds} n) =

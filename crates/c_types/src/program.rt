@@ -12,14 +12,12 @@ ghost use Rattle.c_types.specs.Programs.{File, FaultyBody, FaultyDeclaration, Fa
 ghost use Rattle.c_types.specs.Shape.{program_of};
 ghost use Rattle.c_types.specs.Typed.{EachTypedProgramIsWellFormed, SpellsTyped};
 
-use crate::declaration::{
-    Tally, declared_name, first, is_main, name_fault, parameters,
-};
+use crate::declaration::{Tally, declared_name, first, is_main, name_fault, parameters};
 use crate::typed_program::Typed;
 use c_front::{Declaration, FunctionDefinition, Program};
 use c_statements::{FaultKind, Frame, Named, Stop, TypeFault, both, items, lasting};
-use c_typed::{Function, Global as Variable, Statement, Term};
 use c_tokens::{Kind, Literal};
+use c_typed::{Function, Global as Variable, Statement, Term};
 use std::alloc::{AllocError, AllocFailed, Global};
 
 /// What a declaration at file scope comes to.
