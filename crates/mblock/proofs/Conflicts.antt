@@ -5,7 +5,7 @@ use Rattle.mips_isa.specs.declared.action.Action.{Action}
 use Rattle.mips_isa.specs.declared.action.Action.TheVariants.{Computes, Sets, Loads, Stores, Multiplies, Divides, MovesHigh, MovesLow}
 use Rattle.mips_isa.specs.States.{is_register}
 use Rattle.mips_isa.specs.Actions.{loads}
-use Rattle.mblock.specs.Clean.{loads_named}
+use Rattle.mblock.specs.CleanTests.{loads_named}
 
 pub conflict_free : (a : Action) (test : ℕ → Bool) → loads_named a test ≡ false → (r : ℕ) → loads a r ≡ true → test r ≡ false
 conflict_free (Loads d base offset) test e r l =

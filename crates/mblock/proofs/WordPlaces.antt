@@ -5,7 +5,8 @@ use Rattle.std.proofs.lemmas.Option.{same_Some, none-some, slice_get_within}
 use Rattle.mips_isa.specs.declared.inst.Plain.{Plain}
 use Rattle.mips_isa.specs.declared.action.Action.{Action}
 use Rattle.mips_isa.specs.Actions.{action_of, is_product, is_move, touches, loads}
-use Rattle.mblock.specs.Clean.{kinds_of, slot_words, is_product_word, is_move_word, loads_named, conflict_of, early_at, IsApart, IsBehind}
+use Rattle.mblock.specs.Clean.{kinds_of, slot_words, IsApart, IsBehind}
+use Rattle.mblock.specs.CleanTests.{is_product_word, is_move_word, loads_named, conflict_of, early_at}
 use Rattle.mblock.proofs.Conflicts.{conflict_free, conflict_found}
 
 -- an instruction's word

@@ -1,9 +1,7 @@
 -- The delay rules that an order keeps so that no word of it comes too early, by places in the order.
-use Rattle.std.specs.Prelude.{◌≡◌, ℕ, suc, ◌+◌, Bool, true, false, ◌⊎◌, ◌&&◌, ◌||◌, List, [], ◌∷◌, ◌++◌, map, length, Option, Some, None, is_some, slice_get}
+use Rattle.std.specs.Prelude.{◌≡◌, ℕ, suc, true, false, ◌⊎◌, ◌||◌, List, [], ◌∷◌, ◌++◌, map, length, Option, Some, None, is_some, slice_get}
 use Rattle.mips_isa.specs.declared.inst.Plain.{Plain}
 use Rattle.mips_isa.specs.declared.action.Action.{Action}
-use Rattle.mips_isa.specs.declared.action.Action.TheVariants.{Loads}
-use Rattle.mips_isa.specs.States.{is_register}
 use Rattle.mips_isa.specs.Actions.{action_of, loads, touches, is_load, is_move, is_product}
 use Rattle.mblock.specs.declared.exit.Exit.{Exit}
 use Rattle.mblock.specs.declared.unclean.Unclean.{Unclean}
@@ -58,27 +56,3 @@ BreaksFirst U1 o = IsApart o.insts → ⊥
 BreaksFirst U2 o = IsApart o.insts × (IsBehind (kinds o) → ⊥)
 BreaksFirst U3 o = IsApart o.insts × IsBehind (kinds o) × (HasQuietSlot o → ⊥)
 BreaksFirst U4 o = IsApart o.insts × IsBehind (kinds o) × HasQuietSlot o × (HasQuietEnd o.insts o.exit → ⊥)
-
--- the action loads a register that the test names
-abbrev pub loads_named : Action → (ℕ → Bool) → Bool
-loads_named (Loads d base offset) test = is_register d && test d
-loads_named _ test = false
-
--- the word is a product
-abbrev pub is_product_word : Option (Option Action) → Bool
-is_product_word (Some (Some a)) = is_product a
-is_product_word _ = false
-
-abbrev pub is_move_word : Option (Option Action) → Bool
-is_move_word (Some (Some a)) = is_move a
-is_move_word _ = false
-
--- the first of two instructions loads what the second names
-abbrev pub conflict_of : Option Plain → Option Plain → Bool
-conflict_of (Some a) (Some b) = loads_named (action_of a) (touches (action_of b))
-conflict_of (Some a) None = false
-conflict_of None second = false
-
--- word k reads HI or LO, and one of the next two is a product
-abbrev pub early_at : List (Option Action) → ℕ → Bool
-early_at words k = is_move_word (slice_get words k) && (is_product_word (slice_get words (k + 1)) || is_product_word (slice_get words (k + 2)))

@@ -4,6 +4,7 @@ pub mod Slots
 pub mod BlockMeaning
 pub mod OrderMeaning
 pub mod Clean
+pub mod CleanTests
 pub mod PlainOrders
 pub mod Orders
 pub mod UnitRuns

@@ -2,7 +2,8 @@ ghost use Rattle.std.specs.Prelude.{◌≡◌, ℕ, ◌+◌, ◌<◌, ◌≤◌,
 ghost use Rattle.mips_isa.specs.declared.inst.Plain.{Plain};
 ghost use Rattle.mips_isa.specs.Actions.{action_of, touches};
 ghost use Rattle.mblock.specs.OrderMeaning.{exit_touches};
-ghost use Rattle.mblock.specs.Clean.{loads_named, is_product_word, conflict_of, early_at, kinds_of, kinds, IsApart, IsBehind, HasQuietSlot, HasQuietEnd, IsClean, FitsSlot, BreaksFirst, slot_words};
+ghost use Rattle.mblock.specs.Clean.{kinds_of, kinds, IsApart, IsBehind, HasQuietSlot, HasQuietEnd, IsClean, FitsSlot, BreaksFirst, slot_words};
+ghost use Rattle.mblock.specs.CleanTests.{loads_named, is_product_word, conflict_of, early_at};
 
 use crate::exit::Exit;
 use crate::order::Order;

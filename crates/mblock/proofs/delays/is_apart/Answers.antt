@@ -1,5 +1,5 @@
 use Rattle.std.proofs.Common.{◌+◌, slice_get, refl, sym, ◌∙◌, true≢false, arith}
-use Rattle.mblock.specs.Clean.{conflict_of}
+use Rattle.mblock.specs.CleanTests.{conflict_of}
 use Rattle.mblock.proofs.WordPlaces.{apart_is, apart_not, below_next}
 use Rattle.mblock.proofs.delays.is_apart.Goals as goal
 

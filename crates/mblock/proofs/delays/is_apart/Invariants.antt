@@ -1,5 +1,5 @@
 use Rattle.std.proofs.Common.{◌≡◌, ℕ, ◌<◌, ◌+◌, false, slice_get}
-use Rattle.mblock.specs.Clean.{conflict_of}
+use Rattle.mblock.specs.CleanTests.{conflict_of}
 use Rattle.mblock.proofs.delays.is_apart.Given as goal
 
 abbrev pub invariant-loop-k : goal.invariant-loop-k

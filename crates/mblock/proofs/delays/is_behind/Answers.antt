@@ -1,5 +1,6 @@
 use Rattle.std.proofs.Common.{refl, sym, ◌∙◌, arith}
-use Rattle.mblock.specs.Clean.{early_at, kinds_of, slot_words}
+use Rattle.mblock.specs.Clean.{kinds_of, slot_words}
+use Rattle.mblock.specs.CleanTests.{early_at}
 use Rattle.mblock.proofs.WordPlaces.{behind_is, below_next}
 use Rattle.mblock.proofs.delays.is_behind.Goals as goal
 

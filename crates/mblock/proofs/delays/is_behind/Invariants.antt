@@ -1,5 +1,6 @@
 use Rattle.std.proofs.Common.{◌≡◌, ℕ, ◌<◌, false}
-use Rattle.mblock.specs.Clean.{early_at, kinds_of, slot_words}
+use Rattle.mblock.specs.Clean.{kinds_of, slot_words}
+use Rattle.mblock.specs.CleanTests.{early_at}
 use Rattle.mblock.proofs.delays.is_behind.Given as goal
 
 abbrev pub invariant-loop-k : goal.invariant-loop-k

@@ -1,7 +1,7 @@
 use Rattle.std.proofs.Common.{◌≡◌, suc, ◌-◌, ◌<◌, length, refl, ap, ◌∙◌, arith}
 use Rattle.std.proofs.lemmas.Option.{slice_get_read}
 use Rattle.mblock.specs.OrderMeaning.{exit_touches}
-use Rattle.mblock.specs.Clean.{loads_named}
+use Rattle.mblock.specs.CleanTests.{loads_named}
 use Rattle.mblock.proofs.WordPlaces.{end_test, some_length}
 use Rattle.mblock.proofs.delays.is_quiet_end.Goals as goal
 

@@ -1,0 +1,162 @@
+// Images that are read, run and written again.
+
+use image::{ImageFault, read_image, write_image};
+use mips_isa::Rule;
+use mips_machine::run;
+use mips_steps::Ending;
+use std::alloc::{AllocError, Global};
+use std::test::Fail;
+
+// The bytes of an image of version 1 that starts with its first word.
+fn bytes_of(alloc: Global, words: &[u32], data: &[u32]) -> Result<Vec<u8>, AllocError> {
+    let mut bytes = Vec::new(alloc);
+    bytes.extend_from_slice(b"MCCI")?;
+    bytes.extend_from_slice(&1u32.to_be_bytes())?;
+    bytes.extend_from_slice(&[0, 0, 0, (words.len() % 256) as u8])?;
+    bytes.extend_from_slice(&0x0040_0000u32.to_be_bytes())?;
+    bytes.extend_from_slice(&[0, 0, 0, (data.len() % 256) as u8])?;
+    for word in words {
+        bytes.extend_from_slice(&word.to_be_bytes())?;
+    }
+    for word in data {
+        bytes.extend_from_slice(&word.to_be_bytes())?;
+    }
+    Ok(bytes)
+}
+
+// Whether the image comes to this end and output within so many words, and is written as it was read.
+fn comes_to(
+    alloc: Global,
+    words: &[u32],
+    data: &[u32],
+    steps: u64,
+    end: Ending,
+    output: &[u32],
+) -> Result<bool, AllocError> {
+    let bytes = bytes_of(alloc, words, data)?;
+    let Ok(image) = read_image(alloc, &bytes) else {
+        return Ok(false);
+    };
+    let again = write_image(alloc, &image)?;
+    let ran = run(alloc, &image, steps)?;
+    Ok(again.as_slice() == bytes.as_slice() && ran.end == end && ran.output.as_slice() == output)
+}
+
+#[test]
+fn a_program_halts_and_no_earlier(rt: HostRuntime) -> Result<(), Fail> {
+    // addiu $4,$0,7; addiu $2,$0,10; syscall
+    let words = [0x2404_0007, 0x2402_000a, 0x0000_000c];
+    assert!(rt; comes_to(rt.alloc(), &words, &[0; 0], 1000, Ending::Halt(7), &[0; 0])?);
+    assert!(rt; comes_to(rt.alloc(), &words, &[0; 0], 3, Ending::Halt(7), &[0; 0])?);
+    assert!(rt; comes_to(rt.alloc(), &words, &[0; 0], 2, Ending::More, &[0; 0])?);
+    Ok(())
+}
+
+#[test]
+fn each_rule_stops_the_machine(rt: HostRuntime) -> Result<(), Fail> {
+    for (words, rule) in [
+        // lw $8,-4($29); addu $9,$8,$8
+        ([0x8fa8_fffc, 0x0108_4821].as_slice(), Rule::M1),
+        // mflo $8; mult $8,$8
+        ([0x0000_4012, 0x0108_0018].as_slice(), Rule::M2),
+        // j to itself, and a jump in the slot
+        ([0x0810_0000, 0x0810_0000].as_slice(), Rule::M3),
+        // div $8,$0
+        ([0x0100_001a].as_slice(), Rule::M4),
+        // lw $8,2($29)
+        ([0x8fa8_0002].as_slice(), Rule::M5),
+        // lw $8,0($0)
+        ([0x8c08_0000].as_slice(), Rule::M6),
+        // past the end of the code
+        ([0x0000_0000].as_slice(), Rule::M7),
+        // a word that no instruction has
+        ([0xffff_ffff].as_slice(), Rule::M8),
+        // a call to the system by 0
+        ([0x0000_000c].as_slice(), Rule::M9),
+    ] {
+        assert!(rt;
+            comes_to(
+                rt.alloc(),
+                words,
+                &[0; 0],
+                1000,
+                Ending::Stuck(rule),
+                &[0; 0]
+            )?,
+            "at {rule}"
+        );
+    }
+    Ok(())
+}
+
+#[test]
+fn output_comes_in_order(rt: HostRuntime) -> Result<(), Fail> {
+    // prints 7 over and over
+    let words = [0x2404_0007, 0x2402_0001, 0x0000_000c, 0x0810_0000, 0];
+    assert!(rt; comes_to(rt.alloc(), &words, &[0; 0], 12, Ending::More, &[7, 7])?);
+    Ok(())
+}
+
+#[test]
+fn data_is_loaded_and_stored(rt: HostRuntime) -> Result<(), Fail> {
+    // prints data word 1, stores it into word 0, and ends with that
+    let words = [
+        0x3c08_1000,
+        0x8d04_0004,
+        0x2402_0001,
+        0x0000_000c,
+        0xad04_0000,
+        0x8d04_0000,
+        0x2402_000a,
+        0x0000_000c,
+    ];
+    let data = [7, 4_294_967_295];
+    let end = Ending::Halt(4_294_967_295);
+    assert!(rt; comes_to(rt.alloc(), &words, &data, 100, end, &[4_294_967_295])?);
+    Ok(())
+}
+
+#[test]
+fn a_long_run_goes_on(rt: HostRuntime) -> Result<(), Fail> {
+    let words = [
+        0x2508_0001,
+        0x8fa9_fffc,
+        0,
+        0x0128_5021,
+        0xafaa_fffc,
+        0x0810_0000,
+        0,
+    ];
+    assert!(rt; comes_to(rt.alloc(), &words, &[0; 0], 100_000, Ending::More, &[0; 0])?);
+    Ok(())
+}
+
+// The fault of bytes that are changed at a place.
+fn fault_at(alloc: Global, at: usize, byte: u8) -> Result<Option<ImageFault>, AllocError> {
+    let mut bytes = bytes_of(alloc, &[0x0000_000c], &[7])?;
+    if at < bytes.len() {
+        bytes[at] = byte;
+    } else {
+        bytes.push(byte)?;
+    }
+    match read_image(alloc, &bytes) {
+        Ok(_) => Ok(None),
+        Err(fault) => Ok(Some(fault)),
+    }
+}
+
+#[test]
+fn bytes_are_refused_by_the_first_test_that_fails(rt: HostRuntime) -> Result<(), Fail> {
+    for (at, byte, fault) in [
+        (0, b'm', ImageFault::Magic),
+        (7, 3, ImageFault::Version),
+        (11, 2, ImageFault::Length),
+        (15, 4, ImageFault::Entry),
+        (15, 2, ImageFault::Entry),
+        (28, 0, ImageFault::Length),
+    ] {
+        assert!(rt; fault_at(rt.alloc(), at, byte)? == Some(fault), "at {at}");
+    }
+    assert!(rt; fault_at(rt.alloc(), 27, 9)?.is_none());
+    Ok(())
+}
