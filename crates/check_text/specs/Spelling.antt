@@ -1,11 +1,10 @@
 -- Instructions and exits as lines.
 use Rattle.std.specs.Prelude.{◌≡◌, ℕ, Option, Some, None, List, ◌∷◌, ◌++◌, ◌⊎◌, codes, decimal}
 use Rattle.mips_isa.specs.declared.inst.Plain.{Plain}
-use Rattle.mips_isa.specs.declared.inst.Plain.TheVariants.{Shift}
-use Rattle.mips_isa.specs.declared.inst.ShiftOp.TheVariants.{Sll}
 use Rattle.mips_isa.specs.declared.inst.PairTest.TheVariants.{Equal, NotEqual}
 use Rattle.mips_isa.specs.declared.inst.ZeroTest.TheVariants.{AtMostZero, AboveZero, BelowZero, AtLeastZero}
 use Rattle.mips_isa.specs.declared.text.Mnemonic.{Mnemonic}
+use Rattle.mips_isa.specs.Actions.{nop}
 use Rattle.mips_isa.specs.Ranges.{IsPlain}
 use Rattle.mips_isa.specs.Texts.{register_text, mnemonic_of, operands_text, plain_text}
 use Rattle.mblock.specs.declared.exit.Exit.{Exit}
@@ -16,7 +15,7 @@ use Rattle.check_text.specs.declared.names.ExitName.TheVariants as names
 
 -- the line is the instruction's text, or `nop` for the word 0
 abbrev pub SpellsPlain : List ℕ → Plain → Type 0
-SpellsPlain line i = IsPlain i × (((line ≡ codes "nop") × (i ≡ Shift Sll 0 0 0)) ⊎ (line ≡ plain_text i))
+SpellsPlain line i = IsPlain i × (((line ≡ codes "nop") × (i ≡ nop)) ⊎ (line ≡ plain_text i))
 
 -- what follows the mnemonic spells the operands
 abbrev pub HasOperands : Mnemonic → List ℕ → Plain → Type 0

@@ -11,7 +11,7 @@ use crate::names::{ExitName, exit_named, mnemonic_named};
 use crate::numbers::{block_of, register_of};
 use crate::operands::operands;
 use mblock::Exit;
-use mips_isa::{Amount, PairTest, Plain, Reg, ShiftOp, ZeroTest};
+use mips_isa::{PairTest, Plain, ZeroTest};
 
 /// The instruction that the line spells, if it spells one: as it is printed by Plain's Display, or
 /// `sll $0,$0,0` for `nop`.
@@ -20,14 +20,7 @@ pub fn plain_of(line: &[u8]) -> Option<Plain>
     ensures only { (i : Plain) → SpellsPlain line.now i → result ≡ Some i }
 {
     if line == b"nop".as_slice() {
-        let zero = Reg::ZERO;
-        let amount = Amount::masked(0);
-        return Some(Plain::Shift {
-            op: ShiftOp::Sll,
-            rd: zero,
-            rt: zero,
-            amount,
-        });
+        return Some(Plain::nop());
     }
     let halves = cut(line, b' ')?;
     let name = mnemonic_named(halves.before)?;
