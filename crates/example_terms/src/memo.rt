@@ -70,7 +70,8 @@ fn operate(
 ) -> Result<Valued, ValueError>
     requires own { IsOf table.now pass.old }
     requires memo { IsMemo pass.old memo.old }
-    requires tree { (x y : Tree) × HasTree pass.old children.0 x × HasTree pass.old children.1 y × (binary (Op operator) x y ≡ tree_of (formula_of _expression.now)) }
+    requires tree { (x y : Tree) × HasTree pass.old children.0 x × HasTree pass.old children.1 y
+        × (binary (Op operator) x y ≡ tree_of (formula_of _expression.now)) }
     requires value { value ≡ value_of (formula_of _expression.now) }
     ensures own { IsOf table.now pass.new }
     ensures extends { Extends pass.old pass.new }

@@ -1,3 +1,4 @@
+//! The values of trees, as a law.
 ghost use Rattle.sym_terms.specs.Laws.{OpTreesHaveValues, LoadTreesHaveValues, StoreTreesHaveValues};
 
 /// The trees of operations, loads and stores have the values that the machine computes, in each state

@@ -1,3 +1,4 @@
+//! What one pass and several threads do with a table.
 ghost use Rattle.std.specs.Prelude.{◌+◌, ◌^◌, ◌<◌};
 ghost use Rattle.term_table.specs.Passes.{IsOf};
 
