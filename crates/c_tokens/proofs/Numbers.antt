@@ -7,7 +7,8 @@ use Rattle.c_tokens.specs.declared.lexer.Lexeme.TheVariants.{Numeral, NoConstant
 use Rattle.c_tokens.specs.declared.token.Kind.{Kind}
 use Rattle.c_tokens.specs.declared.token.Kind.TheVariants.{SignedInt, UnsignedInt}
 use Rattle.c_tokens.specs.declared.token.Literal.{Literal}
-use Rattle.c_tokens.specs.Lexing.{is_digit, digit_of, digits_of, plain_of, is_suffix, is_octal_or_hexadecimal, last_or, greatest_of, kind_of, within_limit, digits_in, constant_lexeme}
+use Rattle.c_tokens.specs.Lexing.{is_digit}
+use Rattle.c_tokens.specs.Digits.{digit_of, digits_of, plain_of, is_suffix, is_octal_or_hexadecimal, last_or, greatest_of, kind_of, within_limit, digits_in, constant_lexeme}
 use Rattle.c_tokens.specs.Constants.{IsDigitOf, figure, small_letter, capital_letter, IsNumber, number_end, number_more, IsInteger, decimal, octal, hexadecimal, IsConstant, without_suffix, with_suffix}
 
 abbrev is_small : ℕ → Bool

@@ -6,7 +6,8 @@ use Rattle.c_tokens.specs.declared.lexer.Lexeme.TheVariants.{Separator, Numeral,
 use Rattle.c_tokens.specs.declared.token.Literal.{Literal}
 use Rattle.c_tokens.specs.Constants.{IsConstant}
 use Rattle.c_tokens.proofs.Numbers.{Known, is_constant, is_none, known, constant-of}
-use Rattle.c_tokens.specs.Lexing.{is_space, is_letter, is_digit, is_front, signs, keywords, word_lexeme, constant_lexeme, comment_length}
+use Rattle.c_tokens.specs.Lexing.{is_space, is_letter, is_digit, is_front, signs, keywords, word_lexeme, comment_length}
+use Rattle.c_tokens.specs.Digits.{constant_lexeme}
 use Rattle.c_tokens.specs.Fronts.{lexeme_of}
 use Rattle.c_tokens.specs.Pieces.{IsWord, word_end, IsRun, run_end, run_more, IsClosed, IsOpen, spelled, comment_meaning, IsPiece, a_space, a_word, a_constant, no_constant, an_operator, an_unused_operator, a_line, a_comment, an_open_comment, a_stray_byte, IsLongest, IsNext, at_end, at_piece}
 use Rattle.c_tokens.proofs.Shapes as Shapes
