@@ -4,7 +4,8 @@ use Rattle.std.proofs.Common.{◌+◌, ◌≡◌, ◌<◌, ◌≤◌, ℕ, suc, 
 use Rattle.c_tokens.specs.declared.token.Mark.{Mark}
 use Rattle.c_tokens.specs.declared.lexer.Lexeme.{Lexeme}
 use Rattle.c_tokens.specs.declared.lexer.Lexeme.TheVariants.{Separator, Refused}
-use Rattle.c_tokens.specs.Lexing.{is_space, is_letter, is_digit, is_word, goes_on, is_exponent, is_front, same_bytes, signs, keywords, word_lexeme, constant_lexeme, comment_length, one_more}
+use Rattle.c_tokens.specs.Lexing.{is_space, is_letter, is_digit, is_word, goes_on, is_exponent, is_front, same_bytes, signs, keywords, word_lexeme, comment_length, one_more}
+use Rattle.c_tokens.specs.Digits.{constant_lexeme}
 use Rattle.c_tokens.specs.Fronts.{word_length, run_length, line_length, longest, longer, sign_lexeme, comment_lexeme, line_lexeme, lexeme_of, word_at, constant_at, comment_at, line_at, sign_at}
 use Rattle.c_tokens.specs.Pieces.{IsWord, word_end, word_more, IsRun, run_end, run_more, IsLine, line_end, line_more, IsOpen, open_end, open_more, IsClosed, closed_here, closed_later, spelled, comment_meaning}
 use Rattle.c_tokens.proofs.Shapes.{IsShape, a_byte, a_word, a_number, an_operator, a_line, a_comment, an_open_comment, IsLongestShape, closed_meaning, operator_meaning, or_operator, or_line, or_comment, or_number, or_word, meaning_of, IsShapeNext, at_end, at_piece}

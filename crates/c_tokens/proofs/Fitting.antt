@@ -7,7 +7,8 @@ use Rattle.c_tokens.specs.declared.sign.Spelling.{Spelling}
 use Rattle.c_tokens.specs.declared.sign.Spelling.TheVariants.{One, Two, Three}
 use Rattle.c_tokens.specs.declared.keywords.Reserved.{Reserved}
 use Rattle.c_tokens.specs.declared.keywords.Reserved.TheVariants.{Marked, Jumping, Unused}
-use Rattle.c_tokens.specs.Lexing.{is_front, same_bytes, word_lexeme, keyword_lexeme, is_word, digit_of, digits_of, up_to}
+use Rattle.c_tokens.specs.Lexing.{is_front, same_bytes, word_lexeme, keyword_lexeme, is_word}
+use Rattle.c_tokens.specs.Digits.{digit_of, digits_of, up_to}
 use Rattle.c_tokens.specs.Fronts.{longer, longest, word_length}
 use Rattle.c_tokens.specs.Spellings.{bytes_of, shown}
 use Rattle.c_tokens.specs.Texts.{Fits}

@@ -1,7 +1,8 @@
 -- What stands at the front of some bytes, by the tests of the first ones.
 use Rattle.std.proofs.Common.{◌≡◌, ℕ, List, [], ◌∷◌, drop, take, Bool, true, false, sym, ap, ◌∙◌, if◌then◌else◌}
 use Rattle.c_tokens.specs.declared.lexer.Lexeme.TheVariants.{Separator}
-use Rattle.c_tokens.specs.Lexing.{is_space, is_letter, is_digit, is_front, word_lexeme, keywords, constant_lexeme, comment_length, signs}
+use Rattle.c_tokens.specs.Lexing.{is_space, is_letter, is_digit, is_front, word_lexeme, keywords, comment_length, signs}
+use Rattle.c_tokens.specs.Digits.{constant_lexeme}
 use Rattle.c_tokens.specs.Fronts.{word_length, run_length, comment_lexeme, line_lexeme, line_length, sign_lexeme, longest, sign_at, line_at, comment_at, constant_at, word_at, lexeme_of}
 
 module _ (text bs : List ℕ) (b : ℕ) (e : text ≡ b ∷ bs) where

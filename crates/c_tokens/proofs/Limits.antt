@@ -3,7 +3,7 @@ use Rattle.std.proofs.Common.{◌≡◌, ◌<◌, ◌-◌, ℕ, suc, List, [], �
 use Rattle.c_tokens.specs.declared.lexer.Lexeme.{Lexeme}
 use Rattle.c_tokens.specs.declared.lexer.Lexeme.TheVariants.{Numeral, NoConstant}
 use Rattle.c_tokens.specs.declared.token.Kind.{Kind}
-use Rattle.c_tokens.specs.Lexing.{up_to, within_limit, kind_of, last_or, constant_lexeme, greatest_of, plain_of, digits_in}
+use Rattle.c_tokens.specs.Digits.{up_to, within_limit, kind_of, last_or, constant_lexeme, greatest_of, plain_of, digits_in}
 
 pub within-some : (run : List ℕ) (limit v : ℕ) (x : Option ℕ) → Some v ≡ up_to limit x → Numeral (record { value = v; kind = kind_of run v }) (length run) ≡ within_limit run limit x
 within-some run limit v None h = cc

@@ -1,13 +1,14 @@
 -- What the code computes of a run of digits is the constant that it is.
 use Rattle.std.proofs.lemmas.Bool.Decides.{nat_tests}
 use Rattle.std.proofs.lemmas.Option.{none-some, same_Some}
-use Rattle.std.proofs.Common.{◌≡◌, ◌⊎◌, inl, inr, ◌+◌, ◌*◌, ◌-◌, ◌<◌, ◌≤◌, ℕ, zero, suc, List, [], ◌∷◌, ◌++◌, length, take, Bool, true, false, Option, Some, None, refl, sym, ap, subst, ◌∙◌, arith, if◌then◌else◌, nat_eq, nat_le, nat_lt, ◌&&◌, ◌||◌}
+use Rattle.std.proofs.Common.{◌≡◌, ◌⊎◌, ◌+◌, ◌*◌, ◌-◌, ◌<◌, ◌≤◌, ℕ, suc, List, [], ◌∷◌, ◌++◌, length, take, Bool, true, false, Option, Some, None, refl, sym, ap, subst, ◌∙◌, arith, if◌then◌else◌, nat_eq, nat_le, nat_lt, ◌&&◌, ◌||◌}
 use Rattle.c_tokens.specs.declared.lexer.Lexeme.{Lexeme}
 use Rattle.c_tokens.specs.declared.lexer.Lexeme.TheVariants.{Numeral, NoConstant}
 use Rattle.c_tokens.specs.declared.token.Kind.{Kind}
 use Rattle.c_tokens.specs.declared.token.Kind.TheVariants.{SignedInt, UnsignedInt}
 use Rattle.c_tokens.specs.declared.token.Literal.{Literal}
-use Rattle.c_tokens.specs.Lexing.{is_digit, digit_of, digits_of, plain_of, is_suffix, is_octal_or_hexadecimal, last_or, greatest_of, kind_of, within_limit, digits_in, constant_lexeme}
+use Rattle.c_tokens.specs.Lexing.{is_digit}
+use Rattle.c_tokens.specs.Digits.{digit_of, digits_of, plain_of, is_suffix, is_octal_or_hexadecimal, last_or, greatest_of, kind_of, within_limit, digits_in, constant_lexeme}
 use Rattle.c_tokens.specs.Constants.{IsDigitOf, figure, small_letter, capital_letter, IsNumber, number_end, number_more, IsInteger, decimal, octal, hexadecimal, IsConstant, without_suffix, with_suffix}
 
 abbrev is_small : ℕ → Bool

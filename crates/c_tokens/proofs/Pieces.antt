@@ -1,17 +1,18 @@
 -- Each piece is what the tests, one after another, say that it is.
-use Rattle.std.proofs.Common.{◌+◌, ◌≡◌, ◌<◌, ◌≤◌, ℕ, suc, zero, List, [], ◌∷◌, length, drop, take, Bool, true, false, Option, Some, None, refl, sym, ap, subst, ◌∙◌, arith, if◌then◌else◌, nat_eq, ◌&&◌}
+use Rattle.std.proofs.Common.{◌+◌, ◌≡◌, ℕ, List, [], ◌∷◌, length, take, Bool, true, false, Option, Some, None, refl, sym, ap, subst, ◌∙◌, arith, if◌then◌else◌, nat_eq, ◌&&◌}
 use Rattle.c_tokens.specs.declared.token.Mark.{Mark}
 use Rattle.c_tokens.specs.declared.lexer.Lexeme.{Lexeme}
-use Rattle.c_tokens.specs.declared.lexer.Lexeme.TheVariants.{Separator, Numeral, Sign, Refused, NoConstant}
+use Rattle.c_tokens.specs.declared.lexer.Lexeme.TheVariants.{Separator, Numeral, Refused, NoConstant}
 use Rattle.c_tokens.specs.declared.token.Literal.{Literal}
 use Rattle.c_tokens.specs.Constants.{IsConstant}
 use Rattle.c_tokens.proofs.Numbers.{Known, is_constant, is_none, known, constant-of}
-use Rattle.c_tokens.specs.Lexing.{is_space, is_letter, is_digit, is_front, signs, keywords, word_lexeme, constant_lexeme, comment_length}
+use Rattle.c_tokens.specs.Lexing.{is_space, is_letter, is_digit, is_front, signs, keywords, word_lexeme}
+use Rattle.c_tokens.specs.Digits.{constant_lexeme}
 use Rattle.c_tokens.specs.Fronts.{lexeme_of}
-use Rattle.c_tokens.specs.Pieces.{IsWord, word_end, IsRun, run_end, run_more, IsClosed, IsOpen, spelled, comment_meaning, IsPiece, a_space, a_word, a_constant, no_constant, an_operator, an_unused_operator, a_line, a_comment, an_open_comment, a_stray_byte, IsLongest, IsNext, at_end, at_piece}
+use Rattle.c_tokens.specs.Pieces.{word_end, IsRun, run_end, run_more, IsClosed, IsOpen, spelled, comment_meaning, IsPiece, a_space, a_word, a_constant, no_constant, an_operator, an_unused_operator, a_line, a_comment, an_open_comment, a_stray_byte, IsNext, at_end, at_piece}
 use Rattle.c_tokens.proofs.Shapes as Shapes
 use Rattle.c_tokens.proofs.Shapes.{IsShape, IsLongestShape, IsShapeNext, closed_meaning, operator_meaning, or_operator, or_comment, or_number, or_word, meaning_of}
-use Rattle.c_tokens.proofs.Finding.{space-letter, space-digit, letter-digit, digit-goes, closed-length, open-length, operator-begins, plain-meaning, Plain, true-false, found-shape, shape-once}
+use Rattle.c_tokens.proofs.Finding.{space-letter, space-digit, letter-digit, digit-goes, closed-length, open-length, operator-begins, plain-meaning, Plain, found-shape, shape-once}
 
 is-false : (x : Bool) → (x ≡ true → ⊥) → x ≡ false
 is-false true h = absurd (h refl)

@@ -1,9 +1,10 @@
 -- Pieces by their bytes alone, and what they are by one test after another: the way in which the longest one is found.
-use Rattle.std.specs.Prelude.{◌≡◌, ◌+◌, ◌<◌, ◌≤◌, ℕ, List, [], ◌∷◌, length, drop, take, Bool, true, false, nat_eq, if◌then◌else◌, Option, Some, None}
+use Rattle.std.specs.Prelude.{◌≡◌, ◌<◌, ◌≤◌, ℕ, List, [], ◌∷◌, length, drop, take, true, false, if◌then◌else◌, Option, Some, None}
 use Rattle.c_tokens.specs.declared.token.Mark.{Mark}
 use Rattle.c_tokens.specs.declared.lexer.Lexeme.{Lexeme}
 use Rattle.c_tokens.specs.declared.lexer.Lexeme.TheVariants.{End, Separator, Sign, Refused}
-use Rattle.c_tokens.specs.Lexing.{is_space, is_letter, is_digit, is_word, goes_on, is_exponent, is_front, same_bytes, signs, keywords, word_lexeme, constant_lexeme, comment_length}
+use Rattle.c_tokens.specs.Lexing.{is_space, is_letter, is_digit, is_front, signs, keywords, word_lexeme, comment_length}
+use Rattle.c_tokens.specs.Digits.{constant_lexeme}
 use Rattle.c_tokens.specs.Pieces.{IsWord, IsRun, IsLine, IsOpen, IsClosed, spelled, comment_meaning}
 
 -- a comment that isn't closed is a piece too, which is refused

@@ -3,7 +3,8 @@ use Rattle.std.specs.Prelude.{◌+◌, ℕ, suc, List, [], ◌∷◌, length, dr
 use Rattle.c_tokens.specs.declared.token.Mark.{Mark}
 use Rattle.c_tokens.specs.declared.lexer.Lexeme.{Lexeme}
 use Rattle.c_tokens.specs.declared.lexer.Lexeme.TheVariants.{End, Separator, Sign, Refused}
-use Rattle.c_tokens.specs.Lexing.{is_space, is_letter, is_digit, is_word, is_exponent, goes_on, is_front, comment_length, escape_at, signs, keywords, word_lexeme, constant_lexeme}
+use Rattle.c_tokens.specs.Lexing.{is_space, is_letter, is_digit, is_word, is_exponent, goes_on, is_front, comment_length, escape_at, signs, keywords, word_lexeme}
+use Rattle.c_tokens.specs.Digits.{constant_lexeme}
 
 abbrev pub word_length : List ℕ → ℕ
 word_length [] = 0

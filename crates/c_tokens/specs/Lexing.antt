@@ -1,12 +1,10 @@
--- The classes of bytes, the tables of operators and keywords, and the constants (C99 6.4.1, 6.4.4.1, 6.4.6).
-use Rattle.std.specs.Prelude.{◌+◌, ◌*◌, ◌-◌, ℕ, suc, List, [], ◌∷◌, length, take, Bool, true, false, nat_eq, nat_le, nat_lt, ◌&&◌, ◌||◌, if◌then◌else◌, Option, Some, None, codes}
-use Rattle.c_tokens.specs.declared.token.Kind.{Kind}
-use Rattle.c_tokens.specs.declared.token.Kind.TheVariants.{SignedInt, UnsignedInt}
+-- The classes of bytes, and the tables of operators and keywords (C99 6.4.1, 6.4.6).
+use Rattle.std.specs.Prelude.{ℕ, suc, List, [], ◌∷◌, length, Bool, true, false, nat_eq, nat_le, ◌&&◌, ◌||◌, if◌then◌else◌, Option, Some, None, codes}
 use Rattle.c_tokens.specs.declared.token.JumpWord.TheVariants.{Break, Continue, Return}
 use Rattle.c_tokens.specs.declared.token.Mark.{Mark}
 use Rattle.c_tokens.specs.declared.token.Mark.TheVariants.{Int, Unsigned, Void, If, Else, While, For, Semicolon, Comma, LeftBrace, RightBrace, LeftParen, RightParen, LeftBracket, RightBracket, Assign, Question, Colon, Plus, Minus, Star, Slash, Percent, Bang, Tilde, BarBar, AndAnd, Bar, Caret, Ampersand, EqualEqual, BangEqual, Less, Greater, LessEqual, GreaterEqual, LessLess, GreaterGreater}
 use Rattle.c_tokens.specs.declared.lexer.Lexeme.{Lexeme}
-use Rattle.c_tokens.specs.declared.lexer.Lexeme.TheVariants.{Word, Numeral, Sign, Leap, Refused, NoConstant}
+use Rattle.c_tokens.specs.declared.lexer.Lexeme.TheVariants.{Word, Sign, Leap, Refused}
 use Rattle.c_tokens.specs.declared.keywords.Reserved.{Reserved}
 use Rattle.c_tokens.specs.declared.keywords.Reserved.TheVariants.{Marked, Jumping, Unused}
 
@@ -84,54 +82,3 @@ keyword_lexeme Unused n = Refused 0
 abbrev pub word_lexeme : List (List ℕ × Reserved) → List ℕ → Lexeme
 word_lexeme [] word = Word (length word)
 word_lexeme (k ∷ ks) word = if same_bytes k.0 word then keyword_lexeme k.1 (length word) else word_lexeme ks word
-
--- the value of a digit, or 99
-abbrev pub digit_of : ℕ → ℕ
-digit_of b = if is_digit b then b - 48 else (if nat_le 97 b && nat_le b 102 then b - 87 else (if nat_le 65 b && nat_le b 70 then b - 55 else 99))
-
--- the number that digits spell, after others that spell `n`
-abbrev pub digits_of : ℕ → ℕ → List ℕ → Option ℕ
-digits_of base n [] = Some n
-digits_of base n (b ∷ bs) = if nat_lt (digit_of b) base then digits_of base (n * base + digit_of b) bs else None
-
--- a value that isn't above a limit
-abbrev pub up_to : ℕ → Option ℕ → Option ℕ
-up_to limit None = None
-up_to limit (Some v) = if nat_le v limit then Some v else None
-
--- a number without suffix
-abbrev pub plain_of : List ℕ → Option ℕ
-plain_of [] = None
-plain_of (b ∷ []) = digits_of 10 0 (b ∷ [])
-plain_of (b ∷ c ∷ []) = if nat_eq b 48 then digits_of 8 0 (c ∷ []) else digits_of 10 0 (b ∷ c ∷ [])
-plain_of (b ∷ c ∷ d ∷ ds) = if nat_eq b 48 then (if nat_eq c 120 || nat_eq c 88 then digits_of 16 0 (d ∷ ds) else digits_of 8 0 (c ∷ d ∷ ds)) else digits_of 10 0 (b ∷ c ∷ d ∷ ds)
-
-abbrev pub is_suffix : ℕ → Bool
-is_suffix b = nat_eq b 117 || nat_eq b 85
-
-abbrev pub is_octal_or_hexadecimal : List ℕ → Bool
-is_octal_or_hexadecimal [] = false
-is_octal_or_hexadecimal (b ∷ bs) = nat_eq b 48
-
-abbrev pub last_or : ℕ → List ℕ → ℕ
-last_or d [] = d
-last_or d (b ∷ bs) = last_or b bs
-
--- the greatest value of a constant: of decimal ones without suffix, and of others
-abbrev pub greatest_of : List ℕ → ℕ
-greatest_of run = if is_suffix (last_or 0 run) || is_octal_or_hexadecimal run then 4294967295 else 2147483647
-
--- the type of a constant: with a suffix, or where `int` can't hold it, it is unsigned
-abbrev pub kind_of : List ℕ → ℕ → Kind
-kind_of run v = if is_suffix (last_or 0 run) || nat_lt 2147483647 v then UnsignedInt else SignedInt
-
-abbrev pub within_limit : List ℕ → ℕ → Option ℕ → Lexeme
-within_limit run limit None = NoConstant
-within_limit run limit (Some v) = if nat_le v limit then Numeral (record { value = v; kind = kind_of run v }) (length run) else NoConstant
-
--- a constant without its suffix
-abbrev pub digits_in : List ℕ → List ℕ
-digits_in run = if is_suffix (last_or 0 run) then take (length run - 1) run else run
-
-abbrev pub constant_lexeme : List ℕ → Lexeme
-constant_lexeme run = within_limit run (greatest_of run) (plain_of (digits_in run))

@@ -1,5 +1,5 @@
 ghost use Rattle.std.specs.Prelude.{◌≡◌, ◌<◌, ◌≤◌, ◌^◌, length, take, false};
-ghost use Rattle.c_tokens.specs.Lexing.{kind_of, constant_lexeme, digit_of, digits_of, up_to, is_suffix, plain_of, digits_in, last_or, greatest_of};
+ghost use Rattle.c_tokens.specs.Digits.{kind_of, constant_lexeme, digit_of, digits_of, up_to, is_suffix, plain_of, digits_in, last_or, greatest_of};
 ghost use Rattle.c_tokens.specs.Fronts.{run_length};
 ghost use Rattle.c_tokens.specs.Texts.{Fits};
 

@@ -3,8 +3,8 @@
 //! For the layer above: `lex` answers a text's tokens with their offsets, or the first refusal. Its contract speaks of
 //! `Lexes` and `LexStops` of `specs/Texts.antt`; which pieces there are and what each of them is stands in
 //! `specs/Pieces.antt`, with the constants of `specs/Constants.antt` and the tables of operators and keywords of
-//! `specs/Lexing.antt`. `specs/Fronts.antt`, and in `specs/Lexing.antt` what comes behind the tables, are words of the
-//! private functions that find the longest piece.
+//! `specs/Lexing.antt`. `specs/Fronts.antt` and `specs/Digits.antt` are words of the private functions that find the
+//! longest piece and the value of a constant.
 #![tactic(auto)]
 
 mod constants;

@@ -1,5 +1,5 @@
 -- How a run of a program ended, and what it wrote.
-use Rattle.std.specs.Prelude.{◌≡◌, ◌+◌, ℕ, zero, suc, List, Option, Some, None, All}
+use Rattle.std.specs.Prelude.{ℕ, zero, suc, List, Option, Some, None, All}
 use Rattle.runs.specs.declared.ran.End.{End}
 use Rattle.runs.specs.declared.ran.End.TheVariants.{Done, Wrong, More}
 use Rattle.runs.specs.declared.ran.Ran.{Ran}

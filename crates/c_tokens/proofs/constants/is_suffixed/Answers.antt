@@ -1,5 +1,5 @@
 use Rattle.std.proofs.Common.{ap, ◌∙◌}
-use Rattle.c_tokens.specs.Lexing.{is_suffix}
+use Rattle.c_tokens.specs.Digits.{is_suffix}
 use Rattle.c_tokens.proofs.Limits.{last-at}
 use Rattle.c_tokens.proofs.constants.is_suffixed.Goals as goal
 

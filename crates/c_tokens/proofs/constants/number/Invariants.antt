@@ -1,5 +1,5 @@
 use Rattle.std.proofs.Common.{length, ◌≡◌, ◌≤◌}
-use Rattle.c_tokens.specs.Lexing.{digits_of, up_to}
+use Rattle.c_tokens.specs.Digits.{digits_of, up_to}
 use Rattle.c_tokens.proofs.constants.number.Given as goal
 
 abbrev pub invariant-digits : goal.invariant-digits
