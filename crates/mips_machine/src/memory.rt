@@ -52,7 +52,8 @@ impl Memory {
     /// Writes the word at an address.
     pub fn store(&mut self, a: u32, word: u32)
         requires { is_open (words_mapped (length self.old.globals.items)) a ≡ true }
-        ensures bytes { bytes_in self.new.globals.items self.new.stack.items ≡ store_word (words_mapped (length self.old.globals.items)) (bytes_in self.old.globals.items self.old.stack.items) a word }
+        ensures bytes { bytes_in self.new.globals.items self.new.stack.items
+            ≡ store_word (words_mapped (length self.old.globals.items)) (bytes_in self.old.globals.items self.old.stack.items) a word }
         ensures length { length self.new.globals.items ≡ length self.old.globals.items }
     {
         if STACK_BASE <= a {

@@ -134,7 +134,10 @@ impl Registers {
 
     /// The least of the rules on divisions and addresses that an action breaks.
     pub fn broken(&self, action: Action) -> Option<Rule>
-        ensures rule { result ≡ (if divides_badly action (state_of self.now) then Some M4 else (if on_address (λ x. not (is_aligned x)) action (state_of self.now) then Some M5 else (if on_address (λ x. not ((state_of self.now).mapped x)) action (state_of self.now) then Some M6 else None))) }
+        ensures rule { let s = state_of self.now in result ≡ (
+            if divides_badly action s then Some M4
+            else (if on_address (λ x. not (is_aligned x)) action s then Some M5
+            else (if on_address (λ x. not (s.mapped x)) action s then Some M6 else None))) }
         ensures safe { result ≡ None → is_safe action (state_of self.now) ≡ true }
     {
         match action {

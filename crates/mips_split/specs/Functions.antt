@@ -37,4 +37,5 @@ AreFunctions bound k (f ∷ fs) = IsFunctionAt bound k f × AreFunctions bound (
 
 -- functions whose branches stay inside them make a unit's blocks and owners
 abbrev pub EachListOfFunctionsIsOwned : Type 0
-EachListOfFunctionsIsOwned = (fs : List (List BlockParts)) → AreFunctions (length (joined fs)) 0 fs → AreLinked (joined fs) × AreOwners (joined fs) (owners_of 0 fs)
+EachListOfFunctionsIsOwned = (fs : List (List BlockParts)) → AreFunctions (length (joined fs)) 0 fs
+    → AreLinked (joined fs) × AreOwners (joined fs) (owners_of 0 fs)

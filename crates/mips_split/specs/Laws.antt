@@ -15,7 +15,8 @@ EachSplitUnitRuns = (blocks : List BlockParts) → AreLinked blocks → (links :
 
 -- what a long unit comes to, its pieces come to
 abbrev pub EachSplitUnitComesTo : Type 0
-EachSplitUnitComesTo = (blocks : List BlockParts) → AreLinked blocks → (s : State) (r : ℕ) (end : Outcome) → ComesTo blocks s r end → ComesTo (split_blocks blocks) s r end
+EachSplitUnitComesTo = (blocks : List BlockParts) → AreLinked blocks → (s : State) (r : ℕ) (end : Outcome)
+    → ComesTo blocks s r end → ComesTo (split_blocks blocks) s r end
 
 -- pieces are short, go to blocks that exist, and keep their functions together
 pub record IsSplitWell (blocks : List BlockParts) (owner : List ℕ) : Type 0 where
