@@ -1,9 +1,9 @@
 -- Each step of a run keeps to words.
-use Rattle.std.proofs.Common.{◌≡◌, ℕ, List, [], ◌∷◌, ◌++◌, Bool, true, false, Option, Some, None, refl, sym, subst, length, nat_lt, arith, ◌^◌, ◌%◌}
-use Rattle.std.specs.Prelude.{All, map, replicate, if◌then◌else◌}
+use Rattle.std.proofs.Common.{◌≡◌, ℕ, List, [], ◌∷◌, ◌++◌, Bool, true, false, Option, Some, None, refl, subst, length, nat_lt, arith}
+use Rattle.std.specs.Prelude.{All, map, if◌then◌else◌}
 use Rattle.std.specs.List.{slice_get}
 use Rattle.std.proofs.lemmas.Option.{same_Some}
-use Rattle.std.proofs.lemmas.List.Elements.{All-nil, All-cons, All-head, All-tail, All-push, All-replicate, All-map}
+use Rattle.std.proofs.lemmas.List.Elements.{All-nil, All-cons, All-head, All-tail, All-push, All-replicate}
 use Rattle.words.specs.Words.{wrap}
 use Rattle.runs.specs.Stores.{Places, Arrays, unset_places, written, stored, IsWord, PlacesHoldWords, ArraysHoldWords}
 use Rattle.runs.specs.Runs.{Running, Ended, Failed, with_value}
@@ -12,7 +12,7 @@ use Rattle.runs.proofs.Steps.{steps-keep}
 use Rattle.c_typed.specs.declared.tree.Place.{Place}
 use Rattle.c_typed.specs.declared.tree.Place.TheVariants.{Local, Global as Variable}
 use Rattle.c_typed.specs.declared.tree.Global.{Global}
-use Rattle.c_typed.specs.Trees.{TypedStatement, TypedFunction, TypedProgram, empty, block, unset, assign, store, run, output, branch, loop, leave, next_turn, return_with}
+use Rattle.c_typed.specs.Trees.{TypedFunction, TypedProgram, unset, assign, store, run, output, branch, loop, leave, next_turn, return_with}
 use Rattle.c_typed.specs.Values.{value_of, values_of}
 use Rattle.c_typed.specs.Meaning.{Todo, Do, Next, Mode, Going, Breaking, Continuing, Frame, Run, before, before_all, settled, placed, arguments, called, returned, chosen, step_at, source_step, source_steps, source_start, first_words}
 use Rattle.c_typed.specs.Laws.{FrameHoldsWords, RunHoldsWords}
