@@ -3,9 +3,8 @@ use Rattle.std.specs.Prelude.{◌≡◌, ◌<◌, ◌≤◌, ◌^◌, ℕ, ◌+�
 use Rattle.mblock.specs.Parts.{BlockParts, OrderParts}
 use Rattle.check_text.specs.Lines.{lines_of}
 use Rattle.check_text.specs.Whole.{FailsAt}
-use Rattle.mblock.specs.Clean.{IsClean, BreaksFirst}
-use Rattle.sym_exec.specs.Symbolic.{block_trees, order_trees}
-use Rattle.block_validator.specs.Same.{SameTrees, DiffersFirst}
+use Rattle.mblock.specs.Clean.{IsClean}
+use Rattle.block_validator.specs.Verdicts.{Decides, same, unclean, differs}
 use Rattle.driver.specs.declared.checking.CheckAnswer.{CheckAnswer}
 use Rattle.driver.specs.declared.checking.CheckAnswer.TheVariants as answers
 use Rattle.driver.specs.declared.checking.CheckFault.{CheckFault}
@@ -13,9 +12,9 @@ use Rattle.driver.specs.declared.checking.CheckFault.TheVariants as faults
 
 -- the verdict, without what a checked order keeps
 abbrev pub IsAnswer : BlockParts → OrderParts → CheckAnswer → Type 0
-IsAnswer b o (answers.Unclean rule) = BreaksFirst rule o
-IsAnswer b o (answers.Differs place) = IsClean o × DiffersFirst (block_trees b) (order_trees o) place
-IsAnswer b o answers.Same = IsClean o × SameTrees (block_trees b) (order_trees o)
+IsAnswer b o (answers.Unclean rule) = Decides b o (unclean rule)
+IsAnswer b o (answers.Differs place) = Decides b o (differs place)
+IsAnswer b o answers.Same = Decides b o same
 IsAnswer b o answers.Full = IsClean o
 
 -- the size is tested first; else the first line that can't stand

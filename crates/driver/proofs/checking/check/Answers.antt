@@ -8,7 +8,7 @@ returns-in-Err-Line-clause-answer c = λ n b o s. absurd (let no = (rw c.in-Err-
 pub returns-in-Same-clause-answer : goal.returns-in-Same-clause-answer
 returns-in-Same-clause-answer c = λ n b o s.
     let same = c.in-Ok.ensures.only b o s in
-    answer_moves c.in-Ok.spelled.block b c.in-Ok.spelled.order o answers.Same same.0 same.1 (c.in-Same.ensures.exact.0, c.in-Same.ensures.exact.1)
+    answer_moves c.in-Ok.spelled.block b c.in-Ok.spelled.order o answers.Same same.0 same.1 c.in-Same.ensures.exact.0
 
 pub returns-in-Unclean-clause-answer : goal.returns-in-Unclean-clause-answer
 returns-in-Unclean-clause-answer c = λ n b o s.
