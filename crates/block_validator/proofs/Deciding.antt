@@ -1,14 +1,14 @@
 -- A block and an order have at most one decision.
-use Rattle.std.proofs.Common.{◌≡◌, ◌<◌, ◌⊎◌, ℕ, zero, suc, refl, sym, ap, subst, inl, inr, ⊎_elim, arith}
-use Rattle.mblock.specs.Parts.{BlockParts, OrderParts}
+use Rattle.std.proofs.Common.{◌≡◌, ◌<◌, ◌⊎◌, ℕ, zero, suc, refl, ap, inl, inr, ⊎_elim, arith}
+use Rattle.mblock.specs.Parts.{OrderParts}
 use Rattle.mblock.specs.declared.unclean.Unclean.{Unclean}
 use Rattle.mblock.specs.declared.unclean.Unclean.TheVariants.{U1, U2, U3, U4}
 use Rattle.mblock.specs.Clean.{IsClean, BreaksFirst}
 use Rattle.sym_exec.specs.Symbolic.{CodeTrees, block_trees, order_trees}
 use Rattle.block_validator.specs.declared.place.Place.{Place}
 use Rattle.block_validator.specs.declared.place.Place.TheVariants as places
-use Rattle.block_validator.specs.Same.{IsPlace, place_rank, SameTrees, DiffersFirst}
-use Rattle.block_validator.specs.Verdicts.{Decision, same, unclean, differs, Decides, OneDecision}
+use Rattle.block_validator.specs.Same.{IsPlace, place_rank, DiffersFirst}
+use Rattle.block_validator.specs.Verdicts.{same, unclean, differs, OneDecision}
 
 not_clean : (o : OrderParts) (rule : Unclean) → BreaksFirst rule o → IsClean o → ⊥
 not_clean o U1 b c = b c.apart

@@ -1,5 +1,5 @@
 -- The terms of expressions, and their values.
-use Rattle.std.specs.Prelude.{◌≡◌, ℕ, ◌+◌, ◌*◌, ◌%◌, ◌^◌}
+use Rattle.std.specs.Prelude.{ℕ, ◌+◌, ◌*◌, ◌%◌, ◌^◌}
 use Rattle.sym_terms.specs.declared.label.Label.TheVariants.{Init, Const, Op}
 use Rattle.sym_terms.specs.declared.label.Place.TheVariants.{Register}
 use Rattle.sym_terms.specs.Trees.{Tree, leaf, binary}

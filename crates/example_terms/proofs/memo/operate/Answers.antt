@@ -1,6 +1,6 @@
 use Rattle.std.proofs.Common.{subst}
 use Rattle.term_table.specs.Trees.{HasTree}
-use Rattle.example_terms.specs.Expressions.{formula_of, tree_of}
+use Rattle.example_terms.specs.Expressions.{formula_of}
 use Rattle.example_terms.proofs.Memos.{memo_on}
 use Rattle.example_terms.proofs.memo.operate.Goals as goal
 
