@@ -48,11 +48,11 @@ pub data IsTextFault (text : List ℕ) : FaultKind → ℕ → Type 0 where
       IsTextFault text Syntax (place_or (length text) places k)
   no_memory : IsTextFault text NoMemory (length text)
 
--- the number that messages show
 -- the spelling of a name: its bytes in the text
 abbrev pub spelling_of : List ℕ → ℕ → ℕ → List ℕ
 spelling_of text at n = take n (drop at text)
 
+-- the number that messages show
 abbrev pub number_of : FaultKind → ℕ
 number_of Byte = 1
 number_of TokenFault = 2
