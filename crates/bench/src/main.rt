@@ -10,7 +10,7 @@
 
 mod checks;
 mod fronts;
-mod runs;
+mod programs;
 mod tables;
 mod worker;
 
@@ -22,7 +22,7 @@ fn main(rt: HostRuntime) -> anyhow::Result<()> {
     let Some(figure) = words.first() else {
         checks::show(&rt, false)?;
         fronts::show(&rt, false)?;
-        runs::show(&rt, false)?;
+        programs::show(&rt, false)?;
         return tables::show(&rt, false);
     };
     match figure.as_str() {
@@ -31,7 +31,7 @@ fn main(rt: HostRuntime) -> anyhow::Result<()> {
             (Some(shape), Some(depth)) => fronts::nested(&rt, shape.as_str(), depth.parse()?),
             _ => fronts::show(&rt, true),
         },
-        "run" => runs::show(&rt, true),
+        "run" => programs::show(&rt, true),
         "table" => tables::show(&rt, true),
         _ => bail!("the words are check, front, run and table"),
     }
