@@ -1,11 +1,11 @@
 -- What was read before a derivation got stuck is the beginning of another.
 use Rattle.std.proofs.Common.{◌≤◌, suc, arith, ◌⊎◌, inl, inr, lit≤, ◌≡◌, ◌≢◌, List, [], ◌∷◌, ◌++◌, Option, Some, None, refl, ap, subst, ◌∙◌}
 use Rattle.c_tokens.specs.declared.token.Identifier.{Identifier}
-use Rattle.c_tokens.specs.declared.token.Kind.TheVariants.{SignedInt}
+use Rattle.c_tokens.specs.declared.token.IntegerType.TheVariants.{SignedInt}
 use Rattle.c_tokens.specs.declared.token.Token.{Token}
 use Rattle.c_tokens.specs.declared.token.Token.TheVariants.{Name, Constant, Jump, The}
 use Rattle.c_tokens.specs.declared.token.Mark.TheVariants.{Int, Void, Else, Semicolon, LeftBrace, RightBrace, LeftParen, RightParen, LeftBracket, Assign}
-use Rattle.c_front.specs.Grammar.{Sort, a_name, a_constant, a_jump, the, Level, units, above, ors, Nonterminal, a_program, declarations, a_declaration, a_type, maybe_int, after_global, initial, function_rest, parameters, more_parameters, items, an_item, declared, a_statement, else_part, maybe_simple, maybe_expression, simple, value, a_call, arguments, more_arguments, an_expression, choice, operands, more_operands, Symbol, T, N, SortMeaning, Rule, program_rule, declarations_end, declarations_more, declaration_typed, declaration_void, type_int, type_unsigned, int_none, int_some, global_plain, global_initial, global_array, global_function, initial_plain, initial_negative, function_rule, parameters_void, parameters_some, more_parameters_end, more_parameters_more, items_end, items_more, item_declare, item_statement, declared_none, declared_some, statement_empty, statement_block, statement_if, statement_while, statement_for, statement_break, statement_continue, statement_return, statement_simple, else_none, else_some, simple_none, simple_some, expression_none, expression_some, simple_assign, simple_assign_at, simple_call, value_plain, value_call, call_rule, arguments_none, arguments_some, more_arguments_end, more_arguments_more, expression_rule, choice_none, choice_some, operands_rule, operands_end, operands_more, operand_constant, operand_name, operand_index, operand_unary, operand_paren, first, second, IsToken, is_name, is_constant, is_jump, is_the}
+use Rattle.c_front.specs.Grammar.{Sort, a_name, a_constant, a_jump, the, Level, unary_expressions, above, ors, Nonterminal, a_program, declarations, a_declaration, a_type, maybe_int, after_global, initial, function_rest, parameters, more_parameters, items, an_item, declared, a_statement, else_part, maybe_simple, maybe_expression, simple, value, a_call, arguments, more_arguments, an_expression, choice, operands, more_operands, Symbol, T, N, SortTree, Rule, program_rule, declarations_end, declarations_more, declaration_typed, declaration_void, type_int, type_unsigned, int_none, int_some, global_plain, global_initial, global_array, global_function, initial_plain, initial_negative, function_rule, parameters_void, parameters_some, more_parameters_end, more_parameters_more, items_end, items_more, item_declare, item_statement, declared_none, declared_some, statement_empty, statement_block, statement_if, statement_while, statement_for, statement_break, statement_continue, statement_return, statement_simple, else_none, else_some, simple_none, simple_some, expression_none, expression_some, simple_assign, simple_assign_at, simple_call, value_plain, value_call, call_rule, arguments_none, arguments_some, more_arguments_end, more_arguments_more, expression_rule, choice_none, choice_some, operands_rule, operands_end, operands_more, operand_constant, operand_name, operand_index, operand_unary, operand_paren, first, second, IsToken, is_name, is_constant, is_jump, is_the}
 use Rattle.c_tokens.specs.declared.token.Literal.{Literal}
 use Rattle.c_front.specs.Reading.{read_nothing, read_token, read_phrase, CanRead, can_read}
 use Rattle.c_front.specs.Choosing.{Choice, one_choice, chosen_rule, Peeks}
@@ -14,7 +14,7 @@ use Rattle.c_front.proofs.Ranks.{rank_of, rank, ends-operands, ends-choice}
 
 -- tokens for each symbol
 abbrev zero_literal : Literal
-zero_literal = record { value = 0; kind = SignedInt }
+zero_literal = record { value = 0; integer_type = SignedInt }
 
 abbrev some_name : Identifier
 some_name = record { at = 0; length = 1 }
@@ -191,7 +191,7 @@ only r c (can_read d) = can_read (read_phrase r c d refl read_nothing)
 end-reads : {ts : List Token} → CanRead [] ts ts
 end-reads = can_read read_nothing
 
-token-then : {s : Sort} {symbols : List Symbol} {t : Token} {ts rest : List Token} {v : SortMeaning s} → IsToken s t v →
+token-then : {s : Sort} {symbols : List Symbol} {t : Token} {ts rest : List Token} {v : SortTree s} → IsToken s t v →
     CanRead symbols ts rest → CanRead (T s ∷ symbols) (t ∷ ts) rest
 token-then i (can_read d) = can_read (read_token i d)
 
@@ -199,7 +199,7 @@ more-start : (l : Level) → Start (more_operands l)
 more-start l rest h = only operands_end (ends-operands l (first rest) (omega (arith, h))) end-reads
 
 operands-start : (l : Level) → Start (operands l)
-operands-start units rest h = only operand_constant refl (token-then is_constant end-reads)
+operands-start unary_expressions rest h = only operand_constant refl (token-then is_constant end-reads)
 operands-start (above l) rest h = only operands_rule refl (then-reads (operands-start l rest (omega (arith, h))) (more-start l rest h))
 
 expression-start : Start an_expression
@@ -234,7 +234,7 @@ start (operands l) rest h = operands-start l rest h
 start (more_operands l) rest h = more-start l rest h
 
 -- a name alone is an operand, where no index or argument follows
-pub name-chosen : (x : Identifier) (next : Option Token) → 1 ≤ rank_of next → chosen_rule (operands units) (Some (Name x)) next ≡ Some (T a_name ∷ [], operand_name)
+pub name-chosen : (x : Identifier) (next : Option Token) → 1 ≤ rank_of next → chosen_rule (operands unary_expressions) (Some (Name x)) next ≡ Some (T a_name ∷ [], operand_name)
 name-chosen x None h = refl
 name-chosen x (Some (The LeftBracket)) h = absurd (omega (arith, h))
 name-chosen x (Some _) h = refl
@@ -245,11 +245,11 @@ name-plain x (Some (The LeftParen)) h = absurd (omega (arith, h))
 name-plain x (Some _) h = refl
 
 pub rank-positive : (l : Level) → 1 ≤ rank l
-rank-positive units = lit≤ tt
+rank-positive unary_expressions = lit≤ tt
 rank-positive (above l) = let a = rank-positive l in omega (arith, a)
 
 name-operands : (l : Level) (x : Identifier) (rest : List Token) → rank l ≤ rank_of (first rest) → CanRead (N (operands l) ∷ []) (Name x ∷ rest) rest
-name-operands units x rest h = only operand_name (name-chosen x (first rest) h) (token-then is_name end-reads)
+name-operands unary_expressions x rest h = only operand_name (name-chosen x (first rest) h) (token-then is_name end-reads)
 name-operands (above l) x rest h = only operands_rule refl (then-reads (name-operands l x rest (omega (arith, h))) (more-start l rest h))
 
 pub name-expression : (x : Identifier) → CanRead (N an_expression ∷ []) (Name x ∷ []) []
@@ -263,7 +263,7 @@ start-from value (Name x) k = (
   λ rest h. only value_plain (name-plain x (first rest) (omega (arith, h)))
       (only expression_rule refl (then-reads (name-operands ors x rest (omega (arith, h))) (only choice_none (ends-choice (first rest) h) end-reads))),
 )
-start-from (operands units) (Name x) k = ([], λ rest h. name-operands units x rest h)
+start-from (operands unary_expressions) (Name x) k = ([], λ rest h. name-operands unary_expressions x rest h)
 start-from _ _ k = absurd k
 
 peeks? : (n : Nonterminal) (next : Option Token) → Peeks n next ⊎ (Peeks n next → ⊥)
@@ -273,9 +273,9 @@ peeks? simple (Some _) = inr (λ h. h)
 peeks? value None = inr (λ h. h)
 peeks? value (Some (Name x)) = inl tt
 peeks? value (Some _) = inr (λ h. h)
-peeks? (operands units) None = inr (λ h. h)
-peeks? (operands units) (Some (Name x)) = inl tt
-peeks? (operands units) (Some _) = inr (λ h. h)
+peeks? (operands unary_expressions) None = inr (λ h. h)
+peeks? (operands unary_expressions) (Some (Name x)) = inl tt
+peeks? (operands unary_expressions) (Some _) = inr (λ h. h)
 peeks? (operands (above l)) next = inr (λ h. h)
 peeks? _ _ = inr (λ h. h)
 

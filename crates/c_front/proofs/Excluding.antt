@@ -2,8 +2,8 @@
 use Rattle.std.proofs.Common.{◌≡◌, ◌<◌, ℕ, List, [], ◌∙◌, Bool, true, false, length, refl, sym, ap, subst, arith}
 use Rattle.c_tokens.specs.declared.token.Token.{Token}
 use Rattle.c_tokens.proofs.Once.{lexes-once, never-lexes, stops-once}
-use Rattle.c_front.specs.declared.text.FaultKind.{FaultKind}
-use Rattle.c_front.specs.declared.text.FaultKind.TheVariants.{NoMemory}
+use Rattle.c_front.specs.declared.text.FrontFaultKind.{FrontFaultKind}
+use Rattle.c_front.specs.declared.text.FrontFaultKind.TheVariants.{NoMemory}
 use Rattle.c_front.specs.Tree.{Declaration}
 use Rattle.c_front.specs.Grammar.{Spells}
 use Rattle.c_front.specs.Texts.{SpellsText, IsTextFault, IsBadByte, place_or, refusal_kind, too_long, bad_byte, bad_token, bad_syntax, no_memory}
@@ -21,7 +21,7 @@ once text p q s t =
     let P : List Token → Type 0 = λ x. Spells x p in
     one-program (subst P same.0 s.spells) t.spells
 
-pub excluded : {text : List ℕ} {k : FaultKind} {at : ℕ} → IsTextFault text k at → (p : List Declaration) → (k ≡ NoMemory → ⊥) → SpellsText text p → ⊥
+pub excluded : {text : List ℕ} {k : FrontFaultKind} {at : ℕ} → IsTextFault text k at → (p : List Declaration) → (k ≡ NoMemory → ⊥) → SpellsText text p → ⊥
 excluded (too_long h) p n s = let l = s.short in omega (arith, h, l)
 excluded (bad_byte {k = k} h b) p n s = true-false (s.bytes k b.0) b.1
 excluded (bad_token a b h) p n s = never-lexes h s.tokens s.places s.lexes
@@ -44,7 +44,7 @@ one-syntax text ts us ks js k j l m p q =
     ap (λ (x : List ℕ). place_or (length text) x k) same.1 ∙ ap (λ (x : ℕ). place_or (length text) js x) (one-wrong us k j (subst P same.0 p) q)
 
 -- other than want of memory a text has one fault at most, at one place
-pub one-fault : {text : List ℕ} {k : FaultKind} {at : ℕ} → IsTextFault text k at → (j : FaultKind) (n : ℕ) → IsTextFault text j n → (k ≡ NoMemory → ⊥) → (j ≡ NoMemory → ⊥) → (k ≡ j) × (at ≡ n)
+pub one-fault : {text : List ℕ} {k : FrontFaultKind} {at : ℕ} → IsTextFault text k at → (j : FrontFaultKind) (n : ℕ) → IsTextFault text j n → (k ≡ NoMemory → ⊥) → (j ≡ NoMemory → ⊥) → (k ≡ j) × (at ≡ n)
 one-fault no_memory j n g a b = absurd (a refl)
 one-fault (too_long h) _ _ (too_long i) a b = (refl, refl)
 one-fault (too_long h) _ _ (bad_byte s w) a b = absurd (omega (arith, h, s))

@@ -3,9 +3,9 @@ use Rattle.std.proofs.Common.{◌≡◌, ◌≢◌, ◌≤◌, ℕ, suc, [], ◌
 use Rattle.c_tokens.specs.declared.token.Token.{Token}
 use Rattle.c_tokens.specs.declared.token.Token.TheVariants.{The}
 use Rattle.c_tokens.specs.declared.token.Mark.{Mark}
-use Rattle.c_tokens.specs.declared.token.Mark.TheVariants.{LeftParen, LeftBracket, Question, Plus, Minus, Star, Slash, Percent, BarBar, AndAnd, Bar, Caret, Ampersand, EqualEqual, BangEqual, Less, Greater, LessEqual, GreaterEqual, LessLess, GreaterGreater}
+use Rattle.c_tokens.specs.declared.token.Mark.TheVariants.{LeftParen, LeftBracket, Question, Plus, Minus, Star, Slash, Percent, BarBar, AndAnd, Bar, Caret, Ampersand, EqualEqual, BangEqual, LessSign, GreaterSign, LessEqual, GreaterEqual, LessLess, GreaterGreater}
 use Rattle.c_front.specs.declared.tree.BinaryOp.{BinaryOp}
-use Rattle.c_front.specs.Grammar.{the, Level, units, above, operands, more_operands, T, N, Operator, multiply, divide, remainder, add, subtract, shift_left, shift_right, below, exceeds, at_most, at_least, same, differs, bit_and, bit_xor, bit_or, both, either, operands_end, operands_more}
+use Rattle.c_front.specs.Grammar.{the, Level, unary_expressions, above, operands, more_operands, T, N, Operator, multiply, divide, remainder, add, subtract, shift_left, shift_right, less, greater, less_or_equal, greater_or_equal, equal, not_equal, bit_and, bit_xor, bit_or, logical_and, logical_or, operands_end, operands_more}
 use Rattle.c_front.specs.Choosing.{operator_at, more_choice, one_choice, EndsOperands, EndsChoice}
 
 -- an index or an argument binds tightest, then each level of operators, then a condition, then all that ends an expression
@@ -19,8 +19,8 @@ rank_of (Some (The Plus)) = 2
 rank_of (Some (The Minus)) = 2
 rank_of (Some (The LessLess)) = 3
 rank_of (Some (The GreaterGreater)) = 3
-rank_of (Some (The Less)) = 4
-rank_of (Some (The Greater)) = 4
+rank_of (Some (The LessSign)) = 4
+rank_of (Some (The GreaterSign)) = 4
 rank_of (Some (The LessEqual)) = 4
 rank_of (Some (The GreaterEqual)) = 4
 rank_of (Some (The EqualEqual)) = 5
@@ -34,7 +34,7 @@ rank_of (Some (The Question)) = 11
 rank_of _ = 12
 
 abbrev pub rank : Level → ℕ
-rank units = 1
+rank unary_expressions = 1
 rank (above l) = suc (rank l)
 
 pub operator-rank : {l : Level} {o : BinaryOp} {t : Mark} → Operator l o t → rank_of (Some (The t)) ≡ rank l
@@ -45,17 +45,17 @@ operator-rank add = refl
 operator-rank subtract = refl
 operator-rank shift_left = refl
 operator-rank shift_right = refl
-operator-rank below = refl
-operator-rank exceeds = refl
-operator-rank at_most = refl
-operator-rank at_least = refl
-operator-rank same = refl
-operator-rank differs = refl
+operator-rank less = refl
+operator-rank greater = refl
+operator-rank less_or_equal = refl
+operator-rank greater_or_equal = refl
+operator-rank equal = refl
+operator-rank not_equal = refl
 operator-rank bit_and = refl
 operator-rank bit_xor = refl
 operator-rank bit_or = refl
-operator-rank both = refl
-operator-rank either = refl
+operator-rank logical_and = refl
+operator-rank logical_or = refl
 
 pub operator-found : {l : Level} {o : BinaryOp} {t : Mark} (r : Operator l o t) → operator_at l t ≡ Some (o, r)
 operator-found multiply = refl
@@ -65,17 +65,17 @@ operator-found add = refl
 operator-found subtract = refl
 operator-found shift_left = refl
 operator-found shift_right = refl
-operator-found below = refl
-operator-found exceeds = refl
-operator-found at_most = refl
-operator-found at_least = refl
-operator-found same = refl
-operator-found differs = refl
+operator-found less = refl
+operator-found greater = refl
+operator-found less_or_equal = refl
+operator-found greater_or_equal = refl
+operator-found equal = refl
+operator-found not_equal = refl
 operator-found bit_and = refl
 operator-found bit_xor = refl
 operator-found bit_or = refl
-operator-found both = refl
-operator-found either = refl
+operator-found logical_and = refl
+operator-found logical_or = refl
 
 pub chosen-operator : {l : Level} {o : BinaryOp} {t : Mark} (r : Operator l o t) →
     one_choice (more_operands l) (Some (The t)) ≡ Some (T (the t) ∷ N (operands l) ∷ N (more_operands l) ∷ [], operands_more r)

@@ -3,7 +3,7 @@ use Rattle.std.proofs.Common.{◌≡◌, List, [], ◌∷◌, ◌++◌, refl, ap
 use Rattle.std.specs.declared.vec.Vec.{Vec}
 use Rattle.std.specs.declared.alloc.Global.{Global}
 use Rattle.c_front.specs.declared.tree.Item.{Item}
-use Rattle.c_front.specs.declared.tree.Stmt.{Block, Row_of-Item, end_of-Item, more_of-Item, items-the_row-Item, items_hidden-the_row-Item-0}
+use Rattle.c_front.specs.declared.tree.Statement.{Block, Row_of-Item, end_of-Item, more_of-Item, items-the_row-Item, items_hidden-the_row-Item-0}
 use Rattle.c_front.specs.declared.tree.Item.TheBlock.{hidden-the_row-Item-0}
 use Rattle.c_front.specs.Tree.{block, more_items, no_items}
 use Rattle.c_front.specs.Shape.{statement_of, item_of, row_of, items_of}

@@ -1,20 +1,20 @@
 -- The ways through statements and items.
 use Rattle.std.proofs.Common.{◌≡◌, ◌≢◌, ◌≤◌, ℕ, List, [], ◌∷◌, length, Option, Some, None, refl, sym, ap, subst, ◌∙◌}
 use Rattle.c_tokens.specs.declared.token.Identifier.{Identifier}
-use Rattle.c_tokens.specs.declared.token.Kind.{Kind}
-use Rattle.c_tokens.specs.declared.token.Kind.TheVariants.{SignedInt, UnsignedInt}
+use Rattle.c_tokens.specs.declared.token.IntegerType.{IntegerType}
+use Rattle.c_tokens.specs.declared.token.IntegerType.TheVariants.{SignedInt, UnsignedInt}
 use Rattle.c_tokens.specs.declared.token.JumpWord.TheVariants.{Break, Continue, Return}
 use Rattle.c_tokens.specs.declared.token.Token.{Token}
 use Rattle.c_tokens.specs.declared.token.Token.TheVariants.{Name, Jump, The}
 use Rattle.c_tokens.specs.declared.token.Mark.{Mark}
 use Rattle.c_tokens.specs.declared.token.Mark.TheVariants.{Int, Unsigned, If, Else, While, For, Semicolon, LeftBrace, RightBrace, LeftParen, RightParen, Assign}
-use Rattle.c_front.specs.Grammar.{a_name, the, Nonterminal, a_type, maybe_int, items, an_item, declared, a_statement, else_part, maybe_simple, maybe_expression, simple, value, an_expression, Symbol, T, N, Meaning, Meanings, type_int, type_unsigned, int_none, int_some, items_end, items_more, item_declare, item_statement, declared_none, declared_some, statement_empty, statement_block, statement_if, statement_while, statement_for, statement_break, statement_continue, statement_return, statement_simple, else_none, else_some, simple_none, simple_some, expression_none, expression_some, first, is_jump, is_the}
+use Rattle.c_front.specs.Grammar.{a_name, the, Nonterminal, a_type, maybe_int, items, an_item, declared, a_statement, else_part, maybe_simple, maybe_expression, simple, value, an_expression, Symbol, T, N, PhraseTree, PhraseTrees, type_int, type_unsigned, int_none, int_some, items_end, items_more, item_declare, item_statement, declared_none, declared_some, statement_empty, statement_block, statement_if, statement_while, statement_for, statement_break, statement_continue, statement_return, statement_simple, else_none, else_some, simple_none, simple_some, expression_none, expression_some, first, is_jump, is_the}
 use Rattle.c_front.specs.Reading.{Reads, read_nothing, read_token, read_phrase, Stuck, stuck_past, stuck_phrase, stuck_inside}
 use Rattle.c_front.specs.Choosing.{Choice, one_choice, EndsItems}
-use Rattle.c_front.specs.declared.cursor.Stop.{Stop}
-use Rattle.c_front.specs.declared.cursor.Stop.TheVariants.{Syntax, NoMemory}
-use Rattle.c_front.specs.Tree.{Expression, Value, Simple, Statement, empty, block, branch, branch_else, repeat, repeat_for, break_at, continue_at, return_at, simply, Item, declare, statement, Items, no_items, more_items}
-use Rattle.c_front.specs.Stop.{StartsWith, StartsWithout, IsRead, AreStuck, IsStuck, IsMissing, StartsWithName, IsNameMissing, IsConditionRead, IsConditionStuck, IsClosedRead, IsClosedStuck, IsBranchRead, IsBranchStuck, HasNoElse, HasNoType, StartsNamed, StartsUnnamed, IsEndedRead, IsEndedStuck, IsHeadRead, IsHeadStuck}
+use Rattle.c_front.specs.declared.cursor.ParseStop.{ParseStop}
+use Rattle.c_front.specs.declared.cursor.ParseStop.TheVariants.{Syntax, NoMemory}
+use Rattle.c_front.specs.Tree.{Expression, Value, Simple, Statement, empty, block, if_then, if_then_else, while_loop, for_loop, break_at, continue_at, return_at, simply, Item, declare, statement, Items, no_items, more_items}
+use Rattle.c_front.specs.Parsing.{StartsWith, StartsWithout, IsRead, AreStuck, IsStuck, IsMissing, StartsWithName, IsNameMissing, IsConditionRead, IsConditionStuck, IsClosedRead, IsClosedStuck, IsBranchRead, IsBranchStuck, HasNoElse, HasNoType, StartsNamed, StartsUnnamed, IsEndedRead, IsEndedStuck, IsHeadRead, IsHeadStuck}
 use Rattle.c_front.proofs.Reading.{stuck_after}
 use Rattle.c_front.proofs.Completing.{else-none}
 use Rattle.c_front.proofs.Reading.{derived}
@@ -33,25 +33,25 @@ pub record GoesOnItems (ts middle : List Token) (all : Items) : Type 0 where
   pub shorter : length middle ≤ length ts
 
 module _ (u : Mark) (w : Mark) (n : Nonterminal) (ts : List Token) where
-  pub enclosed-read : (a b c : List Token) (v : Meaning n) → ts ≡ The u ∷ a → IsRead n a b v → b ≡ The w ∷ c → Reads (T (the u) ∷ N n ∷ T (the w) ∷ []) ts c (tt, (v, (tt, tt)))
+  pub enclosed-read : (a b c : List Token) (v : PhraseTree n) → ts ≡ The u ∷ a → IsRead n a b v → b ≡ The w ∷ c → Reads (T (the u) ∷ N n ∷ T (the w) ∷ []) ts c (tt, (v, (tt, tt)))
   enclosed-read a b c v e d f =
       let P : List Token → Type 0 = λ x. Reads (T (the u) ∷ N n ∷ T (the w) ∷ []) x c (tt, (v, (tt, tt))) in
       let Q : List Token → Type 0 = λ x. Reads (T (the w) ∷ []) x c (tt, tt) in
       subst P (sym e) (read_token is_the (followed d (subst Q (sym f) (read_token is_the read_nothing))))
 
-  pub enclosed-open-stuck : (s : Stop) → IsMissing u ts s → AreStuck (T (the u) ∷ N n ∷ T (the w) ∷ []) ts s
+  pub enclosed-open-stuck : (s : ParseStop) → IsMissing u ts s → AreStuck (T (the u) ∷ N n ∷ T (the w) ∷ []) ts s
   enclosed-open-stuck (Syntax rest) h = λ symbols.
       let P : List Token → Type 0 = λ x. Stuck (T (the u) ∷ N n ∷ T (the w) ∷ symbols) ts x in
       subst P (sym h.0) (missing-stuck u ts h.1 (N n ∷ T (the w) ∷ symbols))
   enclosed-open-stuck NoMemory h = tt
 
-  pub enclosed-inner-stuck : (a : List Token) (s : Stop) → ts ≡ The u ∷ a → IsStuck n a s → AreStuck (T (the u) ∷ N n ∷ T (the w) ∷ []) ts s
+  pub enclosed-inner-stuck : (a : List Token) (s : ParseStop) → ts ≡ The u ∷ a → IsStuck n a s → AreStuck (T (the u) ∷ N n ∷ T (the w) ∷ []) ts s
   enclosed-inner-stuck a (Syntax rest) e h = λ symbols.
       let P : List Token → Type 0 = λ x. Stuck (T (the u) ∷ N n ∷ T (the w) ∷ symbols) x rest.now in
       subst P (sym e) (stuck_past is_the (h (T (the w) ∷ symbols)))
   enclosed-inner-stuck a NoMemory e h = tt
 
-  pub enclosed-close-stuck : (a b : List Token) (v : Meaning n) (s : Stop) → ts ≡ The u ∷ a → IsRead n a b v → IsMissing w b s → AreStuck (T (the u) ∷ N n ∷ T (the w) ∷ []) ts s
+  pub enclosed-close-stuck : (a b : List Token) (v : PhraseTree n) (s : ParseStop) → ts ≡ The u ∷ a → IsRead n a b v → IsMissing w b s → AreStuck (T (the u) ∷ N n ∷ T (the w) ∷ []) ts s
   enclosed-close-stuck a b v (Syntax rest) e d h = λ symbols.
       let P : List Token → Type 0 = λ x. Stuck (T (the u) ∷ N n ∷ T (the w) ∷ symbols) x rest.now in
       let Q : List Token → Type 0 = λ x. Stuck (N n ∷ T (the w) ∷ symbols) a x in
@@ -67,14 +67,14 @@ chosen-block ts a e = ap (λ (x : List Token). one_choice a_statement (first x))
 pub block-read : (ts a b c : List Token) (m : Items) → ts ≡ The LeftBrace ∷ a → IsRead items a b m → b ≡ The RightBrace ∷ c → IsRead a_statement ts c (block m)
 block-read ts a b c m e d f = whole statement_block (chosen-block ts a e) (enclosed-read LeftBrace RightBrace items ts a b c m e d f)
 
-block-in-stuck : (ts a : List Token) (s : Stop) → ts ≡ The LeftBrace ∷ a → AreStuck (T (the LeftBrace) ∷ N items ∷ T (the RightBrace) ∷ []) ts s → IsStuck a_statement ts s
+block-in-stuck : (ts a : List Token) (s : ParseStop) → ts ≡ The LeftBrace ∷ a → AreStuck (T (the LeftBrace) ∷ N items ∷ T (the RightBrace) ∷ []) ts s → IsStuck a_statement ts s
 block-in-stuck ts a (Syntax rest) e h = λ symbols. stuck_inside statement_block (chosen-block ts a e) (λ z. absurd z) (h symbols)
 block-in-stuck ts a NoMemory e h = tt
 
-pub block-stuck : (ts a : List Token) (s : Stop) → ts ≡ The LeftBrace ∷ a → IsStuck items a s → IsStuck a_statement ts s
+pub block-stuck : (ts a : List Token) (s : ParseStop) → ts ≡ The LeftBrace ∷ a → IsStuck items a s → IsStuck a_statement ts s
 block-stuck ts a s e h = block-in-stuck ts a s e (enclosed-inner-stuck LeftBrace RightBrace items ts a s e h)
 
-pub block-close-stuck : (ts a b : List Token) (m : Items) (s : Stop) → ts ≡ The LeftBrace ∷ a → IsRead items a b m → IsMissing RightBrace b s → IsStuck a_statement ts s
+pub block-close-stuck : (ts a b : List Token) (m : Items) (s : ParseStop) → ts ≡ The LeftBrace ∷ a → IsRead items a b m → IsMissing RightBrace b s → IsStuck a_statement ts s
 block-close-stuck ts a b m s e d h = block-in-stuck ts a s e (enclosed-close-stuck LeftBrace RightBrace items ts a b m s e d h)
 
 pub if-read : (ts a b : List Token) (s : Statement) → ts ≡ The If ∷ a → IsBranchRead a b s → IsRead a_statement ts b s
@@ -82,13 +82,13 @@ if-read ts a b s e h =
     let P : List Token → Type 0 = λ x. IsRead a_statement x b s in
     subst P (sym e) (read_phrase statement_if refl (read_token is_the h.3) h.4 read_nothing)
 
-pub if-stuck : (ts a : List Token) (s : Stop) → ts ≡ The If ∷ a → IsBranchStuck a s → IsStuck a_statement ts s
+pub if-stuck : (ts a : List Token) (s : ParseStop) → ts ≡ The If ∷ a → IsBranchStuck a s → IsStuck a_statement ts s
 if-stuck ts a (Syntax rest) e h = λ symbols.
     let P : List Token → Type 0 = λ x. Stuck (N a_statement ∷ symbols) x rest.now in
     subst P (sym e) (stuck_inside statement_if refl (λ z. absurd z) (stuck_past is_the (h symbols)))
 if-stuck ts a NoMemory e h = tt
 
-semicolon-then : {n : Nonterminal} {ts b c : List Token} {v : Meaning n} → IsRead n ts b v → StartsWith Semicolon b c → Reads (N n ∷ T (the Semicolon) ∷ []) ts c (v, (tt, tt))
+semicolon-then : {n : Nonterminal} {ts b c : List Token} {v : PhraseTree n} → IsRead n ts b v → StartsWith Semicolon b c → Reads (N n ∷ T (the Semicolon) ∷ []) ts c (v, (tt, tt))
 semicolon-then {c = c} d e =
     let P : List Token → Type 0 = λ x. Reads (T (the Semicolon) ∷ []) x c (tt, tt) in
     followed d (subst P (sym e) (read_token is_the read_nothing))
@@ -99,11 +99,11 @@ simple-chosen ts a x e = ap (λ (y : List Token). one_choice a_statement (first 
 pub simply-read : (ts a b c : List Token) (x : Identifier) (v : Simple) → ts ≡ Name x ∷ a → IsRead simple ts b v → StartsWith Semicolon b c → IsRead a_statement ts c (simply v)
 simply-read ts a b c x v e d f = whole statement_simple (simple-chosen ts a x e) (semicolon-then d f)
 
-pub simply-stuck : (ts a : List Token) (x : Identifier) (s : Stop) → ts ≡ Name x ∷ a → IsStuck simple ts s → IsStuck a_statement ts s
+pub simply-stuck : (ts a : List Token) (x : Identifier) (s : ParseStop) → ts ≡ Name x ∷ a → IsStuck simple ts s → IsStuck a_statement ts s
 simply-stuck ts a x (Syntax rest) e h = λ symbols. stuck_inside statement_simple (simple-chosen ts a x e) (λ z. absurd z) (h (T (the Semicolon) ∷ symbols))
 simply-stuck ts a x NoMemory e h = tt
 
-pub simply-end-stuck : (ts a b : List Token) (x : Identifier) (v : Simple) (s : Stop) → ts ≡ Name x ∷ a → IsRead simple ts b v → IsMissing Semicolon b s → IsStuck a_statement ts s
+pub simply-end-stuck : (ts a b : List Token) (x : Identifier) (v : Simple) (s : ParseStop) → ts ≡ Name x ∷ a → IsRead simple ts b v → IsMissing Semicolon b s → IsStuck a_statement ts s
 simply-end-stuck ts a b x v (Syntax rest) e d h = λ symbols.
     let P : List Token → Type 0 = λ y. Stuck (N a_statement ∷ symbols) ts y in
     subst P (sym h.0) (stuck_inside statement_simple (simple-chosen ts a x e) (λ z. absurd z) (stuck_after d (missing-stuck Semicolon b h.1 symbols)))
@@ -122,10 +122,10 @@ no-mark While a b c d e = absurd (d refl)
 no-mark For a b c d e = absurd (e refl)
 no-mark _ a b c d e = refl
 
-pub condition-open-stuck : (ts : List Token) (s : Stop) → IsMissing LeftParen ts s → IsConditionStuck ts s
+pub condition-open-stuck : (ts : List Token) (s : ParseStop) → IsMissing LeftParen ts s → IsConditionStuck ts s
 condition-open-stuck ts s h = enclosed-open-stuck LeftParen RightParen an_expression ts s h
 
-pub condition-inner-stuck : (ts a : List Token) (s : Stop) → StartsWith LeftParen ts a → IsClosedStuck RightParen a s → IsConditionStuck ts s
+pub condition-inner-stuck : (ts a : List Token) (s : ParseStop) → StartsWith LeftParen ts a → IsClosedStuck RightParen a s → IsConditionStuck ts s
 condition-inner-stuck ts a (Syntax rest) e h = λ symbols.
     let P : List Token → Type 0 = λ y. Stuck (T (the LeftParen) ∷ N an_expression ∷ T (the RightParen) ∷ symbols) y rest.now in
     subst P (sym e) (stuck_past is_the (h symbols))
@@ -136,32 +136,32 @@ condition-read ts a b v e d =
     let P : List Token → Type 0 = λ y. IsConditionRead y b v in
     subst P (sym e) (read_token is_the d)
 
-condition-then : {symbols : List Symbol} {ts a rest : List Token} {e : Expression} {m : Meanings symbols} → IsConditionRead ts a e → Reads symbols a rest m →
+condition-then : {symbols : List Symbol} {ts a rest : List Token} {e : Expression} {m : PhraseTrees symbols} → IsConditionRead ts a e → Reads symbols a rest m →
     Reads (T (the LeftParen) ∷ N an_expression ∷ T (the RightParen) ∷ symbols) ts rest (tt, (e, (tt, m)))
 condition-then (read_token i (read_phrase r c d q (read_token j read_nothing))) z = read_token i (read_phrase r c d q (read_token j z))
 
-pub branch-test-stuck : (ts : List Token) (s : Stop) → IsConditionStuck ts s → IsBranchStuck ts s
-branch-test-stuck ts (Syntax rest) h = λ symbols. h (N a_statement ∷ N else_part ∷ symbols)
-branch-test-stuck ts NoMemory h = tt
+pub if_then-test-stuck : (ts : List Token) (s : ParseStop) → IsConditionStuck ts s → IsBranchStuck ts s
+if_then-test-stuck ts (Syntax rest) h = λ symbols. h (N a_statement ∷ N else_part ∷ symbols)
+if_then-test-stuck ts NoMemory h = tt
 
-pub branch-first-stuck : (ts a : List Token) (e : Expression) (s : Stop) → IsConditionRead ts a e → IsStuck a_statement a s → IsBranchStuck ts s
-branch-first-stuck ts a e (Syntax rest) d h = λ symbols. stuck_after d (h (N else_part ∷ symbols))
-branch-first-stuck ts a e NoMemory d h = tt
+pub if_then-first-stuck : (ts a : List Token) (e : Expression) (s : ParseStop) → IsConditionRead ts a e → IsStuck a_statement a s → IsBranchStuck ts s
+if_then-first-stuck ts a e (Syntax rest) d h = λ symbols. stuck_after d (h (N else_part ∷ symbols))
+if_then-first-stuck ts a e NoMemory d h = tt
 
 chosen-else : (ts a : List Token) → ts ≡ The Else ∷ a → one_choice else_part (first ts) ≡ Some (T (the Else) ∷ N a_statement ∷ [], else_some)
 chosen-else ts a e = ap (λ (x : List Token). one_choice else_part (first x)) e
 
-pub branch-second-stuck : (ts a b c : List Token) (e : Expression) (v : Statement) (s : Stop) → IsConditionRead ts a e → IsRead a_statement a b v → b ≡ The Else ∷ c → IsStuck a_statement c s → IsBranchStuck ts s
-branch-second-stuck ts a b c e v (Syntax rest) d q f h = λ symbols.
+pub if_then-second-stuck : (ts a b c : List Token) (e : Expression) (v : Statement) (s : ParseStop) → IsConditionRead ts a e → IsRead a_statement a b v → b ≡ The Else ∷ c → IsStuck a_statement c s → IsBranchStuck ts s
+if_then-second-stuck ts a b c e v (Syntax rest) d q f h = λ symbols.
     let P : List Token → Type 0 = λ x. Stuck (T (the Else) ∷ N a_statement ∷ symbols) x rest.now in
     stuck_after d (stuck_after q (stuck_inside else_some (chosen-else b c f) (λ z. absurd z) (subst P (sym f) (stuck_past is_the (h symbols)))))
-branch-second-stuck ts a b c e v NoMemory d q f h = tt
+if_then-second-stuck ts a b c e v NoMemory d q f h = tt
 
-pub branch-alone-read : (ts a b : List Token) (e : Expression) (v : Statement) → IsConditionRead ts a e → IsRead a_statement a b v → HasNoElse b → IsBranchRead ts b (branch e v)
-branch-alone-read ts a b e v d q h = (e, v, None, condition-then d (followed q (whole else_none (else-none (first b) h) read_nothing)), refl)
+pub if_then-alone-read : (ts a b : List Token) (e : Expression) (v : Statement) → IsConditionRead ts a e → IsRead a_statement a b v → HasNoElse b → IsBranchRead ts b (if_then e v)
+if_then-alone-read ts a b e v d q h = (e, v, None, condition-then d (followed q (whole else_none (else-none (first b) h) read_nothing)), refl)
 
-pub branch-else-read : (ts a b c f : List Token) (e : Expression) (v w : Statement) → IsConditionRead ts a e → IsRead a_statement a b v → b ≡ The Else ∷ c → IsRead a_statement c f w → IsBranchRead ts f (branch_else e v w)
-branch-else-read ts a b c f e v w d q h z =
+pub if_then-else-read : (ts a b c f : List Token) (e : Expression) (v w : Statement) → IsConditionRead ts a e → IsRead a_statement a b v → b ≡ The Else ∷ c → IsRead a_statement c f w → IsBranchRead ts f (if_then_else e v w)
+if_then-else-read ts a b c f e v w d q h z =
     let P : List Token → Type 0 = λ x. Reads (T (the Else) ∷ N a_statement ∷ []) x f (tt, (w, tt)) in
     (e, v, Some w, condition-then d (followed q (whole else_some (chosen-else b c h) (subst P (sym h) (read_token is_the z)))), refl)
 
@@ -198,23 +198,23 @@ chosen-value ts a e = ap (λ (x : List Token). one_choice declared (first x)) e
 pub declared-read : (ts a b : List Token) (v : Value) → StartsWith Assign ts a → IsRead value a b v → IsRead declared ts b (Some v)
 declared-read ts a b v e d = whole declared_some (chosen-value ts a e) (mark-then e d)
 
-pub declared-stuck : (ts a : List Token) (s : Stop) → StartsWith Assign ts a → IsStuck value a s → IsStuck declared ts s
+pub declared-stuck : (ts a : List Token) (s : ParseStop) → StartsWith Assign ts a → IsStuck value a s → IsStuck declared ts s
 declared-stuck ts a s e h = inside declared_some ts s (chosen-value ts a e) (λ z. z) (past-mark Assign (N value ∷ []) ts a s e h)
 
 -- items
-pub declare-read : (ts a b c d : List Token) (k : Kind) (x : Identifier) (v : Option Value) → IsRead a_type ts a k → StartsWithName a x b → IsRead declared b c v → StartsWith Semicolon c d → IsRead an_item ts d (declare k x v)
+pub declare-read : (ts a b c d : List Token) (k : IntegerType) (x : Identifier) (v : Option Value) → IsRead a_type ts a k → StartsWithName a x b → IsRead declared b c v → StartsWith Semicolon c d → IsRead an_item ts d (declare k x v)
 declare-read ts a b c d k x v q e g h = whole item_declare (type-starts (derived q)).item (followed q (name-then e (followed g (mark-end h))))
 
-declare-stuck : (ts a : List Token) (k : Kind) (s : Stop) → IsRead a_type ts a k → AreStuck (T a_name ∷ N declared ∷ T (the Semicolon) ∷ []) a s → IsStuck an_item ts s
+declare-stuck : (ts a : List Token) (k : IntegerType) (s : ParseStop) → IsRead a_type ts a k → AreStuck (T a_name ∷ N declared ∷ T (the Semicolon) ∷ []) a s → IsStuck an_item ts s
 declare-stuck ts a k s q h = inside item_declare ts s (type-starts (derived q)).item (λ z. z) (past-phrase a_type (T a_name ∷ N declared ∷ T (the Semicolon) ∷ []) ts a k s q h)
 
-pub declare-name-stuck : (ts a : List Token) (k : Kind) (s : Stop) → IsRead a_type ts a k → IsNameMissing a s → IsStuck an_item ts s
+pub declare-name-stuck : (ts a : List Token) (k : IntegerType) (s : ParseStop) → IsRead a_type ts a k → IsNameMissing a s → IsStuck an_item ts s
 declare-name-stuck ts a k s q h = declare-stuck ts a k s q (name-missing-first (N declared ∷ T (the Semicolon) ∷ []) a s h)
 
-pub declare-value-stuck : (ts a b : List Token) (k : Kind) (x : Identifier) (s : Stop) → IsRead a_type ts a k → StartsWithName a x b → IsStuck declared b s → IsStuck an_item ts s
+pub declare-value-stuck : (ts a b : List Token) (k : IntegerType) (x : Identifier) (s : ParseStop) → IsRead a_type ts a k → StartsWithName a x b → IsStuck declared b s → IsStuck an_item ts s
 declare-value-stuck ts a b k x s q e h = declare-stuck ts a k s q (past-name (N declared ∷ T (the Semicolon) ∷ []) a b x s e (first-phrase declared (T (the Semicolon) ∷ []) b s h))
 
-pub declare-end-stuck : (ts a b c : List Token) (k : Kind) (x : Identifier) (v : Option Value) (s : Stop) → IsRead a_type ts a k → StartsWithName a x b → IsRead declared b c v → IsMissing Semicolon c s → IsStuck an_item ts s
+pub declare-end-stuck : (ts a b c : List Token) (k : IntegerType) (x : Identifier) (v : Option Value) (s : ParseStop) → IsRead a_type ts a k → StartsWithName a x b → IsRead declared b c v → IsMissing Semicolon c s → IsStuck an_item ts s
 declare-end-stuck ts a b c k x v s q e g h = declare-stuck ts a k s q (past-name (N declared ∷ T (the Semicolon) ∷ []) a b x s e (past-phrase declared (T (the Semicolon) ∷ []) b c v s g (missing-first Semicolon [] c s h)))
 
 chosen-item : (next : Option Token) → next ≢ Some (The Int) → next ≢ Some (The Unsigned) → one_choice an_item next ≡ Some (N a_statement ∷ [], item_statement)
@@ -226,7 +226,7 @@ chosen-item (Some _) h k = refl
 pub item-statement-read : (ts a : List Token) (s : Statement) → HasNoType ts → IsRead a_statement ts a s → IsRead an_item ts a (statement s)
 item-statement-read ts a s h d = whole item_statement (chosen-item (first ts) h.0 h.1) d
 
-pub item-statement-stuck : (ts : List Token) (s : Stop) → HasNoType ts → IsStuck a_statement ts s → IsStuck an_item ts s
+pub item-statement-stuck : (ts : List Token) (s : ParseStop) → HasNoType ts → IsStuck a_statement ts s → IsStuck an_item ts s
 item-statement-stuck ts s h k = inside item_statement ts s (chosen-item (first ts) h.0 h.1) (λ z. z) k
 
 -- a simple statement that may be missing, and the mark after it
@@ -241,7 +241,7 @@ no-simple-read ts h = whole simple_none (no-simple (first ts) h) read_nothing
 pub ended-none-read : (u : Mark) (ts rest : List Token) → StartsUnnamed ts → StartsWith u ts rest → IsEndedRead maybe_simple u ts rest None
 ended-none-read u ts rest h e = followed (no-simple-read ts h) (mark-end e)
 
-pub ended-none-stuck : (u : Mark) (ts : List Token) (s : Stop) → StartsUnnamed ts → IsMissing u ts s → IsEndedStuck maybe_simple u ts s
+pub ended-none-stuck : (u : Mark) (ts : List Token) (s : ParseStop) → StartsUnnamed ts → IsMissing u ts s → IsEndedStuck maybe_simple u ts s
 ended-none-stuck u ts s h k = past-phrase maybe_simple (T (the u) ∷ []) ts ts None s (no-simple-read ts h) (missing-first u [] ts s k)
 
 chosen-simple : (ts : List Token) (x : Identifier) → StartsNamed ts x → one_choice maybe_simple (first ts) ≡ Some (N simple ∷ [], simple_some)
@@ -253,10 +253,10 @@ some-simple-read ts a x v e d = whole simple_some (chosen-simple ts x e) d
 pub ended-some-read : (u : Mark) (ts a rest : List Token) (x : Identifier) (v : Simple) → StartsNamed ts x → IsRead simple ts a v → StartsWith u a rest → IsEndedRead maybe_simple u ts rest (Some v)
 ended-some-read u ts a rest x v e d h = followed (some-simple-read ts a x v e d) (mark-end h)
 
-pub ended-some-stuck : (u : Mark) (ts : List Token) (x : Identifier) (s : Stop) → StartsNamed ts x → IsStuck simple ts s → IsEndedStuck maybe_simple u ts s
+pub ended-some-stuck : (u : Mark) (ts : List Token) (x : Identifier) (s : ParseStop) → StartsNamed ts x → IsStuck simple ts s → IsEndedStuck maybe_simple u ts s
 ended-some-stuck u ts x s e h = first-phrase maybe_simple (T (the u) ∷ []) ts s (inside simple_some ts s (chosen-simple ts x e) (λ z. z) h)
 
-pub ended-close-stuck : (u : Mark) (ts a : List Token) (x : Identifier) (v : Simple) (s : Stop) → StartsNamed ts x → IsRead simple ts a v → IsMissing u a s → IsEndedStuck maybe_simple u ts s
+pub ended-close-stuck : (u : Mark) (ts a : List Token) (x : Identifier) (v : Simple) (s : ParseStop) → StartsNamed ts x → IsRead simple ts a v → IsMissing u a s → IsEndedStuck maybe_simple u ts s
 ended-close-stuck u ts a x v s e d h = past-phrase maybe_simple (T (the u) ∷ []) ts a (Some v) s (some-simple-read ts a x v e d) (missing-first u [] a s h)
 
 -- an expression that may be missing, and the semicolon after it
@@ -271,7 +271,7 @@ chosen-expression (Some _) h = refl
 pub some-expression-read : (ts rest : List Token) (e : Expression) → StartsWithout Semicolon ts → IsClosedRead Semicolon ts rest e → IsEndedRead maybe_expression Semicolon ts rest (Some e)
 some-expression-read ts rest e h (read_phrase r c d q z) = followed (whole expression_some (chosen-expression (first ts) h) (read_phrase r c d q read_nothing)) z
 
-pub some-expression-stuck : (ts : List Token) (s : Stop) → StartsWithout Semicolon ts → IsClosedStuck Semicolon ts s → IsEndedStuck maybe_expression Semicolon ts s
+pub some-expression-stuck : (ts : List Token) (s : ParseStop) → StartsWithout Semicolon ts → IsClosedStuck Semicolon ts s → IsEndedStuck maybe_expression Semicolon ts s
 some-expression-stuck ts (Syntax rest) h k = λ symbols. stuck_inside expression_some (chosen-expression (first ts) h) (λ z. absurd z) (k symbols)
 some-expression-stuck ts NoMemory h k = tt
 
@@ -280,43 +280,43 @@ pub head-read : (ts a b c rest : List Token) (x : Option Simple) (y : Option Exp
     IsEndedRead maybe_simple RightParen c rest z → IsHeadRead ts rest x y z
 head-read ts a b c rest x y z e f g h = mark-then e (ended-then f (ended-then g h))
 
-pub head-open-stuck : (ts : List Token) (s : Stop) → IsMissing LeftParen ts s → IsHeadStuck ts s
+pub head-open-stuck : (ts : List Token) (s : ParseStop) → IsMissing LeftParen ts s → IsHeadStuck ts s
 head-open-stuck ts s h = missing-first LeftParen (N maybe_simple ∷ T (the Semicolon) ∷ N maybe_expression ∷ T (the Semicolon) ∷ N maybe_simple ∷ T (the RightParen) ∷ []) ts s h
 
-pub head-first-stuck : (ts a : List Token) (s : Stop) → StartsWith LeftParen ts a → IsEndedStuck maybe_simple Semicolon a s → IsHeadStuck ts s
+pub head-first-stuck : (ts a : List Token) (s : ParseStop) → StartsWith LeftParen ts a → IsEndedStuck maybe_simple Semicolon a s → IsHeadStuck ts s
 head-first-stuck ts a s e h = past-mark LeftParen (N maybe_simple ∷ T (the Semicolon) ∷ N maybe_expression ∷ T (the Semicolon) ∷ N maybe_simple ∷ T (the RightParen) ∷ []) ts a s e (first-ended maybe_simple Semicolon (N maybe_expression ∷ T (the Semicolon) ∷ N maybe_simple ∷ T (the RightParen) ∷ []) a s h)
 
-pub head-test-stuck : (ts a b : List Token) (x : Option Simple) (s : Stop) → StartsWith LeftParen ts a → IsEndedRead maybe_simple Semicolon a b x → IsEndedStuck maybe_expression Semicolon b s → IsHeadStuck ts s
+pub head-test-stuck : (ts a b : List Token) (x : Option Simple) (s : ParseStop) → StartsWith LeftParen ts a → IsEndedRead maybe_simple Semicolon a b x → IsEndedStuck maybe_expression Semicolon b s → IsHeadStuck ts s
 head-test-stuck ts a b x s e f h = past-mark LeftParen (N maybe_simple ∷ T (the Semicolon) ∷ N maybe_expression ∷ T (the Semicolon) ∷ N maybe_simple ∷ T (the RightParen) ∷ []) ts a s e (past-ended maybe_simple Semicolon (N maybe_expression ∷ T (the Semicolon) ∷ N maybe_simple ∷ T (the RightParen) ∷ []) a b x s f (first-ended maybe_expression Semicolon (N maybe_simple ∷ T (the RightParen) ∷ []) b s h))
 
-pub head-last-stuck : (ts a b c : List Token) (x : Option Simple) (y : Option Expression) (s : Stop) → StartsWith LeftParen ts a → IsEndedRead maybe_simple Semicolon a b x → IsEndedRead maybe_expression Semicolon b c y →
+pub head-last-stuck : (ts a b c : List Token) (x : Option Simple) (y : Option Expression) (s : ParseStop) → StartsWith LeftParen ts a → IsEndedRead maybe_simple Semicolon a b x → IsEndedRead maybe_expression Semicolon b c y →
     IsEndedStuck maybe_simple RightParen c s → IsHeadStuck ts s
 head-last-stuck ts a b c x y s e f g h = past-mark LeftParen (N maybe_simple ∷ T (the Semicolon) ∷ N maybe_expression ∷ T (the Semicolon) ∷ N maybe_simple ∷ T (the RightParen) ∷ []) ts a s e (past-ended maybe_simple Semicolon (N maybe_expression ∷ T (the Semicolon) ∷ N maybe_simple ∷ T (the RightParen) ∷ []) a b x s f (past-ended maybe_expression Semicolon (N maybe_simple ∷ T (the RightParen) ∷ []) b c y s g h))
 
-head-then : {symbols : List Symbol} {ts a rest : List Token} {x : Option Simple} {y : Option Expression} {z : Option Simple} {m : Meanings symbols} → IsHeadRead ts a x y z → Reads symbols a rest m →
+head-then : {symbols : List Symbol} {ts a rest : List Token} {x : Option Simple} {y : Option Expression} {z : Option Simple} {m : PhraseTrees symbols} → IsHeadRead ts a x y z → Reads symbols a rest m →
     Reads (T (the LeftParen) ∷ N maybe_simple ∷ T (the Semicolon) ∷ N maybe_expression ∷ T (the Semicolon) ∷ N maybe_simple ∷ T (the RightParen) ∷ symbols) ts rest (tt, (x, (tt, (y, (tt, (z, (tt, m)))))))
 head-then (read_token i (read_phrase r c d e (read_token i' (read_phrase r' c' d' e' (read_token i'' (read_phrase r'' c'' d'' e'' (read_token j read_nothing))))))) q =
     read_token i (read_phrase r c d e (read_token i' (read_phrase r' c' d' e' (read_token i'' (read_phrase r'' c'' d'' e'' (read_token j q))))))
 
-pub for-read : (ts a rest : List Token) (x : Option Simple) (y : Option Expression) (z : Option Simple) (v : Statement) → IsHeadRead ts a x y z → IsRead a_statement a rest v → IsRead a_statement (The For ∷ ts) rest (repeat_for x y z v)
+pub for-read : (ts a rest : List Token) (x : Option Simple) (y : Option Expression) (z : Option Simple) (v : Statement) → IsHeadRead ts a x y z → IsRead a_statement a rest v → IsRead a_statement (The For ∷ ts) rest (for_loop x y z v)
 for-read ts a rest x y z v d q = whole statement_for refl (read_token is_the (head-then d q))
 
-pub for-head-stuck : (ts : List Token) (s : Stop) → IsHeadStuck ts s → IsStuck a_statement (The For ∷ ts) s
+pub for-head-stuck : (ts : List Token) (s : ParseStop) → IsHeadStuck ts s → IsStuck a_statement (The For ∷ ts) s
 for-head-stuck ts (Syntax rest) h = λ symbols. stuck_inside statement_for refl (λ z. absurd z) (stuck_past is_the (h (N a_statement ∷ symbols)))
 for-head-stuck ts NoMemory h = tt
 
-pub for-body-stuck : (ts a : List Token) (x : Option Simple) (y : Option Expression) (z : Option Simple) (s : Stop) → IsHeadRead ts a x y z → IsStuck a_statement a s → IsStuck a_statement (The For ∷ ts) s
+pub for-body-stuck : (ts a : List Token) (x : Option Simple) (y : Option Expression) (z : Option Simple) (s : ParseStop) → IsHeadRead ts a x y z → IsStuck a_statement a s → IsStuck a_statement (The For ∷ ts) s
 for-body-stuck ts a x y z (Syntax rest) d h = λ symbols. stuck_inside statement_for refl (λ z. absurd z) (stuck_past is_the (stuck_after d (h symbols)))
 for-body-stuck ts a x y z NoMemory d h = tt
 
-pub while-read : (ts a rest : List Token) (e : Expression) (v : Statement) → IsConditionRead ts a e → IsRead a_statement a rest v → IsRead a_statement (The While ∷ ts) rest (repeat e v)
+pub while-read : (ts a rest : List Token) (e : Expression) (v : Statement) → IsConditionRead ts a e → IsRead a_statement a rest v → IsRead a_statement (The While ∷ ts) rest (while_loop e v)
 while-read ts a rest e v d q = whole statement_while refl (read_token is_the (condition-then d q))
 
-pub while-test-stuck : (ts : List Token) (s : Stop) → IsConditionStuck ts s → IsStuck a_statement (The While ∷ ts) s
+pub while-test-stuck : (ts : List Token) (s : ParseStop) → IsConditionStuck ts s → IsStuck a_statement (The While ∷ ts) s
 while-test-stuck ts (Syntax rest) h = λ symbols. stuck_inside statement_while refl (λ z. absurd z) (stuck_past is_the (h (N a_statement ∷ symbols)))
 while-test-stuck ts NoMemory h = tt
 
-pub while-body-stuck : (ts a : List Token) (e : Expression) (s : Stop) → IsConditionRead ts a e → IsStuck a_statement a s → IsStuck a_statement (The While ∷ ts) s
+pub while-body-stuck : (ts a : List Token) (e : Expression) (s : ParseStop) → IsConditionRead ts a e → IsStuck a_statement a s → IsStuck a_statement (The While ∷ ts) s
 while-body-stuck ts a e (Syntax rest) d h = λ symbols. stuck_inside statement_while refl (λ z. absurd z) (stuck_past is_the (stuck_after d (h symbols)))
 while-body-stuck ts a e NoMemory d h = tt
 
@@ -324,21 +324,21 @@ while-body-stuck ts a e NoMemory d h = tt
 pub break-read : (at : ℕ) (ts rest : List Token) → StartsWith Semicolon ts rest → IsRead a_statement (Jump Break at ∷ ts) rest (break_at at)
 break-read at ts rest e = whole statement_break refl (read_token is_jump (mark-end e))
 
-pub break-stuck : (at : ℕ) (ts : List Token) (s : Stop) → IsMissing Semicolon ts s → IsStuck a_statement (Jump Break at ∷ ts) s
+pub break-stuck : (at : ℕ) (ts : List Token) (s : ParseStop) → IsMissing Semicolon ts s → IsStuck a_statement (Jump Break at ∷ ts) s
 break-stuck at ts (Syntax rest) h = λ symbols. stuck_inside statement_break refl (λ z. absurd z) (stuck_past is_jump (missing-first Semicolon [] ts (Syntax rest) h symbols))
 break-stuck at ts NoMemory h = tt
 
 pub continue-read : (at : ℕ) (ts rest : List Token) → StartsWith Semicolon ts rest → IsRead a_statement (Jump Continue at ∷ ts) rest (continue_at at)
 continue-read at ts rest e = whole statement_continue refl (read_token is_jump (mark-end e))
 
-pub continue-stuck : (at : ℕ) (ts : List Token) (s : Stop) → IsMissing Semicolon ts s → IsStuck a_statement (Jump Continue at ∷ ts) s
+pub continue-stuck : (at : ℕ) (ts : List Token) (s : ParseStop) → IsMissing Semicolon ts s → IsStuck a_statement (Jump Continue at ∷ ts) s
 continue-stuck at ts (Syntax rest) h = λ symbols. stuck_inside statement_continue refl (λ z. absurd z) (stuck_past is_jump (missing-first Semicolon [] ts (Syntax rest) h symbols))
 continue-stuck at ts NoMemory h = tt
 
 pub return-read : (at : ℕ) (ts rest : List Token) (v : Option Expression) → IsEndedRead maybe_expression Semicolon ts rest v → IsRead a_statement (Jump Return at ∷ ts) rest (return_at at v)
 return-read at ts rest v d = whole statement_return refl (read_token is_jump d)
 
-pub return-stuck : (at : ℕ) (ts : List Token) (s : Stop) → IsEndedStuck maybe_expression Semicolon ts s → IsStuck a_statement (Jump Return at ∷ ts) s
+pub return-stuck : (at : ℕ) (ts : List Token) (s : ParseStop) → IsEndedStuck maybe_expression Semicolon ts s → IsStuck a_statement (Jump Return at ∷ ts) s
 return-stuck at ts (Syntax rest) h = λ symbols. stuck_inside statement_return refl (λ z. absurd z) (stuck_past is_jump (h symbols))
 return-stuck at ts NoMemory h = tt
 
@@ -369,7 +369,7 @@ goes-on-items-more ts middle next all i g h d l = record {
 pub items-end-read : (ts middle : List Token) (all : Items) → GoesOnItems ts middle all → EndsItems (first middle) → IsRead items ts middle all
 items-end-read ts middle all g h = let P : Items → Type 0 = λ x. IsRead items ts middle x in subst P (after-none all) (g.reads middle no_items (whole items_end h read_nothing))
 
-pub items-item-stuck : (ts middle : List Token) (all : Items) (s : Stop) → GoesOnItems ts middle all → (EndsItems (first middle) → ⊥) → IsStuck an_item middle s → IsStuck items ts s
+pub items-item-stuck : (ts middle : List Token) (all : Items) (s : ParseStop) → GoesOnItems ts middle all → (EndsItems (first middle) → ⊥) → IsStuck an_item middle s → IsStuck items ts s
 items-item-stuck ts middle all (Syntax rest) g h k = g.stuck rest.now (λ symbols. stuck_inside items_more (items-go-on (first middle) h) (λ z. absurd z) (k (N items ∷ symbols)))
 items-item-stuck ts middle all NoMemory g h k = tt
 

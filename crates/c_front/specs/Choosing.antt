@@ -4,33 +4,33 @@ use Rattle.c_tokens.specs.declared.token.JumpWord.TheVariants.{Break, Continue, 
 use Rattle.c_tokens.specs.declared.token.Token.{Token}
 use Rattle.c_tokens.specs.declared.token.Token.TheVariants.{Name, Constant, Jump, The}
 use Rattle.c_tokens.specs.declared.token.Mark.{Mark}
-use Rattle.c_tokens.specs.declared.token.Mark.TheVariants.{Int, Unsigned, Void, If, Else, While, For, Semicolon, Comma, LeftBrace, RightBrace, LeftParen, RightParen, LeftBracket, Assign, Question, Plus, Minus, Star, Slash, Percent, Bang, Tilde, BarBar, AndAnd, Bar, Caret, Ampersand, EqualEqual, BangEqual, Less, Greater, LessEqual, GreaterEqual, LessLess, GreaterGreater}
+use Rattle.c_tokens.specs.declared.token.Mark.TheVariants.{Int, Unsigned, Void, If, Else, While, For, Semicolon, Comma, LeftBrace, RightBrace, LeftParen, RightParen, LeftBracket, Assign, Question, Plus, Minus, Star, Slash, Percent, Bang, Tilde, BarBar, AndAnd, Bar, Caret, Ampersand, EqualEqual, BangEqual, LessSign, GreaterSign, LessEqual, GreaterEqual, LessLess, GreaterGreater}
 use Rattle.c_front.specs.declared.tree.BinaryOp.{BinaryOp}
-use Rattle.c_front.specs.Grammar.{the, Level, units, above, Nonterminal, a_program, declarations, a_declaration, a_type, maybe_int, after_global, initial, function_rest, parameters, more_parameters, items, an_item, declared, a_statement, else_part, maybe_simple, maybe_expression, simple, value, a_call, arguments, more_arguments, an_expression, choice, operands, more_operands, Symbol, T, N, Operator, multiply, divide, remainder, add, subtract, shift_left, shift_right, below, exceeds, at_most, at_least, same, differs, bit_and, bit_xor, bit_or, both, either, negate, identity, complement, not, Rule, program_rule, declarations_end, declarations_more, declaration_typed, declaration_void, type_int, type_unsigned, int_none, int_some, global_plain, global_initial, global_array, global_function, initial_plain, initial_negative, function_rule, parameters_void, parameters_some, more_parameters_end, more_parameters_more, items_end, items_more, item_declare, item_statement, declared_none, declared_some, statement_empty, statement_block, statement_if, statement_while, statement_for, statement_break, statement_continue, statement_return, statement_simple, else_none, else_some, simple_none, simple_some, expression_none, expression_some, simple_assign, simple_assign_at, simple_call, value_plain, value_call, call_rule, arguments_none, arguments_some, more_arguments_end, more_arguments_more, expression_rule, choice_none, choice_some, operands_rule, operands_end, operands_more, operand_constant, operand_name, operand_index, operand_unary, operand_paren}
+use Rattle.c_front.specs.Grammar.{the, Level, unary_expressions, above, Nonterminal, a_program, declarations, a_declaration, a_type, maybe_int, after_global, initial, function_rest, parameters, more_parameters, items, an_item, declared, a_statement, else_part, maybe_simple, maybe_expression, simple, value, a_call, arguments, more_arguments, an_expression, choice, operands, more_operands, Symbol, T, N, Operator, multiply, divide, remainder, add, subtract, shift_left, shift_right, less, greater, less_or_equal, greater_or_equal, equal, not_equal, bit_and, bit_xor, bit_or, logical_and, logical_or, negate, identity, complement, not, Rule, program_rule, declarations_end, declarations_more, declaration_typed, declaration_void, type_int, type_unsigned, int_none, int_some, global_plain, global_initial, global_array, global_function, initial_plain, initial_negative, function_rule, parameters_void, parameters_some, more_parameters_end, more_parameters_more, items_end, items_more, item_declare, item_statement, declared_none, declared_some, statement_empty, statement_block, statement_if, statement_while, statement_for, statement_break, statement_continue, statement_return, statement_simple, else_none, else_some, simple_none, simple_some, expression_none, expression_some, simple_assign, simple_assign_at, simple_call, value_plain, value_call, call_rule, arguments_none, arguments_some, more_arguments_end, more_arguments_more, expression_rule, choice_none, choice_some, operands_rule, operands_end, operands_more, operand_constant, operand_name, operand_index, operand_unary, operand_paren}
 
 abbrev pub Choice : Nonterminal → Type 0
 Choice n = (symbols : List Symbol) × Rule n symbols
 
 -- the operator of a level that a token is
 abbrev pub operator_at : (l : Level) (t : Mark) → Option ((o : BinaryOp) × Operator l o t)
-operator_at units Star = Some (_, multiply)
-operator_at units Slash = Some (_, divide)
-operator_at units Percent = Some (_, remainder)
-operator_at (above units) Plus = Some (_, add)
-operator_at (above units) Minus = Some (_, subtract)
-operator_at (above (above units)) LessLess = Some (_, shift_left)
-operator_at (above (above units)) GreaterGreater = Some (_, shift_right)
-operator_at (above (above (above units))) Less = Some (_, below)
-operator_at (above (above (above units))) Greater = Some (_, exceeds)
-operator_at (above (above (above units))) LessEqual = Some (_, at_most)
-operator_at (above (above (above units))) GreaterEqual = Some (_, at_least)
-operator_at (above (above (above (above units)))) EqualEqual = Some (_, same)
-operator_at (above (above (above (above units)))) BangEqual = Some (_, differs)
-operator_at (above (above (above (above (above units))))) Ampersand = Some (_, bit_and)
-operator_at (above (above (above (above (above (above units)))))) Caret = Some (_, bit_xor)
-operator_at (above (above (above (above (above (above (above units))))))) Bar = Some (_, bit_or)
-operator_at (above (above (above (above (above (above (above (above units)))))))) AndAnd = Some (_, both)
-operator_at (above (above (above (above (above (above (above (above (above units))))))))) BarBar = Some (_, either)
+operator_at unary_expressions Star = Some (_, multiply)
+operator_at unary_expressions Slash = Some (_, divide)
+operator_at unary_expressions Percent = Some (_, remainder)
+operator_at (above unary_expressions) Plus = Some (_, add)
+operator_at (above unary_expressions) Minus = Some (_, subtract)
+operator_at (above (above unary_expressions)) LessLess = Some (_, shift_left)
+operator_at (above (above unary_expressions)) GreaterGreater = Some (_, shift_right)
+operator_at (above (above (above unary_expressions))) LessSign = Some (_, less)
+operator_at (above (above (above unary_expressions))) GreaterSign = Some (_, greater)
+operator_at (above (above (above unary_expressions))) LessEqual = Some (_, less_or_equal)
+operator_at (above (above (above unary_expressions))) GreaterEqual = Some (_, greater_or_equal)
+operator_at (above (above (above (above unary_expressions)))) EqualEqual = Some (_, equal)
+operator_at (above (above (above (above unary_expressions)))) BangEqual = Some (_, not_equal)
+operator_at (above (above (above (above (above unary_expressions))))) Ampersand = Some (_, bit_and)
+operator_at (above (above (above (above (above (above unary_expressions)))))) Caret = Some (_, bit_xor)
+operator_at (above (above (above (above (above (above (above unary_expressions))))))) Bar = Some (_, bit_or)
+operator_at (above (above (above (above (above (above (above (above unary_expressions)))))))) AndAnd = Some (_, logical_and)
+operator_at (above (above (above (above (above (above (above (above (above unary_expressions))))))))) BarBar = Some (_, logical_or)
 operator_at _ _ = None
 
 abbrev pub more_choice : (l : Level) (t : Mark) → Option ((o : BinaryOp) × Operator l o t) → Choice (more_operands l)
@@ -98,7 +98,7 @@ one_choice (more_operands l) (Some (The t)) = Some (more_choice l t (operator_at
 one_choice (more_operands l) (Some _) = Some (_, operands_end)
 one_choice simple _ = None
 one_choice value _ = None
-one_choice (operands units) _ = None
+one_choice (operands unary_expressions) _ = None
 
 abbrev pub simple_choice : Option Token → Option Token → Option (Choice simple)
 simple_choice (Some (Name x)) (Some (The LeftParen)) = Some (_, simple_call)
@@ -110,7 +110,7 @@ abbrev pub value_choice : Option Token → Option Token → Option (Choice value
 value_choice (Some (Name x)) (Some (The LeftParen)) = Some (_, value_call)
 value_choice _ _ = Some (_, value_plain)
 
-abbrev pub unit_choice : Option Token → Option Token → Option (Choice (operands units))
+abbrev pub unit_choice : Option Token → Option Token → Option (Choice (operands unary_expressions))
 unit_choice (Some (Constant k)) _ = Some (_, operand_constant)
 unit_choice (Some (Name x)) (Some (The LeftBracket)) = Some (_, operand_index)
 unit_choice (Some (Name x)) _ = Some (_, operand_name)
@@ -124,14 +124,14 @@ unit_choice _ _ = None
 abbrev pub chosen_rule : (n : Nonterminal) → Option Token → Option Token → Option (Choice n)
 chosen_rule simple next after = simple_choice next after
 chosen_rule value next after = value_choice next after
-chosen_rule (operands units) next after = unit_choice next after
+chosen_rule (operands unary_expressions) next after = unit_choice next after
 chosen_rule n next after = one_choice n next
 
 -- the second token has a say
 abbrev pub Peeks : Nonterminal → Option Token → Type 0
 Peeks simple (Some (Name x)) = Unit {0}
 Peeks value (Some (Name x)) = Unit {0}
-Peeks (operands units) (Some (Name x)) = Unit {0}
+Peeks (operands unary_expressions) (Some (Name x)) = Unit {0}
 Peeks _ _ = ⊥
 
 -- the token ends the operands of a level

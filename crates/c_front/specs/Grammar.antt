@@ -1,22 +1,22 @@
 -- The grammar: a rule for each alternative, with the tree that it gives.
 use Rattle.std.specs.Prelude.{◌≡◌, ◌≢◌, ℕ, List, [], ◌∷◌, Option, Some, None, true, false}
 use Rattle.c_tokens.specs.declared.token.Identifier.{Identifier}
-use Rattle.c_tokens.specs.declared.token.Kind.{Kind}
-use Rattle.c_tokens.specs.declared.token.Kind.TheVariants.{SignedInt, UnsignedInt}
+use Rattle.c_tokens.specs.declared.token.IntegerType.{IntegerType}
+use Rattle.c_tokens.specs.declared.token.IntegerType.TheVariants.{SignedInt, UnsignedInt}
 use Rattle.c_tokens.specs.declared.token.JumpWord.{JumpWord}
 use Rattle.c_tokens.specs.declared.token.JumpWord.TheVariants.{Break, Continue, Return}
 use Rattle.c_tokens.specs.declared.token.Token.{Token}
 use Rattle.c_tokens.specs.declared.token.Token.TheVariants.{Name, Constant, Jump, The}
 use Rattle.c_tokens.specs.declared.token.Mark.{Mark}
-use Rattle.c_tokens.specs.declared.token.Mark.TheVariants.{Int, Unsigned, Void, If, Else, While, For, Semicolon, Comma, LeftBrace, RightBrace, LeftParen, RightParen, LeftBracket, RightBracket, Assign, Question, Colon, Plus, Minus, Star, Slash, Percent, Bang, Tilde, BarBar, AndAnd, Bar, Caret, Ampersand, EqualEqual, BangEqual, Less, Greater, LessEqual, GreaterEqual, LessLess, GreaterGreater}
+use Rattle.c_tokens.specs.declared.token.Mark.TheVariants.{Int, Unsigned, Void, If, Else, While, For, Semicolon, Comma, LeftBrace, RightBrace, LeftParen, RightParen, LeftBracket, RightBracket, Assign, Question, Colon, Plus, Minus, Star, Slash, Percent, Bang, Tilde, BarBar, AndAnd, Bar, Caret, Ampersand, EqualEqual, BangEqual, LessSign, GreaterSign, LessEqual, GreaterEqual, LessLess, GreaterGreater}
 use Rattle.c_front.specs.declared.tree.UnaryOp.{UnaryOp}
 use Rattle.c_front.specs.declared.tree.UnaryOp.TheVariants.{Negate, Identity, Complement, Not}
 use Rattle.c_front.specs.declared.tree.BinaryOp.{BinaryOp}
-use Rattle.c_front.specs.declared.tree.BinaryOp.TheVariants.{Multiply, Divide, Remainder, Add, Subtract, ShiftLeft, ShiftRight, Below, Exceeds, AtMost, AtLeast, Same, Differs, BitAnd, BitXor, BitOr, Both, Either}
+use Rattle.c_front.specs.declared.tree.BinaryOp.TheVariants.{Multiply, Divide, Remainder, Add, Subtract, ShiftLeft, ShiftRight, Less, Greater, LessOrEqual, GreaterOrEqual, Equal, NotEqual, BitAnd, BitXor, BitOr, LogicalAnd, LogicalOr}
 use Rattle.c_tokens.specs.declared.token.Literal.{Literal}
 use Rattle.c_front.specs.declared.tree.Initial.{Initial}
 use Rattle.c_front.specs.declared.tree.Parameter.{Parameter}
-use Rattle.c_front.specs.Tree.{Expression, constant, name, index, unary, binary, choose, Call, call, Value, plain, called, Simple, assign, assign_at, run, Statement, empty, block, branch, branch_else, repeat, repeat_for, break_at, continue_at, return_at, simply, Item, declare, statement, Items, no_items, more_items, Declaration, variable, array, function}
+use Rattle.c_front.specs.Tree.{Expression, constant, name, index, unary, binary, conditional, Call, call, Value, plain, called, Simple, assign, assign_at, call_statement, Statement, empty, block, if_then, if_then_else, while_loop, for_loop, break_at, continue_at, return_at, simply, Item, declare, statement, Items, no_items, more_items, Declaration, variable, array, function}
 
 -- what a rule may ask of one token: any name, any constant, one of the keywords that leave a place, or a mark
 pub data Sort : Type 0 where
@@ -27,11 +27,11 @@ pub data Sort : Type 0 where
 
 -- the levels of operands: without a binary operator around them, or one level above others
 pub data Level : Type 0 where
-  units : Level
+  unary_expressions : Level
   above : Level → Level
 
 abbrev pub products : Level
-products = above units
+products = above unary_expressions
 
 abbrev pub sums : Level
 sums = above products
@@ -99,68 +99,68 @@ pub data Tail : Type 0 where
   function_tail : List Parameter → Items → Tail
 
 -- what a phrase of each kind means
-abbrev pub Meaning : Nonterminal → Type 0
-Meaning a_program = List Declaration
-Meaning declarations = List Declaration
-Meaning a_declaration = Declaration
-Meaning a_type = Kind
-Meaning maybe_int = Unit {0}
-Meaning after_global = Tail
-Meaning initial = Initial
-Meaning function_rest = List Parameter × Items
-Meaning parameters = List Parameter
-Meaning more_parameters = List Parameter
-Meaning items = Items
-Meaning an_item = Item
-Meaning declared = Option Value
-Meaning a_statement = Statement
-Meaning else_part = Option Statement
-Meaning maybe_simple = Option Simple
-Meaning maybe_expression = Option Expression
-Meaning simple = Simple
-Meaning value = Value
-Meaning a_call = Call
-Meaning arguments = List Expression
-Meaning more_arguments = List Expression
-Meaning an_expression = Expression
-Meaning choice = Option (Expression × Expression)
-Meaning (operands l) = Expression
-Meaning (more_operands l) = List (BinaryOp × Expression)
+abbrev pub PhraseTree : Nonterminal → Type 0
+PhraseTree a_program = List Declaration
+PhraseTree declarations = List Declaration
+PhraseTree a_declaration = Declaration
+PhraseTree a_type = IntegerType
+PhraseTree maybe_int = Unit {0}
+PhraseTree after_global = Tail
+PhraseTree initial = Initial
+PhraseTree function_rest = List Parameter × Items
+PhraseTree parameters = List Parameter
+PhraseTree more_parameters = List Parameter
+PhraseTree items = Items
+PhraseTree an_item = Item
+PhraseTree declared = Option Value
+PhraseTree a_statement = Statement
+PhraseTree else_part = Option Statement
+PhraseTree maybe_simple = Option Simple
+PhraseTree maybe_expression = Option Expression
+PhraseTree simple = Simple
+PhraseTree value = Value
+PhraseTree a_call = Call
+PhraseTree arguments = List Expression
+PhraseTree more_arguments = List Expression
+PhraseTree an_expression = Expression
+PhraseTree choice = Option (Expression × Expression)
+PhraseTree (operands l) = Expression
+PhraseTree (more_operands l) = List (BinaryOp × Expression)
 
-abbrev pub SortMeaning : Sort → Type 0
-SortMeaning a_name = Identifier
-SortMeaning a_constant = Literal
-SortMeaning (a_jump w) = ℕ
-SortMeaning (the t) = Unit {0}
+abbrev pub SortTree : Sort → Type 0
+SortTree a_name = Identifier
+SortTree a_constant = Literal
+SortTree (a_jump w) = ℕ
+SortTree (the t) = Unit {0}
 
-abbrev pub SymbolMeaning : Symbol → Type 0
-SymbolMeaning (T s) = SortMeaning s
-SymbolMeaning (N n) = Meaning n
+abbrev pub SymbolTree : Symbol → Type 0
+SymbolTree (T s) = SortTree s
+SymbolTree (N n) = PhraseTree n
 
-abbrev pub Meanings : List Symbol → Type 0
-Meanings [] = Unit {0}
-Meanings (s ∷ symbols) = SymbolMeaning s × Meanings symbols
+abbrev pub PhraseTrees : List Symbol → Type 0
+PhraseTrees [] = Unit {0}
+PhraseTrees (s ∷ symbols) = SymbolTree s × PhraseTrees symbols
 
 -- a binary operator stands between operands of its level
 pub data Operator : Level → BinaryOp → Mark → Type 0 where
-  multiply : Operator units Multiply Star
-  divide : Operator units Divide Slash
-  remainder : Operator units Remainder Percent
+  multiply : Operator unary_expressions Multiply Star
+  divide : Operator unary_expressions Divide Slash
+  remainder : Operator unary_expressions Remainder Percent
   add : Operator products Add Plus
   subtract : Operator products Subtract Minus
   shift_left : Operator sums ShiftLeft LessLess
   shift_right : Operator sums ShiftRight GreaterGreater
-  below : Operator shifts Below Less
-  exceeds : Operator shifts Exceeds Greater
-  at_most : Operator shifts AtMost LessEqual
-  at_least : Operator shifts AtLeast GreaterEqual
-  same : Operator relations Same EqualEqual
-  differs : Operator relations Differs BangEqual
+  less : Operator shifts Less LessSign
+  greater : Operator shifts Greater GreaterSign
+  less_or_equal : Operator shifts LessOrEqual LessEqual
+  greater_or_equal : Operator shifts GreaterOrEqual GreaterEqual
+  equal : Operator relations Equal EqualEqual
+  not_equal : Operator relations NotEqual BangEqual
   bit_and : Operator equalities BitAnd Ampersand
   bit_xor : Operator bit_ands BitXor Caret
   bit_or : Operator bit_xors BitOr Bar
-  both : Operator bit_ors Both AndAnd
-  either : Operator ands Either BarBar
+  logical_and : Operator bit_ors LogicalAnd AndAnd
+  logical_or : Operator ands LogicalOr BarBar
 
 pub data Prefix : UnaryOp → Mark → Type 0 where
   negate : Prefix Negate Minus
@@ -226,101 +226,101 @@ pub data Rule : Nonterminal → List Symbol → Type 0 where
   operands_rule : {l : Level} → Rule (operands (above l)) (N (operands l) ∷ N (more_operands l) ∷ [])
   operands_end : {l : Level} → Rule (more_operands l) []
   operands_more : {l : Level} {o : BinaryOp} {t : Mark} → Operator l o t → Rule (more_operands l) (T (the t) ∷ N (operands l) ∷ N (more_operands l) ∷ [])
-  operand_constant : Rule (operands units) (T a_constant ∷ [])
-  operand_name : Rule (operands units) (T a_name ∷ [])
-  operand_index : Rule (operands units) (T a_name ∷ T (the LeftBracket) ∷ N an_expression ∷ T (the RightBracket) ∷ [])
-  operand_unary : {o : UnaryOp} {t : Mark} → Prefix o t → Rule (operands units) (T (the t) ∷ N (operands units) ∷ [])
-  operand_paren : Rule (operands units) (T (the LeftParen) ∷ N an_expression ∷ T (the RightParen) ∷ [])
+  operand_constant : Rule (operands unary_expressions) (T a_constant ∷ [])
+  operand_name : Rule (operands unary_expressions) (T a_name ∷ [])
+  operand_index : Rule (operands unary_expressions) (T a_name ∷ T (the LeftBracket) ∷ N an_expression ∷ T (the RightBracket) ∷ [])
+  operand_unary : {o : UnaryOp} {t : Mark} → Prefix o t → Rule (operands unary_expressions) (T (the t) ∷ N (operands unary_expressions) ∷ [])
+  operand_paren : Rule (operands unary_expressions) (T (the LeftParen) ∷ N an_expression ∷ T (the RightParen) ∷ [])
 
 -- binary operators group from the left
-abbrev pub grouped : Expression → List (BinaryOp × Expression) → Expression
-grouped e [] = e
-grouped e (m ∷ ms) = grouped (binary m.0 e m.1) ms
+abbrev pub grouping_of : Expression → List (BinaryOp × Expression) → Expression
+grouping_of e [] = e
+grouping_of e (m ∷ ms) = grouping_of (binary m.0 e m.1) ms
 
-abbrev pub chosen : Expression → Option (Expression × Expression) → Expression
-chosen c None = c
-chosen c (Some m) = choose c m.0 m.1
+abbrev pub conditional_of : Expression → Option (Expression × Expression) → Expression
+conditional_of c None = c
+conditional_of c (Some m) = conditional c m.0 m.1
 
-abbrev pub branched : Expression → Statement → Option Statement → Statement
-branched c s None = branch c s
-branched c s (Some e) = branch_else c s e
+abbrev pub if_of : Expression → Statement → Option Statement → Statement
+if_of c s None = if_then c s
+if_of c s (Some e) = if_then_else c s e
 
-abbrev pub operator_meaning : {l : Level} {o : BinaryOp} {t : Mark} → Operator l o t → BinaryOp
-operator_meaning {o = o} r = o
+abbrev pub operator_of_rule : {l : Level} {o : BinaryOp} {t : Mark} → Operator l o t → BinaryOp
+operator_of_rule {o = o} r = o
 
-abbrev pub prefix_meaning : {o : UnaryOp} {t : Mark} → Prefix o t → UnaryOp
-prefix_meaning {o = o} r = o
+abbrev pub prefix_of_rule : {o : UnaryOp} {t : Mark} → Prefix o t → UnaryOp
+prefix_of_rule {o = o} r = o
 
 -- the declaration of a name
-abbrev pub declared_as : Kind → Identifier → Tail → Declaration
+abbrev pub declared_as : IntegerType → Identifier → Tail → Declaration
 declared_as k x (variable_tail i) = variable k x i
 declared_as k x (array_tail n) = array k x n
 declared_as k x (function_tail ps is) = function (Some k) x ps is
 
 -- the tree of a phrase from those of its parts
-abbrev pub meaning : {n : Nonterminal} {symbols : List Symbol} → Rule n symbols → Meanings symbols → Meaning n
-meaning program_rule m = m.0
-meaning declarations_end m = []
-meaning declarations_more m = m.0 ∷ m.1.0
-meaning declaration_typed m = declared_as m.0 m.1.0 m.1.1.0
-meaning declaration_void m = function None m.1.0 m.1.1.0.0 m.1.1.0.1
-meaning type_int m = SignedInt
-meaning type_unsigned m = UnsignedInt
-meaning int_none m = tt
-meaning int_some m = tt
-meaning global_plain m = variable_tail None
-meaning global_initial m = variable_tail (Some m.1.0)
-meaning global_array m = array_tail m.1.0
-meaning global_function m = function_tail m.0.0 m.0.1
-meaning initial_plain m = record { negative = false; literal = m.0 }
-meaning initial_negative m = record { negative = true; literal = m.1.0 }
-meaning function_rule m = (m.1.0, m.1.1.1.1.0)
-meaning parameters_void m = []
-meaning parameters_some m = record { kind = m.0; name = m.1.0 } ∷ m.1.1.0
-meaning more_parameters_end m = []
-meaning more_parameters_more m = record { kind = m.1.0; name = m.1.1.0 } ∷ m.1.1.1.0
-meaning items_end m = no_items
-meaning items_more m = more_items m.0 m.1.0
-meaning item_declare m = declare m.0 m.1.0 m.1.1.0
-meaning item_statement m = statement m.0
-meaning declared_none m = None
-meaning declared_some m = Some m.1.0
-meaning statement_empty m = empty
-meaning statement_block m = block m.1.0
-meaning statement_if m = branched m.1.1.0 m.1.1.1.1.0 m.1.1.1.1.1.0
-meaning statement_while m = repeat m.1.1.0 m.1.1.1.1.0
-meaning statement_for m = repeat_for m.1.1.0 m.1.1.1.1.0 m.1.1.1.1.1.1.0 m.1.1.1.1.1.1.1.1.0
-meaning statement_break m = break_at m.0
-meaning statement_continue m = continue_at m.0
-meaning statement_return m = return_at m.0 m.1.0
-meaning statement_simple m = simply m.0
-meaning simple_none m = None
-meaning simple_some m = Some m.0
-meaning expression_none m = None
-meaning expression_some m = Some m.0
-meaning else_none m = None
-meaning else_some m = Some m.1.0
-meaning simple_assign m = assign m.0 m.1.1.0
-meaning simple_assign_at m = assign_at m.0 m.1.1.0 m.1.1.1.1.1.0
-meaning simple_call m = run m.0
-meaning value_plain m = plain m.0
-meaning value_call m = called m.0
-meaning call_rule m = call m.0 m.1.1.0
-meaning arguments_none m = []
-meaning arguments_some m = m.0 ∷ m.1.0
-meaning more_arguments_end m = []
-meaning more_arguments_more m = m.1.0 ∷ m.1.1.0
-meaning expression_rule m = chosen m.0 m.1.0
-meaning choice_none m = None
-meaning choice_some m = Some (m.1.0, m.1.1.1.0)
-meaning operands_rule m = grouped m.0 m.1.0
-meaning operands_end m = []
-meaning (operands_more r) m = (operator_meaning r, m.1.0) ∷ m.1.1.0
-meaning operand_constant m = constant m.0
-meaning operand_name m = name m.0
-meaning operand_index m = index m.0 m.1.1.0
-meaning (operand_unary r) m = unary (prefix_meaning r) m.1.0
-meaning operand_paren m = m.1.0
+abbrev pub tree_of : {n : Nonterminal} {symbols : List Symbol} → Rule n symbols → PhraseTrees symbols → PhraseTree n
+tree_of program_rule m = m.0
+tree_of declarations_end m = []
+tree_of declarations_more m = m.0 ∷ m.1.0
+tree_of declaration_typed m = declared_as m.0 m.1.0 m.1.1.0
+tree_of declaration_void m = function None m.1.0 m.1.1.0.0 m.1.1.0.1
+tree_of type_int m = SignedInt
+tree_of type_unsigned m = UnsignedInt
+tree_of int_none m = tt
+tree_of int_some m = tt
+tree_of global_plain m = variable_tail None
+tree_of global_initial m = variable_tail (Some m.1.0)
+tree_of global_array m = array_tail m.1.0
+tree_of global_function m = function_tail m.0.0 m.0.1
+tree_of initial_plain m = record { negative = false; literal = m.0 }
+tree_of initial_negative m = record { negative = true; literal = m.1.0 }
+tree_of function_rule m = (m.1.0, m.1.1.1.1.0)
+tree_of parameters_void m = []
+tree_of parameters_some m = record { integer_type = m.0; name = m.1.0 } ∷ m.1.1.0
+tree_of more_parameters_end m = []
+tree_of more_parameters_more m = record { integer_type = m.1.0; name = m.1.1.0 } ∷ m.1.1.1.0
+tree_of items_end m = no_items
+tree_of items_more m = more_items m.0 m.1.0
+tree_of item_declare m = declare m.0 m.1.0 m.1.1.0
+tree_of item_statement m = statement m.0
+tree_of declared_none m = None
+tree_of declared_some m = Some m.1.0
+tree_of statement_empty m = empty
+tree_of statement_block m = block m.1.0
+tree_of statement_if m = if_of m.1.1.0 m.1.1.1.1.0 m.1.1.1.1.1.0
+tree_of statement_while m = while_loop m.1.1.0 m.1.1.1.1.0
+tree_of statement_for m = for_loop m.1.1.0 m.1.1.1.1.0 m.1.1.1.1.1.1.0 m.1.1.1.1.1.1.1.1.0
+tree_of statement_break m = break_at m.0
+tree_of statement_continue m = continue_at m.0
+tree_of statement_return m = return_at m.0 m.1.0
+tree_of statement_simple m = simply m.0
+tree_of simple_none m = None
+tree_of simple_some m = Some m.0
+tree_of expression_none m = None
+tree_of expression_some m = Some m.0
+tree_of else_none m = None
+tree_of else_some m = Some m.1.0
+tree_of simple_assign m = assign m.0 m.1.1.0
+tree_of simple_assign_at m = assign_at m.0 m.1.1.0 m.1.1.1.1.1.0
+tree_of simple_call m = call_statement m.0
+tree_of value_plain m = plain m.0
+tree_of value_call m = called m.0
+tree_of call_rule m = call m.0 m.1.1.0
+tree_of arguments_none m = []
+tree_of arguments_some m = m.0 ∷ m.1.0
+tree_of more_arguments_end m = []
+tree_of more_arguments_more m = m.1.0 ∷ m.1.1.0
+tree_of expression_rule m = conditional_of m.0 m.1.0
+tree_of choice_none m = None
+tree_of choice_some m = Some (m.1.0, m.1.1.1.0)
+tree_of operands_rule m = grouping_of m.0 m.1.0
+tree_of operands_end m = []
+tree_of (operands_more r) m = (operator_of_rule r, m.1.0) ∷ m.1.1.0
+tree_of operand_constant m = constant m.0
+tree_of operand_name m = name m.0
+tree_of operand_index m = index m.0 m.1.1.0
+tree_of (operand_unary r) m = unary (prefix_of_rule r) m.1.0
+tree_of operand_paren m = m.1.0
 
 abbrev pub first : List Token → Option Token
 first [] = None
@@ -335,19 +335,19 @@ abbrev pub MayPrecede : {n : Nonterminal} {symbols : List Symbol} → Rule n sym
 MayPrecede else_none next = next ≢ Some (The Else)
 MayPrecede _ next = Unit {0}
 
-pub data IsToken : (s : Sort) → Token → SortMeaning s → Type 0 where
+pub data IsToken : (s : Sort) → Token → SortTree s → Type 0 where
   is_name : {x : Identifier} → IsToken a_name (Name x) x
   is_constant : {k : Literal} → IsToken a_constant (Constant k) k
   is_jump : {w : JumpWord} {at : ℕ} → IsToken (a_jump w) (Jump w at) at
   is_the : {t : Mark} → IsToken (the t) (The t) tt
 
 -- the tokens up to `rest` are derived from the symbols, with these trees
-pub data Derives : (symbols : List Symbol) → List Token → List Token → Meanings symbols → Type 0 where
+pub data Derives : (symbols : List Symbol) → List Token → List Token → PhraseTrees symbols → Type 0 where
   nothing : {ts : List Token} → Derives [] ts ts tt
-  token : {s : Sort} {symbols : List Symbol} {t : Token} {ts rest : List Token} {v : SortMeaning s} {m : Meanings symbols} →
+  token : {s : Sort} {symbols : List Symbol} {t : Token} {ts rest : List Token} {v : SortTree s} {m : PhraseTrees symbols} →
       IsToken s t v → Derives symbols ts rest m → Derives (T s ∷ symbols) (t ∷ ts) rest (v, m)
-  phrase : {n : Nonterminal} {inner symbols : List Symbol} {ts middle rest : List Token} {v : Meanings inner} {w : Meaning n} {m : Meanings symbols} →
-      (r : Rule n inner) → Derives inner ts middle v → MayPrecede r (first middle) → w ≡ meaning r v →
+  phrase : {n : Nonterminal} {inner symbols : List Symbol} {ts middle rest : List Token} {v : PhraseTrees inner} {w : PhraseTree n} {m : PhraseTrees symbols} →
+      (r : Rule n inner) → Derives inner ts middle v → MayPrecede r (first middle) → w ≡ tree_of r v →
       Derives symbols middle rest m → Derives (N n ∷ symbols) ts rest (w, m)
 
 -- the tokens are those of a program

@@ -3,7 +3,7 @@ pub mod Grammar
 pub mod Shape
 pub mod Choosing
 pub mod Reading
-pub mod Stop
+pub mod Parsing
 pub mod Syntax
 pub mod Texts
 pub mod Faults

@@ -1,70 +1,70 @@
 -- The tree that a value of the program stands for.
 use Rattle.std.specs.Prelude.{List, [], ◌∷◌, Option, Some, None}
-use Rattle.c_front.specs.declared.tree.Expr.{Expr, Constant, Name, Index', Unary', Binary', Choose'}
-use Rattle.c_front.specs.declared.tree.Stmt.{Stmt, Empty, Block', If', IfElse', While', For', Break, Continue, Return, Simply, Row_of-Item, end_of-Item, more_of-Item}
-use Rattle.c_front.specs.declared.tree.Item.{Item, Declare, Statement}
+use Rattle.c_front.specs.declared.tree.Expression.{Expression, Constant, Name, Index', Unary', Binary', Conditional'}
+use Rattle.c_front.specs.declared.tree.Statement.{Statement, Empty, Block', If', IfElse', While', For', Break, Continue, Return, Simply, Row_of-Item, end_of-Item, more_of-Item}
+use Rattle.c_front.specs.declared.tree.Item.{Item, Declare, Statement as InnerStatement}
 use Rattle.c_front.specs.declared.tree.Call.{Call}
 use Rattle.c_front.specs.declared.tree.Value.{Value}
 use Rattle.c_front.specs.declared.tree.Value.TheVariants.{Plain, Called}
 use Rattle.c_front.specs.declared.tree.Simple.{Simple}
-use Rattle.c_front.specs.declared.tree.Simple.TheVariants.{Assign, AssignAt, CallOf}
+use Rattle.c_front.specs.declared.tree.Simple.TheVariants.{Assign, AssignAt, CallStatement}
 use Rattle.c_front.specs.declared.tree.Declaration.{Declaration}
 use Rattle.c_front.specs.declared.tree.Declaration.TheVariants.{Variable, Array, Function}
 use Rattle.c_front.specs.Tree as Tree
-use Rattle.c_front.specs.Tree.{Expression, Items, constant, name, index, unary, binary, choose, call, plain, called, assign, assign_at, run, empty, block, branch, branch_else, repeat, repeat_for, break_at, continue_at, return_at, simply, declare, statement, no_items, more_items, variable, array, function}
+use Rattle.c_front.specs.Tree.{Items, constant, name, index, unary, binary, conditional, call, plain, called, assign, assign_at, call_statement, empty, block, if_then, if_then_else, while_loop, for_loop, break_at, continue_at, return_at, simply, declare, statement, no_items, more_items, variable, array, function}
 
-abbrev pub expression_of : Expr → Expression
+abbrev pub expression_of : Expression → Tree.Expression
 expression_of (Constant k) = constant k
 expression_of (Name x) = name x
 expression_of (Index' x p e) = index x (expression_of e)
 expression_of (Unary' o p e) = unary o (expression_of e)
 expression_of (Binary' o p l q r) = binary o (expression_of l) (expression_of r)
-expression_of (Choose' p c q a r b) = choose (expression_of c) (expression_of a) (expression_of b)
+expression_of (Conditional' p c q a r b) = conditional (expression_of c) (expression_of a) (expression_of b)
 
-abbrev pub expressions_of : List Expr → List Expression
+abbrev pub expressions_of : List Expression → List Tree.Expression
 expressions_of [] = []
 expressions_of (e ∷ rest) = expression_of e ∷ expressions_of rest
 
-abbrev pub maybe_expression_of : Option Expr → Option Expression
+abbrev pub maybe_expression_of : Option Expression → Option Tree.Expression
 maybe_expression_of None = None
 maybe_expression_of (Some e) = Some (expression_of e)
 
 abbrev pub call_of : Call → Tree.Call
 call_of c = call c.name (expressions_of c.arguments.items)
 
-abbrev pub value_of : Value → Tree.Value
-value_of (Plain e) = plain (expression_of e)
-value_of (Called c) = called (call_of c)
+abbrev pub value_tree : Value → Tree.Value
+value_tree (Plain e) = plain (expression_of e)
+value_tree (Called c) = called (call_of c)
 
-abbrev pub maybe_value_of : Option Value → Option Tree.Value
-maybe_value_of None = None
-maybe_value_of (Some v) = Some (value_of v)
+abbrev pub maybe_value_tree : Option Value → Option Tree.Value
+maybe_value_tree None = None
+maybe_value_tree (Some v) = Some (value_tree v)
 
 abbrev pub simple_of : Simple → Tree.Simple
-simple_of (Assign x v) = assign x (value_of v)
+simple_of (Assign x v) = assign x (value_tree v)
 simple_of (AssignAt x e v) = assign_at x (expression_of e) (expression_of v)
-simple_of (CallOf c) = run (call_of c)
+simple_of (CallStatement c) = call_statement (call_of c)
 
 abbrev pub maybe_simple_of : Option Simple → Option Tree.Simple
 maybe_simple_of None = None
 maybe_simple_of (Some s) = Some (simple_of s)
 
 abbrev mutual
-  pub statement_of : Stmt → Tree.Statement
+  pub statement_of : Statement → Tree.Statement
   statement_of Empty = empty
   statement_of (Block' shape all) = block (row_of all)
-  statement_of (If' c p s) = branch (expression_of c) (statement_of s)
-  statement_of (IfElse' c p s q e) = branch_else (expression_of c) (statement_of s) (statement_of e)
-  statement_of (While' c p s) = repeat (expression_of c) (statement_of s)
-  statement_of (For' h p s) = repeat_for (maybe_simple_of h.value.first) (maybe_expression_of h.value.test) (maybe_simple_of h.value.last) (statement_of s)
+  statement_of (If' c p s) = if_then (expression_of c) (statement_of s)
+  statement_of (IfElse' c p s q e) = if_then_else (expression_of c) (statement_of s) (statement_of e)
+  statement_of (While' c p s) = while_loop (expression_of c) (statement_of s)
+  statement_of (For' h p s) = for_loop (maybe_simple_of h.value.first) (maybe_expression_of h.value.test) (maybe_simple_of h.value.last) (statement_of s)
   statement_of (Break at) = break_at at
   statement_of (Continue at) = continue_at at
   statement_of (Return at e) = return_at at (maybe_expression_of e)
   statement_of (Simply s) = simply (simple_of s)
 
   pub item_of : Item → Tree.Item
-  item_of (Declare k x v) = declare k x (maybe_value_of v)
-  item_of (Statement s) = statement (statement_of s)
+  item_of (Declare k x v) = declare k x (maybe_value_tree v)
+  item_of (InnerStatement s) = statement (statement_of s)
 
   pub row_of : {n : _} → Row_of-Item n → Items
   row_of end_of-Item = no_items

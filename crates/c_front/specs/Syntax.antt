@@ -1,8 +1,8 @@
 -- What it means that tokens are, or begin, a program, and where the first wrong token is.
 use Rattle.std.specs.Prelude.{◌+◌, ◌<◌, ◌≤◌, ℕ, List, ◌++◌, take, length}
 use Rattle.c_tokens.specs.declared.token.Token.{Token}
-use Rattle.c_front.specs.declared.declaration.Fault.{Fault}
-use Rattle.c_front.specs.declared.declaration.Fault.TheVariants.{Wrong, OutOfMemory}
+use Rattle.c_front.specs.declared.declaration.SyntaxFault.{SyntaxFault}
+use Rattle.c_front.specs.declared.declaration.SyntaxFault.TheVariants.{Wrong, OutOfMemory}
 use Rattle.c_front.specs.Tree.{Declaration}
 use Rattle.c_front.specs.Grammar.{Spells}
 
@@ -17,6 +17,6 @@ pub record IsFirstWrong (ts : List Token) (k : ℕ) : Type 0 where
   pub wrong : k < length ts → Begins (take (k + 1) ts) → ⊥
   pub none : (p : List Declaration) → Spells ts p → ⊥
 
-abbrev pub IsFault : List Token → Fault → Type 0
+abbrev pub IsFault : List Token → SyntaxFault → Type 0
 IsFault ts (Wrong k) = IsFirstWrong ts k
 IsFault ts OutOfMemory = Unit {0}

@@ -4,8 +4,8 @@ use Rattle.c_tokens.specs.declared.token.Token.{Token}
 use Rattle.c_tokens.specs.declared.lexer.Refusal.{Refusal}
 use Rattle.c_tokens.specs.declared.lexer.Refusal.TheVariants.{BadToken, BadConstant, BadSize}
 use Rattle.c_tokens.specs.Texts.{Lexes, LexStops}
-use Rattle.c_front.specs.declared.text.FaultKind.{FaultKind}
-use Rattle.c_front.specs.declared.text.FaultKind.TheVariants.{Byte, Token as TokenFault, Syntax, Constant, Size, NoMemory}
+use Rattle.c_front.specs.declared.text.FrontFaultKind.{FrontFaultKind}
+use Rattle.c_front.specs.declared.text.FrontFaultKind.TheVariants.{Byte, Token as TokenFault, Syntax, Constant, Size, NoMemory}
 use Rattle.c_front.specs.Tree.{Declaration}
 use Rattle.c_front.specs.Grammar.{Spells}
 use Rattle.c_front.specs.Syntax.{IsFirstWrong}
@@ -34,13 +34,13 @@ pub record SpellsText (text : List ℕ) (p : List Declaration) : Type 0 where
 abbrev pub place_or : ℕ → List ℕ → ℕ → ℕ
 place_or end places k = if nat_lt k (length places) then slice_index places k else end
 
-abbrev pub refusal_kind : Refusal → FaultKind
+abbrev pub refusal_kind : Refusal → FrontFaultKind
 refusal_kind BadToken = TokenFault
 refusal_kind BadConstant = Constant
 refusal_kind BadSize = Size
 
 -- why a text is refused, and where, in the order of the tests; want of memory is told at the text's length
-pub data IsTextFault (text : List ℕ) : FaultKind → ℕ → Type 0 where
+pub data IsTextFault (text : List ℕ) : FrontFaultKind → ℕ → Type 0 where
   too_long : 1048576 < length text → IsTextFault text Size 1048576
   bad_byte : {k : ℕ} → length text ≤ 1048576 → IsBadByte text k → IsTextFault text Byte k
   bad_token : {r : Refusal} {k : ℕ} → length text ≤ 1048576 → AllText text → LexStops 0 text [] r k → IsTextFault text (refusal_kind r) k
@@ -53,7 +53,7 @@ abbrev pub spelling_of : List ℕ → ℕ → ℕ → List ℕ
 spelling_of text at n = take n (drop at text)
 
 -- the number that messages show
-abbrev pub number_of : FaultKind → ℕ
+abbrev pub number_of : FrontFaultKind → ℕ
 number_of Byte = 1
 number_of TokenFault = 2
 number_of Syntax = 3

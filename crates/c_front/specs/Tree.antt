@@ -1,7 +1,7 @@
 -- The trees that texts spell, without the places where a program keeps them.
 use Rattle.std.specs.Prelude.{ℕ, List, Option}
 use Rattle.c_tokens.specs.declared.token.Identifier.{Identifier}
-use Rattle.c_tokens.specs.declared.token.Kind.{Kind}
+use Rattle.c_tokens.specs.declared.token.IntegerType.{IntegerType}
 use Rattle.c_tokens.specs.declared.token.Literal.{Literal}
 use Rattle.c_front.specs.declared.tree.UnaryOp.{UnaryOp}
 use Rattle.c_front.specs.declared.tree.BinaryOp.{BinaryOp}
@@ -14,7 +14,7 @@ pub data Expression : Type 0 where
   index : Identifier → Expression → Expression
   unary : UnaryOp → Expression → Expression
   binary : BinaryOp → Expression → Expression → Expression
-  choose : Expression → Expression → Expression → Expression
+  conditional : Expression → Expression → Expression → Expression
 
 -- a name with arguments
 pub data Call : Type 0 where
@@ -27,31 +27,31 @@ pub data Value : Type 0 where
 pub data Simple : Type 0 where
   assign : Identifier → Value → Simple
   assign_at : Identifier → Expression → Expression → Simple
-  run : Call → Simple
+  call_statement : Call → Simple
 
 mutual
   pub data Statement : Type 0 where
     empty : Statement
     block : Items → Statement
-    branch : Expression → Statement → Statement
-    branch_else : Expression → Statement → Statement → Statement
-    repeat : Expression → Statement → Statement
-    repeat_for : Option Simple → Option Expression → Option Simple → Statement → Statement
+    if_then : Expression → Statement → Statement
+    if_then_else : Expression → Statement → Statement → Statement
+    while_loop : Expression → Statement → Statement
+    for_loop : Option Simple → Option Expression → Option Simple → Statement → Statement
     break_at : ℕ → Statement
     continue_at : ℕ → Statement
     return_at : ℕ → Option Expression → Statement
     simply : Simple → Statement
 
   pub data Item : Type 0 where
-    declare : Kind → Identifier → Option Value → Item
+    declare : IntegerType → Identifier → Option Value → Item
     statement : Statement → Item
 
   pub data Items : Type 0 where
     no_items : Items
     more_items : Item → Items → Items
 
--- a declaration at file scope; a function without a kind has no result
+-- a declaration at file scope; a function without a type has no result
 pub data Declaration : Type 0 where
-  variable : Kind → Identifier → Option Initial → Declaration
-  array : Kind → Identifier → Literal → Declaration
-  function : Option Kind → Identifier → List Parameter → Items → Declaration
+  variable : IntegerType → Identifier → Option Initial → Declaration
+  array : IntegerType → Identifier → Literal → Declaration
+  function : Option IntegerType → Identifier → List Parameter → Items → Declaration

@@ -1,23 +1,23 @@
 ghost use Rattle.std.specs.Prelude.{◌≡◌, ◌∷◌, [], IfOk, IfErr, IfSome, IfNone};
-ghost use Rattle.c_front.specs.Stop.{IsMissing, StartsWith, StartsWithout, StartsWithName, IsNameMissing, StartsWithConstant, IsConstantMissing, StartsNamed, StartsUnnamed};
+ghost use Rattle.c_front.specs.Parsing.{IsMissing, StartsWith, StartsWithout, StartsWithName, IsNameMissing, StartsWithConstant, IsConstantMissing, StartsNamed, StartsUnnamed};
 
 use c_tokens::{Identifier, Literal, Mark, Token};
 use std::alloc::{AllocError, AllocFailed};
 
 /// Why parsing stopped: the tokens from the first wrong one on, or want of memory.
 #[derive(Drop)]
-pub enum Stop<'a> {
+pub enum ParseStop<'a> {
     Syntax(&'a [Token]),
     NoMemory,
 }
 
-impl<'a, T: Drop> From<AllocFailed<T>> for Stop<'a> {
-    ghost use Rattle.c_front.specs.declared.cursor.Stop.TheVariants.{NoMemory};
+impl<'a, T: Drop> From<AllocFailed<T>> for ParseStop<'a> {
+    ghost use Rattle.c_front.specs.declared.cursor.ParseStop.TheVariants.{NoMemory};
 
     ghost from_gives = { λ _ r. r ≡ NoMemory };
 
     fn from(_: AllocFailed<T>) -> Self {
-        Stop::NoMemory
+        ParseStop::NoMemory
     }
 }
 
@@ -33,7 +33,7 @@ pub fn split<'a>(tokens: &'a [Token]) -> Option<(Token, &'a [Token])>
 }
 
 /// The tokens after a mark that has to stand here.
-pub fn expect<'a>(tokens: &'a [Token], wanted: Mark) -> Result<&'a [Token], Stop<'a>>
+pub fn expect<'a>(tokens: &'a [Token], wanted: Mark) -> Result<&'a [Token], ParseStop<'a>>
     ensures ok { IfOk result (λ rest. StartsWith wanted tokens.now rest.now) }
     ensures err { IfErr result (IsMissing wanted tokens.now) }
 {
@@ -42,10 +42,10 @@ pub fn expect<'a>(tokens: &'a [Token], wanted: Mark) -> Result<&'a [Token], Stop
             if mark == wanted {
                 Ok(rest)
             } else {
-                Err(Stop::Syntax(tokens))
+                Err(ParseStop::Syntax(tokens))
             }
         }
-        _ => Err(Stop::Syntax(tokens)),
+        _ => Err(ParseStop::Syntax(tokens)),
     }
 }
 
@@ -61,24 +61,24 @@ pub fn starts<'a>(tokens: &'a [Token], wanted: Mark) -> Option<&'a [Token]>
 }
 
 /// The name that has to stand here, and the tokens after it.
-pub fn name<'a>(tokens: &'a [Token]) -> Result<(Identifier, &'a [Token]), Stop<'a>>
+pub fn name<'a>(tokens: &'a [Token]) -> Result<(Identifier, &'a [Token]), ParseStop<'a>>
     ensures ok { IfOk result (λ r. StartsWithName tokens.now r.0 r.1.now) }
     ensures err { IfErr result (IsNameMissing tokens.now) }
 {
     match split(tokens) {
         Some((Token::Name(name), rest)) => Ok((name, rest)),
-        _ => Err(Stop::Syntax(tokens)),
+        _ => Err(ParseStop::Syntax(tokens)),
     }
 }
 
 /// The constant that has to stand here, and the tokens after it.
-pub fn literal<'a>(tokens: &'a [Token]) -> Result<(Literal, &'a [Token]), Stop<'a>>
+pub fn literal<'a>(tokens: &'a [Token]) -> Result<(Literal, &'a [Token]), ParseStop<'a>>
     ensures ok { IfOk result (λ r. StartsWithConstant tokens.now r.0 r.1.now) }
     ensures err { IfErr result (IsConstantMissing tokens.now) }
 {
     match split(tokens) {
         Some((Token::Constant(literal), rest)) => Ok((literal, rest)),
-        _ => Err(Stop::Syntax(tokens)),
+        _ => Err(ParseStop::Syntax(tokens)),
     }
 }
 

@@ -1,19 +1,19 @@
 ghost use Rattle.std.specs.Prelude.{◌≡◌, ◌<◌, length, IfOk, IfErr, List};
 ghost use Rattle.c_front.specs.Grammar.{Spells, initial, parameters, function_rest, after_global, a_declaration};
 ghost use Rattle.c_front.specs.Shape.{items_of, declaration_of, declarations_of};
-ghost use Rattle.c_front.specs.Stop.{IsRead, IsStuck, IsParameterRead, IsParameterStuck, IsTailRead, IsProgramStuck};
+ghost use Rattle.c_front.specs.Parsing.{IsRead, IsStuck, IsParameterRead, IsParameterStuck, IsTailRead, IsProgramStuck};
 ghost use Rattle.c_front.specs.Syntax.{IsFault};
 ghost use Rattle.c_tokens.specs.declared.token.Token.{Token};
 ghost use Rattle.c_front.specs.Tree as Tree;
 
-use crate::cursor::{Stop, expect, literal, name, split, starts};
-use crate::statement::{items, kind};
+use crate::cursor::{ParseStop, expect, literal, name, split, starts};
+use crate::statement::{integer_type, items};
 use crate::tree::{Declaration, FunctionDefinition, Initial, Item, Parameter};
-use c_tokens::{Identifier, Kind, Mark, Token};
+use c_tokens::{Identifier, IntegerType, Mark, Token};
 use std::alloc::{AllocError, AllocFailed, Global};
 
 /// The first value of a global variable.
-fn initial<'a>(tokens: &'a [Token]) -> Result<(Initial, &'a [Token]), Stop<'a>>
+fn initial<'a>(tokens: &'a [Token]) -> Result<(Initial, &'a [Token]), ParseStop<'a>>
     ensures ok { IfOk result (λ r. IsRead initial tokens.now r.1.now r.0) }
     ensures shorter { IfOk result (λ r. length r.1.now < length tokens.now) }
     ensures err { IfErr result (IsStuck initial tokens.now) }
@@ -43,23 +43,23 @@ fn initial<'a>(tokens: &'a [Token]) -> Result<(Initial, &'a [Token]), Stop<'a>>
 }
 
 /// A parameter: its type and its name.
-fn parameter<'a>(tokens: &'a [Token]) -> Result<(Parameter, &'a [Token]), Stop<'a>>
+fn parameter<'a>(tokens: &'a [Token]) -> Result<(Parameter, &'a [Token]), ParseStop<'a>>
     ensures ok { IfOk result (λ r. IsParameterRead tokens.now r.1.now r.0) }
     ensures shorter { IfOk result (λ r. length r.1.now < length tokens.now) }
     ensures err { IfErr result (IsParameterStuck tokens.now) }
 {
-    let Some((kind, after)) = kind(tokens) else {
-        return Err(Stop::Syntax(tokens));
+    let Some((integer_type, after)) = integer_type(tokens) else {
+        return Err(ParseStop::Syntax(tokens));
     };
     let (name, end) = name(after)?;
-    Ok((Parameter { kind, name }, end))
+    Ok((Parameter { integer_type, name }, end))
 }
 
 /// `void`, or the parameters of a function.
 fn parameters<'a>(
     alloc: Global,
     tokens: &'a [Token],
-) -> Result<(Vec<Parameter>, &'a [Token]), Stop<'a>>
+) -> Result<(Vec<Parameter>, &'a [Token]), ParseStop<'a>>
     ensures ok { IfOk result (λ r. IsRead parameters tokens.now r.1.now r.0.items) }
     ensures shorter { IfOk result (λ r. length r.1.now < length tokens.now) }
     ensures err { IfErr result (IsStuck parameters tokens.now) }
@@ -83,7 +83,7 @@ fn parameters<'a>(
 fn function_rest<'a>(
     alloc: Global,
     tokens: &'a [Token],
-) -> Result<(Vec<Parameter>, Vec<Item>, &'a [Token]), Stop<'a>>
+) -> Result<(Vec<Parameter>, Vec<Item>, &'a [Token]), ParseStop<'a>>
     ensures ok { IfOk result (λ r. IsRead function_rest tokens.now r.2.now (r.0.items, items_of r.1.items)) }
     ensures shorter { IfOk result (λ r. length r.2.now < length tokens.now) }
     ensures err { IfErr result (IsStuck function_rest tokens.now) }
@@ -100,30 +100,30 @@ fn function_rest<'a>(
 /// What stands after the type and the name of a declaration.
 fn after_global<'a>(
     alloc: Global,
-    kind: Kind,
+    integer_type: IntegerType,
     name: Identifier,
     tokens: &'a [Token],
-) -> Result<(Declaration, &'a [Token]), Stop<'a>>
-    ensures ok { IfOk result (λ r. IsTailRead kind name tokens.now r.1.now (declaration_of r.0)) }
+) -> Result<(Declaration, &'a [Token]), ParseStop<'a>>
+    ensures ok { IfOk result (λ r. IsTailRead integer_type name tokens.now r.1.now (declaration_of r.0)) }
     ensures shorter { IfOk result (λ r. length r.1.now < length tokens.now) }
     ensures err { IfErr result (IsStuck after_global tokens.now) }
 {
     if let Some(end) = starts(tokens, Mark::Semicolon) {
-        return Ok((Declaration::Variable(kind, name, None), end));
+        return Ok((Declaration::Variable(integer_type, name, None), end));
     }
     if let Some(start) = starts(tokens, Mark::Assign) {
         let (given, close) = initial(start)?;
         let end = expect(close, Mark::Semicolon)?;
-        return Ok((Declaration::Variable(kind, name, Some(given)), end));
+        return Ok((Declaration::Variable(integer_type, name, Some(given)), end));
     }
     if let Some(start) = starts(tokens, Mark::LeftBracket) {
         let (length, close) = literal(start)?;
         let last = expect(close, Mark::RightBracket)?;
         let end = expect(last, Mark::Semicolon)?;
-        return Ok((Declaration::Array(kind, name, length), end));
+        return Ok((Declaration::Array(integer_type, name, length), end));
     }
     let (parameters, body, end) = function_rest(alloc, tokens)?;
-    let result = Some(kind);
+    let result = Some(integer_type);
     Ok((
         Declaration::Function(FunctionDefinition {
             result,
@@ -139,7 +139,7 @@ fn after_global<'a>(
 fn declaration<'a>(
     alloc: Global,
     tokens: &'a [Token],
-) -> Result<(Declaration, &'a [Token]), Stop<'a>>
+) -> Result<(Declaration, &'a [Token]), ParseStop<'a>>
     ensures ok { IfOk result (λ r. IsRead a_declaration tokens.now r.1.now (declaration_of r.0)) }
     ensures shorter { IfOk result (λ r. length r.1.now < length tokens.now) }
     ensures err { IfErr result (IsStuck a_declaration tokens.now) }
@@ -157,16 +157,16 @@ fn declaration<'a>(
             end,
         ));
     }
-    let Some((kind, after)) = kind(tokens) else {
-        return Err(Stop::Syntax(tokens));
+    let Some((integer_type, after)) = integer_type(tokens) else {
+        return Err(ParseStop::Syntax(tokens));
     };
     let (name, start) = name(after)?;
-    let (found, end) = after_global(alloc, kind, name, start)?;
+    let (found, end) = after_global(alloc, integer_type, name, start)?;
     Ok((found, end))
 }
 
 /// The declarations up to the last token.
-fn declarations<'a>(alloc: Global, tokens: &'a [Token]) -> Result<Vec<Declaration>, Stop<'a>>
+fn declarations<'a>(alloc: Global, tokens: &'a [Token]) -> Result<Vec<Declaration>, ParseStop<'a>>
     ensures ok { IfOk result (λ all. Spells tokens.now (declarations_of all.items)) }
     ensures err { IfErr result (IsProgramStuck tokens.now) }
 {
@@ -182,21 +182,21 @@ fn declarations<'a>(alloc: Global, tokens: &'a [Token]) -> Result<Vec<Declaratio
 
 /// The place of the first wrong token, or want of memory.
 #[derive(Clone, Copy)]
-pub enum Fault {
+pub enum SyntaxFault {
     Wrong(usize),
     OutOfMemory,
 }
 
 /// The declarations that the tokens spell, or the number of the first token with which the tokens so far begin no
 /// program (how many tokens there are, where they end too early).
-pub fn parse(alloc: Global, tokens: &[Token]) -> Result<Vec<Declaration>, Fault>
+pub fn parse(alloc: Global, tokens: &[Token]) -> Result<Vec<Declaration>, SyntaxFault>
     ensures ok { IfOk result (λ all. Spells tokens.now (declarations_of all.items)) }
     ensures err { IfErr result (IsFault tokens.now) }
 {
     match declarations(alloc, tokens) {
         Ok(found) => Ok(found),
-        Err(Stop::Syntax(rest)) => Err(Fault::Wrong(tokens.len() - rest.len())),
-        Err(Stop::NoMemory) => Err(Fault::OutOfMemory),
+        Err(ParseStop::Syntax(rest)) => Err(SyntaxFault::Wrong(tokens.len() - rest.len())),
+        Err(ParseStop::NoMemory) => Err(SyntaxFault::OutOfMemory),
     }
 }
 

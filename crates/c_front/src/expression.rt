@@ -1,12 +1,12 @@
 ghost use Rattle.std.specs.Prelude.{◌≡◌, ◌<◌, length, IfOk, IfErr, IfSome, IfNone, Some};
-ghost use Rattle.c_front.specs.Grammar.{an_expression, operands, units, above, Level, Operator, Prefix, first, value, arguments};
+ghost use Rattle.c_front.specs.Grammar.{an_expression, operands, unary_expressions, above, Level, Operator, Prefix, first, value, arguments};
 ghost use Rattle.c_front.specs.Choosing.{EndsOperands};
-ghost use Rattle.c_front.specs.Shape.{expression_of, expressions_of, value_of};
-ghost use Rattle.c_front.specs.Stop.{IsRead, IsStuck, level_of, StartsWithOperator, EndsUpTo, EndsBelow, IsChoiceRead, IsChoiceStuck, IsNoPrefix, IsClosedRead, IsClosedStuck, IsArgumentsRead, IsArgumentsStuck, StartsCall, StartsNoCall};
+ghost use Rattle.c_front.specs.Shape.{expression_of, expressions_of, value_tree};
+ghost use Rattle.c_front.specs.Parsing.{IsRead, IsStuck, level_of, StartsWithOperator, EndsUpTo, EndsBelow, IsChoiceRead, IsChoiceStuck, IsNoPrefix, IsClosedRead, IsClosedStuck, IsArgumentsRead, IsArgumentsStuck, StartsCall, StartsNoCall};
 ghost use Rattle.c_tokens.specs.declared.token.Token.TheVariants.{The};
 
-use crate::cursor::{Stop, expect, split, starts};
-use crate::tree::{BinaryOp, Call, Expr, UnaryOp, Value};
+use crate::cursor::{ParseStop, expect, split, starts};
+use crate::tree::{BinaryOp, Call, Expression, UnaryOp, Value};
 use c_tokens::{Identifier, Mark, Token};
 use std::alloc::{AllocError, AllocFailed, Global};
 
@@ -23,17 +23,17 @@ fn operator_of(mark: Mark) -> Option<(usize, BinaryOp)>
         Mark::Minus => Some((1, BinaryOp::Subtract)),
         Mark::LessLess => Some((2, BinaryOp::ShiftLeft)),
         Mark::GreaterGreater => Some((2, BinaryOp::ShiftRight)),
-        Mark::Less => Some((3, BinaryOp::Below)),
-        Mark::Greater => Some((3, BinaryOp::Exceeds)),
-        Mark::LessEqual => Some((3, BinaryOp::AtMost)),
-        Mark::GreaterEqual => Some((3, BinaryOp::AtLeast)),
-        Mark::EqualEqual => Some((4, BinaryOp::Same)),
-        Mark::BangEqual => Some((4, BinaryOp::Differs)),
+        Mark::LessSign => Some((3, BinaryOp::Less)),
+        Mark::GreaterSign => Some((3, BinaryOp::Greater)),
+        Mark::LessEqual => Some((3, BinaryOp::LessOrEqual)),
+        Mark::GreaterEqual => Some((3, BinaryOp::GreaterOrEqual)),
+        Mark::EqualEqual => Some((4, BinaryOp::Equal)),
+        Mark::BangEqual => Some((4, BinaryOp::NotEqual)),
         Mark::Ampersand => Some((5, BinaryOp::BitAnd)),
         Mark::Caret => Some((6, BinaryOp::BitXor)),
         Mark::Bar => Some((7, BinaryOp::BitOr)),
-        Mark::AndAnd => Some((8, BinaryOp::Both)),
-        Mark::BarBar => Some((9, BinaryOp::Either)),
+        Mark::AndAnd => Some((8, BinaryOp::LogicalAnd)),
+        Mark::BarBar => Some((9, BinaryOp::LogicalOr)),
         _ => None,
     }
 }
@@ -68,7 +68,10 @@ fn prefix_of(mark: Mark) -> Option<UnaryOp>
 
 /// An expression.
 #[cycle(expressions)]
-pub fn expression<'a>(alloc: Global, tokens: &'a [Token]) -> Result<(Expr, &'a [Token]), Stop<'a>>
+pub fn expression<'a>(
+    alloc: Global,
+    tokens: &'a [Token],
+) -> Result<(Expression, &'a [Token]), ParseStop<'a>>
     ensures ok { IfOk result (λ r. IsRead an_expression tokens.now r.1.now (expression_of r.0)) }
     ensures shorter { IfOk result (λ r. length r.1.now < length tokens.now) }
     ensures err { IfErr result (IsStuck an_expression tokens.now) }
@@ -78,7 +81,7 @@ pub fn expression<'a>(alloc: Global, tokens: &'a [Token]) -> Result<(Expr, &'a [
         Some(after) => {
             let (first, second, end) = choice(alloc, after)?;
             Ok((
-                Expr::Choose(Box::new(alloc, condition)?, first, second),
+                Expression::Conditional(Box::new(alloc, condition)?, first, second),
                 end,
             ))
         }
@@ -91,7 +94,7 @@ pub fn expression<'a>(alloc: Global, tokens: &'a [Token]) -> Result<(Expr, &'a [
 fn choice<'a>(
     alloc: Global,
     tokens: &'a [Token],
-) -> Result<(Box<Expr>, Box<Expr>, &'a [Token]), Stop<'a>>
+) -> Result<(Box<Expression>, Box<Expression>, &'a [Token]), ParseStop<'a>>
     ensures ok { IfOk result (λ r. IsChoiceRead tokens.now r.2.now (expression_of r.0.value) (expression_of r.1.value)) }
     ensures shorter { IfOk result (λ r. length r.2.now < length tokens.now) }
     ensures err { IfErr result (IsChoiceStuck tokens.now) }
@@ -107,7 +110,7 @@ pub fn closed<'a>(
     alloc: Global,
     tokens: &'a [Token],
     closing: Mark,
-) -> Result<(Expr, &'a [Token]), Stop<'a>>
+) -> Result<(Expression, &'a [Token]), ParseStop<'a>>
     ensures ok { IfOk result (λ r. IsClosedRead closing tokens.now r.1.now (expression_of r.0)) }
     ensures shorter { IfOk result (λ r. length r.1.now < length tokens.now) }
     ensures err { IfErr result (IsClosedStuck closing tokens.now) }
@@ -123,7 +126,7 @@ fn operands<'a>(
     alloc: Global,
     level: usize,
     tokens: &'a [Token],
-) -> Result<(Expr, &'a [Token]), Stop<'a>>
+) -> Result<(Expression, &'a [Token]), ParseStop<'a>>
     ensures ok { IfOk result (λ r. IsRead (operands (above (level_of level))) tokens.now r.1.now (expression_of r.0)) }
     ensures shorter { IfOk result (λ r. length r.1.now < length tokens.now) }
     ensures ends { IfOk result (λ r. EndsUpTo level (first r.1.now)) }
@@ -138,7 +141,7 @@ fn operands<'a>(
             return Ok((left, rest));
         }
         let (right, next) = tighter(alloc, found, after)?;
-        left = Expr::Binary(operator, Box::new(alloc, left)?, Box::new(alloc, right)?);
+        left = Expression::Binary(operator, Box::new(alloc, left)?, Box::new(alloc, right)?);
         rest = next;
     }
 }
@@ -149,7 +152,7 @@ fn tighter<'a>(
     alloc: Global,
     level: usize,
     tokens: &'a [Token],
-) -> Result<(Expr, &'a [Token]), Stop<'a>>
+) -> Result<(Expression, &'a [Token]), ParseStop<'a>>
     ensures ok { IfOk result (λ r. IsRead (operands (level_of level)) tokens.now r.1.now (expression_of r.0)) }
     ensures shorter { IfOk result (λ r. length r.1.now < length tokens.now) }
     ensures ends { IfOk result (λ r. EndsBelow level (first r.1.now)) }
@@ -165,35 +168,38 @@ fn tighter<'a>(
 
 /// An operand: a constant, a name, a name with an index, a prefix with its operand, or an expression in parentheses.
 #[cycle(expressions)]
-fn operand<'a>(alloc: Global, tokens: &'a [Token]) -> Result<(Expr, &'a [Token]), Stop<'a>>
-    ensures ok { IfOk result (λ r. IsRead (operands units) tokens.now r.1.now (expression_of r.0)) }
+fn operand<'a>(
+    alloc: Global,
+    tokens: &'a [Token],
+) -> Result<(Expression, &'a [Token]), ParseStop<'a>>
+    ensures ok { IfOk result (λ r. IsRead (operands unary_expressions) tokens.now r.1.now (expression_of r.0)) }
     ensures shorter { IfOk result (λ r. length r.1.now < length tokens.now) }
-    ensures err { IfErr result (IsStuck (operands units) tokens.now) }
+    ensures err { IfErr result (IsStuck (operands unary_expressions) tokens.now) }
 {
     let Some((token, rest)) = split(tokens) else {
-        return Err(Stop::Syntax(tokens));
+        return Err(ParseStop::Syntax(tokens));
     };
     match token {
-        Token::Constant(literal) => Ok((Expr::Constant(literal), rest)),
-        Token::Jump(_, _) => Err(Stop::Syntax(tokens)),
+        Token::Constant(literal) => Ok((Expression::Constant(literal), rest)),
+        Token::Jump(_, _) => Err(ParseStop::Syntax(tokens)),
         Token::Name(name) => match starts(rest, Mark::LeftBracket) {
             Some(after) => {
                 let (index, end) = closed(alloc, after, Mark::RightBracket)?;
-                Ok((Expr::Index(name, Box::new(alloc, index)?), end))
+                Ok((Expression::Index(name, Box::new(alloc, index)?), end))
             }
-            None => Ok((Expr::Name(name), rest)),
+            None => Ok((Expression::Name(name), rest)),
         },
         Token::The(mark) => {
             if let Some(operator) = prefix_of(mark) {
                 let (inner, end) = operand(alloc, rest)?;
-                return Ok((Expr::Unary(operator, Box::new(alloc, inner)?), end));
+                return Ok((Expression::Unary(operator, Box::new(alloc, inner)?), end));
             }
             match mark {
                 Mark::LeftParen => {
                     let (inner, end) = closed(alloc, rest, Mark::RightParen)?;
                     Ok((inner, end))
                 }
-                _ => Err(Stop::Syntax(tokens)),
+                _ => Err(ParseStop::Syntax(tokens)),
             }
         }
     }
@@ -203,7 +209,7 @@ fn operand<'a>(alloc: Global, tokens: &'a [Token]) -> Result<(Expr, &'a [Token])
 pub fn arguments<'a>(
     alloc: Global,
     tokens: &'a [Token],
-) -> Result<(Vec<Expr>, &'a [Token]), Stop<'a>>
+) -> Result<(Vec<Expression>, &'a [Token]), ParseStop<'a>>
     ensures ok { IfOk result (λ r. IsArgumentsRead tokens.now r.1.now (expressions_of r.0.items)) }
     ensures shorter { IfOk result (λ r. length r.1.now < length tokens.now) }
     ensures err { IfErr result (IsArgumentsStuck tokens.now) }
@@ -239,8 +245,8 @@ fn call_start<'a>(tokens: &'a [Token]) -> Option<(Identifier, &'a [Token])>
 }
 
 /// What a name may be given: an expression or a call.
-pub fn value<'a>(alloc: Global, tokens: &'a [Token]) -> Result<(Value, &'a [Token]), Stop<'a>>
-    ensures ok { IfOk result (λ r. IsRead value tokens.now r.1.now (value_of r.0)) }
+pub fn value<'a>(alloc: Global, tokens: &'a [Token]) -> Result<(Value, &'a [Token]), ParseStop<'a>>
+    ensures ok { IfOk result (λ r. IsRead value tokens.now r.1.now (value_tree r.0)) }
     ensures shorter { IfOk result (λ r. length r.1.now < length tokens.now) }
     ensures err { IfErr result (IsStuck value tokens.now) }
 {

@@ -4,7 +4,7 @@
 //! size (memory aside), and else tells the fault that comes first in the order of the tests. `specs/Texts.antt` says
 //! what a text spells and which fault it has, `specs/Grammar.antt` is the grammar as a table of rules,
 //! `specs/Tree.antt` has the trees and `specs/Shape.antt` the tree that a Rust value stands for. The tokens are those
-//! of `c_tokens`. `specs/Choosing.antt`, `specs/Reading.antt` and `specs/Stop.antt` are words of the private
+//! of `c_tokens`. `specs/Choosing.antt`, `specs/Reading.antt` and `specs/ParseStop.antt` are words of the private
 //! functions: the rule that the next two tokens choose, and where a derivation gets stuck.
 #![tactic(auto)]
 
@@ -16,8 +16,8 @@ mod text;
 mod tree;
 
 pub use declaration::one_program;
-pub use text::{FaultKind, FrontFault, one_reading, read};
+pub use text::{FrontFault, FrontFaultKind, one_reading, read};
 pub use tree::{
-    BinaryOp, Call, Declaration, Expr, ForParts, FunctionDefinition, Initial, Item, Parameter,
-    Program, Simple, Stmt, UnaryOp, Value,
+    BinaryOp, Call, Declaration, Expression, ForParts, FunctionDefinition, Initial, Item,
+    Parameter, Program, Simple, Statement, UnaryOp, Value,
 };

@@ -1,20 +1,20 @@
 ghost use Rattle.std.specs.Prelude.{◌≡◌, ◌∷◌, ◌<◌, ◌≤◌, ◌↔◌, length, IfOk, IfErr, IfSome, IfNone, IsTrue};
 ghost use Rattle.c_front.specs.Grammar.{first, a_statement, an_item, items, simple, a_type, declared, maybe_simple, maybe_expression};
 ghost use Rattle.c_front.specs.Choosing.{EndsItems};
-ghost use Rattle.c_front.specs.Shape.{expression_of, value_of, maybe_value_of, simple_of, maybe_simple_of, maybe_expression_of, statement_of, item_of, items_of};
-ghost use Rattle.c_front.specs.Stop.{IsRead, IsStuck, IsConditionRead, IsConditionStuck, IsAssignedRead, IsAssignedStuck, IsBranchRead, IsBranchStuck, IsEndedRead, IsEndedStuck, IsHeadRead, IsHeadStuck, HasNoType};
+ghost use Rattle.c_front.specs.Shape.{expression_of, value_tree, maybe_value_tree, simple_of, maybe_simple_of, maybe_expression_of, statement_of, item_of, items_of};
+ghost use Rattle.c_front.specs.Parsing.{IsRead, IsStuck, IsConditionRead, IsConditionStuck, IsAssignedRead, IsAssignedStuck, IsBranchRead, IsBranchStuck, IsEndedRead, IsEndedStuck, IsHeadRead, IsHeadStuck, HasNoType};
 ghost use Rattle.c_tokens.specs.declared.token.Token.TheVariants.{The, Jump};
 ghost use Rattle.c_tokens.specs.declared.token.Mark.TheVariants.{While, For, Semicolon};
 
-use crate::cursor::{Stop, expect, first_name, name, split, starts};
+use crate::cursor::{ParseStop, expect, first_name, name, split, starts};
 use crate::expression::{arguments, closed, expression, value};
-use crate::tree::{Call, Expr, ForParts, Item, Simple, Stmt, Value};
-use c_tokens::{JumpWord, Kind, Mark, Token};
+use crate::tree::{Call, Expression, ForParts, Item, Simple, Statement, Value};
+use c_tokens::{IntegerType, JumpWord, Mark, Token};
 use std::alloc::{AllocError, AllocFailed, Global};
 
 /// The value after an equals sign.
-fn assigned<'a>(alloc: Global, tokens: &'a [Token]) -> Result<(Value, &'a [Token]), Stop<'a>>
-    ensures ok { IfOk result (λ r. IsAssignedRead tokens.now r.1.now (value_of r.0)) }
+fn assigned<'a>(alloc: Global, tokens: &'a [Token]) -> Result<(Value, &'a [Token]), ParseStop<'a>>
+    ensures ok { IfOk result (λ r. IsAssignedRead tokens.now r.1.now (value_tree r.0)) }
     ensures shorter { IfOk result (λ r. length r.1.now < length tokens.now) }
     ensures err { IfErr result (IsAssignedStuck tokens.now) }
 {
@@ -24,7 +24,7 @@ fn assigned<'a>(alloc: Global, tokens: &'a [Token]) -> Result<(Value, &'a [Token
 }
 
 /// An assignment, an indexed assignment or a call.
-fn simple<'a>(alloc: Global, tokens: &'a [Token]) -> Result<(Simple, &'a [Token]), Stop<'a>>
+fn simple<'a>(alloc: Global, tokens: &'a [Token]) -> Result<(Simple, &'a [Token]), ParseStop<'a>>
     ensures ok { IfOk result (λ r. IsRead simple tokens.now r.1.now (simple_of r.0)) }
     ensures shorter { IfOk result (λ r. length r.1.now < length tokens.now) }
     ensures err { IfErr result (IsStuck simple tokens.now) }
@@ -32,7 +32,7 @@ fn simple<'a>(alloc: Global, tokens: &'a [Token]) -> Result<(Simple, &'a [Token]
     let (name, rest) = name(tokens)?;
     if let Some(after) = starts(rest, Mark::LeftParen) {
         let (arguments, end) = arguments(alloc, after)?;
-        return Ok((Simple::CallOf(Call { name, arguments }), end));
+        return Ok((Simple::CallStatement(Call { name, arguments }), end));
     }
     if let Some(after) = starts(rest, Mark::LeftBracket) {
         let (index, close) = closed(alloc, after, Mark::RightBracket)?;
@@ -45,7 +45,10 @@ fn simple<'a>(alloc: Global, tokens: &'a [Token]) -> Result<(Simple, &'a [Token]
 }
 
 /// A condition in parentheses.
-fn condition<'a>(alloc: Global, tokens: &'a [Token]) -> Result<(Expr, &'a [Token]), Stop<'a>>
+fn condition<'a>(
+    alloc: Global,
+    tokens: &'a [Token],
+) -> Result<(Expression, &'a [Token]), ParseStop<'a>>
     ensures ok { IfOk result (λ r. IsConditionRead tokens.now r.1.now (expression_of r.0)) }
     ensures shorter { IfOk result (λ r. length r.1.now < length tokens.now) }
     ensures err { IfErr result (IsConditionStuck tokens.now) }
@@ -56,18 +59,18 @@ fn condition<'a>(alloc: Global, tokens: &'a [Token]) -> Result<(Expr, &'a [Token
 }
 
 /// The type at the front, if one stands here: `int`, `unsigned` or `unsigned int`.
-pub fn kind<'a>(tokens: &'a [Token]) -> Option<(Kind, &'a [Token])>
+pub fn integer_type<'a>(tokens: &'a [Token]) -> Option<(IntegerType, &'a [Token])>
     ensures none { IfNone result (HasNoType tokens.now) }
     ensures some { IfSome result (λ r. IsRead a_type tokens.now r.1.now r.0) }
     ensures shorter { IfSome result (λ r. length r.1.now < length tokens.now) }
 {
     if let Some(rest) = starts(tokens, Mark::Int) {
-        return Some((Kind::SignedInt, rest));
+        return Some((IntegerType::SignedInt, rest));
     }
     let rest = starts(tokens, Mark::Unsigned)?;
     match starts(rest, Mark::Int) {
-        Some(after) => Some((Kind::UnsignedInt, after)),
-        None => Some((Kind::UnsignedInt, rest)),
+        Some(after) => Some((IntegerType::UnsignedInt, after)),
+        None => Some((IntegerType::UnsignedInt, rest)),
     }
 }
 
@@ -76,7 +79,7 @@ fn ended_simple<'a>(
     alloc: Global,
     tokens: &'a [Token],
     closing: Mark,
-) -> Result<(Option<Simple>, &'a [Token]), Stop<'a>>
+) -> Result<(Option<Simple>, &'a [Token]), ParseStop<'a>>
     ensures ok { IfOk result (λ r. IsEndedRead maybe_simple closing tokens.now r.1.now (maybe_simple_of r.0)) }
     ensures shorter { IfOk result (λ r. length r.1.now < length tokens.now) }
     ensures err { IfErr result (IsEndedStuck maybe_simple closing tokens.now) }
@@ -98,7 +101,7 @@ fn ended_simple<'a>(
 fn ended_expression<'a>(
     alloc: Global,
     tokens: &'a [Token],
-) -> Result<(Option<Expr>, &'a [Token]), Stop<'a>>
+) -> Result<(Option<Expression>, &'a [Token]), ParseStop<'a>>
     ensures ok { IfOk result (λ r. IsEndedRead maybe_expression Semicolon tokens.now r.1.now (maybe_expression_of r.0)) }
     ensures shorter { IfOk result (λ r. length r.1.now < length tokens.now) }
     ensures err { IfErr result (IsEndedStuck maybe_expression Semicolon tokens.now) }
@@ -111,7 +114,10 @@ fn ended_expression<'a>(
 }
 
 /// The parts of a `for` in their parentheses.
-fn for_parts<'a>(alloc: Global, tokens: &'a [Token]) -> Result<(ForParts, &'a [Token]), Stop<'a>>
+fn for_parts<'a>(
+    alloc: Global,
+    tokens: &'a [Token],
+) -> Result<(ForParts, &'a [Token]), ParseStop<'a>>
     ensures ok { IfOk result (λ r. IsHeadRead tokens.now r.1.now (maybe_simple_of r.0.first) (maybe_expression_of r.0.test) (maybe_simple_of r.0.last)) }
     ensures shorter { IfOk result (λ r. length r.1.now < length tokens.now) }
     ensures err { IfErr result (IsHeadStuck tokens.now) }
@@ -129,7 +135,7 @@ fn jump<'a>(
     word: JumpWord,
     at: usize,
     tokens: &'a [Token],
-) -> Result<(Stmt, &'a [Token]), Stop<'a>>
+) -> Result<(Statement, &'a [Token]), ParseStop<'a>>
     ensures ok { IfOk result (λ r. IsRead a_statement (Jump word at ∷ tokens.now) r.1.now (statement_of r.0)) }
     ensures shorter { IfOk result (λ r. length r.1.now < length tokens.now) }
     ensures err { IfErr result (IsStuck a_statement (Jump word at ∷ tokens.now)) }
@@ -137,44 +143,47 @@ fn jump<'a>(
     match word {
         JumpWord::Break => {
             let end = expect(tokens, Mark::Semicolon)?;
-            Ok((Stmt::Break(at), end))
+            Ok((Statement::Break(at), end))
         }
         JumpWord::Continue => {
             let end = expect(tokens, Mark::Semicolon)?;
-            Ok((Stmt::Continue(at), end))
+            Ok((Statement::Continue(at), end))
         }
         JumpWord::Return => {
             let (given, end) = ended_expression(alloc, tokens)?;
-            Ok((Stmt::Return(at, given), end))
+            Ok((Statement::Return(at, given), end))
         }
     }
 }
 
 /// A statement.
 #[cycle(statements)]
-fn statement<'a>(alloc: Global, tokens: &'a [Token]) -> Result<(Stmt, &'a [Token]), Stop<'a>>
+fn statement<'a>(
+    alloc: Global,
+    tokens: &'a [Token],
+) -> Result<(Statement, &'a [Token]), ParseStop<'a>>
     ensures ok { IfOk result (λ r. IsRead a_statement tokens.now r.1.now (statement_of r.0)) }
     ensures shorter { IfOk result (λ r. length r.1.now < length tokens.now) }
     ensures err { IfErr result (IsStuck a_statement tokens.now) }
 {
     let Some((token, rest)) = split(tokens) else {
-        return Err(Stop::Syntax(tokens));
+        return Err(ParseStop::Syntax(tokens));
     };
     match token {
         Token::Name(_) => {
             let (inner, close) = simple(alloc, tokens)?;
             let end = expect(close, Mark::Semicolon)?;
-            Ok((Stmt::Simply(inner), end))
+            Ok((Statement::Simply(inner), end))
         }
         Token::The(mark) => match mark {
-            Mark::Semicolon => Ok((Stmt::Empty, rest)),
+            Mark::Semicolon => Ok((Statement::Empty, rest)),
             Mark::LeftBrace => {
                 let (all, close) = items(alloc, rest)?;
                 let end = expect(close, Mark::RightBrace)?;
-                Ok((Stmt::Block(all), end))
+                Ok((Statement::Block(all), end))
             }
             Mark::If => {
-                let (whole, end) = branch(alloc, rest)?;
+                let (whole, end) = if_then(alloc, rest)?;
                 Ok((whole, end))
             }
             Mark::While => {
@@ -185,19 +194,22 @@ fn statement<'a>(alloc: Global, tokens: &'a [Token]) -> Result<(Stmt, &'a [Token
                 let (whole, end) = for_loop(alloc, rest)?;
                 Ok((whole, end))
             }
-            _ => Err(Stop::Syntax(tokens)),
+            _ => Err(ParseStop::Syntax(tokens)),
         },
         Token::Jump(word, at) => {
             let (whole, end) = jump(alloc, word, at, rest)?;
             Ok((whole, end))
         }
-        Token::Constant(_) => Err(Stop::Syntax(tokens)),
+        Token::Constant(_) => Err(ParseStop::Syntax(tokens)),
     }
 }
 
 /// What stands after `if`.
 #[cycle(statements)]
-fn branch<'a>(alloc: Global, tokens: &'a [Token]) -> Result<(Stmt, &'a [Token]), Stop<'a>>
+fn if_then<'a>(
+    alloc: Global,
+    tokens: &'a [Token],
+) -> Result<(Statement, &'a [Token]), ParseStop<'a>>
     ensures ok { IfOk result (λ r. IsBranchRead tokens.now r.1.now (statement_of r.0)) }
     ensures shorter { IfOk result (λ r. length r.1.now < length tokens.now) }
     ensures err { IfErr result (IsBranchStuck tokens.now) }
@@ -208,27 +220,36 @@ fn branch<'a>(alloc: Global, tokens: &'a [Token]) -> Result<(Stmt, &'a [Token]),
     match starts(rest, Mark::Else) {
         Some(after) => {
             let (second, end) = statement(alloc, after)?;
-            Ok((Stmt::IfElse(test, first, Box::new(alloc, second)?), end))
+            Ok((
+                Statement::IfElse(test, first, Box::new(alloc, second)?),
+                end,
+            ))
         }
-        None => Ok((Stmt::If(test, first), rest)),
+        None => Ok((Statement::If(test, first), rest)),
     }
 }
 
 /// What stands after `while`.
 #[cycle(statements)]
-fn while_loop<'a>(alloc: Global, tokens: &'a [Token]) -> Result<(Stmt, &'a [Token]), Stop<'a>>
+fn while_loop<'a>(
+    alloc: Global,
+    tokens: &'a [Token],
+) -> Result<(Statement, &'a [Token]), ParseStop<'a>>
     ensures ok { IfOk result (λ r. IsRead a_statement (The While ∷ tokens.now) r.1.now (statement_of r.0)) }
     ensures shorter { IfOk result (λ r. length r.1.now < length tokens.now) }
     ensures err { IfErr result (IsStuck a_statement (The While ∷ tokens.now)) }
 {
     let (test, start) = condition(alloc, tokens)?;
     let (body, end) = statement(alloc, start)?;
-    Ok((Stmt::While(test, Box::new(alloc, body)?), end))
+    Ok((Statement::While(test, Box::new(alloc, body)?), end))
 }
 
 /// What stands after `for`.
 #[cycle(statements)]
-fn for_loop<'a>(alloc: Global, tokens: &'a [Token]) -> Result<(Stmt, &'a [Token]), Stop<'a>>
+fn for_loop<'a>(
+    alloc: Global,
+    tokens: &'a [Token],
+) -> Result<(Statement, &'a [Token]), ParseStop<'a>>
     ensures ok { IfOk result (λ r. IsRead a_statement (The For ∷ tokens.now) r.1.now (statement_of r.0)) }
     ensures shorter { IfOk result (λ r. length r.1.now < length tokens.now) }
     ensures err { IfErr result (IsStuck a_statement (The For ∷ tokens.now)) }
@@ -236,7 +257,7 @@ fn for_loop<'a>(alloc: Global, tokens: &'a [Token]) -> Result<(Stmt, &'a [Token]
     let (parts, start) = for_parts(alloc, tokens)?;
     let (body, end) = statement(alloc, start)?;
     Ok((
-        Stmt::For(Box::new(alloc, parts)?, Box::new(alloc, body)?),
+        Statement::For(Box::new(alloc, parts)?, Box::new(alloc, body)?),
         end,
     ))
 }
@@ -245,8 +266,8 @@ fn for_loop<'a>(alloc: Global, tokens: &'a [Token]) -> Result<(Stmt, &'a [Token]
 fn first_value<'a>(
     alloc: Global,
     tokens: &'a [Token],
-) -> Result<(Option<Value>, &'a [Token]), Stop<'a>>
-    ensures ok { IfOk result (λ r. IsRead declared tokens.now r.1.now (maybe_value_of r.0)) }
+) -> Result<(Option<Value>, &'a [Token]), ParseStop<'a>>
+    ensures ok { IfOk result (λ r. IsRead declared tokens.now r.1.now (maybe_value_tree r.0)) }
     ensures shorter { IfOk result (λ r. length r.1.now ≤ length tokens.now) }
     ensures err { IfErr result (IsStuck declared tokens.now) }
 {
@@ -261,17 +282,17 @@ fn first_value<'a>(
 
 /// A declaration of a local variable, or a statement.
 #[cycle(statements)]
-fn item<'a>(alloc: Global, tokens: &'a [Token]) -> Result<(Item, &'a [Token]), Stop<'a>>
+fn item<'a>(alloc: Global, tokens: &'a [Token]) -> Result<(Item, &'a [Token]), ParseStop<'a>>
     ensures ok { IfOk result (λ r. IsRead an_item tokens.now r.1.now (item_of r.0)) }
     ensures shorter { IfOk result (λ r. length r.1.now < length tokens.now) }
     ensures err { IfErr result (IsStuck an_item tokens.now) }
 {
-    match kind(tokens) {
-        Some((kind, after)) => {
+    match integer_type(tokens) {
+        Some((integer_type, after)) => {
             let (name, start) = name(after)?;
             let (given, close) = first_value(alloc, start)?;
             let end = expect(close, Mark::Semicolon)?;
-            Ok((Item::Declare(kind, name, given), end))
+            Ok((Item::Declare(integer_type, name, given), end))
         }
         None => {
             let (inner, end) = statement(alloc, tokens)?;
@@ -298,7 +319,10 @@ fn ends_items(tokens: &[Token]) -> bool
 
 /// The items up to a closing brace, or to the end.
 #[cycle(statements)]
-pub fn items<'a>(alloc: Global, tokens: &'a [Token]) -> Result<(Vec<Item>, &'a [Token]), Stop<'a>>
+pub fn items<'a>(
+    alloc: Global,
+    tokens: &'a [Token],
+) -> Result<(Vec<Item>, &'a [Token]), ParseStop<'a>>
     ensures ok { IfOk result (λ r. IsRead items tokens.now r.1.now (items_of r.0.items)) }
     ensures shorter { IfOk result (λ r. length r.1.now ≤ length tokens.now) }
     ensures err { IfErr result (IsStuck items tokens.now) }

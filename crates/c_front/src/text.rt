@@ -2,11 +2,11 @@ ghost use Rattle.std.specs.Prelude.{◌≡◌, ℕ, List, length, IfOk, IfErr, I
 ghost use Rattle.c_front.specs.Shape.{declarations_of};
 ghost use Rattle.c_front.specs.Texts.{SpellsText, IsTextFault, is_text, IsBadByte, AllText, place_or, refusal_kind, number_of, spelling_of};
 ghost use Rattle.c_front.specs.Tree.{Declaration};
-ghost use Rattle.c_front.specs.declared.text.FaultKind.{FaultKind};
-ghost use Rattle.c_front.specs.declared.text.FaultKind.TheVariants.{NoMemory};
+ghost use Rattle.c_front.specs.declared.text.FrontFaultKind.{FrontFaultKind};
+ghost use Rattle.c_front.specs.declared.text.FrontFaultKind.TheVariants.{NoMemory};
 ghost use Rattle.c_front.specs.Faults.{lexical_fault, syntactic_fault};
 
-use crate::declaration::{Fault, parse};
+use crate::declaration::{SyntaxFault, parse};
 use crate::tree::Program;
 use c_tokens::{Identifier, LexFault, Refusal, lex};
 use std::alloc::{AllocError, AllocFailed, Global};
@@ -14,7 +14,7 @@ use thiserror::Error;
 
 /// What is wrong with a text; `{kind}` shows the variant's name.
 #[derive(Clone, Copy, PartialEq, Eq, Debug, Error)]
-pub enum FaultKind {
+pub enum FrontFaultKind {
     /// A byte that isn't 32 to 126, tab, LF or CR.
     #[error("Byte")]
     Byte,
@@ -36,18 +36,18 @@ pub enum FaultKind {
     NoMemory,
 }
 
-impl FaultKind {
+impl FrontFaultKind {
     /// The number that messages show.
     pub fn number(self) -> u8
         ensures { result ≡ number_of self }
     {
         match self {
-            FaultKind::Byte => 1,
-            FaultKind::Token => 2,
-            FaultKind::Syntax => 3,
-            FaultKind::Constant => 4,
-            FaultKind::Size => 5,
-            FaultKind::NoMemory => 30,
+            FrontFaultKind::Byte => 1,
+            FrontFaultKind::Token => 2,
+            FrontFaultKind::Syntax => 3,
+            FrontFaultKind::Constant => 4,
+            FrontFaultKind::Size => 5,
+            FrontFaultKind::NoMemory => 30,
         }
     }
 }
@@ -56,7 +56,7 @@ impl FaultKind {
 #[derive(Clone, Copy, PartialEq, Eq, Debug, Error)]
 #[error("fault {} {kind} at {at}", .kind.number())]
 pub struct FrontFault {
-    pub kind: FaultKind,
+    pub kind: FrontFaultKind,
     pub at: usize,
 }
 
@@ -86,13 +86,13 @@ fn place(length: usize, places: &[usize], k: usize) -> usize
     if k < places.len() { places[k] } else { length }
 }
 
-fn refusal(why: Refusal) -> FaultKind
+fn refusal(why: Refusal) -> FrontFaultKind
     ensures { result ≡ refusal_kind why }
 {
     match why {
-        Refusal::BadToken => FaultKind::Token,
-        Refusal::BadConstant => FaultKind::Constant,
-        Refusal::BadSize => FaultKind::Size,
+        Refusal::BadToken => FrontFaultKind::Token,
+        Refusal::BadConstant => FrontFaultKind::Constant,
+        Refusal::BadSize => FrontFaultKind::Size,
     }
 }
 
@@ -105,22 +105,22 @@ fn lexical(fault: LexFault, length: usize) -> FrontFault
             at,
         },
         LexFault::NoMemory => FrontFault {
-            kind: FaultKind::NoMemory,
+            kind: FrontFaultKind::NoMemory,
             at: length,
         },
     }
 }
 
-fn syntactic(fault: Fault, length: usize, places: &[usize]) -> FrontFault
+fn syntactic(fault: SyntaxFault, length: usize, places: &[usize]) -> FrontFault
     ensures { result ≡ syntactic_fault length places.now fault }
 {
     match fault {
-        Fault::Wrong(k) => FrontFault {
-            kind: FaultKind::Syntax,
+        SyntaxFault::Wrong(k) => FrontFault {
+            kind: FrontFaultKind::Syntax,
             at: place(length, places, k),
         },
-        Fault::OutOfMemory => FrontFault {
-            kind: FaultKind::NoMemory,
+        SyntaxFault::OutOfMemory => FrontFault {
+            kind: FrontFaultKind::NoMemory,
             at: length,
         },
     }
@@ -157,13 +157,13 @@ pub fn read(alloc: Global, text: &[u8]) -> Result<Program, FrontFault>
 {
     if text.len() > 1_048_576 {
         return Err(FrontFault {
-            kind: FaultKind::Size,
+            kind: FrontFaultKind::Size,
             at: 1_048_576,
         });
     }
     if let Some(at) = bad_byte(text) {
         return Err(FrontFault {
-            kind: FaultKind::Byte,
+            kind: FrontFaultKind::Byte,
             at,
         });
     }
@@ -173,7 +173,7 @@ pub fn read(alloc: Global, text: &[u8]) -> Result<Program, FrontFault>
             Ok(declarations) => match Vec::from_slice(alloc, text) {
                 Ok(text) => Ok(Program { declarations, text }),
                 Err(_) => Err(FrontFault {
-                    kind: FaultKind::NoMemory,
+                    kind: FrontFaultKind::NoMemory,
                     at: text.len(),
                 }),
             },
@@ -186,6 +186,6 @@ pub fn read(alloc: Global, text: &[u8]) -> Result<Program, FrontFault>
 /// most, at one place. A law: it computes nothing.
 pub fn one_reading()
     ensures once { (text : List ℕ) (p q : List Declaration) → SpellsText text p → SpellsText text q → p ≡ q }
-    ensures refused { (text : List ℕ) (k : FaultKind) (at : ℕ) (p : List Declaration) → IsTextFault text k at → (k ≡ NoMemory → ⊥) → SpellsText text p → ⊥ }
-    ensures one_fault { (text : List ℕ) (k j : FaultKind) (at n : ℕ) → IsTextFault text k at → IsTextFault text j n → (k ≡ NoMemory → ⊥) → (j ≡ NoMemory → ⊥) → (k ≡ j) × (at ≡ n) }
+    ensures refused { (text : List ℕ) (k : FrontFaultKind) (at : ℕ) (p : List Declaration) → IsTextFault text k at → (k ≡ NoMemory → ⊥) → SpellsText text p → ⊥ }
+    ensures one_fault { (text : List ℕ) (k j : FrontFaultKind) (at n : ℕ) → IsTextFault text k at → IsTextFault text j n → (k ≡ NoMemory → ⊥) → (j ≡ NoMemory → ⊥) → (k ≡ j) × (at ≡ n) }
 {}

@@ -1,4 +1,4 @@
-use c_tokens::{Identifier, Kind, Literal};
+use c_tokens::{Identifier, IntegerType, Literal};
 
 /// An operator before its operand: `-`, `+`, `~`, `!`.
 #[derive(Clone, Copy, PartialEq, Eq)]
@@ -19,41 +19,41 @@ pub enum BinaryOp {
     Subtract,
     ShiftLeft,
     ShiftRight,
-    Below,
-    Exceeds,
-    AtMost,
-    AtLeast,
-    Same,
-    Differs,
+    Less,
+    Greater,
+    LessOrEqual,
+    GreaterOrEqual,
+    Equal,
+    NotEqual,
     BitAnd,
     BitXor,
     BitOr,
-    Both,
-    Either,
+    LogicalAnd,
+    LogicalOr,
 }
 
 /// An expression: a constant, a name, a name with an index, an operator with operands, or `c ? a : b`.
 #[derive(Drop)]
-pub enum Expr {
+pub enum Expression {
     Constant(Literal),
     Name(Identifier),
-    Index(Identifier, Box<Expr>),
-    Unary(UnaryOp, Box<Expr>),
-    Binary(BinaryOp, Box<Expr>, Box<Expr>),
-    Choose(Box<Expr>, Box<Expr>, Box<Expr>),
+    Index(Identifier, Box<Expression>),
+    Unary(UnaryOp, Box<Expression>),
+    Binary(BinaryOp, Box<Expression>, Box<Expression>),
+    Conditional(Box<Expression>, Box<Expression>, Box<Expression>),
 }
 
 /// A call: the name and its arguments.
 #[derive(Drop)]
 pub struct Call {
     pub name: Identifier,
-    pub arguments: Vec<Expr>,
+    pub arguments: Vec<Expression>,
 }
 
 /// What a variable may be given: an expression or a call's result.
 #[derive(Drop)]
 pub enum Value {
-    Plain(Expr),
+    Plain(Expression),
     Called(Call),
 }
 
@@ -61,31 +61,31 @@ pub enum Value {
 #[derive(Drop)]
 pub enum Simple {
     Assign(Identifier, Value),
-    AssignAt(Identifier, Expr, Expr),
-    CallOf(Call),
+    AssignAt(Identifier, Expression, Expression),
+    CallStatement(Call),
 }
 
 /// The three parts of a `for`, each of which may be missing.
 #[derive(Drop)]
 pub struct ForParts {
     pub first: Option<Simple>,
-    pub test: Option<Expr>,
+    pub test: Option<Expression>,
     pub last: Option<Simple>,
 }
 
 /// A statement. `Break`, `Continue` and `Return` have the offset of their keyword.
 #[derive(Drop)]
 #[cycle(statements)]
-pub enum Stmt {
+pub enum Statement {
     Empty,
     Block(Vec<Item>),
-    If(Expr, Box<Stmt>),
-    IfElse(Expr, Box<Stmt>, Box<Stmt>),
-    While(Expr, Box<Stmt>),
-    For(Box<ForParts>, Box<Stmt>),
+    If(Expression, Box<Statement>),
+    IfElse(Expression, Box<Statement>, Box<Statement>),
+    While(Expression, Box<Statement>),
+    For(Box<ForParts>, Box<Statement>),
     Break(usize),
     Continue(usize),
-    Return(usize, Option<Expr>),
+    Return(usize, Option<Expression>),
     Simply(Simple),
 }
 
@@ -93,8 +93,8 @@ pub enum Stmt {
 #[derive(Drop)]
 #[cycle(statements)]
 pub enum Item {
-    Declare(Kind, Identifier, Option<Value>),
-    Statement(Stmt),
+    Declare(IntegerType, Identifier, Option<Value>),
+    Statement(Statement),
 }
 
 /// The first value of a global variable: a constant or its negation.
@@ -107,14 +107,14 @@ pub struct Initial {
 /// A parameter of a function.
 #[derive(Clone, Copy, PartialEq, Eq)]
 pub struct Parameter {
-    pub kind: Kind,
+    pub integer_type: IntegerType,
     pub name: Identifier,
 }
 
 /// A function with its body; `result` is `None` for `void`.
 #[derive(Drop)]
 pub struct FunctionDefinition {
-    pub result: Option<Kind>,
+    pub result: Option<IntegerType>,
     pub name: Identifier,
     pub parameters: Vec<Parameter>,
     pub body: Vec<Item>,
@@ -123,8 +123,8 @@ pub struct FunctionDefinition {
 /// A declaration at file scope: a variable with its first value, an array with its length, or a function.
 #[derive(Drop)]
 pub enum Declaration {
-    Variable(Kind, Identifier, Option<Initial>),
-    Array(Kind, Identifier, Literal),
+    Variable(IntegerType, Identifier, Option<Initial>),
+    Array(IntegerType, Identifier, Literal),
     Function(FunctionDefinition),
 }
 

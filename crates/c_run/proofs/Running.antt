@@ -5,8 +5,8 @@ use Rattle.runs.specs.declared.ran.End.TheVariants.{Done, Wrong}
 use Rattle.runs.proofs.Steps.{steps-stay}
 use Rattle.c_typed.specs.Trees.{TypedProgram}
 use Rattle.c_typed.specs.Meaning.{Run, source_step, source_steps, source_start, source_run}
-use Rattle.c_run.specs.Machine.{state_of}
-use Rattle.c_run.specs.declared.machine.Machine.{Machine}
+use Rattle.c_run.specs.Interpreter.{state_of}
+use Rattle.c_run.specs.declared.interpreter.Interpreter.{Interpreter}
 
 pub one-step : (p : TypedProgram) (depth n i : ℕ) (s t : Run) → i < n → source_step p depth s ≡ t → source_steps p depth (n - i) s ≡ source_steps p depth (n - (i + 1)) t
 one-step p depth n i s t lt e =
@@ -30,7 +30,7 @@ bound-reached p depth n i s le e =
     let zero-left : n - i ≡ 0 = omega arith in
     ap (λ k. outcome (source_steps p depth k s)) (sym zero-left) ∙ e
 
-pub begins : (p : TypedProgram) (depth n : ℕ) (m : Machine) → source_start p ≡ state_of m → outcome (source_steps p depth (n - 0) (state_of m)) ≡ source_run p depth n
+pub begins : (p : TypedProgram) (depth n : ℕ) (m : Interpreter) → source_start p ≡ state_of m → outcome (source_steps p depth (n - 0) (state_of m)) ≡ source_run p depth n
 begins p depth n m e =
     let all : n - 0 ≡ n = omega arith in
     ap (λ k. outcome (source_steps p depth k (state_of m))) all ∙ sym (ap (λ s. outcome (source_steps p depth n s)) e)

@@ -10,7 +10,7 @@ use mathlib.Core.Path.{fun_ext}
 use Rattle.std.specs.Prelude.{if◌then◌else◌}
 use Rattle.std.proofs.lemmas.Bool.{eqb-false}
 use Rattle.runs.specs.Stores.{written, chain, stored}
-use Rattle.c_run.specs.Machine.{places, arrays}
+use Rattle.c_run.specs.Interpreter.{places, arrays}
 
 one_unset : (xs : List (Option ℕ)) (y : ℕ) → get_or (xs ++ None ∷ []) y None ≡ get_or xs y None
 one_unset [] zero = refl

@@ -5,12 +5,13 @@ use Rattle.std.specs.declared.vec.Vec.{Vec}
 use Rattle.std.specs.declared.alloc.Global.{Global}
 use Rattle.std.proofs.lemmas.List.{reverse-append}
 use Rattle.runs.specs.Stores.{Places}
-use Rattle.c_typed.specs.declared.tree.Statement.{Statement, Block}
-use Rattle.c_typed.specs.Trees.{TypedStatement, TypedStatements, empty, block, unset, assign, store, run, output, branch, loop, leave, next_turn, return_with, no_statements, more_statements}
+use Rattle.c_typed.specs.declared.tree.TypedStatement.{TypedStatement, Block}
+use Rattle.c_typed.specs.Trees as Trees
+use Rattle.c_typed.specs.Trees.{TypedStatements, empty, block, unset, assign, store, call, output, if_else, loop, break_loop, continue_loop, return_with, no_statements, more_statements}
 use Rattle.c_typed.specs.Shape.{statement_of, statements_of}
-use Rattle.c_typed.specs.Meaning.{Todo, Do, Next, before, before_all, settled, Going, Breaking, Continuing}
+use Rattle.c_typed.specs.Meaning.{Todo, Do, Next, before, before_all, next_point, Going, Breaking, Continuing}
 use Rattle.c_run.specs.Turns.{past_turn, at_turn}
-use Rattle.c_run.specs.Machine.{put, flattened, todos, taken, headed}
+use Rattle.c_run.specs.Interpreter.{put, todo_list_of, todos, with_part, with_head}
 use Rattle.c_run.specs.declared.pending.Head.{Head}
 use Rattle.c_run.specs.declared.pending.Head.TheVariants as Heads
 use Rattle.c_run.specs.declared.pending.Pending.{Pending}
@@ -18,31 +19,31 @@ use Rattle.c_run.specs.declared.pending.Pending.TheVariants.{One, Rest}
 use Rattle.c_typed.proofs.Shapes.{block-is}
 
 pub todos-push : (ts : List Pending) (t : Pending) → todos (ts ++ t ∷ []) ≡ put t (todos ts)
-todos-push ts t = ap flattened (reverse-append ts (t ∷ []))
+todos-push ts t = ap todo_list_of (reverse-append ts (t ∷ []))
 
-pub leaves : (k : List Todo) (l : Places) → settled Breaking l k ≡ settled Going l (past_turn k)
+pub leaves : (k : List Todo) (l : Places) → next_point Breaking l k ≡ next_point Going l (past_turn k)
 leaves [] l = refl
 leaves (Do s ∷ k) l = leaves k l
 leaves (Next last again ∷ k) l = refl
 
-pub continues : (k : List Todo) (l : Places) → settled Continuing l k ≡ settled Going l (at_turn k)
+pub continues : (k : List Todo) (l : Places) → next_point Continuing l k ≡ next_point Going l (at_turn k)
 continues [] l = refl
 continues (Do s ∷ k) l = continues k l
 continues (Next last again ∷ k) l = refl
 
 mutual
-  pub past-before : (s : TypedStatement) (k : List Todo) → past_turn (before s k) ≡ past_turn k
+  pub past-before : (s : Trees.TypedStatement) (k : List Todo) → past_turn (before s k) ≡ past_turn k
   past-before empty k = refl
   past-before (block all) k = past-before_all all k
   past-before (unset x) k = refl
   past-before (assign x e) k = refl
   past-before (store a i e) k = refl
-  past-before (run to f all) k = refl
+  past-before (call to f all) k = refl
   past-before (output e) k = refl
-  past-before (branch c a b) k = refl
+  past-before (if_else c a b) k = refl
   past-before (loop c last body) k = refl
-  past-before leave k = refl
-  past-before next_turn k = refl
+  past-before break_loop k = refl
+  past-before continue_loop k = refl
   past-before (return_with e) k = refl
 
   pub past-before_all : (all : TypedStatements) (k : List Todo) → past_turn (before_all all k) ≡ past_turn k
@@ -50,18 +51,18 @@ mutual
   past-before_all (more_statements s rest) k = past-before s (before_all rest k) ∙ past-before_all rest k
 
 mutual
-  pub at-before : (s : TypedStatement) (k : List Todo) → at_turn (before s k) ≡ at_turn k
+  pub at-before : (s : Trees.TypedStatement) (k : List Todo) → at_turn (before s k) ≡ at_turn k
   at-before empty k = refl
   at-before (block all) k = at-before_all all k
   at-before (unset x) k = refl
   at-before (assign x e) k = refl
   at-before (store a i e) k = refl
-  at-before (run to f all) k = refl
+  at-before (call to f all) k = refl
   at-before (output e) k = refl
-  at-before (branch c a b) k = refl
+  at-before (if_else c a b) k = refl
   at-before (loop c last body) k = refl
-  at-before leave k = refl
-  at-before next_turn k = refl
+  at-before break_loop k = refl
+  at-before continue_loop k = refl
   at-before (return_with e) k = refl
 
   pub at-before_all : (all : TypedStatements) (k : List Todo) → at_turn (before_all all k) ≡ at_turn k
@@ -74,7 +75,7 @@ popped ts rest t e = ap todos e ∙ todos-push rest t
 
 -- a statement, or a list of them, and no end of a turn
 abbrev pub NoTurn : Pending → Type 0
-NoTurn t = ((s : Bor Statement) × (t ≡ One s)) ⊎ ((all : Bor (List Statement)) × (t ≡ Rest all))
+NoTurn t = ((s : Bor TypedStatement) × (t ≡ One s)) ⊎ ((all : Bor (List TypedStatement)) × (t ≡ Rest all))
 
 pub past-put : (t : Pending) (k : List Todo) → NoTurn t → past_turn (put t k) ≡ past_turn k
 past-put t k (inl w) = ap (λ t. past_turn (put t k)) w.1 ∙ past-before (statement_of w.0.now) k
@@ -90,29 +91,29 @@ past-popped ts rest t e n = sym (ap past_turn (popped ts rest t e) ∙ past-put 
 pub at-popped : (ts rest : List Pending) (t : Pending) → ts ≡ rest ++ t ∷ [] → NoTurn t → at_turn (todos rest) ≡ at_turn (todos ts)
 at-popped ts rest t e n = sym (ap at_turn (popped ts rest t e) ∙ at-put t (todos rest) n)
 
-none-left : (all : List Statement) → length all ≡ 0 → all ≡ []
+none-left : (all : List TypedStatement) → length all ≡ 0 → all ≡ []
 none-left [] e = refl
 none-left (s ∷ rest) e = absurd (omega arith)
 
-pub rest-gone : (ts behind : List Pending) (t : Pending) (all : Bor (List Statement)) → ts ≡ behind ++ t ∷ [] → t ≡ Rest all → length all.now ≡ 0 → todos behind ≡ todos ts
+pub rest-gone : (ts behind : List Pending) (t : Pending) (all : Bor (List TypedStatement)) → ts ≡ behind ++ t ∷ [] → t ≡ Rest all → length all.now ≡ 0 → todos behind ≡ todos ts
 rest-gone ts behind t all e is n =
     sym (popped ts behind t e ∙ ap (λ t. put t (todos behind)) is ∙ ap (λ all. before_all (statements_of all) (todos behind)) (none-left all.now n))
 
 -- a list of statements that was first comes to lie on top as a list
-pub block-opened : (old mid new : List Pending) (h : Head) (s : Bor Statement) (all : Vec Statement Global) (slice : Bor (List Statement)) → todos old ≡ taken h (todos mid) → h ≡ Heads.Statement s → s.now ≡ Block all → slice.now ≡ all.items → new ≡ mid ++ Rest slice ∷ [] → todos new ≡ todos old
+pub block-opened : (old mid new : List Pending) (h : Head) (s : Bor TypedStatement) (all : Vec TypedStatement Global) (slice : Bor (List TypedStatement)) → todos old ≡ with_part h (todos mid) → h ≡ Heads.Statement s → s.now ≡ Block all → slice.now ≡ all.items → new ≡ mid ++ Rest slice ∷ [] → todos new ≡ todos old
 block-opened old mid new h s all slice e is opens slice-is pushed =
     let k = todos mid in
     popped new mid (Rest slice) pushed ∙ ap (λ xs. before_all (statements_of xs) k) slice-is
-    ∙ sym (e ∙ ap (λ h. taken h k) is ∙ ap (λ s. before (statement_of s) k) opens ∙ ap (λ s. before s k) (block-is all))
+    ∙ sym (e ∙ ap (λ h. with_part h k) is ∙ ap (λ s. before (statement_of s) k) opens ∙ ap (λ s. before s k) (block-is all))
 
-pub at-head : (old mid : List Pending) (h : Head) (s : Bor Statement) (is_s : Statement) → todos old ≡ headed h (todos mid) → h ≡ Heads.Statement s → s.now ≡ is_s → todos old ≡ Do (statement_of is_s) ∷ todos mid
-at-head old mid h s is_s e is i = e ∙ ap (λ h. headed h (todos mid)) is ∙ ap (λ s. Do (statement_of s) ∷ todos mid) i
+pub at-head : (old mid : List Pending) (h : Head) (s : Bor TypedStatement) (is_s : TypedStatement) → todos old ≡ with_head h (todos mid) → h ≡ Heads.Statement s → s.now ≡ is_s → todos old ≡ Do (statement_of is_s) ∷ todos mid
+at-head old mid h s is_s e is i = e ∙ ap (λ h. with_head h (todos mid)) is ∙ ap (λ s. Do (statement_of s) ∷ todos mid) i
 
-pub break_settles : (old mid new : List Pending) (l : Places) → todos old ≡ Do leave ∷ todos mid → todos new ≡ past_turn (todos mid) → settled Going l (todos new) ≡ settled Going l (todos old)
-break_settles old mid new l e n = ap (settled Going l) n ∙ sym (leaves (todos mid) l) ∙ sym (ap (settled Going l) e)
+pub break_settles : (old mid new : List Pending) (l : Places) → todos old ≡ Do break_loop ∷ todos mid → todos new ≡ past_turn (todos mid) → next_point Going l (todos new) ≡ next_point Going l (todos old)
+break_settles old mid new l e n = ap (next_point Going l) n ∙ sym (leaves (todos mid) l) ∙ sym (ap (next_point Going l) e)
 
-pub continue_settles : (old mid new : List Pending) (l : Places) → todos old ≡ Do next_turn ∷ todos mid → todos new ≡ at_turn (todos mid) → settled Going l (todos new) ≡ settled Going l (todos old)
-continue_settles old mid new l e n = ap (settled Going l) n ∙ sym (continues (todos mid) l) ∙ sym (ap (settled Going l) e)
+pub continue_settles : (old mid new : List Pending) (l : Places) → todos old ≡ Do continue_loop ∷ todos mid → todos new ≡ at_turn (todos mid) → next_point Going l (todos new) ≡ next_point Going l (todos old)
+continue_settles old mid new l e n = ap (next_point Going l) n ∙ sym (continues (todos mid) l) ∙ sym (ap (next_point Going l) e)
 
 past-shorter : (k : List Todo) → length (past_turn k) ≤ length k
 past-shorter [] = omega arith
@@ -124,8 +125,8 @@ at-shorter [] = omega arith
 at-shorter (Do s ∷ k) = omega (arith, at-shorter k)
 at-shorter (Next last again ∷ k) = omega arith
 
-pub break-shorter : (old mid new : List Pending) → todos old ≡ Do leave ∷ todos mid → todos new ≡ past_turn (todos mid) → length (todos new) < length (todos old)
+pub break-shorter : (old mid new : List Pending) → todos old ≡ Do break_loop ∷ todos mid → todos new ≡ past_turn (todos mid) → length (todos new) < length (todos old)
 break-shorter old mid new e n = omega (arith, past-shorter (todos mid), ap length n, ap length e)
 
-pub continue-shorter : (old mid new : List Pending) → todos old ≡ Do next_turn ∷ todos mid → todos new ≡ at_turn (todos mid) → length (todos new) < length (todos old)
+pub continue-shorter : (old mid new : List Pending) → todos old ≡ Do continue_loop ∷ todos mid → todos new ≡ at_turn (todos mid) → length (todos new) < length (todos old)
 continue-shorter old mid new e n = omega (arith, at-shorter (todos mid), ap length n, ap length e)

@@ -1,3 +1,3 @@
 pub mod Turns
-pub mod Machine
+pub mod Interpreter
 pub mod Sizes

@@ -6,12 +6,12 @@
 //!
 //! A step takes time by its statement and its expressions alone: what is still to do lies as lent statements and lists
 //! of them, the globals are written in place, and only a call, a block within a block and an output may need memory.
-//! `specs/Machine.antt` says which state of the meaning the interpreter's parts stand for, `specs/Turns.antt` what
+//! `specs/Interpreter.antt` says which state of the meaning the interpreter's parts stand for, `specs/Turns.antt` what
 //! `break` and `continue` skip, and `specs/Sizes.antt` why taking lists apart ends. `value` calls itself on the parts of
 //! an expression, by 64 bytes of stack for each level as LLVM builds it.
 #![tactic(auto)]
 
-mod machine;
+mod interpreter;
 mod pending;
 mod steps;
 mod value;

@@ -1,7 +1,7 @@
 ghost use Rattle.std.specs.Prelude.{◌≡◌, ℕ, ◌++◌, ◌∷◌, [], OnOk, IfOk, None, length, ◌+◌, ◌≤◌};
 ghost use Rattle.runs.specs.Stores.{written};
-ghost use Rattle.c_typed.specs.Meaning.{settled, Going};
-ghost use Rattle.c_run.specs.Machine.{places, todos, headed, taken};
+ghost use Rattle.c_typed.specs.Meaning.{next_point, Going};
+ghost use Rattle.c_run.specs.Interpreter.{places, todos, with_head, with_part};
 ghost use Rattle.c_run.specs.Sizes.{weights, head_size};
 ghost use Rattle.c_run.specs.Turns.{past_turn, at_turn};
 
@@ -12,17 +12,17 @@ use std::alloc::AllocError;
 /// is lent, so to enter a block is one push.
 #[derive(Clone, Copy)]
 pub enum Pending<'a> {
-    One(&'a Statement),
-    Rest(&'a [Statement]),
-    Turn(&'a Statement, &'a Statement),
+    One(&'a TypedStatement),
+    Rest(&'a [TypedStatement]),
+    Turn(&'a TypedStatement, &'a TypedStatement),
 }
 
 /// What comes first: nothing, a statement that is no list, or the end of a turn.
 #[derive(Clone, Copy)]
 pub enum Head<'a> {
     Nothing,
-    Statement(&'a Statement),
-    Turn(&'a Statement, &'a Statement),
+    Statement(&'a TypedStatement),
+    Turn(&'a TypedStatement, &'a TypedStatement),
 }
 
 // One more thing to do first.
@@ -36,7 +36,7 @@ pub(crate) fn put<'a>(todo: &mut Vec<Pending<'a>>, t: Pending<'a>) -> Result<(),
 // Takes a statement, which may be a list of them, or the end of a turn off the list.
 #[inline]
 fn take_one<'a>(todo: &mut Vec<Pending<'a>>) -> Result<Head<'a>, AllocError>
-    ensures same { IfOk result (λ h. todos todo.old.items ≡ taken h (todos todo.new.items)) }
+    ensures same { IfOk result (λ h. todos todo.old.items ≡ with_part h (todos todo.new.items)) }
     ensures less { IfOk result (λ h. weights todo.new.items + head_size h ≤ weights todo.old.items) }
 {
     while let Some(t) = todo.pop() {
@@ -57,14 +57,14 @@ fn take_one<'a>(todo: &mut Vec<Pending<'a>>) -> Result<Head<'a>, AllocError>
 // Takes what comes first off the list.
 #[inline]
 fn first<'a>(todo: &mut Vec<Pending<'a>>) -> Result<Head<'a>, AllocError>
-    ensures { IfOk result (λ h. todos todo.old.items ≡ headed h (todos todo.new.items)) }
+    ensures { IfOk result (λ h. todos todo.old.items ≡ with_head h (todos todo.new.items)) }
 {
     loop {
         let head = take_one(todo)?;
         match head {
             Head::Statement(s) => match s {
-                Statement::Empty => {}
-                Statement::Block(all) => put(todo, Pending::Rest(all.as_slice()))?,
+                TypedStatement::Empty => {}
+                TypedStatement::Block(all) => put(todo, Pending::Rest(all.as_slice()))?,
                 _ => return Ok(head),
             },
             Head::Nothing | Head::Turn(_, _) => return Ok(head),
@@ -114,7 +114,7 @@ pub(crate) fn settle<'a>(
     todo: &mut Vec<Pending<'a>>,
     locals: &mut [Option<u32>],
 ) -> Result<Head<'a>, AllocError>
-    ensures { IfOk result (λ h. settled Going (places locals.old) (todos todo.old.items) ≡ record { locals = places locals.new; todo = headed h (todos todo.new.items) }) }
+    ensures { IfOk result (λ h. next_point Going (places locals.old) (todos todo.old.items) ≡ record { locals = places locals.new; todo = with_head h (todos todo.new.items) }) }
 {
     loop {
         let head = first(todo)?;
@@ -127,9 +127,9 @@ pub(crate) fn settle<'a>(
                 return Ok(head);
             }
             Head::Statement(s) => match s {
-                Statement::Unset(number) => unset(locals, *number),
-                Statement::Break => leave_turn(todo),
-                Statement::Continue => to_turn(todo)?,
+                TypedStatement::Unset(number) => unset(locals, *number),
+                TypedStatement::Break => leave_turn(todo),
+                TypedStatement::Continue => to_turn(todo)?,
                 _ => return Ok(head),
             },
         }

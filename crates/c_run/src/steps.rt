@@ -2,9 +2,9 @@ ghost use Rattle.std.specs.Prelude.{◌≡◌, IfOk, map};
 ghost use Rattle.runs.specs.Runs.{outcome_of};
 ghost use Rattle.c_types.specs.Shape.{program_of};
 ghost use Rattle.c_typed.specs.Meaning.{first_words, source_start, source_run};
-ghost use Rattle.c_run.specs.Machine.{arrays, state_of};
+ghost use Rattle.c_run.specs.Interpreter.{arrays, state_of};
 
-use crate::machine::{Call, Machine, Reached, step};
+use crate::interpreter::{Frame, Interpreter, Reached, step};
 use crate::pending::{Pending, put};
 use c_types::Typed;
 use runs::{End, Ran};
@@ -23,20 +23,20 @@ fn first_globals(alloc: Global, program: &Typed) -> Result<Vec<Vec<u32>>, AllocE
 }
 
 // The run before its first step.
-fn start<'a>(alloc: Global, program: &'a Typed) -> Result<Machine<'a>, AllocError>
+fn start<'a>(alloc: Global, program: &'a Typed) -> Result<Interpreter<'a>, AllocError>
     ensures { IfOk result (λ r. source_start (program_of program.now) ≡ state_of r) }
 {
     let main = &program.functions()[program.main()];
     let mut todo = Vec::new(alloc);
     put(&mut todo, Pending::Rest(main.body.as_slice()))?;
-    let call = Call {
+    let frame = Frame {
         locals: Vec::new(alloc),
         todo,
         result_to: None,
     };
     let globals = first_globals(alloc, program)?;
-    Ok(Machine {
-        call,
+    Ok(Interpreter {
+        frame,
         waiting: Vec::new(alloc),
         globals,
         output: Vec::new(alloc),
@@ -48,23 +48,23 @@ fn start<'a>(alloc: Global, program: &'a Typed) -> Result<Machine<'a>, AllocErro
 pub fn run(alloc: Global, program: &Typed, depth: u32, steps: u64) -> Result<Ran, AllocError>
     ensures { IfOk result (λ r. outcome_of r ≡ source_run (program_of program.now) depth steps) }
 {
-    let mut machine = start(alloc, program)?;
+    let mut interpreter = start(alloc, program)?;
     for _ in 0..steps {
-        let reached = step(alloc, program, depth, &mut machine)?;
+        let reached = step(alloc, program, depth, &mut interpreter)?;
         match reached {
             Reached::Going => {}
             Reached::Ended(w) => return Ok(Ran {
                 end: End::Done(w),
-                output: machine.output,
+                output: interpreter.output,
             }),
             Reached::Failed => return Ok(Ran {
                 end: End::Wrong,
-                output: machine.output,
+                output: interpreter.output,
             }),
         }
     }
     Ok(Ran {
         end: End::More,
-        output: machine.output,
+        output: interpreter.output,
     })
 }

@@ -1,25 +1,25 @@
 ghost use Rattle.std.specs.Prelude.{◌≡◌, ℕ, Option, Some, IfOk, map};
 ghost use Rattle.std.specs.Option.{option_map};
-ghost use Rattle.c_typed.specs.Shape.{term_of, terms_of};
+ghost use Rattle.c_typed.specs.Shape.{typed_expression_of, typed_expressions_of};
 ghost use Rattle.words.specs.Words.{wrap};
 ghost use Rattle.runs.specs.Stores.{word_at};
 ghost use Rattle.c_typed.specs.Values.{sign_of, truth, unary_of, binary_of, value_of, values_of};
-ghost use Rattle.c_run.specs.Machine.{places, arrays};
+ghost use Rattle.c_run.specs.Interpreter.{places, arrays};
 
 use c_front::{BinaryOp, UnaryOp};
-use c_tokens::Kind;
-use c_typed::Term;
+use c_tokens::IntegerType;
+use c_typed::TypedExpression;
 use std::alloc::{AllocError, Global};
 use words::Sign;
 
 /// How the words of a type are read.
 #[inline]
-fn sign(kind: Kind) -> Sign
-    ensures { result ≡ sign_of kind }
+fn sign(integer_type: IntegerType) -> Sign
+    ensures { result ≡ sign_of integer_type }
 {
-    match kind {
-        Kind::SignedInt => Sign::Signed,
-        Kind::UnsignedInt => Sign::Unsigned,
+    match integer_type {
+        IntegerType::SignedInt => Sign::Signed,
+        IntegerType::UnsignedInt => Sign::Unsigned,
     }
 }
 
@@ -59,11 +59,11 @@ fn local(locals: &[Option<u32>], number: usize) -> Option<u32>
 
 /// A prefix operator on a word.
 #[inline]
-fn prefixed(operator: UnaryOp, kind: Kind, x: u32) -> Option<u32>
-    ensures { result ≡ unary_of operator (sign_of kind) x }
+fn prefixed(operator: UnaryOp, integer_type: IntegerType, x: u32) -> Option<u32>
+    ensures { result ≡ unary_of operator (sign_of integer_type) x }
 {
     match operator {
-        UnaryOp::Negate => sign(kind).negation(x),
+        UnaryOp::Negate => sign(integer_type).negation(x),
         UnaryOp::Identity => Some(x),
         UnaryOp::Complement => Some(!x),
         UnaryOp::Not => Some(u32::from(x == 0)),
@@ -72,71 +72,75 @@ fn prefixed(operator: UnaryOp, kind: Kind, x: u32) -> Option<u32>
 
 /// An operator on two words, both of which are evaluated.
 #[inline(always)]
-fn computed(operator: BinaryOp, kind: Kind, x: u32, y: u32) -> Option<u32>
-    ensures { result ≡ binary_of operator (sign_of kind) x y }
+fn computed(operator: BinaryOp, integer_type: IntegerType, x: u32, y: u32) -> Option<u32>
+    ensures { result ≡ binary_of operator (sign_of integer_type) x y }
 {
     match operator {
-        BinaryOp::Multiply => sign(kind).times(x, y),
-        BinaryOp::Divide => sign(kind).quotient(x, y),
-        BinaryOp::Remainder => sign(kind).remainder(x, y),
-        BinaryOp::Add => sign(kind).sum(x, y),
-        BinaryOp::Subtract => sign(kind).difference(x, y),
-        BinaryOp::ShiftLeft => sign(kind).left_shift(x, y),
-        BinaryOp::ShiftRight => sign(kind).right_shift(x, y),
-        BinaryOp::Below => Some(u32::from(sign(kind).is_below(x, y))),
-        BinaryOp::Exceeds => Some(u32::from(sign(kind).is_below(y, x))),
-        BinaryOp::AtMost => Some(u32::from(!sign(kind).is_below(y, x))),
-        BinaryOp::AtLeast => Some(u32::from(!sign(kind).is_below(x, y))),
-        BinaryOp::Same => Some(u32::from(x == y)),
-        BinaryOp::Differs => Some(u32::from(x != y)),
+        BinaryOp::Multiply => sign(integer_type).times(x, y),
+        BinaryOp::Divide => sign(integer_type).quotient(x, y),
+        BinaryOp::Remainder => sign(integer_type).remainder(x, y),
+        BinaryOp::Add => sign(integer_type).sum(x, y),
+        BinaryOp::Subtract => sign(integer_type).difference(x, y),
+        BinaryOp::ShiftLeft => sign(integer_type).left_shift(x, y),
+        BinaryOp::ShiftRight => sign(integer_type).right_shift(x, y),
+        BinaryOp::Less => Some(u32::from(sign(integer_type).is_below(x, y))),
+        BinaryOp::Greater => Some(u32::from(sign(integer_type).is_below(y, x))),
+        BinaryOp::LessOrEqual => Some(u32::from(!sign(integer_type).is_below(y, x))),
+        BinaryOp::GreaterOrEqual => Some(u32::from(!sign(integer_type).is_below(x, y))),
+        BinaryOp::Equal => Some(u32::from(x == y)),
+        BinaryOp::NotEqual => Some(u32::from(x != y)),
         BinaryOp::BitAnd => Some(x & y),
         BinaryOp::BitXor => Some(x ^ y),
         BinaryOp::BitOr => Some(x | y),
-        BinaryOp::Both | BinaryOp::Either => Some(u32::from(y != 0)),
+        BinaryOp::LogicalAnd | BinaryOp::LogicalOr => Some(u32::from(y != 0)),
     }
 }
 
 /// The same as `value`, without a call for a constant and a local.
 #[cycle(value)]
 #[inline(always)]
-fn operand(e: &Term, locals: &[Option<u32>], globals: &[Vec<u32>]) -> Option<u32>
-    ensures { result ≡ value_of (term_of e.now) (places locals.now) (arrays globals.now) }
+fn operand(e: &TypedExpression, locals: &[Option<u32>], globals: &[Vec<u32>]) -> Option<u32>
+    ensures { result ≡ value_of (typed_expression_of e.now) (places locals.now) (arrays globals.now) }
 {
     match e {
-        Term::Constant(literal) => Some(constant(literal.value)),
-        Term::Local(number, _) => local(locals, *number),
+        TypedExpression::Constant(literal) => Some(constant(literal.value)),
+        TypedExpression::Local(number, _) => local(locals, *number),
         _ => value(e, locals, globals),
     }
 }
 
 /// The value of an expression at these locals and globals; None where C leaves it undefined, or a local isn't set.
 #[cycle(value)]
-pub(crate) fn value(e: &Term, locals: &[Option<u32>], globals: &[Vec<u32>]) -> Option<u32>
-    ensures { result ≡ value_of (term_of e.now) (places locals.now) (arrays globals.now) }
+pub(crate) fn value(
+    e: &TypedExpression,
+    locals: &[Option<u32>],
+    globals: &[Vec<u32>],
+) -> Option<u32>
+    ensures { result ≡ value_of (typed_expression_of e.now) (places locals.now) (arrays globals.now) }
 {
     match e {
-        Term::Constant(literal) => Some(constant(literal.value)),
-        Term::Local(number, _) => local(locals, *number),
-        Term::Global(number, _) => word(globals, *number, 0),
-        Term::Element(number, _, index) => {
+        TypedExpression::Constant(literal) => Some(constant(literal.value)),
+        TypedExpression::Local(number, _) => local(locals, *number),
+        TypedExpression::Global(number, _) => word(globals, *number, 0),
+        TypedExpression::Element(number, _, index) => {
             let index = operand(index, locals, globals)?;
             word(globals, *number, index as usize)
         }
-        Term::Unary(operator, kind, part) => {
+        TypedExpression::Unary(operator, integer_type, part) => {
             let x = operand(part, locals, globals)?;
-            prefixed(*operator, *kind, x)
+            prefixed(*operator, *integer_type, x)
         }
-        Term::Binary(operator, kind, left, right) => {
+        TypedExpression::Binary(operator, integer_type, left, right) => {
             let x = operand(left, locals, globals)?;
             match operator {
-                BinaryOp::Both if x == 0 => return Some(0),
-                BinaryOp::Either if x != 0 => return Some(1),
+                BinaryOp::LogicalAnd if x == 0 => return Some(0),
+                BinaryOp::LogicalOr if x != 0 => return Some(1),
                 _ => {}
             }
             let y = operand(right, locals, globals)?;
-            computed(*operator, *kind, x, y)
+            computed(*operator, *integer_type, x, y)
         }
-        Term::Choose(_, test, first, second) => {
+        TypedExpression::Conditional(_, test, first, second) => {
             if operand(test, locals, globals)? == 0 {
                 operand(second, locals, globals)
             } else {
@@ -149,11 +153,11 @@ pub(crate) fn value(e: &Term, locals: &[Option<u32>], globals: &[Vec<u32>]) -> O
 /// The values of the arguments of a call, each a local that is set; None where one has none.
 pub(crate) fn arguments(
     alloc: Global,
-    terms: &[Term],
+    terms: &[TypedExpression],
     locals: &[Option<u32>],
     globals: &[Vec<u32>],
 ) -> Result<Option<Vec<Option<u32>>>, AllocError>
-    ensures { IfOk result (λ r. option_map (λ v. v.items) r ≡ option_map (map Some) (values_of (terms_of terms.now) (places locals.now) (arrays globals.now))) }
+    ensures { IfOk result (λ r. option_map (λ v. v.items) r ≡ option_map (map Some) (values_of (typed_expressions_of terms.now) (places locals.now) (arrays globals.now))) }
 {
     let mut values = Vec::with_capacity(alloc, terms.len())?;
     for term in terms {

@@ -1,29 +1,29 @@
 -- The first fault of two parts together.
 use Rattle.std.proofs.Common.{◌≡◌, ◌<◌, ◌≤◌, ◌⊎◌, ℕ, Bool, true, false, Result, Ok, Err, IfOk, IfErr, inl, inr, refl, sym, subst, arith, nat_lt, nat_eq, ◌&&◌, ◌||◌, if◌then◌else◌}
-use Rattle.c_statements.specs.declared.fault.FaultKind.{FaultKind}
+use Rattle.c_statements.specs.declared.fault.TypeFaultKind.{TypeFaultKind}
 use Rattle.c_statements.specs.declared.fault.TypeFault.{TypeFault}
-use Rattle.c_statements.specs.declared.fault.Stop.{Stop}
-use Rattle.c_statements.specs.declared.fault.Stop.TheVariants.{Fault, NoMemory}
+use Rattle.c_statements.specs.declared.fault.TypeStop.{TypeStop}
+use Rattle.c_statements.specs.declared.fault.TypeStop.TheVariants.{Fault, NoMemory}
 use Rattle.c_statements.specs.Faults.{number_of, Faults, IsNoLater, IsFirstFault, StopsAtFirst, HasNone, is_later, first_of, StopsBoth}
 
 abbrev pub Both : Faults → Faults → Faults
 Both p q k at = p k at ⊎ q k at
 
-left-alone : (p q : Faults) (s : Stop) → StopsAtFirst p s → HasNone q → StopsAtFirst (Both p q) s
+left-alone : (p q : Faults) (s : TypeStop) → StopsAtFirst p s → HasNone q → StopsAtFirst (Both p q) s
 left-alone p q (Fault f) h n = record {
   has = inl h.has;
   first = λ j m b. elim b [ inl x ↦ h.first j m x | inr y ↦ absurd (n j m y) ];
 }
 left-alone p q NoMemory h n = tt
 
-right-alone : (p q : Faults) (s : Stop) → HasNone p → StopsAtFirst q s → StopsAtFirst (Both p q) s
+right-alone : (p q : Faults) (s : TypeStop) → HasNone p → StopsAtFirst q s → StopsAtFirst (Both p q) s
 right-alone p q (Fault f) n h = record {
   has = inr h.has;
   first = λ j m b. elim b [ inl x ↦ absurd (n j m x) | inr y ↦ h.first j m y ];
 }
 right-alone p q NoMemory n h = tt
 
-no-later : (k j i : FaultKind) (a b c : ℕ) → IsNoLater k a j b → IsNoLater j b i c → IsNoLater k a i c
+no-later : (k j i : TypeFaultKind) (a b c : ℕ) → IsNoLater k a j b → IsNoLater j b i c → IsNoLater k a i c
 no-later k j i a b c (inl h) (inl l) = inl (omega (arith, h, l))
 no-later k j i a b c (inl h) (inr l) = let e = l.0 in inl (omega (arith, h, e))
 no-later k j i a b c (inr h) (inl l) = let e = h.0 in inl (omega (arith, e, l))
@@ -66,13 +66,13 @@ chosen p q a b false e h l = record {
   first = λ j m y. elim y [ inl z ↦ h.first j m z | inr z ↦ no-later _ _ _ _ _ _ (earlier-by a b _ _ _ refl refl refl e) (l.first j m z) ];
 }
 
-first-both : (p q : Faults) (a b : Stop) → StopsAtFirst p a → StopsAtFirst q b → StopsAtFirst (Both p q) (first_of a b)
+first-both : (p q : Faults) (a b : TypeStop) → StopsAtFirst p a → StopsAtFirst q b → StopsAtFirst (Both p q) (first_of a b)
 first-both p q (Fault a) (Fault b) h l = chosen p q a b (is_later a b) refl h l
 first-both p q (Fault a) NoMemory h l = tt
 first-both p q NoMemory b h l = tt
 
 -- why two parts together have no answer, by each part's faults
-pub both-stop : {A B : Type 0} (p q : Faults) (a : Result A Stop) (b : Result B Stop) (s : Stop) → IfOk a (λ x. HasNone p) → IfErr a (StopsAtFirst p) → IfOk b (λ x. HasNone q) → IfErr b (StopsAtFirst q)
+pub both-stop : {A B : Type 0} (p q : Faults) (a : Result A TypeStop) (b : Result B TypeStop) (s : TypeStop) → IfOk a (λ x. HasNone p) → IfErr a (StopsAtFirst p) → IfOk b (λ x. HasNone q) → IfErr b (StopsAtFirst q)
     → StopsBoth a b s → StopsAtFirst (Both p q) s
 both-stop p q (Ok x) (Ok y) s n h m l e = absurd e
 both-stop p q (Ok x) (Err b) s n h m l e = subst (StopsAtFirst (Both p q)) (sym e) (right-alone p q b n l)
@@ -83,46 +83,46 @@ both-stop p q (Err a) (Err b) s n h m l e = subst (StopsAtFirst (Both p q)) (sym
 pub both-none : (p q : Faults) → HasNone p → HasNone q → HasNone (Both p q)
 both-none p q h l k at b = elim b [ inl x ↦ h k at x | inr y ↦ l k at y ]
 
-pub ok-at : {A : Type 0} (P : A → Type 0) (r : Result A Stop) (x : A) → r ≡ Ok x → IfOk r P → P x
-ok-at P r x e h = let Q : Result _ Stop → Type 0 = λ s. IfOk s P in subst Q e h
+pub ok-at : {A : Type 0} (P : A → Type 0) (r : Result A TypeStop) (x : A) → r ≡ Ok x → IfOk r P → P x
+ok-at P r x e h = let Q : Result _ TypeStop → Type 0 = λ s. IfOk s P in subst Q e h
 
-both-ok : {A B : Type 0} (p q : Faults) (a : Result A Stop) (b : Result B Stop) (c : Result (A × B) Stop) → IfOk a (λ x. HasNone p) → IfOk b (λ x. HasNone q) → IfOk c (λ r. (a ≡ Ok r.0) × (b ≡ Ok r.1))
+both-ok : {A B : Type 0} (p q : Faults) (a : Result A TypeStop) (b : Result B TypeStop) (c : Result (A × B) TypeStop) → IfOk a (λ x. HasNone p) → IfOk b (λ x. HasNone q) → IfOk c (λ r. (a ≡ Ok r.0) × (b ≡ Ok r.1))
     → IfOk c (λ x. HasNone (Both p q))
 both-ok p q a b (Ok r) h l e = both-none p q (ok-at (λ x. HasNone p) a r.0 e.0 h) (ok-at (λ x. HasNone q) b r.1 e.1 l)
 both-ok p q a b (Err s) h l e = tt
 
-both-err : {A B : Type 0} (p q : Faults) (a : Result A Stop) (b : Result B Stop) (c : Result (A × B) Stop) → IfOk a (λ x. HasNone p) → IfErr a (StopsAtFirst p) → IfOk b (λ x. HasNone q) → IfErr b (StopsAtFirst q)
+both-err : {A B : Type 0} (p q : Faults) (a : Result A TypeStop) (b : Result B TypeStop) (c : Result (A × B) TypeStop) → IfOk a (λ x. HasNone p) → IfErr a (StopsAtFirst p) → IfOk b (λ x. HasNone q) → IfErr b (StopsAtFirst q)
     → IfErr c (StopsBoth a b) → IfErr c (StopsAtFirst (Both p q))
 both-err p q a b (Ok r) n h m l e = tt
 both-err p q a b (Err s) n h m l e = both-stop p q a b s n h m l e
 
 -- the same of three parts, the last two put together first
-pub three-stop : {A B C : Type 0} (p q r : Faults) (a : Result A Stop) (b : Result B Stop) (c : Result C Stop) (d : Result (B × C) Stop) (s : Stop) → IfOk a (λ x. HasNone p) → IfErr a (StopsAtFirst p)
+pub three-stop : {A B C : Type 0} (p q r : Faults) (a : Result A TypeStop) (b : Result B TypeStop) (c : Result C TypeStop) (d : Result (B × C) TypeStop) (s : TypeStop) → IfOk a (λ x. HasNone p) → IfErr a (StopsAtFirst p)
     → IfOk b (λ x. HasNone q) → IfErr b (StopsAtFirst q) → IfOk c (λ x. HasNone r) → IfErr c (StopsAtFirst r)
     → IfOk d (λ x. (b ≡ Ok x.0) × (c ≡ Ok x.1)) → IfErr d (StopsBoth b c) → StopsBoth a d s → StopsAtFirst (Both p (Both q r)) s
 three-stop p q r a b c d s n h m l o i e f g = both-stop p (Both q r) a d s n h (both-ok q r b c d m o e) (both-err q r b c d m l o i f) g
 
 -- two sets with the same members
 pub record Same (p q : Faults) : Type 0 where
-  pub to : (k : FaultKind) (at : ℕ) → p k at → q k at
-  pub from : (k : FaultKind) (at : ℕ) → q k at → p k at
+  pub to : (k : TypeFaultKind) (at : ℕ) → p k at → q k at
+  pub from : (k : TypeFaultKind) (at : ℕ) → q k at → p k at
 
 pub same-none : (p q : Faults) → Same p q → HasNone p → HasNone q
 same-none p q s h k at x = h k at (s.from k at x)
 
-pub same-stop : (p q : Faults) (s : Stop) → Same p q → StopsAtFirst p s → StopsAtFirst q s
+pub same-stop : (p q : Faults) (s : TypeStop) → Same p q → StopsAtFirst p s → StopsAtFirst q s
 same-stop p q (Fault f) s h = record { has = s.to _ _ h.has; first = λ j n x. h.first j n (s.from j n x) }
 same-stop p q NoMemory s h = tt
 
 -- an answer whose faults are those of a set
-abbrev pub Tells : {A : Type 0} → Faults → Result A Stop → Type 0
+abbrev pub Tells : {A : Type 0} → Faults → Result A TypeStop → Type 0
 Tells faults r = IfOk r (λ x. HasNone faults) × IfErr r (StopsAtFirst faults)
 
-pub tells-same : {A : Type 0} (p q : Faults) (r : Result A Stop) → Same p q → Tells p r → Tells q r
+pub tells-same : {A : Type 0} (p q : Faults) (r : Result A TypeStop) → Same p q → Tells p r → Tells q r
 tells-same p q (Ok x) s h = (same-none p q s h.0, tt)
 tells-same p q (Err t) s h = (tt, same-stop p q t s h.1)
 
 -- two parts and what they come to together
-pub tells-both : {A B C : Type 0} (p q : Faults) (a : Result A Stop) (b : Result B Stop) (c : Result C Stop) → Tells p a → Tells q b → IfOk c (λ r. (x : A) × (y : B) × (a ≡ Ok x) × (b ≡ Ok y)) → IfErr c (StopsBoth a b) → Tells (Both p q) c
+pub tells-both : {A B C : Type 0} (p q : Faults) (a : Result A TypeStop) (b : Result B TypeStop) (c : Result C TypeStop) → Tells p a → Tells q b → IfOk c (λ r. (x : A) × (y : B) × (a ≡ Ok x) × (b ≡ Ok y)) → IfErr c (StopsBoth a b) → Tells (Both p q) c
 tells-both p q a b (Ok r) h l o e = (both-none p q (ok-at (λ x. HasNone p) a o.0 o.2 h.0) (ok-at (λ x. HasNone q) b o.1 o.3 l.0), tt)
 tells-both p q a b (Err s) h l o e = (tt, both-stop p q a b s h.0 h.1 l.0 l.1 e)

@@ -2,19 +2,19 @@
 use Rattle.std.proofs.Common.{◌≡◌, ◌⊎◌, List, [], ◌∷◌, ◌++◌, Result, Ok, Err, IfOk, IfErr, inl, inr, sym, subst}
 use Rattle.std.specs.declared.vec.Vec.{Vec}
 use Rattle.std.specs.declared.alloc.Global.{Global}
-use Rattle.c_statements.specs.declared.fault.Stop.{Stop}
-use Rattle.c_statements.specs.declared.fault.Stop.TheVariants.{NoMemory}
+use Rattle.c_statements.specs.declared.fault.TypeStop.{TypeStop}
+use Rattle.c_statements.specs.declared.fault.TypeStop.TheVariants.{NoMemory}
 use Rattle.c_statements.specs.Faults.{Faults, StopsAtFirst, HasNone, StopsBoth}
 use Rattle.c_statements.proofs.Firsts.{Both, Same, same-none, same-stop, both-none, both-stop, ok-at}
 
 -- a part whose typed trees have a property, and which has these faults
-pub record Answered {A : Type 0} (P : A → Type 0) (p : Faults) (r : Result A Stop) : Type 0 where
+pub record Answered {A : Type 0} (P : A → Type 0) (p : Faults) (r : Result A TypeStop) : Type 0 where
   pub ok : IfOk r P
   pub none : IfOk r (λ x. HasNone p)
   pub err : IfErr r (StopsAtFirst p)
 
 -- a list with one more part
-pub one-more : {T : Type 0} (P W : List T → Type 0) (Q : T → Type 0) (p q w : Faults) (all r : Result (Vec T Global) Stop) (one : Result T Stop) → Same (Both p q) w
+pub one-more : {T : Type 0} (P W : List T → Type 0) (Q : T → Type 0) (p q w : Faults) (all r : Result (Vec T Global) TypeStop) (one : Result T TypeStop) → Same (Both p q) w
     → ((xs : List T) (x : T) → P xs → Q x → W (xs ++ x ∷ [])) → Answered (λ (v : Vec T Global). P v.items) p all → Answered Q q one
     → IfOk r (λ v. (xs : Vec T Global) × (x : T) × (all ≡ Ok xs) × (one ≡ Ok x) × (v.items ≡ xs.items ++ x ∷ [])) → IfErr r (λ s. (s ≡ NoMemory) ⊎ StopsBoth all one s)
     → Answered (λ (v : Vec T Global). W v.items) w r

@@ -4,56 +4,56 @@ use Rattle.c_tokens.specs.declared.token.Identifier.{Identifier}
 use Rattle.c_front.specs.Tree as Tree
 use Rattle.c_front.specs.Tree.{Expression}
 use Rattle.c_statements.specs.declared.names.Named.{Named}
-use Rattle.c_typed.specs.declared.tree.Place.{Place}
-use Rattle.c_statements.specs.Names.{Sight, Scopes}
+use Rattle.c_typed.specs.declared.tree.Destination.{Destination}
+use Rattle.c_statements.specs.Names.{Environment, Scopes}
 use Rattle.c_typed.specs.Trees.{TypedExpression, TypedStatement, TypedStatements, block, return_with}
-use Rattle.c_statements.specs.Types.{TypesAll, all_typed, more_typed, TypesMaybe, missing_typed, present_typed, TypesPlace, local_place, global_place, TypesCall, function_called, out_called, TypesValue, plain_typed, called_typed, TypesSimple, assign_typed, store_typed, run_typed, TypesPart, no_part, some_part, TypesTest, no_test, some_test, TypesFirst, no_first, some_first, TypesStatement, empty_typed, block_typed, branch_typed, branch_else_typed, repeat_typed, repeat_for_typed, break_typed, continue_typed, return_typed, simply_typed, TypesItems, no_items_typed, statement_typed, declare_typed}
+use Rattle.c_statements.specs.Types.{TypesAll, all_typed, more_typed, TypesMaybe, missing_typed, present_typed, TypesPlace, local_place, global_place, TypesCall, function_called, out_called, TypesValue, plain_typed, called_typed, TypesSimple, assign_typed, store_typed, call_typed, TypesPart, no_part, some_part, TypesTest, no_test, some_test, TypesFirst, no_first, some_first, TypesStatement, empty_typed, block_typed, if_then_typed, if_then_else_typed, while_loop_typed, for_loop_typed, break_typed, continue_typed, return_typed, simply_typed, TypesItems, no_items_typed, statement_typed, declare_typed}
 use Rattle.c_statements.proofs.Once.{once}
 
 same-named : {m : Option Named} {a b : Named} → m ≡ Some a → m ≡ Some b → a ≡ b
 same-named e f = cc
 
-once-all : {sight : Sight} {es : List Expression} {ts us : List TypedExpression} → TypesAll sight es ts → TypesAll sight es us → ts ≡ us
+once-all : {scope : Environment} {es : List Expression} {ts us : List TypedExpression} → TypesAll scope es ts → TypesAll scope es us → ts ≡ us
 once-all all_typed all_typed = refl
 once-all (more_typed a b) (more_typed c d) = let g = once a c in let h = once-all b d in cc
 
-once-maybe : {sight : Sight} {e : Option Expression} {t u : Option TypedExpression} → TypesMaybe sight e t → TypesMaybe sight e u → t ≡ u
+once-maybe : {scope : Environment} {e : Option Expression} {t u : Option TypedExpression} → TypesMaybe scope e t → TypesMaybe scope e u → t ≡ u
 once-maybe missing_typed missing_typed = refl
 once-maybe (present_typed a) (present_typed b) = let g = once a b in cc
 
-once-place : {sight : Sight} {x : Identifier} {p q : Place} → TypesPlace sight x p → TypesPlace sight x q → p ≡ q
+once-place : {scope : Environment} {x : Identifier} {p q : Destination} → TypesPlace scope x p → TypesPlace scope x q → p ≡ q
 once-place (local_place e) (local_place f) = let g = same-named e f in cc
 once-place (local_place e) (global_place f) = let g = same-named e f in cc
 once-place (global_place e) (local_place f) = let g = same-named e f in cc
 once-place (global_place e) (global_place f) = let g = same-named e f in cc
 
-once-call : {sight : Sight} {to : Option Place} {c : Tree.Call} {t u : TypedStatement} → TypesCall sight to c t → TypesCall sight to c u → t ≡ u
+once-call : {scope : Environment} {to : Option Destination} {c : Tree.Call} {t u : TypedStatement} → TypesCall scope to c t → TypesCall scope to c u → t ≡ u
 once-call (function_called e a) (function_called f b) = let g = same-named e f in let h = once-all a b in cc
 once-call (function_called e a) (out_called f b) = let g = same-named e f in cc
 once-call (out_called e a) (function_called f b) = let g = same-named e f in cc
 once-call (out_called e a) (out_called f b) = let h = once a b in cc
 
-once-value : {sight : Sight} {to : Place} {v : Tree.Value} {t u : TypedStatement} → TypesValue sight to v t → TypesValue sight to v u → t ≡ u
+once-value : {scope : Environment} {to : Destination} {v : Tree.Value} {t u : TypedStatement} → TypesValue scope to v t → TypesValue scope to v u → t ≡ u
 once-value (plain_typed a) (plain_typed b) = let g = once a b in cc
 once-value (called_typed a) (called_typed b) = once-call a b
 
-once-simple : {sight : Sight} {p : Tree.Simple} {t u : TypedStatement} → TypesSimple sight p t → TypesSimple sight p u → t ≡ u
-once-simple {sight = sight} (assign_typed {v = v} {s = s} a b) (assign_typed {s = r} c d) = once-value (moved (once-place a c) b) d
+once-simple : {scope : Environment} {p : Tree.Simple} {t u : TypedStatement} → TypesSimple scope p t → TypesSimple scope p u → t ≡ u
+once-simple {scope = scope} (assign_typed {v = v} {s = s} a b) (assign_typed {s = r} c d) = once-value (moved (once-place a c) b) d
   where
-    moved : {p q : Place} → p ≡ q → TypesValue sight p v s → TypesValue sight q v s
+    moved : {p q : Destination} → p ≡ q → TypesValue scope p v s → TypesValue scope q v s
     moved e h = rw (← e) h
 once-simple (store_typed e a b) (store_typed f c d) = let n = same-named e f in let g = once a c in let h = once b d in cc
-once-simple (run_typed a) (run_typed b) = once-call a b
+once-simple (call_typed a) (call_typed b) = once-call a b
 
-once-part : {sight : Sight} {p : Option Tree.Simple} {t u : TypedStatement} → TypesPart sight p t → TypesPart sight p u → t ≡ u
+once-part : {scope : Environment} {p : Option Tree.Simple} {t u : TypedStatement} → TypesPart scope p t → TypesPart scope p u → t ≡ u
 once-part no_part no_part = refl
 once-part (some_part a) (some_part b) = once-simple a b
 
-once-test : {sight : Sight} {e : Option Expression} {t u : TypedExpression} → TypesTest sight e t → TypesTest sight e u → t ≡ u
+once-test : {scope : Environment} {e : Option Expression} {t u : TypedExpression} → TypesTest scope e t → TypesTest scope e u → t ≡ u
 once-test no_test no_test = refl
 once-test (some_test a) (some_test b) = once a b
 
-once-first : {sight : Sight} {n : ℕ} {v : Option Tree.Value} {t u : TypedStatement} → TypesFirst sight n v t → TypesFirst sight n v u → t ≡ u
+once-first : {scope : Environment} {n : ℕ} {v : Option Tree.Value} {t u : TypedStatement} → TypesFirst scope n v t → TypesFirst scope n v u → t ≡ u
 once-first no_first no_first = refl
 once-first (some_first a) (some_first b) = once-value a b
 
@@ -61,10 +61,10 @@ mutual
   pub once-statement : {text : List ℕ} {sc : Scopes} {s : Tree.Statement} {t u : TypedStatement} → TypesStatement text sc s t → TypesStatement text sc s u → t ≡ u
   once-statement empty_typed empty_typed = refl
   once-statement (block_typed a) (block_typed b) = ap block (once-items a b)
-  once-statement (branch_typed a b) (branch_typed c d) = let g = once a c in let h = once-statement b d in cc
-  once-statement (branch_else_typed a b c) (branch_else_typed d e f) = let g = once a d in let h = once-statement b e in let i = once-statement c f in cc
-  once-statement (repeat_typed a b) (repeat_typed c d) = let g = once a c in let h = once-statement b d in cc
-  once-statement (repeat_for_typed a b c d) (repeat_for_typed e f g h) = let i = once-part a e in let j = once-test b f in let k = once-part c g in let l = once-statement d h in cc
+  once-statement (if_then_typed a b) (if_then_typed c d) = let g = once a c in let h = once-statement b d in cc
+  once-statement (if_then_else_typed a b c) (if_then_else_typed d e f) = let g = once a d in let h = once-statement b e in let i = once-statement c f in cc
+  once-statement (while_loop_typed a b) (while_loop_typed c d) = let g = once a c in let h = once-statement b d in cc
+  once-statement (for_loop_typed a b c d) (for_loop_typed e f g h) = let i = once-part a e in let j = once-test b f in let k = once-part c g in let l = once-statement d h in cc
   once-statement break_typed break_typed = refl
   once-statement continue_typed continue_typed = refl
   once-statement (return_typed a) (return_typed b) = ap return_with (once-maybe a b)

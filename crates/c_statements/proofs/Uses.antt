@@ -1,64 +1,64 @@
 -- Uses of a name: the one fault that each has.
 use Rattle.std.proofs.Common.{◌≡◌, ◌≤◌, ℕ, Option, Some, None, inr, refl, sym, subst, arith}
 use Rattle.c_tokens.specs.declared.token.Identifier.{Identifier}
-use Rattle.c_tokens.specs.declared.token.Kind.{Kind}
+use Rattle.c_tokens.specs.declared.token.IntegerType.{IntegerType}
 use Rattle.c_statements.specs.declared.names.Named.{Named}
 use Rattle.c_statements.specs.declared.names.Named.TheVariants.{Local, Global, Array, Function, Out}
-use Rattle.c_statements.specs.declared.fault.FaultKind.{FaultKind}
-use Rattle.c_statements.specs.declared.fault.FaultKind.TheVariants.{Undeclared, Kind as KindFault, Count}
+use Rattle.c_statements.specs.declared.fault.TypeFaultKind.{TypeFaultKind}
+use Rattle.c_statements.specs.declared.fault.TypeFaultKind.TheVariants.{Undeclared, Kind as KindFault, Count}
 use Rattle.c_statements.specs.Faults.{number_of, IsFirstFault}
-use Rattle.c_statements.specs.Names.{Sight}
+use Rattle.c_statements.specs.Names.{Environment}
 use Rattle.c_statements.specs.Uses.{Use, as_value, with_index, IsWrong, Misused, not_declared, array_alone, function_alone, out_alone, local_indexed, global_indexed, function_indexed, out_indexed}
 
 -- a use whose faults have no lesser number
-pub first-misuse : (sight : Sight) (x : Identifier) (u : Use) (k : FaultKind) → IsWrong (sight x) u k → ((j : FaultKind) → IsWrong (sight x) u j → number_of k ≤ number_of j) → IsFirstFault (Misused sight x u) k x.at
-first-misuse sight x u k w l = record {
+pub first-misuse : (scope : Environment) (x : Identifier) (u : Use) (k : TypeFaultKind) → IsWrong (scope x) u k → ((j : TypeFaultKind) → IsWrong (scope x) u j → number_of k ≤ number_of j) → IsFirstFault (Misused scope x u) k x.at
+first-misuse scope x u k w l = record {
   has = (w, refl);
   first = λ j n m. inr (sym m.1, l j m.0);
 }
 
-least : (m : Option Named) (u : Use) (j : FaultKind) → IsWrong m u j → 10 ≤ number_of j
+least : (m : Option Named) (u : Use) (j : TypeFaultKind) → IsWrong m u j → 10 ≤ number_of j
 least m u Undeclared w = omega arith
 least m u KindFault w = omega arith
 least m u Count w = omega arith
 least m u j w = omega arith
 
-pub undeclared-first : (sight : Sight) (x : Identifier) (u : Use) → sight x ≡ None → IsFirstFault (Misused sight x u) Undeclared x.at
-undeclared-first sight x u e = first-misuse sight x u Undeclared (rw e not_declared) (λ j w. least (sight x) u j w)
+pub undeclared-first : (scope : Environment) (x : Identifier) (u : Use) → scope x ≡ None → IsFirstFault (Misused scope x u) Undeclared x.at
+undeclared-first scope x u e = first-misuse scope x u Undeclared (rw e not_declared) (λ j w. least (scope x) u j w)
 
-index-least : (m : Named) (j : FaultKind) → IsWrong (Some m) with_index j → 12 ≤ number_of j
+index-least : (m : Named) (j : TypeFaultKind) → IsWrong (Some m) with_index j → 12 ≤ number_of j
 index-least m j local_indexed = omega arith
 index-least m j global_indexed = omega arith
 index-least m j function_indexed = omega arith
 index-least m j out_indexed = omega arith
 
-value-least : (m : Named) (j : FaultKind) → IsWrong (Some m) as_value j → 12 ≤ number_of j
+value-least : (m : Named) (j : TypeFaultKind) → IsWrong (Some m) as_value j → 12 ≤ number_of j
 value-least m j array_alone = omega arith
 value-least m j function_alone = omega arith
 value-least m j out_alone = omega arith
 
-index-wrong : (m : Named) → ((n : ℕ) (k : Kind) → m ≡ Array n k → ⊥) → IsWrong (Some m) with_index KindFault
+index-wrong : (m : Named) → ((n : ℕ) (k : IntegerType) → m ≡ Array n k → ⊥) → IsWrong (Some m) with_index KindFault
 index-wrong (Local n k) h = local_indexed
 index-wrong (Global n k) h = global_indexed
 index-wrong (Array n k) h = absurd (h n k refl)
 index-wrong (Function f n r) h = function_indexed
 index-wrong Out h = out_indexed
 
-value-wrong : (m : Named) → ((n : ℕ) (k : Kind) → m ≡ Local n k → ⊥) → ((n : ℕ) (k : Kind) → m ≡ Global n k → ⊥) → IsWrong (Some m) as_value KindFault
+value-wrong : (m : Named) → ((n : ℕ) (k : IntegerType) → m ≡ Local n k → ⊥) → ((n : ℕ) (k : IntegerType) → m ≡ Global n k → ⊥) → IsWrong (Some m) as_value KindFault
 value-wrong (Local n k) h l = absurd (h n k refl)
 value-wrong (Global n k) h l = absurd (l n k refl)
 value-wrong (Array n k) h l = array_alone
 value-wrong (Function f n r) h l = function_alone
 value-wrong Out h l = out_alone
 
-pub index-first : (sight : Sight) (x : Identifier) (m : Named) → sight x ≡ Some m → ((n : ℕ) (k : Kind) → m ≡ Array n k → ⊥) → IsFirstFault (Misused sight x with_index) KindFault x.at
-index-first sight x m e h = first-misuse sight x with_index KindFault (rw e (index-wrong m h)) (λ j w. index-least m j (moved j w))
+pub index-first : (scope : Environment) (x : Identifier) (m : Named) → scope x ≡ Some m → ((n : ℕ) (k : IntegerType) → m ≡ Array n k → ⊥) → IsFirstFault (Misused scope x with_index) KindFault x.at
+index-first scope x m e h = first-misuse scope x with_index KindFault (rw e (index-wrong m h)) (λ j w. index-least m j (moved j w))
   where
-    moved : (j : FaultKind) → IsWrong (sight x) with_index j → IsWrong (Some m) with_index j
+    moved : (j : TypeFaultKind) → IsWrong (scope x) with_index j → IsWrong (Some m) with_index j
     moved j w = let Q : Option Named → Type 0 = λ y. IsWrong y with_index j in subst Q e w
 
-pub value-first : (sight : Sight) (x : Identifier) (m : Named) → sight x ≡ Some m → ((n : ℕ) (k : Kind) → m ≡ Local n k → ⊥) → ((n : ℕ) (k : Kind) → m ≡ Global n k → ⊥) → IsFirstFault (Misused sight x as_value) KindFault x.at
-value-first sight x m e h l = first-misuse sight x as_value KindFault (rw e (value-wrong m h l)) (λ j w. value-least m j (moved j w))
+pub value-first : (scope : Environment) (x : Identifier) (m : Named) → scope x ≡ Some m → ((n : ℕ) (k : IntegerType) → m ≡ Local n k → ⊥) → ((n : ℕ) (k : IntegerType) → m ≡ Global n k → ⊥) → IsFirstFault (Misused scope x as_value) KindFault x.at
+value-first scope x m e h l = first-misuse scope x as_value KindFault (rw e (value-wrong m h l)) (λ j w. value-least m j (moved j w))
   where
-    moved : (j : FaultKind) → IsWrong (sight x) as_value j → IsWrong (Some m) as_value j
+    moved : (j : TypeFaultKind) → IsWrong (scope x) as_value j → IsWrong (Some m) as_value j
     moved j w = let Q : Option Named → Type 0 = λ y. IsWrong y as_value j in subst Q e w

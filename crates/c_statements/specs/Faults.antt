@@ -1,12 +1,12 @@
 -- Numbers of faults, and which fault is the first.
 use Rattle.std.specs.Prelude.{◌≡◌, ◌<◌, ◌≤◌, ◌⊎◌, ℕ, Bool, nat_lt, nat_eq, ◌&&◌, ◌||◌, if◌then◌else◌, Result, Ok, Err, List, length}
-use Rattle.c_statements.specs.declared.fault.FaultKind.{FaultKind}
-use Rattle.c_statements.specs.declared.fault.FaultKind.TheVariants.{Undeclared, Redeclared, Kind, Count, NoMain, Outside, Limit, NoMemory as WantOfMemory}
+use Rattle.c_statements.specs.declared.fault.TypeFaultKind.{TypeFaultKind}
+use Rattle.c_statements.specs.declared.fault.TypeFaultKind.TheVariants.{Undeclared, Redeclared, Kind, Count, NoMain, Outside, Limit, NoMemory as WantOfMemory}
 use Rattle.c_statements.specs.declared.fault.TypeFault.{TypeFault}
-use Rattle.c_statements.specs.declared.fault.Stop.{Stop}
-use Rattle.c_statements.specs.declared.fault.Stop.TheVariants.{Fault, NoMemory}
+use Rattle.c_statements.specs.declared.fault.TypeStop.{TypeStop}
+use Rattle.c_statements.specs.declared.fault.TypeStop.TheVariants.{Fault, NoMemory}
 
-abbrev pub number_of : FaultKind → ℕ
+abbrev pub number_of : TypeFaultKind → ℕ
 number_of Undeclared = 10
 number_of Redeclared = 11
 number_of Kind = 12
@@ -18,40 +18,40 @@ number_of WantOfMemory = 30
 
 -- a set of faults: which kinds stand at which offsets
 abbrev pub Faults : Type 1
-Faults = FaultKind → ℕ → Type 0
+Faults = TypeFaultKind → ℕ → Type 0
 
 -- the first fault comes no later than the second: a lesser offset, or the same with no greater number
-abbrev pub IsNoLater : FaultKind → ℕ → FaultKind → ℕ → Type 0
+abbrev pub IsNoLater : TypeFaultKind → ℕ → TypeFaultKind → ℕ → Type 0
 IsNoLater k at j n = (at < n) ⊎ ((at ≡ n) × (number_of k ≤ number_of j))
 
 -- a fault of the set that comes no later than any of it
-pub record IsFirstFault (faults : Faults) (k : FaultKind) (at : ℕ) : Type 0 where
+pub record IsFirstFault (faults : Faults) (k : TypeFaultKind) (at : ℕ) : Type 0 where
   pub has : faults k at
-  pub first : (j : FaultKind) (n : ℕ) → faults j n → IsNoLater k at j n
+  pub first : (j : TypeFaultKind) (n : ℕ) → faults j n → IsNoLater k at j n
 
 -- why a part with these faults gets no type
-abbrev pub StopsAtFirst : Faults → Stop → Type 0
+abbrev pub StopsAtFirst : Faults → TypeStop → Type 0
 StopsAtFirst faults (Fault f) = IsFirstFault faults f.kind f.at
 StopsAtFirst faults NoMemory = Unit {0}
 
 abbrev pub HasNone : Faults → Type 0
-HasNone faults = (k : FaultKind) (at : ℕ) → faults k at → ⊥
+HasNone faults = (k : TypeFaultKind) (at : ℕ) → faults k at → ⊥
 
 abbrev pub is_later : TypeFault → TypeFault → Bool
 is_later a b = nat_lt b.at a.at || (nat_eq a.at b.at && nat_lt (number_of b.kind) (number_of a.kind))
 
 -- the stop that comes first; want of memory comes before all faults
-abbrev pub first_of : Stop → Stop → Stop
+abbrev pub first_of : TypeStop → TypeStop → TypeStop
 first_of (Fault a) (Fault b) = if is_later a b then Fault b else Fault a
 first_of _ _ = NoMemory
 
 -- why two parts together have no answer
-abbrev pub StopsBoth : {A B : Type 0} → Result A Stop → Result B Stop → Stop → Type 0
+abbrev pub StopsBoth : {A B : Type 0} → Result A TypeStop → Result B TypeStop → TypeStop → Type 0
 StopsBoth (Ok x) (Ok y) s = ⊥
 StopsBoth (Ok x) (Err b) s = s ≡ b
 StopsBoth (Err a) (Ok y) s = s ≡ a
 StopsBoth (Err a) (Err b) s = s ≡ first_of a b
 
 -- the fault that is told of a text: the first of the set, or want of memory at the text's length
-abbrev pub IsCheckFault : List ℕ → Faults → TypeFault → Type 0
-IsCheckFault text faults f = ((f.kind ≡ WantOfMemory) × (f.at ≡ length text)) ⊎ IsFirstFault faults f.kind f.at
+abbrev pub IsTypeFault : List ℕ → Faults → TypeFault → Type 0
+IsTypeFault text faults f = ((f.kind ≡ WantOfMemory) × (f.at ≡ length text)) ⊎ IsFirstFault faults f.kind f.at

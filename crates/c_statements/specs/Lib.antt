@@ -4,4 +4,4 @@ pub mod Uses
 pub mod Calls
 pub mod Statements
 pub mod Types
-pub mod Held
+pub mod Shape

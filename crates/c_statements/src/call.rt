@@ -1,14 +1,14 @@
 ghost use Rattle.std.specs.Prelude.{◌≡◌, IfOk, IfErr, IfSome, IfNone, Some};
 ghost use Rattle.c_statements.specs.Calls.{Signs, IsNoFunction, IsTarget};
 ghost use Rattle.c_statements.specs.Faults.{HasNone, StopsAtFirst};
-ghost use Rattle.c_statements.specs.Held.{scopes_of};
-ghost use Rattle.c_statements.specs.Names.{sight_in};
+ghost use Rattle.c_statements.specs.Shape.{scopes_of};
+ghost use Rattle.c_statements.specs.Names.{environment_in};
 ghost use Rattle.c_statements.specs.Uses.{Misused, as_call};
 
 use crate::expression::misuse;
-use crate::fault::{FaultKind, Stop};
+use crate::fault::{TypeFaultKind, TypeStop};
 use crate::names::Named;
-use crate::scopes::Frame;
+use crate::symbol_table::Scopes;
 use c_front::Program;
 use c_tokens::Identifier;
 
@@ -37,26 +37,26 @@ fn signature(named: Named) -> Option<(Target, usize, bool)>
 /// and a void result that is used are faults before another number of arguments than parameters, all at the name.
 pub fn callee(
     program: &Program,
-    frame: &Frame,
+    scopes: &Scopes,
     name: Identifier,
     count: usize,
     wanted: bool,
-) -> Result<Target, Stop>
-    ensures ok { IfOk result (IsTarget (sight_in program.now.text.items (scopes_of frame.now) name)) }
-    ensures none { IfOk result (λ t. HasNone (Misused (sight_in program.now.text.items (scopes_of frame.now)) name (as_call count wanted))) }
-    ensures err { IfErr result (StopsAtFirst (Misused (sight_in program.now.text.items (scopes_of frame.now)) name (as_call count wanted))) }
+) -> Result<Target, TypeStop>
+    ensures ok { IfOk result (IsTarget (environment_in program.now.text.items (scopes_of scopes.now) name)) }
+    ensures none { IfOk result (λ t. HasNone (Misused (environment_in program.now.text.items (scopes_of scopes.now)) name (as_call count wanted))) }
+    ensures err { IfErr result (StopsAtFirst (Misused (environment_in program.now.text.items (scopes_of scopes.now)) name (as_call count wanted))) }
 {
-    let Some(named) = frame.find(program, name) else {
-        return Err(misuse(FaultKind::Undeclared, name));
+    let Some(named) = scopes.find(program, name) else {
+        return Err(misuse(TypeFaultKind::Undeclared, name));
     };
     let Some((target, parameters, gives)) = signature(named) else {
-        return Err(misuse(FaultKind::Kind, name));
+        return Err(misuse(TypeFaultKind::Kind, name));
     };
     if wanted && !gives {
-        return Err(misuse(FaultKind::Kind, name));
+        return Err(misuse(TypeFaultKind::Kind, name));
     }
     if count != parameters {
-        return Err(misuse(FaultKind::Count, name));
+        return Err(misuse(TypeFaultKind::Count, name));
     }
     Ok(target)
 }

@@ -1,13 +1,13 @@
 ghost use Rattle.std.specs.Prelude.{◌≡◌, IfOk, IfErr, Ok};
 ghost use Rattle.c_statements.specs.Faults.{number_of, is_later, first_of, StopsBoth};
-ghost use Rattle.c_statements.specs.declared.fault.Stop.TheVariants.{NoMemory};
+ghost use Rattle.c_statements.specs.declared.fault.TypeStop.TheVariants.{NoMemory};
 
 use std::alloc::{AllocError, AllocFailed};
 use thiserror::Error;
 
 /// What is wrong with a program; `{kind}` shows the variant's name.
 #[derive(Clone, Copy, PartialEq, Eq, Debug, Error)]
-pub enum FaultKind {
+pub enum TypeFaultKind {
     /// A name with no declaration in sight.
     #[error("Undeclared")]
     Undeclared,
@@ -35,20 +35,20 @@ pub enum FaultKind {
     NoMemory,
 }
 
-impl FaultKind {
+impl TypeFaultKind {
     /// The number that messages show.
     pub fn number(self) -> u8
         ensures { result ≡ number_of self }
     {
         match self {
-            FaultKind::Undeclared => 10,
-            FaultKind::Redeclared => 11,
-            FaultKind::Kind => 12,
-            FaultKind::Count => 13,
-            FaultKind::NoMain => 15,
-            FaultKind::Outside => 17,
-            FaultKind::Limit => 20,
-            FaultKind::NoMemory => 30,
+            TypeFaultKind::Undeclared => 10,
+            TypeFaultKind::Redeclared => 11,
+            TypeFaultKind::Kind => 12,
+            TypeFaultKind::Count => 13,
+            TypeFaultKind::NoMain => 15,
+            TypeFaultKind::Outside => 17,
+            TypeFaultKind::Limit => 20,
+            TypeFaultKind::NoMemory => 30,
         }
     }
 }
@@ -57,30 +57,30 @@ impl FaultKind {
 #[derive(Clone, Copy, PartialEq, Eq, Debug, Error)]
 #[error("fault {} {kind} at {at}", .kind.number())]
 pub struct TypeFault {
-    pub kind: FaultKind,
+    pub kind: TypeFaultKind,
     pub at: usize,
 }
 
 /// Why a part of a program gets no type: its first fault, or want of memory.
 #[derive(Clone, Copy, PartialEq, Eq)]
-pub enum Stop {
+pub enum TypeStop {
     Fault(TypeFault),
     NoMemory,
 }
 
-impl<T: Drop> From<AllocFailed<T>> for Stop {
+impl<T: Drop> From<AllocFailed<T>> for TypeStop {
     ghost from_gives = { λ _ r. r ≡ NoMemory };
 
     fn from(_: AllocFailed<T>) -> Self {
-        Stop::NoMemory
+        TypeStop::NoMemory
     }
 }
 
-impl From<AllocError> for Stop {
+impl From<AllocError> for TypeStop {
     ghost from_gives = { λ _ r. r ≡ NoMemory };
 
     fn from(_: AllocError) -> Self {
-        Stop::NoMemory
+        TypeStop::NoMemory
     }
 }
 
@@ -92,17 +92,22 @@ fn is_later(a: TypeFault, b: TypeFault) -> bool
 }
 
 /// The one of two stops that comes first; want of memory comes before all faults.
-pub fn first(a: Stop, b: Stop) -> Stop
+pub fn first(a: TypeStop, b: TypeStop) -> TypeStop
     ensures { result ≡ first_of a b }
 {
     match (a, b) {
-        (Stop::Fault(left), Stop::Fault(right)) => { if is_later(left, right) { b } else { a } }
-        _ => Stop::NoMemory,
+        (TypeStop::Fault(left), TypeStop::Fault(right)) => {
+            if is_later(left, right) { b } else { a }
+        }
+        _ => TypeStop::NoMemory,
     }
 }
 
 /// Two parts of a program together: both answers, or the stop that comes first.
-pub fn both<A: Drop, B: Drop>(a: Result<A, Stop>, b: Result<B, Stop>) -> Result<(A, B), Stop>
+pub fn both<A: Drop, B: Drop>(
+    a: Result<A, TypeStop>,
+    b: Result<B, TypeStop>,
+) -> Result<(A, B), TypeStop>
     ensures ok { IfOk result (λ r. (a ≡ Ok r.0) × (b ≡ Ok r.1)) }
     ensures err { IfErr result (StopsBoth a b) }
 {
@@ -115,7 +120,7 @@ pub fn both<A: Drop, B: Drop>(a: Result<A, Stop>, b: Result<B, Stop>) -> Result<
 }
 
 /// The faults of two parts that have no answer.
-pub fn either(a: Result<(), Stop>, b: Result<(), Stop>) -> Result<(), Stop>
+pub fn either(a: Result<(), TypeStop>, b: Result<(), TypeStop>) -> Result<(), TypeStop>
     ensures ok { IfOk result (λ r. (a ≡ Ok tt) × (b ≡ Ok tt)) }
     ensures err { IfErr result (StopsBoth a b) }
 {

@@ -1,4 +1,4 @@
-//! Names and kinds in the body of a C function (C99 6.2.1, 6.3.1.8, 6.5, 6.7, 6.8): scopes, the faults of declarations
+//! Names and types in the body of a C function (C99 6.2.1, 6.3.1.8, 6.5, 6.7, 6.8): scopes, the faults of declarations
 //! of locals and of uses of names, and the typed trees of expressions and statements.
 //!
 //! For the layer above there is one contract: `items` gives the typed trees of a body under the scopes before
@@ -9,7 +9,7 @@
 //!
 //! Definitions: `specs/Statements.antt` and `specs/Uses.antt` have the faults of statements, expressions and names,
 //! `specs/Types.antt` the typing of statements and expressions by the typed trees of `c_typed`, `specs/Names.antt` the
-//! scopes, `specs/Faults.antt` which fault is the first. `specs/Held.antt` says which scopes a Rust value stands for;
+//! scopes, `specs/Faults.antt` which fault is the first. `specs/Shape.antt` says which scopes a Rust value stands for;
 //! `specs/Calls.antt` are words of functions that only this layer calls.
 //!
 //! `statement` and `expression` call themselves on the parts of a tree, so the stack grows with its depth.
@@ -19,12 +19,12 @@ mod call;
 mod expression;
 mod fault;
 mod names;
-mod scopes;
 mod simple;
 mod statement;
+mod symbol_table;
 
 pub use expression::{misuse, one_typing};
-pub use fault::{FaultKind, Stop, TypeFault, both, either};
+pub use fault::{TypeFault, TypeFaultKind, TypeStop, both, either};
 pub use names::Named;
-pub use scopes::Frame;
 pub use statement::{MAX_LOCALS, items, lasting, one_typing_of_statements};
+pub use symbol_table::Scopes;

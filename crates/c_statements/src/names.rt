@@ -1,13 +1,13 @@
-use c_tokens::Kind;
+use c_tokens::IntegerType;
 
 /// What a name stands for. Locals are numbered within their function, global variables, arrays and functions within
 /// the program; a function has its number of parameters, and whether it gives a result. `Out` is the function `out`,
 /// declared at file scope with one `unsigned` parameter and no result.
 #[derive(Clone, Copy, PartialEq, Eq)]
 pub enum Named {
-    Local(usize, Kind),
-    Global(usize, Kind),
-    Array(usize, Kind),
+    Local(usize, IntegerType),
+    Global(usize, IntegerType),
+    Array(usize, IntegerType),
     Function(usize, usize, bool),
     Out,
 }

@@ -1,80 +1,80 @@
 ghost use Rattle.std.specs.Prelude.{◌≡◌, ◌≢◌, ℕ, List, IfOk, IfErr, Err, false};
 ghost use Rattle.c_front.specs.Shape.{expression_of, maybe_expression_of, maybe_simple_of, statement_of, item_of, items_of};
 ghost use Rattle.c_front.specs.Tree as Tree;
-ghost use Rattle.c_front.specs.Tree.{block, branch, branch_else, repeat, repeat_for, return_at, more_items, no_items};
-ghost use Rattle.c_statements.specs.declared.fault.Stop.TheVariants.{NoMemory};
+ghost use Rattle.c_front.specs.Tree.{block, if_then, if_then_else, while_loop, for_loop, return_at, more_items, no_items};
+ghost use Rattle.c_statements.specs.declared.fault.TypeStop.TheVariants.{NoMemory};
 ghost use Rattle.c_statements.specs.Faults.{HasNone, StopsAtFirst};
-ghost use Rattle.c_statements.specs.Held.{scopes_of};
-ghost use Rattle.c_statements.specs.Names.{Scopes, sight_in, behind, behind_item, behind_items};
-ghost use Rattle.c_typed.specs.Shape.{maybe_term_of, statement_of as typed_of, statements_of};
+ghost use Rattle.c_statements.specs.Shape.{scopes_of};
+ghost use Rattle.c_statements.specs.Names.{Scopes, environment_in, behind, behind_item, behind_items};
+ghost use Rattle.c_typed.specs.Shape.{maybe_typed_expression_of, statement_of as typed_of, statements_of};
 ghost use Rattle.c_statements.specs.Statements.{FaultyMaybe, FaultyReturn, FaultyJump, FaultyDeclarator, FaultyStatement, FaultyItems};
 ghost use Rattle.c_typed.specs.Trees.{TypedStatement, TypedStatements, more_statements, no_statements};
 ghost use Rattle.c_statements.specs.Types.{TypesMaybe, TypesStatement, TypesItems};
 
 use crate::expression::{expression, misuse};
-use crate::fault::{FaultKind, Stop, TypeFault, both};
-use crate::scopes::Frame;
+use crate::fault::{TypeFault, TypeFaultKind, TypeStop, both};
 use crate::simple::{first_value, part, simple, test, with_one};
-use c_front::{Expr, ForParts, Item, Program, Stmt};
+use crate::symbol_table::Scopes;
+use c_front::{Expression, ForParts, Item, Program, Statement};
 use c_tokens::Identifier;
-use c_typed::{Statement, Term};
+use c_typed::{TypedExpression, TypedStatement};
 use std::alloc::{AllocError, AllocFailed, Global};
 
 /// The most locals that a function may have, its parameters counted.
 pub const MAX_LOCALS: usize = 128;
 
 /// An answer that isn't want of memory; want of memory is an error at once, since the scopes behind it aren't known.
-pub fn lasting<T: Drop>(answer: Result<T, Stop>) -> Result<Result<T, Stop>, Stop>
+pub fn lasting<T: Drop>(answer: Result<T, TypeStop>) -> Result<Result<T, TypeStop>, TypeStop>
     ensures ok { IfOk result (λ r. (r ≡ answer) × (answer ≢ Err NoMemory)) }
     ensures err { IfErr result (λ s. s ≡ NoMemory) }
 {
     match answer {
         Ok(typed) => Ok(Ok(typed)),
         Err(stop) => match stop {
-            Stop::NoMemory => Err(Stop::NoMemory),
-            Stop::Fault(fault) => Ok(Err(Stop::Fault(fault))),
+            TypeStop::NoMemory => Err(TypeStop::NoMemory),
+            TypeStop::Fault(fault) => Ok(Err(TypeStop::Fault(fault))),
         },
     }
 }
 
 /// Whether a jump stands in a loop; if not it is a fault, at its keyword.
-fn jump(in_loop: bool, at: usize) -> Result<(), Stop>
+fn jump(in_loop: bool, at: usize) -> Result<(), TypeStop>
     ensures none { IfOk result (λ _. HasNone (FaultyJump in_loop at)) }
     ensures err { IfErr result (StopsAtFirst (FaultyJump in_loop at)) }
 {
     if in_loop {
         return Ok(());
     }
-    let kind = FaultKind::Outside;
-    Err(Stop::Fault(TypeFault { kind, at }))
+    let kind = TypeFaultKind::Outside;
+    Err(TypeStop::Fault(TypeFault { kind, at }))
 }
 
 /// Whether a `return` has a value exactly where its function gives one; if not it is a fault, at its keyword.
-fn fits(gives: bool, given: &Option<Expr>, at: usize) -> Result<(), Stop>
+fn fits(gives: bool, given: &Option<Expression>, at: usize) -> Result<(), TypeStop>
     ensures none { IfOk result (λ _. HasNone (FaultyReturn gives (maybe_expression_of given.now) at)) }
     ensures err { IfErr result (StopsAtFirst (FaultyReturn gives (maybe_expression_of given.now) at)) }
 {
     if gives == given.is_some() {
         return Ok(());
     }
-    let kind = FaultKind::Kind;
-    Err(Stop::Fault(TypeFault { kind, at }))
+    let kind = TypeFaultKind::Kind;
+    Err(TypeStop::Fault(TypeFault { kind, at }))
 }
 
 /// The value of a `return`, if it has one.
 fn returned(
     alloc: Global,
     program: &Program,
-    frame: &Frame,
-    given: &Option<Expr>,
-) -> Result<Option<Term>, Stop>
-    ensures ok { IfOk result (λ t. TypesMaybe (sight_in program.now.text.items (scopes_of frame.now)) (maybe_expression_of given.now) (maybe_term_of t)) }
-    ensures none { IfOk result (λ t. HasNone (FaultyMaybe (sight_in program.now.text.items (scopes_of frame.now)) (maybe_expression_of given.now))) }
-    ensures err { IfErr result (StopsAtFirst (FaultyMaybe (sight_in program.now.text.items (scopes_of frame.now)) (maybe_expression_of given.now))) }
+    scopes: &Scopes,
+    given: &Option<Expression>,
+) -> Result<Option<TypedExpression>, TypeStop>
+    ensures ok { IfOk result (λ t. TypesMaybe (environment_in program.now.text.items (scopes_of scopes.now)) (maybe_expression_of given.now) (maybe_typed_expression_of t)) }
+    ensures none { IfOk result (λ t. HasNone (FaultyMaybe (environment_in program.now.text.items (scopes_of scopes.now)) (maybe_expression_of given.now))) }
+    ensures err { IfErr result (StopsAtFirst (FaultyMaybe (environment_in program.now.text.items (scopes_of scopes.now)) (maybe_expression_of given.now))) }
 {
     match given {
         Some(e) => {
-            let term = expression(alloc, program, frame, e)?;
+            let term = expression(alloc, program, scopes, e)?;
             Ok(Some(term))
         }
         None => Ok(None),
@@ -83,15 +83,15 @@ fn returned(
 
 /// Whether a name may be declared as a local; a second declaration in one scope and a local too many are faults, at the
 /// name.
-fn declarator(program: &Program, frame: &Frame, name: Identifier) -> Result<(), Stop>
-    ensures none { IfOk result (λ _. HasNone (FaultyDeclarator program.now.text.items (scopes_of frame.now) name)) }
-    ensures err { IfErr result (StopsAtFirst (FaultyDeclarator program.now.text.items (scopes_of frame.now) name)) }
+fn declarator(program: &Program, scopes: &Scopes, name: Identifier) -> Result<(), TypeStop>
+    ensures none { IfOk result (λ _. HasNone (FaultyDeclarator program.now.text.items (scopes_of scopes.now) name)) }
+    ensures err { IfErr result (StopsAtFirst (FaultyDeclarator program.now.text.items (scopes_of scopes.now) name)) }
 {
-    if frame.declares(program, name) {
-        return Err(misuse(FaultKind::Redeclared, name));
+    if scopes.declares(program, name) {
+        return Err(misuse(TypeFaultKind::Redeclared, name));
     }
-    if frame.locals() == MAX_LOCALS {
-        return Err(misuse(FaultKind::Limit, name));
+    if scopes.locals() == MAX_LOCALS {
+        return Err(misuse(TypeFaultKind::Limit, name));
     }
     Ok(())
 }
@@ -100,18 +100,18 @@ fn declarator(program: &Program, frame: &Frame, name: Identifier) -> Result<(), 
 fn return_from(
     alloc: Global,
     program: &Program,
-    frame: &Frame,
+    scopes: &Scopes,
     gives: bool,
     at: usize,
-    given: &Option<Expr>,
-) -> Result<Statement, Stop>
-    ensures ok { IfOk result (λ t. TypesStatement program.now.text.items (scopes_of frame.now) (return_at at (maybe_expression_of given.now)) (typed_of t)) }
-    ensures none { IfOk result (λ t. HasNone (FaultyStatement program.now.text.items gives false (scopes_of frame.now) (return_at at (maybe_expression_of given.now)))) }
-    ensures err { IfErr result (StopsAtFirst (FaultyStatement program.now.text.items gives false (scopes_of frame.now) (return_at at (maybe_expression_of given.now)))) }
+    given: &Option<Expression>,
+) -> Result<TypedStatement, TypeStop>
+    ensures ok { IfOk result (λ t. TypesStatement program.now.text.items (scopes_of scopes.now) (return_at at (maybe_expression_of given.now)) (typed_of t)) }
+    ensures none { IfOk result (λ t. HasNone (FaultyStatement program.now.text.items gives false (scopes_of scopes.now) (return_at at (maybe_expression_of given.now)))) }
+    ensures err { IfErr result (StopsAtFirst (FaultyStatement program.now.text.items gives false (scopes_of scopes.now) (return_at at (maybe_expression_of given.now)))) }
 {
-    let value = returned(alloc, program, frame, given);
+    let value = returned(alloc, program, scopes, given);
     let (_, value) = both(fits(gives, given, at), value)?;
-    Ok(Statement::Return(value))
+    Ok(TypedStatement::Return(value))
 }
 
 /// A block: what it declares is out of sight behind it.
@@ -119,71 +119,71 @@ fn return_from(
 fn block<'a>(
     alloc: Global,
     program: &'a Program,
-    frame: &mut Frame<'a>,
+    scopes: &mut Scopes<'a>,
     gives: bool,
     in_loop: bool,
     all: &[Item],
-) -> Result<Statement, Stop>
-    ensures ok { IfOk result (λ t. TypesStatement program.now.text.items (scopes_of frame.old) (block (items_of all.now)) (typed_of t)) }
-    ensures none { IfOk result (λ t. HasNone (FaultyStatement program.now.text.items gives in_loop (scopes_of frame.old) (block (items_of all.now)))) }
-    ensures err { IfErr result (StopsAtFirst (FaultyStatement program.now.text.items gives in_loop (scopes_of frame.old) (block (items_of all.now)))) }
-    ensures scopes { (result ≡ Err NoMemory → ⊥) → scopes_of frame.new ≡ behind (scopes_of frame.old) (block (items_of all.now)) }
+) -> Result<TypedStatement, TypeStop>
+    ensures ok { IfOk result (λ t. TypesStatement program.now.text.items (scopes_of scopes.old) (block (items_of all.now)) (typed_of t)) }
+    ensures none { IfOk result (λ t. HasNone (FaultyStatement program.now.text.items gives in_loop (scopes_of scopes.old) (block (items_of all.now)))) }
+    ensures err { IfErr result (StopsAtFirst (FaultyStatement program.now.text.items gives in_loop (scopes_of scopes.old) (block (items_of all.now)))) }
+    ensures scopes { (result ≡ Err NoMemory → ⊥) → scopes_of scopes.new ≡ behind (scopes_of scopes.old) (block (items_of all.now)) }
 {
-    frame.enter(alloc)?;
-    let typed = lasting(items(alloc, program, frame, gives, in_loop, all))?;
-    frame.leave();
+    scopes.enter(alloc)?;
+    let typed = lasting(items(alloc, program, scopes, gives, in_loop, all))?;
+    scopes.leave();
     let typed = typed?;
-    Ok(Statement::Block(typed))
+    Ok(TypedStatement::Block(typed))
 }
 
 /// An `if` without `else`.
 #[cycle(statements)]
-fn branch<'a>(
+fn if_then<'a>(
     alloc: Global,
     program: &'a Program,
-    frame: &mut Frame<'a>,
+    scopes: &mut Scopes<'a>,
     gives: bool,
     in_loop: bool,
-    condition: &Expr,
-    first: &Stmt,
-) -> Result<Statement, Stop>
-    ensures ok { IfOk result (λ t. TypesStatement program.now.text.items (scopes_of frame.old) (branch (expression_of condition.now) (statement_of first.now)) (typed_of t)) }
-    ensures none { IfOk result (λ t. HasNone (FaultyStatement program.now.text.items gives in_loop (scopes_of frame.old) (branch (expression_of condition.now) (statement_of first.now)))) }
-    ensures err { IfErr result (StopsAtFirst (FaultyStatement program.now.text.items gives in_loop (scopes_of frame.old) (branch (expression_of condition.now) (statement_of first.now)))) }
-    ensures scopes { (result ≡ Err NoMemory → ⊥) → scopes_of frame.new ≡ behind (scopes_of frame.old) (branch (expression_of condition.now) (statement_of first.now)) }
+    condition: &Expression,
+    first: &Statement,
+) -> Result<TypedStatement, TypeStop>
+    ensures ok { IfOk result (λ t. TypesStatement program.now.text.items (scopes_of scopes.old) (if_then (expression_of condition.now) (statement_of first.now)) (typed_of t)) }
+    ensures none { IfOk result (λ t. HasNone (FaultyStatement program.now.text.items gives in_loop (scopes_of scopes.old) (if_then (expression_of condition.now) (statement_of first.now)))) }
+    ensures err { IfErr result (StopsAtFirst (FaultyStatement program.now.text.items gives in_loop (scopes_of scopes.old) (if_then (expression_of condition.now) (statement_of first.now)))) }
+    ensures scopes { (result ≡ Err NoMemory → ⊥) → scopes_of scopes.new ≡ behind (scopes_of scopes.old) (if_then (expression_of condition.now) (statement_of first.now)) }
 {
-    let condition = expression(alloc, program, frame, condition);
-    let first = lasting(statement(alloc, program, frame, gives, in_loop, first))?;
+    let condition = expression(alloc, program, scopes, condition);
+    let first = lasting(statement(alloc, program, scopes, gives, in_loop, first))?;
     let (condition, first) = both(condition, first)?;
-    Ok(Statement::If(
+    Ok(TypedStatement::If(
         condition,
         Box::new(alloc, first)?,
-        Box::new(alloc, Statement::Empty)?,
+        Box::new(alloc, TypedStatement::Empty)?,
     ))
 }
 
 /// An `if` with `else`.
 #[cycle(statements)]
-fn branch_else<'a>(
+fn if_then_else<'a>(
     alloc: Global,
     program: &'a Program,
-    frame: &mut Frame<'a>,
+    scopes: &mut Scopes<'a>,
     gives: bool,
     in_loop: bool,
-    condition: &Expr,
-    first: &Stmt,
-    second: &Stmt,
-) -> Result<Statement, Stop>
-    ensures ok { IfOk result (λ t. TypesStatement program.now.text.items (scopes_of frame.old) (branch_else (expression_of condition.now) (statement_of first.now) (statement_of second.now)) (typed_of t)) }
-    ensures none { IfOk result (λ t. HasNone (FaultyStatement program.now.text.items gives in_loop (scopes_of frame.old) (branch_else (expression_of condition.now) (statement_of first.now) (statement_of second.now)))) }
-    ensures err { IfErr result (StopsAtFirst (FaultyStatement program.now.text.items gives in_loop (scopes_of frame.old) (branch_else (expression_of condition.now) (statement_of first.now) (statement_of second.now)))) }
-    ensures scopes { (result ≡ Err NoMemory → ⊥) → scopes_of frame.new ≡ behind (scopes_of frame.old) (branch_else (expression_of condition.now) (statement_of first.now) (statement_of second.now)) }
+    condition: &Expression,
+    first: &Statement,
+    second: &Statement,
+) -> Result<TypedStatement, TypeStop>
+    ensures ok { IfOk result (λ t. TypesStatement program.now.text.items (scopes_of scopes.old) (if_then_else (expression_of condition.now) (statement_of first.now) (statement_of second.now)) (typed_of t)) }
+    ensures none { IfOk result (λ t. HasNone (FaultyStatement program.now.text.items gives in_loop (scopes_of scopes.old) (if_then_else (expression_of condition.now) (statement_of first.now) (statement_of second.now)))) }
+    ensures err { IfErr result (StopsAtFirst (FaultyStatement program.now.text.items gives in_loop (scopes_of scopes.old) (if_then_else (expression_of condition.now) (statement_of first.now) (statement_of second.now)))) }
+    ensures scopes { (result ≡ Err NoMemory → ⊥) → scopes_of scopes.new ≡ behind (scopes_of scopes.old) (if_then_else (expression_of condition.now) (statement_of first.now) (statement_of second.now)) }
 {
-    let condition = expression(alloc, program, frame, condition);
-    let first = lasting(statement(alloc, program, frame, gives, in_loop, first))?;
-    let second = lasting(statement(alloc, program, frame, gives, in_loop, second))?;
+    let condition = expression(alloc, program, scopes, condition);
+    let first = lasting(statement(alloc, program, scopes, gives, in_loop, first))?;
+    let second = lasting(statement(alloc, program, scopes, gives, in_loop, second))?;
     let (condition, (first, second)) = both(condition, both(first, second))?;
-    Ok(Statement::If(condition, Box::new(alloc, first)?, Box::new(alloc, second)?))
+    Ok(TypedStatement::If(condition, Box::new(alloc, first)?, Box::new(alloc, second)?))
 }
 
 /// A `while`.
@@ -191,23 +191,23 @@ fn branch_else<'a>(
 fn while_loop<'a>(
     alloc: Global,
     program: &'a Program,
-    frame: &mut Frame<'a>,
+    scopes: &mut Scopes<'a>,
     gives: bool,
     in_loop: bool,
-    condition: &Expr,
-    body: &Stmt,
-) -> Result<Statement, Stop>
-    ensures ok { IfOk result (λ t. TypesStatement program.now.text.items (scopes_of frame.old) (repeat (expression_of condition.now) (statement_of body.now)) (typed_of t)) }
-    ensures none { IfOk result (λ t. HasNone (FaultyStatement program.now.text.items gives in_loop (scopes_of frame.old) (repeat (expression_of condition.now) (statement_of body.now)))) }
-    ensures err { IfErr result (StopsAtFirst (FaultyStatement program.now.text.items gives in_loop (scopes_of frame.old) (repeat (expression_of condition.now) (statement_of body.now)))) }
-    ensures scopes { (result ≡ Err NoMemory → ⊥) → scopes_of frame.new ≡ behind (scopes_of frame.old) (repeat (expression_of condition.now) (statement_of body.now)) }
+    condition: &Expression,
+    body: &Statement,
+) -> Result<TypedStatement, TypeStop>
+    ensures ok { IfOk result (λ t. TypesStatement program.now.text.items (scopes_of scopes.old) (while_loop (expression_of condition.now) (statement_of body.now)) (typed_of t)) }
+    ensures none { IfOk result (λ t. HasNone (FaultyStatement program.now.text.items gives in_loop (scopes_of scopes.old) (while_loop (expression_of condition.now) (statement_of body.now)))) }
+    ensures err { IfErr result (StopsAtFirst (FaultyStatement program.now.text.items gives in_loop (scopes_of scopes.old) (while_loop (expression_of condition.now) (statement_of body.now)))) }
+    ensures scopes { (result ≡ Err NoMemory → ⊥) → scopes_of scopes.new ≡ behind (scopes_of scopes.old) (while_loop (expression_of condition.now) (statement_of body.now)) }
 {
-    let condition = expression(alloc, program, frame, condition);
-    let body = lasting(statement(alloc, program, frame, gives, true, body))?;
+    let condition = expression(alloc, program, scopes, condition);
+    let body = lasting(statement(alloc, program, scopes, gives, true, body))?;
     let (condition, body) = both(condition, body)?;
-    Ok(Statement::Loop(
+    Ok(TypedStatement::Loop(
         condition,
-        Box::new(alloc, Statement::Empty)?,
+        Box::new(alloc, TypedStatement::Empty)?,
         Box::new(alloc, body)?,
     ))
 }
@@ -217,27 +217,27 @@ fn while_loop<'a>(
 fn for_loop<'a>(
     alloc: Global,
     program: &'a Program,
-    frame: &mut Frame<'a>,
+    scopes: &mut Scopes<'a>,
     gives: bool,
     in_loop: bool,
     parts: &ForParts,
-    body: &Stmt,
-) -> Result<Statement, Stop>
-    ensures ok { IfOk result (λ t. TypesStatement program.now.text.items (scopes_of frame.old) (repeat_for (maybe_simple_of parts.now.first) (maybe_expression_of parts.now.test) (maybe_simple_of parts.now.last) (statement_of body.now)) (typed_of t)) }
-    ensures none { IfOk result (λ t. HasNone (FaultyStatement program.now.text.items gives in_loop (scopes_of frame.old) (repeat_for (maybe_simple_of parts.now.first) (maybe_expression_of parts.now.test) (maybe_simple_of parts.now.last) (statement_of body.now)))) }
-    ensures err { IfErr result (StopsAtFirst (FaultyStatement program.now.text.items gives in_loop (scopes_of frame.old) (repeat_for (maybe_simple_of parts.now.first) (maybe_expression_of parts.now.test) (maybe_simple_of parts.now.last) (statement_of body.now)))) }
-    ensures scopes { (result ≡ Err NoMemory → ⊥) → scopes_of frame.new ≡ behind (scopes_of frame.old) (repeat_for (maybe_simple_of parts.now.first) (maybe_expression_of parts.now.test) (maybe_simple_of parts.now.last) (statement_of body.now)) }
+    body: &Statement,
+) -> Result<TypedStatement, TypeStop>
+    ensures ok { IfOk result (λ t. TypesStatement program.now.text.items (scopes_of scopes.old) (for_loop (maybe_simple_of parts.now.first) (maybe_expression_of parts.now.test) (maybe_simple_of parts.now.last) (statement_of body.now)) (typed_of t)) }
+    ensures none { IfOk result (λ t. HasNone (FaultyStatement program.now.text.items gives in_loop (scopes_of scopes.old) (for_loop (maybe_simple_of parts.now.first) (maybe_expression_of parts.now.test) (maybe_simple_of parts.now.last) (statement_of body.now)))) }
+    ensures err { IfErr result (StopsAtFirst (FaultyStatement program.now.text.items gives in_loop (scopes_of scopes.old) (for_loop (maybe_simple_of parts.now.first) (maybe_expression_of parts.now.test) (maybe_simple_of parts.now.last) (statement_of body.now)))) }
+    ensures scopes { (result ≡ Err NoMemory → ⊥) → scopes_of scopes.new ≡ behind (scopes_of scopes.old) (for_loop (maybe_simple_of parts.now.first) (maybe_expression_of parts.now.test) (maybe_simple_of parts.now.last) (statement_of body.now)) }
 {
-    let first = part(alloc, program, frame, &parts.first);
-    let condition = test(alloc, program, frame, &parts.test);
-    let last = part(alloc, program, frame, &parts.last);
-    let body = lasting(statement(alloc, program, frame, gives, true, body))?;
+    let first = part(alloc, program, scopes, &parts.first);
+    let condition = test(alloc, program, scopes, &parts.test);
+    let last = part(alloc, program, scopes, &parts.last);
+    let body = lasting(statement(alloc, program, scopes, gives, true, body))?;
     let (first, (condition, (last, body))) = both(first, both(condition, both(last, body)))?;
-    let turns = Statement::Loop(condition, Box::new(alloc, last)?, Box::new(alloc, body)?);
+    let turns = TypedStatement::Loop(condition, Box::new(alloc, last)?, Box::new(alloc, body)?);
     let mut all = Vec::new(alloc);
     all.push(first)?;
     all.push(turns)?;
-    Ok(Statement::Block(all))
+    Ok(TypedStatement::Block(all))
 }
 
 /// The typed tree of a statement in a function that gives a result or not, in a loop or not, or its first fault.
@@ -245,39 +245,41 @@ fn for_loop<'a>(
 pub fn statement<'a>(
     alloc: Global,
     program: &'a Program,
-    frame: &mut Frame<'a>,
+    scopes: &mut Scopes<'a>,
     gives: bool,
     in_loop: bool,
-    s: &Stmt,
-) -> Result<Statement, Stop>
-    ensures ok { IfOk result (λ t. TypesStatement program.now.text.items (scopes_of frame.old) (statement_of s.now) (typed_of t)) }
-    ensures none { IfOk result (λ t. HasNone (FaultyStatement program.now.text.items gives in_loop (scopes_of frame.old) (statement_of s.now))) }
-    ensures err { IfErr result (StopsAtFirst (FaultyStatement program.now.text.items gives in_loop (scopes_of frame.old) (statement_of s.now))) }
-    ensures scopes { (result ≡ Err NoMemory → ⊥) → scopes_of frame.new ≡ behind (scopes_of frame.old) (statement_of s.now) }
+    s: &Statement,
+) -> Result<TypedStatement, TypeStop>
+    ensures ok { IfOk result (λ t. TypesStatement program.now.text.items (scopes_of scopes.old) (statement_of s.now) (typed_of t)) }
+    ensures none { IfOk result (λ t. HasNone (FaultyStatement program.now.text.items gives in_loop (scopes_of scopes.old) (statement_of s.now))) }
+    ensures err { IfErr result (StopsAtFirst (FaultyStatement program.now.text.items gives in_loop (scopes_of scopes.old) (statement_of s.now))) }
+    ensures scopes { (result ≡ Err NoMemory → ⊥) → scopes_of scopes.new ≡ behind (scopes_of scopes.old) (statement_of s.now) }
 {
     match s {
-        Stmt::Empty => Ok(Statement::Empty),
-        Stmt::Block(all) => block(alloc, program, frame, gives, in_loop, all),
-        Stmt::If(condition, first) => {
-            branch(alloc, program, frame, gives, in_loop, condition, first)
+        Statement::Empty => Ok(TypedStatement::Empty),
+        Statement::Block(all) => block(alloc, program, scopes, gives, in_loop, all),
+        Statement::If(condition, first) => {
+            if_then(alloc, program, scopes, gives, in_loop, condition, first)
         }
-        Stmt::IfElse(condition, first, second) => branch_else(
-            alloc, program, frame, gives, in_loop, condition, first, second,
+        Statement::IfElse(condition, first, second) => if_then_else(
+            alloc, program, scopes, gives, in_loop, condition, first, second,
         ),
-        Stmt::While(condition, body) => {
-            while_loop(alloc, program, frame, gives, in_loop, condition, body)
+        Statement::While(condition, body) => {
+            while_loop(alloc, program, scopes, gives, in_loop, condition, body)
         }
-        Stmt::For(parts, body) => for_loop(alloc, program, frame, gives, in_loop, parts, body),
-        Stmt::Break(at) => {
+        Statement::For(parts, body) => for_loop(
+            alloc, program, scopes, gives, in_loop, parts, body,
+        ),
+        Statement::Break(at) => {
             jump(in_loop, *at)?;
-            Ok(Statement::Break)
+            Ok(TypedStatement::Break)
         }
-        Stmt::Continue(at) => {
+        Statement::Continue(at) => {
             jump(in_loop, *at)?;
-            Ok(Statement::Continue)
+            Ok(TypedStatement::Continue)
         }
-        Stmt::Return(at, given) => return_from(alloc, program, frame, gives, *at, given),
-        Stmt::Simply(inner) => simple(alloc, program, frame, inner),
+        Statement::Return(at, given) => return_from(alloc, program, scopes, gives, *at, given),
+        Statement::Simply(inner) => simple(alloc, program, scopes, inner),
     }
 }
 
@@ -286,26 +288,26 @@ pub fn statement<'a>(
 fn item<'a>(
     alloc: Global,
     program: &'a Program,
-    frame: &mut Frame<'a>,
+    scopes: &mut Scopes<'a>,
     gives: bool,
     in_loop: bool,
     one: &Item,
-) -> Result<Statement, Stop>
-    ensures ok { IfOk result (λ t. TypesItems program.now.text.items (scopes_of frame.old) (more_items (item_of one.now) no_items) (more_statements (typed_of t) no_statements)) }
-    ensures none { IfOk result (λ t. HasNone (FaultyItems program.now.text.items gives in_loop (scopes_of frame.old) (more_items (item_of one.now) no_items))) }
-    ensures err { IfErr result (StopsAtFirst (FaultyItems program.now.text.items gives in_loop (scopes_of frame.old) (more_items (item_of one.now) no_items))) }
-    ensures scopes { (result ≡ Err NoMemory → ⊥) → scopes_of frame.new ≡ behind_item program.now.text.items (scopes_of frame.old) (item_of one.now) }
+) -> Result<TypedStatement, TypeStop>
+    ensures ok { IfOk result (λ t. TypesItems program.now.text.items (scopes_of scopes.old) (more_items (item_of one.now) no_items) (more_statements (typed_of t) no_statements)) }
+    ensures none { IfOk result (λ t. HasNone (FaultyItems program.now.text.items gives in_loop (scopes_of scopes.old) (more_items (item_of one.now) no_items))) }
+    ensures err { IfErr result (StopsAtFirst (FaultyItems program.now.text.items gives in_loop (scopes_of scopes.old) (more_items (item_of one.now) no_items))) }
+    ensures scopes { (result ≡ Err NoMemory → ⊥) → scopes_of scopes.new ≡ behind_item program.now.text.items (scopes_of scopes.old) (item_of one.now) }
 {
     match one {
-        Item::Declare(kind, name, given) => {
-            let refused = declarator(program, frame, *name);
-            let number = frame.locals();
-            frame.declare_local(program, *kind, *name)?;
-            let first = first_value(alloc, program, frame, number, given);
+        Item::Declare(integer_type, name, given) => {
+            let refused = declarator(program, scopes, *name);
+            let number = scopes.locals();
+            scopes.declare_local(program, *integer_type, *name)?;
+            let first = first_value(alloc, program, scopes, number, given);
             let (_, first) = both(refused, first)?;
             Ok(first)
         }
-        Item::Statement(s) => statement(alloc, program, frame, gives, in_loop, s),
+        Item::Statement(s) => statement(alloc, program, scopes, gives, in_loop, s),
     }
 }
 
@@ -314,19 +316,19 @@ fn item<'a>(
 pub fn items<'a>(
     alloc: Global,
     program: &'a Program,
-    frame: &mut Frame<'a>,
+    scopes: &mut Scopes<'a>,
     gives: bool,
     in_loop: bool,
     all: &[Item],
-) -> Result<Vec<Statement>, Stop>
-    ensures ok { IfOk result (λ v. TypesItems program.now.text.items (scopes_of frame.old) (items_of all.now) (statements_of v.items)) }
-    ensures none { IfOk result (λ v. HasNone (FaultyItems program.now.text.items gives in_loop (scopes_of frame.old) (items_of all.now))) }
-    ensures err { IfErr result (StopsAtFirst (FaultyItems program.now.text.items gives in_loop (scopes_of frame.old) (items_of all.now))) }
-    ensures scopes { (result ≡ Err NoMemory → ⊥) → scopes_of frame.new ≡ behind_items program.now.text.items (scopes_of frame.old) (items_of all.now) }
+) -> Result<Vec<TypedStatement>, TypeStop>
+    ensures ok { IfOk result (λ v. TypesItems program.now.text.items (scopes_of scopes.old) (items_of all.now) (statements_of v.items)) }
+    ensures none { IfOk result (λ v. HasNone (FaultyItems program.now.text.items gives in_loop (scopes_of scopes.old) (items_of all.now))) }
+    ensures err { IfErr result (StopsAtFirst (FaultyItems program.now.text.items gives in_loop (scopes_of scopes.old) (items_of all.now))) }
+    ensures scopes { (result ≡ Err NoMemory → ⊥) → scopes_of scopes.new ≡ behind_items program.now.text.items (scopes_of scopes.old) (items_of all.now) }
 {
     let mut typed = Ok(Vec::new(alloc));
     for one in all {
-        let next = lasting(item(alloc, program, frame, gives, in_loop, one))?;
+        let next = lasting(item(alloc, program, scopes, gives, in_loop, one))?;
         typed = with_one(typed, next);
     }
     typed

@@ -1,4 +1,4 @@
-use c_front::{FaultKind, read};
+use c_front::{FrontFaultKind, read};
 use std::alloc::{AllocError, Global};
 
 /// The number and the offset of a text's fault; 0 and the text's length where it has none.

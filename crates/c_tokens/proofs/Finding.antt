@@ -7,7 +7,7 @@ use Rattle.c_tokens.specs.declared.lexer.Lexeme.TheVariants.{Separator, Refused}
 use Rattle.c_tokens.specs.Lexing.{is_space, is_letter, is_digit, is_word, goes_on, is_exponent, is_front, same_bytes, signs, keywords, word_lexeme, comment_length, one_more}
 use Rattle.c_tokens.specs.Digits.{constant_lexeme}
 use Rattle.c_tokens.specs.Fronts.{word_length, run_length, line_length, longest, longer, sign_lexeme, comment_lexeme, line_lexeme, lexeme_of, word_at, constant_at, comment_at, line_at, sign_at}
-use Rattle.c_tokens.specs.Pieces.{IsWord, word_end, word_more, IsRun, run_end, run_more, IsLine, line_end, line_more, IsOpen, open_end, open_more, IsClosed, closed_here, closed_later, spelled, comment_meaning}
+use Rattle.c_tokens.specs.Pieces.{IsWord, word_end, word_more, IsRun, run_end, run_more, IsLine, line_end, line_more, IsOpen, open_end, open_more, IsClosed, closed_here, closed_later, entry_in, closed_comment}
 use Rattle.c_tokens.proofs.Shapes.{IsShape, a_byte, a_word, a_number, an_operator, a_line, a_comment, an_open_comment, IsLongestShape, closed_meaning, operator_meaning, or_operator, or_line, or_comment, or_number, or_word, meaning_of, IsShapeNext, at_end, at_piece}
 
 pub true-false : {x : Bool} → x ≡ true → x ≡ false → ⊥
@@ -53,11 +53,11 @@ all_begin (e ∷ es) = if begins_well e.0 then all_begin es else false
 table-begins : all_begin signs ≡ true
 table-begins = refl
 
-spelled-begins : (es : List (List ℕ × Option Mark)) (o : List ℕ) (m : Option Mark) → all_begin es ≡ true → spelled es o ≡ Some m → begins_well o ≡ true
+spelled-begins : (es : List (List ℕ × Option Mark)) (o : List ℕ) (m : Option Mark) → all_begin es ≡ true → entry_in es o ≡ Some m → begins_well o ≡ true
 spelled-begins [] o m h k = cc
 spelled-begins (e ∷ es) o m h k = go (λ h k. spelled-begins es o m h k) (begins_well e.0) refl h (same_bytes e.0 o) refl k
   where
-    go : (all_begin es ≡ true → spelled es o ≡ Some m → begins_well o ≡ true) → (x : Bool) → begins_well e.0 ≡ x → (if x then all_begin es else false) ≡ true → (y : Bool) → same_bytes e.0 o ≡ y → (if y then Some e.1 else spelled es o) ≡ Some m → begins_well o ≡ true
+    go : (all_begin es ≡ true → entry_in es o ≡ Some m → begins_well o ≡ true) → (x : Bool) → begins_well e.0 ≡ x → (if x then all_begin es else false) ≡ true → (y : Bool) → same_bytes e.0 o ≡ y → (if y then Some e.1 else entry_in es o) ≡ Some m → begins_well o ≡ true
     go f false p h y q k = cc
     go f true p h true q k = ap begins_well (sym (same-is e.0 o q)) ∙ p
     go f true p h false q k = f h k
@@ -69,7 +69,7 @@ pub record Begins (b : ℕ) (bs : List ℕ) : Type 0 where
   pub comment : is_front (47 ∷ 42 ∷ []) (b ∷ bs) ≡ false
   pub line : is_front (47 ∷ 47 ∷ []) (b ∷ bs) ≡ false
 
-pub operator-begins : (b : ℕ) (bs : List ℕ) (m : Option Mark) → spelled signs (b ∷ bs) ≡ Some m → Begins b bs
+pub operator-begins : (b : ℕ) (bs : List ℕ) (m : Option Mark) → entry_in signs (b ∷ bs) ≡ Some m → Begins b bs
 operator-begins b bs m h = go (is_space b) (is_letter b) (is_digit b) (is_front (47 ∷ 42 ∷ []) (b ∷ bs)) (is_front (47 ∷ 47 ∷ []) (b ∷ bs)) refl refl refl refl refl (spelled-begins signs (b ∷ bs) m table-begins h)
   where
     go : (x y z u v : Bool) → is_space b ≡ x → is_letter b ≡ y → is_digit b ≡ z → is_front (47 ∷ 42 ∷ []) (b ∷ bs) ≡ u → is_front (47 ∷ 47 ∷ []) (b ∷ bs) ≡ v →
@@ -137,7 +137,7 @@ line-piece xs (a_number i r) = cc
 line-piece xs (an_operator {m = m} o) = let x = (operator-begins 47 (47 ∷ xs) m o).line in cc
 line-piece xs (a_line l) = l
 
-other-piece : (b c : ℕ) (xs : List ℕ) → is_letter b ≡ false → is_digit b ≡ false → is_front (47 ∷ 42 ∷ []) (b ∷ c ∷ xs) ≡ false → is_front (47 ∷ 47 ∷ []) (b ∷ c ∷ xs) ≡ false → IsShape (b ∷ c ∷ xs) → (m : Option Mark) × (spelled signs (b ∷ c ∷ xs) ≡ Some m)
+other-piece : (b c : ℕ) (xs : List ℕ) → is_letter b ≡ false → is_digit b ≡ false → is_front (47 ∷ 42 ∷ []) (b ∷ c ∷ xs) ≡ false → is_front (47 ∷ 47 ∷ []) (b ∷ c ∷ xs) ≡ false → IsShape (b ∷ c ∷ xs) → (m : Option Mark) × (entry_in signs (b ∷ c ∷ xs) ≡ Some m)
 other-piece b c xs h k p q (a_word i w) = absurd (true-false i h)
 other-piece b c xs h k p q (a_number i r) = absurd (true-false i k)
 other-piece b c xs h k p q (an_operator {m = m} o) = (m, o)
@@ -331,14 +331,14 @@ open-length (b ∷ bs) (open_more h w) =
 -- operators
 abbrev EachSpelled : List (List ℕ × Option Mark) → Type 0
 EachSpelled [] = Unit {0}
-EachSpelled (e ∷ es) = (spelled signs e.0 ≡ Some e.1) × EachSpelled es
+EachSpelled (e ∷ es) = (entry_in signs e.0 ≡ Some e.1) × EachSpelled es
 
 each-spelled : EachSpelled signs
 each-spelled = ((refl, (refl, (refl, (refl, (refl, (refl, (refl, (refl, (refl, (refl, (refl, (refl, (refl, (refl, (refl, (refl, (refl, (refl, (refl, (refl, (refl, (refl, (refl, (refl, (refl, (refl, (refl, (refl, (refl, (refl, (refl, (refl, (refl, (refl, (refl, (refl, (refl, (refl, (refl, (refl, (refl, (refl, (refl, (refl, (refl, (refl, (refl, (refl, (refl, tt))))))))))))))))))))))))))))))))))))))))))))))))))
 
 abbrev Stands : List ℕ → Option (List ℕ × Option Mark) → Type 0
 Stands bs None = Unit {0}
-Stands bs (Some e) = (is_front e.0 bs ≡ true) × (spelled signs e.0 ≡ Some e.1)
+Stands bs (Some e) = (is_front e.0 bs ≡ true) × (entry_in signs e.0 ≡ Some e.1)
 
 longest-stands : (es : List (List ℕ × Option Mark)) (bs : List ℕ) → EachSpelled es → Stands bs (longest es bs)
 longest-stands [] bs h = tt
@@ -380,7 +380,7 @@ abbrev AtLeastLong : ℕ → Option (List ℕ × Option Mark) → Type 0
 AtLeastLong m None = ⊥
 AtLeastLong m (Some e) = m ≤ length e.0
 
-longest-most : (es : List (List ℕ × Option Mark)) (bs : List ℕ) (m : ℕ) (x : Option Mark) → m ≤ length bs → spelled es (take m bs) ≡ Some x → AtLeastLong m (longest es bs)
+longest-most : (es : List (List ℕ × Option Mark)) (bs : List ℕ) (m : ℕ) (x : Option Mark) → m ≤ length bs → entry_in es (take m bs) ≡ Some x → AtLeastLong m (longest es bs)
 longest-most [] bs m x l h = cc
 longest-most (e ∷ es) bs m x l h = go (λ k. longest-most es bs m x l k) (longest es bs) (same_bytes e.0 (take m bs)) refl h (is_front e.0 bs) refl
   where
@@ -409,7 +409,7 @@ longest-most (e ∷ es) bs m x l h = go (λ k. longest-most es bs m x l k) (long
             most : (x y : ℕ) → nat_lt x y ≡ false → y ≤ x
             most x y h = grind (arith, nat_tests)
 
-    go : (spelled es (take m bs) ≡ Some x → AtLeastLong m (longest es bs)) → (r : Option (List ℕ × Option Mark)) → (y : Bool) → same_bytes e.0 (take m bs) ≡ y → (if y then Some e.1 else spelled es (take m bs)) ≡ Some x →
+    go : (entry_in es (take m bs) ≡ Some x → AtLeastLong m (longest es bs)) → (r : Option (List ℕ × Option Mark)) → (y : Bool) → same_bytes e.0 (take m bs) ≡ y → (if y then Some e.1 else entry_in es (take m bs)) ≡ Some x →
         (z : Bool) → is_front e.0 bs ≡ z → AtLeastLong m (if z then Some (longer e (longest es bs)) else longest es bs)
     go f r true p k true q = self (longest es bs) (long (same-is e.0 (take m bs) p))
     go f r true p k false q = absurd (true-false (ap (λ (x : List ℕ). is_front x bs) (same-is e.0 (take m bs) p) ∙ taken-front m bs) q)
@@ -465,7 +465,7 @@ closed-next cs n h =
     let w = c.within in
     let e : length (47 ∷ 42 ∷ take n cs) ≡ n + 2 = simp length-take (omega (arith, w)) in
     at_piece {n = suc (suc n)} (record { within = omega (arith, w); piece = a_comment c.taken; longest = go c })
-    (sym (ap (closed_meaning (length (47 ∷ 42 ∷ take n cs)) (take n cs)) q.1 ∙ ap (λ (x : ℕ). comment_meaning x (take n cs)) e))
+    (sym (ap (closed_meaning (length (47 ∷ 42 ∷ take n cs)) (take n cs)) q.1 ∙ ap (λ (x : ℕ). closed_comment x (take n cs)) e))
   where
     go : Closes cs n → (m : ℕ) → suc (suc n) < m → m ≤ length (47 ∷ 42 ∷ cs) → IsShape (take m (47 ∷ 42 ∷ cs)) → ⊥
     go c zero i l p = omega (arith, i)
@@ -487,7 +487,7 @@ line-next : (cs : List ℕ) → IsShapeNext (47 ∷ 47 ∷ cs) (line_lexeme (lin
 line-next cs =
     let w = line-within cs in
     let e : length (47 ∷ 47 ∷ take (line_length cs) cs) ≡ line_length cs + 2 = simp length-take (omega (arith, w)) in
-    at_piece {n = suc (suc (line_length cs))} (record { within = omega (arith, w); piece = a_line (line-taken cs); longest = go }) (sym (ap (λ (x : ℕ). comment_meaning x (take (line_length cs) cs)) e))
+    at_piece {n = suc (suc (line_length cs))} (record { within = omega (arith, w); piece = a_line (line-taken cs); longest = go }) (sym (ap (λ (x : ℕ). closed_comment x (take (line_length cs) cs)) e))
   where
     go : (m : ℕ) → suc (suc (line_length cs)) < m → m ≤ length (47 ∷ 47 ∷ cs) → IsShape (take m (47 ∷ 47 ∷ cs)) → ⊥
     go zero i l p = omega (arith, i)
@@ -507,7 +507,7 @@ plain-meaning b bs p =
     ap (λ (x : Bool). if x then Separator 1 else or_word b bs) p.space ∙ ap (λ (x : Bool). if x then word_lexeme keywords (b ∷ bs) else or_number b bs) p.letter ∙
     ap (λ (x : Bool). if x then constant_lexeme (b ∷ bs) else or_comment b bs) p.digit ∙
     ap (λ (x : Bool). if x then closed_meaning (length (b ∷ bs)) (drop 1 bs) (comment_length (drop 1 bs)) else or_line b bs) p.comment ∙
-    ap (λ (x : Bool). if x then comment_meaning (length (b ∷ bs)) (drop 1 bs) else or_operator b bs) p.line
+    ap (λ (x : Bool). if x then closed_comment (length (b ∷ bs)) (drop 1 bs) else or_operator b bs) p.line
 
 plain-taken : (b : ℕ) (bs : List ℕ) (m : ℕ) → Plain b bs → Plain b (take m bs)
 plain-taken b bs m p = record {
@@ -527,7 +527,7 @@ longer-plain b (c ∷ cs) (suc (suc m)) q h l p =
     let o = other-piece b c (take m cs) t.letter t.digit t.comment t.line p in
     longest-most signs (b ∷ c ∷ cs) (suc (suc m)) o.0 l o.1
 
-operator-found : (xs : List ℕ) (m : Option Mark) → spelled signs xs ≡ Some m → sign_lexeme (Some (xs, m)) ≡ meaning_of xs
+operator-found : (xs : List ℕ) (m : Option Mark) → entry_in signs xs ≡ Some m → sign_lexeme (Some (xs, m)) ≡ meaning_of xs
 operator-found [] m h = absurd (let x : begins_well [] ≡ true = spelled-begins signs [] m table-begins h in cc)
 operator-found (b ∷ bs) m h =
     let g = operator-begins b bs m h in
@@ -538,7 +538,7 @@ operator-found (b ∷ bs) m h =
     same None = refl
     same (Some u) = refl
 
-nonempty : (xs : List ℕ) (m : Option Mark) → spelled signs xs ≡ Some m → 0 < length xs
+nonempty : (xs : List ℕ) (m : Option Mark) → entry_in signs xs ≡ Some m → 0 < length xs
 nonempty [] m h = absurd (let x : begins_well [] ≡ true = spelled-begins signs [] m table-begins h in cc)
 nonempty (x ∷ xs) m h = omega arith
 
@@ -548,9 +548,9 @@ front-length xs ys h = let e : length (take (length xs) ys) ≡ length xs = ap l
 sign-next : (b : ℕ) (bs : List ℕ) → Plain b bs → (r : Option (List ℕ × Option Mark)) → longest signs (b ∷ bs) ≡ r → IsShapeNext (b ∷ bs) (sign_lexeme r)
 sign-next b bs q None h =
     at_piece {n = 1} (record { within = omega arith; piece = a_byte; longest = λ m i l p. (let P : Option (List ℕ × Option Mark) → Type 0 = λ x. AtLeastLong m x in subst P h (longer-plain b bs m q i l p)) })
-    (sym (plain-meaning b [] (plain-taken b bs 0 q) ∙ ap (operator_meaning (b ∷ [])) (no-spelling (spelled signs (b ∷ [])) refl)))
+    (sym (plain-meaning b [] (plain-taken b bs 0 q) ∙ ap (operator_meaning (b ∷ [])) (no-spelling (entry_in signs (b ∷ [])) refl)))
   where
-    no-spelling : (x : Option (Option Mark)) → spelled signs (b ∷ []) ≡ x → x ≡ None
+    no-spelling : (x : Option (Option Mark)) → entry_in signs (b ∷ []) ≡ x → x ≡ None
     no-spelling None e = refl
     no-spelling (Some m) e =
         let P : Option (List ℕ × Option Mark) → Type 0 = λ x. AtLeastLong 1 x in

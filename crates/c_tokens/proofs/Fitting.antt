@@ -10,7 +10,7 @@ use Rattle.c_tokens.specs.declared.keywords.Reserved.TheVariants.{Marked, Jumpin
 use Rattle.c_tokens.specs.Lexing.{is_front, same_bytes, word_lexeme, keyword_lexeme, is_word}
 use Rattle.c_tokens.specs.Digits.{digit_of, digits_of, up_to}
 use Rattle.c_tokens.specs.Fronts.{longer, longest, word_length}
-use Rattle.c_tokens.specs.Spellings.{bytes_of, shown}
+use Rattle.c_tokens.specs.Spellings.{bytes_of, maybe_entry_of}
 use Rattle.c_tokens.specs.Texts.{Fits}
 
 front-length : (xs ys : List ℕ) → is_front xs ys ≡ true → length xs ≤ length ys
@@ -47,7 +47,7 @@ spelled (One a) = omega arith
 spelled (Two a b) = omega arith
 spelled (Three a b c) = omega arith
 
-pub sign-fits : (es : List (List ℕ × Option Mark)) (bs : List ℕ) (e : Spelling × Option Mark) (l : ℕ) → shown (Some e) ≡ longest es bs → l ≡ length (bytes_of e.0) → (0 < l) × (l ≤ length bs)
+pub sign-fits : (es : List (List ℕ × Option Mark)) (bs : List ℕ) (e : Spelling × Option Mark) (l : ℕ) → maybe_entry_of (Some e) ≡ longest es bs → l ≡ length (bytes_of e.0) → (0 < l) × (l ≤ length bs)
 sign-fits es bs e l h k =
     let P : Option (List ℕ × Option Mark) → Type 0 = λ x. FitsIn x (length bs) in
     let a = spelled e.0 in

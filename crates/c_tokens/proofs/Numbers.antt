@@ -4,11 +4,11 @@ use Rattle.std.proofs.lemmas.Option.{none-some, same_Some}
 use Rattle.std.proofs.Common.{◌≡◌, ◌⊎◌, ◌+◌, ◌*◌, ◌-◌, ◌<◌, ◌≤◌, ℕ, suc, List, [], ◌∷◌, ◌++◌, length, take, Bool, true, false, Option, Some, None, refl, sym, ap, subst, ◌∙◌, arith, if◌then◌else◌, nat_eq, nat_le, nat_lt, ◌&&◌, ◌||◌}
 use Rattle.c_tokens.specs.declared.lexer.Lexeme.{Lexeme}
 use Rattle.c_tokens.specs.declared.lexer.Lexeme.TheVariants.{Numeral, NoConstant}
-use Rattle.c_tokens.specs.declared.token.Kind.{Kind}
-use Rattle.c_tokens.specs.declared.token.Kind.TheVariants.{SignedInt, UnsignedInt}
+use Rattle.c_tokens.specs.declared.token.IntegerType.{IntegerType}
+use Rattle.c_tokens.specs.declared.token.IntegerType.TheVariants.{SignedInt, UnsignedInt}
 use Rattle.c_tokens.specs.declared.token.Literal.{Literal}
 use Rattle.c_tokens.specs.Lexing.{is_digit}
-use Rattle.c_tokens.specs.Digits.{digit_of, digits_of, plain_of, is_suffix, is_octal_or_hexadecimal, last_or, greatest_of, kind_of, within_limit, digits_in, constant_lexeme}
+use Rattle.c_tokens.specs.Digits.{digit_of, digits_of, plain_of, is_suffix, is_octal_or_hexadecimal, last_or, greatest_of, constant_type, within_limit, digits_in, constant_lexeme}
 use Rattle.c_tokens.specs.Constants.{IsDigitOf, figure, small_letter, capital_letter, IsNumber, number_end, number_more, IsInteger, decimal, octal, hexadecimal, IsConstant, without_suffix, with_suffix}
 
 abbrev is_small : ℕ → Bool
@@ -234,36 +234,36 @@ greatest-plain run h = ap (λ (x : Bool). if x || is_octal_or_hexadecimal run th
 greatest-suffixed : (run : List ℕ) → is_suffix (last_or 0 run) ≡ true → greatest_of run ≡ 4294967295
 greatest-suffixed run h = ap (λ (x : Bool). if x || is_octal_or_hexadecimal run then 4294967295 else 2147483647) h
 
-abbrev plain_kind : ℕ → Kind
-plain_kind v = if nat_lt 2147483647 v then UnsignedInt else SignedInt
+abbrev plain_type : ℕ → IntegerType
+plain_type v = if nat_lt 2147483647 v then UnsignedInt else SignedInt
 
-kind-plain : (run : List ℕ) (v : ℕ) → is_suffix (last_or 0 run) ≡ false → kind_of run v ≡ plain_kind v
-kind-plain run v h = ap (λ (x : Bool). if x || nat_lt 2147483647 v then UnsignedInt else SignedInt) h
+type-plain : (run : List ℕ) (v : ℕ) → is_suffix (last_or 0 run) ≡ false → constant_type run v ≡ plain_type v
+type-plain run v h = ap (λ (x : Bool). if x || nat_lt 2147483647 v then UnsignedInt else SignedInt) h
 
-kind-suffixed : (run : List ℕ) (v : ℕ) → is_suffix (last_or 0 run) ≡ true → kind_of run v ≡ UnsignedInt
-kind-suffixed run v h = ap (λ (x : Bool). if x || nat_lt 2147483647 v then UnsignedInt else SignedInt) h
+type-suffixed : (run : List ℕ) (v : ℕ) → is_suffix (last_or 0 run) ≡ true → constant_type run v ≡ UnsignedInt
+type-suffixed run v h = ap (λ (x : Bool). if x || nat_lt 2147483647 v then UnsignedInt else SignedInt) h
 
-abbrev numeral : List ℕ → ℕ → Kind → Lexeme
-numeral run v k = Numeral (record { value = v; kind = k }) (length run)
+abbrev numeral : List ℕ → ℕ → IntegerType → Lexeme
+numeral run v k = Numeral (record { value = v; integer_type = k }) (length run)
 
 -- from the parts that the code computes
-lexeme-is : (run digits : List ℕ) (limit v : ℕ) (k : Kind) → greatest_of run ≡ limit → digits_in run ≡ digits → plain_of digits ≡ Some v → v ≤ limit → kind_of run v ≡ k → constant_lexeme run ≡ numeral run v k
+lexeme-is : (run digits : List ℕ) (limit v : ℕ) (k : IntegerType) → greatest_of run ≡ limit → digits_in run ≡ digits → plain_of digits ≡ Some v → v ≤ limit → constant_type run v ≡ k → constant_lexeme run ≡ numeral run v k
 lexeme-is run digits limit v k e f g le h =
     ap (λ (n : ℕ). within_limit run n (plain_of (digits_in run))) e ∙ ap (λ (x : List ℕ). within_limit run limit (plain_of x)) f
-    ∙ ap (λ (x : Option ℕ). within_limit run limit x) g ∙ ap (λ (x : Bool). if x then numeral run v (kind_of run v) else NoConstant) (within-true v limit le) ∙ ap (numeral run v) h
+    ∙ ap (λ (x : Option ℕ). within_limit run limit x) g ∙ ap (λ (x : Bool). if x then numeral run v (constant_type run v) else NoConstant) (within-true v limit le) ∙ ap (numeral run v) h
 
 -- a constant is found
 pub constant-of : {run : List ℕ} {c : Literal} → IsConstant run c → constant_lexeme run ≡ Numeral c (length run)
 constant-of (without_suffix {digits = digits} {greatest = greatest} {v = v} integer le) =
     let plain = integer-not-suffix integer in
     let value = integer-value integer in
-    lexeme-is digits digits greatest v (plain_kind v) (greatest-plain digits plain ∙ value.1) (ap (λ (x : Bool). if x then take (length digits - 1) digits else digits) plain) value.0 le (kind-plain digits v plain)
+    lexeme-is digits digits greatest v (plain_type v) (greatest-plain digits plain ∙ value.1) (ap (λ (x : Bool). if x then take (length digits - 1) digits else digits) plain) value.0 le (type-plain digits v plain)
 constant-of (with_suffix {digits = digits} {v = v} {u = u} integer le suffix) =
     let run : List ℕ = digits ++ u ∷ [] in
     let last : is_suffix (last_or 0 (digits ++ u ∷ [])) ≡ true = ap is_suffix (last-behind 0 u digits) ∙ is-suffix u suffix in
     let value = integer-value integer in
     lexeme-is (digits ++ u ∷ []) digits 4294967295 v UnsignedInt (greatest-suffixed (digits ++ u ∷ []) last)
-    (ap (λ (x : Bool). if x then take (length (digits ++ u ∷ []) - 1) (digits ++ u ∷ []) else digits ++ u ∷ []) last ∙ without-last u digits) value.0 le (kind-suffixed (digits ++ u ∷ []) v last)
+    (ap (λ (x : Bool). if x then take (length (digits ++ u ∷ []) - 1) (digits ++ u ∷ []) else digits ++ u ∷ []) last ∙ without-last u digits) value.0 le (type-suffixed (digits ++ u ∷ []) v last)
 
 -- what is found is a constant
 pub data Known (run : List ℕ) : Type 0 where
@@ -280,7 +280,7 @@ known run some = by-suffix (is_suffix (last_or 0 run)) refl
     beyond : (digits : List ℕ) (limit v : ℕ) → greatest_of run ≡ limit → digits_in run ≡ digits → plain_of digits ≡ Some v → nat_le v limit ≡ false → constant_lexeme run ≡ NoConstant
     beyond digits limit v e f g h =
         ap (λ (n : ℕ). within_limit run n (plain_of (digits_in run))) e ∙ ap (λ (x : List ℕ). within_limit run limit (plain_of x)) f
-        ∙ ap (λ (x : Option ℕ). within_limit run limit x) g ∙ ap (λ (x : Bool). if x then numeral run v (kind_of run v) else NoConstant) h
+        ∙ ap (λ (x : Option ℕ). within_limit run limit x) g ∙ ap (λ (x : Bool). if x then numeral run v (constant_type run v) else NoConstant) h
 
     without : is_suffix (last_or 0 run) ≡ false → (x : Option ℕ) → plain_of run ≡ x → Known run
     without plain None g = is_none (none-of run (greatest_plain run) (greatest-plain run plain) (ap (λ (x : Bool). if x then take (length run - 1) run else run) plain) g)
@@ -291,8 +291,8 @@ known run some = by-suffix (is_suffix (last_or 0 run)) refl
 
         at : (x : Bool) → nat_le v (greatest_plain run) ≡ x → Known run
         at true h =
-            is_constant (record { value = v; kind = plain_kind v })
-            (lexeme-is run run (greatest_plain run) v (plain_kind v) (greatest-plain run plain) same g (within-is v (greatest_plain run) h) (kind-plain run v plain))
+            is_constant (record { value = v; integer_type = plain_type v })
+            (lexeme-is run run (greatest_plain run) v (plain_type v) (greatest-plain run plain) same g (within-is v (greatest_plain run) h) (type-plain run v plain))
             (without_suffix (value-integer run v g) (within-is v (greatest_plain run) h))
         at false h = is_none (beyond run (greatest_plain run) v (greatest-plain run plain) same g h)
 
@@ -305,9 +305,9 @@ known run some = by-suffix (is_suffix (last_or 0 run)) refl
 
         by : (v : ℕ) → plain_of digits ≡ Some v → (x : Bool) → nat_le v 4294967295 ≡ x → Known run
         by v g true h =
-            let P : List ℕ → Type 0 = λ x. IsConstant x (record { value = v; kind = UnsignedInt }) in
-            is_constant (record { value = v; kind = UnsignedInt })
-            (lexeme-is run digits 4294967295 v UnsignedInt (greatest-suffixed run last) digits-are g (within-is v 4294967295 h) (kind-suffixed run v last))
+            let P : List ℕ → Type 0 = λ x. IsConstant x (record { value = v; integer_type = UnsignedInt }) in
+            is_constant (record { value = v; integer_type = UnsignedInt })
+            (lexeme-is run digits 4294967295 v UnsignedInt (greatest-suffixed run last) digits-are g (within-is v 4294967295 h) (type-suffixed run v last))
             (subst P (sym apart) (with_suffix (value-integer digits v g) (within-is v 4294967295 h) (suffix-is (last_or 0 run) last)))
         by v g false h = is_none (beyond digits 4294967295 v (greatest-suffixed run last) digits-are g h)
 

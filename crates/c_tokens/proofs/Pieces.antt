@@ -9,7 +9,7 @@ use Rattle.c_tokens.proofs.Numbers.{Known, is_constant, is_none, known, constant
 use Rattle.c_tokens.specs.Lexing.{is_space, is_letter, is_digit, is_front, signs, keywords, word_lexeme}
 use Rattle.c_tokens.specs.Digits.{constant_lexeme}
 use Rattle.c_tokens.specs.Fronts.{lexeme_of}
-use Rattle.c_tokens.specs.Pieces.{word_end, IsRun, run_end, run_more, IsClosed, IsOpen, spelled, comment_meaning, IsPiece, a_space, a_word, a_constant, no_constant, an_operator, an_unused_operator, a_line, a_comment, an_open_comment, a_stray_byte, IsNext, at_end, at_piece}
+use Rattle.c_tokens.specs.Pieces.{word_end, IsRun, run_end, run_more, IsClosed, IsOpen, entry_in, closed_comment, IsPiece, a_space, a_word, a_constant, no_constant, an_operator, an_unused_operator, a_line, a_comment, an_open_comment, a_stray_byte, IsNext, at_end, at_piece}
 use Rattle.c_tokens.proofs.Shapes as Shapes
 use Rattle.c_tokens.proofs.Shapes.{IsShape, IsLongestShape, IsShapeNext, closed_meaning, operator_meaning, or_operator, or_comment, or_number, or_word, meaning_of}
 use Rattle.c_tokens.proofs.Finding.{space-letter, space-digit, letter-digit, digit-goes, closed-length, open-length, operator-begins, plain-meaning, Plain, found-shape, shape-once}
@@ -33,7 +33,7 @@ number-is b bs h =
     ∙ ap (λ (x : Bool). if x then word_lexeme keywords (b ∷ bs) else or_number b bs) (is-false (is_letter b) (λ s. letter-digit b s h))
     ∙ ap (λ (x : Bool). if x then constant_lexeme (b ∷ bs) else or_comment b bs) h
 
-operator-is : (o : List ℕ) (m : Option Mark) → spelled signs o ≡ Some m → meaning_of o ≡ operator_meaning o (Some m)
+operator-is : (o : List ℕ) (m : Option Mark) → entry_in signs o ≡ Some m → meaning_of o ≡ operator_meaning o (Some m)
 operator-is [] m h = cc
 operator-is (b ∷ bs) m h =
     let g = operator-begins b bs m h in
@@ -43,13 +43,13 @@ operator-is (b ∷ bs) m h =
 two-more : (a b : ℕ) (bs : List ℕ) → length (a ∷ b ∷ bs) ≡ length bs + 2
 two-more a b bs = omega arith
 
-line-is : (bs : List ℕ) → meaning_of (47 ∷ 47 ∷ bs) ≡ comment_meaning (length bs + 2) bs
-line-is bs = ap (λ (n : ℕ). comment_meaning n bs) (two-more 47 47 bs)
+line-is : (bs : List ℕ) → meaning_of (47 ∷ 47 ∷ bs) ≡ closed_comment (length bs + 2) bs
+line-is bs = ap (λ (n : ℕ). closed_comment n bs) (two-more 47 47 bs)
 
-comment-is : (bs : List ℕ) → IsClosed bs → meaning_of (47 ∷ 42 ∷ bs) ≡ comment_meaning (length bs + 2) bs
+comment-is : (bs : List ℕ) → IsClosed bs → meaning_of (47 ∷ 42 ∷ bs) ≡ closed_comment (length bs + 2) bs
 comment-is bs c =
     let q = closed-length bs c in
-    ap (closed_meaning (length (47 ∷ 42 ∷ bs)) bs) q.1 ∙ ap (λ (n : ℕ). comment_meaning n bs) (two-more 47 42 bs)
+    ap (closed_meaning (length (47 ∷ 42 ∷ bs)) bs) q.1 ∙ ap (λ (n : ℕ). closed_comment n bs) (two-more 47 42 bs)
 
 open-is : (bs : List ℕ) → IsOpen bs → meaning_of (47 ∷ 42 ∷ bs) ≡ Refused 0
 open-is bs c = ap (closed_meaning (length (47 ∷ 42 ∷ bs)) bs) (open-length bs c)
@@ -62,7 +62,7 @@ no-front a c b = go (nat_eq a b)
     go true = refl
     go false = refl
 
-stray-is : (b : ℕ) → is_space b ≡ false → is_letter b ≡ false → is_digit b ≡ false → spelled signs (b ∷ []) ≡ None → meaning_of (b ∷ []) ≡ Refused 0
+stray-is : (b : ℕ) → is_space b ≡ false → is_letter b ≡ false → is_digit b ≡ false → entry_in signs (b ∷ []) ≡ None → meaning_of (b ∷ []) ≡ Refused 0
 stray-is b s l d n =
     let p : Plain b [] = record { space = s; letter = l; digit = d; comment = no-front 47 42 b; line = no-front 47 47 b } in
     plain-meaning b [] p ∙ ap (operator_meaning (b ∷ [])) n
@@ -70,7 +70,7 @@ stray-is b s l d n =
 along : {xs : List ℕ} {l : Lexeme} → meaning_of xs ≡ l → IsPiece xs l → IsPiece xs (meaning_of xs)
 along {xs = xs} e p = subst (λ (x : Lexeme). IsPiece xs x) (sym e) p
 
-operator-piece : (o : List ℕ) (m : Option Mark) → spelled signs o ≡ Some m → IsPiece o (meaning_of o)
+operator-piece : (o : List ℕ) (m : Option Mark) → entry_in signs o ≡ Some m → IsPiece o (meaning_of o)
 operator-piece o None h = along (operator-is o None h) (an_unused_operator h)
 operator-piece o (Some m) h = along (operator-is o (Some m) h) (an_operator h)
 
@@ -94,13 +94,13 @@ none-is b bs none = by (known (b ∷ bs) (omega arith))
 byte-piece : (b : ℕ) → IsPiece (b ∷ []) (meaning_of (b ∷ []))
 byte-piece b = by-space (is_space b) refl
   where
-    by-spelling : is_space b ≡ false → is_letter b ≡ false → is_digit b ≡ false → (x : Option (Option Mark)) → spelled signs (b ∷ []) ≡ x → IsPiece (b ∷ []) (meaning_of (b ∷ []))
+    by-spelling : is_space b ≡ false → is_letter b ≡ false → is_digit b ≡ false → (x : Option (Option Mark)) → entry_in signs (b ∷ []) ≡ x → IsPiece (b ∷ []) (meaning_of (b ∷ []))
     by-spelling s l d None h = along (stray-is b s l d h) (a_stray_byte s l d h)
     by-spelling s l d (Some m) h = operator-piece (b ∷ []) m h
 
     by-digit : is_space b ≡ false → is_letter b ≡ false → (x : Bool) → is_digit b ≡ x → IsPiece (b ∷ []) (meaning_of (b ∷ []))
     by-digit s l true h = number-piece b [] h (run_more (digit-goes b h) run_end)
-    by-digit s l false h = by-spelling s l h (spelled signs (b ∷ [])) refl
+    by-digit s l false h = by-spelling s l h (entry_in signs (b ∷ [])) refl
 
     by-letter : is_space b ≡ false → (x : Bool) → is_letter b ≡ x → IsPiece (b ∷ []) (meaning_of (b ∷ []))
     by-letter s true h = along (word-is b [] h) (a_word h word_end)

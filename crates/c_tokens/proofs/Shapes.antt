@@ -5,14 +5,14 @@ use Rattle.c_tokens.specs.declared.lexer.Lexeme.{Lexeme}
 use Rattle.c_tokens.specs.declared.lexer.Lexeme.TheVariants.{End, Separator, Sign, Refused}
 use Rattle.c_tokens.specs.Lexing.{is_space, is_letter, is_digit, is_front, signs, keywords, word_lexeme, comment_length}
 use Rattle.c_tokens.specs.Digits.{constant_lexeme}
-use Rattle.c_tokens.specs.Pieces.{IsWord, IsRun, IsLine, IsOpen, IsClosed, spelled, comment_meaning}
+use Rattle.c_tokens.specs.Pieces.{IsWord, IsRun, IsLine, IsOpen, IsClosed, entry_in, closed_comment}
 
 -- a comment that isn't closed is a piece too, which is refused
 pub data IsShape : List ℕ → Type 0 where
   a_byte : {b : ℕ} → IsShape (b ∷ [])
   a_word : {b : ℕ} {bs : List ℕ} → is_letter b ≡ true → IsWord bs → IsShape (b ∷ bs)
   a_number : {b : ℕ} {bs : List ℕ} → is_digit b ≡ true → IsRun false (b ∷ bs) → IsShape (b ∷ bs)
-  an_operator : {o : List ℕ} {m : Option Mark} → spelled signs o ≡ Some m → IsShape o
+  an_operator : {o : List ℕ} {m : Option Mark} → entry_in signs o ≡ Some m → IsShape o
   a_line : {bs : List ℕ} → IsLine bs → IsShape (47 ∷ 47 ∷ bs)
   a_comment : {bs : List ℕ} → IsClosed bs → IsShape (47 ∷ 42 ∷ bs)
   an_open_comment : {bs : List ℕ} → IsOpen bs → IsShape (47 ∷ 42 ∷ bs)
@@ -26,7 +26,7 @@ pub record IsLongestShape (bs : List ℕ) (n : ℕ) : Type 0 where
 -- what pieces are, tested in this order: a space, a word, a number, a comment, a comment to the end of its line, an operator
 abbrev pub closed_meaning : ℕ → List ℕ → Option ℕ → Lexeme
 closed_meaning n inside None = Refused 0
-closed_meaning n inside (Some k) = comment_meaning n inside
+closed_meaning n inside (Some k) = closed_comment n inside
 
 abbrev pub operator_meaning : List ℕ → Option (Option Mark) → Lexeme
 operator_meaning o None = Refused 0
@@ -34,10 +34,10 @@ operator_meaning o (Some None) = Refused 0
 operator_meaning o (Some (Some m)) = Sign m (length o)
 
 abbrev pub or_operator : ℕ → List ℕ → Lexeme
-or_operator b bs = operator_meaning (b ∷ bs) (spelled signs (b ∷ bs))
+or_operator b bs = operator_meaning (b ∷ bs) (entry_in signs (b ∷ bs))
 
 abbrev pub or_line : ℕ → List ℕ → Lexeme
-or_line b bs = if is_front (47 ∷ 47 ∷ []) (b ∷ bs) then comment_meaning (length (b ∷ bs)) (drop 1 bs) else or_operator b bs
+or_line b bs = if is_front (47 ∷ 47 ∷ []) (b ∷ bs) then closed_comment (length (b ∷ bs)) (drop 1 bs) else or_operator b bs
 
 abbrev pub or_comment : ℕ → List ℕ → Lexeme
 or_comment b bs = if is_front (47 ∷ 42 ∷ []) (b ∷ bs) then closed_meaning (length (b ∷ bs)) (drop 1 bs) (comment_length (drop 1 bs)) else or_line b bs

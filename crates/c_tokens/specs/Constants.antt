@@ -1,6 +1,6 @@
 -- Constants (C99 6.4.4.1): decimal, octal or hexadecimal digits, with the suffix `u` or without.
 use Rattle.std.specs.Prelude.{◌≡◌, ◌⊎◌, ◌+◌, ◌*◌, ◌-◌, ◌<◌, ◌≤◌, ℕ, List, [], ◌∷◌, ◌++◌, false, nat_eq, nat_lt, if◌then◌else◌}
-use Rattle.c_tokens.specs.declared.token.Kind.TheVariants.{SignedInt, UnsignedInt}
+use Rattle.c_tokens.specs.declared.token.IntegerType.TheVariants.{SignedInt, UnsignedInt}
 use Rattle.c_tokens.specs.declared.token.Literal.{Literal}
 
 -- a byte is a digit of a base, with this value: `0` to `9`, `a` to `f`, `A` to `F`
@@ -23,6 +23,6 @@ pub data IsInteger : List ℕ → (greatest : ℕ) → ℕ → Type 0 where
 -- without a suffix an `int`, or where `int` can't hold the value an `unsigned int`; with `u` or `U` an `unsigned int`
 pub data IsConstant : List ℕ → Literal → Type 0 where
   without_suffix : {digits : List ℕ} {greatest v : ℕ} → IsInteger digits greatest v → v ≤ greatest →
-      IsConstant digits (record { value = v; kind = if nat_lt 2147483647 v then UnsignedInt else SignedInt })
+      IsConstant digits (record { value = v; integer_type = if nat_lt 2147483647 v then UnsignedInt else SignedInt })
   with_suffix : {digits : List ℕ} {greatest v u : ℕ} → IsInteger digits greatest v → v ≤ 4294967295 → (u ≡ 117) ⊎ (u ≡ 85) →
-      IsConstant (digits ++ u ∷ []) (record { value = v; kind = UnsignedInt })
+      IsConstant (digits ++ u ∷ []) (record { value = v; integer_type = UnsignedInt })

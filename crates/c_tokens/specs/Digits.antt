@@ -1,7 +1,7 @@
 -- How the constant that a run of digits is can be computed: words of private functions.
 use Rattle.std.specs.Prelude.{◌+◌, ◌*◌, ◌-◌, ℕ, List, [], ◌∷◌, length, take, Bool, false, nat_eq, nat_le, nat_lt, ◌&&◌, ◌||◌, if◌then◌else◌, Option, Some, None}
-use Rattle.c_tokens.specs.declared.token.Kind.{Kind}
-use Rattle.c_tokens.specs.declared.token.Kind.TheVariants.{SignedInt, UnsignedInt}
+use Rattle.c_tokens.specs.declared.token.IntegerType.{IntegerType}
+use Rattle.c_tokens.specs.declared.token.IntegerType.TheVariants.{SignedInt, UnsignedInt}
 use Rattle.c_tokens.specs.declared.lexer.Lexeme.{Lexeme}
 use Rattle.c_tokens.specs.declared.lexer.Lexeme.TheVariants.{Numeral, NoConstant}
 use Rattle.c_tokens.specs.Lexing.{is_digit}
@@ -43,12 +43,12 @@ abbrev pub greatest_of : List ℕ → ℕ
 greatest_of run = if is_suffix (last_or 0 run) || is_octal_or_hexadecimal run then 4294967295 else 2147483647
 
 -- the type of a constant: with a suffix, or where `int` can't hold it, it is unsigned
-abbrev pub kind_of : List ℕ → ℕ → Kind
-kind_of run v = if is_suffix (last_or 0 run) || nat_lt 2147483647 v then UnsignedInt else SignedInt
+abbrev pub constant_type : List ℕ → ℕ → IntegerType
+constant_type run v = if is_suffix (last_or 0 run) || nat_lt 2147483647 v then UnsignedInt else SignedInt
 
 abbrev pub within_limit : List ℕ → ℕ → Option ℕ → Lexeme
 within_limit run limit None = NoConstant
-within_limit run limit (Some v) = if nat_le v limit then Numeral (record { value = v; kind = kind_of run v }) (length run) else NoConstant
+within_limit run limit (Some v) = if nat_le v limit then Numeral (record { value = v; integer_type = constant_type run v }) (length run) else NoConstant
 
 -- a constant without its suffix
 abbrev pub digits_in : List ℕ → List ℕ

@@ -2,7 +2,7 @@
 use Rattle.std.specs.Prelude.{ℕ, suc, List, [], ◌∷◌, length, Bool, true, false, nat_eq, nat_le, ◌&&◌, ◌||◌, if◌then◌else◌, Option, Some, None, codes}
 use Rattle.c_tokens.specs.declared.token.JumpWord.TheVariants.{Break, Continue, Return}
 use Rattle.c_tokens.specs.declared.token.Mark.{Mark}
-use Rattle.c_tokens.specs.declared.token.Mark.TheVariants.{Int, Unsigned, Void, If, Else, While, For, Semicolon, Comma, LeftBrace, RightBrace, LeftParen, RightParen, LeftBracket, RightBracket, Assign, Question, Colon, Plus, Minus, Star, Slash, Percent, Bang, Tilde, BarBar, AndAnd, Bar, Caret, Ampersand, EqualEqual, BangEqual, Less, Greater, LessEqual, GreaterEqual, LessLess, GreaterGreater}
+use Rattle.c_tokens.specs.declared.token.Mark.TheVariants.{Int, Unsigned, Void, If, Else, While, For, Semicolon, Comma, LeftBrace, RightBrace, LeftParen, RightParen, LeftBracket, RightBracket, Assign, Question, Colon, Plus, Minus, Star, Slash, Percent, Bang, Tilde, BarBar, AndAnd, Bar, Caret, Ampersand, EqualEqual, BangEqual, LessSign, GreaterSign, LessEqual, GreaterEqual, LessLess, GreaterGreater}
 use Rattle.c_tokens.specs.declared.lexer.Lexeme.{Lexeme}
 use Rattle.c_tokens.specs.declared.lexer.Lexeme.TheVariants.{Word, Sign, Leap, Refused}
 use Rattle.c_tokens.specs.declared.keywords.Reserved.{Reserved}
@@ -53,7 +53,7 @@ signs =
     (codes "[", Some LeftBracket) ∷ (codes "]", Some RightBracket) ∷ (codes ";", Some Semicolon) ∷ (codes ",", Some Comma) ∷
     (codes "=", Some Assign) ∷ (codes "?", Some Question) ∷ (codes ":", Some Colon) ∷ (codes "||", Some BarBar) ∷ (codes "&&", Some AndAnd) ∷
     (codes "|", Some Bar) ∷ (codes "^", Some Caret) ∷ (codes "&", Some Ampersand) ∷ (codes "==", Some EqualEqual) ∷ (codes "!=", Some BangEqual) ∷
-    (codes "<", Some Less) ∷ (codes ">", Some Greater) ∷ (codes "<=", Some LessEqual) ∷ (codes ">=", Some GreaterEqual) ∷ (codes "<<", Some LessLess) ∷ (codes ">>", Some GreaterGreater) ∷
+    (codes "<", Some LessSign) ∷ (codes ">", Some GreaterSign) ∷ (codes "<=", Some LessEqual) ∷ (codes ">=", Some GreaterEqual) ∷ (codes "<<", Some LessLess) ∷ (codes ">>", Some GreaterGreater) ∷
     (codes "+", Some Plus) ∷ (codes "-", Some Minus) ∷ (codes "*", Some Star) ∷ (codes "/", Some Slash) ∷ (codes "%", Some Percent) ∷ (codes "~", Some Tilde) ∷ (codes "!", Some Bang) ∷
     (codes "++", None) ∷ (codes "--", None) ∷ (codes "+=", None) ∷ (codes "-=", None) ∷ (codes "*=", None) ∷ (codes "/=", None) ∷ (codes "%=", None) ∷
     (codes "<<=", None) ∷ (codes ">>=", None) ∷ (codes "&=", None) ∷ (codes "|=", None) ∷ (codes "^=", None) ∷ (codes "->", None) ∷ (codes ".", None) ∷

@@ -33,13 +33,13 @@ pub data IsClosed : List ℕ → Type 0 where
   closed_later : {b : ℕ} {bs : List ℕ} → is_front (42 ∷ 47 ∷ []) (b ∷ bs) ≡ false → IsClosed bs → IsClosed (b ∷ bs)
 
 -- what a table has for some bytes
-abbrev pub spelled : List (List ℕ × Option Mark) → List ℕ → Option (Option Mark)
-spelled [] o = None
-spelled (e ∷ es) o = if same_bytes e.0 o then Some e.1 else spelled es o
+abbrev pub entry_in : List (List ℕ × Option Mark) → List ℕ → Option (Option Mark)
+entry_in [] o = None
+entry_in (e ∷ es) o = if same_bytes e.0 o then Some e.1 else entry_in es o
 
 -- a comment is a separator, and refused where a backslash or two question marks in a row stand in it
-abbrev pub comment_meaning : ℕ → List ℕ → Lexeme
-comment_meaning n inside = elim (escape_at inside) [ None ↦ Separator n | Some k ↦ Refused (k + 2) ]
+abbrev pub closed_comment : ℕ → List ℕ → Lexeme
+closed_comment n inside = elim (escape_at inside) [ None ↦ Separator n | Some k ↦ Refused (k + 2) ]
 
 -- the pieces, and what each of them is; a comment that isn't closed is a piece too, and so is a byte that begins no other
 pub data IsPiece : List ℕ → Lexeme → Type 0 where
@@ -47,12 +47,12 @@ pub data IsPiece : List ℕ → Lexeme → Type 0 where
   a_word : {b : ℕ} {bs : List ℕ} → is_letter b ≡ true → IsWord bs → IsPiece (b ∷ bs) (word_lexeme keywords (b ∷ bs))
   a_constant : {b : ℕ} {bs : List ℕ} {c : Literal} → is_digit b ≡ true → IsRun false (b ∷ bs) → IsConstant (b ∷ bs) c → IsPiece (b ∷ bs) (Numeral c (length (b ∷ bs)))
   no_constant : {b : ℕ} {bs : List ℕ} → is_digit b ≡ true → IsRun false (b ∷ bs) → ((c : Literal) → IsConstant (b ∷ bs) c → ⊥) → IsPiece (b ∷ bs) NoConstant
-  an_operator : {o : List ℕ} {m : Mark} → spelled signs o ≡ Some (Some m) → IsPiece o (Sign m (length o))
-  an_unused_operator : {o : List ℕ} → spelled signs o ≡ Some None → IsPiece o (Refused 0)
-  a_line : {bs : List ℕ} → IsLine bs → IsPiece (47 ∷ 47 ∷ bs) (comment_meaning (length bs + 2) bs)
-  a_comment : {bs : List ℕ} → IsClosed bs → IsPiece (47 ∷ 42 ∷ bs) (comment_meaning (length bs + 2) bs)
+  an_operator : {o : List ℕ} {m : Mark} → entry_in signs o ≡ Some (Some m) → IsPiece o (Sign m (length o))
+  an_unused_operator : {o : List ℕ} → entry_in signs o ≡ Some None → IsPiece o (Refused 0)
+  a_line : {bs : List ℕ} → IsLine bs → IsPiece (47 ∷ 47 ∷ bs) (closed_comment (length bs + 2) bs)
+  a_comment : {bs : List ℕ} → IsClosed bs → IsPiece (47 ∷ 42 ∷ bs) (closed_comment (length bs + 2) bs)
   an_open_comment : {bs : List ℕ} → IsOpen bs → IsPiece (47 ∷ 42 ∷ bs) (Refused 0)
-  a_stray_byte : {b : ℕ} → is_space b ≡ false → is_letter b ≡ false → is_digit b ≡ false → spelled signs (b ∷ []) ≡ None → IsPiece (b ∷ []) (Refused 0)
+  a_stray_byte : {b : ℕ} → is_space b ≡ false → is_letter b ≡ false → is_digit b ≡ false → entry_in signs (b ∷ []) ≡ None → IsPiece (b ∷ []) (Refused 0)
 
 -- the longest front of the bytes that is a piece has this length, and is this
 pub record IsLongest (bs : List ℕ) (n : ℕ) (l : Lexeme) : Type 0 where

@@ -12,6 +12,6 @@ bytes_of (Three a b c) = a ∷ b ∷ c ∷ []
 abbrev pub entry_of : Spelling × Option Mark → List ℕ × Option Mark
 entry_of e = (bytes_of e.0, e.1)
 
-abbrev pub shown : Option (Spelling × Option Mark) → Option (List ℕ × Option Mark)
-shown None = None
-shown (Some e) = Some (entry_of e)
+abbrev pub maybe_entry_of : Option (Spelling × Option Mark) → Option (List ℕ × Option Mark)
+maybe_entry_of None = None
+maybe_entry_of (Some e) = Some (entry_of e)

@@ -1,11 +1,11 @@
 ghost use Rattle.std.specs.Prelude.{◌≡◌, ◌<◌, ◌≤◌, ◌^◌, length, take, false};
-ghost use Rattle.c_tokens.specs.Digits.{kind_of, constant_lexeme, digit_of, digits_of, up_to, is_suffix, plain_of, digits_in, last_or, greatest_of};
+ghost use Rattle.c_tokens.specs.Digits.{constant_type, constant_lexeme, digit_of, digits_of, up_to, is_suffix, plain_of, digits_in, last_or, greatest_of};
 ghost use Rattle.c_tokens.specs.Fronts.{run_length};
 ghost use Rattle.c_tokens.specs.Texts.{Fits};
 
 use crate::lexer::Lexeme;
 use crate::scan::{is_digit, run_length, split};
-use crate::token::{Kind, Literal};
+use crate::token::{IntegerType, Literal};
 
 /// A constant.
 pub fn constant(text: &[u8]) -> Lexeme
@@ -26,7 +26,7 @@ fn constant_of(run: &[u8]) -> Lexeme
         Some(value) => Lexeme::Numeral(
             Literal {
                 value,
-                kind: constant_kind(run, value),
+                integer_type: constant_type(run, value),
             },
             run.len(),
         ),
@@ -34,14 +34,14 @@ fn constant_of(run: &[u8]) -> Lexeme
     }
 }
 
-fn constant_kind(run: &[u8], value: u32) -> Kind
+fn constant_type(run: &[u8], value: u32) -> IntegerType
     requires { 0 < length run.now }
-    ensures { result ≡ kind_of run.now value }
+    ensures { result ≡ constant_type run.now value }
 {
     if is_suffixed(run) || value > 2147483647 {
-        Kind::UnsignedInt
+        IntegerType::UnsignedInt
     } else {
-        Kind::SignedInt
+        IntegerType::SignedInt
     }
 }
 

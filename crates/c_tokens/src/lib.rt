@@ -16,4 +16,4 @@ mod sizes;
 mod token;
 
 pub use lexer::{LexFault, Refusal, lex, one_lexing};
-pub use token::{Identifier, JumpWord, Kind, Literal, Mark, Token};
+pub use token::{Identifier, IntegerType, JumpWord, Literal, Mark, Token};

@@ -1,7 +1,7 @@
 ghost use Rattle.std.specs.Prelude.{◌≡◌, ◌<◌, ◌≤◌, length, map, Some};
 ghost use Rattle.c_tokens.specs.Lexing.{is_front, signs};
 ghost use Rattle.c_tokens.specs.Fronts.{beginning, longest, longer, sign_lexeme};
-ghost use Rattle.c_tokens.specs.Spellings.{bytes_of, entry_of, shown};
+ghost use Rattle.c_tokens.specs.Spellings.{bytes_of, entry_of, maybe_entry_of};
 ghost use Rattle.c_tokens.specs.Texts.{Fits};
 
 use crate::lexer::Lexeme;
@@ -70,14 +70,14 @@ const BANG: [Entry; 2] = [
 ];
 
 const LESS: [Entry; 4] = [
-    (Spelling::One(b'<'), Some(Mark::Less)),
+    (Spelling::One(b'<'), Some(Mark::LessSign)),
     (Spelling::Two(b'<', b'='), Some(Mark::LessEqual)),
     (Spelling::Two(b'<', b'<'), Some(Mark::LessLess)),
     (Spelling::Three(b'<', b'<', b'='), None),
 ];
 
 const GREATER: [Entry; 4] = [
-    (Spelling::One(b'>'), Some(Mark::Greater)),
+    (Spelling::One(b'>'), Some(Mark::GreaterSign)),
     (Spelling::Two(b'>', b'='), Some(Mark::GreaterEqual)),
     (Spelling::Two(b'>', b'>'), Some(Mark::GreaterGreater)),
     (Spelling::Three(b'>', b'>', b'='), None),
@@ -184,7 +184,7 @@ fn length_of(spelling: Spelling) -> usize
 }
 
 fn longer(entry: Entry, best: Option<Entry>) -> Entry
-    ensures { entry_of result ≡ longer (entry_of entry) (shown best) }
+    ensures { entry_of result ≡ longer (entry_of entry) (maybe_entry_of best) }
 {
     match best {
         None => entry,
@@ -200,7 +200,7 @@ fn longer(entry: Entry, best: Option<Entry>) -> Entry
 
 /// The longest spelling of a table that stands at the front.
 fn longest(table: &[Entry], text: &[u8]) -> Option<Entry>
-    ensures { shown result ≡ longest (map entry_of table.now) text.now }
+    ensures { maybe_entry_of result ≡ longest (map entry_of table.now) text.now }
 {
     let mut best = None;
     let mut i = table.len();
@@ -216,7 +216,7 @@ fn longest(table: &[Entry], text: &[u8]) -> Option<Entry>
 
 /// The longest operator or bracket at the front.
 fn operator(text: &[u8]) -> Option<Entry>
-    ensures { shown result ≡ longest signs text.now }
+    ensures { maybe_entry_of result ≡ longest signs text.now }
 {
     let (first, _) = split(text)?;
     longest(beginning(first), text)

@@ -7,7 +7,7 @@ pub struct Identifier {
 
 /// The type of a constant or a variable: `int` or `unsigned int`.
 #[derive(Clone, Copy, PartialEq, Eq)]
-pub enum Kind {
+pub enum IntegerType {
     SignedInt,
     UnsignedInt,
 }
@@ -16,7 +16,7 @@ pub enum Kind {
 #[derive(Clone, Copy, PartialEq, Eq)]
 pub struct Literal {
     pub value: u32,
-    pub kind: Kind,
+    pub integer_type: IntegerType,
 }
 
 /// A keyword that leaves a place in the tree.
@@ -62,8 +62,8 @@ pub enum Mark {
     Ampersand,
     EqualEqual,
     BangEqual,
-    Less,
-    Greater,
+    LessSign,
+    GreaterSign,
     LessEqual,
     GreaterEqual,
     LessLess,

@@ -9,31 +9,31 @@ use Rattle.runs.specs.Stores.{Places, Arrays, unset_places, written, stored, IsW
 use Rattle.runs.specs.Runs.{Running, Ended, Failed, with_value}
 use Rattle.runs.proofs.Words.{at-index, unset-words, written-words, stored-words}
 use Rattle.runs.proofs.Steps.{steps-keep}
-use Rattle.c_typed.specs.declared.tree.Place.{Place}
-use Rattle.c_typed.specs.declared.tree.Place.TheVariants.{Local, Global as Variable}
+use Rattle.c_typed.specs.declared.tree.Destination.{Destination}
+use Rattle.c_typed.specs.declared.tree.Destination.TheVariants.{Local, Global as Variable}
 use Rattle.c_typed.specs.declared.tree.Global.{Global}
-use Rattle.c_typed.specs.Trees.{TypedFunction, TypedProgram, unset, assign, store, run, output, branch, loop, leave, next_turn, return_with}
+use Rattle.c_typed.specs.Trees.{TypedFunction, TypedProgram, unset, assign, store, call, output, if_else, loop, break_loop, continue_loop, return_with}
 use Rattle.c_typed.specs.Values.{value_of, values_of}
-use Rattle.c_typed.specs.Meaning.{Todo, Do, Next, Mode, Going, Breaking, Continuing, Frame, Run, before, before_all, settled, placed, arguments, called, returned, chosen, step_at, source_step, source_steps, source_start, first_words}
+use Rattle.c_typed.specs.Meaning.{Todo, Do, Next, Mode, Going, Breaking, Continuing, Frame, Run, before, before_all, next_point, with_assignment, argument_places, state_after_call, state_after_return, todo_of_test, step_at, source_step, source_steps, source_start, first_words}
 use Rattle.c_typed.specs.Laws.{FrameHoldsWords, RunHoldsWords}
 use Rattle.c_typed.proofs.Values.{value-word, values-words}
 
 none-set : (l : Places) (x : ℕ) → PlacesHoldWords l → PlacesHoldWords (written l x None)
 none-set l x h = written-words l x None h (λ v e. let never = e in cc)
 
-settled-words : (m : Mode) (l : Places) (k : List Todo) → PlacesHoldWords l → PlacesHoldWords (settled m l k).locals
-settled-words Going l [] h = h
-settled-words Breaking l [] h = h
-settled-words Continuing l [] h = h
-settled-words Going l (Do (unset x) ∷ k) h = settled-words Going (written l x None) k (none-set l x h)
-settled-words Going l (Do leave ∷ k) h = settled-words Breaking l k h
-settled-words Going l (Do next_turn ∷ k) h = settled-words Continuing l k h
-settled-words Going l (Next last again ∷ k) h = h
-settled-words Going l (Do s ∷ k) h = h
-settled-words Breaking l (Do s ∷ k) h = settled-words Breaking l k h
-settled-words Breaking l (Next last again ∷ k) h = settled-words Going l k h
-settled-words Continuing l (Do s ∷ k) h = settled-words Continuing l k h
-settled-words Continuing l (Next last again ∷ k) h = h
+next_point-words : (m : Mode) (l : Places) (k : List Todo) → PlacesHoldWords l → PlacesHoldWords (next_point m l k).locals
+next_point-words Going l [] h = h
+next_point-words Breaking l [] h = h
+next_point-words Continuing l [] h = h
+next_point-words Going l (Do (unset x) ∷ k) h = next_point-words Going (written l x None) k (none-set l x h)
+next_point-words Going l (Do break_loop ∷ k) h = next_point-words Breaking l k h
+next_point-words Going l (Do continue_loop ∷ k) h = next_point-words Continuing l k h
+next_point-words Going l (Next last again ∷ k) h = h
+next_point-words Going l (Do s ∷ k) h = h
+next_point-words Breaking l (Do s ∷ k) h = next_point-words Breaking l k h
+next_point-words Breaking l (Next last again ∷ k) h = next_point-words Going l k h
+next_point-words Continuing l (Do s ∷ k) h = next_point-words Continuing l k h
+next_point-words Continuing l (Next last again ∷ k) h = h
 
 with-words : {A : Type 0} (o : Option A) (out : List ℕ) (go : A → Run) → All IsWord out → ((a : A) → o ≡ Some a → RunHoldsWords (go a)) → RunHoldsWords (with_value o out go)
 with-words None out go h k = h
@@ -42,38 +42,38 @@ with-words (Some a) out go h k = k a refl
 running : (f : Frame) (frames : List Frame) (g : Arrays) (out : List ℕ) → PlacesHoldWords f.locals → All FrameHoldsWords frames → ArraysHoldWords g → All IsWord out → RunHoldsWords (Running (f ∷ frames) g out)
 running f frames g out a b c d = (All-cons FrameHoldsWords f frames a b, (c, d))
 
-placed-words : (to : Place) (v : ℕ) (l : Places) (g : Arrays) (out : List ℕ) (go : Places → Arrays → Run) → IsWord v → PlacesHoldWords l → ArraysHoldWords g → All IsWord out
-    → ((l : Places) (g : Arrays) → PlacesHoldWords l → ArraysHoldWords g → RunHoldsWords (go l g)) → RunHoldsWords (placed to v l g out go)
+placed-words : (to : Destination) (v : ℕ) (l : Places) (g : Arrays) (out : List ℕ) (go : Places → Arrays → Run) → IsWord v → PlacesHoldWords l → ArraysHoldWords g → All IsWord out
+    → ((l : Places) (g : Arrays) → PlacesHoldWords l → ArraysHoldWords g → RunHoldsWords (go l g)) → RunHoldsWords (with_assignment to v l g out go)
 placed-words (Local x) v l g out go w a b c k = k (written l x (Some v)) g (written-words l x (Some v) a (λ u e. subst IsWord (same_Some v u e) w)) b
 placed-words (Variable x) v l g out go w a b c k =
     with-words (stored g x 0 v) out (λ g'. go l g') c (λ g' e. k l g' a (stored-words g x 0 v g' b w e))
 
-arguments-words : (vs : List ℕ) → All IsWord vs → PlacesHoldWords (arguments vs)
+arguments-words : (vs : List ℕ) → All IsWord vs → PlacesHoldWords (argument_places vs)
 arguments-words vs h x v e = at-index IsWord vs x v h e
 
-called-words : (p : TypedProgram) (depth f : ℕ) (vs : List ℕ) (to : Option Place) (frames : List Frame) (g : Arrays) (out : List ℕ) → All IsWord vs → All FrameHoldsWords frames → ArraysHoldWords g → All IsWord out
-    → RunHoldsWords (called p depth f vs to frames g out)
+called-words : (p : TypedProgram) (depth f : ℕ) (vs : List ℕ) (to : Option Destination) (frames : List Frame) (g : Arrays) (out : List ℕ) → All IsWord vs → All FrameHoldsWords frames → ArraysHoldWords g → All IsWord out
+    → RunHoldsWords (state_after_call p depth f vs to frames g out)
 called-words p depth f vs to frames g out a b c d =
-    with-words (slice_get p.functions f) out (λ function. if nat_lt (length frames) depth then Running (record { locals = arguments vs; todo = before_all function.body []; result_to = to } ∷ frames) g out else Failed out) d
+    with-words (slice_get p.functions f) out (λ function. if nat_lt (length frames) depth then Running (record { locals = argument_places vs; todo = before_all function.body []; result_to = to } ∷ frames) g out else Failed out) d
     (λ function e. by function (nat_lt (length frames) depth))
   where
-    by : (function : TypedFunction) (t : Bool) → RunHoldsWords (if t then Running (record { locals = arguments vs; todo = before_all function.body []; result_to = to } ∷ frames) g out else Failed out)
-    by function true = running (record { locals = arguments vs; todo = before_all function.body []; result_to = to }) frames g out (arguments-words vs a) b c d
+    by : (function : TypedFunction) (t : Bool) → RunHoldsWords (if t then Running (record { locals = argument_places vs; todo = before_all function.body []; result_to = to } ∷ frames) g out else Failed out)
+    by function true = running (record { locals = argument_places vs; todo = before_all function.body []; result_to = to }) frames g out (arguments-words vs a) b c d
     by function false = d
 
-returned-words : (v : Option ℕ) (to : Option Place) (frames : List Frame) (g : Arrays) (out : List ℕ) → ((w : ℕ) → v ≡ Some w → IsWord w) → All FrameHoldsWords frames → ArraysHoldWords g → All IsWord out
-    → RunHoldsWords (returned v to frames g out)
+returned-words : (v : Option ℕ) (to : Option Destination) (frames : List Frame) (g : Arrays) (out : List ℕ) → ((w : ℕ) → v ≡ Some w → IsWord w) → All FrameHoldsWords frames → ArraysHoldWords g → All IsWord out
+    → RunHoldsWords (state_after_return v to frames g out)
 returned-words v to [] g out a b c d = with-words v out (λ w. Ended w out) d (λ w e. (a w e, d))
 returned-words v None (f ∷ frames) g out a b c d = (b, (c, d))
 returned-words v (Some place) (f ∷ frames) g out a b c d =
-    with-words v out (λ w. placed place w f.locals g out (λ l g'. Running (record { locals = l; todo = f.todo; result_to = f.result_to } ∷ frames) g' out)) d
+    with-words v out (λ w. with_assignment place w f.locals g out (λ l g'. Running (record { locals = l; todo = f.todo; result_to = f.result_to } ∷ frames) g' out)) d
     (λ w e. placed-words place w f.locals g out (λ l g'. Running (record { locals = l; todo = f.todo; result_to = f.result_to } ∷ frames) g' out) (a w e) (All-head FrameHoldsWords f frames b) c d
     (λ l g' h i. running (record { locals = l; todo = f.todo; result_to = f.result_to }) frames g' out h (All-tail FrameHoldsWords f frames b) i d))
 
-step-words : (p : TypedProgram) (depth : ℕ) (l : Places) (k : List Todo) (to : Option Place) (frames : List Frame) (g : Arrays) (out : List ℕ) → PlacesHoldWords l → All FrameHoldsWords frames → ArraysHoldWords g → All IsWord out
+step-words : (p : TypedProgram) (depth : ℕ) (l : Places) (k : List Todo) (to : Option Destination) (frames : List Frame) (g : Arrays) (out : List ℕ) → PlacesHoldWords l → All FrameHoldsWords frames → ArraysHoldWords g → All IsWord out
     → RunHoldsWords (step_at p depth l k to frames g out)
 step-words p depth l (Do (assign x e) ∷ k) to frames g out a b c d =
-    with-words (value_of e l g) out (λ v. placed x v l g out (λ l' g'. Running (record { locals = l'; todo = k; result_to = to } ∷ frames) g' out)) d
+    with-words (value_of e l g) out (λ v. with_assignment x v l g out (λ l' g'. Running (record { locals = l'; todo = k; result_to = to } ∷ frames) g' out)) d
     (λ v is. placed-words x v l g out (λ l' g'. Running (record { locals = l'; todo = k; result_to = to } ∷ frames) g' out) (value-word e l g a c v is) a c d
     (λ l' g' h i. running (record { locals = l'; todo = k; result_to = to }) frames g' out h b i d))
 step-words p depth l (Do (store x i e) ∷ k) to frames g out a b c d =
@@ -81,30 +81,30 @@ step-words p depth l (Do (store x i e) ∷ k) to frames g out a b c d =
     (λ j at. with-words (value_of e l g) out (λ v. with_value (stored g x j v) out (λ g'. Running (record { locals = l; todo = k; result_to = to } ∷ frames) g' out)) d
     (λ v is. with-words (stored g x j v) out (λ g'. Running (record { locals = l; todo = k; result_to = to } ∷ frames) g' out) d
     (λ g' w. running (record { locals = l; todo = k; result_to = to }) frames g' out a b (stored-words g x j v g' c (value-word e l g a c v is) w) d)))
-step-words p depth l (Do (run x f all) ∷ k) to frames g out a b c d =
-    with-words (values_of all l g) out (λ vs. called p depth f vs x (record { locals = l; todo = k; result_to = to } ∷ frames) g out) d
+step-words p depth l (Do (call x f all) ∷ k) to frames g out a b c d =
+    with-words (values_of all l g) out (λ vs. state_after_call p depth f vs x (record { locals = l; todo = k; result_to = to } ∷ frames) g out) d
     (λ vs is. called-words p depth f vs x (record { locals = l; todo = k; result_to = to } ∷ frames) g out (values-words all l g a c vs is)
     (All-cons FrameHoldsWords (record { locals = l; todo = k; result_to = to }) frames a b) c d)
 step-words p depth l (Do (output e) ∷ k) to frames g out a b c d =
     with-words (value_of e l g) out (λ v. Running (record { locals = l; todo = k; result_to = to } ∷ frames) g (out ++ v ∷ [])) d
     (λ v is. running (record { locals = l; todo = k; result_to = to }) frames g (out ++ v ∷ []) a b c (All-push IsWord out v d (value-word e l g a c v is)))
-step-words p depth l (Do (branch t s u) ∷ k) to frames g out a b c d =
-    with-words (value_of t l g) out (λ v. Running (record { locals = l; todo = chosen v (before s k) (before u k); result_to = to } ∷ frames) g out) d
-    (λ v is. running (record { locals = l; todo = chosen v (before s k) (before u k); result_to = to }) frames g out a b c d)
+step-words p depth l (Do (if_else t s u) ∷ k) to frames g out a b c d =
+    with-words (value_of t l g) out (λ v. Running (record { locals = l; todo = todo_of_test v (before s k) (before u k); result_to = to } ∷ frames) g out) d
+    (λ v is. running (record { locals = l; todo = todo_of_test v (before s k) (before u k); result_to = to }) frames g out a b c d)
 step-words p depth l (Do (loop t last body) ∷ k) to frames g out a b c d =
-    with-words (value_of t l g) out (λ v. Running (record { locals = l; todo = chosen v (before body (Next last (loop t last body) ∷ k)) k; result_to = to } ∷ frames) g out) d
-    (λ v is. running (record { locals = l; todo = chosen v (before body (Next last (loop t last body) ∷ k)) k; result_to = to }) frames g out a b c d)
+    with-words (value_of t l g) out (λ v. Running (record { locals = l; todo = todo_of_test v (before body (Next last (loop t last body) ∷ k)) k; result_to = to } ∷ frames) g out) d
+    (λ v is. running (record { locals = l; todo = todo_of_test v (before body (Next last (loop t last body) ∷ k)) k; result_to = to }) frames g out a b c d)
 step-words p depth l (Do (return_with None) ∷ k) to frames g out a b c d = returned-words None to frames g out (λ w e. let never = e in cc) b c d
 step-words p depth l (Do (return_with (Some e)) ∷ k) to frames g out a b c d =
-    with-words (value_of e l g) out (λ v. returned (Some v) to frames g out) d
+    with-words (value_of e l g) out (λ v. state_after_return (Some v) to frames g out) d
     (λ v is. returned-words (Some v) to frames g out (λ w same. subst IsWord (same_Some v w same) (value-word e l g a c v is)) b c d)
 step-words p depth l _ to frames g out a b c d = d
 
 pub source-step-words : (p : TypedProgram) (depth : ℕ) (s : Run) → RunHoldsWords s → RunHoldsWords (source_step p depth s)
 source-step-words p depth (Running [] g out) h = h.1.1
 source-step-words p depth (Running (f ∷ frames) g out) h =
-    step-words p depth (settled Going f.locals f.todo).locals (settled Going f.locals f.todo).todo f.result_to frames g out
-    (settled-words Going f.locals f.todo (All-head FrameHoldsWords f frames h.0)) (All-tail FrameHoldsWords f frames h.0) h.1.0 h.1.1
+    step-words p depth (next_point Going f.locals f.todo).locals (next_point Going f.locals f.todo).todo f.result_to frames g out
+    (next_point-words Going f.locals f.todo (All-head FrameHoldsWords f frames h.0)) (All-tail FrameHoldsWords f frames h.0) h.1.0 h.1.1
 source-step-words p depth (Ended w out) h = h
 source-step-words p depth (Failed out) h = h
 

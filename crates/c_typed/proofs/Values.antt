@@ -16,8 +16,8 @@ use Rattle.runs.proofs.Words.{chain-some, word-at}
 use Rattle.c_front.specs.declared.tree.UnaryOp.{UnaryOp}
 use Rattle.c_front.specs.declared.tree.UnaryOp.TheVariants.{Negate, Identity, Complement, Not}
 use Rattle.c_front.specs.declared.tree.BinaryOp.{BinaryOp}
-use Rattle.c_front.specs.declared.tree.BinaryOp.TheVariants.{Multiply, Divide, Remainder, Add, Subtract, ShiftLeft, ShiftRight, Below, Exceeds, AtMost, AtLeast, Same, Differs, BitAnd, BitXor, BitOr, Both, Either}
-use Rattle.c_typed.specs.Trees.{TypedExpression, constant, local, global, element, unary, binary, choose}
+use Rattle.c_front.specs.declared.tree.BinaryOp.TheVariants.{Multiply, Divide, Remainder, Add, Subtract, ShiftLeft, ShiftRight, Less, Greater, LessOrEqual, GreaterOrEqual, Equal, NotEqual, BitAnd, BitXor, BitOr, LogicalAnd, LogicalOr}
+use Rattle.c_typed.specs.Trees.{TypedExpression, constant, local, global, element, unary, binary, conditional}
 use Rattle.c_typed.specs.Values.{sign_of, truth, unary_of, binary_of, combined, value_of, values_of}
 
 along : (v w : ℕ) → v ≡ w → w < 2 ^ 32 → v < 2 ^ 32
@@ -41,17 +41,17 @@ binary-word Add s x y v a b e = along v _ (sum_agrees s x y v a b e) (op_words A
 binary-word Subtract s x y v a b e = along v _ (difference_agrees s x y v a b e) (op_words Subu x y a b)
 binary-word ShiftLeft s x y v a b e = along v _ (left_shift_agrees s x y v e) (op_words Sll x y a b)
 binary-word ShiftRight s x y v a b e = along v _ (right_shift_agrees s x y v e) (op_words (right_shift_operator s) x y a b)
-binary-word Below s x y v a b e = truth-word (is_below s x y) v e
-binary-word Exceeds s x y v a b e = truth-word (is_below s y x) v e
-binary-word AtMost s x y v a b e = truth-word (not (is_below s y x)) v e
-binary-word AtLeast s x y v a b e = truth-word (not (is_below s x y)) v e
-binary-word Same s x y v a b e = truth-word (x == y) v e
-binary-word Differs s x y v a b e = truth-word (not (x == y)) v e
+binary-word Less s x y v a b e = truth-word (is_below s x y) v e
+binary-word Greater s x y v a b e = truth-word (is_below s y x) v e
+binary-word LessOrEqual s x y v a b e = truth-word (not (is_below s y x)) v e
+binary-word GreaterOrEqual s x y v a b e = truth-word (not (is_below s x y)) v e
+binary-word Equal s x y v a b e = truth-word (x == y) v e
+binary-word NotEqual s x y v a b e = truth-word (not (x == y)) v e
 binary-word BitAnd s x y v a b e = let is : bit_and x y ≡ v = same_Some (bit_and x y) v e in let le = and_le_l x y in omega arith
 binary-word BitXor s x y v a b e = subst IsWord (same_Some (bit_xor x y) v e) (xor_of_32 x y a b)
 binary-word BitOr s x y v a b e = subst IsWord (same_Some (bit_or x y) v e) (or_of_32 x y a b)
-binary-word Both s x y v a b e = truth-word (not (y == 0)) v e
-binary-word Either s x y v a b e = truth-word (not (y == 0)) v e
+binary-word LogicalAnd s x y v a b e = truth-word (not (y == 0)) v e
+binary-word LogicalOr s x y v a b e = truth-word (not (y == 0)) v e
 
 -- a value that is a word, where there is one
 abbrev GivesWord : Option ℕ → Type 0
@@ -72,14 +72,14 @@ chain-word None f h = none-word
 chain-word (Some a) f h = h a refl
 
 combined-word : (o : BinaryOp) (s : Sign) (left right : Option ℕ) → GivesWord left → GivesWord right → GivesWord (combined o s left right)
-combined-word Both s left right a b =
-    chain-word left (λ x. if x == 0 then Some 0 else chain right (λ y. binary_of Both s x y))
-    (λ x e. either-word (x == 0) (Some 0) (chain right (λ y. binary_of Both s x y)) (some-word 0 (omega arith))
-    (chain-word right (λ y. binary_of Both s x y) (λ y f v. binary-word Both s x y v (a x e) (b y f))))
-combined-word Either s left right a b =
-    chain-word left (λ x. if x == 0 then chain right (λ y. binary_of Either s x y) else Some 1)
-    (λ x e. either-word (x == 0) (chain right (λ y. binary_of Either s x y)) (Some 1)
-    (chain-word right (λ y. binary_of Either s x y) (λ y f v. binary-word Either s x y v (a x e) (b y f))) (some-word 1 (omega arith)))
+combined-word LogicalAnd s left right a b =
+    chain-word left (λ x. if x == 0 then Some 0 else chain right (λ y. binary_of LogicalAnd s x y))
+    (λ x e. either-word (x == 0) (Some 0) (chain right (λ y. binary_of LogicalAnd s x y)) (some-word 0 (omega arith))
+    (chain-word right (λ y. binary_of LogicalAnd s x y) (λ y f v. binary-word LogicalAnd s x y v (a x e) (b y f))))
+combined-word LogicalOr s left right a b =
+    chain-word left (λ x. if x == 0 then chain right (λ y. binary_of LogicalOr s x y) else Some 1)
+    (λ x e. either-word (x == 0) (chain right (λ y. binary_of LogicalOr s x y)) (Some 1)
+    (chain-word right (λ y. binary_of LogicalOr s x y) (λ y f v. binary-word LogicalOr s x y v (a x e) (b y f))) (some-word 1 (omega arith)))
 combined-word o s left right a b =
     chain-word left (λ x. chain right (λ y. binary_of o s x y))
     (λ x e. chain-word right (λ y. binary_of o s x y) (λ y f v. binary-word o s x y v (a x e) (b y f)))
@@ -96,7 +96,7 @@ value-word (unary o t a) l g h k v e =
     unary-word o (sign_of t) s.0 v (value-word a l g h k s.0 s.1) s.2
 value-word (binary o t a b) l g h k v e =
     combined-word o (sign_of t) (value_of a l g) (value_of b l g) (value-word a l g h k) (value-word b l g h k) v e
-value-word (choose t c a b) l g h k v e =
+value-word (conditional t c a b) l g h k v e =
     chain-word (value_of c l g) (λ x. if x == 0 then value_of b l g else value_of a l g)
     (λ x f. either-word (x == 0) (value_of b l g) (value_of a l g) (value-word b l g h k) (value-word a l g h k)) v e
 

@@ -4,10 +4,10 @@ use Rattle.std.specs.Prelude.{ℕ, List, [], ◌∷◌, ◌++◌, Option, Some, 
 use Rattle.runs.specs.Stores.{Places, unset_places, written, Arrays, stored}
 use Rattle.runs.specs.Runs.{Outcome, State, Running, Ended, Failed, with_value, steps, outcome}
 use Rattle.words.specs.Words.{wrap}
-use Rattle.c_typed.specs.declared.tree.Place.{Place}
-use Rattle.c_typed.specs.declared.tree.Place.TheVariants.{Local, Global as Variable}
+use Rattle.c_typed.specs.declared.tree.Destination.{Destination}
+use Rattle.c_typed.specs.declared.tree.Destination.TheVariants.{Local, Global as Variable}
 use Rattle.c_typed.specs.declared.tree.Global.{Global}
-use Rattle.c_typed.specs.Trees.{TypedStatement, TypedStatements, empty, block, unset, assign, store, run, output, branch, loop, leave, next_turn, return_with, no_statements, more_statements, TypedProgram}
+use Rattle.c_typed.specs.Trees.{TypedStatement, TypedStatements, empty, block, unset, assign, store, call, output, if_else, loop, break_loop, continue_loop, return_with, no_statements, more_statements, TypedProgram}
 use Rattle.c_typed.specs.Values.{value_of, values_of}
 
 -- what is still to do: a statement, or the end of a loop's turn, where its last part comes and then the loop again
@@ -23,12 +23,12 @@ abbrev mutual
   before (unset x) k = Do (unset x) ∷ k
   before (assign x e) k = Do (assign x e) ∷ k
   before (store a i e) k = Do (store a i e) ∷ k
-  before (run to f all) k = Do (run to f all) ∷ k
+  before (call to f all) k = Do (call to f all) ∷ k
   before (output e) k = Do (output e) ∷ k
-  before (branch c a b) k = Do (branch c a b) ∷ k
+  before (if_else c a b) k = Do (if_else c a b) ∷ k
   before (loop c last body) k = Do (loop c last body) ∷ k
-  before leave k = Do leave ∷ k
-  before next_turn k = Do next_turn ∷ k
+  before break_loop k = Do break_loop ∷ k
+  before continue_loop k = Do continue_loop ∷ k
   before (return_with e) k = Do (return_with e) ∷ k
 
   pub before_all : TypedStatements → List Todo → List Todo
@@ -47,86 +47,86 @@ pub record Point : Type 0 where
   pub todo : List Todo
 
 -- on to the next statement that takes a step
-abbrev pub settled : Mode → Places → List Todo → Point
-settled m l [] = record { locals = l; todo = [] }
-settled Going l (Do (unset x) ∷ k) = settled Going (written l x None) k
-settled Going l (Do leave ∷ k) = settled Breaking l k
-settled Going l (Do next_turn ∷ k) = settled Continuing l k
-settled Going l (Next last again ∷ k) = record { locals = l; todo = before last (before again k) }
-settled Going l (Do s ∷ k) = record { locals = l; todo = Do s ∷ k }
-settled Breaking l (Do s ∷ k) = settled Breaking l k
-settled Breaking l (Next last again ∷ k) = settled Going l k
-settled Continuing l (Do s ∷ k) = settled Continuing l k
-settled Continuing l (Next last again ∷ k) = record { locals = l; todo = before last (before again k) }
+abbrev pub next_point : Mode → Places → List Todo → Point
+next_point m l [] = record { locals = l; todo = [] }
+next_point Going l (Do (unset x) ∷ k) = next_point Going (written l x None) k
+next_point Going l (Do break_loop ∷ k) = next_point Breaking l k
+next_point Going l (Do continue_loop ∷ k) = next_point Continuing l k
+next_point Going l (Next last again ∷ k) = record { locals = l; todo = before last (before again k) }
+next_point Going l (Do s ∷ k) = record { locals = l; todo = Do s ∷ k }
+next_point Breaking l (Do s ∷ k) = next_point Breaking l k
+next_point Breaking l (Next last again ∷ k) = next_point Going l k
+next_point Continuing l (Do s ∷ k) = next_point Continuing l k
+next_point Continuing l (Next last again ∷ k) = record { locals = l; todo = before last (before again k) }
 
 -- a call that runs or waits, and where its result goes, if anywhere
 pub record Frame : Type 0 where
   pub locals : Places
   pub todo : List Todo
-  pub result_to : Option Place
+  pub result_to : Option Destination
 
 abbrev pub Run : Type 0
 Run = State Frame
 
 -- a word goes to a local, or to a global variable
-abbrev pub placed : Place → ℕ → Places → Arrays → List ℕ → (Places → Arrays → Run) → Run
-placed (Local x) v l g out go = go (written l x (Some v)) g
-placed (Variable x) v l g out go = with_value (stored g x 0 v) out (λ g'. go l g')
+abbrev pub with_assignment : Destination → ℕ → Places → Arrays → List ℕ → (Places → Arrays → Run) → Run
+with_assignment (Local x) v l g out go = go (written l x (Some v)) g
+with_assignment (Variable x) v l g out go = with_value (stored g x 0 v) out (λ g'. go l g')
 
 -- the arguments are the first locals
-abbrev pub arguments : List ℕ → Places
-arguments vs = λ x. slice_get vs x
+abbrev pub argument_places : List ℕ → Places
+argument_places vs = λ x. slice_get vs x
 
 -- a call of a function, where the bound on the calls that are active lets it
-abbrev pub called : TypedProgram → (depth f : ℕ) → List ℕ → Option Place → List Frame → Arrays → List ℕ → Run
-called p depth f vs to frames g out =
+abbrev pub state_after_call : TypedProgram → (depth f : ℕ) → List ℕ → Option Destination → List Frame → Arrays → List ℕ → Run
+state_after_call p depth f vs to frames g out =
     with_value (slice_get p.functions f) out (λ function.
     if nat_lt (length frames) depth
-    then Running (record { locals = arguments vs; todo = before_all function.body []; result_to = to } ∷ frames) g out
+    then Running (record { locals = argument_places vs; todo = before_all function.body []; result_to = to } ∷ frames) g out
     else Failed out)
 
 -- a return with a word or without, to the call below: where a word is wanted there has to be one. The last call's word
 -- ends the run
-abbrev pub returned : Option ℕ → Option Place → List Frame → Arrays → List ℕ → Run
-returned v to [] g out = with_value v out (λ w. Ended w out)
-returned v None (f ∷ frames) g out = Running (f ∷ frames) g out
-returned v (Some place) (f ∷ frames) g out =
-    with_value v out (λ w. placed place w f.locals g out (λ l g'.
+abbrev pub state_after_return : Option ℕ → Option Destination → List Frame → Arrays → List ℕ → Run
+state_after_return v to [] g out = with_value v out (λ w. Ended w out)
+state_after_return v None (f ∷ frames) g out = Running (f ∷ frames) g out
+state_after_return v (Some place) (f ∷ frames) g out =
+    with_value v out (λ w. with_assignment place w f.locals g out (λ l g'.
     Running (record { locals = l; todo = f.todo; result_to = f.result_to } ∷ frames) g' out))
 
 -- by the word of a test
-abbrev pub chosen : ℕ → List Todo → List Todo → List Todo
-chosen v a b = if v == 0 then b else a
+abbrev pub todo_of_test : ℕ → List Todo → List Todo → List Todo
+todo_of_test v a b = if v == 0 then b else a
 
 -- one step, at a statement that takes one
-abbrev pub step_at : TypedProgram → (depth : ℕ) → Places → List Todo → Option Place → List Frame → Arrays → List ℕ → Run
+abbrev pub step_at : TypedProgram → (depth : ℕ) → Places → List Todo → Option Destination → List Frame → Arrays → List ℕ → Run
 step_at p depth l (Do (assign x e) ∷ k) to frames g out =
-    with_value (value_of e l g) out (λ v. placed x v l g out (λ l' g'.
+    with_value (value_of e l g) out (λ v. with_assignment x v l g out (λ l' g'.
     Running (record { locals = l'; todo = k; result_to = to } ∷ frames) g' out))
 step_at p depth l (Do (store a i e) ∷ k) to frames g out =
     with_value (value_of i l g) out (λ x. with_value (value_of e l g) out (λ v. with_value (stored g a x v) out (λ g'.
     Running (record { locals = l; todo = k; result_to = to } ∷ frames) g' out)))
-step_at p depth l (Do (run x f all) ∷ k) to frames g out =
+step_at p depth l (Do (call x f all) ∷ k) to frames g out =
     with_value (values_of all l g) out (λ vs.
-    called p depth f vs x (record { locals = l; todo = k; result_to = to } ∷ frames) g out)
+    state_after_call p depth f vs x (record { locals = l; todo = k; result_to = to } ∷ frames) g out)
 step_at p depth l (Do (output e) ∷ k) to frames g out =
     with_value (value_of e l g) out (λ v.
     Running (record { locals = l; todo = k; result_to = to } ∷ frames) g (out ++ v ∷ []))
-step_at p depth l (Do (branch c a b) ∷ k) to frames g out =
+step_at p depth l (Do (if_else c a b) ∷ k) to frames g out =
     with_value (value_of c l g) out (λ v.
-    Running (record { locals = l; todo = chosen v (before a k) (before b k); result_to = to } ∷ frames) g out)
+    Running (record { locals = l; todo = todo_of_test v (before a k) (before b k); result_to = to } ∷ frames) g out)
 step_at p depth l (Do (loop c last body) ∷ k) to frames g out =
     with_value (value_of c l g) out (λ v.
-    Running (record { locals = l; todo = chosen v (before body (Next last (loop c last body) ∷ k)) k; result_to = to } ∷ frames) g out)
-step_at p depth l (Do (return_with None) ∷ k) to frames g out = returned None to frames g out
+    Running (record { locals = l; todo = todo_of_test v (before body (Next last (loop c last body) ∷ k)) k; result_to = to } ∷ frames) g out)
+step_at p depth l (Do (return_with None) ∷ k) to frames g out = state_after_return None to frames g out
 step_at p depth l (Do (return_with (Some e)) ∷ k) to frames g out =
-    with_value (value_of e l g) out (λ v. returned (Some v) to frames g out)
+    with_value (value_of e l g) out (λ v. state_after_return (Some v) to frames g out)
 step_at p depth l _ to frames g out = Failed out
 
 abbrev pub source_step : TypedProgram → ℕ → Run → Run
 source_step p depth (Running [] g out) = Failed out
 source_step p depth (Running (f ∷ frames) g out) =
-    let at = settled Going f.locals f.todo in step_at p depth at.locals at.todo f.result_to frames g out
+    let at = next_point Going f.locals f.todo in step_at p depth at.locals at.todo f.result_to frames g out
 source_step p depth (Ended w out) = Ended w out
 source_step p depth (Failed out) = Failed out
 

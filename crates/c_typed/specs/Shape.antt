@@ -1,47 +1,48 @@
 -- The typed tree that a value of the program stands for.
 use Rattle.std.specs.Prelude.{List, [], ◌∷◌, Option, Some, None}
-use Rattle.c_typed.specs.declared.tree.Term.{Term, Constant, Local, Global, Element', Unary', Binary', Choose'}
-use Rattle.c_typed.specs.declared.tree.Statement.{Statement, Empty, Block', Unset, Assign, Store, Call, Output, If', Loop', Break, Continue, Return, Row_of-Statement, end_of-Statement, more_of-Statement}
+use Rattle.c_typed.specs.declared.tree.TypedExpression.{TypedExpression, Constant, Local, Global, Element', Unary', Binary', Conditional'}
+use Rattle.c_typed.specs.declared.tree.TypedStatement.{TypedStatement, Empty, Block', Unset, Assign, Store, Call, Output, If', Loop', Break, Continue, Return, Row_of-TypedStatement, end_of-TypedStatement, more_of-TypedStatement}
 use Rattle.c_typed.specs.declared.tree.Function.{Function}
-use Rattle.c_typed.specs.Trees.{TypedExpression, constant, local, global, element, unary, binary, choose, TypedStatement, TypedStatements, empty, block, unset, assign, store, run, output, branch, loop, leave, next_turn, return_with, no_statements, more_statements, TypedFunction}
+use Rattle.c_typed.specs.Trees as Trees
+use Rattle.c_typed.specs.Trees.{constant, local, global, element, unary, binary, conditional, TypedStatements, empty, block, unset, assign, store, call, output, if_else, loop, break_loop, continue_loop, return_with, no_statements, more_statements, TypedFunction}
 
-abbrev pub term_of : Term → TypedExpression
-term_of (Constant c) = constant c
-term_of (Local n k) = local n k
-term_of (Global n k) = global n k
-term_of (Element' n k p e) = element n k (term_of e)
-term_of (Unary' o k p e) = unary o k (term_of e)
-term_of (Binary' o k p l q r) = binary o k (term_of l) (term_of r)
-term_of (Choose' k p c q a r b) = choose k (term_of c) (term_of a) (term_of b)
+abbrev pub typed_expression_of : TypedExpression → Trees.TypedExpression
+typed_expression_of (Constant c) = constant c
+typed_expression_of (Local n k) = local n k
+typed_expression_of (Global n k) = global n k
+typed_expression_of (Element' n k p e) = element n k (typed_expression_of e)
+typed_expression_of (Unary' o k p e) = unary o k (typed_expression_of e)
+typed_expression_of (Binary' o k p l q r) = binary o k (typed_expression_of l) (typed_expression_of r)
+typed_expression_of (Conditional' k p c q a r b) = conditional k (typed_expression_of c) (typed_expression_of a) (typed_expression_of b)
 
-abbrev pub terms_of : List Term → List TypedExpression
-terms_of [] = []
-terms_of (e ∷ rest) = term_of e ∷ terms_of rest
+abbrev pub typed_expressions_of : List TypedExpression → List Trees.TypedExpression
+typed_expressions_of [] = []
+typed_expressions_of (e ∷ rest) = typed_expression_of e ∷ typed_expressions_of rest
 
-abbrev pub maybe_term_of : Option Term → Option TypedExpression
-maybe_term_of None = None
-maybe_term_of (Some e) = Some (term_of e)
+abbrev pub maybe_typed_expression_of : Option TypedExpression → Option Trees.TypedExpression
+maybe_typed_expression_of None = None
+maybe_typed_expression_of (Some e) = Some (typed_expression_of e)
 
 abbrev mutual
-  pub statement_of : Statement → TypedStatement
+  pub statement_of : TypedStatement → Trees.TypedStatement
   statement_of Empty = empty
   statement_of (Block' shape all) = block (row_of all)
   statement_of (Unset n) = unset n
-  statement_of (Assign x e) = assign x (term_of e)
-  statement_of (Store a i e) = store a (term_of i) (term_of e)
-  statement_of (Call to f all) = run to f (terms_of all.items)
-  statement_of (Output e) = output (term_of e)
-  statement_of (If' c p s q e) = branch (term_of c) (statement_of s) (statement_of e)
-  statement_of (Loop' c p l q b) = loop (term_of c) (statement_of l) (statement_of b)
-  statement_of Break = leave
-  statement_of Continue = next_turn
-  statement_of (Return e) = return_with (maybe_term_of e)
+  statement_of (Assign x e) = assign x (typed_expression_of e)
+  statement_of (Store a i e) = store a (typed_expression_of i) (typed_expression_of e)
+  statement_of (Call to f all) = call to f (typed_expressions_of all.items)
+  statement_of (Output e) = output (typed_expression_of e)
+  statement_of (If' c p s q e) = if_else (typed_expression_of c) (statement_of s) (statement_of e)
+  statement_of (Loop' c p l q b) = loop (typed_expression_of c) (statement_of l) (statement_of b)
+  statement_of Break = break_loop
+  statement_of Continue = continue_loop
+  statement_of (Return e) = return_with (maybe_typed_expression_of e)
 
-  pub row_of : {n : _} → Row_of-Statement n → TypedStatements
-  row_of end_of-Statement = no_statements
-  row_of (more_of-Statement s rest) = more_statements (statement_of s) (row_of rest)
+  pub row_of : {n : _} → Row_of-TypedStatement n → TypedStatements
+  row_of end_of-TypedStatement = no_statements
+  row_of (more_of-TypedStatement s rest) = more_statements (statement_of s) (row_of rest)
 
-abbrev pub statements_of : List Statement → TypedStatements
+abbrev pub statements_of : List TypedStatement → TypedStatements
 statements_of [] = no_statements
 statements_of (s ∷ rest) = more_statements (statement_of s) (statements_of rest)
 

@@ -1,24 +1,24 @@
--- Trees whose names are numbers, and the kinds of their values (C99 6.3.1.8, 6.5.3 to 6.5.15).
+-- Trees whose names are numbers, and the types of their values (C99 6.3.1.8, 6.5.3 to 6.5.15).
 use Rattle.std.specs.Prelude.{ℕ, List, Option}
-use Rattle.c_tokens.specs.declared.token.Kind.{Kind}
-use Rattle.c_tokens.specs.declared.token.Kind.TheVariants.{SignedInt, UnsignedInt}
+use Rattle.c_tokens.specs.declared.token.IntegerType.{IntegerType}
+use Rattle.c_tokens.specs.declared.token.IntegerType.TheVariants.{SignedInt, UnsignedInt}
 use Rattle.c_tokens.specs.declared.token.Literal.{Literal}
 use Rattle.c_front.specs.declared.tree.UnaryOp.{UnaryOp}
 use Rattle.c_front.specs.declared.tree.UnaryOp.TheVariants.{Not}
 use Rattle.c_front.specs.declared.tree.BinaryOp.{BinaryOp}
-use Rattle.c_front.specs.declared.tree.BinaryOp.TheVariants.{ShiftLeft, ShiftRight, Below, Exceeds, AtMost, AtLeast, Same, Differs, Both, Either}
-use Rattle.c_typed.specs.declared.tree.Place.{Place}
+use Rattle.c_front.specs.declared.tree.BinaryOp.TheVariants.{ShiftLeft, ShiftRight, Less, Greater, LessOrEqual, GreaterOrEqual, Equal, NotEqual, LogicalAnd, LogicalOr}
+use Rattle.c_typed.specs.declared.tree.Destination.{Destination}
 use Rattle.c_typed.specs.declared.tree.Global.{Global}
 
--- an expression whose names are numbers; an operator has the kind that it computes in
+-- an expression whose names are numbers; an operator has the type that it computes in
 pub data TypedExpression : Type 0 where
   constant : Literal → TypedExpression
-  local : ℕ → Kind → TypedExpression
-  global : ℕ → Kind → TypedExpression
-  element : ℕ → Kind → TypedExpression → TypedExpression
-  unary : UnaryOp → Kind → TypedExpression → TypedExpression
-  binary : BinaryOp → Kind → TypedExpression → TypedExpression → TypedExpression
-  choose : Kind → TypedExpression → TypedExpression → TypedExpression → TypedExpression
+  local : ℕ → IntegerType → TypedExpression
+  global : ℕ → IntegerType → TypedExpression
+  element : ℕ → IntegerType → TypedExpression → TypedExpression
+  unary : UnaryOp → IntegerType → TypedExpression → TypedExpression
+  binary : BinaryOp → IntegerType → TypedExpression → TypedExpression → TypedExpression
+  conditional : IntegerType → TypedExpression → TypedExpression → TypedExpression → TypedExpression
 
 mutual
   pub data TypedStatement : Type 0 where
@@ -26,17 +26,17 @@ mutual
     block : TypedStatements → TypedStatement
     -- a declaration without a first value
     unset : ℕ → TypedStatement
-    assign : Place → TypedExpression → TypedStatement
+    assign : Destination → TypedExpression → TypedStatement
     -- an array, an index and a value
     store : ℕ → TypedExpression → TypedExpression → TypedStatement
     -- where the result goes, if anywhere, the function and the arguments
-    run : Option Place → ℕ → List TypedExpression → TypedStatement
+    call : Option Destination → ℕ → List TypedExpression → TypedStatement
     output : TypedExpression → TypedStatement
-    branch : TypedExpression → TypedStatement → TypedStatement → TypedStatement
+    if_else : TypedExpression → TypedStatement → TypedStatement → TypedStatement
     -- a test, the last part of a turn and the body
     loop : TypedExpression → TypedStatement → TypedStatement → TypedStatement
-    leave : TypedStatement
-    next_turn : TypedStatement
+    break_loop : TypedStatement
+    continue_loop : TypedStatement
     return_with : Option TypedExpression → TypedStatement
 
   pub data TypedStatements : Type 0 where
@@ -45,7 +45,7 @@ mutual
 
 -- the parameters are the first of the locals
 pub record TypedFunction : Type 0 where
-  pub result : Option Kind
+  pub result : Option IntegerType
   pub parameters : ℕ
   pub locals : ℕ
   pub body : TypedStatements
@@ -57,41 +57,41 @@ pub record TypedProgram : Type 0 where
 
 -- the constant 1
 abbrev pub one : Literal
-one = record { value = 1; kind = SignedInt }
+one = record { value = 1; integer_type = SignedInt }
 
-abbrev pub common_kind : Kind → Kind → Kind
-common_kind SignedInt SignedInt = SignedInt
-common_kind _ _ = UnsignedInt
+abbrev pub common_type : IntegerType → IntegerType → IntegerType
+common_type SignedInt SignedInt = SignedInt
+common_type _ _ = UnsignedInt
 
-abbrev pub prefix_kind : UnaryOp → Kind → Kind
-prefix_kind Not k = SignedInt
-prefix_kind _ k = k
+abbrev pub prefix_type : UnaryOp → IntegerType → IntegerType
+prefix_type Not k = SignedInt
+prefix_type _ k = k
 
--- the kind that an operator computes in, by the kinds of its operands
-abbrev pub operation_kind : BinaryOp → Kind → Kind → Kind
-operation_kind ShiftLeft l r = l
-operation_kind ShiftRight l r = l
-operation_kind Both l r = SignedInt
-operation_kind Either l r = SignedInt
-operation_kind _ l r = common_kind l r
+-- the type that an operator computes in, by the types of its operands
+abbrev pub operation_type : BinaryOp → IntegerType → IntegerType → IntegerType
+operation_type ShiftLeft l r = l
+operation_type ShiftRight l r = l
+operation_type LogicalAnd l r = SignedInt
+operation_type LogicalOr l r = SignedInt
+operation_type _ l r = common_type l r
 
--- the kind of an operator's value, by that which it computes in
-abbrev pub value_kind : BinaryOp → Kind → Kind
-value_kind Below k = SignedInt
-value_kind Exceeds k = SignedInt
-value_kind AtMost k = SignedInt
-value_kind AtLeast k = SignedInt
-value_kind Same k = SignedInt
-value_kind Differs k = SignedInt
-value_kind Both k = SignedInt
-value_kind Either k = SignedInt
-value_kind _ k = k
+-- the type of an operator's value, by that which it computes in
+abbrev pub value_type : BinaryOp → IntegerType → IntegerType
+value_type Less k = SignedInt
+value_type Greater k = SignedInt
+value_type LessOrEqual k = SignedInt
+value_type GreaterOrEqual k = SignedInt
+value_type Equal k = SignedInt
+value_type NotEqual k = SignedInt
+value_type LogicalAnd k = SignedInt
+value_type LogicalOr k = SignedInt
+value_type _ k = k
 
-abbrev pub kind_of : TypedExpression → Kind
-kind_of (constant c) = c.kind
-kind_of (local n k) = k
-kind_of (global n k) = k
-kind_of (element n k e) = k
-kind_of (unary o k e) = k
-kind_of (binary o k l r) = value_kind o k
-kind_of (choose k c a b) = k
+abbrev pub type_of : TypedExpression → IntegerType
+type_of (constant c) = c.integer_type
+type_of (local n k) = k
+type_of (global n k) = k
+type_of (element n k e) = k
+type_of (unary o k e) = k
+type_of (binary o k l r) = value_type o k
+type_of (conditional k c a b) = k

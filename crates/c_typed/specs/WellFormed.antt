@@ -1,22 +1,22 @@
 -- What each typed program keeps, so that no layer above tests it again: names stand for what is there, calls fit their
--- functions, operators compute in the kinds of their operands, jumps stand in loops, and the sizes are within the limits.
+-- functions, operators compute in the types of their operands, jumps stand in loops, and the sizes are within the limits.
 use Rattle.std.specs.Prelude.{◌≡◌, ◌<◌, ◌≤◌, ◌+◌, ℕ, List, [], ◌∷◌, Option, Some, None, Bool, true, false, length, is_some, slice_get, All}
-use Rattle.c_tokens.specs.declared.token.Kind.TheVariants.{SignedInt}
-use Rattle.c_typed.specs.declared.tree.Place.{Place}
-use Rattle.c_typed.specs.declared.tree.Place.TheVariants.{Local, Global as Variable}
+use Rattle.c_tokens.specs.declared.token.IntegerType.TheVariants.{SignedInt}
+use Rattle.c_typed.specs.declared.tree.Destination.{Destination}
+use Rattle.c_typed.specs.declared.tree.Destination.TheVariants.{Local, Global as Variable}
 use Rattle.c_typed.specs.declared.tree.Global.{Global}
-use Rattle.c_typed.specs.Trees.{TypedExpression, TypedStatement, TypedStatements, TypedFunction, TypedProgram, constant, local, global, element, unary, binary, choose, kind_of, prefix_kind, operation_kind, common_kind, empty, block, unset, assign, store, run, output, branch, loop, leave, next_turn, return_with, no_statements, more_statements}
+use Rattle.c_typed.specs.Trees.{TypedExpression, TypedStatement, TypedStatements, TypedFunction, TypedProgram, constant, local, global, element, unary, binary, conditional, type_of, prefix_type, operation_type, common_type, empty, block, unset, assign, store, call, output, if_else, loop, break_loop, continue_loop, return_with, no_statements, more_statements}
 
--- in a function with so many locals, each local and global is there, and an operator computes in the kind that its
+-- in a function with so many locals, each local and global is there, and an operator computes in the type that its
 -- operands give (C99 6.3.1.8, 6.5)
 abbrev pub FitsExpression : TypedProgram → (locals : ℕ) → TypedExpression → Type 0
 FitsExpression p n (constant c) = Unit {0}
 FitsExpression p n (local x k) = x < n
 FitsExpression p n (global x k) = x < length p.globals
 FitsExpression p n (element x k e) = (x < length p.globals) × FitsExpression p n e
-FitsExpression p n (unary o k e) = (k ≡ prefix_kind o (kind_of e)) × FitsExpression p n e
-FitsExpression p n (binary o k l r) = (k ≡ operation_kind o (kind_of l) (kind_of r)) × (FitsExpression p n l × FitsExpression p n r)
-FitsExpression p n (choose k c a b) = (k ≡ common_kind (kind_of a) (kind_of b)) × (FitsExpression p n c × (FitsExpression p n a × FitsExpression p n b))
+FitsExpression p n (unary o k e) = (k ≡ prefix_type o (type_of e)) × FitsExpression p n e
+FitsExpression p n (binary o k l r) = (k ≡ operation_type o (type_of l) (type_of r)) × (FitsExpression p n l × FitsExpression p n r)
+FitsExpression p n (conditional k c a b) = (k ≡ common_type (type_of a) (type_of b)) × (FitsExpression p n c × (FitsExpression p n a × FitsExpression p n b))
 
 abbrev pub FitsAll : TypedProgram → (locals : ℕ) → List TypedExpression → Type 0
 FitsAll p n [] = Unit {0}
@@ -26,17 +26,17 @@ abbrev pub FitsMaybe : TypedProgram → (locals : ℕ) → Option TypedExpressio
 FitsMaybe p n None = Unit {0}
 FitsMaybe p n (Some e) = FitsExpression p n e
 
-abbrev pub FitsPlace : TypedProgram → (locals : ℕ) → Place → Type 0
+abbrev pub FitsPlace : TypedProgram → (locals : ℕ) → Destination → Type 0
 FitsPlace p n (Local x) = x < n
 FitsPlace p n (Variable x) = x < length p.globals
 
 -- where a result goes, if anywhere
-abbrev pub FitsTarget : TypedProgram → (locals : ℕ) → Option Place → Type 0
+abbrev pub FitsTarget : TypedProgram → (locals : ℕ) → Option Destination → Type 0
 FitsTarget p n None = Unit {0}
 FitsTarget p n (Some to) = FitsPlace p n to
 
 -- the function is there, has as many parameters as there are arguments, and gives a result where one is wanted
-pub record FitsCall (p : TypedProgram) (to : Option Place) (f arguments : ℕ) : Type 0 where
+pub record FitsCall (p : TypedProgram) (to : Option Destination) (f arguments : ℕ) : Type 0 where
   pub callee : TypedFunction
   pub there : slice_get p.functions f ≡ Some callee
   pub count : arguments ≡ callee.parameters
@@ -50,12 +50,12 @@ abbrev mutual
   FitsStatement p n gives inside (unset x) = x < n
   FitsStatement p n gives inside (assign to e) = FitsPlace p n to × FitsExpression p n e
   FitsStatement p n gives inside (store x i e) = (x < length p.globals) × (FitsExpression p n i × FitsExpression p n e)
-  FitsStatement p n gives inside (run to f all) = FitsTarget p n to × (FitsCall p to f (length all) × FitsAll p n all)
+  FitsStatement p n gives inside (call to f all) = FitsTarget p n to × (FitsCall p to f (length all) × FitsAll p n all)
   FitsStatement p n gives inside (output e) = FitsExpression p n e
-  FitsStatement p n gives inside (branch c a b) = FitsExpression p n c × (FitsStatement p n gives inside a × FitsStatement p n gives inside b)
+  FitsStatement p n gives inside (if_else c a b) = FitsExpression p n c × (FitsStatement p n gives inside a × FitsStatement p n gives inside b)
   FitsStatement p n gives inside (loop c last body) = FitsExpression p n c × (FitsStatement p n gives false last × FitsStatement p n gives true body)
-  FitsStatement p n gives inside leave = inside ≡ true
-  FitsStatement p n gives inside next_turn = inside ≡ true
+  FitsStatement p n gives inside break_loop = inside ≡ true
+  FitsStatement p n gives inside continue_loop = inside ≡ true
   FitsStatement p n gives inside (return_with e) = (is_some e ≡ gives) × FitsMaybe p n e
 
   pub FitsStatements : TypedProgram → (locals : ℕ) → (gives inside : Bool) → TypedStatements → Type 0

@@ -3,7 +3,7 @@
 //! It has no pass. `c_types` makes programs of this language out of texts, `c_run` runs them, and what translates them
 //! speaks of the same meaning.
 //!
-//! Definitions, in an order to read: `specs/Trees.antt` has the trees and the kinds of values, `specs/WellFormed.antt`
+//! Definitions, in an order to read: `specs/Trees.antt` has the trees and the types of values, `specs/WellFormed.antt`
 //! what each program without faults keeps, `specs/Values.antt` the value of an expression, `specs/Meaning.antt` what a
 //! program does, one step after another, and `specs/Laws.antt` what is true of every run. `specs/Shape.antt` says which
 //! tree a Rust value stands for.
@@ -13,4 +13,4 @@ mod laws;
 mod tree;
 
 pub use laws::{runs_go_on_from_where_they_are, values_are_words};
-pub use tree::{Function, Global, Place, Statement, Term};
+pub use tree::{Destination, Function, Global, TypedExpression, TypedStatement};

@@ -1,26 +1,26 @@
 ghost use Rattle.std.specs.Prelude.{◌≡◌};
-ghost use Rattle.c_typed.specs.Shape.{term_of};
-ghost use Rattle.c_typed.specs.Trees.{kind_of};
+ghost use Rattle.c_typed.specs.Shape.{typed_expression_of};
+ghost use Rattle.c_typed.specs.Trees.{type_of};
 
 use c_front::{BinaryOp, UnaryOp};
-use c_tokens::{Kind, Literal};
+use c_tokens::{IntegerType, Literal};
 
-/// A typed expression. A local, a global variable and an array stand as their numbers. An operator keeps the kind that
-/// it computes in: for a comparison that is the operands' common kind.
+/// A typed expression. A local, a global variable and an array stand as their numbers. An operator keeps the type that
+/// it computes in: for a comparison that is the operands' common type.
 #[derive(Drop)]
-pub enum Term {
+pub enum TypedExpression {
     Constant(Literal),
-    Local(usize, Kind),
-    Global(usize, Kind),
-    Element(usize, Kind, Box<Term>),
-    Unary(UnaryOp, Kind, Box<Term>),
-    Binary(BinaryOp, Kind, Box<Term>, Box<Term>),
-    Choose(Kind, Box<Term>, Box<Term>, Box<Term>),
+    Local(usize, IntegerType),
+    Global(usize, IntegerType),
+    Element(usize, IntegerType, Box<TypedExpression>),
+    Unary(UnaryOp, IntegerType, Box<TypedExpression>),
+    Binary(BinaryOp, IntegerType, Box<TypedExpression>, Box<TypedExpression>),
+    Conditional(IntegerType, Box<TypedExpression>, Box<TypedExpression>, Box<TypedExpression>),
 }
 
 /// Where a value is stored: a local of the function, or a global variable.
 #[derive(Clone, Copy, PartialEq, Eq)]
-pub enum Place {
+pub enum Destination {
     Local(usize),
     Global(usize),
 }
@@ -29,30 +29,30 @@ pub enum Place {
 /// that its result goes to, if it goes anywhere, the function and the arguments. `Loop` has its test, its last part and
 /// its body: a `while` has an empty last part, and a `for` is the block of its first part and the loop.
 #[derive(Drop)]
-pub enum Statement {
+pub enum TypedStatement {
     Empty,
-    Block(Vec<Statement>),
+    Block(Vec<TypedStatement>),
     Unset(usize),
-    Assign(Place, Term),
-    Store(usize, Term, Term),
-    Call(Option<Place>, usize, Vec<Term>),
-    Output(Term),
-    If(Term, Box<Statement>, Box<Statement>),
-    Loop(Term, Box<Statement>, Box<Statement>),
+    Assign(Destination, TypedExpression),
+    Store(usize, TypedExpression, TypedExpression),
+    Call(Option<Destination>, usize, Vec<TypedExpression>),
+    Output(TypedExpression),
+    If(TypedExpression, Box<TypedStatement>, Box<TypedStatement>),
+    Loop(TypedExpression, Box<TypedStatement>, Box<TypedStatement>),
     Break,
     Continue,
-    Return(Option<Term>),
+    Return(Option<TypedExpression>),
 }
 
-/// A function: the kind of its result, if it has one, the numbers of its parameters and of all its locals (the
+/// A function: the type of its result, if it has one, the numbers of its parameters and of all its locals (the
 /// parameters are the first of them), and its body. The return at the end brace of a function without result, and the
 /// `return 0` at that of `main`, stand in the body as its last statement; control never leaves the body otherwise.
 #[derive(Drop)]
 pub struct Function {
-    pub result: Option<Kind>,
+    pub result: Option<IntegerType>,
     pub parameters: usize,
     pub locals: usize,
-    pub body: Vec<Statement>,
+    pub body: Vec<TypedStatement>,
 }
 
 /// A global variable or array: its length in words, 1 for a variable, and the word that each of them has at first.
@@ -62,29 +62,29 @@ pub struct Global {
     pub first: u32,
 }
 
-impl Term {
-    /// The kind of the expression's value (C99 6.5): `int` for comparisons, `!`, `&&` and `||`.
-    pub fn kind(&self) -> Kind
-        ensures { result ≡ kind_of (term_of self.now) }
+impl TypedExpression {
+    /// The type of the expression's value (C99 6.5): `int` for comparisons, `!`, `&&` and `||`.
+    pub fn integer_type(&self) -> IntegerType
+        ensures { result ≡ type_of (typed_expression_of self.now) }
     {
         match self {
-            Term::Constant(literal) => literal.kind,
-            Term::Local(_, kind) => *kind,
-            Term::Global(_, kind) => *kind,
-            Term::Element(_, kind, _) => *kind,
-            Term::Unary(_, kind, _) => *kind,
-            Term::Binary(operator, kind, _, _) => match operator {
-                BinaryOp::Below
-                | BinaryOp::Exceeds
-                | BinaryOp::AtMost
-                | BinaryOp::AtLeast
-                | BinaryOp::Same
-                | BinaryOp::Differs
-                | BinaryOp::Both
-                | BinaryOp::Either => Kind::SignedInt,
-                _ => *kind,
+            TypedExpression::Constant(literal) => literal.integer_type,
+            TypedExpression::Local(_, integer_type) => *integer_type,
+            TypedExpression::Global(_, integer_type) => *integer_type,
+            TypedExpression::Element(_, integer_type, _) => *integer_type,
+            TypedExpression::Unary(_, integer_type, _) => *integer_type,
+            TypedExpression::Binary(operator, integer_type, _, _) => match operator {
+                BinaryOp::Less
+                | BinaryOp::Greater
+                | BinaryOp::LessOrEqual
+                | BinaryOp::GreaterOrEqual
+                | BinaryOp::Equal
+                | BinaryOp::NotEqual
+                | BinaryOp::LogicalAnd
+                | BinaryOp::LogicalOr => IntegerType::SignedInt,
+                _ => *integer_type,
             },
-            Term::Choose(kind, _, _, _) => *kind,
+            TypedExpression::Conditional(integer_type, _, _, _) => *integer_type,
         }
     }
 }

@@ -6,15 +6,15 @@ use Rattle.c_front.specs.declared.tree.Parameter.{Parameter}
 use Rattle.c_front.specs.Shape.{declaration_of, declarations_of}
 use Rattle.c_front.specs.Tree as Tree
 use Rattle.c_tokens.specs.declared.token.Identifier.{Identifier}
-use Rattle.c_tokens.specs.declared.token.Kind.{Kind}
-use Rattle.c_statements.specs.declared.fault.FaultKind.{FaultKind}
-use Rattle.c_statements.specs.declared.fault.Stop.{Stop}
-use Rattle.c_statements.specs.declared.fault.Stop.TheVariants.{NoMemory}
+use Rattle.c_tokens.specs.declared.token.IntegerType.{IntegerType}
+use Rattle.c_statements.specs.declared.fault.TypeFaultKind.{TypeFaultKind}
+use Rattle.c_statements.specs.declared.fault.TypeStop.{TypeStop}
+use Rattle.c_statements.specs.declared.fault.TypeStop.TheVariants.{NoMemory}
 use Rattle.c_statements.specs.declared.names.Named.{Named}
 use Rattle.c_typed.specs.declared.tree.Function as OneFunction
 use Rattle.c_typed.specs.declared.tree.Global as OneGlobal
 use Rattle.c_statements.specs.Faults.{Faults, HasNone, StopsAtFirst, StopsBoth}
-use Rattle.c_statements.specs.Names.{Meaning, Scopes, with_declared}
+use Rattle.c_statements.specs.Names.{Bindings, Scopes, with_declared}
 use Rattle.c_typed.specs.Shape.{function_of, functions_of}
 use Rattle.c_typed.specs.Trees.{TypedFunction}
 use Rattle.c_statements.proofs.Firsts.{Both, both-none, both-stop, ok-at, same-stop}
@@ -25,21 +25,21 @@ use Rattle.c_types.specs.Files.{AreParts, AreTyped, IsFunction, IsWith, declared
 use Rattle.c_types.specs.Programs.{Counts, File, FaultyBody, FaultyDeclaration, FaultyDeclarations, FaultyName, TypedDeclaration, TypesDeclaration, TypesDeclarations, a_function, a_global, after, after_all, all_declared, function_typed, functions_in, globals_in, more_declared, name_of, named_by, counts_after, no_declarations}
 
 -- a function under the names that its own name is among
-pub function-typed : (text : List ℕ) (f : File) (names : Meaning) (r : Option Kind) (x : Identifier) (ps : List Parameter) (body : Tree.Items) (t : TypedFunction) → (after text f (Tree.function r x ps body)).names ≡ names
+pub function-typed : (text : List ℕ) (f : File) (names : Bindings) (r : Option IntegerType) (x : Identifier) (ps : List Parameter) (body : Tree.Items) (t : TypedFunction) → (after text f (Tree.function r x ps body)).names ≡ names
     → IsFunction text names r x ps body t → TypesDeclaration text f (Tree.function r x ps body) (a_function t)
 function-typed text f names r x ps body t e h =
-    let Q : Meaning → Type 0 = λ n. IsFunction text n r x ps body t in
+    let Q : Bindings → Type 0 = λ n. IsFunction text n r x ps body t in
     let l = subst Q (sym e) h in
     let P : TypedFunction → Type 0 = λ y. TypesDeclaration text f (Tree.function r x ps body) (a_function y) in
     subst P (sym l.is) (function_typed l.types)
 
 -- the name of a declaration and what follows it together
-pub declaration-stop : {A B : Type 0} (text : List ℕ) (f : File) (d : Tree.Declaration) (x : Identifier) (m : Named) (old new : Scopes) (a : Result A Stop) (b : Result B Stop) (s : Stop) → old.inner ≡ f.names → new ≡ with_declared text old x m
+pub declaration-stop : {A B : Type 0} (text : List ℕ) (f : File) (d : Tree.Declaration) (x : Identifier) (m : Named) (old new : Scopes) (a : Result A TypeStop) (b : Result B TypeStop) (s : TypeStop) → old.inner ≡ f.names → new ≡ with_declared text old x m
     → x ≡ name_of d → m ≡ named_by f.counts d → IfOk a (λ y. HasNone (FaultyName text f d)) → IfErr a (StopsAtFirst (FaultyName text f d)) → IfOk b (λ y. HasNone (FaultyBody text new.inner d))
     → IfErr b (StopsAtFirst (FaultyBody text new.inner d)) → StopsBoth a b s → StopsAtFirst (FaultyDeclaration text f d) s
 declaration-stop text f d x m old new a b s o e i j n h k l t =
     let there : new.inner ≡ (after text f d).names = ap (λ (y : Scopes). y.inner) e ∙ rw (i, j, o) refl in
-    let Q : Meaning → Type 0 = λ y. StopsAtFirst (Both (FaultyName text f d) (FaultyBody text y d)) s in
+    let Q : Bindings → Type 0 = λ y. StopsAtFirst (Both (FaultyName text f d) (FaultyBody text y d)) s in
     subst Q there (both-stop (FaultyName text f d) (FaultyBody text new.inner d) a b s n h k l t)
 
 functions-append : (xs : List OneFunction.Function) (f : OneFunction.Function) → functions_of (xs ++ f ∷ []) ≡ functions_of xs ++ function_of f ∷ []
@@ -80,14 +80,14 @@ after-append : (text : List ℕ) (f : File) (xs : List Tree.Declaration) (d : Tr
 after-append text f [] d = refl
 after-append text f (x ∷ xs) d = after-append text (after text f x) xs d
 
-faulty-to : (text : List ℕ) (f : File) (xs : List Tree.Declaration) (d : Tree.Declaration) (k : FaultKind) (at : ℕ) → FaultyDeclarations text f xs k at ⊎ FaultyDeclaration text (after_all text f xs) d k at → FaultyDeclarations text f (xs ++ d ∷ []) k at
+faulty-to : (text : List ℕ) (f : File) (xs : List Tree.Declaration) (d : Tree.Declaration) (k : TypeFaultKind) (at : ℕ) → FaultyDeclarations text f xs k at ⊎ FaultyDeclaration text (after_all text f xs) d k at → FaultyDeclarations text f (xs ++ d ∷ []) k at
 faulty-to text f [] d k at (inl h) = absurd h
 faulty-to text f [] d k at (inr h) = inl h
 faulty-to text f (x ∷ xs) d k at (inl (inl h)) = inl h
 faulty-to text f (x ∷ xs) d k at (inl (inr h)) = inr (faulty-to text (after text f x) xs d k at (inl h))
 faulty-to text f (x ∷ xs) d k at (inr h) = inr (faulty-to text (after text f x) xs d k at (inr h))
 
-faulty-from : (text : List ℕ) (f : File) (xs : List Tree.Declaration) (d : Tree.Declaration) (k : FaultKind) (at : ℕ) → FaultyDeclarations text f (xs ++ d ∷ []) k at → FaultyDeclarations text f xs k at ⊎ FaultyDeclaration text (after_all text f xs) d k at
+faulty-from : (text : List ℕ) (f : File) (xs : List Tree.Declaration) (d : Tree.Declaration) (k : TypeFaultKind) (at : ℕ) → FaultyDeclarations text f (xs ++ d ∷ []) k at → FaultyDeclarations text f xs k at ⊎ FaultyDeclaration text (after_all text f xs) d k at
 faulty-from text f [] d k at (inl h) = inr h
 faulty-from text f [] d k at (inr h) = absurd h
 faulty-from text f (x ∷ xs) d k at (inl h) = inl (inl h)
@@ -99,10 +99,10 @@ typed-append all_declared h = more_declared h all_declared
 typed-append (more_declared l rest) h = more_declared l (typed-append rest h)
 
 -- the answer for the declarations so far
-abbrev pub SoFar : List ℕ → List Declaration → Result Parts Stop → Type 0
+abbrev pub SoFar : List ℕ → List Declaration → Result Parts TypeStop → Type 0
 SoFar text ds r = Answered (AreTyped text (declarations_of ds)) (FaultyDeclarations text no_declarations (declarations_of ds)) r
 
-joined : (text : List ℕ) (xs : List Tree.Declaration) (d : Tree.Declaration) (all r : Result Parts Stop) (one : Result Declared Stop) → Answered (AreTyped text xs) (FaultyDeclarations text no_declarations xs) all
+joined : (text : List ℕ) (xs : List Tree.Declaration) (d : Tree.Declaration) (all r : Result Parts TypeStop) (one : Result Declared TypeStop) → Answered (AreTyped text xs) (FaultyDeclarations text no_declarations xs) all
     → Answered (λ t. TypesDeclaration text (after_all text no_declarations xs) d (declared_of t)) (FaultyDeclaration text (after_all text no_declarations xs) d) one → IfOk r (IsWith all one) → IfErr r (λ s. (s ≡ NoMemory) ⊎ StopsBoth all one s)
     → Answered (AreTyped text (xs ++ d ∷ [])) (FaultyDeclarations text no_declarations (xs ++ d ∷ [])) r
 joined text xs d all (Ok v) one h l e f =
@@ -128,7 +128,7 @@ joined text xs d all (Err t) one h l e f = record { ok = tt; none = tt; err = st
 next-of : (all : List Declaration) (i : ℕ) (x : Declaration) → i < length all → x ≡ get_or all i x → declarations_of (take (i + 1) all) ≡ declarations_of (take i all) ++ declaration_of x ∷ []
 next-of all i x l is = ap declarations_of (take_more all i x l ∙ ap (λ (y : Declaration). take i all ++ y ∷ []) (sym is)) ∙ declarations-append (take i all) x
 
-pub one-so-far : (text : List ℕ) (all : List Declaration) (i : ℕ) (x : Declaration) (typed r : Result Parts Stop) (one : Result Declared Stop) → i < length all → x ≡ get_or all i x → SoFar text (take i all) typed
+pub one-so-far : (text : List ℕ) (all : List Declaration) (i : ℕ) (x : Declaration) (typed r : Result Parts TypeStop) (one : Result Declared TypeStop) → i < length all → x ≡ get_or all i x → SoFar text (take i all) typed
     → Answered (λ t. TypesDeclaration text (after_all text no_declarations (declarations_of (take i all))) (declaration_of x) (declared_of t)) (FaultyDeclaration text (after_all text no_declarations (declarations_of (take i all))) (declaration_of x)) one
     → IfOk r (IsWith typed one) → IfErr r (λ s. (s ≡ NoMemory) ⊎ StopsBoth typed one s) → SoFar text (take (i + 1) all) r
 one-so-far text all i x typed r one l is h a f g =

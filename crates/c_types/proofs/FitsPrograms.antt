@@ -5,16 +5,16 @@ use Rattle.std.proofs.lemmas.List.{length-append}
 use Rattle.std.proofs.lemmas.List.Elements.{All-nil, All-cons, All-same}
 use Rattle.std.proofs.lemmas.Option.{same_Some, none-some, slice_get_within}
 use Rattle.c_tokens.specs.declared.token.Identifier.{Identifier}
-use Rattle.c_tokens.specs.declared.token.Kind.{Kind}
-use Rattle.c_tokens.specs.declared.token.Kind.TheVariants.{SignedInt, UnsignedInt}
+use Rattle.c_tokens.specs.declared.token.IntegerType.{IntegerType}
+use Rattle.c_tokens.specs.declared.token.IntegerType.TheVariants.{SignedInt, UnsignedInt}
 use Rattle.c_front.specs.declared.tree.Parameter.{Parameter}
 use Rattle.c_front.specs.Tree as Tree
-use Rattle.c_statements.specs.declared.fault.FaultKind.TheVariants.{Kind as KindFault, Count, Limit}
+use Rattle.c_statements.specs.declared.fault.TypeFaultKind.TheVariants.{Kind as KindFault, Count, Limit}
 use Rattle.c_statements.specs.declared.names.Named.{Named}
 use Rattle.c_statements.specs.declared.names.Named.TheVariants.{Local, Global, Array, Function, Out}
 use Rattle.c_typed.specs.declared.tree.Global as Typed
 use Rattle.c_statements.specs.Faults.{HasNone}
-use Rattle.c_statements.specs.Names.{Meaning, Scopes, hides, named_in, nothing, spelled, with_name, declared, behind_items, declared_in_all}
+use Rattle.c_statements.specs.Names.{Bindings, Scopes, hides, named_in, nothing, spelling_in, with_name, with_local, behind_items, declared_in_all}
 use Rattle.c_types.specs.Programs.{File, no_declarations, out_name, main_name, after, after_all, IsNotMain, array_of_nothing, other_main, too_many_words, too_many_functions, fifth_parameter, FaultyParameters, behind_parameters, scopes_at, FaultyBody, FaultyDeclaration, FaultyDeclarations, with_last, closing, TypedDeclaration, a_global, a_function, TypesDeclaration, variable_typed, array_typed, function_typed, TypesDeclarations, all_declared, more_declared, functions_in, globals_in}
 use Rattle.c_typed.specs.Trees.{TypedStatements, TypedFunction, TypedProgram, no_statements, more_statements}
 use Rattle.c_statements.specs.Types.{TypesItems}
@@ -30,18 +30,18 @@ use Rattle.c_types.proofs.FitsStatements.{IsThere, AreThere, declared-there, fit
 parameters-there : (p : TypedProgram) (n : ℕ) (text : List ℕ) (sc : Scopes) (ps : List Parameter) → AreThere p n (named_in sc) → sc.locals + length ps ≤ n → AreThere p n (named_in (behind_parameters text sc ps))
 parameters-there p n text sc [] h room = h
 parameters-there p n text sc (q ∷ rest) h room =
-    parameters-there p n text (declared text sc q.kind q.name) rest (declared-there p n text sc q.kind q.name h (omega (arith, room))) (omega (arith, room))
+    parameters-there p n text (with_local text sc q.integer_type q.name) rest (declared-there p n text sc q.integer_type q.name h (omega (arith, room))) (omega (arith, room))
 
 behind-parameters : (text : List ℕ) (sc : Scopes) (ps : List Parameter) → (behind_parameters text sc ps).locals ≡ sc.locals + length ps
 behind-parameters text sc [] = omega arith
-behind-parameters text sc (q ∷ rest) = let h = behind-parameters text (declared text sc q.kind q.name) rest in omega (arith, h)
+behind-parameters text sc (q ∷ rest) = let h = behind-parameters text (with_local text sc q.integer_type q.name) rest in omega (arith, h)
 
 parameters-fit : (text : List ℕ) (sc : Scopes) (ps : List Parameter) → sc.locals ≤ 4 → HasNone (FaultyParameters text sc ps) → sc.locals + length ps ≤ 4
 parameters-fit text sc [] few none = omega (arith, few)
 parameters-fit text sc (q ∷ rest) few none =
     let other : sc.locals ≢ 4 = λ e. none Count q.name.at (inl (fifth_parameter e)) in
     let more : suc sc.locals ≤ 4 = omega (arith, few, other) in
-    let h = parameters-fit text (declared text sc q.kind q.name) rest more (λ k at w. none k at (inr w)) in
+    let h = parameters-fit text (with_local text sc q.integer_type q.name) rest more (λ k at w. none k at (inr w)) in
     omega (arith, h)
 
 -- the end of a body
@@ -50,7 +50,7 @@ fits-last : (p : TypedProgram) (n : ℕ) (g l : Bool) (all last : TypedStatement
 fits-last p n g l no_statements last h end = end
 fits-last p n g l (more_statements s rest) last h end = (h.0, fits-last p n g l rest last h.1 end)
 
-fits-closing : (p : TypedProgram) (n : ℕ) (is_main : Bool) (r : Option Kind) → (is_main ≡ true → is_some r ≡ true) → FitsStatements p n (is_some r) false (closing is_main r)
+fits-closing : (p : TypedProgram) (n : ℕ) (is_main : Bool) (r : Option IntegerType) → (is_main ≡ true → is_some r ≡ true) → FitsStatements p n (is_some r) false (closing is_main r)
 fits-closing p n true r h = ((sym (h refl), tt), tt)
 fits-closing p n false None h = ((refl, tt), tt)
 fits-closing p n false (Some k) h = tt
@@ -69,7 +69,7 @@ at-file p n (Some j) i h e = wider p n i (h i e)
 at-file p n None i h e = absurd (none-some _ e)
 
 -- a declaration that may be `main`
-int-result : (r : Option Kind) (x : Identifier) (ps : List Parameter) (body : Tree.Items) → (IsNotMain (Tree.function r x ps body) → ⊥) → r ≡ Some SignedInt
+int-result : (r : Option IntegerType) (x : Identifier) (ps : List Parameter) (body : Tree.Items) → (IsNotMain (Tree.function r x ps body) → ⊥) → r ≡ Some SignedInt
 int-result (Some SignedInt) x ps body h = refl
 int-result (Some UnsignedInt) x ps body h = absurd (h (inl other))
   where
@@ -78,12 +78,12 @@ int-result (Some UnsignedInt) x ps body h = absurd (h (inl other))
 int-result None x ps body h = absurd (h (inl (none-some _)))
 
 -- a function, under the names at file scope and its own
-fits-function : (p : TypedProgram) (text : List ℕ) (f : File) (r : Option Kind) (x : Identifier) (ps : List Parameter) (body : Tree.Items) (t : TypedStatements) → AreThere p 0 (after text f (Tree.function r x ps body)).names
+fits-function : (p : TypedProgram) (text : List ℕ) (f : File) (r : Option IntegerType) (x : Identifier) (ps : List Parameter) (body : Tree.Items) (t : TypedStatements) → AreThere p 0 (after text f (Tree.function r x ps body)).names
     → TypesItems text (behind_parameters text (scopes_at (after text f (Tree.function r x ps body)).names) ps) body t → HasNone (FaultyDeclaration text f (Tree.function r x ps body)) → FitsFunction p (record {
       result = r;
       parameters = length ps;
       locals = (behind_items text (behind_parameters text (scopes_at (after text f (Tree.function r x ps body)).names) ps) body).locals;
-      body = with_last t (closing (bytes_eq (spelled text x) main_name) r);
+      body = with_last t (closing (bytes_eq (spelling_in text x) main_name) r);
     })
 fits-function p text f r x ps body t there typed none =
     let names = (after text f (Tree.function r x ps body)).names in
@@ -97,12 +97,12 @@ fits-function p text f r x ps body t there typed none =
     let few : inner.locals + declared_in_all body ≤ 128 = all-locals-fit text (is_some r) false inner body (omega (arith, four, first)) (λ k at w. faultless k at (inr w)) in
     let outside : AreThere p n (named_in outer) = λ w m e. at-file p n (names w) m (there w) e in
     let inside : AreThere p n (named_in inner) = parameters-there p n text outer ps outside (omega (arith, first, all)) in
-    let main : bytes_eq (spelled text x) main_name ≡ true → is_some r ≡ true = λ e. ap (λ (k : Option Kind). is_some k) (int-result r x ps body (λ w. none KindFault x.at (inl (other_main e w)))) in
+    let main : bytes_eq (spelling_in text x) main_name ≡ true → is_some r ≡ true = λ e. ap (λ (k : Option IntegerType). is_some k) (int-result r x ps body (λ w. none KindFault x.at (inl (other_main e w)))) in
     record {
       parameters = omega (arith, four);
       first = omega (arith, first, all);
       locals = omega (arith, few, all);
-      body = fits-last p n (is_some r) false t (closing (bytes_eq (spelled text x) main_name) r) (fits-items p n (is_some r) false inside (omega (arith, all)) typed (λ k at w. faultless k at (inr w))) (fits-closing p n (bytes_eq (spelled text x) main_name) r main);
+      body = fits-last p n (is_some r) false t (closing (bytes_eq (spelling_in text x) main_name) r) (fits-items p n (is_some r) false inside (omega (arith, all)) typed (λ k at w. faultless k at (inr w))) (fits-closing p n (bytes_eq (spelling_in text x) main_name) r main);
     }
 
 -- the declarations, one after another
@@ -129,7 +129,7 @@ record IsAt (p : TypedProgram) (f : File) (rest : List TypedDeclaration) : Type 
   globals_counted : length globals ≡ f.counts.globals
   names : AreThere p 0 f.names
 
-named : (p : TypedProgram) (names : Meaning) (x : List ℕ) (m : Named) → AreThere p 0 names → IsThere p 0 m → AreThere p 0 (with_name names x m)
+named : (p : TypedProgram) (names : Bindings) (x : List ℕ) (m : Named) → AreThere p 0 names → IsThere p 0 m → AreThere p 0 (with_name names x m)
 named p names x m h there w i e = by (bytes_eq x w) e
   where
     by : (b : Bool) → (if b then Some m else names w) ≡ Some i → IsThere p 0 i
@@ -154,7 +154,7 @@ next {p = p} {text = text} {f = f} {rest = rest} h (variable_typed {k = k} {x = 
   globals = h.globals ++ _ ∷ [];
   are_globals = h.are_globals ∙ one-further h.globals _ (globals_in rest);
   globals_counted = one-longer h.globals _ ∙ ap suc h.globals_counted;
-  names = named p f.names (spelled text x) (Global f.counts.globals k) h.names (global-here h);
+  names = named p f.names (spelling_in text x) (Global f.counts.globals k) h.names (global-here h);
 }
 next {p = p} {text = text} {f = f} {rest = rest} h (array_typed {k = k} {x = x}) = record {
   functions = h.functions;
@@ -163,7 +163,7 @@ next {p = p} {text = text} {f = f} {rest = rest} h (array_typed {k = k} {x = x})
   globals = h.globals ++ _ ∷ [];
   are_globals = h.are_globals ∙ one-further h.globals _ (globals_in rest);
   globals_counted = one-longer h.globals _ ∙ ap suc h.globals_counted;
-  names = named p f.names (spelled text x) (Array f.counts.globals k) h.names (global-here h);
+  names = named p f.names (spelling_in text x) (Array f.counts.globals k) h.names (global-here h);
 }
 next {p = p} {text = text} {f = f} {rest = rest} h (function_typed {r = r} {x = x} {ps = ps} typed) = record {
   functions = h.functions ++ _ ∷ [];
@@ -172,7 +172,7 @@ next {p = p} {text = text} {f = f} {rest = rest} h (function_typed {r = r} {x = 
   globals = h.globals;
   are_globals = h.are_globals;
   globals_counted = h.globals_counted;
-  names = named p f.names (spelled text x) (Function f.counts.functions (length ps) (is_some r)) h.names (_, (function-here h, (refl, refl)));
+  names = named p f.names (spelling_in text x) (Function f.counts.functions (length ps) (is_some r)) h.names (_, (function-here h, (refl, refl)));
 }
 
 first-fits : (p : TypedProgram) {text : List ℕ} {f : File} {d : Tree.Declaration} {t : TypedDeclaration} (rest : List TypedDeclaration) → AreThere p 0 (after text f d).names → TypesDeclaration text f d t → HasNone (FaultyDeclaration text f d)
@@ -193,14 +193,14 @@ names-there h all_declared = h.names
 names-there h (more_declared one more) = names-there (next h one) more
 
 -- `main`, once it is declared, gives an `int`
-abbrev GivesInt : TypedProgram → Meaning → Type 0
+abbrev GivesInt : TypedProgram → Bindings → Type 0
 GivesInt p names = (n m : ℕ) (r : Bool) → names main_name ≡ Some (Function n m r) → (g : TypedFunction) × ((slice_get p.functions n ≡ Some g) × (g.result ≡ Some SignedInt))
 
 abbrev IsFunction : TypedProgram → Named → Type 0
 IsFunction p (Function n m r) = (g : TypedFunction) × ((slice_get p.functions n ≡ Some g) × (g.result ≡ Some SignedInt))
 IsFunction p i = Unit {0}
 
-named-main : (p : TypedProgram) (names : Meaning) (x : List ℕ) (i : Named) → GivesInt p names → (bytes_eq x main_name ≡ true → IsFunction p i) → GivesInt p (with_name names x i)
+named-main : (p : TypedProgram) (names : Bindings) (x : List ℕ) (i : Named) → GivesInt p names → (bytes_eq x main_name ≡ true → IsFunction p i) → GivesInt p (with_name names x i)
 named-main p names x i h there n m r e = by (bytes_eq x main_name) refl e
   where
     by : (b : Bool) → bytes_eq x main_name ≡ b → (if b then Some i else names main_name) ≡ Some (Function n m r) → IsFunction p (Function n m r)
@@ -209,10 +209,10 @@ named-main p names x i h there n m r e = by (bytes_eq x main_name) refl e
 
 next-main : {p : TypedProgram} {text : List ℕ} {f : File} {d : Tree.Declaration} {t : TypedDeclaration} {rest : List TypedDeclaration} → IsAt p f (t ∷ rest) → TypesDeclaration text f d t → HasNone (FaultyDeclaration text f d) → GivesInt p f.names
     → GivesInt p (after text f d).names
-next-main {p = p} {text = text} {f = f} at (variable_typed {k = k} {x = x}) none h = named-main p f.names (spelled text x) (Global f.counts.globals k) h (λ e. tt)
-next-main {p = p} {text = text} {f = f} at (array_typed {k = k} {x = x}) none h = named-main p f.names (spelled text x) (Array f.counts.globals k) h (λ e. tt)
+next-main {p = p} {text = text} {f = f} at (variable_typed {k = k} {x = x}) none h = named-main p f.names (spelling_in text x) (Global f.counts.globals k) h (λ e. tt)
+next-main {p = p} {text = text} {f = f} at (array_typed {k = k} {x = x}) none h = named-main p f.names (spelling_in text x) (Array f.counts.globals k) h (λ e. tt)
 next-main {p = p} {text = text} {f = f} at (function_typed {r = r} {x = x} {ps = ps} {body = body} typed) none h =
-    named-main p f.names (spelled text x) (Function f.counts.functions (length ps) (is_some r)) h (λ e. (_, (function-here at, int-result r x ps body (λ w. none KindFault x.at (inl (other_main e w))))))
+    named-main p f.names (spelling_in text x) (Function f.counts.functions (length ps) (is_some r)) h (λ e. (_, (function-here at, int-result r x ps body (λ w. none KindFault x.at (inl (other_main e w))))))
 
 gives-int : {p : TypedProgram} {text : List ℕ} {f : File} {ds : List Tree.Declaration} {ts : List TypedDeclaration} → IsAt p f ts → TypesDeclarations text f ds ts → HasNone (FaultyDeclarations text f ds) → GivesInt p f.names
     → GivesInt p (after_all text f ds).names

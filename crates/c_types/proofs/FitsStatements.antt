@@ -3,20 +3,20 @@ use Rattle.std.proofs.Common.{◌≡◌, ◌≢◌, ◌<◌, ◌≤◌, ◌+◌,
 use Rattle.std.specs.Prelude.{is_some, slice_get, bytes_eq}
 use Rattle.std.proofs.lemmas.Option.{same_Some}
 use Rattle.c_tokens.specs.declared.token.Identifier.{Identifier}
-use Rattle.c_tokens.specs.declared.token.Kind.{Kind}
+use Rattle.c_tokens.specs.declared.token.IntegerType.{IntegerType}
 use Rattle.c_front.specs.Tree as Tree
 use Rattle.c_front.specs.Tree.{Expression}
-use Rattle.c_statements.specs.declared.fault.FaultKind.{FaultKind}
-use Rattle.c_statements.specs.declared.fault.FaultKind.TheVariants.{Kind as KindFault, Count, Outside, Limit}
+use Rattle.c_statements.specs.declared.fault.TypeFaultKind.{TypeFaultKind}
+use Rattle.c_statements.specs.declared.fault.TypeFaultKind.TheVariants.{Kind as KindFault, Count, Outside, Limit}
 use Rattle.c_statements.specs.declared.names.Named.{Named}
 use Rattle.c_statements.specs.declared.names.Named.TheVariants.{Local, Global, Array, Function, Out}
-use Rattle.c_typed.specs.declared.tree.Place.{Place}
+use Rattle.c_typed.specs.declared.tree.Destination.{Destination}
 use Rattle.c_statements.specs.Faults.{HasNone}
-use Rattle.c_statements.specs.Names.{Sight, Meaning, Scopes, hides, meaning_in, named_in, sight_in, spelled, entered, declared, behind, behind_items, declared_in, declared_in_all}
+use Rattle.c_statements.specs.Names.{Environment, Bindings, Scopes, hides, binding_in, named_in, environment_in, spelling_in, within, with_local, behind, behind_items, declared_in, declared_in_all}
 use Rattle.c_statements.specs.Uses.{IsWrong, as_call, void_used, other_count}
 use Rattle.c_statements.specs.Statements.{FaultyCall, FaultyValue, FaultyFirst, FaultySimple, FaultyPart, FaultyReturn, FaultyJump, FaultyDeclarator, FaultyStatement, FaultyItems, local_too_many}
 use Rattle.c_typed.specs.Trees.{TypedExpression, TypedStatement, TypedStatements, TypedFunction, TypedProgram}
-use Rattle.c_statements.specs.Types.{Types, constant_typed, local_typed, global_typed, element_typed, unary_typed, binary_typed, choose_typed, TypesAll, all_typed, more_typed, TypesMaybe, missing_typed, present_typed, TypesPlace, local_place, global_place, TypesCall, function_called, out_called, TypesValue, plain_typed, called_typed, TypesSimple, assign_typed, store_typed, run_typed, TypesPart, no_part, some_part, TypesTest, no_test, some_test, TypesFirst, no_first, some_first, TypesStatement, empty_typed, block_typed, branch_typed, branch_else_typed, repeat_typed, repeat_for_typed, break_typed, continue_typed, return_typed, simply_typed, TypesItems, no_items_typed, statement_typed, declare_typed}
+use Rattle.c_statements.specs.Types.{Types, constant_typed, local_typed, global_typed, element_typed, unary_typed, binary_typed, conditional_typed, TypesAll, all_typed, more_typed, TypesMaybe, missing_typed, present_typed, TypesPlace, local_place, global_place, TypesCall, function_called, out_called, TypesValue, plain_typed, called_typed, TypesSimple, assign_typed, store_typed, call_typed, TypesPart, no_part, some_part, TypesTest, no_test, some_test, TypesFirst, no_first, some_first, TypesStatement, empty_typed, block_typed, if_then_typed, if_then_else_typed, while_loop_typed, for_loop_typed, break_typed, continue_typed, return_typed, simply_typed, TypesItems, no_items_typed, statement_typed, declare_typed}
 use Rattle.c_typed.specs.WellFormed.{FitsExpression, FitsAll, FitsMaybe, FitsPlace, FitsTarget, FitsStatement, FitsStatements}
 
 -- what a name stands for is there, in a function with so many locals
@@ -28,17 +28,17 @@ IsThere p n (Function f m r) = (g : TypedFunction) × ((slice_get p.functions f 
 IsThere p n Out = Unit {0}
 
 -- what the names in sight stand for is there
-abbrev pub AreThere : TypedProgram → (locals : ℕ) → Meaning → Type 0
+abbrev pub AreThere : TypedProgram → (locals : ℕ) → Bindings → Type 0
 AreThere p n names = (w : List ℕ) (m : Named) → names w ≡ Some m → IsThere p n m
 
-abbrev AreSeen : TypedProgram → (locals : ℕ) → Sight → Type 0
-AreSeen p n sight = (x : Identifier) (m : Named) → sight x ≡ Some m → IsThere p n m
+abbrev AreSeen : TypedProgram → (locals : ℕ) → Environment → Type 0
+AreSeen p n scope = (x : Identifier) (m : Named) → scope x ≡ Some m → IsThere p n m
 
-typed-length : {sight : Sight} {es : List Expression} {ts : List TypedExpression} → TypesAll sight es ts → length ts ≡ length es
+typed-length : {scope : Environment} {es : List Expression} {ts : List TypedExpression} → TypesAll scope es ts → length ts ≡ length es
 typed-length all_typed = refl
 typed-length (more_typed e rest) = ap suc (typed-length rest)
 
-maybe-same : {sight : Sight} {e : Option Expression} {t : Option TypedExpression} → TypesMaybe sight e t → is_some t ≡ is_some e
+maybe-same : {scope : Environment} {e : Option Expression} {t : Option TypedExpression} → TypesMaybe scope e t → is_some t ≡ is_some e
 maybe-same missing_typed = refl
 maybe-same (present_typed e) = refl
 
@@ -50,10 +50,10 @@ equal : (a b : ℕ) → (a ≢ b → ⊥) → a ≡ b
 equal a b h = equal-by a b (nat_eq a b) refl h
 
 -- without a fault the number of arguments is right, and a result that is wanted is given
-right-count : (s : Option Named) (f n m : ℕ) (r w : Bool) → s ≡ Some (Function f n r) → ((k : FaultKind) → IsWrong s (as_call m w) k → ⊥) → m ≡ n
+right-count : (s : Option Named) (f n m : ℕ) (r w : Bool) → s ≡ Some (Function f n r) → ((k : TypeFaultKind) → IsWrong s (as_call m w) k → ⊥) → m ≡ n
 right-count s f n m r w e h = equal m n (λ i. h Count (subst (λ (x : Option Named). IsWrong x (as_call m w) Count) (sym e) (other_count i)))
 
-is-given : (s : Option Named) (f n m : ℕ) (r w : Bool) → s ≡ Some (Function f n r) → ((k : FaultKind) → IsWrong s (as_call m w) k → ⊥) → w ≡ true → r ≡ true
+is-given : (s : Option Named) (f n m : ℕ) (r w : Bool) → s ≡ Some (Function f n r) → ((k : TypeFaultKind) → IsWrong s (as_call m w) k → ⊥) → w ≡ true → r ≡ true
 is-given s f n m true w e h i = refl
 is-given s f n m false true e h i = absurd (h KindFault (subst (λ (x : Option Named). IsWrong x (as_call m true) KindFault) (sym e) void_used))
 is-given s f n m false false e h i = cc
@@ -69,79 +69,79 @@ right-return false (Some e) place h = absurd (h KindFault place (refl, refl))
 right-return false None place h = refl
 
 module _ (p : TypedProgram) (n : ℕ) where
-  fits : {sight : Sight} {e : Expression} {t : TypedExpression} → AreSeen p n sight → Types sight e t → FitsExpression p n t
+  fits : {scope : Environment} {e : Expression} {t : TypedExpression} → AreSeen p n scope → Types scope e t → FitsExpression p n t
   fits h constant_typed = tt
   fits h (local_typed e) = h _ _ e
   fits h (global_typed e) = h _ _ e
   fits h (element_typed e s) = (h _ _ e, fits h s)
   fits h (unary_typed s) = (refl, fits h s)
   fits h (binary_typed l r) = (refl, (fits h l, fits h r))
-  fits h (choose_typed c a b) = (refl, (fits h c, (fits h a, fits h b)))
+  fits h (conditional_typed c a b) = (refl, (fits h c, (fits h a, fits h b)))
 
-  fits-all : {sight : Sight} {es : List Expression} {ts : List TypedExpression} → AreSeen p n sight → TypesAll sight es ts → FitsAll p n ts
+  fits-all : {scope : Environment} {es : List Expression} {ts : List TypedExpression} → AreSeen p n scope → TypesAll scope es ts → FitsAll p n ts
   fits-all h all_typed = tt
   fits-all h (more_typed e rest) = (fits h e, fits-all h rest)
 
-  fits-maybe : {sight : Sight} {e : Option Expression} {t : Option TypedExpression} → AreSeen p n sight → TypesMaybe sight e t → FitsMaybe p n t
+  fits-maybe : {scope : Environment} {e : Option Expression} {t : Option TypedExpression} → AreSeen p n scope → TypesMaybe scope e t → FitsMaybe p n t
   fits-maybe h missing_typed = tt
   fits-maybe h (present_typed e) = fits h e
 
-  fits-place : {sight : Sight} {x : Identifier} {to : Place} → AreSeen p n sight → TypesPlace sight x to → FitsPlace p n to
+  fits-place : {scope : Environment} {x : Identifier} {to : Destination} → AreSeen p n scope → TypesPlace scope x to → FitsPlace p n to
   fits-place h (local_place e) = h _ _ e
   fits-place h (global_place e) = h _ _ e
 
-  fits-call : {sight : Sight} {to : Option Place} {c : Tree.Call} {t : TypedStatement} (g l : Bool) → AreSeen p n sight → FitsTarget p n to → TypesCall sight to c t → HasNone (FaultyCall sight (is_some to) c)
+  fits-call : {scope : Environment} {to : Option Destination} {c : Tree.Call} {t : TypedStatement} (g l : Bool) → AreSeen p n scope → FitsTarget p n to → TypesCall scope to c t → HasNone (FaultyCall scope (is_some to) c)
       → FitsStatement p n g l t
-  fits-call {sight = sight} {to = to} g l h target (function_called {x = x} {f = f} {n = m} {r = r} {all = es} e all) none =
+  fits-call {scope = scope} {to = to} g l h target (function_called {x = x} {f = f} {n = m} {r = r} {all = es} e all) none =
       let there = h _ _ e in
-      let right : (k : FaultKind) → IsWrong (sight x) (as_call (length es) (is_some to)) k → ⊥ = λ k w. none k x.at (inl (w, refl)) in
-      let count = right-count (sight x) f m (length es) r (is_some to) e right in
-      (target, (record { callee = there.0; there = there.1.0; count = typed-length all ∙ count ∙ there.1.1.0; gives = λ i. there.1.1.1 ∙ is-given (sight x) f m (length es) r (is_some to) e right i }, fits-all h all))
+      let right : (k : TypeFaultKind) → IsWrong (scope x) (as_call (length es) (is_some to)) k → ⊥ = λ k w. none k x.at (inl (w, refl)) in
+      let count = right-count (scope x) f m (length es) r (is_some to) e right in
+      (target, (record { callee = there.0; there = there.1.0; count = typed-length all ∙ count ∙ there.1.1.0; gives = λ i. there.1.1.1 ∙ is-given (scope x) f m (length es) r (is_some to) e right i }, fits-all h all))
   fits-call g l h target (out_called e s) none = fits h s
 
-  fits-value : {sight : Sight} {to : Place} {v : Tree.Value} {t : TypedStatement} (g l : Bool) → AreSeen p n sight → FitsPlace p n to → TypesValue sight to v t → HasNone (FaultyValue sight v) → FitsStatement p n g l t
+  fits-value : {scope : Environment} {to : Destination} {v : Tree.Value} {t : TypedStatement} (g l : Bool) → AreSeen p n scope → FitsPlace p n to → TypesValue scope to v t → HasNone (FaultyValue scope v) → FitsStatement p n g l t
   fits-value g l h target (plain_typed e) none = (target, fits h e)
   fits-value g l h target (called_typed c) none = fits-call g l h target c none
 
-  fits-simple : {sight : Sight} {s : Tree.Simple} {t : TypedStatement} (g l : Bool) → AreSeen p n sight → TypesSimple sight s t → HasNone (FaultySimple sight s) → FitsStatement p n g l t
+  fits-simple : {scope : Environment} {s : Tree.Simple} {t : TypedStatement} (g l : Bool) → AreSeen p n scope → TypesSimple scope s t → HasNone (FaultySimple scope s) → FitsStatement p n g l t
   fits-simple g l h (assign_typed to v) none = fits-value g l h (fits-place h to) v (λ k at w. none k at (inr w))
   fits-simple g l h (store_typed e i s) none = (h _ _ e, (fits h i, fits h s))
-  fits-simple g l h (run_typed c) none = fits-call g l h tt c none
+  fits-simple g l h (call_typed c) none = fits-call g l h tt c none
 
-  fits-part : {sight : Sight} {s : Option Tree.Simple} {t : TypedStatement} (g l : Bool) → AreSeen p n sight → TypesPart sight s t → HasNone (FaultyPart sight s) → FitsStatement p n g l t
+  fits-part : {scope : Environment} {s : Option Tree.Simple} {t : TypedStatement} (g l : Bool) → AreSeen p n scope → TypesPart scope s t → HasNone (FaultyPart scope s) → FitsStatement p n g l t
   fits-part g l h no_part none = tt
   fits-part g l h (some_part s) none = fits-simple g l h s none
 
-  fits-test : {sight : Sight} {e : Option Expression} {t : TypedExpression} → AreSeen p n sight → TypesTest sight e t → FitsExpression p n t
+  fits-test : {scope : Environment} {e : Option Expression} {t : TypedExpression} → AreSeen p n scope → TypesTest scope e t → FitsExpression p n t
   fits-test h no_test = tt
   fits-test h (some_test e) = fits h e
 
-  fits-first : {x : ℕ} {sight : Sight} {v : Option Tree.Value} {t : TypedStatement} (g l : Bool) → AreSeen p n sight → x < n → TypesFirst sight x v t → HasNone (FaultyFirst sight v) → FitsStatement p n g l t
+  fits-first : {x : ℕ} {scope : Environment} {v : Option Tree.Value} {t : TypedStatement} (g l : Bool) → AreSeen p n scope → x < n → TypesFirst scope x v t → HasNone (FaultyFirst scope v) → FitsStatement p n g l t
   fits-first g l h here no_first none = here
   fits-first g l h here (some_first v) none = fits-value g l h here v none
 
-  seen : (text : List ℕ) (sc : Scopes) → AreThere p n (named_in sc) → AreSeen p n (sight_in text sc)
-  seen text sc h x m e = h (spelled text x) m e
+  seen : (text : List ℕ) (sc : Scopes) → AreThere p n (named_in sc) → AreSeen p n (environment_in text sc)
+  seen text sc h x m e = h (spelling_in text x) m e
 
   -- what a name means in the innermost scope, where a local has just been declared
-  declared-by : (x : ℕ) (k : Kind) (inner around : Option Named) (m : Named) (b : Bool) → ((i : Named) → hides inner around ≡ Some i → IsThere p n i) → x < n
+  declared-by : (x : ℕ) (k : IntegerType) (inner around : Option Named) (m : Named) (b : Bool) → ((i : Named) → hides inner around ≡ Some i → IsThere p n i) → x < n
       → hides (if b then Some (Local x k) else inner) around ≡ Some m → IsThere p n m
   declared-by x k inner around m true h here e = subst (IsThere p n) (same_Some _ _ e) here
   declared-by x k inner around m false h here e = h _ e
 
-  pub declared-there : (text : List ℕ) (sc : Scopes) (k : Kind) (x : Identifier) → AreThere p n (named_in sc) → sc.locals < n → AreThere p n (named_in (declared text sc k x))
-  declared-there text sc k x h here w m e = declared-by sc.locals k (sc.inner w) (meaning_in sc.around w) m (bytes_eq (spelled text x) w) (λ i f. h w i f) here e
+  pub declared-there : (text : List ℕ) (sc : Scopes) (k : IntegerType) (x : Identifier) → AreThere p n (named_in sc) → sc.locals < n → AreThere p n (named_in (with_local text sc k x))
+  declared-there text sc k x h here w m e = declared-by sc.locals k (sc.inner w) (binding_in sc.around w) m (bytes_eq (spelling_in text x) w) (λ i f. h w i f) here e
 
   mutual
     fits-statement : {text : List ℕ} {sc : Scopes} {s : Tree.Statement} {t : TypedStatement} (g l : Bool) → AreThere p n (named_in sc) → sc.locals + declared_in s ≤ n → TypesStatement text sc s t
         → HasNone (FaultyStatement text g l sc s) → FitsStatement p n g l t
     fits-statement g l h room empty_typed none = tt
     fits-statement g l h room (block_typed all) none = fits-items g l h room all none
-    fits-statement {text = text} {sc = sc} g l h room (branch_typed c s) none = (fits (seen text sc h) c, (fits-statement g l h room s (λ k at w. none k at (inr w)), tt))
-    fits-statement {text = text} {sc = sc} g l h room (branch_else_typed {s = s} {e = e} c a b) none =
+    fits-statement {text = text} {sc = sc} g l h room (if_then_typed c s) none = (fits (seen text sc h) c, (fits-statement g l h room s (λ k at w. none k at (inr w)), tt))
+    fits-statement {text = text} {sc = sc} g l h room (if_then_else_typed {s = s} {e = e} c a b) none =
         (fits (seen text sc h) c, (fits-statement g l h (omega (arith, room)) a (λ k at w. none k at (inr (inl w))), fits-statement g l h (omega (arith, room)) b (λ k at w. none k at (inr (inr w)))))
-    fits-statement {text = text} {sc = sc} g l h room (repeat_typed c s) none = (fits (seen text sc h) c, (tt, fits-statement g true h room s (λ k at w. none k at (inr w))))
-    fits-statement {text = text} {sc = sc} g l h room (repeat_for_typed f c last s) none =
+    fits-statement {text = text} {sc = sc} g l h room (while_loop_typed c s) none = (fits (seen text sc h) c, (tt, fits-statement g true h room s (λ k at w. none k at (inr w))))
+    fits-statement {text = text} {sc = sc} g l h room (for_loop_typed f c last s) none =
         let sees = seen text sc h in (
           fits-part g l sees f (λ k at w. none k at (inl w)),
           ((fits-test sees c, (fits-part g false sees last (λ k at w. none k at (inr (inr (inl w)))), fits-statement g true h room s (λ k at w. none k at (inr (inr (inr w)))))), tt),
@@ -156,11 +156,11 @@ module _ (p : TypedProgram) (n : ℕ) where
         → HasNone (FaultyItems text g l sc is) → FitsStatements p n g l ts
     fits-items g l h room no_items_typed none = tt
     fits-items g l h room (statement_typed s rest) none = (fits-statement g l h (omega (arith, room)) s (λ k at w. none k at (inl w)), fits-items g l h (omega (arith, room)) rest (λ k at w. none k at (inr w)))
-    fits-items {text = text} {sc = sc} g l h room (declare_typed {k = kind} {x = x} {rest = others} v rest) none =
+    fits-items {text = text} {sc = sc} g l h room (declare_typed {k = integer_type} {x = x} {rest = others} v rest) none =
         let here : sc.locals < n = omega (arith, room) in
-        let there = declared-there text sc kind x h here in
+        let there = declared-there text sc integer_type x h here in
         let next : suc sc.locals + declared_in_all others ≤ n = omega (arith, room) in
-        (fits-first g l (seen text (declared text sc kind x) there) here v (λ k at w. none k at (inr (inl w))), fits-items g l there next rest (λ k at w. none k at (inr (inr w))))
+        (fits-first g l (seen text (with_local text sc integer_type x) there) here v (λ k at w. none k at (inr (inl w))), fits-items g l there next rest (λ k at w. none k at (inr (inr w))))
 
 no-more : (text : List ℕ) (sc : Scopes) (x : Identifier) → sc.locals ≤ 128 → HasNone (FaultyDeclarator text sc x) → suc sc.locals ≤ 128
 no-more text sc x few none = let other : sc.locals ≢ 128 = λ e. none Limit x.at (local_too_many e) in omega (arith, few, other)
@@ -168,14 +168,14 @@ no-more text sc x few none = let other : sc.locals ≢ 128 = λ e. none Limit x.
 mutual
   locals-fit : (text : List ℕ) (g l : Bool) (sc : Scopes) (s : Tree.Statement) → sc.locals ≤ 128 → HasNone (FaultyStatement text g l sc s) → sc.locals + declared_in s ≤ 128
   locals-fit text g l sc Tree.empty few none = omega (arith, few)
-  locals-fit text g l sc (Tree.block all) few none = all-locals-fit text g l (entered sc) all few none
-  locals-fit text g l sc (Tree.branch c s) few none = locals-fit text g l sc s few (λ k at w. none k at (inr w))
-  locals-fit text g l sc (Tree.branch_else c s t) few none =
+  locals-fit text g l sc (Tree.block all) few none = all-locals-fit text g l (within sc) all few none
+  locals-fit text g l sc (Tree.if_then c s) few none = locals-fit text g l sc s few (λ k at w. none k at (inr w))
+  locals-fit text g l sc (Tree.if_then_else c s t) few none =
       let first = locals-fit text g l sc s few (λ k at w. none k at (inr (inl w))) in
       let second = locals-fit text g l (behind sc s) t first (λ k at w. none k at (inr (inr w))) in
       omega (arith, second)
-  locals-fit text g l sc (Tree.repeat c s) few none = locals-fit text g true sc s few (λ k at w. none k at (inr w))
-  locals-fit text g l sc (Tree.repeat_for f c last s) few none = locals-fit text g true sc s few (λ k at w. none k at (inr (inr (inr w))))
+  locals-fit text g l sc (Tree.while_loop c s) few none = locals-fit text g true sc s few (λ k at w. none k at (inr w))
+  locals-fit text g l sc (Tree.for_loop f c last s) few none = locals-fit text g true sc s few (λ k at w. none k at (inr (inr (inr w))))
   locals-fit text g l sc (Tree.break_at at) few none = omega (arith, few)
   locals-fit text g l sc (Tree.continue_at at) few none = omega (arith, few)
   locals-fit text g l sc (Tree.return_at at e) few none = omega (arith, few)
@@ -187,12 +187,12 @@ mutual
       let first = locals-fit text g l sc s few (λ k at w. none k at (inl w)) in
       let second = all-locals-fit text g l (behind sc s) rest first (λ k at w. none k at (inr w)) in
       omega (arith, second)
-  all-locals-fit text g l sc (Tree.more_items (Tree.declare kind x v) rest) few none =
+  all-locals-fit text g l sc (Tree.more_items (Tree.declare integer_type x v) rest) few none =
       let first = no-more text sc x few (λ k at w. none k at (inl w)) in
-      let second = all-locals-fit text g l (declared text sc kind x) rest first (λ k at w. none k at (inr (inr w))) in
+      let second = all-locals-fit text g l (with_local text sc integer_type x) rest first (λ k at w. none k at (inr (inr w))) in
       omega (arith, second)
 
 pub behind-locals : (text : List ℕ) (sc : Scopes) (is : Tree.Items) → (behind_items text sc is).locals ≡ sc.locals + declared_in_all is
 behind-locals text sc Tree.no_items = omega arith
 behind-locals text sc (Tree.more_items (Tree.statement s) rest) = let h = behind-locals text (behind sc s) rest in omega (arith, h)
-behind-locals text sc (Tree.more_items (Tree.declare kind x v) rest) = let h = behind-locals text (declared text sc kind x) rest in omega (arith, h)
+behind-locals text sc (Tree.more_items (Tree.declare integer_type x v) rest) = let h = behind-locals text (with_local text sc integer_type x) rest in omega (arith, h)

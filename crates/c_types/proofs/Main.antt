@@ -3,21 +3,21 @@ use Rattle.std.proofs.Common.{◌≡◌, ◌≢◌, ◌⊎◌, ℕ, List, [], �
 use Rattle.std.specs.Prelude.{bytes_eq, if◌then◌else◌}
 use Rattle.std.proofs.lemmas.Option.{none-some}
 use Rattle.c_front.specs.Tree as Tree
-use Rattle.c_tokens.specs.declared.token.Kind.TheVariants.{SignedInt, UnsignedInt}
-use Rattle.c_statements.specs.declared.fault.FaultKind.TheVariants.{NoMain}
+use Rattle.c_tokens.specs.declared.token.IntegerType.TheVariants.{SignedInt, UnsignedInt}
+use Rattle.c_statements.specs.declared.fault.TypeFaultKind.TheVariants.{NoMain}
 use Rattle.c_statements.specs.declared.names.Named.{Named}
 use Rattle.c_statements.specs.declared.names.Named.TheVariants.{Function}
-use Rattle.c_statements.specs.declared.fault.Stop.{Stop}
+use Rattle.c_statements.specs.declared.fault.TypeStop.{TypeStop}
 use Rattle.c_statements.specs.Faults.{Faults, HasNone, IsFirstFault, IsNoLater, StopsAtFirst, StopsBoth}
 use Rattle.c_typed.specs.Shape.{functions_of}
-use Rattle.c_statements.specs.Names.{Meaning, spelled}
+use Rattle.c_statements.specs.Names.{Bindings, spelling_in}
 use Rattle.c_statements.proofs.Firsts.{Both, both-stop, ok-at}
 use Rattle.c_types.specs.declared.program.Parts.{Parts}
 use Rattle.c_types.specs.Files.{AreTyped}
 use Rattle.c_types.specs.Programs.{File, FaultyDeclarations, FaultyName, FaultyProgram, IsNotMain, LacksMain, TypesProgram, after, after_all, main_name, name_of, named_by, no_declarations, no_main, other_main}
 
 -- `main` isn't declared yet, or is a function without parameters that gives a result
-abbrev pub IsMainOr : Meaning → Type 0
+abbrev pub IsMainOr : Bindings → Type 0
 IsMainOr names = (names main_name ≡ None) ⊎ ((n : ℕ) × (names main_name ≡ Some (Function n 0 true)))
 
 is-main : (f : File) (d : Tree.Declaration) → (IsNotMain d → ⊥) → (n : ℕ) × (named_by f.counts d ≡ Function n 0 true)
@@ -34,51 +34,51 @@ is-main f (Tree.function (Some SignedInt) x (p ∷ ps) body) h = absurd (h (inr 
     some : (p ∷ ps) ≢ []
     some e = cc
 
-step-by : (text : List ℕ) (f : File) (d : Tree.Declaration) (b : Bool) → bytes_eq (spelled text (name_of d)) main_name ≡ b → IsMainOr f.names → HasNone (FaultyName text f d)
+step-by : (text : List ℕ) (f : File) (d : Tree.Declaration) (b : Bool) → bytes_eq (spelling_in text (name_of d)) main_name ≡ b → IsMainOr f.names → HasNone (FaultyName text f d)
     → ((if b then Some (named_by f.counts d) else f.names main_name) ≡ None) ⊎ ((n : ℕ) × ((if b then Some (named_by f.counts d) else f.names main_name) ≡ Some (Function n 0 true)))
 step-by text f d true e h n = let m = is-main f d (λ w. n _ _ (other_main e w)) in inr (m.0, ap (λ (x : Named). Some x) m.1)
 step-by text f d false e h n = h
 
 step : (text : List ℕ) (f : File) (d : Tree.Declaration) → IsMainOr f.names → HasNone (FaultyName text f d) → IsMainOr (after text f d).names
-step text f d h n = step-by text f d (bytes_eq (spelled text (name_of d)) main_name) refl h n
+step text f d h n = step-by text f d (bytes_eq (spelling_in text (name_of d)) main_name) refl h n
 
 all : (text : List ℕ) (f : File) (ds : List Tree.Declaration) → IsMainOr f.names → HasNone (FaultyDeclarations text f ds) → IsMainOr (after_all text f ds).names
 all text f [] h n = h
 all text f (d ∷ rest) h n = all text (after text f d) rest (step text f d h (λ k at w. n k at (inl (inl w)))) (λ k at w. n k at (inr w))
 
-pub main-is : (text : List ℕ) (ds : List Tree.Declaration) (names : Meaning) → names ≡ (after_all text no_declarations ds).names → HasNone (FaultyDeclarations text no_declarations ds) → HasNone (LacksMain text names)
+pub main-is : (text : List ℕ) (ds : List Tree.Declaration) (names : Bindings) → names ≡ (after_all text no_declarations ds).names → HasNone (FaultyDeclarations text no_declarations ds) → HasNone (LacksMain text names)
     → (n : ℕ) × (names main_name ≡ Some (Function n 0 true))
 main-is text ds names e h l =
     let m : IsMainOr names = subst IsMainOr (sym e) (all text no_declarations ds (inl refl) h) in
     elim m [ inl x ↦ absurd (l _ _ (no_main x)) | inr y ↦ y ]
 
-pub no-main-first : (text : List ℕ) (names : Meaning) (at : ℕ) → at ≡ length text → names main_name ≡ None → IsFirstFault (LacksMain text names) NoMain at
+pub no-main-first : (text : List ℕ) (names : Bindings) (at : ℕ) → at ≡ length text → names main_name ≡ None → IsFirstFault (LacksMain text names) NoMain at
 no-main-first text names at e h = rw e (record { has = no_main h; first = λ j n w. least w })
   where
     least : {j : _} {n : ℕ} → LacksMain text names j n → IsNoLater NoMain (length text) j n
     least (no_main x) = inr (refl, omega arith)
 
-none-at : {A : Type 0} (p : Faults) (r : Result A Stop) (x : A) → r ≡ Ok x → IfOk r (λ y. HasNone p) → HasNone p
+none-at : {A : Type 0} (p : Faults) (r : Result A TypeStop) (x : A) → r ≡ Ok x → IfOk r (λ y. HasNone p) → HasNone p
 none-at p r x e h = ok-at (λ y. HasNone p) r x e h
 
 -- the declarations and `main` together
-pub program-stop : {A B : Type 0} (text : List ℕ) (ds : List Tree.Declaration) (names : Meaning) (a : Result A Stop) (b : Result B Stop) (s : Stop) → names ≡ (after_all text no_declarations ds).names
+pub program-stop : {A B : Type 0} (text : List ℕ) (ds : List Tree.Declaration) (names : Bindings) (a : Result A TypeStop) (b : Result B TypeStop) (s : TypeStop) → names ≡ (after_all text no_declarations ds).names
     → IfOk a (λ y. HasNone (FaultyDeclarations text no_declarations ds)) → IfErr a (StopsAtFirst (FaultyDeclarations text no_declarations ds)) → IfOk b (λ y. HasNone (LacksMain text names)) → IfErr b (StopsAtFirst (LacksMain text names))
     → StopsBoth a b s → StopsAtFirst (FaultyProgram text ds) s
 program-stop text ds names a b s e n h m l t =
-    let Q : Meaning → Type 0 = λ y. StopsAtFirst (Both (FaultyDeclarations text no_declarations ds) (LacksMain text y)) s in
+    let Q : Bindings → Type 0 = λ y. StopsAtFirst (Both (FaultyDeclarations text no_declarations ds) (LacksMain text y)) s in
     subst Q e (both-stop (FaultyDeclarations text no_declarations ds) (LacksMain text names) a b s n h m l t)
 
-pub main-found : {A B : Type 0} (text : List ℕ) (ds : List Tree.Declaration) (names : Meaning) (a : Result A Stop) (b : Result B Stop) (x : A) (y : B) (found : Option Named) → names ≡ (after_all text no_declarations ds).names
+pub main-found : {A B : Type 0} (text : List ℕ) (ds : List Tree.Declaration) (names : Bindings) (a : Result A TypeStop) (b : Result B TypeStop) (x : A) (y : B) (found : Option Named) → names ≡ (after_all text no_declarations ds).names
     → IfOk a (λ z. HasNone (FaultyDeclarations text no_declarations ds)) → IfOk b (λ z. HasNone (LacksMain text names)) → a ≡ Ok x → b ≡ Ok y → found ≡ names main_name → (n : ℕ) × (found ≡ Some (Function n 0 true))
 main-found text ds names a b x y found e n m i j f = let w = main-is text ds names e (none-at (FaultyDeclarations text no_declarations ds) a x i n) (none-at (LacksMain text names) b y j m) in (w.0, f ∙ w.1)
 
-pub typed-program : (text : List ℕ) (ds : List Tree.Declaration) (names : Meaning) (p : Parts) (m : ℕ) (found : Option Named) → AreTyped text ds p → names ≡ (after_all text no_declarations ds).names → found ≡ names main_name
+pub typed-program : (text : List ℕ) (ds : List Tree.Declaration) (names : Bindings) (p : Parts) (m : ℕ) (found : Option Named) → AreTyped text ds p → names ≡ (after_all text no_declarations ds).names → found ≡ names main_name
     → found ≡ Some (Function m 0 true) → TypesProgram text ds (record { functions = functions_of p.functions.items; globals = p.globals.items; main = m })
 typed-program text ds names p m found a e f q = record {
   declarations = a.declarations;
   typed = a.typed;
   functions = a.parts.functions;
   globals = a.parts.globals;
-  entry = ap (λ (y : Meaning). y main_name) (sym e) ∙ sym f ∙ q;
+  entry = ap (λ (y : Bindings). y main_name) (sym e) ∙ sym f ∙ q;
 }

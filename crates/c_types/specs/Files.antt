@@ -1,15 +1,16 @@
 -- What the walk over the declarations keeps.
 use Rattle.std.specs.Prelude.{length, [], ◌∷◌, ◌++◌, Result, Ok, ◌≡◌, ◌+◌, ◌<◌, ◌≤◌, ◌⊎◌, ℕ, List, Option, Some, Bool, true, false, nat_eq, bytes_eq}
 use Rattle.c_front.specs.Tree.{Declaration, Items, variable, array, function}
-use Rattle.c_statements.specs.declared.scopes.Frame.{Frame}
-use Rattle.c_statements.specs.Held.{scopes_of}
+use Rattle.c_statements.specs.declared.symbol_table.Scopes.{Scopes}
+use Rattle.c_statements.specs.Shape.{scopes_of}
 use Rattle.c_types.specs.declared.declaration.Tally.{Tally}
 use Rattle.c_front.specs.declared.tree.Parameter.{Parameter}
 use Rattle.c_tokens.specs.declared.token.Identifier.{Identifier}
-use Rattle.c_tokens.specs.declared.token.Kind.{Kind}
-use Rattle.c_statements.specs.Names.{Meaning, Scopes, spelled, behind_items}
+use Rattle.c_tokens.specs.declared.token.IntegerType.{IntegerType}
+use Rattle.c_statements.specs.Names as Names
+use Rattle.c_statements.specs.Names.{Bindings, spelling_in, behind_items}
 use Rattle.c_typed.specs.Shape.{function_of, functions_of}
-use Rattle.c_statements.specs.declared.fault.Stop.{Stop}
+use Rattle.c_statements.specs.declared.fault.TypeStop.{TypeStop}
 use Rattle.c_typed.specs.Trees.{TypedFunction, TypedStatements}
 use Rattle.c_statements.specs.Types.{TypesItems}
 use Rattle.c_types.specs.Programs.{Counts, File, IsNotMain, main_name, name_of, scopes_at, behind_parameters, closing, with_last, TypedDeclaration, a_global, a_function, TypesDeclarations, no_declarations, functions_in, globals_in}
@@ -20,7 +21,7 @@ use Rattle.c_types.specs.declared.program.Parts.{Parts}
 abbrev pub counts_of : Tally → Counts
 counts_of t = record { globals = t.globals; functions = t.functions; words = t.words }
 
-abbrev pub file_of : Frame → Tally → File
+abbrev pub file_of : Scopes → Tally → File
 file_of f t = record { names = (scopes_of f).inner; counts = counts_of t }
 
 -- the 257th function, or the global with which the words are exceeded
@@ -36,21 +37,21 @@ is_array_of_nothing (function r x ps body) = false
 
 -- a `main` that isn't `int main(void)`, or an array of length 0
 abbrev pub IsOtherKind : List ℕ → Declaration → Type 0
-IsOtherKind text d = (is_array_of_nothing d ≡ true) ⊎ ((bytes_eq (spelled text (name_of d)) main_name ≡ true) × IsNotMain d)
+IsOtherKind text d = (is_array_of_nothing d ≡ true) ⊎ ((bytes_eq (spelling_in text (name_of d)) main_name ≡ true) × IsNotMain d)
 
 -- at file scope, with these names
-abbrev pub file_scopes : Meaning → Scopes
+abbrev pub file_scopes : Bindings → Names.Scopes
 file_scopes names = record { inner = names; around = []; locals = 0 }
 
 -- what a function at file scope comes to, under the names there
-pub record IsFunction (text : List ℕ) (names : Meaning) (r : Option Kind) (x : Identifier) (ps : List Parameter) (body : Items) (t : TypedFunction) : Type 0 where
+pub record IsFunction (text : List ℕ) (names : Bindings) (r : Option IntegerType) (x : Identifier) (ps : List Parameter) (body : Items) (t : TypedFunction) : Type 0 where
   pub typed : TypedStatements
   pub types : TypesItems text (behind_parameters text (scopes_at names) ps) body typed
   pub is : t ≡ record {
     result = r;
     parameters = length ps;
     locals = (behind_items text (behind_parameters text (scopes_at names) ps) body).locals;
-    body = with_last typed (closing (bytes_eq (spelled text x) main_name) r);
+    body = with_last typed (closing (bytes_eq (spelling_in text x) main_name) r);
   }
 
 abbrev pub declared_of : Declared → TypedDeclaration
@@ -63,7 +64,7 @@ pub record AreParts (p : Parts) (all : List TypedDeclaration) : Type 0 where
   pub globals : p.globals.items ≡ globals_in all
 
 -- one declaration more
-pub record IsWith (parts : Result Parts Stop) (next : Result Declared Stop) (r : Parts) : Type 0 where
+pub record IsWith (parts : Result Parts TypeStop) (next : Result Declared TypeStop) (r : Parts) : Type 0 where
   pub old : Parts
   pub more : Declared
   pub before : parts ≡ Ok old

@@ -1,18 +1,18 @@
 -- The faults of a program, and which typed program it has (C99 6.9, 5.1.2.2.1).
 use Rattle.std.specs.Prelude.{◌≡◌, ◌≢◌, ◌⊎◌, ◌+◌, ◌<◌, ◌≤◌, ◌-◌, ◌%◌, ◌^◌, ℕ, suc, List, [], ◌∷◌, Option, Some, None, Bool, true, false, length, is_some, if◌then◌else◌, bytes_eq}
 use Rattle.c_tokens.specs.declared.token.Identifier.{Identifier}
-use Rattle.c_tokens.specs.declared.token.Kind.{Kind}
-use Rattle.c_tokens.specs.declared.token.Kind.TheVariants.{SignedInt}
+use Rattle.c_tokens.specs.declared.token.IntegerType.{IntegerType}
+use Rattle.c_tokens.specs.declared.token.IntegerType.TheVariants.{SignedInt}
 use Rattle.c_tokens.specs.declared.token.Literal.{Literal}
 use Rattle.c_front.specs.declared.tree.Initial.{Initial}
 use Rattle.c_front.specs.declared.tree.Parameter.{Parameter}
 use Rattle.c_front.specs.Tree.{Declaration, variable, array, function, Items}
-use Rattle.c_statements.specs.declared.fault.FaultKind.{FaultKind}
-use Rattle.c_statements.specs.declared.fault.FaultKind.TheVariants.{Redeclared, Kind as KindFault, Count, NoMain, Limit}
+use Rattle.c_statements.specs.declared.fault.TypeFaultKind.{TypeFaultKind}
+use Rattle.c_statements.specs.declared.fault.TypeFaultKind.TheVariants.{Redeclared, Kind as KindFault, Count, NoMain, Limit}
 use Rattle.c_statements.specs.declared.names.Named.{Named}
 use Rattle.c_statements.specs.declared.names.Named.TheVariants.{Global, Array, Function, Out}
 use Rattle.c_typed.specs.declared.tree.Global as Typed
-use Rattle.c_statements.specs.Names.{Meaning, Scopes, spelled, nothing, with_name, declared, behind_items}
+use Rattle.c_statements.specs.Names.{Bindings, Scopes, spelling_in, nothing, with_name, with_local, behind_items}
 use Rattle.c_statements.specs.Statements.{FaultyDeclarator, FaultyItems}
 use Rattle.c_typed.specs.Trees.{TypedFunction, TypedStatements, TypedProgram, no_statements, more_statements, return_with, constant}
 use Rattle.c_statements.specs.Types.{TypesItems}
@@ -32,7 +32,7 @@ pub record Counts : Type 0 where
 
 -- what stands at file scope so far
 pub record File : Type 0 where
-  pub names : Meaning
+  pub names : Bindings
   pub counts : Counts
 
 -- `out` is declared at file scope
@@ -60,7 +60,7 @@ counts_after n (array k x l) = record { globals = suc n.globals; functions = n.f
 counts_after n (function r x ps body) = record { globals = n.globals; functions = suc n.functions; words = n.words }
 
 abbrev pub after : List ℕ → File → Declaration → File
-after text f d = record { names = with_name f.names (spelled text (name_of d)) (named_by f.counts d); counts = counts_after f.counts d }
+after text f d = record { names = with_name f.names (spelling_in text (name_of d)) (named_by f.counts d); counts = counts_after f.counts d }
 
 abbrev pub after_all : List ℕ → File → List Declaration → File
 after_all text f [] = f
@@ -74,49 +74,49 @@ IsNotMain (function r x ps body) = (r ≢ Some SignedInt) ⊎ (ps ≢ [])
 
 -- what is wrong with the name that is declared at file scope, at that name; too many words are told at the global with
 -- which the globals exceed 262,144
-pub data FaultyName (text : List ℕ) (f : File) : Declaration → FaultKind → ℕ → Type 0 where
-  declared_again : {d : Declaration} → f.names (spelled text (name_of d)) ≢ None → FaultyName text f d Redeclared (name_of d).at
-  other_main : {d : Declaration} → bytes_eq (spelled text (name_of d)) main_name ≡ true → IsNotMain d → FaultyName text f d KindFault (name_of d).at
-  array_of_nothing : {k : Kind} {x : Identifier} {n : Literal} → n.value ≡ 0 → FaultyName text f (array k x n) KindFault x.at
+pub data FaultyName (text : List ℕ) (f : File) : Declaration → TypeFaultKind → ℕ → Type 0 where
+  declared_again : {d : Declaration} → f.names (spelling_in text (name_of d)) ≢ None → FaultyName text f d Redeclared (name_of d).at
+  other_main : {d : Declaration} → bytes_eq (spelling_in text (name_of d)) main_name ≡ true → IsNotMain d → FaultyName text f d KindFault (name_of d).at
+  array_of_nothing : {k : IntegerType} {x : Identifier} {n : Literal} → n.value ≡ 0 → FaultyName text f (array k x n) KindFault x.at
   too_many_words : {d : Declaration} → f.counts.words ≤ 262144 → 262144 < f.counts.words + words_of d → FaultyName text f d Limit (name_of d).at
-  too_many_functions : {r : Option Kind} {x : Identifier} {ps : List Parameter} {body : Items} → f.counts.functions ≡ 256 →
+  too_many_functions : {r : Option IntegerType} {x : Identifier} {ps : List Parameter} {body : Items} → f.counts.functions ≡ 256 →
       FaultyName text f (function r x ps body) Limit x.at
 
 -- a declarator in the function's outermost scope, and the fifth parameter
-pub data FaultyParameter (text : List ℕ) (sc : Scopes) (x : Identifier) : FaultKind → ℕ → Type 0 where
-  faulty_declarator : {k : FaultKind} {at : ℕ} → FaultyDeclarator text sc x k at → FaultyParameter text sc x k at
+pub data FaultyParameter (text : List ℕ) (sc : Scopes) (x : Identifier) : TypeFaultKind → ℕ → Type 0 where
+  faulty_declarator : {k : TypeFaultKind} {at : ℕ} → FaultyDeclarator text sc x k at → FaultyParameter text sc x k at
   fifth_parameter : sc.locals ≡ 4 → FaultyParameter text sc x Count x.at
 
-abbrev pub FaultyParameters : List ℕ → Scopes → List Parameter → FaultKind → ℕ → Type 0
+abbrev pub FaultyParameters : List ℕ → Scopes → List Parameter → TypeFaultKind → ℕ → Type 0
 FaultyParameters text sc [] k at = ⊥
-FaultyParameters text sc (p ∷ rest) k at = FaultyParameter text sc p.name k at ⊎ FaultyParameters text (declared text sc p.kind p.name) rest k at
+FaultyParameters text sc (p ∷ rest) k at = FaultyParameter text sc p.name k at ⊎ FaultyParameters text (with_local text sc p.integer_type p.name) rest k at
 
 abbrev pub behind_parameters : List ℕ → Scopes → List Parameter → Scopes
 behind_parameters text sc [] = sc
-behind_parameters text sc (p ∷ rest) = behind_parameters text (declared text sc p.kind p.name) rest
+behind_parameters text sc (p ∷ rest) = behind_parameters text (with_local text sc p.integer_type p.name) rest
 
 -- the scopes at a function's parameters: its own, and that of the file, which has its name already
-abbrev pub scopes_at : Meaning → Scopes
+abbrev pub scopes_at : Bindings → Scopes
 scopes_at names = record { inner = nothing; around = names ∷ []; locals = 0 }
 
-abbrev pub FaultyBody : List ℕ → Meaning → Declaration → FaultKind → ℕ → Type 0
-FaultyBody text names (variable kind x i) k at = ⊥
-FaultyBody text names (array kind x n) k at = ⊥
+abbrev pub FaultyBody : List ℕ → Bindings → Declaration → TypeFaultKind → ℕ → Type 0
+FaultyBody text names (variable integer_type x i) k at = ⊥
+FaultyBody text names (array integer_type x n) k at = ⊥
 FaultyBody text names (function r x ps body) k at =
     FaultyParameters text (scopes_at names) ps k at ⊎ FaultyItems text (is_some r) false (behind_parameters text (scopes_at names) ps) body k at
 
-abbrev pub FaultyDeclaration : List ℕ → File → Declaration → FaultKind → ℕ → Type 0
+abbrev pub FaultyDeclaration : List ℕ → File → Declaration → TypeFaultKind → ℕ → Type 0
 FaultyDeclaration text f d k at = FaultyName text f d k at ⊎ FaultyBody text (after text f d).names d k at
 
-abbrev pub FaultyDeclarations : List ℕ → File → List Declaration → FaultKind → ℕ → Type 0
+abbrev pub FaultyDeclarations : List ℕ → File → List Declaration → TypeFaultKind → ℕ → Type 0
 FaultyDeclarations text f [] k at = ⊥
 FaultyDeclarations text f (d ∷ rest) k at = FaultyDeclaration text f d k at ⊎ FaultyDeclarations text (after text f d) rest k at
 
 -- a program in which no declaration is named `main`
-pub data LacksMain (text : List ℕ) (names : Meaning) : FaultKind → ℕ → Type 0 where
+pub data LacksMain (text : List ℕ) (names : Bindings) : TypeFaultKind → ℕ → Type 0 where
   no_main : names main_name ≡ None → LacksMain text names NoMain (length text)
 
-abbrev pub FaultyProgram : List ℕ → List Declaration → FaultKind → ℕ → Type 0
+abbrev pub FaultyProgram : List ℕ → List Declaration → TypeFaultKind → ℕ → Type 0
 FaultyProgram text all k at = FaultyDeclarations text no_declarations all k at ⊎ LacksMain text (after_all text no_declarations all).names k at
 
 -- the word of a first value
@@ -130,10 +130,10 @@ with_last (more_statements s rest) last = more_statements s (with_last rest last
 
 -- the constant 0
 abbrev pub zero_literal : Literal
-zero_literal = record { value = 0; kind = SignedInt }
+zero_literal = record { value = 0; integer_type = SignedInt }
 
 -- what the end brace does (C99 5.1.2.2.3, 6.9.1): `main` returns 0, a function without result returns
-abbrev pub closing : (is_main : Bool) → Option Kind → TypedStatements
+abbrev pub closing : (is_main : Bool) → Option IntegerType → TypedStatements
 closing true r = more_statements (return_with (Some (constant zero_literal))) no_statements
 closing false None = more_statements (return_with None) no_statements
 closing false (Some k) = no_statements
@@ -144,15 +144,15 @@ pub data TypedDeclaration : Type 0 where
   a_function : TypedFunction → TypedDeclaration
 
 pub data TypesDeclaration (text : List ℕ) (f : File) : Declaration → TypedDeclaration → Type 0 where
-  variable_typed : {k : Kind} {x : Identifier} {i : Option Initial} → TypesDeclaration text f (variable k x i) (a_global (record { length = 1; first = first_word i }))
-  array_typed : {k : Kind} {x : Identifier} {n : Literal} → TypesDeclaration text f (array k x n) (a_global (record { length = n.value; first = 0 }))
-  function_typed : {r : Option Kind} {x : Identifier} {ps : List Parameter} {body : Items} {typed : TypedStatements} →
+  variable_typed : {k : IntegerType} {x : Identifier} {i : Option Initial} → TypesDeclaration text f (variable k x i) (a_global (record { length = 1; first = first_word i }))
+  array_typed : {k : IntegerType} {x : Identifier} {n : Literal} → TypesDeclaration text f (array k x n) (a_global (record { length = n.value; first = 0 }))
+  function_typed : {r : Option IntegerType} {x : Identifier} {ps : List Parameter} {body : Items} {typed : TypedStatements} →
       TypesItems text (behind_parameters text (scopes_at (after text f (function r x ps body)).names) ps) body typed →
       TypesDeclaration text f (function r x ps body) (a_function (record {
         result = r;
         parameters = length ps;
         locals = (behind_items text (behind_parameters text (scopes_at (after text f (function r x ps body)).names) ps) body).locals;
-        body = with_last typed (closing (bytes_eq (spelled text x) main_name) r);
+        body = with_last typed (closing (bytes_eq (spelling_in text x) main_name) r);
       }))
 
 pub data TypesDeclarations (text : List ℕ) : File → List Declaration → List TypedDeclaration → Type 0 where

@@ -1,14 +1,14 @@
 ghost use Rattle.std.specs.Prelude.{◌≡◌, ◌<◌, ◌≤◌, ◌+◌, ◌^◌, IfOk, IfErr, true, false, bytes_eq};
 ghost use Rattle.c_front.specs.Shape.{declaration_of};
 ghost use Rattle.c_statements.specs.Faults.{HasNone, StopsAtFirst};
-ghost use Rattle.c_statements.specs.Held.{scopes_of};
-ghost use Rattle.c_statements.specs.Names.{spelled};
+ghost use Rattle.c_statements.specs.Shape.{scopes_of};
+ghost use Rattle.c_statements.specs.Names.{spelling_in};
 ghost use Rattle.c_types.specs.Files.{counts_of, file_of, Exceeds, IsOtherKind, is_array_of_nothing};
 ghost use Rattle.c_types.specs.Programs.{FaultyName, FaultyParameter, FaultyParameters, behind_parameters, IsNotMain, first_word, main_name, name_of, named_by, counts_after, words_of};
 
 use c_front::{Declaration, Initial, Parameter, Program};
-use c_statements::{FaultKind, Frame, MAX_LOCALS, Named, Stop, either, misuse};
-use c_tokens::{Identifier, Kind};
+use c_statements::{MAX_LOCALS, Named, Scopes, TypeFaultKind, TypeStop, either, misuse};
+use c_tokens::{Identifier, IntegerType};
 use std::alloc::AllocError;
 
 /// The most parameters that a function may have.
@@ -31,7 +31,7 @@ pub struct Tally {
 
 /// Whether a name is `main`.
 pub fn is_main(program: &Program, name: Identifier) -> bool
-    ensures { result ≡ bytes_eq (spelled program.now.text.items name) main_name }
+    ensures { result ≡ bytes_eq (spelling_in program.now.text.items name) main_name }
 {
     program.spelling(name) == b"main".as_slice()
 }
@@ -65,7 +65,7 @@ fn is_int_function(declaration: &Declaration) -> bool
 {
     match declaration {
         Declaration::Function(function) => {
-            function.parameters.is_empty() && function.result == Some(Kind::SignedInt)
+            function.parameters.is_empty() && function.result == Some(IntegerType::SignedInt)
         }
         _ => false,
     }
@@ -103,8 +103,8 @@ impl Tally {
         ensures { result ≡ named_by (counts_of self.now) (declaration_of declaration.now) }
     {
         match declaration {
-            Declaration::Variable(kind, _, _) => Named::Global(self.globals, *kind),
-            Declaration::Array(kind, _, _) => Named::Array(self.globals, *kind),
+            Declaration::Variable(integer_type, _, _) => Named::Global(self.globals, *integer_type),
+            Declaration::Array(integer_type, _, _) => Named::Array(self.globals, *integer_type),
             Declaration::Function(function) => Named::Function(
                 self.functions,
                 function.parameters.len(),
@@ -162,39 +162,39 @@ fn is_other_kind(program: &Program, declaration: &Declaration) -> bool
 /// What is wrong with the name of a declaration at file scope.
 pub fn name_fault(
     program: &Program,
-    frame: &Frame,
+    scopes: &Scopes,
     tally: &Tally,
     declaration: &Declaration,
-) -> Result<(), Stop>
-    ensures none { IfOk result (λ _. HasNone (FaultyName program.now.text.items (file_of frame.now tally.now) (declaration_of declaration.now))) }
-    ensures err { IfErr result (StopsAtFirst (FaultyName program.now.text.items (file_of frame.now tally.now) (declaration_of declaration.now))) }
+) -> Result<(), TypeStop>
+    ensures none { IfOk result (λ _. HasNone (FaultyName program.now.text.items (file_of scopes.now tally.now) (declaration_of declaration.now))) }
+    ensures err { IfErr result (StopsAtFirst (FaultyName program.now.text.items (file_of scopes.now tally.now) (declaration_of declaration.now))) }
 {
     let name = declared_name(declaration);
-    if frame.declares(program, name) {
-        return Err(misuse(FaultKind::Redeclared, name));
+    if scopes.declares(program, name) {
+        return Err(misuse(TypeFaultKind::Redeclared, name));
     }
     if is_other_kind(program, declaration) {
-        return Err(misuse(FaultKind::Kind, name));
+        return Err(misuse(TypeFaultKind::Kind, name));
     }
     if tally.exceeded_by(declaration) {
-        return Err(misuse(FaultKind::Limit, name));
+        return Err(misuse(TypeFaultKind::Limit, name));
     }
     Ok(())
 }
 
 /// What is wrong with the name of a parameter.
-fn parameter_fault(program: &Program, frame: &Frame, name: Identifier) -> Result<(), Stop>
-    ensures none { IfOk result (λ _. HasNone (FaultyParameter program.now.text.items (scopes_of frame.now) name)) }
-    ensures err { IfErr result (StopsAtFirst (FaultyParameter program.now.text.items (scopes_of frame.now) name)) }
+fn parameter_fault(program: &Program, scopes: &Scopes, name: Identifier) -> Result<(), TypeStop>
+    ensures none { IfOk result (λ _. HasNone (FaultyParameter program.now.text.items (scopes_of scopes.now) name)) }
+    ensures err { IfErr result (StopsAtFirst (FaultyParameter program.now.text.items (scopes_of scopes.now) name)) }
 {
-    if frame.declares(program, name) {
-        return Err(misuse(FaultKind::Redeclared, name));
+    if scopes.declares(program, name) {
+        return Err(misuse(TypeFaultKind::Redeclared, name));
     }
-    if frame.locals() == MAX_PARAMETERS {
-        return Err(misuse(FaultKind::Count, name));
+    if scopes.locals() == MAX_PARAMETERS {
+        return Err(misuse(TypeFaultKind::Count, name));
     }
-    if frame.locals() == MAX_LOCALS {
-        return Err(misuse(FaultKind::Limit, name));
+    if scopes.locals() == MAX_LOCALS {
+        return Err(misuse(TypeFaultKind::Limit, name));
     }
     Ok(())
 }
@@ -202,17 +202,17 @@ fn parameter_fault(program: &Program, frame: &Frame, name: Identifier) -> Result
 /// Puts the parameters of a function into its scope.
 pub fn parameters<'a>(
     program: &'a Program,
-    frame: &mut Frame<'a>,
+    scopes: &mut Scopes<'a>,
     all: &[Parameter],
-) -> Result<Result<(), Stop>, AllocError>
-    ensures none { IfOk result (λ r. IfOk r (λ _. HasNone (FaultyParameters program.now.text.items (scopes_of frame.old) all.now))) }
-    ensures err { IfOk result (λ r. IfErr r (StopsAtFirst (FaultyParameters program.now.text.items (scopes_of frame.old) all.now))) }
-    ensures scopes { IfOk result (λ r. scopes_of frame.new ≡ behind_parameters program.now.text.items (scopes_of frame.old) all.now) }
+) -> Result<Result<(), TypeStop>, AllocError>
+    ensures none { IfOk result (λ r. IfOk r (λ _. HasNone (FaultyParameters program.now.text.items (scopes_of scopes.old) all.now))) }
+    ensures err { IfOk result (λ r. IfErr r (StopsAtFirst (FaultyParameters program.now.text.items (scopes_of scopes.old) all.now))) }
+    ensures scopes { IfOk result (λ r. scopes_of scopes.new ≡ behind_parameters program.now.text.items (scopes_of scopes.old) all.now) }
 {
     let mut fault = Ok(());
     for parameter in all {
-        fault = either(fault, parameter_fault(program, frame, parameter.name));
-        frame.declare_local(program, parameter.kind, parameter.name)?;
+        fault = either(fault, parameter_fault(program, scopes, parameter.name));
+        scopes.declare_local(program, parameter.integer_type, parameter.name)?;
     }
     Ok(fault)
 }

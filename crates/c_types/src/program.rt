@@ -1,10 +1,10 @@
 ghost use Rattle.std.specs.Prelude.{◌≡◌, ◌⊎◌, ℕ, List, Some, true, IfOk, IfErr, OnOk, Err};
 ghost use Rattle.c_front.specs.Shape.{declaration_of, declarations_of, items_of};
 ghost use Rattle.c_front.specs.Tree.{function, Declaration as DeclarationTree};
-ghost use Rattle.c_statements.specs.declared.fault.Stop.TheVariants.{NoMemory};
+ghost use Rattle.c_statements.specs.declared.fault.TypeStop.TheVariants.{NoMemory};
 ghost use Rattle.c_statements.specs.declared.names.Named.TheVariants.{Function as NamedFunction};
-ghost use Rattle.c_statements.specs.Faults.{HasNone, IsCheckFault, StopsAtFirst, StopsBoth};
-ghost use Rattle.c_statements.specs.Held.{scopes_of};
+ghost use Rattle.c_statements.specs.Faults.{HasNone, IsTypeFault, StopsAtFirst, StopsBoth};
+ghost use Rattle.c_statements.specs.Shape.{scopes_of};
 ghost use Rattle.c_typed.specs.Shape.{function_of, statements_of};
 ghost use Rattle.c_typed.specs.Trees.{TypedProgram};
 ghost use Rattle.c_types.specs.Files.{AreTyped, IsFunction, IsWith, declared_of, file_of, file_scopes};
@@ -15,9 +15,9 @@ ghost use Rattle.c_types.specs.Typed.{EachTypedProgramIsWellFormed, SpellsTyped}
 use crate::declaration::{Tally, declared_name, first, is_main, name_fault, parameters};
 use crate::typed_program::Typed;
 use c_front::{Declaration, FunctionDefinition, Program};
-use c_statements::{FaultKind, Frame, Named, Stop, TypeFault, both, items, lasting};
-use c_tokens::{Kind, Literal};
-use c_typed::{Function, Global as Variable, Statement, Term};
+use c_statements::{Named, Scopes, TypeFault, TypeFaultKind, TypeStop, both, items, lasting};
+use c_tokens::{IntegerType, Literal};
+use c_typed::{Function, Global as Variable, TypedExpression, TypedStatement};
 use std::alloc::{AllocError, AllocFailed, Global};
 
 /// What a declaration at file scope comes to.
@@ -35,20 +35,24 @@ struct Parts {
 }
 
 /// Puts what the end brace does behind a body: `main` returns 0, and a function without result returns.
-fn close(body: &mut Vec<Statement>, main: bool, gives: Option<Kind>) -> Result<(), AllocError>
+fn close(
+    body: &mut Vec<TypedStatement>,
+    main: bool,
+    gives: Option<IntegerType>,
+) -> Result<(), AllocError>
     ensures { OnOk result (statements_of body.new.items ≡ with_last (statements_of body.old.items) (closing main gives)) }
 {
     if main {
         let zero = Literal {
             value: 0,
-            kind: Kind::SignedInt,
+            integer_type: IntegerType::SignedInt,
         };
-        body.push(Statement::Return(Some(Term::Constant(zero))))?;
+        body.push(TypedStatement::Return(Some(TypedExpression::Constant(zero))))?;
         return Ok(());
     }
     match gives {
         None => {
-            body.push(Statement::Return(None))?;
+            body.push(TypedStatement::Return(None))?;
             Ok(())
         }
         Some(_) => Ok(()),
@@ -59,28 +63,28 @@ fn close(body: &mut Vec<Statement>, main: bool, gives: Option<Kind>) -> Result<(
 fn function<'a>(
     alloc: Global,
     program: &'a Program,
-    frame: &mut Frame<'a>,
+    scopes: &mut Scopes<'a>,
     f: &FunctionDefinition,
-) -> Result<Function, Stop>
-    requires { scopes_of frame.now ≡ file_scopes (scopes_of frame.now).inner }
-    ensures ok { IfOk result (λ t. IsFunction program.now.text.items (scopes_of frame.old).inner f.now.result f.now.name f.now.parameters.items (items_of f.now.body.items) (function_of t)) }
-    ensures none { IfOk result (λ t. HasNone (FaultyBody program.now.text.items (scopes_of frame.old).inner (function f.now.result f.now.name f.now.parameters.items (items_of f.now.body.items)))) }
-    ensures err { IfErr result (StopsAtFirst (FaultyBody program.now.text.items (scopes_of frame.old).inner (function f.now.result f.now.name f.now.parameters.items (items_of f.now.body.items)))) }
-    ensures scopes { (result ≡ Err NoMemory → ⊥) → scopes_of frame.new ≡ scopes_of frame.old }
+) -> Result<Function, TypeStop>
+    requires { scopes_of scopes.now ≡ file_scopes (scopes_of scopes.now).inner }
+    ensures ok { IfOk result (λ t. IsFunction program.now.text.items (scopes_of scopes.old).inner f.now.result f.now.name f.now.parameters.items (items_of f.now.body.items) (function_of t)) }
+    ensures none { IfOk result (λ t. HasNone (FaultyBody program.now.text.items (scopes_of scopes.old).inner (function f.now.result f.now.name f.now.parameters.items (items_of f.now.body.items)))) }
+    ensures err { IfErr result (StopsAtFirst (FaultyBody program.now.text.items (scopes_of scopes.old).inner (function f.now.result f.now.name f.now.parameters.items (items_of f.now.body.items)))) }
+    ensures scopes { (result ≡ Err NoMemory → ⊥) → scopes_of scopes.new ≡ scopes_of scopes.old }
 {
-    frame.enter(alloc)?;
-    let fault = parameters(program, frame, f.parameters.as_slice())?;
+    scopes.enter(alloc)?;
+    let fault = parameters(program, scopes, f.parameters.as_slice())?;
     let typed = lasting(items(
         alloc,
         program,
-        frame,
+        scopes,
         f.result.is_some(),
         false,
         f.body.as_slice(),
     ))?;
-    let locals = frame.locals();
-    frame.leave();
-    frame.start_function();
+    let locals = scopes.locals();
+    scopes.leave();
+    scopes.start_function();
     let (_, mut body) = both(fault, typed)?;
     close(&mut body, is_main(program, f.name), f.result)?;
     Ok(Function {
@@ -95,14 +99,14 @@ fn function<'a>(
 fn body<'a>(
     alloc: Global,
     program: &'a Program,
-    frame: &mut Frame<'a>,
+    scopes: &mut Scopes<'a>,
     d: &Declaration,
-) -> Result<Declared, Stop>
-    requires { scopes_of frame.now ≡ file_scopes (scopes_of frame.now).inner }
-    ensures ok { IfOk result (λ t. (f : File) → (after program.now.text.items f (declaration_of d.now)).names ≡ (scopes_of frame.old).inner → TypesDeclaration program.now.text.items f (declaration_of d.now) (declared_of t)) }
-    ensures none { IfOk result (λ t. HasNone (FaultyBody program.now.text.items (scopes_of frame.old).inner (declaration_of d.now))) }
-    ensures err { IfErr result (StopsAtFirst (FaultyBody program.now.text.items (scopes_of frame.old).inner (declaration_of d.now))) }
-    ensures scopes { (result ≡ Err NoMemory → ⊥) → scopes_of frame.new ≡ scopes_of frame.old }
+) -> Result<Declared, TypeStop>
+    requires { scopes_of scopes.now ≡ file_scopes (scopes_of scopes.now).inner }
+    ensures ok { IfOk result (λ t. (f : File) → (after program.now.text.items f (declaration_of d.now)).names ≡ (scopes_of scopes.old).inner → TypesDeclaration program.now.text.items f (declaration_of d.now) (declared_of t)) }
+    ensures none { IfOk result (λ t. HasNone (FaultyBody program.now.text.items (scopes_of scopes.old).inner (declaration_of d.now))) }
+    ensures err { IfErr result (StopsAtFirst (FaultyBody program.now.text.items (scopes_of scopes.old).inner (declaration_of d.now))) }
+    ensures scopes { (result ≡ Err NoMemory → ⊥) → scopes_of scopes.new ≡ scopes_of scopes.old }
 {
     match d {
         Declaration::Variable(_, _, initial) => Ok(Declared::Variable(Variable {
@@ -113,7 +117,7 @@ fn body<'a>(
             length: length.value as usize,
             first: 0,
         })),
-        Declaration::Function(f) => match function(alloc, program, frame, f) {
+        Declaration::Function(f) => match function(alloc, program, scopes, f) {
             Ok(typed) => Ok(Declared::Function(typed)),
             Err(stop) => Err(stop),
         },
@@ -124,25 +128,28 @@ fn body<'a>(
 fn declaration<'a>(
     alloc: Global,
     program: &'a Program,
-    frame: &mut Frame<'a>,
+    scopes: &mut Scopes<'a>,
     tally: &Tally,
     d: &Declaration,
-) -> Result<Declared, Stop>
-    requires { scopes_of frame.now ≡ file_scopes (scopes_of frame.now).inner }
-    ensures ok { IfOk result (λ t. TypesDeclaration program.now.text.items (file_of frame.old tally.now) (declaration_of d.now) (declared_of t)) }
-    ensures none { IfOk result (λ t. HasNone (FaultyDeclaration program.now.text.items (file_of frame.old tally.now) (declaration_of d.now))) }
-    ensures err { IfErr result (StopsAtFirst (FaultyDeclaration program.now.text.items (file_of frame.old tally.now) (declaration_of d.now))) }
-    ensures scopes { (result ≡ Err NoMemory → ⊥) → scopes_of frame.new ≡ file_scopes (after program.now.text.items (file_of frame.old tally.now) (declaration_of d.now)).names }
+) -> Result<Declared, TypeStop>
+    requires { scopes_of scopes.now ≡ file_scopes (scopes_of scopes.now).inner }
+    ensures ok { IfOk result (λ t. TypesDeclaration program.now.text.items (file_of scopes.old tally.now) (declaration_of d.now) (declared_of t)) }
+    ensures none { IfOk result (λ t. HasNone (FaultyDeclaration program.now.text.items (file_of scopes.old tally.now) (declaration_of d.now))) }
+    ensures err { IfErr result (StopsAtFirst (FaultyDeclaration program.now.text.items (file_of scopes.old tally.now) (declaration_of d.now))) }
+    ensures scopes { (result ≡ Err NoMemory → ⊥) → scopes_of scopes.new ≡ file_scopes (after program.now.text.items (file_of scopes.old tally.now) (declaration_of d.now)).names }
 {
-    let fault = name_fault(program, frame, tally, d);
-    frame.declare(program, declared_name(d), tally.named(d))?;
-    let typed = lasting(body(alloc, program, frame, d))?;
+    let fault = name_fault(program, scopes, tally, d);
+    scopes.declare(program, declared_name(d), tally.named(d))?;
+    let typed = lasting(body(alloc, program, scopes, d))?;
     let (_, typed) = both(fault, typed)?;
     Ok(typed)
 }
 
 /// One declaration more.
-fn with_declared(parts: Result<Parts, Stop>, next: Result<Declared, Stop>) -> Result<Parts, Stop>
+fn with_declared(
+    parts: Result<Parts, TypeStop>,
+    next: Result<Declared, TypeStop>,
+) -> Result<Parts, TypeStop>
     ensures ok { IfOk result (λ r. IsWith parts next r) }
     ensures err { IfErr result (λ s. (s ≡ NoMemory) ⊎ StopsBoth parts next s) }
 {
@@ -158,14 +165,14 @@ fn with_declared(parts: Result<Parts, Stop>, next: Result<Declared, Stop>) -> Re
 fn declarations<'a>(
     alloc: Global,
     program: &'a Program,
-    frame: &mut Frame<'a>,
+    scopes: &mut Scopes<'a>,
     all: &[Declaration],
-) -> Result<Parts, Stop>
-    requires { scopes_of frame.now ≡ file_scopes no_declarations.names }
+) -> Result<Parts, TypeStop>
+    requires { scopes_of scopes.now ≡ file_scopes no_declarations.names }
     ensures ok { IfOk result (AreTyped program.now.text.items (declarations_of all.now)) }
     ensures none { IfOk result (λ p. HasNone (FaultyDeclarations program.now.text.items no_declarations (declarations_of all.now))) }
     ensures err { IfErr result (StopsAtFirst (FaultyDeclarations program.now.text.items no_declarations (declarations_of all.now))) }
-    ensures scopes { (result ≡ Err NoMemory → ⊥) → scopes_of frame.new ≡ file_scopes (after_all program.now.text.items no_declarations (declarations_of all.now)).names }
+    ensures scopes { (result ≡ Err NoMemory → ⊥) → scopes_of scopes.new ≡ file_scopes (after_all program.now.text.items no_declarations (declarations_of all.now)).names }
 {
     let mut tally = Tally {
         globals: 0,
@@ -177,7 +184,7 @@ fn declarations<'a>(
         globals: Vec::new(alloc),
     });
     for one in all {
-        let next = lasting(declaration(alloc, program, frame, &tally, one))?;
+        let next = lasting(declaration(alloc, program, scopes, &tally, one))?;
         parts = with_declared(parts, next);
         tally = tally.after(one);
     }
@@ -185,16 +192,16 @@ fn declarations<'a>(
 }
 
 /// Whether a name `main` is declared; if not it is a fault, at the text's length.
-fn has_main(program: &Program, frame: &Frame) -> Result<(), Stop>
-    ensures none { IfOk result (λ _. HasNone (LacksMain program.now.text.items (scopes_of frame.now).inner)) }
-    ensures err { IfErr result (StopsAtFirst (LacksMain program.now.text.items (scopes_of frame.now).inner)) }
+fn has_main(program: &Program, scopes: &Scopes) -> Result<(), TypeStop>
+    ensures none { IfOk result (λ _. HasNone (LacksMain program.now.text.items (scopes_of scopes.now).inner)) }
+    ensures err { IfErr result (StopsAtFirst (LacksMain program.now.text.items (scopes_of scopes.now).inner)) }
 {
-    match frame.innermost(b"main") {
+    match scopes.innermost(b"main") {
         Some(_) => Ok(()),
         None => {
-            let kind = FaultKind::NoMain;
+            let kind = TypeFaultKind::NoMain;
             let at = program.text.len();
-            Err(Stop::Fault(TypeFault { kind, at }))
+            Err(TypeStop::Fault(TypeFault { kind, at }))
         }
     }
 }
@@ -214,17 +221,17 @@ fn number_of(found: Option<Named>) -> usize
 }
 
 /// The typed program, or its first fault.
-fn typed(alloc: Global, program: &Program) -> Result<Typed, Stop>
+fn typed(alloc: Global, program: &Program) -> Result<Typed, TypeStop>
     ensures ok { IfOk result (λ t. TypesProgram program.now.text.items (declarations_of program.now.declarations.items) (program_of t)) }
     ensures none { IfOk result (λ t. HasNone (FaultyProgram program.now.text.items (declarations_of program.now.declarations.items))) }
     ensures err { IfErr result (StopsAtFirst (FaultyProgram program.now.text.items (declarations_of program.now.declarations.items))) }
 {
-    let mut frame = Frame::new(alloc);
-    frame.declare_spelling(b"out", Named::Out)?;
+    let mut scopes = Scopes::new(alloc);
+    scopes.declare_spelling(b"out", Named::Out)?;
     let all = program.declarations.as_slice();
-    let parts = lasting(declarations(alloc, program, &mut frame, all))?;
-    let (parts, _) = both(parts, has_main(program, &frame))?;
-    let main = number_of(frame.innermost(b"main"));
+    let parts = lasting(declarations(alloc, program, &mut scopes, all))?;
+    let (parts, _) = both(parts, has_main(program, &scopes))?;
+    let main = number_of(scopes.innermost(b"main"));
     Ok(Typed::new(parts.functions, parts.globals, main))
 }
 
@@ -233,13 +240,13 @@ fn typed(alloc: Global, program: &Program) -> Result<Typed, Stop>
 pub fn check(alloc: Global, program: Program) -> Result<Typed, TypeFault>
     ensures ok { IfOk result (λ t. TypesProgram program.text.items (declarations_of program.declarations.items) (program_of t)) }
     ensures none { IfOk result (λ t. HasNone (FaultyProgram program.text.items (declarations_of program.declarations.items))) }
-    ensures err { IfErr result (IsCheckFault program.text.items (FaultyProgram program.text.items (declarations_of program.declarations.items))) }
+    ensures err { IfErr result (IsTypeFault program.text.items (FaultyProgram program.text.items (declarations_of program.declarations.items))) }
 {
     match typed(alloc, &program) {
         Ok(typed) => Ok(typed),
-        Err(Stop::Fault(fault)) => Err(fault),
-        Err(Stop::NoMemory) => Err(TypeFault {
-            kind: FaultKind::NoMemory,
+        Err(TypeStop::Fault(fault)) => Err(fault),
+        Err(TypeStop::NoMemory) => Err(TypeFault {
+            kind: TypeFaultKind::NoMemory,
             at: program.text.len(),
         }),
     }

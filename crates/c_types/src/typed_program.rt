@@ -15,7 +15,7 @@ pub struct Typed {
 
 impl Model for Typed {
     ghost use Rattle.std.specs.Coded.{codes};
-    ghost use Rattle.c_typed.specs.contracts.tree.Statement as statement;
+    ghost use Rattle.c_typed.specs.contracts.tree.TypedStatement as statement;
     ghost use Rattle.c_types.specs.Shape.{TypedParts, program_of};
     ghost use Rattle.c_types.specs.Typed.{IsTyped};
 

@@ -7,11 +7,11 @@ use Rattle.block_validator.specs.declared.place.Place.{Place}
 use Rattle.block_validator.specs.declared.place.Place.TheVariants as places
 use Rattle.runs.specs.declared.ran.End.{End}
 use Rattle.runs.specs.declared.ran.End.TheVariants.{Done, Wrong, More}
-use Rattle.c_front.specs.declared.text.FaultKind.{FaultKind}
-use Rattle.c_front.specs.declared.text.FaultKind.TheVariants as front
+use Rattle.c_front.specs.declared.text.FrontFaultKind.{FrontFaultKind}
+use Rattle.c_front.specs.declared.text.FrontFaultKind.TheVariants as front
 use Rattle.c_front.specs.Texts.{number_of}
-use Rattle.c_statements.specs.declared.fault.FaultKind.{FaultKind as TypeFaultKind}
-use Rattle.c_statements.specs.declared.fault.FaultKind.TheVariants as types
+use Rattle.c_statements.specs.declared.fault.TypeFaultKind.{TypeFaultKind}
+use Rattle.c_statements.specs.declared.fault.TypeFaultKind.TheVariants as types
 use Rattle.c_statements.specs.Faults.{number_of as type_number_of}
 use Rattle.driver.specs.declared.source_runs.InterpFault.{InterpFault}
 use Rattle.driver.specs.declared.source_runs.InterpFault.TheVariants as interp_faults
@@ -55,7 +55,7 @@ check_fault_text (check_faults.Line n) = codes "fault 70 Line " ++ decimal n
 check_fault_text check_faults.NoMemory = codes "fault 30 NoMemory"
 
 -- the names of faults
-abbrev pub front_name : FaultKind → List ℕ
+abbrev pub front_name : FrontFaultKind → List ℕ
 front_name front.Byte = codes "Byte"
 front_name front.Token = codes "Token"
 front_name front.Syntax = codes "Syntax"

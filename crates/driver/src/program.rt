@@ -11,8 +11,8 @@ use crate::place::{Spot, line_offset, place_lines, spot_of};
 use crate::source_runs::{InterpFault, interp};
 use crate::texts::EndLine;
 use crate::verdicts::{CheckAnswer, CheckFault, check};
-use c_front::FaultKind as FrontKind;
-use c_statements::FaultKind as TypeKind;
+use c_front::FrontFaultKind;
+use c_statements::TypeFaultKind;
 use clap::Error;
 use clap::error::ErrorKind;
 use runs::{End, Ran};
@@ -168,8 +168,8 @@ fn end_status(end: End) -> u8
 /// Where a fault lies in its text; none where memory was refused.
 fn offset_of(fault: InterpFault) -> Option<usize> {
     match fault {
-        InterpFault::Front(fault) if fault.kind != FrontKind::NoMemory => Some(fault.at),
-        InterpFault::Types(fault) if fault.kind != TypeKind::NoMemory => Some(fault.at),
+        InterpFault::Front(fault) if fault.kind != FrontFaultKind::NoMemory => Some(fault.at),
+        InterpFault::Types(fault) if fault.kind != TypeFaultKind::NoMemory => Some(fault.at),
         _ => None,
     }
 }

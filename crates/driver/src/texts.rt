@@ -7,8 +7,8 @@ ghost use Rattle.driver.specs.Texts.{answer_text, check_fault_text, end_text, fr
 use crate::source_runs::InterpFault;
 use crate::verdicts::{CheckAnswer, CheckFault};
 use block_validator::Place;
-use c_front::FaultKind as FrontKind;
-use c_statements::FaultKind as TypeKind;
+use c_front::FrontFaultKind;
+use c_statements::TypeFaultKind;
 use mblock::Unclean;
 use runs::End;
 use std::fmt;
@@ -71,31 +71,31 @@ impl fmt::Display for CheckFault {
     }
 }
 
-fn front_name(kind: FrontKind) -> &'static str
+fn front_name(kind: FrontFaultKind) -> &'static str
     ensures { result.now ≡ front_name kind }
 {
     match kind {
-        FrontKind::Byte => "Byte",
-        FrontKind::Token => "Token",
-        FrontKind::Syntax => "Syntax",
-        FrontKind::Constant => "Constant",
-        FrontKind::Size => "Size",
-        FrontKind::NoMemory => "NoMemory",
+        FrontFaultKind::Byte => "Byte",
+        FrontFaultKind::Token => "Token",
+        FrontFaultKind::Syntax => "Syntax",
+        FrontFaultKind::Constant => "Constant",
+        FrontFaultKind::Size => "Size",
+        FrontFaultKind::NoMemory => "NoMemory",
     }
 }
 
-fn type_name(kind: TypeKind) -> &'static str
+fn type_name(kind: TypeFaultKind) -> &'static str
     ensures { result.now ≡ type_name kind }
 {
     match kind {
-        TypeKind::Undeclared => "Undeclared",
-        TypeKind::Redeclared => "Redeclared",
-        TypeKind::Kind => "Kind",
-        TypeKind::Count => "Count",
-        TypeKind::NoMain => "NoMain",
-        TypeKind::Outside => "Outside",
-        TypeKind::Limit => "Limit",
-        TypeKind::NoMemory => "NoMemory",
+        TypeFaultKind::Undeclared => "Undeclared",
+        TypeFaultKind::Redeclared => "Redeclared",
+        TypeFaultKind::Kind => "Kind",
+        TypeFaultKind::Count => "Count",
+        TypeFaultKind::NoMain => "NoMain",
+        TypeFaultKind::Outside => "Outside",
+        TypeFaultKind::Limit => "Limit",
+        TypeFaultKind::NoMemory => "NoMemory",
     }
 }
 

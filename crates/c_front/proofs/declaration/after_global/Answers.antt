@@ -1,5 +1,5 @@
 use Rattle.std.proofs.Common.{rules}
-use Rattle.c_front.specs.Stop.{IsStuck}
+use Rattle.c_front.specs.Parsing.{IsStuck}
 use Rattle.c_front.specs.Grammar.{after_global}
 use Rattle.c_front.proofs.DeclarationPaths.{tail-plain, tail-initial, tail-initial-stuck, tail-initial-end-stuck, array-length-stuck, array-close-stuck, array-end-stuck, tail-array, tail-function-stuck, tail-function}
 use Rattle.c_front.proofs.declaration.after_global.Goals as goal

@@ -1,5 +1,5 @@
 use Rattle.std.proofs.Common.{rules}
-use Rattle.c_front.specs.Stop.{IsStuck}
+use Rattle.c_front.specs.Parsing.{IsStuck}
 use Rattle.c_front.specs.Grammar.{a_declaration}
 use Rattle.c_front.proofs.DeclarationPaths.{void-name-stuck, void-rest-stuck, void-read, no-declaration, typed-name-stuck, typed-rest-stuck, typed-read}
 use Rattle.c_front.proofs.declaration.declaration.Goals as goal
@@ -15,16 +15,16 @@ returns-in_err-parameters-clause-err c =
 pub returns-in-Some-clause-ok : goal.returns-in-Some-clause-ok
 returns-in-Some-clause-ok c = void-read _ _ _ _ _ _ _ c.in-Some.ensures.some c.in_ok-name.ensures.ok c.in_ok-parameters.ensures.ok
 
-pub returns-in_default-kind-clause-err : goal.returns-in_default-kind-clause-err
-returns-in_default-kind-clause-err c = no-declaration _ c.in_default.ensures.none c.in_default-kind.ensures.none
+pub returns-in_default-integer_type-clause-err : goal.returns-in_default-integer_type-clause-err
+returns-in_default-integer_type-clause-err c = no-declaration _ c.in_default.ensures.none c.in_default-integer_type.ensures.none
 
 pub returns-in_err-name-2-clause-err : goal.returns-in_err-name-2-clause-err
 returns-in_err-name-2-clause-err c =
-    let h : IsStuck a_declaration c.args.tokens.now c.in_err-name-2.field-0.0 = typed-name-stuck _ _ _ _ c.in-Some-kind.ensures.some c.in_err-name-2.ensures.err in search rules
+    let h : IsStuck a_declaration c.args.tokens.now c.in_err-name-2.field-0.0 = typed-name-stuck _ _ _ _ c.in-Some-integer_type.ensures.some c.in_err-name-2.ensures.err in search rules
 
 pub returns-in_err-found-clause-err : goal.returns-in_err-found-clause-err
 returns-in_err-found-clause-err c =
-    let h : IsStuck a_declaration c.args.tokens.now c.in_err-found.field-0.0 = typed-rest-stuck _ _ _ _ _ _ c.in-Some-kind.ensures.some c.in_ok-name-2.ensures.ok c.in_err-found.ensures.err in search rules
+    let h : IsStuck a_declaration c.args.tokens.now c.in_err-found.field-0.0 = typed-rest-stuck _ _ _ _ _ _ c.in-Some-integer_type.ensures.some c.in_ok-name-2.ensures.ok c.in_err-found.ensures.err in search rules
 
 pub returns-clause-ok : goal.returns-clause-ok
-returns-clause-ok c = typed-read _ _ _ _ _ _ _ c.in-Some-kind.ensures.some c.in_ok-name-2.ensures.ok c.in_ok-found.ensures.ok
+returns-clause-ok c = typed-read _ _ _ _ _ _ _ c.in-Some-integer_type.ensures.some c.in_ok-name-2.ensures.ok c.in_ok-found.ensures.ok

@@ -1,5 +1,5 @@
 use Rattle.std.proofs.Common.{rules, arith, ◌<◌, ◌≤◌, length}
-use Rattle.c_front.specs.Stop.{IsProgramStuck}
+use Rattle.c_front.specs.Parsing.{IsProgramStuck}
 use Rattle.c_front.proofs.DeclarationPaths.{declarations-more, declarations-spelled, declaration-stuck, declarations_of-append}
 use Rattle.c_front.proofs.declaration.declarations.Goals as goal
 

@@ -1,5 +1,5 @@
 use Rattle.std.proofs.Common.{rules}
-use Rattle.c_front.specs.Stop.{IsStuck}
+use Rattle.c_front.specs.Parsing.{IsStuck}
 use Rattle.c_front.specs.Grammar.{function_rest}
 use Rattle.c_front.proofs.DeclarationPaths.{function-open-stuck, function-parameters-stuck, function-close-stuck, function-brace-stuck, function-body-stuck, function-end-stuck, function-read}
 use Rattle.c_front.proofs.declaration.function_rest.Goals as goal

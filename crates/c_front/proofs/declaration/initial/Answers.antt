@@ -1,5 +1,5 @@
 use Rattle.std.proofs.Common.{rules}
-use Rattle.c_front.specs.Stop.{IsStuck}
+use Rattle.c_front.specs.Parsing.{IsStuck}
 use Rattle.c_front.specs.Grammar.{initial}
 use Rattle.c_front.proofs.DeclarationPaths.{negative-read, negative-stuck, plain-read, plain-stuck}
 use Rattle.c_front.proofs.declaration.initial.Goals as goal

@@ -1,5 +1,5 @@
 use Rattle.std.proofs.Common.{rules}
-use Rattle.c_front.specs.Stop.{IsParameterStuck}
+use Rattle.c_front.specs.Parsing.{IsParameterStuck}
 use Rattle.c_front.proofs.DeclarationPaths.{parameter-read, parameter-name-stuck, parameter-type-stuck}
 use Rattle.c_front.proofs.declaration.parameter.Goals as goal
 

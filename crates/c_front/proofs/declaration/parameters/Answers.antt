@@ -1,5 +1,5 @@
 use Rattle.std.proofs.Common.{rules, arith, ◌≡◌, ◌<◌, suc, length, ap}
-use Rattle.c_front.specs.Stop.{IsStuck}
+use Rattle.c_front.specs.Parsing.{IsStuck}
 use Rattle.c_front.specs.Grammar.{parameters}
 use Rattle.c_front.proofs.DeclarationPaths.{no-parameters-read, first-parameter-stuck, parameters-first, parameters-more, next-parameter-stuck, parameters-read}
 use Rattle.c_front.proofs.declaration.parameters.Goals as goal

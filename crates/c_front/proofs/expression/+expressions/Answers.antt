@@ -2,8 +2,8 @@ use Rattle.std.proofs.Common.{rules, arith, ◌≡◌, ◌<◌, ◌∷◌, suc, 
 use Rattle.c_tokens.specs.declared.token.Token.{Token}
 use Rattle.c_tokens.specs.declared.token.Token.TheVariants.{The}
 use Rattle.c_tokens.specs.declared.token.Mark.TheVariants.{LeftParen}
-use Rattle.c_front.specs.Grammar.{operands, above, units, an_expression}
-use Rattle.c_front.specs.Stop.{IsStuck, IsChoiceStuck, IsClosedStuck, level_of}
+use Rattle.c_front.specs.Grammar.{operands, above, unary_expressions, an_expression}
+use Rattle.c_front.specs.Parsing.{IsStuck, IsChoiceStuck, IsClosedStuck, level_of}
 use Rattle.c_front.proofs.Paths.{one-less-stuck, climbs-first, climbs-more, climbs-end, further-out, climbs-first-stuck, climbs-more-stuck, closed-inner-stuck, closed-end-stuck, closed-read, choice-first-stuck, choice-second-stuck, choice-read, condition-stuck, expression-alone, expression-choice, expression-choice-stuck, constant-read, name-read, index-read, index-stuck, prefix-read, prefix-stuck, parens-read, parens-stuck, no-operand, nothing-stuck, no-phrase}
 use Rattle.c_front.proofs.expression.+expressions.Goals as goal
 
@@ -45,11 +45,11 @@ pub expression-returns-in-None-clause-ok : goal.expression-returns-in-None-claus
 expression-returns-in-None-clause-ok t c = expression-alone _ _ _ c.in_ok-condition.ensures.ok c.in-None.ensures.none
 
 pub operand-returns-in_default-clause-err : goal.operand-returns-in_default-clause-err
-operand-returns-in_default-clause-err t c = nothing-stuck (operands units) _ c.in_default.ensures.none (λ after. refl)
+operand-returns-in_default-clause-err t c = nothing-stuck (operands unary_expressions) _ c.in_default.ensures.none (λ after. refl)
 
 pub operand-returns-in_err-index-in-Some-starts-clause-err : goal.operand-returns-in_err-index-in-Some-starts-clause-err
 operand-returns-in_err-index-in-Some-starts-clause-err t c =
-    let h : IsStuck (operands units) c.args.tokens.now c.in_err-index-in-Some-starts.field-0.0 =
+    let h : IsStuck (operands unary_expressions) c.args.tokens.now c.in_err-index-in-Some-starts.field-0.0 =
     index-stuck _ _ _ _ _ (c.in-Some.ensures.some ∙ ap (λ (x : Token). x ∷ c.in-Some.rest.now) c.in-Name.is) c.in-Some-starts.ensures.some c.in_err-index-in-Some-starts.ensures.err in search rules
 
 pub operand-returns-in_ok-new-in-Some-starts-clause-ok : goal.operand-returns-in_ok-new-in-Some-starts-clause-ok
@@ -64,7 +64,7 @@ operand-returns-in-Constant-clause-ok t c = constant-read _ _ _ (c.in-Some.ensur
 
 pub operand-returns-in_err-inner-in-The-clause-err : goal.operand-returns-in_err-inner-in-The-clause-err
 operand-returns-in_err-inner-in-The-clause-err t c =
-    let h : IsStuck (operands units) c.args.tokens.now c.in_err-inner-in-The.field-0.0 =
+    let h : IsStuck (operands unary_expressions) c.args.tokens.now c.in_err-inner-in-The.field-0.0 =
     prefix-stuck _ _ _ _ _ (c.in-Some.ensures.some ∙ ap (λ (x : Token). x ∷ c.in-Some.rest.now) c.in-The.is) c.in-Some-prefix_of.ensures.some c.in_err-inner-in-The.ensures.err in search rules
 
 pub operand-returns-in-Some-prefix_of-clause-ok : goal.operand-returns-in-Some-prefix_of-clause-ok
@@ -74,7 +74,7 @@ operand-returns-in-Some-prefix_of-clause-ok t c =
 pub operand-returns-in_err-inner-in-LeftParen-clause-err : goal.operand-returns-in_err-inner-in-LeftParen-clause-err
 operand-returns-in_err-inner-in-LeftParen-clause-err t c =
     let e : c.args.tokens.now ≡ The LeftParen ∷ c.in-Some.rest.now = c.in-Some.ensures.some ∙ ap (λ (x : Token). x ∷ c.in-Some.rest.now) (c.in-The.is ∙ ap The c.in-LeftParen.is) in
-    let h : IsStuck (operands units) c.args.tokens.now c.in_err-inner-in-LeftParen.field-0.0 = parens-stuck _ _ _ e c.in_err-inner-in-LeftParen.ensures.err in search rules
+    let h : IsStuck (operands unary_expressions) c.args.tokens.now c.in_err-inner-in-LeftParen.field-0.0 = parens-stuck _ _ _ e c.in_err-inner-in-LeftParen.ensures.err in search rules
 
 pub operand-returns-in_ok-inner-in-LeftParen-clause-ok : goal.operand-returns-in_ok-inner-in-LeftParen-clause-ok
 operand-returns-in_ok-inner-in-LeftParen-clause-ok t c =
@@ -119,4 +119,4 @@ tighter-returns-in_err-inner-2-clause-err t c =
     let h : IsStuck (operands (level_of c.args.level)) c.args.tokens.now c.in_err-inner-2.field-0.0 = one-less-stuck _ _ _ c.if-level-eq0.false c.in_err-inner-2.ensures.err in search rules
 
 pub operand-returns-in-Jump-clause-err : goal.operand-returns-in-Jump-clause-err
-operand-returns-in-Jump-clause-err t c = no-phrase (operands units) _ _ _ (c.in-Some.ensures.some ∙ ap (λ (x : Token). x ∷ c.in-Some.rest.now) c.in-Jump.is) (λ after. refl)
+operand-returns-in-Jump-clause-err t c = no-phrase (operands unary_expressions) _ _ _ (c.in-Some.ensures.some ∙ ap (λ (x : Token). x ∷ c.in-Some.rest.now) c.in-Jump.is) (λ after. refl)

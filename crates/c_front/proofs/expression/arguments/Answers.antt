@@ -1,5 +1,5 @@
 use Rattle.std.proofs.Common.{rules, arith, ◌≡◌, ◌<◌, suc, length, ap}
-use Rattle.c_front.specs.Stop.{IsArgumentsStuck}
+use Rattle.c_front.specs.Parsing.{IsArgumentsStuck}
 use Rattle.c_front.proofs.Simply.{no-arguments-read, first-argument-stuck, arguments-first, arguments-more, next-argument-stuck, arguments-read, arguments-end-stuck}
 use Rattle.c_front.proofs.expression.arguments.Goals as goal
 

@@ -1,6 +1,6 @@
 use Rattle.std.proofs.Common.{rules}
 use Rattle.c_front.specs.Grammar.{value}
-use Rattle.c_front.specs.Stop.{IsStuck}
+use Rattle.c_front.specs.Parsing.{IsStuck}
 use Rattle.c_front.proofs.Simply.{value-call-read, value-call-stuck, value-plain-read, value-plain-stuck}
 use Rattle.c_front.proofs.expression.value.Goals as goal
 

@@ -4,28 +4,28 @@ use Rattle.c_tokens.specs.declared.token.Token.TheVariants.{The}
 use Rattle.c_tokens.specs.declared.token.Mark.TheVariants.{LeftBrace, While, For}
 use Rattle.c_front.specs.Grammar.{a_statement, an_item, items, first}
 use Rattle.c_front.specs.Choosing.{EndsItems}
-use Rattle.c_front.specs.Stop.{IsStuck, IsBranchStuck}
+use Rattle.c_front.specs.Parsing.{IsStuck, IsBranchStuck}
 use Rattle.c_front.proofs.Paths.{nothing-stuck}
 use Rattle.c_front.proofs.Shapes.{block-is, items_of-append}
-use Rattle.c_front.proofs.StatementPaths.{empty-read, block-read, block-stuck, block-close-stuck, if-read, if-stuck, simply-read, simply-stuck, simply-end-stuck, no-statement, no-mark, declare-end-stuck, branch-first-stuck, branch-second-stuck, branch-alone-read, branch-else-read, declare-read, declare-name-stuck, declare-value-stuck, item-statement-read, item-statement-stuck, goes-on-items-more, items-end-read, items-item-stuck, while-read, while-test-stuck, while-body-stuck, for-read, for-head-stuck, for-body-stuck}
+use Rattle.c_front.proofs.StatementPaths.{empty-read, block-read, block-stuck, block-close-stuck, if-read, if-stuck, simply-read, simply-stuck, simply-end-stuck, no-statement, no-mark, declare-end-stuck, if_then-first-stuck, if_then-second-stuck, if_then-alone-read, if_then-else-read, declare-read, declare-name-stuck, declare-value-stuck, item-statement-read, item-statement-stuck, goes-on-items-more, items-end-read, items-item-stuck, while-read, while-test-stuck, while-body-stuck, for-read, for-head-stuck, for-body-stuck}
 use Rattle.c_front.proofs.Steps.{moved-read, moved-stuck}
 use Rattle.c_front.proofs.statement.+statements.Goals as goal
 
 test-differs : (b : Bool) → b ≡ true → b ≡ false → ⊥
 test-differs b e f = cc
 
-pub branch-returns-in_err-first-clause-err : goal.branch-returns-in_err-first-clause-err
-branch-returns-in_err-first-clause-err t c = let h : IsBranchStuck c.args.tokens.now c.in_err-first.field-0.0 = branch-first-stuck _ _ _ _ c.in_ok-test.ensures.ok c.in_err-first.ensures.err in search rules
+pub if_then-returns-in_err-first-clause-err : goal.if_then-returns-in_err-first-clause-err
+if_then-returns-in_err-first-clause-err t c = let h : IsBranchStuck c.args.tokens.now c.in_err-first.field-0.0 = if_then-first-stuck _ _ _ _ c.in_ok-test.ensures.ok c.in_err-first.ensures.err in search rules
 
-pub branch-returns-in_err-second-in-Some-clause-err : goal.branch-returns-in_err-second-in-Some-clause-err
-branch-returns-in_err-second-in-Some-clause-err t c =
-    let h : IsBranchStuck c.args.tokens.now c.in_err-second-in-Some.field-0.0 = branch-second-stuck _ _ _ _ _ _ _ c.in_ok-test.ensures.ok c.in_ok-first.ensures.ok c.in-Some.ensures.some c.in_err-second-in-Some.ensures.err in search rules
+pub if_then-returns-in_err-second-in-Some-clause-err : goal.if_then-returns-in_err-second-in-Some-clause-err
+if_then-returns-in_err-second-in-Some-clause-err t c =
+    let h : IsBranchStuck c.args.tokens.now c.in_err-second-in-Some.field-0.0 = if_then-second-stuck _ _ _ _ _ _ _ c.in_ok-test.ensures.ok c.in_ok-first.ensures.ok c.in-Some.ensures.some c.in_err-second-in-Some.ensures.err in search rules
 
-pub branch-returns-in_ok-new-in-Some-clause-ok : goal.branch-returns-in_ok-new-in-Some-clause-ok
-branch-returns-in_ok-new-in-Some-clause-ok t c = rw (c.in_ok-first-2.ensures.ok, c.in_ok-new-in-Some.ensures.ok) (branch-else-read _ _ _ _ _ _ _ _ c.in_ok-test.ensures.ok c.in_ok-first.ensures.ok c.in-Some.ensures.some c.in_ok-second-in-Some.ensures.ok)
+pub if_then-returns-in_ok-new-in-Some-clause-ok : goal.if_then-returns-in_ok-new-in-Some-clause-ok
+if_then-returns-in_ok-new-in-Some-clause-ok t c = rw (c.in_ok-first-2.ensures.ok, c.in_ok-new-in-Some.ensures.ok) (if_then-else-read _ _ _ _ _ _ _ _ c.in_ok-test.ensures.ok c.in_ok-first.ensures.ok c.in-Some.ensures.some c.in_ok-second-in-Some.ensures.ok)
 
-pub branch-returns-in-None-clause-ok : goal.branch-returns-in-None-clause-ok
-branch-returns-in-None-clause-ok t c = rw c.in_ok-first-2.ensures.ok (branch-alone-read _ _ _ _ _ c.in_ok-test.ensures.ok c.in_ok-first.ensures.ok c.in-None.ensures.none)
+pub if_then-returns-in-None-clause-ok : goal.if_then-returns-in-None-clause-ok
+if_then-returns-in-None-clause-ok t c = rw c.in_ok-first-2.ensures.ok (if_then-alone-read _ _ _ _ _ c.in_ok-test.ensures.ok c.in_ok-first.ensures.ok c.in-None.ensures.none)
 
 pub item-returns-in_err-name-in-Some-clause-err : goal.item-returns-in_err-name-in-Some-clause-err
 item-returns-in_err-name-in-Some-clause-err t c = let h : IsStuck an_item c.args.tokens.now c.in_err-name-in-Some.field-0.0 = declare-name-stuck _ _ _ _ c.in-Some.ensures.some c.in_err-name-in-Some.ensures.err in search rules

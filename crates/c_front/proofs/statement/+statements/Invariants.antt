@@ -6,8 +6,8 @@ use Rattle.c_front.proofs.statement.+statements.Given as goal
 abbrev pub decreases-statement : goal.decreases-statement
 decreases-statement l = 4 * length l.tokens.now + 1
 
-abbrev pub decreases-branch : goal.decreases-branch
-decreases-branch l = 4 * length l.tokens.now + 1
+abbrev pub decreases-if_then : goal.decreases-if_then
+decreases-if_then l = 4 * length l.tokens.now + 1
 
 abbrev pub decreases-while_loop : goal.decreases-while_loop
 decreases-while_loop l = 4 * length l.tokens.now + 1

@@ -1,5 +1,5 @@
 use Rattle.std.proofs.Common.{rules}
-use Rattle.c_front.specs.Stop.{IsAssignedStuck}
+use Rattle.c_front.specs.Parsing.{IsAssignedStuck}
 use Rattle.c_front.proofs.Simply.{assigned-read, assigned-sign-stuck, assigned-value-stuck}
 use Rattle.c_front.proofs.statement.assigned.Goals as goal
 

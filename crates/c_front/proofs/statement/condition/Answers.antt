@@ -1,5 +1,5 @@
 use Rattle.std.proofs.Common.{rules}
-use Rattle.c_front.specs.Stop.{IsConditionStuck}
+use Rattle.c_front.specs.Parsing.{IsConditionStuck}
 use Rattle.c_front.proofs.StatementPaths.{condition-open-stuck, condition-inner-stuck, condition-read}
 use Rattle.c_front.proofs.statement.condition.Goals as goal
 

@@ -1,5 +1,5 @@
 use Rattle.std.proofs.Common.{rules}
-use Rattle.c_front.specs.Stop.{IsEndedStuck}
+use Rattle.c_front.specs.Parsing.{IsEndedStuck}
 use Rattle.c_front.specs.Grammar.{maybe_expression}
 use Rattle.c_tokens.specs.declared.token.Mark.TheVariants.{Semicolon}
 use Rattle.c_front.proofs.StatementPaths.{no-expression-read, some-expression-read, some-expression-stuck}

@@ -1,5 +1,5 @@
 use Rattle.std.proofs.Common.{rules}
-use Rattle.c_front.specs.Stop.{IsEndedStuck}
+use Rattle.c_front.specs.Parsing.{IsEndedStuck}
 use Rattle.c_front.specs.Grammar.{maybe_simple}
 use Rattle.c_front.proofs.StatementPaths.{ended-none-read, ended-none-stuck, ended-some-read, ended-some-stuck, ended-close-stuck}
 use Rattle.c_front.proofs.statement.ended_simple.Goals as goal

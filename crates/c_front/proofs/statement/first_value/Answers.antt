@@ -1,5 +1,5 @@
 use Rattle.std.proofs.Common.{rules}
-use Rattle.c_front.specs.Stop.{IsStuck}
+use Rattle.c_front.specs.Parsing.{IsStuck}
 use Rattle.c_front.specs.Grammar.{declared}
 use Rattle.c_front.proofs.StatementPaths.{undeclared-read, declared-read, declared-stuck}
 use Rattle.c_front.proofs.statement.first_value.Goals as goal

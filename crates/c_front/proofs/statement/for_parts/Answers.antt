@@ -1,5 +1,5 @@
 use Rattle.std.proofs.Common.{rules}
-use Rattle.c_front.specs.Stop.{IsHeadStuck}
+use Rattle.c_front.specs.Parsing.{IsHeadStuck}
 use Rattle.c_front.proofs.StatementPaths.{head-read, head-open-stuck, head-first-stuck, head-test-stuck, head-last-stuck}
 use Rattle.c_front.proofs.statement.for_parts.Goals as goal
 

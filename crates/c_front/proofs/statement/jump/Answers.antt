@@ -1,5 +1,5 @@
 use Rattle.std.proofs.Common.{rules, ◌∷◌}
-use Rattle.c_front.specs.Stop.{IsStuck}
+use Rattle.c_front.specs.Parsing.{IsStuck}
 use Rattle.c_front.specs.Grammar.{a_statement}
 use Rattle.c_tokens.specs.declared.token.Token.TheVariants.{Jump}
 use Rattle.c_front.proofs.StatementPaths.{break-read, break-stuck, continue-read, continue-stuck, return-read, return-stuck}

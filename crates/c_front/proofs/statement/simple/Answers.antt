@@ -1,6 +1,6 @@
 use Rattle.std.proofs.Common.{rules}
 use Rattle.c_front.specs.Grammar.{simple}
-use Rattle.c_front.specs.Stop.{IsStuck}
+use Rattle.c_front.specs.Parsing.{IsStuck}
 use Rattle.c_front.proofs.Simply.{simple-name-stuck, simple-call-read, simple-call-stuck, assign-at-read, assign-at-index-stuck, assign-at-sign-stuck, assign-at-value-stuck, assign-read, assign-stuck}
 use Rattle.c_front.proofs.statement.simple.Goals as goal
 

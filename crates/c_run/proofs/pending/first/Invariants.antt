@@ -1,5 +1,5 @@
 use Rattle.std.proofs.Common.{◌≡◌}
-use Rattle.c_run.specs.Machine.{todos}
+use Rattle.c_run.specs.Interpreter.{todos}
 use Rattle.c_run.specs.Sizes.{weights}
 use Rattle.c_run.proofs.pending.first.Given as goal
 

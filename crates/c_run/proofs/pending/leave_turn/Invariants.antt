@@ -1,6 +1,6 @@
 use Rattle.std.proofs.Common.{◌≡◌, length}
 use Rattle.c_run.specs.Turns.{past_turn}
-use Rattle.c_run.specs.Machine.{todos}
+use Rattle.c_run.specs.Interpreter.{todos}
 use Rattle.c_run.proofs.pending.leave_turn.Given as goal
 
 abbrev pub invariant-loop-t : goal.invariant-loop-t

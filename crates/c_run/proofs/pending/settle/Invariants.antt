@@ -1,10 +1,10 @@
 use Rattle.std.proofs.Common.{◌≡◌, length}
-use Rattle.c_typed.specs.Meaning.{settled, Going}
-use Rattle.c_run.specs.Machine.{todos, places}
+use Rattle.c_typed.specs.Meaning.{next_point, Going}
+use Rattle.c_run.specs.Interpreter.{todos, places}
 use Rattle.c_run.proofs.pending.settle.Given as goal
 
 abbrev pub invariant-loop-head : goal.invariant-loop-head
-invariant-loop-head l = settled Going (places l.locals) (todos l.todo.items) ≡ settled Going (places l.initial.locals) (todos l.initial.todo.items)
+invariant-loop-head l = next_point Going (places l.locals) (todos l.todo.items) ≡ next_point Going (places l.initial.locals) (todos l.initial.todo.items)
 
 abbrev pub decreases-loop-head : goal.decreases-loop-head
 decreases-loop-head l = length (todos l.todo.items)

@@ -1,5 +1,5 @@
 use Rattle.std.proofs.Common.{◌≡◌, ◌≤◌, length}
-use Rattle.c_run.specs.Machine.{todos}
+use Rattle.c_run.specs.Interpreter.{todos}
 use Rattle.c_run.specs.Sizes.{weights}
 use Rattle.c_run.proofs.pending.take_one.Given as goal
 

@@ -1,6 +1,6 @@
 use Rattle.std.proofs.Common.{◌≡◌, length}
 use Rattle.c_run.specs.Turns.{at_turn}
-use Rattle.c_run.specs.Machine.{todos}
+use Rattle.c_run.specs.Interpreter.{todos}
 use Rattle.c_run.proofs.pending.to_turn.Given as goal
 
 abbrev pub invariant-loop-t : goal.invariant-loop-t

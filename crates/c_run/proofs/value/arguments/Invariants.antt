@@ -1,10 +1,10 @@
 use Rattle.std.proofs.Common.{◌≡◌, ◌++◌, Some, map, drop}
 use Rattle.std.specs.Option.{option_map}
-use Rattle.c_typed.specs.Shape.{terms_of}
+use Rattle.c_typed.specs.Shape.{typed_expressions_of}
 use Rattle.c_typed.specs.Values.{values_of}
-use Rattle.c_run.specs.Machine.{places, arrays}
+use Rattle.c_run.specs.Interpreter.{places, arrays}
 use Rattle.c_run.proofs.value.arguments.Given as goal
 
 abbrev pub invariant-loop-term : goal.invariant-loop-term
 invariant-loop-term l =
-    option_map (λ vs. l.values.items ++ map Some vs) (values_of (terms_of (drop l.term-index l.terms)) (places l.locals) (arrays l.globals)) ≡ option_map (map Some) (values_of (terms_of l.terms) (places l.locals) (arrays l.globals))
+    option_map (λ vs. l.values.items ++ map Some vs) (values_of (typed_expressions_of (drop l.term-index l.terms)) (places l.locals) (arrays l.globals)) ≡ option_map (map Some) (values_of (typed_expressions_of l.terms) (places l.locals) (arrays l.globals))

@@ -1,21 +1,21 @@
 use Rattle.std.proofs.Common.{sym}
-use Rattle.c_statements.specs.Names.{sight_in}
-use Rattle.c_statements.specs.Held.{scopes_of}
+use Rattle.c_statements.specs.Names.{environment_in}
+use Rattle.c_statements.specs.Shape.{scopes_of}
 use Rattle.c_statements.proofs.Uses.{undeclared-first}
 use Rattle.c_statements.proofs.Calls.{Serves, no-function-first, void-first, count-first, call-right, target-is, serves-result, serves-unwanted}
 use Rattle.c_statements.proofs.call.callee.Goals.{else-wanted-via-then-wanted+else-not-gives, else-wanted-via-else-wanted}
 use Rattle.c_statements.proofs.call.callee.Goals as goal
 
 pub returns-in_default-clause-err : goal.returns-in_default-clause-err
-returns-in_default-clause-err c = rw c.misuse.ensures (undeclared-first (sight_in c.args.program.now.text.items (scopes_of c.args.frame.now)) c.args.name _ (sym c.in_default.ensures))
+returns-in_default-clause-err c = rw c.misuse.ensures (undeclared-first (environment_in c.args.program.now.text.items (scopes_of c.args.scopes.now)) c.args.name _ (sym c.in_default.ensures))
 
 pub returns-in_default-signature-clause-err : goal.returns-in_default-signature-clause-err
 returns-in_default-signature-clause-err c =
-    rw c.misuse-in_default-signature.ensures (no-function-first (sight_in c.args.program.now.text.items (scopes_of c.args.frame.now)) c.args.name c.in-Some.named _ _ (sym c.in-Some.ensures) c.in_default-signature.ensures.none)
+    rw c.misuse-in_default-signature.ensures (no-function-first (environment_in c.args.program.now.text.items (scopes_of c.args.scopes.now)) c.args.name c.in-Some.named _ _ (sym c.in-Some.ensures) c.in_default-signature.ensures.none)
 
 pub returns-then-not-gives-clause-err : goal.returns-then-not-gives-clause-err
 returns-then-not-gives-clause-err c =
-    rw c.misuse-then-not-gives.ensures (void-first (sight_in c.args.program.now.text.items (scopes_of c.args.frame.now)) c.args.name c.in-Some.named c.in-Some-signature.target c.in-Some-signature.parameters c.in-Some-signature.gives _ _
+    rw c.misuse-then-not-gives.ensures (void-first (environment_in c.args.program.now.text.items (scopes_of c.args.scopes.now)) c.args.name c.in-Some.named c.in-Some-signature.target c.in-Some-signature.parameters c.in-Some-signature.gives _ _
     (sym c.in-Some.ensures) c.in-Some-signature.ensures.some c.if-wanted.true c.if-not-gives.true)
 
 pub returns-then-count-parameters-clause-err : goal.returns-then-count-parameters-clause-err
@@ -26,7 +26,7 @@ returns-then-count-parameters-clause-err c =
       | else-wanted-via-else-wanted w ↦ serves-unwanted _ _ w.if-wanted.false
     ]
     in
-    rw c.misuse-then-count-parameters.ensures (count-first (sight_in c.args.program.now.text.items (scopes_of c.args.frame.now)) c.args.name c.in-Some.named c.in-Some-signature.target c.in-Some-signature.parameters c.in-Some-signature.gives _ _
+    rw c.misuse-then-count-parameters.ensures (count-first (environment_in c.args.program.now.text.items (scopes_of c.args.scopes.now)) c.args.name c.in-Some.named c.in-Some-signature.target c.in-Some-signature.parameters c.in-Some-signature.gives _ _
     (sym c.in-Some.ensures) c.in-Some-signature.ensures.some s c.if-count-parameters.true)
 
 pub returns-clause-ok : goal.returns-clause-ok
@@ -40,5 +40,5 @@ returns-clause-none c =
       | else-wanted-via-else-wanted w ↦ serves-unwanted _ _ w.if-wanted.false
     ]
     in
-    call-right (sight_in c.args.program.now.text.items (scopes_of c.args.frame.now)) c.args.name c.in-Some.named c.in-Some-signature.target c.in-Some-signature.parameters c.in-Some-signature.gives c.args.count c.args.wanted
+    call-right (environment_in c.args.program.now.text.items (scopes_of c.args.scopes.now)) c.args.name c.in-Some.named c.in-Some-signature.target c.in-Some-signature.parameters c.in-Some-signature.gives c.args.count c.args.wanted
     (sym c.in-Some.ensures) c.in-Some-signature.ensures.some s c.if-count-parameters.false

@@ -1,43 +1,43 @@
 use Rattle.std.proofs.Common.{◌≡◌, Result, rules, subst, ap, ◌∙◌}
 use Rattle.std.specs.Result.{result_unwrap_or}
-use Rattle.c_statements.specs.declared.fault.Stop.{Stop}
-use Rattle.c_typed.specs.declared.tree.Place.{Place}
-use Rattle.c_typed.specs.declared.tree.Place.TheVariants.{Local}
+use Rattle.c_statements.specs.declared.fault.TypeStop.{TypeStop}
+use Rattle.c_typed.specs.declared.tree.Destination.{Destination}
+use Rattle.c_typed.specs.declared.tree.Destination.TheVariants.{Local}
 use Rattle.c_typed.specs.Shape.{statement_of}
-use Rattle.c_front.specs.Shape.{expression_of, value_of, simple_of}
+use Rattle.c_front.specs.Shape.{expression_of, value_tree, simple_of}
 use Rattle.c_statements.specs.Faults.{StopsAtFirst}
-use Rattle.c_statements.specs.Held.{scopes_of}
-use Rattle.c_statements.specs.Names.{sight_in}
+use Rattle.c_statements.specs.Shape.{scopes_of}
+use Rattle.c_statements.specs.Names.{environment_in}
 use Rattle.c_statements.specs.Statements.{FaultySimple, FaultyValue}
-use Rattle.c_statements.specs.Types.{TypesValue, assign_typed, store_typed, run_typed}
+use Rattle.c_statements.specs.Types.{TypesValue, assign_typed, store_typed, call_typed}
 use Rattle.c_statements.specs.Uses.{Faulty, Misused, as_value, with_index}
 use Rattle.c_statements.proofs.Firsts.{both-stop, three-stop, ok-at}
 use Rattle.c_statements.proofs.simple.simple.Goals as goal
 
 pub returns-in_err-typed-in-Assign-clause-err : goal.returns-in_err-typed-in-Assign-clause-err
 returns-in_err-typed-in-Assign-clause-err c =
-    let h : StopsAtFirst (FaultySimple (sight_in c.args.program.now.text.items (scopes_of c.args.frame.now)) (simple_of c.args.s.now)) c.in_err-typed-in-Assign.field-0.0 =
-    rw c.in-Assign.is (both-stop (Misused (sight_in c.args.program.now.text.items (scopes_of c.args.frame.now)) c.in-Assign.name as_value) (FaultyValue (sight_in c.args.program.now.text.items (scopes_of c.args.frame.now)) (value_of c.in-Assign.given)) c.place-to.result c.value.result _
+    let h : StopsAtFirst (FaultySimple (environment_in c.args.program.now.text.items (scopes_of c.args.scopes.now)) (simple_of c.args.s.now)) c.in_err-typed-in-Assign.field-0.0 =
+    rw c.in-Assign.is (both-stop (Misused (environment_in c.args.program.now.text.items (scopes_of c.args.scopes.now)) c.in-Assign.name as_value) (FaultyValue (environment_in c.args.program.now.text.items (scopes_of c.args.scopes.now)) (value_tree c.in-Assign.given)) c.place-to.result c.value.result _
     c.place-to.ensures.none c.place-to.ensures.err c.value.ensures.none c.value.ensures.err c.in_err-typed-in-Assign.ensures.err)
     in search rules
 
 pub returns-in_err-number-in-AssignAt-clause-err : goal.returns-in_err-number-in-AssignAt-clause-err
 returns-in_err-number-in-AssignAt-clause-err c =
-    let h : StopsAtFirst (FaultySimple (sight_in c.args.program.now.text.items (scopes_of c.args.frame.now)) (simple_of c.args.s.now)) c.in_err-number-in-AssignAt.field-0.0 =
-    rw c.in-AssignAt.is (three-stop (Misused (sight_in c.args.program.now.text.items (scopes_of c.args.frame.now)) c.in-AssignAt.name with_index) (Faulty (sight_in c.args.program.now.text.items (scopes_of c.args.frame.now)) (expression_of c.in-AssignAt.index)) (Faulty (sight_in c.args.program.now.text.items (scopes_of c.args.frame.now)) (expression_of c.in-AssignAt.given)) c.array.result c.expression-index.result c.expression-given.result c.both-in-AssignAt.result _
+    let h : StopsAtFirst (FaultySimple (environment_in c.args.program.now.text.items (scopes_of c.args.scopes.now)) (simple_of c.args.s.now)) c.in_err-number-in-AssignAt.field-0.0 =
+    rw c.in-AssignAt.is (three-stop (Misused (environment_in c.args.program.now.text.items (scopes_of c.args.scopes.now)) c.in-AssignAt.name with_index) (Faulty (environment_in c.args.program.now.text.items (scopes_of c.args.scopes.now)) (expression_of c.in-AssignAt.index)) (Faulty (environment_in c.args.program.now.text.items (scopes_of c.args.scopes.now)) (expression_of c.in-AssignAt.given)) c.array.result c.expression-index.result c.expression-given.result c.both-in-AssignAt.result _
     c.array.ensures.none c.array.ensures.err c.expression-index.ensures.none c.expression-index.ensures.err c.expression-given.ensures.none c.expression-given.ensures.err c.both-in-AssignAt.ensures.ok c.both-in-AssignAt.ensures.err c.in_err-number-in-AssignAt.ensures.err)
     in search rules
 
-pub returns-in_err-typed-in-CallOf-clause-err : goal.returns-in_err-typed-in-CallOf-clause-err
-returns-in_err-typed-in-CallOf-clause-err c =
-    let h : StopsAtFirst (FaultySimple (sight_in c.args.program.now.text.items (scopes_of c.args.frame.now)) (simple_of c.args.s.now)) c.in_err-typed-in-CallOf.field-0.0 =
-    rw c.in-CallOf.is c.in_err-typed-in-CallOf.ensures.err
+pub returns-in_err-typed-in-CallStatement-clause-err : goal.returns-in_err-typed-in-CallStatement-clause-err
+returns-in_err-typed-in-CallStatement-clause-err c =
+    let h : StopsAtFirst (FaultySimple (environment_in c.args.program.now.text.items (scopes_of c.args.scopes.now)) (simple_of c.args.s.now)) c.in_err-typed-in-CallStatement.field-0.0 =
+    rw c.in-CallStatement.is c.in_err-typed-in-CallStatement.ensures.err
     in search rules
 
 pub returns-in_ok-typed-in-Assign-clause-ok : goal.returns-in_ok-typed-in-Assign-clause-ok
 returns-in_ok-typed-in-Assign-clause-ok c =
-    let at : c.unwrap_or-at.result ≡ c.in_ok-typed-in-Assign.field-0-0 = c.unwrap_or-at.ensures ∙ ap (λ (r : Result Place Stop). result_unwrap_or r (Local 0)) c.in_ok-typed-in-Assign.ensures.ok.0 in
-    let Q : Place → Type 0 = λ p. TypesValue (sight_in c.args.program.now.text.items (scopes_of c.args.frame.now)) p (value_of c.in-Assign.given) (statement_of c.in_ok-typed-in-Assign.typed) in
+    let at : c.unwrap_or-at.result ≡ c.in_ok-typed-in-Assign.field-0-0 = c.unwrap_or-at.ensures ∙ ap (λ (r : Result Destination TypeStop). result_unwrap_or r (Local 0)) c.in_ok-typed-in-Assign.ensures.ok.0 in
+    let Q : Destination → Type 0 = λ p. TypesValue (environment_in c.args.program.now.text.items (scopes_of c.args.scopes.now)) p (value_tree c.in-Assign.given) (statement_of c.in_ok-typed-in-Assign.typed) in
     rw c.in-Assign.is (assign_typed (ok-at _ _ _ c.in_ok-typed-in-Assign.ensures.ok.0 c.place-to.ensures.ok) (subst Q at (ok-at _ _ _ c.in_ok-typed-in-Assign.ensures.ok.1 c.value.ensures.ok)))
 
 pub returns-in_ok-number-in-AssignAt-clause-ok : goal.returns-in_ok-number-in-AssignAt-clause-ok
@@ -45,5 +45,5 @@ returns-in_ok-number-in-AssignAt-clause-ok c =
     let e = ok-at _ _ _ c.in_ok-number-in-AssignAt.ensures.ok.1 c.both-in-AssignAt.ensures.ok in
     rw c.in-AssignAt.is (store_typed (ok-at _ _ _ c.in_ok-number-in-AssignAt.ensures.ok.0 c.array.ensures.ok) (ok-at _ _ _ e.0 c.expression-index.ensures.ok) (ok-at _ _ _ e.1 c.expression-given.ensures.ok))
 
-pub returns-in_ok-typed-in-CallOf-clause-ok : goal.returns-in_ok-typed-in-CallOf-clause-ok
-returns-in_ok-typed-in-CallOf-clause-ok c = rw c.in-CallOf.is (run_typed c.in_ok-typed-in-CallOf.ensures.ok)
+pub returns-in_ok-typed-in-CallStatement-clause-ok : goal.returns-in_ok-typed-in-CallStatement-clause-ok
+returns-in_ok-typed-in-CallStatement-clause-ok c = rw c.in-CallStatement.is (call_typed c.in_ok-typed-in-CallStatement.ensures.ok)

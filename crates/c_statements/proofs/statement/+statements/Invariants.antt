@@ -1,6 +1,6 @@
 use Rattle.std.proofs.Common.{◌≡◌, ◌+◌, take}
 use Rattle.c_front.specs.Shape.{statement_of, item_of, items_of}
-use Rattle.c_statements.specs.Held.{scopes_of}
+use Rattle.c_statements.specs.Shape.{scopes_of}
 use Rattle.c_statements.specs.Names.{behind_items}
 use Rattle.c_statements.proofs.BlockItems.{ItemsSoFar}
 use Rattle.c_statements.proofs.Weights.{weight, weight_of, weight_all}
@@ -18,11 +18,11 @@ decreases-items l = weight_all (items_of l.all.now) + 1
 abbrev pub decreases-item : goal.decreases-item
 decreases-item l = weight_of (item_of l.one.now)
 
-abbrev pub decreases-branch : goal.decreases-branch
-decreases-branch l = weight (statement_of l.first.now) + 1
+abbrev pub decreases-if_then : goal.decreases-if_then
+decreases-if_then l = weight (statement_of l.first.now) + 1
 
-abbrev pub decreases-branch_else : goal.decreases-branch_else
-decreases-branch_else l = weight (statement_of l.first.now) + weight (statement_of l.second.now) + 1
+abbrev pub decreases-if_then_else : goal.decreases-if_then_else
+decreases-if_then_else l = weight (statement_of l.first.now) + weight (statement_of l.second.now) + 1
 
 abbrev pub decreases-while_loop : goal.decreases-while_loop
 decreases-while_loop l = weight (statement_of l.body.now) + 1
@@ -32,6 +32,6 @@ decreases-for_loop l = weight (statement_of l.body.now) + 1
 
 abbrev pub invariant-items-loop-one : goal.invariant-items-loop-one
 invariant-items-loop-one l = record {
-  so_far : ItemsSoFar l.program.text.items l.gives l.in_loop (scopes_of l.fn.frame) (take l.one-index l.all) l.typed;
-  scopes : scopes_of l.frame ≡ behind_items l.program.text.items (scopes_of l.fn.frame) (items_of (take l.one-index l.all));
+  so_far : ItemsSoFar l.program.text.items l.gives l.in_loop (scopes_of l.fn.scopes) (take l.one-index l.all) l.typed;
+  scopes : scopes_of l.scopes ≡ behind_items l.program.text.items (scopes_of l.fn.scopes) (items_of (take l.one-index l.all));
 }

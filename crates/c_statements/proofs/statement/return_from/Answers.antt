@@ -2,8 +2,8 @@ use Rattle.std.proofs.Common.{false, rules}
 use Rattle.c_front.specs.Shape.{maybe_expression_of}
 use Rattle.c_front.specs.Tree.{return_at}
 use Rattle.c_statements.specs.Faults.{StopsAtFirst}
-use Rattle.c_statements.specs.Held.{scopes_of}
-use Rattle.c_statements.specs.Names.{sight_in}
+use Rattle.c_statements.specs.Shape.{scopes_of}
+use Rattle.c_statements.specs.Names.{environment_in}
 use Rattle.c_statements.specs.Statements.{FaultyMaybe, FaultyReturn, FaultyStatement}
 use Rattle.c_statements.specs.Types.{return_typed}
 use Rattle.c_statements.proofs.Firsts.{both-stop, ok-at}
@@ -11,8 +11,8 @@ use Rattle.c_statements.proofs.statement.return_from.Goals as goal
 
 pub returns-in_err-value-clause-err : goal.returns-in_err-value-clause-err
 returns-in_err-value-clause-err c =
-    let h : StopsAtFirst (FaultyStatement c.args.program.now.text.items c.args.gives false (scopes_of c.args.frame.now) (return_at c.args.at (maybe_expression_of c.args.given.now))) c.in_err-value.field-0.0 =
-    both-stop (FaultyReturn c.args.gives (maybe_expression_of c.args.given.now) c.args.at) (FaultyMaybe (sight_in c.args.program.now.text.items (scopes_of c.args.frame.now)) (maybe_expression_of c.args.given.now)) c.fits.result c.returned-value.result _
+    let h : StopsAtFirst (FaultyStatement c.args.program.now.text.items c.args.gives false (scopes_of c.args.scopes.now) (return_at c.args.at (maybe_expression_of c.args.given.now))) c.in_err-value.field-0.0 =
+    both-stop (FaultyReturn c.args.gives (maybe_expression_of c.args.given.now) c.args.at) (FaultyMaybe (environment_in c.args.program.now.text.items (scopes_of c.args.scopes.now)) (maybe_expression_of c.args.given.now)) c.fits.result c.returned-value.result _
     c.fits.ensures.none c.fits.ensures.err c.returned-value.ensures.none c.returned-value.ensures.err c.in_err-value.ensures.err
     in search rules
 

@@ -1,8 +1,8 @@
 use Rattle.std.proofs.Common.{rules, refl, subst, Result}
 use Rattle.c_front.specs.Shape.{declaration_of}
-use Rattle.c_statements.specs.declared.fault.Stop.{Stop}
+use Rattle.c_statements.specs.declared.fault.TypeStop.{TypeStop}
 use Rattle.c_statements.specs.Faults.{StopsAtFirst, StopsBoth}
-use Rattle.c_statements.specs.Held.{scopes_of}
+use Rattle.c_statements.specs.Shape.{scopes_of}
 use Rattle.c_types.specs.Files.{file_of}
 use Rattle.c_types.specs.Programs.{FaultyDeclaration}
 use Rattle.c_types.proofs.Declarations.{declaration-stop}
@@ -11,11 +11,11 @@ use Rattle.c_types.proofs.program.declaration.Goals as goal
 pub returns-in_err-typed-2-clause-err : goal.returns-in_err-typed-2-clause-err
 returns-in_err-typed-2-clause-err c =
     let t : StopsBoth c.name_fault-fault.result c.body.result c.in_err-typed-2.field-0.0 =
-    let Q : Result _ Stop → Type 0 = λ r. StopsBoth c.name_fault-fault.result r c.in_err-typed-2.field-0.0 in
+    let Q : Result _ TypeStop → Type 0 = λ r. StopsBoth c.name_fault-fault.result r c.in_err-typed-2.field-0.0 in
     subst Q c.in_ok-typed.ensures.ok.0 c.in_err-typed-2.ensures.err
     in
-    let h : StopsAtFirst (FaultyDeclaration c.args.program.now.text.items (file_of c.args.frame.now c.args.tally.now) (declaration_of c.args.d.now)) c.in_err-typed-2.field-0.0 =
-    declaration-stop c.args.program.now.text.items (file_of c.args.frame.now c.args.tally.now) (declaration_of c.args.d.now) c.declared_name.result c.named.result (scopes_of c.args.frame.now) (scopes_of c.declare.new.self) c.name_fault-fault.result c.body.result
+    let h : StopsAtFirst (FaultyDeclaration c.args.program.now.text.items (file_of c.args.scopes.now c.args.tally.now) (declaration_of c.args.d.now)) c.in_err-typed-2.field-0.0 =
+    declaration-stop c.args.program.now.text.items (file_of c.args.scopes.now c.args.tally.now) (declaration_of c.args.d.now) c.declared_name.result c.named.result (scopes_of c.args.scopes.now) (scopes_of c.declare.new.self) c.name_fault-fault.result c.body.result
     c.in_err-typed-2.field-0.0 refl c.in_ok-declare.ensures c.declared_name.ensures c.named.ensures c.name_fault-fault.ensures.none c.name_fault-fault.ensures.err c.body.ensures.none c.body.ensures.err t
     in
     search rules

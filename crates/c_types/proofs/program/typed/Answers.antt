@@ -1,8 +1,8 @@
 use Rattle.std.proofs.Common.{◌≡◌, rules, sym, ap, ◌∙◌, subst, Result}
 use Rattle.c_front.specs.Shape.{declarations_of}
-use Rattle.c_statements.specs.declared.fault.Stop.{Stop}
+use Rattle.c_statements.specs.declared.fault.TypeStop.{TypeStop}
 use Rattle.c_statements.specs.Faults.{StopsAtFirst, StopsBoth}
-use Rattle.c_statements.specs.Held.{scopes_of}
+use Rattle.c_statements.specs.Shape.{scopes_of}
 use Rattle.c_statements.specs.Names.{Scopes}
 use Rattle.c_statements.proofs.Firsts.{ok-at}
 use Rattle.c_types.specs.declared.program.Parts.{Parts}
@@ -13,22 +13,22 @@ use Rattle.c_types.proofs.program.typed.Goals as goal
 
 pub returns-in_err-parts-2-clause-err : goal.returns-in_err-parts-2-clause-err
 returns-in_err-parts-2-clause-err c =
-    let Q : Result Parts Stop → Type 0 = λ r. StopsBoth r c.has_main.result c.in_err-parts-2.field-0.0 in
+    let Q : Result Parts TypeStop → Type 0 = λ r. StopsBoth r c.has_main.result c.in_err-parts-2.field-0.0 in
     let t : StopsBoth c.declarations.result c.has_main.result c.in_err-parts-2.field-0.0 = subst Q c.in_ok-parts.ensures.ok.0 c.in_err-parts-2.ensures.err in
     let h : StopsAtFirst (FaultyProgram c.args.program.now.text.items (declarations_of c.args.program.now.declarations.items)) c.in_err-parts-2.field-0.0 =
-    rw (sym c.as_slice-all.ensures.value) (program-stop c.args.program.now.text.items (declarations_of c.as_slice-all.result.now) (scopes_of c.declarations.new.frame).inner c.declarations.result c.has_main.result c.in_err-parts-2.field-0.0
+    rw (sym c.as_slice-all.ensures.value) (program-stop c.args.program.now.text.items (declarations_of c.as_slice-all.result.now) (scopes_of c.declarations.new.scopes).inner c.declarations.result c.has_main.result c.in_err-parts-2.field-0.0
     (ap (λ (s : Scopes). s.inner) (c.declarations.ensures.scopes c.in_ok-parts.ensures.ok.1)) c.declarations.ensures.none c.declarations.ensures.err c.has_main.ensures.none c.has_main.ensures.err t)
     in
     search rules
 
 pub number_of-main-requires : goal.number_of-main-requires
 number_of-main-requires c =
-    main-found c.args.program.now.text.items (declarations_of c.as_slice-all.result.now) (scopes_of c.declarations.new.frame).inner c.declarations.result c.has_main.result c.in_ok-parts-2.parts c.in_ok-parts-2.field-0-1 c.innermost.result
+    main-found c.args.program.now.text.items (declarations_of c.as_slice-all.result.now) (scopes_of c.declarations.new.scopes).inner c.declarations.result c.has_main.result c.in_ok-parts-2.parts c.in_ok-parts-2.field-0-1 c.innermost.result
     (ap (λ (s : Scopes). s.inner) (c.declarations.ensures.scopes c.in_ok-parts.ensures.ok.1)) c.declarations.ensures.none c.has_main.ensures.none (sym c.in_ok-parts.ensures.ok.0 ∙ c.in_ok-parts-2.ensures.ok.0) c.in_ok-parts-2.ensures.ok.1 c.innermost.ensures
 
 pub returns-clause-ok : goal.returns-clause-ok
 returns-clause-ok c =
-    let there : (scopes_of c.declarations.new.frame).inner ≡ (after_all c.args.program.now.text.items no_declarations (declarations_of c.as_slice-all.result.now)).names = ap (λ (s : Scopes). s.inner) (c.declarations.ensures.scopes c.in_ok-parts.ensures.ok.1) in
+    let there : (scopes_of c.declarations.new.scopes).inner ≡ (after_all c.args.program.now.text.items no_declarations (declarations_of c.as_slice-all.result.now)).names = ap (λ (s : Scopes). s.inner) (c.declarations.ensures.scopes c.in_ok-parts.ensures.ok.1) in
     let e : c.declarations.result ≡ _ = sym c.in_ok-parts.ensures.ok.0 ∙ c.in_ok-parts-2.ensures.ok.0 in
-    rw (c.new.ensures, sym c.as_slice-all.ensures.value) (typed-program c.args.program.now.text.items (declarations_of c.as_slice-all.result.now) (scopes_of c.declarations.new.frame).inner c.in_ok-parts-2.parts c.number_of-main.result c.innermost.result
+    rw (c.new.ensures, sym c.as_slice-all.ensures.value) (typed-program c.args.program.now.text.items (declarations_of c.as_slice-all.result.now) (scopes_of c.declarations.new.scopes).inner c.in_ok-parts-2.parts c.number_of-main.result c.innermost.result
     (ok-at (AreTyped c.args.program.now.text.items (declarations_of c.as_slice-all.result.now)) c.declarations.result c.in_ok-parts-2.parts e c.declarations.ensures.ok) there c.innermost.ensures c.number_of-main.ensures)

@@ -1,5 +1,5 @@
 use Rattle.c_front.proofs.StatementPaths.{int-read, unsigned-int-read, unsigned-read}
-use Rattle.c_front.proofs.statement.kind.Goals as goal
+use Rattle.c_front.proofs.statement.integer_type.Goals as goal
 
 pub returns-in-Some-clause-some : goal.returns-in-Some-clause-some
 returns-in-Some-clause-some c = int-read _ _ c.in-Some.ensures.some

@@ -1,6 +1,6 @@
 use Rattle.std.proofs.Common.{◌≡◌, ◌+◌, ◌-◌, length}
-use Rattle.c_run.specs.Machine.{places}
-use Rattle.c_run.proofs.machine.make_room.Given as goal
+use Rattle.c_run.specs.Interpreter.{places}
+use Rattle.c_run.proofs.interpreter.make_room.Given as goal
 
 abbrev pub invariant-loop-locals : goal.invariant-loop-locals
 invariant-loop-locals l = places l.locals.items ≡ places l.initial.locals.items

@@ -1,7 +1,7 @@
 use Rattle.std.proofs.Common.{ap, ◌∙◌, Some}
 use Rattle.runs.specs.Stores.{Places, written}
 use Rattle.c_run.proofs.Stores.{places-set}
-use Rattle.c_run.proofs.machine.set.Goals as goal
+use Rattle.c_run.proofs.interpreter.set.Goals as goal
 
 pub returns : goal.returns
 returns c = places-set _ c.args.number (Some c.args.v) c.in_ok-make_room.ensures.room ∙ ap (λ (p : Places). written p c.args.number (Some c.args.v)) c.in_ok-make_room.ensures.same

@@ -1,10 +1,10 @@
 ghost use Rattle.std.specs.Prelude.{◌≡◌, OnOk, is_some};
-ghost use Rattle.c_statements.specs.Held.{scopes_of};
-ghost use Rattle.c_statements.specs.Names.{Scopes, named_in, sight_in, with_spelling, no_scopes, entered, left, with_declared, declared, without_locals, spelled};
+ghost use Rattle.c_statements.specs.Shape.{scopes_of};
+ghost use Rattle.c_statements.specs.Names.{Scopes, named_in, environment_in, with_spelling, no_scopes, within, outside, with_declared, with_local, without_locals, spelling_in};
 
 use crate::names::Named;
 use c_front::Program;
-use c_tokens::{Identifier, Kind};
+use c_tokens::{Identifier, IntegerType};
 use std::alloc::{AllocError, AllocFailed, Global};
 use std::collections::HashMap;
 use std::mem::replace;
@@ -14,18 +14,18 @@ type Scope<'a> = HashMap<&'a [u8], Named>;
 
 /// The names in sight at a place of a program, scope by scope, and the locals that the function has declared so far.
 #[derive(Drop)]
-pub struct Frame<'a> {
+pub struct Scopes<'a> {
     inner: Scope<'a>,
     around: Vec<Scope<'a>>,
-    locals: Vec<Kind>,
+    locals: Vec<IntegerType>,
 }
 
-impl<'a> Frame<'a> {
+impl<'a> Scopes<'a> {
     /// No name in sight, and no local.
-    pub fn new(alloc: Global) -> Frame<'a>
+    pub fn new(alloc: Global) -> Scopes<'a>
         ensures { scopes_of result ≡ no_scopes }
     {
-        Frame {
+        Scopes {
             inner: HashMap::new(alloc),
             around: Vec::new(alloc),
             locals: Vec::new(alloc),
@@ -59,14 +59,14 @@ impl<'a> Frame<'a> {
 
     /// What a name stands for.
     pub fn find(&self, program: &Program, name: Identifier) -> Option<Named>
-        ensures { result ≡ sight_in program.now.text.items (scopes_of self.now) name }
+        ensures { result ≡ environment_in program.now.text.items (scopes_of self.now) name }
     {
         self.find_spelling(program.spelling(name))
     }
 
     /// Whether the innermost scope declares the name.
     pub fn declares(&self, program: &Program, name: Identifier) -> bool
-        ensures { result ≡ is_some ((scopes_of self.now).inner (spelled program.now.text.items name)) }
+        ensures { result ≡ is_some ((scopes_of self.now).inner (spelling_in program.now.text.items name)) }
     {
         self.inner.contains_key(program.spelling(name))
     }
@@ -103,20 +103,20 @@ impl<'a> Frame<'a> {
     pub fn declare_local(
         &mut self,
         program: &'a Program,
-        kind: Kind,
+        integer_type: IntegerType,
         name: Identifier,
     ) -> Result<(), AllocError>
-        ensures { OnOk result (scopes_of self.new ≡ declared program.now.text.items (scopes_of self.old) kind name) }
+        ensures { OnOk result (scopes_of self.new ≡ with_local program.now.text.items (scopes_of self.old) integer_type name) }
     {
         let number = self.locals();
-        self.declare(program, name, Named::Local(number, kind))?;
-        self.locals.push(kind)?;
+        self.declare(program, name, Named::Local(number, integer_type))?;
+        self.locals.push(integer_type)?;
         Ok(())
     }
 
     /// Opens a scope.
     pub fn enter(&mut self, alloc: Global) -> Result<(), AllocError>
-        ensures { OnOk result (scopes_of self.new ≡ entered (scopes_of self.old)) }
+        ensures { OnOk result (scopes_of self.new ≡ within (scopes_of self.old)) }
     {
         let outer = replace(&mut self.inner, HashMap::new(alloc));
         self.around.push(outer)?;
@@ -125,7 +125,7 @@ impl<'a> Frame<'a> {
 
     /// Closes the innermost scope; the locals stay counted. Without a scope around nothing changes.
     pub fn leave(&mut self)
-        ensures { scopes_of self.new ≡ left (scopes_of self.old) }
+        ensures { scopes_of self.new ≡ outside (scopes_of self.old) }
     {
         if let Some(outer) = self.around.pop() {
             self.inner = outer;

@@ -1,15 +1,15 @@
 -- What a parsing function answers, by the grammar.
 use Rattle.std.specs.Prelude.{ℕ, zero, suc, ◌≤◌, ◌<◌, ◌≡◌, ◌≢◌, List, [], ◌∷◌, ◌++◌, Option, Some}
 use Rattle.c_tokens.specs.declared.token.Identifier.{Identifier}
-use Rattle.c_tokens.specs.declared.token.Kind.{Kind}
+use Rattle.c_tokens.specs.declared.token.IntegerType.{IntegerType}
 use Rattle.c_tokens.specs.declared.token.Token.{Token}
 use Rattle.c_tokens.specs.declared.token.Token.TheVariants.{Name, Constant, The}
 use Rattle.c_tokens.specs.declared.token.Mark.{Mark}
 use Rattle.c_tokens.specs.declared.token.Mark.TheVariants.{Int, Unsigned, Else, Semicolon, LeftParen, RightParen, Assign, Colon, Plus, Minus, Bang, Tilde}
 use Rattle.c_front.specs.declared.tree.BinaryOp.{BinaryOp}
-use Rattle.c_front.specs.Grammar.{a_name, the, Level, units, above, Nonterminal, a_program, a_type, after_global, a_statement, else_part, maybe_simple, maybe_expression, value, arguments, an_expression, Symbol, T, N, Tail, Meaning, Operator, branched, declared_as, first, second}
-use Rattle.c_front.specs.declared.cursor.Stop.{Stop}
-use Rattle.c_front.specs.declared.cursor.Stop.TheVariants.{Syntax, NoMemory}
+use Rattle.c_front.specs.Grammar.{a_name, the, Level, unary_expressions, above, Nonterminal, a_program, a_type, after_global, a_statement, else_part, maybe_simple, maybe_expression, value, arguments, an_expression, Symbol, T, N, Tail, PhraseTree, Operator, if_of, declared_as, first, second}
+use Rattle.c_front.specs.declared.cursor.ParseStop.{ParseStop}
+use Rattle.c_front.specs.declared.cursor.ParseStop.TheVariants.{Syntax, NoMemory}
 use Rattle.c_front.specs.Tree.{Expression, Value, Simple, Statement, Declaration}
 use Rattle.c_tokens.specs.declared.token.Literal.{Literal}
 use Rattle.c_front.specs.declared.tree.Parameter.{Parameter}
@@ -18,7 +18,7 @@ use Rattle.c_front.specs.Choosing.{EndsOperands}
 
 -- the level of the operands of a binary operator, by its number
 abbrev pub level_of : ℕ → Level
-level_of zero = units
+level_of zero = unary_expressions
 level_of (suc k) = above (level_of k)
 
 -- no operator of these levels stands there
@@ -35,20 +35,20 @@ abbrev pub StartsWithout : Mark → List Token → Type 0
 StartsWithout t ts = first ts ≢ Some (The t)
 
 -- the tokens up to `rest` are a phrase with this meaning
-abbrev pub IsRead : (n : Nonterminal) → List Token → List Token → Meaning n → Type 0
+abbrev pub IsRead : (n : Nonterminal) → List Token → List Token → PhraseTree n → Type 0
 IsRead n ts rest v = Reads (N n ∷ []) ts rest (v, tt)
 
 -- no derivation of the symbols goes on at the rest of the tokens, whatever is wanted after them
-abbrev pub AreStuck : List Symbol → List Token → Stop → Type 0
+abbrev pub AreStuck : List Symbol → List Token → ParseStop → Type 0
 AreStuck wanted ts (Syntax rest) = (symbols : List Symbol) → Stuck (wanted ++ symbols) ts rest.now
 AreStuck wanted ts NoMemory = Unit {0}
 
 -- no phrase goes on at the rest of the tokens, whatever is wanted after it
-abbrev pub IsStuck : Nonterminal → List Token → Stop → Type 0
+abbrev pub IsStuck : Nonterminal → List Token → ParseStop → Type 0
 IsStuck n = AreStuck (N n ∷ [])
 
 -- another token stands there, or none
-abbrev pub IsMissing : Mark → List Token → Stop → Type 0
+abbrev pub IsMissing : Mark → List Token → ParseStop → Type 0
 IsMissing t ts (Syntax rest) = (rest.now ≡ ts) × (first ts ≢ Some (The t))
 IsMissing t ts NoMemory = ⊥
 
@@ -62,38 +62,38 @@ IsNoPrefix t = (t ≢ Minus) × (t ≢ Plus) × (t ≢ Tilde) × (t ≢ Bang)
 abbrev pub IsChoiceRead : List Token → List Token → Expression → Expression → Type 0
 IsChoiceRead ts rest a b = Reads (N an_expression ∷ T (the Colon) ∷ N an_expression ∷ []) ts rest (a, (tt, (b, tt)))
 
-abbrev pub IsChoiceStuck : List Token → Stop → Type 0
+abbrev pub IsChoiceStuck : List Token → ParseStop → Type 0
 IsChoiceStuck = AreStuck (N an_expression ∷ T (the Colon) ∷ N an_expression ∷ [])
 
 abbrev pub StartsWithName : List Token → Identifier → List Token → Type 0
 StartsWithName ts x rest = ts ≡ Name x ∷ rest
 
-abbrev pub IsNameMissing : List Token → Stop → Type 0
+abbrev pub IsNameMissing : List Token → ParseStop → Type 0
 IsNameMissing ts (Syntax rest) = (rest.now ≡ ts) × ((x : Identifier) → first ts ≢ Some (Name x))
 IsNameMissing ts NoMemory = ⊥
 
 abbrev pub IsConditionRead : List Token → List Token → Expression → Type 0
 IsConditionRead ts rest e = Reads (T (the LeftParen) ∷ N an_expression ∷ T (the RightParen) ∷ []) ts rest (tt, (e, (tt, tt)))
 
-abbrev pub IsConditionStuck : List Token → Stop → Type 0
+abbrev pub IsConditionStuck : List Token → ParseStop → Type 0
 IsConditionStuck = AreStuck (T (the LeftParen) ∷ N an_expression ∷ T (the RightParen) ∷ [])
 
 abbrev pub IsClosedRead : Mark → List Token → List Token → Expression → Type 0
 IsClosedRead t ts rest e = Reads (N an_expression ∷ T (the t) ∷ []) ts rest (e, (tt, tt))
 
-abbrev pub IsClosedStuck : Mark → List Token → Stop → Type 0
+abbrev pub IsClosedStuck : Mark → List Token → ParseStop → Type 0
 IsClosedStuck t = AreStuck (N an_expression ∷ T (the t) ∷ [])
 
 abbrev pub IsArgumentsRead : List Token → List Token → List Expression → Type 0
 IsArgumentsRead ts rest es = Reads (N arguments ∷ T (the RightParen) ∷ []) ts rest (es, (tt, tt))
 
-abbrev pub IsArgumentsStuck : List Token → Stop → Type 0
+abbrev pub IsArgumentsStuck : List Token → ParseStop → Type 0
 IsArgumentsStuck = AreStuck (N arguments ∷ T (the RightParen) ∷ [])
 
 abbrev pub IsAssignedRead : List Token → List Token → Value → Type 0
 IsAssignedRead ts rest v = Reads (T (the Assign) ∷ N value ∷ []) ts rest (tt, (v, tt))
 
-abbrev pub IsAssignedStuck : List Token → Stop → Type 0
+abbrev pub IsAssignedStuck : List Token → ParseStop → Type 0
 IsAssignedStuck = AreStuck (T (the Assign) ∷ N value ∷ [])
 
 -- a name and its opening parenthesis
@@ -106,9 +106,9 @@ StartsNoCall ts = (x : Identifier) → first ts ≡ Some (Name x) → second ts 
 -- what stands after `if`
 abbrev pub IsBranchRead : List Token → List Token → Statement → Type 0
 IsBranchRead ts rest s = (e : Expression) × (a : Statement) × (b : Option Statement) ×
-    Reads (T (the LeftParen) ∷ N an_expression ∷ T (the RightParen) ∷ N a_statement ∷ N else_part ∷ []) ts rest (tt, (e, (tt, (a, (b, tt))))) × (s ≡ branched e a b)
+    Reads (T (the LeftParen) ∷ N an_expression ∷ T (the RightParen) ∷ N a_statement ∷ N else_part ∷ []) ts rest (tt, (e, (tt, (a, (b, tt))))) × (s ≡ if_of e a b)
 
-abbrev pub IsBranchStuck : List Token → Stop → Type 0
+abbrev pub IsBranchStuck : List Token → ParseStop → Type 0
 IsBranchStuck = AreStuck (T (the LeftParen) ∷ N an_expression ∷ T (the RightParen) ∷ N a_statement ∷ N else_part ∷ [])
 
 abbrev pub HasNoElse : List Token → Type 0
@@ -120,7 +120,7 @@ HasNoType ts = (first ts ≢ Some (The Int)) × (first ts ≢ Some (The Unsigned
 abbrev pub StartsWithConstant : List Token → Literal → List Token → Type 0
 StartsWithConstant ts k rest = ts ≡ Constant k ∷ rest
 
-abbrev pub IsConstantMissing : List Token → Stop → Type 0
+abbrev pub IsConstantMissing : List Token → ParseStop → Type 0
 IsConstantMissing ts (Syntax rest) = (rest.now ≡ ts) × ((k : Literal) → first ts ≢ Some (Constant k))
 IsConstantMissing ts NoMemory = ⊥
 
@@ -131,10 +131,10 @@ abbrev pub StartsUnnamed : List Token → Type 0
 StartsUnnamed ts = (x : Identifier) → first ts ≢ Some (Name x)
 
 -- a phrase and the mark after it
-abbrev pub IsEndedRead : (n : Nonterminal) → Mark → List Token → List Token → Meaning n → Type 0
+abbrev pub IsEndedRead : (n : Nonterminal) → Mark → List Token → List Token → PhraseTree n → Type 0
 IsEndedRead n u ts rest v = Reads (N n ∷ T (the u) ∷ []) ts rest (v, (tt, tt))
 
-abbrev pub IsEndedStuck : Nonterminal → Mark → List Token → Stop → Type 0
+abbrev pub IsEndedStuck : Nonterminal → Mark → List Token → ParseStop → Type 0
 IsEndedStuck n u = AreStuck (N n ∷ T (the u) ∷ [])
 
 -- the parts of a `for` in their parentheses
@@ -144,20 +144,20 @@ head_symbols = T (the LeftParen) ∷ N maybe_simple ∷ T (the Semicolon) ∷ N 
 abbrev pub IsHeadRead : List Token → List Token → Option Simple → Option Expression → Option Simple → Type 0
 IsHeadRead ts rest a b c = Reads head_symbols ts rest (tt, (a, (tt, (b, (tt, (c, (tt, tt)))))))
 
-abbrev pub IsHeadStuck : List Token → Stop → Type 0
+abbrev pub IsHeadStuck : List Token → ParseStop → Type 0
 IsHeadStuck = AreStuck head_symbols
 
 -- the type and the name of a parameter
 abbrev pub IsParameterRead : List Token → List Token → Parameter → Type 0
-IsParameterRead ts rest p = Reads (N a_type ∷ T a_name ∷ []) ts rest (p.kind, (p.name, tt))
+IsParameterRead ts rest p = Reads (N a_type ∷ T a_name ∷ []) ts rest (p.integer_type, (p.name, tt))
 
-abbrev pub IsParameterStuck : List Token → Stop → Type 0
+abbrev pub IsParameterStuck : List Token → ParseStop → Type 0
 IsParameterStuck = AreStuck (N a_type ∷ T a_name ∷ [])
 
 -- what stands after the type and the name of a declaration
-abbrev pub IsTailRead : Kind → Identifier → List Token → List Token → Declaration → Type 0
+abbrev pub IsTailRead : IntegerType → Identifier → List Token → List Token → Declaration → Type 0
 IsTailRead k x ts rest d = (t : Tail) × IsRead after_global ts rest t × (d ≡ declared_as k x t)
 
-abbrev pub IsProgramStuck : List Token → Stop → Type 0
+abbrev pub IsProgramStuck : List Token → ParseStop → Type 0
 IsProgramStuck ts (Syntax rest) = Stuck (N a_program ∷ []) ts rest.now
 IsProgramStuck ts NoMemory = Unit {0}

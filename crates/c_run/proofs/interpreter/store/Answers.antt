@@ -1,6 +1,6 @@
 use Rattle.std.proofs.Common.{get_or, refl, arith}
 use Rattle.c_run.proofs.Stores.{stored-there, stored-outside, stored-nowhere}
-use Rattle.c_run.proofs.machine.store.Goals as goal
+use Rattle.c_run.proofs.interpreter.store.Goals as goal
 
 pub returns-then-index-len : goal.returns-then-index-len
 returns-then-index-len c =

@@ -1,0 +1,82 @@
+-- What the interpreter keeps, and the state that it stands for.
+use Rattle.std.specs.Prelude.{◌≡◌, ℕ, List, [], ◌∷◌, Option, None, map, reverse, slice_index_or}
+use Rattle.std.specs.declared.vec.Vec.{Vec}
+use Rattle.std.specs.declared.alloc.Global.{Global}
+use Rattle.runs.specs.Stores.{Places, Arrays}
+use Rattle.runs.specs.Runs.{Running, Ended, Failed}
+use Rattle.c_typed.specs.Trees.{TypedStatement, TypedProgram}
+use Rattle.c_typed.specs.Shape.{statement_of, statements_of}
+use Rattle.c_typed.specs.Meaning as Meaning
+use Rattle.c_typed.specs.Meaning.{Todo, Do, Next, before, before_all, Run, step_at}
+use Rattle.c_run.specs.declared.pending.Pending.{Pending}
+use Rattle.c_run.specs.declared.pending.Pending.TheVariants.{One, Rest, Turn}
+use Rattle.c_run.specs.declared.pending.Head.{Head}
+use Rattle.c_run.specs.declared.pending.Head.TheVariants as Heads
+use Rattle.c_run.specs.declared.interpreter.Frame.{Frame}
+use Rattle.c_run.specs.declared.interpreter.Interpreter.{Interpreter}
+use Rattle.c_run.specs.declared.interpreter.Reached.{Reached}
+use Rattle.c_run.specs.declared.interpreter.Reached.TheVariants as Reach
+
+-- the locals, None outside
+abbrev pub places : List (Option ℕ) → Places
+places locals = λ x. slice_index_or locals x None
+
+-- the words of each global
+abbrev pub arrays : List (Vec ℕ Global) → Arrays
+arrays globals = map (λ a. a.items) globals
+
+-- one that is pending, taken apart before the others
+abbrev pub put : Pending → List Todo → List Todo
+put (One s) k = before (statement_of s.now) k
+put (Rest all) k = before_all (statements_of all.now) k
+put (Turn last again) k = Next (statement_of last.now) (statement_of again.now) ∷ k
+
+abbrev pub todo_list_of : List Pending → List Todo
+todo_list_of [] = []
+todo_list_of (t ∷ rest) = put t (todo_list_of rest)
+
+-- the last one is done first
+abbrev pub todos : List Pending → List Todo
+todos all = todo_list_of (reverse all)
+
+-- what was first, and the others behind it
+abbrev pub with_head : Head → List Todo → List Todo
+with_head Heads.Nothing k = []
+with_head (Heads.Statement s) k = Do (statement_of s.now) ∷ k
+with_head (Heads.Turn last again) k = Next (statement_of last.now) (statement_of again.now) ∷ k
+
+-- the same of a statement that may be a list
+abbrev pub with_part : Head → List Todo → List Todo
+with_part Heads.Nothing k = []
+with_part (Heads.Statement s) k = before (statement_of s.now) k
+with_part (Heads.Turn last again) k = Next (statement_of last.now) (statement_of again.now) ∷ k
+
+abbrev pub frame_of : Frame → Meaning.Frame
+frame_of c = record { locals = places c.locals.items; todo = todos c.todo.items; result_to = c.result_to }
+
+-- the calls that wait, the latest one first
+abbrev pub frames_of : List Frame → List Meaning.Frame
+frames_of calls = map frame_of (reverse calls)
+
+abbrev pub state_of : Interpreter → Run
+state_of m = Running (frame_of m.frame ∷ frames_of m.waiting.items) (arrays m.globals.items) m.output.items
+
+-- the state that a step has come to
+abbrev pub state_at : Reached → Interpreter → Run
+state_at Reach.Going m = state_of m
+state_at (Reach.Ended w) m = Ended w m.output.items
+state_at Reach.Failed m = Failed m.output.items
+
+-- the same machine with other locals and globals
+abbrev pub state_with : Interpreter → Places → Arrays → Run
+state_with m l g =
+    Running (record { locals = l; todo = todos m.frame.todo.items; result_to = m.frame.result_to } ∷ frames_of m.waiting.items) g m.output.items
+
+-- a step at this list
+abbrev pub state_after_step : TypedProgram → (depth : ℕ) → List Todo → Interpreter → Run
+state_after_step p depth k m =
+    step_at p depth (places m.frame.locals.items) k m.frame.result_to (frames_of m.waiting.items) (arrays m.globals.items) m.output.items
+
+-- this statement takes a machine to another in one step, in any program
+abbrev pub Does : TypedStatement → Interpreter → Reached → Interpreter → Type 0
+Does s before r after = (p : TypedProgram) (depth : ℕ) → state_after_step p depth (Do s ∷ todos before.frame.todo.items) before ≡ state_at r after

@@ -1,0 +1,326 @@
+ghost use Rattle.std.specs.Prelude.{◌≡◌, ℕ, ◌<◌, ◌∷◌, [], length, Option, IfOk, OnOk, None, Some, if◌then◌else◌, List, map};
+ghost use Rattle.runs.specs.Stores.{Places, Arrays, written, stored};
+ghost use Rattle.c_typed.specs.Shape.{statement_of, typed_expression_of, typed_expressions_of, maybe_typed_expression_of};
+ghost use Rattle.c_typed.specs.Trees.{assign, store, call, output, if_else, loop, return_with};
+ghost use Rattle.c_types.specs.Shape.{program_of};
+ghost use Rattle.c_typed.specs.Meaning.{Do, with_assignment, state_after_call, state_after_return, source_step};
+ghost use Rattle.c_run.specs.Interpreter.{places, arrays, todos, frame_of, frames_of, state_of, state_at, state_with, state_after_step, Does};
+
+use crate::pending::{Head, Pending, put, settle};
+use crate::value::{arguments, value};
+use c_typed::{Destination, TypedExpression, TypedStatement};
+use c_types::Typed;
+use std::alloc::{AllocError, Global};
+use std::mem;
+
+/// A call that runs or waits, and where its result goes, if anywhere.
+#[derive(Drop)]
+pub struct Frame<'a> {
+    pub locals: Vec<Option<u32>>,
+    pub todo: Vec<Pending<'a>>,
+    pub result_to: Option<Destination>,
+}
+
+/// A run: the call that runs, those that wait for it, the globals, and the output so far.
+#[derive(Drop)]
+pub struct Interpreter<'a> {
+    pub frame: Frame<'a>,
+    pub waiting: Vec<Frame<'a>>,
+    pub globals: Vec<Vec<u32>>,
+    pub output: Vec<u32>,
+}
+
+/// What a step has come to.
+#[derive(Clone, Copy)]
+pub enum Reached {
+    Going,
+    Ended(u32),
+    Failed,
+}
+
+// Locals up to a number, the new ones unset.
+fn make_room(locals: &mut Vec<Option<u32>>, number: usize) -> Result<(), AllocError>
+    ensures same { OnOk result (places locals.new.items ≡ places locals.old.items) }
+    ensures room { OnOk result (number < length locals.new.items) }
+{
+    while locals.len() <= number {
+        locals.push(None)?;
+    }
+    Ok(())
+}
+
+// A local is set.
+fn set(locals: &mut Vec<Option<u32>>, number: usize, v: u32) -> Result<(), AllocError>
+    ensures { OnOk result (places locals.new.items ≡ written (places locals.old.items) number (Some v)) }
+{
+    make_room(locals, number)?;
+    locals[number] = Some(v);
+    Ok(())
+}
+
+// A word of a global is written; false outside.
+fn store(globals: &mut [Vec<u32>], array: usize, index: usize, v: u32) -> bool
+    ensures { stored (arrays globals.old) array index v ≡ (if result then Some (arrays globals.new) else None) }
+{
+    if array < globals.len() {
+        let words = &mut globals[array];
+        if index < words.len() {
+            words[index] = v;
+            return true;
+        }
+    }
+    false
+}
+
+// A word goes to a local, or to a global variable.
+fn put_at(interpreter: &mut Interpreter, place: Destination, v: u32) -> Result<Reached, AllocError>
+    ensures { IfOk result (λ r. with_assignment place v (places interpreter.old.frame.locals.items) (arrays interpreter.old.globals.items) interpreter.old.output.items (state_with interpreter.old) ≡ state_at r interpreter.new) }
+{
+    match place {
+        Destination::Local(number) => {
+            set(&mut interpreter.frame.locals, number, v)?;
+            Ok(Reached::Going)
+        }
+        Destination::Global(number) => {
+            if store(&mut interpreter.globals, number, 0, v) {
+                Ok(Reached::Going)
+            } else {
+                Ok(Reached::Failed)
+            }
+        }
+    }
+}
+
+// A function is called with these values.
+fn enter<'a>(
+    alloc: Global,
+    program: &'a Typed,
+    depth: u32,
+    interpreter: &mut Interpreter<'a>,
+    function: usize,
+    values: Vec<Option<u32>>,
+    to: Option<Destination>,
+) -> Result<Reached, AllocError>
+    ensures { IfOk result (λ r. (vs : List ℕ) → values.items ≡ map Some vs → state_after_call (program_of program.now) depth function vs to (frame_of interpreter.old.frame ∷ frames_of interpreter.old.waiting.items) (arrays interpreter.old.globals.items) interpreter.old.output.items ≡ state_at r interpreter.new) }
+{
+    let Some(function) = program.functions().get(function) else {
+        return Ok(Reached::Failed);
+    };
+    if interpreter.waiting.len() + 1 >= depth as usize {
+        return Ok(Reached::Failed);
+    }
+    let mut todo = Vec::new(alloc);
+    put(&mut todo, Pending::Rest(function.body.as_slice()))?;
+    let frame = Frame {
+        locals: values,
+        todo,
+        result_to: to,
+    };
+    let caller = mem::replace(&mut interpreter.frame, frame);
+    interpreter.waiting.push(caller)?;
+    Ok(Reached::Going)
+}
+
+// A call returns, with a word or without.
+fn leave(interpreter: &mut Interpreter, result_word: Option<u32>) -> Result<Reached, AllocError>
+    ensures { IfOk result (λ r. state_after_return result_word interpreter.old.frame.result_to (frames_of interpreter.old.waiting.items) (arrays interpreter.old.globals.items) interpreter.old.output.items ≡ state_at r interpreter.new) }
+{
+    let Some(caller) = interpreter.waiting.pop() else {
+        return match result_word {
+            Some(w) => Ok(Reached::Ended(w)),
+            None => Ok(Reached::Failed),
+        };
+    };
+    let done = mem::replace(&mut interpreter.frame, caller);
+    let Some(place) = done.result_to else {
+        return Ok(Reached::Going);
+    };
+    let Some(v) = result_word else {
+        return Ok(Reached::Failed);
+    };
+    let r = put_at(interpreter, place, v)?;
+    Ok(r)
+}
+
+// `place = e`
+fn assign_to(
+    interpreter: &mut Interpreter,
+    place: Destination,
+    e: &TypedExpression,
+) -> Result<Reached, AllocError>
+    ensures { IfOk result (λ r. Does (assign place (typed_expression_of e.now)) interpreter.old r interpreter.new) }
+{
+    let Some(v) = value(e, &interpreter.frame.locals, &interpreter.globals) else {
+        return Ok(Reached::Failed);
+    };
+    put_at(interpreter, place, v)
+}
+
+// `array[i] = e`
+fn store_at(
+    interpreter: &mut Interpreter,
+    array: usize,
+    i: &TypedExpression,
+    e: &TypedExpression,
+) -> Result<Reached, AllocError>
+    ensures { IfOk result (λ r. Does (store array (typed_expression_of i.now) (typed_expression_of e.now)) interpreter.old r interpreter.new) }
+{
+    let Some(index) = value(i, &interpreter.frame.locals, &interpreter.globals) else {
+        return Ok(Reached::Failed);
+    };
+    let Some(v) = value(e, &interpreter.frame.locals, &interpreter.globals) else {
+        return Ok(Reached::Failed);
+    };
+    if store(&mut interpreter.globals, array, index as usize, v) {
+        Ok(Reached::Going)
+    } else {
+        Ok(Reached::Failed)
+    }
+}
+
+// `f(..)` or `place = f(..)`
+fn call_function<'a>(
+    alloc: Global,
+    program: &'a Typed,
+    depth: u32,
+    interpreter: &mut Interpreter<'a>,
+    to: Option<Destination>,
+    function: usize,
+    terms: &[TypedExpression],
+) -> Result<Reached, AllocError>
+    ensures { IfOk result (λ r. state_after_step (program_of program.now) depth (Do (call to function (typed_expressions_of terms.now)) ∷ todos interpreter.old.frame.todo.items) interpreter.old ≡ state_at r interpreter.new) }
+{
+    let values = arguments(
+        alloc,
+        terms,
+        &interpreter.frame.locals,
+        &interpreter.globals,
+    )?;
+    let Some(values) = values else {
+        return Ok(Reached::Failed);
+    };
+    let r = enter(alloc, program, depth, interpreter, function, values, to)?;
+    Ok(r)
+}
+
+// `out(e)`
+fn write_out(interpreter: &mut Interpreter, e: &TypedExpression) -> Result<Reached, AllocError>
+    ensures { IfOk result (λ r. Does (output (typed_expression_of e.now)) interpreter.old r interpreter.new) }
+{
+    let Some(v) = value(e, &interpreter.frame.locals, &interpreter.globals) else {
+        return Ok(Reached::Failed);
+    };
+    interpreter.output.push(v)?;
+    Ok(Reached::Going)
+}
+
+// `if (test) first else second`
+fn branch_on<'a>(
+    interpreter: &mut Interpreter<'a>,
+    test: &TypedExpression,
+    first: &'a TypedStatement,
+    second: &'a TypedStatement,
+) -> Result<Reached, AllocError>
+    ensures { IfOk result (λ r. Does (if_else (typed_expression_of test.now) (statement_of first.now) (statement_of second.now)) interpreter.old r interpreter.new) }
+{
+    let Some(v) = value(test, &interpreter.frame.locals, &interpreter.globals) else {
+        return Ok(Reached::Failed);
+    };
+    if v == 0 {
+        put(&mut interpreter.frame.todo, Pending::One(second))?;
+    } else {
+        put(&mut interpreter.frame.todo, Pending::One(first))?;
+    }
+    Ok(Reached::Going)
+}
+
+// A test of a loop: its body is next, and then its last part and the loop again.
+fn repeat<'a>(
+    interpreter: &mut Interpreter<'a>,
+    again: &'a TypedStatement,
+    test: &TypedExpression,
+    last: &'a TypedStatement,
+    body: &'a TypedStatement,
+) -> Result<Reached, AllocError>
+    requires { statement_of again.now ≡ loop (typed_expression_of test.now) (statement_of last.now) (statement_of body.now) }
+    ensures { IfOk result (λ r. Does (statement_of again.now) interpreter.old r interpreter.new) }
+{
+    let Some(v) = value(test, &interpreter.frame.locals, &interpreter.globals) else {
+        return Ok(Reached::Failed);
+    };
+    if v != 0 {
+        put(&mut interpreter.frame.todo, Pending::Turn(last, again))?;
+        put(&mut interpreter.frame.todo, Pending::One(body))?;
+    }
+    Ok(Reached::Going)
+}
+
+// `return` or `return e`
+fn return_word(
+    interpreter: &mut Interpreter,
+    e: &Option<TypedExpression>,
+) -> Result<Reached, AllocError>
+    ensures { IfOk result (λ r. Does (return_with (maybe_typed_expression_of e.now)) interpreter.old r interpreter.new) }
+{
+    let Some(e) = e else {
+        let r = leave(interpreter, None)?;
+        return Ok(r);
+    };
+    let Some(v) = value(e, &interpreter.frame.locals, &interpreter.globals) else {
+        return Ok(Reached::Failed);
+    };
+    let r = leave(interpreter, Some(v))?;
+    Ok(r)
+}
+
+// A statement that was first is done.
+fn act<'a>(
+    alloc: Global,
+    program: &'a Typed,
+    depth: u32,
+    interpreter: &mut Interpreter<'a>,
+    s: &'a TypedStatement,
+) -> Result<Reached, AllocError>
+    ensures { IfOk result (λ r. state_after_step (program_of program.now) depth (Do (statement_of s.now) ∷ todos interpreter.old.frame.todo.items) interpreter.old ≡ state_at r interpreter.new) }
+{
+    match s {
+        TypedStatement::Assign(place, e) => assign_to(interpreter, *place, e),
+        TypedStatement::Store(array, i, e) => store_at(interpreter, *array, i, e),
+        TypedStatement::Call(to, f, all) => call_function(
+            alloc,
+            program,
+            depth,
+            interpreter,
+            *to,
+            *f,
+            all,
+        ),
+        TypedStatement::Output(e) => write_out(interpreter, e),
+        TypedStatement::If(test, first, second) => branch_on(interpreter, test, first, second),
+        TypedStatement::Loop(test, last, body) => repeat(interpreter, s, test, last, body),
+        TypedStatement::Return(e) => return_word(interpreter, e),
+        TypedStatement::Empty
+        | TypedStatement::Block(_)
+        | TypedStatement::Unset(_)
+        | TypedStatement::Break
+        | TypedStatement::Continue => Ok(Reached::Failed),
+    }
+}
+
+/// One step of the program.
+pub(crate) fn step<'a>(
+    alloc: Global,
+    program: &'a Typed,
+    depth: u32,
+    interpreter: &mut Interpreter<'a>,
+) -> Result<Reached, AllocError>
+    ensures { IfOk result (λ r. source_step (program_of program.now) depth (state_of interpreter.old) ≡ state_at r interpreter.new) }
+{
+    let frame = &mut interpreter.frame;
+    let head = settle(&mut frame.todo, &mut frame.locals)?;
+    let Head::Statement(s) = head else {
+        return Ok(Reached::Failed);
+    };
+    let r = act(alloc, program, depth, interpreter, s)?;
+    Ok(r)
+}
