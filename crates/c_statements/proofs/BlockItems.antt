@@ -55,9 +55,8 @@ faulty-to : (text : List ℕ) (g b : Bool) (sc : Scopes) (xs : Items) (i : Tree.
 faulty-to text g b sc no_items i k at (inl h) = absurd h
 faulty-to text g b sc no_items i k at (inr h) = h
 faulty-to text g b sc (more_items (declare integer_type x v) rest) i k at (inl (inl h)) = inl h
-faulty-to text g b sc (more_items (declare integer_type x v) rest) i k at (inl (inr (inl h))) = inr (inl h)
-faulty-to text g b sc (more_items (declare integer_type x v) rest) i k at (inl (inr (inr h))) = inr (inr (faulty-to text g b (with_local text sc integer_type x) rest i k at (inl h)))
-faulty-to text g b sc (more_items (declare integer_type x v) rest) i k at (inr h) = inr (inr (faulty-to text g b (with_local text sc integer_type x) rest i k at (inr h)))
+faulty-to text g b sc (more_items (declare integer_type x v) rest) i k at (inl (inr h)) = inr (faulty-to text g b (with_local text sc integer_type x) rest i k at (inl h))
+faulty-to text g b sc (more_items (declare integer_type x v) rest) i k at (inr h) = inr (faulty-to text g b (with_local text sc integer_type x) rest i k at (inr h))
 faulty-to text g b sc (more_items (statement s) rest) i k at (inl (inl h)) = inl h
 faulty-to text g b sc (more_items (statement s) rest) i k at (inl (inr h)) = inr (faulty-to text g b (behind sc s) rest i k at (inl h))
 faulty-to text g b sc (more_items (statement s) rest) i k at (inr h) = inr (faulty-to text g b (behind sc s) rest i k at (inr h))
@@ -66,8 +65,7 @@ faulty-from : (text : List ℕ) (g b : Bool) (sc : Scopes) (xs : Items) (i : Tre
     → FaultyItems text g b sc xs k at ⊎ FaultyItems text g b (behind_items text sc xs) (more_items i no_items) k at
 faulty-from text g b sc no_items i k at h = inr h
 faulty-from text g b sc (more_items (declare integer_type x v) rest) i k at (inl h) = inl (inl h)
-faulty-from text g b sc (more_items (declare integer_type x v) rest) i k at (inr (inl h)) = inl (inr (inl h))
-faulty-from text g b sc (more_items (declare integer_type x v) rest) i k at (inr (inr h)) = elim (faulty-from text g b (with_local text sc integer_type x) rest i k at h) [ inl l ↦ inl (inr (inr l)) | inr r ↦ inr r ]
+faulty-from text g b sc (more_items (declare integer_type x v) rest) i k at (inr h) = elim (faulty-from text g b (with_local text sc integer_type x) rest i k at h) [ inl l ↦ inl (inr l) | inr r ↦ inr r ]
 faulty-from text g b sc (more_items (statement s) rest) i k at (inl h) = inl (inl h)
 faulty-from text g b sc (more_items (statement s) rest) i k at (inr h) = elim (faulty-from text g b (behind sc s) rest i k at h) [ inl l ↦ inl (inr l) | inr r ↦ inr r ]
 

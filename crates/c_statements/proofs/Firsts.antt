@@ -9,7 +9,7 @@ use Rattle.c_statements.specs.Faults.{number_of, Faults, IsNoLater, IsFirstFault
 abbrev pub Both : Faults → Faults → Faults
 Both p q k at = p k at ⊎ q k at
 
-left-alone : (p q : Faults) (s : TypeStop) → StopsAtFirst p s → HasNone q → StopsAtFirst (Both p q) s
+pub left-alone : (p q : Faults) (s : TypeStop) → StopsAtFirst p s → HasNone q → StopsAtFirst (Both p q) s
 left-alone p q (Fault f) h n = record {
   has = inl h.has;
   first = λ j m b. elim b [ inl x ↦ h.first j m x | inr y ↦ absurd (n j m y) ];

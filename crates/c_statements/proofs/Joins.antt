@@ -1,28 +1,19 @@
 -- Statements put together from their parts.
-use Rattle.std.proofs.Common.{◌≡◌, ◌⊎◌, ◌+◌, ℕ, List, [], ◌∷◌, ◌++◌, Option, Bool, Result, Ok, Err, IfOk, IfErr, inl, inr, refl, sym, subst, ap, ◌∙◌, arith}
+use Rattle.std.proofs.Common.{◌≡◌, ◌≢◌, ◌⊎◌, ◌+◌, ℕ, List, [], ◌∷◌, ◌++◌, Option, Bool, Result, Ok, Err, IfOk, IfErr, inl, inr, refl, sym, subst, ap, ◌∙◌, arith}
 use Rattle.std.specs.declared.vec.Vec.{Vec}
 use Rattle.std.specs.declared.alloc.Global.{Global}
-use Rattle.c_tokens.specs.declared.token.Identifier.{Identifier}
-use Rattle.c_tokens.specs.declared.token.IntegerType.{IntegerType}
 use Rattle.c_front.specs.Tree as Tree
-use Rattle.c_front.specs.Tree.{Expression, Simple, Items}
-use Rattle.c_statements.specs.declared.fault.TypeFaultKind.{TypeFaultKind}
+use Rattle.c_front.specs.Tree.{Items}
 use Rattle.c_statements.specs.declared.fault.TypeStop.{TypeStop}
+use Rattle.c_statements.specs.declared.fault.TypeStop.TheVariants.{Fault, NoMemory}
 use Rattle.c_typed.specs.declared.tree.TypedStatement.{TypedStatement, Block}
-use Rattle.c_statements.specs.Faults.{Faults, StopsAtFirst, HasNone, StopsBoth}
-use Rattle.c_statements.specs.Names.{Scopes, environment_in, within, outside, with_local, behind, behind_items, declared_in, declared_in_all}
+use Rattle.c_statements.specs.Faults.{Faults, StopsAtFirst, HasNone, StopsBoth, StopsTwo, MadeOfTwo, MadeOfThree, both_of, first_of}
+use Rattle.c_statements.specs.Names.{Scopes, within, outside, behind, behind_items, declared_in, declared_in_all}
 use Rattle.c_typed.specs.Shape.{statement_of, statements_of}
-use Rattle.c_statements.specs.Statements.{FaultyFirst, FaultyDeclarator, FaultyItems}
-use Rattle.c_typed.specs.Trees as Trees
-use Rattle.c_typed.specs.Trees.{TypedExpression, block, loop, no_statements, more_statements}
-use Rattle.c_statements.specs.Types.{TypesPart, TypesTest, TypesStatement, for_loop_typed}
-use Rattle.c_statements.proofs.Firsts.{Both, Tells, same-stop, both-stop, both-none, ok-at}
+use Rattle.c_typed.specs.Trees.{block, more_statements, no_statements}
+use Rattle.c_statements.proofs.Firsts.{Both, Tells, both-stop, both-none, left-alone, ok-at}
 use Rattle.c_statements.proofs.BlockItems.{behind-around, behind-locals}
 use Rattle.c_typed.proofs.Shapes.{block-is}
-
--- what is known of an answer that lasts is known of it in its place
-pub moved : {T : Type 0} (P : Result T TypeStop → Type 0) (r a : Result T TypeStop) → r ≡ a → P a → P r
-moved P r a e h = subst P (sym e) h
 
 -- the scopes behind a block
 pub behind-block : (text : List ℕ) (sc a b d : Scopes) (all : Items) → a ≡ within sc → b ≡ behind_items text a all → d ≡ outside b → d ≡ behind sc (Tree.block all)
@@ -32,45 +23,92 @@ behind-block text sc a b d all e f g =
     around : (s : Scopes) → s.around ≡ sc.inner ∷ sc.around → s.locals ≡ sc.locals + declared_in_all all → outside s ≡ behind sc (Tree.block all)
     around s e f = rw (e, f) refl
 
--- the scopes behind two statements, one after the other
-pub behind-two : (sc : Scopes) (s t : Tree.Statement) (c : Expression) → behind (behind sc s) t ≡ behind sc (Tree.if_then_else c s t)
-behind-two sc s t c = let e : sc.locals + declared_in s + declared_in t ≡ sc.locals + (declared_in s + declared_in t) = omega arith in ap (λ (n : ℕ). same-but sc n) e
-  where
-    same-but : Scopes → ℕ → Scopes
-    same-but s n = record { inner = s.inner; around = s.around; locals = n }
+-- what is known of an answer that lasts is known of it in its place
+pub moved : {T : Type 0} (P : Result T TypeStop → Type 0) (r a : Result T TypeStop) → r ≡ a → P a → P r
+moved P r a e h = subst P (sym e) h
 
 pub if-ok : {A : Type 0} (P Q : A → Type 0) (r : Result A TypeStop) → ((x : A) → P x → Q x) → IfOk r P → IfOk r Q
 if-ok P Q (Ok x) f h = f x h
 if-ok P Q (Err s) f h = tt
 
--- what is told of an answer that lasts
-pub tells-moved : {T : Type 0} (p : Faults) (r a : Result T TypeStop) → r ≡ a → IfOk a (λ x. HasNone p) → IfErr a (StopsAtFirst p) → Tells p r
-tells-moved p r a e h l = let Q : Result _ TypeStop → Type 0 = λ y. Tells p y in subst Q (sym e) (h, l)
+-- two answers together, and one of them beside an answer without faults
+pub tells-both-of : {A B : Type 0} (p q : Faults) (a : Result A TypeStop) (b : Result B TypeStop) → Tells p a → Tells q b → Tells (Both p q) (both_of a b)
+tells-both-of {A} {B} p q (Ok x) (Ok y) h l = (both-none p q h.0 l.0, tt)
+tells-both-of {A} {B} p q (Ok x) (Err t) h l = (tt, both-stop {A = A} {B = B} p q (Ok x) (Err t) t h.0 h.1 l.0 l.1 refl)
+tells-both-of {A} {B} p q (Err s) (Ok y) h l = (tt, both-stop {A = A} {B = B} p q (Err s) (Ok y) s h.0 h.1 l.0 l.1 refl)
+tells-both-of {A} {B} p q (Err s) (Err t) h l = (tt, both-stop {A = A} {B = B} p q (Err s) (Err t) (first_of s t) h.0 h.1 l.0 l.1 refl)
 
--- two answers together
-pub together : {A B : Type 0} (p q : Faults) (a : Result A TypeStop) (b : Result B TypeStop) (c : Result (A × B) TypeStop) → Tells p a → Tells q b → IfOk c (λ r. (a ≡ Ok r.0) × (b ≡ Ok r.1)) → IfErr c (StopsBoth a b) → Tells (Both p q) c
-together p q a b (Ok r) h l o e = (both-none p q (ok-at (λ x. HasNone p) a r.0 o.0 h.0) (ok-at (λ x. HasNone q) b r.1 o.1 l.0), tt)
-together p q a b (Err s) h l o e = (tt, both-stop p q a b s h.0 h.1 l.0 l.1 e)
+pub tells-left : {A B : Type 0} (p : Faults) (a : Result A TypeStop) (y : B) → Tells p a → Tells p (both_of a (Ok y))
+tells-left p (Ok x) y h = h
+tells-left p (Err s) y h = h
 
-pub for-ok : (text : List ℕ) (sc : Scopes) (f l : Option Simple) (c : Option Expression) (s : Tree.Statement) (new mid v : Vec TypedStatement Global) (first turns : TypedStatement) (t : TypedExpression) (last body : Trees.TypedStatement) → new.items ≡ []
-    → mid.items ≡ new.items ++ first ∷ [] → v.items ≡ mid.items ++ turns ∷ [] → statement_of turns ≡ loop t last body → TypesPart (environment_in text sc) f (statement_of first) → TypesTest (environment_in text sc) c t → TypesPart (environment_in text sc) l last
-    → TypesStatement text sc s body → TypesStatement text sc (Tree.for_loop f c l s) (statement_of (Block v))
-for-ok text sc f l c s new mid v first turns t last body n m e i p q r h =
-    let whole : v.items ≡ first ∷ turns ∷ [] = e ∙ ap (λ (xs : List TypedStatement). xs ++ turns ∷ []) (m ∙ ap (λ (xs : List TypedStatement). xs ++ first ∷ []) n) in
-    let Q : Trees.TypedStatement → Type 0 = λ y. TypesStatement text sc (Tree.for_loop f c l s) y in
-    let W : Trees.TypedStatement → Type 0 = λ y. TypesStatement text sc (Tree.for_loop f c l s) (block (more_statements (statement_of first) (more_statements y no_statements))) in
-    subst Q (sym (block-is v ∙ ap (λ (xs : List TypedStatement). block (statements_of xs)) whole)) (subst W (sym i) (for_loop_typed p q r h))
+pub tells-right : {A B : Type 0} (p : Faults) (x : A) (b : Result B TypeStop) → Tells p b → Tells p (both_of (Ok x) b)
+tells-right p x (Ok y) h = h
+tells-right p x (Err s) h = h
 
--- the faults of one declaration alone
-pub declare-stop : (text : List ℕ) (g b : Bool) (sc : Scopes) (k : IntegerType) (x : Identifier) (v : Option Tree.Value) (s : TypeStop)
-    → StopsAtFirst (Both (FaultyDeclarator text sc x) (FaultyFirst (environment_in text (with_local text sc k x)) v)) s → StopsAtFirst (FaultyItems text g b sc (Tree.more_items (Tree.declare k x v) Tree.no_items)) s
-declare-stop text g b sc k x v s h = same-stop _ _ s (record { to = λ j n w. to j n w; from = λ j n w. from j n w }) h
-  where
-    to : (j : TypeFaultKind) (n : ℕ) → FaultyDeclarator text sc x j n ⊎ FaultyFirst (environment_in text (with_local text sc k x)) v j n → FaultyItems text g b sc (Tree.more_items (Tree.declare k x v) Tree.no_items) j n
-    to j n (inl w) = inl w
-    to j n (inr w) = inr (inl w)
+-- faults beside none are those faults
+pub tells-alone : {A : Type 0} (p : Faults) (r : Result A TypeStop) → Tells p r → Tells (Both p (λ k at. ⊥)) r
+tells-alone p (Ok x) h = (both-none p (λ k at. ⊥) h.0 (λ k at n. n), tt)
+tells-alone p (Err s) h = (tt, left-alone p (λ k at. ⊥) s h.1 (λ k at n. n))
 
-    from : (j : TypeFaultKind) (n : ℕ) → FaultyItems text g b sc (Tree.more_items (Tree.declare k x v) Tree.no_items) j n → FaultyDeclarator text sc x j n ⊎ FaultyFirst (environment_in text (with_local text sc k x)) v j n
-    from j n (inl w) = inl w
-    from j n (inr (inl w)) = inr w
-    from j n (inr (inr w)) = absurd w
+both-answer : {A B : Type 0} (a : Result A TypeStop) (b : Result B TypeStop) (x : A) (y : B) → a ≡ Ok x → b ≡ Ok y → both_of a b ≡ Ok (x, y)
+both-answer a b x y e f = rw (e, f) refl
+
+stops-two : {A B : Type 0} (p q : Faults) (a : Result A TypeStop) (b : Result B TypeStop) (s : TypeStop) → Tells p a → Tells q b → StopsTwo a b s → StopsAtFirst (Both p q) s
+stops-two p q a b s h l (inl e) = subst (StopsAtFirst (Both p q)) (sym e) tt
+stops-two p q a b s h l (inr e) = both-stop p q a b s h.0 h.1 l.0 l.1 e
+
+-- what is made of answers has the faults of their parts
+pub tells-two : {A B D : Type 0} (p q : Faults) (a : Result A TypeStop) (b : Result B TypeStop) (E : A → B → D → Type 0) (r : Result D TypeStop) → Tells p a → Tells q b
+    → IfOk r (MadeOfTwo a b E) → IfErr r (StopsTwo a b) → Tells (Both p q) r
+tells-two p q a b E (Ok d) h l o e = (both-none p q (ok-at (λ x. HasNone p) a o.0 o.2 h.0) (ok-at (λ x. HasNone q) b o.1 o.3 l.0), tt)
+tells-two p q a b E (Err s) h l o e = (tt, stops-two p q a b s h l e)
+
+pub tells-three : {A B C D : Type 0} (p q : Faults) (a : Result A TypeStop) (b : Result B TypeStop) (c : Result C TypeStop) (E : A → B → C → D → Type 0) (r : Result D TypeStop)
+    → Tells p a → Tells q (both_of b c) → IfOk r (MadeOfThree a b c E) → IfErr r (StopsTwo a (both_of b c)) → Tells (Both p q) r
+tells-three p q a b c E (Ok d) h l o e =
+    (both-none p q (ok-at (λ x. HasNone p) a o.0 o.3 h.0) (ok-at (λ x. HasNone q) (both_of b c) (o.1, o.2) (both-answer b c o.1 o.2 o.4 o.5) l.0), tt)
+tells-three p q a b c E (Err s) h l o e = (tt, stops-two p q a (both_of b c) s h l e)
+
+-- want of memory in a part is want of memory in the whole
+memory-right : {A B : Type 0} (a : Result A TypeStop) (b : Result B TypeStop) (s : TypeStop) → b ≡ Err NoMemory → StopsBoth a b s → s ≡ NoMemory
+memory-right a (Ok y) s e h = cc
+memory-right (Ok x) (Err t) s e h = let g : t ≡ NoMemory = cc in h ∙ g
+memory-right (Err (Fault f)) (Err (Fault g)) s e h = cc
+memory-right (Err (Fault f)) (Err NoMemory) s e h = h
+memory-right (Err NoMemory) (Err t) s e h = h
+
+memory-both : {A B : Type 0} (a : Result A TypeStop) (b : Result B TypeStop) → (a ≡ Err NoMemory) ⊎ (b ≡ Err NoMemory) → both_of a b ≡ Err NoMemory
+memory-both (Ok x) (Ok y) (inl e) = cc
+memory-both (Ok x) (Ok y) (inr e) = cc
+memory-both (Ok x) (Err t) (inl e) = cc
+memory-both (Ok x) (Err t) (inr e) = cc
+memory-both (Err t) (Ok y) (inl e) = cc
+memory-both (Err t) (Ok y) (inr e) = cc
+memory-both (Err (Fault f)) (Err t) (inl e) = cc
+memory-both (Err (Fault f)) (Err (Fault g)) (inr e) = cc
+memory-both (Err (Fault f)) (Err NoMemory) (inr e) = refl
+memory-both (Err NoMemory) (Err t) h = refl
+
+no-answer : {A : Type 0} (b : Result A TypeStop) (y : A) → b ≡ Ok y → b ≡ Err NoMemory → ⊥
+no-answer b y e f = let g = sym e ∙ f in cc
+
+pub second-lasts : {A B D : Type 0} (a : Result A TypeStop) (b : Result B TypeStop) (E : A → B → D → Type 0) (r : Result D TypeStop)
+    → IfOk r (MadeOfTwo a b E) → IfErr r (StopsTwo a b) → (r ≡ Err NoMemory → ⊥) → b ≡ Err NoMemory → ⊥
+second-lasts a b E (Ok d) o e n f = no-answer b o.1 o.3 f
+second-lasts a b E (Err s) o (inl e) n f = n (ap Err e)
+second-lasts a b E (Err s) o (inr e) n f = n (ap Err (memory-right a b s f e))
+
+pub parts-last : {A B C D : Type 0} (a : Result A TypeStop) (b : Result B TypeStop) (c : Result C TypeStop) (E : A → B → C → D → Type 0) (r : Result D TypeStop)
+    → IfOk r (MadeOfThree a b c E) → IfErr r (StopsTwo a (both_of b c)) → (r ≡ Err NoMemory → ⊥) → (b ≡ Err NoMemory) ⊎ (c ≡ Err NoMemory) → ⊥
+parts-last a b c E (Ok d) o e n (inl f) = no-answer b o.1 o.4 f
+parts-last a b c E (Ok d) o e n (inr f) = no-answer c o.2 o.5 f
+parts-last a b c E (Err s) o (inl e) n f = n (ap Err e)
+parts-last a b c E (Err s) o (inr e) n f = n (ap Err (memory-right a (both_of b c) s (memory-both b c f) e))
+
+-- a block of two statements
+pub block-of-two : (new mid v : Vec TypedStatement Global) (first second : TypedStatement) → new.items ≡ [] → mid.items ≡ new.items ++ first ∷ [] → v.items ≡ mid.items ++ second ∷ []
+    → statement_of (Block v) ≡ block (more_statements (statement_of first) (more_statements (statement_of second) no_statements))
+block-of-two new mid v first second n m e =
+    let whole : v.items ≡ first ∷ second ∷ [] = e ∙ ap (λ (xs : List TypedStatement). xs ++ second ∷ []) (m ∙ ap (λ (xs : List TypedStatement). xs ++ first ∷ []) n) in
+    block-is v ∙ ap (λ (xs : List TypedStatement). block (statements_of xs)) whole

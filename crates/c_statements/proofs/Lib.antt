@@ -9,4 +9,5 @@ pub mod Declarators
 pub mod BlockItems
 pub mod Weights
 pub mod Joins
+pub mod WholeStatements
 pub mod OnceStatements

@@ -1,6 +1,7 @@
 -- The faults of statements and of declarations of locals.
 use Rattle.std.specs.Prelude.{◌≡◌, ◌≢◌, ◌⊎◌, ℕ, List, [], ◌∷◌, Option, Some, None, Bool, true, false, length}
 use Rattle.c_tokens.specs.declared.token.Identifier.{Identifier}
+use Rattle.c_tokens.specs.declared.token.IntegerType.{IntegerType}
 use Rattle.c_front.specs.Tree as Tree
 use Rattle.c_front.specs.Tree.{Expression, Statement, Items, empty, block, if_then, if_then_else, while_loop, for_loop, break_at, continue_at, return_at, simply, declare, statement, no_items, more_items, call, plain, called, assign, assign_at, call_statement}
 use Rattle.c_statements.specs.declared.fault.TypeFaultKind.{TypeFaultKind}
@@ -63,6 +64,10 @@ pub data FaultyDeclarator (text : List ℕ) (sc : Scopes) (x : Identifier) : Typ
   declared_before : sc.inner (spelling_in text x) ≢ None → FaultyDeclarator text sc x Redeclared x.at
   local_too_many : sc.locals ≡ 128 → FaultyDeclarator text sc x Limit x.at
 
+-- a declaration of a local, which is in sight from the end of its declarator on, in its own first value too
+abbrev pub FaultyLocal : List ℕ → Scopes → IntegerType → Identifier → Option Tree.Value → Faults
+FaultyLocal text sc integer_type x v k at = FaultyDeclarator text sc x k at ⊎ FaultyFirst (environment_in text (with_local text sc integer_type x)) v k at
+
 -- the faults of a statement in a function that gives a result or not, in a loop or not
 abbrev mutual
   pub FaultyStatement : List ℕ → (gives loop : Bool) → Scopes → Statement → Faults
@@ -79,9 +84,8 @@ abbrev mutual
   FaultyStatement text gives loop sc (return_at place e) k at = FaultyReturn gives e place k at ⊎ FaultyMaybe (environment_in text sc) e k at
   FaultyStatement text gives loop sc (simply s) k at = FaultySimple (environment_in text sc) s k at
 
-  -- a local is in sight from the end of its declarator on, in its own first value too
   pub FaultyItems : List ℕ → (gives loop : Bool) → Scopes → Items → Faults
   FaultyItems text gives loop sc no_items k at = ⊥
   FaultyItems text gives loop sc (more_items (statement s) rest) k at = FaultyStatement text gives loop sc s k at ⊎ FaultyItems text gives loop (behind sc s) rest k at
   FaultyItems text gives loop sc (more_items (declare integer_type x v) rest) k at =
-      FaultyDeclarator text sc x k at ⊎ (FaultyFirst (environment_in text (with_local text sc integer_type x)) v k at ⊎ FaultyItems text gives loop (with_local text sc integer_type x) rest k at)
+      FaultyLocal text sc integer_type x v k at ⊎ FaultyItems text gives loop (with_local text sc integer_type x) rest k at

@@ -1,5 +1,5 @@
-ghost use Rattle.std.specs.Prelude.{◌≡◌, IfOk, IfErr, Ok};
-ghost use Rattle.c_statements.specs.Faults.{number_of, is_later, first_of, StopsBoth};
+ghost use Rattle.std.specs.Prelude.{◌≡◌, ◌≢◌, IfOk, IfErr, Ok, Err};
+ghost use Rattle.c_statements.specs.Faults.{number_of, is_later, first_of, both_of, StopsBoth};
 ghost use Rattle.c_statements.specs.declared.fault.TypeStop.TheVariants.{NoMemory};
 
 use std::alloc::{AllocError, AllocFailed};
@@ -110,6 +110,7 @@ pub fn both<A: Drop, B: Drop>(
 ) -> Result<(A, B), TypeStop>
     ensures ok { IfOk result (λ r. (a ≡ Ok r.0) × (b ≡ Ok r.1)) }
     ensures err { IfErr result (StopsBoth a b) }
+    ensures is { result ≡ both_of a b }
 {
     match (a, b) {
         (Ok(left), Ok(right)) => Ok((left, right)),
@@ -126,4 +127,18 @@ pub fn either(a: Result<(), TypeStop>, b: Result<(), TypeStop>) -> Result<(), Ty
 {
     both(a, b)?;
     Ok(())
+}
+
+/// An answer that isn't want of memory; want of memory is an error at once, since the scopes behind it aren't known.
+pub fn lasting<T: Drop>(answer: Result<T, TypeStop>) -> Result<Result<T, TypeStop>, TypeStop>
+    ensures ok { IfOk result (λ r. (r ≡ answer) × (answer ≢ Err NoMemory)) }
+    ensures err { IfErr result (λ s. s ≡ NoMemory) }
+{
+    match answer {
+        Ok(typed) => Ok(Ok(typed)),
+        Err(stop) => match stop {
+            TypeStop::NoMemory => Err(TypeStop::NoMemory),
+            TypeStop::Fault(fault) => Ok(Err(TypeStop::Fault(fault))),
+        },
+    }
 }

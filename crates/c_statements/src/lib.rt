@@ -16,6 +16,7 @@
 #![tactic(auto)]
 
 mod call;
+mod compound;
 mod expression;
 mod fault;
 mod names;
@@ -24,7 +25,7 @@ mod statement;
 mod symbol_table;
 
 pub use expression::{misuse, one_typing};
-pub use fault::{TypeFault, TypeFaultKind, TypeStop, both, either};
+pub use fault::{TypeFault, TypeFaultKind, TypeStop, both, either, lasting};
 pub use names::Named;
-pub use statement::{MAX_LOCALS, items, lasting, one_typing_of_statements};
+pub use statement::{MAX_LOCALS, items, one_typing_of_statements};
 pub use symbol_table::Scopes;

@@ -1,41 +1,28 @@
-ghost use Rattle.std.specs.Prelude.{◌≡◌, ◌≢◌, ℕ, List, IfOk, IfErr, Err, false};
-ghost use Rattle.c_front.specs.Shape.{expression_of, maybe_expression_of, maybe_simple_of, statement_of, item_of, items_of};
+ghost use Rattle.std.specs.Prelude.{◌≡◌, ℕ, List, IfOk, IfErr, Err, false};
+ghost use Rattle.c_front.specs.Shape.{expression_of, maybe_expression_of, maybe_simple_of, maybe_value_tree, statement_of, item_of, items_of};
 ghost use Rattle.c_front.specs.Tree as Tree;
 ghost use Rattle.c_front.specs.Tree.{block, if_then, if_then_else, while_loop, for_loop, return_at, more_items, no_items};
 ghost use Rattle.c_statements.specs.declared.fault.TypeStop.TheVariants.{NoMemory};
 ghost use Rattle.c_statements.specs.Faults.{HasNone, StopsAtFirst};
 ghost use Rattle.c_statements.specs.Shape.{scopes_of};
-ghost use Rattle.c_statements.specs.Names.{Scopes, environment_in, behind, behind_item, behind_items};
+ghost use Rattle.c_statements.specs.Names.{Scopes, environment_in, with_local, behind, behind_item, behind_items};
 ghost use Rattle.c_typed.specs.Shape.{maybe_typed_expression_of, statement_of as typed_of, statements_of};
-ghost use Rattle.c_statements.specs.Statements.{FaultyMaybe, FaultyReturn, FaultyJump, FaultyDeclarator, FaultyStatement, FaultyItems};
+ghost use Rattle.c_statements.specs.Statements.{FaultyMaybe, FaultyReturn, FaultyJump, FaultyDeclarator, FaultyLocal, FaultyStatement, FaultyItems};
 ghost use Rattle.c_typed.specs.Trees.{TypedStatement, TypedStatements, more_statements, no_statements};
-ghost use Rattle.c_statements.specs.Types.{TypesMaybe, TypesStatement, TypesItems};
+ghost use Rattle.c_statements.specs.Types.{TypesFirst, TypesMaybe, TypesStatement, TypesItems};
 
+use crate::compound::{if_else, loop_of, sequence};
 use crate::expression::{expression, misuse};
-use crate::fault::{TypeFault, TypeFaultKind, TypeStop, both};
+use crate::fault::{TypeFault, TypeFaultKind, TypeStop, both, lasting};
 use crate::simple::{first_value, part, simple, test, with_one};
 use crate::symbol_table::Scopes;
-use c_front::{Expression, ForParts, Item, Program, Statement};
-use c_tokens::Identifier;
+use c_front::{Expression, ForParts, Item, Program, Statement, Value};
+use c_tokens::{Identifier, IntegerType};
 use c_typed::{TypedExpression, TypedStatement};
 use std::alloc::{AllocError, AllocFailed, Global};
 
 /// The most locals that a function may have, its parameters counted.
 pub const MAX_LOCALS: usize = 128;
-
-/// An answer that isn't want of memory; want of memory is an error at once, since the scopes behind it aren't known.
-pub fn lasting<T: Drop>(answer: Result<T, TypeStop>) -> Result<Result<T, TypeStop>, TypeStop>
-    ensures ok { IfOk result (λ r. (r ≡ answer) × (answer ≢ Err NoMemory)) }
-    ensures err { IfErr result (λ s. s ≡ NoMemory) }
-{
-    match answer {
-        Ok(typed) => Ok(Ok(typed)),
-        Err(stop) => match stop {
-            TypeStop::NoMemory => Err(TypeStop::NoMemory),
-            TypeStop::Fault(fault) => Ok(Err(TypeStop::Fault(fault))),
-        },
-    }
-}
 
 /// Whether a jump stands in a loop; if not it is a fault, at its keyword.
 fn jump(in_loop: bool, at: usize) -> Result<(), TypeStop>
@@ -114,6 +101,27 @@ fn return_from(
     Ok(TypedStatement::Return(value))
 }
 
+/// A declaration of a local, which is in sight from its name on, in its own first value too.
+fn declare<'a>(
+    alloc: Global,
+    program: &'a Program,
+    scopes: &mut Scopes<'a>,
+    integer_type: IntegerType,
+    name: Identifier,
+    given: &Option<Value>,
+) -> Result<TypedStatement, TypeStop>
+    ensures ok { IfOk result (λ t. TypesFirst (environment_in program.now.text.items (with_local program.now.text.items (scopes_of scopes.old) integer_type name)) (scopes_of scopes.old).locals (maybe_value_tree given.now) (typed_of t)) }
+    ensures none { IfOk result (λ t. HasNone (FaultyLocal program.now.text.items (scopes_of scopes.old) integer_type name (maybe_value_tree given.now))) }
+    ensures err { IfErr result (StopsAtFirst (FaultyLocal program.now.text.items (scopes_of scopes.old) integer_type name (maybe_value_tree given.now))) }
+    ensures scopes { (result ≡ Err NoMemory → ⊥) → scopes_of scopes.new ≡ with_local program.now.text.items (scopes_of scopes.old) integer_type name }
+{
+    let refused = declarator(program, scopes, name);
+    let number = scopes.locals();
+    scopes.declare_local(program, integer_type, name)?;
+    let (_, first) = both(refused, first_value(alloc, program, scopes, number, given))?;
+    Ok(first)
+}
+
 /// A block: what it declares is out of sight behind it.
 #[cycle(statements)]
 fn block<'a>(
@@ -130,10 +138,9 @@ fn block<'a>(
     ensures scopes { (result ≡ Err NoMemory → ⊥) → scopes_of scopes.new ≡ behind (scopes_of scopes.old) (block (items_of all.now)) }
 {
     scopes.enter(alloc)?;
-    let typed = lasting(items(alloc, program, scopes, gives, in_loop, all))?;
+    let typed = items(alloc, program, scopes, gives, in_loop, all);
     scopes.leave();
-    let typed = typed?;
-    Ok(TypedStatement::Block(typed))
+    Ok(TypedStatement::Block(typed?))
 }
 
 /// An `if` without `else`.
@@ -153,13 +160,8 @@ fn if_then<'a>(
     ensures scopes { (result ≡ Err NoMemory → ⊥) → scopes_of scopes.new ≡ behind (scopes_of scopes.old) (if_then (expression_of condition.now) (statement_of first.now)) }
 {
     let condition = expression(alloc, program, scopes, condition);
-    let first = lasting(statement(alloc, program, scopes, gives, in_loop, first))?;
-    let (condition, first) = both(condition, first)?;
-    Ok(TypedStatement::If(
-        condition,
-        Box::new(alloc, first)?,
-        Box::new(alloc, TypedStatement::Empty)?,
-    ))
+    let first = statement(alloc, program, scopes, gives, in_loop, first);
+    if_else(alloc, condition, first, Ok(TypedStatement::Empty))
 }
 
 /// An `if` with `else`.
@@ -180,10 +182,9 @@ fn if_then_else<'a>(
     ensures scopes { (result ≡ Err NoMemory → ⊥) → scopes_of scopes.new ≡ behind (scopes_of scopes.old) (if_then_else (expression_of condition.now) (statement_of first.now) (statement_of second.now)) }
 {
     let condition = expression(alloc, program, scopes, condition);
-    let first = lasting(statement(alloc, program, scopes, gives, in_loop, first))?;
-    let second = lasting(statement(alloc, program, scopes, gives, in_loop, second))?;
-    let (condition, (first, second)) = both(condition, both(first, second))?;
-    Ok(TypedStatement::If(condition, Box::new(alloc, first)?, Box::new(alloc, second)?))
+    let first = statement(alloc, program, scopes, gives, in_loop, first);
+    let second = statement(alloc, program, scopes, gives, in_loop, second);
+    if_else(alloc, condition, first, second)
 }
 
 /// A `while`.
@@ -203,13 +204,8 @@ fn while_loop<'a>(
     ensures scopes { (result ≡ Err NoMemory → ⊥) → scopes_of scopes.new ≡ behind (scopes_of scopes.old) (while_loop (expression_of condition.now) (statement_of body.now)) }
 {
     let condition = expression(alloc, program, scopes, condition);
-    let body = lasting(statement(alloc, program, scopes, gives, true, body))?;
-    let (condition, body) = both(condition, body)?;
-    Ok(TypedStatement::Loop(
-        condition,
-        Box::new(alloc, TypedStatement::Empty)?,
-        Box::new(alloc, body)?,
-    ))
+    let body = statement(alloc, program, scopes, gives, true, body);
+    loop_of(alloc, condition, Ok(TypedStatement::Empty), body)
 }
 
 /// A `for`: the block of its first part and the loop.
@@ -231,13 +227,8 @@ fn for_loop<'a>(
     let first = part(alloc, program, scopes, &parts.first);
     let condition = test(alloc, program, scopes, &parts.test);
     let last = part(alloc, program, scopes, &parts.last);
-    let body = lasting(statement(alloc, program, scopes, gives, true, body))?;
-    let (first, (condition, (last, body))) = both(first, both(condition, both(last, body)))?;
-    let turns = TypedStatement::Loop(condition, Box::new(alloc, last)?, Box::new(alloc, body)?);
-    let mut all = Vec::new(alloc);
-    all.push(first)?;
-    all.push(turns)?;
-    Ok(TypedStatement::Block(all))
+    let body = statement(alloc, program, scopes, gives, true, body);
+    sequence(alloc, first, loop_of(alloc, condition, last, body))
 }
 
 /// The typed tree of a statement in a function that gives a result or not, in a loop or not, or its first fault.
@@ -300,12 +291,7 @@ fn item<'a>(
 {
     match one {
         Item::Declare(integer_type, name, given) => {
-            let refused = declarator(program, scopes, *name);
-            let number = scopes.locals();
-            scopes.declare_local(program, *integer_type, *name)?;
-            let first = first_value(alloc, program, scopes, number, given);
-            let (_, first) = both(refused, first)?;
-            Ok(first)
+            declare(alloc, program, scopes, *integer_type, *name, given)
         }
         Item::Statement(s) => statement(alloc, program, scopes, gives, in_loop, s),
     }

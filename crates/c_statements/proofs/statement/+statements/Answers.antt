@@ -1,109 +1,123 @@
-use Rattle.std.proofs.Common.{◌≡◌, ◌+◌, ℕ, List, true, Ok, rules, refl, sym, subst, ap, arith, ◌∙◌}
+use Rattle.std.proofs.Common.{◌≡◌, ◌+◌, ℕ, List, true, Result, Ok, Err, rules, inl, inr, refl, sym, subst, ap, arith, ◌∙◌}
 use Rattle.c_front.specs.declared.tree.Item.{Item}
 use Rattle.c_front.specs.Shape.{expression_of, maybe_expression_of, maybe_value_tree, simple_of, maybe_simple_of, statement_of, item_of, items_of}
-use Rattle.c_front.specs.Tree.{block, if_then, if_then_else, while_loop, for_loop, simply, statement, more_items, no_items}
+use Rattle.c_front.specs.Tree.{block, simply, statement, declare, more_items, no_items}
 use Rattle.c_front.proofs.Shapes.{block-is as read-block-is}
-use Rattle.c_statements.specs.Faults.{StopsAtFirst}
+use Rattle.c_typed.specs.declared.tree.TypedStatement.{TypedStatement as Typed, Empty}
+use Rattle.c_statements.specs.declared.fault.TypeStop.{TypeStop}
+use Rattle.c_statements.specs.declared.fault.TypeStop.TheVariants.{NoMemory}
+use Rattle.c_statements.specs.Faults.{Faults, StopsAtFirst, MadeOfThree, both_of}
 use Rattle.c_statements.specs.Shape.{scopes_of}
 use Rattle.c_statements.specs.Names.{Scopes, environment_in, with_local, behind, behind_item}
 use Rattle.c_typed.specs.Shape.{typed_expression_of, statement_of as typed_of, statements_of}
-use Rattle.c_statements.specs.Statements.{FaultyMaybe, FaultyPart, FaultyFirst, FaultyDeclarator, FaultyStatement, FaultyItems}
-use Rattle.c_typed.specs.Trees.{TypedStatement, more_statements, no_statements}
-use Rattle.c_statements.specs.Types.{TypesSimple, TypesFirst, TypesStatement, TypesItems, empty_typed, block_typed, if_then_typed, if_then_else_typed, while_loop_typed, break_typed, continue_typed, simply_typed, no_items_typed, statement_typed, declare_typed}
+use Rattle.c_statements.specs.Statements.{FaultyMaybe, FaultyPart, FaultyFirst, FaultyLocal, FaultyStatement, FaultyItems}
+use Rattle.c_typed.specs.Trees.{TypedStatement, if_else, loop, more_statements, no_statements}
+use Rattle.c_statements.specs.Types.{TypesSimple, TypesFirst, TypesStatement, TypesItems, empty_typed, block_typed, if_then_typed, if_then_else_typed, while_loop_typed, for_loop_typed, break_typed, continue_typed, simply_typed, no_items_typed, statement_typed, declare_typed}
 use Rattle.c_statements.specs.Uses.{Faulty}
-use Rattle.c_statements.proofs.Firsts.{Both, Tells, both-stop, three-stop, ok-at}
+use Rattle.c_statements.proofs.Firsts.{Both, Tells, ok-at}
 use Rattle.c_statements.proofs.BlockItems.{NextItem, none-so-far, one-so-far, behind-so-far}
 use Rattle.c_typed.proofs.Shapes.{block-is}
-use Rattle.c_statements.proofs.Joins.{moved, behind-block, if-ok, tells-moved, together, for-ok, declare-stop}
+use Rattle.c_statements.proofs.Joins.{moved, behind-block, if-ok, tells-both-of, tells-left, tells-right, tells-alone, tells-two, tells-three}
+use Rattle.c_statements.proofs.WholeStatements.{IsIf, IsLoop, IsSequence, if-then-ok, if-then-else-ok, while-ok, for-ok, tells-behind}
 use Rattle.c_statements.proofs.Weights.{weight, weight_all, weight-within}
 use Rattle.c_statements.proofs.statement.+statements.Goals as goal
 
-pub block-returns-in_err-typed-2-clause-scopes : goal.block-returns-in_err-typed-2-clause-scopes
-block-returns-in_err-typed-2-clause-scopes t c = λ n. behind-block c.args.program.now.text.items (scopes_of c.args.scopes.now) (scopes_of c.enter.new.self) (scopes_of c.items.new.scopes) (scopes_of c.leave.new.self) (items_of c.args.all.now) c.in_ok-enter.ensures (c.items.ensures.scopes c.in_ok-typed.ensures.ok.1) c.leave.ensures
+pub block-returns-in_err-typed-clause-scopes : goal.block-returns-in_err-typed-clause-scopes
+block-returns-in_err-typed-clause-scopes t c =
+    let refused : Result Typed TypeStop = Err NoMemory in
+    let lasts : c.items-typed.result ≡ Err NoMemory → c.from_residual-in_err-typed.result ≡ refused = search rules in
+    λ n. behind-block c.args.program.now.text.items (scopes_of c.args.scopes.now) (scopes_of c.enter.new.self) (scopes_of c.items-typed.new.scopes) (scopes_of c.leave.new.self) (items_of c.args.all.now) c.in_ok-enter.ensures (c.items-typed.ensures.scopes (λ e. n (lasts e))) c.leave.ensures
 
 pub block-returns-clause-scopes : goal.block-returns-clause-scopes
-block-returns-clause-scopes t c = λ n. behind-block c.args.program.now.text.items (scopes_of c.args.scopes.now) (scopes_of c.enter.new.self) (scopes_of c.items.new.scopes) (scopes_of c.leave.new.self) (items_of c.args.all.now) c.in_ok-enter.ensures (c.items.ensures.scopes c.in_ok-typed.ensures.ok.1) c.leave.ensures
+block-returns-clause-scopes t c =
+    λ n. behind-block c.args.program.now.text.items (scopes_of c.args.scopes.now) (scopes_of c.enter.new.self) (scopes_of c.items-typed.new.scopes) (scopes_of c.leave.new.self) (items_of c.args.all.now) c.in_ok-enter.ensures (c.items-typed.ensures.scopes (λ e. let f = sym c.in_ok-typed.was ∙ e in cc)) c.leave.ensures
 
 pub block-returns-clause-ok : goal.block-returns-clause-ok
 block-returns-clause-ok t c =
-    let e : c.items.result ≡ Ok c.in_ok-typed-2.typed = sym c.in_ok-typed.ensures.ok.0 ∙ c.in_ok-typed-2.was in
-    let Q : Scopes → Type 0 = λ s. TypesItems c.args.program.now.text.items s (items_of c.args.all.now) (statements_of c.in_ok-typed-2.typed.items) in
+    let Q : Scopes → Type 0 = λ s. TypesItems c.args.program.now.text.items s (items_of c.args.all.now) (statements_of c.in_ok-typed.field-0.items) in
     let P : TypedStatement → Type 0 = λ u. TypesStatement c.args.program.now.text.items (scopes_of c.args.scopes.now) (block (items_of c.args.all.now)) u in
-    subst P (sym (block-is c.in_ok-typed-2.typed)) (block_typed (subst Q c.in_ok-enter.ensures (ok-at _ _ _ e c.items.ensures.ok)))
-
-pub if_then-returns-in_err-condition-clause-err : goal.if_then-returns-in_err-condition-clause-err
-if_then-returns-in_err-condition-clause-err t c =
-    let s = tells-moved (FaultyStatement c.args.program.now.text.items c.args.gives c.args.in_loop (scopes_of c.args.scopes.now) (statement_of c.args.first.now)) c.in_ok-first.first c.statement.result c.in_ok-first.ensures.ok.0 c.statement.ensures.none c.statement.ensures.err in
-    let h : StopsAtFirst (FaultyStatement c.args.program.now.text.items c.args.gives c.args.in_loop (scopes_of c.args.scopes.now) (if_then (expression_of c.args.condition.now) (statement_of c.args.first.now))) c.in_err-condition.field-0.0 =
-    both-stop (Faulty (environment_in c.args.program.now.text.items (scopes_of c.args.scopes.now)) (expression_of c.args.condition.now)) (FaultyStatement c.args.program.now.text.items c.args.gives c.args.in_loop (scopes_of c.args.scopes.now) (statement_of c.args.first.now)) c.expression-condition.result c.in_ok-first.first _ c.expression-condition.ensures.none c.expression-condition.ensures.err s.0 s.1 c.in_err-condition.ensures.err
-    in search rules
+    subst P (sym (block-is c.in_ok-typed.field-0)) (block_typed (subst Q c.in_ok-enter.ensures c.in_ok-typed.ensures.ok))
 
 pub if_then-returns-clause-ok : goal.if_then-returns-clause-ok
 if_then-returns-clause-ok t c =
-    rw (c.in_ok-new.ensures.ok, c.in_ok-new-2.ensures.ok) (if_then_typed (ok-at _ _ _ c.in_ok-condition.ensures.ok.0 c.expression-condition.ensures.ok) (ok-at _ _ _ (sym c.in_ok-first.ensures.ok.0 ∙ c.in_ok-condition.ensures.ok.1) c.statement.ensures.ok))
+    if-then-ok c.args.program.now.text.items (scopes_of c.args.scopes.now) (expression_of c.args.condition.now) (statement_of c.args.first.now) c.expression-condition.result c.statement-first.result c.if_else.result
+    c.expression-condition.ensures.ok c.statement-first.ensures.ok c.if_else.ensures.ok
 
-pub while_loop-returns-in_err-condition-clause-err : goal.while_loop-returns-in_err-condition-clause-err
-while_loop-returns-in_err-condition-clause-err t c =
-    let s = tells-moved (FaultyStatement c.args.program.now.text.items c.args.gives true (scopes_of c.args.scopes.now) (statement_of c.args.body.now)) c.in_ok-body.body c.statement.result c.in_ok-body.ensures.ok.0 c.statement.ensures.none c.statement.ensures.err in
-    let h : StopsAtFirst (FaultyStatement c.args.program.now.text.items c.args.gives c.args.in_loop (scopes_of c.args.scopes.now) (while_loop (expression_of c.args.condition.now) (statement_of c.args.body.now))) c.in_err-condition.field-0.0 =
-    both-stop (Faulty (environment_in c.args.program.now.text.items (scopes_of c.args.scopes.now)) (expression_of c.args.condition.now)) (FaultyStatement c.args.program.now.text.items c.args.gives true (scopes_of c.args.scopes.now) (statement_of c.args.body.now)) c.expression-condition.result c.in_ok-body.body _ c.expression-condition.ensures.none c.expression-condition.ensures.err s.0 s.1 c.in_err-condition.ensures.err
-    in search rules
+pub if_then-returns-clause-err : goal.if_then-returns-clause-err
+if_then-returns-clause-err t c =
+    let text = c.args.program.now.text.items in
+    let sc = scopes_of c.args.scopes.now in
+    let faults = FaultyStatement text c.args.gives c.args.in_loop sc (statement_of c.args.first.now) in
+    (tells-three (Faulty (environment_in text sc) (expression_of c.args.condition.now)) faults c.expression-condition.result c.statement-first.result (Ok Empty) IsIf c.if_else.result
+    (c.expression-condition.ensures.none, c.expression-condition.ensures.err) (tells-left faults c.statement-first.result Empty (c.statement-first.ensures.none, c.statement-first.ensures.err)) c.if_else.ensures.ok c.if_else.ensures.err).1
 
 pub while_loop-returns-clause-ok : goal.while_loop-returns-clause-ok
 while_loop-returns-clause-ok t c =
-    rw (c.in_ok-new.ensures.ok, c.in_ok-new-2.ensures.ok) (while_loop_typed (ok-at _ _ _ c.in_ok-condition.ensures.ok.0 c.expression-condition.ensures.ok) (ok-at _ _ _ (sym c.in_ok-body.ensures.ok.0 ∙ c.in_ok-condition.ensures.ok.1) c.statement.ensures.ok))
+    while-ok c.args.program.now.text.items (scopes_of c.args.scopes.now) (expression_of c.args.condition.now) (statement_of c.args.body.now) c.expression-condition.result c.statement-body.result c.loop_of.result
+    c.expression-condition.ensures.ok c.statement-body.ensures.ok c.loop_of.ensures.ok
 
-pub if_then_else-returns-in_err-condition-clause-err : goal.if_then_else-returns-in_err-condition-clause-err
-if_then_else-returns-in_err-condition-clause-err t c =
-    let s = tells-moved (FaultyStatement c.args.program.now.text.items c.args.gives c.args.in_loop (scopes_of c.args.scopes.now) (statement_of c.args.first.now)) c.in_ok-first.first c.statement.result c.in_ok-first.ensures.ok.0 c.statement.ensures.none c.statement.ensures.err in
-    let Q : Scopes → Type 0 = λ y. Tells (FaultyStatement c.args.program.now.text.items c.args.gives c.args.in_loop y (statement_of c.args.second.now)) c.in_ok-second.second in
-    let u = subst Q (c.statement.ensures.scopes c.in_ok-first.ensures.ok.1) (tells-moved (FaultyStatement c.args.program.now.text.items c.args.gives c.args.in_loop (scopes_of c.statement.new.scopes) (statement_of c.args.second.now)) c.in_ok-second.second c.statement-2.result c.in_ok-second.ensures.ok.0 c.statement-2.ensures.none c.statement-2.ensures.err) in
-    let h : StopsAtFirst (FaultyStatement c.args.program.now.text.items c.args.gives c.args.in_loop (scopes_of c.args.scopes.now) (if_then_else (expression_of c.args.condition.now) (statement_of c.args.first.now) (statement_of c.args.second.now))) c.in_err-condition.field-0.0 =
-    three-stop (Faulty (environment_in c.args.program.now.text.items (scopes_of c.args.scopes.now)) (expression_of c.args.condition.now)) (FaultyStatement c.args.program.now.text.items c.args.gives c.args.in_loop (scopes_of c.args.scopes.now) (statement_of c.args.first.now)) (FaultyStatement c.args.program.now.text.items c.args.gives c.args.in_loop (behind (scopes_of c.args.scopes.now) (statement_of c.args.first.now)) (statement_of c.args.second.now)) c.expression-condition.result c.in_ok-first.first c.in_ok-second.second c.both.result _ c.expression-condition.ensures.none c.expression-condition.ensures.err s.0 s.1 u.0 u.1 c.both.ensures.ok c.both.ensures.err c.in_err-condition.ensures.err
-    in search rules
+pub while_loop-returns-clause-err : goal.while_loop-returns-clause-err
+while_loop-returns-clause-err t c =
+    let text = c.args.program.now.text.items in
+    let sc = scopes_of c.args.scopes.now in
+    let faults = FaultyStatement text c.args.gives true sc (statement_of c.args.body.now) in
+    (tells-three (Faulty (environment_in text sc) (expression_of c.args.condition.now)) faults c.expression-condition.result (Ok Empty) c.statement-body.result IsLoop c.loop_of.result
+    (c.expression-condition.ensures.none, c.expression-condition.ensures.err) (tells-right faults Empty c.statement-body.result (c.statement-body.ensures.none, c.statement-body.ensures.err)) c.loop_of.ensures.ok c.loop_of.ensures.err).1
 
 pub if_then_else-returns-clause-ok : goal.if_then_else-returns-clause-ok
 if_then_else-returns-clause-ok t c =
-    let e = ok-at _ _ _ c.in_ok-condition.ensures.ok.1 c.both.ensures.ok in
-    let Q : Scopes → Type 0 = λ y. TypesStatement c.args.program.now.text.items y (statement_of c.args.second.now) (typed_of c.in_ok-condition.second) in
-    rw (c.in_ok-new.ensures.ok, c.in_ok-new-2.ensures.ok) (if_then_else_typed (ok-at _ _ _ c.in_ok-condition.ensures.ok.0 c.expression-condition.ensures.ok) (ok-at _ _ _ (sym c.in_ok-first.ensures.ok.0 ∙ e.0) c.statement.ensures.ok)
-    (subst Q (c.statement.ensures.scopes c.in_ok-first.ensures.ok.1) (ok-at _ _ _ (sym c.in_ok-second.ensures.ok.0 ∙ e.1) c.statement-2.ensures.ok)))
+    if-then-else-ok c.args.program.now.text.items (scopes_of c.args.scopes.now) (scopes_of c.statement-first.new.scopes) (expression_of c.args.condition.now) (statement_of c.args.first.now) (statement_of c.args.second.now)
+    c.expression-condition.result c.statement-first.result c.statement-second.result c.if_else.result
+    c.expression-condition.ensures.ok c.statement-first.ensures.ok c.statement-first.ensures.scopes c.statement-second.ensures.ok c.if_else.ensures.ok
 
-pub for_loop-returns-in_err-first-clause-err : goal.for_loop-returns-in_err-first-clause-err
-for_loop-returns-in_err-first-clause-err t c =
-    let s = tells-moved (FaultyStatement c.args.program.now.text.items c.args.gives true (scopes_of c.args.scopes.now) (statement_of c.args.body.now)) c.in_ok-body.body c.statement.result c.in_ok-body.ensures.ok.0 c.statement.ensures.none c.statement.ensures.err in
-    let u = together (FaultyPart (environment_in c.args.program.now.text.items (scopes_of c.args.scopes.now)) (maybe_simple_of c.args.parts.now.last)) (FaultyStatement c.args.program.now.text.items c.args.gives true (scopes_of c.args.scopes.now) (statement_of c.args.body.now)) c.part-last.result c.in_ok-body.body c.both.result (c.part-last.ensures.none, c.part-last.ensures.err) s c.both.ensures.ok c.both.ensures.err in
-    let h : StopsAtFirst (FaultyStatement c.args.program.now.text.items c.args.gives c.args.in_loop (scopes_of c.args.scopes.now) (for_loop (maybe_simple_of c.args.parts.now.first) (maybe_expression_of c.args.parts.now.test) (maybe_simple_of c.args.parts.now.last) (statement_of c.args.body.now))) c.in_err-first.field-0.0 =
-    three-stop (FaultyPart (environment_in c.args.program.now.text.items (scopes_of c.args.scopes.now)) (maybe_simple_of c.args.parts.now.first)) (FaultyMaybe (environment_in c.args.program.now.text.items (scopes_of c.args.scopes.now)) (maybe_expression_of c.args.parts.now.test)) (Both (FaultyPart (environment_in c.args.program.now.text.items (scopes_of c.args.scopes.now)) (maybe_simple_of c.args.parts.now.last)) (FaultyStatement c.args.program.now.text.items c.args.gives true (scopes_of c.args.scopes.now) (statement_of c.args.body.now))) c.part-first.result c.test-condition.result c.both.result c.both-2.result _ c.part-first.ensures.none c.part-first.ensures.err c.test-condition.ensures.none c.test-condition.ensures.err u.0 u.1
-    c.both-2.ensures.ok c.both-2.ensures.err c.in_err-first.ensures.err
-    in search rules
+pub if_then_else-returns-clause-err : goal.if_then_else-returns-clause-err
+if_then_else-returns-clause-err t c =
+    let text = c.args.program.now.text.items in
+    let sc = scopes_of c.args.scopes.now in
+    let first = FaultyStatement text c.args.gives c.args.in_loop sc (statement_of c.args.first.now) in
+    let second = FaultyStatement text c.args.gives c.args.in_loop (behind sc (statement_of c.args.first.now)) (statement_of c.args.second.now) in
+    let both = tells-behind text c.args.gives c.args.in_loop sc (scopes_of c.statement-first.new.scopes) (statement_of c.args.first.now) (statement_of c.args.second.now) c.statement-first.result c.statement-second.result
+    (c.statement-first.ensures.none, c.statement-first.ensures.err) c.statement-first.ensures.scopes (c.statement-second.ensures.none, c.statement-second.ensures.err) in
+    (tells-three (Faulty (environment_in text sc) (expression_of c.args.condition.now)) (Both first second) c.expression-condition.result c.statement-first.result c.statement-second.result IsIf c.if_else.result
+    (c.expression-condition.ensures.none, c.expression-condition.ensures.err) both c.if_else.ensures.ok c.if_else.ensures.err).1
 
 pub for_loop-returns-clause-ok : goal.for_loop-returns-clause-ok
 for_loop-returns-clause-ok t c =
-    let e = ok-at _ _ _ c.in_ok-first.ensures.ok.1 c.both-2.ensures.ok in
-    let f = ok-at _ _ _ e.1 c.both.ensures.ok in
-    for-ok c.args.program.now.text.items (scopes_of c.args.scopes.now) (maybe_simple_of c.args.parts.now.first) (maybe_simple_of c.args.parts.now.last) (maybe_expression_of c.args.parts.now.test) (statement_of c.args.body.now) c.new-all.result c.push.new.self c.push-2.new.self c.in_ok-first.first _ (typed_expression_of c.in_ok-first.condition) (typed_of c.in_ok-first.last) (typed_of c.in_ok-first.body) c.new-all.ensures.items c.in_ok-push.ensures.items c.in_ok-push-2.ensures.items
-    (rw (c.in_ok-new.ensures.ok, c.in_ok-new-2.ensures.ok) refl) (ok-at _ _ _ c.in_ok-first.ensures.ok.0 c.part-first.ensures.ok) (ok-at _ _ _ e.0 c.test-condition.ensures.ok) (ok-at _ _ _ f.0 c.part-last.ensures.ok) (ok-at _ _ _ (sym c.in_ok-body.ensures.ok.0 ∙ f.1) c.statement.ensures.ok)
+    for-ok c.args.program.now.text.items (scopes_of c.args.scopes.now) (maybe_simple_of c.args.parts.now.first) (maybe_simple_of c.args.parts.now.last) (maybe_expression_of c.args.parts.now.test) (statement_of c.args.body.now)
+    c.part-first.result c.part-last.result c.statement-body.result c.loop_of.result c.sequence.result c.test-condition.result
+    c.part-first.ensures.ok c.test-condition.ensures.ok c.part-last.ensures.ok c.statement-body.ensures.ok c.loop_of.ensures.ok c.sequence.ensures.ok
 
-pub item-returns-in_err-first-in-Declare-clause-err : goal.item-returns-in_err-first-in-Declare-clause-err
-item-returns-in_err-first-in-Declare-clause-err t c =
-    let Q : Scopes → Type 0 = λ y. Tells (FaultyFirst (environment_in c.args.program.now.text.items y) (maybe_value_tree c.in-Declare.given)) c.first_value-first.result in
-    let u = subst Q c.in_ok-declare_local-in-Declare.ensures (c.first_value-first.ensures.none, c.first_value-first.ensures.err) in
-    let h : StopsAtFirst (FaultyItems c.args.program.now.text.items c.args.gives c.args.in_loop (scopes_of c.args.scopes.now) (more_items (item_of c.args.one.now) no_items)) c.in_err-first-in-Declare.field-0.0 =
-    rw c.in-Declare.is (declare-stop c.args.program.now.text.items c.args.gives c.args.in_loop (scopes_of c.args.scopes.now) c.in-Declare.integer_type c.in-Declare.name (maybe_value_tree c.in-Declare.given) _ (both-stop (FaultyDeclarator c.args.program.now.text.items (scopes_of c.args.scopes.now) c.in-Declare.name) (FaultyFirst (environment_in c.args.program.now.text.items (with_local c.args.program.now.text.items (scopes_of c.args.scopes.now) c.in-Declare.integer_type c.in-Declare.name)) (maybe_value_tree c.in-Declare.given)) c.declarator-refused.result c.first_value-first.result _
-    c.declarator-refused.ensures.none c.declarator-refused.ensures.err u.0 u.1 c.in_err-first-in-Declare.ensures.err))
-    in search rules
+pub for_loop-returns-clause-err : goal.for_loop-returns-clause-err
+for_loop-returns-clause-err t c =
+    let text = c.args.program.now.text.items in
+    let scope = environment_in text (scopes_of c.args.scopes.now) in
+    let test = FaultyMaybe scope (maybe_expression_of c.args.parts.now.test) in
+    let last = FaultyPart scope (maybe_simple_of c.args.parts.now.last) in
+    let body = FaultyStatement text c.args.gives true (scopes_of c.args.scopes.now) (statement_of c.args.body.now) in
+    let turns = tells-three test (Both last body) c.test-condition.result c.part-last.result c.statement-body.result IsLoop c.loop_of.result (c.test-condition.ensures.none, c.test-condition.ensures.err)
+    (tells-both-of last body c.part-last.result c.statement-body.result (c.part-last.ensures.none, c.part-last.ensures.err) (c.statement-body.ensures.none, c.statement-body.ensures.err)) c.loop_of.ensures.ok c.loop_of.ensures.err in
+    (tells-two (FaultyPart scope (maybe_simple_of c.args.parts.now.first)) (Both test (Both last body)) c.part-first.result c.loop_of.result IsSequence c.sequence.result (c.part-first.ensures.none, c.part-first.ensures.err) turns
+    c.sequence.ensures.ok c.sequence.ensures.err).1
 
-pub item-returns-in_ok-first-in-Declare-clause-ok : goal.item-returns-in_ok-first-in-Declare-clause-ok
-item-returns-in_ok-first-in-Declare-clause-ok t c =
-    let Q : Scopes → Type 0 = λ y. TypesFirst (environment_in c.args.program.now.text.items y) c.locals-number.result (maybe_value_tree c.in-Declare.given) (typed_of c.in_ok-first-in-Declare.first) in
-    let N : ℕ → Type 0 = λ n. TypesFirst (environment_in c.args.program.now.text.items (with_local c.args.program.now.text.items (scopes_of c.args.scopes.now) c.in-Declare.integer_type c.in-Declare.name)) n (maybe_value_tree c.in-Declare.given) (typed_of c.in_ok-first-in-Declare.first) in
-    rw c.in-Declare.is (declare_typed (subst N c.locals-number.ensures (subst Q c.in_ok-declare_local-in-Declare.ensures (ok-at _ _ _ c.in_ok-first-in-Declare.ensures.ok.1 c.first_value-first.ensures.ok))) no_items_typed)
+pub item-returns-in-Declare-clause-ok : goal.item-returns-in-Declare-clause-ok
+item-returns-in-Declare-clause-ok t c =
+    let text = c.args.program.now.text.items in
+    let sc = scopes_of c.args.scopes.now in
+    let given = maybe_value_tree c.in-Declare.given in
+    rw c.in-Declare.is (if-ok (λ u. TypesFirst (environment_in text (with_local text sc c.in-Declare.integer_type c.in-Declare.name)) sc.locals given (typed_of u))
+    (λ u. TypesItems text sc (more_items (declare c.in-Declare.integer_type c.in-Declare.name given) no_items) (more_statements (typed_of u) no_statements)) c.declare.result (λ u h. declare_typed h no_items_typed) c.declare.ensures.ok)
+
+pub item-returns-in-Declare-clause-err : goal.item-returns-in-Declare-clause-err
+item-returns-in-Declare-clause-err t c =
+    let faults = FaultyLocal c.args.program.now.text.items (scopes_of c.args.scopes.now) c.in-Declare.integer_type c.in-Declare.name (maybe_value_tree c.in-Declare.given) in
+    rw c.in-Declare.is (tells-alone faults c.declare.result (c.declare.ensures.none, c.declare.ensures.err)).1
 
 pub item-returns-in-Statement-clause-ok : goal.item-returns-in-Statement-clause-ok
 item-returns-in-Statement-clause-ok t c =
-    rw c.in-Statement.is (if-ok (λ u. TypesStatement c.args.program.now.text.items (scopes_of c.args.scopes.now) (statement_of c.in-Statement.s) (typed_of u)) (λ u. TypesItems c.args.program.now.text.items (scopes_of c.args.scopes.now) (more_items (statement (statement_of c.in-Statement.s)) no_items) (more_statements (typed_of u) no_statements)) c.statement.result
-    (λ u h. statement_typed h no_items_typed) c.statement.ensures.ok)
+    let text = c.args.program.now.text.items in
+    let sc = scopes_of c.args.scopes.now in
+    rw c.in-Statement.is (if-ok (λ u. TypesStatement text sc (statement_of c.in-Statement.s) (typed_of u))
+    (λ u. TypesItems text sc (more_items (statement (statement_of c.in-Statement.s)) no_items) (more_statements (typed_of u) no_statements)) c.statement.result (λ u h. statement_typed h no_items_typed) c.statement.ensures.ok)
 
 pub items-loop-one-init : goal.items-loop-one-init
 items-loop-one-init t c = record { so_far = none-so-far c.args.program.now.text.items c.args.gives c.args.in_loop (scopes_of c.args.scopes.now) c.new.result c.new.ensures.items; scopes = refl }
