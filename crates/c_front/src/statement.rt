@@ -117,8 +117,8 @@ fn ended_expression<'a>(
 fn for_parts<'a>(
     alloc: Global,
     tokens: &'a [Token],
-) -> Result<(ForParts, &'a [Token]), ParseStop<'a>>
-    ensures ok { IfOk result (λ r. IsHeadRead tokens.now r.1.now (maybe_simple_of r.0.first) (maybe_expression_of r.0.test) (maybe_simple_of r.0.last)) }
+) -> Result<(Box<ForParts>, &'a [Token]), ParseStop<'a>>
+    ensures ok { IfOk result (λ r. IsHeadRead tokens.now r.1.now (maybe_simple_of r.0.value.first) (maybe_expression_of r.0.value.test) (maybe_simple_of r.0.value.last)) }
     ensures shorter { IfOk result (λ r. length r.1.now < length tokens.now) }
     ensures err { IfErr result (IsHeadStuck tokens.now) }
 {
@@ -126,7 +126,8 @@ fn for_parts<'a>(
     let (first, second) = ended_simple(alloc, open, Mark::Semicolon)?;
     let (test, third) = ended_expression(alloc, second)?;
     let (last, end) = ended_simple(alloc, third, Mark::RightParen)?;
-    Ok((ForParts { first, test, last }, end))
+    let parts = Box::new(alloc, ForParts { first, test, last })?;
+    Ok((parts, end))
 }
 
 /// What stands after `break`, `continue` or `return`.
@@ -256,10 +257,7 @@ fn for_loop<'a>(
 {
     let (parts, start) = for_parts(alloc, tokens)?;
     let (body, end) = statement(alloc, start)?;
-    Ok((
-        Statement::For(Box::new(alloc, parts)?, Box::new(alloc, body)?),
-        end,
-    ))
+    Ok((Statement::For(parts, Box::new(alloc, body)?), end))
 }
 
 /// The first value of a local variable, if one stands here.

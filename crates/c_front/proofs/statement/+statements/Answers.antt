@@ -147,4 +147,4 @@ pub for_loop-returns-in_err-body-clause-err : goal.for_loop-returns-in_err-body-
 for_loop-returns-in_err-body-clause-err t c = let h : IsStuck a_statement (The For ∷ c.args.tokens.now) c.in_err-body.field-0.0 = for-body-stuck _ _ _ _ _ _ c.in_ok-parts.ensures.ok c.in_err-body.ensures.err in search rules
 
 pub for_loop-returns-clause-ok : goal.for_loop-returns-clause-ok
-for_loop-returns-clause-ok t c = rw (c.in_ok-new.ensures.ok, c.in_ok-new-2.ensures.ok) (for-read _ _ _ _ _ _ _ c.in_ok-parts.ensures.ok c.in_ok-body.ensures.ok)
+for_loop-returns-clause-ok t c = rw c.in_ok-new.ensures.ok (for-read _ _ _ _ _ _ _ c.in_ok-parts.ensures.ok c.in_ok-body.ensures.ok)
