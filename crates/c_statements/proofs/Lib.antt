@@ -9,5 +9,6 @@ pub mod Declarators
 pub mod BlockItems
 pub mod Weights
 pub mod Joins
+pub mod WholeExpressions
 pub mod WholeStatements
 pub mod OnceStatements

@@ -1,55 +1,24 @@
 ghost use Rattle.std.specs.Prelude.{◌≡◌, IfOk, IfErr, Some};
 ghost use Rattle.c_statements.specs.declared.names.Named.TheVariants.{Array};
-ghost use Rattle.c_statements.specs.declared.fault.TypeStop.TheVariants.{Fault, NoMemory};
+ghost use Rattle.c_statements.specs.declared.fault.TypeStop.TheVariants.{Fault};
 ghost use Rattle.c_front.specs.Shape.{expression_of};
 ghost use Rattle.c_front.specs.Tree as Tree;
 ghost use Rattle.c_statements.specs.Faults.{HasNone, StopsAtFirst};
 ghost use Rattle.c_statements.specs.Shape.{scopes_of};
 ghost use Rattle.c_statements.specs.Names.{Environment, environment_in};
 ghost use Rattle.c_typed.specs.Shape.{typed_expression_of};
-ghost use Rattle.c_typed.specs.Trees.{TypedExpression, binary, conditional, type_of, common_type, prefix_type, operation_type};
+ghost use Rattle.c_typed.specs.Trees.{TypedExpression};
 ghost use Rattle.c_statements.specs.Types.{Types};
 ghost use Rattle.c_statements.specs.Uses.{Faulty, Misused, as_value, with_index};
 
-use crate::fault::{TypeFault, TypeFaultKind, TypeStop, both};
+use crate::fault::{TypeFault, TypeFaultKind, TypeStop};
 use crate::names::Named;
+use crate::operation::{binary, conditional, element, unary};
 use crate::symbol_table::Scopes;
-use c_front::{BinaryOp, Expression, Program, UnaryOp};
+use c_front::{Expression, Program};
 use c_tokens::{Identifier, IntegerType};
 use c_typed::TypedExpression;
-use std::alloc::{AllocError, AllocFailed, Global};
-
-/// The type that two operands are converted to (C99 6.3.1.8): `unsigned int` if one of them is.
-fn common(left: IntegerType, right: IntegerType) -> IntegerType
-    ensures { result ≡ common_type left right }
-{
-    match (left, right) {
-        (IntegerType::SignedInt, IntegerType::SignedInt) => IntegerType::SignedInt,
-        _ => IntegerType::UnsignedInt,
-    }
-}
-
-/// The type of a prefix operator's value: `int` for `!`, else its operand's.
-fn prefix(operator: UnaryOp, operand: IntegerType) -> IntegerType
-    ensures { result ≡ prefix_type operator operand }
-{
-    match operator {
-        UnaryOp::Not => IntegerType::SignedInt,
-        _ => operand,
-    }
-}
-
-/// The type that a binary operator computes in: the left operand's for a shift, `int` for `&&` and `||`, else the
-/// operands' common type.
-fn operation(operator: BinaryOp, left: IntegerType, right: IntegerType) -> IntegerType
-    ensures { result ≡ operation_type operator left right }
-{
-    match operator {
-        BinaryOp::ShiftLeft | BinaryOp::ShiftRight => left,
-        BinaryOp::LogicalAnd | BinaryOp::LogicalOr => IntegerType::SignedInt,
-        _ => common(left, right),
-    }
-}
+use std::alloc::Global;
 
 /// A use of a name that is a fault.
 pub fn misuse(kind: TypeFaultKind, name: Identifier) -> TypeStop
@@ -97,44 +66,6 @@ pub fn array(
     }
 }
 
-/// A binary operator with its operands, in the type that it computes in.
-fn binary(
-    alloc: Global,
-    operator: BinaryOp,
-    left: TypedExpression,
-    right: TypedExpression,
-) -> Result<TypedExpression, TypeStop>
-    ensures ok { IfOk result (λ t. typed_expression_of t ≡ binary operator (operation_type operator (type_of (typed_expression_of left)) (type_of (typed_expression_of right))) (typed_expression_of left) (typed_expression_of right)) }
-    ensures err { IfErr result (λ s. s ≡ NoMemory) }
-{
-    let integer_type = operation(operator, left.integer_type(), right.integer_type());
-    Ok(TypedExpression::Binary(
-        operator,
-        integer_type,
-        Box::new(alloc, left)?,
-        Box::new(alloc, right)?,
-    ))
-}
-
-/// A choice between two values by a test, in the common type of the values.
-fn choice(
-    alloc: Global,
-    test: TypedExpression,
-    yes: TypedExpression,
-    no: TypedExpression,
-) -> Result<TypedExpression, TypeStop>
-    ensures ok { IfOk result (λ t. typed_expression_of t ≡ conditional (common_type (type_of (typed_expression_of yes)) (type_of (typed_expression_of no))) (typed_expression_of test) (typed_expression_of yes) (typed_expression_of no)) }
-    ensures err { IfErr result (λ s. s ≡ NoMemory) }
-{
-    let integer_type = common(yes.integer_type(), no.integer_type());
-    Ok(TypedExpression::Conditional(
-        integer_type,
-        Box::new(alloc, test)?,
-        Box::new(alloc, yes)?,
-        Box::new(alloc, no)?,
-    ))
-}
-
 /// The typed tree of an expression under the names in sight, or its first fault.
 pub fn expression(
     alloc: Global,
@@ -148,34 +79,24 @@ pub fn expression(
 {
     match e {
         Expression::Constant(literal) => Ok(TypedExpression::Constant(*literal)),
-        Expression::Name(name) => {
-            let term = variable(program, scopes, *name)?;
-            Ok(term)
-        }
+        Expression::Name(name) => variable(program, scopes, *name),
         Expression::Index(name, inner) => {
             let index = expression(alloc, program, scopes, inner);
-            let ((number, integer_type), index) = both(array(program, scopes, *name), index)?;
-            Ok(TypedExpression::Element(number, integer_type, Box::new(alloc, index)?))
+            element(alloc, array(program, scopes, *name), index)
         }
         Expression::Unary(operator, inner) => {
-            let operand = expression(alloc, program, scopes, inner)?;
-            let integer_type = prefix(*operator, operand.integer_type());
-            Ok(TypedExpression::Unary(*operator, integer_type, Box::new(alloc, operand)?))
+            unary(alloc, *operator, expression(alloc, program, scopes, inner))
         }
         Expression::Binary(operator, first, second) => {
-            let first = expression(alloc, program, scopes, first);
-            let second = expression(alloc, program, scopes, second);
-            let (left, right) = both(first, second)?;
-            let term = binary(alloc, *operator, left, right)?;
-            Ok(term)
+            let left = expression(alloc, program, scopes, first);
+            let right = expression(alloc, program, scopes, second);
+            binary(alloc, *operator, left, right)
         }
         Expression::Conditional(test, first, second) => {
             let test = expression(alloc, program, scopes, test);
-            let first = expression(alloc, program, scopes, first);
-            let second = expression(alloc, program, scopes, second);
-            let (test, (yes, no)) = both(test, both(first, second))?;
-            let term = choice(alloc, test, yes, no)?;
-            Ok(term)
+            let yes = expression(alloc, program, scopes, first);
+            let no = expression(alloc, program, scopes, second);
+            conditional(alloc, test, yes, no)
         }
     }
 }

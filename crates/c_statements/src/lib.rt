@@ -20,6 +20,7 @@ mod compound;
 mod expression;
 mod fault;
 mod names;
+mod operation;
 mod simple;
 mod statement;
 mod symbol_table;

@@ -1,0 +1,112 @@
+// Typed expressions from what the typing of their operands answered.
+
+ghost use Rattle.std.specs.Prelude.{◌≡◌, ◌⊎◌, IfOk, IfErr, Ok, Err};
+ghost use Rattle.c_statements.specs.declared.fault.TypeStop.TheVariants.{NoMemory};
+ghost use Rattle.c_statements.specs.Faults.{MadeOfThree, MadeOfTwo, StopsTwo, both_of};
+ghost use Rattle.c_typed.specs.Shape.{typed_expression_of};
+ghost use Rattle.c_typed.specs.Trees.{binary, common_type, conditional, element, operation_type, prefix_type, type_of, unary};
+
+use crate::fault::{TypeStop, both};
+use c_front::{BinaryOp, UnaryOp};
+use c_tokens::IntegerType;
+use c_typed::TypedExpression;
+use std::alloc::{AllocError, AllocFailed, Global};
+
+/// The type that two operands are converted to (C99 6.3.1.8): `unsigned int` if one of them is.
+fn common(left: IntegerType, right: IntegerType) -> IntegerType
+    ensures { result ≡ common_type left right }
+{
+    match (left, right) {
+        (IntegerType::SignedInt, IntegerType::SignedInt) => IntegerType::SignedInt,
+        _ => IntegerType::UnsignedInt,
+    }
+}
+
+/// The type of a prefix operator's value: `int` for `!`, else its operand's.
+fn prefix(operator: UnaryOp, operand: IntegerType) -> IntegerType
+    ensures { result ≡ prefix_type operator operand }
+{
+    match operator {
+        UnaryOp::Not => IntegerType::SignedInt,
+        _ => operand,
+    }
+}
+
+/// The type that a binary operator computes in: the left operand's for a shift, `int` for `&&` and `||`, else the
+/// operands' common type.
+fn operation(operator: BinaryOp, left: IntegerType, right: IntegerType) -> IntegerType
+    ensures { result ≡ operation_type operator left right }
+{
+    match operator {
+        BinaryOp::ShiftLeft | BinaryOp::ShiftRight => left,
+        BinaryOp::LogicalAnd | BinaryOp::LogicalOr => IntegerType::SignedInt,
+        _ => common(left, right),
+    }
+}
+
+/// An element of an array, which is given by its number and the type of its elements.
+pub fn element(
+    alloc: Global,
+    array: Result<(usize, IntegerType), TypeStop>,
+    index: Result<TypedExpression, TypeStop>,
+) -> Result<TypedExpression, TypeStop>
+    ensures ok { IfOk result (MadeOfTwo array index (λ a i t. typed_expression_of t ≡ element a.0 a.1 (typed_expression_of i))) }
+    ensures err { IfErr result (StopsTwo array index) }
+{
+    let ((number, integer_type), index) = both(array, index)?;
+    Ok(TypedExpression::Element(number, integer_type, Box::new(alloc, index)?))
+}
+
+/// A prefix operator with its operand.
+pub fn unary(
+    alloc: Global,
+    operator: UnaryOp,
+    operand: Result<TypedExpression, TypeStop>,
+) -> Result<TypedExpression, TypeStop>
+    ensures ok { IfOk result (λ t. (x : _) × (operand ≡ Ok x) × (typed_expression_of t ≡ unary operator (prefix_type operator (type_of (typed_expression_of x))) (typed_expression_of x))) }
+    ensures err { IfErr result (λ s. (s ≡ NoMemory) ⊎ (operand ≡ Err s)) }
+{
+    let operand = operand?;
+    let integer_type = prefix(operator, operand.integer_type());
+    Ok(TypedExpression::Unary(operator, integer_type, Box::new(alloc, operand)?))
+}
+
+/// A binary operator with its operands, in the type that it computes in.
+pub fn binary(
+    alloc: Global,
+    operator: BinaryOp,
+    left: Result<TypedExpression, TypeStop>,
+    right: Result<TypedExpression, TypeStop>,
+) -> Result<TypedExpression, TypeStop>
+    ensures ok { IfOk result (MadeOfTwo left right (λ l r t. typed_expression_of t ≡ binary operator (operation_type operator (type_of (typed_expression_of l)) (type_of (typed_expression_of r))) (typed_expression_of l) (typed_expression_of r))) }
+    ensures err { IfErr result (StopsTwo left right) }
+{
+    let (left, right) = both(left, right)?;
+    let integer_type = operation(operator, left.integer_type(), right.integer_type());
+    Ok(TypedExpression::Binary(
+        operator,
+        integer_type,
+        Box::new(alloc, left)?,
+        Box::new(alloc, right)?,
+    ))
+}
+
+/// A choice between two values by a test, in the common type of the values.
+pub fn conditional(
+    alloc: Global,
+    test: Result<TypedExpression, TypeStop>,
+    yes: Result<TypedExpression, TypeStop>,
+    no: Result<TypedExpression, TypeStop>,
+) -> Result<TypedExpression, TypeStop>
+    ensures ok { IfOk result (MadeOfThree test yes no (λ c y n t. typed_expression_of t ≡ conditional (common_type (type_of (typed_expression_of y)) (type_of (typed_expression_of n))) (typed_expression_of c) (typed_expression_of y) (typed_expression_of n))) }
+    ensures err { IfErr result (StopsTwo test (both_of yes no)) }
+{
+    let (test, (yes, no)) = both(test, both(yes, no))?;
+    let integer_type = common(yes.integer_type(), no.integer_type());
+    Ok(TypedExpression::Conditional(
+        integer_type,
+        Box::new(alloc, test)?,
+        Box::new(alloc, yes)?,
+        Box::new(alloc, no)?,
+    ))
+}
