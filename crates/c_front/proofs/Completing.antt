@@ -5,7 +5,18 @@ use Rattle.c_tokens.specs.declared.token.IntegerType.TheVariants.{SignedInt}
 use Rattle.c_tokens.specs.declared.token.Token.{Token}
 use Rattle.c_tokens.specs.declared.token.Token.TheVariants.{Name, Constant, Jump, The}
 use Rattle.c_tokens.specs.declared.token.Mark.TheVariants.{Int, Void, Else, Semicolon, LeftBrace, RightBrace, LeftParen, RightParen, LeftBracket, Assign}
-use Rattle.c_front.specs.Grammar.{Sort, a_name, a_constant, a_jump, the, Level, unary_expressions, above, ors, Nonterminal, a_program, declarations, a_declaration, a_type, maybe_int, after_global, initial, function_rest, parameters, more_parameters, items, an_item, declared, a_statement, else_part, maybe_simple, maybe_expression, simple, value, a_call, arguments, more_arguments, an_expression, choice, operands, more_operands, Symbol, T, N, SortTree, Rule, program_rule, declarations_end, declarations_more, declaration_typed, declaration_void, type_int, type_unsigned, int_none, int_some, global_plain, global_initial, global_array, global_function, initial_plain, initial_negative, function_rule, parameters_void, parameters_some, more_parameters_end, more_parameters_more, items_end, items_more, item_declare, item_statement, declared_none, declared_some, statement_empty, statement_block, statement_if, statement_while, statement_for, statement_break, statement_continue, statement_return, statement_simple, else_none, else_some, simple_none, simple_some, expression_none, expression_some, simple_assign, simple_assign_at, simple_call, value_plain, value_call, call_rule, arguments_none, arguments_some, more_arguments_end, more_arguments_more, expression_rule, choice_none, choice_some, operands_rule, operands_end, operands_more, operand_constant, operand_name, operand_index, operand_unary, operand_paren, first, second, IsToken, is_name, is_constant, is_jump, is_the}
+use Rattle.c_front.specs.Grammar.{Sort, a_name, a_constant, a_jump, the, Level, unary_expressions, above, ors, Nonterminal, a_program, declarations}
+use Rattle.c_front.specs.Grammar.{a_declaration, a_type, maybe_int, after_global, initial, function_rest, parameters, more_parameters, items, an_item, declared}
+use Rattle.c_front.specs.Grammar.{a_statement, else_part, maybe_simple, maybe_expression, simple, value, a_call, arguments, more_arguments, an_expression}
+use Rattle.c_front.specs.Grammar.{choice, operands, more_operands, Symbol, T, N, SortTree, Rule, program_rule, declarations_end, declarations_more}
+use Rattle.c_front.specs.Grammar.{declaration_typed, declaration_void, type_int, type_unsigned, int_none, int_some, global_plain, global_initial, global_array}
+use Rattle.c_front.specs.Grammar.{global_function, initial_plain, initial_negative, function_rule, parameters_void, parameters_some, more_parameters_end}
+use Rattle.c_front.specs.Grammar.{more_parameters_more, items_end, items_more, item_declare, item_statement, declared_none, declared_some, statement_empty}
+use Rattle.c_front.specs.Grammar.{statement_block, statement_if, statement_while, statement_for, statement_break, statement_continue, statement_return}
+use Rattle.c_front.specs.Grammar.{statement_simple, else_none, else_some, simple_none, simple_some, expression_none, expression_some, simple_assign}
+use Rattle.c_front.specs.Grammar.{simple_assign_at, simple_call, value_plain, value_call, call_rule, arguments_none, arguments_some, more_arguments_end}
+use Rattle.c_front.specs.Grammar.{more_arguments_more, expression_rule, choice_none, choice_some, operands_rule, operands_end, operands_more, operand_constant}
+use Rattle.c_front.specs.Grammar.{operand_name, operand_index, operand_unary, operand_paren, first, second, IsToken, is_name, is_constant, is_jump, is_the}
 use Rattle.c_tokens.specs.declared.token.Literal.{Literal}
 use Rattle.c_front.specs.Reading.{read_nothing, read_token, read_phrase, CanRead, can_read}
 use Rattle.c_front.specs.Choosing.{Choice, one_choice, chosen_rule, Peeks}
@@ -112,7 +123,8 @@ end-not-else h e =
     symbols-of (Some z) = z.0
 
 -- the parts of a phrase fit where the phrase does
-fit-parts : {n : Nonterminal} {inner : List Symbol} → Rule n inner → (symbols : List Symbol) → MayFollow n (first (completion symbols)) → Fit symbols → Fit (inner ++ symbols)
+fit-parts : {n : Nonterminal} {inner : List Symbol} → Rule n inner → (symbols : List Symbol) → MayFollow n (first (completion symbols)) → Fit symbols
+    → Fit (inner ++ symbols)
 fit-parts program_rule symbols h f = (h, f)
 fit-parts declarations_end symbols h f = f
 fit-parts declarations_more symbols h f = (tt, (h, f))
@@ -203,17 +215,21 @@ operands-start unary_expressions rest h = only operand_constant refl (token-then
 operands-start (above l) rest h = only operands_rule refl (then-reads (operands-start l rest (omega (arith, h))) (more-start l rest h))
 
 expression-start : Start an_expression
-expression-start rest h = only expression_rule refl (then-reads (operands-start ors rest (omega (arith, h))) (only choice_none (ends-choice (first rest) h) end-reads))
+expression-start rest h = only expression_rule refl (then-reads (operands-start ors rest (omega (arith, h)))
+    (only choice_none (ends-choice (first rest) h) end-reads))
 
 start : (n : Nonterminal) → Start n
 start a_program rest h = only program_rule refl (only declarations_end h end-reads)
 start declarations rest h = only declarations_end h end-reads
-start a_declaration rest h = only declaration_typed refl (then-reads (only type_int refl (token-then is_the end-reads)) (token-then is_name (only global_plain refl (token-then is_the end-reads))))
+start a_declaration rest h = only declaration_typed refl (then-reads (only type_int refl (token-then is_the end-reads))
+    (token-then is_name (only global_plain refl (token-then is_the end-reads))))
 start a_type rest h = only type_int refl (token-then is_the end-reads)
 start maybe_int rest h = only int_none h end-reads
 start after_global rest h = only global_plain refl (token-then is_the end-reads)
 start initial rest h = only initial_plain refl (token-then is_constant end-reads)
-start function_rest rest h = only function_rule refl (token-then is_the (then-reads (only parameters_void refl (token-then is_the end-reads)) (token-then is_the (token-then is_the (then-reads (only items_end refl end-reads) (token-then is_the end-reads))))))
+start function_rest rest h = only function_rule refl (token-then is_the
+    (then-reads (only parameters_void refl (token-then is_the end-reads))
+    (token-then is_the (token-then is_the (then-reads (only items_end refl end-reads) (token-then is_the end-reads))))))
 start parameters rest h = only parameters_void refl (token-then is_the end-reads)
 start more_parameters rest h = only more_parameters_end h end-reads
 start items rest h = only items_end h end-reads
@@ -225,7 +241,8 @@ start maybe_simple rest h = only simple_none h.0 end-reads
 start maybe_expression rest h = only expression_none h.0 end-reads
 start simple rest h = only simple_assign refl (token-then is_name (token-then is_the (only value_plain refl (expression-start rest h))))
 start value rest h = only value_plain refl (expression-start rest h)
-start a_call rest h = only call_rule refl (token-then is_name (token-then is_the (then-reads (only arguments_none refl end-reads) (token-then is_the end-reads))))
+start a_call rest h = only call_rule refl (token-then is_name (token-then is_the
+    (then-reads (only arguments_none refl end-reads) (token-then is_the end-reads))))
 start arguments rest h = only arguments_none h.0 end-reads
 start more_arguments rest h = only more_arguments_end h.0 end-reads
 start an_expression rest h = expression-start rest h
@@ -234,7 +251,8 @@ start (operands l) rest h = operands-start l rest h
 start (more_operands l) rest h = more-start l rest h
 
 -- a name alone is an operand, where no index or argument follows
-pub name-chosen : (x : Identifier) (next : Option Token) → 1 ≤ rank_of next → chosen_rule (operands unary_expressions) (Some (Name x)) next ≡ Some (T a_name ∷ [], operand_name)
+pub name-chosen : (x : Identifier) (next : Option Token) → 1 ≤ rank_of next
+    → chosen_rule (operands unary_expressions) (Some (Name x)) next ≡ Some (T a_name ∷ [], operand_name)
 name-chosen x None h = refl
 name-chosen x (Some (The LeftBracket)) h = absurd (omega (arith, h))
 name-chosen x (Some _) h = refl
@@ -256,8 +274,13 @@ pub name-expression : (x : Identifier) → CanRead (N an_expression ∷ []) (Nam
 name-expression x = only expression_rule refl (then-reads (name-operands ors x [] (lit≤ tt)) (only choice_none refl end-reads))
 
 -- tokens after the first one, where the second one has a say
-start-from : (n : Nonterminal) (t : Token) → Peeks n (Some t) → (w : List Token) × ((rest : List Token) → MayFollow n (first rest) → CanRead (N n ∷ []) (t ∷ w ++ rest) rest)
-start-from simple (Name x) k = (The Assign ∷ Constant zero_literal ∷ [], λ rest h. only simple_assign refl (token-then is_name (token-then is_the (only value_plain refl (expression-start rest h)))))
+start-from : (n : Nonterminal) (t : Token) → Peeks n (Some t) → (w : List Token)
+    × ((rest : List Token) → MayFollow n (first rest) → CanRead (N n ∷ []) (t ∷ w ++ rest) rest)
+start-from simple (Name x) k = (
+  The Assign ∷ Constant zero_literal ∷ [],
+  λ rest h. only simple_assign refl
+      (token-then is_name (token-then is_the (only value_plain refl (expression-start rest h)))),
+)
 start-from value (Name x) k = (
   [],
   λ rest h. only value_plain (name-plain x (first rest) (omega (arith, h)))
@@ -301,7 +324,8 @@ complete (at_inside {n = n} {inner = inner} {symbols = symbols} {p = p} {next = 
     let q = complete s (fit-parts r symbols f.0 f.1) in
     again p c q.0 q.1
   where
-    again : (p : List Token) → ((after : Option Token) → chosen_rule n (ahead p next) (ahead-two p next after) ≡ Some (inner, r)) → (w : List Token) → CanRead (inner ++ symbols) (p ++ w) [] → (w : List Token) × CanRead (N n ∷ symbols) (p ++ w) []
+    again : (p : List Token) → ((after : Option Token) → chosen_rule n (ahead p next) (ahead-two p next after) ≡ Some (inner, r)) → (w : List Token)
+        → CanRead (inner ++ symbols) (p ++ w) [] → (w : List Token) × CanRead (N n ∷ symbols) (p ++ w) []
     again [] c w d = (_, completion-reads (N n ∷ symbols) f)
     again (t ∷ []) c w (can_read d) = elim (peeks? n (Some t)) [
       | inl k ↦ (let z = start-from n t k in (z.0 ++ completion symbols, then-reads (z.1 (completion symbols) f.0) (completion-reads symbols f.1)))

@@ -5,15 +5,21 @@ use Rattle.c_tokens.specs.declared.token.IntegerType.{IntegerType}
 use Rattle.c_tokens.specs.declared.token.Token.{Token}
 use Rattle.c_tokens.specs.declared.token.Token.TheVariants.{The}
 use Rattle.c_tokens.specs.declared.token.Mark.{Mark}
-use Rattle.c_tokens.specs.declared.token.Mark.TheVariants.{Int, Unsigned, Void, Semicolon, Comma, LeftBrace, RightBrace, LeftParen, RightParen, LeftBracket, RightBracket, Assign, Minus}
-use Rattle.c_front.specs.Grammar.{a_name, a_constant, the, declarations, a_declaration, a_type, after_global, initial, function_rest, parameters, more_parameters, items, Symbol, T, N, variable_tail, array_tail, function_tail, PhraseTrees, program_rule, declarations_end, declarations_more, declaration_typed, declaration_void, global_plain, global_initial, global_array, global_function, initial_plain, initial_negative, function_rule, parameters_void, parameters_some, more_parameters_end, more_parameters_more, first, is_the, Spells}
+use Rattle.c_tokens.specs.declared.token.Mark.TheVariants.{Int, Unsigned, Void, Semicolon, Comma, LeftBrace, RightBrace, LeftParen, RightParen, LeftBracket}
+use Rattle.c_tokens.specs.declared.token.Mark.TheVariants.{RightBracket, Assign, Minus}
+use Rattle.c_front.specs.Grammar.{a_name, a_constant, the, declarations, a_declaration, a_type, after_global, initial, function_rest, parameters}
+use Rattle.c_front.specs.Grammar.{more_parameters, items, Symbol, T, N, variable_tail, array_tail, function_tail, PhraseTrees, program_rule, declarations_end}
+use Rattle.c_front.specs.Grammar.{declarations_more, declaration_typed, declaration_void, global_plain, global_initial, global_array, global_function}
+use Rattle.c_front.specs.Grammar.{initial_plain, initial_negative, function_rule, parameters_void, parameters_some, more_parameters_end, more_parameters_more}
+use Rattle.c_front.specs.Grammar.{first, is_the, Spells}
 use Rattle.c_front.specs.Reading.{Reads, read_nothing, read_token, read_phrase, Stuck, stuck_past, stuck_phrase, stuck_inside}
 use Rattle.c_front.specs.Choosing.{one_choice, EndsParameters}
 use Rattle.c_tokens.specs.declared.token.Literal.{Literal}
 use Rattle.c_front.specs.declared.cursor.ParseStop.{ParseStop}
 use Rattle.c_front.specs.declared.cursor.ParseStop.TheVariants.{Syntax, NoMemory}
 use Rattle.c_front.specs.Tree.{Items, Declaration, variable, array, function}
-use Rattle.c_front.specs.Parsing.{StartsWith, StartsWithout, IsRead, AreStuck, IsStuck, IsMissing, StartsWithName, IsNameMissing, HasNoType, StartsWithConstant, IsConstantMissing, IsParameterRead, IsParameterStuck, IsTailRead, IsProgramStuck}
+use Rattle.c_front.specs.Parsing.{StartsWith, StartsWithout, IsRead, AreStuck, IsStuck, IsMissing, StartsWithName, IsNameMissing, HasNoType, StartsWithConstant}
+use Rattle.c_front.specs.Parsing.{IsConstantMissing, IsParameterRead, IsParameterStuck, IsTailRead, IsProgramStuck}
 use Rattle.c_front.specs.declared.tree.Parameter.{Parameter}
 use Rattle.c_front.specs.declared.tree.Initial.{Initial}
 use Rattle.c_front.specs.declared.tree.Declaration as Rust
@@ -21,24 +27,28 @@ use Rattle.c_front.specs.Shape.{declaration_of, declarations_of}
 use Rattle.c_front.proofs.Reading.{stuck_after, derived}
 use Rattle.c_front.proofs.Deriving.{type-starts}
 use Rattle.c_front.proofs.Paths.{followed, whole}
-use Rattle.c_front.proofs.Steps.{missing-first, name-missing-first, constant-missing-first, past-mark, past-name, past-constant, past-phrase, first-phrase, inside, mark-then, mark-end, name-then, constant-then}
+use Rattle.c_front.proofs.Steps.{missing-first, name-missing-first, constant-missing-first, past-mark, past-name, past-constant, past-phrase, first-phrase}
+use Rattle.c_front.proofs.Steps.{inside, mark-then, mark-end, name-then, constant-then}
 
 -- the first value of a global variable
 chosen-negative : (ts a : List Token) → StartsWith Minus ts a → one_choice initial (first ts) ≡ Some (T (the Minus) ∷ T a_constant ∷ [], initial_negative)
 chosen-negative ts a e = ap (λ (x : List Token). one_choice initial (first x)) e
 
-pub negative-read : (ts a rest : List Token) (k : Literal) → StartsWith Minus ts a → StartsWithConstant a k rest → IsRead initial ts rest (record { negative = true; literal = k })
+pub negative-read : (ts a rest : List Token) (k : Literal) → StartsWith Minus ts a → StartsWithConstant a k rest
+    → IsRead initial ts rest (record { negative = true; literal = k })
 negative-read ts a rest k e f = whole initial_negative (chosen-negative ts a e) (mark-then e (constant-then f read_nothing))
 
 pub negative-stuck : (ts a : List Token) (s : ParseStop) → StartsWith Minus ts a → IsConstantMissing a s → IsStuck initial ts s
-negative-stuck ts a s e h = inside initial_negative ts s (chosen-negative ts a e) (λ z. z) (past-mark Minus (T a_constant ∷ []) ts a s e (constant-missing-first [] a s h))
+negative-stuck ts a s e h = inside initial_negative ts s (chosen-negative ts a e) (λ z. z)
+    (past-mark Minus (T a_constant ∷ []) ts a s e (constant-missing-first [] a s h))
 
 chosen-plain : (next : Option Token) → next ≢ Some (The Minus) → one_choice initial next ≡ Some (T a_constant ∷ [], initial_plain)
 chosen-plain None h = refl
 chosen-plain (Some (The Minus)) h = absurd (h refl)
 chosen-plain (Some _) h = refl
 
-pub plain-read : (ts rest : List Token) (k : Literal) → StartsWithout Minus ts → StartsWithConstant ts k rest → IsRead initial ts rest (record { negative = false; literal = k })
+pub plain-read : (ts rest : List Token) (k : Literal) → StartsWithout Minus ts → StartsWithConstant ts k rest
+    → IsRead initial ts rest (record { negative = false; literal = k })
 plain-read ts rest k h e = whole initial_plain (chosen-plain (first ts) h) (constant-then e read_nothing)
 
 pub plain-stuck : (ts : List Token) (s : ParseStop) → StartsWithout Minus ts → IsConstantMissing ts s → IsStuck initial ts s
@@ -60,19 +70,22 @@ parameter-name-stuck ts a k s d h = past-phrase a_type (T a_name ∷ []) ts a k 
 pub parameter-type-stuck : (ts : List Token) → HasNoType ts → (symbols : List Symbol) → Stuck (N a_type ∷ T a_name ∷ symbols) ts ts
 parameter-type-stuck ts h symbols = type-missing ts h (T a_name ∷ symbols)
 
-pub parameter-read : (ts a rest : List Token) (k : IntegerType) (x : Identifier) → IsRead a_type ts a k → StartsWithName a x rest → IsParameterRead ts rest (record { integer_type = k; name = x })
+pub parameter-read : (ts a rest : List Token) (k : IntegerType) (x : Identifier) → IsRead a_type ts a k → StartsWithName a x rest
+    → IsParameterRead ts rest (record { integer_type = k; name = x })
 parameter-read ts a rest k x d e = followed d (name-then e read_nothing)
 
 -- some parameters were read
 pub record GoesOnParameters (ts middle : List Token) (all : List Parameter) : Type 0 where
   pub reads : (rest : List Token) (more : List Parameter) → IsRead more_parameters middle rest more → IsRead parameters ts rest (all ++ more)
-  pub stuck : (rest : List Token) → ((symbols : List Symbol) → Stuck (N more_parameters ∷ symbols) middle rest) → (symbols : List Symbol) → Stuck (N parameters ∷ symbols) ts rest
+  pub stuck : (rest : List Token) → ((symbols : List Symbol) → Stuck (N more_parameters ∷ symbols) middle rest) → (symbols : List Symbol)
+      → Stuck (N parameters ∷ symbols) ts rest
   pub shorter : length middle < length ts
 
 pub no-parameters-read : (ts rest : List Token) → StartsWith Void ts rest → IsRead parameters ts rest []
 no-parameters-read ts rest e = whole parameters_void (ap (λ (x : List Token). one_choice parameters (first x)) e) (mark-end e)
 
-some-parameters : (next : Option Token) → next ≢ Some (The Void) → one_choice parameters next ≡ Some (N a_type ∷ T a_name ∷ N more_parameters ∷ [], parameters_some)
+some-parameters : (next : Option Token) → next ≢ Some (The Void) → one_choice parameters next ≡ Some
+    (N a_type ∷ T a_name ∷ N more_parameters ∷ [], parameters_some)
 some-parameters None h = refl
 some-parameters (Some (The Void)) h = absurd (h refl)
 some-parameters (Some _) h = refl
@@ -82,14 +95,17 @@ no-more-parameters None h = refl
 no-more-parameters (Some (The Comma)) h = absurd (h refl)
 no-more-parameters (Some _) h = refl
 
-parameter-then : {symbols : List Symbol} {ts a rest : List Token} {p : Parameter} {m : PhraseTrees symbols} → IsParameterRead ts a p → Reads symbols a rest m → Reads (N a_type ∷ T a_name ∷ symbols) ts rest (p.integer_type, (p.name, m))
+parameter-then : {symbols : List Symbol} {ts a rest : List Token} {p : Parameter} {m : PhraseTrees symbols} → IsParameterRead ts a p → Reads symbols a rest m
+    → Reads (N a_type ∷ T a_name ∷ symbols) ts rest (p.integer_type, (p.name, m))
 parameter-then (read_phrase r c d e (read_token i read_nothing)) z = read_phrase r c d e (read_token i z)
 
 pub first-parameter-stuck : (ts : List Token) (s : ParseStop) → StartsWithout Void ts → IsParameterStuck ts s → IsStuck parameters ts s
-first-parameter-stuck ts (Syntax rest) h k = λ symbols. stuck_inside parameters_some (some-parameters (first ts) h) (λ z. absurd z) (k (N more_parameters ∷ symbols))
+first-parameter-stuck ts (Syntax rest) h k = λ symbols. stuck_inside parameters_some (some-parameters (first ts) h) (λ z. absurd z)
+    (k (N more_parameters ∷ symbols))
 first-parameter-stuck ts NoMemory h k = tt
 
-pub parameters-first : (ts middle : List Token) (p : Parameter) (all : List Parameter) → StartsWithout Void ts → IsParameterRead ts middle p → length middle < length ts → all ≡ [] ++ p ∷ [] → GoesOnParameters ts middle all
+pub parameters-first : (ts middle : List Token) (p : Parameter) (all : List Parameter) → StartsWithout Void ts → IsParameterRead ts middle p
+    → length middle < length ts → all ≡ [] ++ p ∷ [] → GoesOnParameters ts middle all
 parameters-first ts middle p all h d l q =
     let P : List Parameter → Type 0 = λ x. GoesOnParameters ts middle x in
     let start : P (p ∷ []) = record {
@@ -99,30 +115,36 @@ parameters-first ts middle p all h d l q =
     } in
     subst P (sym q) start
 
-chosen-comma : (ts a : List Token) → StartsWith Comma ts a → one_choice more_parameters (first ts) ≡ Some (T (the Comma) ∷ N a_type ∷ T a_name ∷ N more_parameters ∷ [], more_parameters_more)
+chosen-comma : (ts a : List Token) → StartsWith Comma ts a → one_choice more_parameters (first ts) ≡ Some
+    (T (the Comma) ∷ N a_type ∷ T a_name ∷ N more_parameters ∷ [], more_parameters_more)
 chosen-comma ts a e = ap (λ (x : List Token). one_choice more_parameters (first x)) e
 
-comma-stuck : {ts after rest : List Token} → StartsWith Comma ts after → ((symbols : List Symbol) → Stuck (N a_type ∷ T a_name ∷ N more_parameters ∷ symbols) after rest) → (symbols : List Symbol) → Stuck (N more_parameters ∷ symbols) ts rest
+comma-stuck : {ts after rest : List Token} → StartsWith Comma ts after → ((symbols : List Symbol)
+    → Stuck (N a_type ∷ T a_name ∷ N more_parameters ∷ symbols) after rest) → (symbols : List Symbol) → Stuck (N more_parameters ∷ symbols) ts rest
 comma-stuck {rest = rest} e h symbols =
     let P : List Token → Type 0 = λ x. Stuck (N more_parameters ∷ symbols) x rest in
     subst P (sym e) (stuck_inside more_parameters_more refl (λ z. absurd z) (stuck_past is_the (h symbols)))
 
-pub parameters-more : (ts middle after next : List Token) (p : Parameter) (all new : List Parameter) → GoesOnParameters ts middle all → StartsWith Comma middle after → IsParameterRead after next p →
+pub parameters-more : (ts middle after next : List Token) (p : Parameter) (all new : List Parameter) → GoesOnParameters ts middle all
+    → StartsWith Comma middle after → IsParameterRead after next p →
     length next < length ts → new ≡ all ++ p ∷ [] → GoesOnParameters ts next new
 parameters-more ts middle after next p all new g h d l q =
     let start : GoesOnParameters ts next (all ++ p ∷ []) = record {
-      reads = λ rest more z. rw append_assoc (g.reads rest (p ∷ more) (whole more_parameters_more (chosen-comma middle after h) (mark-then h (parameter-then d z))));
+      reads = λ rest more z. rw append_assoc (g.reads rest (p ∷ more) (whole more_parameters_more (chosen-comma middle after h)
+          (mark-then h (parameter-then d z))));
       stuck = λ rest z symbols. g.stuck rest (comma-stuck h (λ y. stuck_after d (z y))) symbols;
       shorter = l;
     } in
     let P : List Parameter → Type 0 = λ x. GoesOnParameters ts next x in
     subst P (sym q) start
 
-pub next-parameter-stuck : (ts middle after : List Token) (all : List Parameter) (s : ParseStop) → GoesOnParameters ts middle all → StartsWith Comma middle after → IsParameterStuck after s → IsStuck parameters ts s
+pub next-parameter-stuck : (ts middle after : List Token) (all : List Parameter) (s : ParseStop) → GoesOnParameters ts middle all
+    → StartsWith Comma middle after → IsParameterStuck after s → IsStuck parameters ts s
 next-parameter-stuck ts middle after all (Syntax rest) g h k = g.stuck rest.now (comma-stuck h (λ y. k (N more_parameters ∷ y)))
 next-parameter-stuck ts middle after all NoMemory g h k = tt
 
-pub parameters-read : (ts middle : List Token) (all : List Parameter) → GoesOnParameters ts middle all → StartsWithout Comma middle → IsRead parameters ts middle all
+pub parameters-read : (ts middle : List Token) (all : List Parameter) → GoesOnParameters ts middle all → StartsWithout Comma middle
+    → IsRead parameters ts middle all
 parameters-read ts middle all g h =
     let P : List Parameter → Type 0 = λ x. IsRead parameters ts middle x in
     subst P (append-nil all) (g.reads middle [] (whole more_parameters_end (no-more-parameters (first middle) h) read_nothing))
@@ -149,25 +171,35 @@ function-open-stuck ts s h = function-stuck ts s (missing-first LeftParen after_
 pub function-parameters-stuck : (ts a : List Token) (s : ParseStop) → StartsWith LeftParen ts a → IsStuck parameters a s → IsStuck function_rest ts s
 function-parameters-stuck ts a s e h = function-stuck ts s (past-mark LeftParen after_open ts a s e (first-phrase parameters after_parameters a s h))
 
-past-parameters : (ts a b : List Token) (ps : List Parameter) (s : ParseStop) → StartsWith LeftParen ts a → IsRead parameters a b ps → AreStuck after_parameters b s → IsStuck function_rest ts s
+past-parameters : (ts a b : List Token) (ps : List Parameter) (s : ParseStop) → StartsWith LeftParen ts a → IsRead parameters a b ps
+    → AreStuck after_parameters b s → IsStuck function_rest ts s
 past-parameters ts a b ps s e d h = function-stuck ts s (past-mark LeftParen after_open ts a s e (past-phrase parameters after_parameters a b ps s d h))
 
-pub function-close-stuck : (ts a b : List Token) (ps : List Parameter) (s : ParseStop) → StartsWith LeftParen ts a → IsRead parameters a b ps → IsMissing RightParen b s → IsStuck function_rest ts s
+pub function-close-stuck : (ts a b : List Token) (ps : List Parameter) (s : ParseStop) → StartsWith LeftParen ts a → IsRead parameters a b ps
+    → IsMissing RightParen b s → IsStuck function_rest ts s
 function-close-stuck ts a b ps s e d h = past-parameters ts a b ps s e d (missing-first RightParen in_body b s h)
 
-pub function-brace-stuck : (ts a b c : List Token) (ps : List Parameter) (s : ParseStop) → StartsWith LeftParen ts a → IsRead parameters a b ps → StartsWith RightParen b c → IsMissing LeftBrace c s → IsStuck function_rest ts s
-function-brace-stuck ts a b c ps s e d f h = past-parameters ts a b ps s e d (past-mark RightParen in_body b c s f (missing-first LeftBrace (N items ∷ T (the RightBrace) ∷ []) c s h))
+pub function-brace-stuck : (ts a b c : List Token) (ps : List Parameter) (s : ParseStop) → StartsWith LeftParen ts a → IsRead parameters a b ps
+    → StartsWith RightParen b c → IsMissing LeftBrace c s → IsStuck function_rest ts s
+function-brace-stuck ts a b c ps s e d f h = past-parameters ts a b ps s e d
+    (past-mark RightParen in_body b c s f (missing-first LeftBrace (N items ∷ T (the RightBrace) ∷ []) c s h))
 
-past-brace : (ts a b c f : List Token) (ps : List Parameter) (s : ParseStop) → StartsWith LeftParen ts a → IsRead parameters a b ps → StartsWith RightParen b c → StartsWith LeftBrace c f → AreStuck (N items ∷ T (the RightBrace) ∷ []) f s → IsStuck function_rest ts s
-past-brace ts a b c f ps s e d g k h = past-parameters ts a b ps s e d (past-mark RightParen in_body b c s g (past-mark LeftBrace (N items ∷ T (the RightBrace) ∷ []) c f s k h))
+past-brace : (ts a b c f : List Token) (ps : List Parameter) (s : ParseStop) → StartsWith LeftParen ts a → IsRead parameters a b ps → StartsWith RightParen b c
+    → StartsWith LeftBrace c f → AreStuck (N items ∷ T (the RightBrace) ∷ []) f s → IsStuck function_rest ts s
+past-brace ts a b c f ps s e d g k h = past-parameters ts a b ps s e d (past-mark RightParen in_body b c s g
+    (past-mark LeftBrace (N items ∷ T (the RightBrace) ∷ []) c f s k h))
 
-pub function-body-stuck : (ts a b c f : List Token) (ps : List Parameter) (s : ParseStop) → StartsWith LeftParen ts a → IsRead parameters a b ps → StartsWith RightParen b c → StartsWith LeftBrace c f → IsStuck items f s → IsStuck function_rest ts s
+pub function-body-stuck : (ts a b c f : List Token) (ps : List Parameter) (s : ParseStop) → StartsWith LeftParen ts a → IsRead parameters a b ps
+    → StartsWith RightParen b c → StartsWith LeftBrace c f → IsStuck items f s → IsStuck function_rest ts s
 function-body-stuck ts a b c f ps s e d g k h = past-brace ts a b c f ps s e d g k (first-phrase items (T (the RightBrace) ∷ []) f s h)
 
-pub function-end-stuck : (ts a b c f i : List Token) (ps : List Parameter) (is : Items) (s : ParseStop) → StartsWith LeftParen ts a → IsRead parameters a b ps → StartsWith RightParen b c → StartsWith LeftBrace c f → IsRead items f i is → IsMissing RightBrace i s → IsStuck function_rest ts s
-function-end-stuck ts a b c f i ps is s e d g k q h = past-brace ts a b c f ps s e d g k (past-phrase items (T (the RightBrace) ∷ []) f i is s q (missing-first RightBrace [] i s h))
+pub function-end-stuck : (ts a b c f i : List Token) (ps : List Parameter) (is : Items) (s : ParseStop) → StartsWith LeftParen ts a → IsRead parameters a b ps
+    → StartsWith RightParen b c → StartsWith LeftBrace c f → IsRead items f i is → IsMissing RightBrace i s → IsStuck function_rest ts s
+function-end-stuck ts a b c f i ps is s e d g k q h = past-brace ts a b c f ps s e d g k
+    (past-phrase items (T (the RightBrace) ∷ []) f i is s q (missing-first RightBrace [] i s h))
 
-pub function-read : (ts a b c f i rest : List Token) (ps : List Parameter) (is : Items) → StartsWith LeftParen ts a → IsRead parameters a b ps → StartsWith RightParen b c → StartsWith LeftBrace c f → IsRead items f i is → StartsWith RightBrace i rest →
+pub function-read : (ts a b c f i rest : List Token) (ps : List Parameter) (is : Items) → StartsWith LeftParen ts a → IsRead parameters a b ps
+    → StartsWith RightParen b c → StartsWith LeftBrace c f → IsRead items f i is → StartsWith RightBrace i rest →
     IsRead function_rest ts rest (ps, is)
 function-read ts a b c f i rest ps is e d g k q h = whole function_rule refl (mark-then e (followed d (mark-then g (mark-then k (followed q (mark-end h))))))
 
@@ -178,13 +210,16 @@ chosen-by ts a u e = ap (λ (x : List Token). one_choice after_global (first x))
 pub tail-plain : (k : IntegerType) (x : Identifier) (ts rest : List Token) → StartsWith Semicolon ts rest → IsTailRead k x ts rest (variable k x None)
 tail-plain k x ts rest e = (variable_tail None, whole global_plain (chosen-by ts rest Semicolon e) (mark-end e), refl)
 
-pub tail-initial : (k : IntegerType) (x : Identifier) (ts a b rest : List Token) (i : Initial) → StartsWith Assign ts a → IsRead initial a b i → StartsWith Semicolon b rest → IsTailRead k x ts rest (variable k x (Some i))
+pub tail-initial : (k : IntegerType) (x : Identifier) (ts a b rest : List Token) (i : Initial) → StartsWith Assign ts a → IsRead initial a b i
+    → StartsWith Semicolon b rest → IsTailRead k x ts rest (variable k x (Some i))
 tail-initial k x ts a b rest i e d f = (variable_tail (Some i), whole global_initial (chosen-by ts a Assign e) (mark-then e (followed d (mark-end f))), refl)
 
 pub tail-initial-stuck : (ts a : List Token) (s : ParseStop) → StartsWith Assign ts a → IsStuck initial a s → IsStuck after_global ts s
-tail-initial-stuck ts a s e h = inside global_initial ts s (chosen-by ts a Assign e) (λ z. z) (past-mark Assign (N initial ∷ T (the Semicolon) ∷ []) ts a s e (first-phrase initial (T (the Semicolon) ∷ []) a s h))
+tail-initial-stuck ts a s e h = inside global_initial ts s (chosen-by ts a Assign e) (λ z. z)
+    (past-mark Assign (N initial ∷ T (the Semicolon) ∷ []) ts a s e (first-phrase initial (T (the Semicolon) ∷ []) a s h))
 
-pub tail-initial-end-stuck : (ts a b : List Token) (i : Initial) (s : ParseStop) → StartsWith Assign ts a → IsRead initial a b i → IsMissing Semicolon b s → IsStuck after_global ts s
+pub tail-initial-end-stuck : (ts a b : List Token) (i : Initial) (s : ParseStop) → StartsWith Assign ts a → IsRead initial a b i → IsMissing Semicolon b s
+    → IsStuck after_global ts s
 tail-initial-end-stuck ts a b i s e d h = inside global_initial ts s (chosen-by ts a Assign e) (λ z. z)
     (past-mark Assign (N initial ∷ T (the Semicolon) ∷ []) ts a s e (past-phrase initial (T (the Semicolon) ∷ []) a b i s d (missing-first Semicolon [] b s h)))
 
@@ -197,57 +232,81 @@ array-stuck ts a s e h = inside global_array ts s (chosen-by ts a LeftBracket e)
 pub array-length-stuck : (ts a : List Token) (s : ParseStop) → StartsWith LeftBracket ts a → IsConstantMissing a s → IsStuck after_global ts s
 array-length-stuck ts a s e h = array-stuck ts a s e (constant-missing-first (T (the RightBracket) ∷ T (the Semicolon) ∷ []) a s h)
 
-pub array-close-stuck : (ts a b : List Token) (n : Literal) (s : ParseStop) → StartsWith LeftBracket ts a → StartsWithConstant a n b → IsMissing RightBracket b s → IsStuck after_global ts s
-array-close-stuck ts a b n s e f h = array-stuck ts a s e (past-constant (T (the RightBracket) ∷ T (the Semicolon) ∷ []) a b n s f (missing-first RightBracket (T (the Semicolon) ∷ []) b s h))
+pub array-close-stuck : (ts a b : List Token) (n : Literal) (s : ParseStop) → StartsWith LeftBracket ts a → StartsWithConstant a n b
+    → IsMissing RightBracket b s → IsStuck after_global ts s
+array-close-stuck ts a b n s e f h = array-stuck ts a s e (past-constant (T (the RightBracket) ∷ T (the Semicolon) ∷ []) a b n s f
+    (missing-first RightBracket (T (the Semicolon) ∷ []) b s h))
 
-pub array-end-stuck : (ts a b c : List Token) (n : Literal) (s : ParseStop) → StartsWith LeftBracket ts a → StartsWithConstant a n b → StartsWith RightBracket b c → IsMissing Semicolon c s → IsStuck after_global ts s
-array-end-stuck ts a b c n s e f g h = array-stuck ts a s e (past-constant (T (the RightBracket) ∷ T (the Semicolon) ∷ []) a b n s f (past-mark RightBracket (T (the Semicolon) ∷ []) b c s g (missing-first Semicolon [] c s h)))
+pub array-end-stuck : (ts a b c : List Token) (n : Literal) (s : ParseStop) → StartsWith LeftBracket ts a → StartsWithConstant a n b
+    → StartsWith RightBracket b c → IsMissing Semicolon c s → IsStuck after_global ts s
+array-end-stuck ts a b c n s e f g h = array-stuck ts a s e (past-constant (T (the RightBracket) ∷ T (the Semicolon) ∷ []) a b n s f
+    (past-mark RightBracket (T (the Semicolon) ∷ []) b c s g (missing-first Semicolon [] c s h)))
 
-pub tail-array : (k : IntegerType) (x : Identifier) (ts a b c rest : List Token) (n : Literal) → StartsWith LeftBracket ts a → StartsWithConstant a n b → StartsWith RightBracket b c → StartsWith Semicolon c rest → IsTailRead k x ts rest (array k x n)
-tail-array k x ts a b c rest n e f g h = (array_tail n, whole global_array (chosen-by ts a LeftBracket e) (mark-then e (constant-then f (mark-then g (mark-end h)))), refl)
+pub tail-array : (k : IntegerType) (x : Identifier) (ts a b c rest : List Token) (n : Literal) → StartsWith LeftBracket ts a → StartsWithConstant a n b
+    → StartsWith RightBracket b c → StartsWith Semicolon c rest → IsTailRead k x ts rest (array k x n)
+tail-array k x ts a b c rest n e f g h = (
+  array_tail n,
+  whole global_array (chosen-by ts a LeftBracket e)
+      (mark-then e (constant-then f (mark-then g (mark-end h)))),
+  refl,
+)
 
-chosen-function : (next : Option Token) → next ≢ Some (The Semicolon) → next ≢ Some (The Assign) → next ≢ Some (The LeftBracket) → one_choice after_global next ≡ Some (N function_rest ∷ [], global_function)
+chosen-function : (next : Option Token) → next ≢ Some (The Semicolon) → next ≢ Some (The Assign) → next ≢ Some (The LeftBracket)
+    → one_choice after_global next ≡ Some (N function_rest ∷ [], global_function)
 chosen-function None a b c = refl
 chosen-function (Some (The Semicolon)) a b c = absurd (a refl)
 chosen-function (Some (The Assign)) a b c = absurd (b refl)
 chosen-function (Some (The LeftBracket)) a b c = absurd (c refl)
 chosen-function (Some _) a b c = refl
 
-pub tail-function-stuck : (ts : List Token) (s : ParseStop) → StartsWithout Semicolon ts → StartsWithout Assign ts → StartsWithout LeftBracket ts → IsStuck function_rest ts s → IsStuck after_global ts s
+pub tail-function-stuck : (ts : List Token) (s : ParseStop) → StartsWithout Semicolon ts → StartsWithout Assign ts → StartsWithout LeftBracket ts
+    → IsStuck function_rest ts s → IsStuck after_global ts s
 tail-function-stuck ts s a b c h = inside global_function ts s (chosen-function (first ts) a b c) (λ z. z) h
 
-pub tail-function : (k : IntegerType) (x : Identifier) (ts rest : List Token) (ps : List Parameter) (is : Items) → StartsWithout Semicolon ts → StartsWithout Assign ts → StartsWithout LeftBracket ts → IsRead function_rest ts rest (ps, is) →
+pub tail-function : (k : IntegerType) (x : Identifier) (ts rest : List Token) (ps : List Parameter) (is : Items) → StartsWithout Semicolon ts
+    → StartsWithout Assign ts → StartsWithout LeftBracket ts → IsRead function_rest ts rest (ps, is) →
     IsTailRead k x ts rest (function (Some k) x ps is)
 tail-function k x ts rest ps is a b c d = (function_tail ps is, whole global_function (chosen-function (first ts) a b c) d, refl)
 
 -- a declaration
-chosen-void : (ts a : List Token) → StartsWith Void ts a → one_choice a_declaration (first ts) ≡ Some (T (the Void) ∷ T a_name ∷ N function_rest ∷ [], declaration_void)
+chosen-void : (ts a : List Token) → StartsWith Void ts a → one_choice a_declaration (first ts) ≡ Some
+    (T (the Void) ∷ T a_name ∷ N function_rest ∷ [], declaration_void)
 chosen-void ts a e = ap (λ (x : List Token). one_choice a_declaration (first x)) e
 
 pub void-name-stuck : (ts a : List Token) (s : ParseStop) → StartsWith Void ts a → IsNameMissing a s → IsStuck a_declaration ts s
-void-name-stuck ts a s e h = inside declaration_void ts s (chosen-void ts a e) (λ z. z) (past-mark Void (T a_name ∷ N function_rest ∷ []) ts a s e (name-missing-first (N function_rest ∷ []) a s h))
+void-name-stuck ts a s e h = inside declaration_void ts s (chosen-void ts a e) (λ z. z)
+    (past-mark Void (T a_name ∷ N function_rest ∷ []) ts a s e (name-missing-first (N function_rest ∷ []) a s h))
 
-pub void-rest-stuck : (ts a b : List Token) (x : Identifier) (s : ParseStop) → StartsWith Void ts a → StartsWithName a x b → IsStuck function_rest b s → IsStuck a_declaration ts s
-void-rest-stuck ts a b x s e f h = inside declaration_void ts s (chosen-void ts a e) (λ z. z) (past-mark Void (T a_name ∷ N function_rest ∷ []) ts a s e (past-name (N function_rest ∷ []) a b x s f h))
+pub void-rest-stuck : (ts a b : List Token) (x : Identifier) (s : ParseStop) → StartsWith Void ts a → StartsWithName a x b → IsStuck function_rest b s
+    → IsStuck a_declaration ts s
+void-rest-stuck ts a b x s e f h = inside declaration_void ts s (chosen-void ts a e) (λ z. z)
+    (past-mark Void (T a_name ∷ N function_rest ∷ []) ts a s e (past-name (N function_rest ∷ []) a b x s f h))
 
-pub void-read : (ts a b rest : List Token) (x : Identifier) (ps : List Parameter) (is : Items) → StartsWith Void ts a → StartsWithName a x b → IsRead function_rest b rest (ps, is) → IsRead a_declaration ts rest (function None x ps is)
+pub void-read : (ts a b rest : List Token) (x : Identifier) (ps : List Parameter) (is : Items) → StartsWith Void ts a → StartsWithName a x b
+    → IsRead function_rest b rest (ps, is) → IsRead a_declaration ts rest (function None x ps is)
 void-read ts a b rest x ps is e f d = whole declaration_void (chosen-void ts a e) (mark-then e (name-then f d))
 
-chosen-typed : (next : Option Token) → next ≢ Some (The Void) → one_choice a_declaration next ≡ Some (N a_type ∷ T a_name ∷ N after_global ∷ [], declaration_typed)
+chosen-typed : (next : Option Token) → next ≢ Some (The Void) → one_choice a_declaration next ≡ Some
+    (N a_type ∷ T a_name ∷ N after_global ∷ [], declaration_typed)
 chosen-typed None h = refl
 chosen-typed (Some (The Void)) h = absurd (h refl)
 chosen-typed (Some _) h = refl
 
 pub no-declaration : (ts : List Token) → StartsWithout Void ts → HasNoType ts → (symbols : List Symbol) → Stuck (N a_declaration ∷ symbols) ts ts
-no-declaration ts h k symbols = stuck_inside declaration_typed (chosen-typed (first ts) h) (λ z. absurd z) (type-missing ts k (T a_name ∷ N after_global ∷ symbols))
+no-declaration ts h k symbols = stuck_inside declaration_typed (chosen-typed (first ts) h) (λ z. absurd z)
+    (type-missing ts k (T a_name ∷ N after_global ∷ symbols))
 
 pub typed-name-stuck : (ts a : List Token) (k : IntegerType) (s : ParseStop) → IsRead a_type ts a k → IsNameMissing a s → IsStuck a_declaration ts s
-typed-name-stuck ts a k s d h = inside declaration_typed ts s (type-starts (derived d)).declaration (λ z. z) (past-phrase a_type (T a_name ∷ N after_global ∷ []) ts a k s d (name-missing-first (N after_global ∷ []) a s h))
+typed-name-stuck ts a k s d h = inside declaration_typed ts s (type-starts (derived d)).declaration (λ z. z)
+    (past-phrase a_type (T a_name ∷ N after_global ∷ []) ts a k s d (name-missing-first (N after_global ∷ []) a s h))
 
-pub typed-rest-stuck : (ts a b : List Token) (k : IntegerType) (x : Identifier) (s : ParseStop) → IsRead a_type ts a k → StartsWithName a x b → IsStuck after_global b s → IsStuck a_declaration ts s
-typed-rest-stuck ts a b k x s d e h = inside declaration_typed ts s (type-starts (derived d)).declaration (λ z. z) (past-phrase a_type (T a_name ∷ N after_global ∷ []) ts a k s d (past-name (N after_global ∷ []) a b x s e h))
+pub typed-rest-stuck : (ts a b : List Token) (k : IntegerType) (x : Identifier) (s : ParseStop) → IsRead a_type ts a k → StartsWithName a x b
+    → IsStuck after_global b s → IsStuck a_declaration ts s
+typed-rest-stuck ts a b k x s d e h = inside declaration_typed ts s (type-starts (derived d)).declaration (λ z. z)
+    (past-phrase a_type (T a_name ∷ N after_global ∷ []) ts a k s d (past-name (N after_global ∷ []) a b x s e h))
 
-pub typed-read : (ts a b rest : List Token) (k : IntegerType) (x : Identifier) (d : Declaration) → IsRead a_type ts a k → StartsWithName a x b → IsTailRead k x b rest d → IsRead a_declaration ts rest d
+pub typed-read : (ts a b rest : List Token) (k : IntegerType) (x : Identifier) (d : Declaration) → IsRead a_type ts a k → StartsWithName a x b
+    → IsTailRead k x b rest d → IsRead a_declaration ts rest d
 typed-read ts a b rest k x d q e h =
     let P : Declaration → Type 0 = λ y. IsRead a_declaration ts rest y in
     subst P (sym h.2) (whole declaration_typed (type-starts (derived q)).declaration (followed q (name-then e h.1)))
@@ -255,16 +314,19 @@ typed-read ts a b rest k x d q e h =
 -- the declarations of a program
 pub record GoesOnDeclarations (ts middle : List Token) (all : List Declaration) : Type 0 where
   pub reads : (more : List Declaration) → IsRead declarations middle [] more → IsRead declarations ts [] (all ++ more)
-  pub stuck : (rest : List Token) → ((symbols : List Symbol) → Stuck (N declarations ∷ symbols) middle rest) → (symbols : List Symbol) → Stuck (N declarations ∷ symbols) ts rest
+  pub stuck : (rest : List Token) → ((symbols : List Symbol) → Stuck (N declarations ∷ symbols) middle rest) → (symbols : List Symbol)
+      → Stuck (N declarations ∷ symbols) ts rest
   pub shorter : length middle ≤ length ts
 
 pub declarations-start : (ts : List Token) → length ts ≤ length ts → GoesOnDeclarations ts ts []
 declarations-start ts h = record { reads = λ more d. d; stuck = λ rest s. s; shorter = h }
 
-go-on : (ts more : List Token) (t : Token) → ts ≡ t ∷ more → one_choice declarations (first ts) ≡ Some (N a_declaration ∷ N declarations ∷ [], declarations_more)
+go-on : (ts more : List Token) (t : Token) → ts ≡ t ∷ more → one_choice declarations (first ts) ≡ Some
+    (N a_declaration ∷ N declarations ∷ [], declarations_more)
 go-on ts more t e = ap (λ (x : List Token). one_choice declarations (first x)) e
 
-pub declarations-more : (ts middle after next : List Token) (t : Token) (all : List Declaration) (d : Declaration) → GoesOnDeclarations ts middle all → middle ≡ t ∷ after → IsRead a_declaration middle next d → length next ≤ length ts → GoesOnDeclarations ts next (all ++ d ∷ [])
+pub declarations-more : (ts middle after next : List Token) (t : Token) (all : List Declaration) (d : Declaration) → GoesOnDeclarations ts middle all
+    → middle ≡ t ∷ after → IsRead a_declaration middle next d → length next ≤ length ts → GoesOnDeclarations ts next (all ++ d ∷ [])
 declarations-more ts middle after next t all d g h q l = record {
   reads = λ more z. rw append_assoc (g.reads (d ∷ more) (whole declarations_more (go-on middle after t h) (followed q z)));
   stuck = λ rest s symbols. g.stuck rest (λ more. stuck_inside declarations_more (go-on middle after t h) (λ z. absurd z) (stuck_after q (s more))) symbols;
@@ -277,9 +339,11 @@ declarations-spelled ts middle all g e =
     let Q : List Token → Type 0 = λ x. IsRead declarations x [] [] in
     derived (whole program_rule refl (subst P (append-nil all) (g.reads [] (subst Q (sym e) (whole declarations_end refl read_nothing)))))
 
-pub declaration-stuck : (ts middle after : List Token) (t : Token) (all : List Declaration) (s : ParseStop) → GoesOnDeclarations ts middle all → middle ≡ t ∷ after → IsStuck a_declaration middle s → IsProgramStuck ts s
+pub declaration-stuck : (ts middle after : List Token) (t : Token) (all : List Declaration) (s : ParseStop) → GoesOnDeclarations ts middle all
+    → middle ≡ t ∷ after → IsStuck a_declaration middle s → IsProgramStuck ts s
 declaration-stuck ts middle after t all (Syntax rest) g h k =
-    stuck_inside program_rule refl (λ z. absurd z) (g.stuck rest.now (λ symbols. stuck_inside declarations_more (go-on middle after t h) (λ z. absurd z) (k (N declarations ∷ symbols))) [])
+    stuck_inside program_rule refl (λ z. absurd z) (g.stuck rest.now (λ symbols. stuck_inside declarations_more (go-on middle after t h) (λ z. absurd z)
+    (k (N declarations ∷ symbols))) [])
 declaration-stuck ts middle after t all NoMemory g h k = tt
 
 pub declarations_of-append : (xs : List Rust.Declaration) (d : Rust.Declaration) → declarations_of (xs ++ d ∷ []) ≡ declarations_of xs ++ declaration_of d ∷ []

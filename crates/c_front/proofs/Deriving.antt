@@ -5,7 +5,19 @@ use Rattle.c_tokens.specs.declared.token.Token.{Token}
 use Rattle.c_tokens.specs.declared.token.Token.TheVariants.{Name, The}
 use Rattle.c_tokens.specs.declared.token.Mark.{Mark}
 use Rattle.c_tokens.specs.declared.token.Mark.TheVariants.{Semicolon, LeftParen}
-use Rattle.c_front.specs.Grammar.{a_name, the, Level, above, ors, Nonterminal, a_program, declarations, a_declaration, a_type, maybe_int, after_global, initial, function_rest, parameters, more_parameters, items, an_item, declared, a_statement, else_part, maybe_simple, maybe_expression, simple, value, a_call, arguments, more_arguments, an_expression, choice, operands, more_operands, Symbol, T, N, PhraseTrees, negate, identity, complement, not, Rule, program_rule, declarations_end, declarations_more, declaration_typed, declaration_void, type_int, type_unsigned, int_none, int_some, global_plain, global_initial, global_array, global_function, initial_plain, initial_negative, function_rule, parameters_void, parameters_some, more_parameters_end, more_parameters_more, items_end, items_more, item_declare, item_statement, declared_none, declared_some, statement_empty, statement_block, statement_if, statement_while, statement_for, statement_break, statement_continue, statement_return, statement_simple, else_none, else_some, simple_none, simple_some, expression_none, expression_some, simple_assign, simple_assign_at, simple_call, value_plain, value_call, call_rule, arguments_none, arguments_some, more_arguments_end, more_arguments_more, expression_rule, choice_none, choice_some, operands_rule, operands_end, operands_more, operand_constant, operand_name, operand_index, operand_unary, operand_paren, first, second, MayPrecede, is_name, is_constant, is_jump, is_the, Derives, nothing, token, phrase}
+use Rattle.c_front.specs.Grammar.{a_name, the, Level, above, ors, Nonterminal, a_program, declarations, a_declaration, a_type, maybe_int, after_global, initial}
+use Rattle.c_front.specs.Grammar.{function_rest, parameters, more_parameters, items, an_item, declared, a_statement, else_part, maybe_simple, maybe_expression}
+use Rattle.c_front.specs.Grammar.{simple, value, a_call, arguments, more_arguments, an_expression, choice, operands, more_operands, Symbol, T, N, PhraseTrees}
+use Rattle.c_front.specs.Grammar.{negate, identity, complement, not, Rule, program_rule, declarations_end, declarations_more, declaration_typed}
+use Rattle.c_front.specs.Grammar.{declaration_void, type_int, type_unsigned, int_none, int_some, global_plain, global_initial, global_array, global_function}
+use Rattle.c_front.specs.Grammar.{initial_plain, initial_negative, function_rule, parameters_void, parameters_some, more_parameters_end, more_parameters_more}
+use Rattle.c_front.specs.Grammar.{items_end, items_more, item_declare, item_statement, declared_none, declared_some, statement_empty, statement_block}
+use Rattle.c_front.specs.Grammar.{statement_if, statement_while, statement_for, statement_break, statement_continue, statement_return, statement_simple}
+use Rattle.c_front.specs.Grammar.{else_none, else_some, simple_none, simple_some, expression_none, expression_some, simple_assign, simple_assign_at}
+use Rattle.c_front.specs.Grammar.{simple_call, value_plain, value_call, call_rule, arguments_none, arguments_some, more_arguments_end, more_arguments_more}
+use Rattle.c_front.specs.Grammar.{expression_rule, choice_none, choice_some, operands_rule, operands_end, operands_more, operand_constant, operand_name}
+use Rattle.c_front.specs.Grammar.{operand_index, operand_unary, operand_paren, first, second, MayPrecede, is_name, is_constant, is_jump, is_the, Derives}
+use Rattle.c_front.specs.Grammar.{nothing, token, phrase}
 use Rattle.c_front.specs.Reading.{Reads, read_nothing, read_token, read_phrase}
 use Rattle.c_front.specs.Choosing.{Choice, one_choice, chosen_rule}
 use Rattle.c_front.proofs.Ranks.{rank_of, rank, operator-rank, ends-operands, ends-choice, chosen-operator}
@@ -41,7 +53,8 @@ IsClosed (operands l) next = rank l ≤ rank_of next
 IsClosed (more_operands l) next = suc (rank l) ≤ rank_of next
 
 pub data ClosedBy (n : Nonterminal) (symbols : List Symbol) (next : Option Token) : Type 0 where
-  closed_by : ((ts rest : List Token) (m : PhraseTrees symbols) → first rest ≡ next → Derives symbols ts rest m → IsClosed n (first ts)) → ClosedBy n symbols next
+  closed_by : ((ts rest : List Token) (m : PhraseTrees symbols) → first rest ≡ next → Derives symbols ts rest m → IsClosed n (first ts))
+      → ClosedBy n symbols next
 
 closes : {n : Nonterminal} {symbols : List Symbol} {next : Option Token} → ClosedBy n symbols next →
     (ts rest : List Token) (m : PhraseTrees symbols) → first rest ≡ next → Derives symbols ts rest m → IsClosed n (first ts)
@@ -53,7 +66,8 @@ AreClosed [] next = Unit {0}
 AreClosed (T s ∷ symbols) next = AreClosed symbols next
 AreClosed (N n ∷ symbols) next = ClosedBy n symbols next × AreClosed symbols next
 
-moved : (n : Nonterminal) {next : Option Token} {ts rest : List Token} {m : PhraseTrees []} → IsClosed n next → first rest ≡ next → Derives [] ts rest m → IsClosed n (first ts)
+moved : (n : Nonterminal) {next : Option Token} {ts rest : List Token} {m : PhraseTrees []} → IsClosed n next → first rest ≡ next → Derives [] ts rest m
+    → IsClosed n (first ts)
 moved n h e nothing = let P : Option Token → Type 0 = λ x. IsClosed n x in subst P (sym e) h
 
 pub by-next : {n : Nonterminal} {next : Option Token} → IsClosed n next → ClosedBy n [] next
@@ -65,7 +79,8 @@ by-token {n = n} {symbols = symbols} {next = next} {t = t} h = closed_by go
     go : (ts rest : List Token) (m : PhraseTrees (T (the t) ∷ symbols)) → first rest ≡ next → Derives (T (the t) ∷ symbols) ts rest m → IsClosed n (first ts)
     go ts rest m e (token is_the d) = h
 
-by-name : {n : Nonterminal} {symbols : List Symbol} {next : Option Token} → ((x : Identifier) → IsClosed n (Some (Name x))) → ClosedBy n (T a_name ∷ symbols) next
+by-name : {n : Nonterminal} {symbols : List Symbol} {next : Option Token} → ((x : Identifier) → IsClosed n (Some (Name x)))
+    → ClosedBy n (T a_name ∷ symbols) next
 by-name {n = n} {symbols = symbols} {next = next} h = closed_by go
   where
     go : (ts rest : List Token) (m : PhraseTrees (T a_name ∷ symbols)) → first rest ≡ next → Derives (T a_name ∷ symbols) ts rest m → IsClosed n (first ts)
@@ -84,7 +99,8 @@ by-choice {next = next} h = closed_by go
 by-more : {l : Level} {next : Option Token} → IsClosed (operands (above l)) next → ClosedBy (operands l) (N (more_operands l) ∷ []) next
 by-more {l = l} {next = next} h = closed_by go
   where
-    go : (ts rest : List Token) (m : PhraseTrees (N (more_operands l) ∷ [])) → first rest ≡ next → Derives (N (more_operands l) ∷ []) ts rest m → IsClosed (operands l) (first ts)
+    go : (ts rest : List Token) (m : PhraseTrees (N (more_operands l) ∷ [])) → first rest ≡ next → Derives (N (more_operands l) ∷ []) ts rest m
+        → IsClosed (operands l) (first ts)
     go ts rest m e (phrase operands_end nothing f q d) = let x = moved (operands (above l)) h e d in omega (arith, x)
     go ts rest m e (phrase (operands_more r) (token is_the i) f q d) = let x = operator-rank r in omega (arith, x)
 
@@ -92,7 +108,8 @@ by-more {l = l} {next = next} h = closed_by go
 by-more-arguments : {next : Option Token} → IsClosed more_arguments next → ClosedBy an_expression (N more_arguments ∷ []) next
 by-more-arguments {next = next} h = closed_by go
   where
-    go : (ts rest : List Token) (m : PhraseTrees (N more_arguments ∷ [])) → first rest ≡ next → Derives (N more_arguments ∷ []) ts rest m → IsClosed an_expression (first ts)
+    go : (ts rest : List Token) (m : PhraseTrees (N more_arguments ∷ [])) → first rest ≡ next → Derives (N more_arguments ∷ []) ts rest m
+        → IsClosed an_expression (first ts)
     go ts rest m e (phrase more_arguments_end nothing f q d) = (moved more_arguments h e d).1
     go ts rest m e (phrase more_arguments_more (token is_the i) f q d) = lit≤ tt
 
@@ -160,10 +177,12 @@ parts-closed operand_index next h = (by-token (lit≤ tt), tt)
 parts-closed (operand_unary p) next h = (by-next h, tt)
 parts-closed operand_paren next h = (by-token (lit≤ tt), tt)
 
-call-starts : {symbols : List Symbol} {ts rest : List Token} {m : PhraseTrees (N a_call ∷ symbols)} → Derives (N a_call ∷ symbols) ts rest m → (x : Identifier) × (first ts ≡ Some (Name x)) × (second ts ≡ Some (The LeftParen))
+call-starts : {symbols : List Symbol} {ts rest : List Token} {m : PhraseTrees (N a_call ∷ symbols)} → Derives (N a_call ∷ symbols) ts rest m
+    → (x : Identifier) × (first ts ≡ Some (Name x)) × (second ts ≡ Some (The LeftParen))
 call-starts (phrase call_rule (token (is_name {x = x}) (token is_the d)) f q d') = (x, refl, refl)
 
-simple-name : {symbols : List Symbol} {ts rest : List Token} {m : PhraseTrees (N simple ∷ symbols)} → Derives (N simple ∷ symbols) ts rest m → (x : Identifier) × (first ts ≡ Some (Name x))
+simple-name : {symbols : List Symbol} {ts rest : List Token} {m : PhraseTrees (N simple ∷ symbols)} → Derives (N simple ∷ symbols) ts rest m
+    → (x : Identifier) × (first ts ≡ Some (Name x))
 simple-name (phrase simple_assign (token (is_name {x = x}) d) f q d') = (x, refl)
 simple-name (phrase simple_assign_at (token (is_name {x = x}) d) f q d') = (x, refl)
 simple-name (phrase simple_call d f q d') = let c = call-starts d in (c.0, c.1)
@@ -178,14 +197,17 @@ pub record OperandsStart (ts : List Token) : Type 0 where
   pub given : one_choice maybe_expression (first ts) ≡ Some (N an_expression ∷ [], expression_some)
   pub plain : chosen_rule value (first ts) (second ts) ≡ Some (N an_expression ∷ [], value_plain)
 
-next-ranked : {l : Level} {ts rest : List Token} {m : PhraseTrees (N (more_operands l) ∷ [])} → Derives (N (more_operands l) ∷ []) ts rest m → 1 ≤ rank_of (first rest) → 1 ≤ rank_of (first ts)
+next-ranked : {l : Level} {ts rest : List Token} {m : PhraseTrees (N (more_operands l) ∷ [])} → Derives (N (more_operands l) ∷ []) ts rest m
+    → 1 ≤ rank_of (first rest) → 1 ≤ rank_of (first ts)
 next-ranked (phrase operands_end nothing f q nothing) h = h
 next-ranked {l = l} (phrase (operands_more r) (token is_the d) f q d') h = let x = operator-rank r in let y = rank-positive l in omega (arith, x, y)
 
-operands-start : {l : Level} {ts rest : List Token} {m : PhraseTrees (N (operands l) ∷ [])} → Derives (N (operands l) ∷ []) ts rest m → 1 ≤ rank_of (first rest) → OperandsStart ts
+operands-start : {l : Level} {ts rest : List Token} {m : PhraseTrees (N (operands l) ∷ [])} → Derives (N (operands l) ∷ []) ts rest m → 1 ≤ rank_of (first rest)
+    → OperandsStart ts
 operands-start (phrase operands_rule (phrase r d f q more) f' q' nothing) h = operands-start (phrase r d f q nothing) (next-ranked more h)
 operands-start (phrase operand_constant (token is_constant nothing) f q nothing) h = record { some = refl; given = refl; plain = refl }
-operands-start (phrase operand_name (token (is_name {x = x}) nothing) f q (nothing {ts = ts})) h = record { some = refl; given = refl; plain = name-plain x (first ts) h }
+operands-start (phrase operand_name (token (is_name {x = x}) nothing) f q (nothing {ts = ts})) h =
+    record { some = refl; given = refl; plain = name-plain x (first ts) h }
 operands-start (phrase operand_index (token is_name (token is_the d)) f q nothing) h = record { some = refl; given = refl; plain = refl }
 operands-start (phrase (operand_unary negate) (token is_the d) f q nothing) h = record { some = refl; given = refl; plain = refl }
 operands-start (phrase (operand_unary identity) (token is_the d) f q nothing) h = record { some = refl; given = refl; plain = refl }
@@ -197,14 +219,17 @@ choice-ranked : {ts rest : List Token} {m : PhraseTrees (N choice ∷ [])} → D
 choice-ranked (phrase choice_none nothing f q nothing) h = h
 choice-ranked (phrase choice_some (token is_the d) f q d') h = lit≤ tt
 
-expression-start : {ts rest : List Token} {m : PhraseTrees (N an_expression ∷ [])} → Derives (N an_expression ∷ []) ts rest m → 1 ≤ rank_of (first rest) → OperandsStart ts
+expression-start : {ts rest : List Token} {m : PhraseTrees (N an_expression ∷ [])} → Derives (N an_expression ∷ []) ts rest m → 1 ≤ rank_of (first rest)
+    → OperandsStart ts
 expression-start (phrase expression_rule (phrase r d f q more) f' q' nothing) h = operands-start (phrase r d f q nothing) (choice-ranked more h)
 
-more-arguments-ranked : {ts rest : List Token} {m : PhraseTrees (N more_arguments ∷ [])} → Derives (N more_arguments ∷ []) ts rest m → 1 ≤ rank_of (first rest) → 1 ≤ rank_of (first ts)
+more-arguments-ranked : {ts rest : List Token} {m : PhraseTrees (N more_arguments ∷ [])} → Derives (N more_arguments ∷ []) ts rest m → 1 ≤ rank_of (first rest)
+    → 1 ≤ rank_of (first ts)
 more-arguments-ranked (phrase more_arguments_end nothing f q nothing) h = h
 more-arguments-ranked (phrase more_arguments_more (token is_the d) f q d') h = lit≤ tt
 
-arguments-start : {ts rest : List Token} {m : PhraseTrees (N an_expression ∷ N more_arguments ∷ [])} → Derives (N an_expression ∷ N more_arguments ∷ []) ts rest m → 1 ≤ rank_of (first rest) → OperandsStart ts
+arguments-start : {ts rest : List Token} {m : PhraseTrees (N an_expression ∷ N more_arguments ∷ [])}
+    → Derives (N an_expression ∷ N more_arguments ∷ []) ts rest m → 1 ≤ rank_of (first rest) → OperandsStart ts
 arguments-start (phrase r d f q more) h = expression-start (phrase r d f q nothing) (more-arguments-ranked more h)
 
 call-chosen : (n : Nonterminal) {symbols : List Symbol} {ts rest : List Token} {m : PhraseTrees (N a_call ∷ symbols)} → Derives (N a_call ∷ symbols) ts rest m →
@@ -237,19 +262,23 @@ pub record TypeStart (next : Option Token) : Type 0 where
   pub items : one_choice items next ≡ Some (N an_item ∷ N items ∷ [], items_more)
   pub item : one_choice an_item next ≡ Some (N a_type ∷ T a_name ∷ N declared ∷ T (the Semicolon) ∷ [], item_declare)
 
-pub type-starts : {symbols : List Symbol} {ts rest : List Token} {m : PhraseTrees (N a_type ∷ symbols)} → Derives (N a_type ∷ symbols) ts rest m → TypeStart (first ts)
+pub type-starts : {symbols : List Symbol} {ts rest : List Token} {m : PhraseTrees (N a_type ∷ symbols)} → Derives (N a_type ∷ symbols) ts rest m
+    → TypeStart (first ts)
 type-starts (phrase type_int (token is_the d) f q d') = record { declarations = refl; declaration = refl; parameters = refl; items = refl; item = refl }
 type-starts (phrase type_unsigned (token is_the d) f q d') = record { declarations = refl; declaration = refl; parameters = refl; items = refl; item = refl }
 
-pub declaration-starts : {symbols : List Symbol} {ts rest : List Token} {m : PhraseTrees (N a_declaration ∷ symbols)} → Derives (N a_declaration ∷ symbols) ts rest m →
+pub declaration-starts : {symbols : List Symbol} {ts rest : List Token} {m : PhraseTrees (N a_declaration ∷ symbols)}
+    → Derives (N a_declaration ∷ symbols) ts rest m →
     one_choice declarations (first ts) ≡ Some (N a_declaration ∷ N declarations ∷ [], declarations_more)
 declaration-starts (phrase declaration_typed d f q d') = (type-starts d).declarations
 declaration-starts (phrase declaration_void (token is_the d) f q d') = refl
 
-pub function-starts : {ts rest : List Token} {m : PhraseTrees (N function_rest ∷ [])} → Derives (N function_rest ∷ []) ts rest m → one_choice after_global (first ts) ≡ Some (N function_rest ∷ [], global_function)
+pub function-starts : {ts rest : List Token} {m : PhraseTrees (N function_rest ∷ [])} → Derives (N function_rest ∷ []) ts rest m
+    → one_choice after_global (first ts) ≡ Some (N function_rest ∷ [], global_function)
 function-starts (phrase function_rule (token is_the d) f q d') = refl
 
-simple-given : {ts rest : List Token} {m : PhraseTrees (N simple ∷ [])} → Derives (N simple ∷ []) ts rest m → one_choice maybe_simple (first ts) ≡ Some (N simple ∷ [], simple_some)
+simple-given : {ts rest : List Token} {m : PhraseTrees (N simple ∷ [])} → Derives (N simple ∷ []) ts rest m
+    → one_choice maybe_simple (first ts) ≡ Some (N simple ∷ [], simple_some)
 simple-given d = let x = simple-name d in ap (one_choice maybe_simple) x.1
 
 item-starts : {symbols : List Symbol} {ts rest : List Token} {m : PhraseTrees (N an_item ∷ symbols)} → Derives (N an_item ∷ symbols) ts rest m →
@@ -326,7 +355,8 @@ chooses (operand_unary complement) (token is_the d) f h = refl
 chooses (operand_unary not) (token is_the d) f h = refl
 chooses operand_paren (token is_the d) f h = refl
 
-pub determined : {symbols : List Symbol} {ts rest : List Token} {m : PhraseTrees symbols} → Derives symbols ts rest m → AreClosed symbols (first rest) → Reads symbols ts rest m
+pub determined : {symbols : List Symbol} {ts rest : List Token} {m : PhraseTrees symbols} → Derives symbols ts rest m → AreClosed symbols (first rest)
+    → Reads symbols ts rest m
 determined nothing c = read_nothing
 determined (token i d) c = read_token i (determined d c)
 determined (phrase {middle = middle} {rest = rest} {m = m} r d f e d') c =

@@ -2,13 +2,13 @@
 use Rattle.std.proofs.Common.{◌≡◌, ◌<◌, ℕ, List, [], ◌∙◌, Bool, true, false, length, refl, sym, ap, subst, arith}
 use Rattle.c_tokens.specs.declared.token.Token.{Token}
 use Rattle.c_tokens.proofs.Once.{lexes-once, never-lexes, stops-once}
-use Rattle.c_front.specs.declared.text.FrontFaultKind.{FrontFaultKind}
-use Rattle.c_front.specs.declared.text.FrontFaultKind.TheVariants.{NoMemory}
+use Rattle.c_front.specs.declared.fault.FrontFaultKind.{FrontFaultKind}
+use Rattle.c_front.specs.declared.fault.FrontFaultKind.TheVariants.{NoMemory}
 use Rattle.c_front.specs.Tree.{Declaration}
 use Rattle.c_front.specs.Grammar.{Spells}
 use Rattle.c_front.specs.Texts.{SpellsText, IsTextFault, IsBadByte, place_or, refusal_kind, too_long, bad_byte, bad_token, bad_syntax, no_memory}
 use Rattle.c_front.proofs.Theorems.{one-program, one-wrong}
-use Rattle.c_tokens.specs.declared.lexer.Refusal.{Refusal}
+use Rattle.c_tokens.specs.declared.fault.Refusal.{Refusal}
 use Rattle.c_tokens.specs.Texts.{Lexes, LexStops}
 use Rattle.c_front.specs.Syntax.{IsFirstWrong}
 
@@ -37,14 +37,16 @@ one-byte text k j p q = by-order k j (λ lt. true-false (q.2 k lt) p.1) (λ lt. 
     by-order : (k j : ℕ) → (k < j → ⊥) → (j < k → ⊥) → k ≡ j
     by-order k j a b = omega arith
 
-one-syntax : (text : List ℕ) (ts us : List Token) (ks js : List ℕ) (k j : ℕ) → Lexes 0 text [] ts ks → Lexes 0 text [] us js → IsFirstWrong ts k → IsFirstWrong us j → place_or (length text) ks k ≡ place_or (length text) js j
+one-syntax : (text : List ℕ) (ts us : List Token) (ks js : List ℕ) (k j : ℕ) → Lexes 0 text [] ts ks → Lexes 0 text [] us js → IsFirstWrong ts k
+    → IsFirstWrong us j → place_or (length text) ks k ≡ place_or (length text) js j
 one-syntax text ts us ks js k j l m p q =
     let same = lexes-once l us js m in
     let P : List Token → Type 0 = λ x. IsFirstWrong x k in
     ap (λ (x : List ℕ). place_or (length text) x k) same.1 ∙ ap (λ (x : ℕ). place_or (length text) js x) (one-wrong us k j (subst P same.0 p) q)
 
 -- other than want of memory a text has one fault at most, at one place
-pub one-fault : {text : List ℕ} {k : FrontFaultKind} {at : ℕ} → IsTextFault text k at → (j : FrontFaultKind) (n : ℕ) → IsTextFault text j n → (k ≡ NoMemory → ⊥) → (j ≡ NoMemory → ⊥) → (k ≡ j) × (at ≡ n)
+pub one-fault : {text : List ℕ} {k : FrontFaultKind} {at : ℕ} → IsTextFault text k at → (j : FrontFaultKind) (n : ℕ) → IsTextFault text j n → (k ≡ NoMemory → ⊥)
+    → (j ≡ NoMemory → ⊥) → (k ≡ j) × (at ≡ n)
 one-fault no_memory j n g a b = absurd (a refl)
 one-fault (too_long h) _ _ (too_long i) a b = (refl, refl)
 one-fault (too_long h) _ _ (bad_byte s w) a b = absurd (omega (arith, h, s))

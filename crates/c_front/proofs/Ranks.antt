@@ -3,9 +3,13 @@ use Rattle.std.proofs.Common.{◌≡◌, ◌≢◌, ◌≤◌, ℕ, suc, [], ◌
 use Rattle.c_tokens.specs.declared.token.Token.{Token}
 use Rattle.c_tokens.specs.declared.token.Token.TheVariants.{The}
 use Rattle.c_tokens.specs.declared.token.Mark.{Mark}
-use Rattle.c_tokens.specs.declared.token.Mark.TheVariants.{LeftParen, LeftBracket, Question, Plus, Minus, Star, Slash, Percent, BarBar, AndAnd, Bar, Caret, Ampersand, EqualEqual, BangEqual, LessSign, GreaterSign, LessEqual, GreaterEqual, LessLess, GreaterGreater}
+use Rattle.c_tokens.specs.declared.token.Mark.TheVariants.{LeftParen, LeftBracket, Question, Plus, Minus, Star, Slash, Percent, BarBar, AndAnd, Bar, Caret}
+use Rattle.c_tokens.specs.declared.token.Mark.TheVariants.{Ampersand, EqualEqual, BangEqual, LessSign, GreaterSign, LessEqual, GreaterEqual, LessLess}
+use Rattle.c_tokens.specs.declared.token.Mark.TheVariants.{GreaterGreater}
 use Rattle.c_front.specs.declared.tree.BinaryOp.{BinaryOp}
-use Rattle.c_front.specs.Grammar.{the, Level, unary_expressions, above, operands, more_operands, T, N, Operator, multiply, divide, remainder, add, subtract, shift_left, shift_right, less, greater, less_or_equal, greater_or_equal, equal, not_equal, bit_and, bit_xor, bit_or, logical_and, logical_or, operands_end, operands_more}
+use Rattle.c_front.specs.Grammar.{the, Level, unary_expressions, above, operands, more_operands, T, N, Operator, multiply, divide, remainder, add, subtract}
+use Rattle.c_front.specs.Grammar.{shift_left, shift_right, less, greater, less_or_equal, greater_or_equal, equal, not_equal, bit_and, bit_xor, bit_or}
+use Rattle.c_front.specs.Grammar.{logical_and, logical_or, operands_end, operands_more}
 use Rattle.c_front.specs.Choosing.{operator_at, more_choice, one_choice, EndsOperands, EndsChoice}
 
 -- an index or an argument binds tightest, then each level of operators, then a condition, then all that ends an expression
@@ -81,7 +85,8 @@ pub chosen-operator : {l : Level} {o : BinaryOp} {t : Mark} (r : Operator l o t)
     one_choice (more_operands l) (Some (The t)) ≡ Some (T (the t) ∷ N (operands l) ∷ N (more_operands l) ∷ [], operands_more r)
 chosen-operator {l = l} {t = t} r = ap (λ (x : Option ((o : BinaryOp) × Operator l o t)). Some (more_choice l t x)) (operator-found r)
 
-no-more : (l : Level) (t : Mark) → rank_of (Some (The t)) ≢ rank l → (x : Option ((o : BinaryOp) × Operator l o t)) → Some (more_choice l t x) ≡ Some ([], operands_end)
+no-more : (l : Level) (t : Mark) → rank_of (Some (The t)) ≢ rank l → (x : Option ((o : BinaryOp) × Operator l o t))
+    → Some (more_choice l t x) ≡ Some ([], operands_end)
 no-more l t h None = refl
 no-more l t h (Some r) = absurd (h (operator-rank r.1))
 

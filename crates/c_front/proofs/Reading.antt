@@ -4,8 +4,13 @@ use Rattle.c_tokens.specs.declared.token.JumpWord.{JumpWord}
 use Rattle.c_tokens.specs.declared.token.Token.{Token}
 use Rattle.c_tokens.specs.declared.token.Token.TheVariants.{Name, Jump, The}
 use Rattle.c_tokens.specs.declared.token.Mark.TheVariants.{Else, Minus}
-use Rattle.c_front.specs.Grammar.{Sort, a_name, a_constant, a_jump, the, Level, unary_expressions, above, Nonterminal, a_statement, else_part, simple, value, a_call, an_expression, operands, Symbol, T, N, PhraseTree, SortTree, PhraseTrees, Rule, else_none, simple_assign, simple_assign_at, simple_call, value_plain, value_call, call_rule, expression_rule, operands_rule, operand_constant, operand_name, operand_index, operand_unary, operand_paren, tree_of, first, second, MayPrecede, IsToken, is_name, is_constant, is_jump, Derives, nothing, token, phrase}
-use Rattle.c_front.specs.Reading.{Reads, read_nothing, read_token, read_phrase, Stuck, stuck_extra, stuck_token, stuck_past, stuck_phrase, stuck_inside, CanRead, can_read}
+use Rattle.c_front.specs.Grammar.{Sort, a_name, a_constant, a_jump, the, Level, unary_expressions, above, Nonterminal, a_statement, else_part, simple, value}
+use Rattle.c_front.specs.Grammar.{a_call, an_expression, operands, Symbol, T, N, PhraseTree, SortTree, PhraseTrees, Rule, else_none, simple_assign}
+use Rattle.c_front.specs.Grammar.{simple_assign_at, simple_call, value_plain, value_call, call_rule, expression_rule, operands_rule, operand_constant}
+use Rattle.c_front.specs.Grammar.{operand_name, operand_index, operand_unary, operand_paren, tree_of, first, second, MayPrecede, IsToken, is_name, is_constant}
+use Rattle.c_front.specs.Grammar.{is_jump, Derives, nothing, token, phrase}
+use Rattle.c_front.specs.Reading.{Reads, read_nothing, read_token, read_phrase, Stuck, stuck_extra, stuck_token, stuck_past, stuck_phrase, stuck_inside}
+use Rattle.c_front.specs.Reading.{CanRead, can_read}
 use Rattle.c_front.specs.Choosing.{Choice, one_choice, chosen_rule, Peeks}
 
 no-else : (next : Option Token) → one_choice else_part next ≡ Some ([], else_none) → next ≢ Some (The Else)
@@ -19,7 +24,8 @@ no-else next c e =
     symbols-of (Some z) = z.0
 
 -- a rule that the next token chooses may stand there
-precedes : {n : Nonterminal} {inner : List Symbol} {ts rest : List Token} {m : PhraseTrees inner} (r : Rule n inner) → chosen_rule n (first ts) (second ts) ≡ Some (inner, r) →
+precedes : {n : Nonterminal} {inner : List Symbol} {ts rest : List Token} {m : PhraseTrees inner} (r : Rule n inner)
+    → chosen_rule n (first ts) (second ts) ≡ Some (inner, r) →
     Reads inner ts rest m → MayPrecede r (first rest)
 precedes else_none c read_nothing = no-else _ c
 precedes _ c d = tt
@@ -43,7 +49,8 @@ stuck-within (stuck_phrase c) = omega arith
 stuck-within (stuck_inside {inner = inner} r c k s) = stuck-within s
 
 -- operands have a token at least
-pub operands-take : {l : Level} {symbols : List Symbol} {ts rest : List Token} {m : PhraseTrees (N (operands l) ∷ symbols)} → Reads (N (operands l) ∷ symbols) ts rest m → length rest < length ts
+pub operands-take : {l : Level} {symbols : List Symbol} {ts rest : List Token} {m : PhraseTrees (N (operands l) ∷ symbols)}
+    → Reads (N (operands l) ∷ symbols) ts rest m → length rest < length ts
 operands-take (read_phrase operands_rule c d e d') = let a = operands-take d in let b = reads-within d' in omega (arith, a, b)
 operands-take (read_phrase operand_constant c (read_token i d) e d') = let a = reads-within d in let b = reads-within d' in omega (arith, a, b)
 operands-take (read_phrase operand_name c (read_token i d) e d') = let a = reads-within d in let b = reads-within d' in omega (arith, a, b)
@@ -51,14 +58,17 @@ operands-take (read_phrase operand_index c (read_token i d) e d') = let a = read
 operands-take (read_phrase (operand_unary r) c (read_token i d) e d') = let a = reads-within d in let b = reads-within d' in omega (arith, a, b)
 operands-take (read_phrase operand_paren c (read_token i d) e d') = let a = reads-within d in let b = reads-within d' in omega (arith, a, b)
 
-expression-takes : {symbols : List Symbol} {ts rest : List Token} {m : PhraseTrees (N an_expression ∷ symbols)} → Reads (N an_expression ∷ symbols) ts rest m → length rest < length ts
+expression-takes : {symbols : List Symbol} {ts rest : List Token} {m : PhraseTrees (N an_expression ∷ symbols)} → Reads (N an_expression ∷ symbols) ts rest m
+    → length rest < length ts
 expression-takes (read_phrase expression_rule c d e d') = let a = operands-take d in let b = reads-within d' in omega (arith, a, b)
 
-call-takes : {symbols : List Symbol} {ts rest : List Token} {m : PhraseTrees (N a_call ∷ symbols)} → Reads (N a_call ∷ symbols) ts rest m → length rest < length ts
+call-takes : {symbols : List Symbol} {ts rest : List Token} {m : PhraseTrees (N a_call ∷ symbols)} → Reads (N a_call ∷ symbols) ts rest m
+    → length rest < length ts
 call-takes (read_phrase call_rule c (read_token i d) e d') = let a = reads-within d in let b = reads-within d' in omega (arith, a, b)
 
 -- a phrase for which the second token has a say has a token at least
-pub peeked : {n : Nonterminal} {inner : List Symbol} {ts middle : List Token} {m : PhraseTrees inner} (r : Rule n inner) → Peeks n (first ts) → Reads inner ts middle m → length middle < length ts
+pub peeked : {n : Nonterminal} {inner : List Symbol} {ts middle : List Token} {m : PhraseTrees inner} (r : Rule n inner) → Peeks n (first ts)
+    → Reads inner ts middle m → length middle < length ts
 peeked simple_assign h (read_token i d) = let a = reads-within d in omega (arith, a)
 peeked simple_assign_at h (read_token i d) = let a = reads-within d in omega (arith, a)
 peeked simple_call h d = call-takes d
@@ -108,14 +118,16 @@ some-same e = cc
 
 -- the phrase alone
 phrase-unique : {n : Nonterminal} {inner other-inner : List Symbol} (r : Rule n inner) (r' : Rule n other-inner) (ts middle middle' : List Token)
-    (v : PhraseTrees inner) (v' : PhraseTrees other-inner) → chosen_rule n (first ts) (second ts) ≡ Some (inner, r) → chosen_rule n (first ts) (second ts) ≡ Some (other-inner, r') →
+    (v : PhraseTrees inner) (v' : PhraseTrees other-inner) → chosen_rule n (first ts) (second ts) ≡ Some (inner, r)
+    → chosen_rule n (first ts) (second ts) ≡ Some (other-inner, r') →
     Unique inner ts middle v → Reads other-inner ts middle' v' →
     reading (N n ∷ []) middle (tree_of r v, tt) ≡ reading (N n ∷ []) middle' (tree_of r' v', tt)
 phrase-unique {n = n} {inner = inner} {other-inner = other-inner} r r' ts middle middle' v v' c c' u d =
     let x : Choice n = (inner, r) in
     let y : Choice n = (other-inner, r') in
     let e : x ≡ y = some-same (sym c ∙ c') in
-    let P : Choice n → Type 0 = λ z. (m : List Token) (w : PhraseTrees z.0) → Reads z.0 ts m w → reading (N n ∷ []) middle (tree_of r v, tt) ≡ reading (N n ∷ []) m (tree_of z.1 w, tt) in
+    let P : Choice n → Type 0 = λ z. (m : List Token) (w : PhraseTrees z.0) → Reads z.0 ts m w
+    → reading (N n ∷ []) middle (tree_of r v, tt) ≡ reading (N n ∷ []) m (tree_of z.1 w, tt) in
     let start : P x = λ m w q. ap (λ (z : Reading inner). reading (N n ∷ []) z.0 (tree_of r z.1, tt)) (u m w q) in
     subst P e start middle' v' d
 
@@ -126,7 +138,8 @@ unique (read_token {s = s} {symbols = symbols} {v = v} i d) other w (read_token 
     let e = unique d _ _ d' in
     let f : v ≡ v' = same_token s i i' in
     ap (λ (z : Reading symbols). reading (T s ∷ symbols) z.0 (v, z.1)) e ∙ ap (λ (z : SortTree s). reading (T s ∷ symbols) other (z, m')) f
-unique (read_phrase {n = n} {symbols = symbols} {middle = middle} {w = w} {m = m} r c d e d') other z (read_phrase {middle = middle'} {w = w'} {m = m'} r' c' q e' q') =
+unique (read_phrase {n = n} {symbols = symbols} {middle = middle} {w = w} {m = m} r c d e d') other z
+    (read_phrase {middle = middle'} {w = w'} {m = m'} r' c' q e' q') =
     let one = phrase-unique r r' _ middle middle' _ _ c c' (unique d) q in
     let same_middle : middle ≡ middle' = ap (λ (x : Reading (N n ∷ [])). x.0) one in
     let same_value : w ≡ w' = e ∙ ap (λ (x : Reading (N n ∷ [])). x.1.0) one ∙ sym e' in
@@ -154,9 +167,11 @@ pub data StuckAt : List Symbol → List Token → Option Token → Type 0 where
       ((t : Token) (v : SortTree s) → next ≡ Some t → IsToken s t v → ⊥) → StuckAt (T s ∷ symbols) [] next
   at_past : {s : Sort} {symbols : List Symbol} {t : Token} {p : List Token} {next : Option Token} {v : SortTree s} →
       IsToken s t v → StuckAt symbols p next → StuckAt (T s ∷ symbols) (t ∷ p) next
-  at_phrase : {n : Nonterminal} {symbols : List Symbol} {next : Option Token} → ((after : Option Token) → chosen_rule n next after ≡ None) → StuckAt (N n ∷ symbols) [] next
+  at_phrase : {n : Nonterminal} {symbols : List Symbol} {next : Option Token} → ((after : Option Token) → chosen_rule n next after ≡ None)
+      → StuckAt (N n ∷ symbols) [] next
   at_inside : {n : Nonterminal} {inner symbols : List Symbol} {p : List Token} {next : Option Token} (r : Rule n inner) →
-      ((after : Option Token) → chosen_rule n (ahead p next) (ahead-two p next after) ≡ Some (inner, r)) → StuckAt (inner ++ symbols) p next → StuckAt (N n ∷ symbols) p next
+      ((after : Option Token) → chosen_rule n (ahead p next) (ahead-two p next after) ≡ Some (inner, r)) → StuckAt (inner ++ symbols) p next
+      → StuckAt (N n ∷ symbols) p next
 
 first-before : {p ts rest : List Token} → Before p ts rest → first ts ≡ ahead p (first rest)
 first-before before_here = refl
@@ -177,7 +192,8 @@ one-token (operands unary_expressions) (Some _) after other h = refl
 one-token (operands (above l)) _ after other h = refl
 one-token _ _ after other h = refl
 
-before-chosen : {n : Nonterminal} {p ts rest : List Token} {x : Option (Choice n)} → Before p ts rest → chosen_rule n (first ts) (second ts) ≡ x → (Peeks n (first ts) → length rest < length ts) →
+before-chosen : {n : Nonterminal} {p ts rest : List Token} {x : Option (Choice n)} → Before p ts rest → chosen_rule n (first ts) (second ts) ≡ x
+    → (Peeks n (first ts) → length rest < length ts) →
     (after : Option Token) → chosen_rule n (ahead p (first rest)) (ahead-two p (first rest) after) ≡ x
 before-chosen {n = n} (before_here {ts = ts}) c k after = one-token n (first ts) after (second ts) (λ h. let a = k h in absurd (omega (arith, a))) ∙ c
 before-chosen {n = n} (before_past {t = t} b) c k after = ap (chosen_rule n (Some t)) (sym (first-before b)) ∙ c
@@ -218,7 +234,8 @@ pub dead : {symbols : List Symbol} {p : List Token} {next : Option Token} → St
 dead at_extra rest e m read_nothing = cc
 dead (at_token h) rest e m (read_token {t = t} {v = v} i d) = h t v (sym e) i
 dead (at_past i s) rest e m (read_token i' d) = dead s rest e _ d
-dead (at_phrase {n = n} c) rest e m (read_phrase r' c' d e' d') = none-some (sym (ap (λ (x : Option Token). chosen_rule n x (second rest)) e ∙ c (second rest)) ∙ c')
+dead (at_phrase {n = n} c) rest e m (read_phrase r' c' d e' d') = none-some
+    (sym (ap (λ (x : Option Token). chosen_rule n x (second rest)) e ∙ c (second rest)) ∙ c')
 dead {next = next} (at_inside {n = n} {inner = inner} {symbols = symbols} {p = p} r c s) rest e m (read_phrase {inner = inner'} r' c' d e' d') =
     let x : Choice n = (inner, r) in
     let y : Choice n = (inner', r') in

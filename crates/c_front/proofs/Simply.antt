@@ -5,7 +5,9 @@ use Rattle.c_tokens.specs.declared.token.Token.{Token}
 use Rattle.c_tokens.specs.declared.token.Token.TheVariants.{Name, The}
 use Rattle.c_tokens.specs.declared.token.Mark.{Mark}
 use Rattle.c_tokens.specs.declared.token.Mark.TheVariants.{Comma, LeftParen, RightParen, LeftBracket, RightBracket, Assign}
-use Rattle.c_front.specs.Grammar.{a_name, the, Nonterminal, simple, value, a_call, arguments, more_arguments, an_expression, Symbol, T, N, PhraseTrees, Rule, simple_assign, simple_assign_at, simple_call, value_plain, value_call, call_rule, arguments_none, arguments_some, more_arguments_end, more_arguments_more, first, second, is_name, is_the}
+use Rattle.c_front.specs.Grammar.{a_name, the, Nonterminal, simple, value, a_call, arguments, more_arguments, an_expression, Symbol, T, N, PhraseTrees, Rule}
+use Rattle.c_front.specs.Grammar.{simple_assign, simple_assign_at, simple_call, value_plain, value_call, call_rule, arguments_none, arguments_some}
+use Rattle.c_front.specs.Grammar.{more_arguments_end, more_arguments_more, first, second, is_name, is_the}
 use Rattle.c_front.specs.Reading.{Reads, read_nothing, read_token, read_phrase, Stuck, stuck_past, stuck_phrase, stuck_inside, CanRead, can_read}
 use Rattle.c_front.specs.Choosing.{Choice, one_choice, chosen_rule, Peeks, EndsArguments}
 use Rattle.c_front.specs.declared.cursor.ParseStop.{ParseStop}
@@ -14,7 +16,8 @@ use Rattle.c_front.specs.declared.tree.Expression.{Expression}
 use Rattle.c_front.specs.Tree as Tree
 use Rattle.c_front.specs.Tree.{call, Value, plain, called, assign, assign_at, call_statement}
 use Rattle.c_front.specs.Shape.{expression_of, expressions_of}
-use Rattle.c_front.specs.Parsing.{StartsWith, StartsWithout, IsRead, AreStuck, IsStuck, IsMissing, StartsWithName, IsNameMissing, IsClosedRead, IsClosedStuck, IsArgumentsRead, IsArgumentsStuck, IsAssignedRead, IsAssignedStuck, StartsCall, StartsNoCall}
+use Rattle.c_front.specs.Parsing.{StartsWith, StartsWithout, IsRead, AreStuck, IsStuck, IsMissing, StartsWithName, IsNameMissing, IsClosedRead, IsClosedStuck}
+use Rattle.c_front.specs.Parsing.{IsArgumentsRead, IsArgumentsStuck, IsAssignedRead, IsAssignedStuck, StartsCall, StartsNoCall}
 use Rattle.c_front.proofs.Reading.{stuck_after, stuck-within, Before, before_here, before_past, StuckAt, stuck_at, dead}
 use Rattle.c_front.proofs.Completing.{name-expression}
 use Rattle.c_front.proofs.Paths.{followed, whole, missing-stuck}
@@ -24,21 +27,25 @@ before-length : {p ts rest : List Token} → Before p ts rest → length ts ≡ 
 before-length before_here = omega arith
 before-length (before_past b) = let a = before-length b in omega (arith, a)
 
-not-first : {n : Nonterminal} (ts : List Token) (x : Identifier) → StuckAt (N n ∷ []) [] (first ts) → first ts ≡ Some (Name x) → CanRead (N n ∷ []) (Name x ∷ []) [] → ⊥
+not-first : {n : Nonterminal} (ts : List Token) (x : Identifier) → StuckAt (N n ∷ []) [] (first ts) → first ts ≡ Some (Name x)
+    → CanRead (N n ∷ []) (Name x ∷ []) [] → ⊥
 not-first ts x s e (can_read {m = m} d) = dead s (Name x ∷ []) (sym e) m d
 
-moved-past : {n : Nonterminal} {p ts rest : List Token} (x : Identifier) → Before p ts rest → StuckAt (N n ∷ []) p (first rest) → first ts ≡ Some (Name x) → CanRead (N n ∷ []) (Name x ∷ []) [] → length rest < length ts
+moved-past : {n : Nonterminal} {p ts rest : List Token} (x : Identifier) → Before p ts rest → StuckAt (N n ∷ []) p (first rest) → first ts ≡ Some (Name x)
+    → CanRead (N n ∷ []) (Name x ∷ []) [] → length rest < length ts
 moved-past x before_here s e d = absurd (not-first _ x s e d)
 moved-past x (before_past b) s e d = let a = before-length b in omega (arith, a)
 
 -- an expression that gets stuck doesn't get stuck at a name at its front
-past-name : (ts rest : List Token) (x : Identifier) → ((symbols : List Symbol) → Stuck (N an_expression ∷ symbols) ts rest) → first ts ≡ Some (Name x) → length rest < length ts
+past-name : (ts rest : List Token) (x : Identifier) → ((symbols : List Symbol) → Stuck (N an_expression ∷ symbols) ts rest) → first ts ≡ Some (Name x)
+    → length rest < length ts
 past-name ts rest x h e = let q = stuck_at (h []) in moved-past x q.1 q.2 e (name-expression x)
 
 -- some arguments were read
 pub record GoesOnArguments (ts middle : List Token) (all : List Tree.Expression) : Type 0 where
   pub reads : (rest : List Token) (more : List Tree.Expression) → IsRead more_arguments middle rest more → IsRead arguments ts rest (all ++ more)
-  pub stuck : (rest : List Token) → ((symbols : List Symbol) → Stuck (N more_arguments ∷ symbols) middle rest) → (symbols : List Symbol) → Stuck (N arguments ∷ symbols) ts rest
+  pub stuck : (rest : List Token) → ((symbols : List Symbol) → Stuck (N more_arguments ∷ symbols) middle rest) → (symbols : List Symbol)
+      → Stuck (N arguments ∷ symbols) ts rest
   pub shorter : length middle < length ts
 
 pub expressions_of-append : (xs : List Expression) (e : Expression) → expressions_of (xs ++ e ∷ []) ≡ expressions_of xs ++ expression_of e ∷ []
@@ -55,7 +62,8 @@ none-more None h = refl
 none-more (Some (The Comma)) h = absurd (h refl)
 none-more (Some _) h = refl
 
-paren-then : {ts end : List Token} {es : List Tree.Expression} (middle : List Token) → IsRead arguments ts middle es → StartsWith RightParen middle end → IsArgumentsRead ts end es
+paren-then : {ts end : List Token} {es : List Tree.Expression} (middle : List Token) → IsRead arguments ts middle es → StartsWith RightParen middle end
+    → IsArgumentsRead ts end es
 paren-then {end = end} middle d e =
     let P : List Token → Type 0 = λ x. Reads (T (the RightParen) ∷ []) x end (tt, tt) in
     followed d (subst P (sym e) (read_token is_the read_nothing))
@@ -66,10 +74,12 @@ no-arguments-read ts end e =
     subst P (sym e) (followed (whole arguments_none refl read_nothing) (read_token is_the read_nothing))
 
 pub first-argument-stuck : (ts : List Token) (s : ParseStop) → StartsWithout RightParen ts → IsStuck an_expression ts s → IsArgumentsStuck ts s
-first-argument-stuck ts (Syntax rest) h k = λ symbols. stuck_inside arguments_some (some-chosen (first ts) h) (λ z. absurd z) (k (N more_arguments ∷ T (the RightParen) ∷ symbols))
+first-argument-stuck ts (Syntax rest) h k = λ symbols. stuck_inside arguments_some (some-chosen (first ts) h) (λ z. absurd z)
+    (k (N more_arguments ∷ T (the RightParen) ∷ symbols))
 first-argument-stuck ts NoMemory h k = tt
 
-pub arguments-first : (ts middle : List Token) (e : Expression) (all : List Expression) → StartsWithout RightParen ts → IsRead an_expression ts middle (expression_of e) → length middle < length ts → all ≡ [] ++ e ∷ [] → GoesOnArguments ts middle (expressions_of all)
+pub arguments-first : (ts middle : List Token) (e : Expression) (all : List Expression) → StartsWithout RightParen ts
+    → IsRead an_expression ts middle (expression_of e) → length middle < length ts → all ≡ [] ++ e ∷ [] → GoesOnArguments ts middle (expressions_of all)
 arguments-first ts middle e all h d l q =
     let P : List Expression → Type 0 = λ x. GoesOnArguments ts middle (expressions_of x) in
     let start : P (e ∷ []) = record {
@@ -79,17 +89,20 @@ arguments-first ts middle e all h d l q =
     } in
     subst P (sym q) start
 
-comma-read : {ts after next rest : List Token} {e : Tree.Expression} {more : List Tree.Expression} → StartsWith Comma ts after → IsRead an_expression after next e → IsRead more_arguments next rest more → IsRead more_arguments ts rest (e ∷ more)
+comma-read : {ts after next rest : List Token} {e : Tree.Expression} {more : List Tree.Expression} → StartsWith Comma ts after
+    → IsRead an_expression after next e → IsRead more_arguments next rest more → IsRead more_arguments ts rest (e ∷ more)
 comma-read {rest = rest} {e = e} {more = more} h d q =
     let P : List Token → Type 0 = λ x. IsRead more_arguments x rest (e ∷ more) in
     subst P (sym h) (whole more_arguments_more refl (read_token is_the (followed d q)))
 
-comma-stuck : {ts after rest : List Token} → StartsWith Comma ts after → ((symbols : List Symbol) → Stuck (N an_expression ∷ N more_arguments ∷ symbols) after rest) → (symbols : List Symbol) → Stuck (N more_arguments ∷ symbols) ts rest
+comma-stuck : {ts after rest : List Token} → StartsWith Comma ts after → ((symbols : List Symbol)
+    → Stuck (N an_expression ∷ N more_arguments ∷ symbols) after rest) → (symbols : List Symbol) → Stuck (N more_arguments ∷ symbols) ts rest
 comma-stuck {rest = rest} e h symbols =
     let P : List Token → Type 0 = λ x. Stuck (N more_arguments ∷ symbols) x rest in
     subst P (sym e) (stuck_inside more_arguments_more refl (λ z. absurd z) (stuck_past is_the (h symbols)))
 
-pub arguments-more : (ts middle after next : List Token) (e : Expression) (all new : List Expression) → GoesOnArguments ts middle (expressions_of all) → StartsWith Comma middle after → IsRead an_expression after next (expression_of e) →
+pub arguments-more : (ts middle after next : List Token) (e : Expression) (all new : List Expression) → GoesOnArguments ts middle (expressions_of all)
+    → StartsWith Comma middle after → IsRead an_expression after next (expression_of e) →
     length next < length ts → new ≡ all ++ e ∷ [] → GoesOnArguments ts next (expressions_of new)
 arguments-more ts middle after next e all new g h d l q =
     let start : GoesOnArguments ts next (expressions_of all ++ expression_of e ∷ []) = record {
@@ -100,8 +113,10 @@ arguments-more ts middle after next e all new g h d l q =
     let P : List Tree.Expression → Type 0 = λ x. GoesOnArguments ts next x in
     subst P (sym (ap expressions_of q ∙ expressions_of-append all e)) start
 
-pub next-argument-stuck : (ts middle after : List Token) (all : List Tree.Expression) (s : ParseStop) → GoesOnArguments ts middle all → StartsWith Comma middle after → IsStuck an_expression after s → IsArgumentsStuck ts s
-next-argument-stuck ts middle after all (Syntax rest) g h k = λ symbols. g.stuck rest.now (comma-stuck h (λ y. k (N more_arguments ∷ y))) (T (the RightParen) ∷ symbols)
+pub next-argument-stuck : (ts middle after : List Token) (all : List Tree.Expression) (s : ParseStop) → GoesOnArguments ts middle all
+    → StartsWith Comma middle after → IsStuck an_expression after s → IsArgumentsStuck ts s
+next-argument-stuck ts middle after all (Syntax rest) g h k = λ symbols. g.stuck rest.now (comma-stuck h (λ y. k (N more_arguments ∷ y)))
+    (T (the RightParen) ∷ symbols)
 next-argument-stuck ts middle after all NoMemory g h k = tt
 
 all-read : {ts middle : List Token} {all : List Tree.Expression} → GoesOnArguments ts middle all → StartsWithout Comma middle → IsRead arguments ts middle all
@@ -109,40 +124,48 @@ all-read {ts = ts} {middle = middle} {all = all} g h =
     let P : List Tree.Expression → Type 0 = λ x. IsRead arguments ts middle x in
     subst P (append-nil all) (g.reads middle [] (whole more_arguments_end (none-more (first middle) h) read_nothing))
 
-pub arguments-read : (ts middle end : List Token) (all : List Tree.Expression) → GoesOnArguments ts middle all → StartsWithout Comma middle → StartsWith RightParen middle end → IsArgumentsRead ts end all
+pub arguments-read : (ts middle end : List Token) (all : List Tree.Expression) → GoesOnArguments ts middle all → StartsWithout Comma middle
+    → StartsWith RightParen middle end → IsArgumentsRead ts end all
 arguments-read ts middle end all g h e = paren-then middle (all-read g h) e
 
-pub arguments-end-stuck : (ts middle : List Token) (all : List Tree.Expression) (s : ParseStop) → GoesOnArguments ts middle all → StartsWithout Comma middle → IsMissing RightParen middle s → IsArgumentsStuck ts s
+pub arguments-end-stuck : (ts middle : List Token) (all : List Tree.Expression) (s : ParseStop) → GoesOnArguments ts middle all → StartsWithout Comma middle
+    → IsMissing RightParen middle s → IsArgumentsStuck ts s
 arguments-end-stuck ts middle all (Syntax rest) g h k = λ symbols.
     let P : List Token → Type 0 = λ x. Stuck (N arguments ∷ T (the RightParen) ∷ symbols) ts x in
     subst P (sym k.0) (stuck_after (all-read g h) (missing-stuck RightParen middle k.1 symbols))
 arguments-end-stuck ts middle all NoMemory g h k = tt
 
-call-read : (ts rest end : List Token) (x : Identifier) (es : List Tree.Expression) → StartsCall ts x rest → IsArgumentsRead rest end es → IsRead a_call ts end (call x es)
+call-read : (ts rest end : List Token) (x : Identifier) (es : List Tree.Expression) → StartsCall ts x rest → IsArgumentsRead rest end es
+    → IsRead a_call ts end (call x es)
 call-read ts rest end x es e d =
     let P : List Token → Type 0 = λ y. IsRead a_call y end (call x es) in
     subst P (sym e) (whole call_rule refl (read_token is_name (read_token is_the d)))
 
-call-chosen : (n : Nonterminal) (ts rest : List Token) (x : Identifier) (c : Choice n) → StartsCall ts x rest → ((y : Identifier) → chosen_rule n (Some (Name y)) (Some (The LeftParen)) ≡ Some c) → chosen_rule n (first ts) (second ts) ≡ Some c
+call-chosen : (n : Nonterminal) (ts rest : List Token) (x : Identifier) (c : Choice n) → StartsCall ts x rest
+    → ((y : Identifier) → chosen_rule n (Some (Name y)) (Some (The LeftParen)) ≡ Some c) → chosen_rule n (first ts) (second ts) ≡ Some c
 call-chosen n ts rest x c e h =
     let P : List Token → Type 0 = λ y. chosen_rule n (first y) (second y) ≡ Some c in
     subst P (sym e) (h x)
 
-call-stuck : (n : Nonterminal) (r : Rule n (N a_call ∷ [])) (ts rest : List Token) (x : Identifier) (s : ParseStop) → ((y : Identifier) → chosen_rule n (Some (Name y)) (Some (The LeftParen)) ≡ Some (N a_call ∷ [], r)) →
+call-stuck : (n : Nonterminal) (r : Rule n (N a_call ∷ [])) (ts rest : List Token) (x : Identifier) (s : ParseStop)
+    → ((y : Identifier) → chosen_rule n (Some (Name y)) (Some (The LeftParen)) ≡ Some (N a_call ∷ [], r)) →
     StartsCall ts x rest → IsArgumentsStuck rest s → IsStuck n ts s
 call-stuck n r ts rest x (Syntax end) c e h = λ symbols.
     let P : List Token → Type 0 = λ y. Stuck (N n ∷ symbols) y end.now in
     let a = stuck-within (h symbols) in
-    subst P (sym e) (stuck_inside r (c x) (λ z. omega (arith, a)) (stuck_inside call_rule refl (λ z. absurd z) (stuck_past is_name (stuck_past is_the (h symbols)))))
+    subst P (sym e) (stuck_inside r (c x) (λ z. omega (arith, a)) (stuck_inside call_rule refl (λ z. absurd z)
+    (stuck_past is_name (stuck_past is_the (h symbols)))))
 call-stuck n r ts rest x NoMemory c e h = tt
 
-pub value-call-read : (ts rest end : List Token) (x : Identifier) (es : List Tree.Expression) → StartsCall ts x rest → IsArgumentsRead rest end es → IsRead value ts end (called (call x es))
+pub value-call-read : (ts rest end : List Token) (x : Identifier) (es : List Tree.Expression) → StartsCall ts x rest → IsArgumentsRead rest end es
+    → IsRead value ts end (called (call x es))
 value-call-read ts rest end x es e d = whole value_call (call-chosen value ts rest x _ e (λ y. refl)) (call-read ts rest end x es e d)
 
 pub value-call-stuck : (ts rest : List Token) (x : Identifier) (s : ParseStop) → StartsCall ts x rest → IsArgumentsStuck rest s → IsStuck value ts s
 value-call-stuck ts rest x s e h = call-stuck value value_call ts rest x s (λ y. refl) e h
 
-plain-chosen : (next after : Option Token) → ((x : Identifier) → next ≡ Some (Name x) → after ≢ Some (The LeftParen)) → chosen_rule value next after ≡ Some (N an_expression ∷ [], value_plain)
+plain-chosen : (next after : Option Token) → ((x : Identifier) → next ≡ Some (Name x) → after ≢ Some (The LeftParen))
+    → chosen_rule value next after ≡ Some (N an_expression ∷ [], value_plain)
 plain-chosen (Some (Name x)) (Some (The LeftParen)) h = absurd (h x refl refl)
 plain-chosen (Some (Name x)) None h = refl
 plain-chosen (Some (Name x)) (Some _) h = refl
@@ -152,7 +175,8 @@ plain-chosen (Some _) after h = refl
 pub value-plain-read : (ts end : List Token) (e : Tree.Expression) → StartsNoCall ts → IsRead an_expression ts end e → IsRead value ts end (plain e)
 value-plain-read ts end e h d = whole value_plain (plain-chosen (first ts) (second ts) h) d
 
-peeked-name : (ts rest : List Token) (next : Option Token) → first ts ≡ next → ((x : Identifier) → first ts ≡ Some (Name x) → length rest < length ts) → Peeks value next → length rest < length ts
+peeked-name : (ts rest : List Token) (next : Option Token) → first ts ≡ next → ((x : Identifier) → first ts ≡ Some (Name x) → length rest < length ts)
+    → Peeks value next → length rest < length ts
 peeked-name ts rest None e h k = absurd k
 peeked-name ts rest (Some (Name x)) e h k = h x e
 peeked-name ts rest (Some _) e h k = absurd k
@@ -193,24 +217,29 @@ simple-name-stuck ts NoMemory h = tt
 two : (ts rest after : List Token) (t u : Token) → ts ≡ t ∷ rest → rest ≡ u ∷ after → ts ≡ t ∷ u ∷ after
 two ts rest after t u e f = e ∙ ap (λ (x : List Token). t ∷ x) f
 
-pub simple-call-read : (ts rest after end : List Token) (x : Identifier) (es : List Tree.Expression) → StartsWithName ts x rest → StartsWith LeftParen rest after → IsArgumentsRead after end es → IsRead simple ts end (call_statement (call x es))
+pub simple-call-read : (ts rest after end : List Token) (x : Identifier) (es : List Tree.Expression) → StartsWithName ts x rest
+    → StartsWith LeftParen rest after → IsArgumentsRead after end es → IsRead simple ts end (call_statement (call x es))
 simple-call-read ts rest after end x es e f d =
     let q = two ts rest after (Name x) (The LeftParen) e f in
     whole simple_call (call-chosen simple ts after x _ q (λ y. refl)) (call-read ts after end x es q d)
 
-pub simple-call-stuck : (ts rest after : List Token) (x : Identifier) (s : ParseStop) → StartsWithName ts x rest → StartsWith LeftParen rest after → IsArgumentsStuck after s → IsStuck simple ts s
+pub simple-call-stuck : (ts rest after : List Token) (x : Identifier) (s : ParseStop) → StartsWithName ts x rest → StartsWith LeftParen rest after
+    → IsArgumentsStuck after s → IsStuck simple ts s
 simple-call-stuck ts rest after x s e f h = call-stuck simple simple_call ts after x s (λ y. refl) (two ts rest after (Name x) (The LeftParen) e f) h
 
-closed-then : {u : Mark} {symbols : List Symbol} {ts a rest : List Token} {e : Tree.Expression} {m : PhraseTrees symbols} → IsClosedRead u ts a e → Reads symbols a rest m →
+closed-then : {u : Mark} {symbols : List Symbol} {ts a rest : List Token} {e : Tree.Expression} {m : PhraseTrees symbols} → IsClosedRead u ts a e
+    → Reads symbols a rest m →
     Reads (N an_expression ∷ T (the u) ∷ symbols) ts rest (e, (tt, m))
 closed-then (read_phrase r c d q (read_token is_the read_nothing)) z = read_phrase r c d q (read_token is_the z)
 
-pub assign-at-read : (ts rest after close start end : List Token) (x : Identifier) (e v : Tree.Expression) → StartsWithName ts x rest → StartsWith LeftBracket rest after → IsClosedRead RightBracket after close e → StartsWith Assign close start →
+pub assign-at-read : (ts rest after close start end : List Token) (x : Identifier) (e v : Tree.Expression) → StartsWithName ts x rest
+    → StartsWith LeftBracket rest after → IsClosedRead RightBracket after close e → StartsWith Assign close start →
     IsRead an_expression start end v → IsRead simple ts end (assign_at x e v)
 assign-at-read ts rest after close start end x e v f g d k q =
     let P : List Token → Type 0 = λ y. IsRead simple y end (assign_at x e v) in
     let Q : List Token → Type 0 = λ y. Reads (T (the Assign) ∷ N an_expression ∷ []) y end (tt, (v, tt)) in
-    subst P (sym (two ts rest after (Name x) (The LeftBracket) f g)) (whole simple_assign_at refl (read_token is_name (read_token is_the (closed-then d (subst Q (sym k) (read_token is_the q))))))
+    subst P (sym (two ts rest after (Name x) (The LeftBracket) f g)) (whole simple_assign_at refl
+    (read_token is_name (read_token is_the (closed-then d (subst Q (sym k) (read_token is_the q))))))
 
 -- stuck after the name and the bracket of an indexed assignment
 assign-at-stuck : (ts rest after : List Token) (x : Identifier) (s : ParseStop) → StartsWithName ts x rest → StartsWith LeftBracket rest after →
@@ -218,31 +247,42 @@ assign-at-stuck : (ts rest after : List Token) (x : Identifier) (s : ParseStop) 
 assign-at-stuck ts rest after x (Syntax end) f g h = λ symbols.
     let P : List Token → Type 0 = λ y. Stuck (N simple ∷ symbols) y end.now in
     let a = stuck-within (h symbols) in
-    subst P (sym (two ts rest after (Name x) (The LeftBracket) f g)) (stuck_inside simple_assign_at refl (λ z. omega (arith, a)) (stuck_past is_name (stuck_past is_the (h symbols))))
+    subst P (sym (two ts rest after (Name x) (The LeftBracket) f g)) (stuck_inside simple_assign_at refl (λ z. omega (arith, a))
+    (stuck_past is_name (stuck_past is_the (h symbols))))
 assign-at-stuck ts rest after x NoMemory f g h = tt
 
-pub assign-at-index-stuck : (ts rest after : List Token) (x : Identifier) (s : ParseStop) → StartsWithName ts x rest → StartsWith LeftBracket rest after → IsClosedStuck RightBracket after s → IsStuck simple ts s
-assign-at-index-stuck ts rest after x s f g h = assign-at-stuck ts rest after x s f g (first-ended an_expression RightBracket (T (the Assign) ∷ N an_expression ∷ []) after s h)
+pub assign-at-index-stuck : (ts rest after : List Token) (x : Identifier) (s : ParseStop) → StartsWithName ts x rest → StartsWith LeftBracket rest after
+    → IsClosedStuck RightBracket after s → IsStuck simple ts s
+assign-at-index-stuck ts rest after x s f g h = assign-at-stuck ts rest after x s f g
+    (first-ended an_expression RightBracket (T (the Assign) ∷ N an_expression ∷ []) after s h)
 
-pub assign-at-sign-stuck : (ts rest after close : List Token) (x : Identifier) (e : Tree.Expression) (s : ParseStop) → StartsWithName ts x rest → StartsWith LeftBracket rest after → IsClosedRead RightBracket after close e → IsMissing Assign close s → IsStuck simple ts s
-assign-at-sign-stuck ts rest after close x e s f g d h = assign-at-stuck ts rest after x s f g (past-ended an_expression RightBracket (T (the Assign) ∷ N an_expression ∷ []) after close e s d (missing-first Assign (N an_expression ∷ []) close s h))
+pub assign-at-sign-stuck : (ts rest after close : List Token) (x : Identifier) (e : Tree.Expression) (s : ParseStop) → StartsWithName ts x rest
+    → StartsWith LeftBracket rest after → IsClosedRead RightBracket after close e → IsMissing Assign close s → IsStuck simple ts s
+assign-at-sign-stuck ts rest after close x e s f g d h = assign-at-stuck ts rest after x s f g
+    (past-ended an_expression RightBracket (T (the Assign) ∷ N an_expression ∷ []) after close e s d (missing-first Assign (N an_expression ∷ []) close s h))
 
-pub assign-at-value-stuck : (ts rest after close start : List Token) (x : Identifier) (e : Tree.Expression) (s : ParseStop) → StartsWithName ts x rest → StartsWith LeftBracket rest after → IsClosedRead RightBracket after close e → StartsWith Assign close start →
+pub assign-at-value-stuck : (ts rest after close start : List Token) (x : Identifier) (e : Tree.Expression) (s : ParseStop) → StartsWithName ts x rest
+    → StartsWith LeftBracket rest after → IsClosedRead RightBracket after close e → StartsWith Assign close start →
     IsStuck an_expression start s → IsStuck simple ts s
-assign-at-value-stuck ts rest after close start x e s f g d k h = assign-at-stuck ts rest after x s f g (past-ended an_expression RightBracket (T (the Assign) ∷ N an_expression ∷ []) after close e s d (past-mark Assign (N an_expression ∷ []) close start s k h))
+assign-at-value-stuck ts rest after close start x e s f g d k h = assign-at-stuck ts rest after x s f g
+    (past-ended an_expression RightBracket (T (the Assign) ∷ N an_expression ∷ []) after close e s d
+    (past-mark Assign (N an_expression ∷ []) close start s k h))
 
-assign-chosen : (x : Identifier) (after : Option Token) → after ≢ Some (The LeftParen) → after ≢ Some (The LeftBracket) → chosen_rule simple (Some (Name x)) after ≡ Some (T a_name ∷ T (the Assign) ∷ N value ∷ [], simple_assign)
+assign-chosen : (x : Identifier) (after : Option Token) → after ≢ Some (The LeftParen) → after ≢ Some (The LeftBracket)
+    → chosen_rule simple (Some (Name x)) after ≡ Some (T a_name ∷ T (the Assign) ∷ N value ∷ [], simple_assign)
 assign-chosen x None h k = refl
 assign-chosen x (Some (The LeftParen)) h k = absurd (h refl)
 assign-chosen x (Some (The LeftBracket)) h k = absurd (k refl)
 assign-chosen x (Some _) h k = refl
 
-pub assign-read : (ts rest end : List Token) (x : Identifier) (v : Value) → StartsWithName ts x rest → StartsWithout LeftParen rest → StartsWithout LeftBracket rest → IsAssignedRead rest end v → IsRead simple ts end (assign x v)
+pub assign-read : (ts rest end : List Token) (x : Identifier) (v : Value) → StartsWithName ts x rest → StartsWithout LeftParen rest
+    → StartsWithout LeftBracket rest → IsAssignedRead rest end v → IsRead simple ts end (assign x v)
 assign-read ts rest end x v e h k d =
     let P : List Token → Type 0 = λ y. IsRead simple y end (assign x v) in
     subst P (sym e) (whole simple_assign (assign-chosen x (first rest) h k) (read_token is_name d))
 
-pub assign-stuck : (ts rest : List Token) (x : Identifier) (s : ParseStop) → StartsWithName ts x rest → StartsWithout LeftParen rest → StartsWithout LeftBracket rest → IsAssignedStuck rest s → IsStuck simple ts s
+pub assign-stuck : (ts rest : List Token) (x : Identifier) (s : ParseStop) → StartsWithName ts x rest → StartsWithout LeftParen rest
+    → StartsWithout LeftBracket rest → IsAssignedStuck rest s → IsStuck simple ts s
 assign-stuck ts rest x (Syntax end) e h k q = λ symbols.
     let P : List Token → Type 0 = λ y. Stuck (N simple ∷ symbols) y end.now in
     let a = stuck-within (q symbols) in

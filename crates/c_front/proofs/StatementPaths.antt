@@ -8,19 +8,27 @@ use Rattle.c_tokens.specs.declared.token.Token.{Token}
 use Rattle.c_tokens.specs.declared.token.Token.TheVariants.{Name, Jump, The}
 use Rattle.c_tokens.specs.declared.token.Mark.{Mark}
 use Rattle.c_tokens.specs.declared.token.Mark.TheVariants.{Int, Unsigned, If, Else, While, For, Semicolon, LeftBrace, RightBrace, LeftParen, RightParen, Assign}
-use Rattle.c_front.specs.Grammar.{a_name, the, Nonterminal, a_type, maybe_int, items, an_item, declared, a_statement, else_part, maybe_simple, maybe_expression, simple, value, an_expression, Symbol, T, N, PhraseTree, PhraseTrees, type_int, type_unsigned, int_none, int_some, items_end, items_more, item_declare, item_statement, declared_none, declared_some, statement_empty, statement_block, statement_if, statement_while, statement_for, statement_break, statement_continue, statement_return, statement_simple, else_none, else_some, simple_none, simple_some, expression_none, expression_some, first, is_jump, is_the}
+use Rattle.c_front.specs.Grammar.{a_name, the, Nonterminal, a_type, maybe_int, items, an_item, declared, a_statement, else_part, maybe_simple, maybe_expression}
+use Rattle.c_front.specs.Grammar.{simple, value, an_expression, Symbol, T, N, PhraseTree, PhraseTrees, type_int, type_unsigned, int_none, int_some, items_end}
+use Rattle.c_front.specs.Grammar.{items_more, item_declare, item_statement, declared_none, declared_some, statement_empty, statement_block, statement_if}
+use Rattle.c_front.specs.Grammar.{statement_while, statement_for, statement_break, statement_continue, statement_return, statement_simple, else_none, else_some}
+use Rattle.c_front.specs.Grammar.{simple_none, simple_some, expression_none, expression_some, first, is_jump, is_the}
 use Rattle.c_front.specs.Reading.{Reads, read_nothing, read_token, read_phrase, Stuck, stuck_past, stuck_phrase, stuck_inside}
 use Rattle.c_front.specs.Choosing.{Choice, one_choice, EndsItems}
 use Rattle.c_front.specs.declared.cursor.ParseStop.{ParseStop}
 use Rattle.c_front.specs.declared.cursor.ParseStop.TheVariants.{Syntax, NoMemory}
-use Rattle.c_front.specs.Tree.{Expression, Value, Simple, Statement, empty, block, if_then, if_then_else, while_loop, for_loop, break_at, continue_at, return_at, simply, Item, declare, statement, Items, no_items, more_items}
-use Rattle.c_front.specs.Parsing.{StartsWith, StartsWithout, IsRead, AreStuck, IsStuck, IsMissing, StartsWithName, IsNameMissing, IsConditionRead, IsConditionStuck, IsClosedRead, IsClosedStuck, IsBranchRead, IsBranchStuck, HasNoElse, HasNoType, StartsNamed, StartsUnnamed, IsEndedRead, IsEndedStuck, IsHeadRead, IsHeadStuck}
+use Rattle.c_front.specs.Tree.{Expression, Value, Simple, Statement, empty, block, if_then, if_then_else, while_loop, for_loop, break_at, continue_at}
+use Rattle.c_front.specs.Tree.{return_at, simply, Item, declare, statement, Items, no_items, more_items}
+use Rattle.c_front.specs.Parsing.{StartsWith, StartsWithout, IsRead, AreStuck, IsStuck, IsMissing, StartsWithName, IsNameMissing, IsConditionRead}
+use Rattle.c_front.specs.Parsing.{IsConditionStuck, IsClosedRead, IsClosedStuck, IsBranchRead, IsBranchStuck, HasNoElse, HasNoType, StartsNamed, StartsUnnamed}
+use Rattle.c_front.specs.Parsing.{IsEndedRead, IsEndedStuck, IsHeadRead, IsHeadStuck}
 use Rattle.c_front.proofs.Reading.{stuck_after}
 use Rattle.c_front.proofs.Completing.{else-none}
 use Rattle.c_front.proofs.Reading.{derived}
 use Rattle.c_front.proofs.Deriving.{type-starts}
 use Rattle.c_front.proofs.Paths.{followed, whole, missing-stuck}
-use Rattle.c_front.proofs.Steps.{missing-first, name-missing-first, past-mark, past-name, past-phrase, past-ended, first-phrase, first-ended, inside, mark-then, mark-end, name-then, ended-then}
+use Rattle.c_front.proofs.Steps.{missing-first, name-missing-first, past-mark, past-name, past-phrase, past-ended, first-phrase, first-ended, inside, mark-then}
+use Rattle.c_front.proofs.Steps.{mark-end, name-then, ended-then}
 
 -- items after some others
 abbrev pub after_items : Items → Items → Items
@@ -29,11 +37,13 @@ after_items (more_items i rest) more = more_items i (after_items rest more)
 
 pub record GoesOnItems (ts middle : List Token) (all : Items) : Type 0 where
   pub reads : (rest : List Token) (more : Items) → IsRead items middle rest more → IsRead items ts rest (after_items all more)
-  pub stuck : (rest : List Token) → ((symbols : List Symbol) → Stuck (N items ∷ symbols) middle rest) → (symbols : List Symbol) → Stuck (N items ∷ symbols) ts rest
+  pub stuck : (rest : List Token) → ((symbols : List Symbol) → Stuck (N items ∷ symbols) middle rest) → (symbols : List Symbol)
+      → Stuck (N items ∷ symbols) ts rest
   pub shorter : length middle ≤ length ts
 
 module _ (u : Mark) (w : Mark) (n : Nonterminal) (ts : List Token) where
-  pub enclosed-read : (a b c : List Token) (v : PhraseTree n) → ts ≡ The u ∷ a → IsRead n a b v → b ≡ The w ∷ c → Reads (T (the u) ∷ N n ∷ T (the w) ∷ []) ts c (tt, (v, (tt, tt)))
+  pub enclosed-read : (a b c : List Token) (v : PhraseTree n) → ts ≡ The u ∷ a → IsRead n a b v → b ≡ The w ∷ c
+      → Reads (T (the u) ∷ N n ∷ T (the w) ∷ []) ts c (tt, (v, (tt, tt)))
   enclosed-read a b c v e d f =
       let P : List Token → Type 0 = λ x. Reads (T (the u) ∷ N n ∷ T (the w) ∷ []) x c (tt, (v, (tt, tt))) in
       let Q : List Token → Type 0 = λ x. Reads (T (the w) ∷ []) x c (tt, tt) in
@@ -51,7 +61,8 @@ module _ (u : Mark) (w : Mark) (n : Nonterminal) (ts : List Token) where
       subst P (sym e) (stuck_past is_the (h (T (the w) ∷ symbols)))
   enclosed-inner-stuck a NoMemory e h = tt
 
-  pub enclosed-close-stuck : (a b : List Token) (v : PhraseTree n) (s : ParseStop) → ts ≡ The u ∷ a → IsRead n a b v → IsMissing w b s → AreStuck (T (the u) ∷ N n ∷ T (the w) ∷ []) ts s
+  pub enclosed-close-stuck : (a b : List Token) (v : PhraseTree n) (s : ParseStop) → ts ≡ The u ∷ a → IsRead n a b v → IsMissing w b s
+      → AreStuck (T (the u) ∷ N n ∷ T (the w) ∷ []) ts s
   enclosed-close-stuck a b v (Syntax rest) e d h = λ symbols.
       let P : List Token → Type 0 = λ x. Stuck (T (the u) ∷ N n ∷ T (the w) ∷ symbols) x rest.now in
       let Q : List Token → Type 0 = λ x. Stuck (N n ∷ T (the w) ∷ symbols) a x in
@@ -59,22 +70,26 @@ module _ (u : Mark) (w : Mark) (n : Nonterminal) (ts : List Token) where
   enclosed-close-stuck a b v NoMemory e d h = tt
 
 pub empty-read : (ts a : List Token) → ts ≡ The Semicolon ∷ a → IsRead a_statement ts a empty
-empty-read ts a e = let P : List Token → Type 0 = λ x. IsRead a_statement x a empty in subst P (sym e) (whole statement_empty refl (read_token is_the read_nothing))
+empty-read ts a e = let P : List Token → Type 0 = λ x. IsRead a_statement x a empty in
+    subst P (sym e) (whole statement_empty refl (read_token is_the read_nothing))
 
-chosen-block : (ts a : List Token) → ts ≡ The LeftBrace ∷ a → one_choice a_statement (first ts) ≡ Some (T (the LeftBrace) ∷ N items ∷ T (the RightBrace) ∷ [], statement_block)
+chosen-block : (ts a : List Token) → ts ≡ The LeftBrace ∷ a → one_choice a_statement (first ts) ≡ Some
+    (T (the LeftBrace) ∷ N items ∷ T (the RightBrace) ∷ [], statement_block)
 chosen-block ts a e = ap (λ (x : List Token). one_choice a_statement (first x)) e
 
 pub block-read : (ts a b c : List Token) (m : Items) → ts ≡ The LeftBrace ∷ a → IsRead items a b m → b ≡ The RightBrace ∷ c → IsRead a_statement ts c (block m)
 block-read ts a b c m e d f = whole statement_block (chosen-block ts a e) (enclosed-read LeftBrace RightBrace items ts a b c m e d f)
 
-block-in-stuck : (ts a : List Token) (s : ParseStop) → ts ≡ The LeftBrace ∷ a → AreStuck (T (the LeftBrace) ∷ N items ∷ T (the RightBrace) ∷ []) ts s → IsStuck a_statement ts s
+block-in-stuck : (ts a : List Token) (s : ParseStop) → ts ≡ The LeftBrace ∷ a → AreStuck (T (the LeftBrace) ∷ N items ∷ T (the RightBrace) ∷ []) ts s
+    → IsStuck a_statement ts s
 block-in-stuck ts a (Syntax rest) e h = λ symbols. stuck_inside statement_block (chosen-block ts a e) (λ z. absurd z) (h symbols)
 block-in-stuck ts a NoMemory e h = tt
 
 pub block-stuck : (ts a : List Token) (s : ParseStop) → ts ≡ The LeftBrace ∷ a → IsStuck items a s → IsStuck a_statement ts s
 block-stuck ts a s e h = block-in-stuck ts a s e (enclosed-inner-stuck LeftBrace RightBrace items ts a s e h)
 
-pub block-close-stuck : (ts a b : List Token) (m : Items) (s : ParseStop) → ts ≡ The LeftBrace ∷ a → IsRead items a b m → IsMissing RightBrace b s → IsStuck a_statement ts s
+pub block-close-stuck : (ts a b : List Token) (m : Items) (s : ParseStop) → ts ≡ The LeftBrace ∷ a → IsRead items a b m → IsMissing RightBrace b s
+    → IsStuck a_statement ts s
 block-close-stuck ts a b m s e d h = block-in-stuck ts a s e (enclosed-close-stuck LeftBrace RightBrace items ts a b m s e d h)
 
 pub if-read : (ts a b : List Token) (s : Statement) → ts ≡ The If ∷ a → IsBranchRead a b s → IsRead a_statement ts b s
@@ -88,28 +103,33 @@ if-stuck ts a (Syntax rest) e h = λ symbols.
     subst P (sym e) (stuck_inside statement_if refl (λ z. absurd z) (stuck_past is_the (h symbols)))
 if-stuck ts a NoMemory e h = tt
 
-semicolon-then : {n : Nonterminal} {ts b c : List Token} {v : PhraseTree n} → IsRead n ts b v → StartsWith Semicolon b c → Reads (N n ∷ T (the Semicolon) ∷ []) ts c (v, (tt, tt))
+semicolon-then : {n : Nonterminal} {ts b c : List Token} {v : PhraseTree n} → IsRead n ts b v → StartsWith Semicolon b c
+    → Reads (N n ∷ T (the Semicolon) ∷ []) ts c (v, (tt, tt))
 semicolon-then {c = c} d e =
     let P : List Token → Type 0 = λ x. Reads (T (the Semicolon) ∷ []) x c (tt, tt) in
     followed d (subst P (sym e) (read_token is_the read_nothing))
 
-simple-chosen : (ts a : List Token) (x : Identifier) → ts ≡ Name x ∷ a → one_choice a_statement (first ts) ≡ Some (N simple ∷ T (the Semicolon) ∷ [], statement_simple)
+simple-chosen : (ts a : List Token) (x : Identifier) → ts ≡ Name x ∷ a → one_choice a_statement (first ts) ≡ Some
+    (N simple ∷ T (the Semicolon) ∷ [], statement_simple)
 simple-chosen ts a x e = ap (λ (y : List Token). one_choice a_statement (first y)) e
 
-pub simply-read : (ts a b c : List Token) (x : Identifier) (v : Simple) → ts ≡ Name x ∷ a → IsRead simple ts b v → StartsWith Semicolon b c → IsRead a_statement ts c (simply v)
+pub simply-read : (ts a b c : List Token) (x : Identifier) (v : Simple) → ts ≡ Name x ∷ a → IsRead simple ts b v → StartsWith Semicolon b c
+    → IsRead a_statement ts c (simply v)
 simply-read ts a b c x v e d f = whole statement_simple (simple-chosen ts a x e) (semicolon-then d f)
 
 pub simply-stuck : (ts a : List Token) (x : Identifier) (s : ParseStop) → ts ≡ Name x ∷ a → IsStuck simple ts s → IsStuck a_statement ts s
 simply-stuck ts a x (Syntax rest) e h = λ symbols. stuck_inside statement_simple (simple-chosen ts a x e) (λ z. absurd z) (h (T (the Semicolon) ∷ symbols))
 simply-stuck ts a x NoMemory e h = tt
 
-pub simply-end-stuck : (ts a b : List Token) (x : Identifier) (v : Simple) (s : ParseStop) → ts ≡ Name x ∷ a → IsRead simple ts b v → IsMissing Semicolon b s → IsStuck a_statement ts s
+pub simply-end-stuck : (ts a b : List Token) (x : Identifier) (v : Simple) (s : ParseStop) → ts ≡ Name x ∷ a → IsRead simple ts b v → IsMissing Semicolon b s
+    → IsStuck a_statement ts s
 simply-end-stuck ts a b x v (Syntax rest) e d h = λ symbols.
     let P : List Token → Type 0 = λ y. Stuck (N a_statement ∷ symbols) ts y in
     subst P (sym h.0) (stuck_inside statement_simple (simple-chosen ts a x e) (λ z. absurd z) (stuck_after d (missing-stuck Semicolon b h.1 symbols)))
 simply-end-stuck ts a b x v NoMemory e d h = tt
 
-pub no-statement : (ts rest : List Token) (t : Token) → ts ≡ t ∷ rest → one_choice a_statement (Some t) ≡ None → (symbols : List Symbol) → Stuck (N a_statement ∷ symbols) ts ts
+pub no-statement : (ts rest : List Token) (t : Token) → ts ≡ t ∷ rest → one_choice a_statement (Some t) ≡ None → (symbols : List Symbol)
+    → Stuck (N a_statement ∷ symbols) ts ts
 no-statement ts rest t e h symbols =
     let P : List Token → Type 0 = λ y. Stuck (N a_statement ∷ symbols) y y in
     subst P (sym e) (stuck_phrase (λ after. h))
@@ -151,16 +171,19 @@ if_then-first-stuck ts a e NoMemory d h = tt
 chosen-else : (ts a : List Token) → ts ≡ The Else ∷ a → one_choice else_part (first ts) ≡ Some (T (the Else) ∷ N a_statement ∷ [], else_some)
 chosen-else ts a e = ap (λ (x : List Token). one_choice else_part (first x)) e
 
-pub if_then-second-stuck : (ts a b c : List Token) (e : Expression) (v : Statement) (s : ParseStop) → IsConditionRead ts a e → IsRead a_statement a b v → b ≡ The Else ∷ c → IsStuck a_statement c s → IsBranchStuck ts s
+pub if_then-second-stuck : (ts a b c : List Token) (e : Expression) (v : Statement) (s : ParseStop) → IsConditionRead ts a e → IsRead a_statement a b v
+    → b ≡ The Else ∷ c → IsStuck a_statement c s → IsBranchStuck ts s
 if_then-second-stuck ts a b c e v (Syntax rest) d q f h = λ symbols.
     let P : List Token → Type 0 = λ x. Stuck (T (the Else) ∷ N a_statement ∷ symbols) x rest.now in
     stuck_after d (stuck_after q (stuck_inside else_some (chosen-else b c f) (λ z. absurd z) (subst P (sym f) (stuck_past is_the (h symbols)))))
 if_then-second-stuck ts a b c e v NoMemory d q f h = tt
 
-pub if_then-alone-read : (ts a b : List Token) (e : Expression) (v : Statement) → IsConditionRead ts a e → IsRead a_statement a b v → HasNoElse b → IsBranchRead ts b (if_then e v)
+pub if_then-alone-read : (ts a b : List Token) (e : Expression) (v : Statement) → IsConditionRead ts a e → IsRead a_statement a b v → HasNoElse b
+    → IsBranchRead ts b (if_then e v)
 if_then-alone-read ts a b e v d q h = (e, v, None, condition-then d (followed q (whole else_none (else-none (first b) h) read_nothing)), refl)
 
-pub if_then-else-read : (ts a b c f : List Token) (e : Expression) (v w : Statement) → IsConditionRead ts a e → IsRead a_statement a b v → b ≡ The Else ∷ c → IsRead a_statement c f w → IsBranchRead ts f (if_then_else e v w)
+pub if_then-else-read : (ts a b c f : List Token) (e : Expression) (v w : Statement) → IsConditionRead ts a e → IsRead a_statement a b v → b ≡ The Else ∷ c
+    → IsRead a_statement c f w → IsBranchRead ts f (if_then_else e v w)
 if_then-else-read ts a b c f e v w d q h z =
     let P : List Token → Type 0 = λ x. Reads (T (the Else) ∷ N a_statement ∷ []) x f (tt, (w, tt)) in
     (e, v, Some w, condition-then d (followed q (whole else_some (chosen-else b c h) (subst P (sym h) (read_token is_the z)))), refl)
@@ -173,7 +196,8 @@ chosen-unsigned : (ts a : List Token) → StartsWith Unsigned ts a → one_choic
 chosen-unsigned ts a e = ap (λ (x : List Token). one_choice a_type (first x)) e
 
 pub unsigned-int-read : (ts a rest : List Token) → StartsWith Unsigned ts a → StartsWith Int a rest → IsRead a_type ts rest UnsignedInt
-unsigned-int-read ts a rest e f = whole type_unsigned (chosen-unsigned ts a e) (mark-then e (whole int_some (ap (λ (x : List Token). one_choice maybe_int (first x)) f) (mark-end f)))
+unsigned-int-read ts a rest e f = whole type_unsigned (chosen-unsigned ts a e)
+    (mark-then e (whole int_some (ap (λ (x : List Token). one_choice maybe_int (first x)) f) (mark-end f)))
 
 no-int : (next : Option Token) → next ≢ Some (The Int) → one_choice maybe_int next ≡ Some ([], int_none)
 no-int None h = refl
@@ -202,20 +226,27 @@ pub declared-stuck : (ts a : List Token) (s : ParseStop) → StartsWith Assign t
 declared-stuck ts a s e h = inside declared_some ts s (chosen-value ts a e) (λ z. z) (past-mark Assign (N value ∷ []) ts a s e h)
 
 -- items
-pub declare-read : (ts a b c d : List Token) (k : IntegerType) (x : Identifier) (v : Option Value) → IsRead a_type ts a k → StartsWithName a x b → IsRead declared b c v → StartsWith Semicolon c d → IsRead an_item ts d (declare k x v)
+pub declare-read : (ts a b c d : List Token) (k : IntegerType) (x : Identifier) (v : Option Value) → IsRead a_type ts a k → StartsWithName a x b
+    → IsRead declared b c v → StartsWith Semicolon c d → IsRead an_item ts d (declare k x v)
 declare-read ts a b c d k x v q e g h = whole item_declare (type-starts (derived q)).item (followed q (name-then e (followed g (mark-end h))))
 
-declare-stuck : (ts a : List Token) (k : IntegerType) (s : ParseStop) → IsRead a_type ts a k → AreStuck (T a_name ∷ N declared ∷ T (the Semicolon) ∷ []) a s → IsStuck an_item ts s
-declare-stuck ts a k s q h = inside item_declare ts s (type-starts (derived q)).item (λ z. z) (past-phrase a_type (T a_name ∷ N declared ∷ T (the Semicolon) ∷ []) ts a k s q h)
+declare-stuck : (ts a : List Token) (k : IntegerType) (s : ParseStop) → IsRead a_type ts a k → AreStuck (T a_name ∷ N declared ∷ T (the Semicolon) ∷ []) a s
+    → IsStuck an_item ts s
+declare-stuck ts a k s q h = inside item_declare ts s (type-starts (derived q)).item (λ z. z)
+    (past-phrase a_type (T a_name ∷ N declared ∷ T (the Semicolon) ∷ []) ts a k s q h)
 
 pub declare-name-stuck : (ts a : List Token) (k : IntegerType) (s : ParseStop) → IsRead a_type ts a k → IsNameMissing a s → IsStuck an_item ts s
 declare-name-stuck ts a k s q h = declare-stuck ts a k s q (name-missing-first (N declared ∷ T (the Semicolon) ∷ []) a s h)
 
-pub declare-value-stuck : (ts a b : List Token) (k : IntegerType) (x : Identifier) (s : ParseStop) → IsRead a_type ts a k → StartsWithName a x b → IsStuck declared b s → IsStuck an_item ts s
-declare-value-stuck ts a b k x s q e h = declare-stuck ts a k s q (past-name (N declared ∷ T (the Semicolon) ∷ []) a b x s e (first-phrase declared (T (the Semicolon) ∷ []) b s h))
+pub declare-value-stuck : (ts a b : List Token) (k : IntegerType) (x : Identifier) (s : ParseStop) → IsRead a_type ts a k → StartsWithName a x b
+    → IsStuck declared b s → IsStuck an_item ts s
+declare-value-stuck ts a b k x s q e h = declare-stuck ts a k s q (past-name (N declared ∷ T (the Semicolon) ∷ []) a b x s e
+    (first-phrase declared (T (the Semicolon) ∷ []) b s h))
 
-pub declare-end-stuck : (ts a b c : List Token) (k : IntegerType) (x : Identifier) (v : Option Value) (s : ParseStop) → IsRead a_type ts a k → StartsWithName a x b → IsRead declared b c v → IsMissing Semicolon c s → IsStuck an_item ts s
-declare-end-stuck ts a b c k x v s q e g h = declare-stuck ts a k s q (past-name (N declared ∷ T (the Semicolon) ∷ []) a b x s e (past-phrase declared (T (the Semicolon) ∷ []) b c v s g (missing-first Semicolon [] c s h)))
+pub declare-end-stuck : (ts a b c : List Token) (k : IntegerType) (x : Identifier) (v : Option Value) (s : ParseStop) → IsRead a_type ts a k
+    → StartsWithName a x b → IsRead declared b c v → IsMissing Semicolon c s → IsStuck an_item ts s
+declare-end-stuck ts a b c k x v s q e g h = declare-stuck ts a k s q (past-name (N declared ∷ T (the Semicolon) ∷ []) a b x s e
+    (past-phrase declared (T (the Semicolon) ∷ []) b c v s g (missing-first Semicolon [] c s h)))
 
 chosen-item : (next : Option Token) → next ≢ Some (The Int) → next ≢ Some (The Unsigned) → one_choice an_item next ≡ Some (N a_statement ∷ [], item_statement)
 chosen-item None h k = refl
@@ -250,13 +281,15 @@ chosen-simple ts x e = ap (one_choice maybe_simple) e
 some-simple-read : (ts a : List Token) (x : Identifier) (v : Simple) → StartsNamed ts x → IsRead simple ts a v → IsRead maybe_simple ts a (Some v)
 some-simple-read ts a x v e d = whole simple_some (chosen-simple ts x e) d
 
-pub ended-some-read : (u : Mark) (ts a rest : List Token) (x : Identifier) (v : Simple) → StartsNamed ts x → IsRead simple ts a v → StartsWith u a rest → IsEndedRead maybe_simple u ts rest (Some v)
+pub ended-some-read : (u : Mark) (ts a rest : List Token) (x : Identifier) (v : Simple) → StartsNamed ts x → IsRead simple ts a v → StartsWith u a rest
+    → IsEndedRead maybe_simple u ts rest (Some v)
 ended-some-read u ts a rest x v e d h = followed (some-simple-read ts a x v e d) (mark-end h)
 
 pub ended-some-stuck : (u : Mark) (ts : List Token) (x : Identifier) (s : ParseStop) → StartsNamed ts x → IsStuck simple ts s → IsEndedStuck maybe_simple u ts s
 ended-some-stuck u ts x s e h = first-phrase maybe_simple (T (the u) ∷ []) ts s (inside simple_some ts s (chosen-simple ts x e) (λ z. z) h)
 
-pub ended-close-stuck : (u : Mark) (ts a : List Token) (x : Identifier) (v : Simple) (s : ParseStop) → StartsNamed ts x → IsRead simple ts a v → IsMissing u a s → IsEndedStuck maybe_simple u ts s
+pub ended-close-stuck : (u : Mark) (ts a : List Token) (x : Identifier) (v : Simple) (s : ParseStop) → StartsNamed ts x → IsRead simple ts a v → IsMissing u a s
+    → IsEndedStuck maybe_simple u ts s
 ended-close-stuck u ts a x v s e d h = past-phrase maybe_simple (T (the u) ∷ []) ts a (Some v) s (some-simple-read ts a x v e d) (missing-first u [] a s h)
 
 -- an expression that may be missing, and the semicolon after it
@@ -268,55 +301,75 @@ chosen-expression None h = refl
 chosen-expression (Some (The Semicolon)) h = absurd (h refl)
 chosen-expression (Some _) h = refl
 
-pub some-expression-read : (ts rest : List Token) (e : Expression) → StartsWithout Semicolon ts → IsClosedRead Semicolon ts rest e → IsEndedRead maybe_expression Semicolon ts rest (Some e)
-some-expression-read ts rest e h (read_phrase r c d q z) = followed (whole expression_some (chosen-expression (first ts) h) (read_phrase r c d q read_nothing)) z
+pub some-expression-read : (ts rest : List Token) (e : Expression) → StartsWithout Semicolon ts → IsClosedRead Semicolon ts rest e
+    → IsEndedRead maybe_expression Semicolon ts rest (Some e)
+some-expression-read ts rest e h (read_phrase r c d q z) = followed (whole expression_some (chosen-expression (first ts) h) (read_phrase r c d q read_nothing))
+    z
 
-pub some-expression-stuck : (ts : List Token) (s : ParseStop) → StartsWithout Semicolon ts → IsClosedStuck Semicolon ts s → IsEndedStuck maybe_expression Semicolon ts s
+pub some-expression-stuck : (ts : List Token) (s : ParseStop) → StartsWithout Semicolon ts → IsClosedStuck Semicolon ts s
+    → IsEndedStuck maybe_expression Semicolon ts s
 some-expression-stuck ts (Syntax rest) h k = λ symbols. stuck_inside expression_some (chosen-expression (first ts) h) (λ z. absurd z) (k symbols)
 some-expression-stuck ts NoMemory h k = tt
 
 -- the parts of a `for`
-pub head-read : (ts a b c rest : List Token) (x : Option Simple) (y : Option Expression) (z : Option Simple) → StartsWith LeftParen ts a → IsEndedRead maybe_simple Semicolon a b x → IsEndedRead maybe_expression Semicolon b c y →
+pub head-read : (ts a b c rest : List Token) (x : Option Simple) (y : Option Expression) (z : Option Simple) → StartsWith LeftParen ts a
+    → IsEndedRead maybe_simple Semicolon a b x → IsEndedRead maybe_expression Semicolon b c y →
     IsEndedRead maybe_simple RightParen c rest z → IsHeadRead ts rest x y z
 head-read ts a b c rest x y z e f g h = mark-then e (ended-then f (ended-then g h))
 
 pub head-open-stuck : (ts : List Token) (s : ParseStop) → IsMissing LeftParen ts s → IsHeadStuck ts s
-head-open-stuck ts s h = missing-first LeftParen (N maybe_simple ∷ T (the Semicolon) ∷ N maybe_expression ∷ T (the Semicolon) ∷ N maybe_simple ∷ T (the RightParen) ∷ []) ts s h
+head-open-stuck ts s h = missing-first LeftParen (N maybe_simple ∷ T (the Semicolon) ∷ N maybe_expression ∷ T (the Semicolon) ∷ N maybe_simple ∷ T
+    (the RightParen) ∷ []) ts s h
 
 pub head-first-stuck : (ts a : List Token) (s : ParseStop) → StartsWith LeftParen ts a → IsEndedStuck maybe_simple Semicolon a s → IsHeadStuck ts s
-head-first-stuck ts a s e h = past-mark LeftParen (N maybe_simple ∷ T (the Semicolon) ∷ N maybe_expression ∷ T (the Semicolon) ∷ N maybe_simple ∷ T (the RightParen) ∷ []) ts a s e (first-ended maybe_simple Semicolon (N maybe_expression ∷ T (the Semicolon) ∷ N maybe_simple ∷ T (the RightParen) ∷ []) a s h)
+head-first-stuck ts a s e h = past-mark LeftParen (N maybe_simple ∷ T (the Semicolon) ∷ N maybe_expression ∷ T (the Semicolon) ∷ N maybe_simple ∷ T
+    (the RightParen) ∷ []) ts a s e (first-ended maybe_simple Semicolon (N maybe_expression ∷ T (the Semicolon) ∷ N maybe_simple ∷ T (the RightParen) ∷ []) a s
+    h)
 
-pub head-test-stuck : (ts a b : List Token) (x : Option Simple) (s : ParseStop) → StartsWith LeftParen ts a → IsEndedRead maybe_simple Semicolon a b x → IsEndedStuck maybe_expression Semicolon b s → IsHeadStuck ts s
-head-test-stuck ts a b x s e f h = past-mark LeftParen (N maybe_simple ∷ T (the Semicolon) ∷ N maybe_expression ∷ T (the Semicolon) ∷ N maybe_simple ∷ T (the RightParen) ∷ []) ts a s e (past-ended maybe_simple Semicolon (N maybe_expression ∷ T (the Semicolon) ∷ N maybe_simple ∷ T (the RightParen) ∷ []) a b x s f (first-ended maybe_expression Semicolon (N maybe_simple ∷ T (the RightParen) ∷ []) b s h))
+pub head-test-stuck : (ts a b : List Token) (x : Option Simple) (s : ParseStop) → StartsWith LeftParen ts a → IsEndedRead maybe_simple Semicolon a b x
+    → IsEndedStuck maybe_expression Semicolon b s → IsHeadStuck ts s
+head-test-stuck ts a b x s e f h = past-mark LeftParen (N maybe_simple ∷ T (the Semicolon) ∷ N maybe_expression ∷ T (the Semicolon) ∷ N maybe_simple ∷ T
+    (the RightParen) ∷ []) ts a s e (past-ended maybe_simple Semicolon (N maybe_expression ∷ T (the Semicolon) ∷ N maybe_simple ∷ T (the RightParen) ∷ []) a b x
+    s f (first-ended maybe_expression Semicolon (N maybe_simple ∷ T (the RightParen) ∷ []) b s h))
 
-pub head-last-stuck : (ts a b c : List Token) (x : Option Simple) (y : Option Expression) (s : ParseStop) → StartsWith LeftParen ts a → IsEndedRead maybe_simple Semicolon a b x → IsEndedRead maybe_expression Semicolon b c y →
+pub head-last-stuck : (ts a b c : List Token) (x : Option Simple) (y : Option Expression) (s : ParseStop) → StartsWith LeftParen ts a
+    → IsEndedRead maybe_simple Semicolon a b x → IsEndedRead maybe_expression Semicolon b c y →
     IsEndedStuck maybe_simple RightParen c s → IsHeadStuck ts s
-head-last-stuck ts a b c x y s e f g h = past-mark LeftParen (N maybe_simple ∷ T (the Semicolon) ∷ N maybe_expression ∷ T (the Semicolon) ∷ N maybe_simple ∷ T (the RightParen) ∷ []) ts a s e (past-ended maybe_simple Semicolon (N maybe_expression ∷ T (the Semicolon) ∷ N maybe_simple ∷ T (the RightParen) ∷ []) a b x s f (past-ended maybe_expression Semicolon (N maybe_simple ∷ T (the RightParen) ∷ []) b c y s g h))
+head-last-stuck ts a b c x y s e f g h = past-mark LeftParen (N maybe_simple ∷ T (the Semicolon) ∷ N maybe_expression ∷ T (the Semicolon) ∷ N maybe_simple ∷ T
+    (the RightParen) ∷ []) ts a s e (past-ended maybe_simple Semicolon (N maybe_expression ∷ T (the Semicolon) ∷ N maybe_simple ∷ T (the RightParen) ∷ []) a b x
+    s f (past-ended maybe_expression Semicolon (N maybe_simple ∷ T (the RightParen) ∷ []) b c y s g h))
 
-head-then : {symbols : List Symbol} {ts a rest : List Token} {x : Option Simple} {y : Option Expression} {z : Option Simple} {m : PhraseTrees symbols} → IsHeadRead ts a x y z → Reads symbols a rest m →
-    Reads (T (the LeftParen) ∷ N maybe_simple ∷ T (the Semicolon) ∷ N maybe_expression ∷ T (the Semicolon) ∷ N maybe_simple ∷ T (the RightParen) ∷ symbols) ts rest (tt, (x, (tt, (y, (tt, (z, (tt, m)))))))
-head-then (read_token i (read_phrase r c d e (read_token i' (read_phrase r' c' d' e' (read_token i'' (read_phrase r'' c'' d'' e'' (read_token j read_nothing))))))) q =
+head-then : {symbols : List Symbol} {ts a rest : List Token} {x : Option Simple} {y : Option Expression} {z : Option Simple} {m : PhraseTrees symbols}
+    → IsHeadRead ts a x y z → Reads symbols a rest m →
+    Reads (T (the LeftParen) ∷ N maybe_simple ∷ T (the Semicolon) ∷ N maybe_expression ∷ T (the Semicolon) ∷ N maybe_simple ∷ T (the RightParen) ∷ symbols) ts
+    rest (tt, (x, (tt, (y, (tt, (z, (tt, m)))))))
+head-then (read_token i (read_phrase r c d e (read_token i' (read_phrase r' c' d' e'
+    (read_token i'' (read_phrase r'' c'' d'' e'' (read_token j read_nothing))))))) q =
     read_token i (read_phrase r c d e (read_token i' (read_phrase r' c' d' e' (read_token i'' (read_phrase r'' c'' d'' e'' (read_token j q))))))
 
-pub for-read : (ts a rest : List Token) (x : Option Simple) (y : Option Expression) (z : Option Simple) (v : Statement) → IsHeadRead ts a x y z → IsRead a_statement a rest v → IsRead a_statement (The For ∷ ts) rest (for_loop x y z v)
+pub for-read : (ts a rest : List Token) (x : Option Simple) (y : Option Expression) (z : Option Simple) (v : Statement) → IsHeadRead ts a x y z
+    → IsRead a_statement a rest v → IsRead a_statement (The For ∷ ts) rest (for_loop x y z v)
 for-read ts a rest x y z v d q = whole statement_for refl (read_token is_the (head-then d q))
 
 pub for-head-stuck : (ts : List Token) (s : ParseStop) → IsHeadStuck ts s → IsStuck a_statement (The For ∷ ts) s
 for-head-stuck ts (Syntax rest) h = λ symbols. stuck_inside statement_for refl (λ z. absurd z) (stuck_past is_the (h (N a_statement ∷ symbols)))
 for-head-stuck ts NoMemory h = tt
 
-pub for-body-stuck : (ts a : List Token) (x : Option Simple) (y : Option Expression) (z : Option Simple) (s : ParseStop) → IsHeadRead ts a x y z → IsStuck a_statement a s → IsStuck a_statement (The For ∷ ts) s
+pub for-body-stuck : (ts a : List Token) (x : Option Simple) (y : Option Expression) (z : Option Simple) (s : ParseStop) → IsHeadRead ts a x y z
+    → IsStuck a_statement a s → IsStuck a_statement (The For ∷ ts) s
 for-body-stuck ts a x y z (Syntax rest) d h = λ symbols. stuck_inside statement_for refl (λ z. absurd z) (stuck_past is_the (stuck_after d (h symbols)))
 for-body-stuck ts a x y z NoMemory d h = tt
 
-pub while-read : (ts a rest : List Token) (e : Expression) (v : Statement) → IsConditionRead ts a e → IsRead a_statement a rest v → IsRead a_statement (The While ∷ ts) rest (while_loop e v)
+pub while-read : (ts a rest : List Token) (e : Expression) (v : Statement) → IsConditionRead ts a e → IsRead a_statement a rest v
+    → IsRead a_statement (The While ∷ ts) rest (while_loop e v)
 while-read ts a rest e v d q = whole statement_while refl (read_token is_the (condition-then d q))
 
 pub while-test-stuck : (ts : List Token) (s : ParseStop) → IsConditionStuck ts s → IsStuck a_statement (The While ∷ ts) s
 while-test-stuck ts (Syntax rest) h = λ symbols. stuck_inside statement_while refl (λ z. absurd z) (stuck_past is_the (h (N a_statement ∷ symbols)))
 while-test-stuck ts NoMemory h = tt
 
-pub while-body-stuck : (ts a : List Token) (e : Expression) (s : ParseStop) → IsConditionRead ts a e → IsStuck a_statement a s → IsStuck a_statement (The While ∷ ts) s
+pub while-body-stuck : (ts a : List Token) (e : Expression) (s : ParseStop) → IsConditionRead ts a e → IsStuck a_statement a s
+    → IsStuck a_statement (The While ∷ ts) s
 while-body-stuck ts a e (Syntax rest) d h = λ symbols. stuck_inside statement_while refl (λ z. absurd z) (stuck_past is_the (stuck_after d (h symbols)))
 while-body-stuck ts a e NoMemory d h = tt
 
@@ -325,17 +378,20 @@ pub break-read : (at : ℕ) (ts rest : List Token) → StartsWith Semicolon ts r
 break-read at ts rest e = whole statement_break refl (read_token is_jump (mark-end e))
 
 pub break-stuck : (at : ℕ) (ts : List Token) (s : ParseStop) → IsMissing Semicolon ts s → IsStuck a_statement (Jump Break at ∷ ts) s
-break-stuck at ts (Syntax rest) h = λ symbols. stuck_inside statement_break refl (λ z. absurd z) (stuck_past is_jump (missing-first Semicolon [] ts (Syntax rest) h symbols))
+break-stuck at ts (Syntax rest) h = λ symbols. stuck_inside statement_break refl (λ z. absurd z)
+    (stuck_past is_jump (missing-first Semicolon [] ts (Syntax rest) h symbols))
 break-stuck at ts NoMemory h = tt
 
 pub continue-read : (at : ℕ) (ts rest : List Token) → StartsWith Semicolon ts rest → IsRead a_statement (Jump Continue at ∷ ts) rest (continue_at at)
 continue-read at ts rest e = whole statement_continue refl (read_token is_jump (mark-end e))
 
 pub continue-stuck : (at : ℕ) (ts : List Token) (s : ParseStop) → IsMissing Semicolon ts s → IsStuck a_statement (Jump Continue at ∷ ts) s
-continue-stuck at ts (Syntax rest) h = λ symbols. stuck_inside statement_continue refl (λ z. absurd z) (stuck_past is_jump (missing-first Semicolon [] ts (Syntax rest) h symbols))
+continue-stuck at ts (Syntax rest) h = λ symbols. stuck_inside statement_continue refl (λ z. absurd z)
+    (stuck_past is_jump (missing-first Semicolon [] ts (Syntax rest) h symbols))
 continue-stuck at ts NoMemory h = tt
 
-pub return-read : (at : ℕ) (ts rest : List Token) (v : Option Expression) → IsEndedRead maybe_expression Semicolon ts rest v → IsRead a_statement (Jump Return at ∷ ts) rest (return_at at v)
+pub return-read : (at : ℕ) (ts rest : List Token) (v : Option Expression) → IsEndedRead maybe_expression Semicolon ts rest v
+    → IsRead a_statement (Jump Return at ∷ ts) rest (return_at at v)
 return-read at ts rest v d = whole statement_return refl (read_token is_jump d)
 
 pub return-stuck : (at : ℕ) (ts : List Token) (s : ParseStop) → IsEndedStuck maybe_expression Semicolon ts s → IsStuck a_statement (Jump Return at ∷ ts) s
@@ -358,19 +414,24 @@ after-after (more_items i rest) b c = ap (more_items i) (after-after rest b c)
 pub goes-on-items-start : (ts : List Token) → length ts ≤ length ts → GoesOnItems ts ts no_items
 goes-on-items-start ts h = record { reads = λ rest more d. d; stuck = λ rest s. s; shorter = h }
 
-pub goes-on-items-more : (ts middle next : List Token) (all : Items) (i : Item) → GoesOnItems ts middle all → (EndsItems (first middle) → ⊥) → IsRead an_item middle next i →
+pub goes-on-items-more : (ts middle next : List Token) (all : Items) (i : Item) → GoesOnItems ts middle all → (EndsItems (first middle) → ⊥)
+    → IsRead an_item middle next i →
     length next ≤ length ts → GoesOnItems ts next (after_items all (more_items i no_items))
 goes-on-items-more ts middle next all i g h d l = record {
-  reads = λ rest more q. rw (after-after all (more_items i no_items) more) (g.reads rest (more_items i more) (whole items_more (items-go-on (first middle) h) (followed d q)));
+  reads = λ rest more q. rw (after-after all (more_items i no_items) more)
+      (g.reads rest (more_items i more) (whole items_more (items-go-on (first middle) h) (followed d q)));
   stuck = λ rest s symbols. g.stuck rest (λ more. stuck_inside items_more (items-go-on (first middle) h) (λ z. absurd z) (stuck_after d (s more))) symbols;
   shorter = l;
 }
 
 pub items-end-read : (ts middle : List Token) (all : Items) → GoesOnItems ts middle all → EndsItems (first middle) → IsRead items ts middle all
-items-end-read ts middle all g h = let P : Items → Type 0 = λ x. IsRead items ts middle x in subst P (after-none all) (g.reads middle no_items (whole items_end h read_nothing))
+items-end-read ts middle all g h = let P : Items → Type 0 = λ x. IsRead items ts middle x in
+    subst P (after-none all) (g.reads middle no_items (whole items_end h read_nothing))
 
-pub items-item-stuck : (ts middle : List Token) (all : Items) (s : ParseStop) → GoesOnItems ts middle all → (EndsItems (first middle) → ⊥) → IsStuck an_item middle s → IsStuck items ts s
-items-item-stuck ts middle all (Syntax rest) g h k = g.stuck rest.now (λ symbols. stuck_inside items_more (items-go-on (first middle) h) (λ z. absurd z) (k (N items ∷ symbols)))
+pub items-item-stuck : (ts middle : List Token) (all : Items) (s : ParseStop) → GoesOnItems ts middle all → (EndsItems (first middle) → ⊥)
+    → IsStuck an_item middle s → IsStuck items ts s
+items-item-stuck ts middle all (Syntax rest) g h k = g.stuck rest.now (λ symbols. stuck_inside items_more (items-go-on (first middle) h) (λ z. absurd z)
+    (k (N items ∷ symbols)))
 items-item-stuck ts middle all NoMemory g h k = tt
 
 symbols-of : Option (Choice items) → List Symbol

@@ -3,13 +3,15 @@ use Rattle.std.proofs.Common.{◌≡◌, List, [], ◌∷◌, ◌++◌, Some, sy
 use Rattle.c_tokens.specs.declared.token.Identifier.{Identifier}
 use Rattle.c_tokens.specs.declared.token.Token.{Token}
 use Rattle.c_tokens.specs.declared.token.Mark.{Mark}
-use Rattle.c_front.specs.Grammar.{a_name, a_constant, the, Nonterminal, Symbol, T, N, PhraseTree, SortTree, PhraseTrees, Rule, first, second, IsToken, is_name, is_constant, is_the}
+use Rattle.c_front.specs.Grammar.{a_name, a_constant, the, Nonterminal, Symbol, T, N, PhraseTree, SortTree, PhraseTrees, Rule, first, second, IsToken, is_name}
+use Rattle.c_front.specs.Grammar.{is_constant, is_the}
 use Rattle.c_front.specs.Reading.{Reads, read_nothing, read_token, read_phrase, Stuck, stuck_token, stuck_past, stuck_inside}
 use Rattle.c_front.specs.Choosing.{chosen_rule, Peeks}
 use Rattle.c_tokens.specs.declared.token.Literal.{Literal}
 use Rattle.c_front.specs.declared.cursor.ParseStop.{ParseStop}
 use Rattle.c_front.specs.declared.cursor.ParseStop.TheVariants.{Syntax, NoMemory}
-use Rattle.c_front.specs.Parsing.{StartsWith, IsRead, AreStuck, IsStuck, IsMissing, StartsWithName, IsNameMissing, StartsWithConstant, IsConstantMissing, IsEndedRead, IsEndedStuck}
+use Rattle.c_front.specs.Parsing.{StartsWith, IsRead, AreStuck, IsStuck, IsMissing, StartsWithName, IsNameMissing, StartsWithConstant, IsConstantMissing}
+use Rattle.c_front.specs.Parsing.{IsEndedRead, IsEndedStuck}
 use Rattle.c_front.proofs.Reading.{stuck_after}
 use Rattle.c_front.proofs.Paths.{missing-stuck}
 
@@ -43,23 +45,27 @@ past-mark u more ts a (Syntax rest) e h = λ symbols.
     subst P (sym e) (stuck_past is_the (h symbols))
 past-mark u more ts a NoMemory e h = tt
 
-pub past-name : (more : List Symbol) (ts a : List Token) (x : Identifier) (s : ParseStop) → StartsWithName ts x a → AreStuck more a s → AreStuck (T a_name ∷ more) ts s
+pub past-name : (more : List Symbol) (ts a : List Token) (x : Identifier) (s : ParseStop) → StartsWithName ts x a → AreStuck more a s
+    → AreStuck (T a_name ∷ more) ts s
 past-name more ts a x (Syntax rest) e h = λ symbols.
     let P : List Token → Type 0 = λ y. Stuck (T a_name ∷ more ++ symbols) y rest.now in
     subst P (sym e) (stuck_past is_name (h symbols))
 past-name more ts a x NoMemory e h = tt
 
-pub past-constant : (more : List Symbol) (ts a : List Token) (k : Literal) (s : ParseStop) → StartsWithConstant ts k a → AreStuck more a s → AreStuck (T a_constant ∷ more) ts s
+pub past-constant : (more : List Symbol) (ts a : List Token) (k : Literal) (s : ParseStop) → StartsWithConstant ts k a → AreStuck more a s
+    → AreStuck (T a_constant ∷ more) ts s
 past-constant more ts a k (Syntax rest) e h = λ symbols.
     let P : List Token → Type 0 = λ y. Stuck (T a_constant ∷ more ++ symbols) y rest.now in
     subst P (sym e) (stuck_past is_constant (h symbols))
 past-constant more ts a k NoMemory e h = tt
 
-pub past-phrase : (n : Nonterminal) (more : List Symbol) (ts a : List Token) (v : PhraseTree n) (s : ParseStop) → IsRead n ts a v → AreStuck more a s → AreStuck (N n ∷ more) ts s
+pub past-phrase : (n : Nonterminal) (more : List Symbol) (ts a : List Token) (v : PhraseTree n) (s : ParseStop) → IsRead n ts a v → AreStuck more a s
+    → AreStuck (N n ∷ more) ts s
 past-phrase n more ts a v (Syntax rest) d h = λ symbols. stuck_after d (h symbols)
 past-phrase n more ts a v NoMemory d h = tt
 
-pub past-ended : (n : Nonterminal) (u : Mark) (more : List Symbol) (ts a : List Token) (v : PhraseTree n) (s : ParseStop) → IsEndedRead n u ts a v → AreStuck more a s → AreStuck (N n ∷ T (the u) ∷ more) ts s
+pub past-ended : (n : Nonterminal) (u : Mark) (more : List Symbol) (ts a : List Token) (v : PhraseTree n) (s : ParseStop) → IsEndedRead n u ts a v
+    → AreStuck more a s → AreStuck (N n ∷ T (the u) ∷ more) ts s
 past-ended n u more ts a v (Syntax rest) d h = λ symbols. stuck_after d (h symbols)
 past-ended n u more ts a v NoMemory d h = tt
 
@@ -67,15 +73,18 @@ pub first-phrase : (n : Nonterminal) (more : List Symbol) (ts : List Token) (s :
 first-phrase n more ts (Syntax rest) h = λ symbols. h (more ++ symbols)
 first-phrase n more ts NoMemory h = tt
 
-pub first-ended : (n : Nonterminal) (u : Mark) (more : List Symbol) (ts : List Token) (s : ParseStop) → IsEndedStuck n u ts s → AreStuck (N n ∷ T (the u) ∷ more) ts s
+pub first-ended : (n : Nonterminal) (u : Mark) (more : List Symbol) (ts : List Token) (s : ParseStop) → IsEndedStuck n u ts s
+    → AreStuck (N n ∷ T (the u) ∷ more) ts s
 first-ended n u more ts (Syntax rest) h = λ symbols. h (more ++ symbols)
 first-ended n u more ts NoMemory h = tt
 
-pub inside : {n : Nonterminal} {inner : List Symbol} (r : Rule n inner) (ts : List Token) (s : ParseStop) → chosen_rule n (first ts) (second ts) ≡ Some (inner, r) → (Peeks n (first ts) → ⊥) → AreStuck inner ts s → IsStuck n ts s
+pub inside : {n : Nonterminal} {inner : List Symbol} (r : Rule n inner) (ts : List Token) (s : ParseStop)
+    → chosen_rule n (first ts) (second ts) ≡ Some (inner, r) → (Peeks n (first ts) → ⊥) → AreStuck inner ts s → IsStuck n ts s
 inside r ts (Syntax rest) c k h = λ symbols. stuck_inside r c (λ z. absurd (k z)) (h symbols)
 inside r ts NoMemory c k h = tt
 
-pub mark-then : {u : Mark} {symbols : List Symbol} {ts a rest : List Token} {m : PhraseTrees symbols} → StartsWith u ts a → Reads symbols a rest m → Reads (T (the u) ∷ symbols) ts rest (tt, m)
+pub mark-then : {u : Mark} {symbols : List Symbol} {ts a rest : List Token} {m : PhraseTrees symbols} → StartsWith u ts a → Reads symbols a rest m
+    → Reads (T (the u) ∷ symbols) ts rest (tt, m)
 mark-then {u = u} {symbols = symbols} {rest = rest} {m = m} e d =
     let P : List Token → Type 0 = λ x. Reads (T (the u) ∷ symbols) x rest (tt, m) in
     subst P (sym e) (read_token is_the d)
@@ -83,17 +92,20 @@ mark-then {u = u} {symbols = symbols} {rest = rest} {m = m} e d =
 pub mark-end : {u : Mark} {ts a : List Token} → StartsWith u ts a → Reads (T (the u) ∷ []) ts a (tt, tt)
 mark-end e = mark-then e read_nothing
 
-pub name-then : {x : Identifier} {symbols : List Symbol} {ts a rest : List Token} {m : PhraseTrees symbols} → StartsWithName ts x a → Reads symbols a rest m → Reads (T a_name ∷ symbols) ts rest (x, m)
+pub name-then : {x : Identifier} {symbols : List Symbol} {ts a rest : List Token} {m : PhraseTrees symbols} → StartsWithName ts x a → Reads symbols a rest m
+    → Reads (T a_name ∷ symbols) ts rest (x, m)
 name-then {x = x} {symbols = symbols} {rest = rest} {m = m} e d =
     let P : List Token → Type 0 = λ y. Reads (T a_name ∷ symbols) y rest (x, m) in
     subst P (sym e) (read_token is_name d)
 
-pub constant-then : {k : Literal} {symbols : List Symbol} {ts a rest : List Token} {m : PhraseTrees symbols} → StartsWithConstant ts k a → Reads symbols a rest m → Reads (T a_constant ∷ symbols) ts rest (k, m)
+pub constant-then : {k : Literal} {symbols : List Symbol} {ts a rest : List Token} {m : PhraseTrees symbols} → StartsWithConstant ts k a
+    → Reads symbols a rest m → Reads (T a_constant ∷ symbols) ts rest (k, m)
 constant-then {k = k} {symbols = symbols} {rest = rest} {m = m} e d =
     let P : List Token → Type 0 = λ y. Reads (T a_constant ∷ symbols) y rest (k, m) in
     subst P (sym e) (read_token is_constant d)
 
-pub ended-then : {n : Nonterminal} {u : Mark} {symbols : List Symbol} {ts a rest : List Token} {v : PhraseTree n} {m : PhraseTrees symbols} → IsEndedRead n u ts a v → Reads symbols a rest m → Reads (N n ∷ T (the u) ∷ symbols) ts rest (v, (tt, m))
+pub ended-then : {n : Nonterminal} {u : Mark} {symbols : List Symbol} {ts a rest : List Token} {v : PhraseTree n} {m : PhraseTrees symbols}
+    → IsEndedRead n u ts a v → Reads symbols a rest m → Reads (N n ∷ T (the u) ∷ symbols) ts rest (v, (tt, m))
 ended-then (read_phrase r c d q (read_token is_the read_nothing)) z = read_phrase r c d q (read_token is_the z)
 
 -- the same tokens, by their first one

@@ -1,6 +1,7 @@
 -- Programs: at most one for the tokens, and the first wrong token.
 use Rattle.std.proofs.lemmas.List.{take-append-drop, take-take}
-use Rattle.std.proofs.Common.{drop, append_assoc, ◌≡◌, ◌+◌, ◌<◌, ◌≤◌, ℕ, suc, List, [], ◌∷◌, ◌++◌, take, length, Option, Some, refl, sym, ap, subst, ◌∙◌, arith, add-one, length-append, ◌-◌}
+use Rattle.std.proofs.Common.{drop, append_assoc, ◌≡◌, ◌+◌, ◌<◌, ◌≤◌, ℕ, suc, List, [], ◌∷◌, ◌++◌, take, length, Option, Some, refl, sym, ap, subst, ◌∙◌, arith}
+use Rattle.std.proofs.Common.{add-one, length-append, ◌-◌}
 use Rattle.c_tokens.specs.declared.token.Token.{Token}
 use Rattle.c_front.specs.Grammar.{a_program, N, first, Spells}
 use Rattle.c_front.specs.Reading.{Reads, Stuck, CanRead, can_read}
@@ -36,7 +37,8 @@ moved-over (u ∷ p) t more = ap (λ (x : List Token). u ∷ x) (moved-over p t 
 begins : (ts more : List Token) → CanRead (N a_program ∷ []) (ts ++ more) [] → Begins ts
 begins ts more (can_read {m = m} d) = (more, m.0, derived d)
 
-no-program : (p rest : List Token) (next : Option Token) → StuckAt (N a_program ∷ []) p next → first rest ≡ next → (m : List Declaration) → Spells (p ++ rest) m → ⊥
+no-program : (p rest : List Token) (next : Option Token) → StuckAt (N a_program ∷ []) p next → first rest ≡ next → (m : List Declaration) → Spells (p ++ rest) m
+    → ⊥
 no-program p rest next s e m d = dead s rest e (m, tt) (program-reads d)
 
 stuck-wrong : (p rest : List Token) → StuckAt (N a_program ∷ []) p (first rest) → length p < length (p ++ rest) → Begins (take (length p + 1) (p ++ rest)) → ⊥

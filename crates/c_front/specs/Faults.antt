@@ -1,11 +1,11 @@
 -- The fault of a text, by that of its tokens.
 use Rattle.std.specs.Prelude.{ℕ, List}
-use Rattle.c_tokens.specs.declared.lexer.LexFault.{LexFault}
-use Rattle.c_tokens.specs.declared.lexer.LexFault.TheVariants.{Refused, NoMemory}
+use Rattle.c_tokens.specs.declared.fault.LexFault.{LexFault}
+use Rattle.c_tokens.specs.declared.fault.LexFault.TheVariants.{Refused, NoMemory}
 use Rattle.c_front.specs.declared.declaration.SyntaxFault.{SyntaxFault}
 use Rattle.c_front.specs.declared.declaration.SyntaxFault.TheVariants.{Wrong, OutOfMemory}
-use Rattle.c_front.specs.declared.text.FrontFault.{FrontFault}
-use Rattle.c_front.specs.declared.text.FrontFaultKind.TheVariants.{Syntax, NoMemory as WantOfMemory}
+use Rattle.c_front.specs.declared.fault.FrontFault.{FrontFault}
+use Rattle.c_front.specs.declared.fault.FrontFaultKind.TheVariants.{Syntax, NoMemory as WantOfMemory}
 use Rattle.c_front.specs.Texts.{place_or, refusal_kind}
 
 abbrev pub lexical_fault : ℕ → LexFault → FrontFault

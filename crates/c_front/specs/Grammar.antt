@@ -8,15 +8,21 @@ use Rattle.c_tokens.specs.declared.token.JumpWord.TheVariants.{Break, Continue, 
 use Rattle.c_tokens.specs.declared.token.Token.{Token}
 use Rattle.c_tokens.specs.declared.token.Token.TheVariants.{Name, Constant, Jump, The}
 use Rattle.c_tokens.specs.declared.token.Mark.{Mark}
-use Rattle.c_tokens.specs.declared.token.Mark.TheVariants.{Int, Unsigned, Void, If, Else, While, For, Semicolon, Comma, LeftBrace, RightBrace, LeftParen, RightParen, LeftBracket, RightBracket, Assign, Question, Colon, Plus, Minus, Star, Slash, Percent, Bang, Tilde, BarBar, AndAnd, Bar, Caret, Ampersand, EqualEqual, BangEqual, LessSign, GreaterSign, LessEqual, GreaterEqual, LessLess, GreaterGreater}
+use Rattle.c_tokens.specs.declared.token.Mark.TheVariants.{Int, Unsigned, Void, If, Else, While, For, Semicolon, Comma, LeftBrace, RightBrace, LeftParen}
+use Rattle.c_tokens.specs.declared.token.Mark.TheVariants.{RightParen, LeftBracket, RightBracket, Assign, Question, Colon, Plus, Minus, Star, Slash, Percent}
+use Rattle.c_tokens.specs.declared.token.Mark.TheVariants.{Bang, Tilde, BarBar, AndAnd, Bar, Caret, Ampersand, EqualEqual, BangEqual, LessSign, GreaterSign}
+use Rattle.c_tokens.specs.declared.token.Mark.TheVariants.{LessEqual, GreaterEqual, LessLess, GreaterGreater}
 use Rattle.c_front.specs.declared.tree.UnaryOp.{UnaryOp}
 use Rattle.c_front.specs.declared.tree.UnaryOp.TheVariants.{Negate, Identity, Complement, Not}
 use Rattle.c_front.specs.declared.tree.BinaryOp.{BinaryOp}
-use Rattle.c_front.specs.declared.tree.BinaryOp.TheVariants.{Multiply, Divide, Remainder, Add, Subtract, ShiftLeft, ShiftRight, Less, Greater, LessOrEqual, GreaterOrEqual, Equal, NotEqual, BitAnd, BitXor, BitOr, LogicalAnd, LogicalOr}
+use Rattle.c_front.specs.declared.tree.BinaryOp.TheVariants.{Multiply, Divide, Remainder, Add, Subtract, ShiftLeft, ShiftRight, Less, Greater, LessOrEqual}
+use Rattle.c_front.specs.declared.tree.BinaryOp.TheVariants.{GreaterOrEqual, Equal, NotEqual, BitAnd, BitXor, BitOr, LogicalAnd, LogicalOr}
 use Rattle.c_tokens.specs.declared.token.Literal.{Literal}
 use Rattle.c_front.specs.declared.tree.Initial.{Initial}
 use Rattle.c_front.specs.declared.tree.Parameter.{Parameter}
-use Rattle.c_front.specs.Tree.{Expression, constant, name, index, unary, binary, conditional, Call, call, Value, plain, called, Simple, assign, assign_at, call_statement, Statement, empty, block, if_then, if_then_else, while_loop, for_loop, break_at, continue_at, return_at, simply, Item, declare, statement, Items, no_items, more_items, Declaration, variable, array, function}
+use Rattle.c_front.specs.Tree.{Expression, constant, name, index, unary, binary, conditional, Call, call, Value, plain, called, Simple, assign, assign_at}
+use Rattle.c_front.specs.Tree.{call_statement, Statement, empty, block, if_then, if_then_else, while_loop, for_loop, break_at, continue_at, return_at, simply}
+use Rattle.c_front.specs.Tree.{Item, declare, statement, Items, no_items, more_items, Declaration, variable, array, function}
 
 -- what a rule may ask of one token: any name, any constant, one of the keywords that leave a place, or a mark
 pub data Sort : Type 0 where
@@ -199,7 +205,8 @@ pub data Rule : Nonterminal → List Symbol → Type 0 where
   statement_block : Rule a_statement (T (the LeftBrace) ∷ N items ∷ T (the RightBrace) ∷ [])
   statement_if : Rule a_statement (T (the If) ∷ T (the LeftParen) ∷ N an_expression ∷ T (the RightParen) ∷ N a_statement ∷ N else_part ∷ [])
   statement_while : Rule a_statement (T (the While) ∷ T (the LeftParen) ∷ N an_expression ∷ T (the RightParen) ∷ N a_statement ∷ [])
-  statement_for : Rule a_statement (T (the For) ∷ T (the LeftParen) ∷ N maybe_simple ∷ T (the Semicolon) ∷ N maybe_expression ∷ T (the Semicolon) ∷ N maybe_simple ∷ T (the RightParen) ∷ N a_statement ∷ [])
+  statement_for : Rule a_statement (T (the For) ∷ T (the LeftParen) ∷ N maybe_simple ∷ T (the Semicolon) ∷ N maybe_expression ∷ T (the Semicolon) ∷ N
+      maybe_simple ∷ T (the RightParen) ∷ N a_statement ∷ [])
   statement_break : Rule a_statement (T (a_jump Break) ∷ T (the Semicolon) ∷ [])
   statement_continue : Rule a_statement (T (a_jump Continue) ∷ T (the Semicolon) ∷ [])
   statement_return : Rule a_statement (T (a_jump Return) ∷ N maybe_expression ∷ T (the Semicolon) ∷ [])

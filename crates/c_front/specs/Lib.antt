@@ -7,3 +7,4 @@ pub mod Parsing
 pub mod Syntax
 pub mod Texts
 pub mod Faults
+pub mod Messages

@@ -7,7 +7,9 @@ use Rattle.c_tokens.specs.declared.token.Token.TheVariants.{Name, Constant, The}
 use Rattle.c_tokens.specs.declared.token.Mark.{Mark}
 use Rattle.c_tokens.specs.declared.token.Mark.TheVariants.{Int, Unsigned, Else, Semicolon, LeftParen, RightParen, Assign, Colon, Plus, Minus, Bang, Tilde}
 use Rattle.c_front.specs.declared.tree.BinaryOp.{BinaryOp}
-use Rattle.c_front.specs.Grammar.{a_name, the, Level, unary_expressions, above, Nonterminal, a_program, a_type, after_global, a_statement, else_part, maybe_simple, maybe_expression, value, arguments, an_expression, Symbol, T, N, Tail, PhraseTree, Operator, if_of, declared_as, first, second}
+use Rattle.c_front.specs.Grammar.{a_name, the, Level, unary_expressions, above, Nonterminal, a_program, a_type, after_global, a_statement, else_part}
+use Rattle.c_front.specs.Grammar.{maybe_simple, maybe_expression, value, arguments, an_expression, Symbol, T, N, Tail, PhraseTree, Operator, if_of, declared_as}
+use Rattle.c_front.specs.Grammar.{first, second}
 use Rattle.c_front.specs.declared.cursor.ParseStop.{ParseStop}
 use Rattle.c_front.specs.declared.cursor.ParseStop.TheVariants.{Syntax, NoMemory}
 use Rattle.c_front.specs.Tree.{Expression, Value, Simple, Statement, Declaration}
@@ -106,7 +108,8 @@ StartsNoCall ts = (x : Identifier) → first ts ≡ Some (Name x) → second ts 
 -- what stands after `if`
 abbrev pub IsBranchRead : List Token → List Token → Statement → Type 0
 IsBranchRead ts rest s = (e : Expression) × (a : Statement) × (b : Option Statement) ×
-    Reads (T (the LeftParen) ∷ N an_expression ∷ T (the RightParen) ∷ N a_statement ∷ N else_part ∷ []) ts rest (tt, (e, (tt, (a, (b, tt))))) × (s ≡ if_of e a b)
+    Reads (T (the LeftParen) ∷ N an_expression ∷ T (the RightParen) ∷ N a_statement ∷ N else_part ∷ []) ts rest (tt, (e, (tt, (a, (b, tt)))))
+    × (s ≡ if_of e a b)
 
 abbrev pub IsBranchStuck : List Token → ParseStop → Type 0
 IsBranchStuck = AreStuck (T (the LeftParen) ∷ N an_expression ∷ T (the RightParen) ∷ N a_statement ∷ N else_part ∷ [])

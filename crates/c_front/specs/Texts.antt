@@ -1,11 +1,12 @@
 -- Which program a text spells, and why it is refused.
 use Rattle.std.specs.Prelude.{◌≡◌, ◌<◌, ◌≤◌, ℕ, List, [], length, Bool, true, false, nat_eq, nat_le, nat_lt, ◌&&◌, ◌||◌, if◌then◌else◌, slice_index, take, drop}
+use Rattle.c_tokens.specs.declared.sizes.TheConstants.{MAX_TEXT}
 use Rattle.c_tokens.specs.declared.token.Token.{Token}
-use Rattle.c_tokens.specs.declared.lexer.Refusal.{Refusal}
-use Rattle.c_tokens.specs.declared.lexer.Refusal.TheVariants.{BadToken, BadConstant, BadSize}
+use Rattle.c_tokens.specs.declared.fault.Refusal.{Refusal}
+use Rattle.c_tokens.specs.declared.fault.Refusal.TheVariants.{BadToken, BadConstant, BadSize}
 use Rattle.c_tokens.specs.Texts.{Lexes, LexStops}
-use Rattle.c_front.specs.declared.text.FrontFaultKind.{FrontFaultKind}
-use Rattle.c_front.specs.declared.text.FrontFaultKind.TheVariants.{Byte, Token as TokenFault, Syntax, Constant, Size, NoMemory}
+use Rattle.c_front.specs.declared.fault.FrontFaultKind.{FrontFaultKind}
+use Rattle.c_front.specs.declared.fault.FrontFaultKind.TheVariants.{Byte, Token as TokenFault, Syntax, Constant, Size, NoMemory}
 use Rattle.c_front.specs.Tree.{Declaration}
 use Rattle.c_front.specs.Grammar.{Spells}
 use Rattle.c_front.specs.Syntax.{IsFirstWrong}
@@ -23,7 +24,7 @@ IsBadByte text k = (k < length text) × (is_text (slice_index text k) ≡ false)
 
 -- the text's tokens keep within the sizes, and the grammar derives the declarations from them
 pub record SpellsText (text : List ℕ) (p : List Declaration) : Type 0 where
-  pub short : length text ≤ 1048576
+  pub short : length text ≤ MAX_TEXT
   pub bytes : AllText text
   pub tokens : List Token
   pub places : List ℕ
@@ -41,22 +42,13 @@ refusal_kind BadSize = Size
 
 -- why a text is refused, and where, in the order of the tests; want of memory is told at the text's length
 pub data IsTextFault (text : List ℕ) : FrontFaultKind → ℕ → Type 0 where
-  too_long : 1048576 < length text → IsTextFault text Size 1048576
-  bad_byte : {k : ℕ} → length text ≤ 1048576 → IsBadByte text k → IsTextFault text Byte k
-  bad_token : {r : Refusal} {k : ℕ} → length text ≤ 1048576 → AllText text → LexStops 0 text [] r k → IsTextFault text (refusal_kind r) k
-  bad_syntax : {tokens : List Token} {places : List ℕ} {k : ℕ} → length text ≤ 1048576 → AllText text → Lexes 0 text [] tokens places → IsFirstWrong tokens k →
+  too_long : MAX_TEXT < length text → IsTextFault text Size MAX_TEXT
+  bad_byte : {k : ℕ} → length text ≤ MAX_TEXT → IsBadByte text k → IsTextFault text Byte k
+  bad_token : {r : Refusal} {k : ℕ} → length text ≤ MAX_TEXT → AllText text → LexStops 0 text [] r k → IsTextFault text (refusal_kind r) k
+  bad_syntax : {tokens : List Token} {places : List ℕ} {k : ℕ} → length text ≤ MAX_TEXT → AllText text → Lexes 0 text [] tokens places → IsFirstWrong tokens k →
       IsTextFault text Syntax (place_or (length text) places k)
   no_memory : IsTextFault text NoMemory (length text)
 
 -- the spelling of a name: its bytes in the text
 abbrev pub spelling_of : List ℕ → ℕ → ℕ → List ℕ
 spelling_of text at n = take n (drop at text)
-
--- the number that messages show
-abbrev pub number_of : FrontFaultKind → ℕ
-number_of Byte = 1
-number_of TokenFault = 2
-number_of Syntax = 3
-number_of Constant = 4
-number_of Size = 5
-number_of NoMemory = 30

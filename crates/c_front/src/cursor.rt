@@ -1,5 +1,6 @@
 ghost use Rattle.std.specs.Prelude.{◌≡◌, ◌∷◌, [], IfOk, IfErr, IfSome, IfNone};
-ghost use Rattle.c_front.specs.Parsing.{IsMissing, StartsWith, StartsWithout, StartsWithName, IsNameMissing, StartsWithConstant, IsConstantMissing, StartsNamed, StartsUnnamed};
+ghost use Rattle.c_front.specs.Parsing.{IsMissing, StartsWith, StartsWithout, StartsWithName, IsNameMissing, StartsWithConstant, IsConstantMissing};
+ghost use Rattle.c_front.specs.Parsing.{StartsNamed, StartsUnnamed};
 
 use c_tokens::{Identifier, Literal, Mark, Token};
 use std::alloc::{AllocError, AllocFailed};

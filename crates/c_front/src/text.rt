@@ -1,69 +1,21 @@
-ghost use Rattle.std.specs.Prelude.{◌≡◌, ℕ, List, length, IfOk, IfErr, IfSome, IfNone};
+ghost use Rattle.std.specs.Prelude.{◌≡◌, ◌≢◌, ℕ, List, length, IfOk, IfErr, IfSome, IfNone};
 ghost use Rattle.c_front.specs.Shape.{declarations_of};
-ghost use Rattle.c_front.specs.Texts.{SpellsText, IsTextFault, is_text, IsBadByte, AllText, place_or, refusal_kind, number_of, spelling_of};
+ghost use Rattle.c_front.specs.Texts.{SpellsText, IsTextFault, is_text, IsBadByte, AllText, place_or, refusal_kind, spelling_of};
 ghost use Rattle.c_front.specs.Tree.{Declaration};
-ghost use Rattle.c_front.specs.declared.text.FrontFaultKind.{FrontFaultKind};
-ghost use Rattle.c_front.specs.declared.text.FrontFaultKind.TheVariants.{NoMemory};
+ghost use Rattle.c_front.specs.declared.fault.FrontFaultKind.{FrontFaultKind};
+ghost use Rattle.c_front.specs.declared.fault.FrontFaultKind.TheVariants.{NoMemory};
 ghost use Rattle.c_front.specs.Faults.{lexical_fault, syntactic_fault};
 
 use crate::declaration::{SyntaxFault, parse};
+use crate::fault::{FrontFault, FrontFaultKind};
 use crate::tree::Program;
-use c_tokens::{Identifier, LexFault, Refusal, lex};
+use c_tokens::{Identifier, LexFault, MAX_TEXT, Refusal, lex};
 use std::alloc::{AllocError, AllocFailed, Global};
-use thiserror::Error;
-
-/// What is wrong with a text; `{kind}` shows the variant's name.
-#[derive(Clone, Copy, PartialEq, Eq, Debug, Error)]
-pub enum FrontFaultKind {
-    /// A byte that isn't 32 to 126, tab, LF or CR.
-    #[error("Byte")]
-    Byte,
-    /// No token begins at the offset.
-    #[error("Token")]
-    Token,
-    /// The first token with which the tokens so far begin no program, or the text's length.
-    #[error("Syntax")]
-    Syntax,
-    /// A number that is no constant.
-    #[error("Constant")]
-    Constant,
-    /// The text is above 1,048,576 bytes, or more than 1,024 tokens stand in a row with no `;`, `{` or `}`, more than
-    /// 128 braces are open, or more than 512 `else` and `for` stand since no brace was open.
-    #[error("Size")]
-    Size,
-    /// Memory was refused; told at the text's length.
-    #[error("NoMemory")]
-    NoMemory,
-}
-
-impl FrontFaultKind {
-    /// The number that messages show.
-    pub fn number(self) -> u8
-        ensures { result ≡ number_of self }
-    {
-        match self {
-            FrontFaultKind::Byte => 1,
-            FrontFaultKind::Token => 2,
-            FrontFaultKind::Syntax => 3,
-            FrontFaultKind::Constant => 4,
-            FrontFaultKind::Size => 5,
-            FrontFaultKind::NoMemory => 30,
-        }
-    }
-}
-
-/// Why a text is refused, and at which offset.
-#[derive(Clone, Copy, PartialEq, Eq, Debug, Error)]
-#[error("fault {} {kind} at {at}", .kind.number())]
-pub struct FrontFault {
-    pub kind: FrontFaultKind,
-    pub at: usize,
-}
 
 fn is_text(byte: u8) -> bool
     ensures { result ≡ is_text byte }
 {
-    (32 <= byte && byte <= 126) || byte == 9 || byte == 10 || byte == 13
+    (b' ' <= byte && byte <= b'~') || byte == b'\t' || byte == b'\n' || byte == b'\r'
 }
 
 /// The place of the first byte that no text has.
@@ -155,10 +107,10 @@ pub fn read(alloc: Global, text: &[u8]) -> Result<Program, FrontFault>
     ensures text { IfOk result (λ p. p.text.items ≡ text.now) }
     ensures err { IfErr result (λ f. IsTextFault text.now f.kind f.at) }
 {
-    if text.len() > 1_048_576 {
+    if text.len() > MAX_TEXT {
         return Err(FrontFault {
             kind: FrontFaultKind::Size,
-            at: 1_048_576,
+            at: MAX_TEXT,
         });
     }
     if let Some(at) = bad_byte(text) {
@@ -186,6 +138,7 @@ pub fn read(alloc: Global, text: &[u8]) -> Result<Program, FrontFault>
 /// most, at one place. A law: it computes nothing.
 pub fn one_reading()
     ensures once { (text : List ℕ) (p q : List Declaration) → SpellsText text p → SpellsText text q → p ≡ q }
-    ensures refused { (text : List ℕ) (k : FrontFaultKind) (at : ℕ) (p : List Declaration) → IsTextFault text k at → (k ≡ NoMemory → ⊥) → SpellsText text p → ⊥ }
-    ensures one_fault { (text : List ℕ) (k j : FrontFaultKind) (at n : ℕ) → IsTextFault text k at → IsTextFault text j n → (k ≡ NoMemory → ⊥) → (j ≡ NoMemory → ⊥) → (k ≡ j) × (at ≡ n) }
+    ensures refused { (text : List ℕ) (k : FrontFaultKind) (at : ℕ) (p : List Declaration) → IsTextFault text k at → k ≢ NoMemory → SpellsText text p → ⊥ }
+    ensures one_fault { (text : List ℕ) (k j : FrontFaultKind) (at n : ℕ) → IsTextFault text k at → IsTextFault text j n
+        → k ≢ NoMemory → j ≢ NoMemory → (k ≡ j) × (at ≡ n) }
 {}

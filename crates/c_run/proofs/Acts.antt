@@ -10,7 +10,10 @@ use Rattle.c_run.specs.Interpreter.{Does, state_after_step, state_at, todos}
 use Rattle.c_run.specs.declared.interpreter.Interpreter.{Interpreter}
 use Rattle.c_run.specs.declared.interpreter.Reached.{Reached}
 
-pub acted : {E : Type 0} (p : TypedProgram) (depth : ℕ) (s : TypedStatement) (t : Trees.TypedStatement) (before after : Interpreter) (result : Result Reached E) → statement_of s ≡ t → IfOk result (λ r. Does t before r after) → IfOk result (λ r. state_after_step p depth (Do (statement_of s) ∷ todos before.frame.todo.items) before ≡ state_at r after)
+pub acted : {E : Type 0} (p : TypedProgram) (depth : ℕ) (s : TypedStatement) (t : Trees.TypedStatement) (before after : Interpreter) (result : Result Reached E)
+    → statement_of s ≡ t → IfOk result (λ r. Does t before r after) → IfOk result
+    (λ r. state_after_step p depth (Do (statement_of s) ∷ todos before.frame.todo.items) before ≡ state_at r after)
 acted p depth s t before after result is does =
-    IfOk-weaker result (λ r. Does t before r after) (λ r. state_after_step p depth (Do (statement_of s) ∷ todos before.frame.todo.items) before ≡ state_at r after)
+    IfOk-weaker result (λ r. Does t before r after) (λ r. state_after_step p depth (Do (statement_of s) ∷ todos before.frame.todo.items) before ≡ state_at r
+    after)
     (λ r d. ap (λ t. state_after_step p depth (Do t ∷ todos before.frame.todo.items) before) is ∙ d p depth) does

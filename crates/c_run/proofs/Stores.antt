@@ -1,5 +1,6 @@
 -- Locals and globals as the interpreter keeps them.
-use Rattle.std.proofs.Common.{◌≡◌, ◌≢◌, ℕ, zero, suc, ◌<◌, ◌≤◌, Bool, true, false, List, [], ◌∷◌, ◌++◌, Option, Some, None, refl, sym, ◌∙◌, ap, length, nat_eq, eqb-true, get_or, set, get_or-set_same, get_or-set_other}
+use Rattle.std.proofs.Common.{◌≡◌, ◌≢◌, ℕ, zero, suc, ◌<◌, ◌≤◌, Bool, true, false, List, [], ◌∷◌, ◌++◌, Option, Some, None, refl, sym, ◌∙◌, ap, length, nat_eq}
+use Rattle.std.proofs.Common.{eqb-true, get_or, set, get_or-set_same, get_or-set_other}
 use Rattle.std.specs.List.{slice_get}
 use Rattle.std.specs.Option.{option_map}
 use Rattle.std.specs.declared.vec.Vec.{Vec}
@@ -35,7 +36,8 @@ places-set xs x v lt = fun_ext (λ y. by y (nat_eq y x) refl)
 the_words : (gs : List (Vec ℕ Global)) (a : ℕ) (d : Vec ℕ Global) → a < length gs → slice_get (arrays gs) a ≡ Some (get_or gs a d).items
 the_words gs a d lt = slice_get-map (λ (v : Vec ℕ Global). v.items) gs a ∙ ap (option_map (λ (v : Vec ℕ Global). v.items)) (slice_get-get_or gs a d lt)
 
-pub stored-there : (gs : List (Vec ℕ Global)) (a i v : ℕ) (d w : Vec ℕ Global) → a < length gs → i < length (get_or gs a d).items → w.items ≡ set (get_or gs a d).items i v → stored (arrays gs) a i v ≡ Some (arrays (set gs a w))
+pub stored-there : (gs : List (Vec ℕ Global)) (a i v : ℕ) (d w : Vec ℕ Global) → a < length gs → i < length (get_or gs a d).items
+    → w.items ≡ set (get_or gs a d).items i v → stored (arrays gs) a i v ≡ Some (arrays (set gs a w))
 stored-there gs a i v d w lt inside e =
     let words = (get_or gs a d).items in
     ap (λ o. chain o (λ words. chain (slice_get words i) (λ _. Some (set (arrays gs) a (set words i v))))) (the_words gs a d lt)
@@ -43,7 +45,8 @@ stored-there gs a i v d w lt inside e =
     ∙ ap (λ words. Some (set (arrays gs) a words)) (sym e)
     ∙ ap Some (sym (map-set (λ (v : Vec ℕ Global). v.items) gs a w))
 
-pub stored-outside : (gs : List (Vec ℕ Global)) (a i v : ℕ) (d : Vec ℕ Global) → a < length gs → length (get_or gs a d).items ≤ i → stored (arrays gs) a i v ≡ None
+pub stored-outside : (gs : List (Vec ℕ Global)) (a i v : ℕ) (d : Vec ℕ Global) → a < length gs → length (get_or gs a d).items ≤ i
+    → stored (arrays gs) a i v ≡ None
 stored-outside gs a i v d lt past =
     let words = (get_or gs a d).items in
     ap (λ o. chain o (λ words. chain (slice_get words i) (λ _. Some (set (arrays gs) a (set words i v))))) (the_words gs a d lt)
@@ -51,4 +54,5 @@ stored-outside gs a i v d lt past =
 
 pub stored-nowhere : (gs : List (Vec ℕ Global)) (a i v : ℕ) → length gs ≤ a → stored (arrays gs) a i v ≡ None
 stored-nowhere gs a i v past =
-    ap (λ o. chain o (λ words. chain (slice_get words i) (λ _. Some (set (arrays gs) a (set words i v))))) (slice_get-map (λ (v : Vec ℕ Global). v.items) gs a ∙ ap (option_map (λ (v : Vec ℕ Global). v.items)) (slice_get_past gs a past))
+    ap (λ o. chain o (λ words. chain (slice_get words i) (λ _. Some (set (arrays gs) a (set words i v)))))
+    (slice_get-map (λ (v : Vec ℕ Global). v.items) gs a ∙ ap (option_map (λ (v : Vec ℕ Global). v.items)) (slice_get_past gs a past))

@@ -7,7 +7,8 @@ use Rattle.std.proofs.lemmas.List.{reverse-append}
 use Rattle.runs.specs.Stores.{Places}
 use Rattle.c_typed.specs.declared.tree.TypedStatement.{TypedStatement, Block}
 use Rattle.c_typed.specs.Trees as Trees
-use Rattle.c_typed.specs.Trees.{TypedStatements, empty, block, unset, assign, store, call, output, if_else, loop, break_loop, continue_loop, return_with, no_statements, more_statements}
+use Rattle.c_typed.specs.Trees.{TypedStatements, empty, block, unset, assign, store, call, output, if_else, loop, break_loop, continue_loop, return_with}
+use Rattle.c_typed.specs.Trees.{no_statements, more_statements}
 use Rattle.c_typed.specs.Shape.{statement_of, statements_of}
 use Rattle.c_typed.specs.Meaning.{Todo, Do, Next, before, before_all, next_point, Going, Breaking, Continuing}
 use Rattle.c_run.specs.Turns.{past_turn, at_turn}
@@ -95,24 +96,30 @@ none-left : (all : List TypedStatement) → length all ≡ 0 → all ≡ []
 none-left [] e = refl
 none-left (s ∷ rest) e = absurd (omega arith)
 
-pub rest-gone : (ts behind : List Pending) (t : Pending) (all : Bor (List TypedStatement)) → ts ≡ behind ++ t ∷ [] → t ≡ Rest all → length all.now ≡ 0 → todos behind ≡ todos ts
+pub rest-gone : (ts behind : List Pending) (t : Pending) (all : Bor (List TypedStatement)) → ts ≡ behind ++ t ∷ [] → t ≡ Rest all → length all.now ≡ 0
+    → todos behind ≡ todos ts
 rest-gone ts behind t all e is n =
     sym (popped ts behind t e ∙ ap (λ t. put t (todos behind)) is ∙ ap (λ all. before_all (statements_of all) (todos behind)) (none-left all.now n))
 
 -- a list of statements that was first comes to lie on top as a list
-pub block-opened : (old mid new : List Pending) (h : Head) (s : Bor TypedStatement) (all : Vec TypedStatement Global) (slice : Bor (List TypedStatement)) → todos old ≡ with_part h (todos mid) → h ≡ Heads.Statement s → s.now ≡ Block all → slice.now ≡ all.items → new ≡ mid ++ Rest slice ∷ [] → todos new ≡ todos old
+pub block-opened : (old mid new : List Pending) (h : Head) (s : Bor TypedStatement) (all : Vec TypedStatement Global) (slice : Bor (List TypedStatement))
+    → todos old ≡ with_part h (todos mid) → h ≡ Heads.Statement s → s.now ≡ Block all → slice.now ≡ all.items → new ≡ mid ++ Rest slice ∷ []
+    → todos new ≡ todos old
 block-opened old mid new h s all slice e is opens slice-is pushed =
     let k = todos mid in
     popped new mid (Rest slice) pushed ∙ ap (λ xs. before_all (statements_of xs) k) slice-is
     ∙ sym (e ∙ ap (λ h. with_part h k) is ∙ ap (λ s. before (statement_of s) k) opens ∙ ap (λ s. before s k) (block-is all))
 
-pub at-head : (old mid : List Pending) (h : Head) (s : Bor TypedStatement) (is_s : TypedStatement) → todos old ≡ with_head h (todos mid) → h ≡ Heads.Statement s → s.now ≡ is_s → todos old ≡ Do (statement_of is_s) ∷ todos mid
+pub at-head : (old mid : List Pending) (h : Head) (s : Bor TypedStatement) (is_s : TypedStatement) → todos old ≡ with_head h (todos mid) → h ≡ Heads.Statement s
+    → s.now ≡ is_s → todos old ≡ Do (statement_of is_s) ∷ todos mid
 at-head old mid h s is_s e is i = e ∙ ap (λ h. with_head h (todos mid)) is ∙ ap (λ s. Do (statement_of s) ∷ todos mid) i
 
-pub break_settles : (old mid new : List Pending) (l : Places) → todos old ≡ Do break_loop ∷ todos mid → todos new ≡ past_turn (todos mid) → next_point Going l (todos new) ≡ next_point Going l (todos old)
+pub break_settles : (old mid new : List Pending) (l : Places) → todos old ≡ Do break_loop ∷ todos mid → todos new ≡ past_turn (todos mid)
+    → next_point Going l (todos new) ≡ next_point Going l (todos old)
 break_settles old mid new l e n = ap (next_point Going l) n ∙ sym (leaves (todos mid) l) ∙ sym (ap (next_point Going l) e)
 
-pub continue_settles : (old mid new : List Pending) (l : Places) → todos old ≡ Do continue_loop ∷ todos mid → todos new ≡ at_turn (todos mid) → next_point Going l (todos new) ≡ next_point Going l (todos old)
+pub continue_settles : (old mid new : List Pending) (l : Places) → todos old ≡ Do continue_loop ∷ todos mid → todos new ≡ at_turn (todos mid)
+    → next_point Going l (todos new) ≡ next_point Going l (todos old)
 continue_settles old mid new l e n = ap (next_point Going l) n ∙ sym (continues (todos mid) l) ∙ sym (ap (next_point Going l) e)
 
 past-shorter : (k : List Todo) → length (past_turn k) ≤ length k
@@ -125,8 +132,10 @@ at-shorter [] = omega arith
 at-shorter (Do s ∷ k) = omega (arith, at-shorter k)
 at-shorter (Next last again ∷ k) = omega arith
 
-pub break-shorter : (old mid new : List Pending) → todos old ≡ Do break_loop ∷ todos mid → todos new ≡ past_turn (todos mid) → length (todos new) < length (todos old)
+pub break-shorter : (old mid new : List Pending) → todos old ≡ Do break_loop ∷ todos mid → todos new ≡ past_turn (todos mid)
+    → length (todos new) < length (todos old)
 break-shorter old mid new e n = omega (arith, past-shorter (todos mid), ap length n, ap length e)
 
-pub continue-shorter : (old mid new : List Pending) → todos old ≡ Do continue_loop ∷ todos mid → todos new ≡ at_turn (todos mid) → length (todos new) < length (todos old)
+pub continue-shorter : (old mid new : List Pending) → todos old ≡ Do continue_loop ∷ todos mid → todos new ≡ at_turn (todos mid)
+    → length (todos new) < length (todos old)
 continue-shorter old mid new e n = omega (arith, at-shorter (todos mid), ap length n, ap length e)

@@ -5,9 +5,10 @@ use Rattle.std.specs.declared.alloc.Global.{Global}
 use Rattle.runs.specs.Stores.{Places, Arrays}
 use Rattle.runs.specs.Runs.{Running, Ended, Failed}
 use Rattle.c_typed.specs.Trees.{TypedStatement, TypedProgram}
+use Rattle.c_typed.specs.declared.tree.Destination.{Destination}
 use Rattle.c_typed.specs.Shape.{statement_of, statements_of}
 use Rattle.c_typed.specs.Meaning as Meaning
-use Rattle.c_typed.specs.Meaning.{Todo, Do, Next, before, before_all, Run, step_at}
+use Rattle.c_typed.specs.Meaning.{Todo, Do, Next, before, before_all, Point, Run, step_at, with_assignment, state_after_call, state_after_return}
 use Rattle.c_run.specs.declared.pending.Pending.{Pending}
 use Rattle.c_run.specs.declared.pending.Pending.TheVariants.{One, Rest, Turn}
 use Rattle.c_run.specs.declared.pending.Head.{Head}
@@ -67,7 +68,7 @@ state_at Reach.Going m = state_of m
 state_at (Reach.Ended w) m = Ended w m.output.items
 state_at Reach.Failed m = Failed m.output.items
 
--- the same machine with other locals and globals
+-- the same interpreter with other locals and globals
 abbrev pub state_with : Interpreter → Places → Arrays → Run
 state_with m l g =
     Running (record { locals = l; todo = todos m.frame.todo.items; result_to = m.frame.result_to } ∷ frames_of m.waiting.items) g m.output.items
@@ -77,6 +78,30 @@ abbrev pub state_after_step : TypedProgram → (depth : ℕ) → List Todo → I
 state_after_step p depth k m =
     step_at p depth (places m.frame.locals.items) k m.frame.result_to (frames_of m.waiting.items) (arrays m.globals.items) m.output.items
 
--- this statement takes a machine to another in one step, in any program
+-- this statement takes the interpreter before to what is reached, in one step of a program
+abbrev pub DoesIn : TypedProgram → (depth : ℕ) → TypedStatement → Interpreter → Reached → Interpreter → Type 0
+DoesIn p depth s before r after = state_after_step p depth (Do s ∷ todos before.frame.todo.items) before ≡ state_at r after
+
+-- the same in any program
 abbrev pub Does : TypedStatement → Interpreter → Reached → Interpreter → Type 0
-Does s before r after = (p : TypedProgram) (depth : ℕ) → state_after_step p depth (Do s ∷ todos before.frame.todo.items) before ≡ state_at r after
+Does s before r after = (p : TypedProgram) (depth : ℕ) → DoesIn p depth s before r after
+
+-- a word goes to this place
+abbrev pub Assigns : Destination → ℕ → Interpreter → Reached → Interpreter → Type 0
+Assigns to v before r after =
+    with_assignment to v (places before.frame.locals.items) (arrays before.globals.items) before.output.items (state_with before) ≡ state_at r after
+
+-- a function is called with these values, and its result goes there
+abbrev pub Calls : TypedProgram → (depth f : ℕ) → List ℕ → Option Destination → Interpreter → Reached → Interpreter → Type 0
+Calls p depth f vs to before r after =
+    let frames = frame_of before.frame ∷ frames_of before.waiting.items in
+    state_after_call p depth f vs to frames (arrays before.globals.items) before.output.items ≡ state_at r after
+
+-- the call returns, with a word or without
+abbrev pub Returns : Option ℕ → Interpreter → Reached → Interpreter → Type 0
+Returns v before r after =
+    state_after_return v before.frame.result_to (frames_of before.waiting.items) (arrays before.globals.items) before.output.items ≡ state_at r after
+
+-- the locals, with what comes first and the others behind it
+abbrev pub point_at : Places → Head → List Todo → Point
+point_at l h k = record { locals = l; todo = with_head h k }

@@ -3,8 +3,8 @@ ghost use Rattle.runs.specs.Stores.{Places, Arrays, written, stored};
 ghost use Rattle.c_typed.specs.Shape.{statement_of, typed_expression_of, typed_expressions_of, maybe_typed_expression_of};
 ghost use Rattle.c_typed.specs.Trees.{assign, store, call, output, if_else, loop, return_with};
 ghost use Rattle.c_types.specs.Shape.{program_of};
-ghost use Rattle.c_typed.specs.Meaning.{Do, with_assignment, state_after_call, state_after_return, source_step};
-ghost use Rattle.c_run.specs.Interpreter.{places, arrays, todos, frame_of, frames_of, state_of, state_at, state_with, state_after_step, Does};
+ghost use Rattle.c_typed.specs.Meaning.{source_step};
+ghost use Rattle.c_run.specs.Interpreter.{places, arrays, state_of, state_at, Assigns, Calls, Returns, Does, DoesIn};
 
 use crate::pending::{Head, Pending, put, settle};
 use crate::value::{arguments, value};
@@ -74,7 +74,7 @@ fn store(globals: &mut [Vec<u32>], array: usize, index: usize, v: u32) -> bool
 
 // A word goes to a local, or to a global variable.
 fn put_at(interpreter: &mut Interpreter, place: Destination, v: u32) -> Result<Reached, AllocError>
-    ensures { IfOk result (λ r. with_assignment place v (places interpreter.old.frame.locals.items) (arrays interpreter.old.globals.items) interpreter.old.output.items (state_with interpreter.old) ≡ state_at r interpreter.new) }
+    ensures { IfOk result (λ r. Assigns place v interpreter.old r interpreter.new) }
 {
     match place {
         Destination::Local(number) => {
@@ -101,7 +101,8 @@ fn enter<'a>(
     values: Vec<Option<u32>>,
     to: Option<Destination>,
 ) -> Result<Reached, AllocError>
-    ensures { IfOk result (λ r. (vs : List ℕ) → values.items ≡ map Some vs → state_after_call (program_of program.now) depth function vs to (frame_of interpreter.old.frame ∷ frames_of interpreter.old.waiting.items) (arrays interpreter.old.globals.items) interpreter.old.output.items ≡ state_at r interpreter.new) }
+    ensures { let called = Calls (program_of program.now) depth function in
+        IfOk result (λ r. (vs : List ℕ) → values.items ≡ map Some vs → called vs to interpreter.old r interpreter.new) }
 {
     let Some(function) = program.functions().get(function) else {
         return Ok(Reached::Failed);
@@ -123,7 +124,7 @@ fn enter<'a>(
 
 // A call returns, with a word or without.
 fn leave(interpreter: &mut Interpreter, result_word: Option<u32>) -> Result<Reached, AllocError>
-    ensures { IfOk result (λ r. state_after_return result_word interpreter.old.frame.result_to (frames_of interpreter.old.waiting.items) (arrays interpreter.old.globals.items) interpreter.old.output.items ≡ state_at r interpreter.new) }
+    ensures { IfOk result (λ r. Returns result_word interpreter.old r interpreter.new) }
 {
     let Some(caller) = interpreter.waiting.pop() else {
         return match result_word {
@@ -186,13 +187,14 @@ fn call_function<'a>(
     interpreter: &mut Interpreter<'a>,
     to: Option<Destination>,
     function: usize,
-    terms: &[TypedExpression],
+    expressions: &[TypedExpression],
 ) -> Result<Reached, AllocError>
-    ensures { IfOk result (λ r. state_after_step (program_of program.now) depth (Do (call to function (typed_expressions_of terms.now)) ∷ todos interpreter.old.frame.todo.items) interpreter.old ≡ state_at r interpreter.new) }
+    ensures { let statement = call to function (typed_expressions_of expressions.now) in
+        IfOk result (λ r. DoesIn (program_of program.now) depth statement interpreter.old r interpreter.new) }
 {
     let values = arguments(
         alloc,
-        terms,
+        expressions,
         &interpreter.frame.locals,
         &interpreter.globals,
     )?;
@@ -221,7 +223,8 @@ fn branch_on<'a>(
     first: &'a TypedStatement,
     second: &'a TypedStatement,
 ) -> Result<Reached, AllocError>
-    ensures { IfOk result (λ r. Does (if_else (typed_expression_of test.now) (statement_of first.now) (statement_of second.now)) interpreter.old r interpreter.new) }
+    ensures { let statement = if_else (typed_expression_of test.now) (statement_of first.now) (statement_of second.now) in
+        IfOk result (λ r. Does statement interpreter.old r interpreter.new) }
 {
     let Some(v) = value(test, &interpreter.frame.locals, &interpreter.globals) else {
         return Ok(Reached::Failed);
@@ -281,7 +284,7 @@ fn act<'a>(
     interpreter: &mut Interpreter<'a>,
     s: &'a TypedStatement,
 ) -> Result<Reached, AllocError>
-    ensures { IfOk result (λ r. state_after_step (program_of program.now) depth (Do (statement_of s.now) ∷ todos interpreter.old.frame.todo.items) interpreter.old ≡ state_at r interpreter.new) }
+    ensures { IfOk result (λ r. DoesIn (program_of program.now) depth (statement_of s.now) interpreter.old r interpreter.new) }
 {
     match s {
         TypedStatement::Assign(place, e) => assign_to(interpreter, *place, e),

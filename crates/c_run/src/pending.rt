@@ -1,11 +1,11 @@
 ghost use Rattle.std.specs.Prelude.{◌≡◌, ℕ, ◌++◌, ◌∷◌, [], OnOk, IfOk, None, length, ◌+◌, ◌≤◌};
 ghost use Rattle.runs.specs.Stores.{written};
 ghost use Rattle.c_typed.specs.Meaning.{next_point, Going};
-ghost use Rattle.c_run.specs.Interpreter.{places, todos, with_head, with_part};
+ghost use Rattle.c_run.specs.Interpreter.{places, point_at, todos, with_head, with_part};
 ghost use Rattle.c_run.specs.Sizes.{weights, head_size};
 ghost use Rattle.c_run.specs.Turns.{past_turn, at_turn};
 
-use c_typed::Statement;
+use c_typed::TypedStatement;
 use std::alloc::AllocError;
 
 /// What is still to do: a statement, a list of statements, or the end of a turn: its last part, and the loop. A list
@@ -114,7 +114,7 @@ pub(crate) fn settle<'a>(
     todo: &mut Vec<Pending<'a>>,
     locals: &mut [Option<u32>],
 ) -> Result<Head<'a>, AllocError>
-    ensures { IfOk result (λ h. next_point Going (places locals.old) (todos todo.old.items) ≡ record { locals = places locals.new; todo = with_head h (todos todo.new.items) }) }
+    ensures { IfOk result (λ h. next_point Going (places locals.old) (todos todo.old.items) ≡ point_at (places locals.new) h (todos todo.new.items)) }
 {
     loop {
         let head = first(todo)?;

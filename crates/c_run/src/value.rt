@@ -153,15 +153,16 @@ pub(crate) fn value(
 /// The values of the arguments of a call, each a local that is set; None where one has none.
 pub(crate) fn arguments(
     alloc: Global,
-    terms: &[TypedExpression],
+    expressions: &[TypedExpression],
     locals: &[Option<u32>],
     globals: &[Vec<u32>],
 ) -> Result<Option<Vec<Option<u32>>>, AllocError>
-    ensures { IfOk result (λ r. option_map (λ v. v.items) r ≡ option_map (map Some) (values_of (typed_expressions_of terms.now) (places locals.now) (arrays globals.now))) }
+    ensures { let wanted = values_of (typed_expressions_of expressions.now) (places locals.now) (arrays globals.now) in
+        IfOk result (λ r. option_map (λ v. v.items) r ≡ option_map (map Some) wanted) }
 {
-    let mut values = Vec::with_capacity(alloc, terms.len())?;
-    for term in terms {
-        let Some(v) = value(term, locals, globals) else {
+    let mut values = Vec::with_capacity(alloc, expressions.len())?;
+    for expression in expressions {
+        let Some(v) = value(expression, locals, globals) else {
             return Ok(None);
         };
         values.push(Some(v))?;

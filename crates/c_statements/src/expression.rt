@@ -7,7 +7,7 @@ ghost use Rattle.c_statements.specs.Faults.{HasNone, StopsAtFirst};
 ghost use Rattle.c_statements.specs.Shape.{scopes_of};
 ghost use Rattle.c_statements.specs.Names.{Environment, environment_in};
 ghost use Rattle.c_typed.specs.Shape.{typed_expression_of};
-ghost use Rattle.c_typed.specs.Trees.{TypedExpression};
+ghost use Rattle.c_typed.specs.Trees as Trees;
 ghost use Rattle.c_statements.specs.Types.{Types};
 ghost use Rattle.c_statements.specs.Uses.{Faulty, Misused, as_value, with_index};
 
@@ -103,5 +103,5 @@ pub fn expression(
 
 /// An expression has at most one typed tree under the names in sight.
 pub fn one_typing()
-    ensures { (scope : Environment) (e : Tree.Expression) (t u : TypedExpression) → Types scope e t → Types scope e u → t ≡ u }
+    ensures { (scope : Environment) (e : Tree.Expression) (t u : Trees.TypedExpression) → Types scope e t → Types scope e u → t ≡ u }
 {}

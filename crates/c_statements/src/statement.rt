@@ -5,10 +5,12 @@ ghost use Rattle.c_front.specs.Tree.{block, if_then, if_then_else, while_loop, f
 ghost use Rattle.c_statements.specs.declared.fault.TypeStop.TheVariants.{NoMemory};
 ghost use Rattle.c_statements.specs.Faults.{HasNone, StopsAtFirst};
 ghost use Rattle.c_statements.specs.Shape.{scopes_of};
-ghost use Rattle.c_statements.specs.Names.{Scopes, environment_in, with_local, behind, behind_item, behind_items};
+ghost use Rattle.c_statements.specs.Names as Names;
+ghost use Rattle.c_statements.specs.Names.{environment_in, with_local, behind, behind_item, behind_items};
 ghost use Rattle.c_typed.specs.Shape.{maybe_typed_expression_of, statement_of as typed_of, statements_of};
 ghost use Rattle.c_statements.specs.Statements.{FaultyMaybe, FaultyReturn, FaultyJump, FaultyDeclarator, FaultyLocal, FaultyStatement, FaultyItems};
-ghost use Rattle.c_typed.specs.Trees.{TypedStatement, TypedStatements, more_statements, no_statements};
+ghost use Rattle.c_typed.specs.Trees as Trees;
+ghost use Rattle.c_typed.specs.Trees.{TypedStatements, more_statements, no_statements};
 ghost use Rattle.c_statements.specs.Types.{TypesFirst, TypesMaybe, TypesStatement, TypesItems};
 
 use crate::compound::{if_else, loop_of, sequence};
@@ -322,6 +324,6 @@ pub fn items<'a>(
 
 /// A statement, and the items of a block, have at most one typed tree under the scopes before them.
 pub fn one_typing_of_statements()
-    ensures statement { (text : List ℕ) (scopes : Scopes) (s : Tree.Statement) (t u : TypedStatement) → TypesStatement text scopes s t → TypesStatement text scopes s u → t ≡ u }
-    ensures items { (text : List ℕ) (scopes : Scopes) (all : Tree.Items) (t u : TypedStatements) → TypesItems text scopes all t → TypesItems text scopes all u → t ≡ u }
+    ensures statement { (text : List ℕ) (scopes : Names.Scopes) (s : Tree.Statement) (t u : Trees.TypedStatement) → TypesStatement text scopes s t → TypesStatement text scopes s u → t ≡ u }
+    ensures items { (text : List ℕ) (scopes : Names.Scopes) (all : Tree.Items) (t u : TypedStatements) → TypesItems text scopes all t → TypesItems text scopes all u → t ≡ u }
 {}

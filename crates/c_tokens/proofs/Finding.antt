@@ -1,14 +1,19 @@
 -- The code's view of the front of a text is that of its longest piece.
 use Rattle.std.proofs.lemmas.Bool.Decides.{nat_tests}
-use Rattle.std.proofs.Common.{◌+◌, ◌≡◌, ◌<◌, ◌≤◌, ℕ, suc, zero, List, [], ◌∷◌, length, drop, take, Bool, true, false, Option, Some, None, refl, sym, ap, subst, ◌∙◌, arith, if◌then◌else◌, nat_eq, nat_lt, ◌&&◌, ◌||◌, length-take, ◌⊎◌, inl, inr}
+use Rattle.std.proofs.Common.{◌+◌, ◌≡◌, ◌<◌, ◌≤◌, ℕ, suc, zero, List, [], ◌∷◌, length, drop, take, Bool, true, false, Option, Some, None, refl, sym, ap, subst}
+use Rattle.std.proofs.Common.{◌∙◌, arith, if◌then◌else◌, nat_eq, nat_lt, ◌&&◌, ◌||◌, length-take, ◌⊎◌, inl, inr, codes}
 use Rattle.c_tokens.specs.declared.token.Mark.{Mark}
 use Rattle.c_tokens.specs.declared.lexer.Lexeme.{Lexeme}
 use Rattle.c_tokens.specs.declared.lexer.Lexeme.TheVariants.{Separator, Refused}
-use Rattle.c_tokens.specs.Lexing.{is_space, is_letter, is_digit, is_word, goes_on, is_exponent, is_front, same_bytes, signs, keywords, word_lexeme, comment_length, one_more}
+use Rattle.c_tokens.specs.Lexing.{is_space, is_letter, is_digit, is_word, goes_on, is_exponent, is_front, same_bytes, signs, keywords, word_lexeme}
+use Rattle.c_tokens.specs.Lexing.{comment_length, one_more}
 use Rattle.c_tokens.specs.Digits.{constant_lexeme}
-use Rattle.c_tokens.specs.Fronts.{word_length, run_length, line_length, longest, longer, sign_lexeme, comment_lexeme, line_lexeme, lexeme_of, word_at, constant_at, comment_at, line_at, sign_at}
-use Rattle.c_tokens.specs.Pieces.{IsWord, word_end, word_more, IsRun, run_end, run_more, IsLine, line_end, line_more, IsOpen, open_end, open_more, IsClosed, closed_here, closed_later, entry_in, closed_comment}
-use Rattle.c_tokens.proofs.Shapes.{IsShape, a_byte, a_word, a_number, an_operator, a_line, a_comment, an_open_comment, IsLongestShape, closed_meaning, operator_meaning, or_operator, or_line, or_comment, or_number, or_word, meaning_of, IsShapeNext, at_end, at_piece}
+use Rattle.c_tokens.specs.Fronts.{word_length, run_length, line_length, longest, longer, sign_lexeme, comment_lexeme, line_lexeme, lexeme_of, word_at}
+use Rattle.c_tokens.specs.Fronts.{constant_at, comment_at, line_at, sign_at}
+use Rattle.c_tokens.specs.Pieces.{IsWord, word_end, word_more, IsRun, run_end, run_more, IsLine, line_end, line_more, IsOpen, open_end, open_more, IsClosed}
+use Rattle.c_tokens.specs.Pieces.{closed_here, closed_later, entry_in, closed_comment}
+use Rattle.c_tokens.proofs.Shapes.{IsShape, a_byte, a_word, a_number, an_operator, a_line, a_comment, an_open_comment, IsLongestShape, closed_meaning}
+use Rattle.c_tokens.proofs.Shapes.{operator_meaning, or_operator, or_line, or_comment, or_number, or_word, meaning_of, IsShapeNext, at_end, at_piece}
 
 pub true-false : {x : Bool} → x ≡ true → x ≡ false → ⊥
 true-false e f = cc
@@ -44,7 +49,8 @@ same-is (x ∷ xs) (y ∷ ys) h =
 -- how the spellings of the table begin
 abbrev begins_well : List ℕ → Bool
 begins_well [] = false
-begins_well (b ∷ bs) = if is_space b then false else (if is_letter b then false else (if is_digit b then false else (if is_front (47 ∷ 42 ∷ []) (b ∷ bs) then false else (if is_front (47 ∷ 47 ∷ []) (b ∷ bs) then false else true))))
+begins_well (b ∷ bs) = if is_space b then false else (if is_letter b then false
+    else (if is_digit b then false else (if is_front (codes "/*") (b ∷ bs) then false else (if is_front (codes "//") (b ∷ bs) then false else true))))
 
 abbrev all_begin : List (List ℕ × Option Mark) → Bool
 all_begin [] = true
@@ -57,7 +63,8 @@ spelled-begins : (es : List (List ℕ × Option Mark)) (o : List ℕ) (m : Optio
 spelled-begins [] o m h k = cc
 spelled-begins (e ∷ es) o m h k = go (λ h k. spelled-begins es o m h k) (begins_well e.0) refl h (same_bytes e.0 o) refl k
   where
-    go : (all_begin es ≡ true → entry_in es o ≡ Some m → begins_well o ≡ true) → (x : Bool) → begins_well e.0 ≡ x → (if x then all_begin es else false) ≡ true → (y : Bool) → same_bytes e.0 o ≡ y → (if y then Some e.1 else entry_in es o) ≡ Some m → begins_well o ≡ true
+    go : (all_begin es ≡ true → entry_in es o ≡ Some m → begins_well o ≡ true) → (x : Bool) → begins_well e.0 ≡ x → (if x then all_begin es else false) ≡ true
+        → (y : Bool) → same_bytes e.0 o ≡ y → (if y then Some e.1 else entry_in es o) ≡ Some m → begins_well o ≡ true
     go f false p h y q k = cc
     go f true p h true q k = ap begins_well (sym (same-is e.0 o q)) ∙ p
     go f true p h false q k = f h k
@@ -66,13 +73,14 @@ pub record Begins (b : ℕ) (bs : List ℕ) : Type 0 where
   pub space : is_space b ≡ false
   pub letter : is_letter b ≡ false
   pub digit : is_digit b ≡ false
-  pub comment : is_front (47 ∷ 42 ∷ []) (b ∷ bs) ≡ false
-  pub line : is_front (47 ∷ 47 ∷ []) (b ∷ bs) ≡ false
+  pub comment : is_front (codes "/*") (b ∷ bs) ≡ false
+  pub line : is_front (codes "//") (b ∷ bs) ≡ false
 
 pub operator-begins : (b : ℕ) (bs : List ℕ) (m : Option Mark) → entry_in signs (b ∷ bs) ≡ Some m → Begins b bs
-operator-begins b bs m h = go (is_space b) (is_letter b) (is_digit b) (is_front (47 ∷ 42 ∷ []) (b ∷ bs)) (is_front (47 ∷ 47 ∷ []) (b ∷ bs)) refl refl refl refl refl (spelled-begins signs (b ∷ bs) m table-begins h)
+operator-begins b bs m h = go (is_space b) (is_letter b) (is_digit b) (is_front (codes "/*") (b ∷ bs)) (is_front (codes "//") (b ∷ bs)) refl refl refl refl refl
+    (spelled-begins signs (b ∷ bs) m table-begins h)
   where
-    go : (x y z u v : Bool) → is_space b ≡ x → is_letter b ≡ y → is_digit b ≡ z → is_front (47 ∷ 42 ∷ []) (b ∷ bs) ≡ u → is_front (47 ∷ 47 ∷ []) (b ∷ bs) ≡ v →
+    go : (x y z u v : Bool) → is_space b ≡ x → is_letter b ≡ y → is_digit b ≡ z → is_front (codes "/*") (b ∷ bs) ≡ u → is_front (codes "//") (b ∷ bs) ≡ v →
         (if x then false else (if y then false else (if z then false else (if u then false else (if v then false else true))))) ≡ true → Begins b bs
     go true y z u v p q r s t h = cc
     go false true z u v p q r s t h = cc
@@ -137,7 +145,8 @@ line-piece xs (a_number i r) = cc
 line-piece xs (an_operator {m = m} o) = let x = (operator-begins 47 (47 ∷ xs) m o).line in cc
 line-piece xs (a_line l) = l
 
-other-piece : (b c : ℕ) (xs : List ℕ) → is_letter b ≡ false → is_digit b ≡ false → is_front (47 ∷ 42 ∷ []) (b ∷ c ∷ xs) ≡ false → is_front (47 ∷ 47 ∷ []) (b ∷ c ∷ xs) ≡ false → IsShape (b ∷ c ∷ xs) → (m : Option Mark) × (entry_in signs (b ∷ c ∷ xs) ≡ Some m)
+other-piece : (b c : ℕ) (xs : List ℕ) → is_letter b ≡ false → is_digit b ≡ false → is_front (codes "/*") (b ∷ c ∷ xs) ≡ false
+    → is_front (codes "//") (b ∷ c ∷ xs) ≡ false → IsShape (b ∷ c ∷ xs) → (m : Option Mark) × (entry_in signs (b ∷ c ∷ xs) ≡ Some m)
 other-piece b c xs h k p q (a_word i w) = absurd (true-false i h)
 other-piece b c xs h k p q (a_number i r) = absurd (true-false i k)
 other-piece b c xs h k p q (an_operator {m = m} o) = (m, o)
@@ -165,7 +174,8 @@ run-taken : (after : Bool) (bs : List ℕ) → IsRun after (take (run_length aft
 run-taken after [] = run_end
 run-taken after (b ∷ bs) = go (run-taken (is_exponent b) bs) (goes_on after b) refl
   where
-    go : IsRun (is_exponent b) (take (run_length (is_exponent b) bs) bs) → (x : Bool) → goes_on after b ≡ x → IsRun after (take (if x then suc (run_length (is_exponent b) bs) else 0) (b ∷ bs))
+    go : IsRun (is_exponent b) (take (run_length (is_exponent b) bs) bs) → (x : Bool) → goes_on after b ≡ x
+        → IsRun after (take (if x then suc (run_length (is_exponent b) bs) else 0) (b ∷ bs))
     go w true h = run_more h w
     go w false h = run_end
 
@@ -274,30 +284,33 @@ longer-pair [] (suc (suc (suc m))) h l p = omega (arith, l)
 longer-pair (d ∷ ds) (suc (suc (suc m))) h l (inl (closed_later k w)) = cc
 longer-pair (d ∷ ds) (suc (suc (suc m))) h l (inr (open_more k w)) = cc
 
-closed-tail : (b : ℕ) (xs : List ℕ) → is_front (42 ∷ 47 ∷ []) (b ∷ xs) ≡ false → IsClosed (b ∷ xs) ⊎ IsOpen (b ∷ xs) → IsClosed xs ⊎ IsOpen xs
+closed-tail : (b : ℕ) (xs : List ℕ) → is_front (codes "*/") (b ∷ xs) ≡ false → IsClosed (b ∷ xs) ⊎ IsOpen (b ∷ xs) → IsClosed xs ⊎ IsOpen xs
 closed-tail b xs h (inl closed_here) = cc
 closed-tail b xs h (inl (closed_later k w)) = inl w
 closed-tail b xs h (inr (open_more k w)) = inr w
 
 closes : (bs : List ℕ) (n : ℕ) → comment_length bs ≡ Some n → Closes bs n
 closes [] n h = cc
-closes (b ∷ bs) n h = go (λ k e. closes bs k e) (is_front (42 ∷ 47 ∷ []) (b ∷ bs)) refl h
+closes (b ∷ bs) n h = go (λ k e. closes bs k e) (is_front (codes "*/") (b ∷ bs)) refl h
   where
     pair : (cs : List ℕ) → Closes (42 ∷ 47 ∷ cs) 2
     pair cs = record { within = omega arith; taken = closed_here; longest = longer-pair cs }
 
-    later : (k : ℕ) → is_front (42 ∷ 47 ∷ []) (b ∷ bs) ≡ false → Closes bs k → Closes (b ∷ bs) (suc k)
+    later : (k : ℕ) → is_front (codes "*/") (b ∷ bs) ≡ false → Closes bs k → Closes (b ∷ bs) (suc k)
     later k e c = record {
       within = let w = c.within in omega (arith, w);
-      taken = closed_later (front-not-taken (42 ∷ 47 ∷ []) (b ∷ bs) (suc k) e) c.taken;
+      taken = closed_later (front-not-taken (codes "*/") (b ∷ bs) (suc k) e) c.taken;
       longest = longest-later k e c;
     }
       where
-        longest-later : (k : ℕ) → is_front (42 ∷ 47 ∷ []) (b ∷ bs) ≡ false → Closes bs k → (m : ℕ) → suc k < m → m ≤ length (b ∷ bs) → IsClosed (take m (b ∷ bs)) ⊎ IsOpen (take m (b ∷ bs)) → ⊥
+        longest-later : (k : ℕ) → is_front (codes "*/") (b ∷ bs) ≡ false → Closes bs k → (m : ℕ) → suc k < m → m ≤ length (b ∷ bs)
+            → IsClosed (take m (b ∷ bs)) ⊎ IsOpen (take m (b ∷ bs)) → ⊥
         longest-later k e c zero h l p = omega (arith, h)
-        longest-later k e c (suc m) h l p = c.longest m (omega (arith, h)) (omega (arith, l)) (closed-tail b (take m bs) (front-not-taken (42 ∷ 47 ∷ []) (b ∷ bs) (suc m) e) p)
+        longest-later k e c (suc m) h l p = c.longest m (omega (arith, h)) (omega (arith, l))
+            (closed-tail b (take m bs) (front-not-taken (codes "*/") (b ∷ bs) (suc m) e) p)
 
-    go : ((k : ℕ) → comment_length bs ≡ Some k → Closes bs k) → (x : Bool) → is_front (42 ∷ 47 ∷ []) (b ∷ bs) ≡ x → (if x then Some 2 else one_more (comment_length bs)) ≡ Some n → Closes (b ∷ bs) n
+    go : ((k : ℕ) → comment_length bs ≡ Some k → Closes bs k) → (x : Bool) → is_front (codes "*/") (b ∷ bs) ≡ x
+        → (if x then Some 2 else one_more (comment_length bs)) ≡ Some n → Closes (b ∷ bs) n
     go f true e k =
         let q = front-pair 42 47 (b ∷ bs) e in
         let same : 2 ≡ n = cc in
@@ -311,9 +324,10 @@ closes (b ∷ bs) n h = go (λ k e. closes bs k e) (is_front (42 ∷ 47 ∷ []) 
 
 never-closes : (bs : List ℕ) → comment_length bs ≡ None → IsOpen bs
 never-closes [] h = open_end
-never-closes (b ∷ bs) h = go (λ e. never-closes bs e) (is_front (42 ∷ 47 ∷ []) (b ∷ bs)) refl h
+never-closes (b ∷ bs) h = go (λ e. never-closes bs e) (is_front (codes "*/") (b ∷ bs)) refl h
   where
-    go : (comment_length bs ≡ None → IsOpen bs) → (x : Bool) → is_front (42 ∷ 47 ∷ []) (b ∷ bs) ≡ x → (if x then Some 2 else one_more (comment_length bs)) ≡ None → IsOpen (b ∷ bs)
+    go : (comment_length bs ≡ None → IsOpen bs) → (x : Bool) → is_front (codes "*/") (b ∷ bs) ≡ x → (if x then Some 2 else one_more (comment_length bs)) ≡ None
+        → IsOpen (b ∷ bs)
     go f true e k = cc
     go f false e k = open_more e (f (one-more-none (comment_length bs) k))
 
@@ -333,8 +347,14 @@ abbrev EachSpelled : List (List ℕ × Option Mark) → Type 0
 EachSpelled [] = Unit {0}
 EachSpelled (e ∷ es) = (entry_in signs e.0 ≡ Some e.1) × EachSpelled es
 
+last-spelled : EachSpelled (drop 32 signs)
+last-spelled = (refl, (refl, (refl, (refl, (refl, (refl, (refl, (refl, (refl, (refl, (refl, (refl, (refl, (refl, (refl, (refl, (refl, tt)))))))))))))))))
+
+middle-spelled : EachSpelled (drop 16 signs)
+middle-spelled = (refl, (refl, (refl, (refl, (refl, (refl, (refl, (refl, (refl, (refl, (refl, (refl, (refl, (refl, (refl, (refl, last-spelled))))))))))))))))
+
 each-spelled : EachSpelled signs
-each-spelled = ((refl, (refl, (refl, (refl, (refl, (refl, (refl, (refl, (refl, (refl, (refl, (refl, (refl, (refl, (refl, (refl, (refl, (refl, (refl, (refl, (refl, (refl, (refl, (refl, (refl, (refl, (refl, (refl, (refl, (refl, (refl, (refl, (refl, (refl, (refl, (refl, (refl, (refl, (refl, (refl, (refl, (refl, (refl, (refl, (refl, (refl, (refl, (refl, (refl, tt))))))))))))))))))))))))))))))))))))))))))))))))))
+each-spelled = (refl, (refl, (refl, (refl, (refl, (refl, (refl, (refl, (refl, (refl, (refl, (refl, (refl, (refl, (refl, (refl, middle-spelled))))))))))))))))
 
 abbrev Stands : List ℕ → Option (List ℕ × Option Mark) → Type 0
 Stands bs None = Unit {0}
@@ -380,12 +400,14 @@ abbrev AtLeastLong : ℕ → Option (List ℕ × Option Mark) → Type 0
 AtLeastLong m None = ⊥
 AtLeastLong m (Some e) = m ≤ length e.0
 
-longest-most : (es : List (List ℕ × Option Mark)) (bs : List ℕ) (m : ℕ) (x : Option Mark) → m ≤ length bs → entry_in es (take m bs) ≡ Some x → AtLeastLong m (longest es bs)
+longest-most : (es : List (List ℕ × Option Mark)) (bs : List ℕ) (m : ℕ) (x : Option Mark) → m ≤ length bs → entry_in es (take m bs) ≡ Some x
+    → AtLeastLong m (longest es bs)
 longest-most [] bs m x l h = cc
 longest-most (e ∷ es) bs m x l h = go (λ k. longest-most es bs m x l k) (longest es bs) (same_bytes e.0 (take m bs)) refl h (is_front e.0 bs) refl
   where
     long : e.0 ≡ take m bs → m ≤ length e.0
-    long q = let a : length e.0 ≡ length (take m bs) = ap length q in let b : length (take m bs) ≡ m = simp length-take (omega (arith, l)) in omega (arith, a, b)
+    long q = let a : length e.0 ≡ length (take m bs) = ap length q in let b : length (take m bs) ≡ m = simp length-take (omega (arith, l)) in
+        omega (arith, a, b)
 
     self : (r : Option (List ℕ × Option Mark)) → m ≤ length e.0 → AtLeastLong m (Some (longer e r))
     self None k = k
@@ -409,7 +431,8 @@ longest-most (e ∷ es) bs m x l h = go (λ k. longest-most es bs m x l k) (long
             most : (x y : ℕ) → nat_lt x y ≡ false → y ≤ x
             most x y h = grind (arith, nat_tests)
 
-    go : (entry_in es (take m bs) ≡ Some x → AtLeastLong m (longest es bs)) → (r : Option (List ℕ × Option Mark)) → (y : Bool) → same_bytes e.0 (take m bs) ≡ y → (if y then Some e.1 else entry_in es (take m bs)) ≡ Some x →
+    go : (entry_in es (take m bs) ≡ Some x → AtLeastLong m (longest es bs)) → (r : Option (List ℕ × Option Mark)) → (y : Bool) → same_bytes e.0 (take m bs) ≡ y
+        → (if y then Some e.1 else entry_in es (take m bs)) ≡ Some x →
         (z : Bool) → is_front e.0 bs ≡ z → AtLeastLong m (if z then Some (longer e (longest es bs)) else longest es bs)
     go f r true p k true q = self (longest es bs) (long (same-is e.0 (take m bs) p))
     go f r true p k false q = absurd (true-false (ap (λ (x : List ℕ). is_front x bs) (same-is e.0 (take m bs) p) ∙ taken-front m bs) q)
@@ -422,7 +445,8 @@ take-all [] = refl
 take-all (b ∷ bs) = ap (λ (x : List ℕ). b ∷ x) (take-all bs)
 
 space-next : (b : ℕ) (bs : List ℕ) → is_space b ≡ true → IsShapeNext (b ∷ bs) (Separator 1)
-space-next b bs h = at_piece {n = 1} (record { within = omega arith; piece = a_byte; longest = longest-one bs }) (sym (ap (λ (x : Bool). if x then Separator 1 else or_word b []) h))
+space-next b bs h = at_piece {n = 1} (record { within = omega arith; piece = a_byte; longest = longest-one bs })
+    (sym (ap (λ (x : Bool). if x then Separator 1 else or_word b []) h))
   where
     longest-one : (bs : List ℕ) (m : ℕ) → 1 < m → m ≤ length (b ∷ bs) → IsShape (take m (b ∷ bs)) → ⊥
     longest-one bs zero k l p = omega (arith, k)
@@ -436,7 +460,8 @@ word-next b bs h k =
     let P : ℕ → Type 0 = λ n. IsShapeNext (b ∷ bs) (word_lexeme keywords (take n (b ∷ bs))) in
     let w = word-within bs in
     subst P (sym e) (at_piece {n = suc (word_length bs)} (record { within = omega (arith, w); piece = a_word k (word-taken bs); longest = go })
-    (sym (ap (λ (x : Bool). if x then Separator 1 else or_word b (take (word_length bs) bs)) h ∙ ap (λ (x : Bool). if x then word_lexeme keywords (b ∷ take (word_length bs) bs) else or_number b (take (word_length bs) bs)) k)))
+    (sym (ap (λ (x : Bool). if x then Separator 1 else or_word b (take (word_length bs) bs)) h
+    ∙ ap (λ (x : Bool). if x then word_lexeme keywords (b ∷ take (word_length bs) bs) else or_number b (take (word_length bs) bs)) k)))
   where
     go : (m : ℕ) → suc (word_length bs) < m → m ≤ length (b ∷ bs) → IsShape (take m (b ∷ bs)) → ⊥
     go zero i l p = omega (arith, i)
@@ -445,14 +470,18 @@ word-next b bs h k =
 run-tail : (after : Bool) (b : ℕ) (xs : List ℕ) → IsRun after (b ∷ xs) → IsRun (is_exponent b) xs
 run-tail after b xs (run_more k w) = w
 
-number-next : (b : ℕ) (bs : List ℕ) → is_space b ≡ false → is_letter b ≡ false → is_digit b ≡ true → IsShapeNext (b ∷ bs) (constant_lexeme (take (run_length false (b ∷ bs)) (b ∷ bs)))
+number-next : (b : ℕ) (bs : List ℕ) → is_space b ≡ false → is_letter b ≡ false → is_digit b ≡ true
+    → IsShapeNext (b ∷ bs) (constant_lexeme (take (run_length false (b ∷ bs)) (b ∷ bs)))
 number-next b bs h k d =
-    let e : run_length false (b ∷ bs) ≡ suc (run_length (is_exponent b) bs) = ap (λ (x : Bool). if x then suc (run_length (is_exponent b) bs) else 0) (digit-goes b d) in
+    let e : run_length false (b ∷ bs) ≡ suc (run_length (is_exponent b) bs) =
+    ap (λ (x : Bool). if x then suc (run_length (is_exponent b) bs) else 0) (digit-goes b d) in
     let P : ℕ → Type 0 = λ n. IsShapeNext (b ∷ bs) (constant_lexeme (take n (b ∷ bs))) in
     let w = run-within (is_exponent b) bs in
     let ys : List ℕ = take (run_length (is_exponent b) bs) bs in
-    subst P (sym e) (at_piece {n = suc (run_length (is_exponent b) bs)} (record { within = omega (arith, w); piece = a_number d (run_more (digit-goes b d) (run-taken (is_exponent b) bs)); longest = go })
-    (sym (ap (λ (x : Bool). if x then Separator 1 else or_word b ys) h ∙ ap (λ (x : Bool). if x then word_lexeme keywords (b ∷ ys) else or_number b ys) k ∙ ap (λ (x : Bool). if x then constant_lexeme (b ∷ ys) else or_comment b ys) d)))
+    subst P (sym e) (at_piece {n = suc (run_length (is_exponent b) bs)}
+    (record { within = omega (arith, w); piece = a_number d (run_more (digit-goes b d) (run-taken (is_exponent b) bs)); longest = go })
+    (sym (ap (λ (x : Bool). if x then Separator 1 else or_word b ys) h ∙ ap (λ (x : Bool). if x then word_lexeme keywords (b ∷ ys) else or_number b ys) k
+    ∙ ap (λ (x : Bool). if x then constant_lexeme (b ∷ ys) else or_comment b ys) d)))
   where
     go : (m : ℕ) → suc (run_length (is_exponent b) bs) < m → m ≤ length (b ∷ bs) → IsShape (take m (b ∷ bs)) → ⊥
     go zero i l p = omega (arith, i)
@@ -476,7 +505,12 @@ open-next : (cs : List ℕ) → comment_length cs ≡ None → IsShapeNext (47 �
 open-next cs h =
     let text : List ℕ = 47 ∷ 42 ∷ cs in
     let P : List ℕ → Type 0 = λ x. IsShape x in
-    at_piece {n = length (47 ∷ 42 ∷ cs)} (record { within = omega arith; piece = subst P (sym (take-all (47 ∷ 42 ∷ cs))) (an_open_comment (never-closes cs h)); longest = λ m i l p. omega (arith, i, l) })
+    at_piece {n = length (47 ∷ 42 ∷ cs)} (record {
+      within = omega arith;
+      piece =
+          subst P (sym (take-all (47 ∷ 42 ∷ cs))) (an_open_comment (never-closes cs h));
+      longest = λ m i l p. omega (arith, i, l);
+    })
     (sym (ap meaning_of (take-all (47 ∷ 42 ∷ cs)) ∙ ap (closed_meaning (length (47 ∷ 42 ∷ cs)) cs) h))
 
 comment-next : (cs : List ℕ) (r : Option ℕ) → comment_length cs ≡ r → IsShapeNext (47 ∷ 42 ∷ cs) (comment_lexeme r cs)
@@ -487,7 +521,8 @@ line-next : (cs : List ℕ) → IsShapeNext (47 ∷ 47 ∷ cs) (line_lexeme (lin
 line-next cs =
     let w = line-within cs in
     let e : length (47 ∷ 47 ∷ take (line_length cs) cs) ≡ line_length cs + 2 = simp length-take (omega (arith, w)) in
-    at_piece {n = suc (suc (line_length cs))} (record { within = omega (arith, w); piece = a_line (line-taken cs); longest = go }) (sym (ap (λ (x : ℕ). closed_comment x (take (line_length cs) cs)) e))
+    at_piece {n = suc (suc (line_length cs))} (record { within = omega (arith, w); piece = a_line (line-taken cs); longest = go })
+    (sym (ap (λ (x : ℕ). closed_comment x (take (line_length cs) cs)) e))
   where
     go : (m : ℕ) → suc (suc (line_length cs)) < m → m ≤ length (47 ∷ 47 ∷ cs) → IsShape (take m (47 ∷ 47 ∷ cs)) → ⊥
     go zero i l p = omega (arith, i)
@@ -499,12 +534,13 @@ pub record Plain (b : ℕ) (bs : List ℕ) : Type 0 where
   pub space : is_space b ≡ false
   pub letter : is_letter b ≡ false
   pub digit : is_digit b ≡ false
-  pub comment : is_front (47 ∷ 42 ∷ []) (b ∷ bs) ≡ false
-  pub line : is_front (47 ∷ 47 ∷ []) (b ∷ bs) ≡ false
+  pub comment : is_front (codes "/*") (b ∷ bs) ≡ false
+  pub line : is_front (codes "//") (b ∷ bs) ≡ false
 
 pub plain-meaning : (b : ℕ) (bs : List ℕ) → Plain b bs → meaning_of (b ∷ bs) ≡ or_operator b bs
 plain-meaning b bs p =
-    ap (λ (x : Bool). if x then Separator 1 else or_word b bs) p.space ∙ ap (λ (x : Bool). if x then word_lexeme keywords (b ∷ bs) else or_number b bs) p.letter ∙
+    ap (λ (x : Bool). if x then Separator 1 else or_word b bs) p.space ∙ ap (λ (x : Bool). if x then word_lexeme keywords (b ∷ bs) else or_number b bs) p.letter
+    ∙
     ap (λ (x : Bool). if x then constant_lexeme (b ∷ bs) else or_comment b bs) p.digit ∙
     ap (λ (x : Bool). if x then closed_meaning (length (b ∷ bs)) (drop 1 bs) (comment_length (drop 1 bs)) else or_line b bs) p.comment ∙
     ap (λ (x : Bool). if x then closed_comment (length (b ∷ bs)) (drop 1 bs) else or_operator b bs) p.line
@@ -514,8 +550,8 @@ plain-taken b bs m p = record {
   space = p.space;
   letter = p.letter;
   digit = p.digit;
-  comment = front-not-taken (47 ∷ 42 ∷ []) (b ∷ bs) (suc m) p.comment;
-  line = front-not-taken (47 ∷ 47 ∷ []) (b ∷ bs) (suc m) p.line;
+  comment = front-not-taken (codes "/*") (b ∷ bs) (suc m) p.comment;
+  line = front-not-taken (codes "//") (b ∷ bs) (suc m) p.line;
 }
 
 longer-plain : (b : ℕ) (bs : List ℕ) (m : ℕ) → Plain b bs → 1 < m → m ≤ length (b ∷ bs) → IsShape (take m (b ∷ bs)) → AtLeastLong m (longest signs (b ∷ bs))
@@ -547,7 +583,12 @@ front-length xs ys h = let e : length (take (length xs) ys) ≡ length xs = ap l
 
 sign-next : (b : ℕ) (bs : List ℕ) → Plain b bs → (r : Option (List ℕ × Option Mark)) → longest signs (b ∷ bs) ≡ r → IsShapeNext (b ∷ bs) (sign_lexeme r)
 sign-next b bs q None h =
-    at_piece {n = 1} (record { within = omega arith; piece = a_byte; longest = λ m i l p. (let P : Option (List ℕ × Option Mark) → Type 0 = λ x. AtLeastLong m x in subst P h (longer-plain b bs m q i l p)) })
+    at_piece {n = 1} (record {
+      within = omega arith;
+      piece = a_byte;
+      longest =
+          λ m i l p. (let P : Option (List ℕ × Option Mark) → Type 0 = λ x. AtLeastLong m x in subst P h (longer-plain b bs m q i l p));
+    })
     (sym (plain-meaning b [] (plain-taken b bs 0 q) ∙ ap (operator_meaning (b ∷ [])) (no-spelling (entry_in signs (b ∷ [])) refl)))
   where
     no-spelling : (x : Option (Option Mark)) → entry_in signs (b ∷ []) ≡ x → x ≡ None
@@ -560,7 +601,12 @@ sign-next b bs q (Some e) h =
     let s : Stands (b ∷ bs) (Some e) = subst P h (longest-stands signs (b ∷ bs) each-spelled) in
     let w = front-whole e.0 (b ∷ bs) s.0 in
     let Q : List ℕ → Type 0 = λ x. IsShape x in
-    at_piece {n = length e.0} (record { within = front-length e.0 (b ∷ bs) s.0; piece = subst Q (sym w) (an_operator s.1); longest = go (nonempty e.0 e.1 s.1) })
+    at_piece {n = length e.0} (record {
+      within = front-length e.0 (b ∷ bs) s.0;
+      piece = subst Q (sym w) (an_operator s.1);
+      longest =
+          go (nonempty e.0 e.1 s.1);
+    })
     (operator-found e.0 e.1 s.1 ∙ ap meaning_of (sym w))
   where
     go : 0 < length e.0 → (m : ℕ) → length e.0 < m → m ≤ length (b ∷ bs) → IsShape (take m (b ∷ bs)) → ⊥
@@ -569,7 +615,8 @@ sign-next b bs q (Some e) h =
         let a : m ≤ length e.0 = subst P h (longer-plain b bs m q (omega (arith, z, i)) l p) in
         omega (arith, a, i)
 
-slash-next : (b : ℕ) (bs : List ℕ) → is_space b ≡ false → is_letter b ≡ false → is_digit b ≡ false → is_front (47 ∷ 42 ∷ []) (b ∷ bs) ≡ false → (x : Bool) → is_front (47 ∷ 47 ∷ []) (b ∷ bs) ≡ x →
+slash-next : (b : ℕ) (bs : List ℕ) → is_space b ≡ false → is_letter b ≡ false → is_digit b ≡ false → is_front (codes "/*") (b ∷ bs) ≡ false → (x : Bool)
+    → is_front (codes "//") (b ∷ bs) ≡ x →
     IsShapeNext (b ∷ bs) (if x then line_lexeme (line_length (drop 1 bs)) (drop 1 bs) else sign_at b bs)
 slash-next b bs h k d c true e =
     let q = front-pair 47 47 (b ∷ bs) e in
@@ -577,19 +624,21 @@ slash-next b bs h k d c true e =
     subst P (sym q.1) (line-next q.0)
 slash-next b bs h k d c false e = sign-next b bs (record { space = h; letter = k; digit = d; comment = c; line = e }) (longest signs (b ∷ bs)) refl
 
-star-next : (b : ℕ) (bs : List ℕ) → is_space b ≡ false → is_letter b ≡ false → is_digit b ≡ false → (x : Bool) → is_front (47 ∷ 42 ∷ []) (b ∷ bs) ≡ x →
+star-next : (b : ℕ) (bs : List ℕ) → is_space b ≡ false → is_letter b ≡ false → is_digit b ≡ false → (x : Bool) → is_front (codes "/*") (b ∷ bs) ≡ x →
     IsShapeNext (b ∷ bs) (if x then comment_lexeme (comment_length (drop 1 bs)) (drop 1 bs) else line_at b bs)
 star-next b bs h k d true e =
     let q = front-pair 47 42 (b ∷ bs) e in
     let P : List ℕ → Type 0 = λ x. IsShapeNext x (comment_lexeme (comment_length (drop 2 x)) (drop 2 x)) in
     subst P (sym q.1) (comment-next q.0 (comment_length q.0) refl)
-star-next b bs h k d false e = slash-next b bs h k d e (is_front (47 ∷ 47 ∷ []) (b ∷ bs)) refl
+star-next b bs h k d false e = slash-next b bs h k d e (is_front (codes "//") (b ∷ bs)) refl
 
-digit-next : (b : ℕ) (bs : List ℕ) → is_space b ≡ false → is_letter b ≡ false → (x : Bool) → is_digit b ≡ x → IsShapeNext (b ∷ bs) (if x then constant_lexeme (take (run_length false (b ∷ bs)) (b ∷ bs)) else comment_at b bs)
+digit-next : (b : ℕ) (bs : List ℕ) → is_space b ≡ false → is_letter b ≡ false → (x : Bool) → is_digit b ≡ x
+    → IsShapeNext (b ∷ bs) (if x then constant_lexeme (take (run_length false (b ∷ bs)) (b ∷ bs)) else comment_at b bs)
 digit-next b bs h k true e = number-next b bs h k e
-digit-next b bs h k false e = star-next b bs h k e (is_front (47 ∷ 42 ∷ []) (b ∷ bs)) refl
+digit-next b bs h k false e = star-next b bs h k e (is_front (codes "/*") (b ∷ bs)) refl
 
-letter-next : (b : ℕ) (bs : List ℕ) → is_space b ≡ false → (x : Bool) → is_letter b ≡ x → IsShapeNext (b ∷ bs) (if x then word_lexeme keywords (take (word_length (b ∷ bs)) (b ∷ bs)) else constant_at b bs)
+letter-next : (b : ℕ) (bs : List ℕ) → is_space b ≡ false → (x : Bool) → is_letter b ≡ x
+    → IsShapeNext (b ∷ bs) (if x then word_lexeme keywords (take (word_length (b ∷ bs)) (b ∷ bs)) else constant_at b bs)
 letter-next b bs h true e = word-next b bs h e
 letter-next b bs h false e = digit-next b bs h e (is_digit b) refl
 

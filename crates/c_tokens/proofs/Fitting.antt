@@ -1,6 +1,7 @@
 -- What stands at the front of some bytes is no longer than they are.
 use Rattle.std.proofs.lemmas.Bool.Decides.{nat_tests}
-use Rattle.std.proofs.Common.{◌+◌, ◌*◌, ◌≡◌, ◌<◌, ◌≤◌, ℕ, suc, zero, List, [], ◌∷◌, length, Bool, true, false, Option, Some, None, refl, sym, ap, subst, ◌∙◌, arith, if◌then◌else◌, nat_eq, nat_lt, ◌&&◌, take, length-take}
+use Rattle.std.proofs.Common.{◌+◌, ◌*◌, ◌≡◌, ◌<◌, ◌≤◌, ℕ, suc, zero, List, [], ◌∷◌, length, Bool, true, false, Option, Some, None, refl, sym, ap, subst, ◌∙◌}
+use Rattle.std.proofs.Common.{arith, if◌then◌else◌, nat_eq, nat_lt, ◌&&◌, take, length-take}
 use Rattle.c_tokens.specs.declared.token.Mark.{Mark}
 use Rattle.c_tokens.specs.declared.lexer.Lexeme.{Lexeme}
 use Rattle.c_tokens.specs.declared.sign.Spelling.{Spelling}
@@ -38,7 +39,8 @@ pub longest-fits : (es : List (List ℕ × Option Mark)) (bs : List ℕ) → Fit
 longest-fits [] bs = tt
 longest-fits (e ∷ es) bs = go (longest-fits es bs) (is_front e.0 bs) refl
   where
-    go : FitsIn (longest es bs) (length bs) → (x : Bool) → is_front e.0 bs ≡ x → FitsIn (if x then Some (longer e (longest es bs)) else longest es bs) (length bs)
+    go : FitsIn (longest es bs) (length bs) → (x : Bool) → is_front e.0 bs ≡ x
+        → FitsIn (if x then Some (longer e (longest es bs)) else longest es bs) (length bs)
     go k true h = longer-fits e (longest es bs) (length bs) (front-length e.0 bs h) k
     go k false h = k
 
@@ -47,7 +49,8 @@ spelled (One a) = omega arith
 spelled (Two a b) = omega arith
 spelled (Three a b c) = omega arith
 
-pub sign-fits : (es : List (List ℕ × Option Mark)) (bs : List ℕ) (e : Spelling × Option Mark) (l : ℕ) → maybe_entry_of (Some e) ≡ longest es bs → l ≡ length (bytes_of e.0) → (0 < l) × (l ≤ length bs)
+pub sign-fits : (es : List (List ℕ × Option Mark)) (bs : List ℕ) (e : Spelling × Option Mark) (l : ℕ) → maybe_entry_of (Some e) ≡ longest es bs
+    → l ≡ length (bytes_of e.0) → (0 < l) × (l ≤ length bs)
 sign-fits es bs e l h k =
     let P : Option (List ℕ × Option Mark) → Type 0 = λ x. FitsIn x (length bs) in
     let a = spelled e.0 in
@@ -78,7 +81,8 @@ taken-word-fits ks bs h =
     let b : length (take (word_length bs) bs) ≡ word_length bs = simp length-take (omega (arith, a)) in
     word-fits ks (take (word_length bs) bs) (length bs) (omega (arith, b, h)) (omega (arith, a, b))
 
-pub looked-up-fits : (ks : List (List ℕ × Reserved)) (bs : List ℕ) (n : ℕ) (r : Lexeme) → r ≡ word_lexeme ks (take n bs) → n ≡ word_length bs → 0 < word_length bs → Fits r (length bs)
+pub looked-up-fits : (ks : List (List ℕ × Reserved)) (bs : List ℕ) (n : ℕ) (r : Lexeme) → r ≡ word_lexeme ks (take n bs) → n ≡ word_length bs
+    → 0 < word_length bs → Fits r (length bs)
 looked-up-fits ks bs n r e h k =
     let P : Lexeme → Type 0 = λ x. Fits x (length bs) in
     subst P (sym (e ∙ ap (λ (x : ℕ). word_lexeme ks (take x bs)) h)) (taken-word-fits ks bs k)
@@ -90,7 +94,8 @@ over-limit limit (suc m) n (b ∷ bs) z h =
     let grows : n ≤ n * suc m = mul-up n m in
     go (over-limit limit (suc m) (n * suc m + digit_of b) bs z (omega (arith, grows, h))) (nat_lt (digit_of b) (suc m))
   where
-    go : up_to limit (digits_of (suc m) (n * suc m + digit_of b) bs) ≡ None → (x : Bool) → up_to limit (if x then digits_of (suc m) (n * suc m + digit_of b) bs else None) ≡ None
+    go : up_to limit (digits_of (suc m) (n * suc m + digit_of b) bs) ≡ None → (x : Bool)
+        → up_to limit (if x then digits_of (suc m) (n * suc m + digit_of b) bs else None) ≡ None
     go k true = k
     go k false = refl
 
@@ -100,11 +105,13 @@ over-limit limit (suc m) n (b ∷ bs) z h =
 over-digit : (limit base n b : ℕ) (bs : List ℕ) → 0 < base → limit < n * base + digit_of b → up_to limit (digits_of base n (b ∷ bs)) ≡ None
 over-digit limit base n b bs z k = go (over-limit limit base (n * base + digit_of b) bs z k) (nat_lt (digit_of b) base)
   where
-    go : up_to limit (digits_of base (n * base + digit_of b) bs) ≡ None → (x : Bool) → up_to limit (if x then digits_of base (n * base + digit_of b) bs else None) ≡ None
+    go : up_to limit (digits_of base (n * base + digit_of b) bs) ≡ None → (x : Bool)
+        → up_to limit (if x then digits_of base (n * base + digit_of b) bs else None) ≡ None
     go k true = k
     go k false = refl
 
-pub over-step : (limit base n d b : ℕ) (rest bs : List ℕ) (x : Option ℕ) → rest ≡ b ∷ bs → d ≡ digit_of b → 0 < base → limit < n * base + d → up_to limit (digits_of base n rest) ≡ x → None ≡ x
+pub over-step : (limit base n d b : ℕ) (rest bs : List ℕ) (x : Option ℕ) → rest ≡ b ∷ bs → d ≡ digit_of b → 0 < base → limit < n * base + d
+    → up_to limit (digits_of base n rest) ≡ x → None ≡ x
 over-step limit base n d b rest bs x e q z h p =
     let P : ℕ → Type 0 = λ y. limit < n * base + y in
     sym (over-digit limit base n b bs z (subst P q h)) ∙ sym (ap (λ (y : List ℕ). up_to limit (digits_of base n y)) e) ∙ p

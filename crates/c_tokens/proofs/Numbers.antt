@@ -1,15 +1,18 @@
 -- What the code computes of a run of digits is the constant that it is.
 use Rattle.std.proofs.lemmas.Bool.Decides.{nat_tests}
 use Rattle.std.proofs.lemmas.Option.{none-some, same_Some}
-use Rattle.std.proofs.Common.{◌≡◌, ◌⊎◌, ◌+◌, ◌*◌, ◌-◌, ◌<◌, ◌≤◌, ℕ, suc, List, [], ◌∷◌, ◌++◌, length, take, Bool, true, false, Option, Some, None, refl, sym, ap, subst, ◌∙◌, arith, if◌then◌else◌, nat_eq, nat_le, nat_lt, ◌&&◌, ◌||◌}
+use Rattle.std.proofs.Common.{◌≡◌, ◌⊎◌, ◌+◌, ◌*◌, ◌-◌, ◌<◌, ◌≤◌, ℕ, suc, List, [], ◌∷◌, ◌++◌, length, take, Bool, true, false, Option, Some, None, refl, sym}
+use Rattle.std.proofs.Common.{ap, subst, ◌∙◌, arith, if◌then◌else◌, nat_eq, nat_le, nat_lt, ◌&&◌, ◌||◌}
 use Rattle.c_tokens.specs.declared.lexer.Lexeme.{Lexeme}
 use Rattle.c_tokens.specs.declared.lexer.Lexeme.TheVariants.{Numeral, NoConstant}
 use Rattle.c_tokens.specs.declared.token.IntegerType.{IntegerType}
 use Rattle.c_tokens.specs.declared.token.IntegerType.TheVariants.{SignedInt, UnsignedInt}
 use Rattle.c_tokens.specs.declared.token.Literal.{Literal}
 use Rattle.c_tokens.specs.Lexing.{is_digit}
-use Rattle.c_tokens.specs.Digits.{digit_of, digits_of, plain_of, is_suffix, is_octal_or_hexadecimal, last_or, greatest_of, constant_type, within_limit, digits_in, constant_lexeme}
-use Rattle.c_tokens.specs.Constants.{IsDigitOf, figure, small_letter, capital_letter, IsNumber, number_end, number_more, IsInteger, decimal, octal, hexadecimal, IsConstant, without_suffix, with_suffix}
+use Rattle.c_tokens.specs.Digits.{digit_of, digits_of, plain_of, is_suffix, is_octal_or_hexadecimal, last_or, greatest_of, constant_type, within_limit}
+use Rattle.c_tokens.specs.Digits.{digits_in, constant_lexeme}
+use Rattle.c_tokens.specs.Constants.{IsDigitOf, figure, small_letter, capital_letter, IsNumber, number_end, number_more, IsInteger, decimal, octal, hexadecimal}
+use Rattle.c_tokens.specs.Constants.{IsConstant, without_suffix, with_suffix}
 
 abbrev is_small : ℕ → Bool
 is_small b = nat_le 97 b && nat_le b 102
@@ -90,7 +93,8 @@ value-number : (base n v : ℕ) (bs : List ℕ) → base ≤ 16 → digits_of ba
 value-number base n v [] few h = let Q : ℕ → Type 0 = λ x. IsNumber base n [] x in subst Q (same_Some n v h) number_end
 value-number base n v (b ∷ bs) few h = by (λ k. value-number base (n * base + digit_of b) v bs few k) (nat_lt (digit_of b) base) refl h
   where
-    by : (digits_of base (n * base + digit_of b) bs ≡ Some v → IsNumber base (n * base + digit_of b) bs v) → (x : Bool) → nat_lt (digit_of b) base ≡ x → (if x then digits_of base (n * base + digit_of b) bs else None) ≡ Some v → IsNumber base n (b ∷ bs) v
+    by : (digits_of base (n * base + digit_of b) bs ≡ Some v → IsNumber base (n * base + digit_of b) bs v) → (x : Bool) → nat_lt (digit_of b) base ≡ x
+        → (if x then digits_of base (n * base + digit_of b) bs else None) ≡ Some v → IsNumber base n (b ∷ bs) v
     by more true e h = number_more (value-digit base b few (below-is (digit_of b) base e)) (more h)
     by more false e h = absurd (none-some v h)
 
@@ -144,10 +148,14 @@ zero-is b h = grind (arith, nat_tests)
 
 integer-value : {digits : List ℕ} {greatest v : ℕ} → IsInteger digits greatest v → (plain_of digits ≡ Some v) × (greatest_plain digits ≡ greatest)
 integer-value (decimal {b = b} {bs = []} h n) = (number-value n, ap (λ (x : Bool). if x then 4294967295 else 2147483647) h)
-integer-value (decimal {b = b} {bs = c ∷ []} h n) =
-    (ap (λ (x : Bool). if x then digits_of 8 0 (c ∷ []) else digits_of 10 0 (b ∷ c ∷ [])) h ∙ number-value n, ap (λ (x : Bool). if x then 4294967295 else 2147483647) h)
+integer-value (decimal {b = b} {bs = c ∷ []} h n) = (
+  ap (λ (x : Bool). if x then digits_of 8 0 (c ∷ []) else digits_of 10 0 (b ∷ c ∷ [])) h
+      ∙ number-value n,
+  ap (λ (x : Bool). if x then 4294967295 else 2147483647) h,
+)
 integer-value (decimal {b = b} {bs = c ∷ d ∷ ds} h n) = (
-  ap (λ (x : Bool). if x then (if nat_eq c 120 || nat_eq c 88 then digits_of 16 0 (d ∷ ds) else digits_of 8 0 (c ∷ d ∷ ds)) else digits_of 10 0 (b ∷ c ∷ d ∷ ds)) h ∙ number-value n,
+  ap (λ (x : Bool). if x then (if nat_eq c 120 || nat_eq c 88 then digits_of 16 0 (d ∷ ds) else digits_of 8 0 (c ∷ d ∷ ds))
+      else digits_of 10 0 (b ∷ c ∷ d ∷ ds)) h ∙ number-value n,
   ap (λ (x : Bool). if x then 4294967295 else 2147483647) h,
 )
 integer-value (octal {bs = []} n) = (number-value n, refl)
@@ -179,12 +187,14 @@ value-integer (b ∷ []) v h = by (nat_eq b 48) refl h
     by false e h = decimal-of b v [] e h
 value-integer (b ∷ c ∷ []) v h = by (nat_eq b 48) refl h
   where
-    by : (x : Bool) → nat_eq b 48 ≡ x → (if x then digits_of 8 0 (c ∷ []) else digits_of 10 0 (b ∷ c ∷ [])) ≡ Some v → IsInteger (b ∷ c ∷ []) (greatest_plain (b ∷ c ∷ [])) v
+    by : (x : Bool) → nat_eq b 48 ≡ x → (if x then digits_of 8 0 (c ∷ []) else digits_of 10 0 (b ∷ c ∷ [])) ≡ Some v
+        → IsInteger (b ∷ c ∷ []) (greatest_plain (b ∷ c ∷ [])) v
     by true e h = octal-of b v (c ∷ []) e h
     by false e h = decimal-of b v (c ∷ []) e h
 value-integer (b ∷ c ∷ d ∷ ds) v h = by (nat_eq b 48) (nat_eq c 120 || nat_eq c 88) refl refl h
   where
-    by : (x y : Bool) → nat_eq b 48 ≡ x → nat_eq c 120 || nat_eq c 88 ≡ y → (if x then (if y then digits_of 16 0 (d ∷ ds) else digits_of 8 0 (c ∷ d ∷ ds)) else digits_of 10 0 (b ∷ c ∷ d ∷ ds)) ≡ Some v →
+    by : (x y : Bool) → nat_eq b 48 ≡ x → nat_eq c 120 || nat_eq c 88 ≡ y
+        → (if x then (if y then digits_of 16 0 (d ∷ ds) else digits_of 8 0 (c ∷ d ∷ ds)) else digits_of 10 0 (b ∷ c ∷ d ∷ ds)) ≡ Some v →
         IsInteger (b ∷ c ∷ d ∷ ds) (greatest_plain (b ∷ c ∷ d ∷ ds)) v
     by true true e f h =
         let P : ℕ → Type 0 = λ x. IsInteger (x ∷ c ∷ d ∷ ds) (greatest_plain (x ∷ c ∷ d ∷ ds)) v in
@@ -247,23 +257,27 @@ abbrev numeral : List ℕ → ℕ → IntegerType → Lexeme
 numeral run v k = Numeral (record { value = v; integer_type = k }) (length run)
 
 -- from the parts that the code computes
-lexeme-is : (run digits : List ℕ) (limit v : ℕ) (k : IntegerType) → greatest_of run ≡ limit → digits_in run ≡ digits → plain_of digits ≡ Some v → v ≤ limit → constant_type run v ≡ k → constant_lexeme run ≡ numeral run v k
+lexeme-is : (run digits : List ℕ) (limit v : ℕ) (k : IntegerType) → greatest_of run ≡ limit → digits_in run ≡ digits → plain_of digits ≡ Some v → v ≤ limit
+    → constant_type run v ≡ k → constant_lexeme run ≡ numeral run v k
 lexeme-is run digits limit v k e f g le h =
     ap (λ (n : ℕ). within_limit run n (plain_of (digits_in run))) e ∙ ap (λ (x : List ℕ). within_limit run limit (plain_of x)) f
-    ∙ ap (λ (x : Option ℕ). within_limit run limit x) g ∙ ap (λ (x : Bool). if x then numeral run v (constant_type run v) else NoConstant) (within-true v limit le) ∙ ap (numeral run v) h
+    ∙ ap (λ (x : Option ℕ). within_limit run limit x) g ∙ ap (λ (x : Bool). if x then numeral run v (constant_type run v) else NoConstant)
+    (within-true v limit le) ∙ ap (numeral run v) h
 
 -- a constant is found
 pub constant-of : {run : List ℕ} {c : Literal} → IsConstant run c → constant_lexeme run ≡ Numeral c (length run)
 constant-of (without_suffix {digits = digits} {greatest = greatest} {v = v} integer le) =
     let plain = integer-not-suffix integer in
     let value = integer-value integer in
-    lexeme-is digits digits greatest v (plain_type v) (greatest-plain digits plain ∙ value.1) (ap (λ (x : Bool). if x then take (length digits - 1) digits else digits) plain) value.0 le (type-plain digits v plain)
+    lexeme-is digits digits greatest v (plain_type v) (greatest-plain digits plain ∙ value.1)
+    (ap (λ (x : Bool). if x then take (length digits - 1) digits else digits) plain) value.0 le (type-plain digits v plain)
 constant-of (with_suffix {digits = digits} {v = v} {u = u} integer le suffix) =
     let run : List ℕ = digits ++ u ∷ [] in
     let last : is_suffix (last_or 0 (digits ++ u ∷ [])) ≡ true = ap is_suffix (last-behind 0 u digits) ∙ is-suffix u suffix in
     let value = integer-value integer in
     lexeme-is (digits ++ u ∷ []) digits 4294967295 v UnsignedInt (greatest-suffixed (digits ++ u ∷ []) last)
-    (ap (λ (x : Bool). if x then take (length (digits ++ u ∷ []) - 1) (digits ++ u ∷ []) else digits ++ u ∷ []) last ∙ without-last u digits) value.0 le (type-suffixed (digits ++ u ∷ []) v last)
+    (ap (λ (x : Bool). if x then take (length (digits ++ u ∷ []) - 1) (digits ++ u ∷ []) else digits ++ u ∷ []) last ∙ without-last u digits) value.0 le
+    (type-suffixed (digits ++ u ∷ []) v last)
 
 -- what is found is a constant
 pub data Known (run : List ℕ) : Type 0 where
@@ -275,15 +289,18 @@ known run some = by-suffix (is_suffix (last_or 0 run)) refl
   where
     none-of : (digits : List ℕ) (limit : ℕ) → greatest_of run ≡ limit → digits_in run ≡ digits → plain_of digits ≡ None → constant_lexeme run ≡ NoConstant
     none-of digits limit e f g =
-        ap (λ (n : ℕ). within_limit run n (plain_of (digits_in run))) e ∙ ap (λ (x : List ℕ). within_limit run limit (plain_of x)) f ∙ ap (λ (x : Option ℕ). within_limit run limit x) g
+        ap (λ (n : ℕ). within_limit run n (plain_of (digits_in run))) e ∙ ap (λ (x : List ℕ). within_limit run limit (plain_of x)) f
+        ∙ ap (λ (x : Option ℕ). within_limit run limit x) g
 
-    beyond : (digits : List ℕ) (limit v : ℕ) → greatest_of run ≡ limit → digits_in run ≡ digits → plain_of digits ≡ Some v → nat_le v limit ≡ false → constant_lexeme run ≡ NoConstant
+    beyond : (digits : List ℕ) (limit v : ℕ) → greatest_of run ≡ limit → digits_in run ≡ digits → plain_of digits ≡ Some v → nat_le v limit ≡ false
+        → constant_lexeme run ≡ NoConstant
     beyond digits limit v e f g h =
         ap (λ (n : ℕ). within_limit run n (plain_of (digits_in run))) e ∙ ap (λ (x : List ℕ). within_limit run limit (plain_of x)) f
         ∙ ap (λ (x : Option ℕ). within_limit run limit x) g ∙ ap (λ (x : Bool). if x then numeral run v (constant_type run v) else NoConstant) h
 
     without : is_suffix (last_or 0 run) ≡ false → (x : Option ℕ) → plain_of run ≡ x → Known run
-    without plain None g = is_none (none-of run (greatest_plain run) (greatest-plain run plain) (ap (λ (x : Bool). if x then take (length run - 1) run else run) plain) g)
+    without plain None g = is_none (none-of run (greatest_plain run) (greatest-plain run plain)
+        (ap (λ (x : Bool). if x then take (length run - 1) run else run) plain) g)
     without plain (Some v) g = at (nat_le v (greatest_plain run)) refl
       where
         same : digits_in run ≡ run
@@ -292,7 +309,8 @@ known run some = by-suffix (is_suffix (last_or 0 run)) refl
         at : (x : Bool) → nat_le v (greatest_plain run) ≡ x → Known run
         at true h =
             is_constant (record { value = v; integer_type = plain_type v })
-            (lexeme-is run run (greatest_plain run) v (plain_type v) (greatest-plain run plain) same g (within-is v (greatest_plain run) h) (type-plain run v plain))
+            (lexeme-is run run (greatest_plain run) v (plain_type v) (greatest-plain run plain) same g (within-is v (greatest_plain run) h)
+            (type-plain run v plain))
             (without_suffix (value-integer run v g) (within-is v (greatest_plain run) h))
         at false h = is_none (beyond run (greatest_plain run) v (greatest-plain run plain) same g h)
 
@@ -301,7 +319,8 @@ known run some = by-suffix (is_suffix (last_or 0 run)) refl
       where
         digits-are : digits_in run ≡ digits
         digits-are =
-            ap (λ (x : Bool). if x then take (length run - 1) run else run) last ∙ ap (λ (x : List ℕ). take (length x - 1) x) apart ∙ without-last (last_or 0 run) digits
+            ap (λ (x : Bool). if x then take (length run - 1) run else run) last ∙ ap (λ (x : List ℕ). take (length x - 1) x) apart
+            ∙ without-last (last_or 0 run) digits
 
         by : (v : ℕ) → plain_of digits ≡ Some v → (x : Bool) → nat_le v 4294967295 ≡ x → Known run
         by v g true h =

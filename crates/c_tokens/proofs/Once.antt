@@ -3,8 +3,9 @@ use Rattle.std.proofs.Common.{◌≡◌, ◌+◌, ℕ, List, ◌∷◌, drop, Bo
 use Rattle.c_tokens.specs.declared.token.Token.{Token}
 use Rattle.c_tokens.specs.declared.lexer.Step.{Step}
 use Rattle.c_tokens.specs.declared.lexer.Step.TheVariants.{Done, Skip, Take, Stop}
-use Rattle.c_tokens.specs.Texts.{IsStep, step_of, is_oversize, Lexes, lexes_end, lexes_skip, lexes_take, LexStops, stops_here, stops_size, stops_skip, stops_take}
-use Rattle.c_tokens.specs.declared.lexer.Refusal.{Refusal}
+use Rattle.c_tokens.specs.Texts.{IsStep, step_of, is_oversize, Lexes, lexes_end, lexes_skip, lexes_take, LexStops, stops_here, stops_size, stops_skip}
+use Rattle.c_tokens.specs.Texts.{stops_take}
+use Rattle.c_tokens.specs.declared.fault.Refusal.{Refusal}
 use Rattle.c_tokens.proofs.Pieces.{next-once}
 
 step-once : (at : ℕ) (bs : List ℕ) (s t : Step) → IsStep at bs s → IsStep at bs t → s ≡ t
@@ -40,7 +41,8 @@ lexes-once {at = at} {bs = bs} {before = before} (lexes_skip {n = n} e c) others
 lexes-once {at = at} {bs = bs} (lexes_skip {n = n} e c) _ _ (lexes_take {n = m} {t = u} f k d) = absurd (skip-take u m n (step-once at bs _ _ e f))
 lexes-once {at = at} {bs = bs} (lexes_take {n = n} {t = t} e h c) others there (lexes_end f) = absurd (done-take t n (step-once at bs _ _ f e))
 lexes-once {at = at} {bs = bs} (lexes_take {n = n} {t = t} e h c) others there (lexes_skip {n = m} f d) = absurd (skip-take t n m (step-once at bs _ _ f e))
-lexes-once {at = at} {bs = bs} {before = before} (lexes_take {n = n} {tokens = ts} {t = t} e h c) _ _ (lexes_take {n = m} {places = ks} {tokens = us} {t = u} f k d) =
+lexes-once {at = at} {bs = bs} {before = before} (lexes_take {n = n} {tokens = ts} {t = t} e h c) _ _
+    (lexes_take {n = m} {places = ks} {tokens = us} {t = u} f k d) =
     let same = step-once at bs _ _ e f in
     let q : t ≡ u = take-token t u n m same in
     let P : ℕ → Type 0 = λ x. Lexes (at + x) (drop x bs) (u ∷ before) us ks in
@@ -61,7 +63,8 @@ true-false : {x : Bool} → x ≡ true → x ≡ false → ⊥
 true-false e f = cc
 
 -- a text that is refused has no tokens
-pub never-lexes : {at : ℕ} {bs : List ℕ} {before : List Token} {r : Refusal} {k : ℕ} → LexStops at bs before r k → (tokens : List Token) (places : List ℕ) → Lexes at bs before tokens places → ⊥
+pub never-lexes : {at : ℕ} {bs : List ℕ} {before : List Token} {r : Refusal} {k : ℕ} → LexStops at bs before r k → (tokens : List Token) (places : List ℕ)
+    → Lexes at bs before tokens places → ⊥
 never-lexes {at = at} {bs = bs} (stops_here {k = k} {r = r} e) ts ks (lexes_end f) = stop-done r k (step-once at bs _ _ e f)
 never-lexes {at = at} {bs = bs} (stops_here {k = k} {r = r} e) ts ks (lexes_skip {n = m} f d) = stop-skip r k m (step-once at bs _ _ e f)
 never-lexes {at = at} {bs = bs} (stops_here {k = k} {r = r} e) _ _ (lexes_take {n = m} {t = u} f h d) = stop-take r k m u (step-once at bs _ _ e f)
@@ -90,7 +93,8 @@ stop-distance : (r q : Refusal) (k m : ℕ) → Stop r k ≡ Stop q m → k ≡ 
 stop-distance r q k m e = cc
 
 -- a text is refused for one reason at one place
-pub stops-once : {at : ℕ} {bs : List ℕ} {before : List Token} {r : Refusal} {k : ℕ} → LexStops at bs before r k → (q : Refusal) (j : ℕ) → LexStops at bs before q j → (r ≡ q) × (k ≡ j)
+pub stops-once : {at : ℕ} {bs : List ℕ} {before : List Token} {r : Refusal} {k : ℕ} → LexStops at bs before r k → (q : Refusal) (j : ℕ)
+    → LexStops at bs before q j → (r ≡ q) × (k ≡ j)
 stops-once {at = at} {bs = bs} (stops_here {k = k} {r = r} e) _ _ (stops_here {k = m} {r = q} f) =
     let same = step-once at bs _ _ e f in
     (stop-refusal r q k m same, ap (λ (x : ℕ). at + x) (stop-distance r q k m same))

@@ -1,5 +1,6 @@
 -- Each piece is what the tests, one after another, say that it is.
-use Rattle.std.proofs.Common.{◌+◌, ◌≡◌, ℕ, List, [], ◌∷◌, length, take, Bool, true, false, Option, Some, None, refl, sym, ap, subst, ◌∙◌, arith, if◌then◌else◌, nat_eq, ◌&&◌}
+use Rattle.std.proofs.Common.{◌+◌, ◌≡◌, ℕ, List, [], ◌∷◌, length, take, Bool, true, false, Option, Some, None, refl, sym, ap, subst, ◌∙◌, arith, if◌then◌else◌}
+use Rattle.std.proofs.Common.{nat_eq, ◌&&◌}
 use Rattle.c_tokens.specs.declared.token.Mark.{Mark}
 use Rattle.c_tokens.specs.declared.lexer.Lexeme.{Lexeme}
 use Rattle.c_tokens.specs.declared.lexer.Lexeme.TheVariants.{Separator, Numeral, Refused, NoConstant}
@@ -9,10 +10,13 @@ use Rattle.c_tokens.proofs.Numbers.{Known, is_constant, is_none, known, constant
 use Rattle.c_tokens.specs.Lexing.{is_space, is_letter, is_digit, is_front, signs, keywords, word_lexeme}
 use Rattle.c_tokens.specs.Digits.{constant_lexeme}
 use Rattle.c_tokens.specs.Fronts.{lexeme_of}
-use Rattle.c_tokens.specs.Pieces.{word_end, IsRun, run_end, run_more, IsClosed, IsOpen, entry_in, closed_comment, IsPiece, a_space, a_word, a_constant, no_constant, an_operator, an_unused_operator, a_line, a_comment, an_open_comment, a_stray_byte, IsNext, at_end, at_piece}
+use Rattle.c_tokens.specs.Pieces.{word_end, IsRun, run_end, run_more, IsClosed, IsOpen, entry_in, closed_comment, IsPiece, a_space, a_word, a_constant}
+use Rattle.c_tokens.specs.Pieces.{no_constant, an_operator, an_unused_operator, a_line, a_comment, an_open_comment, a_stray_byte, IsNext, at_end, at_piece}
 use Rattle.c_tokens.proofs.Shapes as Shapes
-use Rattle.c_tokens.proofs.Shapes.{IsShape, IsLongestShape, IsShapeNext, closed_meaning, operator_meaning, or_operator, or_comment, or_number, or_word, meaning_of}
-use Rattle.c_tokens.proofs.Finding.{space-letter, space-digit, letter-digit, digit-goes, closed-length, open-length, operator-begins, plain-meaning, Plain, found-shape, shape-once}
+use Rattle.c_tokens.proofs.Shapes.{IsShape, IsLongestShape, IsShapeNext, closed_meaning, operator_meaning, or_operator, or_comment, or_number, or_word}
+use Rattle.c_tokens.proofs.Shapes.{meaning_of}
+use Rattle.c_tokens.proofs.Finding.{space-letter, space-digit, letter-digit, digit-goes, closed-length, open-length, operator-begins, plain-meaning, Plain}
+use Rattle.c_tokens.proofs.Finding.{found-shape, shape-once}
 
 is-false : (x : Bool) → (x ≡ true → ⊥) → x ≡ false
 is-false true h = absurd (h refl)
@@ -94,7 +98,8 @@ none-is b bs none = by (known (b ∷ bs) (omega arith))
 byte-piece : (b : ℕ) → IsPiece (b ∷ []) (meaning_of (b ∷ []))
 byte-piece b = by-space (is_space b) refl
   where
-    by-spelling : is_space b ≡ false → is_letter b ≡ false → is_digit b ≡ false → (x : Option (Option Mark)) → entry_in signs (b ∷ []) ≡ x → IsPiece (b ∷ []) (meaning_of (b ∷ []))
+    by-spelling : is_space b ≡ false → is_letter b ≡ false → is_digit b ≡ false → (x : Option (Option Mark)) → entry_in signs (b ∷ []) ≡ x
+        → IsPiece (b ∷ []) (meaning_of (b ∷ []))
     by-spelling s l d None h = along (stray-is b s l d h) (a_stray_byte s l d h)
     by-spelling s l d (Some m) h = operator-piece (b ∷ []) m h
 

@@ -1,5 +1,6 @@
 -- Places within a scan of some bytes.
-use Rattle.std.proofs.Common.{◌≡◌, ◌<◌, ◌≤◌, ◌+◌, ℕ, suc, List, [], ◌∷◌, length, Bool, true, false, Option, Some, None, refl, sym, ap, subst, ◌∙◌, arith, if◌then◌else◌, nat_eq, ◌&&◌, ◌||◌}
+use Rattle.std.proofs.Common.{◌≡◌, ◌<◌, ◌≤◌, ◌+◌, ℕ, suc, List, [], ◌∷◌, length, Bool, true, false, Option, Some, None, refl, sym, ap, subst, ◌∙◌, arith}
+use Rattle.std.proofs.Common.{if◌then◌else◌, nat_eq, ◌&&◌, ◌||◌, codes}
 use Rattle.c_tokens.specs.Lexing.{is_word, goes_on, is_exponent, is_front, one_more, comment_length, escape_at}
 use Rattle.c_tokens.specs.Fronts.{word_length, run_length, line_length}
 
@@ -33,7 +34,8 @@ pub record Runs (text rest : List ℕ) (after : Bool) (n : ℕ) : Type 0 where
   pub resumes : run_length false text ≡ n + run_length after rest
   pub place : n + length rest ≡ length text
 
-pub run-on : (text rest : List ℕ) (after : Bool) (n b : ℕ) (bs : List ℕ) → Runs text rest after n → rest ≡ b ∷ bs → goes_on after b ≡ true → Runs text bs (is_exponent b) (n + 1)
+pub run-on : (text rest : List ℕ) (after : Bool) (n b : ℕ) (bs : List ℕ) → Runs text rest after n → rest ≡ b ∷ bs → goes_on after b ≡ true
+    → Runs text bs (is_exponent b) (n + 1)
 run-on text rest after n b bs w e h =
     let P : List ℕ → Type 0 = λ x. Runs text x after n in
     let v : Runs text (b ∷ bs) after n = subst P e w in
@@ -42,7 +44,8 @@ run-on text rest after n b bs w e h =
     let d = v.place in
     record { resumes = omega (arith, a, c); place = omega (arith, d) }
 
-pub run-stops : (text rest : List ℕ) (after : Bool) (n b : ℕ) (bs : List ℕ) → Runs text rest after n → rest ≡ b ∷ bs → goes_on after b ≡ false → n ≡ run_length false text
+pub run-stops : (text rest : List ℕ) (after : Bool) (n b : ℕ) (bs : List ℕ) → Runs text rest after n → rest ≡ b ∷ bs → goes_on after b ≡ false
+    → n ≡ run_length false text
 run-stops text rest after n b bs w e h =
     let a : run_length after (b ∷ bs) ≡ 0 = ap (λ (x : Bool). if x then suc (run_length (is_exponent b) bs) else 0) h in
     let c = w.resumes in
@@ -94,16 +97,17 @@ past-more : (n : ℕ) (x : Option ℕ) → past n (one_more x) ≡ past (n + 1) 
 past-more n None = refl
 past-more n (Some k) = let e : n + suc k ≡ (n + 1) + k = omega arith in ap (λ (x : ℕ). Some x) e
 
-pub comment-step : (text rest : List ℕ) (n b : ℕ) (bs : List ℕ) → Comments text rest n → rest ≡ b ∷ bs → is_front (42 ∷ 47 ∷ []) rest ≡ false → Comments text bs (n + 1)
+pub comment-step : (text rest : List ℕ) (n b : ℕ) (bs : List ℕ) → Comments text rest n → rest ≡ b ∷ bs → is_front (codes "*/") rest ≡ false
+    → Comments text bs (n + 1)
 comment-step text rest n b bs w e g =
     let P : List ℕ → Type 0 = λ x. Comments text x n in
     let v : Comments text (b ∷ bs) n = subst P e w in
-    let h : is_front (42 ∷ 47 ∷ []) (b ∷ bs) ≡ false = ap (is_front (42 ∷ 47 ∷ [])) (sym e) ∙ g in
+    let h : is_front (codes "*/") (b ∷ bs) ≡ false = ap (is_front (codes "*/")) (sym e) ∙ g in
     let a : comment_length (b ∷ bs) ≡ one_more (comment_length bs) = ap (λ (x : Bool). if x then Some 2 else one_more (comment_length bs)) h in
     let d = v.place in
     record { resumes = v.resumes ∙ ap (past n) a ∙ past-more n (comment_length bs); place = omega (arith, d) }
 
-front-comment : (rest : List ℕ) → is_front (42 ∷ 47 ∷ []) rest ≡ true → (comment_length rest ≡ Some 2) × (2 ≤ length rest)
+front-comment : (rest : List ℕ) → is_front (codes "*/") rest ≡ true → (comment_length rest ≡ Some 2) × (2 ≤ length rest)
 front-comment [] h = cc
 front-comment (b ∷ []) h = absurd (no-pair (nat_eq 42 b) h)
   where
@@ -112,7 +116,8 @@ front-comment (b ∷ []) h = absurd (no-pair (nat_eq 42 b) h)
     no-pair false h = cc
 front-comment (b ∷ c ∷ bs) h = (ap (λ (x : Bool). if x then Some 2 else one_more (comment_length (c ∷ bs))) h, omega arith)
 
-pub comment-closes : (text rest : List ℕ) (n : ℕ) → Comments text rest n → is_front (42 ∷ 47 ∷ []) rest ≡ true → (Some (n + 2) ≡ comment_length text) × (n + 2 ≤ length text)
+pub comment-closes : (text rest : List ℕ) (n : ℕ) → Comments text rest n → is_front (codes "*/") rest ≡ true
+    → (Some (n + 2) ≡ comment_length text) × (n + 2 ≤ length text)
 comment-closes text rest n w h =
     let x = front-comment rest h in
     let d = w.place in
@@ -125,17 +130,19 @@ pub record Escapes (text rest : List ℕ) (n : ℕ) : Type 0 where
   pub resumes : escape_at text ≡ past n (escape_at rest)
   pub place : n + length rest ≡ length text
 
-pub escape-step : (text rest : List ℕ) (n b : ℕ) (bs : List ℕ) → Escapes text rest n → rest ≡ b ∷ bs → nat_eq b 92 ≡ false → is_front (63 ∷ 63 ∷ []) rest ≡ false → Escapes text bs (n + 1)
+pub escape-step : (text rest : List ℕ) (n b : ℕ) (bs : List ℕ) → Escapes text rest n → rest ≡ b ∷ bs → nat_eq b 92 ≡ false → is_front (codes "??") rest ≡ false
+    → Escapes text bs (n + 1)
 escape-step text rest n b bs w e g f =
     let P : List ℕ → Type 0 = λ x. Escapes text x n in
     let v : Escapes text (b ∷ bs) n = subst P e w in
-    let h : is_front (63 ∷ 63 ∷ []) (b ∷ bs) ≡ false = ap (is_front (63 ∷ 63 ∷ [])) (sym e) ∙ f in
-    let k : nat_eq b 92 || is_front (63 ∷ 63 ∷ []) (b ∷ bs) ≡ false = ap (λ (x : Bool). x || is_front (63 ∷ 63 ∷ []) (b ∷ bs)) g ∙ h in
+    let h : is_front (codes "??") (b ∷ bs) ≡ false = ap (is_front (codes "??")) (sym e) ∙ f in
+    let k : nat_eq b 92 || is_front (codes "??") (b ∷ bs) ≡ false = ap (λ (x : Bool). x || is_front (codes "??") (b ∷ bs)) g ∙ h in
     let a : escape_at (b ∷ bs) ≡ one_more (escape_at bs) = ap (λ (x : Bool). if x then Some 0 else one_more (escape_at bs)) k in
     let d = v.place in
     record { resumes = v.resumes ∙ ap (past n) a ∙ past-more n (escape_at bs); place = omega (arith, d) }
 
-pub escape-found : (text rest : List ℕ) (n b : ℕ) (bs : List ℕ) → Escapes text rest n → rest ≡ b ∷ bs → nat_eq b 92 || is_front (63 ∷ 63 ∷ []) (b ∷ bs) ≡ true → (Some n ≡ escape_at text) × (n < length text)
+pub escape-found : (text rest : List ℕ) (n b : ℕ) (bs : List ℕ) → Escapes text rest n → rest ≡ b ∷ bs → nat_eq b 92 || is_front (codes "??") (b ∷ bs) ≡ true
+    → (Some n ≡ escape_at text) × (n < length text)
 escape-found text rest n b bs w e h =
     let a : escape_at (b ∷ bs) ≡ Some 0 = ap (λ (x : Bool). if x then Some 0 else one_more (escape_at bs)) h in
     let d = w.place in
@@ -147,11 +154,14 @@ or-true : (x : Bool) → x || true ≡ true
 or-true true = refl
 or-true false = refl
 
-pub escape-backslash : (text rest : List ℕ) (n b : ℕ) (bs : List ℕ) → Escapes text rest n → rest ≡ b ∷ bs → b ≡ 92 → (Some n ≡ escape_at text) × (n < length text)
-escape-backslash text rest n b bs w e h = escape-found text rest n b bs w e (ap (λ (x : ℕ). nat_eq x 92 || is_front (63 ∷ 63 ∷ []) (b ∷ bs)) h)
+pub escape-backslash : (text rest : List ℕ) (n b : ℕ) (bs : List ℕ) → Escapes text rest n → rest ≡ b ∷ bs → b ≡ 92
+    → (Some n ≡ escape_at text) × (n < length text)
+escape-backslash text rest n b bs w e h = escape-found text rest n b bs w e (ap (λ (x : ℕ). nat_eq x 92 || is_front (codes "??") (b ∷ bs)) h)
 
-pub escape-marks : (text rest : List ℕ) (n b : ℕ) (bs : List ℕ) → Escapes text rest n → rest ≡ b ∷ bs → is_front (63 ∷ 63 ∷ []) rest ≡ true → (Some n ≡ escape_at text) × (n < length text)
-escape-marks text rest n b bs w e h = escape-found text rest n b bs w e (ap (λ (x : Bool). nat_eq b 92 || x) (ap (is_front (63 ∷ 63 ∷ [])) (sym e) ∙ h) ∙ or-true (nat_eq b 92))
+pub escape-marks : (text rest : List ℕ) (n b : ℕ) (bs : List ℕ) → Escapes text rest n → rest ≡ b ∷ bs → is_front (codes "??") rest ≡ true
+    → (Some n ≡ escape_at text) × (n < length text)
+escape-marks text rest n b bs w e h = escape-found text rest n b bs w e
+    (ap (λ (x : Bool). nat_eq b 92 || x) (ap (is_front (codes "??")) (sym e) ∙ h) ∙ or-true (nat_eq b 92))
 
 pub escape-ends : (text rest : List ℕ) (n : ℕ) → Escapes text rest n → rest ≡ [] → None ≡ escape_at text
 escape-ends text rest n w e = sym (w.resumes ∙ ap (λ (x : List ℕ). past n (escape_at x)) e)

@@ -1,5 +1,5 @@
 -- Pieces by their bytes alone, and what they are by one test after another: the way in which the longest one is found.
-use Rattle.std.specs.Prelude.{◌≡◌, ◌<◌, ◌≤◌, ℕ, List, [], ◌∷◌, length, drop, take, true, false, if◌then◌else◌, Option, Some, None}
+use Rattle.std.specs.Prelude.{◌≡◌, ◌<◌, ◌≤◌, ℕ, List, [], ◌∷◌, length, drop, take, true, false, if◌then◌else◌, Option, Some, None, codes}
 use Rattle.c_tokens.specs.declared.token.Mark.{Mark}
 use Rattle.c_tokens.specs.declared.lexer.Lexeme.{Lexeme}
 use Rattle.c_tokens.specs.declared.lexer.Lexeme.TheVariants.{End, Separator, Sign, Refused}
@@ -37,10 +37,10 @@ abbrev pub or_operator : ℕ → List ℕ → Lexeme
 or_operator b bs = operator_meaning (b ∷ bs) (entry_in signs (b ∷ bs))
 
 abbrev pub or_line : ℕ → List ℕ → Lexeme
-or_line b bs = if is_front (47 ∷ 47 ∷ []) (b ∷ bs) then closed_comment (length (b ∷ bs)) (drop 1 bs) else or_operator b bs
+or_line b bs = if is_front (codes "//") (b ∷ bs) then closed_comment (length (b ∷ bs)) (drop 1 bs) else or_operator b bs
 
 abbrev pub or_comment : ℕ → List ℕ → Lexeme
-or_comment b bs = if is_front (47 ∷ 42 ∷ []) (b ∷ bs) then closed_meaning (length (b ∷ bs)) (drop 1 bs) (comment_length (drop 1 bs)) else or_line b bs
+or_comment b bs = if is_front (codes "/*") (b ∷ bs) then closed_meaning (length (b ∷ bs)) (drop 1 bs) (comment_length (drop 1 bs)) else or_line b bs
 
 abbrev pub or_number : ℕ → List ℕ → Lexeme
 or_number b bs = if is_digit b then constant_lexeme (b ∷ bs) else or_comment b bs

@@ -25,7 +25,8 @@ abbrev pub plain_of : List ℕ → Option ℕ
 plain_of [] = None
 plain_of (b ∷ []) = digits_of 10 0 (b ∷ [])
 plain_of (b ∷ c ∷ []) = if nat_eq b 48 then digits_of 8 0 (c ∷ []) else digits_of 10 0 (b ∷ c ∷ [])
-plain_of (b ∷ c ∷ d ∷ ds) = if nat_eq b 48 then (if nat_eq c 120 || nat_eq c 88 then digits_of 16 0 (d ∷ ds) else digits_of 8 0 (c ∷ d ∷ ds)) else digits_of 10 0 (b ∷ c ∷ d ∷ ds)
+plain_of (b ∷ c ∷ d ∷ ds) = if nat_eq b 48 then (if nat_eq c 120 || nat_eq c 88 then digits_of 16 0 (d ∷ ds) else digits_of 8 0 (c ∷ d ∷ ds))
+    else digits_of 10 0 (b ∷ c ∷ d ∷ ds)
 
 abbrev pub is_suffix : ℕ → Bool
 is_suffix b = nat_eq b 117 || nat_eq b 85

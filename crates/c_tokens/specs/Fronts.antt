@@ -1,9 +1,10 @@
 -- How the front of a text is cut: the words of the private functions, which find the longest piece.
-use Rattle.std.specs.Prelude.{◌+◌, ℕ, suc, List, [], ◌∷◌, length, drop, take, Bool, true, false, nat_eq, nat_lt, if◌then◌else◌, Option, Some, None}
+use Rattle.std.specs.Prelude.{◌+◌, ℕ, suc, List, [], ◌∷◌, length, drop, take, Bool, true, false, nat_eq, nat_lt, if◌then◌else◌, Option, Some, None, codes}
 use Rattle.c_tokens.specs.declared.token.Mark.{Mark}
 use Rattle.c_tokens.specs.declared.lexer.Lexeme.{Lexeme}
 use Rattle.c_tokens.specs.declared.lexer.Lexeme.TheVariants.{End, Separator, Sign, Refused}
-use Rattle.c_tokens.specs.Lexing.{is_space, is_letter, is_digit, is_word, is_exponent, goes_on, is_front, comment_length, escape_at, signs, keywords, word_lexeme}
+use Rattle.c_tokens.specs.Lexing.{is_space, is_letter, is_digit, is_word, is_exponent, goes_on, is_front, comment_length, escape_at, signs, keywords}
+use Rattle.c_tokens.specs.Lexing.{word_lexeme}
 use Rattle.c_tokens.specs.Digits.{constant_lexeme}
 
 abbrev pub word_length : List ℕ → ℕ
@@ -53,10 +54,10 @@ abbrev pub sign_at : ℕ → List ℕ → Lexeme
 sign_at b bs = sign_lexeme (longest signs (b ∷ bs))
 
 abbrev pub line_at : ℕ → List ℕ → Lexeme
-line_at b bs = if is_front (47 ∷ 47 ∷ []) (b ∷ bs) then line_lexeme (line_length (drop 1 bs)) (drop 1 bs) else sign_at b bs
+line_at b bs = if is_front (codes "//") (b ∷ bs) then line_lexeme (line_length (drop 1 bs)) (drop 1 bs) else sign_at b bs
 
 abbrev pub comment_at : ℕ → List ℕ → Lexeme
-comment_at b bs = if is_front (47 ∷ 42 ∷ []) (b ∷ bs) then comment_lexeme (comment_length (drop 1 bs)) (drop 1 bs) else line_at b bs
+comment_at b bs = if is_front (codes "/*") (b ∷ bs) then comment_lexeme (comment_length (drop 1 bs)) (drop 1 bs) else line_at b bs
 
 abbrev pub constant_at : ℕ → List ℕ → Lexeme
 constant_at b bs = if is_digit b then constant_lexeme (take (run_length false (b ∷ bs)) (b ∷ bs)) else comment_at b bs

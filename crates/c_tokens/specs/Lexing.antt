@@ -2,7 +2,10 @@
 use Rattle.std.specs.Prelude.{ℕ, suc, List, [], ◌∷◌, length, Bool, true, false, nat_eq, nat_le, ◌&&◌, ◌||◌, if◌then◌else◌, Option, Some, None, codes}
 use Rattle.c_tokens.specs.declared.token.JumpWord.TheVariants.{Break, Continue, Return}
 use Rattle.c_tokens.specs.declared.token.Mark.{Mark}
-use Rattle.c_tokens.specs.declared.token.Mark.TheVariants.{Int, Unsigned, Void, If, Else, While, For, Semicolon, Comma, LeftBrace, RightBrace, LeftParen, RightParen, LeftBracket, RightBracket, Assign, Question, Colon, Plus, Minus, Star, Slash, Percent, Bang, Tilde, BarBar, AndAnd, Bar, Caret, Ampersand, EqualEqual, BangEqual, LessSign, GreaterSign, LessEqual, GreaterEqual, LessLess, GreaterGreater}
+use Rattle.c_tokens.specs.declared.token.Mark.TheVariants.{Int, Unsigned, Void, If, Else, While, For, Semicolon, Comma, LeftBrace, RightBrace, LeftParen}
+use Rattle.c_tokens.specs.declared.token.Mark.TheVariants.{RightParen, LeftBracket, RightBracket, Assign, Question, Colon, Plus, Minus, Star, Slash, Percent}
+use Rattle.c_tokens.specs.declared.token.Mark.TheVariants.{Bang, Tilde, BarBar, AndAnd, Bar, Caret, Ampersand, EqualEqual, BangEqual, LessSign, GreaterSign}
+use Rattle.c_tokens.specs.declared.token.Mark.TheVariants.{LessEqual, GreaterEqual, LessLess, GreaterGreater}
 use Rattle.c_tokens.specs.declared.lexer.Lexeme.{Lexeme}
 use Rattle.c_tokens.specs.declared.lexer.Lexeme.TheVariants.{Word, Sign, Leap, Refused}
 use Rattle.c_tokens.specs.declared.keywords.Reserved.{Reserved}
@@ -39,12 +42,12 @@ one_more (Some n) = Some (suc n)
 -- how far it is past the next `*/`
 abbrev pub comment_length : List ℕ → Option ℕ
 comment_length [] = None
-comment_length (b ∷ bs) = if is_front (42 ∷ 47 ∷ []) (b ∷ bs) then Some 2 else one_more (comment_length bs)
+comment_length (b ∷ bs) = if is_front (codes "*/") (b ∷ bs) then Some 2 else one_more (comment_length bs)
 
 -- where the first backslash stands, or the first two question marks in a row
 abbrev pub escape_at : List ℕ → Option ℕ
 escape_at [] = None
-escape_at (b ∷ bs) = if nat_eq b 92 || is_front (63 ∷ 63 ∷ []) (b ∷ bs) then Some 0 else one_more (escape_at bs)
+escape_at (b ∷ bs) = if nat_eq b 92 || is_front (codes "??") (b ∷ bs) then Some 0 else one_more (escape_at bs)
 
 -- the spellings of operators and brackets; those without a mark are refused
 abbrev pub signs : List (List ℕ × Option Mark)
@@ -53,8 +56,10 @@ signs =
     (codes "[", Some LeftBracket) ∷ (codes "]", Some RightBracket) ∷ (codes ";", Some Semicolon) ∷ (codes ",", Some Comma) ∷
     (codes "=", Some Assign) ∷ (codes "?", Some Question) ∷ (codes ":", Some Colon) ∷ (codes "||", Some BarBar) ∷ (codes "&&", Some AndAnd) ∷
     (codes "|", Some Bar) ∷ (codes "^", Some Caret) ∷ (codes "&", Some Ampersand) ∷ (codes "==", Some EqualEqual) ∷ (codes "!=", Some BangEqual) ∷
-    (codes "<", Some LessSign) ∷ (codes ">", Some GreaterSign) ∷ (codes "<=", Some LessEqual) ∷ (codes ">=", Some GreaterEqual) ∷ (codes "<<", Some LessLess) ∷ (codes ">>", Some GreaterGreater) ∷
-    (codes "+", Some Plus) ∷ (codes "-", Some Minus) ∷ (codes "*", Some Star) ∷ (codes "/", Some Slash) ∷ (codes "%", Some Percent) ∷ (codes "~", Some Tilde) ∷ (codes "!", Some Bang) ∷
+    (codes "<", Some LessSign) ∷ (codes ">", Some GreaterSign) ∷ (codes "<=", Some LessEqual) ∷ (codes ">=", Some GreaterEqual) ∷ (codes "<<", Some LessLess)
+    ∷ (codes ">>", Some GreaterGreater) ∷
+    (codes "+", Some Plus) ∷ (codes "-", Some Minus) ∷ (codes "*", Some Star) ∷ (codes "/", Some Slash) ∷ (codes "%", Some Percent) ∷ (codes "~", Some Tilde)
+    ∷ (codes "!", Some Bang) ∷
     (codes "++", None) ∷ (codes "--", None) ∷ (codes "+=", None) ∷ (codes "-=", None) ∷ (codes "*=", None) ∷ (codes "/=", None) ∷ (codes "%=", None) ∷
     (codes "<<=", None) ∷ (codes ">>=", None) ∷ (codes "&=", None) ∷ (codes "|=", None) ∷ (codes "^=", None) ∷ (codes "->", None) ∷ (codes ".", None) ∷
     (codes "...", None) ∷ (codes "#", None) ∷ (codes "##", None) ∷ (codes "??", None) ∷ []
@@ -63,10 +68,14 @@ signs =
 abbrev pub keywords : List (List ℕ × Reserved)
 keywords =
     (codes "int", Marked Int) ∷ (codes "unsigned", Marked Unsigned) ∷ (codes "void", Marked Void) ∷ (codes "if", Marked If) ∷ (codes "else", Marked Else) ∷
-    (codes "while", Marked While) ∷ (codes "for", Marked For) ∷ (codes "break", Jumping Break) ∷ (codes "continue", Jumping Continue) ∷ (codes "return", Jumping Return) ∷
-    (codes "auto", Unused) ∷ (codes "case", Unused) ∷ (codes "char", Unused) ∷ (codes "const", Unused) ∷ (codes "default", Unused) ∷ (codes "do", Unused) ∷ (codes "double", Unused) ∷ (codes "enum", Unused) ∷ (codes "extern", Unused) ∷
-    (codes "float", Unused) ∷ (codes "goto", Unused) ∷ (codes "inline", Unused) ∷ (codes "long", Unused) ∷ (codes "register", Unused) ∷ (codes "restrict", Unused) ∷ (codes "short", Unused) ∷ (codes "signed", Unused) ∷ (codes "sizeof", Unused) ∷
-    (codes "static", Unused) ∷ (codes "struct", Unused) ∷ (codes "switch", Unused) ∷ (codes "typedef", Unused) ∷ (codes "union", Unused) ∷ (codes "volatile", Unused) ∷ (codes "_Bool", Unused) ∷ (codes "_Complex", Unused) ∷ (codes "_Imaginary", Unused) ∷ []
+    (codes "while", Marked While) ∷ (codes "for", Marked For) ∷ (codes "break", Jumping Break) ∷ (codes "continue", Jumping Continue)
+    ∷ (codes "return", Jumping Return) ∷
+    (codes "auto", Unused) ∷ (codes "case", Unused) ∷ (codes "char", Unused) ∷ (codes "const", Unused) ∷ (codes "default", Unused) ∷ (codes "do", Unused)
+    ∷ (codes "double", Unused) ∷ (codes "enum", Unused) ∷ (codes "extern", Unused) ∷
+    (codes "float", Unused) ∷ (codes "goto", Unused) ∷ (codes "inline", Unused) ∷ (codes "long", Unused) ∷ (codes "register", Unused)
+    ∷ (codes "restrict", Unused) ∷ (codes "short", Unused) ∷ (codes "signed", Unused) ∷ (codes "sizeof", Unused) ∷
+    (codes "static", Unused) ∷ (codes "struct", Unused) ∷ (codes "switch", Unused) ∷ (codes "typedef", Unused) ∷ (codes "union", Unused)
+    ∷ (codes "volatile", Unused) ∷ (codes "_Bool", Unused) ∷ (codes "_Complex", Unused) ∷ (codes "_Imaginary", Unused) ∷ []
 
 abbrev pub same_bytes : List ℕ → List ℕ → Bool
 same_bytes [] [] = true

@@ -6,3 +6,4 @@ pub mod Fronts
 pub mod Texts
 pub mod Spellings
 pub mod Keywords
+pub mod Messages

@@ -1,5 +1,5 @@
 -- The pieces that a text consists of (C99 6.4), and which of them stands at its front: the longest.
-use Rattle.std.specs.Prelude.{◌≡◌, ◌+◌, ◌<◌, ◌≤◌, ℕ, List, [], ◌∷◌, length, take, Bool, true, false, nat_eq, if◌then◌else◌, Option, Some, None}
+use Rattle.std.specs.Prelude.{◌≡◌, ◌+◌, ◌<◌, ◌≤◌, ℕ, List, [], ◌∷◌, length, take, Bool, true, false, nat_eq, if◌then◌else◌, Option, Some, None, codes}
 use Rattle.c_tokens.specs.declared.token.Mark.{Mark}
 use Rattle.c_tokens.specs.declared.token.Literal.{Literal}
 use Rattle.c_tokens.specs.declared.lexer.Lexeme.{Lexeme}
@@ -25,12 +25,12 @@ pub data IsLine : List ℕ → Type 0 where
 -- no `*/`
 pub data IsOpen : List ℕ → Type 0 where
   open_end : IsOpen []
-  open_more : {b : ℕ} {bs : List ℕ} → is_front (42 ∷ 47 ∷ []) (b ∷ bs) ≡ false → IsOpen bs → IsOpen (b ∷ bs)
+  open_more : {b : ℕ} {bs : List ℕ} → is_front (codes "*/") (b ∷ bs) ≡ false → IsOpen bs → IsOpen (b ∷ bs)
 
 -- the bytes end with their first `*/`
 pub data IsClosed : List ℕ → Type 0 where
-  closed_here : IsClosed (42 ∷ 47 ∷ [])
-  closed_later : {b : ℕ} {bs : List ℕ} → is_front (42 ∷ 47 ∷ []) (b ∷ bs) ≡ false → IsClosed bs → IsClosed (b ∷ bs)
+  closed_here : IsClosed (codes "*/")
+  closed_later : {b : ℕ} {bs : List ℕ} → is_front (codes "*/") (b ∷ bs) ≡ false → IsClosed bs → IsClosed (b ∷ bs)
 
 -- what a table has for some bytes
 abbrev pub entry_in : List (List ℕ × Option Mark) → List ℕ → Option (Option Mark)
@@ -45,7 +45,8 @@ closed_comment n inside = elim (escape_at inside) [ None ↦ Separator n | Some 
 pub data IsPiece : List ℕ → Lexeme → Type 0 where
   a_space : {b : ℕ} → is_space b ≡ true → IsPiece (b ∷ []) (Separator 1)
   a_word : {b : ℕ} {bs : List ℕ} → is_letter b ≡ true → IsWord bs → IsPiece (b ∷ bs) (word_lexeme keywords (b ∷ bs))
-  a_constant : {b : ℕ} {bs : List ℕ} {c : Literal} → is_digit b ≡ true → IsRun false (b ∷ bs) → IsConstant (b ∷ bs) c → IsPiece (b ∷ bs) (Numeral c (length (b ∷ bs)))
+  a_constant : {b : ℕ} {bs : List ℕ} {c : Literal} → is_digit b ≡ true → IsRun false (b ∷ bs) → IsConstant (b ∷ bs) c
+      → IsPiece (b ∷ bs) (Numeral c (length (b ∷ bs)))
   no_constant : {b : ℕ} {bs : List ℕ} → is_digit b ≡ true → IsRun false (b ∷ bs) → ((c : Literal) → IsConstant (b ∷ bs) c → ⊥) → IsPiece (b ∷ bs) NoConstant
   an_operator : {o : List ℕ} {m : Mark} → entry_in signs o ≡ Some (Some m) → IsPiece o (Sign m (length o))
   an_unused_operator : {o : List ℕ} → entry_in signs o ≡ Some None → IsPiece o (Refused 0)

@@ -8,10 +8,11 @@ use Rattle.c_tokens.specs.declared.lexer.Lexeme.TheVariants.{End, Separator, Wor
 use Rattle.c_tokens.specs.declared.lexer.Step.{Step}
 use Rattle.c_tokens.specs.declared.lexer.Step.TheVariants.{Done, Skip, Take, Stop}
 use Rattle.c_tokens.specs.declared.sizes.Sizes.{Sizes}
-use Rattle.c_tokens.specs.declared.lexer.LexFault.{LexFault}
-use Rattle.c_tokens.specs.declared.lexer.LexFault.TheVariants.{Refused as RefusedAt, NoMemory}
-use Rattle.c_tokens.specs.declared.lexer.Refusal.{Refusal}
-use Rattle.c_tokens.specs.declared.lexer.Refusal.TheVariants.{BadToken, BadConstant, BadSize}
+use Rattle.c_tokens.specs.declared.sizes.TheConstants.{MAX_RUN, MAX_OPEN, MAX_NESTED}
+use Rattle.c_tokens.specs.declared.fault.LexFault.{LexFault}
+use Rattle.c_tokens.specs.declared.fault.LexFault.TheVariants.{Refused as RefusedAt, NoMemory}
+use Rattle.c_tokens.specs.declared.fault.Refusal.{Refusal}
+use Rattle.c_tokens.specs.declared.fault.Refusal.TheVariants.{BadToken, BadConstant, BadSize}
 use Rattle.c_tokens.specs.Pieces.{IsNext}
 
 -- the lexeme has bytes, and no more than there are
@@ -77,7 +78,7 @@ nests_of [] = 0
 nests_of (t ∷ before) = (if nests t then 1 else 0) + (if nat_eq (open_of before) 0 then 0 else nests_of before)
 
 abbrev pub is_oversize : List Token → Bool
-is_oversize tokens = nat_lt 1024 (run_of tokens) || nat_lt 128 (open_of tokens) || nat_lt 512 (nests_of tokens)
+is_oversize tokens = nat_lt MAX_RUN (run_of tokens) || nat_lt MAX_OPEN (open_of tokens) || nat_lt MAX_NESTED (nests_of tokens)
 
 -- what to do at a place: the step of what stands at the front of the bytes from there on
 pub record IsStep (at : ℕ) (bs : List ℕ) (s : Step) : Type 0 where
@@ -96,8 +97,10 @@ pub data Lexes : ℕ → List ℕ → List Token → List Token → List ℕ →
 -- the first refusal, and where it is
 pub data LexStops : ℕ → List ℕ → List Token → Refusal → ℕ → Type 0 where
   stops_here : {at k : ℕ} {r : Refusal} {bs : List ℕ} {before : List Token} → IsStep at bs (Stop r k) → LexStops at bs before r (at + k)
-  stops_size : {at n : ℕ} {bs : List ℕ} {before : List Token} {t : Token} → IsStep at bs (Take t n) → is_oversize (t ∷ before) ≡ true → LexStops at bs before BadSize at
-  stops_skip : {at n k : ℕ} {r : Refusal} {bs : List ℕ} {before : List Token} → IsStep at bs (Skip n) → LexStops (at + n) (drop n bs) before r k → LexStops at bs before r k
+  stops_size : {at n : ℕ} {bs : List ℕ} {before : List Token} {t : Token} → IsStep at bs (Take t n) → is_oversize (t ∷ before) ≡ true
+      → LexStops at bs before BadSize at
+  stops_skip : {at n k : ℕ} {r : Refusal} {bs : List ℕ} {before : List Token} → IsStep at bs (Skip n) → LexStops (at + n) (drop n bs) before r k
+      → LexStops at bs before r k
   stops_take : {at n k : ℕ} {r : Refusal} {bs : List ℕ} {before : List Token} {t : Token} → IsStep at bs (Take t n) → is_oversize (t ∷ before) ≡ false →
       LexStops (at + n) (drop n bs) (t ∷ before) r k → LexStops at bs before r k
 
@@ -112,9 +115,9 @@ pub record Counts (sizes : Sizes) (before : List Token) : Type 0 where
   pub nested : sizes.nested ≡ nests_of before
 
 pub record Within (sizes : Sizes) : Type 0 where
-  pub run : sizes.run ≤ 1024
-  pub open_braces : sizes.open ≤ 128
-  pub nested : sizes.nested ≤ 512
+  pub run : sizes.run ≤ MAX_RUN
+  pub open_braces : sizes.open ≤ MAX_OPEN
+  pub nested : sizes.nested ≤ MAX_NESTED
 
 abbrev pub Counted : Sizes → Token → Sizes → Type 0
 Counted sizes t new = Within new × ((before : List Token) → Counts sizes before → Counts new (t ∷ before) × (is_oversize (t ∷ before) ≡ false))

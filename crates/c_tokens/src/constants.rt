@@ -55,7 +55,7 @@ fn is_suffixed(run: &[u8]) -> bool
 fn is_suffix(byte: u8) -> bool
     ensures { result ≡ is_suffix byte }
 {
-    byte == 117 || byte == 85
+    byte == b'u' || byte == b'U'
 }
 
 fn greatest(run: &[u8]) -> u64
@@ -63,7 +63,7 @@ fn greatest(run: &[u8]) -> u64
     ensures same { result ≡ greatest_of run.now }
     ensures bound { result < 2 ^ 32 }
 {
-    if is_suffixed(run) || run[0] == 48 {
+    if is_suffixed(run) || run[0] == b'0' {
         4294967295
     } else {
         2147483647
@@ -87,13 +87,13 @@ fn plain(limit: u64, run: &[u8]) -> Option<u32>
     ensures { result ≡ up_to limit (plain_of run.now) }
 {
     let (first, more) = split(run)?;
-    if first != 48 {
+    if first != b'0' {
         return Some(number(10, limit, run)? as u32);
     }
     let Some((second, digits)) = split(more) else {
         return Some(0);
     };
-    if (second == 120 || second == 88) && !digits.is_empty() {
+    if (second == b'x' || second == b'X') && !digits.is_empty() {
         return Some(number(16, limit, digits)? as u32);
     }
     Some(number(8, limit, more)? as u32)
@@ -132,13 +132,13 @@ fn digit(byte: u8) -> u64
     ensures low { result < 100 }
 {
     if is_digit(byte) {
-        return (byte - 48) as u64;
+        return (byte - b'0') as u64;
     }
-    if 97 <= byte && byte <= 102 {
-        return (byte - 87) as u64;
+    if b'a' <= byte && byte <= b'f' {
+        return (byte - b'a') as u64 + 10;
     }
-    if 65 <= byte && byte <= 70 {
-        return (byte - 55) as u64;
+    if b'A' <= byte && byte <= b'F' {
+        return (byte - b'A') as u64 + 10;
     }
     99
 }

@@ -2,10 +2,12 @@ ghost use Rattle.std.specs.Prelude.{◌≡◌, ◌+◌, ◌<◌, ◌≤◌, ◌^
 ghost use Rattle.c_tokens.specs.Lexing.{comment_length};
 ghost use Rattle.c_tokens.specs.Fronts.{lexeme_of, comment_lexeme, line_lexeme, line_length};
 ghost use Rattle.c_tokens.specs.declared.token.Token.{Token};
-ghost use Rattle.c_tokens.specs.declared.lexer.Refusal.{Refusal};
+ghost use Rattle.c_tokens.specs.declared.sizes.TheConstants.{MAX_TEXT};
+ghost use Rattle.c_tokens.specs.declared.fault.Refusal.{Refusal};
 ghost use Rattle.c_tokens.specs.Texts.{Lexes, LexStops, IsStep, Fits, StepFits, step_of, IsLexFault};
 
 use crate::constants::constant;
+use crate::fault::{LexFault, Refusal};
 use crate::keywords::word;
 use crate::scan::{
     after, begins, comment_length, escape_at, is_digit, is_letter, is_space, line_length, split,
@@ -35,31 +37,6 @@ pub enum Step {
     Skip(usize),
     Take(Token, usize),
     Stop(Refusal, usize),
-}
-
-/// Why the bytes at a place are refused: they begin no token, they are no constant, or their token goes past a size.
-#[derive(Clone, Copy, PartialEq, Eq)]
-pub enum Refusal {
-    BadToken,
-    BadConstant,
-    BadSize,
-}
-
-/// Why a text has no tokens: the first refusal and its offset, or want of memory.
-#[derive(Clone, Copy)]
-pub enum LexFault {
-    Refused(Refusal, usize),
-    NoMemory,
-}
-
-impl<T: Drop> From<AllocFailed<T>> for LexFault {
-    ghost use Rattle.c_tokens.specs.declared.lexer.LexFault.TheVariants.{NoMemory};
-
-    ghost from_gives = { λ _ r. r ≡ NoMemory };
-
-    fn from(_: AllocFailed<T>) -> Self {
-        LexFault::NoMemory
-    }
 }
 
 /// A comment, after its first two bytes.
@@ -143,7 +120,7 @@ fn next_step(at: usize, text: &[u8]) -> Step
 
 /// The tokens of a text, and where they stand.
 pub fn lex(alloc: Global, text: &[u8]) -> Result<(Vec<Token>, Vec<usize>), LexFault>
-    requires { length text.now ≤ 1048576 }
+    requires { length text.now ≤ MAX_TEXT }
     ensures ok { IfOk result (λ r. Lexes 0 text.now [] r.0.items r.1.items) }
     ensures err { IfErr result (IsLexFault text.now) }
 {

@@ -4,10 +4,11 @@
 //! `Lexes` and `LexStops` of `specs/Texts.antt`; which pieces there are and what each of them is stands in
 //! `specs/Pieces.antt`, with the constants of `specs/Constants.antt` and the tables of operators and keywords of
 //! `specs/Lexing.antt`. `specs/Fronts.antt` and `specs/Digits.antt` are words of the private functions that find the
-//! longest piece and the value of a constant.
+//! longest piece and the value of a constant; `specs/Messages.antt` is what a refusal prints.
 #![tactic(auto)]
 
 mod constants;
+mod fault;
 mod keywords;
 mod lexer;
 mod scan;
@@ -15,5 +16,7 @@ mod sign;
 mod sizes;
 mod token;
 
-pub use lexer::{LexFault, Refusal, lex, one_lexing};
+pub use fault::{LexFault, Refusal};
+pub use lexer::{lex, one_lexing};
+pub use sizes::MAX_TEXT;
 pub use token::{Identifier, IntegerType, JumpWord, Literal, Mark, Token};

@@ -6,21 +6,21 @@ ghost use Rattle.c_tokens.specs.Fronts.{word_length, run_length, line_length};
 pub fn is_space(byte: u8) -> bool
     ensures { result ≡ is_space byte }
 {
-    byte == 32 || byte == 9 || byte == 10 || byte == 13
+    byte == b' ' || byte == b'\t' || byte == b'\n' || byte == b'\r'
 }
 
 /// A letter or `_`.
 pub fn is_letter(byte: u8) -> bool
     ensures { result ≡ is_letter byte }
 {
-    (65 <= byte && byte <= 90) || (97 <= byte && byte <= 122) || byte == 95
+    (b'A' <= byte && byte <= b'Z') || (b'a' <= byte && byte <= b'z') || byte == b'_'
 }
 
 /// A decimal digit.
 pub fn is_digit(byte: u8) -> bool
     ensures { result ≡ is_digit byte }
 {
-    48 <= byte && byte <= 57
+    b'0' <= byte && byte <= b'9'
 }
 
 /// A byte that a word goes on with: a letter, `_` or a digit.
@@ -33,13 +33,13 @@ pub fn is_word(byte: u8) -> bool
 fn is_exponent(byte: u8) -> bool
     ensures { result ≡ is_exponent byte }
 {
-    byte == 101 || byte == 69 || byte == 112 || byte == 80
+    byte == b'e' || byte == b'E' || byte == b'p' || byte == b'P'
 }
 
 fn goes_on(after_exponent: bool, byte: u8) -> bool
     ensures { result ≡ goes_on after_exponent byte }
 {
-    is_word(byte) || byte == 46 || (after_exponent && (byte == 43 || byte == 45))
+    is_word(byte) || byte == b'.' || (after_exponent && (byte == b'+' || byte == b'-'))
 }
 
 /// The first byte and what is behind it; None for the empty text.
@@ -126,7 +126,7 @@ pub fn comment_length(text: &[u8]) -> Option<usize>
     let mut n: usize = 0;
     let mut rest = text;
     'comment: loop {
-        if begins(rest, 42, 47) {
+        if begins(rest, b'*', b'/') {
             return Some(n + 2);
         }
         match split(rest) {
@@ -150,10 +150,10 @@ pub fn escape_at(text: &[u8]) -> Option<usize>
         match split(rest) {
             None => return None,
             Some((byte, next)) => {
-                if byte == 92 {
+                if byte == b'\\' {
                     return Some(n);
                 }
-                if begins(rest, 63, 63) {
+                if begins(rest, b'?', b'?') {
                     return Some(n);
                 }
                 n += 1;
@@ -174,7 +174,7 @@ pub fn line_length(text: &[u8]) -> usize
         match split(rest) {
             None => return n,
             Some((byte, next)) => {
-                if byte == 10 {
+                if byte == b'\n' {
                     return n;
                 }
                 n += 1;

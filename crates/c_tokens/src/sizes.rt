@@ -1,7 +1,20 @@
 ghost use Rattle.std.specs.Prelude.{◌≡◌, ◌+◌, ◌-◌, ◌≤◌, suc, IfSome, IfNone, if◌then◌else◌};
+ghost use Rattle.c_tokens.specs.declared.sizes.TheConstants.{MAX_RUN, MAX_OPEN, MAX_NESTED};
 ghost use Rattle.c_tokens.specs.Texts.{Within, Counted, Oversize, ends_run, opens, closes, nests};
 
 use crate::token::{Mark, Token};
+
+/// The most bytes that a text may have.
+pub const MAX_TEXT: usize = 1_048_576;
+
+/// The most tokens in a row with no `;`, `{` or `}`.
+pub const MAX_RUN: usize = 1024;
+
+/// The most braces that may be open.
+pub const MAX_OPEN: usize = 128;
+
+/// The most tokens `else` and `for` since no brace was open.
+pub const MAX_NESTED: usize = 512;
 
 /// How many tokens there are since the last `;`, `{` or `}`, open braces, and tokens `else` and `for` since no brace was open.
 #[derive(Clone, Copy)]
@@ -13,7 +26,7 @@ pub struct Sizes {
 
 /// How many tokens stand after the last `;`, `{` or `}` once this one stands there.
 fn run_after(run: usize, token: &Token) -> usize
-    requires { run ≤ 1024 }
+    requires { run ≤ MAX_RUN }
     ensures { result ≡ (if ends_run token.now then 0 else suc run) }
 {
     match token {
@@ -24,7 +37,7 @@ fn run_after(run: usize, token: &Token) -> usize
 
 /// How many braces are open after the token.
 fn open_after(braces: usize, token: &Token) -> usize
-    requires { braces ≤ 128 }
+    requires { braces ≤ MAX_OPEN }
     ensures { result ≡ (if opens token.now then suc braces else (if closes token.now then braces - 1 else braces)) }
 {
     match token {
@@ -36,7 +49,7 @@ fn open_after(braces: usize, token: &Token) -> usize
 
 /// How many `else` and `for` stand since no brace was open, with this token, after `nested` of them.
 fn nested_after(nested: usize, token: &Token) -> usize
-    requires { nested ≤ 512 }
+    requires { nested ≤ MAX_NESTED }
     ensures { result ≡ (if nests token.now then 1 else 0) + nested }
 {
     match token {
@@ -57,7 +70,7 @@ pub fn count(sizes: Sizes, token: &Token) -> Option<Sizes>
         open: open_after(sizes.open, token),
         nested: nested_after(nested, token),
     };
-    if new.run > 1024 || new.open > 128 || new.nested > 512 {
+    if new.run > MAX_RUN || new.open > MAX_OPEN || new.nested > MAX_NESTED {
         return None;
     }
     Some(new)

@@ -14,7 +14,9 @@ use Rattle.c_typed.specs.declared.tree.Destination.TheVariants.{Local, Global as
 use Rattle.c_typed.specs.declared.tree.Global.{Global}
 use Rattle.c_typed.specs.Trees.{TypedFunction, TypedProgram, unset, assign, store, call, output, if_else, loop, break_loop, continue_loop, return_with}
 use Rattle.c_typed.specs.Values.{value_of, values_of}
-use Rattle.c_typed.specs.Meaning.{Todo, Do, Next, Mode, Going, Breaking, Continuing, Frame, Run, before, before_all, next_point, with_assignment, argument_places, state_after_call, state_after_return, todo_of_test, step_at, source_step, source_steps, source_start, first_words}
+use Rattle.c_typed.specs.Meaning.{Todo, Do, Next, Mode, Going, Breaking, Continuing, Frame, Run, before, before_all, next_point, with_assignment}
+use Rattle.c_typed.specs.Meaning.{argument_places, state_after_call, state_after_return, todo_of_test, step_at, source_step, source_steps, source_start}
+use Rattle.c_typed.specs.Meaning.{first_words}
 use Rattle.c_typed.specs.Laws.{FrameHoldsWords, RunHoldsWords}
 use Rattle.c_typed.proofs.Values.{value-word, values-words}
 
@@ -35,14 +37,17 @@ next_point-words Breaking l (Next last again ∷ k) h = next_point-words Going l
 next_point-words Continuing l (Do s ∷ k) h = next_point-words Continuing l k h
 next_point-words Continuing l (Next last again ∷ k) h = h
 
-with-words : {A : Type 0} (o : Option A) (out : List ℕ) (go : A → Run) → All IsWord out → ((a : A) → o ≡ Some a → RunHoldsWords (go a)) → RunHoldsWords (with_value o out go)
+with-words : {A : Type 0} (o : Option A) (out : List ℕ) (go : A → Run) → All IsWord out → ((a : A) → o ≡ Some a → RunHoldsWords (go a))
+    → RunHoldsWords (with_value o out go)
 with-words None out go h k = h
 with-words (Some a) out go h k = k a refl
 
-running : (f : Frame) (frames : List Frame) (g : Arrays) (out : List ℕ) → PlacesHoldWords f.locals → All FrameHoldsWords frames → ArraysHoldWords g → All IsWord out → RunHoldsWords (Running (f ∷ frames) g out)
+running : (f : Frame) (frames : List Frame) (g : Arrays) (out : List ℕ) → PlacesHoldWords f.locals → All FrameHoldsWords frames → ArraysHoldWords g
+    → All IsWord out → RunHoldsWords (Running (f ∷ frames) g out)
 running f frames g out a b c d = (All-cons FrameHoldsWords f frames a b, (c, d))
 
-placed-words : (to : Destination) (v : ℕ) (l : Places) (g : Arrays) (out : List ℕ) (go : Places → Arrays → Run) → IsWord v → PlacesHoldWords l → ArraysHoldWords g → All IsWord out
+placed-words : (to : Destination) (v : ℕ) (l : Places) (g : Arrays) (out : List ℕ) (go : Places → Arrays → Run) → IsWord v → PlacesHoldWords l
+    → ArraysHoldWords g → All IsWord out
     → ((l : Places) (g : Arrays) → PlacesHoldWords l → ArraysHoldWords g → RunHoldsWords (go l g)) → RunHoldsWords (with_assignment to v l g out go)
 placed-words (Local x) v l g out go w a b c k = k (written l x (Some v)) g (written-words l x (Some v) a (λ u e. subst IsWord (same_Some v u e) w)) b
 placed-words (Variable x) v l g out go w a b c k =
@@ -51,34 +56,44 @@ placed-words (Variable x) v l g out go w a b c k =
 arguments-words : (vs : List ℕ) → All IsWord vs → PlacesHoldWords (argument_places vs)
 arguments-words vs h x v e = at-index IsWord vs x v h e
 
-called-words : (p : TypedProgram) (depth f : ℕ) (vs : List ℕ) (to : Option Destination) (frames : List Frame) (g : Arrays) (out : List ℕ) → All IsWord vs → All FrameHoldsWords frames → ArraysHoldWords g → All IsWord out
+called-words : (p : TypedProgram) (depth f : ℕ) (vs : List ℕ) (to : Option Destination) (frames : List Frame) (g : Arrays) (out : List ℕ) → All IsWord vs
+    → All FrameHoldsWords frames → ArraysHoldWords g → All IsWord out
     → RunHoldsWords (state_after_call p depth f vs to frames g out)
 called-words p depth f vs to frames g out a b c d =
-    with-words (slice_get p.functions f) out (λ function. if nat_lt (length frames) depth then Running (record { locals = argument_places vs; todo = before_all function.body []; result_to = to } ∷ frames) g out else Failed out) d
+    with-words (slice_get p.functions f) out (λ function. if nat_lt (length frames) depth
+    then Running (record { locals = argument_places vs; todo = before_all function.body []; result_to = to } ∷ frames) g out else Failed out) d
     (λ function e. by function (nat_lt (length frames) depth))
   where
-    by : (function : TypedFunction) (t : Bool) → RunHoldsWords (if t then Running (record { locals = argument_places vs; todo = before_all function.body []; result_to = to } ∷ frames) g out else Failed out)
-    by function true = running (record { locals = argument_places vs; todo = before_all function.body []; result_to = to }) frames g out (arguments-words vs a) b c d
+    by : (function : TypedFunction) (t : Bool) → RunHoldsWords (if t then Running
+        (record { locals = argument_places vs; todo = before_all function.body []; result_to = to } ∷ frames) g out else Failed out)
+    by function true = running (record { locals = argument_places vs; todo = before_all function.body []; result_to = to }) frames g out (arguments-words vs a)
+        b c d
     by function false = d
 
-returned-words : (v : Option ℕ) (to : Option Destination) (frames : List Frame) (g : Arrays) (out : List ℕ) → ((w : ℕ) → v ≡ Some w → IsWord w) → All FrameHoldsWords frames → ArraysHoldWords g → All IsWord out
+returned-words : (v : Option ℕ) (to : Option Destination) (frames : List Frame) (g : Arrays) (out : List ℕ) → ((w : ℕ) → v ≡ Some w → IsWord w)
+    → All FrameHoldsWords frames → ArraysHoldWords g → All IsWord out
     → RunHoldsWords (state_after_return v to frames g out)
 returned-words v to [] g out a b c d = with-words v out (λ w. Ended w out) d (λ w e. (a w e, d))
 returned-words v None (f ∷ frames) g out a b c d = (b, (c, d))
 returned-words v (Some place) (f ∷ frames) g out a b c d =
-    with-words v out (λ w. with_assignment place w f.locals g out (λ l g'. Running (record { locals = l; todo = f.todo; result_to = f.result_to } ∷ frames) g' out)) d
-    (λ w e. placed-words place w f.locals g out (λ l g'. Running (record { locals = l; todo = f.todo; result_to = f.result_to } ∷ frames) g' out) (a w e) (All-head FrameHoldsWords f frames b) c d
+    with-words v out (λ w. with_assignment place w f.locals g out (λ l g'. Running (record { locals = l; todo = f.todo; result_to = f.result_to } ∷ frames) g'
+    out)) d
+    (λ w e. placed-words place w f.locals g out (λ l g'. Running (record { locals = l; todo = f.todo; result_to = f.result_to } ∷ frames) g' out) (a w e)
+    (All-head FrameHoldsWords f frames b) c d
     (λ l g' h i. running (record { locals = l; todo = f.todo; result_to = f.result_to }) frames g' out h (All-tail FrameHoldsWords f frames b) i d))
 
-step-words : (p : TypedProgram) (depth : ℕ) (l : Places) (k : List Todo) (to : Option Destination) (frames : List Frame) (g : Arrays) (out : List ℕ) → PlacesHoldWords l → All FrameHoldsWords frames → ArraysHoldWords g → All IsWord out
+step-words : (p : TypedProgram) (depth : ℕ) (l : Places) (k : List Todo) (to : Option Destination) (frames : List Frame) (g : Arrays) (out : List ℕ)
+    → PlacesHoldWords l → All FrameHoldsWords frames → ArraysHoldWords g → All IsWord out
     → RunHoldsWords (step_at p depth l k to frames g out)
 step-words p depth l (Do (assign x e) ∷ k) to frames g out a b c d =
     with-words (value_of e l g) out (λ v. with_assignment x v l g out (λ l' g'. Running (record { locals = l'; todo = k; result_to = to } ∷ frames) g' out)) d
     (λ v is. placed-words x v l g out (λ l' g'. Running (record { locals = l'; todo = k; result_to = to } ∷ frames) g' out) (value-word e l g a c v is) a c d
     (λ l' g' h i. running (record { locals = l'; todo = k; result_to = to }) frames g' out h b i d))
 step-words p depth l (Do (store x i e) ∷ k) to frames g out a b c d =
-    with-words (value_of i l g) out (λ j. with_value (value_of e l g) out (λ v. with_value (stored g x j v) out (λ g'. Running (record { locals = l; todo = k; result_to = to } ∷ frames) g' out))) d
-    (λ j at. with-words (value_of e l g) out (λ v. with_value (stored g x j v) out (λ g'. Running (record { locals = l; todo = k; result_to = to } ∷ frames) g' out)) d
+    with-words (value_of i l g) out (λ j. with_value (value_of e l g) out
+    (λ v. with_value (stored g x j v) out (λ g'. Running (record { locals = l; todo = k; result_to = to } ∷ frames) g' out))) d
+    (λ j at. with-words (value_of e l g) out (λ v. with_value (stored g x j v) out
+    (λ g'. Running (record { locals = l; todo = k; result_to = to } ∷ frames) g' out)) d
     (λ v is. with-words (stored g x j v) out (λ g'. Running (record { locals = l; todo = k; result_to = to } ∷ frames) g' out) d
     (λ g' w. running (record { locals = l; todo = k; result_to = to }) frames g' out a b (stored-words g x j v g' c (value-word e l g a c v is) w) d)))
 step-words p depth l (Do (call x f all) ∷ k) to frames g out a b c d =
@@ -92,7 +107,12 @@ step-words p depth l (Do (if_else t s u) ∷ k) to frames g out a b c d =
     with-words (value_of t l g) out (λ v. Running (record { locals = l; todo = todo_of_test v (before s k) (before u k); result_to = to } ∷ frames) g out) d
     (λ v is. running (record { locals = l; todo = todo_of_test v (before s k) (before u k); result_to = to }) frames g out a b c d)
 step-words p depth l (Do (loop t last body) ∷ k) to frames g out a b c d =
-    with-words (value_of t l g) out (λ v. Running (record { locals = l; todo = todo_of_test v (before body (Next last (loop t last body) ∷ k)) k; result_to = to } ∷ frames) g out) d
+    with-words (value_of t l g) out (λ v. Running (record {
+      locals = l;
+      todo = todo_of_test v (before body (Next last (loop t last body) ∷ k)) k;
+      result_to =
+          to;
+    } ∷ frames) g out) d
     (λ v is. running (record { locals = l; todo = todo_of_test v (before body (Next last (loop t last body) ∷ k)) k; result_to = to }) frames g out a b c d)
 step-words p depth l (Do (return_with None) ∷ k) to frames g out a b c d = returned-words None to frames g out (λ w e. let never = e in cc) b c d
 step-words p depth l (Do (return_with (Some e)) ∷ k) to frames g out a b c d =
@@ -113,12 +133,15 @@ wrapped n = omega arith
 
 globals-words : (all : List Global) → ArraysHoldWords (map first_words all)
 globals-words [] = All-nil (All IsWord)
-globals-words (a ∷ rest) = All-cons (All IsWord) (first_words a) (map first_words rest) (All-replicate IsWord a.length (wrap a.first) (wrapped a.first)) (globals-words rest)
+globals-words (a ∷ rest) = All-cons (All IsWord) (first_words a) (map first_words rest) (All-replicate IsWord a.length (wrap a.first) (wrapped a.first))
+    (globals-words rest)
 
 pub source-start-words : (p : TypedProgram) → RunHoldsWords (source_start p)
 source-start-words p =
-    with-words (slice_get p.functions p.main) [] (λ main. Running (record { locals = unset_places; todo = before_all main.body []; result_to = None } ∷ []) (map first_words p.globals) []) (All-nil IsWord)
-    (λ main e. running (record { locals = unset_places; todo = before_all main.body []; result_to = None }) [] (map first_words p.globals) [] unset-words (All-nil FrameHoldsWords) (globals-words p.globals) (All-nil IsWord))
+    with-words (slice_get p.functions p.main) [] (λ main. Running (record { locals = unset_places; todo = before_all main.body []; result_to = None } ∷ [])
+    (map first_words p.globals) []) (All-nil IsWord)
+    (λ main e. running (record { locals = unset_places; todo = before_all main.body []; result_to = None }) [] (map first_words p.globals) [] unset-words
+    (All-nil FrameHoldsWords) (globals-words p.globals) (All-nil IsWord))
 
 pub source-steps-words : (p : TypedProgram) (depth n : ℕ) → RunHoldsWords (source_steps p depth n (source_start p))
 source-steps-words p depth n = steps-keep RunHoldsWords (source_step p depth) (source-step-words p depth) n (source_start p) (source-start-words p)

@@ -2,7 +2,8 @@
 use Rattle.std.proofs.Common.{◌≡◌, refl, ap, ◌∙◌}
 use Rattle.std.specs.declared.vec.Vec.{Vec}
 use Rattle.std.specs.declared.alloc.Global.{Global}
-use Rattle.c_typed.specs.declared.tree.TypedStatement.{TypedStatement, Block, Row_of-TypedStatement, end_of-TypedStatement, more_of-TypedStatement, items-the_row-TypedStatement, items_hidden-the_row-TypedStatement-0}
+use Rattle.c_typed.specs.declared.tree.TypedStatement.{TypedStatement, Block, Row_of-TypedStatement, end_of-TypedStatement, more_of-TypedStatement}
+use Rattle.c_typed.specs.declared.tree.TypedStatement.{items-the_row-TypedStatement, items_hidden-the_row-TypedStatement-0}
 use Rattle.c_typed.specs.declared.tree.TypedStatement.TheBlock.{hidden-the_row-TypedStatement-0}
 use Rattle.c_typed.specs.Shape.{statement_of, row_of, statements_of}
 use Rattle.c_typed.specs.Trees.{block, more_statements}

@@ -10,13 +10,15 @@ use Rattle.words.specs.Words.{wrap}
 use Rattle.words.specs.C.{is_below}
 use Rattle.words.specs.Laws.{product_operator, quotient_operator, remainder_operator, right_shift_operator}
 use Rattle.words.proofs.Bounds.{op_words}
-use Rattle.words.proofs.OfC.{sum_agrees, difference_agrees, product_agrees, quotient_agrees, remainder_agrees, negation_agrees, left_shift_agrees, right_shift_agrees}
+use Rattle.words.proofs.OfC.{sum_agrees, difference_agrees, product_agrees, quotient_agrees, remainder_agrees, negation_agrees, left_shift_agrees}
+use Rattle.words.proofs.OfC.{right_shift_agrees}
 use Rattle.runs.specs.Stores.{Places, Arrays, chain, word_at, IsWord, PlacesHoldWords, ArraysHoldWords}
 use Rattle.runs.proofs.Words.{chain-some, word-at}
 use Rattle.c_front.specs.declared.tree.UnaryOp.{UnaryOp}
 use Rattle.c_front.specs.declared.tree.UnaryOp.TheVariants.{Negate, Identity, Complement, Not}
 use Rattle.c_front.specs.declared.tree.BinaryOp.{BinaryOp}
-use Rattle.c_front.specs.declared.tree.BinaryOp.TheVariants.{Multiply, Divide, Remainder, Add, Subtract, ShiftLeft, ShiftRight, Less, Greater, LessOrEqual, GreaterOrEqual, Equal, NotEqual, BitAnd, BitXor, BitOr, LogicalAnd, LogicalOr}
+use Rattle.c_front.specs.declared.tree.BinaryOp.TheVariants.{Multiply, Divide, Remainder, Add, Subtract, ShiftLeft, ShiftRight, Less, Greater, LessOrEqual}
+use Rattle.c_front.specs.declared.tree.BinaryOp.TheVariants.{GreaterOrEqual, Equal, NotEqual, BitAnd, BitXor, BitOr, LogicalAnd, LogicalOr}
 use Rattle.c_typed.specs.Trees.{TypedExpression, constant, local, global, element, unary, binary, conditional}
 use Rattle.c_typed.specs.Values.{sign_of, truth, unary_of, binary_of, combined, value_of, values_of}
 
@@ -100,7 +102,8 @@ value-word (conditional t c a b) l g h k v e =
     chain-word (value_of c l g) (λ x. if x == 0 then value_of b l g else value_of a l g)
     (λ x f. either-word (x == 0) (value_of b l g) (value_of a l g) (value-word b l g h k) (value-word a l g h k)) v e
 
-pub values-words : (all : List TypedExpression) (l : Places) (g : Arrays) → PlacesHoldWords l → ArraysHoldWords g → (vs : List ℕ) → values_of all l g ≡ Some vs → All IsWord vs
+pub values-words : (all : List TypedExpression) (l : Places) (g : Arrays) → PlacesHoldWords l → ArraysHoldWords g → (vs : List ℕ) → values_of all l g ≡ Some vs
+    → All IsWord vs
 values-words [] l g h k vs e = subst (λ (xs : List ℕ). All IsWord xs) (same_Some [] vs e) (All-nil IsWord)
 values-words (a ∷ rest) l g h k vs e =
     let s = chain-some (value_of a l g) (λ x. chain (values_of rest l g) (λ xs. Some (x ∷ xs))) vs e in

@@ -7,7 +7,8 @@ use Rattle.words.specs.Words.{wrap}
 use Rattle.c_typed.specs.declared.tree.Destination.{Destination}
 use Rattle.c_typed.specs.declared.tree.Destination.TheVariants.{Local, Global as Variable}
 use Rattle.c_typed.specs.declared.tree.Global.{Global}
-use Rattle.c_typed.specs.Trees.{TypedStatement, TypedStatements, empty, block, unset, assign, store, call, output, if_else, loop, break_loop, continue_loop, return_with, no_statements, more_statements, TypedProgram}
+use Rattle.c_typed.specs.Trees.{TypedStatement, TypedStatements, empty, block, unset, assign, store, call, output, if_else, loop, break_loop, continue_loop}
+use Rattle.c_typed.specs.Trees.{return_with, no_statements, more_statements, TypedProgram}
 use Rattle.c_typed.specs.Values.{value_of, values_of}
 
 -- what is still to do: a statement, or the end of a loop's turn, where its last part comes and then the loop again

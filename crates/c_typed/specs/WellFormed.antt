@@ -2,10 +2,13 @@
 -- functions, operators compute in the types of their operands, jumps stand in loops, and the sizes are within the limits.
 use Rattle.std.specs.Prelude.{◌≡◌, ◌<◌, ◌≤◌, ◌+◌, ℕ, List, [], ◌∷◌, Option, Some, None, Bool, true, false, length, is_some, slice_get, All}
 use Rattle.c_tokens.specs.declared.token.IntegerType.TheVariants.{SignedInt}
+use Rattle.c_typed.specs.declared.limits.TheConstants.{MAX_FUNCTIONS, MAX_GLOBAL_WORDS, MAX_LOCALS, MAX_PARAMETERS}
 use Rattle.c_typed.specs.declared.tree.Destination.{Destination}
 use Rattle.c_typed.specs.declared.tree.Destination.TheVariants.{Local, Global as Variable}
 use Rattle.c_typed.specs.declared.tree.Global.{Global}
-use Rattle.c_typed.specs.Trees.{TypedExpression, TypedStatement, TypedStatements, TypedFunction, TypedProgram, constant, local, global, element, unary, binary, conditional, type_of, prefix_type, operation_type, common_type, empty, block, unset, assign, store, call, output, if_else, loop, break_loop, continue_loop, return_with, no_statements, more_statements}
+use Rattle.c_typed.specs.Trees.{TypedExpression, TypedStatement, TypedStatements, TypedFunction, TypedProgram, constant, local, global, element, unary, binary}
+use Rattle.c_typed.specs.Trees.{conditional, type_of, prefix_type, operation_type, common_type, empty, block, unset, assign, store, call, output, if_else, loop}
+use Rattle.c_typed.specs.Trees.{break_loop, continue_loop, return_with, no_statements, more_statements}
 
 -- in a function with so many locals, each local and global is there, and an operator computes in the type that its
 -- operands give (C99 6.3.1.8, 6.5)
@@ -62,11 +65,11 @@ abbrev mutual
   FitsStatements p n gives inside no_statements = Unit {0}
   FitsStatements p n gives inside (more_statements s rest) = FitsStatement p n gives inside s × FitsStatements p n gives inside rest
 
--- at most four parameters, which are the first of at most 128 locals
+-- the parameters are the first of the locals
 pub record FitsFunction (p : TypedProgram) (f : TypedFunction) : Type 0 where
-  pub parameters : f.parameters ≤ 4
+  pub parameters : f.parameters ≤ MAX_PARAMETERS
   pub first : f.parameters ≤ f.locals
-  pub locals : f.locals ≤ 128
+  pub locals : f.locals ≤ MAX_LOCALS
   pub body : FitsStatements p f.locals (is_some f.result) false f.body
 
 -- the words of these globals
@@ -74,12 +77,12 @@ abbrev pub words_in : List Global → ℕ
 words_in [] = 0
 words_in (g ∷ rest) = g.length + words_in rest
 
--- at most 256 functions and 262,144 words of globals, each global of a word at least, and an `int main(void)`
+-- each global has a word at least, and there is an `int main(void)`
 pub record IsWellFormed (p : TypedProgram) : Type 0 where
   pub functions : All (FitsFunction p) p.functions
-  pub functions_fit : length p.functions ≤ 256
+  pub functions_fit : length p.functions ≤ MAX_FUNCTIONS
   pub globals : All (λ (g : Global). 1 ≤ g.length) p.globals
-  pub words_fit : words_in p.globals ≤ 262144
+  pub words_fit : words_in p.globals ≤ MAX_GLOBAL_WORDS
   pub main : TypedFunction
   pub entry : slice_get p.functions p.main ≡ Some main
   pub alone : main.parameters ≡ 0

@@ -10,7 +10,9 @@
 #![tactic(auto)]
 
 mod laws;
+mod limits;
 mod tree;
 
 pub use laws::{runs_go_on_from_where_they_are, values_are_words};
+pub use limits::{MAX_FUNCTIONS, MAX_GLOBAL_WORDS, MAX_LOCALS, MAX_PARAMETERS};
 pub use tree::{Destination, Function, Global, TypedExpression, TypedStatement};

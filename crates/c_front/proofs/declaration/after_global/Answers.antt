@@ -1,7 +1,8 @@
 use Rattle.std.proofs.Common.{rules}
 use Rattle.c_front.specs.Parsing.{IsStuck}
 use Rattle.c_front.specs.Grammar.{after_global}
-use Rattle.c_front.proofs.DeclarationPaths.{tail-plain, tail-initial, tail-initial-stuck, tail-initial-end-stuck, array-length-stuck, array-close-stuck, array-end-stuck, tail-array, tail-function-stuck, tail-function}
+use Rattle.c_front.proofs.DeclarationPaths.{tail-plain, tail-initial, tail-initial-stuck, tail-initial-end-stuck, array-length-stuck, array-close-stuck}
+use Rattle.c_front.proofs.DeclarationPaths.{array-end-stuck, tail-array, tail-function-stuck, tail-function}
 use Rattle.c_front.proofs.declaration.after_global.Goals as goal
 
 pub returns-in-Some-clause-ok : goal.returns-in-Some-clause-ok
@@ -9,33 +10,42 @@ returns-in-Some-clause-ok c = tail-plain _ _ _ _ c.in-Some.ensures.some
 
 pub returns-in_err-given-clause-err : goal.returns-in_err-given-clause-err
 returns-in_err-given-clause-err c =
-    let h : IsStuck after_global c.args.tokens.now c.in_err-given.field-0.0 = tail-initial-stuck _ _ _ c.in-Some-starts.ensures.some c.in_err-given.ensures.err in search rules
+    let h : IsStuck after_global c.args.tokens.now c.in_err-given.field-0.0 =
+    tail-initial-stuck _ _ _ c.in-Some-starts.ensures.some c.in_err-given.ensures.err in search rules
 
 pub returns-in_err-end-clause-err : goal.returns-in_err-end-clause-err
 returns-in_err-end-clause-err c =
-    let h : IsStuck after_global c.args.tokens.now c.in_err-end.field-0.0 = tail-initial-end-stuck _ _ _ _ _ c.in-Some-starts.ensures.some c.in_ok-given.ensures.ok c.in_err-end.ensures.err in search rules
+    let h : IsStuck after_global c.args.tokens.now c.in_err-end.field-0.0 =
+    tail-initial-end-stuck _ _ _ _ _ c.in-Some-starts.ensures.some c.in_ok-given.ensures.ok c.in_err-end.ensures.err in search rules
 
 pub returns-in-Some-starts-clause-ok : goal.returns-in-Some-starts-clause-ok
 returns-in-Some-starts-clause-ok c = tail-initial _ _ _ _ _ _ _ c.in-Some-starts.ensures.some c.in_ok-given.ensures.ok c.in_ok-end.ensures.ok
 
 pub returns-in_err-length-clause-err : goal.returns-in_err-length-clause-err
 returns-in_err-length-clause-err c =
-    let h : IsStuck after_global c.args.tokens.now c.in_err-length.field-0.0 = array-length-stuck _ _ _ c.in-Some-starts-2.ensures.some c.in_err-length.ensures.err in search rules
+    let h : IsStuck after_global c.args.tokens.now c.in_err-length.field-0.0 =
+    array-length-stuck _ _ _ c.in-Some-starts-2.ensures.some c.in_err-length.ensures.err in search rules
 
 pub returns-in_err-last-clause-err : goal.returns-in_err-last-clause-err
 returns-in_err-last-clause-err c =
-    let h : IsStuck after_global c.args.tokens.now c.in_err-last.field-0.0 = array-close-stuck _ _ _ _ _ c.in-Some-starts-2.ensures.some c.in_ok-length.ensures.ok c.in_err-last.ensures.err in search rules
+    let h : IsStuck after_global c.args.tokens.now c.in_err-last.field-0.0 =
+    array-close-stuck _ _ _ _ _ c.in-Some-starts-2.ensures.some c.in_ok-length.ensures.ok c.in_err-last.ensures.err in search rules
 
 pub returns-in_err-end-2-clause-err : goal.returns-in_err-end-2-clause-err
 returns-in_err-end-2-clause-err c =
-    let h : IsStuck after_global c.args.tokens.now c.in_err-end-2.field-0.0 = array-end-stuck _ _ _ _ _ _ c.in-Some-starts-2.ensures.some c.in_ok-length.ensures.ok c.in_ok-last.ensures.ok c.in_err-end-2.ensures.err in search rules
+    let h : IsStuck after_global c.args.tokens.now c.in_err-end-2.field-0.0 =
+    array-end-stuck _ _ _ _ _ _ c.in-Some-starts-2.ensures.some c.in_ok-length.ensures.ok c.in_ok-last.ensures.ok c.in_err-end-2.ensures.err in search rules
 
 pub returns-in-Some-starts-2-clause-ok : goal.returns-in-Some-starts-2-clause-ok
-returns-in-Some-starts-2-clause-ok c = tail-array _ _ _ _ _ _ _ _ c.in-Some-starts-2.ensures.some c.in_ok-length.ensures.ok c.in_ok-last.ensures.ok c.in_ok-end-2.ensures.ok
+returns-in-Some-starts-2-clause-ok c = tail-array _ _ _ _ _ _ _ _ c.in-Some-starts-2.ensures.some c.in_ok-length.ensures.ok c.in_ok-last.ensures.ok
+    c.in_ok-end-2.ensures.ok
 
 pub returns-in_err-parameters-clause-err : goal.returns-in_err-parameters-clause-err
 returns-in_err-parameters-clause-err c =
-    let h : IsStuck after_global c.args.tokens.now c.in_err-parameters.field-0.0 = tail-function-stuck _ _ c.in_default.ensures.none c.in_default-starts.ensures.none c.in_default-starts-2.ensures.none c.in_err-parameters.ensures.err in search rules
+    let h : IsStuck after_global c.args.tokens.now c.in_err-parameters.field-0.0 =
+    tail-function-stuck _ _ c.in_default.ensures.none c.in_default-starts.ensures.none c.in_default-starts-2.ensures.none c.in_err-parameters.ensures.err in
+    search rules
 
 pub returns-clause-ok : goal.returns-clause-ok
-returns-clause-ok c = tail-function _ _ _ _ _ _ c.in_default.ensures.none c.in_default-starts.ensures.none c.in_default-starts-2.ensures.none c.in_ok-parameters.ensures.ok
+returns-clause-ok c = tail-function _ _ _ _ _ _ c.in_default.ensures.none c.in_default-starts.ensures.none c.in_default-starts-2.ensures.none
+    c.in_ok-parameters.ensures.ok

@@ -6,11 +6,13 @@ use Rattle.c_front.proofs.declaration.declaration.Goals as goal
 
 pub returns-in_err-name-clause-err : goal.returns-in_err-name-clause-err
 returns-in_err-name-clause-err c =
-    let h : IsStuck a_declaration c.args.tokens.now c.in_err-name.field-0.0 = void-name-stuck _ _ _ c.in-Some.ensures.some c.in_err-name.ensures.err in search rules
+    let h : IsStuck a_declaration c.args.tokens.now c.in_err-name.field-0.0 = void-name-stuck _ _ _ c.in-Some.ensures.some c.in_err-name.ensures.err in
+    search rules
 
 pub returns-in_err-parameters-clause-err : goal.returns-in_err-parameters-clause-err
 returns-in_err-parameters-clause-err c =
-    let h : IsStuck a_declaration c.args.tokens.now c.in_err-parameters.field-0.0 = void-rest-stuck _ _ _ _ _ c.in-Some.ensures.some c.in_ok-name.ensures.ok c.in_err-parameters.ensures.err in search rules
+    let h : IsStuck a_declaration c.args.tokens.now c.in_err-parameters.field-0.0 =
+    void-rest-stuck _ _ _ _ _ c.in-Some.ensures.some c.in_ok-name.ensures.ok c.in_err-parameters.ensures.err in search rules
 
 pub returns-in-Some-clause-ok : goal.returns-in-Some-clause-ok
 returns-in-Some-clause-ok c = void-read _ _ _ _ _ _ _ c.in-Some.ensures.some c.in_ok-name.ensures.ok c.in_ok-parameters.ensures.ok
@@ -20,11 +22,13 @@ returns-in_default-integer_type-clause-err c = no-declaration _ c.in_default.ens
 
 pub returns-in_err-name-2-clause-err : goal.returns-in_err-name-2-clause-err
 returns-in_err-name-2-clause-err c =
-    let h : IsStuck a_declaration c.args.tokens.now c.in_err-name-2.field-0.0 = typed-name-stuck _ _ _ _ c.in-Some-integer_type.ensures.some c.in_err-name-2.ensures.err in search rules
+    let h : IsStuck a_declaration c.args.tokens.now c.in_err-name-2.field-0.0 =
+    typed-name-stuck _ _ _ _ c.in-Some-integer_type.ensures.some c.in_err-name-2.ensures.err in search rules
 
 pub returns-in_err-found-clause-err : goal.returns-in_err-found-clause-err
 returns-in_err-found-clause-err c =
-    let h : IsStuck a_declaration c.args.tokens.now c.in_err-found.field-0.0 = typed-rest-stuck _ _ _ _ _ _ c.in-Some-integer_type.ensures.some c.in_ok-name-2.ensures.ok c.in_err-found.ensures.err in search rules
+    let h : IsStuck a_declaration c.args.tokens.now c.in_err-found.field-0.0 =
+    typed-rest-stuck _ _ _ _ _ _ c.in-Some-integer_type.ensures.some c.in_ok-name-2.ensures.ok c.in_err-found.ensures.err in search rules
 
 pub returns-clause-ok : goal.returns-clause-ok
 returns-clause-ok c = typed-read _ _ _ _ _ _ _ c.in-Some-integer_type.ensures.some c.in_ok-name-2.ensures.ok c.in_ok-found.ensures.ok

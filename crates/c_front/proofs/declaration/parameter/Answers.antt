@@ -8,7 +8,8 @@ returns-in_default-clause-err c = parameter-type-stuck _ c.in_default.ensures.no
 
 pub returns-in_err-name-clause-err : goal.returns-in_err-name-clause-err
 returns-in_err-name-clause-err c =
-    let h : IsParameterStuck c.args.tokens.now c.in_err-name.field-0.0 = parameter-name-stuck _ _ _ _ c.in-Some.ensures.some c.in_err-name.ensures.err in search rules
+    let h : IsParameterStuck c.args.tokens.now c.in_err-name.field-0.0 = parameter-name-stuck _ _ _ _ c.in-Some.ensures.some c.in_err-name.ensures.err in
+    search rules
 
 pub returns-clause-ok : goal.returns-clause-ok
 returns-clause-ok c = parameter-read _ _ _ _ _ c.in-Some.ensures.some c.in_ok-name.ensures.ok

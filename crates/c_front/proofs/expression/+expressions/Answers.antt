@@ -4,7 +4,10 @@ use Rattle.c_tokens.specs.declared.token.Token.TheVariants.{The}
 use Rattle.c_tokens.specs.declared.token.Mark.TheVariants.{LeftParen}
 use Rattle.c_front.specs.Grammar.{operands, above, unary_expressions, an_expression}
 use Rattle.c_front.specs.Parsing.{IsStuck, IsChoiceStuck, IsClosedStuck, level_of}
-use Rattle.c_front.proofs.Paths.{one-less-stuck, climbs-first, climbs-more, climbs-end, further-out, climbs-first-stuck, climbs-more-stuck, closed-inner-stuck, closed-end-stuck, closed-read, choice-first-stuck, choice-second-stuck, choice-read, condition-stuck, expression-alone, expression-choice, expression-choice-stuck, constant-read, name-read, index-read, index-stuck, prefix-read, prefix-stuck, parens-read, parens-stuck, no-operand, nothing-stuck, no-phrase}
+use Rattle.c_front.proofs.Paths.{one-less-stuck, climbs-first, climbs-more, climbs-end, further-out, climbs-first-stuck, climbs-more-stuck, closed-inner-stuck}
+use Rattle.c_front.proofs.Paths.{closed-end-stuck, closed-read, choice-first-stuck, choice-second-stuck, choice-read, condition-stuck, expression-alone}
+use Rattle.c_front.proofs.Paths.{expression-choice, expression-choice-stuck, constant-read, name-read, index-read, index-stuck, prefix-read, prefix-stuck}
+use Rattle.c_front.proofs.Paths.{parens-read, parens-stuck, no-operand, nothing-stuck, no-phrase}
 use Rattle.c_front.proofs.expression.+expressions.Goals as goal
 
 pub choice-returns-in_err-first-clause-err : goal.choice-returns-in_err-first-clause-err
@@ -13,7 +16,8 @@ choice-returns-in_err-first-clause-err t c =
 
 pub choice-returns-in_err-second-clause-err : goal.choice-returns-in_err-second-clause-err
 choice-returns-in_err-second-clause-err t c =
-    let h : IsChoiceStuck c.args.tokens.now c.in_err-second.field-0.0 = choice-second-stuck _ _ _ _ c.in_ok-first.ensures.ok c.in_err-second.ensures.err in search rules
+    let h : IsChoiceStuck c.args.tokens.now c.in_err-second.field-0.0 = choice-second-stuck _ _ _ _ c.in_ok-first.ensures.ok c.in_err-second.ensures.err in
+    search rules
 
 pub choice-returns-clause-ok : goal.choice-returns-clause-ok
 choice-returns-clause-ok t c = rw (c.in_ok-new.ensures.ok, c.in_ok-new-2.ensures.ok) (choice-read _ _ _ _ _ c.in_ok-first.ensures.ok c.in_ok-second.ensures.ok)
@@ -24,7 +28,8 @@ closed-returns-in_err-inner-clause-err t c =
 
 pub closed-returns-in_err-end-clause-err : goal.closed-returns-in_err-end-clause-err
 closed-returns-in_err-end-clause-err t c =
-    let h : IsClosedStuck c.args.closing c.args.tokens.now c.in_err-end.field-0.0 = closed-end-stuck _ _ _ _ _ c.in_ok-inner.ensures.ok c.in_err-end.ensures.err in search rules
+    let h : IsClosedStuck c.args.closing c.args.tokens.now c.in_err-end.field-0.0 =
+    closed-end-stuck _ _ _ _ _ c.in_ok-inner.ensures.ok c.in_err-end.ensures.err in search rules
 
 pub closed-returns-clause-ok : goal.closed-returns-clause-ok
 closed-returns-clause-ok t c = closed-read _ _ _ _ _ c.in_ok-inner.ensures.ok c.in_ok-end.ensures.ok
@@ -35,7 +40,8 @@ expression-returns-in_err-condition-clause-err t c =
 
 pub expression-returns-in_err-first-in-Some-clause-err : goal.expression-returns-in_err-first-in-Some-clause-err
 expression-returns-in_err-first-in-Some-clause-err t c =
-    let h : IsStuck an_expression c.args.tokens.now c.in_err-first-in-Some.field-0.0 = expression-choice-stuck _ _ _ _ _ c.in_ok-condition.ensures.ok c.in-Some.ensures.some c.in_err-first-in-Some.ensures.err in search rules
+    let h : IsStuck an_expression c.args.tokens.now c.in_err-first-in-Some.field-0.0 =
+    expression-choice-stuck _ _ _ _ _ c.in_ok-condition.ensures.ok c.in-Some.ensures.some c.in_err-first-in-Some.ensures.err in search rules
 
 pub expression-returns-in_ok-new-in-Some-clause-ok : goal.expression-returns-in_ok-new-in-Some-clause-ok
 expression-returns-in_ok-new-in-Some-clause-ok t c =
@@ -50,14 +56,17 @@ operand-returns-in_default-clause-err t c = nothing-stuck (operands unary_expres
 pub operand-returns-in_err-index-in-Some-starts-clause-err : goal.operand-returns-in_err-index-in-Some-starts-clause-err
 operand-returns-in_err-index-in-Some-starts-clause-err t c =
     let h : IsStuck (operands unary_expressions) c.args.tokens.now c.in_err-index-in-Some-starts.field-0.0 =
-    index-stuck _ _ _ _ _ (c.in-Some.ensures.some ∙ ap (λ (x : Token). x ∷ c.in-Some.rest.now) c.in-Name.is) c.in-Some-starts.ensures.some c.in_err-index-in-Some-starts.ensures.err in search rules
+    index-stuck _ _ _ _ _ (c.in-Some.ensures.some ∙ ap (λ (x : Token). x ∷ c.in-Some.rest.now) c.in-Name.is) c.in-Some-starts.ensures.some
+    c.in_err-index-in-Some-starts.ensures.err in search rules
 
 pub operand-returns-in_ok-new-in-Some-starts-clause-ok : goal.operand-returns-in_ok-new-in-Some-starts-clause-ok
 operand-returns-in_ok-new-in-Some-starts-clause-ok t c =
-    rw c.in_ok-new-in-Some-starts.ensures.ok (index-read _ _ _ _ _ _ (c.in-Some.ensures.some ∙ ap (λ (x : Token). x ∷ c.in-Some.rest.now) c.in-Name.is) c.in-Some-starts.ensures.some c.in_ok-index-in-Some-starts.ensures.ok)
+    rw c.in_ok-new-in-Some-starts.ensures.ok (index-read _ _ _ _ _ _ (c.in-Some.ensures.some ∙ ap (λ (x : Token). x ∷ c.in-Some.rest.now) c.in-Name.is)
+    c.in-Some-starts.ensures.some c.in_ok-index-in-Some-starts.ensures.ok)
 
 pub operand-returns-in-None-clause-ok : goal.operand-returns-in-None-clause-ok
-operand-returns-in-None-clause-ok t c = name-read _ _ _ (c.in-Some.ensures.some ∙ ap (λ (x : Token). x ∷ c.in-Some.rest.now) c.in-Name.is) c.in-None.ensures.none
+operand-returns-in-None-clause-ok t c = name-read _ _ _ (c.in-Some.ensures.some ∙ ap (λ (x : Token). x ∷ c.in-Some.rest.now) c.in-Name.is)
+    c.in-None.ensures.none
 
 pub operand-returns-in-Constant-clause-ok : goal.operand-returns-in-Constant-clause-ok
 operand-returns-in-Constant-clause-ok t c = constant-read _ _ _ (c.in-Some.ensures.some ∙ ap (λ (x : Token). x ∷ c.in-Some.rest.now) c.in-Constant.is)
@@ -65,30 +74,41 @@ operand-returns-in-Constant-clause-ok t c = constant-read _ _ _ (c.in-Some.ensur
 pub operand-returns-in_err-inner-in-The-clause-err : goal.operand-returns-in_err-inner-in-The-clause-err
 operand-returns-in_err-inner-in-The-clause-err t c =
     let h : IsStuck (operands unary_expressions) c.args.tokens.now c.in_err-inner-in-The.field-0.0 =
-    prefix-stuck _ _ _ _ _ (c.in-Some.ensures.some ∙ ap (λ (x : Token). x ∷ c.in-Some.rest.now) c.in-The.is) c.in-Some-prefix_of.ensures.some c.in_err-inner-in-The.ensures.err in search rules
+    prefix-stuck _ _ _ _ _ (c.in-Some.ensures.some ∙ ap (λ (x : Token). x ∷ c.in-Some.rest.now) c.in-The.is) c.in-Some-prefix_of.ensures.some
+    c.in_err-inner-in-The.ensures.err in search rules
 
 pub operand-returns-in-Some-prefix_of-clause-ok : goal.operand-returns-in-Some-prefix_of-clause-ok
 operand-returns-in-Some-prefix_of-clause-ok t c =
-    rw c.in_ok-new-in-The.ensures.ok (prefix-read _ _ _ _ _ _ (c.in-Some.ensures.some ∙ ap (λ (x : Token). x ∷ c.in-Some.rest.now) c.in-The.is) c.in-Some-prefix_of.ensures.some c.in_ok-inner-in-The.ensures.ok)
+    rw c.in_ok-new-in-The.ensures.ok (prefix-read _ _ _ _ _ _ (c.in-Some.ensures.some ∙ ap (λ (x : Token). x ∷ c.in-Some.rest.now) c.in-The.is)
+    c.in-Some-prefix_of.ensures.some c.in_ok-inner-in-The.ensures.ok)
 
 pub operand-returns-in_err-inner-in-LeftParen-clause-err : goal.operand-returns-in_err-inner-in-LeftParen-clause-err
 operand-returns-in_err-inner-in-LeftParen-clause-err t c =
-    let e : c.args.tokens.now ≡ The LeftParen ∷ c.in-Some.rest.now = c.in-Some.ensures.some ∙ ap (λ (x : Token). x ∷ c.in-Some.rest.now) (c.in-The.is ∙ ap The c.in-LeftParen.is) in
-    let h : IsStuck (operands unary_expressions) c.args.tokens.now c.in_err-inner-in-LeftParen.field-0.0 = parens-stuck _ _ _ e c.in_err-inner-in-LeftParen.ensures.err in search rules
+    let e : c.args.tokens.now ≡ The LeftParen ∷ c.in-Some.rest.now = c.in-Some.ensures.some
+    ∙ ap (λ (x : Token). x ∷ c.in-Some.rest.now) (c.in-The.is ∙ ap The c.in-LeftParen.is) in
+    let h : IsStuck (operands unary_expressions) c.args.tokens.now c.in_err-inner-in-LeftParen.field-0.0 =
+    parens-stuck _ _ _ e c.in_err-inner-in-LeftParen.ensures.err in search rules
 
 pub operand-returns-in_ok-inner-in-LeftParen-clause-ok : goal.operand-returns-in_ok-inner-in-LeftParen-clause-ok
 operand-returns-in_ok-inner-in-LeftParen-clause-ok t c =
-    let e : c.args.tokens.now ≡ The LeftParen ∷ c.in-Some.rest.now = c.in-Some.ensures.some ∙ ap (λ (x : Token). x ∷ c.in-Some.rest.now) (c.in-The.is ∙ ap The c.in-LeftParen.is) in
+    let e : c.args.tokens.now ≡ The LeftParen ∷ c.in-Some.rest.now = c.in-Some.ensures.some
+    ∙ ap (λ (x : Token). x ∷ c.in-Some.rest.now) (c.in-The.is ∙ ap The c.in-LeftParen.is) in
     parens-read _ _ _ _ e c.in_ok-inner-in-LeftParen.ensures.ok
 
 pub operand-returns-in_default-mark : goal.operand-returns-in_default-mark
 operand-returns-in_default-mark t c =
     let p = c.in_default-prefix_of.ensures.none in
-    record { ok = tt; shorter = tt; err = no-operand _ _ _ (c.in-Some.ensures.some ∙ ap (λ (x : Token). x ∷ c.in-Some.rest.now) c.in-The.is) p.0 p.1 p.2 p.3 c.in_default-mark.not-LeftParen }
+    record {
+      ok = tt;
+      shorter = tt;
+      err = no-operand _ _ _ (c.in-Some.ensures.some ∙ ap (λ (x : Token). x ∷ c.in-Some.rest.now) c.in-The.is) p.0 p.1 p.2 p.3
+          c.in_default-mark.not-LeftParen;
+    }
 
 pub operands-returns-in_err-left-clause-err : goal.operands-returns-in_err-left-clause-err
 operands-returns-in_err-left-clause-err t c =
-    let h : IsStuck (operands (above (level_of c.args.level))) c.args.tokens.now c.in_err-left.field-0.0 = climbs-first-stuck _ _ _ c.in_err-left.ensures.err in search rules
+    let h : IsStuck (operands (above (level_of c.args.level))) c.args.tokens.now c.in_err-left.field-0.0 = climbs-first-stuck _ _ _ c.in_err-left.ensures.err in
+    search rules
 
 pub operands-climbing-init : goal.operands-climbing-init
 operands-climbing-init t c = climbs-first _ _ _ _ c.in_ok-left.ensures.ok c.in_ok-left.ensures.shorter
@@ -112,11 +132,14 @@ operands-climbing-preserved t c =
     let e : length c.climbing.rest.now ≡ suc (length c.in-Some.after.now) = ap length c.in-Some.ensures.some.2 in
     let d : length c.climbing.rest.now < length c.args.tokens.now = c.climbing.invariant.shorter in
     let f : length c.in_ok-right.next.now < length c.in-Some.after.now = c.in_ok-right.ensures.shorter in
-    rw (c.in_ok-new.ensures.ok, c.in_ok-new-2.ensures.ok) (climbs-more _ _ _ _ _ _ _ _ _ c.climbing.invariant c.in-Some.ensures.some c.if-found-level.false c.in_ok-right.ensures.ok c.in_ok-right.ensures.ends (omega (arith, e, d, f)))
+    rw (c.in_ok-new.ensures.ok, c.in_ok-new-2.ensures.ok) (climbs-more _ _ _ _ _ _ _ _ _ c.climbing.invariant c.in-Some.ensures.some c.if-found-level.false
+    c.in_ok-right.ensures.ok c.in_ok-right.ensures.ends (omega (arith, e, d, f)))
 
 pub tighter-returns-in_err-inner-2-clause-err : goal.tighter-returns-in_err-inner-2-clause-err
 tighter-returns-in_err-inner-2-clause-err t c =
-    let h : IsStuck (operands (level_of c.args.level)) c.args.tokens.now c.in_err-inner-2.field-0.0 = one-less-stuck _ _ _ c.if-level-eq0.false c.in_err-inner-2.ensures.err in search rules
+    let h : IsStuck (operands (level_of c.args.level)) c.args.tokens.now c.in_err-inner-2.field-0.0 =
+    one-less-stuck _ _ _ c.if-level-eq0.false c.in_err-inner-2.ensures.err in search rules
 
 pub operand-returns-in-Jump-clause-err : goal.operand-returns-in-Jump-clause-err
-operand-returns-in-Jump-clause-err t c = no-phrase (operands unary_expressions) _ _ _ (c.in-Some.ensures.some ∙ ap (λ (x : Token). x ∷ c.in-Some.rest.now) c.in-Jump.is) (λ after. refl)
+operand-returns-in-Jump-clause-err t c = no-phrase (operands unary_expressions) _ _ _
+    (c.in-Some.ensures.some ∙ ap (λ (x : Token). x ∷ c.in-Some.rest.now) c.in-Jump.is) (λ after. refl)

@@ -1,6 +1,7 @@
 use Rattle.std.proofs.Common.{rules, arith, ◌≡◌, ◌<◌, suc, length, ap}
 use Rattle.c_front.specs.Parsing.{IsArgumentsStuck}
-use Rattle.c_front.proofs.Simply.{no-arguments-read, first-argument-stuck, arguments-first, arguments-more, next-argument-stuck, arguments-read, arguments-end-stuck}
+use Rattle.c_front.proofs.Simply.{no-arguments-read, first-argument-stuck, arguments-first, arguments-more, next-argument-stuck, arguments-read}
+use Rattle.c_front.proofs.Simply.{arguments-end-stuck}
 use Rattle.c_front.proofs.expression.arguments.Goals as goal
 
 pub returns-in-Some-clause-ok : goal.returns-in-Some-clause-ok
@@ -8,14 +9,17 @@ returns-in-Some-clause-ok c = rw c.new-all.ensures.items (no-arguments-read _ _ 
 
 pub returns-in_err-one-clause-err : goal.returns-in_err-one-clause-err
 returns-in_err-one-clause-err c =
-    let h : IsArgumentsStuck c.args.tokens.now c.in_err-one.field-0.0 = first-argument-stuck _ _ c.in_default.ensures.none c.in_err-one.ensures.err in search rules
+    let h : IsArgumentsStuck c.args.tokens.now c.in_err-one.field-0.0 = first-argument-stuck _ _ c.in_default.ensures.none c.in_err-one.ensures.err in
+    search rules
 
 pub more-init : goal.more-init
-more-init c = arguments-first _ _ _ _ c.in_default.ensures.none c.in_ok-one.ensures.ok c.in_ok-one.ensures.shorter (rw c.new-all.ensures.items at c.in_ok-push.ensures.items)
+more-init c = arguments-first _ _ _ _ c.in_default.ensures.none c.in_ok-one.ensures.ok c.in_ok-one.ensures.shorter
+    (rw c.new-all.ensures.items at c.in_ok-push.ensures.items)
 
 pub returns-in_err-another-clause-err : goal.returns-in_err-another-clause-err
 returns-in_err-another-clause-err c =
-    let h : IsArgumentsStuck c.args.tokens.now c.in_err-another.field-0.0 = next-argument-stuck _ _ _ _ _ c.more.invariant c.in-Some-starts.ensures.some c.in_err-another.ensures.err in search rules
+    let h : IsArgumentsStuck c.args.tokens.now c.in_err-another.field-0.0 =
+    next-argument-stuck _ _ _ _ _ c.more.invariant c.in-Some-starts.ensures.some c.in_err-another.ensures.err in search rules
 
 pub more-preserved : goal.more-preserved
 more-preserved c =
@@ -26,7 +30,8 @@ more-preserved c =
 
 pub returns-in_err-end-clause-err : goal.returns-in_err-end-clause-err
 returns-in_err-end-clause-err c =
-    let h : IsArgumentsStuck c.args.tokens.now c.in_err-end.field-0.0 = arguments-end-stuck _ _ _ _ c.more.invariant c.in_default-starts.ensures.none c.in_err-end.ensures.err in search rules
+    let h : IsArgumentsStuck c.args.tokens.now c.in_err-end.field-0.0 =
+    arguments-end-stuck _ _ _ _ c.more.invariant c.in_default-starts.ensures.none c.in_err-end.ensures.err in search rules
 
 pub returns-clause-ok : goal.returns-clause-ok
 returns-clause-ok c = arguments-read _ _ _ _ c.more.invariant c.in_default-starts.ensures.none c.in_ok-end.ensures.ok

@@ -1,4 +1,5 @@
-use Rattle.c_front.specs.Grammar.{multiply, divide, remainder, add, subtract, shift_left, shift_right, less, greater, less_or_equal, greater_or_equal, equal, not_equal, bit_and, bit_xor, bit_or, logical_and, logical_or}
+use Rattle.c_front.specs.Grammar.{multiply, divide, remainder, add, subtract, shift_left, shift_right, less, greater, less_or_equal, greater_or_equal, equal}
+use Rattle.c_front.specs.Grammar.{not_equal, bit_and, bit_xor, bit_or, logical_and, logical_or}
 use Rattle.c_front.proofs.Paths.{no-operator}
 use Rattle.c_front.proofs.expression.operator_of.Goals as goal
 
@@ -59,4 +60,8 @@ returns-in-BarBar-clause-some c = rw c.in-BarBar.is logical_or
 pub returns-in_default : goal.returns-in_default
 returns-in_default c =
     let d = c.in_default in
-    record { none = no-operator _ d.not-Star d.not-Slash d.not-Percent d.not-Plus d.not-Minus d.not-LessLess d.not-GreaterGreater d.not-LessSign d.not-GreaterSign d.not-LessEqual d.not-GreaterEqual d.not-EqualEqual d.not-BangEqual d.not-Ampersand d.not-Caret d.not-Bar d.not-AndAnd d.not-BarBar; some = tt }
+    record {
+      none = no-operator _ d.not-Star d.not-Slash d.not-Percent d.not-Plus d.not-Minus d.not-LessLess d.not-GreaterGreater d.not-LessSign
+          d.not-GreaterSign d.not-LessEqual d.not-GreaterEqual d.not-EqualEqual d.not-BangEqual d.not-Ampersand d.not-Caret d.not-Bar d.not-AndAnd d.not-BarBar;
+      some = tt;
+    }

@@ -9,7 +9,8 @@ returns-in_err-start-clause-err c =
 
 pub returns-in_err-given-clause-err : goal.returns-in_err-given-clause-err
 returns-in_err-given-clause-err c =
-    let h : IsAssignedStuck c.args.tokens.now c.in_err-given.field-0.0 = assigned-value-stuck _ _ _ c.in_ok-start.ensures.ok c.in_err-given.ensures.err in search rules
+    let h : IsAssignedStuck c.args.tokens.now c.in_err-given.field-0.0 = assigned-value-stuck _ _ _ c.in_ok-start.ensures.ok c.in_err-given.ensures.err in
+    search rules
 
 pub returns-clause-ok : goal.returns-clause-ok
 returns-clause-ok c = assigned-read _ _ _ _ c.in_ok-start.ensures.ok c.in_ok-given.ensures.ok

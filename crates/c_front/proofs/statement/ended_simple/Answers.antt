@@ -6,18 +6,21 @@ use Rattle.c_front.proofs.statement.ended_simple.Goals as goal
 
 pub returns-in_err-end-in-None-clause-err : goal.returns-in_err-end-in-None-clause-err
 returns-in_err-end-in-None-clause-err c =
-    let h : IsEndedStuck maybe_simple c.args.closing c.args.tokens.now c.in_err-end-in-None.field-0.0 = ended-none-stuck _ _ _ c.in-None.ensures.none c.in_err-end-in-None.ensures.err in search rules
+    let h : IsEndedStuck maybe_simple c.args.closing c.args.tokens.now c.in_err-end-in-None.field-0.0 =
+    ended-none-stuck _ _ _ c.in-None.ensures.none c.in_err-end-in-None.ensures.err in search rules
 
 pub returns-in_ok-end-in-None-clause-ok : goal.returns-in_ok-end-in-None-clause-ok
 returns-in_ok-end-in-None-clause-ok c = ended-none-read _ _ _ c.in-None.ensures.none c.in_ok-end-in-None.ensures.ok
 
 pub returns-in_err-inner-in-Some-clause-err : goal.returns-in_err-inner-in-Some-clause-err
 returns-in_err-inner-in-Some-clause-err c =
-    let h : IsEndedStuck maybe_simple c.args.closing c.args.tokens.now c.in_err-inner-in-Some.field-0.0 = ended-some-stuck _ _ _ _ c.in-Some.ensures.some c.in_err-inner-in-Some.ensures.err in search rules
+    let h : IsEndedStuck maybe_simple c.args.closing c.args.tokens.now c.in_err-inner-in-Some.field-0.0 =
+    ended-some-stuck _ _ _ _ c.in-Some.ensures.some c.in_err-inner-in-Some.ensures.err in search rules
 
 pub returns-in_err-end-in-Some-clause-err : goal.returns-in_err-end-in-Some-clause-err
 returns-in_err-end-in-Some-clause-err c =
-    let h : IsEndedStuck maybe_simple c.args.closing c.args.tokens.now c.in_err-end-in-Some.field-0.0 = ended-close-stuck _ _ _ _ _ _ c.in-Some.ensures.some c.in_ok-inner-in-Some.ensures.ok c.in_err-end-in-Some.ensures.err in search rules
+    let h : IsEndedStuck maybe_simple c.args.closing c.args.tokens.now c.in_err-end-in-Some.field-0.0 =
+    ended-close-stuck _ _ _ _ _ _ c.in-Some.ensures.some c.in_ok-inner-in-Some.ensures.ok c.in_err-end-in-Some.ensures.err in search rules
 
 pub returns-in_ok-end-in-Some-clause-ok : goal.returns-in_ok-end-in-Some-clause-ok
 returns-in_ok-end-in-Some-clause-ok c = ended-some-read _ _ _ _ _ _ c.in-Some.ensures.some c.in_ok-inner-in-Some.ensures.ok c.in_ok-end-in-Some.ensures.ok

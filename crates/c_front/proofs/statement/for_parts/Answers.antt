@@ -13,11 +13,13 @@ returns-in_err-first-clause-err c =
 
 pub returns-in_err-test-clause-err : goal.returns-in_err-test-clause-err
 returns-in_err-test-clause-err c =
-    let h : IsHeadStuck c.args.tokens.now c.in_err-test.field-0.0 = head-test-stuck _ _ _ _ _ c.in_ok-open.ensures.ok c.in_ok-first.ensures.ok c.in_err-test.ensures.err in search rules
+    let h : IsHeadStuck c.args.tokens.now c.in_err-test.field-0.0 = head-test-stuck _ _ _ _ _ c.in_ok-open.ensures.ok c.in_ok-first.ensures.ok
+    c.in_err-test.ensures.err in search rules
 
 pub returns-in_err-last-clause-err : goal.returns-in_err-last-clause-err
 returns-in_err-last-clause-err c =
-    let h : IsHeadStuck c.args.tokens.now c.in_err-last.field-0.0 = head-last-stuck _ _ _ _ _ _ _ c.in_ok-open.ensures.ok c.in_ok-first.ensures.ok c.in_ok-test.ensures.ok c.in_err-last.ensures.err in search rules
+    let h : IsHeadStuck c.args.tokens.now c.in_err-last.field-0.0 = head-last-stuck _ _ _ _ _ _ _ c.in_ok-open.ensures.ok c.in_ok-first.ensures.ok
+    c.in_ok-test.ensures.ok c.in_err-last.ensures.err in search rules
 
 pub returns-clause-ok : goal.returns-clause-ok
 returns-clause-ok c = rw c.in_ok-parts.ensures.ok (head-read _ _ _ _ _ _ _ _ c.in_ok-open.ensures.ok c.in_ok-first.ensures.ok c.in_ok-test.ensures.ok c.in_ok-last.ensures.ok)

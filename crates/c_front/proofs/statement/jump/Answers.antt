@@ -7,21 +7,24 @@ use Rattle.c_front.proofs.statement.jump.Goals as goal
 
 pub returns-in_err-end-in-Break-clause-err : goal.returns-in_err-end-in-Break-clause-err
 returns-in_err-end-in-Break-clause-err c =
-    let h : IsStuck a_statement (Jump c.args.word c.args.at ∷ c.args.tokens.now) c.in_err-end-in-Break.field-0.0 = rw c.in-Break.is (break-stuck _ _ _ c.in_err-end-in-Break.ensures.err) in search rules
+    let h : IsStuck a_statement (Jump c.args.word c.args.at ∷ c.args.tokens.now) c.in_err-end-in-Break.field-0.0 =
+    rw c.in-Break.is (break-stuck _ _ _ c.in_err-end-in-Break.ensures.err) in search rules
 
 pub returns-in_ok-end-in-Break-clause-ok : goal.returns-in_ok-end-in-Break-clause-ok
 returns-in_ok-end-in-Break-clause-ok c = rw c.in-Break.is (break-read _ _ _ c.in_ok-end-in-Break.ensures.ok)
 
 pub returns-in_err-end-in-Continue-clause-err : goal.returns-in_err-end-in-Continue-clause-err
 returns-in_err-end-in-Continue-clause-err c =
-    let h : IsStuck a_statement (Jump c.args.word c.args.at ∷ c.args.tokens.now) c.in_err-end-in-Continue.field-0.0 = rw c.in-Continue.is (continue-stuck _ _ _ c.in_err-end-in-Continue.ensures.err) in search rules
+    let h : IsStuck a_statement (Jump c.args.word c.args.at ∷ c.args.tokens.now) c.in_err-end-in-Continue.field-0.0 =
+    rw c.in-Continue.is (continue-stuck _ _ _ c.in_err-end-in-Continue.ensures.err) in search rules
 
 pub returns-in_ok-end-in-Continue-clause-ok : goal.returns-in_ok-end-in-Continue-clause-ok
 returns-in_ok-end-in-Continue-clause-ok c = rw c.in-Continue.is (continue-read _ _ _ c.in_ok-end-in-Continue.ensures.ok)
 
 pub returns-in_err-given-in-Return-clause-err : goal.returns-in_err-given-in-Return-clause-err
 returns-in_err-given-in-Return-clause-err c =
-    let h : IsStuck a_statement (Jump c.args.word c.args.at ∷ c.args.tokens.now) c.in_err-given-in-Return.field-0.0 = rw c.in-Return.is (return-stuck _ _ _ c.in_err-given-in-Return.ensures.err) in search rules
+    let h : IsStuck a_statement (Jump c.args.word c.args.at ∷ c.args.tokens.now) c.in_err-given-in-Return.field-0.0 =
+    rw c.in-Return.is (return-stuck _ _ _ c.in_err-given-in-Return.ensures.err) in search rules
 
 pub returns-in_ok-given-in-Return-clause-ok : goal.returns-in_ok-given-in-Return-clause-ok
 returns-in_ok-given-in-Return-clause-ok c = rw c.in-Return.is (return-read _ _ _ _ c.in_ok-given-in-Return.ensures.ok)

@@ -4,4 +4,5 @@ use Rattle.c_run.proofs.Stores.{places-set}
 use Rattle.c_run.proofs.interpreter.set.Goals as goal
 
 pub returns : goal.returns
-returns c = places-set _ c.args.number (Some c.args.v) c.in_ok-make_room.ensures.room ∙ ap (λ (p : Places). written p c.args.number (Some c.args.v)) c.in_ok-make_room.ensures.same
+returns c = places-set _ c.args.number (Some c.args.v) c.in_ok-make_room.ensures.room
+    ∙ ap (λ (p : Places). written p c.args.number (Some c.args.v)) c.in_ok-make_room.ensures.same

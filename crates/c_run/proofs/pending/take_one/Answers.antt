@@ -4,17 +4,21 @@ use Rattle.c_run.proofs.Turns.{rest-gone}
 use Rattle.c_run.proofs.pending.take_one.Goals as goal
 
 pub returns-in-Turn-clause-less : goal.returns-in-Turn-clause-less
-returns-in-Turn-clause-less c = turn-less c.loop-t.todo.items c.pop.new.self.items c.in-Some.t c.in-Turn.last c.in-Turn.again _ c.in-Some.ensures.items c.in-Turn.is c.loop-t.invariant.less
+returns-in-Turn-clause-less c = turn-less c.loop-t.todo.items c.pop.new.self.items c.in-Some.t c.in-Turn.last c.in-Turn.again _ c.in-Some.ensures.items
+    c.in-Turn.is c.loop-t.invariant.less
 
 pub returns-in-One-clause-less : goal.returns-in-One-clause-less
-returns-in-One-clause-less c = one-less c.loop-t.todo.items c.pop.new.self.items c.in-Some.t c.in-One.s _ c.in-Some.ensures.items c.in-One.is c.loop-t.invariant.less
+returns-in-One-clause-less c = one-less c.loop-t.todo.items c.pop.new.self.items c.in-Some.t c.in-One.s _ c.in-Some.ensures.items c.in-One.is
+    c.loop-t.invariant.less
 
 pub returns-in-Some-split_first-clause-less : goal.returns-in-Some-split_first-clause-less
 returns-in-Some-split_first-clause-less c =
-    rest-less c.loop-t.todo.items c.pop.new.self.items c.put.new.todo.items c.in-Some.t c.in-Rest.all c.in-Some-split_first.rest c.in-Some-split_first.s _ c.in-Some.ensures.items c.in-Rest.is c.in-Some-split_first.ensures.cases.0 c.in_ok-put-in-Rest.ensures c.loop-t.invariant.less
+    rest-less c.loop-t.todo.items c.pop.new.self.items c.put.new.todo.items c.in-Some.t c.in-Rest.all c.in-Some-split_first.rest c.in-Some-split_first.s _
+    c.in-Some.ensures.items c.in-Rest.is c.in-Some-split_first.ensures.cases.0 c.in_ok-put-in-Rest.ensures c.loop-t.invariant.less
 
 pub loop-t-preserved : goal.loop-t-preserved
 loop-t-preserved c = record {
-  same = rest-gone c.loop-t.todo.items c.pop.new.self.items c.in-Some.t c.in-Rest.all c.in-Some.ensures.items c.in-Rest.is c.in_default-split_first.ensures.cases ∙ c.loop-t.invariant.same;
+  same = rest-gone c.loop-t.todo.items c.pop.new.self.items c.in-Some.t c.in-Rest.all c.in-Some.ensures.items c.in-Rest.is
+      c.in_default-split_first.ensures.cases ∙ c.loop-t.invariant.same;
   less = gone-less c.loop-t.todo.items c.pop.new.self.items c.in-Some.t _ c.in-Some.ensures.items c.loop-t.invariant.less;
 }

@@ -8,13 +8,17 @@ pub loop-init : goal.loop-init
 loop-init c = begins (program_of c.args.program.now) c.args.depth c.args.steps c.in_ok-interpreter.interpreter c.in_ok-interpreter.ensures
 
 pub loop-preserved : goal.loop-preserved
-loop-preserved c = goes-on (program_of c.args.program.now) c.args.depth c.args.steps c.loop.counter (state_of c.loop.interpreter) (state_of c.step.new.interpreter) c.loop-test.true c.loop.invariant (c.in_ok-reached.ensures ∙ ap (λ r. state_at r c.step.new.interpreter) c.in-Going.is)
+loop-preserved c = goes-on (program_of c.args.program.now) c.args.depth c.args.steps c.loop.counter (state_of c.loop.interpreter)
+    (state_of c.step.new.interpreter) c.loop-test.true c.loop.invariant (c.in_ok-reached.ensures ∙ ap (λ r. state_at r c.step.new.interpreter) c.in-Going.is)
 
 pub returns-in-Ended : goal.returns-in-Ended
-returns-in-Ended c = ends (program_of c.args.program.now) c.args.depth c.args.steps c.loop.counter c.in-Ended.w (state_of c.loop.interpreter) c.step.new.interpreter.output.items c.loop-test.true c.loop.invariant (c.in_ok-reached.ensures ∙ ap (λ r. state_at r c.step.new.interpreter) c.in-Ended.is)
+returns-in-Ended c = ends (program_of c.args.program.now) c.args.depth c.args.steps c.loop.counter c.in-Ended.w (state_of c.loop.interpreter)
+    c.step.new.interpreter.output.items c.loop-test.true c.loop.invariant (c.in_ok-reached.ensures ∙ ap (λ r. state_at r c.step.new.interpreter) c.in-Ended.is)
 
 pub returns-in-Failed : goal.returns-in-Failed
-returns-in-Failed c = fails (program_of c.args.program.now) c.args.depth c.args.steps c.loop.counter (state_of c.loop.interpreter) c.step.new.interpreter.output.items c.loop-test.true c.loop.invariant (c.in_ok-reached.ensures ∙ ap (λ r. state_at r c.step.new.interpreter) c.in-Failed.is)
+returns-in-Failed c = fails (program_of c.args.program.now) c.args.depth c.args.steps c.loop.counter (state_of c.loop.interpreter)
+    c.step.new.interpreter.output.items c.loop-test.true c.loop.invariant (c.in_ok-reached.ensures ∙ ap (λ r. state_at r c.step.new.interpreter) c.in-Failed.is)
 
 pub returns : goal.returns
-returns c = bound-reached (program_of c.args.program.now) c.args.depth c.args.steps c.loop.counter (state_of c.loop.interpreter) c.loop-test.false c.loop.invariant
+returns c = bound-reached (program_of c.args.program.now) c.args.depth c.args.steps c.loop.counter (state_of c.loop.interpreter) c.loop-test.false
+    c.loop.invariant

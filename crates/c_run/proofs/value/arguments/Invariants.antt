@@ -5,6 +5,7 @@ use Rattle.c_typed.specs.Values.{values_of}
 use Rattle.c_run.specs.Interpreter.{places, arrays}
 use Rattle.c_run.proofs.value.arguments.Given as goal
 
-abbrev pub invariant-loop-term : goal.invariant-loop-term
-invariant-loop-term l =
-    option_map (λ vs. l.values.items ++ map Some vs) (values_of (typed_expressions_of (drop l.term-index l.terms)) (places l.locals) (arrays l.globals)) ≡ option_map (map Some) (values_of (typed_expressions_of l.terms) (places l.locals) (arrays l.globals))
+abbrev pub invariant-loop-expression : goal.invariant-loop-expression
+invariant-loop-expression l =
+    option_map (λ vs. l.values.items ++ map Some vs) (values_of (typed_expressions_of (drop l.expression-index l.expressions)) (places l.locals)
+    (arrays l.globals)) ≡ option_map (map Some) (values_of (typed_expressions_of l.expressions) (places l.locals) (arrays l.globals))

@@ -11,7 +11,8 @@ pub returns-in-None-clause-err : goal.returns-in-None-clause-err
 returns-in-None-clause-err c = goes-big _ _ _ _ _ _ _ _ c.lexemes.invariant c.in-Take.ensures.found c.in-None.ensures.none
 
 pub lexemes-preserved : goal.lexemes-preserved
-lexemes-preserved c = goes-take _ _ _ _ _ _ _ _ _ _ _ _ c.lexemes.invariant c.in-Take.ensures.found c.in-Take.ensures.fits.1 c.in-Some.ensures.some c.after-rest-in-Some.ensures c.in_ok-push-in-Some.ensures.items c.in_ok-push-in-Some-2.ensures.items
+lexemes-preserved c = goes-take _ _ _ _ _ _ _ _ _ _ _ _ c.lexemes.invariant c.in-Take.ensures.found c.in-Take.ensures.fits.1 c.in-Some.ensures.some
+    c.after-rest-in-Some.ensures c.in_ok-push-in-Some.ensures.items c.in_ok-push-in-Some-2.ensures.items
 
 pub returns-in-Stop-clause-err : goal.returns-in-Stop-clause-err
 returns-in-Stop-clause-err c = goes-stop _ _ _ _ _ _ _ _ c.lexemes.invariant c.in-Stop.ensures.found

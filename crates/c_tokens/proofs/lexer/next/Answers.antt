@@ -8,19 +8,24 @@ pub returns-then-is_space-clause-same : goal.returns-then-is_space-clause-same
 returns-then-is_space-clause-same c = sym (space-front _ _ _ c.in-Some.ensures.some (sym c.if-is_space.ensures))
 
 pub returns-then-is_letter-clause-same : goal.returns-then-is_letter-clause-same
-returns-then-is_letter-clause-same c = c.word.ensures.same ∙ sym (word-front _ _ _ c.in-Some.ensures.some (sym c.if-is_space.ensures) (sym c.if-is_letter.ensures))
+returns-then-is_letter-clause-same c = c.word.ensures.same ∙ sym (word-front _ _ _ c.in-Some.ensures.some (sym c.if-is_space.ensures)
+    (sym c.if-is_letter.ensures))
 
 pub returns-then-is_digit-clause-same : goal.returns-then-is_digit-clause-same
-returns-then-is_digit-clause-same c = c.constant.ensures.same ∙ sym (constant-front _ _ _ c.in-Some.ensures.some (sym c.if-is_space.ensures) (sym c.if-is_letter.ensures) (sym c.if-is_digit.ensures))
+returns-then-is_digit-clause-same c = c.constant.ensures.same ∙ sym (constant-front _ _ _ c.in-Some.ensures.some (sym c.if-is_space.ensures)
+    (sym c.if-is_letter.ensures) (sym c.if-is_digit.ensures))
 
 pub returns-then-begins-clause-same : goal.returns-then-begins-clause-same
 returns-then-begins-clause-same c = c.comment.ensures.same ∙ ap (λ (x : List ℕ). comment_lexeme (comment_length x) x) c.after.ensures ∙
-    sym (comment-front _ _ _ c.in-Some.ensures.some (sym c.if-is_space.ensures) (sym c.if-is_letter.ensures) (sym c.if-is_digit.ensures) (sym c.if-begins.ensures))
+    sym (comment-front _ _ _ c.in-Some.ensures.some (sym c.if-is_space.ensures) (sym c.if-is_letter.ensures) (sym c.if-is_digit.ensures)
+    (sym c.if-begins.ensures))
 
 pub returns-then-begins-2-clause-same : goal.returns-then-begins-2-clause-same
 returns-then-begins-2-clause-same c = c.line.ensures.same ∙ ap (λ (x : List ℕ). line_lexeme (line_length x) x) c.after-then-begins-2.ensures ∙
-    sym (line-front _ _ _ c.in-Some.ensures.some (sym c.if-is_space.ensures) (sym c.if-is_letter.ensures) (sym c.if-is_digit.ensures) (sym c.if-begins.ensures) (sym c.if-begins-2.ensures))
+    sym (line-front _ _ _ c.in-Some.ensures.some (sym c.if-is_space.ensures) (sym c.if-is_letter.ensures) (sym c.if-is_digit.ensures) (sym c.if-begins.ensures)
+    (sym c.if-begins-2.ensures))
 
 pub returns-clause-same : goal.returns-clause-same
 returns-clause-same c = c.sign.ensures.same ∙
-    sym (sign-front _ _ _ c.in-Some.ensures.some (sym c.if-is_space.ensures) (sym c.if-is_letter.ensures) (sym c.if-is_digit.ensures) (sym c.if-begins.ensures) (sym c.if-begins-2.ensures))
+    sym (sign-front _ _ _ c.in-Some.ensures.some (sym c.if-is_space.ensures) (sym c.if-is_letter.ensures) (sym c.if-is_digit.ensures) (sym c.if-begins.ensures)
+    (sym c.if-begins-2.ensures))

@@ -1,0 +1,75 @@
+// Why a text is refused, and how that prints.
+
+ghost use Rattle.std.specs.Prelude.{◌≡◌, Some};
+ghost use Rattle.c_front.specs.Messages.{fault_text, kind_name, number_of};
+
+use std::error::Error;
+use std::fmt;
+
+/// What is wrong with a text.
+#[derive(Clone, Copy, PartialEq, Eq, Debug)]
+pub enum FrontFaultKind {
+    /// A byte that isn't 32 to 126, tab, LF or CR.
+    Byte,
+    /// No token begins at the offset.
+    Token,
+    /// The first token with which the tokens so far begin no program, or the text's length.
+    Syntax,
+    /// A number that is no constant.
+    Constant,
+    /// The text is above 1,048,576 bytes, or more than 1,024 tokens stand in a row with no `;`, `{` or `}`, more than
+    /// 128 braces are open, or more than 512 `else` and `for` stand since no brace was open.
+    Size,
+    /// Memory was refused; told at the text's length.
+    NoMemory,
+}
+
+impl FrontFaultKind {
+    /// The number that messages show.
+    pub fn number(self) -> u8
+        ensures { result ≡ number_of self }
+    {
+        match self {
+            FrontFaultKind::Byte => 1,
+            FrontFaultKind::Token => 2,
+            FrontFaultKind::Syntax => 3,
+            FrontFaultKind::Constant => 4,
+            FrontFaultKind::Size => 5,
+            FrontFaultKind::NoMemory => 30,
+        }
+    }
+
+    /// The name that messages show.
+    fn name(self) -> &'static str
+        ensures { result.now ≡ kind_name self }
+    {
+        match self {
+            FrontFaultKind::Byte => "Byte",
+            FrontFaultKind::Token => "Token",
+            FrontFaultKind::Syntax => "Syntax",
+            FrontFaultKind::Constant => "Constant",
+            FrontFaultKind::Size => "Size",
+            FrontFaultKind::NoMemory => "NoMemory",
+        }
+    }
+}
+
+/// Why a text is refused, and at which offset.
+#[derive(Clone, Copy, PartialEq, Eq, Debug)]
+pub struct FrontFault {
+    pub kind: FrontFaultKind,
+    pub at: usize,
+}
+
+impl fmt::Display for FrontFault {
+    ghost output = { λ fault. Some (fault_text fault) };
+
+    fn fmt<W: fmt::Write>(&self, f: &mut fmt::Formatter<W>) -> fmt::Result {
+        let number = self.kind.number();
+        let name = self.kind.name();
+        let at = self.at;
+        write!(f, "fault {number} {name} at {at}")
+    }
+}
+
+impl Error for FrontFault {}
