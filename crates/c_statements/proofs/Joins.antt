@@ -7,7 +7,8 @@ use Rattle.c_front.specs.Tree.{Items}
 use Rattle.c_statements.specs.declared.fault.TypeStop.{TypeStop}
 use Rattle.c_statements.specs.declared.fault.TypeStop.TheVariants.{Fault, NoMemory}
 use Rattle.c_typed.specs.declared.tree.TypedStatement.{TypedStatement, Block}
-use Rattle.c_statements.specs.Faults.{Faults, StopsAtFirst, HasNone, StopsBoth, StopsTwo, MadeOfTwo, MadeOfThree, both_of, first_of}
+use Rattle.c_statements.specs.Faults.{Faults, StopsAtFirst, HasNone, StopsBoth, StopsTwo, both_of, first_of}
+use Rattle.c_statements.specs.Made.{MadeOfTwo, MadeOfThree}
 use Rattle.c_statements.specs.Names.{Scopes, within, outside, behind, behind_items, declared_in, declared_in_all}
 use Rattle.c_typed.specs.Shape.{statement_of, statements_of}
 use Rattle.c_typed.specs.Trees.{block, more_statements, no_statements}

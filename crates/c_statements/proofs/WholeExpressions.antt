@@ -8,27 +8,15 @@ use Rattle.c_front.specs.Tree as Tree
 use Rattle.c_front.specs.Tree.{Expression}
 use Rattle.c_typed.specs.declared.tree.TypedExpression.{TypedExpression}
 use Rattle.c_typed.specs.Shape.{typed_expression_of}
-use Rattle.c_typed.specs.Trees.{element, unary, binary, conditional, type_of, common_type, prefix_type, operation_type}
 use Rattle.c_statements.specs.declared.fault.TypeStop.{TypeStop}
 use Rattle.c_statements.specs.declared.fault.TypeStop.TheVariants.{NoMemory}
 use Rattle.c_statements.specs.declared.names.Named.TheVariants.{Array}
-use Rattle.c_statements.specs.Faults.{Faults, StopsAtFirst, HasNone, MadeOfTwo, MadeOfThree}
+use Rattle.c_statements.specs.Faults.{Faults, StopsAtFirst, HasNone}
+use Rattle.c_statements.specs.Made.{MadeOfTwo, MadeOfThree, IsElement, IsUnary, IsBinary, IsConditional}
 use Rattle.c_statements.specs.Names.{Environment}
 use Rattle.c_statements.specs.Types.{Types, element_typed, unary_typed, binary_typed, conditional_typed}
 use Rattle.c_statements.proofs.Firsts.{Tells, ok-at}
 use Rattle.std.specs.Prelude.{Some}
-
-abbrev pub IsElement : (ℕ × IntegerType) → TypedExpression → TypedExpression → Type 0
-IsElement a i t = typed_expression_of t ≡ element a.0 a.1 (typed_expression_of i)
-
-abbrev pub IsUnary : UnaryOp → Result TypedExpression TypeStop → TypedExpression → Type 0
-IsUnary o r t = (x : TypedExpression) × (r ≡ Ok x) × (typed_expression_of t ≡ unary o (prefix_type o (type_of (typed_expression_of x))) (typed_expression_of x))
-
-abbrev pub IsBinary : BinaryOp → TypedExpression → TypedExpression → TypedExpression → Type 0
-IsBinary o l r t = typed_expression_of t ≡ binary o (operation_type o (type_of (typed_expression_of l)) (type_of (typed_expression_of r))) (typed_expression_of l) (typed_expression_of r)
-
-abbrev pub IsConditional : TypedExpression → TypedExpression → TypedExpression → TypedExpression → Type 0
-IsConditional c y n t = typed_expression_of t ≡ conditional (common_type (type_of (typed_expression_of y)) (type_of (typed_expression_of n))) (typed_expression_of c) (typed_expression_of y) (typed_expression_of n)
 
 abbrev pub Typed : Environment → Expression → Result TypedExpression TypeStop → Type 0
 Typed scope e r = IfOk r (λ t. Types scope e (typed_expression_of t))

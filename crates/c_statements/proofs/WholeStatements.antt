@@ -5,25 +5,17 @@ use Rattle.c_front.specs.Tree.{Expression, Simple}
 use Rattle.c_typed.specs.declared.tree.TypedExpression.{TypedExpression}
 use Rattle.c_typed.specs.declared.tree.TypedStatement.{TypedStatement, Empty}
 use Rattle.c_typed.specs.Shape.{typed_expression_of, statement_of}
-use Rattle.c_typed.specs.Trees.{if_else, loop, block, more_statements, no_statements}
+use Rattle.c_typed.specs.Trees.{if_else, loop}
 use Rattle.c_statements.specs.declared.fault.TypeStop.{TypeStop}
 use Rattle.c_statements.specs.declared.fault.TypeStop.TheVariants.{Fault, NoMemory}
-use Rattle.c_statements.specs.Faults.{Faults, StopsAtFirst, StopsTwo, MadeOfTwo, MadeOfThree, both_of}
+use Rattle.c_statements.specs.Faults.{both_of}
+use Rattle.c_statements.specs.Made.{MadeOfTwo, MadeOfThree, IsIf, IsLoop, IsSequence}
 use Rattle.c_statements.specs.Names.{Scopes, environment_in, behind}
 use Rattle.c_statements.specs.Statements.{FaultyMaybe, FaultyPart, FaultyStatement}
 use Rattle.c_statements.specs.Types.{Types, TypesPart, TypesTest, TypesStatement, if_then_typed, if_then_else_typed, while_loop_typed, for_loop_typed}
 use Rattle.c_statements.specs.Uses.{Faulty}
 use Rattle.c_statements.proofs.Firsts.{Both, Tells, ok-at}
 use Rattle.c_statements.proofs.Joins.{tells-both-of, tells-left, tells-right, tells-two, tells-three}
-
-abbrev pub IsIf : TypedExpression → TypedStatement → TypedStatement → TypedStatement → Type 0
-IsIf c f s t = statement_of t ≡ if_else (typed_expression_of c) (statement_of f) (statement_of s)
-
-abbrev pub IsLoop : TypedExpression → TypedStatement → TypedStatement → TypedStatement → Type 0
-IsLoop c l b t = statement_of t ≡ loop (typed_expression_of c) (statement_of l) (statement_of b)
-
-abbrev pub IsSequence : TypedStatement → TypedStatement → TypedStatement → Type 0
-IsSequence f s t = statement_of t ≡ block (more_statements (statement_of f) (more_statements (statement_of s) no_statements))
 
 abbrev pub Typed : List ℕ → Scopes → Expression → Result TypedExpression TypeStop → Type 0
 Typed text sc c r = IfOk r (λ t. Types (environment_in text sc) c (typed_expression_of t))

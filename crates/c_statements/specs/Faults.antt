@@ -63,13 +63,6 @@ StopsBoth (Err a) (Err b) s = s ≡ first_of a b
 abbrev pub IsTypeFault : List ℕ → Faults → TypeFault → Type 0
 IsTypeFault text faults f = ((f.kind ≡ WantOfMemory) × (f.at ≡ length text)) ⊎ IsFirstFault faults f.kind f.at
 
--- what is made of two answers, or of three
-abbrev pub MadeOfTwo : {A B D : Type 0} → Result A TypeStop → Result B TypeStop → (A → B → D → Type 0) → D → Type 0
-MadeOfTwo {A} {B} a b E d = (x : A) × (y : B) × (a ≡ Ok x) × (b ≡ Ok y) × E x y d
-
-abbrev pub MadeOfThree : {A B C D : Type 0} → Result A TypeStop → Result B TypeStop → Result C TypeStop → (A → B → C → D → Type 0) → D → Type 0
-MadeOfThree {A} {B} {C} a b c E d = (x : A) × (y : B) × (z : C) × (a ≡ Ok x) × (b ≡ Ok y) × (c ≡ Ok z) × E x y z d
-
 -- why nothing is made of two answers: want of memory, or the first of their faults
 abbrev pub StopsTwo : {A B : Type 0} → Result A TypeStop → Result B TypeStop → TypeStop → Type 0
 StopsTwo a b s = (s ≡ NoMemory) ⊎ StopsBoth a b s

@@ -5,3 +5,4 @@ pub mod Calls
 pub mod Statements
 pub mod Types
 pub mod Shape
+pub mod Made

@@ -1,9 +1,8 @@
 // Typed statements from what the typing of their parts answered.
 
-ghost use Rattle.std.specs.Prelude.{◌≡◌, IfOk, IfErr};
-ghost use Rattle.c_statements.specs.Faults.{MadeOfThree, MadeOfTwo, StopsTwo, both_of};
-ghost use Rattle.c_typed.specs.Shape.{typed_expression_of, statement_of as typed_of};
-ghost use Rattle.c_typed.specs.Trees.{block, if_else, loop, more_statements, no_statements};
+ghost use Rattle.std.specs.Prelude.{IfOk, IfErr};
+ghost use Rattle.c_statements.specs.Faults.{StopsTwo, both_of};
+ghost use Rattle.c_statements.specs.Made.{IsIf, IsLoop, IsSequence, MadeOfThree, MadeOfTwo};
 
 use crate::fault::{TypeStop, both};
 use c_typed::{TypedExpression, TypedStatement};
@@ -16,7 +15,7 @@ pub fn if_else(
     first: Result<TypedStatement, TypeStop>,
     second: Result<TypedStatement, TypeStop>,
 ) -> Result<TypedStatement, TypeStop>
-    ensures ok { IfOk result (MadeOfThree condition first second (λ c f s t. typed_of t ≡ if_else (typed_expression_of c) (typed_of f) (typed_of s))) }
+    ensures ok { IfOk result (MadeOfThree condition first second IsIf) }
     ensures err { IfErr result (StopsTwo condition (both_of first second)) }
 {
     let (condition, (first, second)) = both(condition, both(first, second))?;
@@ -30,7 +29,7 @@ pub fn loop_of(
     last: Result<TypedStatement, TypeStop>,
     body: Result<TypedStatement, TypeStop>,
 ) -> Result<TypedStatement, TypeStop>
-    ensures ok { IfOk result (MadeOfThree condition last body (λ c l b t. typed_of t ≡ loop (typed_expression_of c) (typed_of l) (typed_of b))) }
+    ensures ok { IfOk result (MadeOfThree condition last body IsLoop) }
     ensures err { IfErr result (StopsTwo condition (both_of last body)) }
 {
     let (condition, (last, body)) = both(condition, both(last, body))?;
@@ -43,7 +42,7 @@ pub fn sequence(
     first: Result<TypedStatement, TypeStop>,
     second: Result<TypedStatement, TypeStop>,
 ) -> Result<TypedStatement, TypeStop>
-    ensures ok { IfOk result (MadeOfTwo first second (λ f s t. typed_of t ≡ block (more_statements (typed_of f) (more_statements (typed_of s) no_statements)))) }
+    ensures ok { IfOk result (MadeOfTwo first second IsSequence) }
     ensures err { IfErr result (StopsTwo first second) }
 {
     let (first, second) = both(first, second)?;

@@ -4,8 +4,8 @@ ghost use Rattle.c_statements.specs.declared.fault.TypeStop.TheVariants.{Fault};
 ghost use Rattle.c_front.specs.Shape.{expression_of};
 ghost use Rattle.c_front.specs.Tree as Tree;
 ghost use Rattle.c_statements.specs.Faults.{HasNone, StopsAtFirst};
-ghost use Rattle.c_statements.specs.Shape.{scopes_of};
-ghost use Rattle.c_statements.specs.Names.{Environment, environment_in};
+ghost use Rattle.c_statements.specs.Shape.{environment_of};
+ghost use Rattle.c_statements.specs.Names.{Environment};
 ghost use Rattle.c_typed.specs.Shape.{typed_expression_of};
 ghost use Rattle.c_typed.specs.Trees as Trees;
 ghost use Rattle.c_statements.specs.Types.{Types};
@@ -33,9 +33,9 @@ fn variable(
     scopes: &Scopes,
     name: Identifier,
 ) -> Result<TypedExpression, TypeStop>
-    ensures ok { IfOk result (λ t. Types (environment_in program.now.text.items (scopes_of scopes.now)) (Tree.name name) (typed_expression_of t)) }
-    ensures none { IfOk result (λ t. HasNone (Misused (environment_in program.now.text.items (scopes_of scopes.now)) name as_value)) }
-    ensures err { IfErr result (StopsAtFirst (Misused (environment_in program.now.text.items (scopes_of scopes.now)) name as_value)) }
+    ensures ok { IfOk result (λ t. Types (environment_of program.now scopes.now) (Tree.name name) (typed_expression_of t)) }
+    ensures none { IfOk result (λ t. HasNone (Misused (environment_of program.now scopes.now) name as_value)) }
+    ensures err { IfErr result (StopsAtFirst (Misused (environment_of program.now scopes.now) name as_value)) }
 {
     let Some(named) = scopes.find(program, name) else {
         return Err(misuse(TypeFaultKind::Undeclared, name));
@@ -53,9 +53,9 @@ pub fn array(
     scopes: &Scopes,
     name: Identifier,
 ) -> Result<(usize, IntegerType), TypeStop>
-    ensures ok { IfOk result (λ r. environment_in program.now.text.items (scopes_of scopes.now) name ≡ Some (Array r.0 r.1)) }
-    ensures none { IfOk result (λ r. HasNone (Misused (environment_in program.now.text.items (scopes_of scopes.now)) name with_index)) }
-    ensures err { IfErr result (StopsAtFirst (Misused (environment_in program.now.text.items (scopes_of scopes.now)) name with_index)) }
+    ensures ok { IfOk result (λ r. environment_of program.now scopes.now name ≡ Some (Array r.0 r.1)) }
+    ensures none { IfOk result (λ r. HasNone (Misused (environment_of program.now scopes.now) name with_index)) }
+    ensures err { IfErr result (StopsAtFirst (Misused (environment_of program.now scopes.now) name with_index)) }
 {
     let Some(named) = scopes.find(program, name) else {
         return Err(misuse(TypeFaultKind::Undeclared, name));
@@ -73,9 +73,9 @@ pub fn expression(
     scopes: &Scopes,
     e: &Expression,
 ) -> Result<TypedExpression, TypeStop>
-    ensures ok { IfOk result (λ t. Types (environment_in program.now.text.items (scopes_of scopes.now)) (expression_of e.now) (typed_expression_of t)) }
-    ensures none { IfOk result (λ t. HasNone (Faulty (environment_in program.now.text.items (scopes_of scopes.now)) (expression_of e.now))) }
-    ensures err { IfErr result (StopsAtFirst (Faulty (environment_in program.now.text.items (scopes_of scopes.now)) (expression_of e.now))) }
+    ensures ok { IfOk result (λ t. Types (environment_of program.now scopes.now) (expression_of e.now) (typed_expression_of t)) }
+    ensures none { IfOk result (λ t. HasNone (Faulty (environment_of program.now scopes.now) (expression_of e.now))) }
+    ensures err { IfErr result (StopsAtFirst (Faulty (environment_of program.now scopes.now) (expression_of e.now))) }
 {
     match e {
         Expression::Constant(literal) => Ok(TypedExpression::Constant(*literal)),

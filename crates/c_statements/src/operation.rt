@@ -1,10 +1,10 @@
 // Typed expressions from what the typing of their operands answered.
 
-ghost use Rattle.std.specs.Prelude.{◌≡◌, ◌⊎◌, IfOk, IfErr, Ok, Err};
+ghost use Rattle.std.specs.Prelude.{◌≡◌, ◌⊎◌, IfOk, IfErr, Err};
 ghost use Rattle.c_statements.specs.declared.fault.TypeStop.TheVariants.{NoMemory};
-ghost use Rattle.c_statements.specs.Faults.{MadeOfThree, MadeOfTwo, StopsTwo, both_of};
-ghost use Rattle.c_typed.specs.Shape.{typed_expression_of};
-ghost use Rattle.c_typed.specs.Trees.{binary, common_type, conditional, element, operation_type, prefix_type, type_of, unary};
+ghost use Rattle.c_statements.specs.Faults.{StopsTwo, both_of};
+ghost use Rattle.c_statements.specs.Made.{IsBinary, IsConditional, IsElement, IsUnary, MadeOfThree, MadeOfTwo};
+ghost use Rattle.c_typed.specs.Trees.{common_type, operation_type, prefix_type};
 
 use crate::fault::{TypeStop, both};
 use c_front::{BinaryOp, UnaryOp};
@@ -50,7 +50,7 @@ pub fn element(
     array: Result<(usize, IntegerType), TypeStop>,
     index: Result<TypedExpression, TypeStop>,
 ) -> Result<TypedExpression, TypeStop>
-    ensures ok { IfOk result (MadeOfTwo array index (λ a i t. typed_expression_of t ≡ element a.0 a.1 (typed_expression_of i))) }
+    ensures ok { IfOk result (MadeOfTwo array index IsElement) }
     ensures err { IfErr result (StopsTwo array index) }
 {
     let ((number, integer_type), index) = both(array, index)?;
@@ -63,7 +63,7 @@ pub fn unary(
     operator: UnaryOp,
     operand: Result<TypedExpression, TypeStop>,
 ) -> Result<TypedExpression, TypeStop>
-    ensures ok { IfOk result (λ t. (x : _) × (operand ≡ Ok x) × (typed_expression_of t ≡ unary operator (prefix_type operator (type_of (typed_expression_of x))) (typed_expression_of x))) }
+    ensures ok { IfOk result (IsUnary operator operand) }
     ensures err { IfErr result (λ s. (s ≡ NoMemory) ⊎ (operand ≡ Err s)) }
 {
     let operand = operand?;
@@ -78,7 +78,7 @@ pub fn binary(
     left: Result<TypedExpression, TypeStop>,
     right: Result<TypedExpression, TypeStop>,
 ) -> Result<TypedExpression, TypeStop>
-    ensures ok { IfOk result (MadeOfTwo left right (λ l r t. typed_expression_of t ≡ binary operator (operation_type operator (type_of (typed_expression_of l)) (type_of (typed_expression_of r))) (typed_expression_of l) (typed_expression_of r))) }
+    ensures ok { IfOk result (MadeOfTwo left right (IsBinary operator)) }
     ensures err { IfErr result (StopsTwo left right) }
 {
     let (left, right) = both(left, right)?;
@@ -98,7 +98,7 @@ pub fn conditional(
     yes: Result<TypedExpression, TypeStop>,
     no: Result<TypedExpression, TypeStop>,
 ) -> Result<TypedExpression, TypeStop>
-    ensures ok { IfOk result (MadeOfThree test yes no (λ c y n t. typed_expression_of t ≡ conditional (common_type (type_of (typed_expression_of y)) (type_of (typed_expression_of n))) (typed_expression_of c) (typed_expression_of y) (typed_expression_of n))) }
+    ensures ok { IfOk result (MadeOfThree test yes no IsConditional) }
     ensures err { IfErr result (StopsTwo test (both_of yes no)) }
 {
     let (test, (yes, no)) = both(test, both(yes, no))?;

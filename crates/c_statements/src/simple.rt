@@ -2,8 +2,7 @@ ghost use Rattle.std.specs.Prelude.{◌≡◌, ◌++◌, ◌∷◌, [], ◌⊎�
 ghost use Rattle.c_front.specs.Shape.{expressions_of, maybe_expression_of, call_of, value_tree, maybe_value_tree, simple_of, maybe_simple_of};
 ghost use Rattle.c_statements.specs.declared.fault.TypeStop.TheVariants.{NoMemory};
 ghost use Rattle.c_statements.specs.Faults.{HasNone, StopsAtFirst, StopsBoth};
-ghost use Rattle.c_statements.specs.Shape.{scopes_of};
-ghost use Rattle.c_statements.specs.Names.{environment_in};
+ghost use Rattle.c_statements.specs.Shape.{environment_of};
 ghost use Rattle.c_typed.specs.Shape.{typed_expression_of, typed_expressions_of, statement_of};
 ghost use Rattle.c_statements.specs.Statements.{FaultyAll, FaultyMaybe, FaultyCall, FaultyValue, FaultyFirst, FaultySimple, FaultyPart};
 ghost use Rattle.c_statements.specs.Types.{TypesAll, TypesPlace, TypesCall, TypesValue, TypesSimple, TypesPart, TypesTest, TypesFirst};
@@ -39,9 +38,9 @@ pub fn arguments(
     scopes: &Scopes,
     all: &[Expression],
 ) -> Result<Vec<TypedExpression>, TypeStop>
-    ensures ok { IfOk result (λ v. TypesAll (environment_in program.now.text.items (scopes_of scopes.now)) (expressions_of all.now) (typed_expressions_of v.items)) }
-    ensures none { IfOk result (λ v. HasNone (FaultyAll (environment_in program.now.text.items (scopes_of scopes.now)) (expressions_of all.now))) }
-    ensures err { IfErr result (StopsAtFirst (FaultyAll (environment_in program.now.text.items (scopes_of scopes.now)) (expressions_of all.now))) }
+    ensures ok { IfOk result (λ v. TypesAll (environment_of program.now scopes.now) (expressions_of all.now) (typed_expressions_of v.items)) }
+    ensures none { IfOk result (λ v. HasNone (FaultyAll (environment_of program.now scopes.now) (expressions_of all.now))) }
+    ensures err { IfErr result (StopsAtFirst (FaultyAll (environment_of program.now scopes.now) (expressions_of all.now))) }
 {
     let mut typed = Ok(Vec::new(alloc));
     for one in all {
@@ -58,9 +57,9 @@ pub fn call_to(
     to: Option<Destination>,
     called: &Call,
 ) -> Result<TypedStatement, TypeStop>
-    ensures ok { IfOk result (λ s. TypesCall (environment_in program.now.text.items (scopes_of scopes.now)) to (call_of called.now) (statement_of s)) }
-    ensures none { IfOk result (λ s. HasNone (FaultyCall (environment_in program.now.text.items (scopes_of scopes.now)) (is_some to) (call_of called.now))) }
-    ensures err { IfErr result (StopsAtFirst (FaultyCall (environment_in program.now.text.items (scopes_of scopes.now)) (is_some to) (call_of called.now))) }
+    ensures ok { IfOk result (λ s. TypesCall (environment_of program.now scopes.now) to (call_of called.now) (statement_of s)) }
+    ensures none { IfOk result (λ s. HasNone (FaultyCall (environment_of program.now scopes.now) (is_some to) (call_of called.now))) }
+    ensures err { IfErr result (StopsAtFirst (FaultyCall (environment_of program.now scopes.now) (is_some to) (call_of called.now))) }
 {
     let typed = arguments(alloc, program, scopes, &called.arguments);
     let target = callee(
@@ -82,9 +81,9 @@ pub fn call_to(
 
 /// Where the value of the variable of a name is kept.
 pub fn place(program: &Program, scopes: &Scopes, name: Identifier) -> Result<Destination, TypeStop>
-    ensures ok { IfOk result (TypesPlace (environment_in program.now.text.items (scopes_of scopes.now)) name) }
-    ensures none { IfOk result (λ p. HasNone (Misused (environment_in program.now.text.items (scopes_of scopes.now)) name as_value)) }
-    ensures err { IfErr result (StopsAtFirst (Misused (environment_in program.now.text.items (scopes_of scopes.now)) name as_value)) }
+    ensures ok { IfOk result (TypesPlace (environment_of program.now scopes.now) name) }
+    ensures none { IfOk result (λ p. HasNone (Misused (environment_of program.now scopes.now) name as_value)) }
+    ensures err { IfErr result (StopsAtFirst (Misused (environment_of program.now scopes.now) name as_value)) }
 {
     let Some(named) = scopes.find(program, name) else {
         return Err(misuse(TypeFaultKind::Undeclared, name));
@@ -104,9 +103,9 @@ pub fn value(
     to: Destination,
     given: &Value,
 ) -> Result<TypedStatement, TypeStop>
-    ensures ok { IfOk result (λ s. TypesValue (environment_in program.now.text.items (scopes_of scopes.now)) to (value_tree given.now) (statement_of s)) }
-    ensures none { IfOk result (λ s. HasNone (FaultyValue (environment_in program.now.text.items (scopes_of scopes.now)) (value_tree given.now))) }
-    ensures err { IfErr result (StopsAtFirst (FaultyValue (environment_in program.now.text.items (scopes_of scopes.now)) (value_tree given.now))) }
+    ensures ok { IfOk result (λ s. TypesValue (environment_of program.now scopes.now) to (value_tree given.now) (statement_of s)) }
+    ensures none { IfOk result (λ s. HasNone (FaultyValue (environment_of program.now scopes.now) (value_tree given.now))) }
+    ensures err { IfErr result (StopsAtFirst (FaultyValue (environment_of program.now scopes.now) (value_tree given.now))) }
 {
     match given {
         Value::Plain(e) => {
@@ -127,9 +126,9 @@ pub fn simple(
     scopes: &Scopes,
     s: &Simple,
 ) -> Result<TypedStatement, TypeStop>
-    ensures ok { IfOk result (λ t. TypesSimple (environment_in program.now.text.items (scopes_of scopes.now)) (simple_of s.now) (statement_of t)) }
-    ensures none { IfOk result (λ t. HasNone (FaultySimple (environment_in program.now.text.items (scopes_of scopes.now)) (simple_of s.now))) }
-    ensures err { IfErr result (StopsAtFirst (FaultySimple (environment_in program.now.text.items (scopes_of scopes.now)) (simple_of s.now))) }
+    ensures ok { IfOk result (λ t. TypesSimple (environment_of program.now scopes.now) (simple_of s.now) (statement_of t)) }
+    ensures none { IfOk result (λ t. HasNone (FaultySimple (environment_of program.now scopes.now) (simple_of s.now))) }
+    ensures err { IfErr result (StopsAtFirst (FaultySimple (environment_of program.now scopes.now) (simple_of s.now))) }
 {
     match s {
         Simple::Assign(name, given) => {
@@ -162,9 +161,9 @@ pub fn part(
     scopes: &Scopes,
     maybe: &Option<Simple>,
 ) -> Result<TypedStatement, TypeStop>
-    ensures ok { IfOk result (λ t. TypesPart (environment_in program.now.text.items (scopes_of scopes.now)) (maybe_simple_of maybe.now) (statement_of t)) }
-    ensures none { IfOk result (λ t. HasNone (FaultyPart (environment_in program.now.text.items (scopes_of scopes.now)) (maybe_simple_of maybe.now))) }
-    ensures err { IfErr result (StopsAtFirst (FaultyPart (environment_in program.now.text.items (scopes_of scopes.now)) (maybe_simple_of maybe.now))) }
+    ensures ok { IfOk result (λ t. TypesPart (environment_of program.now scopes.now) (maybe_simple_of maybe.now) (statement_of t)) }
+    ensures none { IfOk result (λ t. HasNone (FaultyPart (environment_of program.now scopes.now) (maybe_simple_of maybe.now))) }
+    ensures err { IfErr result (StopsAtFirst (FaultyPart (environment_of program.now scopes.now) (maybe_simple_of maybe.now))) }
 {
     match maybe {
         Some(s) => {
@@ -182,9 +181,9 @@ pub fn test(
     scopes: &Scopes,
     maybe: &Option<Expression>,
 ) -> Result<TypedExpression, TypeStop>
-    ensures ok { IfOk result (λ t. TypesTest (environment_in program.now.text.items (scopes_of scopes.now)) (maybe_expression_of maybe.now) (typed_expression_of t)) }
-    ensures none { IfOk result (λ t. HasNone (FaultyMaybe (environment_in program.now.text.items (scopes_of scopes.now)) (maybe_expression_of maybe.now))) }
-    ensures err { IfErr result (StopsAtFirst (FaultyMaybe (environment_in program.now.text.items (scopes_of scopes.now)) (maybe_expression_of maybe.now))) }
+    ensures ok { IfOk result (λ t. TypesTest (environment_of program.now scopes.now) (maybe_expression_of maybe.now) (typed_expression_of t)) }
+    ensures none { IfOk result (λ t. HasNone (FaultyMaybe (environment_of program.now scopes.now) (maybe_expression_of maybe.now))) }
+    ensures err { IfErr result (StopsAtFirst (FaultyMaybe (environment_of program.now scopes.now) (maybe_expression_of maybe.now))) }
 {
     match maybe {
         Some(e) => {
@@ -206,9 +205,9 @@ pub fn first_value(
     number: usize,
     maybe: &Option<Value>,
 ) -> Result<TypedStatement, TypeStop>
-    ensures ok { IfOk result (λ t. TypesFirst (environment_in program.now.text.items (scopes_of scopes.now)) number (maybe_value_tree maybe.now) (statement_of t)) }
-    ensures none { IfOk result (λ t. HasNone (FaultyFirst (environment_in program.now.text.items (scopes_of scopes.now)) (maybe_value_tree maybe.now))) }
-    ensures err { IfErr result (StopsAtFirst (FaultyFirst (environment_in program.now.text.items (scopes_of scopes.now)) (maybe_value_tree maybe.now))) }
+    ensures ok { IfOk result (λ t. TypesFirst (environment_of program.now scopes.now) number (maybe_value_tree maybe.now) (statement_of t)) }
+    ensures none { IfOk result (λ t. HasNone (FaultyFirst (environment_of program.now scopes.now) (maybe_value_tree maybe.now))) }
+    ensures err { IfErr result (StopsAtFirst (FaultyFirst (environment_of program.now scopes.now) (maybe_value_tree maybe.now))) }
 {
     match maybe {
         Some(given) => {

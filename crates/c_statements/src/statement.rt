@@ -4,7 +4,7 @@ ghost use Rattle.c_front.specs.Tree as Tree;
 ghost use Rattle.c_front.specs.Tree.{block, if_then, if_then_else, while_loop, for_loop, return_at, more_items, no_items};
 ghost use Rattle.c_statements.specs.declared.fault.TypeStop.TheVariants.{NoMemory};
 ghost use Rattle.c_statements.specs.Faults.{HasNone, StopsAtFirst};
-ghost use Rattle.c_statements.specs.Shape.{scopes_of};
+ghost use Rattle.c_statements.specs.Shape.{scopes_of, environment_of};
 ghost use Rattle.c_statements.specs.Names as Names;
 ghost use Rattle.c_statements.specs.Names.{environment_in, with_local, behind, behind_item, behind_items};
 ghost use Rattle.c_typed.specs.Shape.{maybe_typed_expression_of, statement_of as typed_of, statements_of};
@@ -57,9 +57,9 @@ fn returned(
     scopes: &Scopes,
     given: &Option<Expression>,
 ) -> Result<Option<TypedExpression>, TypeStop>
-    ensures ok { IfOk result (λ t. TypesMaybe (environment_in program.now.text.items (scopes_of scopes.now)) (maybe_expression_of given.now) (maybe_typed_expression_of t)) }
-    ensures none { IfOk result (λ t. HasNone (FaultyMaybe (environment_in program.now.text.items (scopes_of scopes.now)) (maybe_expression_of given.now))) }
-    ensures err { IfErr result (StopsAtFirst (FaultyMaybe (environment_in program.now.text.items (scopes_of scopes.now)) (maybe_expression_of given.now))) }
+    ensures ok { IfOk result (λ t. TypesMaybe (environment_of program.now scopes.now) (maybe_expression_of given.now) (maybe_typed_expression_of t)) }
+    ensures none { IfOk result (λ t. HasNone (FaultyMaybe (environment_of program.now scopes.now) (maybe_expression_of given.now))) }
+    ensures err { IfErr result (StopsAtFirst (FaultyMaybe (environment_of program.now scopes.now) (maybe_expression_of given.now))) }
 {
     match given {
         Some(e) => {

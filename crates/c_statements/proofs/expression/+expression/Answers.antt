@@ -6,7 +6,8 @@ use Rattle.c_statements.specs.Types.{constant_typed}
 use Rattle.c_statements.specs.Uses.{Faulty, Misused, with_index}
 use Rattle.c_statements.proofs.Firsts.{Both}
 use Rattle.c_statements.proofs.Joins.{tells-both-of, tells-two, tells-three}
-use Rattle.c_statements.proofs.WholeExpressions.{IsElement, IsBinary, IsConditional, element-ok, unary-ok, unary-stops, unary-none, binary-ok, conditional-ok}
+use Rattle.c_statements.specs.Made.{IsElement, IsBinary, IsConditional}
+use Rattle.c_statements.proofs.WholeExpressions.{element-ok, unary-ok, unary-stops, unary-none, binary-ok, conditional-ok}
 use Rattle.c_statements.proofs.expression.+expression.Goals as goal
 
 pub returns-in-Constant-clause-ok : goal.returns-in-Constant-clause-ok

@@ -6,19 +6,19 @@ use Rattle.c_front.proofs.Shapes.{block-is as read-block-is}
 use Rattle.c_typed.specs.declared.tree.TypedStatement.{TypedStatement as Typed, Empty}
 use Rattle.c_statements.specs.declared.fault.TypeStop.{TypeStop}
 use Rattle.c_statements.specs.declared.fault.TypeStop.TheVariants.{NoMemory}
-use Rattle.c_statements.specs.Faults.{Faults, StopsAtFirst, MadeOfThree, both_of}
 use Rattle.c_statements.specs.Shape.{scopes_of}
 use Rattle.c_statements.specs.Names.{Scopes, environment_in, with_local, behind, behind_item}
 use Rattle.c_typed.specs.Shape.{typed_expression_of, statement_of as typed_of, statements_of}
 use Rattle.c_statements.specs.Statements.{FaultyMaybe, FaultyPart, FaultyFirst, FaultyLocal, FaultyStatement, FaultyItems}
-use Rattle.c_typed.specs.Trees.{TypedStatement, if_else, loop, more_statements, no_statements}
+use Rattle.c_typed.specs.Trees.{TypedStatement, more_statements, no_statements}
 use Rattle.c_statements.specs.Types.{TypesSimple, TypesFirst, TypesStatement, TypesItems, empty_typed, block_typed, if_then_typed, if_then_else_typed, while_loop_typed, for_loop_typed, break_typed, continue_typed, simply_typed, no_items_typed, statement_typed, declare_typed}
 use Rattle.c_statements.specs.Uses.{Faulty}
 use Rattle.c_statements.proofs.Firsts.{Both, Tells, ok-at}
 use Rattle.c_statements.proofs.BlockItems.{NextItem, none-so-far, one-so-far, behind-so-far}
 use Rattle.c_typed.proofs.Shapes.{block-is}
 use Rattle.c_statements.proofs.Joins.{moved, behind-block, if-ok, tells-both-of, tells-left, tells-right, tells-alone, tells-two, tells-three}
-use Rattle.c_statements.proofs.WholeStatements.{IsIf, IsLoop, IsSequence, if-then-ok, if-then-else-ok, while-ok, for-ok, tells-behind}
+use Rattle.c_statements.specs.Made.{IsIf, IsLoop, IsSequence}
+use Rattle.c_statements.proofs.WholeStatements.{if-then-ok, if-then-else-ok, while-ok, for-ok, tells-behind}
 use Rattle.c_statements.proofs.Weights.{weight, weight_all, weight-within}
 use Rattle.c_statements.proofs.statement.+statements.Goals as goal
 
