@@ -53,12 +53,12 @@ targets_text Return = codes "return"
 targets_text (Out next) = decimal next
 targets_text Halt = codes "halt"
 
-abbrev pub named : Option ExitName → List ℕ → List ℕ
-named None text = text
-named (Some name) text = exit_name_text name ++ 32 ∷ text
+abbrev pub named_text : Option ExitName → List ℕ → List ℕ
+named_text None text = text
+named_text (Some name) text = exit_name_text name ++ 32 ∷ text
 
 abbrev pub exit_text : Exit → List ℕ
-exit_text e = named (name_of_exit e) (targets_text e)
+exit_text e = named_text (name_of_exit e) (targets_text e)
 
 abbrev pub SpellsExit : List ℕ → Exit → Type 0
 SpellsExit line e = IsExit e × (line ≡ exit_text e)

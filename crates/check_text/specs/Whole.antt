@@ -21,7 +21,7 @@ abbrev pub EndsWith : List (List ℕ) → Option Plain → Type 0
 EndsWith ls None = ls ≡ []
 EndsWith ls (Some i) = (l : List ℕ) × (ls ≡ l ∷ []) × SpellsSlot l i
 
-pub record Spells (ls : List (List ℕ)) (b : BlockParts) (o : OrderParts) : Type 0 where
+pub record SpellsPair (ls : List (List ℕ)) (b : BlockParts) (o : OrderParts) : Type 0 where
   pub block_lines : List (List ℕ)
   pub block_exit : List ℕ
   pub order_lines : List (List ℕ)
@@ -39,11 +39,11 @@ pub record Spells (ls : List (List ℕ)) (b : BlockParts) (o : OrderParts) : Typ
 
 -- some text begins with these lines
 abbrev pub Begins : List (List ℕ) → Type 0
-Begins ls = (more : List (List ℕ)) × (b : BlockParts) × (o : OrderParts) × Spells (ls ++ more) b o
+Begins ls = (more : List (List ℕ)) × (b : BlockParts) × (o : OrderParts) × SpellsPair (ls ++ more) b o
 
 -- line k, from 0, is the first that can't stand in its place; or there is none and the text ends too early
 abbrev pub FailsAt : List (List ℕ) → ℕ → Type 0
 FailsAt ls k =
     Begins (take k ls)
     × (((k < length ls) × (Begins (take (k + 1) ls) → ⊥))
-    ⊎ ((k ≡ length ls) × ((b : BlockParts) (o : OrderParts) → Spells ls b o → ⊥)))
+    ⊎ ((k ≡ length ls) × ((b : BlockParts) (o : OrderParts) → SpellsPair ls b o → ⊥)))

@@ -2,7 +2,7 @@
 use Rattle.std.specs.Prelude.{ℕ, List, ◌++◌, codes, decimal}
 use Rattle.mips_isa.specs.Texts.{register_text}
 use Rattle.mblock.specs.declared.unclean.Unclean.{Unclean}
-use Rattle.mblock.specs.declared.unclean.Unclean.TheVariants.{U1, U2, U3, U4}
+use Rattle.mblock.specs.declared.unclean.Unclean.TheVariants.{LoadUse, ProductAfterMove, SlotLoadOrMove, ExitLoad}
 use Rattle.block_validator.specs.declared.place.Place.{Place}
 use Rattle.block_validator.specs.declared.place.Place.TheVariants as places
 use Rattle.runs.specs.declared.ran.End.{End}
@@ -23,10 +23,10 @@ use Rattle.driver.specs.declared.program.Fault.{Fault}
 use Rattle.driver.specs.declared.program.Fault.TheVariants as faults
 
 abbrev pub rule_text : Unclean → List ℕ
-rule_text U1 = codes "U1"
-rule_text U2 = codes "U2"
-rule_text U3 = codes "U3"
-rule_text U4 = codes "U4"
+rule_text LoadUse = codes "U1"
+rule_text ProductAfterMove = codes "U2"
+rule_text SlotLoadOrMove = codes "U3"
+rule_text ExitLoad = codes "U4"
 
 abbrev pub place_text : Place → List ℕ
 place_text (places.Register r) = register_text r

@@ -17,10 +17,10 @@ fn rule_name(rule: Unclean) -> &'static str
     ensures { result.now ≡ rule_text rule }
 {
     match rule {
-        Unclean::U1 => "U1",
-        Unclean::U2 => "U2",
-        Unclean::U3 => "U3",
-        Unclean::U4 => "U4",
+        Unclean::LoadUse => "U1",
+        Unclean::ProductAfterMove => "U2",
+        Unclean::SlotLoadOrMove => "U3",
+        Unclean::ExitLoad => "U4",
     }
 }
 

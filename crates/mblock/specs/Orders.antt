@@ -3,13 +3,13 @@ use Rattle.std.specs.Prelude.{◌≡◌, ℕ, ◌<◌, ◌≤◌, ◌^◌, List,
 use Rattle.mips_isa.specs.States.{State, IsWords}
 use Rattle.mblock.specs.Parts.{BlockParts, OrderParts}
 use Rattle.mblock.specs.Clean.{FitsSlot, IsClean}
-use Rattle.mblock.specs.BlockMeaning.{Outcome, exit_shape, block_effect}
+use Rattle.mblock.specs.BlockMeaning.{Effect, exit_shape, block_effect}
 use Rattle.mblock.specs.OrderMeaning.{order_effect}
 use Rattle.mblock.specs.PlainOrders.{plain_order_of}
 
 -- where the block isn't stuck, the order isn't and leaves the same registers, HI, LO, memory and exit
 abbrev pub Means : BlockParts → OrderParts → Type 0
-Means b o = (s : State) (link : ℕ) (r : Outcome) → IsWords s → link < 2 ^ 32 → block_effect b s link ≡ Some r → order_effect o s link ≡ Some r
+Means b o = (s : State) (link : ℕ) (r : Effect) → IsWords s → link < 2 ^ 32 → block_effect b s link ≡ Some r → order_effect o s link ≡ Some r
 
 -- one order for each block, which means it and is left as it is
 pub record AreOrders (blocks : List BlockParts) (orders : List OrderParts) : Type 0 where
@@ -32,4 +32,4 @@ EachPlainUnitHasItsOrders = (blocks : List BlockParts) → ((k : ℕ) (b : Block
 
 -- blocks keep a state's words, so they compose
 abbrev pub EachBlockKeepsWords : Type 0
-EachBlockKeepsWords = (b : BlockParts) (s : State) (link : ℕ) (r : Outcome) → IsWords s → link < 2 ^ 32 → block_effect b s link ≡ Some r → IsWords r.state
+EachBlockKeepsWords = (b : BlockParts) (s : State) (link : ℕ) (r : Effect) → IsWords s → link < 2 ^ 32 → block_effect b s link ≡ Some r → IsWords r.state

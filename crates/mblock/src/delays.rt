@@ -167,17 +167,17 @@ pub fn clean(order: &Order) -> Result<(), Unclean>
 {
     let slot = order.slot();
     if !is_apart(order.insts()) {
-        return Err(Unclean::U1);
+        return Err(Unclean::LoadUse);
     }
     if !is_behind(order.insts(), &slot) {
-        return Err(Unclean::U2);
+        return Err(Unclean::ProductAfterMove);
     }
     if !is_quiet_slot(order) {
-        return Err(Unclean::U3);
+        return Err(Unclean::SlotLoadOrMove);
     }
     let exit = order.exit();
     if !is_quiet_end(order.insts(), &exit) {
-        return Err(Unclean::U4);
+        return Err(Unclean::ExitLoad);
     }
     Ok(())
 }

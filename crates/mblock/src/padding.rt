@@ -1,7 +1,7 @@
 // The order that keeps every instruction in place.
 
 ghost use Rattle.std.specs.Prelude.{◌≡◌, ◌++◌, OnOk, IfOk};
-ghost use Rattle.mblock.specs.PlainOrders.{padded, plain_order_of};
+ghost use Rattle.mblock.specs.PlainOrders.{padded_inst, plain_order_of};
 
 use crate::block::Block;
 use crate::order::Order;
@@ -10,7 +10,7 @@ use std::alloc::{AllocError, Global};
 
 // An instruction, and the Nops that have to stand behind it.
 fn push_padded(insts: &mut Vec<Plain>, inst: &Plain) -> Result<(), AllocError>
-    ensures { OnOk result (insts.new.items ≡ insts.old.items ++ padded inst.now) }
+    ensures { OnOk result (insts.new.items ≡ insts.old.items ++ padded_inst inst.now) }
 {
     insts.push(*inst)?;
     let action = inst.action();

@@ -2,11 +2,11 @@
 #[derive(Clone, Copy, Debug, PartialEq, Eq)]
 pub enum Unclean {
     /// An instruction reads or writes the register that the instruction just before it loads.
-    U1,
+    LoadUse,
     /// Fewer than two words stand between an MFHI or MFLO and a MULT, MULTU, DIV or DIVU behind it.
-    U2,
+    ProductAfterMove,
     /// A load, MFHI or MFLO is in the slot.
-    U3,
+    SlotLoadOrMove,
     /// The last instruction loads a register that the first word of the exit reads or writes.
-    U4,
+    ExitLoad,
 }

@@ -100,8 +100,8 @@ is_nop (Load rt base offset) = false
 is_nop (Store rt base offset) = false
 
 -- as an instruction is printed
-abbrev pub printed : Plain → List ℕ
-printed i = (if is_nop i then codes "nop" else plain_text i)
+abbrev pub instruction_text : Plain → List ℕ
+instruction_text i = (if is_nop i then codes "nop" else plain_text i)
 
 abbrev pub rule_text : Rule → List ℕ
 rule_text M1 = codes "M1"

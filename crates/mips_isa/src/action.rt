@@ -1,7 +1,7 @@
 ghost use Rattle.std.specs.Prelude.{◌≡◌, ℕ, ◌*◌, ◌^◌, ◌<◌, ◌||◌, ◌&&◌, ◌==◌};
 ghost use Rattle.mips_isa.specs.declared.action.Operand.TheVariants.{Fixed, Held};
 ghost use Rattle.mips_isa.specs.declared.action.Action.TheVariants.{Computes};
-ghost use Rattle.mips_isa.specs.Actions.{action_of, extended, shift_operator, alu_operator, imm_operator, logic_operator, product_high, product_low, quotient_operator, remainder_operator, operand_touches, touches, loads, is_load, is_move, is_product};
+ghost use Rattle.mips_isa.specs.Actions.{action_of, sign_extension, shift_operator, alu_operator, imm_operator, logic_operator, product_high, product_low, quotient_operator, remainder_operator, operand_touches, touches, loads, is_load, is_move, is_product};
 
 use crate::inst::{AluOp, HiLo, ImmOp, LogicOp, Plain, ShiftOp};
 use crate::reg::{NonzeroReg, Reg};
@@ -118,7 +118,7 @@ impl LogicOp {
 }
 
 fn extend(imm: i16) -> u32
-    ensures { result ≡ extended imm }
+    ensures { result ≡ sign_extension imm }
 {
     i32::from(imm).cast_unsigned()
 }

@@ -3,7 +3,7 @@
 ghost use Rattle.std.specs.Prelude.{◌≡◌, Some};
 ghost use Rattle.std.specs.Fmt.{DisplaysOnOk};
 ghost use Rattle.mips_isa.specs.Actions.{nop};
-ghost use Rattle.mips_isa.specs.Texts.{address_text, is_nop, mnemonic_of, mnemonic_text, operands_text, printed, register_text};
+ghost use Rattle.mips_isa.specs.Texts.{address_text, is_nop, mnemonic_of, mnemonic_text, operands_text, instruction_text, register_text};
 
 use crate::inst::{AluOp, HiLo, ImmOp, LogicOp, Plain, ShiftOp};
 use crate::reg::{Amount, NonzeroReg, Reg};
@@ -166,7 +166,7 @@ fn write_operands<W: fmt::Write>(inst: &Plain, f: &mut fmt::Formatter<W>) -> fmt
 
 /// Kane's text, with registers by number and numbers in decimal; `nop` for the word 0.
 impl fmt::Display for Plain {
-    ghost output = { λ i. Some (printed i) };
+    ghost output = { λ i. Some (instruction_text i) };
 
     fn fmt<W: fmt::Write>(&self, f: &mut fmt::Formatter<W>) -> fmt::Result {
         if self.is_nop() {

@@ -1,7 +1,7 @@
 // Long blocks to pieces.
 
 ghost use Rattle.std.specs.Prelude.{◌≡◌, ℕ, suc, ◌+◌, ◌-◌, ◌/◌, ◌^◌, ◌<◌, ◌≤◌, ◌++◌, ◌∷◌, [], length, IfOk, OnOk, IfErr, slice_index, replicate};
-ghost use Rattle.mips_split.specs.Split.{renumbered, more_pieces, piece, pieces, count_of, total, firsts, split_from, owners_from, split_blocks, split_owners};
+ghost use Rattle.mips_split.specs.Split.{renumbered_exit, more_pieces, piece, pieces, count_of, total, firsts, split_from, owners_from, split_blocks, split_owners};
 ghost use Rattle.mips_isa.specs.States.{State};
 ghost use Rattle.runs.specs.Runs.{Outcome};
 ghost use Rattle.mblock.specs.UnitRuns.{ComesTo};
@@ -80,7 +80,7 @@ fn number_at(numbers: &[BlockNumber], n: BlockNumber) -> BlockNumber
 
 // The exit with the numbers of pieces.
 fn renumber(numbers: &[BlockNumber], exit: Exit) -> Exit
-    ensures { result ≡ renumbered (λ n. slice_index numbers.now n) exit }
+    ensures { result ≡ renumbered_exit (λ n. slice_index numbers.now n) exit }
 {
     match exit {
         Exit::Goto(t) => Exit::Goto(number_at(numbers, t)),
