@@ -30,8 +30,8 @@ use Rattle.mblock.specs.BlockMeaning.{exit_shape, Departure, GoesTo, CallsTo, Go
 use Rattle.mblock.specs.OrderMeaning.{exit_touches, puts_number, slot_word, ends, operand_words, system_word, system_call, jump, order_leaves, order_left, order_effect}
 use Rattle.mblock.proofs.Runs.{exited, one_value, ten_value}
 use Rattle.mips_steps.specs.declared.steps.Ending.TheVariants as endings
-use Rattle.mips_isa.specs.Controls.{pair_passes, zero_passes, control_touches, goes_elsewhere, calls_another}
-use Rattle.mips_steps.specs.Machines.{Machine, Goes, behind, machine_run, instruction_step, jump_step, system_step, jump_target, branch_target}
+use Rattle.mips_isa.specs.Controls.{pair_passes, zero_passes, control_touches, goes_elsewhere, calls_another, jump_target, branch_target}
+use Rattle.mips_steps.specs.Machines.{Machine, Goes, behind, machine_run, instruction_step, jump_step, system_step}
 use Rattle.mips_layout.specs.Fetching.{insts_code}
 use Rattle.mips_isa.specs.Actions.{nop}
 use Rattle.mips_layout.specs.Layout.{address_of_place, jump_to, branch_offset, exit_insts, order_insts}

@@ -13,8 +13,8 @@ use Rattle.mips_isa.specs.Flows.{Nothing, Flow, settle, on_pending, flow_after, 
 use Rattle.mips_isa.specs.Rules.{is_stuck}
 use Rattle.mips_isa.specs.Steps.{words_from}
 use Rattle.mips_steps.specs.declared.steps.Fetched.TheVariants.{Fetches}
-use Rattle.mips_isa.specs.Controls.{control_touches, goes_elsewhere, calls_another}
-use Rattle.mips_steps.specs.Machines.{Machine, Goes, behind, machine_run, step_of, instruction_step, jump_step, jump_target}
+use Rattle.mips_isa.specs.Controls.{control_touches, goes_elsewhere, calls_another, jump_target}
+use Rattle.mips_steps.specs.Machines.{Machine, Goes, behind, machine_run, step_of, instruction_step, jump_step}
 use Rattle.mips_layout.specs.Fetching.{insts_code}
 use Rattle.mips_isa.specs.Actions.{nop}
 use Rattle.mips_layout.specs.Layout.{address_of_place, jump_to}
