@@ -1,6 +1,7 @@
 -- Images, the bytes of each, and why bytes are those of none.
 use Rattle.std.specs.Prelude.{◌≡◌, ℕ, zero, suc, ◌+◌, ◌-◌, ◌*◌, ◌/◌, ◌%◌, ◌^◌, ◌<◌, ◌≤◌, Bool, true, not, ◌&&◌, nat_lt, nat_le, ◌==◌, List, [], ◌∷◌, ◌++◌, length, drop, slice_index, All, Option, Some, None, if◌then◌else◌}
 use Rattle.std.specs.Int.{w32, to_be_bytes}
+use Rattle.image.specs.declared.limits.TheConstants.{CODE_WORDS, COUNTED_BLOCKS, DATA_BYTES}
 use Rattle.image.specs.declared.fault.ImageFault.{ImageFault}
 use Rattle.image.specs.declared.fault.ImageFault.TheVariants.{Magic, Version as OtherVersion, Length, Entry, Counts, NoMemory}
 
@@ -38,12 +39,12 @@ total c = c.same + c.unclean + c.differs + c.full + c.no_memory + c.missed
 -- what each version asks: whole words of data, or counts of so many blocks at most
 abbrev pub FitsVersion : Version → List ℕ → Type 0
 FitsVersion First bytes = length bytes % 4 ≡ 0
-FitsVersion (Second c) bytes = total c ≤ 2 ^ 20
+FitsVersion (Second c) bytes = total c ≤ COUNTED_BLOCKS
 
 pub record IsImage (i : ImageParts) : Type 0 where
   pub some : 1 ≤ length i.code
-  pub code_fits : length i.code ≤ 2 ^ 20
-  pub bytes_fit : length i.bytes ≤ 2 ^ 20
+  pub code_fits : length i.code ≤ CODE_WORDS
+  pub bytes_fit : length i.bytes ≤ DATA_BYTES
   pub entry : is_entry (length i.code) i.entry ≡ true
   pub version : FitsVersion i.version i.bytes
   pub code : All (λ w. w < 2 ^ 32) i.code
@@ -104,22 +105,22 @@ parts_of bytes = if word_at_byte bytes 4 == 1 then parts_behind First 20 bytes e
 
 abbrev pub has_sizes : (head most : ℕ) → (data_bytes : ℕ) → List ℕ → Bool
 has_sizes head most data_bytes bytes =
-    nat_le 1 (word_at_byte bytes 8) && (nat_le (word_at_byte bytes 8) (2 ^ 20) && (nat_le (word_at_byte bytes 16) most
+    nat_le 1 (word_at_byte bytes 8) && (nat_le (word_at_byte bytes 8) CODE_WORDS && (nat_le (word_at_byte bytes 16) most
     && (length bytes == head + 4 * word_at_byte bytes 8 + data_bytes)))
 
 -- the tests of version 1, behind its number
 abbrev pub first_version_fault : List ℕ → Option ImageFault
 first_version_fault bytes =
-    if not (has_sizes 20 (2 ^ 18) (4 * word_at_byte bytes 16) bytes) then Some Length
+    if not (has_sizes 20 (DATA_BYTES / 4) (4 * word_at_byte bytes 16) bytes) then Some Length
     else (if not (is_entry (word_at_byte bytes 8) (word_at_byte bytes 12)) then Some Entry else None)
 
 -- those of version 2
 abbrev pub second_version_fault : List ℕ → Option ImageFault
 second_version_fault bytes =
     if nat_lt (length bytes) 44 then Some Length
-    else (if not (has_sizes 44 (2 ^ 20) (word_at_byte bytes 16) bytes) then Some Length
+    else (if not (has_sizes 44 DATA_BYTES (word_at_byte bytes 16) bytes) then Some Length
     else (if not (is_entry (word_at_byte bytes 8) (word_at_byte bytes 12)) then Some Entry
-    else (if not (nat_le (total (counts_at bytes)) (2 ^ 20)) then Some Counts else None)))
+    else (if not (nat_le (total (counts_at bytes)) COUNTED_BLOCKS) then Some Counts else None)))
 
 -- the first test that fails
 abbrev pub image_fault : List ℕ → Option ImageFault

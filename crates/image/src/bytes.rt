@@ -5,6 +5,7 @@ ghost use Rattle.image.specs.declared.fault.ImageFault.{ImageFault as Fault};
 
 use crate::fault::ImageFault;
 use crate::image::{Counts, Image};
+use crate::limits::{CODE_WORDS, COUNTED_BLOCKS, DATA_BYTES};
 use std::alloc::{AllocError, Global};
 
 /// The four bytes `MCCI`.
@@ -100,7 +101,7 @@ fn has_sizes(head: usize, most: usize, rest: usize, bytes: &[u8]) -> bool
 {
     let code = word_at_byte(bytes, 8) as usize;
     1 <= code
-        && code <= 1_048_576
+        && code <= CODE_WORDS
         && word_at_byte(bytes, 16) as usize <= most
         && bytes.len() == head + 4 * code + rest
 }
@@ -110,7 +111,7 @@ fn first_version_fault(bytes: &[u8]) -> Option<ImageFault>
     ensures { result ≡ first_version_fault bytes.now }
 {
     let data = 4 * word_at_byte(bytes, 16) as usize;
-    if !has_sizes(20, 262_144, data, bytes) {
+    if !has_sizes(20, DATA_BYTES / 4, data, bytes) {
         return Some(ImageFault::Length);
     }
     if !is_entry(word_at_byte(bytes, 8), word_at_byte(bytes, 12)) {
@@ -152,13 +153,13 @@ fn second_version_fault(bytes: &[u8]) -> Option<ImageFault>
         return Some(ImageFault::Length);
     }
     let data = word_at_byte(bytes, 16) as usize;
-    if !has_sizes(44, 1_048_576, data, bytes) {
+    if !has_sizes(44, DATA_BYTES, data, bytes) {
         return Some(ImageFault::Length);
     }
     if !is_entry(word_at_byte(bytes, 8), word_at_byte(bytes, 12)) {
         return Some(ImageFault::Entry);
     }
-    if total(counts_at(bytes)) > 1_048_576 {
+    if total(counts_at(bytes)) > COUNTED_BLOCKS {
         return Some(ImageFault::Counts);
     }
     None
