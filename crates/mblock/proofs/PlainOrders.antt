@@ -1,12 +1,13 @@
 -- Plain orders break no delay rule.
-use Rattle.std.proofs.Common.{◌≡◌, ℕ, zero, suc, ◌<◌, ◌≤◌, ◌⊎◌, ⊎_elim, Bool, true, false, cond, ◌||◌, ◌==◌, ne_eqb, List, [], ◌∷◌, ◌++◌, map, flat_map, length, slice_get, Option, Some, None, refl, sym, ap, ◌∙◌, subst, true≢false, append_assoc, length-append, arith, ◌*◌}
+use Rattle.std.proofs.Common.{◌≡◌, ℕ, zero, suc, ◌<◌, ◌≤◌, ◌⊎◌, ⊎_elim, Bool, true, false, cond, ◌||◌, ◌==◌, ne_eqb, List, [], ◌∷◌, ◌++◌, map, flat_map, length, slice_get, Option, Some, None, refl, sym, ap, ◌∙◌, subst, true≢false, append_assoc, length-append, arith, ◌*◌, ◌+◌, take, get_or}
+use Rattle.std.proofs.lemmas.List.{take_more}
 use Rattle.std.proofs.lemmas.Option.{same_Some, none-some}
 use Rattle.mips_isa.specs.declared.inst.Plain.{Plain}
 use Rattle.mips_isa.specs.declared.action.Action.{Action}
 use Rattle.mips_isa.specs.declared.action.Action.TheVariants.{Computes, Sets, Loads, Stores, Multiplies, Divides, MovesHigh, MovesLow}
 use Rattle.mips_isa.specs.States.{State, is_register}
 use Rattle.mips_isa.specs.Actions.{nop, action_of, state_after, touches, loads, is_load, is_move, is_product}
-use Rattle.mblock.specs.Parts.{BlockParts}
+use Rattle.mblock.specs.Parts.{BlockParts, OrderParts}
 use Rattle.mblock.specs.Clean.{kinds_of}
 use Rattle.mblock.specs.PlainOrders.{padded_inst, plain_order_of}
 use Rattle.mblock.proofs.Runs.{AllSafe}
@@ -157,3 +158,15 @@ pads_short false false = omega arith
 pub padded_short : (l : List Plain) → length (flat_map padded_inst l) ≤ 3 * length l
 padded_short [] = omega arith
 padded_short (x ∷ l) = omega (arith, padded_short l, pads_short (is_load (action_of x)) (is_move (action_of x)), length-append (padded_inst x) (flat_map padded_inst l))
+
+-- ---- the orders of some blocks, and of one more
+
+order_behind : (bs : List BlockParts) (b : BlockParts) → map plain_order_of (bs ++ b ∷ []) ≡ map plain_order_of bs ++ plain_order_of b ∷ []
+order_behind [] b = refl
+order_behind (x ∷ rest) b = ap (λ l. plain_order_of x ∷ l) (order_behind rest b)
+
+pub orders_more : (bs : List BlockParts) (os new : List OrderParts) (i : ℕ) (b : BlockParts) (o : OrderParts) → i < length bs → b ≡ get_or bs i b
+    → os ≡ map plain_order_of (take i bs) → o ≡ plain_order_of b → new ≡ os ++ o ∷ [] → new ≡ map plain_order_of (take (i + 1) bs)
+orders_more bs os new i b o lt is made order pushed =
+    pushed ∙ ap (λ l. l ++ o ∷ []) made ∙ ap (λ x. map plain_order_of (take i bs) ++ x ∷ []) (order ∙ ap plain_order_of is)
+    ∙ sym (order_behind (take i bs) (get_or bs i b)) ∙ ap (map plain_order_of) (sym (take_more bs i b lt))
