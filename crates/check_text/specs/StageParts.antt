@@ -2,6 +2,7 @@
 use Rattle.std.specs.Prelude.{◌≡◌, ℕ, ◌<◌, ◌⊎◌, List, [], ◌∷◌, ◌++◌, Option, Some, None, length, codes, if◌then◌else◌}
 use Rattle.mips_isa.specs.declared.inst.Plain.{Plain}
 use Rattle.mblock.specs.declared.exit.Exit.{Exit}
+use Rattle.mblock.specs.declared.limits.TheConstants.{BLOCK_INSTS, ORDER_INSTS}
 use Rattle.mblock.specs.Parts.{BlockParts, OrderParts}
 use Rattle.mblock.specs.Slots.{is_slotted}
 use Rattle.check_text.specs.Spelling.{SpellsPlain, SpellsExit}
@@ -25,11 +26,11 @@ after_exit b is e = (if is_slotted e then AtSlot b is e else Done b (order_of is
 abbrev pub Steps : StageParts → List ℕ → StageParts → Type 0
 Steps AtBlock l q = (l ≡ codes "block") × (q ≡ InBlock [])
 Steps (InBlock is) l q =
-    ((i : Plain) × SpellsPlain l i × (length is < 512) × (q ≡ InBlock (is ++ i ∷ [])))
+    ((i : Plain) × SpellsPlain l i × (length is < BLOCK_INSTS) × (q ≡ InBlock (is ++ i ∷ [])))
     ⊎ ((e : Exit) × SpellsExit l e × (q ≡ AtOrder (record { insts = is; exit = e })))
 Steps (AtOrder b) l q = (l ≡ codes "order") × (q ≡ InOrder b [])
 Steps (InOrder b is) l q =
-    ((i : Plain) × SpellsPlain l i × (length is < 2048) × (q ≡ InOrder b (is ++ i ∷ [])))
+    ((i : Plain) × SpellsPlain l i × (length is < ORDER_INSTS) × (q ≡ InOrder b (is ++ i ∷ [])))
     ⊎ ((e : Exit) × SpellsExit l e × (q ≡ after_exit b is e))
 Steps (AtSlot b is e) l q = (i : Plain) × SpellsSlot l i × (q ≡ Done b (order_of is e (Some i)))
 Steps (Done b o) l q = ⊥

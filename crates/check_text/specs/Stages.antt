@@ -1,5 +1,6 @@
 -- What the reader's place stands for, and what it keeps.
 use Rattle.std.specs.Prelude.{◌≡◌, ◌≤◌, Option, Some, None, length, true}
+use Rattle.mblock.specs.declared.limits.TheConstants.{BLOCK_INSTS, ORDER_INSTS}
 use Rattle.mblock.specs.Slots.{is_slotted}
 use Rattle.check_text.specs.declared.stage.Stage.{Stage}
 use Rattle.check_text.specs.declared.stage.Stage.TheVariants as stages
@@ -16,10 +17,10 @@ stage_parts (stages.Done b o) = Done b o
 -- the limits that a place keeps
 abbrev pub Fits : Stage → Type 0
 Fits stages.AtBlock = Unit {0}
-Fits (stages.InBlock is) = length is.items ≤ 512
+Fits (stages.InBlock is) = length is.items ≤ BLOCK_INSTS
 Fits (stages.AtOrder b) = Unit {0}
-Fits (stages.InOrder b is) = length is.items ≤ 2048
-Fits (stages.AtSlot b is e) = (length is.items ≤ 2048) × (is_slotted e ≡ true)
+Fits (stages.InOrder b is) = length is.items ≤ ORDER_INSTS
+Fits (stages.AtSlot b is e) = (length is.items ≤ ORDER_INSTS) × (is_slotted e ≡ true)
 Fits (stages.Done b o) = Unit {0}
 
 abbrev pub parts_after : Option Stage → Option StageParts

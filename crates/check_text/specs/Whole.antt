@@ -1,6 +1,7 @@
 -- The text of a block and an order, and where a text goes wrong.
 use Rattle.std.specs.Prelude.{◌≡◌, ℕ, ◌+◌, ◌<◌, ◌≤◌, ◌⊎◌, List, [], ◌∷◌, ◌++◌, Option, Some, None, length, take, is_some, codes}
 use Rattle.mips_isa.specs.declared.inst.Plain.{Plain}
+use Rattle.mblock.specs.declared.limits.TheConstants.{BLOCK_INSTS, ORDER_INSTS}
 use Rattle.mblock.specs.Parts.{BlockParts, OrderParts}
 use Rattle.mblock.specs.Slots.{is_slotted}
 use Rattle.check_text.specs.Spelling.{SpellsPlain, SpellsExit}
@@ -34,8 +35,8 @@ pub record SpellsPair (ls : List (List ℕ)) (b : BlockParts) (o : OrderParts) :
   pub leaves_order : SpellsExit order_exit o.exit
   pub slot : EndsWith last_lines o.slot
   pub has_slot : is_some o.slot ≡ is_slotted o.exit
-  pub block_size : length b.insts ≤ 512
-  pub order_size : length o.insts ≤ 2048
+  pub block_size : length b.insts ≤ BLOCK_INSTS
+  pub order_size : length o.insts ≤ ORDER_INSTS
 
 -- some text begins with these lines
 abbrev pub Begins : List (List ℕ) → Type 0

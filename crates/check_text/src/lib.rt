@@ -8,6 +8,7 @@
 #![tactic(auto)]
 
 mod cuts;
+mod fault;
 mod line;
 mod names;
 mod numbers;
@@ -15,5 +16,6 @@ mod operands;
 mod reader;
 mod stage;
 
+pub use fault::PairFault;
 pub use line::{exit_of, plain_of};
-pub use reader::{PairFault, Text, read};
+pub use reader::{Text, read};

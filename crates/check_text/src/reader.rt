@@ -1,5 +1,6 @@
 ghost use Rattle.std.specs.Prelude.{◌≡◌, ℕ, ◌≤◌, ◌^◌, length, IfOk, IfErr, IfSome, OnOk, MatchResult, Some, true};
 ghost use Rattle.mips_isa.specs.declared.inst.Plain.{Plain};
+ghost use Rattle.mblock.specs.declared.limits.TheConstants.{BLOCK_INSTS, ORDER_INSTS};
 ghost use Rattle.mblock.specs.Parts.{BlockParts, OrderParts};
 ghost use Rattle.mblock.specs.Slots.{is_slotted};
 ghost use Rattle.check_text.specs.Lines.{lines_of};
@@ -9,9 +10,10 @@ ghost use Rattle.check_text.specs.Stages.{stage_parts, parts_after, Fits};
 ghost use Rattle.check_text.specs.Faults.{IsPairFault};
 
 use crate::cuts::first_line;
+use crate::fault::PairFault;
 use crate::line::{exit_of, plain_of};
 use crate::stage::Stage;
-use mblock::{Block, Exit, Order};
+use mblock::{BLOCK_INSTS, Block, Exit, ORDER_INSTS, Order};
 use mips_isa::Plain;
 use std::alloc::{AllocError, Global};
 
@@ -22,16 +24,6 @@ pub struct Text {
     pub order: Order,
 }
 
-/// Why a text gives no block and order.
-#[derive(Clone, Copy, Debug, Drop)]
-pub enum PairFault {
-    /// The first line, from 1, that can't stand in its place, or the number of lines plus 1 where the
-    /// text ends too early.
-    Line(u32),
-    /// Memory was refused.
-    NoMemory,
-}
-
 fn slot_of(line: &[u8]) -> Option<Plain>
     ensures found { IfSome result (SpellsSlot line.now) }
     ensures only { (i : Plain) → SpellsSlot line.now i → result ≡ Some i }
@@ -40,7 +32,7 @@ fn slot_of(line: &[u8]) -> Option<Plain>
 }
 
 fn in_block(mut insts: Vec<Plain>, line: &[u8]) -> Result<Option<Stage>, AllocError>
-    requires { length insts.items ≤ 512 }
+    requires { length insts.items ≤ BLOCK_INSTS }
     ensures leads { IfOk result (λ r. LeadsTo (InBlock insts.items) line.now (parts_after r)) }
     ensures fits { IfOk result (λ r. IfSome r Fits) }
 {
@@ -53,7 +45,7 @@ fn in_block(mut insts: Vec<Plain>, line: &[u8]) -> Result<Option<Stage>, AllocEr
     match plain_of(line) {
         None => Ok(None),
         Some(inst) => {
-            if insts.len() >= 512 {
+            if insts.len() >= BLOCK_INSTS {
                 return Ok(None);
             }
             insts.push(inst)?;
@@ -63,7 +55,7 @@ fn in_block(mut insts: Vec<Plain>, line: &[u8]) -> Result<Option<Stage>, AllocEr
 }
 
 fn in_order(block: Block, mut insts: Vec<Plain>, line: &[u8]) -> Result<Option<Stage>, AllocError>
-    requires { length insts.items ≤ 2048 }
+    requires { length insts.items ≤ ORDER_INSTS }
     ensures leads { IfOk result (λ r. LeadsTo (InOrder block insts.items) line.now (parts_after r)) }
     ensures fits { IfOk result (λ r. IfSome r Fits) }
 {
@@ -79,7 +71,7 @@ fn in_order(block: Block, mut insts: Vec<Plain>, line: &[u8]) -> Result<Option<S
     match plain_of(line) {
         None => Ok(None),
         Some(inst) => {
-            if insts.len() >= 2048 {
+            if insts.len() >= ORDER_INSTS {
                 return Ok(None);
             }
             insts.push(inst)?;
@@ -89,7 +81,7 @@ fn in_order(block: Block, mut insts: Vec<Plain>, line: &[u8]) -> Result<Option<S
 }
 
 fn at_slot(block: Block, insts: Vec<Plain>, exit: Exit, line: &[u8]) -> Option<Stage>
-    requires size { length insts.items ≤ 2048 }
+    requires size { length insts.items ≤ ORDER_INSTS }
     requires slotted { is_slotted exit ≡ true }
     ensures leads { LeadsTo (AtSlot block insts.items exit) line.now (parts_after result) }
     ensures fits { IfSome result Fits }
