@@ -1,8 +1,9 @@
 -- What answers and faults print.
 use Rattle.std.specs.Prelude.{ℕ, List, ◌++◌, codes, decimal}
 use Rattle.mips_isa.specs.Texts.{register_text}
-use Rattle.mblock.specs.declared.unclean.Unclean.{Unclean}
-use Rattle.mblock.specs.declared.unclean.Unclean.TheVariants.{LoadUse, ProductAfterMove, SlotLoadOrMove, ExitLoad}
+use Rattle.mblock.specs.Texts.{unclean_text}
+use Rattle.check_text.specs.declared.fault.PairFault.TheVariants.{Line}
+use Rattle.check_text.specs.Faults.{pair_fault_text}
 use Rattle.block_validator.specs.declared.place.Place.{Place}
 use Rattle.block_validator.specs.declared.place.Place.TheVariants as places
 use Rattle.runs.specs.declared.ran.End.{End}
@@ -22,12 +23,6 @@ use Rattle.driver.specs.declared.verdicts.CheckFault.TheVariants as check_faults
 use Rattle.driver.specs.declared.program.Fault.{Fault}
 use Rattle.driver.specs.declared.program.Fault.TheVariants as faults
 
-abbrev pub rule_text : Unclean → List ℕ
-rule_text LoadUse = codes "U1"
-rule_text ProductAfterMove = codes "U2"
-rule_text SlotLoadOrMove = codes "U3"
-rule_text ExitLoad = codes "U4"
-
 abbrev pub place_text : Place → List ℕ
 place_text (places.Register r) = register_text r
 place_text places.Hi = codes "hi"
@@ -38,7 +33,7 @@ place_text places.Guards = codes "guards"
 
 abbrev pub answer_text : CheckAnswer → List ℕ
 answer_text answers.Same = codes "same"
-answer_text (answers.Unclean rule) = codes "unclean " ++ rule_text rule
+answer_text (answers.Unclean rule) = codes "unclean " ++ unclean_text rule
 answer_text (answers.Differs place) = codes "differs " ++ place_text place
 answer_text answers.Full = codes "full"
 
@@ -51,7 +46,7 @@ exit_status answers.Full = 3
 
 abbrev pub check_fault_text : CheckFault → List ℕ
 check_fault_text check_faults.Size = codes "fault 5 Size"
-check_fault_text (check_faults.Line n) = codes "fault 70 Line " ++ decimal n
+check_fault_text (check_faults.Line n) = pair_fault_text (Line n)
 check_fault_text check_faults.NoMemory = codes "fault 30 NoMemory"
 
 -- the names of faults

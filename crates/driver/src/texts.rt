@@ -2,27 +2,16 @@
 
 ghost use Rattle.std.specs.Prelude.{◌≡◌, Some};
 ghost use Rattle.std.specs.Fmt.{DisplaysOnOk};
-ghost use Rattle.driver.specs.Texts.{answer_text, check_fault_text, end_text, front_name, interp_fault_text, place_text, rule_text, type_name};
+ghost use Rattle.driver.specs.Texts.{answer_text, check_fault_text, end_text, front_name, interp_fault_text, place_text, type_name};
 
 use crate::source_runs::InterpFault;
 use crate::verdicts::{CheckAnswer, CheckFault};
 use block_validator::Place;
 use c_front::FaultKind as FrontKind;
 use c_statements::FaultKind as TypeKind;
-use mblock::Unclean;
+use check_text::PairFault;
 use runs::End;
 use std::fmt;
-
-fn rule_name(rule: Unclean) -> &'static str
-    ensures { result.now ≡ rule_text rule }
-{
-    match rule {
-        Unclean::LoadUse => "U1",
-        Unclean::ProductAfterMove => "U2",
-        Unclean::SlotLoadOrMove => "U3",
-        Unclean::ExitLoad => "U4",
-    }
-}
 
 fn write_place<W: fmt::Write>(place: &Place, f: &mut fmt::Formatter<W>) -> fmt::Result
     ensures { DisplaysOnOk W.write_str_gives f.old result (Some (place_text place.now)) f.new }
@@ -46,10 +35,7 @@ impl fmt::Display for CheckAnswer {
     fn fmt<W: fmt::Write>(&self, f: &mut fmt::Formatter<W>) -> fmt::Result {
         match self {
             CheckAnswer::Same => f.write_str("same"),
-            CheckAnswer::Unclean(rule) => {
-                f.write_str("unclean ")?;
-                f.write_str(rule_name(*rule))
-            }
+            CheckAnswer::Unclean(rule) => write!(f, "unclean {rule}"),
             CheckAnswer::Differs(place) => {
                 f.write_str("differs ")?;
                 write_place(place, f)
@@ -65,7 +51,10 @@ impl fmt::Display for CheckFault {
     fn fmt<W: fmt::Write>(&self, f: &mut fmt::Formatter<W>) -> fmt::Result {
         match self {
             CheckFault::Size => f.write_str("fault 5 Size"),
-            CheckFault::Line(line) => write!(f, "fault 70 Line {line}"),
+            CheckFault::Line(line) => {
+                let fault = PairFault::Line(*line);
+                write!(f, "{fault}")
+            }
             CheckFault::NoMemory => f.write_str("fault 30 NoMemory"),
         }
     }
