@@ -15,10 +15,17 @@ fn nops(alloc: Global, count: usize) -> Result<Vec<Plain>, AllocError> {
     Ok(insts)
 }
 
+// The number of the block behind so many.
+fn number_behind(count: usize) -> Option<BlockNumber> {
+    match u32::try_from(count) {
+        Ok(number) => BlockNumber::new(number),
+        Err(_) => None,
+    }
+}
+
 // A block with one more behind it, in 514 words with its jump and slot.
 fn push_full(alloc: Global, blocks: &mut Vec<Block>) -> Result<(), AllocError> {
-    let next = (blocks.len() as u32).wrapping_add(1);
-    if let Some(next) = BlockNumber::new(next) {
+    if let Some(next) = number_behind(blocks.len().wrapping_add(1)) {
         if let Some(block) = Block::new(nops(alloc, 512)?, Exit::Goto(next)) {
             blocks.push(block)?;
         }
@@ -39,7 +46,7 @@ fn unit_of(alloc: Global, functions: &[usize]) -> Result<Option<Unit>, AllocErro
     let mut blocks = Vec::new(alloc);
     let mut owner = Vec::new(alloc);
     for words in functions {
-        let Some(first) = BlockNumber::new(blocks.len() as u32) else {
+        let Some(first) = number_behind(blocks.len()) else {
             return Ok(None);
         };
         for _ in 0..*words / 514 {

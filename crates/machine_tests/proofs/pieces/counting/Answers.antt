@@ -15,7 +15,7 @@ split_unit-requires-clause-owners c =
     let one : c.as_slice.result.now ≡ halting c.in_ok-insts.insts.items ∷ [] = c.as_slice.ensures.value ∙ c.in_ok-blocks.ensures in
     let own : c.as_slice-2.result.now ≡ 0 ∷ [] = c.as_slice-2.ensures.value ∙ c.in_ok-owner.ensures in
     subst (λ (l : List BlockParts). AreOwners l c.as_slice-2.result.now) (sym one)
-        (subst (λ (l : List ℕ). AreOwners (halting c.in_ok-insts.insts.items ∷ []) l) (sym own) (alone_owned c.in_ok-insts.insts.items))
+    (subst (λ (l : List ℕ). AreOwners (halting c.in_ok-insts.insts.items ∷ []) l) (sym own) (alone_owned c.in_ok-insts.insts.items))
 
 pub split_unit-requires-clause-some : goal.split_unit-requires-clause-some
 split_unit-requires-clause-some c =
