@@ -6,7 +6,7 @@ ghost use Rattle.term_table.specs.Passes.{IsOf};
 ghost use Rattle.driver.specs.Checks.{IsAnswer, IsCheckFault};
 
 use block_validator::{Place, Verdict, validate};
-use check_text::{Text, PairFault, read};
+use check_text::{PairFault, Text, read};
 use mblock::Unclean;
 use std::alloc::Global;
 use term_table::{OpenFault, Pass, TermTable};
