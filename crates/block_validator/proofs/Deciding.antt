@@ -2,7 +2,7 @@
 use Rattle.std.proofs.Common.{◌≡◌, ◌<◌, ◌⊎◌, ℕ, zero, suc, refl, ap, inl, inr, ⊎_elim, arith}
 use Rattle.mblock.specs.Parts.{OrderParts}
 use Rattle.mblock.specs.declared.unclean.Unclean.{Unclean}
-use Rattle.mblock.specs.declared.unclean.Unclean.TheVariants.{U1, U2, U3, U4}
+use Rattle.mblock.specs.declared.unclean.Unclean.TheVariants.{LoadUse, ProductAfterMove, SlotLoadOrMove, ExitLoad}
 use Rattle.mblock.specs.Clean.{IsClean, BreaksFirst}
 use Rattle.sym_exec.specs.Symbolic.{CodeTrees, block_trees, order_trees}
 use Rattle.block_validator.specs.declared.place.Place.{Place}
@@ -11,28 +11,28 @@ use Rattle.block_validator.specs.Same.{IsPlace, place_rank, DiffersFirst}
 use Rattle.block_validator.specs.Verdicts.{same, unclean, differs, OneDecision}
 
 not_clean : (o : OrderParts) (rule : Unclean) → BreaksFirst rule o → IsClean o → ⊥
-not_clean o U1 b c = b c.apart
-not_clean o U2 b c = b.1 c.behind
-not_clean o U3 b c = b.2 c.slot
-not_clean o U4 b c = b.3 c.last
+not_clean o LoadUse b c = b c.apart
+not_clean o ProductAfterMove b c = b.1 c.behind
+not_clean o SlotLoadOrMove b c = b.2 c.slot
+not_clean o ExitLoad b c = b.3 c.last
 
 one_rule : (o : OrderParts) (r q : Unclean) → BreaksFirst r o → BreaksFirst q o → r ≡ q
-one_rule o U1 U1 b c = refl
-one_rule o U1 U2 b c = absurd (b c.0)
-one_rule o U1 U3 b c = absurd (b c.0)
-one_rule o U1 U4 b c = absurd (b c.0)
-one_rule o U2 U1 b c = absurd (c b.0)
-one_rule o U2 U2 b c = refl
-one_rule o U2 U3 b c = absurd (b.1 c.1)
-one_rule o U2 U4 b c = absurd (b.1 c.1)
-one_rule o U3 U1 b c = absurd (c b.0)
-one_rule o U3 U2 b c = absurd (c.1 b.1)
-one_rule o U3 U3 b c = refl
-one_rule o U3 U4 b c = absurd (b.2 c.2)
-one_rule o U4 U1 b c = absurd (c b.0)
-one_rule o U4 U2 b c = absurd (c.1 b.1)
-one_rule o U4 U3 b c = absurd (c.2 b.2)
-one_rule o U4 U4 b c = refl
+one_rule o LoadUse LoadUse b c = refl
+one_rule o LoadUse ProductAfterMove b c = absurd (b c.0)
+one_rule o LoadUse SlotLoadOrMove b c = absurd (b c.0)
+one_rule o LoadUse ExitLoad b c = absurd (b c.0)
+one_rule o ProductAfterMove LoadUse b c = absurd (c b.0)
+one_rule o ProductAfterMove ProductAfterMove b c = refl
+one_rule o ProductAfterMove SlotLoadOrMove b c = absurd (b.1 c.1)
+one_rule o ProductAfterMove ExitLoad b c = absurd (b.1 c.1)
+one_rule o SlotLoadOrMove LoadUse b c = absurd (c b.0)
+one_rule o SlotLoadOrMove ProductAfterMove b c = absurd (c.1 b.1)
+one_rule o SlotLoadOrMove SlotLoadOrMove b c = refl
+one_rule o SlotLoadOrMove ExitLoad b c = absurd (b.2 c.2)
+one_rule o ExitLoad LoadUse b c = absurd (c b.0)
+one_rule o ExitLoad ProductAfterMove b c = absurd (c.1 b.1)
+one_rule o ExitLoad SlotLoadOrMove b c = absurd (c.2 b.2)
+one_rule o ExitLoad ExitLoad b c = refl
 
 -- places of one rank are one
 same_rank : (p q : Place) → IsPlace p → IsPlace q → place_rank p ≡ place_rank q → p ≡ q

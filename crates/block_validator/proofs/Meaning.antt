@@ -3,10 +3,10 @@ use Rattle.std.proofs.Common.{◌≡◌, ◌<◌, ◌^◌, ℕ, Bool, true, fals
 use Rattle.std.proofs.lemmas.Option.{same_Some, none-some}
 use Rattle.mips_isa.specs.States.{State, is_register, read, IsWords}
 use Rattle.mips_isa.specs.declared.action.Action.{Action}
-use Rattle.mips_isa.specs.Actions.{action_of, is_safe, after}
+use Rattle.mips_isa.specs.Actions.{action_of, is_safe, state_after}
 use Rattle.mblock.specs.declared.exit.Exit.{Exit}
 use Rattle.mblock.specs.Parts.{BlockParts, OrderParts}
-use Rattle.mblock.specs.BlockMeaning.{exit_shape, exit_reads, depart, Outcome, run, leave, left, block_effect}
+use Rattle.mblock.specs.BlockMeaning.{exit_shape, exit_reads, depart, Effect, run, exit_effect, exit_effect_after, block_effect}
 use Rattle.mblock.specs.Clean.{slot_actions}
 use Rattle.mblock.proofs.Totals.{block_total}
 use Rattle.mblock.proofs.Runs.{total, AllSafe, exited, leaves_total, order_runs}
@@ -20,7 +20,7 @@ register_place : (r : ℕ) → is_register r ≡ true → IsPlace (places.Regist
 register_place r e = let p = Rattle.std.proofs.lemmas.Bool.and_parts (Rattle.std.specs.Prelude.nat_lt 0 r) (Rattle.std.specs.Prelude.nat_lt r 32) e in (grind arith, grind arith)
 
 -- the outcome that trees stand for
-abbrev outcome_at : CodeTrees → State → ℕ → Outcome
+abbrev outcome_at : CodeTrees → State → ℕ → Effect
 outcome_at c s link = record { state = values s link c.trees; goes = depart c.shape (map (λ t. word_at t s link) c.operands) }
 
 operand_values : (s : State) (link : ℕ) (words : IsWords s) (low : link < 2 ^ 32) (t : TreeState) (rs : List ℕ) → map (λ x. word_at x s link) (map (held t) rs) ≡ map (read 0 (values s link t).regs) rs

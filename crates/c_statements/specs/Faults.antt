@@ -1,5 +1,5 @@
--- Numbers of faults, and which fault is the first.
-use Rattle.std.specs.Prelude.{◌≡◌, ◌<◌, ◌≤◌, ◌⊎◌, ℕ, Bool, nat_lt, nat_eq, ◌&&◌, ◌||◌, if◌then◌else◌, Result, Ok, Err, List, length}
+-- Faults: their numbers, names and text, and which of them is the first.
+use Rattle.std.specs.Prelude.{◌≡◌, ◌<◌, ◌≤◌, ◌⊎◌, ℕ, Bool, nat_lt, nat_eq, ◌&&◌, ◌||◌, if◌then◌else◌, Result, Ok, Err, List, length, ◌++◌, codes, decimal}
 use Rattle.c_statements.specs.declared.fault.TypeFaultKind.{TypeFaultKind}
 use Rattle.c_statements.specs.declared.fault.TypeFaultKind.TheVariants.{Undeclared, Redeclared, Kind, Count, NoMain, Outside, Limit, NoMemory as WantOfMemory}
 use Rattle.c_statements.specs.declared.fault.TypeFault.{TypeFault}
@@ -15,6 +15,21 @@ number_of NoMain = 15
 number_of Outside = 17
 number_of Limit = 20
 number_of WantOfMemory = 30
+
+abbrev pub kind_name : TypeFaultKind → List ℕ
+kind_name Undeclared = codes "Undeclared"
+kind_name Redeclared = codes "Redeclared"
+kind_name Kind = codes "Kind"
+kind_name Count = codes "Count"
+kind_name NoMain = codes "NoMain"
+kind_name Outside = codes "Outside"
+kind_name Limit = codes "Limit"
+kind_name WantOfMemory = codes "NoMemory"
+
+-- what a fault prints
+abbrev pub fault_text : TypeFault → List ℕ
+fault_text fault =
+    codes "fault " ++ decimal (number_of fault.kind) ++ codes " " ++ kind_name fault.kind ++ codes " at " ++ decimal fault.at
 
 -- a set of faults: which kinds stand at which offsets
 abbrev pub Faults : Type 1

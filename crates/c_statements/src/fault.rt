@@ -1,37 +1,30 @@
-ghost use Rattle.std.specs.Prelude.{◌≡◌, ◌≢◌, IfOk, IfErr, Ok, Err};
-ghost use Rattle.c_statements.specs.Faults.{number_of, is_later, first_of, both_of, StopsBoth};
+ghost use Rattle.std.specs.Prelude.{◌≡◌, ◌≢◌, IfOk, IfErr, Ok, Err, Some};
+ghost use Rattle.c_statements.specs.Faults.{number_of, kind_name, fault_text, is_later, first_of, both_of, StopsBoth};
 ghost use Rattle.c_statements.specs.declared.fault.TypeStop.TheVariants.{NoMemory};
 
 use std::alloc::{AllocError, AllocFailed};
-use thiserror::Error;
+use std::error::Error;
+use std::fmt;
 
-/// What is wrong with a program; `{kind}` shows the variant's name.
-#[derive(Clone, Copy, PartialEq, Eq, Debug, Error)]
+/// What is wrong with a program.
+#[derive(Clone, Copy, PartialEq, Eq, Debug)]
 pub enum TypeFaultKind {
     /// A name with no declaration in sight.
-    #[error("Undeclared")]
     Undeclared,
     /// A second declaration of a name in one scope.
-    #[error("Redeclared")]
     Redeclared,
     /// A name that is used as what it isn't, a void result used, an array of length 0, a `return` that doesn't fit its
     /// function, or a `main` that isn't `int main(void)`.
-    #[error("Kind")]
     Kind,
     /// Another number of arguments than parameters, or a fifth parameter.
-    #[error("Count")]
     Count,
     /// No `main`; told at the text's length.
-    #[error("NoMain")]
     NoMain,
     /// `break` or `continue` outside a loop.
-    #[error("Outside")]
     Outside,
     /// The 257th function, the 129th local of a function, or the global with which the globals exceed 262,144 words.
-    #[error("Limit")]
     Limit,
     /// Memory was refused; told at the text's length.
-    #[error("NoMemory")]
     NoMemory,
 }
 
@@ -51,15 +44,43 @@ impl TypeFaultKind {
             TypeFaultKind::NoMemory => 30,
         }
     }
+
+    /// The name that messages show.
+    fn name(self) -> &'static str
+        ensures { result.now ≡ kind_name self }
+    {
+        match self {
+            TypeFaultKind::Undeclared => "Undeclared",
+            TypeFaultKind::Redeclared => "Redeclared",
+            TypeFaultKind::Kind => "Kind",
+            TypeFaultKind::Count => "Count",
+            TypeFaultKind::NoMain => "NoMain",
+            TypeFaultKind::Outside => "Outside",
+            TypeFaultKind::Limit => "Limit",
+            TypeFaultKind::NoMemory => "NoMemory",
+        }
+    }
 }
 
 /// Why a program is refused, and at which offset of its text.
-#[derive(Clone, Copy, PartialEq, Eq, Debug, Error)]
-#[error("fault {} {kind} at {at}", .kind.number())]
+#[derive(Clone, Copy, PartialEq, Eq, Debug)]
 pub struct TypeFault {
     pub kind: TypeFaultKind,
     pub at: usize,
 }
+
+impl fmt::Display for TypeFault {
+    ghost output = { λ fault. Some (fault_text fault) };
+
+    fn fmt<W: fmt::Write>(&self, f: &mut fmt::Formatter<W>) -> fmt::Result {
+        let number = self.kind.number();
+        let name = self.kind.name();
+        let at = self.at;
+        write!(f, "fault {number} {name} at {at}")
+    }
+}
+
+impl Error for TypeFault {}
 
 /// Why a part of a program gets no type: its first fault, or want of memory.
 #[derive(Clone, Copy, PartialEq, Eq)]

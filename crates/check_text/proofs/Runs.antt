@@ -6,23 +6,23 @@ use Rattle.mblock.specs.declared.exit.Exit.{Exit}
 use Rattle.mblock.specs.Parts.{BlockParts, OrderParts}
 use Rattle.mblock.specs.Slots.{is_slotted}
 use Rattle.check_text.specs.Spelling.{SpellsPlain}
-use Rattle.check_text.specs.Whole.{AllSpell, EndsWith, Spells}
-use Rattle.check_text.specs.Spots.{Spot, AtBlock, InBlock, AtOrder, InOrder, Done, Steps, order_of, after_exit}
+use Rattle.check_text.specs.Whole.{AllSpell, EndsWith, SpellsPair}
+use Rattle.check_text.specs.StageParts.{StageParts, AtBlock, InBlock, AtOrder, InOrder, Done, Steps, order_of, after_exit}
 
-abbrev pub Runs : Spot → List (List ℕ) → Spot → Type 0
+abbrev pub Runs : StageParts → List (List ℕ) → StageParts → Type 0
 Runs p [] q = p ≡ q
-Runs p (l ∷ ls) q = (m : Spot) × Steps p l m × Runs m ls q
+Runs p (l ∷ ls) q = (m : StageParts) × Steps p l m × Runs m ls q
 
-pub runs_split : (xs ys : List (List ℕ)) (p q : Spot) → Runs p (xs ++ ys) q → (m : Spot) × Runs p xs m × Runs m ys q
+pub runs_split : (xs ys : List (List ℕ)) (p q : StageParts) → Runs p (xs ++ ys) q → (m : StageParts) × Runs p xs m × Runs m ys q
 runs_split [] ys p q r = (p, refl, r)
 runs_split (x ∷ xs) ys p q r = let s = runs_split xs ys r.0 q r.2 in (s.0, (r.0, r.1, s.1), s.2)
 
-pub runs_append : (xs ys : List (List ℕ)) (p m q : Spot) → Runs p xs m → Runs m ys q → Runs p (xs ++ ys) q
-runs_append [] ys p m q r s = subst (λ (x : Spot). Runs x ys q) (sym r) s
+pub runs_append : (xs ys : List (List ℕ)) (p m q : StageParts) → Runs p xs m → Runs m ys q → Runs p (xs ++ ys) q
+runs_append [] ys p m q r s = subst (λ (x : StageParts). Runs x ys q) (sym r) s
 runs_append (x ∷ xs) ys p m q r s = (r.0, r.1, runs_append xs ys r.0 m q r.2 s)
 
 -- instruction lines, in the block or in the order
-section_runs : (mk : List Plain → Spot) (limit : ℕ)
+section_runs : (mk : List Plain → StageParts) (limit : ℕ)
     → ((is : List Plain) (l : List ℕ) (i : Plain) → SpellsPlain l i → length is < limit → Steps (mk is) l (mk (is ++ i ∷ [])))
     → (ls : List (List ℕ)) (acc is : List Plain) → AllSpell ls is → length (acc ++ is) ≤ limit → Runs (mk acc) ls (mk (acc ++ is))
 section_runs mk limit law [] acc [] a n = ap mk (sym (append-nil acc))
@@ -44,7 +44,7 @@ last_runs b is e (Some i) ls h s =
     let yes : is_slotted e ≡ true = sym s in
     rw (h.1, yes) (Done b (order_of is e (Some i)), (i, h.2, refl), refl)
 
-pub spelled_runs : (ls : List (List ℕ)) (b : BlockParts) (o : OrderParts) → Spells ls b o → Runs AtBlock ls (Done b o)
+pub spelled_runs : (ls : List (List ℕ)) (b : BlockParts) (o : OrderParts) → SpellsPair ls b o → Runs AtBlock ls (Done b o)
 spelled_runs ls b o s =
     let order_part : Runs (InOrder b []) (s.order_lines ++ s.order_exit ∷ s.last_lines) (Done b o) =
     runs_append s.order_lines (s.order_exit ∷ s.last_lines) (InOrder b []) (InOrder b o.insts) (Done b o)

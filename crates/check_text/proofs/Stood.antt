@@ -9,8 +9,8 @@ use Rattle.mblock.specs.declared.exit.Exit.TheVariants.{Return}
 use Rattle.mblock.specs.Parts.{BlockParts, OrderParts}
 use Rattle.mblock.specs.Slots.{is_slotted}
 use Rattle.check_text.specs.Spelling.{SpellsPlain, SpellsExit}
-use Rattle.check_text.specs.Whole.{AllSpell, SpellsSlot, EndsWith, Spells, Begins}
-use Rattle.check_text.specs.Spots.{Spot, AtBlock, InBlock, AtOrder, InOrder, AtSlot, Done, Steps, order_of, after_exit}
+use Rattle.check_text.specs.Whole.{AllSpell, SpellsSlot, EndsWith, SpellsPair, Begins}
+use Rattle.check_text.specs.StageParts.{StageParts, AtBlock, InBlock, AtOrder, InOrder, AtSlot, Done, Steps, order_of, after_exit}
 
 pub record BlockBegun (is : List Plain) (ls : List (List ℕ)) : Type 0 where
   pub lines : List (List ℕ)
@@ -42,13 +42,13 @@ pub record OrderLeft (b : BlockParts) (is : List Plain) (e : Exit) (ls : List (L
   pub leaves : SpellsExit exit e
   pub slotted : is_slotted e ≡ true
 
-abbrev pub Stood : Spot → List (List ℕ) → Type 0
+abbrev pub Stood : StageParts → List (List ℕ) → Type 0
 Stood AtBlock ls = ls ≡ []
 Stood (InBlock is) ls = BlockBegun is ls
 Stood (AtOrder b) ls = BlockRead b ls
 Stood (InOrder b is) ls = OrderBegun b is ls
 Stood (AtSlot b is e) ls = OrderLeft b is e ls
-Stood (Done b o) ls = Spells ls b o
+Stood (Done b o) ls = SpellsPair ls b o
 
 all_push : (ls : List (List ℕ)) (is : List Plain) (l : List ℕ) (i : Plain) → AllSpell ls is → SpellsPlain l i → AllSpell (ls ++ l ∷ []) (is ++ i ∷ [])
 all_push [] [] l i a h = (h, tt)
@@ -96,7 +96,7 @@ more_in_order b is ls l i s h n = record {
 
 -- the whole text, of a block, an order's lines, and what follows them
 spelled_whole : (b : BlockParts) (is : List Plain) (e : Exit) (slot : Option Plain) (ls last : List (List ℕ)) (exit : List ℕ)
-    → OrderBegun b is ls → SpellsExit exit e → EndsWith last slot → is_some slot ≡ is_slotted e → Spells (ls ++ exit ∷ last) b (order_of is e slot)
+    → OrderBegun b is ls → SpellsExit exit e → EndsWith last slot → is_some slot ≡ is_slotted e → SpellsPair (ls ++ exit ∷ last) b (order_of is e slot)
 spelled_whole b is e slot ls last exit s h w v =
     let block = s.block in
     let first : ls ≡ codes "block" ∷ ((block.lines ++ block.exit ∷ []) ++ codes "order" ∷ s.lines) =
@@ -124,27 +124,27 @@ order_left : (b : BlockParts) (is : List Plain) (e : Exit) (ls : List (List ℕ)
 order_left b is e ls l true v s h = rw v (record { before = ls; exit = l; order = s; whole = refl; leaves = h; slotted = v })
 order_left b is e ls l false v s h = rw v (spelled_whole b is e None ls [] l s h refl (sym v))
 
-slot_read : (b : BlockParts) (is : List Plain) (e : Exit) (ls : List (List ℕ)) (l : List ℕ) (i : Plain) → OrderLeft b is e ls → SpellsSlot l i → Spells (ls ++ l ∷ []) b (order_of is e (Some i))
+slot_read : (b : BlockParts) (is : List Plain) (e : Exit) (ls : List (List ℕ)) (l : List ℕ) (i : Plain) → OrderLeft b is e ls → SpellsSlot l i → SpellsPair (ls ++ l ∷ []) b (order_of is e (Some i))
 slot_read b is e ls l i s h =
     let all : ls ++ l ∷ [] ≡ s.before ++ s.exit ∷ (l ∷ []) = ap (λ xs. xs ++ l ∷ []) s.whole ∙ append_assoc s.before (s.exit ∷ []) (l ∷ []) in
-    subst (λ (xs : List (List ℕ)). Spells xs b (order_of is e (Some i))) (sym all)
+    subst (λ (xs : List (List ℕ)). SpellsPair xs b (order_of is e (Some i))) (sym all)
     (spelled_whole b is e (Some i) s.before (l ∷ []) s.exit s.order s.leaves (l, refl, h) (sym s.slotted))
 
-pub stood_steps : (p q : Spot) (ls : List (List ℕ)) (l : List ℕ) → Stood p ls → Steps p l q → Stood q (ls ++ l ∷ [])
+pub stood_steps : (p q : StageParts) (ls : List (List ℕ)) (l : List ℕ) → Stood p ls → Steps p l q → Stood q (ls ++ l ∷ [])
 stood_steps AtBlock q ls l s (e, f) = rw (f, s, e) (record { lines = []; whole = refl; spelled = tt; size = omega arith })
 stood_steps (InBlock is) q ls l s (inl (i, h, n, f)) = rw f (more_in_block is ls l i s h n)
 stood_steps (InBlock is) q ls l s (inr (e, h, f)) = rw f (block_left is ls l e s h)
 stood_steps (AtOrder b) q ls l s (e, f) = rw f (order_begun b ls l s e)
 stood_steps (InOrder b is) q ls l s (inl (i, h, n, f)) = rw f (more_in_order b is ls l i s h n)
-stood_steps (InOrder b is) q ls l s (inr (e, h, f)) = subst (λ (x : Spot). Stood x (ls ++ l ∷ [])) (sym f) (order_left b is e ls l (is_slotted e) refl s h)
+stood_steps (InOrder b is) q ls l s (inr (e, h, f)) = subst (λ (x : StageParts). Stood x (ls ++ l ∷ [])) (sym f) (order_left b is e ls l (is_slotted e) refl s h)
 stood_steps (AtSlot b is e) q ls l s (i, h, f) = rw f (slot_read b is e ls l i s h)
 stood_steps (Done b o) q ls l s h = absurd h
 
 shorter : (ls : List (List ℕ)) (l : List ℕ) → Begins (ls ++ l ∷ []) → Begins ls
-shorter ls l (more, b, o, s) = (l ∷ more, b, o, subst (λ (xs : List (List ℕ)). Spells xs b o) (append_assoc ls (l ∷ []) more) s)
+shorter ls l (more, b, o, s) = (l ∷ more, b, o, subst (λ (xs : List (List ℕ)). SpellsPair xs b o) (append_assoc ls (l ∷ []) more) s)
 
-done : (b : BlockParts) (o : OrderParts) (ls : List (List ℕ)) → Spells ls b o → Begins ls
-done b o ls s = ([], b, o, subst (λ (xs : List (List ℕ)). Spells xs b o) (sym (append-nil ls)) s)
+done : (b : BlockParts) (o : OrderParts) (ls : List (List ℕ)) → SpellsPair ls b o → Begins ls
+done b o ls s = ([], b, o, subst (λ (xs : List (List ℕ)). SpellsPair xs b o) (sym (append-nil ls)) s)
 
 nop : Plain
 nop = Shift Sll 0 0 0
@@ -169,7 +169,7 @@ by_block_exit is ls s =
     shorter ls (codes "return") (by_order (record { insts = is; exit = Return }) (ls ++ codes "return" ∷ []) (block_left is ls (codes "return") Return s (tt, refl)))
 
 -- wherever the reader stands, some text goes on from there
-pub begins : (p : Spot) (ls : List (List ℕ)) → Stood p ls → Begins ls
+pub begins : (p : StageParts) (ls : List (List ℕ)) → Stood p ls → Begins ls
 begins AtBlock ls s =
     shorter ls (codes "block") (by_block_exit [] (ls ++ codes "block" ∷ []) (stood_steps AtBlock (InBlock []) ls (codes "block") s (refl, refl)))
 begins (InBlock is) ls s = by_block_exit is ls s

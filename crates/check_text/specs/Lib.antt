@@ -1,6 +1,6 @@
 pub mod Lines
 pub mod Spelling
 pub mod Whole
-pub mod Spots
-pub mod Places
+pub mod StageParts
+pub mod Stages
 pub mod Faults

@@ -1,5 +1,5 @@
 -- Instructions and exits as lines.
-use Rattle.std.specs.Prelude.{◌≡◌, ℕ, Option, Some, None, List, ◌∷◌, ◌++◌, ◌⊎◌, codes, decimal}
+use Rattle.std.specs.Prelude.{◌≡◌, ℕ, Option, Some, None, List, ◌++◌, ◌⊎◌, codes, decimal}
 use Rattle.mips_isa.specs.declared.inst.Plain.{Plain}
 use Rattle.mips_isa.specs.declared.inst.PairTest.TheVariants.{Equal, NotEqual}
 use Rattle.mips_isa.specs.declared.inst.ZeroTest.TheVariants.{AtMostZero, AboveZero, BelowZero, AtLeastZero}
@@ -42,23 +42,23 @@ name_of_exit Return = None
 name_of_exit (Out next) = Some names.Out
 name_of_exit Halt = None
 
--- what follows the name, or the whole line; 44 is a comma
+-- what follows the name, or the whole line
 abbrev pub targets_text : Exit → List ℕ
 targets_text (Goto t) = decimal t
 targets_text (BranchPair test rs rt then other) =
-    register_text rs ++ 44 ∷ (register_text rt ++ 44 ∷ (decimal then ++ 44 ∷ decimal other))
-targets_text (BranchZero test rs then other) = register_text rs ++ 44 ∷ (decimal then ++ 44 ∷ decimal other)
-targets_text (Call function next) = decimal function ++ 44 ∷ decimal next
+    register_text rs ++ (codes "," ++ (register_text rt ++ (codes "," ++ (decimal then ++ (codes "," ++ decimal other)))))
+targets_text (BranchZero test rs then other) = register_text rs ++ (codes "," ++ (decimal then ++ (codes "," ++ decimal other)))
+targets_text (Call function next) = decimal function ++ (codes "," ++ decimal next)
 targets_text Return = codes "return"
 targets_text (Out next) = decimal next
 targets_text Halt = codes "halt"
 
-abbrev pub named : Option ExitName → List ℕ → List ℕ
-named None text = text
-named (Some name) text = exit_name_text name ++ 32 ∷ text
+abbrev pub named_text : Option ExitName → List ℕ → List ℕ
+named_text None text = text
+named_text (Some name) text = exit_name_text name ++ (codes " " ++ text)
 
 abbrev pub exit_text : Exit → List ℕ
-exit_text e = named (name_of_exit e) (targets_text e)
+exit_text e = named_text (name_of_exit e) (targets_text e)
 
 abbrev pub SpellsExit : List ℕ → Exit → Type 0
 SpellsExit line e = IsExit e × (line ≡ exit_text e)

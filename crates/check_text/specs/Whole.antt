@@ -1,6 +1,7 @@
 -- The text of a block and an order, and where a text goes wrong.
 use Rattle.std.specs.Prelude.{◌≡◌, ℕ, ◌+◌, ◌<◌, ◌≤◌, ◌⊎◌, List, [], ◌∷◌, ◌++◌, Option, Some, None, length, take, is_some, codes}
 use Rattle.mips_isa.specs.declared.inst.Plain.{Plain}
+use Rattle.mblock.specs.declared.limits.TheConstants.{BLOCK_INSTS, ORDER_INSTS}
 use Rattle.mblock.specs.Parts.{BlockParts, OrderParts}
 use Rattle.mblock.specs.Slots.{is_slotted}
 use Rattle.check_text.specs.Spelling.{SpellsPlain, SpellsExit}
@@ -21,7 +22,7 @@ abbrev pub EndsWith : List (List ℕ) → Option Plain → Type 0
 EndsWith ls None = ls ≡ []
 EndsWith ls (Some i) = (l : List ℕ) × (ls ≡ l ∷ []) × SpellsSlot l i
 
-pub record Spells (ls : List (List ℕ)) (b : BlockParts) (o : OrderParts) : Type 0 where
+pub record SpellsPair (ls : List (List ℕ)) (b : BlockParts) (o : OrderParts) : Type 0 where
   pub block_lines : List (List ℕ)
   pub block_exit : List ℕ
   pub order_lines : List (List ℕ)
@@ -34,16 +35,16 @@ pub record Spells (ls : List (List ℕ)) (b : BlockParts) (o : OrderParts) : Typ
   pub leaves_order : SpellsExit order_exit o.exit
   pub slot : EndsWith last_lines o.slot
   pub has_slot : is_some o.slot ≡ is_slotted o.exit
-  pub block_size : length b.insts ≤ 512
-  pub order_size : length o.insts ≤ 2048
+  pub block_size : length b.insts ≤ BLOCK_INSTS
+  pub order_size : length o.insts ≤ ORDER_INSTS
 
 -- some text begins with these lines
 abbrev pub Begins : List (List ℕ) → Type 0
-Begins ls = (more : List (List ℕ)) × (b : BlockParts) × (o : OrderParts) × Spells (ls ++ more) b o
+Begins ls = (more : List (List ℕ)) × (b : BlockParts) × (o : OrderParts) × SpellsPair (ls ++ more) b o
 
 -- line k, from 0, is the first that can't stand in its place; or there is none and the text ends too early
 abbrev pub FailsAt : List (List ℕ) → ℕ → Type 0
 FailsAt ls k =
     Begins (take k ls)
     × (((k < length ls) × (Begins (take (k + 1) ls) → ⊥))
-    ⊎ ((k ≡ length ls) × ((b : BlockParts) (o : OrderParts) → Spells ls b o → ⊥)))
+    ⊎ ((k ≡ length ls) × ((b : BlockParts) (o : OrderParts) → SpellsPair ls b o → ⊥)))

@@ -3,17 +3,19 @@
 //! `read` gives the block and the order exactly where the text spells them, and else the first line
 //! that can't stand in its place; that is what the layer above uses. The definitions:
 //! `specs/Lines.antt` (bytes as lines), `specs/Spelling.antt` (instructions and exits as lines),
-//! `specs/Whole.antt` (the whole text, `Spells`, and where it goes wrong, `FailsAt`). The texts of
+//! `specs/Whole.antt` (the whole text, `SpellsPair`, and where it goes wrong, `FailsAt`). The texts of
 //! instructions themselves are those of mips_isa, `specs/Texts.antt`.
 #![tactic(auto)]
 
 mod cuts;
+mod fault;
 mod line;
 mod names;
 mod numbers;
 mod operands;
-mod place;
 mod reader;
+mod stage;
 
+pub use fault::PairFault;
 pub use line::{exit_of, plain_of};
-pub use reader::{Text, TextFault, read};
+pub use reader::{Text, read};

@@ -1,4 +1,4 @@
-ghost use Rattle.std.specs.Prelude.{◌≡◌, ℕ, ◌++◌, ◌∷◌, codes, IfSome, Some};
+ghost use Rattle.std.specs.Prelude.{◌≡◌, ℕ, ◌++◌, ◌∷◌, ◌<◌, ◌^◌, codes, decimal, IfSome, IsSomeAnd, Some};
 ghost use Rattle.mips_isa.specs.declared.inst.Plain.{Plain};
 ghost use Rattle.mblock.specs.declared.exit.Exit.{Exit};
 ghost use Rattle.mblock.specs.declared.exit.Exit.TheVariants as exits;
@@ -10,7 +10,7 @@ use crate::cuts::{cut, parts_of};
 use crate::names::{ExitName, exit_named, mnemonic_named};
 use crate::numbers::{block_of, register_of};
 use crate::operands::operands;
-use mblock::Exit;
+use mblock::{BlockNumber, Exit};
 use mips_isa::{PairTest, Plain, ZeroTest};
 
 /// The instruction that the line spells, if it spells one: as it is printed by Plain's Display, or
@@ -27,38 +27,55 @@ pub fn plain_of(line: &[u8]) -> Option<Plain>
     operands(name, halves.after)
 }
 
+/// The numbers of two blocks.
+#[derive(Clone, Copy)]
+struct TwoBlocks {
+    first: BlockNumber,
+    second: BlockNumber,
+}
+
+fn two_blocks(text: &[u8]) -> Option<TwoBlocks>
+    ensures found { IfSome result (λ t. (t.first < 2 ^ 20) × (t.second < 2 ^ 20) × (text.now ≡ decimal t.first ++ 44 ∷ decimal t.second)) }
+    ensures only { (a b : ℕ) → a < 2 ^ 20 → b < 2 ^ 20 → text.now ≡ decimal a ++ 44 ∷ decimal b
+        → IsSomeAnd result (λ t. (t.first ≡ a) × (t.second ≡ b)) }
+{
+    let halves = cut(text, b',')?;
+    let first = block_of(halves.before)?;
+    let second = block_of(halves.after)?;
+    Some(TwoBlocks { first, second })
+}
+
 fn pair(test: PairTest, text: &[u8]) -> Option<Exit>
     ensures found { IfSome result (HasTargets (names.BranchPair test) text.now) }
-    ensures only { (rs rt t e : ℕ) → HasTargets (names.BranchPair test) text.now (exits.BranchPair test rs rt t e) → result ≡ Some (exits.BranchPair test rs rt t e) }
+    ensures only { (rs rt t e : ℕ) → HasTargets (names.BranchPair test) text.now (exits.BranchPair test rs rt t e)
+        → result ≡ Some (exits.BranchPair test rs rt t e) }
 {
     let parts = parts_of(text)?;
     let rs = register_of(parts.first)?;
     let rt = register_of(parts.second)?;
-    let targets = cut(parts.third, b',')?;
-    let then = block_of(targets.before)?;
-    let other = block_of(targets.after)?;
+    let targets = two_blocks(parts.third)?;
     Some(Exit::BranchPair {
         test,
         rs,
         rt,
-        then,
-        other,
+        then: targets.first,
+        other: targets.second,
     })
 }
 
 fn zero(test: ZeroTest, text: &[u8]) -> Option<Exit>
     ensures found { IfSome result (HasTargets (names.BranchZero test) text.now) }
-    ensures only { (rs t e : ℕ) → HasTargets (names.BranchZero test) text.now (exits.BranchZero test rs t e) → result ≡ Some (exits.BranchZero test rs t e) }
+    ensures only { (rs t e : ℕ) → HasTargets (names.BranchZero test) text.now (exits.BranchZero test rs t e)
+        → result ≡ Some (exits.BranchZero test rs t e) }
 {
-    let parts = parts_of(text)?;
-    let rs = register_of(parts.first)?;
-    let then = block_of(parts.second)?;
-    let other = block_of(parts.third)?;
+    let halves = cut(text, b',')?;
+    let rs = register_of(halves.before)?;
+    let targets = two_blocks(halves.after)?;
     Some(Exit::BranchZero {
         test,
         rs,
-        then,
-        other,
+        then: targets.first,
+        other: targets.second,
     })
 }
 
@@ -66,10 +83,11 @@ fn call(text: &[u8]) -> Option<Exit>
     ensures found { IfSome result (HasTargets names.Call text.now) }
     ensures only { (f n : ℕ) → HasTargets names.Call text.now (exits.Call f n) → result ≡ Some (exits.Call f n) }
 {
-    let halves = cut(text, b',')?;
-    let function = block_of(halves.before)?;
-    let next = block_of(halves.after)?;
-    Some(Exit::Call { function, next })
+    let targets = two_blocks(text)?;
+    Some(Exit::Call {
+        function: targets.first,
+        next: targets.second,
+    })
 }
 
 /// The exit of this name with the targets that the text spells.

@@ -14,7 +14,8 @@ use words::Sign;
 
 fn shift(op: ShiftOp, text: &[u8]) -> Option<Plain>
     ensures found { IfSome result (HasOperands (mnemonics.Shift op) text.now) }
-    ensures only { (rd rt n : ℕ) → HasOperands (mnemonics.Shift op) text.now (plains.Shift op rd rt n) → result ≡ Some (plains.Shift op rd rt n) }
+    ensures only { (rd rt n : ℕ) → HasOperands (mnemonics.Shift op) text.now (plains.Shift op rd rt n)
+        → result ≡ Some (plains.Shift op rd rt n) }
 {
     let parts = parts_of(text)?;
     let rd = register_of(parts.first)?;
@@ -25,7 +26,8 @@ fn shift(op: ShiftOp, text: &[u8]) -> Option<Plain>
 
 fn shift_by(op: ShiftOp, text: &[u8]) -> Option<Plain>
     ensures found { IfSome result (HasOperands (mnemonics.ShiftBy op) text.now) }
-    ensures only { (rd rt rs : ℕ) → HasOperands (mnemonics.ShiftBy op) text.now (plains.ShiftBy op rd rt rs) → result ≡ Some (plains.ShiftBy op rd rt rs) }
+    ensures only { (rd rt rs : ℕ) → HasOperands (mnemonics.ShiftBy op) text.now (plains.ShiftBy op rd rt rs)
+        → result ≡ Some (plains.ShiftBy op rd rt rs) }
 {
     let parts = parts_of(text)?;
     let rd = register_of(parts.first)?;
@@ -36,7 +38,8 @@ fn shift_by(op: ShiftOp, text: &[u8]) -> Option<Plain>
 
 fn alu(op: AluOp, text: &[u8]) -> Option<Plain>
     ensures found { IfSome result (HasOperands (mnemonics.Alu op) text.now) }
-    ensures only { (rd rs rt : ℕ) → HasOperands (mnemonics.Alu op) text.now (plains.Alu op rd rs rt) → result ≡ Some (plains.Alu op rd rs rt) }
+    ensures only { (rd rs rt : ℕ) → HasOperands (mnemonics.Alu op) text.now (plains.Alu op rd rs rt)
+        → result ≡ Some (plains.Alu op rd rs rt) }
 {
     let parts = parts_of(text)?;
     let rd = register_of(parts.first)?;
@@ -47,7 +50,8 @@ fn alu(op: AluOp, text: &[u8]) -> Option<Plain>
 
 fn imm(op: ImmOp, text: &[u8]) -> Option<Plain>
     ensures found { IfSome result (HasOperands (mnemonics.Imm op) text.now) }
-    ensures only { (rt rs : ℕ) (n : ℤ) → HasOperands (mnemonics.Imm op) text.now (plains.Imm op rt rs n) → result ≡ Some (plains.Imm op rt rs n) }
+    ensures only { (rt rs : ℕ) (n : ℤ) → HasOperands (mnemonics.Imm op) text.now (plains.Imm op rt rs n)
+        → result ≡ Some (plains.Imm op rt rs n) }
 {
     let parts = parts_of(text)?;
     let rt = register_of(parts.first)?;
@@ -58,7 +62,8 @@ fn imm(op: ImmOp, text: &[u8]) -> Option<Plain>
 
 fn logic(op: LogicOp, text: &[u8]) -> Option<Plain>
     ensures found { IfSome result (HasOperands (mnemonics.Logic op) text.now) }
-    ensures only { (rt rs n : ℕ) → HasOperands (mnemonics.Logic op) text.now (plains.Logic op rt rs n) → result ≡ Some (plains.Logic op rt rs n) }
+    ensures only { (rt rs n : ℕ) → HasOperands (mnemonics.Logic op) text.now (plains.Logic op rt rs n)
+        → result ≡ Some (plains.Logic op rt rs n) }
 {
     let parts = parts_of(text)?;
     let rt = register_of(parts.first)?;
@@ -79,7 +84,8 @@ fn load_upper(text: &[u8]) -> Option<Plain>
 
 fn move_from(place: HiLo, text: &[u8]) -> Option<Plain>
     ensures found { IfSome result (HasOperands (mnemonics.MoveFrom place) text.now) }
-    ensures only { (rd : ℕ) → HasOperands (mnemonics.MoveFrom place) text.now (plains.MoveFrom place rd) → result ≡ Some (plains.MoveFrom place rd) }
+    ensures only { (rd : ℕ) → HasOperands (mnemonics.MoveFrom place) text.now (plains.MoveFrom place rd)
+        → result ≡ Some (plains.MoveFrom place rd) }
 {
     let rd = register_of(text)?;
     Some(Plain::MoveFrom { place, rd })
@@ -87,7 +93,8 @@ fn move_from(place: HiLo, text: &[u8]) -> Option<Plain>
 
 fn multiply(sign: Sign, text: &[u8]) -> Option<Plain>
     ensures found { IfSome result (HasOperands (mnemonics.Multiply sign) text.now) }
-    ensures only { (rs rt : ℕ) → HasOperands (mnemonics.Multiply sign) text.now (plains.Multiply sign rs rt) → result ≡ Some (plains.Multiply sign rs rt) }
+    ensures only { (rs rt : ℕ) → HasOperands (mnemonics.Multiply sign) text.now (plains.Multiply sign rs rt)
+        → result ≡ Some (plains.Multiply sign rs rt) }
 {
     let halves = cut(text, b',')?;
     let rs = register_of(halves.before)?;
@@ -97,7 +104,8 @@ fn multiply(sign: Sign, text: &[u8]) -> Option<Plain>
 
 fn divide(sign: Sign, text: &[u8]) -> Option<Plain>
     ensures found { IfSome result (HasOperands (mnemonics.Divide sign) text.now) }
-    ensures only { (rs rt : ℕ) → HasOperands (mnemonics.Divide sign) text.now (plains.Divide sign rs rt) → result ≡ Some (plains.Divide sign rs rt) }
+    ensures only { (rs rt : ℕ) → HasOperands (mnemonics.Divide sign) text.now (plains.Divide sign rs rt)
+        → result ≡ Some (plains.Divide sign rs rt) }
 {
     let halves = cut(text, b',')?;
     let rs = register_of(halves.before)?;
@@ -129,7 +137,8 @@ fn address_of(text: &[u8]) -> Option<Address>
 
 fn load(text: &[u8]) -> Option<Plain>
     ensures found { IfSome result (HasOperands mnemonics.Load text.now) }
-    ensures only { (rt base : ℕ) (n : ℤ) → HasOperands mnemonics.Load text.now (plains.Load rt base n) → result ≡ Some (plains.Load rt base n) }
+    ensures only { (rt base : ℕ) (n : ℤ) → HasOperands mnemonics.Load text.now (plains.Load rt base n)
+        → result ≡ Some (plains.Load rt base n) }
 {
     let halves = cut(text, b',')?;
     let rt = nonzero_of(halves.before)?;
@@ -143,7 +152,8 @@ fn load(text: &[u8]) -> Option<Plain>
 
 fn store(text: &[u8]) -> Option<Plain>
     ensures found { IfSome result (HasOperands mnemonics.Store text.now) }
-    ensures only { (rt base : ℕ) (n : ℤ) → HasOperands mnemonics.Store text.now (plains.Store rt base n) → result ≡ Some (plains.Store rt base n) }
+    ensures only { (rt base : ℕ) (n : ℤ) → HasOperands mnemonics.Store text.now (plains.Store rt base n)
+        → result ≡ Some (plains.Store rt base n) }
 {
     let halves = cut(text, b',')?;
     let rt = register_of(halves.before)?;

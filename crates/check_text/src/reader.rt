@@ -1,17 +1,19 @@
 ghost use Rattle.std.specs.Prelude.{◌≡◌, ℕ, ◌≤◌, ◌^◌, length, IfOk, IfErr, IfSome, OnOk, MatchResult, Some, true};
 ghost use Rattle.mips_isa.specs.declared.inst.Plain.{Plain};
+ghost use Rattle.mblock.specs.declared.limits.TheConstants.{BLOCK_INSTS, ORDER_INSTS};
 ghost use Rattle.mblock.specs.Parts.{BlockParts, OrderParts};
 ghost use Rattle.mblock.specs.Slots.{is_slotted};
 ghost use Rattle.check_text.specs.Lines.{lines_of};
-ghost use Rattle.check_text.specs.Whole.{Spells, SpellsSlot};
-ghost use Rattle.check_text.specs.Spots.{LeadsTo, AtBlock, InBlock, AtOrder, InOrder, AtSlot, Done};
-ghost use Rattle.check_text.specs.Places.{spot_of, spot_after, Fits};
-ghost use Rattle.check_text.specs.Faults.{IsFault};
+ghost use Rattle.check_text.specs.Whole.{SpellsPair, SpellsSlot};
+ghost use Rattle.check_text.specs.StageParts.{LeadsTo, AtBlock, InBlock, AtOrder, InOrder, AtSlot, Done};
+ghost use Rattle.check_text.specs.Stages.{stage_parts, parts_after, Fits};
+ghost use Rattle.check_text.specs.Faults.{IsPairFault};
 
 use crate::cuts::first_line;
+use crate::fault::PairFault;
 use crate::line::{exit_of, plain_of};
-use crate::place::Place;
-use mblock::{Block, Exit, Order};
+use crate::stage::Stage;
+use mblock::{BLOCK_INSTS, Block, Exit, ORDER_INSTS, Order};
 use mips_isa::Plain;
 use std::alloc::{AllocError, Global};
 
@@ -22,16 +24,6 @@ pub struct Text {
     pub order: Order,
 }
 
-/// Why a text gives no block and order.
-#[derive(Clone, Copy, Debug, Drop)]
-pub enum TextFault {
-    /// The first line, from 1, that can't stand in its place, or the number of lines plus 1 where the
-    /// text ends too early.
-    Line(u32),
-    /// Memory was refused.
-    NoMemory,
-}
-
 fn slot_of(line: &[u8]) -> Option<Plain>
     ensures found { IfSome result (SpellsSlot line.now) }
     ensures only { (i : Plain) → SpellsSlot line.now i → result ≡ Some i }
@@ -39,123 +31,123 @@ fn slot_of(line: &[u8]) -> Option<Plain>
     plain_of(line.strip_prefix(b"slot ")?)
 }
 
-fn in_block(mut insts: Vec<Plain>, line: &[u8]) -> Result<Option<Place>, AllocError>
-    requires { length insts.items ≤ 512 }
-    ensures leads { IfOk result (λ r. LeadsTo (InBlock insts.items) line.now (spot_after r)) }
+fn in_block(mut insts: Vec<Plain>, line: &[u8]) -> Result<Option<Stage>, AllocError>
+    requires { length insts.items ≤ BLOCK_INSTS }
+    ensures leads { IfOk result (λ r. LeadsTo (InBlock insts.items) line.now (parts_after r)) }
     ensures fits { IfOk result (λ r. IfSome r Fits) }
 {
     if let Some(exit) = exit_of(line) {
         return match Block::new(insts, exit) {
-            Some(block) => Ok(Some(Place::AtOrder(block))),
+            Some(block) => Ok(Some(Stage::AtOrder(block))),
             None => Ok(None),
         };
     }
     match plain_of(line) {
         None => Ok(None),
         Some(inst) => {
-            if insts.len() >= 512 {
+            if insts.len() >= BLOCK_INSTS {
                 return Ok(None);
             }
             insts.push(inst)?;
-            Ok(Some(Place::InBlock(insts)))
+            Ok(Some(Stage::InBlock(insts)))
         }
     }
 }
 
-fn in_order(block: Block, mut insts: Vec<Plain>, line: &[u8]) -> Result<Option<Place>, AllocError>
-    requires { length insts.items ≤ 2048 }
-    ensures leads { IfOk result (λ r. LeadsTo (InOrder block insts.items) line.now (spot_after r)) }
+fn in_order(block: Block, mut insts: Vec<Plain>, line: &[u8]) -> Result<Option<Stage>, AllocError>
+    requires { length insts.items ≤ ORDER_INSTS }
+    ensures leads { IfOk result (λ r. LeadsTo (InOrder block insts.items) line.now (parts_after r)) }
     ensures fits { IfOk result (λ r. IfSome r Fits) }
 {
     if let Some(exit) = exit_of(line) {
         if exit.has_slot() {
-            return Ok(Some(Place::AtSlot(block, insts, exit)));
+            return Ok(Some(Stage::AtSlot(block, insts, exit)));
         }
         return match Order::new(insts, exit, None) {
-            Some(order) => Ok(Some(Place::Done(block, order))),
+            Some(order) => Ok(Some(Stage::Done(block, order))),
             None => Ok(None),
         };
     }
     match plain_of(line) {
         None => Ok(None),
         Some(inst) => {
-            if insts.len() >= 2048 {
+            if insts.len() >= ORDER_INSTS {
                 return Ok(None);
             }
             insts.push(inst)?;
-            Ok(Some(Place::InOrder(block, insts)))
+            Ok(Some(Stage::InOrder(block, insts)))
         }
     }
 }
 
-fn at_slot(block: Block, insts: Vec<Plain>, exit: Exit, line: &[u8]) -> Option<Place>
-    requires size { length insts.items ≤ 2048 }
+fn at_slot(block: Block, insts: Vec<Plain>, exit: Exit, line: &[u8]) -> Option<Stage>
+    requires size { length insts.items ≤ ORDER_INSTS }
     requires slotted { is_slotted exit ≡ true }
-    ensures leads { LeadsTo (AtSlot block insts.items exit) line.now (spot_after result) }
+    ensures leads { LeadsTo (AtSlot block insts.items exit) line.now (parts_after result) }
     ensures fits { IfSome result Fits }
 {
     match slot_of(line) {
         None => None,
         Some(inst) => match Order::new(insts, exit, Some(inst)) {
-            Some(order) => Some(Place::Done(block, order)),
+            Some(order) => Some(Stage::Done(block, order)),
             None => None,
         },
     }
 }
 
 /// Where one line takes the reader.
-fn step(alloc: Global, place: Place, line: &[u8]) -> Result<Option<Place>, AllocError>
+fn step(alloc: Global, place: Stage, line: &[u8]) -> Result<Option<Stage>, AllocError>
     requires { Fits place }
-    ensures leads { IfOk result (λ r. LeadsTo (spot_of place) line.now (spot_after r)) }
+    ensures leads { IfOk result (λ r. LeadsTo (stage_parts place) line.now (parts_after r)) }
     ensures fits { IfOk result (λ r. IfSome r Fits) }
 {
     match place {
-        Place::AtBlock => {
+        Stage::AtBlock => {
             if line == b"block".as_slice() {
-                Ok(Some(Place::InBlock(Vec::new(alloc))))
+                Ok(Some(Stage::InBlock(Vec::new(alloc))))
             } else {
                 Ok(None)
             }
         }
-        Place::InBlock(insts) => in_block(insts, line),
-        Place::AtOrder(block) => {
+        Stage::InBlock(insts) => in_block(insts, line),
+        Stage::AtOrder(block) => {
             if line == b"order".as_slice() {
-                Ok(Some(Place::InOrder(block, Vec::new(alloc))))
+                Ok(Some(Stage::InOrder(block, Vec::new(alloc))))
             } else {
                 Ok(None)
             }
         }
-        Place::InOrder(block, insts) => in_order(block, insts, line),
-        Place::AtSlot(block, insts, exit) => Ok(at_slot(block, insts, exit, line)),
-        Place::Done(_, _) => Ok(None),
+        Stage::InOrder(block, insts) => in_order(block, insts, line),
+        Stage::AtSlot(block, insts, exit) => Ok(at_slot(block, insts, exit, line)),
+        Stage::Done(_, _) => Ok(None),
     }
 }
 
 /// The block and the order that the text, of at most 2^20 bytes, spells: a line `block`, at most 512
 /// instructions, an exit; a line `order`, at most 2,048 instructions, an exit, and a line `slot I` with
 /// an instruction unless the exit is `out` or `halt`.
-pub fn read(alloc: Global, text: &[u8]) -> Result<Text, TextFault>
+pub fn read(alloc: Global, text: &[u8]) -> Result<Text, PairFault>
     requires { length text.now ≤ 2 ^ 20 }
-    ensures found { IfOk result (λ t. Spells (lines_of text.now) t.block t.order) }
-    ensures only { (b : BlockParts) (o : OrderParts) → Spells (lines_of text.now) b o
-        → MatchResult result (λ t. (t.block ≡ b) × (t.order ≡ o)) (λ e. e ≡ TextFault.NoMemory) }
-    ensures fault { IfErr result (IsFault (lines_of text.now)) }
+    ensures found { IfOk result (λ t. SpellsPair (lines_of text.now) t.block t.order) }
+    ensures only { (b : BlockParts) (o : OrderParts) → SpellsPair (lines_of text.now) b o
+        → MatchResult result (λ t. (t.block ≡ b) × (t.order ≡ o)) (λ e. e ≡ PairFault.NoMemory) }
+    ensures fault { IfErr result (IsPairFault (lines_of text.now)) }
 {
-    let mut place = Place::AtBlock;
+    let mut place = Stage::AtBlock;
     let mut rest = text;
     let mut count: u32 = 0;
     while !rest.is_empty() {
         let line = first_line(rest);
         match step(alloc, place, line.before) {
-            Err(_) => return Err(TextFault::NoMemory),
-            Ok(None) => return Err(TextFault::Line(count + 1)),
+            Err(_) => return Err(PairFault::NoMemory),
+            Ok(None) => return Err(PairFault::Line(count + 1)),
             Ok(Some(next)) => place = next,
         }
         count += 1;
         rest = line.after;
     }
     match place {
-        Place::Done(block, order) => Ok(Text { block, order }),
-        _ => Err(TextFault::Line(count + 1)),
+        Stage::Done(block, order) => Ok(Text { block, order }),
+        _ => Err(PairFault::Line(count + 1)),
     }
 }

@@ -1,16 +1,15 @@
 -- What answers and faults print.
 use Rattle.std.specs.Prelude.{ℕ, List, ◌++◌, codes, decimal}
 use Rattle.mips_isa.specs.Texts.{register_text}
-use Rattle.mblock.specs.declared.unclean.Unclean.{Unclean}
-use Rattle.mblock.specs.declared.unclean.Unclean.TheVariants.{U1, U2, U3, U4}
+use Rattle.mblock.specs.Texts.{unclean_text}
+use Rattle.check_text.specs.declared.fault.PairFault.TheVariants.{Line}
+use Rattle.check_text.specs.Faults.{pair_fault_text}
 use Rattle.block_validator.specs.declared.place.Place.{Place}
 use Rattle.block_validator.specs.declared.place.Place.TheVariants as places
 use Rattle.runs.specs.declared.ran.End.{End}
 use Rattle.runs.specs.declared.ran.End.TheVariants.{Done, Wrong, More}
 use Rattle.c_front.specs.Messages.{fault_text as front_fault_text}
-use Rattle.c_statements.specs.declared.fault.TypeFaultKind.{TypeFaultKind}
-use Rattle.c_statements.specs.declared.fault.TypeFaultKind.TheVariants as types
-use Rattle.c_statements.specs.Faults.{number_of as type_number_of}
+use Rattle.c_statements.specs.Faults.{fault_text as type_fault_text}
 use Rattle.driver.specs.declared.source_runs.InterpFault.{InterpFault}
 use Rattle.driver.specs.declared.source_runs.InterpFault.TheVariants as interp_faults
 use Rattle.driver.specs.declared.verdicts.CheckAnswer.{CheckAnswer}
@@ -19,12 +18,6 @@ use Rattle.driver.specs.declared.verdicts.CheckFault.{CheckFault}
 use Rattle.driver.specs.declared.verdicts.CheckFault.TheVariants as check_faults
 use Rattle.driver.specs.declared.program.Fault.{Fault}
 use Rattle.driver.specs.declared.program.Fault.TheVariants as faults
-
-abbrev pub rule_text : Unclean → List ℕ
-rule_text U1 = codes "U1"
-rule_text U2 = codes "U2"
-rule_text U3 = codes "U3"
-rule_text U4 = codes "U4"
 
 abbrev pub place_text : Place → List ℕ
 place_text (places.Register r) = register_text r
@@ -36,7 +29,7 @@ place_text places.Guards = codes "guards"
 
 abbrev pub answer_text : CheckAnswer → List ℕ
 answer_text answers.Same = codes "same"
-answer_text (answers.Unclean rule) = codes "unclean " ++ rule_text rule
+answer_text (answers.Unclean rule) = codes "unclean " ++ unclean_text rule
 answer_text (answers.Differs place) = codes "differs " ++ place_text place
 answer_text answers.Full = codes "full"
 
@@ -49,26 +42,12 @@ exit_status answers.Full = 3
 
 abbrev pub check_fault_text : CheckFault → List ℕ
 check_fault_text check_faults.Size = codes "fault 5 Size"
-check_fault_text (check_faults.Line n) = codes "fault 70 Line " ++ decimal n
+check_fault_text (check_faults.Line n) = pair_fault_text (Line n)
 check_fault_text check_faults.NoMemory = codes "fault 30 NoMemory"
-
--- the names of faults
-abbrev pub type_name : TypeFaultKind → List ℕ
-type_name types.Undeclared = codes "Undeclared"
-type_name types.Redeclared = codes "Redeclared"
-type_name types.Kind = codes "Kind"
-type_name types.Count = codes "Count"
-type_name types.NoMain = codes "NoMain"
-type_name types.Outside = codes "Outside"
-type_name types.Limit = codes "Limit"
-type_name types.NoMemory = codes "NoMemory"
-
-abbrev pub placed_fault_text : (number : ℕ) → (name : List ℕ) → (at : ℕ) → List ℕ
-placed_fault_text number name at = codes "fault " ++ decimal number ++ codes " " ++ name ++ codes " at " ++ decimal at
 
 abbrev pub interp_fault_text : InterpFault → List ℕ
 interp_fault_text (interp_faults.Front f) = front_fault_text f
-interp_fault_text (interp_faults.Types f) = placed_fault_text (type_number_of f.kind) (type_name f.kind) f.at
+interp_fault_text (interp_faults.Types f) = type_fault_text f
 interp_fault_text interp_faults.NoMemory = codes "fault 30 NoMemory"
 
 -- the last line of a run, and its status

@@ -1,27 +1,15 @@
 // How answers and faults print.
 
-ghost use Rattle.std.specs.Prelude.{◌≡◌, Some};
+ghost use Rattle.std.specs.Prelude.{Some};
 ghost use Rattle.std.specs.Fmt.{DisplaysOnOk};
-ghost use Rattle.driver.specs.Texts.{answer_text, check_fault_text, end_text, interp_fault_text, place_text, rule_text, type_name};
+ghost use Rattle.driver.specs.Texts.{answer_text, check_fault_text, end_text, interp_fault_text, place_text};
 
 use crate::source_runs::InterpFault;
 use crate::verdicts::{CheckAnswer, CheckFault};
 use block_validator::Place;
-use c_statements::TypeFaultKind;
-use mblock::Unclean;
+use check_text::PairFault;
 use runs::End;
 use std::fmt;
-
-fn rule_name(rule: Unclean) -> &'static str
-    ensures { result.now ≡ rule_text rule }
-{
-    match rule {
-        Unclean::U1 => "U1",
-        Unclean::U2 => "U2",
-        Unclean::U3 => "U3",
-        Unclean::U4 => "U4",
-    }
-}
 
 fn write_place<W: fmt::Write>(place: &Place, f: &mut fmt::Formatter<W>) -> fmt::Result
     ensures { DisplaysOnOk W.write_str_gives f.old result (Some (place_text place.now)) f.new }
@@ -45,10 +33,7 @@ impl fmt::Display for CheckAnswer {
     fn fmt<W: fmt::Write>(&self, f: &mut fmt::Formatter<W>) -> fmt::Result {
         match self {
             CheckAnswer::Same => f.write_str("same"),
-            CheckAnswer::Unclean(rule) => {
-                f.write_str("unclean ")?;
-                f.write_str(rule_name(*rule))
-            }
+            CheckAnswer::Unclean(rule) => write!(f, "unclean {rule}"),
             CheckAnswer::Differs(place) => {
                 f.write_str("differs ")?;
                 write_place(place, f)
@@ -64,24 +49,12 @@ impl fmt::Display for CheckFault {
     fn fmt<W: fmt::Write>(&self, f: &mut fmt::Formatter<W>) -> fmt::Result {
         match self {
             CheckFault::Size => f.write_str("fault 5 Size"),
-            CheckFault::Line(line) => write!(f, "fault 70 Line {line}"),
+            CheckFault::Line(line) => {
+                let fault = PairFault::Line(*line);
+                write!(f, "{fault}")
+            }
             CheckFault::NoMemory => f.write_str("fault 30 NoMemory"),
         }
-    }
-}
-
-fn type_name(kind: TypeFaultKind) -> &'static str
-    ensures { result.now ≡ type_name kind }
-{
-    match kind {
-        TypeFaultKind::Undeclared => "Undeclared",
-        TypeFaultKind::Redeclared => "Redeclared",
-        TypeFaultKind::Kind => "Kind",
-        TypeFaultKind::Count => "Count",
-        TypeFaultKind::NoMain => "NoMain",
-        TypeFaultKind::Outside => "Outside",
-        TypeFaultKind::Limit => "Limit",
-        TypeFaultKind::NoMemory => "NoMemory",
     }
 }
 
@@ -91,12 +64,7 @@ impl fmt::Display for InterpFault {
     fn fmt<W: fmt::Write>(&self, f: &mut fmt::Formatter<W>) -> fmt::Result {
         match self {
             InterpFault::Front(fault) => write!(f, "{fault}"),
-            InterpFault::Types(fault) => {
-                let number = fault.kind.number();
-                let name = type_name(fault.kind);
-                let at = fault.at;
-                write!(f, "fault {number} {name} at {at}")
-            }
+            InterpFault::Types(fault) => write!(f, "{fault}"),
             InterpFault::NoMemory => f.write_str("fault 30 NoMemory"),
         }
     }

@@ -1,12 +1,12 @@
 ghost use Rattle.std.specs.Prelude.{◌≡◌, ℕ, ◌≤◌, ◌^◌, length, IfOk, IfErr, IfSome, MatchResult, All};
 ghost use Rattle.mblock.specs.Parts.{BlockParts, OrderParts};
 ghost use Rattle.check_text.specs.Lines.{lines_of};
-ghost use Rattle.check_text.specs.Whole.{Spells};
+ghost use Rattle.check_text.specs.Whole.{SpellsPair};
 ghost use Rattle.term_table.specs.Passes.{IsOf};
 ghost use Rattle.driver.specs.Checks.{IsAnswer, IsCheckFault};
 
 use block_validator::{Place, Verdict, validate};
-use check_text::{Text, TextFault, read};
+use check_text::{PairFault, Text, read};
 use mblock::Unclean;
 use std::alloc::Global;
 use term_table::{OpenFault, Pass, TermTable};
@@ -61,8 +61,8 @@ fn opened(alloc: Global) -> Option<(TermTable, Pass)>
 
 /// The verdict on the block and the order that the text spells.
 pub fn check(alloc: Global, text: &[u8]) -> Result<CheckAnswer, CheckFault>
-    ensures spelled { IfOk result (λ _. (length text.now ≤ 2 ^ 20) × (b : BlockParts) × (o : OrderParts) × Spells (lines_of text.now) b o) }
-    ensures answer { length text.now ≤ 2 ^ 20 → (b : BlockParts) (o : OrderParts) → Spells (lines_of text.now) b o
+    ensures spelled { IfOk result (λ _. (length text.now ≤ 2 ^ 20) × (b : BlockParts) × (o : OrderParts) × SpellsPair (lines_of text.now) b o) }
+    ensures answer { length text.now ≤ 2 ^ 20 → (b : BlockParts) (o : OrderParts) → SpellsPair (lines_of text.now) b o
         → MatchResult result (IsAnswer b o) (λ e. e ≡ CheckFault.NoMemory) }
     ensures fault { IfErr result (IsCheckFault text.now) }
 {
@@ -71,8 +71,8 @@ pub fn check(alloc: Global, text: &[u8]) -> Result<CheckAnswer, CheckFault>
     }
     let Text { block, order } = match read(alloc, text) {
         Ok(spelled) => spelled,
-        Err(TextFault::Line(line)) => return Err(CheckFault::Line(line)),
-        Err(TextFault::NoMemory) => return Err(CheckFault::NoMemory),
+        Err(PairFault::Line(line)) => return Err(CheckFault::Line(line)),
+        Err(PairFault::NoMemory) => return Err(CheckFault::NoMemory),
     };
     let Some((table, mut pass)) = opened(alloc) else {
         return Err(CheckFault::NoMemory);

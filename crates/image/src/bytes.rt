@@ -1,10 +1,11 @@
 ghost use Rattle.std.specs.Prelude.{◌≡◌, ℕ, ◌+◌, ◌*◌, ◌≤◌, ◌^◌, ◌++◌, None, length, OnOk, IfOk, IfErr, MatchResult};
-ghost use Rattle.image.specs.Images.{ImageParts, IsImage, EachImageHasItsBytes, head_of, image_bytes, words_bytes, word_at, words_of, counts_at, total, first_version_fault, second_version_fault, image_fault, is_entry, has_sizes, parts_behind, parts_of, IsImageFault};
+ghost use Rattle.image.specs.Images.{ImageParts, IsImage, EachImageHasItsBytes, head_of, image_bytes, words_bytes, word_at_byte, words_of, counts_at, total, first_version_fault, second_version_fault, image_fault, is_entry, has_sizes, parts_behind, parts_of, IsImageFault};
 ghost use Rattle.image.specs.Views.{counts_of, version_of};
 ghost use Rattle.image.specs.declared.fault.ImageFault.{ImageFault as Fault};
 
 use crate::fault::ImageFault;
 use crate::image::{Counts, Image};
+use crate::limits::{CODE_WORDS, COUNTED_BLOCKS, DATA_BYTES};
 use std::alloc::{AllocError, Global};
 
 /// The four bytes `MCCI`.
@@ -61,9 +62,9 @@ pub fn write_image(alloc: Global, image: &Image) -> Result<Vec<u8>, AllocError>
     Ok(out)
 }
 
-fn word_at(bytes: &[u8], at: usize) -> u32
+fn word_at_byte(bytes: &[u8], at: usize) -> u32
     requires { at + 4 ≤ length bytes.now }
-    ensures { result ≡ word_at bytes.now at }
+    ensures { result ≡ word_at_byte bytes.now at }
 {
     (u32::from(bytes[at]) << 24)
         + (u32::from(bytes[at + 1]) << 16)
@@ -79,7 +80,7 @@ fn words_of(alloc: Global, count: usize, bytes: &[u8]) -> Result<Vec<u32>, Alloc
     let mut rest = bytes;
     for _ in 0..count {
         let (_, behind) = rest.split_at(4);
-        words.push(word_at(rest, 0))?;
+        words.push(word_at_byte(rest, 0))?;
         rest = behind;
     }
     Ok(words)
@@ -98,10 +99,10 @@ fn has_sizes(head: usize, most: usize, rest: usize, bytes: &[u8]) -> bool
     requires rest { rest ≤ 2 ^ 34 }
     ensures { result ≡ has_sizes head most rest bytes.now }
 {
-    let code = word_at(bytes, 8) as usize;
+    let code = word_at_byte(bytes, 8) as usize;
     1 <= code
-        && code <= 1_048_576
-        && word_at(bytes, 16) as usize <= most
+        && code <= CODE_WORDS
+        && word_at_byte(bytes, 16) as usize <= most
         && bytes.len() == head + 4 * code + rest
 }
 
@@ -109,11 +110,11 @@ fn first_version_fault(bytes: &[u8]) -> Option<ImageFault>
     requires { 20 ≤ length bytes.now }
     ensures { result ≡ first_version_fault bytes.now }
 {
-    let data = 4 * word_at(bytes, 16) as usize;
-    if !has_sizes(20, 262_144, data, bytes) {
+    let data = 4 * word_at_byte(bytes, 16) as usize;
+    if !has_sizes(20, DATA_BYTES / 4, data, bytes) {
         return Some(ImageFault::Length);
     }
-    if !is_entry(word_at(bytes, 8), word_at(bytes, 12)) {
+    if !is_entry(word_at_byte(bytes, 8), word_at_byte(bytes, 12)) {
         return Some(ImageFault::Entry);
     }
     None
@@ -124,12 +125,12 @@ fn counts_at(bytes: &[u8]) -> Counts
     ensures { counts_of result ≡ counts_at bytes.now }
 {
     Counts {
-        same: word_at(bytes, 20),
-        unclean: word_at(bytes, 24),
-        differs: word_at(bytes, 28),
-        full: word_at(bytes, 32),
-        no_memory: word_at(bytes, 36),
-        missed: word_at(bytes, 40),
+        same: word_at_byte(bytes, 20),
+        unclean: word_at_byte(bytes, 24),
+        differs: word_at_byte(bytes, 28),
+        full: word_at_byte(bytes, 32),
+        no_memory: word_at_byte(bytes, 36),
+        missed: word_at_byte(bytes, 40),
     }
 }
 
@@ -151,14 +152,14 @@ fn second_version_fault(bytes: &[u8]) -> Option<ImageFault>
     if bytes.len() < 44 {
         return Some(ImageFault::Length);
     }
-    let data = word_at(bytes, 16) as usize;
-    if !has_sizes(44, 1_048_576, data, bytes) {
+    let data = word_at_byte(bytes, 16) as usize;
+    if !has_sizes(44, DATA_BYTES, data, bytes) {
         return Some(ImageFault::Length);
     }
-    if !is_entry(word_at(bytes, 8), word_at(bytes, 12)) {
+    if !is_entry(word_at_byte(bytes, 8), word_at_byte(bytes, 12)) {
         return Some(ImageFault::Entry);
     }
-    if total(counts_at(bytes)) > 1_048_576 {
+    if total(counts_at(bytes)) > COUNTED_BLOCKS {
         return Some(ImageFault::Counts);
     }
     None
@@ -170,10 +171,10 @@ fn image_fault(bytes: &[u8]) -> Option<ImageFault>
     if bytes.len() < 20 {
         return Some(ImageFault::Length);
     }
-    if word_at(bytes, 0) != MAGIC {
+    if word_at_byte(bytes, 0) != MAGIC {
         return Some(ImageFault::Magic);
     }
-    match word_at(bytes, 4) {
+    match word_at_byte(bytes, 4) {
         1 => first_version_fault(bytes),
         2 => second_version_fault(bytes),
         _ => Some(ImageFault::Version),
@@ -189,11 +190,11 @@ fn image_behind(
 ) -> Result<Image, AllocError>
     requires image { IsImage (parts_behind (version_of counts) head bytes.now) }
     requires head { 20 ≤ head }
-    requires length { head + 4 * word_at bytes.now 8 ≤ length bytes.now }
+    requires length { head + 4 * word_at_byte bytes.now 8 ≤ length bytes.now }
     ensures { IfOk result (λ i. i ≡ parts_behind (version_of counts) head bytes.now) }
 {
-    let code = word_at(bytes, 8) as usize;
-    let entry = word_at(bytes, 12);
+    let code = word_at_byte(bytes, 8) as usize;
+    let entry = word_at_byte(bytes, 12);
     let (_, behind) = bytes.split_at(head);
     let (_, data) = behind.split_at(4 * code);
     let code_words = words_of(alloc, code, behind)?;
@@ -206,7 +207,7 @@ fn image_of(alloc: Global, bytes: &[u8]) -> Result<Image, AllocError>
     requires { image_fault bytes.now ≡ None }
     ensures { IfOk result (λ i. i ≡ parts_of bytes.now) }
 {
-    if word_at(bytes, 4) == 1 {
+    if word_at_byte(bytes, 4) == 1 {
         image_behind(alloc, None, 20, bytes)
     } else {
         image_behind(alloc, Some(counts_at(bytes)), 44, bytes)

@@ -1,8 +1,15 @@
-//! Worked examples of the machine half: images that are read, written and run, splitting, and units.
+//! Worked examples of the machine half: images that are read, written and run, listings, splitting, units, and units that
+//! become images.
 #![tactic(auto)]
 
 #[cfg(test)]
+mod assembled;
+#[cfg(test)]
 mod images;
+#[cfg(test)]
+mod limits;
+#[cfg(test)]
+mod listing;
 #[cfg(test)]
 mod pieces;
 #[cfg(test)]

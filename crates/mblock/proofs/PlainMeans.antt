@@ -4,12 +4,12 @@ use Rattle.std.specs.Prelude.{is_some}
 use Rattle.std.proofs.lemmas.Option.{same_Some, none-some}
 use Rattle.mips_isa.specs.declared.inst.Plain.{Plain}
 use Rattle.mips_isa.specs.States.{State}
-use Rattle.mips_isa.specs.Actions.{nop, action_of, after, is_load, is_move}
+use Rattle.mips_isa.specs.Actions.{nop, action_of, state_after, is_load, is_move}
 use Rattle.mblock.specs.Parts.{BlockParts, OrderParts}
 use Rattle.mblock.specs.Slots.{is_slotted}
 use Rattle.mblock.specs.BlockMeaning.{exit_shape}
 use Rattle.mblock.specs.Clean.{slot_actions, IsClean, FitsSlot}
-use Rattle.mblock.specs.PlainOrders.{padded, plain_order_of}
+use Rattle.mblock.specs.PlainOrders.{padded_inst, plain_order_of}
 use Rattle.mblock.specs.Orders.{Means, EachPlainUnitHasItsOrders}
 use Rattle.mblock.proofs.PlainOrders.{pads, Behind, behind_nothing, behind_still, padded_keep, loads_load, safe_padded, plain_at}
 use Rattle.mblock.proofs.Totals.{block_total}
@@ -42,10 +42,10 @@ skip_total true m rest s = refl
 skip_total false true rest s = refl
 skip_total false false rest s = refl
 
-padded_total : (insts : List Plain) (s : State) → total (map action_of (flat_map padded insts)) s ≡ total (map action_of insts) s
+padded_total : (insts : List Plain) (s : State) → total (map action_of (flat_map padded_inst insts)) s ≡ total (map action_of insts) s
 padded_total [] s = refl
 padded_total (i ∷ rest) s =
-    skip_total (is_load (action_of i)) (is_move (action_of i)) (flat_map padded rest) (after (action_of i) s) ∙ padded_total rest (after (action_of i) s)
+    skip_total (is_load (action_of i)) (is_move (action_of i)) (flat_map padded_inst rest) (state_after (action_of i) s) ∙ padded_total rest (state_after (action_of i) s)
 
 slot_total : (h : Bool) (s : State) → total (slot_actions (cond h (Some nop) None)) s ≡ s
 slot_total true s = refl

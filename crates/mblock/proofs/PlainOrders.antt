@@ -1,14 +1,15 @@
 -- Plain orders break no delay rule.
-use Rattle.std.proofs.Common.{◌≡◌, ℕ, zero, suc, ◌<◌, ◌≤◌, ◌⊎◌, ⊎_elim, Bool, true, false, cond, ◌||◌, ◌==◌, ne_eqb, List, [], ◌∷◌, ◌++◌, map, flat_map, length, slice_get, Option, Some, None, refl, sym, ap, ◌∙◌, subst, true≢false, append_assoc, length-append, arith, ◌*◌}
+use Rattle.std.proofs.Common.{◌≡◌, ℕ, zero, suc, ◌<◌, ◌≤◌, ◌⊎◌, ⊎_elim, Bool, true, false, cond, ◌||◌, ◌==◌, ne_eqb, List, [], ◌∷◌, ◌++◌, map, flat_map, length, slice_get, Option, Some, None, refl, sym, ap, ◌∙◌, subst, true≢false, append_assoc, length-append, arith, ◌*◌, ◌+◌, take, get_or}
+use Rattle.std.proofs.lemmas.List.{take_more}
 use Rattle.std.proofs.lemmas.Option.{same_Some, none-some}
 use Rattle.mips_isa.specs.declared.inst.Plain.{Plain}
 use Rattle.mips_isa.specs.declared.action.Action.{Action}
 use Rattle.mips_isa.specs.declared.action.Action.TheVariants.{Computes, Sets, Loads, Stores, Multiplies, Divides, MovesHigh, MovesLow}
 use Rattle.mips_isa.specs.States.{State, is_register}
-use Rattle.mips_isa.specs.Actions.{nop, action_of, after, touches, loads, is_load, is_move, is_product}
-use Rattle.mblock.specs.Parts.{BlockParts}
+use Rattle.mips_isa.specs.Actions.{nop, action_of, state_after, touches, loads, is_load, is_move, is_product}
+use Rattle.mblock.specs.Parts.{BlockParts, OrderParts}
 use Rattle.mblock.specs.Clean.{kinds_of}
-use Rattle.mblock.specs.PlainOrders.{padded, plain_order_of}
+use Rattle.mblock.specs.PlainOrders.{padded_inst, plain_order_of}
 use Rattle.mblock.proofs.Runs.{AllSafe}
 
 abbrev pub pads : Bool → Bool → List Plain
@@ -120,28 +121,28 @@ pads_keep x false false rest tail el em k = record {
   followed = followed_more x rest (λ e. absurd (true≢false (sym e ∙ el))) k.followed;
 }
 
-pub padded_keep : (insts : List Plain) (tail : List (Option Action)) → Behind tail → Keeps (flat_map padded insts) tail
+pub padded_keep : (insts : List Plain) (tail : List (Option Action)) → Behind tail → Keeps (flat_map padded_inst insts) tail
 padded_keep [] tail h = record { apart = λ i r a b ea. absurd (none-some a ea); behind = h; followed = λ i a ea. absurd (none-some a ea) }
-padded_keep (x ∷ rest) tail h = pads_keep x (is_load (action_of x)) (is_move (action_of x)) (flat_map padded rest) tail refl refl (padded_keep rest tail h)
+padded_keep (x ∷ rest) tail h = pads_keep x (is_load (action_of x)) (is_move (action_of x)) (flat_map padded_inst rest) tail refl refl (padded_keep rest tail h)
 
 -- ---- lengths, safety and places
 
-pub padded_append : (a b : List Plain) → flat_map padded (a ++ b) ≡ flat_map padded a ++ flat_map padded b
+pub padded_append : (a b : List Plain) → flat_map padded_inst (a ++ b) ≡ flat_map padded_inst a ++ flat_map padded_inst b
 padded_append [] b = refl
-padded_append (x ∷ a) b = ap (λ l. padded x ++ l) (padded_append a b) ∙ sym (append_assoc (padded x) (flat_map padded a) (flat_map padded b))
+padded_append (x ∷ a) b = ap (λ l. padded_inst x ++ l) (padded_append a b) ∙ sym (append_assoc (padded_inst x) (flat_map padded_inst a) (flat_map padded_inst b))
 
-pub padded_length : (l : List Plain) → length l ≤ length (flat_map padded l)
+pub padded_length : (l : List Plain) → length l ≤ length (flat_map padded_inst l)
 padded_length [] = omega arith
-padded_length (x ∷ l) = omega (arith, padded_length l, length-append (padded x) (flat_map padded l))
+padded_length (x ∷ l) = omega (arith, padded_length l, length-append (padded_inst x) (flat_map padded_inst l))
 
 safe_pads : (l m : Bool) (rest : List Plain) (s : State) → AllSafe (map action_of rest) s → AllSafe (map action_of (pads l m ++ rest)) s
 safe_pads true m rest s h = (refl, h)
 safe_pads false true rest s h = (refl, (refl, h))
 safe_pads false false rest s h = h
 
-pub safe_padded : (l : List Plain) (s : State) → AllSafe (map action_of l) s → AllSafe (map action_of (flat_map padded l)) s
+pub safe_padded : (l : List Plain) (s : State) → AllSafe (map action_of l) s → AllSafe (map action_of (flat_map padded_inst l)) s
 safe_padded [] s h = tt
-safe_padded (x ∷ l) s h = (h.0, safe_pads (is_load (action_of x)) (is_move (action_of x)) (flat_map padded l) (after (action_of x) s) (safe_padded l (after (action_of x) s) h.1))
+safe_padded (x ∷ l) s h = (h.0, safe_pads (is_load (action_of x)) (is_move (action_of x)) (flat_map padded_inst l) (state_after (action_of x) s) (safe_padded l (state_after (action_of x) s) h.1))
 
 pub plain_at : (blocks : List BlockParts) (t : ℕ) (b : BlockParts) → slice_get blocks t ≡ Some b → slice_get (map plain_order_of blocks) t ≡ Some (plain_order_of b)
 plain_at [] t b e = absurd (none-some b e)
@@ -154,6 +155,18 @@ pads_short true m = omega arith
 pads_short false true = omega arith
 pads_short false false = omega arith
 
-pub padded_short : (l : List Plain) → length (flat_map padded l) ≤ 3 * length l
+pub padded_short : (l : List Plain) → length (flat_map padded_inst l) ≤ 3 * length l
 padded_short [] = omega arith
-padded_short (x ∷ l) = omega (arith, padded_short l, pads_short (is_load (action_of x)) (is_move (action_of x)), length-append (padded x) (flat_map padded l))
+padded_short (x ∷ l) = omega (arith, padded_short l, pads_short (is_load (action_of x)) (is_move (action_of x)), length-append (padded_inst x) (flat_map padded_inst l))
+
+-- ---- the orders of some blocks, and of one more
+
+order_behind : (bs : List BlockParts) (b : BlockParts) → map plain_order_of (bs ++ b ∷ []) ≡ map plain_order_of bs ++ plain_order_of b ∷ []
+order_behind [] b = refl
+order_behind (x ∷ rest) b = ap (λ l. plain_order_of x ∷ l) (order_behind rest b)
+
+pub orders_more : (bs : List BlockParts) (os new : List OrderParts) (i : ℕ) (b : BlockParts) (o : OrderParts) → i < length bs → b ≡ get_or bs i b
+    → os ≡ map plain_order_of (take i bs) → o ≡ plain_order_of b → new ≡ os ++ o ∷ [] → new ≡ map plain_order_of (take (i + 1) bs)
+orders_more bs os new i b o lt is made order pushed =
+    pushed ∙ ap (λ l. l ++ o ∷ []) made ∙ ap (λ x. map plain_order_of (take i bs) ++ x ∷ []) (order ∙ ap plain_order_of is)
+    ∙ sym (order_behind (take i bs) (get_or bs i b)) ∙ ap (map plain_order_of) (sym (take_more bs i b lt))

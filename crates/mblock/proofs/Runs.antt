@@ -6,7 +6,7 @@ use Rattle.mips_isa.specs.declared.inst.Plain.{Plain}
 use Rattle.mips_isa.specs.declared.action.Action.{Action}
 use Rattle.mips_isa.specs.declared.action.Action.TheVariants.{Computes, Sets, Loads, Stores, Multiplies, Divides, MovesHigh, MovesLow}
 use Rattle.mips_isa.specs.States.{State, is_register, read, put}
-use Rattle.mips_isa.specs.Actions.{action_of, is_safe, after, touches, loads, is_load, is_move, is_product}
+use Rattle.mips_isa.specs.Actions.{action_of, is_safe, state_after, touches, loads, is_load, is_move, is_product}
 use Rattle.mips_isa.specs.Flows.{Pending, Nothing, Loaded, Flow, settle, pending_of, on_pending, flow_after, quiet}
 use Rattle.mips_isa.specs.Steps.{word, words_from}
 use Rattle.mips_isa.proofs.Registers.{read-put, put-put, put_lost}
@@ -15,18 +15,18 @@ use Rattle.mblock.specs.declared.exit.Exit.{Exit}
 use Rattle.mblock.specs.declared.exit.Exit.TheVariants.{Goto, BranchPair, BranchZero, Call, Return, Out, Halt}
 use Rattle.mblock.specs.Parts.{OrderParts}
 use Rattle.mblock.specs.Slots.{is_slotted}
-use Rattle.mblock.specs.BlockMeaning.{exit_shape, exit_reads, exit_puts, Departure, depart, Outcome}
+use Rattle.mblock.specs.BlockMeaning.{exit_shape, exit_reads, exit_puts, Departure, depart, Effect}
 use Rattle.mblock.specs.OrderMeaning.{exit_touches, puts_number, exit_word, slot_word, ends, operand_words, system_word, system_call, jump, order_leaves, order_left, order_effect}
 use Rattle.mblock.specs.Clean.{slot_actions, FitsSlot, kinds_of, IsClean}
 
 -- the actions one after another, safe or not
 abbrev pub total : List Action → State → State
 total [] s = s
-total (a ∷ rest) s = total rest (after a s)
+total (a ∷ rest) s = total rest (state_after a s)
 
 abbrev pub AllSafe : List Action → State → Type 0
 AllSafe [] s = Unit {0}
-AllSafe (a ∷ rest) s = (is_safe a s ≡ true) × AllSafe rest (after a s)
+AllSafe (a ∷ rest) s = (is_safe a s ≡ true) × AllSafe rest (state_after a s)
 
 -- what the rest of an order, and the machine before it, keep
 pub record Ready (insts : List Plain) (exit : Exit) (tail : List (Option Action)) (f : Flow) : Type 0 where
@@ -137,7 +137,7 @@ reads_settled (Loaded q w) exit s slot e = go (is_register q) refl e
     go false eb h = ap (λ f. map (read 0 f) (exit_reads exit)) (sym (put_lost s.regs q w eb))
 
 -- where an exit leaves to, from the state before it
-abbrev pub leaves_total : Exit → List Action → ℕ → State → Outcome
+abbrev pub leaves_total : Exit → List Action → ℕ → State → Effect
 leaves_total exit slots link s = record {
   state = total slots (exited exit link s);
   goes = depart (exit_shape exit) (map (read 0 s.regs) (exit_reads exit));
@@ -145,7 +145,7 @@ leaves_total exit slots link s = record {
 
 jump_runs : (exit : Exit) (i : Plain) (f : Flow) (link : ℕ) → is_slotted exit ≡ true → Ready [] exit (None ∷ Some (action_of i) ∷ []) f → (is_load (action_of i) || is_move (action_of i)) ≡ false → is_safe (action_of i) (exited exit link (settled f)) ≡ true → jump exit (Some i) f link ≡ Some (leaves_total exit (action_of i ∷ []) link (settled f))
 jump_runs exit i f link slot h kind safe =
-    ap (ends goes) (ap (slot_word a) first ∙ second) ∙ ap₂ (λ s w. Some (record { state = s; goes = depart (exit_shape exit) w })) (settled_after a mid refl ∙ ap (after a) moved) words
+    ap (ends goes) (ap (slot_word a) first ∙ second) ∙ ap₂ (λ s w. Some (record { state = s; goes = depart (exit_shape exit) w })) (settled_after a mid refl ∙ ap (state_after a) moved) words
   where
     a : Action
     a = action_of i
@@ -179,7 +179,7 @@ pub ten_value : op_value Addu 0 10 ≡ 10
 unfolding op_value
 ten_value = refl
 
-call_runs : (exit : Exit) (number : ℕ) (f : Flow) (s : State) → on_pending f.pending (touches (puts_number number)) ≡ false → after (puts_number number) (settled f) ≡ s → system_call exit number None f ≡ Some (record { state = s; goes = depart (exit_shape exit) (map (read 0 s.regs) (exit_reads exit)) })
+call_runs : (exit : Exit) (number : ℕ) (f : Flow) (s : State) → on_pending f.pending (touches (puts_number number)) ≡ false → state_after (puts_number number) (settled f) ≡ s → system_call exit number None f ≡ Some (record { state = s; goes = depart (exit_shape exit) (map (read 0 s.regs) (exit_reads exit)) })
 call_runs exit number f s free e =
     ap (system_word exit) (word_runs (puts_number number) f free refl refl) ∙ ap (λ x. Some (record { state = x; goes = depart (exit_shape exit) (map (read 0 x.regs) (exit_reads exit)) })) (settled_after (puts_number number) f free ∙ e)
 

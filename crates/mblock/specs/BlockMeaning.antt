@@ -4,7 +4,7 @@ use Rattle.mips_isa.specs.declared.inst.PairTest.{PairTest}
 use Rattle.mips_isa.specs.declared.inst.ZeroTest.{ZeroTest}
 use Rattle.mips_isa.specs.declared.action.Action.{Action}
 use Rattle.mips_isa.specs.States.{State, read, put}
-use Rattle.mips_isa.specs.Actions.{action_of, is_safe, after}
+use Rattle.mips_isa.specs.Actions.{action_of, is_safe, state_after}
 use Rattle.mips_isa.specs.Controls.{pair_passes, zero_passes}
 use Rattle.mblock.specs.declared.exit.Exit.{Exit}
 use Rattle.mblock.specs.declared.exit.Exit.TheVariants.{Goto, BranchPair, BranchZero, Call, Return, Out, Halt}
@@ -63,25 +63,25 @@ depart Returns words = GoesBack (slice_index words 0)
 depart (Prints n) words = PrintsTo (slice_index words 0) n
 depart Halts words = HaltsWith (slice_index words 0)
 
-pub record Outcome : Type 0 where
+pub record Effect : Type 0 where
   pub state : State
   pub goes : Departure
 
 -- the actions one after another, or nothing where one is not safe
 abbrev pub run : List Action → State → Option State
 run [] s = Some s
-run (a ∷ rest) s = if is_safe a s then run rest (after a s) else None
+run (a ∷ rest) s = if is_safe a s then run rest (state_after a s) else None
 
-abbrev pub leave : Exit → State → ℕ → Outcome
-leave exit s link = record {
+abbrev pub exit_effect : Exit → State → ℕ → Effect
+exit_effect exit s link = record {
   state = record s { regs = exit_puts link 1 10 (exit_shape exit) s.regs };
   goes = depart (exit_shape exit) (map (read 0 s.regs) (exit_reads exit));
 }
 
-abbrev pub left : Exit → Option State → ℕ → Option Outcome
-left exit None link = None
-left exit (Some s) link = Some (leave exit s link)
+abbrev pub exit_effect_after : Exit → Option State → ℕ → Option Effect
+exit_effect_after exit None link = None
+exit_effect_after exit (Some s) link = Some (exit_effect exit s link)
 
 -- what a block does from a state, with the link that a call of it would put in; or nothing where it is stuck
-abbrev pub block_effect : BlockParts → State → ℕ → Option Outcome
-block_effect b s link = left b.exit (run (map action_of b.insts) s) link
+abbrev pub block_effect : BlockParts → State → ℕ → Option Effect
+block_effect b s link = exit_effect_after b.exit (run (map action_of b.insts) s) link

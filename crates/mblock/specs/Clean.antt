@@ -5,7 +5,7 @@ use Rattle.mips_isa.specs.declared.action.Action.{Action}
 use Rattle.mips_isa.specs.Actions.{action_of, loads, touches, is_load, is_move, is_product}
 use Rattle.mblock.specs.declared.exit.Exit.{Exit}
 use Rattle.mblock.specs.declared.unclean.Unclean.{Unclean}
-use Rattle.mblock.specs.declared.unclean.Unclean.TheVariants.{U1, U2, U3, U4}
+use Rattle.mblock.specs.declared.unclean.Unclean.TheVariants.{LoadUse, ProductAfterMove, SlotLoadOrMove, ExitLoad}
 use Rattle.mblock.specs.Parts.{OrderParts}
 use Rattle.mblock.specs.Slots.{is_slotted}
 use Rattle.mblock.specs.OrderMeaning.{exit_touches}
@@ -52,7 +52,7 @@ pub record IsClean (o : OrderParts) : Type 0 where
 
 -- the rule is the least that the order breaks
 abbrev pub BreaksFirst : Unclean → OrderParts → Type 0
-BreaksFirst U1 o = IsApart o.insts → ⊥
-BreaksFirst U2 o = IsApart o.insts × (IsBehind (kinds o) → ⊥)
-BreaksFirst U3 o = IsApart o.insts × IsBehind (kinds o) × (HasQuietSlot o → ⊥)
-BreaksFirst U4 o = IsApart o.insts × IsBehind (kinds o) × HasQuietSlot o × (HasQuietEnd o.insts o.exit → ⊥)
+BreaksFirst LoadUse o = IsApart o.insts → ⊥
+BreaksFirst ProductAfterMove o = IsApart o.insts × (IsBehind (kinds o) → ⊥)
+BreaksFirst SlotLoadOrMove o = IsApart o.insts × IsBehind (kinds o) × (HasQuietSlot o → ⊥)
+BreaksFirst ExitLoad o = IsApart o.insts × IsBehind (kinds o) × HasQuietSlot o × (HasQuietEnd o.insts o.exit → ⊥)

@@ -5,6 +5,7 @@ pub mod BlockMeaning
 pub mod OrderMeaning
 pub mod Clean
 pub mod CleanTests
+pub mod Texts
 pub mod PlainOrders
 pub mod Orders
 pub mod UnitRuns

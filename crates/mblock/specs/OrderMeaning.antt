@@ -18,7 +18,7 @@ use Rattle.mips_isa.specs.Steps.{word, words_from}
 use Rattle.mblock.specs.declared.exit.Exit.{Exit}
 use Rattle.mblock.specs.declared.exit.Exit.TheVariants.{Goto, BranchPair, BranchZero, Call, Return, Out, Halt}
 use Rattle.mblock.specs.Parts.{OrderParts}
-use Rattle.mblock.specs.BlockMeaning.{exit_shape, exit_reads, exit_puts, Departure, depart, Outcome}
+use Rattle.mblock.specs.BlockMeaning.{exit_shape, exit_reads, exit_puts, Departure, depart, Effect}
 
 -- the first word of a call to the system: its number into register 2
 abbrev pub puts_number : ℕ → Action
@@ -45,7 +45,7 @@ abbrev pub slot_word : Action → Option Flow → Option Flow
 slot_word a None = None
 slot_word a (Some f) = if is_load a || is_move a then None else word a f
 
-abbrev pub ends : Departure → Option Flow → Option Outcome
+abbrev pub ends : Departure → Option Flow → Option Effect
 ends goes None = None
 ends goes (Some f) = Some (record { state = settle f.pending f.state; goes = goes })
 
@@ -53,22 +53,22 @@ abbrev pub operand_words : Exit → Flow → List ℕ
 operand_words exit f = map (read 0 f.state.regs) (exit_reads exit)
 
 -- a call to the system reads its number and register 4
-abbrev pub system_word : Exit → Option Flow → Option Outcome
+abbrev pub system_word : Exit → Option Flow → Option Effect
 system_word exit None = None
 system_word exit (Some f) =
     if on_pending f.pending (control_touches controls.SystemCall) then None
     else ends (depart (exit_shape exit) (operand_words exit f)) (Some f)
 
-abbrev pub system_call : Exit → ℕ → Option Plain → Flow → Option Outcome
+abbrev pub system_call : Exit → ℕ → Option Plain → Flow → Option Effect
 system_call exit number (Some i) f = None
 system_call exit number None f = system_word exit (word (puts_number number) f)
 
-abbrev pub jump : Exit → Option Plain → Flow → ℕ → Option Outcome
+abbrev pub jump : Exit → Option Plain → Flow → ℕ → Option Effect
 jump exit None f link = None
 jump exit (Some i) f link =
     ends (depart (exit_shape exit) (operand_words exit f)) (slot_word (action_of i) (exit_word exit f link))
 
-abbrev pub order_leaves : Exit → Option Plain → Flow → ℕ → Option Outcome
+abbrev pub order_leaves : Exit → Option Plain → Flow → ℕ → Option Effect
 order_leaves (Goto t) slot f link = jump (Goto t) slot f link
 order_leaves (BranchPair test a b t e) slot f link = jump (BranchPair test a b t e) slot f link
 order_leaves (BranchZero test a t e) slot f link = jump (BranchZero test a t e) slot f link
@@ -77,10 +77,10 @@ order_leaves Return slot f link = jump Return slot f link
 order_leaves (Out n) slot f link = system_call (Out n) 1 slot f
 order_leaves Halt slot f link = system_call Halt 10 slot f
 
-abbrev pub order_left : Exit → Option Plain → Option Flow → ℕ → Option Outcome
+abbrev pub order_left : Exit → Option Plain → Option Flow → ℕ → Option Effect
 order_left exit slot None link = None
 order_left exit slot (Some f) link = order_leaves exit slot f link
 
 -- what an order does from a state, with the link that a call of it would put in; or nothing where it is stuck
-abbrev pub order_effect : OrderParts → State → ℕ → Option Outcome
+abbrev pub order_effect : OrderParts → State → ℕ → Option Effect
 order_effect o s link = order_left o.exit o.slot (words_from (map action_of o.insts) (Some (quiet s))) link

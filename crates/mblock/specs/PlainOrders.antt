@@ -7,12 +7,12 @@ use Rattle.mblock.specs.Parts.{BlockParts, OrderParts}
 use Rattle.mblock.specs.Slots.{is_slotted}
 
 -- one Nop behind a load, two behind a move from HI or LO
-abbrev pub padded : Plain → List Plain
-padded i = i ∷ (if is_load (action_of i) then nop ∷ [] else (if is_move (action_of i) then nop ∷ nop ∷ [] else []))
+abbrev pub padded_inst : Plain → List Plain
+padded_inst i = i ∷ (if is_load (action_of i) then nop ∷ [] else (if is_move (action_of i) then nop ∷ nop ∷ [] else []))
 
 abbrev pub plain_order_of : BlockParts → OrderParts
 plain_order_of b = record {
-  insts = flat_map padded b.insts;
+  insts = flat_map padded_inst b.insts;
   exit = b.exit;
   slot = if is_slotted b.exit then Some nop else None;
 }

@@ -4,11 +4,11 @@ use Rattle.runs.specs.declared.ran.End.TheVariants.{Done, Wrong, More}
 use Rattle.runs.specs.Runs.{Outcome}
 use Rattle.mips_isa.specs.declared.inst.Plain.{Plain}
 use Rattle.mips_isa.specs.States.{State}
-use Rattle.mips_isa.specs.Actions.{action_of, is_safe, after}
+use Rattle.mips_isa.specs.Actions.{action_of, is_safe, state_after}
 use Rattle.mblock.specs.declared.exit.Exit.{Exit}
 use Rattle.mblock.specs.declared.exit.Exit.TheVariants.{Goto, BranchPair, BranchZero, Call, Return, Out, Halt}
 use Rattle.mblock.specs.Parts.{BlockParts}
-use Rattle.mblock.specs.BlockMeaning.{Departure, GoesTo, CallsTo, GoesBack, PrintsTo, HaltsWith, leave}
+use Rattle.mblock.specs.BlockMeaning.{Departure, GoesTo, CallsTo, GoesBack, PrintsTo, HaltsWith, exit_effect}
 
 abbrev pub wrong : List ℕ → Outcome
 wrong out = record { end = Wrong; output = out }
@@ -44,13 +44,13 @@ goes_on blocks links (HaltsWith word) next s out = record { end = Done word; out
 abbrev pub exit_item : List BlockParts → (ℕ → ℕ) → ℕ → Option BlockParts → Next → State → List ℕ → Outcome
 exit_item blocks links k None next s out = wrong out
 exit_item blocks links k (Some b) next s out =
-    goes_on blocks links (leave b.exit s (links k)).goes next (leave b.exit s (links k)).state out
+    goes_on blocks links (exit_effect b.exit s (links k)).goes next (exit_effect b.exit s (links k)).state out
 
 -- one item
 abbrev pub item : List BlockParts → (ℕ → ℕ) → Next → Next
 item blocks links next k [] s out = exit_item blocks links k (slice_get blocks k) next s out
 item blocks links next k (i ∷ rest) s out =
-    if is_safe (action_of i) s then next k rest (after (action_of i) s) out else wrong out
+    if is_safe (action_of i) s then next k rest (state_after (action_of i) s) out else wrong out
 
 -- at most n items
 abbrev pub items : List BlockParts → (ℕ → ℕ) → ℕ → Next

@@ -2,6 +2,7 @@
 use Rattle.std.specs.Prelude.{◌≡◌, ◌≢◌, ℕ, zero, suc, ◌<◌, ◌≤◌, ◌^◌, List, length, All, Some, slice_get}
 use Rattle.mblock.specs.declared.exit.Exit.{Exit}
 use Rattle.mblock.specs.declared.exit.Exit.TheVariants.{Goto, BranchPair, BranchZero, Call, Return, Out, Halt}
+use Rattle.mblock.specs.declared.limits.TheConstants.{UNIT_BLOCKS, UNIT_BYTES}
 use Rattle.mblock.specs.Parts.{BlockParts}
 
 -- `owner` has the first block of each block's function, `globals` the bytes of data
@@ -50,8 +51,8 @@ pub record AreOwners (blocks : List BlockParts) (owner : List ℕ) : Type 0 wher
 
 pub record IsUnit (u : UnitParts) : Type 0 where
   pub some : 0 < length u.blocks
-  pub few : length u.blocks ≤ 1048576
+  pub few : length u.blocks ≤ UNIT_BLOCKS
   pub linked : AreLinked u.blocks
   pub owners : AreOwners u.blocks u.owner
-  pub data_fits : length u.globals ≤ 1048576
+  pub data_fits : length u.globals ≤ UNIT_BYTES
   pub data_bytes : All (λ b. b < 2 ^ 8) u.globals

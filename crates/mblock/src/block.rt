@@ -2,6 +2,7 @@ ghost use Rattle.std.specs.Prelude.{◌≡◌, ℕ, List, ◌≤◌, length};
 ghost use Rattle.std.specs.Option.{SomeIff};
 
 use crate::exit::Exit;
+use crate::limits::BLOCK_INSTS;
 use mips_isa::Plain;
 use std::marker::Model;
 
@@ -15,20 +16,21 @@ pub struct Block {
 impl Model for Block {
     ghost use Rattle.std.specs.Prelude.{◌≤◌, length};
     ghost use Rattle.mblock.specs.Parts.{BlockParts};
+    ghost use Rattle.mblock.specs.declared.limits.TheConstants.{BLOCK_INSTS};
 
     ghost Value = { BlockParts };
 
     ghost view = { λ b. record { insts = b.insts.items; exit = b.exit } };
 
-    ghost invariant = { λ b. length b.insts.items ≤ 512 };
+    ghost invariant = { λ b. length b.insts.items ≤ BLOCK_INSTS };
 }
 
 impl Block {
     /// A block of these parts, if there are at most 512 instructions.
     pub fn new(insts: Vec<Plain>, exit: Exit) -> Option<Block>
-        ensures { SomeIff result (length insts.items ≤ 512) (record { insts = insts.items; exit = exit }) }
+        ensures { SomeIff result (length insts.items ≤ BLOCK_INSTS) (record { insts = insts.items; exit = exit }) }
     {
-        if insts.len() <= 512 {
+        if insts.len() <= BLOCK_INSTS {
             Some(Block { insts, exit })
         } else {
             None
@@ -38,7 +40,7 @@ impl Block {
     /// The instructions, in the order of the source.
     pub fn insts(&self) -> &[Plain]
         ensures value { result.now ≡ self.now.insts }
-        ensures limit { length self.now.insts ≤ 512 }
+        ensures limit { length self.now.insts ≤ BLOCK_INSTS }
     {
         self.insts.as_slice()
     }

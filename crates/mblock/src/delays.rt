@@ -1,6 +1,7 @@
 ghost use Rattle.std.specs.Prelude.{◌≡◌, ℕ, ◌+◌, ◌<◌, ◌≤◌, ◌↔◌, IsTrue, Bool, List, Option, slice_get, length, MatchResult};
 ghost use Rattle.mips_isa.specs.declared.inst.Plain.{Plain};
 ghost use Rattle.mips_isa.specs.Actions.{action_of, touches};
+ghost use Rattle.mblock.specs.declared.limits.TheConstants.{ORDER_INSTS};
 ghost use Rattle.mblock.specs.OrderMeaning.{exit_touches};
 ghost use Rattle.mblock.specs.Clean.{kinds_of, kinds, IsApart, IsBehind, HasQuietSlot, HasQuietEnd, IsClean, FitsSlot, BreaksFirst, slot_words};
 ghost use Rattle.mblock.specs.CleanTests.{loads_named, is_product_word, conflict_of, early_at};
@@ -70,7 +71,7 @@ fn loads_for_exit(a: &Action, exit: &Exit) -> bool
 
 /// Instruction `k` loads a register that the next one reads or writes.
 fn is_conflict_at(insts: &[Plain], k: usize) -> bool
-    requires { k ≤ 2048 }
+    requires { k ≤ ORDER_INSTS }
     ensures { result ≡ conflict_of (slice_get insts.now k) (slice_get insts.now (k + 1)) }
 {
     let Some(first) = insts.get(k) else {
@@ -83,7 +84,7 @@ fn is_conflict_at(insts: &[Plain], k: usize) -> bool
 }
 
 fn is_apart(insts: &[Plain]) -> bool
-    requires { length insts.now ≤ 2048 }
+    requires { length insts.now ≤ ORDER_INSTS }
     ensures { IsTrue result ↔ IsApart insts.now }
 {
     for k in 0..insts.len() {
@@ -105,8 +106,8 @@ fn is_slot_product(slot: &Option<Plain>) -> bool
 
 /// Whether word `k` of an order is a product: an instruction, the exit's word, or the slot.
 fn is_product_at(insts: &[Plain], slot: &Option<Plain>, k: usize) -> bool
-    requires low { k ≤ 4096 }
-    requires few { length insts.now ≤ 2048 }
+    requires low { k ≤ ORDER_INSTS + 2 }
+    requires few { length insts.now ≤ ORDER_INSTS }
     ensures { result ≡ is_product_word (slice_get (kinds_of insts.now (slot_words slot.now)) k) }
 {
     if k < insts.len() {
@@ -118,7 +119,7 @@ fn is_product_at(insts: &[Plain], slot: &Option<Plain>, k: usize) -> bool
 /// Instruction `k` reads HI or LO, and one of the two words behind it is a product.
 fn is_early_at(insts: &[Plain], slot: &Option<Plain>, k: usize) -> bool
     requires low { k < length insts.now }
-    requires few { length insts.now ≤ 2048 }
+    requires few { length insts.now ≤ ORDER_INSTS }
     ensures { result ≡ early_at (kinds_of insts.now (slot_words slot.now)) k }
 {
     insts[k].action().is_move()
@@ -126,7 +127,7 @@ fn is_early_at(insts: &[Plain], slot: &Option<Plain>, k: usize) -> bool
 }
 
 fn is_behind(insts: &[Plain], slot: &Option<Plain>) -> bool
-    requires { length insts.now ≤ 2048 }
+    requires { length insts.now ≤ ORDER_INSTS }
     ensures { IsTrue result ↔ IsBehind (kinds_of insts.now (slot_words slot.now)) }
 {
     for k in 0..insts.len() {
@@ -167,17 +168,17 @@ pub fn clean(order: &Order) -> Result<(), Unclean>
 {
     let slot = order.slot();
     if !is_apart(order.insts()) {
-        return Err(Unclean::U1);
+        return Err(Unclean::LoadUse);
     }
     if !is_behind(order.insts(), &slot) {
-        return Err(Unclean::U2);
+        return Err(Unclean::ProductAfterMove);
     }
     if !is_quiet_slot(order) {
-        return Err(Unclean::U3);
+        return Err(Unclean::SlotLoadOrMove);
     }
     let exit = order.exit();
     if !is_quiet_end(order.insts(), &exit) {
-        return Err(Unclean::U4);
+        return Err(Unclean::ExitLoad);
     }
     Ok(())
 }

@@ -1,7 +1,7 @@
 //! Basic blocks, the orders that a scheduler proposes for them, and when an order breaks no delay rule.
 //!
 //! `clean` tells the least delay rule that an order breaks, exactly; a clean order is never stuck by
-//! a delay. `plain` makes the order that keeps every instruction in place. A `Unit` is the blocks of a program's functions,
+//! a delay. `plain` makes the order that keeps every instruction in place, `plain_orders` those of a unit. A `Unit` is the blocks of a program's functions,
 //! with its bytes of data. The definitions: `specs/Parts.antt` (blocks and orders as contracts see them),
 //! `specs/BlockMeaning.antt` and `specs/OrderMeaning.antt` (what they do), `specs/Clean.antt` (the rules), `specs/Orders.antt`
 //! (when an order means its block), `specs/Units.antt` and `specs/UnitRuns.antt` (units and what they do).
@@ -11,6 +11,7 @@ mod block;
 mod delays;
 mod exit;
 mod laws;
+mod limits;
 mod number;
 mod order;
 mod padding;
@@ -24,8 +25,9 @@ pub use laws::{
     each_block_keeps_words, each_plain_order_is_clean, each_plain_order_means_its_block,
     each_plain_unit_has_its_orders,
 };
+pub use limits::{BLOCK_INSTS, ORDER_INSTS, UNIT_BLOCKS, UNIT_BYTES};
 pub use number::BlockNumber;
 pub use order::Order;
-pub use padding::plain;
+pub use padding::{plain, plain_orders};
 pub use unclean::Unclean;
 pub use unit::Unit;

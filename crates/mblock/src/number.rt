@@ -1,6 +1,7 @@
-ghost use Rattle.std.specs.Prelude.{◌≡◌, ℕ, ◌<◌, ◌^◌};
+ghost use Rattle.std.specs.Prelude.{◌≡◌, ℕ, ◌<◌};
 ghost use Rattle.std.specs.Option.{SomeIff};
 
+use crate::limits::UNIT_BLOCKS;
 use std::marker::Model;
 
 /// The number of a block, below 2^20.
@@ -10,13 +11,14 @@ pub struct BlockNumber {
 }
 
 impl Model for BlockNumber {
-    ghost use Rattle.std.specs.Prelude.{◌<◌, ◌^◌, ℕ};
+    ghost use Rattle.std.specs.Prelude.{◌<◌, ℕ};
+    ghost use Rattle.mblock.specs.declared.limits.TheConstants.{UNIT_BLOCKS};
 
     ghost Value = { ℕ };
 
     ghost view = { λ b. b.number };
 
-    ghost invariant = { λ b. b.number < 2 ^ 20 };
+    ghost invariant = { λ b. b.number < UNIT_BLOCKS };
 
     ghost inverse = { λ n. record { number = n } };
 }
@@ -24,9 +26,9 @@ impl Model for BlockNumber {
 impl BlockNumber {
     /// The block with this number, if it is below 2^20.
     pub fn new(number: u32) -> Option<BlockNumber>
-        ensures { SomeIff result (number < 2 ^ 20) number }
+        ensures { SomeIff result (number < UNIT_BLOCKS) number }
     {
-        if number < 1048576 {
+        if (number as usize) < UNIT_BLOCKS {
             Some(BlockNumber { number })
         } else {
             None
@@ -36,7 +38,7 @@ impl BlockNumber {
     /// The number, below 2^20.
     pub fn number(self) -> u32
         ensures value { result ≡ self }
-        ensures range { self < 2 ^ 20 }
+        ensures range { self < UNIT_BLOCKS }
     {
         self.number
     }

@@ -3,6 +3,7 @@ ghost use Rattle.std.specs.Option.{SomeIff};
 ghost use Rattle.mblock.specs.Slots.{is_slotted};
 
 use crate::exit::Exit;
+use crate::limits::ORDER_INSTS;
 use mips_isa::Plain;
 use std::marker::Model;
 
@@ -18,20 +19,22 @@ impl Model for Order {
     ghost use Rattle.std.specs.Prelude.{◌≤◌, ◌≡◌, length, is_some};
     ghost use Rattle.mblock.specs.Parts.{OrderParts};
     ghost use Rattle.mblock.specs.Slots.{is_slotted};
+    ghost use Rattle.mblock.specs.declared.limits.TheConstants.{ORDER_INSTS};
 
     ghost Value = { OrderParts };
 
     ghost view = { λ o. record { insts = o.insts.items; exit = o.exit; slot = o.slot } };
 
-    ghost invariant = { λ o. (length o.insts.items ≤ 2048) × (is_some o.slot ≡ is_slotted o.exit) };
+    ghost invariant = { λ o. (length o.insts.items ≤ ORDER_INSTS) × (is_some o.slot ≡ is_slotted o.exit) };
 }
 
 impl Order {
-    /// An order of these parts, if there are at most 2048 instructions, and a slot where the exit has one.
+    /// An order of these parts, if there are at most 2,048 instructions, and a slot where the exit has one.
     pub fn new(insts: Vec<Plain>, exit: Exit, slot: Option<Plain>) -> Option<Order>
-        ensures { SomeIff result ((length insts.items ≤ 2048) × (is_some slot ≡ is_slotted exit)) (record { insts = insts.items; exit = exit; slot = slot }) }
+        ensures { SomeIff result ((length insts.items ≤ ORDER_INSTS) × (is_some slot ≡ is_slotted exit))
+            (record { insts = insts.items; exit = exit; slot = slot }) }
     {
-        if insts.len() <= 2048 && slot.is_some() == exit.has_slot() {
+        if insts.len() <= ORDER_INSTS && slot.is_some() == exit.has_slot() {
             Some(Order { insts, exit, slot })
         } else {
             None
@@ -40,7 +43,7 @@ impl Order {
 
     /// The order of these parts.
     pub(crate) fn of(insts: Vec<Plain>, exit: Exit, slot: Option<Plain>) -> Order
-        requires few { length insts.items ≤ 2048 }
+        requires few { length insts.items ≤ ORDER_INSTS }
         requires fits { is_some slot ≡ is_slotted exit }
         ensures { result ≡ record { insts = insts.items; exit = exit; slot = slot } }
     {
@@ -50,7 +53,7 @@ impl Order {
     /// The instructions, in the order of their words.
     pub fn insts(&self) -> &[Plain]
         ensures value { result.now ≡ self.now.insts }
-        ensures limit { length self.now.insts ≤ 2048 }
+        ensures limit { length self.now.insts ≤ ORDER_INSTS }
     {
         self.insts.as_slice()
     }

@@ -1,16 +1,19 @@
-// The order that keeps every instruction in place.
+// The orders that keep every instruction in place.
 
-ghost use Rattle.std.specs.Prelude.{◌≡◌, ◌++◌, OnOk, IfOk};
-ghost use Rattle.mblock.specs.PlainOrders.{padded, plain_order_of};
+ghost use Rattle.std.specs.Prelude.{◌≡◌, ◌≤◌, ◌++◌, length, map, OnOk, IfOk};
+ghost use Rattle.mblock.specs.declared.limits.TheConstants.{BLOCK_INSTS};
+ghost use Rattle.mblock.specs.Orders.{AreOrders};
+ghost use Rattle.mblock.specs.PlainOrders.{padded_inst, plain_order_of};
 
 use crate::block::Block;
 use crate::order::Order;
+use crate::unit::Unit;
 use mips_isa::Plain;
 use std::alloc::{AllocError, Global};
 
 // An instruction, and the Nops that have to stand behind it.
 fn push_padded(insts: &mut Vec<Plain>, inst: &Plain) -> Result<(), AllocError>
-    ensures { OnOk result (insts.new.items ≡ insts.old.items ++ padded inst.now) }
+    ensures { OnOk result (insts.new.items ≡ insts.old.items ++ padded_inst inst.now) }
 {
     insts.push(*inst)?;
     let action = inst.action();
@@ -26,7 +29,8 @@ fn push_padded(insts: &mut Vec<Plain>, inst: &Plain) -> Result<(), AllocError>
 /// The plain order of a block: its instructions in place, a Nop behind each load and two behind each move from HI or LO,
 /// and a Nop in the slot. It is clean and means the block (`each_plain_order_means_its_block`).
 pub fn plain(alloc: Global, block: &Block) -> Result<Order, AllocError>
-    ensures { IfOk result (λ o. o ≡ plain_order_of block.now) }
+    ensures order { IfOk result (λ o. o ≡ plain_order_of block.now) }
+    ensures limit { length block.now.insts ≤ BLOCK_INSTS }
 {
     let mut insts = Vec::new(alloc);
     for inst in block.insts() {
@@ -39,4 +43,16 @@ pub fn plain(alloc: Global, block: &Block) -> Result<Order, AllocError>
         None
     };
     Ok(Order::of(insts, exit, slot))
+}
+
+/// The plain orders of a unit's blocks, which are orders of them.
+pub fn plain_orders(alloc: Global, unit: &Unit) -> Result<Vec<Order>, AllocError>
+    ensures plain { IfOk result (λ os. os.items ≡ map plain_order_of unit.now.blocks) }
+    ensures orders { IfOk result (λ os. AreOrders unit.now.blocks os.items) }
+{
+    let mut orders = Vec::new(alloc);
+    for block in unit.blocks() {
+        orders.push(plain(alloc, block)?)?;
+    }
+    Ok(orders)
 }

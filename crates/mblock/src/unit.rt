@@ -4,6 +4,7 @@ ghost use Rattle.mblock.specs.Units.{GoesBelow, BranchesWithin, Continues, AreLi
 
 use crate::block::Block;
 use crate::exit::Exit;
+use crate::limits::{UNIT_BLOCKS, UNIT_BYTES};
 use crate::number::BlockNumber;
 use std::marker::Model;
 
@@ -132,10 +133,11 @@ impl Unit {
     /// is itself or the owner of the block before it; each block that an exit names exists, and a branch's are of its own
     /// function; and there are at most 1,048,576 bytes of data.
     pub fn new(blocks: Vec<Block>, owner: Vec<BlockNumber>, globals: Vec<u8>) -> Option<Unit>
-        ensures { SomeIff result (IsUnit (unit_parts blocks.items owner.items globals.items)) (unit_parts blocks.items owner.items globals.items) }
+        ensures { SomeIff result (IsUnit (unit_parts blocks.items owner.items globals.items))
+            (unit_parts blocks.items owner.items globals.items) }
     {
         let some = !blocks.is_empty();
-        let few = blocks.len() <= 1_048_576 && globals.len() <= 1_048_576;
+        let few = blocks.len() <= UNIT_BLOCKS && globals.len() <= UNIT_BYTES;
         if some
             && few
             && are_linked(blocks.as_slice())

@@ -5,9 +5,11 @@ use Rattle.mips_isa.specs.declared.inst.Inst.{Inst}
 use Rattle.mips_isa.specs.Ranges.{IsInst}
 use Rattle.mblock.specs.declared.exit.Exit.{Exit}
 use Rattle.mblock.specs.declared.exit.Exit.TheVariants.{Goto, BranchPair, BranchZero, Call, Return, Out, Halt}
+use Rattle.mblock.specs.declared.limits.TheConstants.{UNIT_BLOCKS}
 use Rattle.mblock.specs.Parts.{OrderParts}
 use Rattle.std.specs.Prelude.{FitsSigned}
 use Rattle.std.specs.Int.{w16}
+use Rattle.mips_layout.specs.declared.limits.TheConstants.{CODE_WORDS}
 use Rattle.mips_layout.specs.Layout.{size, place, branch_offset}
 use Rattle.mips_layout.specs.Functions.{AreFunctions}
 use Rattle.mips_asm.specs.Limits.{FunctionsFit}
@@ -61,11 +63,11 @@ IsOwn owner k Halt = Unit {0}
 
 -- a unit's orders: functions one behind the other, targets that are there, branches within their function
 pub record AreUnits (owner : ℕ → ℕ) (orders : List OrderParts) : Type 0 where
-  pub count : length orders ≤ 1048576
+  pub count : length orders ≤ UNIT_BLOCKS
   pub functions : AreFunctions (length orders) owner
   pub there : AllThere orders
   pub own : (k : ℕ) (o : OrderParts) → slice_get orders k ≡ Some o → IsOwn owner k o.exit
 
 -- what the assembler's limits allow
 abbrev pub IsWithin : (ℕ → ℕ) → List OrderParts → Type 0
-IsWithin owner orders = FunctionsFit owner orders × (place orders (length orders) ≤ 1048576)
+IsWithin owner orders = FunctionsFit owner orders × (place orders (length orders) ≤ CODE_WORDS)

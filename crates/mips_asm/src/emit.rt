@@ -6,6 +6,7 @@ ghost use Rattle.mips_isa.specs.declared.inst.Inst.TheVariants as insts;
 ghost use Rattle.mips_isa.specs.declared.inst.Control.TheVariants.{SystemCall};
 ghost use Rattle.mips_isa.specs.Ranges.{IsInst};
 ghost use Rattle.mips_code.specs.Words.{inst_word};
+ghost use Rattle.mips_layout.specs.declared.limits.TheConstants.{CODE_WORDS};
 ghost use Rattle.mips_layout.specs.Layout.{jump_to, hop, slot_insts, branch_offset, exit_insts, order_insts, insts_of, layout, place, set_number};
 ghost use Rattle.mips_asm.specs.Emitted.{AllNear, AreUnits, Fit, IsNear, IsWithin, start_of};
 
@@ -15,6 +16,7 @@ use crate::places::{places, size, total};
 use mblock::{BlockNumber, Exit, Order};
 use mips_code::encode;
 use mips_isa::{Control, ImmOp, Inst, JumpOp, JumpTarget, Plain, Reg};
+use mips_layout::CODE_WORDS;
 use std::alloc::{AllocError, Global};
 
 fn put(code: &mut Vec<u32>, inst: Inst) -> Result<(), AllocError>
@@ -26,7 +28,7 @@ fn put(code: &mut Vec<u32>, inst: Inst) -> Result<(), AllocError>
 }
 
 fn jump_to(place: u32) -> Inst
-    requires { place ≤ 1048576 }
+    requires { place ≤ CODE_WORDS }
     ensures { result ≡ jump_to place }
 {
     Inst::Control(Control::JumpTo {
@@ -36,7 +38,7 @@ fn jump_to(place: u32) -> Inst
 }
 
 fn put_hop(code: &mut Vec<u32>, place: u32) -> Result<(), AllocError>
-    requires { place ≤ 1048576 }
+    requires { place ≤ CODE_WORDS }
     ensures word { OnOk result (code.new.items ≡ code.old.items ++ map inst_word (hop place)) }
     ensures fit { OnOk result (Fit (hop place)) }
 {
@@ -55,8 +57,8 @@ fn put_slot(code: &mut Vec<u32>, slot: Option<Plain>) -> Result<(), AllocError>
 }
 
 fn branch_offset(here: u32, to: u32) -> i16
-    requires here { here ≤ 1048576 }
-    requires to { to ≤ 1048576 }
+    requires here { here ≤ CODE_WORDS }
+    requires to { to ≤ CODE_WORDS }
     requires near { FitsSigned w16 (branch_offset here to) }
     ensures { result ≡ branch_offset here to }
 {
@@ -64,9 +66,9 @@ fn branch_offset(here: u32, to: u32) -> i16
 }
 
 fn place_at(places: &[u32], block: BlockNumber) -> u32
-    requires { All (λ p. p ≤ 1048576) places.now }
+    requires { All (λ p. p ≤ CODE_WORDS) places.now }
     ensures value { result ≡ start_of places.now block }
-    ensures small { result ≤ 1048576 }
+    ensures small { result ≤ CODE_WORDS }
 {
     match places.get(block.number() as usize) {
         Some(place) => *place,
@@ -81,7 +83,7 @@ fn put_jump(
     slot: Option<Plain>,
     next: u32,
 ) -> Result<(), AllocError>
-    requires { next ≤ 1048576 }
+    requires { next ≤ CODE_WORDS }
     ensures word { OnOk result (code.new.items ≡ code.old.items ++ map inst_word (insts.Control control ∷ (slot_insts slot ++ hop next))) }
     ensures fit { OnOk result (Fit (insts.Control control ∷ (slot_insts slot ++ hop next))) }
 {
@@ -123,9 +125,9 @@ fn put_exit(
     exit: Exit,
     slot: Option<Plain>,
 ) -> Result<(), AllocError>
-    requires here { here ≤ 1048576 }
+    requires here { here ≤ CODE_WORDS }
     requires near { IsNear (start_of places.now) here exit }
-    requires places { All (λ p. p ≤ 1048576) places.now }
+    requires places { All (λ p. p ≤ CODE_WORDS) places.now }
     ensures word { OnOk result (code.new.items ≡ code.old.items ++ map inst_word (exit_insts (start_of places.now) here exit slot)) }
     ensures fit { OnOk result (Fit (exit_insts (start_of places.now) here exit slot)) }
 {
@@ -192,9 +194,9 @@ fn put_order(
     here: u32,
     order: &Order,
 ) -> Result<(), AllocError>
-    requires here { here + length order.now.insts ≤ 1048576 }
+    requires here { here + length order.now.insts ≤ CODE_WORDS }
     requires near { IsNear (start_of places.now) (here + length order.now.insts) order.now.exit }
-    requires places { All (λ p. p ≤ 1048576) places.now }
+    requires places { All (λ p. p ≤ CODE_WORDS) places.now }
     ensures word { OnOk result (code.new.items ≡ code.old.items ++ map inst_word (order_insts (start_of places.now) here order.now)) }
     ensures fit { OnOk result (Fit (order_insts (start_of places.now) here order.now)) }
 {
@@ -205,9 +207,9 @@ fn put_order(
 
 // The words behind given places.
 fn put_orders(code: &mut Vec<u32>, places: &[u32], orders: &[Order]) -> Result<(), AllocError>
-    requires places { All (λ p. p ≤ 1048576) places.now }
+    requires places { All (λ p. p ≤ CODE_WORDS) places.now }
     requires near { AllNear (start_of places.now) orders.now }
-    requires room { place orders.now (length orders.now) ≤ 1048576 }
+    requires room { place orders.now (length orders.now) ≤ CODE_WORDS }
     ensures word { OnOk result (code.new.items ≡ code.old.items ++ map inst_word (insts_of (start_of places.now) 0 orders.now)) }
     ensures fit { OnOk result (Fit (insts_of (start_of places.now) 0 orders.now)) }
 {
@@ -228,7 +230,7 @@ pub fn code_of(alloc: Global, owner: &[BlockNumber], orders: &[Order]) -> Result
     ensures within { OnOk result (IsWithin (slice_index owner.now) orders.now) }
     ensures limit { result ≡ Err AsmFault.Limit → IsWithin (slice_index owner.now) orders.now → ⊥ }
 {
-    if !functions_fit(owner, orders) || total(orders) > 1_048_576 {
+    if !functions_fit(owner, orders) || total(orders) > CODE_WORDS {
         return Err(AsmFault::Limit);
     }
     let places = places(alloc, orders)?;

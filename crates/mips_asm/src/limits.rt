@@ -6,6 +6,7 @@ ghost use Rattle.mips_asm.specs.Limits.{FunctionsFit};
 
 use crate::places::size;
 use mblock::{BlockNumber, Order};
+use mips_layout::FUNCTION_WORDS;
 
 /// Whether no function has more than 32,000 words.
 pub fn functions_fit(owner: &[BlockNumber], orders: &[Order]) -> bool
@@ -20,7 +21,7 @@ pub fn functions_fit(owner: &[BlockNumber], orders: &[Order]) -> bool
             words = 0;
         }
         words += size(order);
-        if words > 32_000 {
+        if words > FUNCTION_WORDS {
             return false;
         }
     }

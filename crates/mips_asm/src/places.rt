@@ -1,6 +1,7 @@
 // Where orders stand, in words.
 
 ghost use Rattle.std.specs.Prelude.{◌≡◌, ℕ, ◌≤◌, IfOk, length};
+ghost use Rattle.mblock.specs.declared.limits.TheConstants.{UNIT_BLOCKS};
 ghost use Rattle.mips_layout.specs.Layout.{exit_size, place, size};
 ghost use Rattle.mips_asm.specs.Emitted.{places_from};
 
@@ -31,7 +32,7 @@ pub fn size(order: &Order) -> u32
 
 /// Where each order begins, in words.
 pub fn places(alloc: Global, orders: &[Order]) -> Result<Vec<u32>, AllocError>
-    requires { length orders.now ≤ 1048576 }
+    requires { length orders.now ≤ UNIT_BLOCKS }
     ensures { IfOk result (λ p. p.items ≡ places_from 0 orders.now) }
 {
     let mut places = Vec::with_capacity(alloc, orders.len())?;
@@ -45,7 +46,7 @@ pub fn places(alloc: Global, orders: &[Order]) -> Result<Vec<u32>, AllocError>
 
 /// How many words there are.
 pub fn total(orders: &[Order]) -> u32
-    requires { length orders.now ≤ 1048576 }
+    requires { length orders.now ≤ UNIT_BLOCKS }
     ensures { result ≡ place orders.now (length orders.now) }
 {
     let mut words = 0;

@@ -8,8 +8,8 @@ use Rattle.mips_isa.specs.declared.action.Operand.{Operand}
 use Rattle.mips_isa.specs.declared.action.Operand.TheVariants.{Held, Fixed}
 use Rattle.mips_isa.specs.declared.action.Action.{Action}
 use Rattle.mips_isa.specs.declared.action.Action.TheVariants.{Computes, Sets, Loads, Stores, Multiplies, Divides, MovesHigh, MovesLow}
-use Rattle.mips_isa.specs.Actions.{operand, address, is_safe, after, operand_touches, touches, is_product, product_high, product_low, quotient_operator, remainder_operator}
-use Rattle.mips_isa.specs.Flows.{Pending, Nothing, Loaded, Flow, settle, pending_of, shown, on_pending, flow_after}
+use Rattle.mips_isa.specs.Actions.{operand, address, is_safe, state_after, operand_touches, touches, is_product, product_high, product_low, quotient_operator, remainder_operator}
+use Rattle.mips_isa.specs.Flows.{Pending, Nothing, Loaded, Flow, settle, pending_of, shown_state, on_pending, flow_after}
 use Rattle.mips_isa.specs.Steps.{word}
 use Rattle.mips_isa.proofs.Rules.{not_stuck}
 use Rattle.mips_isa.proofs.Registers.{put_lost, read-put, put-put}
@@ -48,7 +48,7 @@ module _ (s : State) (q w : ℕ) where
   safe_late (MovesLow d) e = refl
 
   -- the action first and the register then, or the other way round
-  after_late : (a : Action) → touches a q ≡ false → settle (pending_of a s) (record (shown a s) { regs = put (shown a s).regs q w }) ≡ after a late
+  after_late : (a : Action) → touches a q ≡ false → settle (pending_of a s) (record (shown_state a s) { regs = put (shown_state a s).regs q w }) ≡ state_after a late
   after_late (Computes d op x y) e =
       let v = op_value op (read 0 s.regs x) (operand s y) in
       let same : op_value op (read 0 late.regs x) (operand late y) ≡ v = ap₂ (op_value op) (read-put 0 s.regs q w x (or_left _ _ (or_right _ _ e))) (operand_late y (or_right _ _ (or_right _ _ e))) in
@@ -64,7 +64,7 @@ module _ (s : State) (q w : ℕ) where
   after_late (MovesLow d) e = ap (λ f. record s { regs = f }) (sym (put-put s.regs q w d s.lo e))
 
 -- with nothing pending
-after_now : (a : Action) (s : State) → settle (pending_of a s) (shown a s) ≡ after a s
+after_now : (a : Action) (s : State) → settle (pending_of a s) (shown_state a s) ≡ state_after a s
 after_now (Computes d op x y) s = refl
 after_now (Loads d base offset) s = refl
 after_now (Stores r base offset) s = refl
@@ -89,18 +89,18 @@ safe_settled (Loaded q w) a s e = go (is_register q) refl e
     go true eb h = safe_late s q w a h
     go false eb h = ap (is_safe a) (settle_lost s q w eb)
 
-pub after_settled : (p : Pending) (a : Action) (s : State) → on_pending p (touches a) ≡ false → settle (pending_of a s) (settle p (shown a s)) ≡ after a (settle p s)
+pub after_settled : (p : Pending) (a : Action) (s : State) → on_pending p (touches a) ≡ false → settle (pending_of a s) (settle p (shown_state a s)) ≡ state_after a (settle p s)
 after_settled Nothing a s e = after_now a s
 after_settled (Loaded q w) a s e = go (is_register q) refl e
   where
-    go : (b : Bool) → is_register q ≡ b → (b && touches a q) ≡ false → settle (pending_of a s) (settle (Loaded q w) (shown a s)) ≡ after a (settle (Loaded q w) s)
+    go : (b : Bool) → is_register q ≡ b → (b && touches a q) ≡ false → settle (pending_of a s) (settle (Loaded q w) (shown_state a s)) ≡ state_after a (settle (Loaded q w) s)
     go true eb h = after_late s q w a h
-    go false eb h = ap (settle (pending_of a s)) (settle_lost (shown a s) q w eb) ∙ after_now a s ∙ ap (after a) (sym (settle_lost s q w eb))
+    go false eb h = ap (settle (pending_of a s)) (settle_lost (shown_state a s) q w eb) ∙ after_now a s ∙ ap (state_after a) (sym (settle_lost s q w eb))
 
 -- one word does what the action does, where no rule is broken
 pub word_runs : (a : Action) (f : Flow) → on_pending f.pending (touches a) ≡ false → (is_product a && nat_lt 0 f.hold) ≡ false → is_safe a (settled f) ≡ true → word a f ≡ Some (flow_after a f)
 word_runs a f free ready safe =
     ap (λ b. cond b None (Some (flow_after a f))) (not_stuck a f free ready (sym (safe_settled f.pending a f.state free) ∙ safe))
 
-pub settled_after : (a : Action) (f : Flow) → on_pending f.pending (touches a) ≡ false → settled (flow_after a f) ≡ after a (settled f)
+pub settled_after : (a : Action) (f : Flow) → on_pending f.pending (touches a) ≡ false → settled (flow_after a f) ≡ state_after a (settled f)
 settled_after a f free = after_settled f.pending a f.state free

@@ -23,7 +23,7 @@ use Rattle.words.proofs.Bounds.{op_words}
 use Rattle.mips_isa.specs.States.{State, IsWords, is_register, read, put, is_open, is_inside, byte_of, load_word, store_word}
 use Rattle.mips_isa.specs.Starting.{data_base, stack_base, stack_end, start_state}
 use Rattle.mips_isa.specs.Flows.{Pending, Nothing, Loaded, settle}
-use Rattle.mips_isa.specs.Actions.{operand, address, after, product_high, product_low, quotient_operator, remainder_operator}
+use Rattle.mips_isa.specs.Actions.{operand, address, state_after, product_high, product_low, quotient_operator, remainder_operator}
 
 either_below : (b : Bool) (x y : ℕ) → x < 2 ^ 32 → y < 2 ^ 32 → cond b x y < 2 ^ 32
 either_below true x y hx hy = hx
@@ -64,7 +64,7 @@ operand_below s (Fixed w) h = omega arith
 pub address_below : (s : State) (base offset : ℕ) → IsWords s → address s base offset < 2 ^ 32
 address_below s base offset h = op_words Addu _ _ (read_below s.regs h.regs base) (omega arith)
 
-pub after_words : (a : Action) (s : State) → IsWords s → IsWords (after a s)
+pub after_words : (a : Action) (s : State) → IsWords s → IsWords (state_after a s)
 after_words (Computes d op x y) s h = record { regs = put_below s.regs d _ h.regs (op_words op _ _ (read_below s.regs h.regs x) (operand_below s y h)); hi = h.hi; lo = h.lo; memory = h.memory }
 after_words (Sets d w) s h = record { regs = put_below s.regs d (wrap w) h.regs (omega arith); hi = h.hi; lo = h.lo; memory = h.memory }
 after_words (Loads d base offset) s h = record { regs = put_below s.regs d _ h.regs (load_below s.mapped s.memory (address s base offset) h.memory); hi = h.hi; lo = h.lo; memory = h.memory }

@@ -1,7 +1,7 @@
 ghost use Rattle.std.specs.Prelude.{◌≡◌, ℕ, ◌*◌, ◌^◌, ◌<◌, ◌||◌, ◌&&◌, ◌==◌};
 ghost use Rattle.mips_isa.specs.declared.action.Operand.TheVariants.{Fixed, Held};
 ghost use Rattle.mips_isa.specs.declared.action.Action.TheVariants.{Computes};
-ghost use Rattle.mips_isa.specs.Actions.{action_of, extended, shift_operator, alu_operator, imm_operator, logic_operator, product_high, product_low, quotient_operator, remainder_operator, operand_touches, touches, loads, is_load, is_move, is_product};
+ghost use Rattle.mips_isa.specs.Actions.{action_of, sign_extension, shift_operator, alu_operator, imm_operator, logic_operator, product_high, product_low, quotient_operator, remainder_operator, operand_touches, touches, reads, writes, loads, is_load, is_move, is_product};
 
 use crate::inst::{AluOp, HiLo, ImmOp, LogicOp, Plain, ShiftOp};
 use crate::reg::{NonzeroReg, Reg};
@@ -118,7 +118,7 @@ impl LogicOp {
 }
 
 fn extend(imm: i16) -> u32
-    ensures { result ≡ extended imm }
+    ensures { result ≡ sign_extension imm }
 {
     i32::from(imm).cast_unsigned()
 }
@@ -179,6 +179,20 @@ impl Plain {
                 offset: extend(offset),
             },
         }
+    }
+
+    /// Whether it reads the register.
+    pub fn reads(&self, r: Reg) -> bool
+        ensures { result ≡ reads (action_of self.now) r }
+    {
+        self.action().reads(r)
+    }
+
+    /// Whether it writes the register.
+    pub fn writes(&self, r: Reg) -> bool
+        ensures { result ≡ writes (action_of self.now) r }
+    {
+        self.action().writes(r)
     }
 }
 
@@ -253,6 +267,36 @@ impl Action {
             Action::Divides { sign: _, a, b } => is(a) || is(b),
             Action::MovesHigh { d } => is(d),
             Action::MovesLow { d } => is(d),
+        }
+    }
+
+    /// Whether it reads the register.
+    pub fn reads(&self, r: Reg) -> bool
+        ensures { result ≡ reads self.now r }
+    {
+        let is = |q: Reg| -> bool { q.index() == r.index() };
+        match *self {
+            Action::Computes { a, b, .. } => is(a) || b.touches(r),
+            Action::Loads { base, .. } => is(base),
+            Action::Stores { r: q, base, .. } => is(q) || is(base),
+            Action::Multiplies { a, b, .. } => is(a) || is(b),
+            Action::Divides { a, b, .. } => is(a) || is(b),
+            Action::Sets { .. } | Action::MovesHigh { .. } | Action::MovesLow { .. } => false,
+        }
+    }
+
+    /// Whether it writes the register.
+    pub fn writes(&self, r: Reg) -> bool
+        ensures { result ≡ writes self.now r }
+    {
+        let is = |q: Reg| -> bool { q.index() == r.index() };
+        match *self {
+            Action::Computes { d, .. } => is(d),
+            Action::Sets { d, .. } => is(d),
+            Action::Loads { d, .. } => is(d.reg()),
+            Action::MovesHigh { d } => is(d),
+            Action::MovesLow { d } => is(d),
+            Action::Stores { .. } | Action::Multiplies { .. } | Action::Divides { .. } => false,
         }
     }
 

@@ -16,6 +16,7 @@ mod inst;
 mod laws;
 mod reg;
 mod rule;
+mod targets;
 mod text;
 
 pub use action::{
@@ -30,4 +31,5 @@ pub use laws::{
 };
 pub use reg::{Amount, JumpTarget, NonzeroReg, Reg};
 pub use rule::Rule;
-pub use text::Mnemonic;
+pub use targets::{branch_target, jump_target};
+pub use text::{ListedControl, Mnemonic};

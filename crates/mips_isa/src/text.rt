@@ -3,10 +3,14 @@
 ghost use Rattle.std.specs.Prelude.{◌≡◌, Some};
 ghost use Rattle.std.specs.Fmt.{DisplaysOnOk};
 ghost use Rattle.mips_isa.specs.Actions.{nop};
-ghost use Rattle.mips_isa.specs.Texts.{address_text, is_nop, mnemonic_of, mnemonic_text, operands_text, printed, register_text};
+ghost use Rattle.mips_isa.specs.Texts.{address_text, is_nop, mnemonic_of, mnemonic_text, operands_text, instruction_text, register_text};
+ghost use Rattle.mips_isa.specs.Texts.{control_name, control_operands, control_text, half_text, target_text};
 
-use crate::inst::{AluOp, HiLo, ImmOp, LogicOp, Plain, ShiftOp};
+use crate::inst::{
+    AluOp, Control, HiLo, ImmOp, JumpOp, LogicOp, PairTest, Plain, ShiftOp, ZeroTest,
+};
 use crate::reg::{Amount, NonzeroReg, Reg};
+use crate::targets::{branch_target, jump_target};
 use std::fmt;
 use words::Sign;
 
@@ -166,7 +170,7 @@ fn write_operands<W: fmt::Write>(inst: &Plain, f: &mut fmt::Formatter<W>) -> fmt
 
 /// Kane's text, with registers by number and numbers in decimal; `nop` for the word 0.
 impl fmt::Display for Plain {
-    ghost output = { λ i. Some (printed i) };
+    ghost output = { λ i. Some (instruction_text i) };
 
     fn fmt<W: fmt::Write>(&self, f: &mut fmt::Formatter<W>) -> fmt::Result {
         if self.is_nop() {
@@ -175,5 +179,100 @@ impl fmt::Display for Plain {
         f.write_str(self.mnemonic().name())?;
         f.write_str(" ")?;
         write_operands(self, f)
+    }
+}
+
+/// A branch, a jump or a call to the system at an address, as a listing shows it: Kane's text, with the target as an
+/// address in hexadecimal.
+#[derive(Clone, Copy, Debug, PartialEq, Eq)]
+pub struct ListedControl {
+    pub control: Control,
+    pub address: u32,
+}
+
+fn control_name(control: &Control) -> &'static str
+    ensures { result.now ≡ control_name control.now }
+{
+    match control {
+        Control::BranchPair { test, .. } => match test {
+            PairTest::Equal => "beq",
+            PairTest::NotEqual => "bne",
+        },
+        Control::BranchZero { test, .. } => match test {
+            ZeroTest::AtMostZero => "blez",
+            ZeroTest::AboveZero => "bgtz",
+            ZeroTest::BelowZero => "bltz",
+            ZeroTest::AtLeastZero => "bgez",
+        },
+        Control::JumpTo { op, .. } => match op {
+            JumpOp::Jump => "j",
+            JumpOp::JumpAndLink => "jal",
+        },
+        Control::JumpRegister { .. } => "jr",
+        Control::SystemCall => "syscall",
+    }
+}
+
+// 16 bits in four hexadecimal digits.
+#[derive(Clone, Copy)]
+struct Half(u16);
+
+impl fmt::Display for Half {
+    ghost output = { λ h. Some (half_text h.0) };
+
+    fn fmt<W: fmt::Write>(&self, f: &mut fmt::Formatter<W>) -> fmt::Result {
+        let first = self.0 / 0x1000 % 16;
+        let second = self.0 / 0x100 % 16;
+        let third = self.0 / 0x10 % 16;
+        let last = self.0 % 16;
+        write!(f, "{first:x}{second:x}{third:x}{last:x}")
+    }
+}
+
+// Where a branch or jump leads: `0x` and eight hexadecimal digits.
+#[derive(Clone, Copy)]
+struct Target(u32);
+
+impl fmt::Display for Target {
+    ghost output = { λ t. Some (target_text t.0) };
+
+    fn fmt<W: fmt::Write>(&self, f: &mut fmt::Formatter<W>) -> fmt::Result {
+        let high = Half((self.0 / 0x1_0000) as u16);
+        let low = Half((self.0 % 0x1_0000) as u16);
+        write!(f, "0x{high}{low}")
+    }
+}
+
+fn write_control_operands<W: fmt::Write>(
+    control: &Control,
+    slot: u32,
+    f: &mut fmt::Formatter<W>,
+) -> fmt::Result
+    ensures { DisplaysOnOk W.write_str_gives f.old result (Some (control_operands control.now slot)) f.new }
+{
+    match control {
+        Control::BranchPair { rs, rt, offset, .. } => {
+            let target = Target(branch_target(slot, *offset));
+            write!(f, " {rs},{rt},{target}")
+        }
+        Control::BranchZero { rs, offset, .. } => {
+            let target = Target(branch_target(slot, *offset));
+            write!(f, " {rs},{target}")
+        }
+        Control::JumpTo { target, .. } => {
+            let target = Target(jump_target(slot, *target));
+            write!(f, " {target}")
+        }
+        Control::JumpRegister { rs } => write!(f, " {rs}"),
+        Control::SystemCall => Ok(()),
+    }
+}
+
+impl fmt::Display for ListedControl {
+    ghost output = { λ l. Some (control_text l.control l.address) };
+
+    fn fmt<W: fmt::Write>(&self, f: &mut fmt::Formatter<W>) -> fmt::Result {
+        f.write_str(control_name(&self.control))?;
+        write_control_operands(&self.control, self.address.wrapping_add(4), f)
     }
 }

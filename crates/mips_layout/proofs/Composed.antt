@@ -11,7 +11,7 @@ use Rattle.mips_isa.specs.declared.inst.Inst.{Inst}
 use Rattle.mips_isa.specs.declared.inst.Inst.TheVariants as I
 use Rattle.mips_isa.specs.Ranges.{IsInst}
 use Rattle.mips_isa.specs.States.{State, IsWords}
-use Rattle.mips_isa.specs.Actions.{action_of, is_safe, after}
+use Rattle.mips_isa.specs.Actions.{action_of, is_safe, state_after}
 use Rattle.mips_isa.specs.Flows.{quiet}
 use Rattle.mips_code.specs.Words.{inst_word}
 use Rattle.mblock.specs.declared.exit.Exit.{Exit}
@@ -19,7 +19,7 @@ use Rattle.mblock.specs.declared.exit.Exit.TheVariants.{Goto, BranchPair, Branch
 use Rattle.mblock.specs.Parts.{BlockParts, OrderParts}
 use Rattle.mblock.specs.Slots.{is_slotted}
 use Rattle.mblock.specs.Clean.{FitsSlot}
-use Rattle.mblock.specs.BlockMeaning.{Calls, exit_shape, Departure, GoesTo, CallsTo, GoesBack, PrintsTo, HaltsWith, leave, left, run, block_effect}
+use Rattle.mblock.specs.BlockMeaning.{Calls, exit_shape, Departure, GoesTo, CallsTo, GoesBack, PrintsTo, HaltsWith, exit_effect, exit_effect_after, run, block_effect}
 use Rattle.mips_steps.specs.declared.steps.Ending.TheVariants as endings
 use Rattle.mips_steps.specs.Machines as def
 use Rattle.mips_steps.specs.Machines.{Machine, words_code, machine_run}
@@ -59,16 +59,16 @@ abbrev pub more : List ℕ → Outcome
 more out = record { end = More; output = out }
 
 -- the same of the machine
-abbrev pub said : List ℕ → def.Outcome
+abbrev pub said : List ℕ → def.MachineOutcome
 said out = record { end = endings.More; output = out }
 
-agrees_by : {o : Outcome} {x y : def.Outcome} → x ≡ y → Agrees o x → Agrees o y
+agrees_by : {o : Outcome} {x y : def.MachineOutcome} → x ≡ y → Agrees o x → Agrees o y
 agrees_by {o} e h = subst (λ z. Agrees o z) e h
 
-agrees_of : {o p : Outcome} {x : def.Outcome} → o ≡ p → Agrees o x → Agrees p x
+agrees_of : {o p : Outcome} {x : def.MachineOutcome} → o ≡ p → Agrees o x → Agrees p x
 agrees_of {o} {p} {x} e h = subst (λ z. Agrees z x) e h
 
-goes_on_alike : {o : Outcome} {x : def.Outcome} {out : List ℕ} → o ≡ more out → x ≡ said out → Agrees o x
+goes_on_alike : {o : Outcome} {x : def.MachineOutcome} {out : List ℕ} → o ≡ more out → x ≡ said out → Agrees o x
 goes_on_alike {o} {x} {out} eo ex = agrees_of (sym eo) (agrees_by (sym ex) (record { end = refl; output = refl }))
 
 -- orders of a unit's blocks, with room for their words
@@ -87,9 +87,9 @@ module _ (blocks : List BlockParts) (links : ℕ → ℕ) (t : ℕ) (out : List 
   items_within : (rest : List Plain) (n : ℕ) (s : State) → n ≤ length rest → is_wrong (items blocks links n t rest s out) ≡ false → items blocks links n t rest s out ≡ (more out)
   items_within rest zero s le e = refl
   items_within [] (suc n) s le e = absurd (omega arith)
-  items_within (i ∷ rest) (suc n) s le e = go (λ h. items_within rest n (after (action_of i) s) (omega arith) h) (is_safe (action_of i) s) e
+  items_within (i ∷ rest) (suc n) s le e = go (λ h. items_within rest n (state_after (action_of i) s) (omega arith) h) (is_safe (action_of i) s) e
     where
-      go : (is_wrong (items blocks links n t rest (after (action_of i) s) out) ≡ false → items blocks links n t rest (after (action_of i) s) out ≡ (more out)) → (b : Bool) → is_wrong (cond b (items blocks links n t rest (after (action_of i) s) out) (wrong out)) ≡ false → cond b (items blocks links n t rest (after (action_of i) s) out) (wrong out) ≡ (more out)
+      go : (is_wrong (items blocks links n t rest (state_after (action_of i) s) out) ≡ false → items blocks links n t rest (state_after (action_of i) s) out ≡ (more out)) → (b : Bool) → is_wrong (cond b (items blocks links n t rest (state_after (action_of i) s) out) (wrong out)) ≡ false → cond b (items blocks links n t rest (state_after (action_of i) s) out) (wrong out) ≡ (more out)
       go next true h = next h
       go next false h = absurd (true≢false h)
 
@@ -103,15 +103,15 @@ module _ (blocks : List BlockParts) (links : ℕ → ℕ) (t : ℕ) (out : List 
       let one : suc left_over ≡ n = omega arith in
       subst (λ m. Passes [] m left_over s) one (record { end = s; ran = refl; goes = refl })
   items_past (i ∷ rest) zero left_over s e w = absurd (omega arith)
-  items_past (i ∷ rest) (suc n) left_over s e w = go (λ h. items_past rest n left_over (after (action_of i) s) (omega arith) h) (is_safe (action_of i) s) refl w
+  items_past (i ∷ rest) (suc n) left_over s e w = go (λ h. items_past rest n left_over (state_after (action_of i) s) (omega arith) h) (is_safe (action_of i) s) refl w
     where
-      go : (is_wrong (items blocks links n t rest (after (action_of i) s) out) ≡ false → Passes rest n left_over (after (action_of i) s)) → (b : Bool) → is_safe (action_of i) s ≡ b → is_wrong (cond b (items blocks links n t rest (after (action_of i) s) out) (wrong out)) ≡ false → Passes (i ∷ rest) (suc n) left_over s
+      go : (is_wrong (items blocks links n t rest (state_after (action_of i) s) out) ≡ false → Passes rest n left_over (state_after (action_of i) s)) → (b : Bool) → is_safe (action_of i) s ≡ b → is_wrong (cond b (items blocks links n t rest (state_after (action_of i) s) out) (wrong out)) ≡ false → Passes (i ∷ rest) (suc n) left_over s
       go next true eb h =
           let p = next h in
           record {
             end = p.end;
-            ran = ap (λ b. cond b (run (map action_of rest) (after (action_of i) s)) None) eb ∙ p.ran;
-            goes = ap (λ b. cond b (items blocks links n t rest (after (action_of i) s) out) (wrong out)) eb ∙ p.goes;
+            ran = ap (λ b. cond b (run (map action_of rest) (state_after (action_of i) s)) None) eb ∙ p.ran;
+            goes = ap (λ b. cond b (items blocks links n t rest (state_after (action_of i) s) out) (wrong out)) eb ∙ p.goes;
           }
       go next false eb h = absurd (true≢false h)
 
@@ -276,8 +276,8 @@ module _ (blocks : List BlockParts) (orders : List OrderParts) (sch : IsSchedule
   block_follows n left_over t b s out en next eb words w =
       let p = items_past blocks links' t out b.insts n left_over s en w in
       let o = order_for blocks orders sch t b eb in
-      let r = leave b.exit p.end (links' t) in
-      let effect : block_effect b s (links' t) ≡ Some r = ap (λ x. left b.exit x (links' t)) p.ran in
+      let r = exit_effect b.exit p.end (links' t) in
+      let effect : block_effect b s (links' t) ≡ Some r = ap (λ x. exit_effect_after b.exit x (links' t)) p.ran in
       let same = sch.means t b o.0 eb o.1 s (links' t) r words (link_below blocks orders sch t o.0 o.1) effect in
       let arrives = order_arrives (layout orders) start' o.0 (start' t) s (links' t) r out (placed blocks orders sch) (link_is blocks orders sch t o.0 o.1) (has_order blocks orders sch t o.0 o.1) same in
       let goes = p.goes ∙ ap (λ x. exit_item blocks links' t x (items blocks links' left_over) p.end out) eb in

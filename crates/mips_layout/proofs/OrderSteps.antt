@@ -17,7 +17,7 @@ use Rattle.mips_isa.specs.declared.action.Action.{Action}
 use Rattle.mips_isa.specs.declared.action.Action.TheVariants.{Computes, Sets, Loads, Stores, Multiplies, Divides, MovesHigh, MovesLow}
 use Rattle.mips_isa.specs.States.{State, read, put}
 use Rattle.mips_isa.specs.Actions.{action_of, is_load, is_move}
-use Rattle.mips_isa.specs.Flows.{Nothing, Flow, settle, pending_of, shown, on_pending, flow_after, quiet}
+use Rattle.mips_isa.specs.Flows.{Nothing, Flow, settle, pending_of, shown_state, on_pending, flow_after, quiet}
 use Rattle.mips_isa.specs.Rules.{is_stuck}
 use Rattle.mips_isa.specs.Steps.{word, words_from}
 use Rattle.mips_isa.specs.declared.rule.Rule.TheVariants.{M1}
@@ -26,12 +26,12 @@ use Rattle.mips_isa.proofs.Late.{settled, settled_after}
 use Rattle.mblock.specs.declared.exit.Exit.{Exit}
 use Rattle.mblock.specs.declared.exit.Exit.TheVariants.{Goto, BranchPair, BranchZero, Call, Return, Out, Halt}
 use Rattle.mblock.specs.Parts.{OrderParts}
-use Rattle.mblock.specs.BlockMeaning.{exit_shape, Departure, GoesTo, CallsTo, GoesBack, PrintsTo, HaltsWith, depart, Outcome}
+use Rattle.mblock.specs.BlockMeaning.{exit_shape, Departure, GoesTo, CallsTo, GoesBack, PrintsTo, HaltsWith, depart, Effect}
 use Rattle.mblock.specs.OrderMeaning.{exit_touches, puts_number, slot_word, ends, operand_words, system_word, system_call, jump, order_leaves, order_left, order_effect}
 use Rattle.mblock.proofs.Runs.{exited, one_value, ten_value}
 use Rattle.mips_steps.specs.declared.steps.Ending.TheVariants as endings
-use Rattle.mips_isa.specs.Controls.{pair_passes, zero_passes, control_touches, goes_elsewhere, calls_another}
-use Rattle.mips_steps.specs.Machines.{Machine, Goes, behind, machine_run, moved, turned, called, jump_target, branch_target}
+use Rattle.mips_isa.specs.Controls.{pair_passes, zero_passes, control_touches, goes_elsewhere, calls_another, jump_target, branch_target}
+use Rattle.mips_steps.specs.Machines.{Machine, Goes, behind, machine_run, instruction_step, jump_step, system_step}
 use Rattle.mips_layout.specs.Fetching.{insts_code}
 use Rattle.mips_isa.specs.Actions.{nop}
 use Rattle.mips_layout.specs.Layout.{address_of_place, jump_to, branch_offset, exit_insts, order_insts}
@@ -82,7 +82,7 @@ slot_quiet : (a : Action) (s : State) (h : ℕ) → (is_load a || is_move a) ≡
 slot_quiet a s h kind le =
     let none = pending_none a s (or_first _ _ kind) in
     let zero_hold : cond (is_move a) 2 (pred (pred h)) ≡ 0 = ap (λ b. cond b 2 (pred (pred h))) (or_second (is_load a) (is_move a) kind) ∙ none_left in
-    ap₂ (λ p n. record { state = shown a s; pending = p; hold = n }) none zero_hold ∙ ap quiet (sym (ap (λ p. settle p (shown a s)) none))
+    ap₂ (λ p n. record { state = shown_state a s; pending = p; hold = n }) none zero_hold ∙ ap quiet (sym (ap (λ p. settle p (shown_state a s)) none))
   where
     none_left : pred (pred h) ≡ 0
     none_left = omega arith
@@ -92,13 +92,13 @@ slot_quiet a s h kind le =
 abbrev jump_mid : Exit → ℕ → Flow → Flow
 jump_mid exit link f = record { state = settle f.pending (exited exit link f.state); pending = Nothing; hold = pred f.hold }
 
-record Jumps (exit : Exit) (i : Plain) (f : Flow) (link : ℕ) (r : Outcome) : Type 0 where
+record Jumps (exit : Exit) (i : Plain) (f : Flow) (link : ℕ) (r : Effect) : Type 0 where
   free : on_pending f.pending (exit_touches exit) ≡ false
   kind : (is_load (action_of i) || is_move (action_of i)) ≡ false
   ok : is_stuck (action_of i) (jump_mid exit link f) ≡ false
   leaves : record { state = settled (flow_after (action_of i) (jump_mid exit link f)); goes = depart (exit_shape exit) (operand_words exit f) } ≡ r
 
-jump_parts : (exit : Exit) (i : Plain) (f : Flow) (link : ℕ) (r : Outcome) → jump exit (Some i) f link ≡ Some r → Jumps exit i f link r
+jump_parts : (exit : Exit) (i : Plain) (f : Flow) (link : ℕ) (r : Effect) → jump exit (Some i) f link ≡ Some r → Jumps exit i f link r
 jump_parts exit i f link r e = go (on_pending f.pending (exit_touches exit)) (is_load (action_of i) || is_move (action_of i)) (is_stuck (action_of i) (jump_mid exit link f)) refl refl refl e
   where
     goes : Departure
@@ -122,11 +122,11 @@ jump_parts exit i f link r e = go (on_pending f.pending (exit_touches exit)) (is
 
 -- ---- a call to the system
 
-record Calls (exit : Exit) (number : ℕ) (f : Flow) (r : Outcome) : Type 0 where
+record Calls (exit : Exit) (number : ℕ) (f : Flow) (r : Effect) : Type 0 where
   ok : is_stuck (puts_number number) f ≡ false
   leaves : record { state = (flow_after (puts_number number) f).state; goes = depart (exit_shape exit) (operand_words exit (flow_after (puts_number number) f)) } ≡ r
 
-call_parts : (exit : Exit) (number : ℕ) (f : Flow) (r : Outcome) → system_call exit number None f ≡ Some r → Calls exit number f r
+call_parts : (exit : Exit) (number : ℕ) (f : Flow) (r : Effect) → system_call exit number None f ≡ Some r → Calls exit number f r
 call_parts exit number f r e = go (is_stuck (puts_number number) f) refl e
   where
     go : (x : Bool) → is_stuck (puts_number number) f ≡ x → system_word exit (cond x None (Some (flow_after (puts_number number) f))) ≡ Some r → Calls exit number f r
@@ -147,8 +147,8 @@ Arrives code start m out (HaltsWith w) s = (k : ℕ) → (j : ℕ) × (2 + k ≤
 
 module _ (code : List Inst) (start : ℕ → ℕ) where
   -- a jump, its slot, and the address
-  jump_leads : (exit : Exit) (ctrl : Control) (t p : ℕ) (i : Plain) (f : Flow) (link : ℕ) (r : Outcome) (out : List ℕ) → f.hold ≤ 2 → HasAt code p (I.Control ctrl ∷ I.Plain i ∷ []) → goes_elsewhere ctrl ≡ true → calls_another ctrl f.state ≡ false
-      → moved (I.Control ctrl) (at p f out) ≡ turned (exited exit link f.state) t (at p f out) → on_pending f.pending (control_touches ctrl) ≡ false → Jumps exit i f link r → Leads code 2 (at p f out) (record { flow = quiet r.state; pc = t; target = None; output = out })
+  jump_leads : (exit : Exit) (ctrl : Control) (t p : ℕ) (i : Plain) (f : Flow) (link : ℕ) (r : Effect) (out : List ℕ) → f.hold ≤ 2 → HasAt code p (I.Control ctrl ∷ I.Plain i ∷ []) → goes_elsewhere ctrl ≡ true → calls_another ctrl f.state ≡ false
+      → instruction_step (I.Control ctrl) (at p f out) ≡ jump_step (exited exit link f.state) t (at p f out) → on_pending f.pending (control_touches ctrl) ≡ false → Jumps exit i f link r → Leads code 2 (at p f out) (record { flow = quiet r.state; pc = t; target = None; output = out })
   jump_leads exit ctrl t p i f link r out le h jumps fine does free j =
       let first = control_step code p ctrl t (exited exit link f.state) f out h.0 jumps fine does free in
       let second = slot_step code (p + 1) t i (jump_mid exit link f) out h.1.0 j.ok in
@@ -168,7 +168,7 @@ module _ (code : List Inst) (start : ℕ → ℕ) where
       let here = subst (λ x. Leads code 2 m (record { flow = quiet s; pc = x; target = None; output = out })) there l in
       fewer code 4 2 _ _ (omega arith) (leads_on code 2 2 _ _ _ here (hop code q (start e) s out placed.room h))
 
-  exit_arrives : (exit : Exit) (slot : Option Plain) (p : ℕ) (f : Flow) (link : ℕ) (r : Outcome) (out : List ℕ) → Placed → f.hold ≤ 2 → link ≡ address_of_place (p + 2) → HasAt code p (exit_insts start p exit slot) → order_leaves exit slot f link ≡ Some r → Arrives code start (at p f out) out r.goes r.state
+  exit_arrives : (exit : Exit) (slot : Option Plain) (p : ℕ) (f : Flow) (link : ℕ) (r : Effect) (out : List ℕ) → Placed → f.hold ≤ 2 → link ≡ address_of_place (p + 2) → HasAt code p (exit_insts start p exit slot) → order_leaves exit slot f link ≡ Some r → Arrives code start (at p f out) out r.goes r.state
   exit_arrives (Goto t) None p f link r out placed le el h e = absurd (none-some r e)
   exit_arrives (Goto t) (Some i) p f link r out placed le el h e =
       let j = jump_parts (Goto t) i f link r e in
@@ -198,7 +198,7 @@ module _ (code : List Inst) (start : ℕ → ℕ) where
       let j = jump_parts (Call g n) i f link r e in
       let lands = jump_lands p (start g) (within code p _ placed.room h.0) in
       let back : address_of_place p + 8 ≡ link = eight ∙ sym el in
-      let l = jump_leads (Call g n) (controls.JumpTo JumpAndLink (address_of_place (start g) / 4)) _ p i f link r out le (h.0, (h.1.0, tt)) refl refl (ap (λ x. turned (record f.state { regs = put f.state.regs 31 x }) (jump_target (address_of_place p + 4) (address_of_place (start g) / 4)) (at p f out)) back) j.free j in
+      let l = jump_leads (Call g n) (controls.JumpTo JumpAndLink (address_of_place (start g) / 4)) _ p i f link r out le (h.0, (h.1.0, tt)) refl refl (ap (λ x. jump_step (record f.state { regs = put f.state.regs 31 x }) (jump_target (address_of_place p + 4) (address_of_place (start g) / 4)) (at p f out)) back) j.free j in
       subst (λ x. Arrives code start (at p f out) out x r.state) (ap (λ o. o.goes) j.leaves) (subst (λ x. Leads code 2 (at p f out) (record { flow = quiet r.state; pc = x; target = None; output = out })) lands l)
     where
       eight : address_of_place p + 8 ≡ address_of_place (p + 2)
@@ -227,7 +227,7 @@ module _ (code : List Inst) (start : ℕ → ℕ) where
           let number = number_there 1 1 f one_value c.ok in
           goes code (at (p + 1) mid out) _
           (at_place code (p + 1) (I.Control controls.SystemCall) (at (p + 1) mid out) h.1.0 refl ∙ system_goes (at (p + 1) mid out) refl (ap (λ x. not ((x == 1) || (x == 10))) number)
-          ∙ ap (λ x. called x (at (p + 1) mid out)) number
+          ∙ ap (λ x. system_step x (at (p + 1) mid out)) number
           ∙ ap₂ (λ x y. Goes (record { flow = record { state = mid.state; pending = Nothing; hold = x }; pc = y; target = None; output = out ++ mid.state.regs 4 ∷ [] })) still there)
   exit_arrives Halt (Some i) p f link r out placed le el h e = absurd (none-some r e)
   exit_arrives Halt None p f link r out placed le el h e =
@@ -242,10 +242,10 @@ module _ (code : List Inst) (start : ℕ → ℕ) where
           let number = number_there 10 10 f ten_value c.ok in
           ap (λ s. behind s (machine_run (insts_code code) k) out)
           (at_place code (p + 1) (I.Control controls.SystemCall) (at (p + 1) mid out) h.1.0 refl ∙ system_goes (at (p + 1) mid out) refl (ap (λ x. not ((x == 1) || (x == 10))) number)
-          ∙ ap (λ x. called x (at (p + 1) mid out)) number)
+          ∙ ap (λ x. system_step x (at (p + 1) mid out)) number)
 
   -- the words of a whole order
-  pub order_arrives : (o : OrderParts) (p : ℕ) (s : State) (link : ℕ) (r : Outcome) (out : List ℕ) → Placed → link ≡ address_of_place (p + length o.insts + 2) → HasAt code p (order_insts start p o) → order_effect o s link ≡ Some r → (f : Flow) × Leads code (length o.insts) (machine_at p s out) (at (p + length o.insts) f out) × Arrives code start (at (p + length o.insts) f out) out r.goes r.state
+  pub order_arrives : (o : OrderParts) (p : ℕ) (s : State) (link : ℕ) (r : Effect) (out : List ℕ) → Placed → link ≡ address_of_place (p + length o.insts + 2) → HasAt code p (order_insts start p o) → order_effect o s link ≡ Some r → (f : Flow) × Leads code (length o.insts) (machine_at p s out) (at (p + length o.insts) f out) × Arrives code start (at (p + length o.insts) f out) out r.goes r.state
   order_arrives o p s link r out placed el h e = go (words_from (map action_of o.insts) (Some (quiet s))) refl e
     where
       len : p + length (map I.Plain o.insts) ≡ p + length o.insts

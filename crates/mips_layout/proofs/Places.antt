@@ -10,7 +10,8 @@ use Rattle.mblock.specs.Parts.{OrderParts}
 use Rattle.mblock.specs.Slots.{is_slotted}
 use Rattle.mblock.specs.Clean.{FitsSlot}
 use Rattle.mips_steps.specs.declared.steps.Fetched.TheVariants.{NoWord, Fetches}
-use Rattle.mips_steps.specs.Machines.{code_base, jump_target}
+use Rattle.mips_isa.specs.Controls.{jump_target}
+use Rattle.mips_steps.specs.Machines.{code_base}
 use Rattle.mips_layout.specs.Fetching.{of_inst, insts_code}
 use Rattle.mips_layout.specs.Layout.{exit_size, size, place, address_of_place, slot_insts, exit_insts, order_insts, insts_of, layout}
 

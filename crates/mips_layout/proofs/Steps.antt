@@ -13,8 +13,8 @@ use Rattle.mips_isa.specs.Flows.{Nothing, Flow, settle, on_pending, flow_after, 
 use Rattle.mips_isa.specs.Rules.{is_stuck}
 use Rattle.mips_isa.specs.Steps.{words_from}
 use Rattle.mips_steps.specs.declared.steps.Fetched.TheVariants.{Fetches}
-use Rattle.mips_isa.specs.Controls.{control_touches, goes_elsewhere, calls_another}
-use Rattle.mips_steps.specs.Machines.{Machine, Goes, behind, machine_run, step_of, moved, turned, jump_target}
+use Rattle.mips_isa.specs.Controls.{control_touches, goes_elsewhere, calls_another, jump_target}
+use Rattle.mips_steps.specs.Machines.{Machine, Goes, behind, machine_run, step_of, instruction_step, jump_step}
 use Rattle.mips_layout.specs.Fetching.{insts_code}
 use Rattle.mips_isa.specs.Actions.{nop}
 use Rattle.mips_layout.specs.Layout.{address_of_place, jump_to}
@@ -83,7 +83,7 @@ module _ (code : List Inst) where
 
   -- a branch or jump
   pub control_step : (p : ℕ) (c : Control) (t : ℕ) (s : State) (f : Flow) (out : List ℕ) → slice_get code p ≡ Some (I.Control c) → goes_elsewhere c ≡ true → calls_another c f.state ≡ false
-      → moved (I.Control c) (at p f out) ≡ turned s t (at p f out) → on_pending f.pending (control_touches c) ≡ false → Leads code 1 (at p f out) (slot_at (p + 1) t (record { state = settle f.pending s; pending = Nothing; hold = pred f.hold }) out)
+      → instruction_step (I.Control c) (at p f out) ≡ jump_step s t (at p f out) → on_pending f.pending (control_touches c) ≡ false → Leads code 1 (at p f out) (slot_at (p + 1) t (record { state = settle f.pending s; pending = Nothing; hold = pred f.hold }) out)
   control_step p c t s f out e jumps fine does free =
       let next : address_of_place p + 4 ≡ address_of_place (p + 1) = omega arith in
       let mid : Flow = record { state = settle f.pending s; pending = Nothing; hold = pred f.hold } in

@@ -6,8 +6,10 @@
 #![tactic(auto)]
 
 mod laws;
+mod limits;
 
 pub use laws::{
     each_layout_fits, each_layout_runs, each_layout_tells_calls_apart, each_plain_layout_runs,
     words_run_as_instructions,
 };
+pub use limits::{CODE_WORDS, FUNCTION_WORDS};

@@ -8,6 +8,5 @@ mod code;
 mod machine;
 mod memory;
 mod state;
-mod targets;
 
 pub use machine::{Machine, MachineRan, load, run};

@@ -3,7 +3,7 @@ ghost use Rattle.mips_isa.specs.declared.rule.Rule.TheVariants.{M4, M5, M6};
 ghost use Rattle.words.specs.Operators.{op_value, has_quotient};
 ghost use Rattle.mips_isa.specs.States.{read, put, is_aligned, is_open};
 ghost use Rattle.mips_isa.specs.Actions.{operand, address, is_safe, divides_badly, on_address};
-ghost use Rattle.mips_isa.specs.Flows.{shown, pending_of, settle};
+ghost use Rattle.mips_isa.specs.Flows.{shown_state, pending_of, settle};
 ghost use Rattle.mips_machine.specs.Views.{state_of, pending_in};
 
 use crate::memory::Memory;
@@ -79,7 +79,7 @@ impl Registers {
     /// What an action does, without what it loads.
     pub fn perform(&mut self, action: Action)
         requires { is_safe action (state_of self.old) ≡ true }
-        ensures { state_of self.new ≡ shown action (state_of self.old) }
+        ensures { state_of self.new ≡ shown_state action (state_of self.old) }
     {
         match action {
             Action::Computes { d, op, a, b } => {

@@ -9,11 +9,11 @@ use Rattle.mblock.specs.Parts.{BlockParts}
 use Rattle.mips_isa.specs.States.{State}
 use Rattle.mblock.specs.UnitRuns.{is_call, TellsApart, ComesTo}
 use Rattle.mblock.specs.Units.{AreLinked}
-use Rattle.mips_split.specs.Split.{renumbered, more_pieces, place_of, last_of, split_at_most}
+use Rattle.mips_split.specs.Split.{renumbered_exit, more_pieces, place_of, last_of, split_at_most}
 use Rattle.mips_split.proofs.Simulation.{unit_runs}
 use Rattle.mips_split.proofs.Places.{has_whole, has_pieces, last_piece, last_there, last_apart}
 
-call_stays : (place : ℕ → ℕ) (exit : Exit) → is_call (renumbered place exit) ≡ is_call exit
+call_stays : (place : ℕ → ℕ) (exit : Exit) → is_call (renumbered_exit place exit) ≡ is_call exit
 call_stays place (Goto t) = refl
 call_stays place (BranchPair test a b t e) = refl
 call_stays place (BranchZero test a t e) = refl
@@ -32,7 +32,7 @@ module _ (most : ℕ) (blocks : List BlockParts) where
   last_of_block n b there =
       let whole = split_at_most most blocks in
       let place = place_of most blocks in
-      let p = last_there most (renumbered place b.exit) whole (more_pieces most b) (place n) b.insts (has_pieces most place whole 0 blocks (has_whole whole) n b there) in
+      let p = last_there most (renumbered_exit place b.exit) whole (more_pieces most b) (place n) b.insts (has_pieces most place whole 0 blocks (has_whole whole) n b there) in
       record {
         piece = p.0;
         there = sym (ap (slice_get whole) (last_piece most 0 blocks n b there)) ∙ p.1;

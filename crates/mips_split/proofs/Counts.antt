@@ -7,16 +7,16 @@ use Rattle.mips_isa.specs.declared.inst.Plain.{Plain}
 use Rattle.mblock.specs.declared.exit.Exit.{Exit}
 use Rattle.mblock.specs.declared.exit.Exit.TheVariants.{Goto}
 use Rattle.mblock.specs.Parts.{BlockParts}
-use Rattle.mips_split.specs.Split.{renumbered, more_pieces, piece, pieces, count_of, firsts, split_from, total}
+use Rattle.mips_split.specs.Split.{renumbered_exit, more_pieces, piece, pieces, count_of, firsts, split_from, total}
 use Rattle.mips_split.proofs.Places.{length-pieces}
 
 -- as many as the count says
 pub length-split_from : (most : ℕ) (place : ℕ → ℕ) (k : ℕ) (bs : List BlockParts) → length (split_from most place k bs) ≡ total most bs
 length-split_from most place k [] = refl
 length-split_from most place k (b ∷ bs) =
-    let long = length-pieces most (renumbered place b.exit) (more_pieces most b) k b.insts in
+    let long = length-pieces most (renumbered_exit place b.exit) (more_pieces most b) k b.insts in
     let rest = length-split_from most place (k + count_of most b) bs in
-    let sum = length-append (pieces most (renumbered place b.exit) (more_pieces most b) k b.insts) (split_from most place (k + count_of most b) bs) in
+    let sum = length-append (pieces most (renumbered_exit place b.exit) (more_pieces most b) k b.insts) (split_from most place (k + count_of most b) bs) in
     omega (arith, long, rest, sum)
 
 -- there is a piece for each block

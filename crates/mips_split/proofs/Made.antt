@@ -6,7 +6,7 @@ use Rattle.mips_isa.specs.declared.inst.Plain.{Plain}
 use Rattle.mblock.specs.declared.exit.Exit.{Exit}
 use Rattle.mblock.specs.declared.exit.Exit.TheVariants.{Goto}
 use Rattle.mblock.specs.Parts.{BlockParts}
-use Rattle.mips_split.specs.Split.{renumbered, more_pieces, piece, pieces, count_of, total, firsts, split_from, place_of, owners_from, split_blocks}
+use Rattle.mips_split.specs.Split.{renumbered_exit, more_pieces, piece, pieces, count_of, total, firsts, split_from, place_of, owners_from, split_blocks}
 use Rattle.mblock.specs.Units.{AreLinked, AreOwners, IsUnit, unit_parts}
 use Rattle.mips_split.proofs.Places.{length-pieces}
 use Rattle.mips_split.proofs.Counts.{length-split_from, total_above}
@@ -34,22 +34,22 @@ piece_step exit out out' all insts front back next many long front_is back_is ne
 
 -- one more block
 pub block_step : (place : ℕ → ℕ) (i : ℕ) (long : List BlockParts) (b : BlockParts) (out out' all : List BlockParts) (exit old : Exit) (insts : List Plain) → i < length long → b ≡ get_or long i b
-    → exit ≡ renumbered place old → old ≡ b.exit → insts ≡ b.insts → out' ≡ out ++ pieces 512 exit ((length insts - 1) / 512) (length out) insts
+    → exit ≡ renumbered_exit place old → old ≡ b.exit → insts ≡ b.insts → out' ≡ out ++ pieces 512 exit ((length insts - 1) / 512) (length out) insts
     → length out + total 512 (drop i long) ≡ total 512 long → out ++ split_from 512 place (length out) (drop i long) ≡ all
     → (length out' + total 512 (drop (i + 1) long) ≡ total 512 long) × (out' ++ split_from 512 place (length out') (drop (i + 1) long) ≡ all)
 block_step place i long b out out' all exit old insts within b_is exit_is old_is insts_is made count before =
     let rest = drop (i + 1) long in
     let more = more_pieces 512 b in
-    let here : out' ≡ out ++ pieces 512 (renumbered place b.exit) more (length out) b.insts =
-    made ∙ ap₂ (λ (x : Exit) (l : List Plain). out ++ pieces 512 x ((length l - 1) / 512) (length out) l) (exit_is ∙ ap (renumbered place) old_is) insts_is in
-    let parts = length-pieces 512 (renumbered place b.exit) more (length out) b.insts in
-    let long_out : length out' ≡ length out + count_of 512 b = ap length here ∙ length-append out (pieces 512 (renumbered place b.exit) more (length out) b.insts) ∙ ap (λ n. length out + n) parts in
+    let here : out' ≡ out ++ pieces 512 (renumbered_exit place b.exit) more (length out) b.insts =
+    made ∙ ap₂ (λ (x : Exit) (l : List Plain). out ++ pieces 512 x ((length l - 1) / 512) (length out) l) (exit_is ∙ ap (renumbered_exit place) old_is) insts_is in
+    let parts = length-pieces 512 (renumbered_exit place b.exit) more (length out) b.insts in
+    let long_out : length out' ≡ length out + count_of 512 b = ap length here ∙ length-append out (pieces 512 (renumbered_exit place b.exit) more (length out) b.insts) ∙ ap (λ n. length out + n) parts in
     let counts : total 512 (drop i long) ≡ count_of 512 b + total 512 rest = at_drop_more (total 512) long i b within ∙ ap (λ (b : BlockParts). count_of 512 b + total 512 rest) (sym b_is) in
-    let forms : split_from 512 place (length out) (drop i long) ≡ pieces 512 (renumbered place b.exit) more (length out) b.insts ++ split_from 512 place (length out + count_of 512 b) rest =
-    at_drop_more (split_from 512 place (length out)) long i b within ∙ ap (λ (b : BlockParts). pieces 512 (renumbered place b.exit) (more_pieces 512 b) (length out) b.insts ++ split_from 512 place (length out + count_of 512 b) rest) (sym b_is) in (
+    let forms : split_from 512 place (length out) (drop i long) ≡ pieces 512 (renumbered_exit place b.exit) more (length out) b.insts ++ split_from 512 place (length out + count_of 512 b) rest =
+    at_drop_more (split_from 512 place (length out)) long i b within ∙ ap (λ (b : BlockParts). pieces 512 (renumbered_exit place b.exit) (more_pieces 512 b) (length out) b.insts ++ split_from 512 place (length out + count_of 512 b) rest) (sym b_is) in (
       omega (arith, count, counts, long_out),
       ap₂ (λ l n. l ++ split_from 512 place n rest) here long_out
-          ∙ append_assoc out (pieces 512 (renumbered place b.exit) more (length out) b.insts) (split_from 512 place (length out + count_of 512 b) rest)
+          ∙ append_assoc out (pieces 512 (renumbered_exit place b.exit) more (length out) b.insts) (split_from 512 place (length out + count_of 512 b) rest)
           ∙ ap (λ l. out ++ l) (sym forms)
           ∙ before,
     )

@@ -7,18 +7,18 @@ use Rattle.mblock.specs.declared.exit.Exit.{Exit}
 use Rattle.mblock.specs.declared.exit.Exit.TheVariants.{Goto, BranchPair, BranchZero, Call, Return, Out, Halt}
 use Rattle.mblock.specs.Parts.{BlockParts}
 use Rattle.mblock.specs.Units.{GoesBelow, BranchesWithin, Continues, AreLinked, AreOwners}
-use Rattle.mips_split.specs.Functions.{joined, owners_of, IsFrom, GoesWithin, IsFunctionAt, AreFunctions}
+use Rattle.mips_split.specs.Functions.{blocks_of, owners_of, IsFrom, GoesWithin, IsFunctionAt, AreFunctions}
 use Rattle.mips_split.proofs.Places.{HasAt, has_whole, has_front, has_back, block_there}
 use Rattle.mips_split.proofs.Counts.{apart_from}
 use Rattle.mips_split.proofs.Well.{get_replicate}
 
-length-owners_of : (k : ℕ) (fs : List (List BlockParts)) → length (owners_of k fs) ≡ length (joined fs)
+length-owners_of : (k : ℕ) (fs : List (List BlockParts)) → length (owners_of k fs) ≡ length (blocks_of fs)
 length-owners_of k [] = refl
 length-owners_of k (f ∷ fs) =
     let rest = length-owners_of (k + length f) fs in
     let here = length-replicate (length f) k in
     let left = length-append (replicate (length f) k) (owners_of (k + length f) fs) in
-    let right = length-append f (joined fs) in
+    let right = length-append f (blocks_of fs) in
     omega (arith, rest, here, left, right)
 
 module _ (bound : ℕ) (blocks : List BlockParts) (owner : List ℕ) where
@@ -34,19 +34,19 @@ module _ (bound : ℕ) (blocks : List BlockParts) (owner : List ℕ) where
     blocks_at : HasAt blocks start code
     owned : HasAt owner start (replicate (length code) start)
 
-  in_function : (k : ℕ) (fs : List (List BlockParts)) → k + length (joined fs) ≤ bound → AreFunctions bound k fs → HasAt blocks k (joined fs) → HasAt owner k (owners_of k fs) → (i : ℕ) → i < length (joined fs) → InFunction (k + i)
+  in_function : (k : ℕ) (fs : List (List BlockParts)) → k + length (blocks_of fs) ≤ bound → AreFunctions bound k fs → HasAt blocks k (blocks_of fs) → HasAt owner k (owners_of k fs) → (i : ℕ) → i < length (blocks_of fs) → InFunction (k + i)
   in_function k [] fits are has owned i lt = absurd (omega (arith, lt))
   in_function k (f ∷ fs) fits are has owned i lt =
-      by_length (apart_from (length f) i) (λ d d_lt. in_function (k + length f) fs (omega (arith, fits, sum)) are.1 (has_back blocks k f (joined fs) has) owned_behind d d_lt)
+      by_length (apart_from (length f) i) (λ d d_lt. in_function (k + length f) fs (omega (arith, fits, sum)) are.1 (has_back blocks k f (blocks_of fs) has) owned_behind d d_lt)
     where
-      sum : length (joined (f ∷ fs)) ≡ length f + length (joined fs)
-      sum = length-append f (joined fs)
+      sum : length (blocks_of (f ∷ fs)) ≡ length f + length (blocks_of fs)
+      sum = length-append f (blocks_of fs)
 
       owned_behind : HasAt owner (k + length f) (owners_of (k + length f) fs)
       owned_behind = (let here : k + length (replicate (length f) k) ≡ k + length f = ap (λ n. k + n) (length-replicate (length f) k) in
           subst (λ n. HasAt owner n (owners_of (k + length f) fs)) here (has_back owner k (replicate (length f) k) (owners_of (k + length f) fs) owned))
 
-      by_length : (i < length f) ⊎ ((d : ℕ) × (i ≡ length f + d)) → ((d : ℕ) → d < length (joined fs) → InFunction (k + length f + d)) → InFunction (k + i)
+      by_length : (i < length f) ⊎ ((d : ℕ) × (i ≡ length f + d)) → ((d : ℕ) → d < length (blocks_of fs) → InFunction (k + length f + d)) → InFunction (k + i)
       by_length (inl here) rest = record {
         start = k;
         behind = i;
@@ -55,7 +55,7 @@ module _ (bound : ℕ) (blocks : List BlockParts) (owner : List ℕ) where
         within = here;
         fits = omega (arith, fits, sum);
         function = are.0;
-        blocks_at = has_front blocks k f (joined fs) has;
+        blocks_at = has_front blocks k f (blocks_of fs) has;
         owned = has_front owner k (replicate (length f) k) (owners_of (k + length f) fs) owned;
       }
       by_length (inr e) rest =
@@ -114,7 +114,7 @@ module _ (bound : ℕ) (blocks : List BlockParts) (owner : List ℕ) where
       by_place zero is lt same other = absurd (other (omega (arith, is, same)))
       by_place (suc j) is lt same other = owned_from at.start (length at.code) at.owned i (omega (arith, is), omega (arith, is, lt)) ∙ ap Some same
 
-pub functions_owned : (fs : List (List BlockParts)) → AreFunctions (length (joined fs)) 0 fs → AreLinked (joined fs) × AreOwners (joined fs) (owners_of 0 fs)
+pub functions_owned : (fs : List (List BlockParts)) → AreFunctions (length (blocks_of fs)) 0 fs → AreLinked (blocks_of fs) × AreOwners (blocks_of fs) (owners_of 0 fs)
 functions_owned fs are = (
   record { by = λ i b there. (let at = place i (slice_get_within blocks i b there) in below bound blocks owner at.start (length at.code) at.fits b.exit (exit_within bound blocks owner i b at there)) },
   record {
@@ -127,16 +127,16 @@ functions_owned fs are = (
 )
   where
     blocks : List BlockParts
-    blocks = joined fs
+    blocks = blocks_of fs
 
     owner : List ℕ
     owner = owners_of 0 fs
 
     bound : ℕ
-    bound = length (joined fs)
+    bound = length (blocks_of fs)
 
-    same : length (owners_of 0 fs) ≡ length (joined fs)
+    same : length (owners_of 0 fs) ≡ length (blocks_of fs)
     same = length-owners_of 0 fs
 
-    place : (i : ℕ) → i < length (joined fs) → InFunction (length (joined fs)) (joined fs) (owners_of 0 fs) i
-    place i lt = (let zero_i : 0 + i ≡ i = omega arith in subst (InFunction (length (joined fs)) (joined fs) (owners_of 0 fs)) zero_i (in_function (length (joined fs)) (joined fs) (owners_of 0 fs) 0 fs (omega arith) are (has_whole (joined fs)) (has_whole (owners_of 0 fs)) i lt))
+    place : (i : ℕ) → i < length (blocks_of fs) → InFunction (length (blocks_of fs)) (blocks_of fs) (owners_of 0 fs) i
+    place i lt = (let zero_i : 0 + i ≡ i = omega arith in subst (InFunction (length (blocks_of fs)) (blocks_of fs) (owners_of 0 fs)) zero_i (in_function (length (blocks_of fs)) (blocks_of fs) (owners_of 0 fs) 0 fs (omega arith) are (has_whole (blocks_of fs)) (has_whole (owners_of 0 fs)) i lt))

@@ -6,7 +6,7 @@ use Rattle.mips_isa.specs.declared.inst.Plain.{Plain}
 use Rattle.mblock.specs.declared.exit.Exit.{Exit}
 use Rattle.mblock.specs.declared.exit.Exit.TheVariants.{Goto}
 use Rattle.mblock.specs.Parts.{BlockParts}
-use Rattle.mips_split.specs.Split.{renumbered, more_pieces, piece, pieces, count_of, firsts, lasts, split_from}
+use Rattle.mips_split.specs.Split.{renumbered_exit, more_pieces, piece, pieces, count_of, firsts, lasts, split_from}
 
 -- a list stands in another from k on
 pub record HasAt {A : Type 0} (whole : List A) (k : ℕ) (part : List A) : Type 0 where
@@ -42,16 +42,16 @@ length-pieces most exit (suc more) k insts = ap suc (length-pieces most exit mor
 
 -- the pieces of block n
 pub has_pieces : (most : ℕ) (place : ℕ → ℕ) (whole : List BlockParts) (k : ℕ) (bs : List BlockParts) → HasAt whole k (split_from most place k bs) → (n : ℕ) (b : BlockParts) → slice_get bs n ≡ Some b
-    → HasAt whole (slice_index (firsts most k bs) n) (pieces most (renumbered place b.exit) (more_pieces most b) (slice_index (firsts most k bs) n) b.insts)
+    → HasAt whole (slice_index (firsts most k bs) n) (pieces most (renumbered_exit place b.exit) (more_pieces most b) (slice_index (firsts most k bs) n) b.insts)
 has_pieces most place whole k [] has n b there = absurd (none-some b there)
 has_pieces most place whole k (x ∷ bs) has zero b there =
-    subst (λ (b : BlockParts). HasAt whole k (pieces most (renumbered place b.exit) (more_pieces most b) k b.insts)) (same_Some x b there)
-    (has_front whole k (pieces most (renumbered place x.exit) (more_pieces most x) k x.insts) (split_from most place (k + count_of most x) bs) has)
+    subst (λ (b : BlockParts). HasAt whole k (pieces most (renumbered_exit place b.exit) (more_pieces most b) k b.insts)) (same_Some x b there)
+    (has_front whole k (pieces most (renumbered_exit place x.exit) (more_pieces most x) k x.insts) (split_from most place (k + count_of most x) bs) has)
 has_pieces most place whole k (x ∷ bs) has (suc n) b there =
-    let long = length-pieces most (renumbered place x.exit) (more_pieces most x) k x.insts in
-    let next : k + length (pieces most (renumbered place x.exit) (more_pieces most x) k x.insts) ≡ k + count_of most x = ap (λ n. k + n) long in
+    let long = length-pieces most (renumbered_exit place x.exit) (more_pieces most x) k x.insts in
+    let next : k + length (pieces most (renumbered_exit place x.exit) (more_pieces most x) k x.insts) ≡ k + count_of most x = ap (λ n. k + n) long in
     has_pieces most place whole (k + count_of most x) bs
-    (subst (λ n. HasAt whole n (split_from most place (k + count_of most x) bs)) next (has_back whole k (pieces most (renumbered place x.exit) (more_pieces most x) k x.insts) (split_from most place (k + count_of most x) bs) has)) n b there
+    (subst (λ n. HasAt whole n (split_from most place (k + count_of most x) bs)) next (has_back whole k (pieces most (renumbered_exit place x.exit) (more_pieces most x) k x.insts) (split_from most place (k + count_of most x) bs) has)) n b there
 
 -- the last piece of block n
 pub last_piece : (most k : ℕ) (bs : List BlockParts) (n : ℕ) (b : BlockParts) → slice_get bs n ≡ Some b → slice_index (firsts most k bs) n + more_pieces most b ≡ slice_index (lasts most k bs) n

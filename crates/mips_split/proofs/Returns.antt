@@ -8,7 +8,7 @@ use Rattle.mblock.specs.declared.exit.Exit.TheVariants.{Goto, BranchPair, Branch
 use Rattle.mblock.specs.Parts.{BlockParts}
 use Rattle.mblock.specs.UnitRuns.{call_goes_on, returns_to}
 use Rattle.mblock.specs.Units.{GoesBelow}
-use Rattle.mips_split.specs.Split.{renumbered, more_pieces, pieces, count_of, lasts, split_from}
+use Rattle.mips_split.specs.Split.{renumbered_exit, more_pieces, pieces, count_of, lasts, split_from}
 
 module _ (most : ℕ) (place links : ℕ → ℕ) (word : ℕ) where
   -- of a block's pieces the last one alone can be a call
@@ -23,7 +23,7 @@ module _ (most : ℕ) (place links : ℕ → ℕ) (word : ℕ) where
       pieces_return exit more (suc k) (drop most insts) rest
       ∙ ap (λ n. call_goes_on exit (links n == word) (returns_to links word (suc k + suc more) rest)) here ∙ ap (λ n. call_goes_on exit (links (k + suc more) == word) (returns_to links word n rest)) next
 
-  call_renumbered : (exit : Exit) (found : Bool) (rest : Option ℕ) → call_goes_on (renumbered place exit) found (option_map place rest) ≡ option_map place (call_goes_on exit found rest)
+  call_renumbered : (exit : Exit) (found : Bool) (rest : Option ℕ) → call_goes_on (renumbered_exit place exit) found (option_map place rest) ≡ option_map place (call_goes_on exit found rest)
   call_renumbered (Goto t) found rest = refl
   call_renumbered (BranchPair test a b t e) found rest = refl
   call_renumbered (BranchZero test a t e) found rest = refl
@@ -40,9 +40,9 @@ module _ (most : ℕ) (place links : ℕ → ℕ) (word : ℕ) where
   return_renumbered long k n (b ∷ bs) same =
       let here : n ≡ n + 0 = omega arith in
       let rest = split_from most place (k + count_of most b) bs in
-      pieces_return (renumbered place b.exit) (more_pieces most b) k b.insts rest
-      ∙ ap (λ v. call_goes_on (renumbered place b.exit) (v == word) (returns_to links word (k + count_of most b) rest)) (sym (same 0) ∙ sym (ap long here))
-      ∙ ap (λ o. call_goes_on (renumbered place b.exit) (long n == word) o) (return_renumbered long (k + count_of most b) (suc n) bs (λ j. (let next : suc n + j ≡ n + suc j = omega arith in ap long next) ∙ same (suc j)))
+      pieces_return (renumbered_exit place b.exit) (more_pieces most b) k b.insts rest
+      ∙ ap (λ v. call_goes_on (renumbered_exit place b.exit) (v == word) (returns_to links word (k + count_of most b) rest)) (sym (same 0) ∙ sym (ap long here))
+      ∙ ap (λ o. call_goes_on (renumbered_exit place b.exit) (long n == word) o) (return_renumbered long (k + count_of most b) (suc n) bs (λ j. (let next : suc n + j ≡ n + suc j = omega arith in ap long next) ∙ same (suc j)))
       ∙ call_renumbered b.exit (long n == word) (returns_to long word (suc n) bs)
 
 -- where a call goes on is below what bounds all targets

@@ -5,12 +5,12 @@ use Rattle.std.proofs.lemmas.List.{take-append-drop}
 use Rattle.std.proofs.lemmas.Option.{same_Some, none-some}
 use Rattle.mips_isa.specs.declared.inst.Plain.{Plain}
 use Rattle.mips_isa.specs.States.{State}
-use Rattle.mips_isa.specs.Actions.{action_of, is_safe, after}
+use Rattle.mips_isa.specs.Actions.{action_of, is_safe, state_after}
 use Rattle.runs.specs.Runs.{Outcome}
 use Rattle.mblock.specs.declared.exit.Exit.{Exit}
 use Rattle.mblock.specs.declared.exit.Exit.TheVariants.{Goto}
 use Rattle.mblock.specs.Parts.{BlockParts}
-use Rattle.mblock.specs.BlockMeaning.{leave}
+use Rattle.mblock.specs.BlockMeaning.{exit_effect}
 use Rattle.mblock.specs.UnitRuns.{wrong, enter_at, goes_on, exit_item, items}
 use Rattle.mips_split.specs.Split.{piece, pieces}
 use Rattle.mips_split.proofs.Places.{HasAt, has_head, has_tail}
@@ -37,17 +37,17 @@ module _ (whole : List BlockParts) (links : ℕ → ℕ) where
     count = suc r.count;
     enough = (let enough = r.enough in omega (arith, enough));
     ends = ap (λ o. exit_item whole links k o (items whole links r.count) s out) there
-        ∙ ap (λ x. goes_on whole links (leave x s (links k)).goes (items whole links r.count) (leave x s (links k)).state out) is
+        ∙ ap (λ x. goes_on whole links (exit_effect x s (links k)).goes (items whole links r.count) (exit_effect x s (links k)).state out) is
         ∙ ap (λ o. enter_at t o (items whole links r.count) s out) at
         ∙ r.ends;
   }
 
   -- one instruction
-  one_step : (k : ℕ) (x a : Plain) (part : List Plain) (i : ℕ) (s : State) (out : List ℕ) (end : Outcome) → x ≡ a → Reached i k part (after (action_of a) s) out end → Reached (suc i) k (x ∷ part) s out (if is_safe (action_of a) s then end else wrong out)
+  one_step : (k : ℕ) (x a : Plain) (part : List Plain) (i : ℕ) (s : State) (out : List ℕ) (end : Outcome) → x ≡ a → Reached i k part (state_after (action_of a) s) out end → Reached (suc i) k (x ∷ part) s out (if is_safe (action_of a) s then end else wrong out)
   one_step k x a part i s out end e r = record {
     count = suc r.count;
     enough = (let enough = r.enough in omega (arith, enough));
-    ends = ap (λ x. if is_safe (action_of x) s then items whole links r.count k part (after (action_of x) s) out else wrong out) e ∙ ap (λ end. if is_safe (action_of a) s then end else wrong out) r.ends;
+    ends = ap (λ x. if is_safe (action_of x) s then items whole links r.count k part (state_after (action_of x) s) out else wrong out) e ∙ ap (λ end. if is_safe (action_of a) s then end else wrong out) r.ends;
   }
 
   module _ (most : ℕ) (exit : Exit) (last : ℕ) where
@@ -97,7 +97,7 @@ module _ (whole : List BlockParts) (links : ℕ → ℕ) where
 
     -- an instruction of the block
     pub steps : (more k : ℕ) (part : List Plain) (a : Plain) (rest : List Plain) (i : ℕ) (s : State) (out : List ℕ) (end : Outcome) → Inside more k part (a ∷ rest)
-        → ((more k : ℕ) (part : List Plain) → Inside more k part rest → Reached i k part (after (action_of a) s) out end)
+        → ((more k : ℕ) (part : List Plain) → Inside more k part rest → Reached i k part (state_after (action_of a) s) out end)
         → Reached (suc i) k part s out (if is_safe (action_of a) s then end else wrong out)
     steps zero k [] a rest i s out end at f = absurd (none-cons a rest at.same)
     steps zero k (x ∷ part) a rest i s out end at f =
@@ -119,7 +119,7 @@ module _ (whole : List BlockParts) (links : ℕ → ℕ) where
       count = suc r.0;
       enough = (let enough = r.1 in omega (arith, enough));
       ends = ap (λ o. exit_item whole links k o (items whole links r.0) s out) at.there
-          ∙ ap (λ x. goes_on whole links (leave x s (links k)).goes (items whole links r.0) (leave x s (links k)).state out) at.leaves
+          ∙ ap (λ x. goes_on whole links (exit_effect x s (links k)).goes (items whole links r.0) (exit_effect x s (links k)).state out) at.leaves
           ∙ ap (λ k. exit_item whole links k (Some (piece [] exit)) (items whole links r.0) s out) at.is_last
           ∙ r.2;
     }

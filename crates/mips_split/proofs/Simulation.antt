@@ -3,15 +3,15 @@ use Rattle.std.proofs.Common.{◌≡◌, ℕ, zero, suc, ◌+◌, ◌<◌, ◌�
 use Rattle.std.specs.Prelude.{if◌then◌else◌, slice_get, option_map}
 use Rattle.mips_isa.specs.declared.inst.Plain.{Plain}
 use Rattle.mips_isa.specs.States.{State, read}
-use Rattle.mips_isa.specs.Actions.{action_of, after}
+use Rattle.mips_isa.specs.Actions.{action_of, state_after}
 use Rattle.mblock.specs.declared.exit.Exit.{Exit}
 use Rattle.mblock.specs.declared.exit.Exit.TheVariants.{Goto, BranchPair, BranchZero, Call, Return, Out, Halt}
 use Rattle.mblock.specs.Parts.{BlockParts}
 use Rattle.mips_isa.specs.Controls.{pair_passes, zero_passes}
-use Rattle.mblock.specs.BlockMeaning.{leave}
+use Rattle.mblock.specs.BlockMeaning.{exit_effect}
 use Rattle.mblock.specs.UnitRuns.{returns_to, enter_at, enter_if, exit_item, items, unit_run}
 use Rattle.mblock.specs.Units.{GoesBelow, AreLinked}
-use Rattle.mips_split.specs.Split.{renumbered, more_pieces, piece, place_of, last_of, split_at_most}
+use Rattle.mips_split.specs.Split.{renumbered_exit, more_pieces, piece, place_of, last_of, split_at_most}
 use Rattle.mips_split.proofs.Places.{has_whole, has_pieces, last_piece, block_there}
 use Rattle.mips_split.proofs.Runs.{Reached, Inside, enters, steps, leaves_last}
 use Rattle.mips_split.proofs.Returns.{return_renumbered, return_below}
@@ -31,7 +31,7 @@ module _ (most : ℕ) (blocks : List BlockParts) (linked : AreLinked blocks) (li
 
   -- a run of the pieces for a run of the long unit that is in block n
   abbrev Runs : ℕ → Type 0
-  Runs i = (n : ℕ) (b : BlockParts) → slice_get blocks n ≡ Some b → (rest : List Plain) (s : State) (out : List ℕ) (more k : ℕ) (part : List Plain) → Inside whole links most (renumbered place b.exit) (last n) more k part rest
+  Runs i = (n : ℕ) (b : BlockParts) → slice_get blocks n ≡ Some b → (rest : List Plain) (s : State) (out : List ℕ) (more k : ℕ) (part : List Plain) → Inside whole links most (renumbered_exit place b.exit) (last n) more k part rest
       → Reached whole links i k part s out (items blocks long i n rest s out)
 
   -- a block is entered
@@ -39,7 +39,7 @@ module _ (most : ℕ) (blocks : List BlockParts) (linked : AreLinked blocks) (li
   enter i runs t lt s out =
       let found = block_there blocks t lt in
       let b = found.0 in
-      let e = enters whole links most (renumbered place b.exit) (last t) (more_pieces most b) (place t) b.insts (has_pieces most place whole 0 blocks (has_whole whole) t b found.1) (last_piece most 0 blocks t b found.1) in
+      let e = enters whole links most (renumbered_exit place b.exit) (last t) (more_pieces most b) (place t) b.insts (has_pieces most place whole 0 blocks (has_whole whole) t b found.1) (last_piece most 0 blocks t b found.1) in
       let r = runs t b found.1 b.insts s out (more_pieces most b) (place t) e.block.insts e.inside in
       (r.count, r.enough, ap (λ o. enter_at (place t) o (items whole links r.count) s out) e.there ∙ r.ends ∙ sym (ap (λ o. enter_at t o (items blocks long i) s out) found.1))
 
@@ -63,24 +63,24 @@ module _ (most : ℕ) (blocks : List BlockParts) (linked : AreLinked blocks) (li
 
   -- an exit
   departs : (i : ℕ) → Runs i → (n : ℕ) (exit : Exit) → GoesBelow (length blocks) exit → (s : State) (out : List ℕ)
-      → (j : ℕ) × (i ≤ j) × (exit_item whole links (last n) (Some (piece [] (renumbered place exit))) (items whole links j) s out ≡ exit_item blocks long n (Some (piece [] exit)) (items blocks long i) s out)
+      → (j : ℕ) × (i ≤ j) × (exit_item whole links (last n) (Some (piece [] (renumbered_exit place exit))) (items whole links j) s out ≡ exit_item blocks long n (Some (piece [] exit)) (items blocks long i) s out)
   departs i runs n (Goto t) low s out = enter i runs t low s out
   departs i runs n (BranchPair test a b t e) low s out = choose i runs (pair_passes test (read 0 s.regs a) (read 0 s.regs b)) t e low.0 low.1 s out
   departs i runs n (BranchZero test a t e) low s out = choose i runs (zero_passes test (read 0 s.regs a)) t e low.0 low.1 s out
-  departs i runs n (Call f next) low s out = enter i runs f low.0 (leave (Call f next) s (long n)).state out
+  departs i runs n (Call f next) low s out = enter i runs f low.0 (exit_effect (Call f next) s (long n)).state out
   departs i runs n Return low s out = enter_back i runs (read 0 s.regs 31) s out
-  departs i runs n (Out next) low s out = enter i runs next low (leave (Out next) s (long n)).state (out ++ read 0 s.regs 4 ∷ [])
+  departs i runs n (Out next) low s out = enter i runs next low (exit_effect (Out next) s (long n)).state (out ++ read 0 s.regs 4 ∷ [])
   departs i runs n Halt low s out = (i, omega arith, refl)
 
   runs : (i : ℕ) → Runs i
   runs zero n b there rest s out more k part at = record { count = 0; enough = omega arith; ends = refl }
   runs (suc i) n b there (a ∷ rest) s out more k part at =
-      steps whole links most (renumbered place b.exit) (last n) more k part a rest i s out (items blocks long i n rest (after (action_of a) s) out) at
-      (λ more k part at. runs i n b there rest (after (action_of a) s) out more k part at)
+      steps whole links most (renumbered_exit place b.exit) (last n) more k part a rest i s out (items blocks long i n rest (state_after (action_of a) s) out) at
+      (λ more k part at. runs i n b there rest (state_after (action_of a) s) out more k part at)
   runs (suc i) n b there [] s out more k part at =
       let r = departs i (λ n b there rest s out more k part at. runs i n b there rest s out more k part at) n b.exit (linked.by n b there) s out in
       subst (λ end. Reached whole links (suc i) k part s out end) (sym (ap (λ o. exit_item blocks long n o (items blocks long i) s out) there))
-      (leaves_last whole links most (renumbered place b.exit) (last n) more k part i s out (exit_item blocks long n (Some (piece [] b.exit)) (items blocks long i) s out) at r)
+      (leaves_last whole links most (renumbered_exit place b.exit) (last n) more k part i s out (exit_item blocks long n (Some (piece [] b.exit)) (items blocks long i) s out) at r)
 
 -- from the start of block 0
 pub unit_runs : (most : ℕ) (blocks : List BlockParts) → AreLinked blocks → (links : ℕ → ℕ) (s : State) (i : ℕ)

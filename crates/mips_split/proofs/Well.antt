@@ -7,7 +7,7 @@ use Rattle.mblock.specs.declared.exit.Exit.{Exit}
 use Rattle.mblock.specs.declared.exit.Exit.TheVariants.{Goto, BranchPair, BranchZero, Call, Return, Out, Halt}
 use Rattle.mblock.specs.Parts.{BlockParts}
 use Rattle.mblock.specs.Units.{GoesBelow, BranchesWithin, Continues, AreLinked, AreOwners}
-use Rattle.mips_split.specs.Split.{renumbered, more_pieces, pieces, count_of, firsts, place_of, split_at_most, owners_from, total}
+use Rattle.mips_split.specs.Split.{renumbered_exit, more_pieces, pieces, count_of, firsts, place_of, split_at_most, owners_from, total}
 use Rattle.mips_split.proofs.Places.{HasAt, has_whole, has_front, has_back, has_pieces, block_there, length-pieces}
 use Rattle.mips_split.proofs.Counts.{length-split_from, Located, located, first_next, pieces_enough, IsPieceAt, piece_at}
 
@@ -50,14 +50,14 @@ module _ (most : ℕ) (some : 0 < most) (blocks : List BlockParts) where
   abbrev whole : List BlockParts
   whole = split_at_most most blocks
 
-  at_block : (n : ℕ) (b : BlockParts) → slice_get blocks n ≡ Some b → HasAt whole (place n) (pieces most (renumbered place b.exit) (more_pieces most b) (place n) b.insts)
+  at_block : (n : ℕ) (b : BlockParts) → slice_get blocks n ≡ Some b → HasAt whole (place n) (pieces most (renumbered_exit place b.exit) (more_pieces most b) (place n) b.insts)
   at_block n b there = has_pieces most place whole 0 blocks (has_whole whole) n b there
 
   -- each piece of a block is there
   piece_there : (n : ℕ) (b : BlockParts) → slice_get blocks n ≡ Some b → (j : ℕ) → j ≤ more_pieces most b → place n + j < length whole
   piece_there n b there j le =
-      let long = length-pieces most (renumbered place b.exit) (more_pieces most b) (place n) b.insts in
-      let p = block_there (pieces most (renumbered place b.exit) (more_pieces most b) (place n) b.insts) j (omega (arith, le, long)) in
+      let long = length-pieces most (renumbered_exit place b.exit) (more_pieces most b) (place n) b.insts in
+      let p = block_there (pieces most (renumbered_exit place b.exit) (more_pieces most b) (place n) b.insts) j (omega (arith, le, long)) in
       slice_get_within whole (place n + j) p.0 ((at_block n b there).by j p.0 p.1)
 
   place_below : (t : ℕ) → t < length blocks → place t < length whole
@@ -70,14 +70,14 @@ module _ (most : ℕ) (some : 0 < most) (blocks : List BlockParts) where
   record Piece (i : ℕ) (p : BlockParts) : Type 0 where
     at : Located most 0 blocks i
     is : i ≡ place at.number + at.behind
-    looks : IsPieceAt most (renumbered place at.block.exit) (more_pieces most at.block) (place at.number) at.behind p
+    looks : IsPieceAt most (renumbered_exit place at.block.exit) (more_pieces most at.block) (place at.number) at.behind p
 
   piece_of : (i : ℕ) (p : BlockParts) → slice_get whole i ≡ Some p → Piece i p
   piece_of i p there =
       let low = slice_get_within whole i p there in
       let long = length-split_from most place 0 blocks in
       let at = located most 0 blocks i (omega (arith, low, long)) in
-      let exit = renumbered place at.block.exit in
+      let exit = renumbered_exit place at.block.exit in
       let parts = pieces most exit (more_pieces most at.block) (place at.number) at.block.insts in
       let found = at.is in
       let is : i ≡ place at.number + at.behind = omega (arith, found) in
@@ -94,7 +94,7 @@ module _ (most : ℕ) (some : 0 < most) (blocks : List BlockParts) where
   pub pieces_short : (i : ℕ) (p : BlockParts) → slice_get whole i ≡ Some p → length p.insts ≤ most
   pieces_short i p there = (piece_of i p there).looks.short
 
-  goes_below : (exit : Exit) → GoesBelow (length blocks) exit → GoesBelow (length whole) (renumbered place exit)
+  goes_below : (exit : Exit) → GoesBelow (length blocks) exit → GoesBelow (length whole) (renumbered_exit place exit)
   goes_below (Goto t) low = place_below t low
   goes_below (BranchPair test a b t e) low = (place_below t low.0, place_below e low.1)
   goes_below (BranchZero test a t e) low = (place_below t low.0, place_below e low.1)
@@ -109,7 +109,7 @@ module _ (most : ℕ) (some : 0 < most) (blocks : List BlockParts) where
       by_piece : (i : ℕ) (p : BlockParts) → Piece i p → GoesBelow (length whole) p.exit
       by_piece i p is = go is.looks.leaves
         where
-          go : ((is.at.behind ≡ more_pieces most is.at.block) × (p.exit ≡ renumbered place is.at.block.exit)) ⊎ ((is.at.behind < more_pieces most is.at.block) × (p.exit ≡ Goto (suc (place is.at.number + is.at.behind)))) → GoesBelow (length whole) p.exit
+          go : ((is.at.behind ≡ more_pieces most is.at.block) × (p.exit ≡ renumbered_exit place is.at.block.exit)) ⊎ ((is.at.behind < more_pieces most is.at.block) × (p.exit ≡ Goto (suc (place is.at.number + is.at.behind)))) → GoesBelow (length whole) p.exit
           go (inl last) = subst (λ x. GoesBelow (length whole) x) (sym last.1) (goes_below is.at.block.exit (linked.by is.at.number is.at.block is.at.there))
           go (inr other) =
               let lt = other.0 in
@@ -132,7 +132,7 @@ module _ (most : ℕ) (some : 0 < most) (blocks : List BlockParts) where
         let here : place t ≡ place t + 0 = omega arith in
         ap (slice_get owned) here ∙ piece_owner t o b.0 b.1 is 0 (omega arith)
 
-    stays_within : (o : ℕ) (exit : Exit) → BranchesWithin owner o exit → BranchesWithin owned (place o) (renumbered place exit)
+    stays_within : (o : ℕ) (exit : Exit) → BranchesWithin owner o exit → BranchesWithin owned (place o) (renumbered_exit place exit)
     stays_within o (Goto t) in_o = tt
     stays_within o (BranchPair test a b t e) in_o = (owner_moved t o in_o.0, owner_moved e o in_o.1)
     stays_within o (BranchZero test a t e) in_o = (owner_moved t o in_o.0, owner_moved e o in_o.1)
@@ -171,8 +171,8 @@ module _ (most : ℕ) (some : 0 < most) (blocks : List BlockParts) where
             let o_is : place w.0 ≡ o = same_Some (place w.0) o (sym (piece_owner n w.0 q.at.block q.at.there w.1 q.at.behind q.at.within) ∙ sym (ap (slice_get owned) q.is) ∙ is) in
             go w.0 o_is (owners.within n w.0 q.at.block q.at.there w.1) q.looks.leaves
           where
-            go : (w : ℕ) → place w ≡ o → BranchesWithin owner w q.at.block.exit → ((q.at.behind ≡ more_pieces most q.at.block) × (p.exit ≡ renumbered place q.at.block.exit)) ⊎ ((q.at.behind < more_pieces most q.at.block) × (p.exit ≡ Goto (suc (place q.at.number + q.at.behind)))) → BranchesWithin owned o p.exit
-            go w e within (inl last) = subst (λ x. BranchesWithin owned o x) (sym last.1) (subst (λ o. BranchesWithin owned o (renumbered place q.at.block.exit)) e (stays_within w q.at.block.exit within))
+            go : (w : ℕ) → place w ≡ o → BranchesWithin owner w q.at.block.exit → ((q.at.behind ≡ more_pieces most q.at.block) × (p.exit ≡ renumbered_exit place q.at.block.exit)) ⊎ ((q.at.behind < more_pieces most q.at.block) × (p.exit ≡ Goto (suc (place q.at.number + q.at.behind)))) → BranchesWithin owned o p.exit
+            go w e within (inl last) = subst (λ x. BranchesWithin owned o x) (sym last.1) (subst (λ o. BranchesWithin owned o (renumbered_exit place q.at.block.exit)) e (stays_within w q.at.block.exit within))
             go w e within (inr other) = subst (λ x. BranchesWithin owned o x) (sym other.1) tt
 
     starts_first : (w n j : ℕ) → slice_get owner n ≡ Some w → 0 ≡ place n + j → place w ≡ 0

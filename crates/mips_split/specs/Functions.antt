@@ -5,9 +5,9 @@ use Rattle.mblock.specs.declared.exit.Exit.TheVariants.{Goto, BranchPair, Branch
 use Rattle.mblock.specs.Parts.{BlockParts}
 use Rattle.mblock.specs.Units.{AreLinked, AreOwners}
 
-abbrev pub joined : List (List BlockParts) → List BlockParts
-joined [] = []
-joined (f ∷ fs) = f ++ joined fs
+abbrev pub blocks_of : List (List BlockParts) → List BlockParts
+blocks_of [] = []
+blocks_of (f ∷ fs) = f ++ blocks_of fs
 
 -- the first block of the function of each block, the first block of all having number k
 abbrev pub owners_of : ℕ → List (List BlockParts) → List ℕ
@@ -37,5 +37,5 @@ AreFunctions bound k (f ∷ fs) = IsFunctionAt bound k f × AreFunctions bound (
 
 -- functions whose branches stay inside them make a unit's blocks and owners
 abbrev pub EachListOfFunctionsIsOwned : Type 0
-EachListOfFunctionsIsOwned = (fs : List (List BlockParts)) → AreFunctions (length (joined fs)) 0 fs
-    → AreLinked (joined fs) × AreOwners (joined fs) (owners_of 0 fs)
+EachListOfFunctionsIsOwned = (fs : List (List BlockParts)) → AreFunctions (length (blocks_of fs)) 0 fs
+    → AreLinked (blocks_of fs) × AreOwners (blocks_of fs) (owners_of 0 fs)

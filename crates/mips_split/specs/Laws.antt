@@ -2,6 +2,7 @@
 use Rattle.std.specs.Prelude.{◌≡◌, ℕ, ◌≤◌, List, length, Some, slice_get}
 use Rattle.mips_isa.specs.States.{State}
 use Rattle.runs.specs.Runs.{Outcome}
+use Rattle.mblock.specs.declared.limits.TheConstants.{BLOCK_INSTS}
 use Rattle.mblock.specs.Parts.{BlockParts}
 use Rattle.mblock.specs.UnitRuns.{unit_run, TellsApart, ComesTo}
 use Rattle.mblock.specs.Units.{AreLinked, AreOwners}
@@ -20,7 +21,7 @@ EachSplitUnitComesTo = (blocks : List BlockParts) → AreLinked blocks → (s : 
 
 -- pieces are short, go to blocks that exist, and keep their functions together
 pub record IsSplitWell (blocks : List BlockParts) (owner : List ℕ) : Type 0 where
-  pub short : (i : ℕ) (b : BlockParts) → slice_get (split_blocks blocks) i ≡ Some b → length b.insts ≤ 512
+  pub short : (i : ℕ) (b : BlockParts) → slice_get (split_blocks blocks) i ≡ Some b → length b.insts ≤ BLOCK_INSTS
   pub linked : AreLinked (split_blocks blocks)
   pub owners : AreOwners (split_blocks blocks) (split_owners blocks owner)
   pub some : length blocks ≤ length (split_blocks blocks)

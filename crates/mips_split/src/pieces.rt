@@ -1,31 +1,26 @@
 // Long blocks to pieces.
 
 ghost use Rattle.std.specs.Prelude.{◌≡◌, ℕ, suc, ◌+◌, ◌-◌, ◌/◌, ◌^◌, ◌<◌, ◌≤◌, ◌++◌, ◌∷◌, [], length, IfOk, OnOk, IfErr, slice_index, replicate};
-ghost use Rattle.mips_split.specs.Split.{renumbered, more_pieces, piece, pieces, count_of, total, firsts, split_from, owners_from, split_blocks, split_owners};
+ghost use Rattle.mips_split.specs.Split.{renumbered_exit, more_pieces, piece, pieces, count_of, total, firsts, split_from, owners_from, split_blocks, split_owners};
 ghost use Rattle.mips_isa.specs.States.{State};
 ghost use Rattle.runs.specs.Runs.{Outcome};
+ghost use Rattle.mblock.specs.declared.limits.TheConstants.{BLOCK_INSTS, UNIT_BLOCKS, UNIT_BYTES};
 ghost use Rattle.mblock.specs.UnitRuns.{ComesTo};
 ghost use Rattle.mblock.specs.Units.{AreLinked, AreOwners, unit_parts};
 
 use crate::fault::SelectFault;
 use crate::long::LongBlock;
-use mblock::{Block, BlockNumber, Exit, Unit};
+use mblock::{BLOCK_INSTS, Block, BlockNumber, Exit, UNIT_BLOCKS, Unit};
 use mips_isa::Plain;
 use std::alloc::{AllocError, Global};
 
-/// How many instructions a block has at most.
-const MOST: usize = 512;
-
-/// How many blocks a unit has at most.
-const FEW: usize = 1_048_576;
-
 // How many pieces come behind the first.
 fn count_more(block: &LongBlock) -> usize
-    ensures value { result ≡ more_pieces 512 block.now }
+    ensures value { result ≡ more_pieces BLOCK_INSTS block.now }
     ensures small { result < 2 ^ 63 }
 {
     let n = block.insts().len();
-    if n == 0 { 0 } else { (n - 1) / MOST }
+    if n == 0 { 0 } else { (n - 1) / BLOCK_INSTS }
 }
 
 // One more number.
@@ -38,7 +33,7 @@ fn push_number(numbers: &mut Vec<BlockNumber>, n: BlockNumber) -> Result<(), All
 
 // The number of a block.
 fn number(n: usize) -> BlockNumber
-    requires { n < 1048576 }
+    requires { n < UNIT_BLOCKS }
     ensures { result ≡ n }
 {
     match BlockNumber::new(n as u32) {
@@ -49,15 +44,15 @@ fn number(n: usize) -> BlockNumber
 
 // The number of each block's first piece.
 fn number_pieces(alloc: Global, long: &[LongBlock]) -> Result<Vec<BlockNumber>, SelectFault>
-    ensures numbers { IfOk result (λ ns. ns.items ≡ firsts 512 0 long.now) }
-    ensures few { IfOk result (λ _. total 512 long.now ≤ 1048576) }
-    ensures limit { IfErr result (λ e. e ≡ SelectFault.Limit → 1048576 < total 512 long.now) }
+    ensures numbers { IfOk result (λ ns. ns.items ≡ firsts BLOCK_INSTS 0 long.now) }
+    ensures few { IfOk result (λ _. total BLOCK_INSTS long.now ≤ UNIT_BLOCKS) }
+    ensures limit { IfErr result (λ e. e ≡ SelectFault.Limit → UNIT_BLOCKS < total BLOCK_INSTS long.now) }
 {
     let mut numbers = Vec::new(alloc);
     let mut k: usize = 0;
     for block in long {
         let more = count_more(block);
-        if more >= FEW - k {
+        if more >= UNIT_BLOCKS - k {
             return Err(SelectFault::Limit);
         }
         push_number(&mut numbers, number(k))?;
@@ -80,7 +75,7 @@ fn number_at(numbers: &[BlockNumber], n: BlockNumber) -> BlockNumber
 
 // The exit with the numbers of pieces.
 fn renumber(numbers: &[BlockNumber], exit: Exit) -> Exit
-    ensures { result ≡ renumbered (λ n. slice_index numbers.now n) exit }
+    ensures { result ≡ renumbered_exit (λ n. slice_index numbers.now n) exit }
 {
     match exit {
         Exit::Goto(t) => Exit::Goto(number_at(numbers, t)),
@@ -136,7 +131,7 @@ fn push_piece(
     insts: &[Plain],
     exit: Exit,
 ) -> Result<(), AllocError>
-    requires { length insts.now ≤ 512 }
+    requires { length insts.now ≤ BLOCK_INSTS }
     ensures { OnOk result (out.new.items ≡ out.old.items ++ piece insts.now exit ∷ []) }
 {
     let copy = copy_insts(alloc, insts)?;
@@ -154,12 +149,12 @@ fn push_pieces(
     insts: &[Plain],
     exit: Exit,
 ) -> Result<(), AllocError>
-    requires { length out.old.items + (length insts.now - 1) / 512 < 1048576 }
-    ensures { OnOk result (out.new.items ≡ out.old.items ++ pieces 512 exit ((length insts.now - 1) / 512) (length out.old.items) insts.now) }
+    requires { length out.old.items + (length insts.now - 1) / BLOCK_INSTS < UNIT_BLOCKS }
+    ensures { OnOk result (out.new.items ≡ out.old.items ++ pieces BLOCK_INSTS exit ((length insts.now - 1) / BLOCK_INSTS) (length out.old.items) insts.now) }
 {
     let mut rest = insts;
-    while rest.len() > MOST {
-        let (front, back) = rest.split_at(MOST);
+    while rest.len() > BLOCK_INSTS {
+        let (front, back) = rest.split_at(BLOCK_INSTS);
         let next = number(out.len() + 1);
         push_piece(alloc, out, front, Exit::Goto(next))?;
         rest = back;
@@ -173,8 +168,8 @@ fn pieces_of(
     numbers: &[BlockNumber],
     long: &[LongBlock],
 ) -> Result<Vec<Block>, AllocError>
-    requires { total 512 long.now ≤ 1048576 }
-    ensures { IfOk result (λ blocks. blocks.items ≡ split_from 512 (λ n. slice_index numbers.now n) 0 long.now) }
+    requires { total BLOCK_INSTS long.now ≤ UNIT_BLOCKS }
+    ensures { IfOk result (λ blocks. blocks.items ≡ split_from BLOCK_INSTS (λ n. slice_index numbers.now n) 0 long.now) }
 {
     let mut out = Vec::new(alloc);
     for block in long {
@@ -187,8 +182,8 @@ fn pieces_of(
 /// The blocks cut into pieces of at most 512 instructions.
 pub fn split(alloc: Global, long: &[LongBlock]) -> Result<Vec<Block>, SelectFault>
     ensures pieces { IfOk result (λ blocks. blocks.items ≡ split_blocks long.now) }
-    ensures few { IfOk result (λ blocks. length blocks.items ≤ 1048576) }
-    ensures limit { IfErr result (λ e. e ≡ SelectFault.Limit → 1048576 < length (split_blocks long.now)) }
+    ensures few { IfOk result (λ blocks. length blocks.items ≤ UNIT_BLOCKS) }
+    ensures limit { IfErr result (λ e. e ≡ SelectFault.Limit → UNIT_BLOCKS < length (split_blocks long.now)) }
 {
     let numbers = number_pieces(alloc, long)?;
     let blocks = pieces_of(alloc, numbers.as_slice(), long)?;
@@ -217,7 +212,7 @@ fn owners_of(
     owner: &[BlockNumber],
 ) -> Result<Vec<BlockNumber>, AllocError>
     requires { length owner.now ≡ length long.now }
-    ensures { IfOk result (λ os. os.items ≡ owners_from 512 (λ n. slice_index numbers.now n) long.now owner.now) }
+    ensures { IfOk result (λ os. os.items ≡ owners_from BLOCK_INSTS (λ n. slice_index numbers.now n) long.now owner.now) }
 {
     let mut owners = Vec::new(alloc);
     for i in 0..long.len() {
@@ -237,10 +232,10 @@ pub fn split_unit(
     requires linked { AreLinked long.now }
     requires owners { AreOwners long.now owner.now }
     requires some { 0 < length long.now }
-    requires few { length globals.items ≤ 1048576 }
+    requires few { length globals.items ≤ UNIT_BYTES }
     ensures unit { IfOk result (λ u. u ≡ unit_parts (split_blocks long.now) (split_owners long.now owner.now) globals.items) }
     ensures runs { IfOk result (λ u. (s : State) (r : ℕ) (end : Outcome) → ComesTo long.now s r end → ComesTo u.blocks s r end) }
-    ensures limit { IfErr result (λ e. e ≡ SelectFault.Limit → 1048576 < length (split_blocks long.now)) }
+    ensures limit { IfErr result (λ e. e ≡ SelectFault.Limit → UNIT_BLOCKS < length (split_blocks long.now)) }
 {
     let numbers = number_pieces(alloc, long)?;
     let blocks = pieces_of(alloc, numbers.as_slice(), long)?;

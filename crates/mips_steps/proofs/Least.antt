@@ -11,7 +11,7 @@ use Rattle.mips_isa.specs.States.{read}
 use Rattle.mips_isa.proofs.Rules.{first_is_least}
 use Rattle.mips_steps.specs.declared.steps.Fetched.{Fetched}
 use Rattle.mips_steps.specs.declared.steps.Fetched.TheVariants.{NoWord, NoInstruction, Fetches}
-use Rattle.mips_steps.specs.Machines.{Machine, Stepped, Goes, Halts, Sticks, breaks, broken, unless_broken, moved, called, printed, EachRuleIsLeast}
+use Rattle.mips_steps.specs.Machines.{Machine, Stepped, Goes, Halts, Sticks, breaks, broken, unless_broken, instruction_step, system_step, print_step, EachRuleIsLeast}
 
 -- an instruction that breaks no rule isn't stuck
 abbrev is_stuck_step : Stepped → Bool
@@ -24,10 +24,10 @@ rule_of d (Goes m) = d
 rule_of d (Halts w) = d
 rule_of d (Sticks r) = r
 
-called_moves : (number : ℕ) (m : Machine) → is_stuck_step (called number m) ≡ false
-called_moves number m = elim (number == 10) as (λ b. is_stuck_step (cond b (Halts (read 0 m.flow.state.regs 4)) (printed m)) ≡ false) [ true ↦ refl | false ↦ refl ]
+called_moves : (number : ℕ) (m : Machine) → is_stuck_step (system_step number m) ≡ false
+called_moves number m = elim (number == 10) as (λ b. is_stuck_step (cond b (Halts (read 0 m.flow.state.regs 4)) (print_step m)) ≡ false) [ true ↦ refl | false ↦ refl ]
 
-moves : (i : Inst) (m : Machine) → is_stuck_step (moved i m) ≡ false
+moves : (i : Inst) (m : Machine) → is_stuck_step (instruction_step i m) ≡ false
 moves (insts.Plain p) m = refl
 moves (insts.Control (BranchPair test a b offset)) m = refl
 moves (insts.Control (BranchZero test a offset)) m = refl

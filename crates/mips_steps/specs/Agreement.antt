@@ -13,6 +13,6 @@ EndsAs (Done w) e = e ≡ endings.Halt w
 EndsAs Wrong e = ⊥
 EndsAs More e = e ≡ endings.More
 
-pub record Agrees (program : Outcome) (machine : machine.Outcome) : Type 0 where
+pub record Agrees (program : Outcome) (machine : machine.MachineOutcome) : Type 0 where
   pub end : EndsAs program.end machine.end
   pub output : machine.output ≡ program.output

@@ -9,7 +9,7 @@ use Rattle.mips_isa.specs.declared.action.Operand.TheVariants.{Held, Fixed}
 use Rattle.mips_isa.specs.declared.action.Action.{Action}
 use Rattle.mips_isa.specs.declared.action.Action.TheVariants.{Computes, Sets, Loads, Stores, Multiplies, Divides, MovesHigh, MovesLow}
 use Rattle.mips_isa.specs.States.{State, IsWords, is_register, read, put, is_open, load_word, store_word}
-use Rattle.mips_isa.specs.Actions.{operand, address, is_safe, after, product_high, product_low, quotient_operator, remainder_operator}
+use Rattle.mips_isa.specs.Actions.{operand, address, is_safe, state_after, product_high, product_low, quotient_operator, remainder_operator}
 use Rattle.mips_isa.proofs.Registers.{put-value, put_outside}
 use Rattle.mblock.specs.BlockMeaning.{Shape, Goes, ChoosesPair, ChoosesZero, Calls, Returns, Prints, Halts, exit_puts}
 use Rattle.mblock.proofs.Runs.{total, AllSafe}
@@ -50,7 +50,7 @@ module _ (s : State) (link : ℕ) (words : IsWords s) (low : link < 2 ^ 32) wher
   regs_step t d v w e = put-value (λ x. word_at x s link) t.regs d v w e
 
   -- one action
-  pub step-value : (a : Action) (t : TreeState) → values s link (trees_after a t) ≡ after a (values s link t)
+  pub step-value : (a : Action) (t : TreeState) → values s link (trees_after a t) ≡ state_after a (values s link t)
   step-value (Computes d op a b) t =
       ap (λ f. record (values s link t) { regs = f }) (regs_step t d _ _ (op_tree-value op (held t a) (operand_tree t b) s link words low ∙ ap₂ (op_value op) (held-value t a) (operand-value t b)))
   step-value (Sets d w) t = ap (λ f. record (values s link t) { regs = f }) (regs_step t d _ _ refl)

@@ -1,6 +1,6 @@
 use Rattle.std.proofs.Common.{◌++◌, ◌∷◌, decimal}
 use Rattle.mips_isa.specs.Texts.{register_text}
-use Rattle.check_text.proofs.Lacking.{comma_register, comma_block}
+use Rattle.check_text.proofs.Lacking.{comma_register}
 use Rattle.check_text.proofs.line.pair.Goals as goal
 
 pub returns-in_err-parts-clause-only : goal.returns-in_err-parts-clause-only
@@ -9,45 +9,23 @@ returns-in_err-parts-clause-only c = λ rs rt t e h.
 
 pub returns-in_err-rs-clause-only : goal.returns-in_err-rs-clause-only
 returns-in_err-rs-clause-only c = λ rs rt t e h.
-    let at_parts = c.in_ok-parts.ensures.only (register_text rs) (register_text rt) (decimal t ++ 44 ∷ decimal e) (comma_register rs h.0.0) (comma_register rt h.0.1) h.2 in
-    absurd (let none = c.in_err-rs.ensures.only rs h.0.0 at_parts.0 in cc)
+    let at = c.in_ok-parts.ensures.only (register_text rs) (register_text rt) (decimal t ++ 44 ∷ decimal e) (comma_register rs h.0.0) (comma_register rt h.0.1) h.2 in
+    absurd (let none = c.in_err-rs.ensures.only rs h.0.0 at.0 in cc)
 
 pub returns-in_err-rt-clause-only : goal.returns-in_err-rt-clause-only
 returns-in_err-rt-clause-only c = λ rs rt t e h.
-    let at_parts = c.in_ok-parts.ensures.only (register_text rs) (register_text rt) (decimal t ++ 44 ∷ decimal e) (comma_register rs h.0.0) (comma_register rt h.0.1) h.2 in
-    let at_rs = c.in_ok-rs.ensures.only rs h.0.0 at_parts.0 in
-    absurd (let none = c.in_err-rt.ensures.only rt h.0.1 at_parts.1 in cc)
+    let at = c.in_ok-parts.ensures.only (register_text rs) (register_text rt) (decimal t ++ 44 ∷ decimal e) (comma_register rs h.0.0) (comma_register rt h.0.1) h.2 in
+    absurd (let none = c.in_err-rt.ensures.only rt h.0.1 at.1 in cc)
 
 pub returns-in_err-targets-clause-only : goal.returns-in_err-targets-clause-only
 returns-in_err-targets-clause-only c = λ rs rt t e h.
-    let at_parts = c.in_ok-parts.ensures.only (register_text rs) (register_text rt) (decimal t ++ 44 ∷ decimal e) (comma_register rs h.0.0) (comma_register rt h.0.1) h.2 in
-    let at_rs = c.in_ok-rs.ensures.only rs h.0.0 at_parts.0 in
-    let at_rt = c.in_ok-rt.ensures.only rt h.0.1 at_parts.1 in
-    absurd (let none = c.in_err-targets.ensures.only (decimal t) (decimal e) (comma_block t h.0.2) at_parts.2 in none)
-
-pub returns-in_err-then-clause-only : goal.returns-in_err-then-clause-only
-returns-in_err-then-clause-only c = λ rs rt t e h.
-    let at_parts = c.in_ok-parts.ensures.only (register_text rs) (register_text rt) (decimal t ++ 44 ∷ decimal e) (comma_register rs h.0.0) (comma_register rt h.0.1) h.2 in
-    let at_rs = c.in_ok-rs.ensures.only rs h.0.0 at_parts.0 in
-    let at_rt = c.in_ok-rt.ensures.only rt h.0.1 at_parts.1 in
-    let at_targets = c.in_ok-targets.ensures.only (decimal t) (decimal e) (comma_block t h.0.2) at_parts.2 in
-    absurd (let none = c.in_err-then.ensures.only t h.0.2 at_targets.0 in cc)
-
-pub returns-in_err-other-clause-only : goal.returns-in_err-other-clause-only
-returns-in_err-other-clause-only c = λ rs rt t e h.
-    let at_parts = c.in_ok-parts.ensures.only (register_text rs) (register_text rt) (decimal t ++ 44 ∷ decimal e) (comma_register rs h.0.0) (comma_register rt h.0.1) h.2 in
-    let at_rs = c.in_ok-rs.ensures.only rs h.0.0 at_parts.0 in
-    let at_rt = c.in_ok-rt.ensures.only rt h.0.1 at_parts.1 in
-    let at_targets = c.in_ok-targets.ensures.only (decimal t) (decimal e) (comma_block t h.0.2) at_parts.2 in
-    let at_then = c.in_ok-then.ensures.only t h.0.2 at_targets.0 in
-    absurd (let none = c.in_err-other.ensures.only e h.0.3 at_targets.1 in cc)
+    let at = c.in_ok-parts.ensures.only (register_text rs) (register_text rt) (decimal t ++ 44 ∷ decimal e) (comma_register rs h.0.0) (comma_register rt h.0.1) h.2 in
+    absurd (let none = c.in_err-targets.ensures.only t e h.0.2 h.0.3 at.2 in none)
 
 pub returns-clause-only : goal.returns-clause-only
 returns-clause-only c = λ rs rt t e h.
-    let at_parts = c.in_ok-parts.ensures.only (register_text rs) (register_text rt) (decimal t ++ 44 ∷ decimal e) (comma_register rs h.0.0) (comma_register rt h.0.1) h.2 in
-    let at_rs = c.in_ok-rs.ensures.only rs h.0.0 at_parts.0 in
-    let at_rt = c.in_ok-rt.ensures.only rt h.0.1 at_parts.1 in
-    let at_targets = c.in_ok-targets.ensures.only (decimal t) (decimal e) (comma_block t h.0.2) at_parts.2 in
-    let at_then = c.in_ok-then.ensures.only t h.0.2 at_targets.0 in
-    let at_other = c.in_ok-other.ensures.only e h.0.3 at_targets.1 in
+    let at = c.in_ok-parts.ensures.only (register_text rs) (register_text rt) (decimal t ++ 44 ∷ decimal e) (comma_register rs h.0.0) (comma_register rt h.0.1) h.2 in
+    let at_rs = c.in_ok-rs.ensures.only rs h.0.0 at.0 in
+    let at_rt = c.in_ok-rt.ensures.only rt h.0.1 at.1 in
+    let targets = c.in_ok-targets.ensures.only t e h.0.2 h.0.3 at.2 in
     cc

@@ -1,5 +1,5 @@
 use Rattle.std.proofs.Common.{ap}
-use Rattle.check_text.specs.Spots.{Done}
+use Rattle.check_text.specs.StageParts.{Done}
 use Rattle.check_text.proofs.reader.at_slot.Goals as goal
 
 pub returns-in-None-clause-leads : goal.returns-in-None-clause-leads

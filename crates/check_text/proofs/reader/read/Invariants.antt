@@ -1,11 +1,11 @@
 use Rattle.std.proofs.Common.{List, ◌≤◌, ◌+◌, ℕ, length}
-use Rattle.check_text.specs.Places.{spot_of, Fits}
-use Rattle.check_text.specs.declared.place.Place.{Place}
+use Rattle.check_text.specs.Stages.{stage_parts, Fits}
+use Rattle.check_text.specs.declared.stage.Stage.{Stage}
 use Rattle.check_text.proofs.Reading.{Reading}
 use Rattle.check_text.proofs.reader.read.Given as goal
 
-pub record Kept (text rest : List ℕ) (count : ℕ) (place : Place) : Type 0 where
-  pub reading : Reading text rest count (spot_of place)
+pub record Kept (text rest : List ℕ) (count : ℕ) (place : Stage) : Type 0 where
+  pub reading : Reading text rest count (stage_parts place)
   pub fits : Fits place
   pub small : count + length rest ≤ length text
 

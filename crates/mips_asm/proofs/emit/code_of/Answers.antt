@@ -26,7 +26,7 @@ pub put_orders-requires-clause-places : goal.put_orders-requires-clause-places
 put_orders-requires-clause-places c =
     let at = c.deref.ensures.value ∙ c.in_ok-places.ensures in
     let total = c.total.ensures in
-    let le = c.if-total-gt1048576.false in
+    let le = c.if-total-gt-CODE_WORDS.false in
     subst (λ (p : List ℕ). All (λ q. q ≤ 1048576) p) (sym at) (all_small c.args.orders.now (omega arith))
 
 pub put_orders-requires-clause-near : goal.put_orders-requires-clause-near

@@ -5,8 +5,8 @@ use Rattle.mips_asm.proofs.Counting.{step_counts, step_too_many, reset, kept_on}
 use Rattle.mips_asm.proofs.limits.functions_fit.Goals as goal
 use Rattle.mips_asm.proofs.limits.functions_fit.Goals.{then-first-k, else-first-k}
 
-pub returns-then-words-gt32000 : goal.returns-then-words-gt32000
-returns-then-words-gt32000 c =
+pub returns-then-words-gt-FUNCTION_WORDS : goal.returns-then-words-gt-FUNCTION_WORDS
+returns-then-words-gt-FUNCTION_WORDS c =
     let o = c.index-orders-k.result in
     let k = c.loop-k.k in
     let own = slice_index c.args.owner.now in
@@ -17,7 +17,7 @@ returns-then-words-gt32000 c =
       | else-first-k w ↦ kept_on (own k) k c.if-first-k.words c.loop-k.words (λ e. w.if-first-k.false (sym first ∙ e)) w.words-is
     ] in
     let value = c.size-words.ensures.value in
-    let gt = c.if-words-gt32000.true in
+    let gt = c.if-words-gt-FUNCTION_WORDS.true in
     (λ e. absurd (true≢false (sym e)), λ fit. absurd (step_too_many _ own c.requires.functions c.args.orders.now o k refl c.loop-k-test.true c.index-orders-k.is c.loop-k.words c.if-first-k.words c.loop-k.invariant start (omega arith) fit))
 
 pub loop-k-preserved : goal.loop-k-preserved
@@ -32,5 +32,5 @@ loop-k-preserved c =
       | else-first-k w ↦ kept_on (own k) k c.if-first-k.words c.loop-k.words (λ e. w.if-first-k.false (sym first ∙ e)) w.words-is
     ] in
     let value = c.size-words.ensures.value in
-    let le = c.if-words-gt32000.false in
+    let le = c.if-words-gt-FUNCTION_WORDS.false in
     rw value (step_counts _ own c.requires.functions c.args.orders.now o k refl c.loop-k-test.true c.index-orders-k.is c.loop-k.words c.if-first-k.words c.loop-k.invariant start (omega arith))

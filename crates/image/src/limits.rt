@@ -1,0 +1,10 @@
+// The sizes of an image.
+
+/// How many words of code an image has at most.
+pub const CODE_WORDS: usize = 1_048_576;
+
+/// How many bytes of data an image has at most.
+pub const DATA_BYTES: usize = 1_048_576;
+
+/// How many blocks the counts of an image tell of at most.
+pub const COUNTED_BLOCKS: u64 = 1_048_576;
