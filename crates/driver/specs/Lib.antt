@@ -1,4 +1,3 @@
-pub mod Commands
 pub mod Checks
 pub mod Interps
 pub mod Texts

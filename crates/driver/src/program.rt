@@ -1,12 +1,10 @@
 ghost use Rattle.std.specs.Prelude.{◌≡◌, ◌≢◌, ◌≤◌, IfOk, Some, map, true};
 ghost use Rattle.clap.specs.declared.error.ErrorKind.TheVariants.{OutOfMemory};
 ghost use Rattle.clap.specs.Words.{kind_of, takes};
-ghost use Rattle.driver.specs.Commands.{mcc_app};
+ghost use Rattle.command_line.specs.Commands.{mcc_app};
 ghost use Rattle.driver.specs.Texts.{end_status, exit_status, fault_text};
 ghost use Rattle.driver.specs.declared.verdicts.CheckAnswer.{CheckAnswer};
 
-use crate::command::Command;
-use crate::command_line::words;
 use crate::place::{Spot, line_offset, place_lines, spot_of};
 use crate::source_runs::{InterpFault, interp};
 use crate::texts::EndLine;
@@ -15,6 +13,7 @@ use c_front::FrontFaultKind;
 use c_statements::TypeFaultKind;
 use clap::Error;
 use clap::error::ErrorKind;
+use command_line::{Command, words};
 use runs::{End, Ran};
 use std::alloc::Global;
 use std::fmt;

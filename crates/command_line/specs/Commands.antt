@@ -4,8 +4,8 @@ use Rattle.std.specs.Str.Parse.{IsNumeral, digits_value, without_leading_plus}
 use Rattle.clap.specs.Words.{App, Row, Rule, Text, first_of, one_of, new_app, new_rule, subcommand_of, with_rule, with_subcommand}
 use Rattle.clap.specs.declared.builder.ArgAction.TheVariants.{Set}
 use Rattle.clap.specs.declared.builder.value_parser.ValueParser.TheVariants as parsers
-use Rattle.driver.specs.declared.command.Command.{Command}
-use Rattle.driver.specs.declared.command.Command.TheVariants.{Check, Interp}
+use Rattle.command_line.specs.declared.command.Command.{Command}
+use Rattle.command_line.specs.declared.command.Command.TheVariants.{Check, Interp}
 
 -- an argument by its place, which must be there
 abbrev pub required_rule : Text → Rule

@@ -1,7 +1,7 @@
 use Rattle.clap.specs.Words.{app_of, kind_of}
-use Rattle.driver.specs.Commands.{mcc_app}
-use Rattle.driver.proofs.Moves.{err_of, refused_moves}
-use Rattle.driver.proofs.command_line.words.Goals as goal
+use Rattle.command_line.specs.Commands.{mcc_app}
+use Rattle.command_line.proofs.Moves.{err_of, refused_moves}
+use Rattle.command_line.proofs.values.words.Goals as goal
 
 pub returns-in_err-matches-clause-refused : goal.returns-in_err-matches-clause-refused
 returns-in_err-matches-clause-refused c =

@@ -1,0 +1,13 @@
+//! The command line of `mcc`.
+//!
+//! For the layer above there is one contract: where `words` is Ok, the command and its values are clap's matches of the
+//! words, in their range (`IsCommand` of `specs/Commands.antt`), and where clap takes the words an error is want of
+//! memory alone.
+#![tactic(auto)]
+
+mod command;
+mod grammar;
+mod values;
+
+pub use command::Command;
+pub use values::words;
