@@ -160,7 +160,7 @@ module _ (p : TypedProgram) (n : ℕ) where
         let here : sc.locals < n = omega (arith, room) in
         let there = declared-there text sc integer_type x h here in
         let next : suc sc.locals + declared_in_all others ≤ n = omega (arith, room) in
-        (fits-first g l (seen text (with_local text sc integer_type x) there) here v (λ k at w. none k at (inr (inl w))), fits-items g l there next rest (λ k at w. none k at (inr (inr w))))
+        (fits-first g l (seen text (with_local text sc integer_type x) there) here v (λ k at w. none k at (inl (inr w))), fits-items g l there next rest (λ k at w. none k at (inr w)))
 
 no-more : (text : List ℕ) (sc : Scopes) (x : Identifier) → sc.locals ≤ 128 → HasNone (FaultyDeclarator text sc x) → suc sc.locals ≤ 128
 no-more text sc x few none = let other : sc.locals ≢ 128 = λ e. none Limit x.at (local_too_many e) in omega (arith, few, other)
@@ -188,8 +188,8 @@ mutual
       let second = all-locals-fit text g l (behind sc s) rest first (λ k at w. none k at (inr w)) in
       omega (arith, second)
   all-locals-fit text g l sc (Tree.more_items (Tree.declare integer_type x v) rest) few none =
-      let first = no-more text sc x few (λ k at w. none k at (inl w)) in
-      let second = all-locals-fit text g l (with_local text sc integer_type x) rest first (λ k at w. none k at (inr (inr w))) in
+      let first = no-more text sc x few (λ k at w. none k at (inl (inl w))) in
+      let second = all-locals-fit text g l (with_local text sc integer_type x) rest first (λ k at w. none k at (inr w)) in
       omega (arith, second)
 
 pub behind-locals : (text : List ℕ) (sc : Scopes) (is : Tree.Items) → (behind_items text sc is).locals ≡ sc.locals + declared_in_all is
