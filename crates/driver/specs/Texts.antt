@@ -7,9 +7,7 @@ use Rattle.block_validator.specs.declared.place.Place.{Place}
 use Rattle.block_validator.specs.declared.place.Place.TheVariants as places
 use Rattle.runs.specs.declared.ran.End.{End}
 use Rattle.runs.specs.declared.ran.End.TheVariants.{Done, Wrong, More}
-use Rattle.c_front.specs.declared.text.FrontFaultKind.{FrontFaultKind}
-use Rattle.c_front.specs.declared.text.FrontFaultKind.TheVariants as front
-use Rattle.c_front.specs.Texts.{number_of}
+use Rattle.c_front.specs.Messages.{fault_text as front_fault_text}
 use Rattle.c_statements.specs.declared.fault.TypeFaultKind.{TypeFaultKind}
 use Rattle.c_statements.specs.declared.fault.TypeFaultKind.TheVariants as types
 use Rattle.c_statements.specs.Faults.{number_of as type_number_of}
@@ -55,14 +53,6 @@ check_fault_text (check_faults.Line n) = codes "fault 70 Line " ++ decimal n
 check_fault_text check_faults.NoMemory = codes "fault 30 NoMemory"
 
 -- the names of faults
-abbrev pub front_name : FrontFaultKind → List ℕ
-front_name front.Byte = codes "Byte"
-front_name front.Token = codes "Token"
-front_name front.Syntax = codes "Syntax"
-front_name front.Constant = codes "Constant"
-front_name front.Size = codes "Size"
-front_name front.NoMemory = codes "NoMemory"
-
 abbrev pub type_name : TypeFaultKind → List ℕ
 type_name types.Undeclared = codes "Undeclared"
 type_name types.Redeclared = codes "Redeclared"
@@ -77,7 +67,7 @@ abbrev pub placed_fault_text : (number : ℕ) → (name : List ℕ) → (at : �
 placed_fault_text number name at = codes "fault " ++ decimal number ++ codes " " ++ name ++ codes " at " ++ decimal at
 
 abbrev pub interp_fault_text : InterpFault → List ℕ
-interp_fault_text (interp_faults.Front f) = placed_fault_text (number_of f.kind) (front_name f.kind) f.at
+interp_fault_text (interp_faults.Front f) = front_fault_text f
 interp_fault_text (interp_faults.Types f) = placed_fault_text (type_number_of f.kind) (type_name f.kind) f.at
 interp_fault_text interp_faults.NoMemory = codes "fault 30 NoMemory"
 

@@ -2,12 +2,11 @@
 
 ghost use Rattle.std.specs.Prelude.{◌≡◌, Some};
 ghost use Rattle.std.specs.Fmt.{DisplaysOnOk};
-ghost use Rattle.driver.specs.Texts.{answer_text, check_fault_text, end_text, front_name, interp_fault_text, place_text, rule_text, type_name};
+ghost use Rattle.driver.specs.Texts.{answer_text, check_fault_text, end_text, interp_fault_text, place_text, rule_text, type_name};
 
 use crate::source_runs::InterpFault;
 use crate::verdicts::{CheckAnswer, CheckFault};
 use block_validator::Place;
-use c_front::FrontFaultKind;
 use c_statements::TypeFaultKind;
 use mblock::Unclean;
 use runs::End;
@@ -71,19 +70,6 @@ impl fmt::Display for CheckFault {
     }
 }
 
-fn front_name(kind: FrontFaultKind) -> &'static str
-    ensures { result.now ≡ front_name kind }
-{
-    match kind {
-        FrontFaultKind::Byte => "Byte",
-        FrontFaultKind::Token => "Token",
-        FrontFaultKind::Syntax => "Syntax",
-        FrontFaultKind::Constant => "Constant",
-        FrontFaultKind::Size => "Size",
-        FrontFaultKind::NoMemory => "NoMemory",
-    }
-}
-
 fn type_name(kind: TypeFaultKind) -> &'static str
     ensures { result.now ≡ type_name kind }
 {
@@ -104,12 +90,7 @@ impl fmt::Display for InterpFault {
 
     fn fmt<W: fmt::Write>(&self, f: &mut fmt::Formatter<W>) -> fmt::Result {
         match self {
-            InterpFault::Front(fault) => {
-                let number = fault.kind.number();
-                let name = front_name(fault.kind);
-                let at = fault.at;
-                write!(f, "fault {number} {name} at {at}")
-            }
+            InterpFault::Front(fault) => write!(f, "{fault}"),
             InterpFault::Types(fault) => {
                 let number = fault.kind.number();
                 let name = type_name(fault.kind);
