@@ -1,5 +1,5 @@
 -- A text that has a fault spells nothing.
-use Rattle.std.proofs.Common.{◌≡◌, ◌<◌, ℕ, List, [], ◌∙◌, Bool, true, false, length, refl, sym, ap, subst, arith}
+use Rattle.std.proofs.Common.{◌≡◌, ◌<◌, ℕ, List, [], ◌∙◌, Bool, true, false, length, refl, ap, subst, arith}
 use Rattle.c_tokens.specs.declared.token.Token.{Token}
 use Rattle.c_tokens.proofs.Once.{lexes-once, never-lexes, stops-once}
 use Rattle.c_front.specs.declared.fault.FrontFaultKind.{FrontFaultKind}
@@ -8,8 +8,7 @@ use Rattle.c_front.specs.Tree.{Declaration}
 use Rattle.c_front.specs.Grammar.{Spells}
 use Rattle.c_front.specs.Texts.{SpellsText, IsTextFault, IsBadByte, place_or, refusal_kind, too_long, bad_byte, bad_token, bad_syntax, no_memory}
 use Rattle.c_front.proofs.Theorems.{one-program, one-wrong}
-use Rattle.c_tokens.specs.declared.fault.Refusal.{Refusal}
-use Rattle.c_tokens.specs.Texts.{Lexes, LexStops}
+use Rattle.c_tokens.specs.Texts.{Lexes}
 use Rattle.c_front.specs.Syntax.{IsFirstWrong}
 
 true-false : {x : Bool} → x ≡ true → x ≡ false → ⊥

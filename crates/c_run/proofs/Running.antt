@@ -1,5 +1,5 @@
 -- Steps, one after another.
-use Rattle.std.proofs.Common.{◌≡◌, ℕ, zero, suc, ◌+◌, ◌-◌, ◌<◌, ◌≤◌, List, refl, sym, ◌∙◌, ap, arith}
+use Rattle.std.proofs.Common.{◌≡◌, ℕ, suc, ◌+◌, ◌-◌, ◌<◌, ◌≤◌, List, refl, sym, ◌∙◌, ap, arith}
 use Rattle.runs.specs.Runs.{Ended, Failed, outcome}
 use Rattle.runs.specs.declared.ran.End.TheVariants.{Done, Wrong}
 use Rattle.runs.proofs.Steps.{steps-stay}

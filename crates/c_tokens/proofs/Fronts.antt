@@ -1,5 +1,5 @@
 -- What stands at the front of some bytes, by the tests of the first ones.
-use Rattle.std.proofs.Common.{◌≡◌, ℕ, List, [], ◌∷◌, drop, take, Bool, true, false, sym, ap, ◌∙◌, if◌then◌else◌, codes}
+use Rattle.std.proofs.Common.{◌≡◌, ℕ, List, ◌∷◌, drop, take, Bool, true, false, sym, ap, ◌∙◌, if◌then◌else◌, codes}
 use Rattle.c_tokens.specs.declared.lexer.Lexeme.TheVariants.{Separator}
 use Rattle.c_tokens.specs.Lexing.{is_space, is_letter, is_digit, is_front, word_lexeme, keywords, comment_length, signs}
 use Rattle.c_tokens.specs.Digits.{constant_lexeme}

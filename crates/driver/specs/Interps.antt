@@ -4,7 +4,7 @@ use Rattle.runs.specs.Runs.{Outcome}
 use Rattle.c_front.specs.Tree.{Declaration}
 use Rattle.c_front.specs.Texts.{SpellsText, IsTextFault}
 use Rattle.c_typed.specs.Trees.{TypedProgram}
-use Rattle.c_statements.specs.Faults.{IsCheckFault}
+use Rattle.c_statements.specs.Faults.{IsTypeFault}
 use Rattle.c_types.specs.Programs.{FaultyProgram}
 use Rattle.c_types.specs.Typed.{SpellsTyped}
 use Rattle.c_typed.specs.Meaning.{source_run}
@@ -20,5 +20,5 @@ pub record IsRun (text : List ℕ) (depth steps : ℕ) (o : Outcome) : Type 0 wh
 -- the text's own fault, or one of the program that it spells
 abbrev pub IsInterpFault : List ℕ → InterpFault → Type 0
 IsInterpFault text (faults.Front f) = IsTextFault text f.kind f.at
-IsInterpFault text (faults.Types f) = (all : List Declaration) × SpellsText text all × IsCheckFault text (FaultyProgram text all) f
+IsInterpFault text (faults.Types f) = (all : List Declaration) × SpellsText text all × IsTypeFault text (FaultyProgram text all) f
 IsInterpFault text faults.NoMemory = Unit {0}
