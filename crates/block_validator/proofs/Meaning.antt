@@ -1,12 +1,11 @@
 -- An order with its block's trees means the block.
-use Rattle.std.proofs.Common.{◌≡◌, ◌<◌, ◌^◌, ℕ, Bool, true, false, cond, List, [], ◌∷◌, map, Option, Some, None, refl, sym, ap, ap₂, ◌∙◌, subst, arith}
-use Rattle.std.proofs.lemmas.Option.{same_Some, none-some}
+use Rattle.std.proofs.Common.{◌≡◌, ◌<◌, ◌^◌, ℕ, Bool, true, false, List, [], ◌∷◌, map, Some, refl, sym, ap, ap₂, ◌∙◌, subst, arith}
 use Rattle.mips_isa.specs.States.{State, is_register, read, IsWords}
 use Rattle.mips_isa.specs.declared.action.Action.{Action}
-use Rattle.mips_isa.specs.Actions.{action_of, is_safe, after}
+use Rattle.mips_isa.specs.Actions.{action_of}
 use Rattle.mblock.specs.declared.exit.Exit.{Exit}
 use Rattle.mblock.specs.Parts.{BlockParts, OrderParts}
-use Rattle.mblock.specs.BlockMeaning.{exit_shape, exit_reads, depart, Outcome, run, leave, left, block_effect}
+use Rattle.mblock.specs.BlockMeaning.{exit_shape, exit_reads, depart, Outcome}
 use Rattle.mblock.specs.Clean.{slot_actions}
 use Rattle.mblock.proofs.Totals.{block_total}
 use Rattle.mblock.proofs.Runs.{total, AllSafe, exited, leaves_total, order_runs}
