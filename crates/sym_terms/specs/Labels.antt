@@ -1,5 +1,5 @@
 -- The words of labels: the kind in the upper 32 bits, the content in the lower.
-use Rattle.std.specs.Prelude.{ℕ, ◌+◌, ◌*◌, ◌/◌, ◌%◌, ◌^◌, ◌&&◌, Bool, true, Option, Some, None, if◌then◌else◌, ◌==◌, nat_lt, unwrap_or}
+use Rattle.std.specs.Prelude.{ℕ, ◌+◌, ◌*◌, ◌/◌, ◌%◌, ◌^◌, ◌&&◌, Bool, true, Option, Some, None, if◌then◌else◌, ◌==◌, nat_lt}
 use Rattle.words.specs.declared.operator.Operator.{Operator}
 use Rattle.words.specs.declared.operator.Operator.TheVariants.{Addu, Subu, And, Or, Xor, Nor, Slt, Sltu, Sll, Srl, Sra, MultHigh, MultLow, MultuHigh, MultuLow, DivQuotient, DivRemainder, DivuQuotient, DivuRemainder}
 use Rattle.sym_terms.specs.declared.label.Place.{Place}
@@ -87,7 +87,3 @@ label_in kind content =
 -- the label that has this word
 abbrev pub label_with : ℕ → Option Label
 label_with w = label_in (w / 2 ^ 32) (w % 2 ^ 32)
-
--- the label of a word that is one's
-abbrev pub label_at : ℕ → Label
-label_at w = unwrap_or (label_with w) Mem0

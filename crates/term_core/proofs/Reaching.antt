@@ -6,19 +6,19 @@ use mathlib.Core.Logic.{dite}
 use mathlib.Core.Option.{some, none, some-injective, some-ne-none}
 use lib.ListN.{get_elem?}
 use prog.Atomic.{either}
-use Rattle.sym_terms.specs.Labels.{label_word, label_at, is_label}
-use Rattle.sym_terms.proofs.Back.{label_back}
+use Rattle.sym_terms.specs.Labels.{label_word, label_with, is_label}
+use Rattle.sym_terms.proofs.Back.{label_with-back}
 use Rattle.term_core.specs.declared.Call.{Call}
 use Rattle.term_core.specs.declared.Call.TheVariants.{Intern, Find, Read}
 use Rattle.term_core.specs.declared.Answer.{Answer}
-use Rattle.term_core.specs.declared.Answer.TheVariants.{Full, Missing}
+use Rattle.term_core.specs.declared.Answer.TheVariants.{Full, Missing, Node}
 use Rattle.term_core.specs.declared.Entry.{Entry}
 use Rattle.term_core.specs.declared.Stage.{Stage}
 use Rattle.term_core.specs.declared.Stage.TheVariants.{Idle, Looking, AtLink, AtContent, Writing, Linking, Reading}
 use Rattle.term_core.specs.declared.Walker.{Walker}
 use Rattle.sym_terms.specs.Trees.{Tree, Trees, node}
 use Rattle.term_core.specs.Terms.{Pair, tree_at, trees_at, tree_over, node_if, is_there, pair_if, added_by, adds, pairs_of, pairs_from, Has, IsAnswer, IsLegal, calls_by, StartsWith, occurs}
-use Rattle.term_core.specs.World.{Shape, IsShape, World, Item, Choice, begins, looks, Turn, reached, run, start, step, does, acts, steps, begun, begun_at, chosen, may_begin, all_occur, at_most_three, first_stage, is_idle, place, place_at, becomes, becomes_at, turn, turn_at, goes, ends, entry, follows, found_none, linked, content, hit, answer_of, fresh, fresh_from, link_of}
+use Rattle.term_core.specs.World.{Shape, IsShape, World, Item, Choice, begins, looks, Turn, reached, run, start, step, does, acts, steps, begun, begun_at, chosen, may_begin, all_occur, at_most_three, first_stage, is_idle, place, place_at, becomes, becomes_at, turn, turn_at, goes, ends, entry, follows, found_none, linked, content, hit, read_answer, answer_of, fresh, fresh_from, link_of}
 use Rattle.term_core.specs.Law.{Sees, Lawful}
 use Rattle.term_core.proofs.Replay.{IsThere, One, one_of, there_from, tree_later, pairs_append, pairs_more, same_from, legal_front, tree_more}
 use Rattle.term_core.proofs.Chains.{Mem, mem_here, mem_cases, Linked, end_of, end_cases, end_snoc, linked_rest, linked_none, linked_some, linked_frame, at_same, at_other, set_itself}
@@ -357,10 +357,11 @@ module _ (s : Shape) (ok : IsShape s) (w : World) (inv : Inv s w) (p : ℕ) (v :
           let x = k.there in
           let o = (inv.shared.there t x.0 x.1).0 in
           let y0 = loaded_word 0 (omega arith) in let y1 = loaded_word 1 (omega arith) in let y2 = loaded_word 2 (omega arith) in let y3 = loaded_word 3 (omega arith) in
-          let l : label_at (slice_index (xs ++ n ∷ []) 0) ≡ o.label = ap label_at (y0 ∙ Rattle.term_core.proofs.Keys.label_is s w.words t o.label o.kids o.three o.holds) ∙ label_back o.label o.proper in
+          let l : label_with (slice_index (xs ++ n ∷ []) 0) ≡ Some o.label = ap label_with (y0 ∙ Rattle.term_core.proofs.Keys.label_is s w.words t o.label o.kids o.three o.holds) ∙ label_with-back o.label o.proper in
           let ks : Rattle.term_core.specs.World.kid_in (slice_index (xs ++ n ∷ []) 1) (Rattle.term_core.specs.World.kid_in (slice_index (xs ++ n ∷ []) 2) (Rattle.term_core.specs.World.kid_in (slice_index (xs ++ n ∷ []) 3) [])) ≡ o.kids
           = (λ i. Rattle.term_core.specs.World.kid_in (y1 i) (Rattle.term_core.specs.World.kid_in (y2 i) (Rattle.term_core.specs.World.kid_in (y3 i) []))) ∙ Rattle.term_core.proofs.Keys.kids_is s w.words t o.label o.kids o.three o.holds in
-          (x.0, x.1, (λ i. tree_over ps (l i) (ks i)) ∙ (ap (node_if o.label) o.kids_are ∙ ap Some (sym o.tree_is)))
+          let said : answer_of (xs ++ n ∷ []) ≡ Node o.label o.kids = λ i. read_answer (l i) (ks i) in
+          subst (IsAnswer s.nodes ps b.by (Read t)) (sym said) (x.0, x.1, ap (node_if o.label) o.kids_are ∙ ap Some (sym o.tree_is))
 
   -- a look: the pass sees more of the history
   look_on : (k : ℕ) → Next 0 (record { walker = record b { stage = Idle; seen = take (max k (length b.seen)) w.history }; said = [] }) (slice_index w.words 0)

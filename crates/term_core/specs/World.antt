@@ -1,10 +1,10 @@
 -- Passes and words, and the single steps: S1 loads a link, S2 loads a content word, S3 stores a content word of a node of one's own that is not linked, S4 exchanges a link from none to one's own node.
-use Rattle.std.specs.Prelude.{ℕ, zero, suc, ◌+◌, ◌-◌, ◌*◌, ◌<◌, ◌==◌, ◌&&◌, Bool, true, false, cond, List, [], ◌∷◌, ◌++◌, length, take, max, slice_index, slice_set, replicate}
+use Rattle.std.specs.Prelude.{ℕ, zero, suc, ◌+◌, ◌-◌, ◌*◌, ◌<◌, ◌==◌, ◌&&◌, Bool, true, false, cond, List, [], ◌∷◌, ◌++◌, length, take, max, slice_index, slice_set, replicate, Some, None}
 use mathlib.Core.Option.{Option, some, none}
 use lib.ListN.{get_elem?}
 use prog.Atomic.{either}
 use Rattle.sym_terms.specs.declared.label.Label.{Label}
-use Rattle.sym_terms.specs.Labels.{label_word, label_at, is_label}
+use Rattle.sym_terms.specs.Labels.{label_word, label_with, is_label}
 use Rattle.term_core.specs.declared.Call.{Call}
 use Rattle.term_core.specs.declared.Call.TheVariants.{Intern, Find, Read}
 use Rattle.term_core.specs.declared.Answer.{Answer}
@@ -47,9 +47,14 @@ abbrev pub kid_in : ℕ → List ℕ → List ℕ
 kid_in zero ks = ks
 kid_in (suc k) ks = k ∷ ks
 
+-- what a read answers; without a label that is what no read may answer
+abbrev pub read_answer : Rattle.std.specs.Prelude.Option Label → List ℕ → Answer
+read_answer (Some label) kids = Node label kids
+read_answer None kids = Missing
+
 -- what the four content words say
 abbrev pub answer_of : List ℕ → Answer
-answer_of words = Node (label_at (slice_index words 0)) (kid_in (slice_index words 1) (kid_in (slice_index words 2) (kid_in (slice_index words 3) [])))
+answer_of words = read_answer (label_with (slice_index words 0)) (kid_in (slice_index words 1) (kid_in (slice_index words 2) (kid_in (slice_index words 3) [])))
 
 abbrev pub all_occur : List Entry → List ℕ → Bool
 all_occur h [] = true
