@@ -12,7 +12,7 @@ use Rattle.sym_exec.specs.declared.state.Guard.TheVariants.{Address, Division}
 use Rattle.sym_exec.specs.declared.state.TermPlaces.{TermPlaces}
 use Rattle.sym_exec.specs.declared.state.TermExit.{TermExit}
 use Rattle.sym_exec.specs.declared.state.TermExit.TheVariants as exits
-use Rattle.sym_exec.specs.Symbolic.{GuardTree, AtAddress, AtDivision, TreeState, held, CodeTrees}
+use Rattle.sym_exec.specs.Symbolic.{GuardTree, AtAddress, AtDivision, TreeState, register_tree, CodeTrees}
 
 -- the pass went on: it has seen all that it had, and a legal history stays legal
 pub record Later (p q : PassState) : Type 0 where
@@ -40,7 +40,7 @@ pub record GuardsStand (p : PassState) (gs : List Guard) (xs : List GuardTree) :
 
 -- each ticket has the tree that stands in its place
 pub record Stands (p : PassState) (s : TermPlaces) (t : TreeState) : Type 0 where
-  pub regs : (r : ℕ) → r < 32 → HasTree p (slice_index s.regs r) (held t r)
+  pub regs : (r : ℕ) → r < 32 → HasTree p (slice_index s.regs r) (register_tree t r)
   pub hi : HasTree p s.hi t.hi
   pub lo : HasTree p s.lo t.lo
   pub memory : HasTree p s.memory t.memory

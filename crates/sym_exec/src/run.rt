@@ -4,7 +4,7 @@ ghost use Rattle.mips_isa.specs.declared.action.Action.{Action as AnAction};
 ghost use Rattle.mips_isa.specs.Actions.{action_of};
 ghost use Rattle.mblock.specs.BlockMeaning.{exit_shape};
 ghost use Rattle.mblock.specs.Clean.{slot_actions};
-ghost use Rattle.sym_terms.specs.declared.label.Place.TheVariants.{Register};
+ghost use Rattle.sym_terms.specs.declared.label.Origin.TheVariants.{Register};
 ghost use Rattle.sym_terms.specs.declared.label.Label.TheVariants.{Init};
 ghost use Rattle.sym_terms.specs.Trees.{leaf};
 ghost use Rattle.term_table.specs.Passes.{PassState, IsOf, linked};
@@ -17,7 +17,7 @@ use crate::terms::leaf_term;
 use mblock::{Block, Exit, Order};
 use mips_isa::{Action, NonzeroReg, Plain, Reg};
 use std::alloc::{AllocError, Global};
-use sym_terms::{Label, Place};
+use sym_terms::{Label, Origin};
 use term_table::{Pass, TableFull, TermTable, Ticket};
 
 /// A guard more, in memory that was taken before.
@@ -130,7 +130,7 @@ fn start_reg(table: &TermTable, pass: &mut Pass, r: u8) -> Result<Ticket, TableF
     let Some(reg) = NonzeroReg::new(r) else {
         unreachable!();
     };
-    leaf_term(table, pass, Label::Init(Place::Register(reg)))
+    leaf_term(table, pass, Label::Init(Origin::Register(reg)))
 }
 
 /// What each place holds at the start: the constant 0 in register 0, in any other its own label.
@@ -148,8 +148,8 @@ fn start(table: &TermTable, pass: &mut Pass) -> Result<TermPlaces, TableFull>
     for r in 1..32u8 {
         regs[r as usize] = start_reg(table, pass, r)?;
     }
-    let hi = leaf_term(table, pass, Label::Init(Place::Hi))?;
-    let lo = leaf_term(table, pass, Label::Init(Place::Lo))?;
+    let hi = leaf_term(table, pass, Label::Init(Origin::Hi))?;
+    let lo = leaf_term(table, pass, Label::Init(Origin::Lo))?;
     let memory = leaf_term(table, pass, Label::Mem0)?;
     Ok(TermPlaces {
         regs,
@@ -218,7 +218,7 @@ fn put_own(
         Exit::Call {
             function: _,
             next: _,
-        } => places.put_leaf(table, pass, Reg::LINK, Label::Init(Place::Link)),
+        } => places.put_leaf(table, pass, Reg::LINK, Label::Init(Origin::Link)),
         Exit::Out(_) => places.put_leaf(table, pass, Reg::RESULT, Label::Const(1)),
         Exit::Halt => places.put_leaf(table, pass, Reg::RESULT, Label::Const(10)),
         _ => Ok(()),

@@ -1,12 +1,12 @@
 -- A label is read back from its word.
 use Rattle.std.proofs.Common.{◌≡◌, ℕ, ◌+◌, ◌*◌, ◌/◌, ◌%◌, ◌^◌, ◌<◌, ◌&&◌, nat_lt, true, Some, refl, sym, ap, subst, ◌∙◌, arith}
-use Rattle.sym_terms.specs.declared.label.Place.TheVariants.{Register, Hi, Lo, Link}
+use Rattle.sym_terms.specs.declared.label.Origin.TheVariants.{Register, Hi, Lo, Link}
 use Rattle.words.specs.declared.operator.Operator.TheVariants.{Addu, Subu, And, Or, Xor, Nor, Slt, Sltu, Sll, Srl, Sra, MultHigh, MultLow, MultuHigh, MultuLow, DivQuotient, DivRemainder, DivuQuotient, DivuRemainder}
 use Rattle.sym_terms.specs.declared.label.Label.{Label}
 use Rattle.sym_terms.specs.declared.label.Label.TheVariants.{Init, Mem0, Const, Op, Load, Store}
-use Rattle.sym_terms.specs.Labels.{label_word, is_label, label_with, label_in, place_at, init_if}
+use Rattle.sym_terms.specs.Labels.{label_word, is_label, label_with, label_in, origin_at, init_if}
 
-register_back : (r : ℕ) → nat_lt 0 r && nat_lt r 32 ≡ true → place_at r ≡ Some (Register r)
+register_back : (r : ℕ) → nat_lt 0 r && nat_lt r 32 ≡ true → origin_at r ≡ Some (Register r)
 register_back r e = grind arith
 
 register_low : (r : ℕ) → nat_lt 0 r && nat_lt r 32 ≡ true → r < 2 ^ 32

@@ -227,9 +227,9 @@ does s w item (some v) = acts s w item.by (begun s item.choice v)
 abbrev pub step : Shape → World → Item → World
 step s w item = does s w item (get_elem? w.passes item.by)
 
-abbrev pub run : Shape → World → List Item → World
-run s w [] = w
-run s w (i ∷ is) = run s (step s w i) is
+abbrev pub world_after : Shape → World → List Item → World
+world_after s w [] = w
+world_after s w (i ∷ is) = world_after s (step s w i) is
 
 abbrev pub fresh : Shape → ℕ → Walker
 fresh s by = record { by = by; own = by * s.nodes; room = s.nodes; seen = []; mine = []; probes = 0; stage = Idle }
@@ -244,4 +244,4 @@ start s = record { words = replicate (s.heads + 5 * (s.workers * s.nodes)) 0; pa
 
 -- the world that a list of items reaches
 abbrev pub reached : Shape → List Item → World
-reached s items = run s (start s) items
+reached s items = world_after s (start s) items

@@ -14,7 +14,7 @@ ghost use Rattle.term_table.specs.declared.view.View.TheVariants.{Walking};
 use crate::nodes::Nodes;
 use crate::rule::Act;
 use crate::ticket::Ticket;
-use crate::view::{Outcome, View};
+use crate::view::{InternEnd, View};
 use atomic_table::Seat;
 use sym_terms::Label;
 
@@ -64,7 +64,7 @@ impl Nodes {
         kids: &[Ticket],
         own: u64,
         room: u64,
-    ) -> (Outcome, u64)
+    ) -> (InternEnd, u64)
         requires table { (seat.old.table_id ≡ self.now.table.shared.table_id) × (C.shape ≡ shape_of self.now.size) }
         requires call { C.call ≡ Intern _label.now kids.now }
         requires word { word ≡ label_word _label.now }

@@ -3,7 +3,7 @@ use Rattle.std.specs.Prelude.{OnOk}
 use Rattle.mips_isa.specs.declared.action.Action.{Action}
 use Rattle.term_table.proofs.Callers.{still_tree}
 use Rattle.sym_exec.specs.declared.state.Guard.TheVariants.{Address, Division}
-use Rattle.sym_exec.specs.Symbolic.{AtAddress, AtDivision, held, address_tree, trees_after}
+use Rattle.sym_exec.specs.Symbolic.{AtAddress, AtDivision, register_tree, address_tree, trees_after}
 use Rattle.sym_exec.specs.Standing.{Stands, GuardsStand}
 use Rattle.sym_exec.proofs.Tickets.{get_tree, guards_on, guards_more, on_ok}
 use Rattle.sym_exec.proofs.run.step.Goals as goal
@@ -46,5 +46,5 @@ returns-in_ok-divides-in-Divides-clause-stands c = λ t h g.
     let x = still_tree later.extends (get_tree {t = t} h c.get-dividend.ensures.value c.get-dividend.ensures.range) in
     let y = still_tree later.extends (get_tree {t = t} h c.get-divisor.ensures.value c.get-divisor.ensures.range) in
     let guard = Division c.in-Divides.sign c.get-dividend.result c.get-divisor.result in
-    let tree = AtDivision c.in-Divides.sign (held t c.in-Divides.a) (held t c.in-Divides.b) in
+    let tree = AtDivision c.in-Divides.sign (register_tree t c.in-Divides.a) (register_tree t c.in-Divides.b) in
     subst P (sym c.in-Divides.is) (c.in_ok-divides-in-Divides.ensures.stands t h, guards_more guard tree (guards_on later g) (refl, x, y) c.push_guard-in-Divides.ensures.pushed)
