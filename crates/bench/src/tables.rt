@@ -1,5 +1,6 @@
 // How fast the term table is: interns a second of distinct terms with two children each, by 1, 2 and 4 threads, each
-// with a pass of its own.
+// with a pass of its own. Time is taken from when all threads have begun to when the last has ended; the table's words
+// were written before, when it was laid out.
 //
 // Three plans, each in two rounds: the terms divided among the threads, so that each term is linked once and by one
 // thread, in order or shuffled; and each thread interns all terms, every other one downward. In the second round all
@@ -9,7 +10,7 @@ ghost use Rattle.std.specs.Prelude.{◌*◌, ◌<◌, ◌≤◌, All, IfSome};
 ghost use Rattle.term_table.specs.Passes.{IsOf};
 ghost use Rattle.bench.specs.Ready.{IsReady};
 
-use crate::worker::{Order, Part, Worker};
+use crate::worker::{Order, Part, Start, Worker};
 use std::alloc::Global;
 use std::thread::Threads;
 use std::time::{Clock, Instant};
@@ -102,11 +103,33 @@ fn staff(
 }
 
 /// Each worker interns its terms, in a thread of its own.
-fn round<R: Threads + Sync>(rt: &R, table: &TermTable, workers: &mut [Worker])
+fn round<R: Threads + Sync + Clock>(
+    rt: &R,
+    table: &TermTable,
+    workers: &mut [Worker],
+) -> io::Result<u128>
     requires { All (IsReady table.now) workers.old }
     ensures { All (IsReady table.now) workers.new }
 {
-    thread::for_each_mut(rt, workers, 4, &|_, worker| worker.intern_all(table));
+    let start = Start::new(Instant::now(rt)?, workers.len() as u64);
+    thread::for_each_mut(
+        rt,
+        workers,
+        4,
+        &|_, worker| worker.intern_all(rt, table, &start),
+    );
+    Ok(span(workers))
+}
+
+/// Nanoseconds from when the first worker began to when the last ended.
+fn span(workers: &[Worker]) -> u128 {
+    let mut began = u128::MAX;
+    let mut ended = 0u128;
+    for worker in workers {
+        began = began.min(worker.began);
+        ended = ended.max(worker.ended);
+    }
+    ended.saturating_sub(began)
 }
 
 /// How many interns of the last round were answered with a ticket.
@@ -154,12 +177,8 @@ fn run<R: Threads + Sync + Clock>(
     let Some(mut workers) = staff(alloc, &table, passes, terms, plan, count) else {
         return Ok(None);
     };
-    let start = Instant::now(rt)?;
-    round(rt, &table, &mut workers);
-    let first = start.elapsed(rt)?.as_nanos();
-    let start = Instant::now(rt)?;
-    round(rt, &table, &mut workers);
-    let again = start.elapsed(rt)?.as_nanos();
+    let first = round(rt, &table, &mut workers)?;
+    let again = round(rt, &table, &mut workers)?;
     Ok(Some(Figures {
         linked: linked(&workers),
         answered: answered(&workers),
