@@ -192,69 +192,111 @@ fn rate(interns: u64, nanoseconds: u128) -> u128 {
     u128::from(interns) * 1_000_000_000 / nanoseconds.max(1)
 }
 
-/// The fastest rounds of `runs` runs.
-fn fastest<R: Threads + Sync + Clock>(
-    rt: &R,
-    alloc: Global,
+/// One plan by so many threads, and the fastest rounds so far.
+#[derive(Clone, Copy)]
+struct Row {
     plan: Plan,
     count: u32,
-    terms: u32,
-    runs: u32,
-) -> io::Result<Option<Figures>>
-    requires terms { terms ≤ 448 * 448 }
-    requires count { 0 < count }
-{
-    let mut best: Option<Figures> = None;
-    for _ in 0..runs {
-        let Some(now) = run(rt, alloc, plan, count, terms)? else {
-            return Ok(None);
-        };
-        best = match best {
-            None => Some(now),
-            Some(before) => Some(Figures {
-                first: now.first.min(before.first),
-                again: now.again.min(before.again),
-                ..now
-            }),
-        };
-    }
-    Ok(best)
+    best: Option<Figures>,
+    ghost some: { 0 < count },
 }
 
-/// One plan by 1, 2 and 4 threads.
-fn compare<R: Threads + Sync + Clock + Print>(
+/// The fastest of both.
+fn faster(best: Option<Figures>, now: Figures) -> Figures {
+    match best {
+        None => now,
+        Some(before) => Figures {
+            first: now.first.min(before.first),
+            again: now.again.min(before.again),
+            ..now
+        },
+    }
+}
+
+impl Row {
+    fn new(plan: Plan, count: u32) -> Row
+        requires { 0 < count }
+    {
+        Row {
+            plan,
+            count,
+            best: None,
+        }
+    }
+}
+
+/// Runs each row so many times, in turn: other work on the machine slows all rows alike.
+fn measure<R: Threads + Sync + Clock>(
     rt: &R,
     alloc: Global,
-    plan: Plan,
-    figures: bool,
-) -> io::Result<()> {
-    let (terms, runs) = if figures { (200_000, 7) } else { (2_000, 1) };
-    for count in [1u32, 2, 4] {
-        let Some(did) = fastest(rt, alloc, plan, count, terms, runs)? else {
-            println!(rt; "{count} threads: no memory")?;
-            continue;
-        };
-        println!(rt; "{count} threads: {} terms linked", did.linked)?;
-        if figures {
-            let first = rate(did.answered, did.first);
-            let again = rate(did.answered, did.again);
-            println!(rt; "  {first:>12} a second at first {again:>12} a second again")?;
+    rows: &mut [Row],
+    terms: u32,
+    runs: u32,
+) -> io::Result<()>
+    requires terms { terms ≤ 448 * 448 }
+{
+    for _ in 0..runs {
+        for at in 0..rows.len() {
+            let Row {
+                plan,
+                count,
+                best,
+                ..
+            } = rows[at];
+            if let Some(now) = run(rt, alloc, plan, count, terms)? {
+                rows[at].best = Some(faster(best, now));
+            }
         }
     }
     Ok(())
 }
 
+fn print_row<R: Print>(rt: &R, row: &Row, figures: bool) -> io::Result<()> {
+    let count = row.count;
+    let Some(did) = row.best else {
+        return println!(rt; "{count} threads: no memory");
+    };
+    println!(rt; "{count} threads: {} terms linked", did.linked)?;
+    if figures {
+        let first = rate(did.answered, did.first);
+        let again = rate(did.answered, did.again);
+        println!(rt; "  {first:>12} a second at first {again:>12} a second again")?;
+    }
+    Ok(())
+}
+
 /// How many terms the passes linked together, which is the same in every run; and with figures the interns a second of
-/// 200,000 terms, the fastest of seven runs.
+/// 200,000 terms, the fastest of 25 runs.
 pub(crate) fn show<R: Threads + Sync + Clock + Print + AllocGlobal>(
     rt: &R,
     figures: bool,
 ) -> anyhow::Result<()> {
-    println!(rt; "terms divided among the threads, in order:")?;
-    compare(rt, rt.alloc(), Plan::Divided, figures)?;
-    println!(rt; "terms divided among the threads, shuffled:")?;
-    compare(rt, rt.alloc(), Plan::DividedShuffled, figures)?;
-    println!(rt; "all terms by each thread:")?;
-    compare(rt, rt.alloc(), Plan::Shared, figures)?;
+    let (terms, runs) = if figures { (200_000, 25) } else { (2_000, 1) };
+    let mut rows = [
+        Row::new(Plan::Divided, 1),
+        Row::new(Plan::Divided, 2),
+        Row::new(Plan::Divided, 4),
+        Row::new(Plan::DividedShuffled, 1),
+        Row::new(Plan::DividedShuffled, 2),
+        Row::new(Plan::DividedShuffled, 4),
+        Row::new(Plan::Shared, 1),
+        Row::new(Plan::Shared, 2),
+        Row::new(Plan::Shared, 4),
+    ];
+    measure(rt, rt.alloc(), &mut rows, terms, runs)?;
+    for (at, row) in rows.iter().enumerate() {
+        if at % 3 == 0 {
+            println!(rt; "{}:", title(row.plan))?;
+        }
+        print_row(rt, row, figures)?;
+    }
     Ok(())
+}
+
+fn title(plan: Plan) -> &'static str {
+    match plan {
+        Plan::Divided => "terms divided among the threads, in order",
+        Plan::DividedShuffled => "terms divided among the threads, shuffled",
+        Plan::Shared => "all terms by each thread",
+    }
 }
