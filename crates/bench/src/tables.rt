@@ -1,5 +1,6 @@
 // How fast the term table is: interns a second of distinct terms with two children each, by 1, 2 and 4 threads, each
-// with a pass of its own.
+// with a pass of its own. Time is taken from when all threads have begun to when the last has ended; the table's words
+// were written before, when it was laid out.
 //
 // Three plans, each in two rounds: the terms divided among the threads, so that each term is linked once and by one
 // thread, in order or shuffled; and each thread interns all terms, every other one downward. In the second round all
@@ -9,7 +10,7 @@ ghost use Rattle.std.specs.Prelude.{◌*◌, ◌<◌, ◌≤◌, All, IfSome};
 ghost use Rattle.term_table.specs.Passes.{IsOf};
 ghost use Rattle.bench.specs.Ready.{IsReady};
 
-use crate::worker::{Order, Part, Worker};
+use crate::worker::{Order, Part, Start, Worker};
 use std::alloc::Global;
 use std::thread::Threads;
 use std::time::{Clock, Instant};
@@ -102,11 +103,33 @@ fn staff(
 }
 
 /// Each worker interns its terms, in a thread of its own.
-fn round<R: Threads + Sync>(rt: &R, table: &TermTable, workers: &mut [Worker])
+fn round<R: Threads + Sync + Clock>(
+    rt: &R,
+    table: &TermTable,
+    workers: &mut [Worker],
+) -> io::Result<u128>
     requires { All (IsReady table.now) workers.old }
     ensures { All (IsReady table.now) workers.new }
 {
-    thread::for_each_mut(rt, workers, 4, &|_, worker| worker.intern_all(table));
+    let start = Start::new(Instant::now(rt)?, workers.len() as u64);
+    thread::for_each_mut(
+        rt,
+        workers,
+        4,
+        &|_, worker| worker.intern_all(rt, table, &start),
+    );
+    Ok(span(workers))
+}
+
+/// Nanoseconds from when the first worker began to when the last ended.
+fn span(workers: &[Worker]) -> u128 {
+    let mut began = u128::MAX;
+    let mut ended = 0u128;
+    for worker in workers {
+        began = began.min(worker.began);
+        ended = ended.max(worker.ended);
+    }
+    ended.saturating_sub(began)
 }
 
 /// How many interns of the last round were answered with a ticket.
@@ -154,12 +177,8 @@ fn run<R: Threads + Sync + Clock>(
     let Some(mut workers) = staff(alloc, &table, passes, terms, plan, count) else {
         return Ok(None);
     };
-    let start = Instant::now(rt)?;
-    round(rt, &table, &mut workers);
-    let first = start.elapsed(rt)?.as_nanos();
-    let start = Instant::now(rt)?;
-    round(rt, &table, &mut workers);
-    let again = start.elapsed(rt)?.as_nanos();
+    let first = round(rt, &table, &mut workers)?;
+    let again = round(rt, &table, &mut workers)?;
     Ok(Some(Figures {
         linked: linked(&workers),
         answered: answered(&workers),
@@ -173,69 +192,111 @@ fn rate(interns: u64, nanoseconds: u128) -> u128 {
     u128::from(interns) * 1_000_000_000 / nanoseconds.max(1)
 }
 
-/// The fastest rounds of `runs` runs.
-fn fastest<R: Threads + Sync + Clock>(
-    rt: &R,
-    alloc: Global,
+/// One plan by so many threads, and the fastest rounds so far.
+#[derive(Clone, Copy)]
+struct Row {
     plan: Plan,
     count: u32,
-    terms: u32,
-    runs: u32,
-) -> io::Result<Option<Figures>>
-    requires terms { terms ≤ 448 * 448 }
-    requires count { 0 < count }
-{
-    let mut best: Option<Figures> = None;
-    for _ in 0..runs {
-        let Some(now) = run(rt, alloc, plan, count, terms)? else {
-            return Ok(None);
-        };
-        best = match best {
-            None => Some(now),
-            Some(before) => Some(Figures {
-                first: now.first.min(before.first),
-                again: now.again.min(before.again),
-                ..now
-            }),
-        };
-    }
-    Ok(best)
+    best: Option<Figures>,
+    ghost some: { 0 < count },
 }
 
-/// One plan by 1, 2 and 4 threads.
-fn compare<R: Threads + Sync + Clock + Print>(
+/// The fastest of both.
+fn faster(best: Option<Figures>, now: Figures) -> Figures {
+    match best {
+        None => now,
+        Some(before) => Figures {
+            first: now.first.min(before.first),
+            again: now.again.min(before.again),
+            ..now
+        },
+    }
+}
+
+impl Row {
+    fn new(plan: Plan, count: u32) -> Row
+        requires { 0 < count }
+    {
+        Row {
+            plan,
+            count,
+            best: None,
+        }
+    }
+}
+
+/// Runs each row so many times, in turn: other work on the machine slows all rows alike.
+fn measure<R: Threads + Sync + Clock>(
     rt: &R,
     alloc: Global,
-    plan: Plan,
-    figures: bool,
-) -> io::Result<()> {
-    let (terms, runs) = if figures { (200_000, 7) } else { (2_000, 1) };
-    for count in [1u32, 2, 4] {
-        let Some(did) = fastest(rt, alloc, plan, count, terms, runs)? else {
-            println!(rt; "{count} threads: no memory")?;
-            continue;
-        };
-        println!(rt; "{count} threads: {} terms linked", did.linked)?;
-        if figures {
-            let first = rate(did.answered, did.first);
-            let again = rate(did.answered, did.again);
-            println!(rt; "  {first:>12} a second at first {again:>12} a second again")?;
+    rows: &mut [Row],
+    terms: u32,
+    runs: u32,
+) -> io::Result<()>
+    requires terms { terms ≤ 448 * 448 }
+{
+    for _ in 0..runs {
+        for at in 0..rows.len() {
+            let Row {
+                plan,
+                count,
+                best,
+                ..
+            } = rows[at];
+            if let Some(now) = run(rt, alloc, plan, count, terms)? {
+                rows[at].best = Some(faster(best, now));
+            }
         }
     }
     Ok(())
 }
 
+fn print_row<R: Print>(rt: &R, row: &Row, figures: bool) -> io::Result<()> {
+    let count = row.count;
+    let Some(did) = row.best else {
+        return println!(rt; "{count} threads: no memory");
+    };
+    println!(rt; "{count} threads: {} terms linked", did.linked)?;
+    if figures {
+        let first = rate(did.answered, did.first);
+        let again = rate(did.answered, did.again);
+        println!(rt; "  {first:>12} a second at first {again:>12} a second again")?;
+    }
+    Ok(())
+}
+
 /// How many terms the passes linked together, which is the same in every run; and with figures the interns a second of
-/// 200,000 terms, the fastest of seven runs.
+/// 200,000 terms, the fastest of 25 runs.
 pub(crate) fn show<R: Threads + Sync + Clock + Print + AllocGlobal>(
     rt: &R,
     figures: bool,
 ) -> anyhow::Result<()> {
-    println!(rt; "terms divided among the threads, in order:")?;
-    compare(rt, rt.alloc(), Plan::Divided, figures)?;
-    println!(rt; "terms divided among the threads, shuffled:")?;
-    compare(rt, rt.alloc(), Plan::DividedShuffled, figures)?;
-    println!(rt; "all terms by each thread:")?;
-    compare(rt, rt.alloc(), Plan::Shared, figures)?;
+    let (terms, runs) = if figures { (200_000, 25) } else { (2_000, 1) };
+    let mut rows = [
+        Row::new(Plan::Divided, 1),
+        Row::new(Plan::Divided, 2),
+        Row::new(Plan::Divided, 4),
+        Row::new(Plan::DividedShuffled, 1),
+        Row::new(Plan::DividedShuffled, 2),
+        Row::new(Plan::DividedShuffled, 4),
+        Row::new(Plan::Shared, 1),
+        Row::new(Plan::Shared, 2),
+        Row::new(Plan::Shared, 4),
+    ];
+    measure(rt, rt.alloc(), &mut rows, terms, runs)?;
+    for (at, row) in rows.iter().enumerate() {
+        if at % 3 == 0 {
+            println!(rt; "{}:", title(row.plan))?;
+        }
+        print_row(rt, row, figures)?;
+    }
     Ok(())
+}
+
+fn title(plan: Plan) -> &'static str {
+    match plan {
+        Plan::Divided => "terms divided among the threads, in order",
+        Plan::DividedShuffled => "terms divided among the threads, shuffled",
+        Plan::Shared => "all terms by each thread",
+    }
 }

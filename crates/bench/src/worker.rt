@@ -4,6 +4,9 @@ ghost use Rattle.term_table.specs.Passes.{IsOf, HasSeen};
 ghost use Rattle.bench.specs.Ready.{IsReady};
 
 use std::alloc::Global;
+use std::sync::atomic::{AtomicU64, Ordering};
+use std::thread::yield_now;
+use std::time::{Clock, Instant};
 use sym_terms::Label;
 use term_table::{Pass, TermTable, Ticket};
 use words::Operator;
@@ -19,6 +22,44 @@ pub enum Order {
     Shuffled,
 }
 
+/// Where the workers of a round wait for one another, so that the start of threads isn't measured.
+#[derive(Drop)]
+pub struct Start {
+    clock_start: Instant,
+    count: u64,
+    come: AtomicU64,
+}
+
+impl Start {
+    pub fn new(clock_start: Instant, count: u64) -> Start {
+        Start {
+            clock_start,
+            count,
+            come: AtomicU64::new(0),
+        }
+    }
+
+    // Returns when all have come; after some seconds in any case, since where no thread can be had the workers run one
+    // after another.
+    fn wait(&self) {
+        self.come.fetch_add(1, Ordering::SeqCst);
+        for _ in 0..10_000_000u32 {
+            if self.come.load(Ordering::SeqCst) >= self.count {
+                return;
+            }
+            yield_now();
+        }
+    }
+
+    // Nanoseconds by the clock, 0 where it fails.
+    fn nanoseconds(&self, clock: &impl Clock) -> u128 {
+        match self.clock_start.elapsed(clock) {
+            Ok(time) => time.as_nanos(),
+            Err(_) => 0,
+        }
+    }
+}
+
 /// The terms from `from` on and below `until`, as they come in an order.
 #[derive(Clone, Copy)]
 pub struct Part {
@@ -27,7 +68,8 @@ pub struct Part {
     pub order: Order,
 }
 
-/// A pass, the tickets of its leaves, how many terms there are, and which of them are its own.
+/// A pass, the tickets of its leaves, how many terms there are, which of them are its own, and when it began and ended
+/// the last round.
 #[derive(Drop)]
 pub struct Worker {
     pub pass: Pass,
@@ -37,6 +79,8 @@ pub struct Worker {
     pub until: u32,
     pub order: Order,
     pub answered: u64,
+    pub began: u128,
+    pub ended: u128,
     // Keeps two workers of a list on different cache lines: a pass is written at each link.
     pub apart: [u64; 16],
 }
@@ -66,18 +110,31 @@ impl Worker {
             until: part.until.min(terms),
             order: part.order,
             answered: 0,
+            began: 0,
+            ended: 0,
             apart: [0; 16],
         })
     }
 
-    /// Interns each of its terms once.
-    pub fn intern_all(&mut self, table: &TermTable)
+    /// Interns each of its terms once, from when all workers have come to the start.
+    pub fn intern_all(&mut self, clock: &impl Clock, table: &TermTable, start: &Start)
+        requires { IsReady table.now self.old }
+        ensures { IsReady table.now self.new }
+    {
+        start.wait();
+        self.began = start.nanoseconds(clock);
+        self.intern_terms(table);
+        self.ended = start.nanoseconds(clock);
+    }
+
+    // Interns each of its terms once.
+    fn intern_terms(&mut self, table: &TermTable)
         requires { IsReady table.now self.old }
         ensures { IsReady table.now self.new }
     {
         let mut answered = 0u64;
         for i in self.from..self.until {
-            let n = placed(self.order, self.terms, i);
+            let n = term_at(self.order, self.terms, i);
             if self.intern_pair(table, n) {
                 answered = answered.saturating_add(1);
             }
@@ -101,7 +158,7 @@ impl Worker {
 }
 
 // The term that comes at `i` of so many. The multiplier has no divisor in common with 200,000 nor 2,000.
-fn placed(order: Order, terms: u32, i: u32) -> u32
+fn term_at(order: Order, terms: u32, i: u32) -> u32
     requires { i < terms }
     ensures { result < terms }
 {

@@ -1,18 +1,17 @@
 -- An order with its block's trees means the block.
-use Rattle.std.proofs.Common.{◌≡◌, ◌<◌, ◌^◌, ℕ, Bool, true, false, cond, List, [], ◌∷◌, map, Option, Some, None, refl, sym, ap, ap₂, ◌∙◌, subst, arith}
-use Rattle.std.proofs.lemmas.Option.{same_Some, none-some}
+use Rattle.std.proofs.Common.{◌≡◌, ◌<◌, ◌^◌, ℕ, Bool, true, false, List, [], ◌∷◌, map, Some, refl, sym, ap, ap₂, ◌∙◌, subst, arith}
 use Rattle.mips_isa.specs.States.{State, is_register, read, IsWords}
 use Rattle.mips_isa.specs.declared.action.Action.{Action}
-use Rattle.mips_isa.specs.Actions.{action_of, is_safe, state_after}
+use Rattle.mips_isa.specs.Actions.{action_of}
 use Rattle.mblock.specs.declared.exit.Exit.{Exit}
 use Rattle.mblock.specs.Parts.{BlockParts, OrderParts}
-use Rattle.mblock.specs.BlockMeaning.{exit_shape, exit_reads, depart, Effect, run, exit_effect, exit_effect_after, block_effect}
+use Rattle.mblock.specs.BlockMeaning.{exit_shape, exit_reads, depart, Effect}
 use Rattle.mblock.specs.Clean.{slot_actions}
 use Rattle.mblock.proofs.Totals.{block_total}
 use Rattle.mblock.proofs.Runs.{total, AllSafe, exited, leaves_total, order_runs}
-use Rattle.sym_terms.specs.Values.{word_at, memory_at}
-use Rattle.sym_exec.specs.Symbolic.{TreeState, start_trees, held, all_trees, exit_trees, CodeTrees, code_trees, block_trees, order_trees}
-use Rattle.sym_exec.proofs.Values.{values, held-value, all-value, puts-value, AllGood, all_down, all_up, all_outside, puts_outside}
+use Rattle.sym_terms.specs.Values.{tree_word, tree_memory}
+use Rattle.sym_exec.specs.Symbolic.{TreeState, start_trees, register_tree, all_trees, exit_trees, CodeTrees, code_trees, block_trees, order_trees}
+use Rattle.sym_exec.proofs.Values.{values, register_tree-value, all-value, puts-value, AllGood, all_down, all_up, all_outside, puts_outside}
 use Rattle.block_validator.specs.declared.place.Place.TheVariants as places
 use Rattle.block_validator.specs.Same.{SameTrees, IsPlace, EachCheckedOrderMeansItsBlock}
 
@@ -21,11 +20,11 @@ register_place r e = let p = Rattle.std.proofs.lemmas.Bool.and_parts (Rattle.std
 
 -- the outcome that trees stand for
 abbrev outcome_at : CodeTrees → State → ℕ → Effect
-outcome_at c s link = record { state = values s link c.trees; goes = depart c.shape (map (λ t. word_at t s link) c.operands) }
+outcome_at c s link = record { state = values s link c.trees; goes = depart c.shape (map (λ t. tree_word t s link) c.operands) }
 
-operand_values : (s : State) (link : ℕ) (words : IsWords s) (low : link < 2 ^ 32) (t : TreeState) (rs : List ℕ) → map (λ x. word_at x s link) (map (held t) rs) ≡ map (read 0 (values s link t).regs) rs
+operand_values : (s : State) (link : ℕ) (words : IsWords s) (low : link < 2 ^ 32) (t : TreeState) (rs : List ℕ) → map (λ x. tree_word x s link) (map (register_tree t) rs) ≡ map (read 0 (values s link t).regs) rs
 operand_values s link words low t [] = refl
-operand_values s link words low t (r ∷ rs) = ap₂ (λ x xs. x ∷ xs) (held-value s link words low t r) (operand_values s link words low t rs)
+operand_values s link words low t (r ∷ rs) = ap₂ (λ x xs. x ∷ xs) (register_tree-value s link words low t r) (operand_values s link words low t rs)
 
 exit_values : (s : State) (link : ℕ) (words : IsWords s) (low : link < 2 ^ 32) (exit : Exit) (t : TreeState) → values s link (exit_trees exit t) ≡ exited exit link (values s link t)
 exit_values s link words low exit t = ap (λ f. record (values s link t) { regs = f }) (puts-value s link words low (exit_shape exit) t.regs)
@@ -63,13 +62,13 @@ same_outcome : (b : BlockParts) (o : OrderParts) (s : State) (link : ℕ) → Sa
 same_outcome b o s link h =
     λ i. record {
       state = record {
-        regs = λ r. word_at (same_regs b o h r i) s link;
-        hi = word_at (h places.Hi tt i) s link;
-        lo = word_at (h places.Lo tt i) s link;
-        memory = memory_at (h places.Memory tt i) s link;
+        regs = λ r. tree_word (same_regs b o h r i) s link;
+        hi = tree_word (h places.Hi tt i) s link;
+        lo = tree_word (h places.Lo tt i) s link;
+        memory = tree_memory (h places.Memory tt i) s link;
         mapped = s.mapped;
       };
-      goes = depart ((h places.Exit tt).0 i) (map (λ t. word_at t s link) ((h places.Exit tt).1 i));
+      goes = depart ((h places.Exit tt).0 i) (map (λ t. tree_word t s link) ((h places.Exit tt).1 i));
     }
 
 pub each_checked_order_means_its_block : EachCheckedOrderMeansItsBlock

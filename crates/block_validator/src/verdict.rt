@@ -1,12 +1,12 @@
 //! The verdict on an order for a block, and the orders that were checked.
-ghost use Rattle.std.specs.Prelude.{◌≡◌, IfOk, IfErr, MatchOption};
+ghost use Rattle.std.specs.Prelude.{◌≡◌, IfOk, OnErr, MatchOption};
 ghost use Rattle.mblock.specs.Parts.{BlockParts, OrderParts};
 ghost use Rattle.mblock.specs.Clean.{IsClean};
 ghost use Rattle.mblock.specs.BlockMeaning.{exit_shape};
 ghost use Rattle.term_table.specs.Passes.{IsOf, linked};
 ghost use Rattle.term_table.specs.Trees.{HasLegalHistory};
 ghost use Rattle.sym_exec.specs.Symbolic.{block_trees, order_trees};
-ghost use Rattle.sym_exec.specs.Standing.{Later, IsFull};
+ghost use Rattle.sym_exec.specs.Standing.{Later, HasGuardRoom};
 ghost use Rattle.mblock.specs.Orders.{Means};
 ghost use Rattle.block_validator.specs.Same.{SameTrees, DiffersFirst, EachCheckedOrderMeansItsBlock};
 ghost use Rattle.block_validator.specs.Verdicts.{IsVerdict, OneDecision};
@@ -16,8 +16,8 @@ use crate::place::Place;
 use mblock::{Block, Order, Unclean, clean};
 use std::alloc::Global;
 use std::marker::Model;
-use sym_exec::{SymFault, run_block, run_order};
-use term_table::{Pass, TermTable};
+use sym_exec::{Guard, guard_room, run_block, run_order};
+use term_table::{Pass, TableFull, TermTable};
 
 /// A lent block, and a clean order that has its terms in every place. Only `validate` makes one.
 #[derive(Debug, Drop)]
@@ -75,35 +75,39 @@ pub enum Verdict<'a> {
     Differs(Place),
     /// The order is clean, and the pass has linked as many terms as it may.
     Full,
-    /// The order is clean, and memory was refused.
+    /// The order is clean, and memory was refused; the pass is as it was.
     NoMemory,
 }
 
+// The first place that differs, none where there is none; the lists have room for the guards.
 fn compare(
-    alloc: Global,
     table: &TermTable,
     pass: &mut Pass,
     block: &Block,
     order: &Order,
-) -> Result<Option<Place>, SymFault>
-    requires { IsOf table.now pass.old }
+    block_guards: Vec<Guard>,
+    order_guards: Vec<Guard>,
+) -> Result<Option<Place>, TableFull>
+    requires table { IsOf table.now pass.old }
+    requires block_room { HasGuardRoom block.now.insts block_guards }
+    requires order_room { HasGuardRoom order.now.insts order_guards }
     ensures exact { IfOk result (λ r. MatchOption r (SameTrees (block_trees block.now) (order_trees order.now)) (DiffersFirst (block_trees block.now) (order_trees order.now))) }
     ensures table { IsOf table.now pass.new }
     ensures later { Later pass.old pass.new }
     ensures legal { HasLegalHistory pass.new }
-    ensures full { IfErr result (IsFull pass.new) }
+    ensures full { OnErr result (linked pass.new ≡ pass.new.nodes) }
 {
-    let first = run_block(alloc, table, pass, block)?;
-    let second = run_order(alloc, table, pass, order)?;
+    let first = run_block(table, pass, block, block_guards)?;
+    let second = run_order(table, pass, order, order_guards)?;
     Ok(first_difference(&first, &second))
 }
 
 /// The verdict on an order for a block: the least delay rule that it breaks, else the first place whose
 /// terms differ, else that it means the block.
 ///
-/// `Full` comes only where the pass has linked as many terms as it may, `NoMemory` where memory for a
-/// guard was refused. Whatever the verdict, the terms that were linked stay, and the pass is the
-/// table's.
+/// Memory is taken before any term is linked: where it is refused, the pass is as it was. `Full` comes only
+/// where the pass has linked as many terms as it may. Whatever the verdict, the terms that were linked stay,
+/// and the pass is the table's.
 pub fn validate<'a>(
     alloc: Global,
     table: &TermTable,
@@ -117,15 +121,21 @@ pub fn validate<'a>(
     ensures later { Later pass.old pass.new }
     ensures legal { HasLegalHistory pass.new }
     ensures full { result ≡ Verdict.Full → linked pass.new ≡ pass.new.nodes }
+    ensures memory { result ≡ Verdict.NoMemory → pass.new ≡ pass.old }
 {
+    // Tells the check that the history is legal, for the verdicts before the first term.
+    let _linked = pass.linked();
     if let Err(rule) = clean(&order) {
-        // No call is made here, so the check has to be told that the history is legal.
-        let _linked = pass.linked();
         return Verdict::Unclean(rule);
     }
-    match compare(alloc, table, pass, block, &order) {
-        Err(SymFault::Full) => Verdict::Full,
-        Err(SymFault::NoMemory) => Verdict::NoMemory,
+    let (Ok(block_guards), Ok(order_guards)) = (
+        guard_room(alloc, block.insts()),
+        guard_room(alloc, order.insts()),
+    ) else {
+        return Verdict::NoMemory;
+    };
+    match compare(table, pass, block, &order, block_guards, order_guards) {
+        Err(_) => Verdict::Full,
         Ok(Some(place)) => Verdict::Differs(place),
         Ok(None) => Verdict::Same(Checked { block, order }),
     }

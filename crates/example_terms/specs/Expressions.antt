@@ -1,7 +1,7 @@
 -- The terms of expressions, and their values.
 use Rattle.std.specs.Prelude.{ℕ, ◌+◌, ◌*◌, ◌%◌, ◌^◌}
 use Rattle.sym_terms.specs.declared.label.Label.TheVariants.{Init, Const, Op}
-use Rattle.sym_terms.specs.declared.label.Place.TheVariants.{Register}
+use Rattle.sym_terms.specs.declared.label.Origin.TheVariants.{Register}
 use Rattle.sym_terms.specs.Trees.{Tree, leaf, binary}
 use Rattle.words.specs.declared.operator.Operator.TheVariants.{Addu, MultLow}
 use Rattle.term_table.specs.Passes.{TableState, IsOf}

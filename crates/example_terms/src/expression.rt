@@ -7,7 +7,7 @@ ghost use Rattle.term_table.specs.Trees.{HasTree, Extends};
 ghost use Rattle.example_terms.specs.Expressions.{formula_of, tree_of, IsBuilt};
 
 use mips_isa::NonzeroReg;
-use sym_terms::{Label, Place};
+use sym_terms::{Label, Origin};
 use term_table::{Pass, TableFull, TermTable, Ticket};
 use words::Operator;
 
@@ -61,7 +61,7 @@ pub fn term_of(
     match expression {
         Expression::Constant(n) => Ok(table.intern(pass, Label::Const(*n), &[])?.ticket),
         Expression::Variable(r) => {
-            let label = Label::Init(Place::Register(*r));
+            let label = Label::Init(Origin::Register(*r));
             Ok(table.intern(pass, label, &[])?.ticket)
         }
         Expression::Plus(left, right) => {

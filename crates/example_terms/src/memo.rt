@@ -9,7 +9,7 @@ ghost use Rattle.example_terms.specs.Memos.{IsMemo};
 
 use crate::expression::{Expression, operation};
 use std::collections::HashMap;
-use sym_terms::{Label, Place};
+use sym_terms::{Label, Origin};
 use term_table::{Pass, TableFull, TermTable, Ticket};
 use thiserror::Error;
 use words::Operator;
@@ -108,7 +108,7 @@ pub fn value(
             Ok(Valued { ticket, value: *n })
         }
         Expression::Variable(r) => {
-            let label = Label::Init(Place::Register(*r));
+            let label = Label::Init(Origin::Register(*r));
             let ticket = table.intern(pass, label, &[])?.ticket;
             Ok(Valued {
                 ticket,

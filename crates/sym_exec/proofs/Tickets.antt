@@ -4,7 +4,7 @@ use Rattle.std.specs.Prelude.{slice_index, OnOk, Result, Ok, Err}
 use Rattle.std.proofs.lemmas.List.{get_or-set_same, get_or-set_other}
 use Rattle.sym_terms.specs.Values.{const_tree}
 use Rattle.mips_isa.proofs.Registers.{put_lost, read-put}
-use Rattle.sym_terms.specs.declared.label.Place.TheVariants.{Register}
+use Rattle.sym_terms.specs.declared.label.Origin.TheVariants.{Register}
 use Rattle.sym_terms.specs.declared.label.Label.TheVariants.{Init}
 use Rattle.sym_terms.specs.Trees.{Tree, leaf}
 use Rattle.term_table.specs.Passes.{PassState, HasSeen}
@@ -16,7 +16,7 @@ use Rattle.mblock.specs.BlockMeaning.{Shape}
 use Rattle.sym_exec.specs.declared.state.TermExit.{TermExit}
 use Rattle.sym_exec.specs.declared.state.Guard.{Guard}
 use Rattle.sym_exec.specs.declared.state.Guard.TheVariants.{Address, Division}
-use Rattle.sym_exec.specs.Symbolic.{TreeState, held, start_trees, CodeTrees, GuardTree, AtAddress, AtDivision}
+use Rattle.sym_exec.specs.Symbolic.{TreeState, register_tree, start_trees, CodeTrees, GuardTree, AtAddress, AtDivision}
 use Rattle.sym_exec.specs.Standing.{Later, Known, Stands, with_reg, IsGuard, GuardsStand, AllHave, LeavesBy, StandsFor, tickets_of}
 
 pub later_self : (p : PassState) → Later p p
@@ -44,8 +44,8 @@ known_on {p} {q} {s} e h = record {
 pub get_seen : {p : PassState} {s : TermPlaces} {v r : ℕ} → Known p s → v ≡ slice_index s.regs r → r < 32 → HasSeen p v
 get_seen {p} {s} {v} {r} h e lt = subst (HasSeen p) (sym e) (h.regs r lt)
 
-pub get_tree : {p : PassState} {s : TermPlaces} {t : TreeState} {v r : ℕ} → Stands p s t → v ≡ slice_index s.regs r → r < 32 → HasTree p v (held t r)
-get_tree {p} {s} {t} {v} {r} h e lt = subst (λ n. HasTree p n (held t r)) (sym e) (h.regs r lt)
+pub get_tree : {p : PassState} {s : TermPlaces} {t : TreeState} {v r : ℕ} → Stands p s t → v ≡ slice_index s.regs r → r < 32 → HasTree p v (register_tree t r)
+get_tree {p} {s} {t} {v} {r} h e lt = subst (λ n. HasTree p n (register_tree t r)) (sym e) (h.regs r lt)
 
 written : List ℕ → ℕ → ℕ → List ℕ
 written regs d v = cond (d == 0) regs (slice_set regs d v)
@@ -184,20 +184,20 @@ set_place P xs k v q lt new old = go (q == k) refl
     go false e = subst P (sym (get_or-set_other xs k q v 0 (λ same. true≢false (sym (eq-eqb q k same) ∙ e)))) old
 
 -- the registers' start terms, one more
-pub set_tree : (p : PassState) (xs : List ℕ) (k v q : ℕ) → k < length xs → 1 ≤ k → HasTree p v (leaf (Init (Register k))) → q < k + 1 → (q < k → HasTree p (slice_index xs q) (held start_trees q)) → HasTree p (slice_index (slice_set xs k v) q) (held start_trees q)
+pub set_tree : (p : PassState) (xs : List ℕ) (k v q : ℕ) → k < length xs → 1 ≤ k → HasTree p v (leaf (Init (Register k))) → q < k + 1 → (q < k → HasTree p (slice_index xs q) (register_tree start_trees q)) → HasTree p (slice_index (slice_set xs k v) q) (register_tree start_trees q)
 set_tree p xs k v q lt some new low old = go (q == k) refl
   where
-    start_of : (r : ℕ) → 1 ≤ r → held start_trees r ≡ leaf (Init (Register r))
+    start_of : (r : ℕ) → 1 ≤ r → register_tree start_trees r ≡ leaf (Init (Register r))
     start_of zero h = absurd (omega (arith, h))
     start_of (suc r) h = refl
 
-    go : (b : Bool) → (q == k) ≡ b → HasTree p (slice_index (slice_set xs k v) q) (held start_trees q)
+    go : (b : Bool) → (q == k) ≡ b → HasTree p (slice_index (slice_set xs k v) q) (register_tree start_trees q)
     go true e =
         let same : q ≡ k = eqb-true q k e in
-        subst (λ r. HasTree p (slice_index (slice_set xs k v) r) (held start_trees r)) (sym same) (subst (HasTree p (slice_index (slice_set xs k v) k)) (sym (start_of k some)) (subst (λ n. HasTree p n (leaf (Init (Register k)))) (sym (get_or-set_same xs k v 0 lt)) new))
+        subst (λ r. HasTree p (slice_index (slice_set xs k v) r) (register_tree start_trees r)) (sym same) (subst (HasTree p (slice_index (slice_set xs k v) k)) (sym (start_of k some)) (subst (λ n. HasTree p n (leaf (Init (Register k)))) (sym (get_or-set_same xs k v 0 lt)) new))
     go false e =
         let apart : q ≢ k = λ same. true≢false (sym (eq-eqb q k same) ∙ e) in
-        subst (λ n. HasTree p n (held start_trees q)) (sym (get_or-set_other xs k q v 0 apart)) (old (Rattle.std.proofs.Common.⊎_elim (λ x. x) (λ le. absurd (apart (omega (arith, low, le)))) (Rattle.std.proofs.lemmas.Bool.cases_lt q k)))
+        subst (λ n. HasTree p n (register_tree start_trees q)) (sym (get_or-set_other xs k q v 0 apart)) (old (Rattle.std.proofs.Common.⊎_elim (λ x. x) (λ le. absurd (apart (omega (arith, low, le)))) (Rattle.std.proofs.lemmas.Bool.cases_lt q k)))
 
 pub stands_for_on : {p q : PassState} {s : TermPlaces} {e : TermExit} {gs : List Guard} {c : CodeTrees} → Later p q → StandsFor p s e gs c → StandsFor q s e gs c
 stands_for_on {p} {q} {s} {e} {gs} {c} later h = record {

@@ -13,51 +13,51 @@ use Rattle.mips_isa.specs.Actions.{operand, address, is_safe, state_after, produ
 use Rattle.mips_isa.proofs.Registers.{put-value, put_outside}
 use Rattle.mblock.specs.BlockMeaning.{Shape, Goes, ChoosesPair, ChoosesZero, Calls, Returns, Prints, Halts, exit_puts}
 use Rattle.mblock.proofs.Runs.{total, AllSafe}
-use Rattle.sym_terms.specs.declared.label.Place.TheVariants.{Link}
+use Rattle.sym_terms.specs.declared.label.Origin.TheVariants.{Link}
 use Rattle.sym_terms.specs.declared.label.Label.TheVariants.{Init}
 use Rattle.sym_terms.specs.Trees.{Tree, leaf}
-use Rattle.sym_terms.specs.Values.{word_at, memory_at, const_tree, op_tree}
+use Rattle.sym_terms.specs.Values.{tree_word, tree_memory, const_tree, op_tree}
 use Rattle.sym_terms.proofs.ValueLaws.{op_tree-value, load_tree-value, store_tree-value}
-use Rattle.sym_exec.specs.Symbolic.{GuardTree, is_good, TreeState, held, operand_tree, address_tree, trees_after, all_trees}
+use Rattle.sym_exec.specs.Symbolic.{GuardTree, is_good, TreeState, register_tree, operand_tree, address_tree, trees_after, all_trees}
 
 -- the state that trees stand for
 abbrev pub values : State → ℕ → TreeState → State
 values s link t = record {
-  regs = λ r. word_at (t.regs r) s link;
-  hi = word_at t.hi s link;
-  lo = word_at t.lo s link;
-  memory = memory_at t.memory s link;
+  regs = λ r. tree_word (t.regs r) s link;
+  hi = tree_word t.hi s link;
+  lo = tree_word t.lo s link;
+  memory = tree_memory t.memory s link;
   mapped = s.mapped;
 }
 
 module _ (s : State) (link : ℕ) (words : IsWords s) (low : link < 2 ^ 32) where
-  pub held-value : (t : TreeState) (r : ℕ) → word_at (held t r) s link ≡ read 0 (values s link t).regs r
-  held-value t zero = refl
-  held-value t (suc r) = refl
+  pub register_tree-value : (t : TreeState) (r : ℕ) → tree_word (register_tree t r) s link ≡ read 0 (values s link t).regs r
+  register_tree-value t zero = refl
+  register_tree-value t (suc r) = refl
 
-  operand-value : (t : TreeState) (x : Operand) → word_at (operand_tree t x) s link ≡ operand (values s link t) x
-  operand-value t (Held r) = held-value t r
+  operand-value : (t : TreeState) (x : Operand) → tree_word (operand_tree t x) s link ≡ operand (values s link t) x
+  operand-value t (Held r) = register_tree-value t r
   operand-value t (Fixed w) = refl
 
-  address-value : (t : TreeState) (base offset : ℕ) → word_at (address_tree t base offset) s link ≡ address (values s link t) base offset
+  address-value : (t : TreeState) (base offset : ℕ) → tree_word (address_tree t base offset) s link ≡ address (values s link t) base offset
   address-value t base offset =
-      op_tree-value Addu (held t base) (const_tree offset) s link words low ∙ ap (λ x. op_value Addu x (wrap offset)) (held-value t base)
+      op_tree-value Addu (register_tree t base) (const_tree offset) s link words low ∙ ap (λ x. op_value Addu x (wrap offset)) (register_tree-value t base)
 
-  two-value : (op : Operator) (t : TreeState) (a b : ℕ) → word_at (op_tree op (held t a) (held t b)) s link ≡ op_value op (read 0 (values s link t).regs a) (read 0 (values s link t).regs b)
-  two-value op t a b = op_tree-value op (held t a) (held t b) s link words low ∙ ap₂ (op_value op) (held-value t a) (held-value t b)
+  two-value : (op : Operator) (t : TreeState) (a b : ℕ) → tree_word (op_tree op (register_tree t a) (register_tree t b)) s link ≡ op_value op (read 0 (values s link t).regs a) (read 0 (values s link t).regs b)
+  two-value op t a b = op_tree-value op (register_tree t a) (register_tree t b) s link words low ∙ ap₂ (op_value op) (register_tree-value t a) (register_tree-value t b)
 
-  regs_step : (t : TreeState) (d : ℕ) (v : Tree) (w : ℕ) → word_at v s link ≡ w → (λ r. word_at (put t.regs d v r) s link) ≡ put (values s link t).regs d w
-  regs_step t d v w e = put-value (λ x. word_at x s link) t.regs d v w e
+  regs_step : (t : TreeState) (d : ℕ) (v : Tree) (w : ℕ) → tree_word v s link ≡ w → (λ r. tree_word (put t.regs d v r) s link) ≡ put (values s link t).regs d w
+  regs_step t d v w e = put-value (λ x. tree_word x s link) t.regs d v w e
 
   -- one action
   pub step-value : (a : Action) (t : TreeState) → values s link (trees_after a t) ≡ state_after a (values s link t)
   step-value (Computes d op a b) t =
-      ap (λ f. record (values s link t) { regs = f }) (regs_step t d _ _ (op_tree-value op (held t a) (operand_tree t b) s link words low ∙ ap₂ (op_value op) (held-value t a) (operand-value t b)))
+      ap (λ f. record (values s link t) { regs = f }) (regs_step t d _ _ (op_tree-value op (register_tree t a) (operand_tree t b) s link words low ∙ ap₂ (op_value op) (register_tree-value t a) (operand-value t b)))
   step-value (Sets d w) t = ap (λ f. record (values s link t) { regs = f }) (regs_step t d _ _ refl)
   step-value (Loads d base offset) t =
-      ap (λ f. record (values s link t) { regs = f }) (regs_step t d _ _ (load_tree-value t.memory (address_tree t base offset) s link words low ∙ ap (load_word s.mapped (memory_at t.memory s link)) (address-value t base offset)))
+      ap (λ f. record (values s link t) { regs = f }) (regs_step t d _ _ (load_tree-value t.memory (address_tree t base offset) s link words low ∙ ap (load_word s.mapped (tree_memory t.memory s link)) (address-value t base offset)))
   step-value (Stores r base offset) t =
-      ap (λ m. record (values s link t) { memory = m }) (store_tree-value t.memory (address_tree t base offset) (held t r) s link words low ∙ ap₂ (store_word s.mapped (memory_at t.memory s link)) (address-value t base offset) (held-value t r))
+      ap (λ m. record (values s link t) { memory = m }) (store_tree-value t.memory (address_tree t base offset) (register_tree t r) s link words low ∙ ap₂ (store_word s.mapped (tree_memory t.memory s link)) (address-value t base offset) (register_tree-value t r))
   step-value (Multiplies sign a b) t = ap₂ (λ h l. record (values s link t) { hi = h; lo = l }) (two-value (product_high sign) t a b) (two-value (product_low sign) t a b)
   step-value (Divides sign a b) t = ap₂ (λ h l. record (values s link t) { hi = h; lo = l }) (two-value (remainder_operator sign) t a b) (two-value (quotient_operator sign) t a b)
   step-value (MovesHigh d) t = ap (λ f. record (values s link t) { regs = f }) (regs_step t d _ _ refl)
@@ -68,14 +68,14 @@ module _ (s : State) (link : ℕ) (words : IsWords s) (low : link < 2 ^ 32) wher
   all-value (a ∷ rest) t = all-value rest (trees_after a t) ∙ ap (total rest) (step-value a t)
 
   -- the exit's own writes
-  pub puts-value : (shape : Shape) (f : ℕ → Tree) → (λ r. word_at (exit_puts (leaf (Init Link)) (const_tree 1) (const_tree 10) shape f r) s link) ≡ exit_puts link 1 10 shape (λ r. word_at (f r) s link)
+  pub puts-value : (shape : Shape) (f : ℕ → Tree) → (λ r. tree_word (exit_puts (leaf (Init Link)) (const_tree 1) (const_tree 10) shape f r) s link) ≡ exit_puts link 1 10 shape (λ r. tree_word (f r) s link)
   puts-value (Goes t) f = refl
   puts-value (ChoosesPair x t e) f = refl
   puts-value (ChoosesZero x t e) f = refl
-  puts-value (Calls g n) f = put-value (λ x. word_at x s link) f 31 _ _ refl
+  puts-value (Calls g n) f = put-value (λ x. tree_word x s link) f 31 _ _ refl
   puts-value Returns f = refl
-  puts-value (Prints n) f = put-value (λ x. word_at x s link) f 2 _ _ refl
-  puts-value Halts f = put-value (λ x. word_at x s link) f 2 _ _ refl
+  puts-value (Prints n) f = put-value (λ x. tree_word x s link) f 2 _ _ refl
+  puts-value Halts f = put-value (λ x. tree_word x s link) f 2 _ _ refl
 
   -- each guard holds
   abbrev pub AllGood : List GuardTree → Type 0
@@ -98,7 +98,7 @@ module _ (s : State) (link : ℕ) (words : IsWords s) (low : link < 2 ^ 32) wher
   guards_down (Loads d base offset) t h = (ap (is_open s.mapped) (sym (address-value t base offset)) ∙ good_head _ t.guards h, good_tail _ t.guards h)
   guards_down (Stores r base offset) t h = (ap (is_open s.mapped) (sym (address-value t base offset)) ∙ good_head _ t.guards h, good_tail _ t.guards h)
   guards_down (Multiplies sign a b) t h = (refl, h)
-  guards_down (Divides sign a b) t h = (ap₂ (has_quotient sign) (sym (held-value t a)) (sym (held-value t b)) ∙ good_head _ t.guards h, good_tail _ t.guards h)
+  guards_down (Divides sign a b) t h = (ap₂ (has_quotient sign) (sym (register_tree-value t a)) (sym (register_tree-value t b)) ∙ good_head _ t.guards h, good_tail _ t.guards h)
   guards_down (MovesHigh d) t h = (refl, h)
   guards_down (MovesLow d) t h = (refl, h)
 
@@ -108,7 +108,7 @@ module _ (s : State) (link : ℕ) (words : IsWords s) (low : link < 2 ^ 32) wher
   guards_up (Loads d base offset) t e h = good_more _ t.guards (ap (is_open s.mapped) (address-value t base offset) ∙ e) h
   guards_up (Stores r base offset) t e h = good_more _ t.guards (ap (is_open s.mapped) (address-value t base offset) ∙ e) h
   guards_up (Multiplies sign a b) t e h = h
-  guards_up (Divides sign a b) t e h = good_more _ t.guards (ap₂ (has_quotient sign) (held-value t a) (held-value t b) ∙ e) h
+  guards_up (Divides sign a b) t e h = good_more _ t.guards (ap₂ (has_quotient sign) (register_tree-value t a) (register_tree-value t b) ∙ e) h
   guards_up (MovesHigh d) t e h = h
   guards_up (MovesLow d) t e h = h
 

@@ -1,17 +1,18 @@
 -- Tickets that stand for trees in what a pass has seen.
-use Rattle.std.specs.Prelude.{◌≡◌, ℕ, ◌<◌, List, [], ◌∷◌, slice_index, slice_set, Contains, ◌==◌, if◌then◌else◌}
+use Rattle.std.specs.Prelude.{◌≡◌, ℕ, ◌<◌, ◌+◌, ◌≤◌, List, [], ◌∷◌, length, vec_capacity, slice_index, slice_set, Contains, ◌==◌, if◌then◌else◌}
+use Rattle.std.specs.declared.alloc.Global.{Global}
+use Rattle.std.specs.declared.vec.Vec.{Vec}
+use Rattle.mips_isa.specs.declared.inst.Plain.{Plain}
 use Rattle.sym_terms.specs.Trees.{Tree}
-use Rattle.term_table.specs.Passes.{PassState, HasSeen, linked}
+use Rattle.term_table.specs.Passes.{PassState, HasSeen}
 use Rattle.term_table.specs.Trees.{HasTree, Extends, HasLegalHistory}
 use Rattle.mblock.specs.BlockMeaning.{Shape, Goes, ChoosesPair, ChoosesZero, Calls, Returns, Prints, Halts}
 use Rattle.sym_exec.specs.declared.state.Guard.{Guard}
 use Rattle.sym_exec.specs.declared.state.Guard.TheVariants.{Address, Division}
-use Rattle.sym_exec.specs.declared.state.SymFault.{SymFault}
-use Rattle.sym_exec.specs.declared.state.SymFault.TheVariants as faults
 use Rattle.sym_exec.specs.declared.state.TermPlaces.{TermPlaces}
 use Rattle.sym_exec.specs.declared.state.TermExit.{TermExit}
 use Rattle.sym_exec.specs.declared.state.TermExit.TheVariants as exits
-use Rattle.sym_exec.specs.Symbolic.{GuardTree, AtAddress, AtDivision, TreeState, held, CodeTrees}
+use Rattle.sym_exec.specs.Symbolic.{GuardTree, AtAddress, AtDivision, TreeState, register_tree, CodeTrees}
 
 -- the pass went on: it has seen all that it had, and a legal history stays legal
 pub record Later (p q : PassState) : Type 0 where
@@ -39,7 +40,7 @@ pub record GuardsStand (p : PassState) (gs : List Guard) (xs : List GuardTree) :
 
 -- each ticket has the tree that stands in its place
 pub record Stands (p : PassState) (s : TermPlaces) (t : TreeState) : Type 0 where
-  pub regs : (r : ℕ) → r < 32 → HasTree p (slice_index s.regs r) (held t r)
+  pub regs : (r : ℕ) → r < 32 → HasTree p (slice_index s.regs r) (register_tree t r)
   pub hi : HasTree p s.hi t.hi
   pub lo : HasTree p s.lo t.lo
   pub memory : HasTree p s.memory t.memory
@@ -83,7 +84,6 @@ pub record StandsFor (p : PassState) (s : TermPlaces) (e : TermExit) (gs : List 
 abbrev pub with_reg : TermPlaces → ℕ → ℕ → TermPlaces
 with_reg s d v = record s { regs = if d == 0 then s.regs else slice_set s.regs d v }
 
--- where the fault is that the pass is full, it has linked as many terms as it may
-abbrev pub IsFull : PassState → SymFault → Type 0
-IsFull p faults.Full = linked p ≡ p.nodes
-IsFull p faults.NoMemory = Unit {0}
+-- a list without guards, which has memory for one of each of these instructions and of a slot
+abbrev pub HasGuardRoom : List Plain → Vec Guard Global → Type 0
+HasGuardRoom insts guards = (guards.items ≡ []) × (length insts + 1 ≤ vec_capacity guards)

@@ -14,10 +14,10 @@ use Rattle.mblock.specs.declared.exit.Exit.{Exit}
 use Rattle.mblock.specs.Parts.{BlockParts, OrderParts}
 use Rattle.mblock.specs.BlockMeaning.{Shape, exit_shape, exit_reads, exit_puts}
 use Rattle.mblock.specs.Clean.{slot_actions}
-use Rattle.sym_terms.specs.declared.label.Place.TheVariants.{Register, Hi, Lo, Link}
+use Rattle.sym_terms.specs.declared.label.Origin.TheVariants.{Register, Hi, Lo, Link}
 use Rattle.sym_terms.specs.declared.label.Label.TheVariants.{Init, Mem0}
 use Rattle.sym_terms.specs.Trees.{Tree, leaf}
-use Rattle.sym_terms.specs.Values.{word_at, const_tree, op_tree, load_tree, store_tree}
+use Rattle.sym_terms.specs.Values.{tree_word, const_tree, op_tree, load_tree, store_tree}
 
 -- what a run may rely on: an address of a mapped word, or a division with a value
 pub data GuardTree : Type 0 where
@@ -26,8 +26,8 @@ pub data GuardTree : Type 0 where
 
 -- a guard that holds in a start state
 abbrev pub is_good : State → ℕ → GuardTree → Bool
-is_good s link (AtAddress a) = is_open s.mapped (word_at a s link)
-is_good s link (AtDivision sign a b) = has_quotient sign (word_at a s link) (word_at b s link)
+is_good s link (AtAddress a) = is_open s.mapped (tree_word a s link)
+is_good s link (AtDivision sign a b) = has_quotient sign (tree_word a s link) (tree_word b s link)
 
 -- the trees that the machine's places hold, and the guards so far
 pub record TreeState : Type 0 where
@@ -47,30 +47,30 @@ start_trees = record {
 }
 
 -- register 0 holds the constant 0
-abbrev pub held : TreeState → ℕ → Tree
-held t r = read (const_tree 0) t.regs r
+abbrev pub register_tree : TreeState → ℕ → Tree
+register_tree t r = read (const_tree 0) t.regs r
 
 abbrev pub operand_tree : TreeState → Operand → Tree
-operand_tree t (Held r) = held t r
+operand_tree t (Held r) = register_tree t r
 operand_tree t (Fixed w) = const_tree w
 
 abbrev pub address_tree : TreeState → ℕ → ℕ → Tree
-address_tree t base offset = op_tree Addu (held t base) (const_tree offset)
+address_tree t base offset = op_tree Addu (register_tree t base) (const_tree offset)
 
 abbrev pub trees_after : Action → TreeState → TreeState
-trees_after (Computes d op a b) t = record t { regs = put t.regs d (op_tree op (held t a) (operand_tree t b)) }
+trees_after (Computes d op a b) t = record t { regs = put t.regs d (op_tree op (register_tree t a) (operand_tree t b)) }
 trees_after (Sets d w) t = record t { regs = put t.regs d (const_tree w) }
 trees_after (Loads d base offset) t =
     record t { regs = put t.regs d (load_tree t.memory (address_tree t base offset)); guards = AtAddress (address_tree t base offset) ∷ t.guards }
 trees_after (Stores r base offset) t =
-    record t { memory = store_tree t.memory (address_tree t base offset) (held t r); guards = AtAddress (address_tree t base offset) ∷ t.guards }
+    record t { memory = store_tree t.memory (address_tree t base offset) (register_tree t r); guards = AtAddress (address_tree t base offset) ∷ t.guards }
 trees_after (Multiplies sign a b) t =
-    record t { hi = op_tree (product_high sign) (held t a) (held t b); lo = op_tree (product_low sign) (held t a) (held t b) }
+    record t { hi = op_tree (product_high sign) (register_tree t a) (register_tree t b); lo = op_tree (product_low sign) (register_tree t a) (register_tree t b) }
 trees_after (Divides sign a b) t =
     record t {
-      hi = op_tree (remainder_operator sign) (held t a) (held t b);
-      lo = op_tree (quotient_operator sign) (held t a) (held t b);
-      guards = AtDivision sign (held t a) (held t b) ∷ t.guards;
+      hi = op_tree (remainder_operator sign) (register_tree t a) (register_tree t b);
+      lo = op_tree (quotient_operator sign) (register_tree t a) (register_tree t b);
+      guards = AtDivision sign (register_tree t a) (register_tree t b) ∷ t.guards;
     }
 trees_after (MovesHigh d) t = record t { regs = put t.regs d t.hi }
 trees_after (MovesLow d) t = record t { regs = put t.regs d t.lo }
@@ -84,7 +84,7 @@ abbrev pub exit_trees : Exit → TreeState → TreeState
 exit_trees exit t = record t { regs = exit_puts (leaf (Init Link)) (const_tree 1) (const_tree 10) (exit_shape exit) t.regs }
 
 abbrev pub exit_operands : Exit → TreeState → List Tree
-exit_operands exit t = map (held t) (exit_reads exit)
+exit_operands exit t = map (register_tree t) (exit_reads exit)
 
 -- all that is compared: what is left at the end, the exit without its registers, and its operands
 pub record CodeTrees : Type 0 where

@@ -5,7 +5,7 @@ ghost use Rattle.mips_isa.specs.States.{put};
 ghost use Rattle.sym_terms.specs.Trees.{Tree, leaf};
 ghost use Rattle.term_table.specs.Passes.{IsOf, HasSeen, linked};
 ghost use Rattle.term_table.specs.Trees.{HasTree};
-ghost use Rattle.sym_exec.specs.Symbolic.{TreeState, held, operand_tree, address_tree, trees_after};
+ghost use Rattle.sym_exec.specs.Symbolic.{TreeState, register_tree, operand_tree, address_tree, trees_after};
 ghost use Rattle.sym_exec.specs.Standing.{Later, Known, Stands, with_reg};
 
 use crate::state::TermPlaces;

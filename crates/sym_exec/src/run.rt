@@ -1,35 +1,35 @@
 //! Blocks and orders, instruction by instruction.
-ghost use Rattle.std.specs.Prelude.{◌≡◌, ℕ, List, ◌<◌, ◌++◌, [], ◌∷◌, OnOk, OnErr, IfOk, IfErr, Err, map};
+ghost use Rattle.std.specs.Prelude.{◌≡◌, ℕ, ◌+◌, ◌<◌, ◌≤◌, ◌++◌, [], ◌∷◌, OnOk, OnErr, IfOk, map, length, vec_len, vec_capacity};
 ghost use Rattle.mips_isa.specs.declared.action.Action.{Action as AnAction};
 ghost use Rattle.mips_isa.specs.Actions.{action_of};
 ghost use Rattle.mblock.specs.BlockMeaning.{exit_shape};
 ghost use Rattle.mblock.specs.Clean.{slot_actions};
-ghost use Rattle.sym_terms.specs.declared.label.Place.TheVariants.{Register};
+ghost use Rattle.sym_terms.specs.declared.label.Origin.TheVariants.{Register};
 ghost use Rattle.sym_terms.specs.declared.label.Label.TheVariants.{Init};
 ghost use Rattle.sym_terms.specs.Trees.{leaf};
 ghost use Rattle.term_table.specs.Passes.{PassState, IsOf, linked};
 ghost use Rattle.term_table.specs.Trees.{HasTree, HasLegalHistory};
-ghost use Rattle.sym_exec.specs.declared.state.SymFault.{SymFault as ASymFault};
-ghost use Rattle.sym_exec.specs.declared.state.SymFault.TheVariants.{Full};
 ghost use Rattle.sym_exec.specs.Symbolic.{TreeState, GuardTree, start_trees, trees_after, all_trees, exit_trees, exit_operands, code_trees, block_trees, order_trees};
-ghost use Rattle.sym_exec.specs.Standing.{Later, Known, Stands, GuardsStand, LeavesBy, StandsFor, IsFull};
+ghost use Rattle.sym_exec.specs.Standing.{Later, Known, Stands, GuardsStand, LeavesBy, StandsFor, HasGuardRoom};
 
-use crate::state::{Guard, SymFault, SymState, TermExit, TermPlaces};
+use crate::state::{Guard, SymState, TermExit, TermPlaces};
 use crate::terms::leaf_term;
 use mblock::{Block, Exit, Order};
 use mips_isa::{Action, NonzeroReg, Plain, Reg};
-use std::alloc::Global;
-use sym_terms::{Label, Place};
+use std::alloc::{AllocError, Global};
+use sym_terms::{Label, Origin};
 use term_table::{Pass, TableFull, TermTable, Ticket};
 
-fn push_guard(guards: &mut Vec<Guard>, guard: Guard) -> Result<(), SymFault>
-    ensures pushed { OnOk result (guards.new.items ≡ guards.old.items ++ guard ∷ []) }
-    ensures memory { OnErr result (result ≡ Err SymFault.NoMemory) }
+/// A guard more, in memory that was taken before.
+fn push_guard(guards: &mut Vec<Guard>, guard: Guard)
+    requires { vec_len guards.old < vec_capacity guards.old }
+    ensures pushed { guards.new.items ≡ guards.old.items ++ guard ∷ [] }
+    ensures count { vec_len guards.new ≡ vec_len guards.old + 1 }
+    ensures capacity { vec_capacity guards.old ≤ vec_capacity guards.new }
 {
-    match guards.push(guard) {
-        Ok(()) => Ok(()),
-        Err(_) => Err(SymFault::NoMemory),
-    }
+    let Ok(()) = guards.push(guard) else {
+        unreachable!();
+    };
 }
 
 /// What an action does to the trees, done to their tickets.
@@ -39,37 +39,33 @@ fn step(
     places: &mut TermPlaces,
     guards: &mut Vec<Guard>,
     action: &Action,
-) -> Result<(), SymFault>
+) -> Result<(), TableFull>
     requires table { IsOf table.now pass.old }
     requires known { Known pass.old places.old }
+    requires room { vec_len guards.old < vec_capacity guards.old }
     ensures known { OnOk result (Known pass.new places.new) }
     ensures stands { (t : TreeState) → Stands pass.old places.old t → GuardsStand pass.old guards.old.items t.guards
         → OnOk result (Stands pass.new places.new (trees_after action.now t) × GuardsStand pass.new guards.new.items (trees_after action.now t).guards) }
     ensures table { IsOf table.now pass.new }
     ensures later { Later pass.old pass.new }
-    ensures full { IfErr result (IsFull pass.new) }
+    ensures full { OnErr result (linked pass.new ≡ pass.new.nodes) }
+    ensures count { vec_len guards.new ≤ vec_len guards.old + 1 }
+    ensures capacity { vec_capacity guards.old ≤ vec_capacity guards.new }
 {
     match *action {
-        Action::Computes { d, op, a, b } => {
-            places.computes(table, pass, d, op, a, &b)?;
-            Ok(())
-        }
-        Action::Sets { d, word } => {
-            places.put_leaf(table, pass, d, Label::Const(word))?;
-            Ok(())
-        }
+        Action::Computes { d, op, a, b } => { places.computes(table, pass, d, op, a, &b) }
+        Action::Sets { d, word } => { places.put_leaf(table, pass, d, Label::Const(word)) }
         Action::Loads { d, base, offset } => {
             let address = places.loads(table, pass, d, base, offset)?;
-            push_guard(guards, Guard::Address(address))
+            push_guard(guards, Guard::Address(address));
+            Ok(())
         }
         Action::Stores { r, base, offset } => {
             let address = places.stores(table, pass, r, base, offset)?;
-            push_guard(guards, Guard::Address(address))
-        }
-        Action::Multiplies { sign, a, b } => {
-            places.multiplies(table, pass, sign, a, b)?;
+            push_guard(guards, Guard::Address(address));
             Ok(())
         }
+        Action::Multiplies { sign, a, b } => { places.multiplies(table, pass, sign, a, b) }
         Action::Divides { sign, a, b } => {
             let dividend = places.get(a);
             let divisor = places.get(b);
@@ -81,7 +77,8 @@ fn step(
                     dividend,
                     divisor,
                 },
-            )
+            );
+            Ok(())
         }
         Action::MovesHigh { d } => {
             places.set(d, places.hi);
@@ -100,15 +97,18 @@ fn steps(
     places: &mut TermPlaces,
     guards: &mut Vec<Guard>,
     insts: &[Plain],
-) -> Result<(), SymFault>
+) -> Result<(), TableFull>
     requires table { IsOf table.now pass.old }
     requires known { Known pass.old places.old }
+    requires room { vec_len guards.old + length insts.now ≤ vec_capacity guards.old }
     ensures known { OnOk result (Known pass.new places.new) }
     ensures stands { (t : TreeState) → Stands pass.old places.old t → GuardsStand pass.old guards.old.items t.guards
         → OnOk result (Stands pass.new places.new (all_trees (map action_of insts.now) t) × GuardsStand pass.new guards.new.items (all_trees (map action_of insts.now) t).guards) }
     ensures table { IsOf table.now pass.new }
     ensures later { Later pass.old pass.new }
-    ensures full { IfErr result (IsFull pass.new) }
+    ensures full { OnErr result (linked pass.new ≡ pass.new.nodes) }
+    ensures count { vec_len guards.new ≤ vec_len guards.old + length insts.now }
+    ensures capacity { vec_capacity guards.old ≤ vec_capacity guards.new }
 {
     for inst in insts {
         step(table, pass, places, guards, &inst.action())?;
@@ -130,7 +130,7 @@ fn start_reg(table: &TermTable, pass: &mut Pass, r: u8) -> Result<Ticket, TableF
     let Some(reg) = NonzeroReg::new(r) else {
         unreachable!();
     };
-    leaf_term(table, pass, Label::Init(Place::Register(reg)))
+    leaf_term(table, pass, Label::Init(Origin::Register(reg)))
 }
 
 /// What each place holds at the start: the constant 0 in register 0, in any other its own label.
@@ -148,8 +148,8 @@ fn start(table: &TermTable, pass: &mut Pass) -> Result<TermPlaces, TableFull>
     for r in 1..32u8 {
         regs[r as usize] = start_reg(table, pass, r)?;
     }
-    let hi = leaf_term(table, pass, Label::Init(Place::Hi))?;
-    let lo = leaf_term(table, pass, Label::Init(Place::Lo))?;
+    let hi = leaf_term(table, pass, Label::Init(Origin::Hi))?;
+    let lo = leaf_term(table, pass, Label::Init(Origin::Lo))?;
     let memory = leaf_term(table, pass, Label::Mem0)?;
     Ok(TermPlaces {
         regs,
@@ -218,7 +218,7 @@ fn put_own(
         Exit::Call {
             function: _,
             next: _,
-        } => places.put_leaf(table, pass, Reg::LINK, Label::Init(Place::Link)),
+        } => places.put_leaf(table, pass, Reg::LINK, Label::Init(Origin::Link)),
         Exit::Out(_) => places.put_leaf(table, pass, Reg::RESULT, Label::Const(1)),
         Exit::Halt => places.put_leaf(table, pass, Reg::RESULT, Label::Const(10)),
         _ => Ok(()),
@@ -232,14 +232,15 @@ fn run_slot(
     places: &mut TermPlaces,
     guards: &mut Vec<Guard>,
     slot: &Option<Plain>,
-) -> Result<(), SymFault>
+) -> Result<(), TableFull>
     requires table { IsOf table.now pass.old }
     requires known { Known pass.old places.old }
+    requires room { vec_len guards.old < vec_capacity guards.old }
     ensures stands { (t : TreeState) → Stands pass.old places.old t → GuardsStand pass.old guards.old.items t.guards
         → OnOk result (Stands pass.new places.new (all_trees (slot_actions slot.now) t) × GuardsStand pass.new guards.new.items (all_trees (slot_actions slot.now) t).guards) }
     ensures table { IsOf table.now pass.new }
     ensures later { Later pass.old pass.new }
-    ensures full { IfErr result (IsFull pass.new) }
+    ensures full { OnErr result (linked pass.new ≡ pass.new.nodes) }
 {
     match slot {
         Some(inst) => step(table, pass, places, guards, &inst.action()),
@@ -247,22 +248,29 @@ fn run_slot(
     }
 }
 
+/// An empty list with memory for the guards of these instructions and of a slot.
+pub fn guard_room(alloc: Global, insts: &[Plain]) -> Result<Vec<Guard>, AllocError>
+    ensures { IfOk result (HasGuardRoom insts.now) }
+{
+    Vec::with_capacity(alloc, insts.len() + 1)
+}
+
 fn run_code(
-    alloc: Global,
     table: &TermTable,
     pass: &mut Pass,
     insts: &[Plain],
     exit: &Exit,
     slot: &Option<Plain>,
-) -> Result<SymState, SymFault>
-    requires { IsOf table.now pass.old }
+    mut guards: Vec<Guard>,
+) -> Result<SymState, TableFull>
+    requires table { IsOf table.now pass.old }
+    requires room { HasGuardRoom insts.now guards }
     ensures trees { IfOk result (λ s. StandsFor pass.new s.places s.exit s.guards.items (code_trees (map action_of insts.now) exit.now (slot_actions slot.now))) }
     ensures legal { HasLegalHistory pass.new }
     ensures table { IsOf table.now pass.new }
     ensures later { Later pass.old pass.new }
-    ensures full { IfErr result (IsFull pass.new) }
+    ensures full { OnErr result (linked pass.new ≡ pass.new.nodes) }
 {
-    let mut guards = Vec::new(alloc);
     let mut places = start(table, pass)?;
     steps(table, pass, &mut places, &mut guards, insts)?;
     let left = leave(&places, exit);
@@ -275,46 +283,49 @@ fn run_code(
     })
 }
 
-/// The tickets of what a block leaves: those of its trees.
+/// The tickets of what a block leaves: those of its trees. The guards go into `guards`, whose memory the
+/// caller took beforehand (`guard_room`).
 ///
-/// `SymFault::Full` comes only where the pass has linked as many terms as it may, and `NoMemory` where
-/// memory for a guard was refused. The terms that were linked stay.
+/// `TableFull` comes only where the pass has linked as many terms as it may. The terms that were linked
+/// stay.
 pub fn run_block(
-    alloc: Global,
     table: &TermTable,
     pass: &mut Pass,
     block: &Block,
-) -> Result<SymState, SymFault>
-    requires { IsOf table.now pass.old }
+    guards: Vec<Guard>,
+) -> Result<SymState, TableFull>
+    requires table { IsOf table.now pass.old }
+    requires room { HasGuardRoom block.now.insts guards }
     ensures trees { IfOk result (λ s. StandsFor pass.new s.places s.exit s.guards.items (block_trees block.now)) }
     ensures legal { HasLegalHistory pass.new }
     ensures table { IsOf table.now pass.new }
     ensures later { Later pass.old pass.new }
-    ensures full { IfErr result (IsFull pass.new) }
+    ensures full { OnErr result (linked pass.new ≡ pass.new.nodes) }
 {
-    run_code(alloc, table, pass, block.insts(), &block.exit(), &None)
+    run_code(table, pass, block.insts(), &block.exit(), &None, guards)
 }
 
 /// The tickets of what an order leaves, its slot run behind the exit; else as `run_block`.
 pub fn run_order(
-    alloc: Global,
     table: &TermTable,
     pass: &mut Pass,
     order: &Order,
-) -> Result<SymState, SymFault>
-    requires { IsOf table.now pass.old }
+    guards: Vec<Guard>,
+) -> Result<SymState, TableFull>
+    requires table { IsOf table.now pass.old }
+    requires room { HasGuardRoom order.now.insts guards }
     ensures trees { IfOk result (λ s. StandsFor pass.new s.places s.exit s.guards.items (order_trees order.now)) }
     ensures legal { HasLegalHistory pass.new }
     ensures table { IsOf table.now pass.new }
     ensures later { Later pass.old pass.new }
-    ensures full { IfErr result (IsFull pass.new) }
+    ensures full { OnErr result (linked pass.new ≡ pass.new.nodes) }
 {
     run_code(
-        alloc,
         table,
         pass,
         order.insts(),
         &order.exit(),
         &order.slot(),
+        guards,
     )
 }

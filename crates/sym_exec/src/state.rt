@@ -1,8 +1,7 @@
 //! What symbolic execution answers: the terms of the machine's places, of an exit and of the guards, by tickets.
 use mblock::BlockNumber;
 use mips_isa::{PairTest, ZeroTest};
-use term_table::{TableFull, Ticket};
-use thiserror::Error;
+use term_table::Ticket;
 use words::Sign;
 
 /// What the code relies on, by the terms' tickets: that an address is a mapped word's, or that a
@@ -61,26 +60,4 @@ pub struct SymState {
     pub places: TermPlaces,
     pub exit: TermExit,
     pub guards: Vec<Guard>,
-}
-
-/// Why symbolic execution stopped. The terms that were linked stay.
-#[derive(Clone, Copy, Debug, PartialEq, Eq, Error)]
-pub enum SymFault {
-    /// The pass has linked as many terms as it may.
-    #[error("the pass has linked as many terms as it may")]
-    Full,
-    /// Memory for a guard was refused.
-    #[error("memory was refused")]
-    NoMemory,
-}
-
-impl From<TableFull> for SymFault {
-    ghost use Rattle.std.specs.Prelude.{◌≡◌};
-    ghost use Rattle.sym_exec.specs.declared.state.SymFault.TheVariants.{Full};
-
-    ghost from_gives = { λ _ r. r ≡ Full };
-
-    fn from(_full: TableFull) -> SymFault {
-        SymFault::Full
-    }
 }

@@ -1,13 +1,12 @@
 -- A label is read back from its word.
-use Rattle.std.proofs.Common.{◌≡◌, ℕ, ◌+◌, ◌*◌, ◌/◌, ◌%◌, ◌^◌, ◌<◌, ◌&&◌, nat_lt, true, Option, Some, refl, ap, subst, ◌∙◌, arith}
-use Rattle.std.specs.Prelude.{unwrap_or}
-use Rattle.sym_terms.specs.declared.label.Place.TheVariants.{Register, Hi, Lo, Link}
+use Rattle.std.proofs.Common.{◌≡◌, ℕ, ◌+◌, ◌*◌, ◌/◌, ◌%◌, ◌^◌, ◌<◌, ◌&&◌, nat_lt, true, Some, refl, sym, ap, subst, ◌∙◌, arith}
+use Rattle.sym_terms.specs.declared.label.Origin.TheVariants.{Register, Hi, Lo, Link}
 use Rattle.words.specs.declared.operator.Operator.TheVariants.{Addu, Subu, And, Or, Xor, Nor, Slt, Sltu, Sll, Srl, Sra, MultHigh, MultLow, MultuHigh, MultuLow, DivQuotient, DivRemainder, DivuQuotient, DivuRemainder}
 use Rattle.sym_terms.specs.declared.label.Label.{Label}
 use Rattle.sym_terms.specs.declared.label.Label.TheVariants.{Init, Mem0, Const, Op, Load, Store}
-use Rattle.sym_terms.specs.Labels.{label_word, is_label, label_with, label_at, label_in, place_at, init_if}
+use Rattle.sym_terms.specs.Labels.{label_word, is_label, label_with, label_in, origin_at, init_if}
 
-register_back : (r : ℕ) → nat_lt 0 r && nat_lt r 32 ≡ true → place_at r ≡ Some (Register r)
+register_back : (r : ℕ) → nat_lt 0 r && nat_lt r 32 ≡ true → origin_at r ≡ Some (Register r)
 register_back r e = grind arith
 
 register_low : (r : ℕ) → nat_lt 0 r && nat_lt r 32 ≡ true → r < 2 ^ 32
@@ -51,8 +50,9 @@ label_with-back (Op DivuRemainder) e = refl
 label_with-back Load e = refl
 label_with-back Store e = refl
 
-pub label_back : (l : Label) → is_label l ≡ true → label_at (label_word l) ≡ l
-label_back l e = ap (λ (o : Option Label). unwrap_or o Mem0) (label_with-back l e)
+-- labels with one word are one
+pub one_label : (l m : Label) → is_label l ≡ true → is_label m ≡ true → label_word l ≡ label_word m → l ≡ m
+one_label l m e f same = let both : Some l ≡ Some m = sym (label_with-back l e) ∙ (ap label_with same ∙ label_with-back m f) in cc
 
 -- the word of a label has no other
 pub only_label : (w : ℕ) (l : Label) → is_label l ≡ true → label_word l ≡ w → label_with w ≡ Some l

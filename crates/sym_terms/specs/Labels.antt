@@ -1,9 +1,9 @@
 -- The words of labels: the kind in the upper 32 bits, the content in the lower.
-use Rattle.std.specs.Prelude.{ℕ, ◌+◌, ◌*◌, ◌/◌, ◌%◌, ◌^◌, ◌&&◌, Bool, true, Option, Some, None, if◌then◌else◌, ◌==◌, nat_lt, unwrap_or}
+use Rattle.std.specs.Prelude.{ℕ, ◌+◌, ◌*◌, ◌/◌, ◌%◌, ◌^◌, ◌&&◌, Bool, true, Option, Some, None, if◌then◌else◌, ◌==◌, nat_lt}
 use Rattle.words.specs.declared.operator.Operator.{Operator}
 use Rattle.words.specs.declared.operator.Operator.TheVariants.{Addu, Subu, And, Or, Xor, Nor, Slt, Sltu, Sll, Srl, Sra, MultHigh, MultLow, MultuHigh, MultuLow, DivQuotient, DivRemainder, DivuQuotient, DivuRemainder}
-use Rattle.sym_terms.specs.declared.label.Place.{Place}
-use Rattle.sym_terms.specs.declared.label.Place.TheVariants.{Register, Hi, Lo, Link}
+use Rattle.sym_terms.specs.declared.label.Origin.{Origin}
+use Rattle.sym_terms.specs.declared.label.Origin.TheVariants.{Register, Hi, Lo, Link}
 use Rattle.sym_terms.specs.declared.label.Label.{Label}
 use Rattle.sym_terms.specs.declared.label.Label.TheVariants.{Init, Mem0, Const, Op, Load, Store}
 
@@ -33,27 +33,27 @@ abbrev pub operator_at : ℕ → Option Operator
 operator_at n =
     if n == 0 then Some Addu else (if n == 1 then Some Subu else (if n == 2 then Some And else (if n == 3 then Some Or else (if n == 4 then Some Xor else (if n == 5 then Some Nor else (if n == 6 then Some Slt else (if n == 7 then Some Sltu else (if n == 8 then Some Sll else (if n == 9 then Some Srl else (if n == 10 then Some Sra else (if n == 11 then Some MultHigh else (if n == 12 then Some MultLow else (if n == 13 then Some MultuHigh else (if n == 14 then Some MultuLow else (if n == 15 then Some DivQuotient else (if n == 16 then Some DivRemainder else (if n == 17 then Some DivuQuotient else (if n == 18 then Some DivuRemainder else None))))))))))))))))))
 
-abbrev pub place_code : Place → ℕ
-place_code (Register r) = r
-place_code Hi = 32
-place_code Lo = 33
-place_code Link = 34
+abbrev pub origin_code : Origin → ℕ
+origin_code (Register r) = r
+origin_code Hi = 32
+origin_code Lo = 33
+origin_code Link = 34
 
--- the place that has this code
-abbrev pub place_at : ℕ → Option Place
-place_at n =
+-- the origin that has this code
+abbrev pub origin_at : ℕ → Option Origin
+origin_at n =
     if n == 32 then Some Hi else (if n == 33 then Some Lo else (if n == 34 then Some Link else (
     if n == 0 then None else (if nat_lt n 32 then Some (Register n) else None))))
 
--- the number in a place is a register's, 1 to 31
-abbrev pub is_place : Place → Bool
-is_place (Register r) = nat_lt 0 r && nat_lt r 32
-is_place Hi = true
-is_place Lo = true
-is_place Link = true
+-- the number in an origin is a register's, 1 to 31
+abbrev pub is_origin : Origin → Bool
+is_origin (Register r) = nat_lt 0 r && nat_lt r 32
+is_origin Hi = true
+is_origin Lo = true
+is_origin Link = true
 
 abbrev pub label_word : Label → ℕ
-label_word (Init place) = 1 * 2 ^ 32 + place_code place
+label_word (Init origin) = 1 * 2 ^ 32 + origin_code origin
 label_word Mem0 = 2 * 2 ^ 32
 label_word (Const n) = 3 * 2 ^ 32 + n
 label_word (Op operator) = 4 * 2 ^ 32 + operator_code operator
@@ -62,14 +62,14 @@ label_word Store = 6 * 2 ^ 32
 
 -- the numbers in the label are within their ranges, as those of each running label are
 abbrev pub is_label : Label → Bool
-is_label (Init place) = is_place place
+is_label (Init origin) = is_origin origin
 is_label Mem0 = true
 is_label (Const n) = nat_lt n (2 ^ 32)
 is_label (Op operator) = true
 is_label Load = true
 is_label Store = true
 
-abbrev pub init_if : Option Place → Option Label
+abbrev pub init_if : Option Origin → Option Label
 init_if (Some x) = Some (Init x)
 init_if None = None
 
@@ -80,14 +80,10 @@ op_if None = None
 -- the label of this kind with this content
 abbrev pub label_in : ℕ → ℕ → Option Label
 label_in kind content =
-    if kind == 1 then init_if (place_at content) else (if kind == 2 then (if content == 0 then Some Mem0 else None) else (
+    if kind == 1 then init_if (origin_at content) else (if kind == 2 then (if content == 0 then Some Mem0 else None) else (
     if kind == 3 then Some (Const content) else (if kind == 4 then op_if (operator_at content) else (
     if kind == 5 then (if content == 0 then Some Load else None) else (if kind == 6 then (if content == 0 then Some Store else None) else None)))))
 
 -- the label that has this word
 abbrev pub label_with : ℕ → Option Label
 label_with w = label_in (w / 2 ^ 32) (w % 2 ^ 32)
-
--- the label of a word that is one's
-abbrev pub label_at : ℕ → Label
-label_at w = unwrap_or (label_with w) Mem0

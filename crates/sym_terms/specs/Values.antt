@@ -4,20 +4,20 @@ use Rattle.words.specs.declared.operator.Operator.{Operator}
 use Rattle.words.specs.Words.{wrap}
 use Rattle.words.specs.Operators.{op_value}
 use Rattle.mips_isa.specs.States.{State, load_word, store_word}
-use Rattle.sym_terms.specs.declared.label.Place.{Place}
-use Rattle.sym_terms.specs.declared.label.Place.TheVariants.{Register, Hi, Lo, Link}
+use Rattle.sym_terms.specs.declared.label.Origin.{Origin}
+use Rattle.sym_terms.specs.declared.label.Origin.TheVariants.{Register, Hi, Lo, Link}
 use Rattle.sym_terms.specs.declared.label.Label.{Label}
 use Rattle.sym_terms.specs.declared.label.Label.TheVariants.{Init, Const, Op, Load, Store}
 use Rattle.sym_terms.specs.Trees.{Tree, node, none, more, leaf, binary, ternary}
 
-abbrev pub place_value : Place → State → ℕ → ℕ
-place_value (Register r) s link = s.regs r
-place_value Hi s link = s.hi
-place_value Lo s link = s.lo
-place_value Link s link = link
+abbrev pub origin_value : Origin → State → ℕ → ℕ
+origin_value (Register r) s link = s.regs r
+origin_value Hi s link = s.hi
+origin_value Lo s link = s.lo
+origin_value Link s link = link
 
 abbrev pub leaf_value : Label → State → ℕ → ℕ
-leaf_value (Init p) s link = place_value p s link
+leaf_value (Init p) s link = origin_value p s link
 leaf_value (Const w) s link = wrap w
 leaf_value _ s link = 0
 
@@ -33,19 +33,19 @@ ternary_memory _ mapped memory a v = memory
 abbrev mutual
   -- the word that a tree stands for in a start state, where a call would put in this link; 0 where it
   -- is none. It is total: a load where no word is, and a division without a value, give 0.
-  pub word_at : Tree → State → ℕ → ℕ
-  word_at (node l none) s link = leaf_value l s link
-  word_at (node l (more a none)) s link = 0
-  word_at (node l (more a (more b none))) s link = binary_value l s.mapped (memory_at a s link) (word_at a s link) (word_at b s link)
-  word_at (node l (more a (more b (more c rest)))) s link = 0
+  pub tree_word : Tree → State → ℕ → ℕ
+  tree_word (node l none) s link = leaf_value l s link
+  tree_word (node l (more a none)) s link = 0
+  tree_word (node l (more a (more b none))) s link = binary_value l s.mapped (tree_memory a s link) (tree_word a s link) (tree_word b s link)
+  tree_word (node l (more a (more b (more c rest)))) s link = 0
 
   -- the memory that a tree stands for; a store where no word is changes nothing
-  pub memory_at : Tree → State → ℕ → ℕ → ℕ
-  memory_at (node l none) s link = s.memory
-  memory_at (node l (more a none)) s link = s.memory
-  memory_at (node l (more a (more b none))) s link = s.memory
-  memory_at (node l (more a (more b (more c none)))) s link = ternary_memory l s.mapped (memory_at a s link) (word_at b s link) (word_at c s link)
-  memory_at (node l (more a (more b (more c (more d rest))))) s link = s.memory
+  pub tree_memory : Tree → State → ℕ → ℕ → ℕ
+  tree_memory (node l none) s link = s.memory
+  tree_memory (node l (more a none)) s link = s.memory
+  tree_memory (node l (more a (more b none))) s link = s.memory
+  tree_memory (node l (more a (more b (more c none)))) s link = ternary_memory l s.mapped (tree_memory a s link) (tree_word b s link) (tree_word c s link)
+  tree_memory (node l (more a (more b (more c (more d rest))))) s link = s.memory
 
 -- trees in normal form, made from trees in normal form: today the plain nodes
 abbrev pub const_tree : ℕ → Tree

@@ -1,14 +1,14 @@
 //! Labels, and the 64-bit word of each.
 ghost use Rattle.std.specs.Prelude.{◌≡◌, ◌⊎◌, ℕ, ◌<◌, IfSome, Some, true};
 ghost use Rattle.sym_terms.specs.declared.label.Label.{Label};
-ghost use Rattle.sym_terms.specs.Labels.{operator_code, operator_at, place_code, place_at, label_word, label_with, is_label, is_place};
+ghost use Rattle.sym_terms.specs.Labels.{operator_code, operator_at, origin_code, origin_at, label_word, label_with, is_label, is_origin};
 
 use mips_isa::NonzeroReg;
 use words::Operator;
 
-/// A place whose value at the start of a block is a term: a register 1 to 31, HI, LO, or the link that a call leaves in register 31.
+/// Where a value that is there at the start of a block comes from: a register 1 to 31, HI, LO, or the link that a call leaves in register 31.
 #[derive(Clone, Copy, Debug, PartialEq, Eq)]
-pub enum Place {
+pub enum Origin {
     Register(NonzeroReg),
     Hi,
     Lo,
@@ -18,8 +18,8 @@ pub enum Place {
 /// The root of a term.
 #[derive(Clone, Copy, Debug, PartialEq, Eq)]
 pub enum Label {
-    /// What the place holds at the start. No children.
-    Init(Place),
+    /// What is there at the start. No children.
+    Init(Origin),
     /// The memory at the start. No children.
     Mem0,
     /// The word itself. No children.
@@ -85,40 +85,40 @@ fn operator_of(number: u32) -> Option<Operator>
     }
 }
 
-impl Place {
+impl Origin {
     fn number(self) -> u32
-        ensures value { result ≡ place_code self }
-        ensures range { is_place self ≡ true }
+        ensures value { result ≡ origin_code self }
+        ensures range { is_origin self ≡ true }
     {
         match self {
-            Place::Register(r) => u32::from(r.index()),
-            Place::Hi => 32,
-            Place::Lo => 33,
-            Place::Link => 34,
+            Origin::Register(r) => u32::from(r.index()),
+            Origin::Hi => 32,
+            Origin::Lo => 33,
+            Origin::Link => 34,
         }
     }
 
-    fn at(number: u32) -> Option<Place>
-        ensures { result ≡ place_at number }
+    fn at(number: u32) -> Option<Origin>
+        ensures { result ≡ origin_at number }
     {
         match number {
-            32 => Some(Place::Hi),
-            33 => Some(Place::Lo),
-            34 => Some(Place::Link),
+            32 => Some(Origin::Hi),
+            33 => Some(Origin::Lo),
+            34 => Some(Origin::Link),
             _ => register_at(number),
         }
     }
 }
 
-fn register_at(number: u32) -> Option<Place>
+fn register_at(number: u32) -> Option<Origin>
     requires { (number < 32) ⊎ (34 < number) }
-    ensures { result ≡ place_at number }
+    ensures { result ≡ origin_at number }
 {
     if number >= 32 {
         return None;
     }
     let r = NonzeroReg::new(number as u8)?;
-    Some(Place::Register(r))
+    Some(Origin::Register(r))
 }
 
 /// The word of a label: its kind in the upper 32 bits, its content in the lower.
@@ -127,7 +127,7 @@ pub fn word_of(label: Label) -> u64
     ensures range { is_label label ≡ true }
 {
     match label {
-        Label::Init(place) => 4294967296 + u64::from(place.number()),
+        Label::Init(origin) => 4294967296 + u64::from(origin.number()),
         Label::Mem0 => 2 * 4294967296,
         Label::Const(n) => 3 * 4294967296 + u64::from(n),
         Label::Op(operator) => 4 * 4294967296 + u64::from(operator_number(operator)),
@@ -145,8 +145,8 @@ pub fn label_of(word: u64) -> Option<Label>
     let content = (word % 4294967296) as u32;
     match word / 4294967296 {
         1 => {
-            let place = Place::at(content)?;
-            Some(Label::Init(place))
+            let origin = Origin::at(content)?;
+            Some(Label::Init(origin))
         }
         2 => if content == 0 {
             Some(Label::Mem0)

@@ -8,5 +8,5 @@
 mod label;
 mod laws;
 
-pub use label::{Label, Place, label_of, word_of};
+pub use label::{Label, Origin, label_of, word_of};
 pub use laws::trees_keep_values;

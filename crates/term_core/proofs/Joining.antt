@@ -25,7 +25,7 @@ adds_new ps by (Find l ks) t x i vacant covers = absurd i
 adds_new ps by (Read k) t x i vacant covers = absurd i
 
 answers_new : (n : ℕ) (ps : List Pair) (by : ℕ) (c : Call) (t : ℕ) (x : Tree) → Interns c → tree_at ps t ≡ None → tree_over ps (label_of c) (kids_of c) ≡ Some x → (Has ps x → ⊥) → added_by by ps < n
-    → Rattle.term_core.specs.Terms.IsAnswer n ps by c (Ticket t)
+    → Rattle.term_core.specs.Terms.MayAnswer n ps by c (Ticket t)
 answers_new n ps by (Intern l ks) t x i vacant covers missed room = (x, covers, inr (missed, vacant, room))
 answers_new n ps by (Find l ks) t x i vacant covers missed room = absurd i
 answers_new n ps by (Read k) t x i vacant covers missed room = absurd i

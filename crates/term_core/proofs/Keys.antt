@@ -1,8 +1,8 @@
 -- A tree is there exactly where a node of its chain has its content.
 use Rattle.std.proofs.Common.{◌≡◌, ℕ, Bool, true, false, List, [], ◌∷◌, ◌++◌, Some, refl, sym, ap, subst, ◌∙◌, append-nil, arith}
 use Rattle.sym_terms.specs.declared.label.Label.{Label}
-use Rattle.sym_terms.specs.Labels.{label_word, label_at}
-use Rattle.sym_terms.proofs.Back.{label_back}
+use Rattle.sym_terms.specs.Labels.{label_word}
+use Rattle.sym_terms.proofs.Back.{one_label}
 use Rattle.term_core.specs.declared.Call.{Call}
 use Rattle.term_core.specs.declared.Call.TheVariants.{Intern, Find, Read}
 use Rattle.term_core.specs.declared.Walker.{Walker}
@@ -57,7 +57,7 @@ module _ (s : Shape) (words : List ℕ) (ps : List Pair) (chains : ℕ → List 
       let P : List ℕ → Type 0 = λ row. SameAs s words t row in
       let mine : SameAs s words t (content_of (label_of c) (kids_of c)) = subst P (content_is c k.searches) same in
       let lw : label_word st.label ≡ label_word (label_of c) = sym (label_is s words t st.label st.kids st.three st.holds) ∙ label_is s words t (label_of c) (kids_of c) k.three mine in
-      let l : st.label ≡ label_of c = sym (label_back st.label st.proper) ∙ (ap label_at lw ∙ label_back (label_of c) k.proper) in
+      let l : st.label ≡ label_of c = one_label st.label (label_of c) st.proper k.proper lw in
       let ks : st.kids ≡ kids_of c = sym (kids_is s words t st.label st.kids st.three st.holds) ∙ kids_is s words t (label_of c) (kids_of c) k.three mine in
       let q : Some st.trees ≡ Some k.trees = sym st.kids_are ∙ (ap (trees_at ps) ks ∙ k.known) in
       let ts : st.trees ≡ k.trees = cc in

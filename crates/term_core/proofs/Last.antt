@@ -7,18 +7,18 @@ use Rattle.term_core.specs.declared.Answer.{Answer}
 use Rattle.term_core.specs.declared.Answer.TheVariants.{Ticket, Full, Found, Missing, Node}
 use Rattle.term_core.specs.declared.Entry.{Entry}
 use Rattle.sym_terms.specs.Trees.{Tree}
-use Rattle.term_core.specs.Terms.{Pair, tree_at, tree_over, Has, added_by, is_there, pair_if, adds, after, pairs_from, pairs_of, IsAnswer, legal_from, IsLegal}
+use Rattle.term_core.specs.Terms.{Pair, tree_at, tree_over, Has, added_by, is_there, pair_if, adds, pairs_after, pairs_from, pairs_of, MayAnswer, legal_from, IsLegal}
 use Rattle.term_core.proofs.Replay.{tree_more, tree_new, pairs_append, added_append, eqb_eq}
 
 legal_back : (n : ℕ) (ps : List Pair) (h g : List Entry) → legal_from n ps (h ++ g) → legal_from n (pairs_from ps h) g
 legal_back n ps [] g l = l
-legal_back n ps (x ∷ xs) g l = legal_back n (after ps x) xs g l.1
+legal_back n ps (x ∷ xs) g l = legal_back n (pairs_after ps x) xs g l.1
 
 -- the last entry has an answer that it may have there
-pub legal_last : (n : ℕ) (h : List Entry) (e : Entry) → IsLegal n (h ++ e ∷ []) → IsAnswer n (pairs_of h) e.by e.call e.answer
+pub legal_last : (n : ℕ) (h : List Entry) (e : Entry) → IsLegal n (h ++ e ∷ []) → MayAnswer n (pairs_of h) e.by e.call e.answer
 legal_last n h e l = (legal_back n [] h (e ∷ []) l).0
 
-pub pairs_last : (h : List Entry) (e : Entry) → pairs_of (h ++ e ∷ []) ≡ after (pairs_of h) e
+pub pairs_last : (h : List Entry) (e : Entry) → pairs_of (h ++ e ∷ []) ≡ pairs_after (pairs_of h) e
 pairs_last h e = pairs_append [] h (e ∷ [])
 
 -- a ticket whose tree was not there names the new pair
@@ -26,7 +26,7 @@ pub added_row : (ps : List Pair) (by : ℕ) (l : Label) (ks : List ℕ) (t : ℕ
 added_row ps by l ks t x over none = ap (λ (o : Option Tree). cond (is_there o) [] (pair_if (tree_over ps l ks) t by)) none ∙ ap (λ (o : Option Tree). pair_if o t by) over
 
 -- a ticket that an intern answers has the tree of the call
-pub ticket_tree : (n : ℕ) (ps : List Pair) (by : ℕ) (l : Label) (ks : List ℕ) (t : ℕ) (x : Tree) → IsAnswer n ps by (Intern l ks) (Ticket t) → tree_over ps l ks ≡ Some x → tree_at (ps ++ adds ps by (Intern l ks) (Ticket t)) t ≡ Some x
+pub ticket_tree : (n : ℕ) (ps : List Pair) (by : ℕ) (l : Label) (ks : List ℕ) (t : ℕ) (x : Tree) → MayAnswer n ps by (Intern l ks) (Ticket t) → tree_over ps l ks ≡ Some x → tree_at (ps ++ adds ps by (Intern l ks) (Ticket t)) t ≡ Some x
 ticket_tree n ps by l ks t x ans over = (⊎_elim
     (λ (e : tree_at ps t ≡ Some ans.0). tree_more ps (adds ps by (Intern l ks) (Ticket t)) t ans.0 e)
     (λ (e : (Has ps ans.0 → ⊥) × (tree_at ps t ≡ None) × (added_by by ps < n)).
@@ -37,7 +37,7 @@ silent : (n : ℕ) (ps : List Pair) (by : ℕ) → added_by by ps ≤ n → adde
 silent n ps by low = let e : added_by by (ps ++ []) ≡ added_by by ps + 0 = added_append by ps [] in omega arith
 
 -- an entry leaves no pass with more than `nodes` pairs of its own
-adds_low : (n : ℕ) (ps : List Pair) (by q : ℕ) (c : Call) (a : Answer) → IsAnswer n ps q c a → added_by by ps ≤ n → added_by by (ps ++ adds ps q c a) ≤ n
+adds_low : (n : ℕ) (ps : List Pair) (by q : ℕ) (c : Call) (a : Answer) → MayAnswer n ps q c a → added_by by ps ≤ n → added_by by (ps ++ adds ps q c a) ≤ n
 adds_low n ps by q (Intern l ks) (Ticket t) ans low = subst (λ (k : ℕ). k ≤ n) (sym (added_append by ps (adds ps q (Intern l ks) (Ticket t)))) (⊎_elim
     (λ (e : tree_at ps t ≡ Some ans.0).
     let row : adds ps q (Intern l ks) (Ticket t) ≡ [] = ap (λ (o : Option Tree). cond (is_there o) [] (pair_if (tree_over ps l ks) t q)) e in
@@ -60,7 +60,7 @@ adds_low n ps by q (Read u) a ans low = silent n ps by low
 
 low_from : (n : ℕ) (ps : List Pair) (by : ℕ) (h : List Entry) → added_by by ps ≤ n → legal_from n ps h → added_by by (pairs_from ps h) ≤ n
 low_from n ps by [] low l = low
-low_from n ps by (e ∷ es) low l = low_from n (after ps e) by es (adds_low n ps by e.by e.call e.answer l.0 low) l.1
+low_from n ps by (e ∷ es) low l = low_from n (pairs_after ps e) by es (adds_low n ps by e.by e.call e.answer l.0 low) l.1
 
 -- in a legal history no pass has more than `nodes` pairs of its own
 pub added_low : (n : ℕ) (h : List Entry) (by : ℕ) → IsLegal n h → added_by by (pairs_of h) ≤ n

@@ -6,19 +6,19 @@ use mathlib.Core.Logic.{dite}
 use mathlib.Core.Option.{some, none, some-injective, some-ne-none}
 use lib.ListN.{get_elem?}
 use prog.Atomic.{either}
-use Rattle.sym_terms.specs.Labels.{label_word, label_at, is_label}
-use Rattle.sym_terms.proofs.Back.{label_back}
+use Rattle.sym_terms.specs.Labels.{label_word, label_with, is_label}
+use Rattle.sym_terms.proofs.Back.{label_with-back}
 use Rattle.term_core.specs.declared.Call.{Call}
 use Rattle.term_core.specs.declared.Call.TheVariants.{Intern, Find, Read}
 use Rattle.term_core.specs.declared.Answer.{Answer}
-use Rattle.term_core.specs.declared.Answer.TheVariants.{Full, Missing}
+use Rattle.term_core.specs.declared.Answer.TheVariants.{Full, Missing, Node}
 use Rattle.term_core.specs.declared.Entry.{Entry}
 use Rattle.term_core.specs.declared.Stage.{Stage}
 use Rattle.term_core.specs.declared.Stage.TheVariants.{Idle, Looking, AtLink, AtContent, Writing, Linking, Reading}
 use Rattle.term_core.specs.declared.Walker.{Walker}
 use Rattle.sym_terms.specs.Trees.{Tree, Trees, node}
-use Rattle.term_core.specs.Terms.{Pair, tree_at, trees_at, tree_over, node_if, is_there, pair_if, added_by, adds, pairs_of, pairs_from, Has, IsAnswer, IsLegal, calls_by, StartsWith, occurs}
-use Rattle.term_core.specs.World.{Shape, IsShape, World, Item, Choice, begins, looks, Turn, reached, run, start, step, does, acts, steps, begun, begun_at, chosen, may_begin, all_occur, at_most_three, first_stage, is_idle, place, place_at, becomes, becomes_at, turn, turn_at, goes, ends, entry, follows, found_none, linked, content, hit, answer_of, fresh, fresh_from, link_of}
+use Rattle.term_core.specs.Terms.{Pair, tree_at, trees_at, tree_over, node_if, is_there, pair_if, added_by, adds, pairs_of, pairs_from, Has, MayAnswer, IsLegal, calls_by, StartsWith, occurs}
+use Rattle.term_core.specs.World.{Shape, IsShape, World, Item, Choice, begins, looks, Turn, reached, world_after, start, step, does, acts, steps, begun, begun_at, chosen, may_begin, all_occur, at_most_three, first_stage, is_idle, place, place_at, becomes, becomes_at, turn, turn_at, goes, ends, entry, follows, found_none, linked, content, hit, read_answer, answer_of, fresh, fresh_from, link_of}
 use Rattle.term_core.specs.Law.{Sees, Lawful}
 use Rattle.term_core.proofs.Replay.{IsThere, One, one_of, there_from, tree_later, pairs_append, pairs_more, same_from, legal_front, tree_more}
 use Rattle.term_core.proofs.Chains.{Mem, mem_here, mem_cases, Linked, end_of, end_cases, end_snoc, linked_rest, linked_none, linked_some, linked_frame, at_same, at_other, set_itself}
@@ -33,7 +33,7 @@ adds_hit ps by (Intern l ks) k x h e = ap (λ (o : Option Tree). cond (is_there 
 adds_hit ps by (Find l ks) k x h e = refl
 adds_hit ps by (Read t) k x h e = absurd h
 
-answers_hit : (n : ℕ) (ps : List Pair) (by : ℕ) (c : Call) (k : ℕ) (x : Tree) → Searches c → tree_over ps (label_of c) (kids_of c) ≡ Some x → tree_at ps k ≡ Some x → IsAnswer n ps by c (hit c k)
+answers_hit : (n : ℕ) (ps : List Pair) (by : ℕ) (c : Call) (k : ℕ) (x : Tree) → Searches c → tree_over ps (label_of c) (kids_of c) ≡ Some x → tree_at ps k ≡ Some x → MayAnswer n ps by c (hit c k)
 answers_hit n ps by (Intern l ks) k x h o e = (x, o, inl e)
 answers_hit n ps by (Find l ks) k x h o e = (x, o, e)
 answers_hit n ps by (Read t) k x h o e = absurd h
@@ -55,7 +55,7 @@ module _ (s : Shape) (ok : IsShape s) (w : World) (inv : Inv s w) (p : ℕ) (v :
   move : (a : ℕ) (g : Stage) (q : ℕ) → q ≤ length ps + 1 → Spot s w.words ps chains (record b { stage = g; probes = q }) g → Next a (goes (record b { probes = q }) g) (slice_index w.words a)
   move a g q few k = loaded s w inv p v at b same_room st a (slice_set w.passes p (record b { stage = g; probes = q })) (quiet s w inv p v at b same_room st g q few k)
 
-  finish : (a : ℕ) (c : Call) (ans : Answer) (q : ℕ) → q ≤ length ps + 1 → adds ps b.by c ans ≡ [] → IsAnswer s.nodes ps b.by c ans → Next a (ends w.history (record b { probes = q }) c ans) (slice_index w.words a)
+  finish : (a : ℕ) (c : Call) (ans : Answer) (q : ℕ) → q ≤ length ps + 1 → adds ps b.by c ans ≡ [] → MayAnswer s.nodes ps b.by c ans → Next a (ends w.history (record b { probes = q }) c ans) (slice_index w.words a)
   finish a c ans q few empty is = loaded_end s w inv p v at b same_room st a (slice_set w.passes p (ends w.history (record b { probes = q }) c ans).walker) (w.history ++ entry b c ans ∷ []) (ended s w inv p v at b same_room st c ans q few empty is)
 
   -- the end of a chain
@@ -352,15 +352,16 @@ module _ (s : Shape) (ok : IsShape s) (w : World) (inv : Inv s w) (p : ℕ) (v :
           (λ (g : ((j ≡ length xs) × (slice_index (xs ++ n ∷ []) j ≡ n)) ⊎ (length xs < j)). ⊎_elim (λ (h : (j ≡ length xs) × (slice_index (xs ++ n ∷ []) j ≡ n)). h.1 ∙ (e ∙ ap (word s w.words t) (sym h.0))) (λ (l : length xs < j). absurd (omega arith)) g)
           (by_index xs n j)
 
-      answers : length xs ≡ 3 → IsAnswer s.nodes ps b.by (Read t) (answer_of (xs ++ n ∷ []))
+      answers : length xs ≡ 3 → MayAnswer s.nodes ps b.by (Read t) (answer_of (xs ++ n ∷ []))
       answers last =
           let x = k.there in
           let o = (inv.shared.there t x.0 x.1).0 in
           let y0 = loaded_word 0 (omega arith) in let y1 = loaded_word 1 (omega arith) in let y2 = loaded_word 2 (omega arith) in let y3 = loaded_word 3 (omega arith) in
-          let l : label_at (slice_index (xs ++ n ∷ []) 0) ≡ o.label = ap label_at (y0 ∙ Rattle.term_core.proofs.Keys.label_is s w.words t o.label o.kids o.three o.holds) ∙ label_back o.label o.proper in
+          let l : label_with (slice_index (xs ++ n ∷ []) 0) ≡ Some o.label = ap label_with (y0 ∙ Rattle.term_core.proofs.Keys.label_is s w.words t o.label o.kids o.three o.holds) ∙ label_with-back o.label o.proper in
           let ks : Rattle.term_core.specs.World.kid_in (slice_index (xs ++ n ∷ []) 1) (Rattle.term_core.specs.World.kid_in (slice_index (xs ++ n ∷ []) 2) (Rattle.term_core.specs.World.kid_in (slice_index (xs ++ n ∷ []) 3) [])) ≡ o.kids
           = (λ i. Rattle.term_core.specs.World.kid_in (y1 i) (Rattle.term_core.specs.World.kid_in (y2 i) (Rattle.term_core.specs.World.kid_in (y3 i) []))) ∙ Rattle.term_core.proofs.Keys.kids_is s w.words t o.label o.kids o.three o.holds in
-          (x.0, x.1, (λ i. tree_over ps (l i) (ks i)) ∙ (ap (node_if o.label) o.kids_are ∙ ap Some (sym o.tree_is)))
+          let said : answer_of (xs ++ n ∷ []) ≡ Node o.label o.kids = λ i. read_answer (l i) (ks i) in
+          subst (MayAnswer s.nodes ps b.by (Read t)) (sym said) (x.0, x.1, ap (node_if o.label) o.kids_are ∙ ap Some (sym o.tree_is))
 
   -- a look: the pass sees more of the history
   look_on : (k : ℕ) → Next 0 (record { walker = record b { stage = Idle; seen = take (max k (length b.seen)) w.history }; said = [] }) (slice_index w.words 0)
@@ -525,9 +526,9 @@ does_keeps : (s : Shape) → IsShape s → (w : World) → Inv s w → (item : I
 does_keeps s ok w inv item none e = inv
 does_keeps s ok w inv item (some v) e = begun_goes s ok w inv item.by v e item.choice v.stage
 
-run_keeps : (s : Shape) → IsShape s → (w : World) → Inv s w → (items : List Item) → Inv s (run s w items)
-run_keeps s ok w inv [] = inv
-run_keeps s ok w inv (i ∷ is) = run_keeps s ok (step s w i) (does_keeps s ok w inv i (get_elem? w.passes i.by) refl) is
+world_after_keeps : (s : Shape) → IsShape s → (w : World) → Inv s w → (items : List Item) → Inv s (world_after s w items)
+world_after_keeps s ok w inv [] = inv
+world_after_keeps s ok w inv (i ∷ is) = world_after_keeps s ok (step s w i) (does_keeps s ok w inv i (get_elem? w.passes i.by) refl) is
 
 all_zero : (n c : ℕ) → slice_index (replicate n 0) c ≡ 0
 all_zero zero c = refl
@@ -574,7 +575,7 @@ starts s ok = record {
 }
 
 pub keeps_all : (s : Shape) (items : List Item) → IsShape s → Inv s (reached s items)
-keeps_all s items ok = run_keeps s ok (start s) (starts s ok) items
+keeps_all s items ok = world_after_keeps s ok (start s) (starts s ok) items
 
 module _ (s : Shape) (ok : IsShape s) (w : World) (inv : Inv s w) (p : ℕ) (v : Walker) (st : Stands s w.words w.history inv.chains p v) where
   total_low : length (pairs_of w.history) ≤ s.workers * s.nodes

@@ -11,7 +11,7 @@ use Rattle.term_core.specs.declared.Stage.{Stage}
 use Rattle.term_core.specs.declared.Stage.TheVariants.{Linking}
 use Rattle.term_core.specs.declared.Walker.{Walker}
 use Rattle.term_core.specs.Terms.{tree_at, pairs_of}
-use Rattle.term_core.specs.World.{Shape, IsShape, World, Item, link_of, begun, is_idle, does, steps, step, run, start, reached}
+use Rattle.term_core.specs.World.{Shape, IsShape, World, Item, link_of, begun, is_idle, does, steps, step, world_after, start, reached}
 use Rattle.term_core.specs.Items.{Links, Writes, IsLink, LinksStay, ContentStays}
 use Rattle.term_core.proofs.Replay.{pairs_append, tree_later}
 use Rattle.term_core.proofs.Chains.{Mem, end_of, end_cases}
@@ -19,9 +19,9 @@ use Rattle.term_core.proofs.Kept.{Spot, OnLinking, chain_of, label_of, kids_of}
 use Rattle.term_core.proofs.Reaching.{keeps_all}
 use Rattle.term_core.proofs.EachItem.{words_stay}
 
-run_append : (s : Shape) (w : World) (xs ys : List Item) → run s w (xs ++ ys) ≡ run s (run s w xs) ys
-run_append s w [] ys = refl
-run_append s w (x ∷ xs) ys = run_append s (step s w x) xs ys
+world_after-append : (s : Shape) (w : World) (xs ys : List Item) → world_after s w (xs ++ ys) ≡ world_after s (world_after s w xs) ys
+world_after-append s w [] ys = refl
+world_after-append s w (x ∷ xs) ys = world_after-append s (step s w x) xs ys
 
 history_if : (s : Shape) (w : World) (by : ℕ) (b : Walker) (k : Bool) → (rest : List Entry) × ((cond k w (steps s w by b)).history ≡ w.history ++ rest)
 history_if s w by b true = ([], sym (append-nil w.history))
@@ -81,7 +81,7 @@ module _ (s : Shape) (items : List Item) (i : Item) (ok : IsShape s) where
       (words_stay s items i v (link_of s t + 1 + k) ok here)
 
 snoc : (s : Shape) (items : List Item) (i : Item) → reached s (items ++ i ∷ []) ≡ step s (reached s items) i
-snoc s items i = run_append s (start s) items (i ∷ [])
+snoc s items i = world_after-append s (start s) items (i ∷ [])
 
 pub links_stay : LinksStay
 links_stay s items [] a n ok l e = ap (λ (is : List Item). slice_index (reached s is).words a) (append-nil items) ∙ e

@@ -1,10 +1,10 @@
 -- Passes and words, and the single steps: S1 loads a link, S2 loads a content word, S3 stores a content word of a node of one's own that is not linked, S4 exchanges a link from none to one's own node.
-use Rattle.std.specs.Prelude.{ℕ, zero, suc, ◌+◌, ◌-◌, ◌*◌, ◌<◌, ◌==◌, ◌&&◌, Bool, true, false, cond, List, [], ◌∷◌, ◌++◌, length, take, max, slice_index, slice_set, replicate}
+use Rattle.std.specs.Prelude.{ℕ, zero, suc, ◌+◌, ◌-◌, ◌*◌, ◌<◌, ◌==◌, ◌&&◌, Bool, true, false, cond, List, [], ◌∷◌, ◌++◌, length, take, max, slice_index, slice_set, replicate, Some, None}
 use mathlib.Core.Option.{Option, some, none}
 use lib.ListN.{get_elem?}
 use prog.Atomic.{either}
 use Rattle.sym_terms.specs.declared.label.Label.{Label}
-use Rattle.sym_terms.specs.Labels.{label_word, label_at, is_label}
+use Rattle.sym_terms.specs.Labels.{label_word, label_with, is_label}
 use Rattle.term_core.specs.declared.Call.{Call}
 use Rattle.term_core.specs.declared.Call.TheVariants.{Intern, Find, Read}
 use Rattle.term_core.specs.declared.Answer.{Answer}
@@ -47,9 +47,14 @@ abbrev pub kid_in : ℕ → List ℕ → List ℕ
 kid_in zero ks = ks
 kid_in (suc k) ks = k ∷ ks
 
+-- what a read answers; without a label that is what no read may answer
+abbrev pub read_answer : Rattle.std.specs.Prelude.Option Label → List ℕ → Answer
+read_answer (Some label) kids = Node label kids
+read_answer None kids = Missing
+
 -- what the four content words say
 abbrev pub answer_of : List ℕ → Answer
-answer_of words = Node (label_at (slice_index words 0)) (kid_in (slice_index words 1) (kid_in (slice_index words 2) (kid_in (slice_index words 3) [])))
+answer_of words = read_answer (label_with (slice_index words 0)) (kid_in (slice_index words 1) (kid_in (slice_index words 2) (kid_in (slice_index words 3) [])))
 
 abbrev pub all_occur : List Entry → List ℕ → Bool
 all_occur h [] = true
@@ -222,9 +227,9 @@ does s w item (some v) = acts s w item.by (begun s item.choice v)
 abbrev pub step : Shape → World → Item → World
 step s w item = does s w item (get_elem? w.passes item.by)
 
-abbrev pub run : Shape → World → List Item → World
-run s w [] = w
-run s w (i ∷ is) = run s (step s w i) is
+abbrev pub world_after : Shape → World → List Item → World
+world_after s w [] = w
+world_after s w (i ∷ is) = world_after s (step s w i) is
 
 abbrev pub fresh : Shape → ℕ → Walker
 fresh s by = record { by = by; own = by * s.nodes; room = s.nodes; seen = []; mine = []; probes = 0; stage = Idle }
@@ -239,4 +244,4 @@ start s = record { words = replicate (s.heads + 5 * (s.workers * s.nodes)) 0; pa
 
 -- the world that a list of items reaches
 abbrev pub reached : Shape → List Item → World
-reached s items = run s (start s) items
+reached s items = world_after s (start s) items

@@ -13,7 +13,7 @@ ghost use Rattle.term_table.specs.declared.view.View.TheVariants.{Walking};
 
 use crate::nodes::Nodes;
 use crate::rule::Act;
-use crate::view::{Outcome, View};
+use crate::view::{InternEnd, View};
 use atomic_table::Seat;
 
 impl Nodes {
@@ -146,7 +146,7 @@ impl Nodes {
         chain: u64,
         own: u64,
         room: u64,
-    ) -> (Outcome, u64)
+    ) -> (InternEnd, u64)
         requires table { (seat.old.table_id ≡ self.now.table.shared.table_id) × (C.shape ≡ shape_of self.now.size) }
         requires link { chain < self.now.size.heads + 5 * (self.now.size.workers * self.now.size.nodes) }
         requires call { (l : Label) × (ks : List ℕ) × (C.call ≡ Intern l ks) × (chain ≡ C.shape.chain (label_word l) ks) }
@@ -164,7 +164,7 @@ impl Nodes {
         loop {
             if found == 0 {
                 if room == 0 {
-                    return (Outcome::NoRoom, probes);
+                    return (InternEnd::NoRoom, probes);
                 }
                 if !written {
                     self.write_node::<C>(seat, words, own, link, probes);
@@ -172,12 +172,12 @@ impl Nodes {
                 }
                 found = self.join::<C>(seat, link, own, probes);
                 if found == 0 {
-                    return (Outcome::Linked, probes);
+                    return (InternEnd::Linked, probes);
                 }
             }
             let node = found - 1;
             if self.same_content::<C>(seat, words, node, written, probes) {
-                return (Outcome::Hit(node), probes);
+                return (InternEnd::Hit(node), probes);
             }
             link = self.size.heads + 5 * node;
             found = self.next_link::<C>(seat, link, written, probes);

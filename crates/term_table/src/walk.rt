@@ -14,7 +14,7 @@ ghost use Rattle.term_table.specs.declared.view.View.TheVariants.{Walking};
 use crate::nodes::Nodes;
 use crate::rule::Act;
 use crate::ticket::Ticket;
-use crate::view::{Outcome, View};
+use crate::view::{InternEnd, View};
 use atomic_table::Seat;
 use sym_terms::Label;
 
@@ -28,19 +28,18 @@ fn kid_at(kids: &[Ticket], i: usize) -> u64
     if i < kids.len() { kids[i].word() } else { 0 }
 }
 
-// The upper 32 bits of the product.
-fn scattered(number: u64) -> u64
-    ensures value { result ≡ spec.scattered number }
-    ensures range { result < 2 ^ 32 }
-{
-    number.wrapping_mul(SCATTER) / 4294967296
-}
-
 // One number more in a hash.
 fn mixed(hash: u64, number: u64) -> u64
     ensures { result ≡ mix hash number }
 {
-    scattered(scattered(hash) + number / 64) + number % 64
+    hash.wrapping_mul(SCATTER).wrapping_add(number)
+}
+
+// The hash with all but its low ten bits scattered: numbers in sequence stay in sequence, and strides don't meet.
+fn scattered(hash: u64) -> u64
+    ensures { result ≡ spec.scattered hash }
+{
+    (hash / 1024).wrapping_mul(SCATTER) / 4294967296 + hash % 1024
 }
 
 // The chain of a term.
@@ -49,11 +48,11 @@ fn chain_at(heads: u64, word: u64, kids: &[Ticket]) -> u64
     ensures value { result ≡ chain_of heads word kids.now }
     ensures range { result < heads }
 {
-    let mut hash = mixed(0, word);
+    let mut hash = word;
     for kid in kids {
         hash = mixed(hash, kid.number());
     }
-    hash % heads
+    scattered(hash) % heads
 }
 
 impl Nodes {
@@ -65,7 +64,7 @@ impl Nodes {
         kids: &[Ticket],
         own: u64,
         room: u64,
-    ) -> (Outcome, u64)
+    ) -> (InternEnd, u64)
         requires table { (seat.old.table_id ≡ self.now.table.shared.table_id) × (C.shape ≡ shape_of self.now.size) }
         requires call { C.call ≡ Intern _label.now kids.now }
         requires word { word ≡ label_word _label.now }

@@ -9,7 +9,7 @@ use mips_isa::{Amount, ImmOp, Plain, Reg, ShiftOp};
 use std::alloc::Global;
 use std::process::Abort;
 use std::test::Fail;
-use sym_exec::{SymFault, run_block};
+use sym_exec::{guard_room, run_block};
 use term_table::{Pass, TermTable};
 
 // `addiu $8,$0,n` for each n from 1 to `count`: each has two terms of its own.
@@ -55,19 +55,16 @@ fn order_of(rt: &impl Abort, alloc: Global, count: i16) -> Order {
     }
 }
 
-// Whether the block's terms were all linked. The only fault is that the pass is full.
+// Whether the block's terms were all linked: else the pass is full, the only error that there is.
 fn has_room(rt: &impl Abort, alloc: Global, table: &TermTable, pass: &mut Pass, count: i16) -> bool
     requires { IsOf table.now pass.old }
     ensures { IsOf table.now pass.new }
 {
     let block = block_of(rt, alloc, count);
-    match run_block(alloc, table, pass, &block) {
-        Ok(_) => true,
-        Err(fault) => {
-            assert_eq!(rt; fault, SymFault::Full);
-            false
-        }
-    }
+    let Ok(guards) = guard_room(alloc, block.insts()) else {
+        panic!(rt; "no memory")
+    };
+    run_block(table, pass, &block, guards).is_ok()
 }
 
 #[test]

@@ -12,13 +12,13 @@ use std::process::Abort;
 use std::test::Fail;
 use std::thread;
 use std::thread::Threads;
-use sym_terms::{Label, Place, label_of, word_of};
+use sym_terms::{Label, Origin, label_of, word_of};
 use term_table::{OpenFault, Pass, TermTable};
 use words::Operator;
 
 fn init(index: u8) -> Option<Label> {
     let register = NonzeroReg::new(index)?;
-    Some(Label::Init(Place::Register(register)))
+    Some(Label::Init(Origin::Register(register)))
 }
 
 #[test]
@@ -315,8 +315,8 @@ fn labels_have_their_words(rt: HostRuntime) -> Result<(), Fail> {
     for (label, word) in [
         (first, 0x1_0000_0001),
         (last, 0x1_0000_001f),
-        (Label::Init(Place::Hi), 0x1_0000_0020),
-        (Label::Init(Place::Link), 0x1_0000_0022),
+        (Label::Init(Origin::Hi), 0x1_0000_0020),
+        (Label::Init(Origin::Link), 0x1_0000_0022),
         (Label::Mem0, 0x2_0000_0000),
         (Label::Const(0xffff_ffff), 0x3_ffff_ffff),
         (Label::Op(Operator::Addu), 0x4_0000_0000),

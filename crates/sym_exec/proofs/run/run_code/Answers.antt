@@ -8,7 +8,7 @@ use Rattle.sym_exec.proofs.run.run_code.Goals as goal
 pub returns-clause-trees : goal.returns-clause-trees
 returns-clause-trees c =
     let t = all_trees (map action_of c.args.insts.now) start_trees in
-    let run = c.in_ok-steps.ensures.stands start_trees c.in_ok-places.ensures.stands (guards_none c.new-guards.ensures.items) in
+    let run = c.in_ok-steps.ensures.stands start_trees c.in_ok-places.ensures.stands (guards_none c.requires.room.0) in
     let own = c.in_ok-put_own.ensures.stands t run.0 in
     let own_later = c.in_ok-put_own.ensures.later in
     let last = c.in_ok-run_slot.ensures.stands (exit_trees c.args.exit.now t) own (guards_on own_later run.1) in

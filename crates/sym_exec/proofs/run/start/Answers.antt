@@ -4,7 +4,7 @@ use Rattle.std.proofs.lemmas.List.{get_or-replicate}
 use Rattle.term_table.specs.Passes.{HasSeen}
 use Rattle.term_table.specs.Trees.{HasTree}
 use Rattle.term_table.proofs.Callers.{still_seen, still_tree}
-use Rattle.sym_exec.specs.Symbolic.{held, start_trees}
+use Rattle.sym_exec.specs.Symbolic.{register_tree, start_trees}
 use Rattle.sym_exec.proofs.Tickets.{later_more, set_place, set_tree, length_set}
 use Rattle.sym_exec.proofs.run.start.Goals as goal
 
@@ -18,7 +18,7 @@ loop-r-init c = record {
       subst (HasSeen c.leaf_term.new.pass) (sym e) c.in_ok-zero.ensures.tree.seen;
   stands = λ q lt.
       let e : 0 ≡ q = omega arith in
-      subst (λ (n : ℕ). HasTree c.leaf_term.new.pass (slice_index (replicate 32 c.in_ok-zero.zero) n) (held start_trees n)) e c.in_ok-zero.ensures.tree;
+      subst (λ (n : ℕ). HasTree c.leaf_term.new.pass (slice_index (replicate 32 c.in_ok-zero.zero) n) (register_tree start_trees n)) e c.in_ok-zero.ensures.tree;
 }
 
 pub loop-r-preserved : goal.loop-r-preserved

@@ -2,7 +2,7 @@ use Rattle.std.proofs.Common.{◌≡◌, ℕ, ◌<◌, length}
 use Rattle.std.specs.Prelude.{slice_index}
 use Rattle.term_table.specs.Passes.{IsOf, HasSeen}
 use Rattle.term_table.specs.Trees.{HasTree}
-use Rattle.sym_exec.specs.Symbolic.{held, start_trees}
+use Rattle.sym_exec.specs.Symbolic.{register_tree, start_trees}
 use Rattle.sym_exec.specs.Standing.{Later}
 use Rattle.sym_exec.proofs.run.start.Given as goal
 
@@ -12,5 +12,5 @@ invariant-loop-r l = record {
   later : Later l.fn.pass l.pass;
   count : length l.regs ≡ 32;
   seen : (q : ℕ) → q < 32 → HasSeen l.pass (slice_index l.regs q);
-  stands : (q : ℕ) → q < l.r → HasTree l.pass (slice_index l.regs q) (held start_trees q);
+  stands : (q : ℕ) → q < l.r → HasTree l.pass (slice_index l.regs q) (register_tree start_trees q);
 }

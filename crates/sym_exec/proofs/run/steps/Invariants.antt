@@ -1,4 +1,4 @@
-use Rattle.std.proofs.Common.{◌≡◌, map, drop}
+use Rattle.std.proofs.Common.{◌≡◌, ◌+◌, ◌≤◌, map, drop, vec_len, vec_capacity}
 use Rattle.mips_isa.specs.Actions.{action_of}
 use Rattle.term_table.specs.Passes.{IsOf}
 use Rattle.sym_exec.specs.Symbolic.{TreeState, all_trees}
@@ -10,6 +10,8 @@ invariant-loop-inst l = record {
   table : IsOf l.table l.pass;
   known : Known l.pass l.places;
   later : Later l.fn.pass l.pass;
+  count : vec_len l.guards ≤ vec_len l.fn.guards + l.inst-index;
+  capacity : vec_capacity l.fn.guards ≤ vec_capacity l.guards;
   stands : (t : TreeState) → Stands l.fn.pass l.fn.places t → GuardsStand l.fn.pass l.fn.guards.items t.guards
       → (u : TreeState) × Stands l.pass l.places u × GuardsStand l.pass l.guards.items u.guards × (all_trees (map action_of (drop l.inst-index l.insts)) u ≡ all_trees (map action_of l.insts) t);
 }

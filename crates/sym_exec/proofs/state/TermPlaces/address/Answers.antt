@@ -1,5 +1,5 @@
 use Rattle.term_table.proofs.Callers.{still_seen, still_tree}
-use Rattle.sym_exec.specs.Symbolic.{held}
+use Rattle.sym_exec.specs.Symbolic.{register_tree}
 use Rattle.sym_exec.proofs.Tickets.{get_seen, get_tree}
 use Rattle.sym_exec.proofs.state.TermPlaces.address.Goals as goal
 
@@ -7,4 +7,4 @@ pub op_term-requires-clause-a : goal.op_term-requires-clause-a
 op_term-requires-clause-a c = still_seen c.in_ok-offset.ensures.later.extends c.get.result (get_seen c.requires.known c.get.ensures.value c.get.ensures.range)
 
 pub returns-clause-tree : goal.returns-clause-tree
-returns-clause-tree c = λ t h. c.op_term.ensures.tree (held t c.args.base) _ (still_tree c.in_ok-offset.ensures.later.extends (get_tree {t = t} h c.get.ensures.value c.get.ensures.range)) c.in_ok-offset.ensures.tree
+returns-clause-tree c = λ t h. c.op_term.ensures.tree (register_tree t c.args.base) _ (still_tree c.in_ok-offset.ensures.later.extends (get_tree {t = t} h c.get.ensures.value c.get.ensures.range)) c.in_ok-offset.ensures.tree

@@ -1,7 +1,7 @@
 use Rattle.std.proofs.Common.{subst}
 use Rattle.sym_terms.specs.Values.{op_tree}
 use Rattle.term_table.proofs.Callers.{still_seen, still_tree}
-use Rattle.sym_exec.specs.Symbolic.{held}
+use Rattle.sym_exec.specs.Symbolic.{register_tree}
 use Rattle.sym_exec.specs.Standing.{Stands, Known}
 use Rattle.term_table.specs.Trees.{HasTree}
 use Rattle.sym_exec.proofs.Tickets.{later_more, stands_on, known_on, get_seen, get_tree}
@@ -26,7 +26,7 @@ returns-clause-stands c = λ t h.
     let lo = c.in_ok-lo.ensures.tree _ _ (still_tree c.in_ok-hi.ensures.later.extends x) (still_tree c.in_ok-hi.ensures.later.extends y) in
     record {
       regs = all.regs;
-      hi = subst (λ op. HasTree c.op_term-2.new.pass c.in_ok-hi.hi (op_tree op (held t c.args.a) (held t c.args.b))) c.product_high.ensures hi;
-      lo = subst (λ op. HasTree c.op_term-2.new.pass c.in_ok-lo.lo (op_tree op (held t c.args.a) (held t c.args.b))) c.product_low.ensures lo;
+      hi = subst (λ op. HasTree c.op_term-2.new.pass c.in_ok-hi.hi (op_tree op (register_tree t c.args.a) (register_tree t c.args.b))) c.product_high.ensures hi;
+      lo = subst (λ op. HasTree c.op_term-2.new.pass c.in_ok-lo.lo (op_tree op (register_tree t c.args.a) (register_tree t c.args.b))) c.product_low.ensures lo;
       memory = all.memory;
     }
