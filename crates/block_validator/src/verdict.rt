@@ -6,7 +6,7 @@ ghost use Rattle.mblock.specs.BlockMeaning.{exit_shape};
 ghost use Rattle.term_table.specs.Passes.{IsOf, linked};
 ghost use Rattle.term_table.specs.Trees.{HasLegalHistory};
 ghost use Rattle.sym_exec.specs.Symbolic.{block_trees, order_trees};
-ghost use Rattle.sym_exec.specs.Standing.{Later, HasGuardRoom};
+ghost use Rattle.sym_exec.specs.Standing.{Later};
 ghost use Rattle.mblock.specs.Orders.{Means};
 ghost use Rattle.block_validator.specs.Same.{SameTrees, DiffersFirst, EachCheckedOrderMeansItsBlock};
 ghost use Rattle.block_validator.specs.Verdicts.{IsVerdict, OneDecision};
@@ -16,7 +16,7 @@ use crate::place::Place;
 use mblock::{Block, Order, Unclean, clean};
 use std::alloc::Global;
 use std::marker::Model;
-use sym_exec::{Guard, guard_room, run_block, run_order};
+use sym_exec::{GuardRoom, run_block, run_order};
 use term_table::{Pass, TableFull, TermTable};
 
 /// A lent block, and a clean order that has its terms in every place. Only `validate` makes one.
@@ -79,26 +79,24 @@ pub enum Verdict<'a> {
     NoMemory,
 }
 
-// The first place that differs, none where there is none; the lists have room for the guards.
+// The first place that differs, none where there is none.
 fn compare(
     table: &TermTable,
     pass: &mut Pass,
     block: &Block,
     order: &Order,
-    block_guards: Vec<Guard>,
-    order_guards: Vec<Guard>,
+    block_room: GuardRoom,
+    order_room: GuardRoom,
 ) -> Result<Option<Place>, TableFull>
     requires table { IsOf table.now pass.old }
-    requires block_room { HasGuardRoom block.now.insts block_guards }
-    requires order_room { HasGuardRoom order.now.insts order_guards }
     ensures exact { IfOk result (λ r. MatchOption r (SameTrees (block_trees block.now) (order_trees order.now)) (DiffersFirst (block_trees block.now) (order_trees order.now))) }
     ensures table { IsOf table.now pass.new }
     ensures later { Later pass.old pass.new }
     ensures legal { HasLegalHistory pass.new }
     ensures full { OnErr result (linked pass.new ≡ pass.new.nodes) }
 {
-    let first = run_block(table, pass, block, block_guards)?;
-    let second = run_order(table, pass, order, order_guards)?;
+    let first = run_block(table, pass, block, block_room)?;
+    let second = run_order(table, pass, order, order_room)?;
     Ok(first_difference(&first, &second))
 }
 
@@ -128,13 +126,10 @@ pub fn validate<'a>(
     if let Err(rule) = clean(&order) {
         return Verdict::Unclean(rule);
     }
-    let (Ok(block_guards), Ok(order_guards)) = (
-        guard_room(alloc, block.insts()),
-        guard_room(alloc, order.insts()),
-    ) else {
+    let (Ok(block_room), Ok(order_room)) = (GuardRoom::new(alloc), GuardRoom::new(alloc)) else {
         return Verdict::NoMemory;
     };
-    match compare(table, pass, block, &order, block_guards, order_guards) {
+    match compare(table, pass, block, &order, block_room, order_room) {
         Err(_) => Verdict::Full,
         Ok(Some(place)) => Verdict::Differs(place),
         Ok(None) => Verdict::Same(Checked { block, order }),

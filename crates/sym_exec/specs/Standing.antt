@@ -6,6 +6,7 @@ use Rattle.mips_isa.specs.declared.inst.Plain.{Plain}
 use Rattle.sym_terms.specs.Trees.{Tree}
 use Rattle.term_table.specs.Passes.{PassState, HasSeen}
 use Rattle.term_table.specs.Trees.{HasTree, Extends, HasLegalHistory}
+use Rattle.mblock.specs.declared.limits.TheConstants.{ORDER_INSTS}
 use Rattle.mblock.specs.BlockMeaning.{Shape, Goes, ChoosesPair, ChoosesZero, Calls, Returns, Prints, Halts}
 use Rattle.sym_exec.specs.declared.state.Guard.{Guard}
 use Rattle.sym_exec.specs.declared.state.Guard.TheVariants.{Address, Division}
@@ -84,6 +85,6 @@ pub record StandsFor (p : PassState) (s : TermPlaces) (e : TermExit) (gs : List 
 abbrev pub with_reg : TermPlaces → ℕ → ℕ → TermPlaces
 with_reg s d v = record s { regs = if d == 0 then s.regs else slice_set s.regs d v }
 
--- a list without guards, which has memory for one of each of these instructions and of a slot
-abbrev pub HasGuardRoom : List Plain → Vec Guard Global → Type 0
-HasGuardRoom insts guards = (guards.items ≡ []) × (length insts + 1 ≤ vec_capacity guards)
+-- a list without guards, which has memory for one of each instruction of any order and of its slot
+abbrev pub HasGuardRoom : Vec Guard Global → Type 0
+HasGuardRoom guards = (guards.items ≡ []) × (ORDER_INSTS + 1 ≤ vec_capacity guards)

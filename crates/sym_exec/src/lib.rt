@@ -2,14 +2,16 @@
 //!
 //! `run_block` and `run_order` answer the tickets of the trees that `block_trees` and `order_trees`
 //! define (`specs/Symbolic.antt`): what each register, HI, LO and memory hold at the end, the exit with
-//! its operands, and the guards. `specs/Standing.antt` says when tickets stand for trees. The memory for guards is taken
-//! first, by `guard_room`; so the only error of a run is that the pass is full.
+//! its operands, and the guards. `specs/Standing.antt` says when tickets stand for trees. The memory for guards is
+//! taken first (`GuardRoom`), so the only error of a run is that the pass is full.
 #![tactic(auto)]
 
+mod guards;
 mod places;
 mod run;
 mod state;
 mod terms;
 
-pub use run::{guard_room, run_block, run_order};
+pub use guards::GuardRoom;
+pub use run::{run_block, run_order};
 pub use state::{Guard, SymState, TermExit, TermPlaces};

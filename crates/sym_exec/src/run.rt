@@ -4,6 +4,7 @@ ghost use Rattle.mips_isa.specs.declared.action.Action.{Action as AnAction};
 ghost use Rattle.mips_isa.specs.Actions.{action_of};
 ghost use Rattle.mblock.specs.BlockMeaning.{exit_shape};
 ghost use Rattle.mblock.specs.Clean.{slot_actions};
+ghost use Rattle.mblock.specs.declared.limits.TheConstants.{ORDER_INSTS};
 ghost use Rattle.sym_terms.specs.declared.label.Origin.TheVariants.{Register};
 ghost use Rattle.sym_terms.specs.declared.label.Label.TheVariants.{Init};
 ghost use Rattle.sym_terms.specs.Trees.{leaf};
@@ -12,11 +13,11 @@ ghost use Rattle.term_table.specs.Trees.{HasTree, HasLegalHistory};
 ghost use Rattle.sym_exec.specs.Symbolic.{TreeState, GuardTree, start_trees, trees_after, all_trees, exit_trees, exit_operands, code_trees, block_trees, order_trees};
 ghost use Rattle.sym_exec.specs.Standing.{Later, Known, Stands, GuardsStand, LeavesBy, StandsFor, HasGuardRoom};
 
+use crate::guards::GuardRoom;
 use crate::state::{Guard, SymState, TermExit, TermPlaces};
 use crate::terms::leaf_term;
 use mblock::{Block, Exit, Order};
 use mips_isa::{Action, NonzeroReg, Plain, Reg};
-use std::alloc::{AllocError, Global};
 use sym_terms::{Label, Origin};
 use term_table::{Pass, TableFull, TermTable, Ticket};
 
@@ -248,13 +249,6 @@ fn run_slot(
     }
 }
 
-/// An empty list with memory for the guards of these instructions and of a slot.
-pub fn guard_room(alloc: Global, insts: &[Plain]) -> Result<Vec<Guard>, AllocError>
-    ensures { IfOk result (HasGuardRoom insts.now) }
-{
-    Vec::with_capacity(alloc, insts.len() + 1)
-}
-
 fn run_code(
     table: &TermTable,
     pass: &mut Pass,
@@ -264,7 +258,8 @@ fn run_code(
     mut guards: Vec<Guard>,
 ) -> Result<SymState, TableFull>
     requires table { IsOf table.now pass.old }
-    requires room { HasGuardRoom insts.now guards }
+    requires room { HasGuardRoom guards }
+    requires few { length insts.now ≤ ORDER_INSTS }
     ensures trees { IfOk result (λ s. StandsFor pass.new s.places s.exit s.guards.items (code_trees (map action_of insts.now) exit.now (slot_actions slot.now))) }
     ensures legal { HasLegalHistory pass.new }
     ensures table { IsOf table.now pass.new }
@@ -283,8 +278,7 @@ fn run_code(
     })
 }
 
-/// The tickets of what a block leaves: those of its trees. The guards go into `guards`, whose memory the
-/// caller took beforehand (`guard_room`).
+/// The tickets of what a block leaves: those of its trees. The guards go into `room`, so nothing is allocated.
 ///
 /// `TableFull` comes only where the pass has linked as many terms as it may. The terms that were linked
 /// stay.
@@ -292,17 +286,23 @@ pub fn run_block(
     table: &TermTable,
     pass: &mut Pass,
     block: &Block,
-    guards: Vec<Guard>,
+    room: GuardRoom,
 ) -> Result<SymState, TableFull>
     requires table { IsOf table.now pass.old }
-    requires room { HasGuardRoom block.now.insts guards }
     ensures trees { IfOk result (λ s. StandsFor pass.new s.places s.exit s.guards.items (block_trees block.now)) }
     ensures legal { HasLegalHistory pass.new }
     ensures table { IsOf table.now pass.new }
     ensures later { Later pass.old pass.new }
     ensures full { OnErr result (linked pass.new ≡ pass.new.nodes) }
 {
-    run_code(table, pass, block.insts(), &block.exit(), &None, guards)
+    run_code(
+        table,
+        pass,
+        block.insts(),
+        &block.exit(),
+        &None,
+        room.into_list(),
+    )
 }
 
 /// The tickets of what an order leaves, its slot run behind the exit; else as `run_block`.
@@ -310,10 +310,9 @@ pub fn run_order(
     table: &TermTable,
     pass: &mut Pass,
     order: &Order,
-    guards: Vec<Guard>,
+    room: GuardRoom,
 ) -> Result<SymState, TableFull>
     requires table { IsOf table.now pass.old }
-    requires room { HasGuardRoom order.now.insts guards }
     ensures trees { IfOk result (λ s. StandsFor pass.new s.places s.exit s.guards.items (order_trees order.now)) }
     ensures legal { HasLegalHistory pass.new }
     ensures table { IsOf table.now pass.new }
@@ -326,6 +325,6 @@ pub fn run_order(
         order.insts(),
         &order.exit(),
         &order.slot(),
-        guards,
+        room.into_list(),
     )
 }

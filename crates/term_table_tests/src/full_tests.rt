@@ -9,7 +9,7 @@ use mips_isa::{Amount, ImmOp, Plain, Reg, ShiftOp};
 use std::alloc::Global;
 use std::process::Abort;
 use std::test::Fail;
-use sym_exec::{guard_room, run_block};
+use sym_exec::{GuardRoom, run_block};
 use term_table::{Pass, TermTable};
 
 // `addiu $8,$0,n` for each n from 1 to `count`: each has two terms of its own.
@@ -61,10 +61,10 @@ fn has_room(rt: &impl Abort, alloc: Global, table: &TermTable, pass: &mut Pass, 
     ensures { IsOf table.now pass.new }
 {
     let block = block_of(rt, alloc, count);
-    let Ok(guards) = guard_room(alloc, block.insts()) else {
+    let Ok(room) = GuardRoom::new(alloc) else {
         panic!(rt; "no memory")
     };
-    run_block(table, pass, &block, guards).is_ok()
+    run_block(table, pass, &block, room).is_ok()
 }
 
 #[test]
