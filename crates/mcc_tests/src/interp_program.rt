@@ -121,7 +121,7 @@ const FAULTS: [(&str, &str); 14] = [
     ),
     (
         "int a[1];int main(void){\na=1;}",
-        "fault 12 IntegerType at 25\nx:2:1:\na=1;}\n^\n",
+        "fault 12 Kind at 25\nx:2:1:\na=1;}\n^\n",
     ),
     (
         "int main(void){\nout(1,2);}",

@@ -69,7 +69,7 @@ fn refused(rt: &(impl Abort + AllocGlobal), text: &str, fault: &str) -> Result<(
 
 #[test]
 fn worked_texts_are_refused(rt: HostRuntime) -> Result<(), Fail> {
-    refused(&rt, "int f(void){return f;}", "12 IntegerType at 19")?;
+    refused(&rt, "int f(void){return f;}", "12 Kind at 19")?;
     refused(&rt, "int main(void){break;}", "17 Outside at 15")?;
     let spaces = " ".repeat(rt.alloc(), 1_048_576)?;
     refused(&rt, spaces.as_str(), "15 NoMain at 1048576")?;
