@@ -10,7 +10,7 @@
 //! Definitions: `specs/Statements.antt` and `specs/Uses.antt` have the faults of statements, expressions and names,
 //! `specs/Types.antt` the typing of statements and expressions by the typed trees of `c_typed`, `specs/Names.antt` the
 //! scopes, `specs/Faults.antt` which fault is the first. `specs/Shape.antt` says which scopes a Rust value stands for;
-//! `specs/Calls.antt` are words of functions that only this layer calls.
+//! `specs/Calls.antt` and `specs/Made.antt` are words of functions that only this layer calls.
 //!
 //! `statement` and `expression` call themselves on the parts of a tree, so the stack grows with its depth.
 #![tactic(auto)]
