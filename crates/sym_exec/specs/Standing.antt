@@ -1,8 +1,7 @@
 -- Tickets that stand for trees in what a pass has seen.
-use Rattle.std.specs.Prelude.{◌≡◌, ℕ, ◌<◌, ◌+◌, ◌≤◌, List, [], ◌∷◌, length, vec_capacity, slice_index, slice_set, Contains, ◌==◌, if◌then◌else◌}
+use Rattle.std.specs.Prelude.{◌≡◌, ℕ, ◌<◌, ◌+◌, ◌≤◌, List, [], ◌∷◌, vec_capacity, slice_index, slice_set, Contains, ◌==◌, if◌then◌else◌}
 use Rattle.std.specs.declared.alloc.Global.{Global}
 use Rattle.std.specs.declared.vec.Vec.{Vec}
-use Rattle.mips_isa.specs.declared.inst.Plain.{Plain}
 use Rattle.sym_terms.specs.Trees.{Tree}
 use Rattle.term_table.specs.Passes.{PassState, HasSeen}
 use Rattle.term_table.specs.Trees.{HasTree, Extends, HasLegalHistory}
