@@ -12,14 +12,14 @@ use Rattle.c_typed.specs.Trees.{no_statements, more_statements}
 use Rattle.c_typed.specs.Shape.{statement_of, statements_of}
 use Rattle.c_typed.specs.Meaning.{Todo, Do, Next, before, before_all, next_point, Going, Breaking, Continuing}
 use Rattle.c_run.specs.Turns.{past_turn, at_turn}
-use Rattle.c_run.specs.Interpreter.{put, todo_list_of, todos, with_part, with_head}
+use Rattle.c_run.specs.Interpreter.{with_pending, todo_list_of, todos, with_part, with_head}
 use Rattle.c_run.specs.declared.pending.Head.{Head}
 use Rattle.c_run.specs.declared.pending.Head.TheVariants as Heads
 use Rattle.c_run.specs.declared.pending.Pending.{Pending}
 use Rattle.c_run.specs.declared.pending.Pending.TheVariants.{One, Rest}
 use Rattle.c_typed.proofs.Shapes.{block-is}
 
-pub todos-push : (ts : List Pending) (t : Pending) → todos (ts ++ t ∷ []) ≡ put t (todos ts)
+pub todos-push : (ts : List Pending) (t : Pending) → todos (ts ++ t ∷ []) ≡ with_pending t (todos ts)
 todos-push ts t = ap todo_list_of (reverse-append ts (t ∷ []))
 
 pub leaves : (k : List Todo) (l : Places) → next_point Breaking l k ≡ next_point Going l (past_turn k)
@@ -71,26 +71,26 @@ mutual
   at-before_all (more_statements s rest) k = at-before s (before_all rest k) ∙ at-before_all rest k
 
 -- what a pop leaves of the list
-pub popped : (ts rest : List Pending) (t : Pending) → ts ≡ rest ++ t ∷ [] → todos ts ≡ put t (todos rest)
+pub popped : (ts rest : List Pending) (t : Pending) → ts ≡ rest ++ t ∷ [] → todos ts ≡ with_pending t (todos rest)
 popped ts rest t e = ap todos e ∙ todos-push rest t
 
 -- a statement, or a list of them, and no end of a turn
 abbrev pub NoTurn : Pending → Type 0
 NoTurn t = ((s : Bor TypedStatement) × (t ≡ One s)) ⊎ ((all : Bor (List TypedStatement)) × (t ≡ Rest all))
 
-pub past-put : (t : Pending) (k : List Todo) → NoTurn t → past_turn (put t k) ≡ past_turn k
-past-put t k (inl w) = ap (λ t. past_turn (put t k)) w.1 ∙ past-before (statement_of w.0.now) k
-past-put t k (inr w) = ap (λ t. past_turn (put t k)) w.1 ∙ past-before_all (statements_of w.0.now) k
+pub past-pending : (t : Pending) (k : List Todo) → NoTurn t → past_turn (with_pending t k) ≡ past_turn k
+past-pending t k (inl w) = ap (λ t. past_turn (with_pending t k)) w.1 ∙ past-before (statement_of w.0.now) k
+past-pending t k (inr w) = ap (λ t. past_turn (with_pending t k)) w.1 ∙ past-before_all (statements_of w.0.now) k
 
-pub at-put : (t : Pending) (k : List Todo) → NoTurn t → at_turn (put t k) ≡ at_turn k
-at-put t k (inl w) = ap (λ t. at_turn (put t k)) w.1 ∙ at-before (statement_of w.0.now) k
-at-put t k (inr w) = ap (λ t. at_turn (put t k)) w.1 ∙ at-before_all (statements_of w.0.now) k
+pub at-pending : (t : Pending) (k : List Todo) → NoTurn t → at_turn (with_pending t k) ≡ at_turn k
+at-pending t k (inl w) = ap (λ t. at_turn (with_pending t k)) w.1 ∙ at-before (statement_of w.0.now) k
+at-pending t k (inr w) = ap (λ t. at_turn (with_pending t k)) w.1 ∙ at-before_all (statements_of w.0.now) k
 
 pub past-popped : (ts rest : List Pending) (t : Pending) → ts ≡ rest ++ t ∷ [] → NoTurn t → past_turn (todos rest) ≡ past_turn (todos ts)
-past-popped ts rest t e n = sym (ap past_turn (popped ts rest t e) ∙ past-put t (todos rest) n)
+past-popped ts rest t e n = sym (ap past_turn (popped ts rest t e) ∙ past-pending t (todos rest) n)
 
 pub at-popped : (ts rest : List Pending) (t : Pending) → ts ≡ rest ++ t ∷ [] → NoTurn t → at_turn (todos rest) ≡ at_turn (todos ts)
-at-popped ts rest t e n = sym (ap at_turn (popped ts rest t e) ∙ at-put t (todos rest) n)
+at-popped ts rest t e n = sym (ap at_turn (popped ts rest t e) ∙ at-pending t (todos rest) n)
 
 none-left : (all : List TypedStatement) → length all ≡ 0 → all ≡ []
 none-left [] e = refl
@@ -99,7 +99,7 @@ none-left (s ∷ rest) e = absurd (omega arith)
 pub rest-gone : (ts behind : List Pending) (t : Pending) (all : Bor (List TypedStatement)) → ts ≡ behind ++ t ∷ [] → t ≡ Rest all → length all.now ≡ 0
     → todos behind ≡ todos ts
 rest-gone ts behind t all e is n =
-    sym (popped ts behind t e ∙ ap (λ t. put t (todos behind)) is ∙ ap (λ all. before_all (statements_of all) (todos behind)) (none-left all.now n))
+    sym (popped ts behind t e ∙ ap (λ t. with_pending t (todos behind)) is ∙ ap (λ all. before_all (statements_of all) (todos behind)) (none-left all.now n))
 
 -- a list of statements that was first comes to lie on top as a list
 pub block-opened : (old mid new : List Pending) (h : Head) (s : Bor TypedStatement) (all : Vec TypedStatement Global) (slice : Bor (List TypedStatement))

@@ -27,14 +27,14 @@ abbrev pub arrays : List (Vec ℕ Global) → Arrays
 arrays globals = map (λ a. a.items) globals
 
 -- one that is pending, taken apart before the others
-abbrev pub put : Pending → List Todo → List Todo
-put (One s) k = before (statement_of s.now) k
-put (Rest all) k = before_all (statements_of all.now) k
-put (Turn last again) k = Next (statement_of last.now) (statement_of again.now) ∷ k
+abbrev pub with_pending : Pending → List Todo → List Todo
+with_pending (One s) k = before (statement_of s.now) k
+with_pending (Rest all) k = before_all (statements_of all.now) k
+with_pending (Turn last again) k = Next (statement_of last.now) (statement_of again.now) ∷ k
 
 abbrev pub todo_list_of : List Pending → List Todo
 todo_list_of [] = []
-todo_list_of (t ∷ rest) = put t (todo_list_of rest)
+todo_list_of (t ∷ rest) = with_pending t (todo_list_of rest)
 
 -- the last one is done first
 abbrev pub todos : List Pending → List Todo

@@ -1,5 +1,5 @@
 ghost use Rattle.std.specs.Prelude.{◌≡◌, ℕ, ◌<◌, ◌∷◌, [], length, Option, IfOk, OnOk, None, Some, if◌then◌else◌, List, map};
-ghost use Rattle.runs.specs.Stores.{Places, Arrays, written, stored};
+ghost use Rattle.runs.specs.Stores.{Places, Arrays, places_with, arrays_with};
 ghost use Rattle.c_typed.specs.Shape.{statement_of, typed_expression_of, typed_expressions_of, maybe_typed_expression_of};
 ghost use Rattle.c_typed.specs.Trees.{assign, store, call, output, if_else, loop, return_with};
 ghost use Rattle.c_types.specs.Shape.{program_of};
@@ -51,7 +51,7 @@ fn make_room(locals: &mut Vec<Option<u32>>, number: usize) -> Result<(), AllocEr
 
 // A local is set.
 fn set(locals: &mut Vec<Option<u32>>, number: usize, v: u32) -> Result<(), AllocError>
-    ensures { OnOk result (places locals.new.items ≡ written (places locals.old.items) number (Some v)) }
+    ensures { OnOk result (places locals.new.items ≡ places_with (places locals.old.items) number (Some v)) }
 {
     make_room(locals, number)?;
     locals[number] = Some(v);
@@ -60,7 +60,7 @@ fn set(locals: &mut Vec<Option<u32>>, number: usize, v: u32) -> Result<(), Alloc
 
 // A word of a global is written; false outside.
 fn store(globals: &mut [Vec<u32>], array: usize, index: usize, v: u32) -> bool
-    ensures { stored (arrays globals.old) array index v ≡ (if result then Some (arrays globals.new) else None) }
+    ensures { arrays_with (arrays globals.old) array index v ≡ (if result then Some (arrays globals.new) else None) }
 {
     if array < globals.len() {
         let words = &mut globals[array];

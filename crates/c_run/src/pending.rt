@@ -1,5 +1,5 @@
 ghost use Rattle.std.specs.Prelude.{◌≡◌, ℕ, ◌++◌, ◌∷◌, [], OnOk, IfOk, None, length, ◌+◌, ◌≤◌};
-ghost use Rattle.runs.specs.Stores.{written};
+ghost use Rattle.runs.specs.Stores.{places_with};
 ghost use Rattle.c_typed.specs.Meaning.{next_point, Going};
 ghost use Rattle.c_run.specs.Interpreter.{places, point_at, todos, with_head, with_part};
 ghost use Rattle.c_run.specs.Sizes.{weights, head_size};
@@ -102,7 +102,7 @@ fn to_turn(todo: &mut Vec<Pending>) -> Result<(), AllocError>
 
 // A local is unset.
 fn unset(locals: &mut [Option<u32>], number: usize)
-    ensures { places locals.new ≡ written (places locals.old) number None }
+    ensures { places locals.new ≡ places_with (places locals.old) number None }
 {
     if number < locals.len() {
         locals[number] = None;

@@ -2,7 +2,7 @@ ghost use Rattle.std.specs.Prelude.{◌≡◌, ℕ, Option, Some, IfOk, map};
 ghost use Rattle.std.specs.Option.{option_map};
 ghost use Rattle.c_typed.specs.Shape.{typed_expression_of, typed_expressions_of};
 ghost use Rattle.words.specs.Words.{wrap};
-ghost use Rattle.runs.specs.Stores.{word_at};
+ghost use Rattle.runs.specs.Stores.{element_at};
 ghost use Rattle.c_typed.specs.Values.{sign_of, truth, unary_of, binary_of, value_of, values_of};
 ghost use Rattle.c_run.specs.Interpreter.{places, arrays};
 
@@ -34,7 +34,7 @@ fn constant(value: u32) -> u32
 /// The word of a global at an index; None outside.
 #[inline]
 pub(crate) fn word(globals: &[Vec<u32>], array: usize, index: usize) -> Option<u32>
-    ensures { result ≡ word_at (arrays globals.now) array index }
+    ensures { result ≡ element_at (arrays globals.now) array index }
 {
     if array < globals.len() {
         let words = &globals[array];

@@ -10,7 +10,7 @@ use Rattle.c_typed.specs.declared.tree.TypedExpression.{TypedExpression}
 use Rattle.c_statements.specs.declared.fault.TypeFaultKind.{TypeFaultKind}
 use Rattle.c_statements.specs.declared.fault.TypeStop.{TypeStop}
 use Rattle.c_statements.specs.declared.fault.TypeStop.TheVariants.{NoMemory}
-use Rattle.c_statements.specs.Faults.{StopsBoth}
+use Rattle.c_statements.specs.Faults.{Answers, StopsBoth}
 use Rattle.c_statements.specs.Names.{Environment}
 use Rattle.c_typed.specs.Shape.{typed_expression_of, typed_expressions_of}
 use Rattle.c_statements.specs.Statements.{FaultyAll}
@@ -18,7 +18,7 @@ use Rattle.c_typed.specs.Trees as Trees
 use Rattle.c_statements.specs.Types.{Types, TypesAll, all_typed, more_typed}
 use Rattle.c_statements.specs.Uses.{Faulty}
 use Rattle.c_statements.proofs.Firsts.{Both, Same}
-use Rattle.c_statements.proofs.Joined.{Answered, one-more}
+use Rattle.c_statements.proofs.Joined.{one-more}
 
 pub expressions-append : (xs : List Expression) (e : Expression) → expressions_of (xs ++ e ∷ []) ≡ expressions_of xs ++ expression_of e ∷ []
 expressions-append [] e = refl
@@ -54,13 +54,13 @@ typed-more scope xs e ts t h l = rw (expressions-append xs e, terms-append ts t)
 
 -- the answer for the arguments so far
 abbrev pub SoFar : Environment → List Expression → Result (Vec TypedExpression Global) TypeStop → Type 0
-SoFar scope es r = Answered (λ (v : Vec TypedExpression Global). TypesAll scope (expressions_of es) (typed_expressions_of v.items)) (FaultyAll scope (expressions_of es)) r
+SoFar scope es r = Answers (λ (v : Vec TypedExpression Global). TypesAll scope (expressions_of es) (typed_expressions_of v.items)) (FaultyAll scope (expressions_of es)) r
 
 pub none-so-far : (scope : Environment) (v : Vec TypedExpression Global) → v.items ≡ [] → SoFar scope [] (Ok v)
 none-so-far scope v e = record { ok = rw e all_typed; none = λ k at h. h; err = tt }
 
 pub one-so-far : (scope : Environment) (all : List Expression) (i : ℕ) (e : Expression) (typed r : Result (Vec TypedExpression Global) TypeStop) (one : Result TypedExpression TypeStop) → i < length all → e ≡ get_or all i e → SoFar scope (take i all) typed
-    → Answered (λ t. Types scope (expression_of e) (typed_expression_of t)) (Faulty scope (expression_of e)) one
+    → Answers (λ t. Types scope (expression_of e) (typed_expression_of t)) (Faulty scope (expression_of e)) one
     → IfOk r (λ v. (xs : Vec TypedExpression Global) × (x : TypedExpression) × (typed ≡ Ok xs) × (one ≡ Ok x) × (v.items ≡ xs.items ++ x ∷ [])) → IfErr r (λ s. (s ≡ NoMemory) ⊎ StopsBoth typed one s)
     → SoFar scope (take (i + 1) all) r
 one-so-far scope all i e typed r one l is h a f g =

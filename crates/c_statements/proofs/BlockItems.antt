@@ -11,7 +11,7 @@ use Rattle.c_typed.specs.declared.tree.TypedStatement.{TypedStatement}
 use Rattle.c_statements.specs.declared.fault.TypeFaultKind.{TypeFaultKind}
 use Rattle.c_statements.specs.declared.fault.TypeStop.{TypeStop}
 use Rattle.c_statements.specs.declared.fault.TypeStop.TheVariants.{NoMemory}
-use Rattle.c_statements.specs.Faults.{StopsBoth}
+use Rattle.c_statements.specs.Faults.{Answers, StopsBoth}
 use Rattle.c_statements.specs.Names.{Scopes, with_local, behind, behind_item, behind_items, declared_in_all}
 use Rattle.c_typed.specs.Shape.{statement_of, statements_of}
 use Rattle.c_statements.specs.Statements.{FaultyItems}
@@ -19,7 +19,7 @@ use Rattle.c_typed.specs.Trees as Trees
 use Rattle.c_typed.specs.Trees.{TypedStatements, no_statements, more_statements}
 use Rattle.c_statements.specs.Types.{TypesItems, no_items_typed, statement_typed, declare_typed}
 use Rattle.c_statements.proofs.Firsts.{Both, Same}
-use Rattle.c_statements.proofs.Joined.{Answered, one-more}
+use Rattle.c_statements.proofs.Joined.{one-more}
 
 abbrev pub with_item : Items → Tree.Item → Items
 with_item no_items i = more_items i no_items
@@ -71,12 +71,12 @@ faulty-from text g b sc (more_items (statement s) rest) i k at (inr h) = elim (f
 
 -- the answer for the items so far
 abbrev pub ItemsSoFar : List ℕ → (gives loop : Bool) → Scopes → List Item → Result (Vec TypedStatement Global) TypeStop → Type 0
-ItemsSoFar text gives loop sc is r = Answered (λ (v : Vec TypedStatement Global). TypesItems text sc (items_of is) (statements_of v.items)) (FaultyItems text gives loop sc (items_of is)) r
+ItemsSoFar text gives loop sc is r = Answers (λ (v : Vec TypedStatement Global). TypesItems text sc (items_of is) (statements_of v.items)) (FaultyItems text gives loop sc (items_of is)) r
 
 -- the same of the next item, under the scopes behind those before it
 abbrev pub NextItem : List ℕ → (gives loop : Bool) → Scopes → Item → Result TypedStatement TypeStop → Type 0
 NextItem text gives loop sc i r =
-    Answered (λ t. TypesItems text sc (more_items (item_of i) no_items) (more_statements (statement_of t) no_statements)) (FaultyItems text gives loop sc (more_items (item_of i) no_items)) r
+    Answers (λ t. TypesItems text sc (more_items (item_of i) no_items) (more_statements (statement_of t) no_statements)) (FaultyItems text gives loop sc (more_items (item_of i) no_items)) r
 
 pub none-so-far : (text : List ℕ) (g b : Bool) (sc : Scopes) (v : Vec TypedStatement Global) → v.items ≡ [] → ItemsSoFar text g b sc [] (Ok v)
 none-so-far text g b sc v e = record { ok = rw e no_items_typed; none = λ k at h. h; err = tt }

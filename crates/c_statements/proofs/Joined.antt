@@ -4,20 +4,14 @@ use Rattle.std.specs.declared.vec.Vec.{Vec}
 use Rattle.std.specs.declared.alloc.Global.{Global}
 use Rattle.c_statements.specs.declared.fault.TypeStop.{TypeStop}
 use Rattle.c_statements.specs.declared.fault.TypeStop.TheVariants.{NoMemory}
-use Rattle.c_statements.specs.Faults.{Faults, StopsAtFirst, HasNone, StopsBoth}
+use Rattle.c_statements.specs.Faults.{Answers, Faults, StopsAtFirst, HasNone, StopsBoth}
 use Rattle.c_statements.proofs.Firsts.{Both, Same, same-none, same-stop, both-none, both-stop, ok-at}
-
--- a part whose typed trees have a property, and which has these faults
-pub record Answered {A : Type 0} (P : A → Type 0) (p : Faults) (r : Result A TypeStop) : Type 0 where
-  pub ok : IfOk r P
-  pub none : IfOk r (λ x. HasNone p)
-  pub err : IfErr r (StopsAtFirst p)
 
 -- a list with one more part
 pub one-more : {T : Type 0} (P W : List T → Type 0) (Q : T → Type 0) (p q w : Faults) (all r : Result (Vec T Global) TypeStop) (one : Result T TypeStop) → Same (Both p q) w
-    → ((xs : List T) (x : T) → P xs → Q x → W (xs ++ x ∷ [])) → Answered (λ (v : Vec T Global). P v.items) p all → Answered Q q one
+    → ((xs : List T) (x : T) → P xs → Q x → W (xs ++ x ∷ [])) → Answers (λ (v : Vec T Global). P v.items) p all → Answers Q q one
     → IfOk r (λ v. (xs : Vec T Global) × (x : T) × (all ≡ Ok xs) × (one ≡ Ok x) × (v.items ≡ xs.items ++ x ∷ [])) → IfErr r (λ s. (s ≡ NoMemory) ⊎ StopsBoth all one s)
-    → Answered (λ (v : Vec T Global). W v.items) w r
+    → Answers (λ (v : Vec T Global). W v.items) w r
 one-more P W Q p q w all (Ok v) one s more h l e f = record {
   ok = subst W (sym e.4) (more e.0.items e.1 (ok-at (λ y. P y.items) all e.0 e.2 h.ok) (ok-at Q one e.1 e.3 l.ok));
   none = same-none (Both p q) w s (both-none p q (ok-at (λ y. HasNone p) all e.0 e.2 h.none) (ok-at (λ y. HasNone q) one e.1 e.3 l.none));

@@ -1,5 +1,5 @@
 -- Statements put together from their parts.
-use Rattle.std.proofs.Common.{◌≡◌, ◌≢◌, ◌⊎◌, ◌+◌, ℕ, List, [], ◌∷◌, ◌++◌, Option, Bool, Result, Ok, Err, IfOk, IfErr, inl, inr, refl, sym, subst, ap, ◌∙◌, arith}
+use Rattle.std.proofs.Common.{◌≡◌, ◌⊎◌, ◌+◌, ℕ, List, [], ◌∷◌, ◌++◌, Result, Ok, Err, IfOk, IfErr, inl, inr, refl, sym, subst, ap, ◌∙◌}
 use Rattle.std.specs.declared.vec.Vec.{Vec}
 use Rattle.std.specs.declared.alloc.Global.{Global}
 use Rattle.c_front.specs.Tree as Tree
@@ -7,9 +7,9 @@ use Rattle.c_front.specs.Tree.{Items}
 use Rattle.c_statements.specs.declared.fault.TypeStop.{TypeStop}
 use Rattle.c_statements.specs.declared.fault.TypeStop.TheVariants.{Fault, NoMemory}
 use Rattle.c_typed.specs.declared.tree.TypedStatement.{TypedStatement, Block}
-use Rattle.c_statements.specs.Faults.{Faults, StopsAtFirst, HasNone, StopsBoth, StopsTwo, both_of, first_of}
+use Rattle.c_statements.specs.Faults.{Answers, Faults, StopsAtFirst, HasNone, StopsBoth, StopsTwo, both_of, first_of}
 use Rattle.c_statements.specs.Made.{MadeOfTwo, MadeOfThree}
-use Rattle.c_statements.specs.Names.{Scopes, within, outside, behind, behind_items, declared_in, declared_in_all}
+use Rattle.c_statements.specs.Names.{Scopes, within, outside, behind, behind_items, declared_in_all}
 use Rattle.c_typed.specs.Shape.{statement_of, statements_of}
 use Rattle.c_typed.specs.Trees.{block, more_statements, no_statements}
 use Rattle.c_statements.proofs.Firsts.{Both, Tells, both-stop, both-none, left-alone, ok-at}
@@ -31,6 +31,17 @@ moved P r a e h = subst P (sym e) h
 pub if-ok : {A : Type 0} (P Q : A → Type 0) (r : Result A TypeStop) → ((x : A) → P x → Q x) → IfOk r P → IfOk r Q
 if-ok P Q (Ok x) f h = f x h
 if-ok P Q (Err s) f h = tt
+
+pub tells : {A : Type 0} {P : A → Type 0} {p : Faults} {r : Result A TypeStop} → Answers P p r → Tells p r
+tells h = (h.none, h.err)
+
+pub answers : {A : Type 0} {P : A → Type 0} {p : Faults} {r : Result A TypeStop} → IfOk r P → Tells p r → Answers P p r
+answers h l = record { ok = h; none = l.0; err = l.1 }
+
+-- what is known of an answer may be said in another way
+pub answers-as : {A : Type 0} {P Q : A → Type 0} {p : Faults} {r : Result A TypeStop} → ((x : A) → P x → Q x) → Answers P p r → Answers Q p r
+answers-as {r = Ok x} f h = record { ok = f x h.ok; none = h.none; err = tt }
+answers-as {r = Err s} f h = record { ok = tt; none = tt; err = h.err }
 
 -- two answers together, and one of them beside an answer without faults
 pub tells-both-of : {A B : Type 0} (p q : Faults) (a : Result A TypeStop) (b : Result B TypeStop) → Tells p a → Tells q b → Tells (Both p q) (both_of a b)

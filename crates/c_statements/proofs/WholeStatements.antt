@@ -1,5 +1,5 @@
 -- What typing the parts of a compound statement answered, and what typing the whole then answers.
-use Rattle.std.proofs.Common.{◌≡◌, ◌⊎◌, ℕ, List, Option, Bool, true, Result, Ok, Err, IfOk, IfErr, inl, inr, refl, sym, subst, ap, ◌∙◌}
+use Rattle.std.proofs.Common.{◌≡◌, ℕ, List, Option, Bool, Result, Ok, Err, IfOk, refl, sym, subst, ap, ◌∙◌}
 use Rattle.c_front.specs.Tree as Tree
 use Rattle.c_front.specs.Tree.{Expression, Simple}
 use Rattle.c_typed.specs.declared.tree.TypedExpression.{TypedExpression}
@@ -11,11 +11,10 @@ use Rattle.c_statements.specs.declared.fault.TypeStop.TheVariants.{Fault, NoMemo
 use Rattle.c_statements.specs.Faults.{both_of}
 use Rattle.c_statements.specs.Made.{MadeOfTwo, MadeOfThree, IsIf, IsLoop, IsSequence}
 use Rattle.c_statements.specs.Names.{Scopes, environment_in, behind}
-use Rattle.c_statements.specs.Statements.{FaultyMaybe, FaultyPart, FaultyStatement}
+use Rattle.c_statements.specs.Statements.{FaultyStatement}
 use Rattle.c_statements.specs.Types.{Types, TypesPart, TypesTest, TypesStatement, if_then_typed, if_then_else_typed, while_loop_typed, for_loop_typed}
-use Rattle.c_statements.specs.Uses.{Faulty}
 use Rattle.c_statements.proofs.Firsts.{Both, Tells, ok-at}
-use Rattle.c_statements.proofs.Joins.{tells-both-of, tells-left, tells-right, tells-two, tells-three}
+use Rattle.c_statements.proofs.Joins.{tells-both-of}
 
 abbrev pub Typed : List ℕ → Scopes → Expression → Result TypedExpression TypeStop → Type 0
 Typed text sc c r = IfOk r (λ t. Types (environment_in text sc) c (typed_expression_of t))

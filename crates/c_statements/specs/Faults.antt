@@ -1,5 +1,5 @@
 -- Faults: their numbers, names and text, and which of them is the first.
-use Rattle.std.specs.Prelude.{◌≡◌, ◌<◌, ◌≤◌, ◌⊎◌, ℕ, Bool, nat_lt, nat_eq, ◌&&◌, ◌||◌, if◌then◌else◌, Result, Ok, Err, List, length, ◌++◌, codes, decimal}
+use Rattle.std.specs.Prelude.{◌≡◌, ◌<◌, ◌≤◌, ◌⊎◌, ℕ, Bool, nat_lt, nat_eq, ◌&&◌, ◌||◌, if◌then◌else◌, Result, Ok, Err, IfOk, IfErr, List, length, ◌++◌, codes, decimal}
 use Rattle.c_statements.specs.declared.fault.TypeFaultKind.{TypeFaultKind}
 use Rattle.c_statements.specs.declared.fault.TypeFaultKind.TheVariants.{Undeclared, Redeclared, Kind, Count, NoMain, Outside, Limit, NoMemory as WantOfMemory}
 use Rattle.c_statements.specs.declared.fault.TypeFault.{TypeFault}
@@ -51,6 +51,12 @@ StopsAtFirst faults NoMemory = Unit {0}
 
 abbrev pub HasNone : Faults → Type 0
 HasNone faults = (k : TypeFaultKind) (at : ℕ) → faults k at → ⊥
+
+-- what is told of a part with these faults: an answer, of which something is known, where it has none, else the first of them
+pub record Answers {A : Type 0} (IsRight : A → Type 0) (faults : Faults) (r : Result A TypeStop) : Type 0 where
+  pub ok : IfOk r IsRight
+  pub none : IfOk r (λ x. HasNone faults)
+  pub err : IfErr r (StopsAtFirst faults)
 
 abbrev pub is_later : TypeFault → TypeFault → Bool
 is_later a b = nat_lt b.at a.at || (nat_eq a.at b.at && nat_lt (number_of b.kind) (number_of a.kind))

@@ -6,6 +6,7 @@ use Rattle.c_front.specs.Tree as Tree
 use Rattle.c_front.specs.Tree.{Expression, Statement, Items, empty, block, if_then, if_then_else, while_loop, for_loop, break_at, continue_at, return_at, simply, declare, statement, no_items, more_items, call, plain, called, assign, assign_at, call_statement}
 use Rattle.c_statements.specs.declared.fault.TypeFaultKind.{TypeFaultKind}
 use Rattle.c_statements.specs.declared.fault.TypeFaultKind.TheVariants.{Redeclared, Kind as KindFault, Outside, Limit}
+use Rattle.c_typed.specs.declared.limits.TheConstants.{MAX_LOCALS}
 use Rattle.c_statements.specs.Faults.{Faults}
 use Rattle.c_statements.specs.Names.{Environment, spelling_in}
 use Rattle.c_statements.specs.Names.{Scopes, environment_in, within, with_local, behind}
@@ -62,7 +63,7 @@ FaultyJump false place k at = OneFault Outside place k at
 -- a second declaration of a name in the innermost scope, and the 129th local
 pub data FaultyDeclarator (text : List ℕ) (sc : Scopes) (x : Identifier) : TypeFaultKind → ℕ → Type 0 where
   declared_before : sc.inner (spelling_in text x) ≢ None → FaultyDeclarator text sc x Redeclared x.at
-  local_too_many : sc.locals ≡ 128 → FaultyDeclarator text sc x Limit x.at
+  local_too_many : sc.locals ≡ MAX_LOCALS → FaultyDeclarator text sc x Limit x.at
 
 -- a declaration of a local, which is in sight from the end of its declarator on, in its own first value too
 abbrev pub FaultyLocal : List ℕ → Scopes → IntegerType → Identifier → Option Tree.Value → Faults

@@ -1,6 +1,6 @@
 ghost use Rattle.std.specs.Prelude.{◌≡◌, IfOk, IfErr, IfSome, IfNone, Some};
 ghost use Rattle.c_statements.specs.Calls.{Signs, IsNoFunction, IsTarget};
-ghost use Rattle.c_statements.specs.Faults.{HasNone, StopsAtFirst};
+ghost use Rattle.c_statements.specs.Faults.{Answers};
 ghost use Rattle.c_statements.specs.Shape.{environment_of};
 ghost use Rattle.c_statements.specs.Uses.{Misused, as_call};
 
@@ -41,9 +41,10 @@ pub fn callee(
     count: usize,
     wanted: bool,
 ) -> Result<Target, TypeStop>
-    ensures ok { IfOk result (IsTarget (environment_of program.now scopes.now name)) }
-    ensures none { IfOk result (λ t. HasNone (Misused (environment_of program.now scopes.now) name (as_call count wanted))) }
-    ensures err { IfErr result (StopsAtFirst (Misused (environment_of program.now scopes.now) name (as_call count wanted))) }
+    ensures {
+        Answers (IsTarget (environment_of program.now scopes.now name))
+            (Misused (environment_of program.now scopes.now) name (as_call count wanted)) result
+    }
 {
     let Some(named) = scopes.find(program, name) else {
         return Err(misuse(TypeFaultKind::Undeclared, name));

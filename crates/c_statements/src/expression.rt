@@ -3,7 +3,7 @@ ghost use Rattle.c_statements.specs.declared.names.Named.TheVariants.{Array};
 ghost use Rattle.c_statements.specs.declared.fault.TypeStop.TheVariants.{Fault};
 ghost use Rattle.c_front.specs.Shape.{expression_of};
 ghost use Rattle.c_front.specs.Tree as Tree;
-ghost use Rattle.c_statements.specs.Faults.{HasNone, StopsAtFirst};
+ghost use Rattle.c_statements.specs.Faults.{Answers};
 ghost use Rattle.c_statements.specs.Shape.{environment_of};
 ghost use Rattle.c_statements.specs.Names.{Environment};
 ghost use Rattle.c_typed.specs.Shape.{typed_expression_of};
@@ -33,9 +33,10 @@ fn variable(
     scopes: &Scopes,
     name: Identifier,
 ) -> Result<TypedExpression, TypeStop>
-    ensures ok { IfOk result (λ t. Types (environment_of program.now scopes.now) (Tree.name name) (typed_expression_of t)) }
-    ensures none { IfOk result (λ t. HasNone (Misused (environment_of program.now scopes.now) name as_value)) }
-    ensures err { IfErr result (StopsAtFirst (Misused (environment_of program.now scopes.now) name as_value)) }
+    ensures {
+        Answers (λ t. Types (environment_of program.now scopes.now) (Tree.name name) (typed_expression_of t))
+            (Misused (environment_of program.now scopes.now) name as_value) result
+    }
 {
     let Some(named) = scopes.find(program, name) else {
         return Err(misuse(TypeFaultKind::Undeclared, name));
@@ -53,9 +54,10 @@ pub fn array(
     scopes: &Scopes,
     name: Identifier,
 ) -> Result<(usize, IntegerType), TypeStop>
-    ensures ok { IfOk result (λ r. environment_of program.now scopes.now name ≡ Some (Array r.0 r.1)) }
-    ensures none { IfOk result (λ r. HasNone (Misused (environment_of program.now scopes.now) name with_index)) }
-    ensures err { IfErr result (StopsAtFirst (Misused (environment_of program.now scopes.now) name with_index)) }
+    ensures {
+        Answers (λ r. environment_of program.now scopes.now name ≡ Some (Array r.0 r.1))
+            (Misused (environment_of program.now scopes.now) name with_index) result
+    }
 {
     let Some(named) = scopes.find(program, name) else {
         return Err(misuse(TypeFaultKind::Undeclared, name));
@@ -73,9 +75,10 @@ pub fn expression(
     scopes: &Scopes,
     e: &Expression,
 ) -> Result<TypedExpression, TypeStop>
-    ensures ok { IfOk result (λ t. Types (environment_of program.now scopes.now) (expression_of e.now) (typed_expression_of t)) }
-    ensures none { IfOk result (λ t. HasNone (Faulty (environment_of program.now scopes.now) (expression_of e.now))) }
-    ensures err { IfErr result (StopsAtFirst (Faulty (environment_of program.now scopes.now) (expression_of e.now))) }
+    ensures {
+        Answers (λ t. Types (environment_of program.now scopes.now) (expression_of e.now) (typed_expression_of t))
+            (Faulty (environment_of program.now scopes.now) (expression_of e.now)) result
+    }
 {
     match e {
         Expression::Constant(literal) => Ok(TypedExpression::Constant(*literal)),

@@ -1,7 +1,7 @@
 ghost use Rattle.std.specs.Prelude.{◌≡◌, ◌++◌, ◌∷◌, [], ◌⊎◌, IfOk, IfErr, Ok, is_some};
 ghost use Rattle.c_front.specs.Shape.{expressions_of, maybe_expression_of, call_of, value_tree, maybe_value_tree, simple_of, maybe_simple_of};
 ghost use Rattle.c_statements.specs.declared.fault.TypeStop.TheVariants.{NoMemory};
-ghost use Rattle.c_statements.specs.Faults.{HasNone, StopsAtFirst, StopsBoth};
+ghost use Rattle.c_statements.specs.Faults.{Answers, StopsBoth};
 ghost use Rattle.c_statements.specs.Shape.{environment_of};
 ghost use Rattle.c_typed.specs.Shape.{typed_expression_of, typed_expressions_of, statement_of};
 ghost use Rattle.c_statements.specs.Statements.{FaultyAll, FaultyMaybe, FaultyCall, FaultyValue, FaultyFirst, FaultySimple, FaultyPart};
@@ -38,9 +38,10 @@ pub fn arguments(
     scopes: &Scopes,
     all: &[Expression],
 ) -> Result<Vec<TypedExpression>, TypeStop>
-    ensures ok { IfOk result (λ v. TypesAll (environment_of program.now scopes.now) (expressions_of all.now) (typed_expressions_of v.items)) }
-    ensures none { IfOk result (λ v. HasNone (FaultyAll (environment_of program.now scopes.now) (expressions_of all.now))) }
-    ensures err { IfErr result (StopsAtFirst (FaultyAll (environment_of program.now scopes.now) (expressions_of all.now))) }
+    ensures {
+        Answers (λ v. TypesAll (environment_of program.now scopes.now) (expressions_of all.now) (typed_expressions_of v.items))
+            (FaultyAll (environment_of program.now scopes.now) (expressions_of all.now)) result
+    }
 {
     let mut typed = Ok(Vec::new(alloc));
     for one in all {
@@ -57,9 +58,10 @@ pub fn call_to(
     to: Option<Destination>,
     called: &Call,
 ) -> Result<TypedStatement, TypeStop>
-    ensures ok { IfOk result (λ s. TypesCall (environment_of program.now scopes.now) to (call_of called.now) (statement_of s)) }
-    ensures none { IfOk result (λ s. HasNone (FaultyCall (environment_of program.now scopes.now) (is_some to) (call_of called.now))) }
-    ensures err { IfErr result (StopsAtFirst (FaultyCall (environment_of program.now scopes.now) (is_some to) (call_of called.now))) }
+    ensures {
+        Answers (λ s. TypesCall (environment_of program.now scopes.now) to (call_of called.now) (statement_of s))
+            (FaultyCall (environment_of program.now scopes.now) (is_some to) (call_of called.now)) result
+    }
 {
     let typed = arguments(alloc, program, scopes, &called.arguments);
     let target = callee(
@@ -81,9 +83,10 @@ pub fn call_to(
 
 /// Where the value of the variable of a name is kept.
 pub fn place(program: &Program, scopes: &Scopes, name: Identifier) -> Result<Destination, TypeStop>
-    ensures ok { IfOk result (TypesPlace (environment_of program.now scopes.now) name) }
-    ensures none { IfOk result (λ p. HasNone (Misused (environment_of program.now scopes.now) name as_value)) }
-    ensures err { IfErr result (StopsAtFirst (Misused (environment_of program.now scopes.now) name as_value)) }
+    ensures {
+        Answers (TypesPlace (environment_of program.now scopes.now) name)
+            (Misused (environment_of program.now scopes.now) name as_value) result
+    }
 {
     let Some(named) = scopes.find(program, name) else {
         return Err(misuse(TypeFaultKind::Undeclared, name));
@@ -103,19 +106,17 @@ pub fn value(
     to: Destination,
     given: &Value,
 ) -> Result<TypedStatement, TypeStop>
-    ensures ok { IfOk result (λ s. TypesValue (environment_of program.now scopes.now) to (value_tree given.now) (statement_of s)) }
-    ensures none { IfOk result (λ s. HasNone (FaultyValue (environment_of program.now scopes.now) (value_tree given.now))) }
-    ensures err { IfErr result (StopsAtFirst (FaultyValue (environment_of program.now scopes.now) (value_tree given.now))) }
+    ensures {
+        Answers (λ s. TypesValue (environment_of program.now scopes.now) to (value_tree given.now) (statement_of s))
+            (FaultyValue (environment_of program.now scopes.now) (value_tree given.now)) result
+    }
 {
     match given {
         Value::Plain(e) => {
             let term = expression(alloc, program, scopes, e)?;
             Ok(TypedStatement::Assign(to, term))
         }
-        Value::Called(called) => {
-            let typed = call_to(alloc, program, scopes, Some(to), called)?;
-            Ok(typed)
-        }
+        Value::Called(called) => call_to(alloc, program, scopes, Some(to), called),
     }
 }
 
@@ -126,9 +127,10 @@ pub fn simple(
     scopes: &Scopes,
     s: &Simple,
 ) -> Result<TypedStatement, TypeStop>
-    ensures ok { IfOk result (λ t. TypesSimple (environment_of program.now scopes.now) (simple_of s.now) (statement_of t)) }
-    ensures none { IfOk result (λ t. HasNone (FaultySimple (environment_of program.now scopes.now) (simple_of s.now))) }
-    ensures err { IfErr result (StopsAtFirst (FaultySimple (environment_of program.now scopes.now) (simple_of s.now))) }
+    ensures {
+        Answers (λ t. TypesSimple (environment_of program.now scopes.now) (simple_of s.now) (statement_of t))
+            (FaultySimple (environment_of program.now scopes.now) (simple_of s.now)) result
+    }
 {
     match s {
         Simple::Assign(name, given) => {
@@ -147,10 +149,7 @@ pub fn simple(
             )?;
             Ok(TypedStatement::Store(number, index, given))
         }
-        Simple::CallStatement(called) => {
-            let typed = call_to(alloc, program, scopes, None, called)?;
-            Ok(typed)
-        }
+        Simple::CallStatement(called) => call_to(alloc, program, scopes, None, called),
     }
 }
 
@@ -161,15 +160,13 @@ pub fn part(
     scopes: &Scopes,
     maybe: &Option<Simple>,
 ) -> Result<TypedStatement, TypeStop>
-    ensures ok { IfOk result (λ t. TypesPart (environment_of program.now scopes.now) (maybe_simple_of maybe.now) (statement_of t)) }
-    ensures none { IfOk result (λ t. HasNone (FaultyPart (environment_of program.now scopes.now) (maybe_simple_of maybe.now))) }
-    ensures err { IfErr result (StopsAtFirst (FaultyPart (environment_of program.now scopes.now) (maybe_simple_of maybe.now))) }
+    ensures {
+        Answers (λ t. TypesPart (environment_of program.now scopes.now) (maybe_simple_of maybe.now) (statement_of t))
+            (FaultyPart (environment_of program.now scopes.now) (maybe_simple_of maybe.now)) result
+    }
 {
     match maybe {
-        Some(s) => {
-            let typed = simple(alloc, program, scopes, s)?;
-            Ok(typed)
-        }
+        Some(s) => simple(alloc, program, scopes, s),
         None => Ok(TypedStatement::Empty),
     }
 }
@@ -181,15 +178,13 @@ pub fn test(
     scopes: &Scopes,
     maybe: &Option<Expression>,
 ) -> Result<TypedExpression, TypeStop>
-    ensures ok { IfOk result (λ t. TypesTest (environment_of program.now scopes.now) (maybe_expression_of maybe.now) (typed_expression_of t)) }
-    ensures none { IfOk result (λ t. HasNone (FaultyMaybe (environment_of program.now scopes.now) (maybe_expression_of maybe.now))) }
-    ensures err { IfErr result (StopsAtFirst (FaultyMaybe (environment_of program.now scopes.now) (maybe_expression_of maybe.now))) }
+    ensures {
+        Answers (λ t. TypesTest (environment_of program.now scopes.now) (maybe_expression_of maybe.now) (typed_expression_of t))
+            (FaultyMaybe (environment_of program.now scopes.now) (maybe_expression_of maybe.now)) result
+    }
 {
     match maybe {
-        Some(e) => {
-            let term = expression(alloc, program, scopes, e)?;
-            Ok(term)
-        }
+        Some(e) => expression(alloc, program, scopes, e),
         None => Ok(TypedExpression::Constant(Literal {
             value: 1,
             integer_type: IntegerType::SignedInt,
@@ -205,15 +200,13 @@ pub fn first_value(
     number: usize,
     maybe: &Option<Value>,
 ) -> Result<TypedStatement, TypeStop>
-    ensures ok { IfOk result (λ t. TypesFirst (environment_of program.now scopes.now) number (maybe_value_tree maybe.now) (statement_of t)) }
-    ensures none { IfOk result (λ t. HasNone (FaultyFirst (environment_of program.now scopes.now) (maybe_value_tree maybe.now))) }
-    ensures err { IfErr result (StopsAtFirst (FaultyFirst (environment_of program.now scopes.now) (maybe_value_tree maybe.now))) }
+    ensures {
+        Answers (λ t. TypesFirst (environment_of program.now scopes.now) number (maybe_value_tree maybe.now) (statement_of t))
+            (FaultyFirst (environment_of program.now scopes.now) (maybe_value_tree maybe.now)) result
+    }
 {
     match maybe {
-        Some(given) => {
-            let typed = value(alloc, program, scopes, Destination::Local(number), given)?;
-            Ok(typed)
-        }
+        Some(given) => value(alloc, program, scopes, Destination::Local(number), given),
         None => Ok(TypedStatement::Unset(number)),
     }
 }

@@ -3,7 +3,7 @@ ghost use Rattle.c_front.specs.Shape.{expression_of, maybe_expression_of, maybe_
 ghost use Rattle.c_front.specs.Tree as Tree;
 ghost use Rattle.c_front.specs.Tree.{block, if_then, if_then_else, while_loop, for_loop, return_at, more_items, no_items};
 ghost use Rattle.c_statements.specs.declared.fault.TypeStop.TheVariants.{NoMemory};
-ghost use Rattle.c_statements.specs.Faults.{HasNone, StopsAtFirst};
+ghost use Rattle.c_statements.specs.Faults.{Answers, HasNone, StopsAtFirst};
 ghost use Rattle.c_statements.specs.Shape.{scopes_of, environment_of};
 ghost use Rattle.c_statements.specs.Names as Names;
 ghost use Rattle.c_statements.specs.Names.{environment_in, with_local, behind, behind_item, behind_items};
@@ -20,11 +20,8 @@ use crate::simple::{first_value, part, simple, test, with_one};
 use crate::symbol_table::Scopes;
 use c_front::{Expression, ForParts, Item, Program, Statement, Value};
 use c_tokens::{Identifier, IntegerType};
-use c_typed::{TypedExpression, TypedStatement};
+use c_typed::{MAX_LOCALS, TypedExpression, TypedStatement};
 use std::alloc::{AllocError, AllocFailed, Global};
-
-/// The most locals that a function may have, its parameters counted.
-pub const MAX_LOCALS: usize = 128;
 
 /// Whether a jump stands in a loop; if not it is a fault, at its keyword.
 fn jump(in_loop: bool, at: usize) -> Result<(), TypeStop>
@@ -57,9 +54,10 @@ fn returned(
     scopes: &Scopes,
     given: &Option<Expression>,
 ) -> Result<Option<TypedExpression>, TypeStop>
-    ensures ok { IfOk result (λ t. TypesMaybe (environment_of program.now scopes.now) (maybe_expression_of given.now) (maybe_typed_expression_of t)) }
-    ensures none { IfOk result (λ t. HasNone (FaultyMaybe (environment_of program.now scopes.now) (maybe_expression_of given.now))) }
-    ensures err { IfErr result (StopsAtFirst (FaultyMaybe (environment_of program.now scopes.now) (maybe_expression_of given.now))) }
+    ensures {
+        Answers (λ t. TypesMaybe (environment_of program.now scopes.now) (maybe_expression_of given.now) (maybe_typed_expression_of t))
+            (FaultyMaybe (environment_of program.now scopes.now) (maybe_expression_of given.now)) result
+    }
 {
     match given {
         Some(e) => {
@@ -94,9 +92,10 @@ fn return_from(
     at: usize,
     given: &Option<Expression>,
 ) -> Result<TypedStatement, TypeStop>
-    ensures ok { IfOk result (λ t. TypesStatement program.now.text.items (scopes_of scopes.now) (return_at at (maybe_expression_of given.now)) (typed_of t)) }
-    ensures none { IfOk result (λ t. HasNone (FaultyStatement program.now.text.items gives false (scopes_of scopes.now) (return_at at (maybe_expression_of given.now)))) }
-    ensures err { IfErr result (StopsAtFirst (FaultyStatement program.now.text.items gives false (scopes_of scopes.now) (return_at at (maybe_expression_of given.now)))) }
+    ensures {
+        Answers (λ t. TypesStatement program.now.text.items (scopes_of scopes.now) (return_at at (maybe_expression_of given.now)) (typed_of t))
+            (FaultyStatement program.now.text.items gives false (scopes_of scopes.now) (return_at at (maybe_expression_of given.now))) result
+    }
 {
     let value = returned(alloc, program, scopes, given);
     let (_, value) = both(fits(gives, given, at), value)?;
@@ -112,9 +111,10 @@ fn declare<'a>(
     name: Identifier,
     given: &Option<Value>,
 ) -> Result<TypedStatement, TypeStop>
-    ensures ok { IfOk result (λ t. TypesFirst (environment_in program.now.text.items (with_local program.now.text.items (scopes_of scopes.old) integer_type name)) (scopes_of scopes.old).locals (maybe_value_tree given.now) (typed_of t)) }
-    ensures none { IfOk result (λ t. HasNone (FaultyLocal program.now.text.items (scopes_of scopes.old) integer_type name (maybe_value_tree given.now))) }
-    ensures err { IfErr result (StopsAtFirst (FaultyLocal program.now.text.items (scopes_of scopes.old) integer_type name (maybe_value_tree given.now))) }
+    ensures typed {
+        Answers (λ t. TypesFirst (environment_in program.now.text.items (with_local program.now.text.items (scopes_of scopes.old) integer_type name)) (scopes_of scopes.old).locals (maybe_value_tree given.now) (typed_of t))
+            (FaultyLocal program.now.text.items (scopes_of scopes.old) integer_type name (maybe_value_tree given.now)) result
+    }
     ensures scopes { (result ≡ Err NoMemory → ⊥) → scopes_of scopes.new ≡ with_local program.now.text.items (scopes_of scopes.old) integer_type name }
 {
     let refused = declarator(program, scopes, name);
@@ -134,9 +134,10 @@ fn block<'a>(
     in_loop: bool,
     all: &[Item],
 ) -> Result<TypedStatement, TypeStop>
-    ensures ok { IfOk result (λ t. TypesStatement program.now.text.items (scopes_of scopes.old) (block (items_of all.now)) (typed_of t)) }
-    ensures none { IfOk result (λ t. HasNone (FaultyStatement program.now.text.items gives in_loop (scopes_of scopes.old) (block (items_of all.now)))) }
-    ensures err { IfErr result (StopsAtFirst (FaultyStatement program.now.text.items gives in_loop (scopes_of scopes.old) (block (items_of all.now)))) }
+    ensures typed {
+        Answers (λ t. TypesStatement program.now.text.items (scopes_of scopes.old) (block (items_of all.now)) (typed_of t))
+            (FaultyStatement program.now.text.items gives in_loop (scopes_of scopes.old) (block (items_of all.now))) result
+    }
     ensures scopes { (result ≡ Err NoMemory → ⊥) → scopes_of scopes.new ≡ behind (scopes_of scopes.old) (block (items_of all.now)) }
 {
     scopes.enter(alloc)?;
@@ -156,9 +157,10 @@ fn if_then<'a>(
     condition: &Expression,
     first: &Statement,
 ) -> Result<TypedStatement, TypeStop>
-    ensures ok { IfOk result (λ t. TypesStatement program.now.text.items (scopes_of scopes.old) (if_then (expression_of condition.now) (statement_of first.now)) (typed_of t)) }
-    ensures none { IfOk result (λ t. HasNone (FaultyStatement program.now.text.items gives in_loop (scopes_of scopes.old) (if_then (expression_of condition.now) (statement_of first.now)))) }
-    ensures err { IfErr result (StopsAtFirst (FaultyStatement program.now.text.items gives in_loop (scopes_of scopes.old) (if_then (expression_of condition.now) (statement_of first.now)))) }
+    ensures typed {
+        Answers (λ t. TypesStatement program.now.text.items (scopes_of scopes.old) (if_then (expression_of condition.now) (statement_of first.now)) (typed_of t))
+            (FaultyStatement program.now.text.items gives in_loop (scopes_of scopes.old) (if_then (expression_of condition.now) (statement_of first.now))) result
+    }
     ensures scopes { (result ≡ Err NoMemory → ⊥) → scopes_of scopes.new ≡ behind (scopes_of scopes.old) (if_then (expression_of condition.now) (statement_of first.now)) }
 {
     let condition = expression(alloc, program, scopes, condition);
@@ -178,9 +180,10 @@ fn if_then_else<'a>(
     first: &Statement,
     second: &Statement,
 ) -> Result<TypedStatement, TypeStop>
-    ensures ok { IfOk result (λ t. TypesStatement program.now.text.items (scopes_of scopes.old) (if_then_else (expression_of condition.now) (statement_of first.now) (statement_of second.now)) (typed_of t)) }
-    ensures none { IfOk result (λ t. HasNone (FaultyStatement program.now.text.items gives in_loop (scopes_of scopes.old) (if_then_else (expression_of condition.now) (statement_of first.now) (statement_of second.now)))) }
-    ensures err { IfErr result (StopsAtFirst (FaultyStatement program.now.text.items gives in_loop (scopes_of scopes.old) (if_then_else (expression_of condition.now) (statement_of first.now) (statement_of second.now)))) }
+    ensures typed {
+        Answers (λ t. TypesStatement program.now.text.items (scopes_of scopes.old) (if_then_else (expression_of condition.now) (statement_of first.now) (statement_of second.now)) (typed_of t))
+            (FaultyStatement program.now.text.items gives in_loop (scopes_of scopes.old) (if_then_else (expression_of condition.now) (statement_of first.now) (statement_of second.now))) result
+    }
     ensures scopes { (result ≡ Err NoMemory → ⊥) → scopes_of scopes.new ≡ behind (scopes_of scopes.old) (if_then_else (expression_of condition.now) (statement_of first.now) (statement_of second.now)) }
 {
     let condition = expression(alloc, program, scopes, condition);
@@ -200,9 +203,10 @@ fn while_loop<'a>(
     condition: &Expression,
     body: &Statement,
 ) -> Result<TypedStatement, TypeStop>
-    ensures ok { IfOk result (λ t. TypesStatement program.now.text.items (scopes_of scopes.old) (while_loop (expression_of condition.now) (statement_of body.now)) (typed_of t)) }
-    ensures none { IfOk result (λ t. HasNone (FaultyStatement program.now.text.items gives in_loop (scopes_of scopes.old) (while_loop (expression_of condition.now) (statement_of body.now)))) }
-    ensures err { IfErr result (StopsAtFirst (FaultyStatement program.now.text.items gives in_loop (scopes_of scopes.old) (while_loop (expression_of condition.now) (statement_of body.now)))) }
+    ensures typed {
+        Answers (λ t. TypesStatement program.now.text.items (scopes_of scopes.old) (while_loop (expression_of condition.now) (statement_of body.now)) (typed_of t))
+            (FaultyStatement program.now.text.items gives in_loop (scopes_of scopes.old) (while_loop (expression_of condition.now) (statement_of body.now))) result
+    }
     ensures scopes { (result ≡ Err NoMemory → ⊥) → scopes_of scopes.new ≡ behind (scopes_of scopes.old) (while_loop (expression_of condition.now) (statement_of body.now)) }
 {
     let condition = expression(alloc, program, scopes, condition);
@@ -221,9 +225,10 @@ fn for_loop<'a>(
     parts: &ForParts,
     body: &Statement,
 ) -> Result<TypedStatement, TypeStop>
-    ensures ok { IfOk result (λ t. TypesStatement program.now.text.items (scopes_of scopes.old) (for_loop (maybe_simple_of parts.now.first) (maybe_expression_of parts.now.test) (maybe_simple_of parts.now.last) (statement_of body.now)) (typed_of t)) }
-    ensures none { IfOk result (λ t. HasNone (FaultyStatement program.now.text.items gives in_loop (scopes_of scopes.old) (for_loop (maybe_simple_of parts.now.first) (maybe_expression_of parts.now.test) (maybe_simple_of parts.now.last) (statement_of body.now)))) }
-    ensures err { IfErr result (StopsAtFirst (FaultyStatement program.now.text.items gives in_loop (scopes_of scopes.old) (for_loop (maybe_simple_of parts.now.first) (maybe_expression_of parts.now.test) (maybe_simple_of parts.now.last) (statement_of body.now)))) }
+    ensures typed {
+        Answers (λ t. TypesStatement program.now.text.items (scopes_of scopes.old) (for_loop (maybe_simple_of parts.now.first) (maybe_expression_of parts.now.test) (maybe_simple_of parts.now.last) (statement_of body.now)) (typed_of t))
+            (FaultyStatement program.now.text.items gives in_loop (scopes_of scopes.old) (for_loop (maybe_simple_of parts.now.first) (maybe_expression_of parts.now.test) (maybe_simple_of parts.now.last) (statement_of body.now))) result
+    }
     ensures scopes { (result ≡ Err NoMemory → ⊥) → scopes_of scopes.new ≡ behind (scopes_of scopes.old) (for_loop (maybe_simple_of parts.now.first) (maybe_expression_of parts.now.test) (maybe_simple_of parts.now.last) (statement_of body.now)) }
 {
     let first = part(alloc, program, scopes, &parts.first);
@@ -243,9 +248,10 @@ pub fn statement<'a>(
     in_loop: bool,
     s: &Statement,
 ) -> Result<TypedStatement, TypeStop>
-    ensures ok { IfOk result (λ t. TypesStatement program.now.text.items (scopes_of scopes.old) (statement_of s.now) (typed_of t)) }
-    ensures none { IfOk result (λ t. HasNone (FaultyStatement program.now.text.items gives in_loop (scopes_of scopes.old) (statement_of s.now))) }
-    ensures err { IfErr result (StopsAtFirst (FaultyStatement program.now.text.items gives in_loop (scopes_of scopes.old) (statement_of s.now))) }
+    ensures typed {
+        Answers (λ t. TypesStatement program.now.text.items (scopes_of scopes.old) (statement_of s.now) (typed_of t))
+            (FaultyStatement program.now.text.items gives in_loop (scopes_of scopes.old) (statement_of s.now)) result
+    }
     ensures scopes { (result ≡ Err NoMemory → ⊥) → scopes_of scopes.new ≡ behind (scopes_of scopes.old) (statement_of s.now) }
 {
     match s {
@@ -286,9 +292,10 @@ fn item<'a>(
     in_loop: bool,
     one: &Item,
 ) -> Result<TypedStatement, TypeStop>
-    ensures ok { IfOk result (λ t. TypesItems program.now.text.items (scopes_of scopes.old) (more_items (item_of one.now) no_items) (more_statements (typed_of t) no_statements)) }
-    ensures none { IfOk result (λ t. HasNone (FaultyItems program.now.text.items gives in_loop (scopes_of scopes.old) (more_items (item_of one.now) no_items))) }
-    ensures err { IfErr result (StopsAtFirst (FaultyItems program.now.text.items gives in_loop (scopes_of scopes.old) (more_items (item_of one.now) no_items))) }
+    ensures typed {
+        Answers (λ t. TypesItems program.now.text.items (scopes_of scopes.old) (more_items (item_of one.now) no_items) (more_statements (typed_of t) no_statements))
+            (FaultyItems program.now.text.items gives in_loop (scopes_of scopes.old) (more_items (item_of one.now) no_items)) result
+    }
     ensures scopes { (result ≡ Err NoMemory → ⊥) → scopes_of scopes.new ≡ behind_item program.now.text.items (scopes_of scopes.old) (item_of one.now) }
 {
     match one {
@@ -309,9 +316,10 @@ pub fn items<'a>(
     in_loop: bool,
     all: &[Item],
 ) -> Result<Vec<TypedStatement>, TypeStop>
-    ensures ok { IfOk result (λ v. TypesItems program.now.text.items (scopes_of scopes.old) (items_of all.now) (statements_of v.items)) }
-    ensures none { IfOk result (λ v. HasNone (FaultyItems program.now.text.items gives in_loop (scopes_of scopes.old) (items_of all.now))) }
-    ensures err { IfErr result (StopsAtFirst (FaultyItems program.now.text.items gives in_loop (scopes_of scopes.old) (items_of all.now))) }
+    ensures typed {
+        Answers (λ v. TypesItems program.now.text.items (scopes_of scopes.old) (items_of all.now) (statements_of v.items))
+            (FaultyItems program.now.text.items gives in_loop (scopes_of scopes.old) (items_of all.now)) result
+    }
     ensures scopes { (result ≡ Err NoMemory → ⊥) → scopes_of scopes.new ≡ behind_items program.now.text.items (scopes_of scopes.old) (items_of all.now) }
 {
     let mut typed = Ok(Vec::new(alloc));

@@ -5,7 +5,7 @@ use Rattle.std.specs.List.{slice_get}
 use Rattle.std.proofs.lemmas.Option.{same_Some}
 use Rattle.std.proofs.lemmas.List.Elements.{All-nil, All-cons, All-head, All-tail, All-push, All-replicate}
 use Rattle.words.specs.Words.{wrap}
-use Rattle.runs.specs.Stores.{Places, Arrays, unset_places, written, stored, IsWord, PlacesHoldWords, ArraysHoldWords}
+use Rattle.runs.specs.Stores.{Places, Arrays, unset_places, places_with, arrays_with, IsWord, PlacesHoldWords, ArraysHoldWords}
 use Rattle.runs.specs.Runs.{Running, Ended, Failed, with_value}
 use Rattle.runs.proofs.Words.{at-index, unset-words, written-words, stored-words}
 use Rattle.runs.proofs.Steps.{steps-keep}
@@ -20,14 +20,14 @@ use Rattle.c_typed.specs.Meaning.{first_words}
 use Rattle.c_typed.specs.Laws.{FrameHoldsWords, RunHoldsWords}
 use Rattle.c_typed.proofs.Values.{value-word, values-words}
 
-none-set : (l : Places) (x : ℕ) → PlacesHoldWords l → PlacesHoldWords (written l x None)
+none-set : (l : Places) (x : ℕ) → PlacesHoldWords l → PlacesHoldWords (places_with l x None)
 none-set l x h = written-words l x None h (λ v e. let never = e in cc)
 
 next_point-words : (m : Mode) (l : Places) (k : List Todo) → PlacesHoldWords l → PlacesHoldWords (next_point m l k).locals
 next_point-words Going l [] h = h
 next_point-words Breaking l [] h = h
 next_point-words Continuing l [] h = h
-next_point-words Going l (Do (unset x) ∷ k) h = next_point-words Going (written l x None) k (none-set l x h)
+next_point-words Going l (Do (unset x) ∷ k) h = next_point-words Going (places_with l x None) k (none-set l x h)
 next_point-words Going l (Do break_loop ∷ k) h = next_point-words Breaking l k h
 next_point-words Going l (Do continue_loop ∷ k) h = next_point-words Continuing l k h
 next_point-words Going l (Next last again ∷ k) h = h
@@ -49,9 +49,9 @@ running f frames g out a b c d = (All-cons FrameHoldsWords f frames a b, (c, d))
 placed-words : (to : Destination) (v : ℕ) (l : Places) (g : Arrays) (out : List ℕ) (go : Places → Arrays → Run) → IsWord v → PlacesHoldWords l
     → ArraysHoldWords g → All IsWord out
     → ((l : Places) (g : Arrays) → PlacesHoldWords l → ArraysHoldWords g → RunHoldsWords (go l g)) → RunHoldsWords (with_assignment to v l g out go)
-placed-words (Local x) v l g out go w a b c k = k (written l x (Some v)) g (written-words l x (Some v) a (λ u e. subst IsWord (same_Some v u e) w)) b
+placed-words (Local x) v l g out go w a b c k = k (places_with l x (Some v)) g (written-words l x (Some v) a (λ u e. subst IsWord (same_Some v u e) w)) b
 placed-words (Variable x) v l g out go w a b c k =
-    with-words (stored g x 0 v) out (λ g'. go l g') c (λ g' e. k l g' a (stored-words g x 0 v g' b w e))
+    with-words (arrays_with g x 0 v) out (λ g'. go l g') c (λ g' e. k l g' a (stored-words g x 0 v g' b w e))
 
 arguments-words : (vs : List ℕ) → All IsWord vs → PlacesHoldWords (argument_places vs)
 arguments-words vs h x v e = at-index IsWord vs x v h e
@@ -91,10 +91,10 @@ step-words p depth l (Do (assign x e) ∷ k) to frames g out a b c d =
     (λ l' g' h i. running (record { locals = l'; todo = k; result_to = to }) frames g' out h b i d))
 step-words p depth l (Do (store x i e) ∷ k) to frames g out a b c d =
     with-words (value_of i l g) out (λ j. with_value (value_of e l g) out
-    (λ v. with_value (stored g x j v) out (λ g'. Running (record { locals = l; todo = k; result_to = to } ∷ frames) g' out))) d
-    (λ j at. with-words (value_of e l g) out (λ v. with_value (stored g x j v) out
+    (λ v. with_value (arrays_with g x j v) out (λ g'. Running (record { locals = l; todo = k; result_to = to } ∷ frames) g' out))) d
+    (λ j at. with-words (value_of e l g) out (λ v. with_value (arrays_with g x j v) out
     (λ g'. Running (record { locals = l; todo = k; result_to = to } ∷ frames) g' out)) d
-    (λ v is. with-words (stored g x j v) out (λ g'. Running (record { locals = l; todo = k; result_to = to } ∷ frames) g' out) d
+    (λ v is. with-words (arrays_with g x j v) out (λ g'. Running (record { locals = l; todo = k; result_to = to } ∷ frames) g' out) d
     (λ g' w. running (record { locals = l; todo = k; result_to = to }) frames g' out a b (stored-words g x j v g' c (value-word e l g a c v is) w) d)))
 step-words p depth l (Do (call x f all) ∷ k) to frames g out a b c d =
     with-words (values_of all l g) out (λ vs. state_after_call p depth f vs x (record { locals = l; todo = k; result_to = to } ∷ frames) g out) d

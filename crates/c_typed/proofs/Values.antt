@@ -12,15 +12,15 @@ use Rattle.words.specs.Laws.{product_operator, quotient_operator, remainder_oper
 use Rattle.words.proofs.Bounds.{op_words}
 use Rattle.words.proofs.OfC.{sum_agrees, difference_agrees, product_agrees, quotient_agrees, remainder_agrees, negation_agrees, left_shift_agrees}
 use Rattle.words.proofs.OfC.{right_shift_agrees}
-use Rattle.runs.specs.Stores.{Places, Arrays, chain, word_at, IsWord, PlacesHoldWords, ArraysHoldWords}
-use Rattle.runs.proofs.Words.{chain-some, word-at}
+use Rattle.runs.specs.Stores.{Places, Arrays, chain, element_at, IsWord, PlacesHoldWords, ArraysHoldWords}
+use Rattle.runs.proofs.Words.{chain-some, element-at}
 use Rattle.c_front.specs.declared.tree.UnaryOp.{UnaryOp}
 use Rattle.c_front.specs.declared.tree.UnaryOp.TheVariants.{Negate, Identity, Complement, Not}
 use Rattle.c_front.specs.declared.tree.BinaryOp.{BinaryOp}
 use Rattle.c_front.specs.declared.tree.BinaryOp.TheVariants.{Multiply, Divide, Remainder, Add, Subtract, ShiftLeft, ShiftRight, Less, Greater, LessOrEqual}
 use Rattle.c_front.specs.declared.tree.BinaryOp.TheVariants.{GreaterOrEqual, Equal, NotEqual, BitAnd, BitXor, BitOr, LogicalAnd, LogicalOr}
 use Rattle.c_typed.specs.Trees.{TypedExpression, constant, local, global, element, unary, binary, conditional}
-use Rattle.c_typed.specs.Values.{sign_of, truth, unary_of, binary_of, combined, value_of, values_of}
+use Rattle.c_typed.specs.Values.{sign_of, truth, unary_of, binary_of, binary_value, value_of, values_of}
 
 along : (v w : ℕ) → v ≡ w → w < 2 ^ 32 → v < 2 ^ 32
 along v w e h = omega (arith, e)
@@ -73,31 +73,31 @@ chain-word : {A : Type 0} (o : Option A) (f : A → Option ℕ) → ((a : A) →
 chain-word None f h = none-word
 chain-word (Some a) f h = h a refl
 
-combined-word : (o : BinaryOp) (s : Sign) (left right : Option ℕ) → GivesWord left → GivesWord right → GivesWord (combined o s left right)
-combined-word LogicalAnd s left right a b =
+binary_value-word : (o : BinaryOp) (s : Sign) (left right : Option ℕ) → GivesWord left → GivesWord right → GivesWord (binary_value o s left right)
+binary_value-word LogicalAnd s left right a b =
     chain-word left (λ x. if x == 0 then Some 0 else chain right (λ y. binary_of LogicalAnd s x y))
     (λ x e. either-word (x == 0) (Some 0) (chain right (λ y. binary_of LogicalAnd s x y)) (some-word 0 (omega arith))
     (chain-word right (λ y. binary_of LogicalAnd s x y) (λ y f v. binary-word LogicalAnd s x y v (a x e) (b y f))))
-combined-word LogicalOr s left right a b =
+binary_value-word LogicalOr s left right a b =
     chain-word left (λ x. if x == 0 then chain right (λ y. binary_of LogicalOr s x y) else Some 1)
     (λ x e. either-word (x == 0) (chain right (λ y. binary_of LogicalOr s x y)) (Some 1)
     (chain-word right (λ y. binary_of LogicalOr s x y) (λ y f v. binary-word LogicalOr s x y v (a x e) (b y f))) (some-word 1 (omega arith)))
-combined-word o s left right a b =
+binary_value-word o s left right a b =
     chain-word left (λ x. chain right (λ y. binary_of o s x y))
     (λ x e. chain-word right (λ y. binary_of o s x y) (λ y f v. binary-word o s x y v (a x e) (b y f)))
 
 pub value-word : (e : TypedExpression) (l : Places) (g : Arrays) → PlacesHoldWords l → ArraysHoldWords g → (v : ℕ) → value_of e l g ≡ Some v → IsWord v
 value-word (constant c) l g h k v e = let is : wrap c.value ≡ v = same_Some (wrap c.value) v e in omega arith
 value-word (local n t) l g h k v e = h n v e
-value-word (global n t) l g h k v e = word-at g n 0 v k e
+value-word (global n t) l g h k v e = element-at g n 0 v k e
 value-word (element n t i) l g h k v e =
-    let s = chain-some (value_of i l g) (λ x. word_at g n x) v e in
-    word-at g n s.0 v k s.2
+    let s = chain-some (value_of i l g) (λ x. element_at g n x) v e in
+    element-at g n s.0 v k s.2
 value-word (unary o t a) l g h k v e =
     let s = chain-some (value_of a l g) (λ x. unary_of o (sign_of t) x) v e in
     unary-word o (sign_of t) s.0 v (value-word a l g h k s.0 s.1) s.2
 value-word (binary o t a b) l g h k v e =
-    combined-word o (sign_of t) (value_of a l g) (value_of b l g) (value-word a l g h k) (value-word b l g h k) v e
+    binary_value-word o (sign_of t) (value_of a l g) (value_of b l g) (value-word a l g h k) (value-word b l g h k) v e
 value-word (conditional t c a b) l g h k v e =
     chain-word (value_of c l g) (λ x. if x == 0 then value_of b l g else value_of a l g)
     (λ x f. either-word (x == 0) (value_of b l g) (value_of a l g) (value-word b l g h k) (value-word a l g h k)) v e

@@ -1,8 +1,8 @@
 -- What a program does, one step after another (C99 5.1.2.3, 6.8): each assignment, test, call, return and output is one
 -- step. A declaration, `break` and `continue` are none.
 use Rattle.std.specs.Prelude.{ℕ, List, [], ◌∷◌, ◌++◌, Option, Some, None, length, nat_lt, if◌then◌else◌, ◌==◌, slice_get, map, replicate}
-use Rattle.runs.specs.Stores.{Places, unset_places, written, Arrays, stored}
-use Rattle.runs.specs.Runs.{Outcome, State, Running, Ended, Failed, with_value, steps, outcome}
+use Rattle.runs.specs.Stores.{Places, unset_places, places_with, Arrays, arrays_with}
+use Rattle.runs.specs.Runs.{Outcome, Configuration, Running, Ended, Failed, with_value, steps, outcome}
 use Rattle.words.specs.Words.{wrap}
 use Rattle.c_typed.specs.declared.tree.Destination.{Destination}
 use Rattle.c_typed.specs.declared.tree.Destination.TheVariants.{Local, Global as Variable}
@@ -50,7 +50,7 @@ pub record Point : Type 0 where
 -- on to the next statement that takes a step
 abbrev pub next_point : Mode → Places → List Todo → Point
 next_point m l [] = record { locals = l; todo = [] }
-next_point Going l (Do (unset x) ∷ k) = next_point Going (written l x None) k
+next_point Going l (Do (unset x) ∷ k) = next_point Going (places_with l x None) k
 next_point Going l (Do break_loop ∷ k) = next_point Breaking l k
 next_point Going l (Do continue_loop ∷ k) = next_point Continuing l k
 next_point Going l (Next last again ∷ k) = record { locals = l; todo = before last (before again k) }
@@ -67,12 +67,12 @@ pub record Frame : Type 0 where
   pub result_to : Option Destination
 
 abbrev pub Run : Type 0
-Run = State Frame
+Run = Configuration Frame
 
 -- a word goes to a local, or to a global variable
 abbrev pub with_assignment : Destination → ℕ → Places → Arrays → List ℕ → (Places → Arrays → Run) → Run
-with_assignment (Local x) v l g out go = go (written l x (Some v)) g
-with_assignment (Variable x) v l g out go = with_value (stored g x 0 v) out (λ g'. go l g')
+with_assignment (Local x) v l g out go = go (places_with l x (Some v)) g
+with_assignment (Variable x) v l g out go = with_value (arrays_with g x 0 v) out (λ g'. go l g')
 
 -- the arguments are the first locals
 abbrev pub argument_places : List ℕ → Places
@@ -105,7 +105,7 @@ step_at p depth l (Do (assign x e) ∷ k) to frames g out =
     with_value (value_of e l g) out (λ v. with_assignment x v l g out (λ l' g'.
     Running (record { locals = l'; todo = k; result_to = to } ∷ frames) g' out))
 step_at p depth l (Do (store a i e) ∷ k) to frames g out =
-    with_value (value_of i l g) out (λ x. with_value (value_of e l g) out (λ v. with_value (stored g a x v) out (λ g'.
+    with_value (value_of i l g) out (λ x. with_value (value_of e l g) out (λ v. with_value (arrays_with g a x v) out (λ g'.
     Running (record { locals = l; todo = k; result_to = to } ∷ frames) g' out)))
 step_at p depth l (Do (call x f all) ∷ k) to frames g out =
     with_value (values_of all l g) out (λ vs.

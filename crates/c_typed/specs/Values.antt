@@ -13,7 +13,7 @@ use Rattle.words.specs.declared.sign.Sign.TheVariants.{Signed, Unsigned}
 use Rattle.words.specs.Words.{wrap}
 use Rattle.words.specs.Operators.{quotient_of, remainder_of}
 use Rattle.words.specs.C.{sum_of, difference_of, times_of, negation_of, left_shift_of, right_shift_of, is_below}
-use Rattle.runs.specs.Stores.{Places, Arrays, chain, word_at}
+use Rattle.runs.specs.Stores.{Places, Arrays, chain, element_at}
 
 -- how the words of a type are read (C99 6.2.5)
 abbrev pub sign_of : IntegerType → Sign
@@ -53,19 +53,19 @@ binary_of LogicalOr s x y = Some (truth (not (y == 0)))
 
 -- the values of the operands, put together: `&&` and `||` leave the right one aside where the left one decides
 -- (C99 6.5.13, 6.5.14)
-abbrev pub combined : BinaryOp → Sign → Option ℕ → Option ℕ → Option ℕ
-combined LogicalAnd s left right = chain left (λ x. if x == 0 then Some 0 else chain right (λ y. binary_of LogicalAnd s x y))
-combined LogicalOr s left right = chain left (λ x. if x == 0 then chain right (λ y. binary_of LogicalOr s x y) else Some 1)
-combined o s left right = chain left (λ x. chain right (λ y. binary_of o s x y))
+abbrev pub binary_value : BinaryOp → Sign → Option ℕ → Option ℕ → Option ℕ
+binary_value LogicalAnd s left right = chain left (λ x. if x == 0 then Some 0 else chain right (λ y. binary_of LogicalAnd s x y))
+binary_value LogicalOr s left right = chain left (λ x. if x == 0 then chain right (λ y. binary_of LogicalOr s x y) else Some 1)
+binary_value o s left right = chain left (λ x. chain right (λ y. binary_of o s x y))
 
 -- the value at these locals and globals; a constant means a word, whatever number a tree has
 abbrev pub value_of : TypedExpression → Places → Arrays → Option ℕ
 value_of (constant c) l g = Some (wrap c.value)
 value_of (local n k) l g = l n
-value_of (global n k) l g = word_at g n 0
-value_of (element n k e) l g = chain (value_of e l g) (λ i. word_at g n i)
+value_of (global n k) l g = element_at g n 0
+value_of (element n k e) l g = chain (value_of e l g) (λ i. element_at g n i)
 value_of (unary o k e) l g = chain (value_of e l g) (λ x. unary_of o (sign_of k) x)
-value_of (binary o k left right) l g = combined o (sign_of k) (value_of left l g) (value_of right l g)
+value_of (binary o k left right) l g = binary_value o (sign_of k) (value_of left l g) (value_of right l g)
 value_of (conditional k c a b) l g = chain (value_of c l g) (λ x. if x == 0 then value_of b l g else value_of a l g)
 
 -- the values of a list of expressions, or none where one has none

@@ -10,4 +10,4 @@ pub const MAX_LOCALS: usize = 128;
 pub const MAX_FUNCTIONS: usize = 256;
 
 /// The most words that the globals of a program may have together.
-pub const MAX_GLOBAL_WORDS: usize = 262_144;
+pub const MAX_GLOBAL_WORDS: u64 = 262_144;

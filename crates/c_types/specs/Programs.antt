@@ -7,6 +7,7 @@ use Rattle.c_tokens.specs.declared.token.Literal.{Literal}
 use Rattle.c_front.specs.declared.tree.Initial.{Initial}
 use Rattle.c_front.specs.declared.tree.Parameter.{Parameter}
 use Rattle.c_front.specs.Tree.{Declaration, variable, array, function, Items}
+use Rattle.c_typed.specs.declared.limits.TheConstants.{MAX_FUNCTIONS, MAX_GLOBAL_WORDS, MAX_PARAMETERS}
 use Rattle.c_statements.specs.declared.fault.TypeFaultKind.{TypeFaultKind}
 use Rattle.c_statements.specs.declared.fault.TypeFaultKind.TheVariants.{Redeclared, Kind as KindFault, Count, NoMain, Limit}
 use Rattle.c_statements.specs.declared.names.Named.{Named}
@@ -78,14 +79,14 @@ pub data FaultyName (text : List ℕ) (f : File) : Declaration → TypeFaultKind
   declared_again : {d : Declaration} → f.names (spelling_in text (name_of d)) ≢ None → FaultyName text f d Redeclared (name_of d).at
   other_main : {d : Declaration} → bytes_eq (spelling_in text (name_of d)) main_name ≡ true → IsNotMain d → FaultyName text f d KindFault (name_of d).at
   array_of_nothing : {k : IntegerType} {x : Identifier} {n : Literal} → n.value ≡ 0 → FaultyName text f (array k x n) KindFault x.at
-  too_many_words : {d : Declaration} → f.counts.words ≤ 262144 → 262144 < f.counts.words + words_of d → FaultyName text f d Limit (name_of d).at
-  too_many_functions : {r : Option IntegerType} {x : Identifier} {ps : List Parameter} {body : Items} → f.counts.functions ≡ 256 →
+  too_many_words : {d : Declaration} → f.counts.words ≤ MAX_GLOBAL_WORDS → MAX_GLOBAL_WORDS < f.counts.words + words_of d → FaultyName text f d Limit (name_of d).at
+  too_many_functions : {r : Option IntegerType} {x : Identifier} {ps : List Parameter} {body : Items} → f.counts.functions ≡ MAX_FUNCTIONS →
       FaultyName text f (function r x ps body) Limit x.at
 
 -- a declarator in the function's outermost scope, and the fifth parameter
 pub data FaultyParameter (text : List ℕ) (sc : Scopes) (x : Identifier) : TypeFaultKind → ℕ → Type 0 where
   faulty_declarator : {k : TypeFaultKind} {at : ℕ} → FaultyDeclarator text sc x k at → FaultyParameter text sc x k at
-  fifth_parameter : sc.locals ≡ 4 → FaultyParameter text sc x Count x.at
+  fifth_parameter : sc.locals ≡ MAX_PARAMETERS → FaultyParameter text sc x Count x.at
 
 abbrev pub FaultyParameters : List ℕ → Scopes → List Parameter → TypeFaultKind → ℕ → Type 0
 FaultyParameters text sc [] k at = ⊥

@@ -7,18 +7,10 @@ ghost use Rattle.c_types.specs.Files.{counts_of, file_of, Exceeds, IsOtherKind, 
 ghost use Rattle.c_types.specs.Programs.{FaultyName, FaultyParameter, FaultyParameters, behind_parameters, IsNotMain, first_word, main_name, name_of, named_by, counts_after, words_of};
 
 use c_front::{Declaration, Initial, Parameter, Program};
-use c_statements::{MAX_LOCALS, Named, Scopes, TypeFaultKind, TypeStop, either, misuse};
+use c_statements::{Named, Scopes, TypeFaultKind, TypeStop, either, misuse};
 use c_tokens::{Identifier, IntegerType};
+use c_typed::{MAX_FUNCTIONS, MAX_GLOBAL_WORDS, MAX_LOCALS, MAX_PARAMETERS};
 use std::alloc::AllocError;
-
-/// The most parameters that a function may have.
-const MAX_PARAMETERS: usize = 4;
-
-/// The most functions that a program may have.
-const MAX_FUNCTIONS: usize = 256;
-
-/// The most words that the globals of a program may take together.
-const MAX_GLOBAL_WORDS: u128 = 262_144;
 
 /// How many globals and functions are declared so far, and how many words the globals have together. An array has less
 /// than 2^32 words and a program less than 2^64 declarations, so 128 bits hold the sum.
@@ -121,8 +113,8 @@ impl Tally {
         if let Declaration::Function(_) = declaration {
             return self.functions == MAX_FUNCTIONS;
         }
-        self.words <= MAX_GLOBAL_WORDS
-            && MAX_GLOBAL_WORDS < self.words + u128::from(words(declaration))
+        let most = u128::from(MAX_GLOBAL_WORDS);
+        self.words <= most && most < self.words + u128::from(words(declaration))
     }
 
     /// The tally behind a declaration.

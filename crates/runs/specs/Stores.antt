@@ -9,8 +9,8 @@ abbrev pub unset_places : Places
 unset_places x = None
 
 -- one is set to a word, or unset
-abbrev pub written : Places → ℕ → Option ℕ → Places
-written p x v = λ y. if nat_eq y x then v else p y
+abbrev pub places_with : Places → ℕ → Option ℕ → Places
+places_with p x v = λ y. if nat_eq y x then v else p y
 
 abbrev pub Arrays : Type 0
 Arrays = List (List ℕ)
@@ -20,12 +20,12 @@ chain None f = None
 chain (Some a) f = f a
 
 -- the word of a global at an index, or none outside
-abbrev pub word_at : Arrays → ℕ → ℕ → Option ℕ
-word_at g a i = chain (slice_get g a) (λ words. slice_get words i)
+abbrev pub element_at : Arrays → ℕ → ℕ → Option ℕ
+element_at g a i = chain (slice_get g a) (λ words. slice_get words i)
 
 -- the globals after a write, or none outside
-abbrev pub stored : Arrays → ℕ → ℕ → ℕ → Option Arrays
-stored g a i v = chain (slice_get g a) (λ words. chain (slice_get words i) (λ _. Some (slice_set g a (slice_set words i v))))
+abbrev pub arrays_with : Arrays → ℕ → ℕ → ℕ → Option Arrays
+arrays_with g a i v = chain (slice_get g a) (λ words. chain (slice_get words i) (λ _. Some (slice_set g a (slice_set words i v))))
 
 -- a number of 32 bits
 abbrev pub IsWord : ℕ → Type 0

@@ -1,5 +1,5 @@
 //! Whole calls on the nodes, over a pass's seat.
-ghost use Rattle.std.specs.Prelude.{◌≡◌, ℕ, ◌+◌, ◌*◌, ◌^◌, ◌<◌, true, List, [], ◌∷◌};
+ghost use Rattle.std.specs.Prelude.{◌≡◌, ℕ, ◌+◌, ◌*◌, ◌^◌, ◌<◌, ◌≤◌, true, List, [], ◌∷◌};
 ghost use Rattle.sym_terms.specs.Labels.{label_word};
 ghost use Rattle.term_core.specs.declared.Stage.TheVariants.{Idle};
 ghost use Rattle.term_core.specs.declared.Call.TheVariants.{Find, Intern};
@@ -35,16 +35,18 @@ fn mixed(hash: u64, number: u64) -> u64
     hash.wrapping_mul(SCATTER).wrapping_add(number)
 }
 
-// The hash with all but its low ten bits scattered: numbers in sequence stay in sequence, and strides don't meet.
-fn scattered(hash: u64) -> u64
-    ensures { result ≡ spec.scattered hash }
+// The hash with all but its low eight bits scattered over the heads: numbers in sequence stay in sequence, and strides
+// don't meet.
+fn scattered(heads: u64, hash: u64) -> u64
+    requires { heads ≤ 65536 }
+    ensures { result ≡ spec.scattered heads hash }
 {
-    (hash / 1024).wrapping_mul(SCATTER) / 4294967296 + hash % 1024
+    (hash / 256).wrapping_mul(SCATTER) / 4294967296 * heads / 4294967296 + hash % 256
 }
 
-// The chain of a term.
+// The chain of a term. Where it lies below the heads, as most do, nothing is divided.
 fn chain_at(heads: u64, word: u64, kids: &[Ticket]) -> u64
-    requires { 0 < heads }
+    requires { (0 < heads) × (heads ≤ 65536) }
     ensures value { result ≡ chain_of heads word kids.now }
     ensures range { result < heads }
 {
@@ -52,7 +54,8 @@ fn chain_at(heads: u64, word: u64, kids: &[Ticket]) -> u64
     for kid in kids {
         hash = mixed(hash, kid.number());
     }
-    scattered(hash) % heads
+    let chain = scattered(heads, hash);
+    if chain < heads { chain } else { chain % heads }
 }
 
 impl Nodes {

@@ -1,8 +1,10 @@
+use Rattle.std.proofs.Common.{rules}
 use Rattle.c_statements.specs.Types.{no_first, some_first}
+use Rattle.c_statements.proofs.Joins.{answers-as}
 use Rattle.c_statements.proofs.simple.first_value.Goals as goal
 
-pub returns-in_ok-typed-in-Some-clause-ok : goal.returns-in_ok-typed-in-Some-clause-ok
-returns-in_ok-typed-in-Some-clause-ok c = rw c.in-Some.is (some_first c.in_ok-typed-in-Some.ensures.ok)
+pub returns-in-None : goal.returns-in-None
+returns-in-None c = record { ok = rw c.in-None.is no_first; none = search rules; err = tt }
 
-pub returns-in-None-clause-ok : goal.returns-in-None-clause-ok
-returns-in-None-clause-ok c = rw c.in-None.is no_first
+pub returns-in-Some : goal.returns-in-Some
+returns-in-Some c = rw c.in-Some.is (answers-as (λ t h. some_first h) c.value.ensures)

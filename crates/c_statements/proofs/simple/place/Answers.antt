@@ -1,4 +1,4 @@
-use Rattle.std.proofs.Common.{sym, ap, Some, ◌∙◌}
+use Rattle.std.proofs.Common.{rules, sym, ap, Some, ◌∙◌}
 use Rattle.c_statements.specs.declared.names.Named.{Named}
 use Rattle.c_statements.specs.Types.{local_place, global_place}
 use Rattle.c_statements.specs.Names.{environment_in}
@@ -6,14 +6,26 @@ use Rattle.c_statements.specs.Shape.{scopes_of}
 use Rattle.c_statements.proofs.Uses.{undeclared-first, value-first}
 use Rattle.c_statements.proofs.simple.place.Goals as goal
 
-pub returns-in_default-clause-err : goal.returns-in_default-clause-err
-returns-in_default-clause-err c = rw c.misuse.ensures (undeclared-first (environment_in c.args.program.now.text.items (scopes_of c.args.scopes.now)) c.args.name _ (sym c.in_default.ensures))
+pub returns-in_default : goal.returns-in_default
+returns-in_default c = record {
+      ok = tt;
+      none = tt;
+      err = rw c.misuse.ensures (undeclared-first (environment_in c.args.program.now.text.items (scopes_of c.args.scopes.now)) c.args.name _ (sym c.in_default.ensures));
+    }
 
-pub returns-in-Local-clause-ok : goal.returns-in-Local-clause-ok
-returns-in-Local-clause-ok c = local_place (sym c.in-Some.ensures ∙ ap (λ (m : Named). Some m) c.in-Local.is)
+pub returns-in-Local : goal.returns-in-Local
+returns-in-Local c = record {
+      ok = local_place (sym c.in-Some.ensures ∙ ap (λ (m : Named). Some m) c.in-Local.is);
+      none = search rules;
+      err = tt;
+    }
 
-pub returns-in-Global-clause-ok : goal.returns-in-Global-clause-ok
-returns-in-Global-clause-ok c = global_place (sym c.in-Some.ensures ∙ ap (λ (m : Named). Some m) c.in-Global.is)
+pub returns-in-Global : goal.returns-in-Global
+returns-in-Global c = record {
+      ok = global_place (sym c.in-Some.ensures ∙ ap (λ (m : Named). Some m) c.in-Global.is);
+      none = search rules;
+      err = tt;
+    }
 
 pub returns-in_default-named : goal.returns-in_default-named
 returns-in_default-named c = record { ok = tt; none = tt; err = rw c.misuse-in_default-named.ensures (value-first (environment_in c.args.program.now.text.items (scopes_of c.args.scopes.now)) c.args.name _ (sym c.in-Some.ensures) c.in_default-named.not-Local c.in_default-named.not-Global) }

@@ -1,22 +1,22 @@
-use Rattle.std.proofs.Common.{◌≡◌, ◌+◌, ℕ, List, true, Result, Ok, Err, rules, inl, inr, refl, sym, subst, ap, arith, ◌∙◌}
+use Rattle.std.proofs.Common.{◌≡◌, ◌+◌, List, true, Result, Ok, Err, rules, refl, sym, subst, ap, arith, ◌∙◌}
 use Rattle.c_front.specs.declared.tree.Item.{Item}
-use Rattle.c_front.specs.Shape.{expression_of, maybe_expression_of, maybe_value_tree, simple_of, maybe_simple_of, statement_of, item_of, items_of}
-use Rattle.c_front.specs.Tree.{block, simply, statement, declare, more_items, no_items}
+use Rattle.c_front.specs.Shape.{expression_of, maybe_expression_of, maybe_value_tree, maybe_simple_of, statement_of, item_of, items_of}
+use Rattle.c_front.specs.Tree.{block, statement, declare, more_items, no_items}
 use Rattle.c_front.proofs.Shapes.{block-is as read-block-is}
 use Rattle.c_typed.specs.declared.tree.TypedStatement.{TypedStatement as Typed, Empty}
 use Rattle.c_statements.specs.declared.fault.TypeStop.{TypeStop}
 use Rattle.c_statements.specs.declared.fault.TypeStop.TheVariants.{NoMemory}
 use Rattle.c_statements.specs.Shape.{scopes_of}
 use Rattle.c_statements.specs.Names.{Scopes, environment_in, with_local, behind, behind_item}
-use Rattle.c_typed.specs.Shape.{typed_expression_of, statement_of as typed_of, statements_of}
-use Rattle.c_statements.specs.Statements.{FaultyMaybe, FaultyPart, FaultyFirst, FaultyLocal, FaultyStatement, FaultyItems}
+use Rattle.c_typed.specs.Shape.{statement_of as typed_of, statements_of}
+use Rattle.c_statements.specs.Statements.{FaultyMaybe, FaultyPart, FaultyLocal, FaultyStatement}
 use Rattle.c_typed.specs.Trees.{TypedStatement, more_statements, no_statements}
-use Rattle.c_statements.specs.Types.{TypesSimple, TypesFirst, TypesStatement, TypesItems, empty_typed, block_typed, if_then_typed, if_then_else_typed, while_loop_typed, for_loop_typed, break_typed, continue_typed, simply_typed, no_items_typed, statement_typed, declare_typed}
+use Rattle.c_statements.specs.Types.{TypesFirst, TypesStatement, TypesItems, empty_typed, block_typed, break_typed, continue_typed, simply_typed, no_items_typed, statement_typed, declare_typed}
 use Rattle.c_statements.specs.Uses.{Faulty}
-use Rattle.c_statements.proofs.Firsts.{Both, Tells, ok-at}
+use Rattle.c_statements.proofs.Firsts.{Both}
 use Rattle.c_statements.proofs.BlockItems.{NextItem, none-so-far, one-so-far, behind-so-far}
 use Rattle.c_typed.proofs.Shapes.{block-is}
-use Rattle.c_statements.proofs.Joins.{moved, behind-block, if-ok, tells-both-of, tells-left, tells-right, tells-alone, tells-two, tells-three}
+use Rattle.c_statements.proofs.Joins.{answers, answers-as, tells, moved, behind-block, if-ok, tells-both-of, tells-left, tells-right, tells-alone, tells-two, tells-three}
 use Rattle.c_statements.specs.Made.{IsIf, IsLoop, IsSequence}
 use Rattle.c_statements.proofs.WholeStatements.{if-then-ok, if-then-else-ok, while-ok, for-ok, tells-behind}
 use Rattle.c_statements.proofs.Weights.{weight, weight_all, weight-within}
@@ -32,99 +32,88 @@ pub block-returns-clause-scopes : goal.block-returns-clause-scopes
 block-returns-clause-scopes t c =
     λ n. behind-block c.args.program.now.text.items (scopes_of c.args.scopes.now) (scopes_of c.enter.new.self) (scopes_of c.items-typed.new.scopes) (scopes_of c.leave.new.self) (items_of c.args.all.now) c.in_ok-enter.ensures (c.items-typed.ensures.scopes (λ e. let f = sym c.in_ok-typed.was ∙ e in cc)) c.leave.ensures
 
-pub block-returns-clause-ok : goal.block-returns-clause-ok
-block-returns-clause-ok t c =
+pub block-returns-clause-typed : goal.block-returns-clause-typed
+block-returns-clause-typed t c =
     let Q : Scopes → Type 0 = λ s. TypesItems c.args.program.now.text.items s (items_of c.args.all.now) (statements_of c.in_ok-typed.field-0.items) in
     let P : TypedStatement → Type 0 = λ u. TypesStatement c.args.program.now.text.items (scopes_of c.args.scopes.now) (block (items_of c.args.all.now)) u in
-    subst P (sym (block-is c.in_ok-typed.field-0)) (block_typed (subst Q c.in_ok-enter.ensures c.in_ok-typed.ensures.ok))
+    record { ok = subst P (sym (block-is c.in_ok-typed.field-0)) (block_typed (subst Q c.in_ok-enter.ensures c.in_ok-typed.ensures.typed.ok)); none = search rules; err = tt }
 
-pub if_then-returns-clause-ok : goal.if_then-returns-clause-ok
-if_then-returns-clause-ok t c =
-    if-then-ok c.args.program.now.text.items (scopes_of c.args.scopes.now) (expression_of c.args.condition.now) (statement_of c.args.first.now) c.expression-condition.result c.statement-first.result c.if_else.result
-    c.expression-condition.ensures.ok c.statement-first.ensures.ok c.if_else.ensures.ok
-
-pub if_then-returns-clause-err : goal.if_then-returns-clause-err
-if_then-returns-clause-err t c =
+pub if_then-returns-clause-typed : goal.if_then-returns-clause-typed
+if_then-returns-clause-typed t c =
     let text = c.args.program.now.text.items in
     let sc = scopes_of c.args.scopes.now in
     let faults = FaultyStatement text c.args.gives c.args.in_loop sc (statement_of c.args.first.now) in
+    answers
+    (if-then-ok c.args.program.now.text.items (scopes_of c.args.scopes.now) (expression_of c.args.condition.now) (statement_of c.args.first.now) c.expression-condition.result c.statement-first.result c.if_else.result
+    c.expression-condition.ensures.ok c.statement-first.ensures.typed.ok c.if_else.ensures.ok)
     (tells-three (Faulty (environment_in text sc) (expression_of c.args.condition.now)) faults c.expression-condition.result c.statement-first.result (Ok Empty) IsIf c.if_else.result
-    (c.expression-condition.ensures.none, c.expression-condition.ensures.err) (tells-left faults c.statement-first.result Empty (c.statement-first.ensures.none, c.statement-first.ensures.err)) c.if_else.ensures.ok c.if_else.ensures.err).1
+    (tells c.expression-condition.ensures) (tells-left faults c.statement-first.result Empty (tells c.statement-first.ensures.typed)) c.if_else.ensures.ok c.if_else.ensures.err)
 
-pub while_loop-returns-clause-ok : goal.while_loop-returns-clause-ok
-while_loop-returns-clause-ok t c =
-    while-ok c.args.program.now.text.items (scopes_of c.args.scopes.now) (expression_of c.args.condition.now) (statement_of c.args.body.now) c.expression-condition.result c.statement-body.result c.loop_of.result
-    c.expression-condition.ensures.ok c.statement-body.ensures.ok c.loop_of.ensures.ok
-
-pub while_loop-returns-clause-err : goal.while_loop-returns-clause-err
-while_loop-returns-clause-err t c =
+pub while_loop-returns-clause-typed : goal.while_loop-returns-clause-typed
+while_loop-returns-clause-typed t c =
     let text = c.args.program.now.text.items in
     let sc = scopes_of c.args.scopes.now in
     let faults = FaultyStatement text c.args.gives true sc (statement_of c.args.body.now) in
+    answers
+    (while-ok c.args.program.now.text.items (scopes_of c.args.scopes.now) (expression_of c.args.condition.now) (statement_of c.args.body.now) c.expression-condition.result c.statement-body.result c.loop_of.result
+    c.expression-condition.ensures.ok c.statement-body.ensures.typed.ok c.loop_of.ensures.ok)
     (tells-three (Faulty (environment_in text sc) (expression_of c.args.condition.now)) faults c.expression-condition.result (Ok Empty) c.statement-body.result IsLoop c.loop_of.result
-    (c.expression-condition.ensures.none, c.expression-condition.ensures.err) (tells-right faults Empty c.statement-body.result (c.statement-body.ensures.none, c.statement-body.ensures.err)) c.loop_of.ensures.ok c.loop_of.ensures.err).1
+    (tells c.expression-condition.ensures) (tells-right faults Empty c.statement-body.result (tells c.statement-body.ensures.typed)) c.loop_of.ensures.ok c.loop_of.ensures.err)
 
-pub if_then_else-returns-clause-ok : goal.if_then_else-returns-clause-ok
-if_then_else-returns-clause-ok t c =
-    if-then-else-ok c.args.program.now.text.items (scopes_of c.args.scopes.now) (scopes_of c.statement-first.new.scopes) (expression_of c.args.condition.now) (statement_of c.args.first.now) (statement_of c.args.second.now)
-    c.expression-condition.result c.statement-first.result c.statement-second.result c.if_else.result
-    c.expression-condition.ensures.ok c.statement-first.ensures.ok c.statement-first.ensures.scopes c.statement-second.ensures.ok c.if_else.ensures.ok
-
-pub if_then_else-returns-clause-err : goal.if_then_else-returns-clause-err
-if_then_else-returns-clause-err t c =
+pub if_then_else-returns-clause-typed : goal.if_then_else-returns-clause-typed
+if_then_else-returns-clause-typed t c =
     let text = c.args.program.now.text.items in
     let sc = scopes_of c.args.scopes.now in
     let first = FaultyStatement text c.args.gives c.args.in_loop sc (statement_of c.args.first.now) in
     let second = FaultyStatement text c.args.gives c.args.in_loop (behind sc (statement_of c.args.first.now)) (statement_of c.args.second.now) in
     let both = tells-behind text c.args.gives c.args.in_loop sc (scopes_of c.statement-first.new.scopes) (statement_of c.args.first.now) (statement_of c.args.second.now) c.statement-first.result c.statement-second.result
-    (c.statement-first.ensures.none, c.statement-first.ensures.err) c.statement-first.ensures.scopes (c.statement-second.ensures.none, c.statement-second.ensures.err) in
+    (tells c.statement-first.ensures.typed) c.statement-first.ensures.scopes (tells c.statement-second.ensures.typed) in
+    answers
+    (if-then-else-ok c.args.program.now.text.items (scopes_of c.args.scopes.now) (scopes_of c.statement-first.new.scopes) (expression_of c.args.condition.now) (statement_of c.args.first.now) (statement_of c.args.second.now)
+    c.expression-condition.result c.statement-first.result c.statement-second.result c.if_else.result
+    c.expression-condition.ensures.ok c.statement-first.ensures.typed.ok c.statement-first.ensures.scopes c.statement-second.ensures.typed.ok c.if_else.ensures.ok)
     (tells-three (Faulty (environment_in text sc) (expression_of c.args.condition.now)) (Both first second) c.expression-condition.result c.statement-first.result c.statement-second.result IsIf c.if_else.result
-    (c.expression-condition.ensures.none, c.expression-condition.ensures.err) both c.if_else.ensures.ok c.if_else.ensures.err).1
+    (tells c.expression-condition.ensures) both c.if_else.ensures.ok c.if_else.ensures.err)
 
-pub for_loop-returns-clause-ok : goal.for_loop-returns-clause-ok
-for_loop-returns-clause-ok t c =
-    for-ok c.args.program.now.text.items (scopes_of c.args.scopes.now) (maybe_simple_of c.args.parts.now.first) (maybe_simple_of c.args.parts.now.last) (maybe_expression_of c.args.parts.now.test) (statement_of c.args.body.now)
-    c.part-first.result c.part-last.result c.statement-body.result c.loop_of.result c.sequence.result c.test-condition.result
-    c.part-first.ensures.ok c.test-condition.ensures.ok c.part-last.ensures.ok c.statement-body.ensures.ok c.loop_of.ensures.ok c.sequence.ensures.ok
-
-pub for_loop-returns-clause-err : goal.for_loop-returns-clause-err
-for_loop-returns-clause-err t c =
+pub for_loop-returns-clause-typed : goal.for_loop-returns-clause-typed
+for_loop-returns-clause-typed t c =
     let text = c.args.program.now.text.items in
     let scope = environment_in text (scopes_of c.args.scopes.now) in
     let test = FaultyMaybe scope (maybe_expression_of c.args.parts.now.test) in
     let last = FaultyPart scope (maybe_simple_of c.args.parts.now.last) in
     let body = FaultyStatement text c.args.gives true (scopes_of c.args.scopes.now) (statement_of c.args.body.now) in
-    let turns = tells-three test (Both last body) c.test-condition.result c.part-last.result c.statement-body.result IsLoop c.loop_of.result (c.test-condition.ensures.none, c.test-condition.ensures.err)
-    (tells-both-of last body c.part-last.result c.statement-body.result (c.part-last.ensures.none, c.part-last.ensures.err) (c.statement-body.ensures.none, c.statement-body.ensures.err)) c.loop_of.ensures.ok c.loop_of.ensures.err in
-    (tells-two (FaultyPart scope (maybe_simple_of c.args.parts.now.first)) (Both test (Both last body)) c.part-first.result c.loop_of.result IsSequence c.sequence.result (c.part-first.ensures.none, c.part-first.ensures.err) turns
-    c.sequence.ensures.ok c.sequence.ensures.err).1
+    let turns = tells-three test (Both last body) c.test-condition.result c.part-last.result c.statement-body.result IsLoop c.loop_of.result (tells c.test-condition.ensures)
+    (tells-both-of last body c.part-last.result c.statement-body.result (tells c.part-last.ensures) (tells c.statement-body.ensures.typed)) c.loop_of.ensures.ok c.loop_of.ensures.err in
+    answers
+    (for-ok c.args.program.now.text.items (scopes_of c.args.scopes.now) (maybe_simple_of c.args.parts.now.first) (maybe_simple_of c.args.parts.now.last) (maybe_expression_of c.args.parts.now.test) (statement_of c.args.body.now)
+    c.part-first.result c.part-last.result c.statement-body.result c.loop_of.result c.sequence.result c.test-condition.result
+    c.part-first.ensures.ok c.test-condition.ensures.ok c.part-last.ensures.ok c.statement-body.ensures.typed.ok c.loop_of.ensures.ok c.sequence.ensures.ok)
+    (tells-two (FaultyPart scope (maybe_simple_of c.args.parts.now.first)) (Both test (Both last body)) c.part-first.result c.loop_of.result IsSequence c.sequence.result (tells c.part-first.ensures) turns
+    c.sequence.ensures.ok c.sequence.ensures.err)
 
-pub item-returns-in-Declare-clause-ok : goal.item-returns-in-Declare-clause-ok
-item-returns-in-Declare-clause-ok t c =
+pub item-returns-in-Declare-clause-typed : goal.item-returns-in-Declare-clause-typed
+item-returns-in-Declare-clause-typed t c =
     let text = c.args.program.now.text.items in
     let sc = scopes_of c.args.scopes.now in
+    let faults = FaultyLocal text sc c.in-Declare.integer_type c.in-Declare.name (maybe_value_tree c.in-Declare.given) in
     let given = maybe_value_tree c.in-Declare.given in
-    rw c.in-Declare.is (if-ok (λ u. TypesFirst (environment_in text (with_local text sc c.in-Declare.integer_type c.in-Declare.name)) sc.locals given (typed_of u))
-    (λ u. TypesItems text sc (more_items (declare c.in-Declare.integer_type c.in-Declare.name given) no_items) (more_statements (typed_of u) no_statements)) c.declare.result (λ u h. declare_typed h no_items_typed) c.declare.ensures.ok)
+    rw c.in-Declare.is (answers (if-ok (λ u. TypesFirst (environment_in text (with_local text sc c.in-Declare.integer_type c.in-Declare.name)) sc.locals given (typed_of u))
+    (λ u. TypesItems text sc (more_items (declare c.in-Declare.integer_type c.in-Declare.name given) no_items) (more_statements (typed_of u) no_statements)) c.declare.result (λ u h. declare_typed h no_items_typed) c.declare.ensures.typed.ok) (tells-alone faults c.declare.result (tells c.declare.ensures.typed)))
 
-pub item-returns-in-Declare-clause-err : goal.item-returns-in-Declare-clause-err
-item-returns-in-Declare-clause-err t c =
-    let faults = FaultyLocal c.args.program.now.text.items (scopes_of c.args.scopes.now) c.in-Declare.integer_type c.in-Declare.name (maybe_value_tree c.in-Declare.given) in
-    rw c.in-Declare.is (tells-alone faults c.declare.result (c.declare.ensures.none, c.declare.ensures.err)).1
-
-pub item-returns-in-Statement-clause-ok : goal.item-returns-in-Statement-clause-ok
-item-returns-in-Statement-clause-ok t c =
+pub item-returns-in-Statement-clause-typed : goal.item-returns-in-Statement-clause-typed
+item-returns-in-Statement-clause-typed t c =
     let text = c.args.program.now.text.items in
     let sc = scopes_of c.args.scopes.now in
-    rw c.in-Statement.is (if-ok (λ u. TypesStatement text sc (statement_of c.in-Statement.s) (typed_of u))
-    (λ u. TypesItems text sc (more_items (statement (statement_of c.in-Statement.s)) no_items) (more_statements (typed_of u) no_statements)) c.statement.result (λ u h. statement_typed h no_items_typed) c.statement.ensures.ok)
+    let faults = FaultyStatement text c.args.gives c.args.in_loop sc (statement_of c.in-Statement.s) in
+    rw c.in-Statement.is (answers (if-ok (λ u. TypesStatement text sc (statement_of c.in-Statement.s) (typed_of u))
+    (λ u. TypesItems text sc (more_items (statement (statement_of c.in-Statement.s)) no_items) (more_statements (typed_of u) no_statements)) c.statement.result (λ u h. statement_typed h no_items_typed) c.statement.ensures.typed.ok) (tells-alone faults c.statement.result (tells c.statement.ensures.typed)))
 
 pub items-loop-one-init : goal.items-loop-one-init
 items-loop-one-init t c = record { so_far = none-so-far c.args.program.now.text.items c.args.gives c.args.in_loop (scopes_of c.args.scopes.now) c.new.result c.new.ensures.items; scopes = refl }
 
 pub items-loop-one-preserved : goal.items-loop-one-preserved
 items-loop-one-preserved t c =
-    let here : NextItem c.args.program.now.text.items c.args.gives c.args.in_loop (scopes_of c.loop-one.scopes) c.one-item.result c.item.result = record { ok = c.item.ensures.ok; none = c.item.ensures.none; err = c.item.ensures.err } in
+    let here : NextItem c.args.program.now.text.items c.args.gives c.args.in_loop (scopes_of c.loop-one.scopes) c.one-item.result c.item.result = c.item.ensures.typed in
     let Q : Scopes → Type 0 = λ s. NextItem c.args.program.now.text.items c.args.gives c.args.in_loop s c.one-item.result c.in_ok-next.next in
     let next = subst Q c.loop-one.invariant.scopes (moved (NextItem c.args.program.now.text.items c.args.gives c.args.in_loop (scopes_of c.loop-one.scopes) c.one-item.result) c.in_ok-next.next c.item.result c.in_ok-next.ensures.ok.0 here) in
     record {
@@ -141,41 +130,27 @@ statement-block-requires t c =
     let w : weight (statement_of c.args.s.now) ≡ weight_all (items_of c.deref.result.now) + 3 = ap weight e in
     (omega (arith, w), tt)
 
-pub statement-returns-in-Block-clause-ok : goal.statement-returns-in-Block-clause-ok
-statement-returns-in-Block-clause-ok t c =
+pub statement-returns-in-Block-clause-typed : goal.statement-returns-in-Block-clause-typed
+statement-returns-in-Block-clause-typed t c =
     let e : statement_of c.args.s.now ≡ block (items_of c.deref.result.now) = ap statement_of c.in-Block.is ∙ read-block-is c.in-Block.all ∙ ap (λ (xs : List Item). block (items_of xs)) (sym c.deref.ensures.value) in
-    rw e c.block.ensures.ok
-
-pub statement-returns-in-Block-clause-none : goal.statement-returns-in-Block-clause-none
-statement-returns-in-Block-clause-none t c =
-    let e : statement_of c.args.s.now ≡ block (items_of c.deref.result.now) = ap statement_of c.in-Block.is ∙ read-block-is c.in-Block.all ∙ ap (λ (xs : List Item). block (items_of xs)) (sym c.deref.ensures.value) in
-    rw e c.block.ensures.none
-
-pub statement-returns-in-Block-clause-err : goal.statement-returns-in-Block-clause-err
-statement-returns-in-Block-clause-err t c =
-    let e : statement_of c.args.s.now ≡ block (items_of c.deref.result.now) = ap statement_of c.in-Block.is ∙ read-block-is c.in-Block.all ∙ ap (λ (xs : List Item). block (items_of xs)) (sym c.deref.ensures.value) in
-    rw e c.block.ensures.err
+    rw e c.block.ensures.typed
 
 pub statement-returns-in-Block-clause-scopes : goal.statement-returns-in-Block-clause-scopes
 statement-returns-in-Block-clause-scopes t c =
     let e : statement_of c.args.s.now ≡ block (items_of c.deref.result.now) = ap statement_of c.in-Block.is ∙ read-block-is c.in-Block.all ∙ ap (λ (xs : List Item). block (items_of xs)) (sym c.deref.ensures.value) in
     rw e c.block.ensures.scopes
 
-pub statement-returns-in-Empty-clause-ok : goal.statement-returns-in-Empty-clause-ok
-statement-returns-in-Empty-clause-ok t c = rw c.in-Empty.is empty_typed
+pub statement-returns-in-Empty-clause-typed : goal.statement-returns-in-Empty-clause-typed
+statement-returns-in-Empty-clause-typed t c = rw c.in-Empty.is record { ok = empty_typed; none = search rules; err = tt }
 
-pub statement-returns-in_ok-jump-in-Break-clause-ok : goal.statement-returns-in_ok-jump-in-Break-clause-ok
-statement-returns-in_ok-jump-in-Break-clause-ok t c = rw c.in-Break.is break_typed
+pub statement-returns-in_ok-jump-in-Break-clause-typed : goal.statement-returns-in_ok-jump-in-Break-clause-typed
+statement-returns-in_ok-jump-in-Break-clause-typed t c = rw c.in-Break.is record { ok = break_typed; none = search rules; err = tt }
 
-pub statement-returns-in_ok-jump-in-Continue-clause-ok : goal.statement-returns-in_ok-jump-in-Continue-clause-ok
-statement-returns-in_ok-jump-in-Continue-clause-ok t c = rw c.in-Continue.is continue_typed
+pub statement-returns-in_ok-jump-in-Continue-clause-typed : goal.statement-returns-in_ok-jump-in-Continue-clause-typed
+statement-returns-in_ok-jump-in-Continue-clause-typed t c = rw c.in-Continue.is record { ok = continue_typed; none = search rules; err = tt }
 
-pub statement-returns-in-Return-clause-err : goal.statement-returns-in-Return-clause-err
-statement-returns-in-Return-clause-err t c = rw c.in-Return.is c.return_from.ensures.err
+pub statement-returns-in-Return-clause-typed : goal.statement-returns-in-Return-clause-typed
+statement-returns-in-Return-clause-typed t c = rw c.in-Return.is c.return_from.ensures
 
-pub statement-returns-in-Simply-clause-ok : goal.statement-returns-in-Simply-clause-ok
-statement-returns-in-Simply-clause-ok t c =
-    rw c.in-Simply.is (if-ok (λ u. TypesSimple (environment_in c.args.program.now.text.items (scopes_of c.args.scopes.now)) (simple_of c.in-Simply.inner) (typed_of u)) (λ u. TypesStatement c.args.program.now.text.items (scopes_of c.args.scopes.now) (simply (simple_of c.in-Simply.inner)) (typed_of u)) c.simple.result (λ u h. simply_typed h) c.simple.ensures.ok)
-
-pub statement-returns-in-Simply-clause-err : goal.statement-returns-in-Simply-clause-err
-statement-returns-in-Simply-clause-err t c = rw c.in-Simply.is c.simple.ensures.err
+pub statement-returns-in-Simply-clause-typed : goal.statement-returns-in-Simply-clause-typed
+statement-returns-in-Simply-clause-typed t c = rw c.in-Simply.is (answers-as (λ u h. simply_typed h) c.simple.ensures)

@@ -7,8 +7,8 @@ use Rattle.c_statements.specs.Statements.{FaultyFirst, FaultyDeclarator, FaultyL
 use Rattle.c_statements.proofs.Firsts.{Tells, both-stop}
 use Rattle.c_statements.proofs.statement.declare.Goals as goal
 
-pub returns-in_err-first-clause-err : goal.returns-in_err-first-clause-err
-returns-in_err-first-clause-err c =
+pub returns-in_err-first-clause-typed : goal.returns-in_err-first-clause-typed
+returns-in_err-first-clause-typed c =
     let text = c.args.program.now.text.items in
     let before = scopes_of c.args.scopes.now in
     let Q : Scopes → Type 0 = λ y. Tells (FaultyFirst (environment_in text y) (maybe_value_tree c.args.given.now)) c.first_value.result in
@@ -16,4 +16,4 @@ returns-in_err-first-clause-err c =
     let h : StopsAtFirst (FaultyLocal text before c.args.integer_type c.args.name (maybe_value_tree c.args.given.now)) c.in_err-first.field-0.0 =
     both-stop (FaultyDeclarator text before c.args.name) (FaultyFirst (environment_in text (with_local text before c.args.integer_type c.args.name)) (maybe_value_tree c.args.given.now)) c.declarator-refused.result c.first_value.result _
     c.declarator-refused.ensures.none c.declarator-refused.ensures.err u.0 u.1 c.in_err-first.ensures.err
-    in search rules
+    in record { ok = search rules; none = search rules; err = search rules }

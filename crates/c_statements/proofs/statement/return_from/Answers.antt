@@ -9,12 +9,19 @@ use Rattle.c_statements.specs.Types.{return_typed}
 use Rattle.c_statements.proofs.Firsts.{both-stop, ok-at}
 use Rattle.c_statements.proofs.statement.return_from.Goals as goal
 
-pub returns-in_err-value-clause-err : goal.returns-in_err-value-clause-err
-returns-in_err-value-clause-err c =
-    let h : StopsAtFirst (FaultyStatement c.args.program.now.text.items c.args.gives false (scopes_of c.args.scopes.now) (return_at c.args.at (maybe_expression_of c.args.given.now))) c.in_err-value.field-0.0 =
+pub returns-in_err-value : goal.returns-in_err-value
+returns-in_err-value c = record {
+      ok = search rules;
+      none = search rules;
+      err = let h : StopsAtFirst (FaultyStatement c.args.program.now.text.items c.args.gives false (scopes_of c.args.scopes.now) (return_at c.args.at (maybe_expression_of c.args.given.now))) c.in_err-value.field-0.0 =
     both-stop (FaultyReturn c.args.gives (maybe_expression_of c.args.given.now) c.args.at) (FaultyMaybe (environment_in c.args.program.now.text.items (scopes_of c.args.scopes.now)) (maybe_expression_of c.args.given.now)) c.fits.result c.returned-value.result _
     c.fits.ensures.none c.fits.ensures.err c.returned-value.ensures.none c.returned-value.ensures.err c.in_err-value.ensures.err
-    in search rules
+    in search rules;
+    }
 
-pub returns-clause-ok : goal.returns-clause-ok
-returns-clause-ok c = return_typed (ok-at _ _ _ c.in_ok-value.ensures.ok.1 c.returned-value.ensures.ok)
+pub returns : goal.returns
+returns c = record {
+      ok = return_typed (ok-at _ _ _ c.in_ok-value.ensures.ok.1 c.returned-value.ensures.ok);
+      none = search rules;
+      err = tt;
+    }
