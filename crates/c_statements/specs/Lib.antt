@@ -6,3 +6,4 @@ pub mod Statements
 pub mod Types
 pub mod Shape
 pub mod Made
+pub mod Contexts

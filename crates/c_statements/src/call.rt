@@ -41,10 +41,8 @@ pub fn callee(
     count: usize,
     wanted: bool,
 ) -> Result<Target, TypeStop>
-    ensures {
-        Answers (IsTarget (environment_of program.now scopes.now name))
-            (Misused (environment_of program.now scopes.now) name (as_call count wanted)) result
-    }
+    ensures { Answers (IsTarget (environment_of program.now scopes.now name))
+        (Misused (environment_of program.now scopes.now) name (as_call count wanted)) result }
 {
     let Some(named) = scopes.find(program, name) else {
         return Err(misuse(TypeFaultKind::Undeclared, name));

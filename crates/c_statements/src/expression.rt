@@ -33,10 +33,8 @@ fn variable(
     scopes: &Scopes,
     name: Identifier,
 ) -> Result<TypedExpression, TypeStop>
-    ensures {
-        Answers (λ t. Types (environment_of program.now scopes.now) (Tree.name name) (typed_expression_of t))
-            (Misused (environment_of program.now scopes.now) name as_value) result
-    }
+    ensures { Answers (λ t. Types (environment_of program.now scopes.now) (Tree.name name) (typed_expression_of t))
+        (Misused (environment_of program.now scopes.now) name as_value) result }
 {
     let Some(named) = scopes.find(program, name) else {
         return Err(misuse(TypeFaultKind::Undeclared, name));
@@ -54,10 +52,8 @@ pub fn array(
     scopes: &Scopes,
     name: Identifier,
 ) -> Result<(usize, IntegerType), TypeStop>
-    ensures {
-        Answers (λ r. environment_of program.now scopes.now name ≡ Some (Array r.0 r.1))
-            (Misused (environment_of program.now scopes.now) name with_index) result
-    }
+    ensures { Answers (λ r. environment_of program.now scopes.now name ≡ Some (Array r.0 r.1))
+        (Misused (environment_of program.now scopes.now) name with_index) result }
 {
     let Some(named) = scopes.find(program, name) else {
         return Err(misuse(TypeFaultKind::Undeclared, name));
@@ -75,10 +71,8 @@ pub fn expression(
     scopes: &Scopes,
     e: &Expression,
 ) -> Result<TypedExpression, TypeStop>
-    ensures {
-        Answers (λ t. Types (environment_of program.now scopes.now) (expression_of e.now) (typed_expression_of t))
-            (Faulty (environment_of program.now scopes.now) (expression_of e.now)) result
-    }
+    ensures { Answers (λ t. Types (environment_of program.now scopes.now) (expression_of e.now) (typed_expression_of t))
+        (Faulty (environment_of program.now scopes.now) (expression_of e.now)) result }
 {
     match e {
         Expression::Constant(literal) => Ok(TypedExpression::Constant(*literal)),

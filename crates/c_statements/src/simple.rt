@@ -38,10 +38,8 @@ pub fn arguments(
     scopes: &Scopes,
     all: &[Expression],
 ) -> Result<Vec<TypedExpression>, TypeStop>
-    ensures {
-        Answers (λ v. TypesAll (environment_of program.now scopes.now) (expressions_of all.now) (typed_expressions_of v.items))
-            (FaultyAll (environment_of program.now scopes.now) (expressions_of all.now)) result
-    }
+    ensures { Answers (λ v. TypesAll (environment_of program.now scopes.now) (expressions_of all.now) (typed_expressions_of v.items))
+        (FaultyAll (environment_of program.now scopes.now) (expressions_of all.now)) result }
 {
     let mut typed = Ok(Vec::new(alloc));
     for one in all {
@@ -58,10 +56,8 @@ pub fn call_to(
     to: Option<Destination>,
     called: &Call,
 ) -> Result<TypedStatement, TypeStop>
-    ensures {
-        Answers (λ s. TypesCall (environment_of program.now scopes.now) to (call_of called.now) (statement_of s))
-            (FaultyCall (environment_of program.now scopes.now) (is_some to) (call_of called.now)) result
-    }
+    ensures { Answers (λ s. TypesCall (environment_of program.now scopes.now) to (call_of called.now) (statement_of s))
+        (FaultyCall (environment_of program.now scopes.now) (is_some to) (call_of called.now)) result }
 {
     let typed = arguments(alloc, program, scopes, &called.arguments);
     let target = callee(
@@ -83,10 +79,8 @@ pub fn call_to(
 
 /// Where the value of the variable of a name is kept.
 pub fn place(program: &Program, scopes: &Scopes, name: Identifier) -> Result<Destination, TypeStop>
-    ensures {
-        Answers (TypesPlace (environment_of program.now scopes.now) name)
-            (Misused (environment_of program.now scopes.now) name as_value) result
-    }
+    ensures { Answers (TypesPlace (environment_of program.now scopes.now) name)
+        (Misused (environment_of program.now scopes.now) name as_value) result }
 {
     let Some(named) = scopes.find(program, name) else {
         return Err(misuse(TypeFaultKind::Undeclared, name));
@@ -106,10 +100,8 @@ pub fn value(
     to: Destination,
     given: &Value,
 ) -> Result<TypedStatement, TypeStop>
-    ensures {
-        Answers (λ s. TypesValue (environment_of program.now scopes.now) to (value_tree given.now) (statement_of s))
-            (FaultyValue (environment_of program.now scopes.now) (value_tree given.now)) result
-    }
+    ensures { Answers (λ s. TypesValue (environment_of program.now scopes.now) to (value_tree given.now) (statement_of s))
+        (FaultyValue (environment_of program.now scopes.now) (value_tree given.now)) result }
 {
     match given {
         Value::Plain(e) => {
@@ -127,10 +119,8 @@ pub fn simple(
     scopes: &Scopes,
     s: &Simple,
 ) -> Result<TypedStatement, TypeStop>
-    ensures {
-        Answers (λ t. TypesSimple (environment_of program.now scopes.now) (simple_of s.now) (statement_of t))
-            (FaultySimple (environment_of program.now scopes.now) (simple_of s.now)) result
-    }
+    ensures { Answers (λ t. TypesSimple (environment_of program.now scopes.now) (simple_of s.now) (statement_of t))
+        (FaultySimple (environment_of program.now scopes.now) (simple_of s.now)) result }
 {
     match s {
         Simple::Assign(name, given) => {
@@ -160,10 +150,8 @@ pub fn part(
     scopes: &Scopes,
     maybe: &Option<Simple>,
 ) -> Result<TypedStatement, TypeStop>
-    ensures {
-        Answers (λ t. TypesPart (environment_of program.now scopes.now) (maybe_simple_of maybe.now) (statement_of t))
-            (FaultyPart (environment_of program.now scopes.now) (maybe_simple_of maybe.now)) result
-    }
+    ensures { Answers (λ t. TypesPart (environment_of program.now scopes.now) (maybe_simple_of maybe.now) (statement_of t))
+        (FaultyPart (environment_of program.now scopes.now) (maybe_simple_of maybe.now)) result }
 {
     match maybe {
         Some(s) => simple(alloc, program, scopes, s),
@@ -178,10 +166,8 @@ pub fn test(
     scopes: &Scopes,
     maybe: &Option<Expression>,
 ) -> Result<TypedExpression, TypeStop>
-    ensures {
-        Answers (λ t. TypesTest (environment_of program.now scopes.now) (maybe_expression_of maybe.now) (typed_expression_of t))
-            (FaultyMaybe (environment_of program.now scopes.now) (maybe_expression_of maybe.now)) result
-    }
+    ensures { Answers (λ t. TypesTest (environment_of program.now scopes.now) (maybe_expression_of maybe.now) (typed_expression_of t))
+        (FaultyMaybe (environment_of program.now scopes.now) (maybe_expression_of maybe.now)) result }
 {
     match maybe {
         Some(e) => expression(alloc, program, scopes, e),
@@ -200,10 +186,8 @@ pub fn first_value(
     number: usize,
     maybe: &Option<Value>,
 ) -> Result<TypedStatement, TypeStop>
-    ensures {
-        Answers (λ t. TypesFirst (environment_of program.now scopes.now) number (maybe_value_tree maybe.now) (statement_of t))
-            (FaultyFirst (environment_of program.now scopes.now) (maybe_value_tree maybe.now)) result
-    }
+    ensures { Answers (λ t. TypesFirst (environment_of program.now scopes.now) number (maybe_value_tree maybe.now) (statement_of t))
+        (FaultyFirst (environment_of program.now scopes.now) (maybe_value_tree maybe.now)) result }
 {
     match maybe {
         Some(given) => value(alloc, program, scopes, Destination::Local(number), given),

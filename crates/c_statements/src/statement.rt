@@ -4,7 +4,8 @@ ghost use Rattle.c_front.specs.Tree as Tree;
 ghost use Rattle.c_front.specs.Tree.{block, if_then, if_then_else, while_loop, for_loop, return_at, more_items, no_items};
 ghost use Rattle.c_statements.specs.declared.fault.TypeStop.TheVariants.{NoMemory};
 ghost use Rattle.c_statements.specs.Faults.{Answers, HasNone, StopsAtFirst};
-ghost use Rattle.c_statements.specs.Shape.{scopes_of, environment_of};
+ghost use Rattle.c_statements.specs.Shape.{environment_of, scopes_of};
+ghost use Rattle.c_statements.specs.Contexts.{AnswersStatement, text_of};
 ghost use Rattle.c_statements.specs.Names as Names;
 ghost use Rattle.c_statements.specs.Names.{environment_in, with_local, behind, behind_item, behind_items};
 ghost use Rattle.c_typed.specs.Shape.{maybe_typed_expression_of, statement_of as typed_of, statements_of};
@@ -22,6 +23,15 @@ use c_front::{Expression, ForParts, Item, Program, Statement, Value};
 use c_tokens::{Identifier, IntegerType};
 use c_typed::{MAX_LOCALS, TypedExpression, TypedStatement};
 use std::alloc::{AllocError, AllocFailed, Global};
+
+/// Where statements stand: in the function of a program that gives a result or not, in a loop or not.
+#[derive(Clone, Copy)]
+pub struct Context<'a> {
+    pub alloc: Global,
+    pub program: &'a Program,
+    pub gives: bool,
+    pub in_loop: bool,
+}
 
 /// Whether a jump stands in a loop; if not it is a fault, at its keyword.
 fn jump(in_loop: bool, at: usize) -> Result<(), TypeStop>
@@ -54,10 +64,8 @@ fn returned(
     scopes: &Scopes,
     given: &Option<Expression>,
 ) -> Result<Option<TypedExpression>, TypeStop>
-    ensures {
-        Answers (λ t. TypesMaybe (environment_of program.now scopes.now) (maybe_expression_of given.now) (maybe_typed_expression_of t))
-            (FaultyMaybe (environment_of program.now scopes.now) (maybe_expression_of given.now)) result
-    }
+    ensures { Answers (λ t. TypesMaybe (environment_of program.now scopes.now) (maybe_expression_of given.now) (maybe_typed_expression_of t))
+        (FaultyMaybe (environment_of program.now scopes.now) (maybe_expression_of given.now)) result }
 {
     match given {
         Some(e) => {
@@ -85,63 +93,53 @@ fn declarator(program: &Program, scopes: &Scopes, name: Identifier) -> Result<()
 
 /// A `return`, and whether it fits its function.
 fn return_from(
-    alloc: Global,
-    program: &Program,
+    context: &Context,
     scopes: &Scopes,
-    gives: bool,
     at: usize,
     given: &Option<Expression>,
 ) -> Result<TypedStatement, TypeStop>
-    ensures {
-        Answers (λ t. TypesStatement program.now.text.items (scopes_of scopes.now) (return_at at (maybe_expression_of given.now)) (typed_of t))
-            (FaultyStatement program.now.text.items gives false (scopes_of scopes.now) (return_at at (maybe_expression_of given.now))) result
-    }
+    ensures { Answers (λ t. TypesStatement (text_of context.now) (scopes_of scopes.now) (return_at at (maybe_expression_of given.now)) (typed_of t))
+        (FaultyStatement (text_of context.now) context.now.gives false (scopes_of scopes.now) (return_at at (maybe_expression_of given.now))) result }
 {
-    let value = returned(alloc, program, scopes, given);
-    let (_, value) = both(fits(gives, given, at), value)?;
+    let value = returned(context.alloc, context.program, scopes, given);
+    let (_, value) = both(fits(context.gives, given, at), value)?;
     Ok(TypedStatement::Return(value))
 }
 
 /// A declaration of a local, which is in sight from its name on, in its own first value too.
 fn declare<'a>(
-    alloc: Global,
-    program: &'a Program,
+    context: &Context<'a>,
     scopes: &mut Scopes<'a>,
     integer_type: IntegerType,
     name: Identifier,
     given: &Option<Value>,
 ) -> Result<TypedStatement, TypeStop>
-    ensures typed {
-        Answers (λ t. TypesFirst (environment_in program.now.text.items (with_local program.now.text.items (scopes_of scopes.old) integer_type name)) (scopes_of scopes.old).locals (maybe_value_tree given.now) (typed_of t))
-            (FaultyLocal program.now.text.items (scopes_of scopes.old) integer_type name (maybe_value_tree given.now)) result
-    }
-    ensures scopes { (result ≡ Err NoMemory → ⊥) → scopes_of scopes.new ≡ with_local program.now.text.items (scopes_of scopes.old) integer_type name }
+    ensures typed { Answers (λ t. TypesFirst (environment_in (text_of context.now) (with_local (text_of context.now) (scopes_of scopes.old) integer_type name)) (scopes_of scopes.old).locals (maybe_value_tree given.now) (typed_of t))
+        (FaultyLocal (text_of context.now) (scopes_of scopes.old) integer_type name (maybe_value_tree given.now)) result }
+    ensures scopes { (result ≡ Err NoMemory → ⊥) → scopes_of scopes.new ≡ with_local (text_of context.now) (scopes_of scopes.old) integer_type name }
 {
-    let refused = declarator(program, scopes, name);
+    let refused = declarator(context.program, scopes, name);
     let number = scopes.locals();
-    scopes.declare_local(program, integer_type, name)?;
-    let (_, first) = both(refused, first_value(alloc, program, scopes, number, given))?;
+    scopes.declare_local(context.program, integer_type, name)?;
+    let (_, first) = both(
+        refused,
+        first_value(context.alloc, context.program, scopes, number, given),
+    )?;
     Ok(first)
 }
 
 /// A block: what it declares is out of sight behind it.
 #[cycle(statements)]
 fn block<'a>(
-    alloc: Global,
-    program: &'a Program,
+    context: &Context<'a>,
     scopes: &mut Scopes<'a>,
-    gives: bool,
-    in_loop: bool,
     all: &[Item],
 ) -> Result<TypedStatement, TypeStop>
-    ensures typed {
-        Answers (λ t. TypesStatement program.now.text.items (scopes_of scopes.old) (block (items_of all.now)) (typed_of t))
-            (FaultyStatement program.now.text.items gives in_loop (scopes_of scopes.old) (block (items_of all.now))) result
-    }
+    ensures typed { AnswersStatement context.now (scopes_of scopes.old) (block (items_of all.now)) result }
     ensures scopes { (result ≡ Err NoMemory → ⊥) → scopes_of scopes.new ≡ behind (scopes_of scopes.old) (block (items_of all.now)) }
 {
-    scopes.enter(alloc)?;
-    let typed = items(alloc, program, scopes, gives, in_loop, all);
+    scopes.enter(context.alloc)?;
+    let typed = items(context, scopes, all);
     scopes.leave();
     Ok(TypedStatement::Block(typed?))
 }
@@ -149,182 +147,148 @@ fn block<'a>(
 /// An `if` without `else`.
 #[cycle(statements)]
 fn if_then<'a>(
-    alloc: Global,
-    program: &'a Program,
+    context: &Context<'a>,
     scopes: &mut Scopes<'a>,
-    gives: bool,
-    in_loop: bool,
     condition: &Expression,
     first: &Statement,
 ) -> Result<TypedStatement, TypeStop>
-    ensures typed {
-        Answers (λ t. TypesStatement program.now.text.items (scopes_of scopes.old) (if_then (expression_of condition.now) (statement_of first.now)) (typed_of t))
-            (FaultyStatement program.now.text.items gives in_loop (scopes_of scopes.old) (if_then (expression_of condition.now) (statement_of first.now))) result
-    }
+    ensures typed { AnswersStatement context.now (scopes_of scopes.old) (if_then (expression_of condition.now) (statement_of first.now)) result }
     ensures scopes { (result ≡ Err NoMemory → ⊥) → scopes_of scopes.new ≡ behind (scopes_of scopes.old) (if_then (expression_of condition.now) (statement_of first.now)) }
 {
-    let condition = expression(alloc, program, scopes, condition);
-    let first = statement(alloc, program, scopes, gives, in_loop, first);
-    if_else(alloc, condition, first, Ok(TypedStatement::Empty))
+    let condition = expression(context.alloc, context.program, scopes, condition);
+    let first = statement(context, scopes, first);
+    if_else(context.alloc, condition, first, Ok(TypedStatement::Empty))
 }
 
 /// An `if` with `else`.
 #[cycle(statements)]
 fn if_then_else<'a>(
-    alloc: Global,
-    program: &'a Program,
+    context: &Context<'a>,
     scopes: &mut Scopes<'a>,
-    gives: bool,
-    in_loop: bool,
     condition: &Expression,
     first: &Statement,
     second: &Statement,
 ) -> Result<TypedStatement, TypeStop>
-    ensures typed {
-        Answers (λ t. TypesStatement program.now.text.items (scopes_of scopes.old) (if_then_else (expression_of condition.now) (statement_of first.now) (statement_of second.now)) (typed_of t))
-            (FaultyStatement program.now.text.items gives in_loop (scopes_of scopes.old) (if_then_else (expression_of condition.now) (statement_of first.now) (statement_of second.now))) result
-    }
+    ensures typed { AnswersStatement context.now (scopes_of scopes.old) (if_then_else (expression_of condition.now) (statement_of first.now) (statement_of second.now)) result }
     ensures scopes { (result ≡ Err NoMemory → ⊥) → scopes_of scopes.new ≡ behind (scopes_of scopes.old) (if_then_else (expression_of condition.now) (statement_of first.now) (statement_of second.now)) }
 {
-    let condition = expression(alloc, program, scopes, condition);
-    let first = statement(alloc, program, scopes, gives, in_loop, first);
-    let second = statement(alloc, program, scopes, gives, in_loop, second);
-    if_else(alloc, condition, first, second)
+    let condition = expression(context.alloc, context.program, scopes, condition);
+    let first = statement(context, scopes, first);
+    let second = statement(context, scopes, second);
+    if_else(context.alloc, condition, first, second)
 }
 
 /// A `while`.
 #[cycle(statements)]
 fn while_loop<'a>(
-    alloc: Global,
-    program: &'a Program,
+    context: &Context<'a>,
     scopes: &mut Scopes<'a>,
-    gives: bool,
-    in_loop: bool,
     condition: &Expression,
     body: &Statement,
 ) -> Result<TypedStatement, TypeStop>
-    ensures typed {
-        Answers (λ t. TypesStatement program.now.text.items (scopes_of scopes.old) (while_loop (expression_of condition.now) (statement_of body.now)) (typed_of t))
-            (FaultyStatement program.now.text.items gives in_loop (scopes_of scopes.old) (while_loop (expression_of condition.now) (statement_of body.now))) result
-    }
+    ensures typed { AnswersStatement context.now (scopes_of scopes.old) (while_loop (expression_of condition.now) (statement_of body.now)) result }
     ensures scopes { (result ≡ Err NoMemory → ⊥) → scopes_of scopes.new ≡ behind (scopes_of scopes.old) (while_loop (expression_of condition.now) (statement_of body.now)) }
 {
-    let condition = expression(alloc, program, scopes, condition);
-    let body = statement(alloc, program, scopes, gives, true, body);
-    loop_of(alloc, condition, Ok(TypedStatement::Empty), body)
+    let inside = Context {
+        in_loop: true,
+        ..*context
+    };
+    let condition = expression(context.alloc, context.program, scopes, condition);
+    let body = statement(&inside, scopes, body);
+    loop_of(context.alloc, condition, Ok(TypedStatement::Empty), body)
 }
 
 /// A `for`: the block of its first part and the loop.
 #[cycle(statements)]
 fn for_loop<'a>(
-    alloc: Global,
-    program: &'a Program,
+    context: &Context<'a>,
     scopes: &mut Scopes<'a>,
-    gives: bool,
-    in_loop: bool,
     parts: &ForParts,
     body: &Statement,
 ) -> Result<TypedStatement, TypeStop>
-    ensures typed {
-        Answers (λ t. TypesStatement program.now.text.items (scopes_of scopes.old) (for_loop (maybe_simple_of parts.now.first) (maybe_expression_of parts.now.test) (maybe_simple_of parts.now.last) (statement_of body.now)) (typed_of t))
-            (FaultyStatement program.now.text.items gives in_loop (scopes_of scopes.old) (for_loop (maybe_simple_of parts.now.first) (maybe_expression_of parts.now.test) (maybe_simple_of parts.now.last) (statement_of body.now))) result
-    }
+    ensures typed { AnswersStatement context.now (scopes_of scopes.old) (for_loop (maybe_simple_of parts.now.first) (maybe_expression_of parts.now.test) (maybe_simple_of parts.now.last) (statement_of body.now)) result }
     ensures scopes { (result ≡ Err NoMemory → ⊥) → scopes_of scopes.new ≡ behind (scopes_of scopes.old) (for_loop (maybe_simple_of parts.now.first) (maybe_expression_of parts.now.test) (maybe_simple_of parts.now.last) (statement_of body.now)) }
 {
-    let first = part(alloc, program, scopes, &parts.first);
-    let condition = test(alloc, program, scopes, &parts.test);
-    let last = part(alloc, program, scopes, &parts.last);
-    let body = statement(alloc, program, scopes, gives, true, body);
-    sequence(alloc, first, loop_of(alloc, condition, last, body))
+    let inside = Context {
+        in_loop: true,
+        ..*context
+    };
+    let first = part(context.alloc, context.program, scopes, &parts.first);
+    let condition = test(context.alloc, context.program, scopes, &parts.test);
+    let last = part(context.alloc, context.program, scopes, &parts.last);
+    let body = statement(&inside, scopes, body);
+    sequence(
+        context.alloc,
+        first,
+        loop_of(context.alloc, condition, last, body),
+    )
 }
 
 /// The typed tree of a statement in a function that gives a result or not, in a loop or not, or its first fault.
 #[cycle(statements)]
 pub fn statement<'a>(
-    alloc: Global,
-    program: &'a Program,
+    context: &Context<'a>,
     scopes: &mut Scopes<'a>,
-    gives: bool,
-    in_loop: bool,
     s: &Statement,
 ) -> Result<TypedStatement, TypeStop>
-    ensures typed {
-        Answers (λ t. TypesStatement program.now.text.items (scopes_of scopes.old) (statement_of s.now) (typed_of t))
-            (FaultyStatement program.now.text.items gives in_loop (scopes_of scopes.old) (statement_of s.now)) result
-    }
+    ensures typed { AnswersStatement context.now (scopes_of scopes.old) (statement_of s.now) result }
     ensures scopes { (result ≡ Err NoMemory → ⊥) → scopes_of scopes.new ≡ behind (scopes_of scopes.old) (statement_of s.now) }
 {
     match s {
         Statement::Empty => Ok(TypedStatement::Empty),
-        Statement::Block(all) => block(alloc, program, scopes, gives, in_loop, all),
-        Statement::If(condition, first) => {
-            if_then(alloc, program, scopes, gives, in_loop, condition, first)
-        }
+        Statement::Block(all) => block(context, scopes, all),
+        Statement::If(condition, first) => { if_then(context, scopes, condition, first) }
         Statement::IfElse(condition, first, second) => if_then_else(
-            alloc, program, scopes, gives, in_loop, condition, first, second,
+            context, scopes, condition, first, second,
         ),
-        Statement::While(condition, body) => {
-            while_loop(alloc, program, scopes, gives, in_loop, condition, body)
-        }
-        Statement::For(parts, body) => for_loop(
-            alloc, program, scopes, gives, in_loop, parts, body,
-        ),
+        Statement::While(condition, body) => { while_loop(context, scopes, condition, body) }
+        Statement::For(parts, body) => for_loop(context, scopes, parts, body),
         Statement::Break(at) => {
-            jump(in_loop, *at)?;
+            jump(context.in_loop, *at)?;
             Ok(TypedStatement::Break)
         }
         Statement::Continue(at) => {
-            jump(in_loop, *at)?;
+            jump(context.in_loop, *at)?;
             Ok(TypedStatement::Continue)
         }
-        Statement::Return(at, given) => return_from(alloc, program, scopes, gives, *at, given),
-        Statement::Simply(inner) => simple(alloc, program, scopes, inner),
+        Statement::Return(at, given) => return_from(context, scopes, *at, given),
+        Statement::Simply(inner) => simple(context.alloc, context.program, scopes, inner),
     }
 }
 
 /// A declaration of a local, which is in sight from its name on, or a statement.
 #[cycle(statements)]
 fn item<'a>(
-    alloc: Global,
-    program: &'a Program,
+    context: &Context<'a>,
     scopes: &mut Scopes<'a>,
-    gives: bool,
-    in_loop: bool,
     one: &Item,
 ) -> Result<TypedStatement, TypeStop>
-    ensures typed {
-        Answers (λ t. TypesItems program.now.text.items (scopes_of scopes.old) (more_items (item_of one.now) no_items) (more_statements (typed_of t) no_statements))
-            (FaultyItems program.now.text.items gives in_loop (scopes_of scopes.old) (more_items (item_of one.now) no_items)) result
-    }
-    ensures scopes { (result ≡ Err NoMemory → ⊥) → scopes_of scopes.new ≡ behind_item program.now.text.items (scopes_of scopes.old) (item_of one.now) }
+    ensures typed { Answers (λ t. TypesItems (text_of context.now) (scopes_of scopes.old) (more_items (item_of one.now) no_items) (more_statements (typed_of t) no_statements))
+        (FaultyItems (text_of context.now) context.now.gives context.now.in_loop (scopes_of scopes.old) (more_items (item_of one.now) no_items)) result }
+    ensures scopes { (result ≡ Err NoMemory → ⊥) → scopes_of scopes.new ≡ behind_item (text_of context.now) (scopes_of scopes.old) (item_of one.now) }
 {
     match one {
         Item::Declare(integer_type, name, given) => {
-            declare(alloc, program, scopes, *integer_type, *name, given)
+            declare(context, scopes, *integer_type, *name, given)
         }
-        Item::Statement(s) => statement(alloc, program, scopes, gives, in_loop, s),
+        Item::Statement(s) => statement(context, scopes, s),
     }
 }
 
 /// The typed trees of the items of a block or of a function's body, in order, or their first fault.
 #[cycle(statements)]
 pub fn items<'a>(
-    alloc: Global,
-    program: &'a Program,
+    context: &Context<'a>,
     scopes: &mut Scopes<'a>,
-    gives: bool,
-    in_loop: bool,
     all: &[Item],
 ) -> Result<Vec<TypedStatement>, TypeStop>
-    ensures typed {
-        Answers (λ v. TypesItems program.now.text.items (scopes_of scopes.old) (items_of all.now) (statements_of v.items))
-            (FaultyItems program.now.text.items gives in_loop (scopes_of scopes.old) (items_of all.now)) result
-    }
-    ensures scopes { (result ≡ Err NoMemory → ⊥) → scopes_of scopes.new ≡ behind_items program.now.text.items (scopes_of scopes.old) (items_of all.now) }
+    ensures typed { Answers (λ v. TypesItems (text_of context.now) (scopes_of scopes.old) (items_of all.now) (statements_of v.items))
+        (FaultyItems (text_of context.now) context.now.gives context.now.in_loop (scopes_of scopes.old) (items_of all.now)) result }
+    ensures scopes { (result ≡ Err NoMemory → ⊥) → scopes_of scopes.new ≡ behind_items (text_of context.now) (scopes_of scopes.old) (items_of all.now) }
 {
-    let mut typed = Ok(Vec::new(alloc));
+    let mut typed = Ok(Vec::new(context.alloc));
     for one in all {
-        let next = lasting(item(alloc, program, scopes, gives, in_loop, one))?;
+        let next = lasting(item(context, scopes, one))?;
         typed = with_one(typed, next);
     }
     typed

@@ -13,12 +13,11 @@ use Rattle.c_statements.specs.declared.fault.TypeStop.TheVariants.{NoMemory}
 use Rattle.c_statements.specs.declared.names.Named.{Named}
 use Rattle.c_typed.specs.declared.tree.Function as OneFunction
 use Rattle.c_typed.specs.declared.tree.Global as OneGlobal
-use Rattle.c_statements.specs.Faults.{Faults, HasNone, StopsAtFirst, StopsBoth}
+use Rattle.c_statements.specs.Faults.{Answers, Faults, HasNone, StopsAtFirst, StopsBoth}
 use Rattle.c_statements.specs.Names.{Bindings, Scopes, with_declared}
 use Rattle.c_typed.specs.Shape.{function_of, functions_of}
 use Rattle.c_typed.specs.Trees.{TypedFunction}
 use Rattle.c_statements.proofs.Firsts.{Both, both-none, both-stop, ok-at, same-stop}
-use Rattle.c_statements.proofs.Joined.{Answered}
 use Rattle.c_types.specs.declared.program.Declared.{Declared}
 use Rattle.c_types.specs.declared.program.Parts.{Parts}
 use Rattle.c_types.specs.Files.{AreParts, AreTyped, IsFunction, IsWith, declared_of}
@@ -100,11 +99,11 @@ typed-append (more_declared l rest) h = more_declared l (typed-append rest h)
 
 -- the answer for the declarations so far
 abbrev pub SoFar : List ℕ → List Declaration → Result Parts TypeStop → Type 0
-SoFar text ds r = Answered (AreTyped text (declarations_of ds)) (FaultyDeclarations text no_declarations (declarations_of ds)) r
+SoFar text ds r = Answers (AreTyped text (declarations_of ds)) (FaultyDeclarations text no_declarations (declarations_of ds)) r
 
-joined : (text : List ℕ) (xs : List Tree.Declaration) (d : Tree.Declaration) (all r : Result Parts TypeStop) (one : Result Declared TypeStop) → Answered (AreTyped text xs) (FaultyDeclarations text no_declarations xs) all
-    → Answered (λ t. TypesDeclaration text (after_all text no_declarations xs) d (declared_of t)) (FaultyDeclaration text (after_all text no_declarations xs) d) one → IfOk r (IsWith all one) → IfErr r (λ s. (s ≡ NoMemory) ⊎ StopsBoth all one s)
-    → Answered (AreTyped text (xs ++ d ∷ [])) (FaultyDeclarations text no_declarations (xs ++ d ∷ [])) r
+joined : (text : List ℕ) (xs : List Tree.Declaration) (d : Tree.Declaration) (all r : Result Parts TypeStop) (one : Result Declared TypeStop) → Answers (AreTyped text xs) (FaultyDeclarations text no_declarations xs) all
+    → Answers (λ t. TypesDeclaration text (after_all text no_declarations xs) d (declared_of t)) (FaultyDeclaration text (after_all text no_declarations xs) d) one → IfOk r (IsWith all one) → IfErr r (λ s. (s ≡ NoMemory) ⊎ StopsBoth all one s)
+    → Answers (AreTyped text (xs ++ d ∷ [])) (FaultyDeclarations text no_declarations (xs ++ d ∷ [])) r
 joined text xs d all (Ok v) one h l e f =
     let a = ok-at (AreTyped text xs) all e.old e.before h.ok in
     let b = ok-at (λ t. TypesDeclaration text (after_all text no_declarations xs) d (declared_of t)) one e.more e.last l.ok in
@@ -129,10 +128,10 @@ next-of : (all : List Declaration) (i : ℕ) (x : Declaration) → i < length al
 next-of all i x l is = ap declarations_of (take_more all i x l ∙ ap (λ (y : Declaration). take i all ++ y ∷ []) (sym is)) ∙ declarations-append (take i all) x
 
 pub one-so-far : (text : List ℕ) (all : List Declaration) (i : ℕ) (x : Declaration) (typed r : Result Parts TypeStop) (one : Result Declared TypeStop) → i < length all → x ≡ get_or all i x → SoFar text (take i all) typed
-    → Answered (λ t. TypesDeclaration text (after_all text no_declarations (declarations_of (take i all))) (declaration_of x) (declared_of t)) (FaultyDeclaration text (after_all text no_declarations (declarations_of (take i all))) (declaration_of x)) one
+    → Answers (λ t. TypesDeclaration text (after_all text no_declarations (declarations_of (take i all))) (declaration_of x) (declared_of t)) (FaultyDeclaration text (after_all text no_declarations (declarations_of (take i all))) (declaration_of x)) one
     → IfOk r (IsWith typed one) → IfErr r (λ s. (s ≡ NoMemory) ⊎ StopsBoth typed one s) → SoFar text (take (i + 1) all) r
 one-so-far text all i x typed r one l is h a f g =
-    let Q : List Tree.Declaration → Type 0 = λ ys. Answered (AreTyped text ys) (FaultyDeclarations text no_declarations ys) r in
+    let Q : List Tree.Declaration → Type 0 = λ ys. Answers (AreTyped text ys) (FaultyDeclarations text no_declarations ys) r in
     subst Q (sym (next-of all i x l is)) (joined text (declarations_of (take i all)) (declaration_of x) typed r one h a f g)
 
 pub after-more : (text : List ℕ) (all : List Declaration) (i : ℕ) (x : Declaration) → i < length all → x ≡ get_or all i x

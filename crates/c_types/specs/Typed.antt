@@ -1,5 +1,5 @@
 -- Which typed program a text has, and where typed programs come from.
-use Rattle.std.specs.Prelude.{◌≡◌, ℕ, List}
+use Rattle.std.specs.Prelude.{ℕ, List}
 use Rattle.c_front.specs.Texts.{SpellsText}
 use Rattle.c_front.specs.Tree.{Declaration}
 use Rattle.c_statements.specs.Faults.{HasNone}

@@ -3,7 +3,7 @@ ghost use Rattle.c_front.specs.Shape.{declaration_of, declarations_of, items_of}
 ghost use Rattle.c_front.specs.Tree.{function, Declaration as DeclarationTree};
 ghost use Rattle.c_statements.specs.declared.fault.TypeStop.TheVariants.{NoMemory};
 ghost use Rattle.c_statements.specs.declared.names.Named.TheVariants.{Function as NamedFunction};
-ghost use Rattle.c_statements.specs.Faults.{HasNone, IsTypeFault, StopsAtFirst, StopsBoth};
+ghost use Rattle.c_statements.specs.Faults.{Answers, HasNone, IsTypeFault, StopsAtFirst, StopsBoth};
 ghost use Rattle.c_statements.specs.Shape.{scopes_of};
 ghost use Rattle.c_typed.specs.Shape.{function_of, statements_of};
 ghost use Rattle.c_typed.specs.Trees.{TypedProgram};
@@ -15,7 +15,9 @@ ghost use Rattle.c_types.specs.Typed.{EachTypedProgramIsWellFormed, SpellsTyped}
 use crate::declaration::{Tally, declared_name, first, is_main, name_fault, parameters};
 use crate::typed_program::Typed;
 use c_front::{Declaration, FunctionDefinition, Program};
-use c_statements::{Named, Scopes, TypeFault, TypeFaultKind, TypeStop, both, items, lasting};
+use c_statements::{
+    Context, Named, Scopes, TypeFault, TypeFaultKind, TypeStop, both, items, lasting,
+};
 use c_tokens::{IntegerType, Literal};
 use c_typed::{Function, Global as Variable, TypedExpression, TypedStatement};
 use std::alloc::{AllocError, AllocFailed, Global};
@@ -67,21 +69,19 @@ fn function<'a>(
     f: &FunctionDefinition,
 ) -> Result<Function, TypeStop>
     requires { scopes_of scopes.now ≡ file_scopes (scopes_of scopes.now).inner }
-    ensures ok { IfOk result (λ t. IsFunction program.now.text.items (scopes_of scopes.old).inner f.now.result f.now.name f.now.parameters.items (items_of f.now.body.items) (function_of t)) }
-    ensures none { IfOk result (λ t. HasNone (FaultyBody program.now.text.items (scopes_of scopes.old).inner (function f.now.result f.now.name f.now.parameters.items (items_of f.now.body.items)))) }
-    ensures err { IfErr result (StopsAtFirst (FaultyBody program.now.text.items (scopes_of scopes.old).inner (function f.now.result f.now.name f.now.parameters.items (items_of f.now.body.items)))) }
+    ensures typed { Answers (λ t. IsFunction program.now.text.items (scopes_of scopes.old).inner f.now.result f.now.name f.now.parameters.items (items_of f.now.body.items) (function_of t))
+        (FaultyBody program.now.text.items (scopes_of scopes.old).inner (function f.now.result f.now.name f.now.parameters.items (items_of f.now.body.items))) result }
     ensures scopes { (result ≡ Err NoMemory → ⊥) → scopes_of scopes.new ≡ scopes_of scopes.old }
 {
     scopes.enter(alloc)?;
     let fault = parameters(program, scopes, f.parameters.as_slice())?;
-    let typed = lasting(items(
+    let context = Context {
         alloc,
         program,
-        scopes,
-        f.result.is_some(),
-        false,
-        f.body.as_slice(),
-    ))?;
+        gives: f.result.is_some(),
+        in_loop: false,
+    };
+    let typed = lasting(items(&context, scopes, f.body.as_slice()))?;
     let locals = scopes.locals();
     scopes.leave();
     scopes.start_function();
@@ -103,9 +103,8 @@ fn body<'a>(
     d: &Declaration,
 ) -> Result<Declared, TypeStop>
     requires { scopes_of scopes.now ≡ file_scopes (scopes_of scopes.now).inner }
-    ensures ok { IfOk result (λ t. (f : File) → (after program.now.text.items f (declaration_of d.now)).names ≡ (scopes_of scopes.old).inner → TypesDeclaration program.now.text.items f (declaration_of d.now) (declared_of t)) }
-    ensures none { IfOk result (λ t. HasNone (FaultyBody program.now.text.items (scopes_of scopes.old).inner (declaration_of d.now))) }
-    ensures err { IfErr result (StopsAtFirst (FaultyBody program.now.text.items (scopes_of scopes.old).inner (declaration_of d.now))) }
+    ensures typed { Answers (λ t. (f : File) → (after program.now.text.items f (declaration_of d.now)).names ≡ (scopes_of scopes.old).inner → TypesDeclaration program.now.text.items f (declaration_of d.now) (declared_of t))
+        (FaultyBody program.now.text.items (scopes_of scopes.old).inner (declaration_of d.now)) result }
     ensures scopes { (result ≡ Err NoMemory → ⊥) → scopes_of scopes.new ≡ scopes_of scopes.old }
 {
     match d {
@@ -133,9 +132,8 @@ fn declaration<'a>(
     d: &Declaration,
 ) -> Result<Declared, TypeStop>
     requires { scopes_of scopes.now ≡ file_scopes (scopes_of scopes.now).inner }
-    ensures ok { IfOk result (λ t. TypesDeclaration program.now.text.items (file_of scopes.old tally.now) (declaration_of d.now) (declared_of t)) }
-    ensures none { IfOk result (λ t. HasNone (FaultyDeclaration program.now.text.items (file_of scopes.old tally.now) (declaration_of d.now))) }
-    ensures err { IfErr result (StopsAtFirst (FaultyDeclaration program.now.text.items (file_of scopes.old tally.now) (declaration_of d.now))) }
+    ensures typed { Answers (λ t. TypesDeclaration program.now.text.items (file_of scopes.old tally.now) (declaration_of d.now) (declared_of t))
+        (FaultyDeclaration program.now.text.items (file_of scopes.old tally.now) (declaration_of d.now)) result }
     ensures scopes { (result ≡ Err NoMemory → ⊥) → scopes_of scopes.new ≡ file_scopes (after program.now.text.items (file_of scopes.old tally.now) (declaration_of d.now)).names }
 {
     let fault = name_fault(program, scopes, tally, d);
@@ -169,9 +167,8 @@ fn declarations<'a>(
     all: &[Declaration],
 ) -> Result<Parts, TypeStop>
     requires { scopes_of scopes.now ≡ file_scopes no_declarations.names }
-    ensures ok { IfOk result (AreTyped program.now.text.items (declarations_of all.now)) }
-    ensures none { IfOk result (λ p. HasNone (FaultyDeclarations program.now.text.items no_declarations (declarations_of all.now))) }
-    ensures err { IfErr result (StopsAtFirst (FaultyDeclarations program.now.text.items no_declarations (declarations_of all.now))) }
+    ensures typed { Answers (AreTyped program.now.text.items (declarations_of all.now))
+        (FaultyDeclarations program.now.text.items no_declarations (declarations_of all.now)) result }
     ensures scopes { (result ≡ Err NoMemory → ⊥) → scopes_of scopes.new ≡ file_scopes (after_all program.now.text.items no_declarations (declarations_of all.now)).names }
 {
     let mut tally = Tally {
@@ -222,9 +219,8 @@ fn number_of(found: Option<Named>) -> usize
 
 /// The typed program, or its first fault.
 fn typed(alloc: Global, program: &Program) -> Result<Typed, TypeStop>
-    ensures ok { IfOk result (λ t. TypesProgram program.now.text.items (declarations_of program.now.declarations.items) (program_of t)) }
-    ensures none { IfOk result (λ t. HasNone (FaultyProgram program.now.text.items (declarations_of program.now.declarations.items))) }
-    ensures err { IfErr result (StopsAtFirst (FaultyProgram program.now.text.items (declarations_of program.now.declarations.items))) }
+    ensures { Answers (λ t. TypesProgram program.now.text.items (declarations_of program.now.declarations.items) (program_of t))
+        (FaultyProgram program.now.text.items (declarations_of program.now.declarations.items)) result }
 {
     let mut scopes = Scopes::new(alloc);
     scopes.declare_spelling(b"out", Named::Out)?;

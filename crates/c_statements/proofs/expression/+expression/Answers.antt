@@ -31,9 +31,10 @@ returns-in-Unary t c =
     let scope = environment_in c.args.program.now.text.items (scopes_of c.args.scopes.now) in
     let inner = expression_of c.deref-in-Unary.result.now in
     rw (c.in-Unary.is, sym c.deref-in-Unary.ensures) (answers
-    (unary-ok scope c.in-Unary.operator inner c.expression.result c.unary.result c.expression.ensures.ok c.unary.ensures.ok)
-    (unary-none (Faulty scope inner) c.in-Unary.operator c.expression.result c.unary.result c.expression.ensures.none c.unary.ensures.ok,
-    unary-stops (Faulty scope inner) c.in-Unary.operator c.expression.result c.unary.result (tells c.expression.ensures) c.unary.ensures.err))
+    (unary-ok scope c.in-Unary.operator inner c.expression.result c.unary.result c.expression.ensures.ok c.unary.ensures.ok) (
+      unary-none (Faulty scope inner) c.in-Unary.operator c.expression.result c.unary.result c.expression.ensures.none c.unary.ensures.ok,
+      unary-stops (Faulty scope inner) c.in-Unary.operator c.expression.result c.unary.result (tells c.expression.ensures) c.unary.ensures.err,
+    ))
 
 pub returns-in-Binary : goal.returns-in-Binary
 returns-in-Binary t c =

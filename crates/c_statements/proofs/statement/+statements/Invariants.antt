@@ -32,6 +32,6 @@ decreases-for_loop l = weight (statement_of l.body.now) + 1
 
 abbrev pub invariant-items-loop-one : goal.invariant-items-loop-one
 invariant-items-loop-one l = record {
-  so_far : ItemsSoFar l.program.text.items l.gives l.in_loop (scopes_of l.fn.scopes) (take l.one-index l.all) l.typed;
-  scopes : scopes_of l.scopes ≡ behind_items l.program.text.items (scopes_of l.fn.scopes) (items_of (take l.one-index l.all));
+  so_far : ItemsSoFar l.context.program.now.text.items l.context.gives l.context.in_loop (scopes_of l.fn.scopes) (take l.one-index l.all) l.typed;
+  scopes : scopes_of l.scopes ≡ behind_items l.context.program.now.text.items (scopes_of l.fn.scopes) (items_of (take l.one-index l.all));
 }

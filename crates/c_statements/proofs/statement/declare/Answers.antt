@@ -9,7 +9,7 @@ use Rattle.c_statements.proofs.statement.declare.Goals as goal
 
 pub returns-in_err-first-clause-typed : goal.returns-in_err-first-clause-typed
 returns-in_err-first-clause-typed c =
-    let text = c.args.program.now.text.items in
+    let text = c.args.context.now.program.now.text.items in
     let before = scopes_of c.args.scopes.now in
     let Q : Scopes → Type 0 = λ y. Tells (FaultyFirst (environment_in text y) (maybe_value_tree c.args.given.now)) c.first_value.result in
     let u = subst Q c.in_ok-declare_local.ensures (c.first_value.ensures.none, c.first_value.ensures.err) in

@@ -2,10 +2,10 @@ use Rattle.std.proofs.Common.{◌≡◌, sym, ap, ◌∙◌, subst, take, arith,
 use Rattle.std.proofs.lemmas.List.{take_all}
 use Rattle.c_front.specs.Shape.{declaration_of, declarations_of}
 use Rattle.c_front.specs.Tree as Tree
+use Rattle.c_statements.specs.Faults.{Answers}
 use Rattle.c_statements.specs.declared.fault.TypeStop.{TypeStop}
 use Rattle.c_statements.specs.Shape.{scopes_of}
 use Rattle.c_statements.specs.Names.{Scopes}
-use Rattle.c_statements.proofs.Joined.{Answered}
 use Rattle.c_types.specs.declared.program.Declared.{Declared}
 use Rattle.c_types.specs.Files.{counts_of, declared_of, file_of, file_scopes}
 use Rattle.c_types.specs.Programs.{Counts, File, FaultyDeclaration, TypesDeclaration, after, after_all, no_declarations}
@@ -27,8 +27,8 @@ loop-one-preserved c =
     let text = c.args.program.now.text.items in
     let d : Tree.Declaration = declaration_of c.one-item.result in
     let before : File = file_of c.loop-one.scopes c.loop-one.tally in
-    let At : File → Result Declared TypeStop → Type 0 = λ f r. Answered (λ t. TypesDeclaration c.args.program.now.text.items f (declaration_of c.one-item.result) (declared_of t)) (FaultyDeclaration c.args.program.now.text.items f (declaration_of c.one-item.result)) r in
-    let answered : At before c.declaration.result = record { ok = c.declaration.ensures.ok; none = c.declaration.ensures.none; err = c.declaration.ensures.err } in
+    let At : File → Result Declared TypeStop → Type 0 = λ f r. Answers (λ t. TypesDeclaration c.args.program.now.text.items f (declaration_of c.one-item.result) (declared_of t)) (FaultyDeclaration c.args.program.now.text.items f (declaration_of c.one-item.result)) r in
+    let answered : At before c.declaration.result = c.declaration.ensures.typed in
     let kept : At before c.in_ok-next.next = subst (At before) (sym c.in_ok-next.ensures.ok.0) answered in
     let moved : At (after_all c.args.program.now.text.items no_declarations (declarations_of (take c.loop-one.one-index c.args.all.now))) c.in_ok-next.next = subst (λ f. At f c.in_ok-next.next) c.loop-one.invariant.file kept in
     let there : scopes_of c.declaration.new.scopes ≡ file_scopes (after c.args.program.now.text.items (file_of c.loop-one.scopes c.loop-one.tally) (declaration_of c.one-item.result)).names = c.declaration.ensures.scopes c.in_ok-next.ensures.ok.1 in
@@ -48,9 +48,9 @@ loop-one-preserved c =
       words = omega (arith, c.after-tally.ensures.words, c.loop-one.invariant.words);
     }
 
-pub returns-clause-err : goal.returns-clause-err
-returns-clause-err c =
+pub returns-clause-typed : goal.returns-clause-typed
+returns-clause-typed c =
     let h : SoFar c.args.program.now.text.items c.args.all.now c.loop-one.parts =
     rw (take_all c.loop-one.one-index c.args.all.now c.loop-one-test.false) at c.loop-one.invariant.so_far
     in
-    h.err
+    h

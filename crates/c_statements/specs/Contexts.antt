@@ -1,0 +1,18 @@
+-- What is told of a statement in its context.
+use Rattle.std.specs.Prelude.{ℕ, List, Result}
+use Rattle.c_front.specs.Tree.{Statement}
+use Rattle.c_typed.specs.declared.tree.TypedStatement.{TypedStatement}
+use Rattle.c_typed.specs.Shape.{statement_of}
+use Rattle.c_statements.specs.declared.fault.TypeStop.{TypeStop}
+use Rattle.c_statements.specs.declared.statement.Context.{Context}
+use Rattle.c_statements.specs.Faults.{Answers}
+use Rattle.c_statements.specs.Names.{Scopes}
+use Rattle.c_statements.specs.Statements.{FaultyStatement}
+use Rattle.c_statements.specs.Types.{TypesStatement}
+
+-- the text that names are spelled in
+abbrev pub text_of : Context → List ℕ
+text_of at = at.program.now.text.items
+
+abbrev pub AnswersStatement : Context → Scopes → Statement → Result TypedStatement TypeStop → Type 0
+AnswersStatement at sc s r = Answers (λ t. TypesStatement (text_of at) sc s (statement_of t)) (FaultyStatement (text_of at) at.gives at.in_loop sc s) r
