@@ -1,12 +1,25 @@
 // Typed statements from what the typing of their parts answered.
 
-ghost use Rattle.std.specs.Prelude.{IfOk, IfErr};
+ghost use Rattle.std.specs.Prelude.{◌≡◌, IfOk, IfErr, box_value};
+ghost use Rattle.c_statements.specs.declared.fault.TypeStop.TheVariants.{NoMemory};
 ghost use Rattle.c_statements.specs.Faults.{StopsTwo, both_of};
 ghost use Rattle.c_statements.specs.Made.{IsIf, IsLoop, IsSequence, MadeOfThree, MadeOfTwo};
 
 use crate::fault::{TypeStop, both};
 use c_typed::{TypedExpression, TypedStatement};
 use std::alloc::{AllocError, AllocFailed, Global};
+
+/// Two statements in boxes.
+fn boxes(
+    alloc: Global,
+    statements: (TypedStatement, TypedStatement),
+) -> Result<(Box<TypedStatement>, Box<TypedStatement>), TypeStop>
+    ensures ok { IfOk result (λ r. (box_value r.0 ≡ statements.0) × (box_value r.1 ≡ statements.1)) }
+    ensures err { IfErr result (λ s. s ≡ NoMemory) }
+{
+    let (first, second) = statements;
+    Ok((Box::new(alloc, first)?, Box::new(alloc, second)?))
+}
 
 /// An `if` with both its statements.
 pub fn if_else(
@@ -18,8 +31,9 @@ pub fn if_else(
     ensures ok { IfOk result (MadeOfThree condition first second IsIf) }
     ensures err { IfErr result (StopsTwo condition (both_of first second)) }
 {
-    let (condition, (first, second)) = both(condition, both(first, second))?;
-    Ok(TypedStatement::If(condition, Box::new(alloc, first)?, Box::new(alloc, second)?))
+    let (condition, statements) = both(condition, both(first, second))?;
+    let (first, second) = boxes(alloc, statements)?;
+    Ok(TypedStatement::If(condition, first, second))
 }
 
 /// A loop: its test, what comes last in each turn, and its body.
@@ -32,8 +46,9 @@ pub fn loop_of(
     ensures ok { IfOk result (MadeOfThree condition last body IsLoop) }
     ensures err { IfErr result (StopsTwo condition (both_of last body)) }
 {
-    let (condition, (last, body)) = both(condition, both(last, body))?;
-    Ok(TypedStatement::Loop(condition, Box::new(alloc, last)?, Box::new(alloc, body)?))
+    let (condition, statements) = both(condition, both(last, body))?;
+    let (last, body) = boxes(alloc, statements)?;
+    Ok(TypedStatement::Loop(condition, last, body))
 }
 
 /// A block of two statements.
