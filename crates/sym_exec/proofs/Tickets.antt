@@ -7,7 +7,7 @@ use Rattle.mips_isa.proofs.Registers.{put_lost, read-put}
 use Rattle.sym_terms.specs.declared.label.Origin.TheVariants.{Register}
 use Rattle.sym_terms.specs.declared.label.Label.TheVariants.{Init}
 use Rattle.sym_terms.specs.Trees.{Tree, leaf}
-use Rattle.term_table.specs.Passes.{PassState, HasSeen}
+use Rattle.term_table.specs.Passes.{TableState, PassState, HasSeen}
 use Rattle.term_table.specs.Trees.{HasTree}
 use Rattle.term_table.proofs.Callers.{still_seen, still_tree, extends_more, extends_self}
 use Rattle.mips_isa.specs.States.{is_register, read, put}
@@ -17,13 +17,17 @@ use Rattle.sym_exec.specs.declared.state.TermExit.{TermExit}
 use Rattle.sym_exec.specs.declared.state.Guard.{Guard}
 use Rattle.sym_exec.specs.declared.state.Guard.TheVariants.{Address, Division}
 use Rattle.sym_exec.specs.Symbolic.{TreeState, register_tree, start_trees, CodeTrees, GuardTree, AtAddress, AtDivision}
-use Rattle.sym_exec.specs.Standing.{Later, Known, Stands, with_reg, IsGuard, GuardsStand, AllHave, LeavesBy, StandsFor, tickets_of}
+use Rattle.sym_exec.specs.Standing.{Later, AfterInterns, Known, Stands, with_reg, IsGuard, GuardsStand, AllHave, LeavesBy, StandsFor, tickets_of}
 
 pub later_self : (p : PassState) → Later p p
 later_self p = record { extends = extends_self p; legal = λ h. h }
 
 pub later_more : {p q r : PassState} → Later p q → Later q r → Later p r
 later_more {p} {q} {r} e f = record { extends = extends_more e.extends f.extends; legal = λ h. f.legal (e.legal h) }
+
+-- calls behind calls
+pub calls_more : {A B E F : Type 0} {t : TableState} {p q r : PassState} {x : Result A E} {y : Result B F} → AfterInterns t p x q → AfterInterns t q y r → AfterInterns t p y r
+calls_more {A} {B} {E} {F} {t} {p} {q} {r} {x} {y} e f = record { table = f.table; later = later_more e.later f.later; full = f.full }
 
 pub stands_on : {p q : PassState} {s : TermPlaces} {t : TreeState} → Later p q → Stands p s t → Stands q s t
 stands_on {p} {q} {s} {t} e h = record {
