@@ -89,7 +89,8 @@ fn compare(
     order_room: GuardRoom,
 ) -> Result<Option<Place>, TableFull>
     requires table { IsOf table.now pass.old }
-    ensures exact { IfOk result (λ r. MatchOption r (SameTrees (block_trees block.now) (order_trees order.now)) (DiffersFirst (block_trees block.now) (order_trees order.now))) }
+    ensures exact { IfOk result (λ r. MatchOption r (SameTrees (block_trees block.now) (order_trees order.now))
+        (DiffersFirst (block_trees block.now) (order_trees order.now))) }
     ensures pass { AfterInterns table.now pass.old result pass.new }
     ensures legal { HasLegalHistory pass.new }
 {

@@ -10,7 +10,8 @@ ghost use Rattle.sym_terms.specs.declared.label.Label.TheVariants.{Init};
 ghost use Rattle.sym_terms.specs.Trees.{leaf};
 ghost use Rattle.term_table.specs.Passes.{PassState, IsOf};
 ghost use Rattle.term_table.specs.Trees.{HasTree, HasLegalHistory};
-ghost use Rattle.sym_exec.specs.Symbolic.{TreeState, GuardTree, start_trees, trees_after, all_trees, exit_trees, exit_operands, code_trees, block_trees, order_trees};
+ghost use Rattle.sym_exec.specs.Symbolic.{TreeState, GuardTree, start_trees, trees_after, all_trees, exit_trees, exit_operands, code_trees};
+ghost use Rattle.sym_exec.specs.Symbolic.{block_trees, order_trees};
 ghost use Rattle.sym_exec.specs.Standing.{AfterInterns, Known, Stands, GuardsStand, LeavesBy, StandsFor, HasGuardRoom};
 
 use crate::guards::GuardRoom;
@@ -102,7 +103,8 @@ fn steps(
     requires room { vec_len guards.old + length insts.now ≤ vec_capacity guards.old }
     ensures known { OnOk result (Known pass.new places.new) }
     ensures stands { (t : TreeState) → Stands pass.old places.old t → GuardsStand pass.old guards.old.items t.guards
-        → OnOk result (Stands pass.new places.new (all_trees (map action_of insts.now) t) × GuardsStand pass.new guards.new.items (all_trees (map action_of insts.now) t).guards) }
+        → OnOk result (Stands pass.new places.new (all_trees (map action_of insts.now) t)
+        × GuardsStand pass.new guards.new.items (all_trees (map action_of insts.now) t).guards) }
     ensures pass { AfterInterns table.now pass.old result pass.new }
     ensures count { vec_len guards.new ≤ vec_len guards.old + length insts.now }
     ensures capacity { vec_capacity guards.old ≤ vec_capacity guards.new }
@@ -228,7 +230,8 @@ fn run_slot(
     requires known { Known pass.old places.old }
     requires room { vec_len guards.old < vec_capacity guards.old }
     ensures stands { (t : TreeState) → Stands pass.old places.old t → GuardsStand pass.old guards.old.items t.guards
-        → OnOk result (Stands pass.new places.new (all_trees (slot_actions slot.now) t) × GuardsStand pass.new guards.new.items (all_trees (slot_actions slot.now) t).guards) }
+        → OnOk result (Stands pass.new places.new (all_trees (slot_actions slot.now) t)
+        × GuardsStand pass.new guards.new.items (all_trees (slot_actions slot.now) t).guards) }
     ensures pass { AfterInterns table.now pass.old result pass.new }
 {
     match slot {
@@ -248,7 +251,8 @@ fn run_code(
     requires table { IsOf table.now pass.old }
     requires room { HasGuardRoom guards }
     requires few { length insts.now ≤ ORDER_INSTS }
-    ensures trees { IfOk result (λ s. StandsFor pass.new s.places s.exit s.guards.items (code_trees (map action_of insts.now) exit.now (slot_actions slot.now))) }
+    ensures trees { IfOk result (λ s. StandsFor pass.new s.places s.exit s.guards.items
+        (code_trees (map action_of insts.now) exit.now (slot_actions slot.now))) }
     ensures legal { HasLegalHistory pass.new }
     ensures pass { AfterInterns table.now pass.old result pass.new }
 {

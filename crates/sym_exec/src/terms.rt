@@ -56,7 +56,8 @@ fn ternary_term(
     requires b { HasSeen pass.old b }
     requires c { HasSeen pass.old c }
     ensures seen { IfOk result (λ t. HasSeen pass.new t) }
-    ensures tree { (x y z : Tree) → HasTree pass.old a x → HasTree pass.old b y → HasTree pass.old c z → IfOk result (λ t. HasTree pass.new t (ternary label x y z)) }
+    ensures tree { (x y z : Tree) → HasTree pass.old a x → HasTree pass.old b y → HasTree pass.old c z
+        → IfOk result (λ t. HasTree pass.new t (ternary label x y z)) }
     ensures pass { AfterInterns table.now pass.old result pass.new }
 {
     let interned = table.intern(pass, label, &[a, b, c])?;
@@ -111,7 +112,8 @@ pub(crate) fn store_term(
     requires address { HasSeen pass.old address }
     requires value { HasSeen pass.old value }
     ensures seen { IfOk result (λ t. HasSeen pass.new t) }
-    ensures tree { (x y z : Tree) → HasTree pass.old memory x → HasTree pass.old address y → HasTree pass.old value z → IfOk result (λ t. HasTree pass.new t (store_tree x y z)) }
+    ensures tree { (x y z : Tree) → HasTree pass.old memory x → HasTree pass.old address y → HasTree pass.old value z
+        → IfOk result (λ t. HasTree pass.new t (store_tree x y z)) }
     ensures pass { AfterInterns table.now pass.old result pass.new }
 {
     ternary_term(table, pass, Label::Store, memory, address, value)

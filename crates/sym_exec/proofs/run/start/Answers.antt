@@ -18,7 +18,8 @@ loop-r-init c = record {
       subst (HasSeen c.leaf_term.new.pass) (sym e) c.in_ok-zero.ensures.tree.seen;
   stands = λ q lt.
       let e : 0 ≡ q = omega arith in
-      subst (λ (n : ℕ). HasTree c.leaf_term.new.pass (slice_index (replicate 32 c.in_ok-zero.zero) n) (register_tree start_trees n)) e c.in_ok-zero.ensures.tree;
+      subst (λ (n : ℕ). HasTree c.leaf_term.new.pass (slice_index (replicate 32 c.in_ok-zero.zero) n) (register_tree start_trees n)) e
+      c.in_ok-zero.ensures.tree;
 }
 
 pub loop-r-preserved : goal.loop-r-preserved
@@ -32,9 +33,11 @@ loop-r-preserved c =
       later = later_more c.loop-r.invariant.later more;
       count = length_set regs k c.in_ok-regs.field-0 ∙ c.loop-r.invariant.count;
       seen = λ q lt.
-          set_place (HasSeen c.start_reg.new.pass) regs k c.in_ok-regs.field-0 q inside c.in_ok-regs.ensures.tree.seen (still_seen more.extends (slice_index regs q) (c.loop-r.invariant.seen q lt));
+          set_place (HasSeen c.start_reg.new.pass) regs k c.in_ok-regs.field-0 q inside c.in_ok-regs.ensures.tree.seen
+          (still_seen more.extends (slice_index regs q) (c.loop-r.invariant.seen q lt));
       stands = λ q lt.
-          set_tree c.start_reg.new.pass regs k c.in_ok-regs.field-0 q inside (c.loop-r.auto.r) c.in_ok-regs.ensures.tree lt (λ below. still_tree more.extends (c.loop-r.invariant.stands q below));
+          set_tree c.start_reg.new.pass regs k c.in_ok-regs.field-0 q inside (c.loop-r.auto.r) c.in_ok-regs.ensures.tree lt
+          (λ below. still_tree more.extends (c.loop-r.invariant.stands q below));
     }
 
 pub returns-clause-known : goal.returns-clause-known
@@ -73,7 +76,8 @@ returns-in_err-hi-clause-pass c = record {
 pub returns-clause-pass : goal.returns-clause-pass
 returns-clause-pass c = record {
   table = c.in_ok-memory.ensures.pass.table;
-  later = later_more c.loop-r.invariant.later (later_more c.in_ok-hi.ensures.pass.later (later_more c.in_ok-lo.ensures.pass.later c.in_ok-memory.ensures.pass.later));
+  later = later_more c.loop-r.invariant.later
+      (later_more c.in_ok-hi.ensures.pass.later (later_more c.in_ok-lo.ensures.pass.later c.in_ok-memory.ensures.pass.later));
   full = tt;
 }
 
@@ -94,6 +98,7 @@ returns-in_err-lo-clause-pass c = record {
 pub returns-in_err-memory-clause-pass : goal.returns-in_err-memory-clause-pass
 returns-in_err-memory-clause-pass c = record {
   table = c.in_err-memory.ensures.pass.table;
-  later = later_more c.loop-r.invariant.later (later_more c.in_ok-hi.ensures.pass.later (later_more c.in_ok-lo.ensures.pass.later c.in_err-memory.ensures.pass.later));
+  later = later_more c.loop-r.invariant.later
+      (later_more c.in_ok-hi.ensures.pass.later (later_more c.in_ok-lo.ensures.pass.later c.in_err-memory.ensures.pass.later));
   full = search rules;
 }
