@@ -89,7 +89,8 @@ exit_back (exits.Halt a) = refl
 same_exit : (e f : TermExit) → shape_of e ≡ shape_of f → tickets_of e ≡ tickets_of f → e ≡ f
 same_exit e f s t = same_Some e f (sym (exit_back e) ∙ (λ i. exit_from (s i) (t i)) ∙ exit_back f)
 
-module _ (p : PassState) (legal : HasLegalHistory p) (a b : SymState) (x y : CodeTrees) (h : StandsFor p a.places a.exit a.guards.items x) (k : StandsFor p b.places b.exit b.guards.items y) where
+module _ (p : PassState) (legal : HasLegalHistory p) (a b : SymState) (x y : CodeTrees) (h : StandsFor p a.places a.exit a.guards.items x)
+    (k : StandsFor p b.places b.exit b.guards.items y) where
   pub same_at : (q : Place) → IsPlace q → SameTicketsAt q a b ↔ SameAt q x y
   same_at (places.Register zero) is = absurd (let lt : 0 < 0 = is.0 in omega (arith, lt))
   same_at (places.Register (suc r)) is = same_trees legal (h.places.regs (suc r) is.1) (k.places.regs (suc r) is.1)
@@ -97,8 +98,13 @@ module _ (p : PassState) (legal : HasLegalHistory p) (a b : SymState) (x y : Cod
   same_at places.Lo is = same_trees legal h.places.lo k.places.lo
   same_at places.Memory is = same_trees legal h.places.memory k.places.memory
   same_at places.Exit is = (
-    λ e. (sym h.exit.0 ∙ ap shape_of e ∙ k.exit.0, one_list p (tickets_of b.exit) x.operands y.operands (subst (λ f. AllHave p (tickets_of f) x.operands) e h.exit.1) k.exit.1),
-    λ e. same_exit a.exit b.exit (h.exit.0 ∙ e.0 ∙ sym k.exit.0) (same_list p legal (tickets_of a.exit) (tickets_of b.exit) y.operands (subst (AllHave p (tickets_of a.exit)) e.1 h.exit.1) k.exit.1),
+    λ e. (
+      sym h.exit.0 ∙ ap shape_of e
+          ∙ k.exit.0,
+      one_list p (tickets_of b.exit) x.operands y.operands (subst (λ f. AllHave p (tickets_of f) x.operands) e h.exit.1) k.exit.1,
+    ),
+    λ e. same_exit a.exit b.exit (h.exit.0 ∙ e.0 ∙ sym k.exit.0)
+        (same_list p legal (tickets_of a.exit) (tickets_of b.exit) y.operands (subst (AllHave p (tickets_of a.exit)) e.1 h.exit.1) k.exit.1),
   )
   same_at places.Guards is = (
     λ e g c.
@@ -111,7 +117,8 @@ module _ (p : PassState) (legal : HasLegalHistory p) (a b : SymState) (x y : Cod
         subst (Contains a.guards.items) (same_guard p legal here.0 g there.0 here.2 there.2) here.1,
   )
 
-  pub by_trees : (r : Option Place) → MatchOption r ((q : Place) → IsPlace q → SameTicketsAt q a b) (TicketsDifferFirst a b) → MatchOption r (SameTrees x y) (DiffersFirst x y)
+  pub by_trees : (r : Option Place) → MatchOption r ((q : Place) → IsPlace q → SameTicketsAt q a b) (TicketsDifferFirst a b)
+      → MatchOption r (SameTrees x y) (DiffersFirst x y)
   by_trees None same = λ q is. (same_at q is).0 (same q is)
   by_trees (Some r) d = record {
     place = d.place;
@@ -120,7 +127,9 @@ module _ (p : PassState) (legal : HasLegalHistory p) (a b : SymState) (x y : Cod
   }
 
 -- the places one by one
-pub all_places : (a b : SymState) → ((q : ℕ) → 0 < q → q < 32 → slice_index a.places.regs q ≡ slice_index b.places.regs q) → a.places.hi ≡ b.places.hi → a.places.lo ≡ b.places.lo → a.places.memory ≡ b.places.memory → a.exit ≡ b.exit → ((g : Guard) → Contains b.guards.items g → Contains a.guards.items g) → (q : Place) → IsPlace q → SameTicketsAt q a b
+pub all_places : (a b : SymState) → ((q : ℕ) → 0 < q → q < 32 → slice_index a.places.regs q ≡ slice_index b.places.regs q)
+    → a.places.hi ≡ b.places.hi → a.places.lo ≡ b.places.lo → a.places.memory ≡ b.places.memory → a.exit ≡ b.exit
+    → ((g : Guard) → Contains b.guards.items g → Contains a.guards.items g) → (q : Place) → IsPlace q → SameTicketsAt q a b
 all_places a b regs hi lo memory exit guards (places.Register r) is = regs r is.0 is.1
 all_places a b regs hi lo memory exit guards places.Hi is = hi
 all_places a b regs hi lo memory exit guards places.Lo is = lo
@@ -128,7 +137,9 @@ all_places a b regs hi lo memory exit guards places.Memory is = memory
 all_places a b regs hi lo memory exit guards places.Exit is = exit
 all_places a b regs hi lo memory exit guards places.Guards is = guards
 
-pub guards_differ : (a b : SymState) → ((q : ℕ) → 0 < q → q < 32 → slice_index a.places.regs q ≡ slice_index b.places.regs q) → a.places.hi ≡ b.places.hi → a.places.lo ≡ b.places.lo → a.places.memory ≡ b.places.memory → a.exit ≡ b.exit → (((g : Guard) → Contains b.guards.items g → Contains a.guards.items g) → ⊥) → TicketsDifferFirst a b places.Guards
+pub guards_differ : (a b : SymState) → ((q : ℕ) → 0 < q → q < 32 → slice_index a.places.regs q ≡ slice_index b.places.regs q)
+    → a.places.hi ≡ b.places.hi → a.places.lo ≡ b.places.lo → a.places.memory ≡ b.places.memory → a.exit ≡ b.exit
+    → (((g : Guard) → Contains b.guards.items g → Contains a.guards.items g) → ⊥) → TicketsDifferFirst a b places.Guards
 guards_differ a b regs hi lo memory exit none = record {
   place = tt;
   differs = none;

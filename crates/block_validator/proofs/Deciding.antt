@@ -58,13 +58,16 @@ three_ways : (m n : ℕ) → (m < n) ⊎ ((m ≡ n) ⊎ (n < m))
 three_ways zero zero = inr (inl refl)
 three_ways zero (suc n) = inl (omega arith)
 three_ways (suc m) zero = inr (inr (omega arith))
-three_ways (suc m) (suc n) = ⊎_elim (λ (l : m < n). inl (omega arith)) (λ (r : (m ≡ n) ⊎ (n < m)). inr (⊎_elim (λ (e : m ≡ n). inl (ap suc e)) (λ (l : n < m). inr (omega arith)) r)) (three_ways m n)
+three_ways (suc m) (suc n) =
+    ⊎_elim (λ (l : m < n). inl (omega arith))
+    (λ (r : (m ≡ n) ⊎ (n < m)). inr (⊎_elim (λ (e : m ≡ n). inl (ap suc e)) (λ (l : n < m). inr (omega arith)) r)) (three_ways m n)
 
 -- the first place that differs is one
 one_place : (x y : CodeTrees) (p q : Place) → DiffersFirst x y p → DiffersFirst x y q → p ≡ q
 one_place x y p q a b = ⊎_elim
     (λ (l : place_rank p < place_rank q). absurd (a.differs (b.before p a.place l)))
-    (λ r. ⊎_elim (λ (e : place_rank p ≡ place_rank q). same_rank p q a.place b.place e) (λ (l : place_rank q < place_rank p). absurd (b.differs (a.before q b.place l))) r)
+    (λ r. ⊎_elim (λ (e : place_rank p ≡ place_rank q). same_rank p q a.place b.place e)
+    (λ (l : place_rank q < place_rank p). absurd (b.differs (a.before q b.place l))) r)
     (three_ways (place_rank p) (place_rank q))
 
 pub one_decision : OneDecision

@@ -1,12 +1,12 @@
 //! The verdict on an order for a block, and the orders that were checked.
-ghost use Rattle.std.specs.Prelude.{◌≡◌, IfOk, OnErr, MatchOption};
+ghost use Rattle.std.specs.Prelude.{◌≡◌, IfOk, MatchOption};
 ghost use Rattle.mblock.specs.Parts.{BlockParts, OrderParts};
 ghost use Rattle.mblock.specs.Clean.{IsClean};
 ghost use Rattle.mblock.specs.BlockMeaning.{exit_shape};
 ghost use Rattle.term_table.specs.Passes.{IsOf, linked};
 ghost use Rattle.term_table.specs.Trees.{HasLegalHistory};
 ghost use Rattle.sym_exec.specs.Symbolic.{block_trees, order_trees};
-ghost use Rattle.sym_exec.specs.Standing.{Later};
+ghost use Rattle.sym_exec.specs.Standing.{Later, AfterInterns};
 ghost use Rattle.mblock.specs.Orders.{Means};
 ghost use Rattle.block_validator.specs.Same.{SameTrees, DiffersFirst, EachCheckedOrderMeansItsBlock};
 ghost use Rattle.block_validator.specs.Verdicts.{IsVerdict, OneDecision};
@@ -89,11 +89,10 @@ fn compare(
     order_room: GuardRoom,
 ) -> Result<Option<Place>, TableFull>
     requires table { IsOf table.now pass.old }
-    ensures exact { IfOk result (λ r. MatchOption r (SameTrees (block_trees block.now) (order_trees order.now)) (DiffersFirst (block_trees block.now) (order_trees order.now))) }
-    ensures table { IsOf table.now pass.new }
-    ensures later { Later pass.old pass.new }
+    ensures exact { IfOk result (λ r. MatchOption r (SameTrees (block_trees block.now) (order_trees order.now))
+        (DiffersFirst (block_trees block.now) (order_trees order.now))) }
+    ensures pass { AfterInterns table.now pass.old result pass.new }
     ensures legal { HasLegalHistory pass.new }
-    ensures full { OnErr result (linked pass.new ≡ pass.new.nodes) }
 {
     let first = run_block(table, pass, block, block_room)?;
     let second = run_order(table, pass, order, order_room)?;

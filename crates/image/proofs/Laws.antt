@@ -1,12 +1,16 @@
 -- The bytes of an image say that image, and bytes without a fault are those of the image that they say.
-use Rattle.std.proofs.Common.{◌≡◌, ℕ, zero, suc, ◌+◌, ◌-◌, ◌*◌, ◌/◌, ◌%◌, ◌^◌, ◌<◌, ◌≤◌, Bool, true, false, cond, not, ◌&&◌, nat_lt, nat_le, ◌==◌, List, [], ◌∷◌, ◌++◌, length, take, drop, get_or, Option, Some, None, refl, sym, ap, ap₂, subst, ◌∙◌, append_assoc, arith, true≢false}
+use Rattle.std.proofs.Common.{◌≡◌, ℕ, zero, suc, ◌+◌, ◌-◌, ◌*◌, ◌/◌, ◌%◌, ◌^◌, ◌<◌, ◌≤◌, Bool, true, false, cond, not, ◌&&◌, nat_lt, nat_le}
+use Rattle.std.proofs.Common.{◌==◌, List, [], ◌∷◌, ◌++◌, length, take, drop, get_or, Option, Some, None, refl, sym, ap, ap₂, subst, ◌∙◌}
+use Rattle.std.proofs.Common.{append_assoc, arith, true≢false}
 use Rattle.std.specs.Int.{w32, to_be_bytes}
 use Rattle.std.specs.List.{AllByRecursion}
 use Rattle.std.proofs.lemmas.Bool.{eqb-true, ltb-false, le-ltb, leb-true, le-leb, eq-eqb}
 use Rattle.std.proofs.lemmas.List.{drop_at, take-append-drop, length-append, length-drop, get_or-drop, drop-drop}
 use Rattle.std.proofs.lemmas.List.Elements.{All-from_recursion, recursion_from_All}
 use Rattle.image.specs.declared.fault.ImageFault.TheVariants.{Magic, Version as OtherVersion, Length, Entry, Counts}
-use Rattle.image.specs.Images.{CountsOf, Version, First, Second, total, ImageParts, FitsVersion, IsImage, magic, words_bytes, head_of, image_bytes, word_at_byte, words_of, counts_at, parts_behind, parts_of, is_entry, has_sizes, first_version_fault, second_version_fault, image_fault}
+use Rattle.image.specs.Images.{CountsOf, Version, First, Second, total, ImageParts, FitsVersion, IsImage, magic, words_bytes, head_of}
+use Rattle.image.specs.Images.{image_bytes, word_at_byte, words_of, counts_at, parts_behind, parts_of, is_entry, has_sizes}
+use Rattle.image.specs.Images.{first_version_fault, second_version_fault, image_fault}
 
 abbrev pub IsBytes : List ℕ → Type 0
 IsBytes bytes = (i : ℕ) → get_or bytes i 0 < 256
@@ -79,7 +83,8 @@ entry_below : (n a : ℕ) → n ≤ 2 ^ 20 → is_entry n a ≡ true → a < 2 ^
 entry_below n a le e = grind (arith, Rattle.std.proofs.lemmas.Grind.common_steps)
 
 -- the code and the data behind a head
-behind_again : (code rest : List ℕ) (n : ℕ) → n ≡ length code → AreWords code → (words_of n (words_bytes code ++ rest) ≡ code) × (drop (4 * n) (words_bytes code ++ rest) ≡ rest)
+behind_again : (code rest : List ℕ) (n : ℕ) → n ≡ length code → AreWords code → (words_of n (words_bytes code ++ rest) ≡ code)
+    × (drop (4 * n) (words_bytes code ++ rest) ≡ rest)
 behind_again code rest n e h = (
   ap (λ k. words_of k (words_bytes code ++ rest)) e ∙ words_again code rest h,
   ap (λ k. drop (4 * k) (words_bytes code ++ rest)) e ∙ drop_at (words_bytes code) rest (4 * length code) (length-words_bytes code),
@@ -97,9 +102,11 @@ counted a b d f m x = record { same = a; unclean = b; differs = d; full = f; no_
 counts_again : (c : CountsOf) (a b d f m x : ℕ) → a ≡ c.same → b ≡ c.unclean → d ≡ c.differs → f ≡ c.full → m ≡ c.no_memory → x ≡ c.missed
     → counted a b d f m x ≡ c
 counts_again c a b d f m x ea eb ed ef em ex =
-    ap₂ (λ u v. counted u v d f m x) ea eb ∙ ap₂ (λ u v. counted c.same c.unclean u v m x) ed ef ∙ ap₂ (λ u v. counted c.same c.unclean c.differs c.full u v) em ex
+    ap₂ (λ u v. counted u v d f m x) ea eb ∙ ap₂ (λ u v. counted c.same c.unclean u v m x) ed ef
+    ∙ ap₂ (λ u v. counted c.same c.unclean c.differs c.full u v) em ex
 
-again : (v : Version) (e : ℕ) (code bytes : List ℕ) → IsImage (record { version = v; entry = e; code = code; bytes = bytes }) → parts_of (image_bytes (record { version = v; entry = e; code = code; bytes = bytes })) ≡ record { version = v; entry = e; code = code; bytes = bytes }
+again : (v : Version) (e : ℕ) (code bytes : List ℕ) → IsImage (record { version = v; entry = e; code = code; bytes = bytes })
+    → parts_of (image_bytes (record { version = v; entry = e; code = code; bytes = bytes })) ≡ record { version = v; entry = e; code = code; bytes = bytes }
 again First e code bytes h =
     let all : List ℕ = image_bytes (record { version = First; entry = e; code = code; bytes = bytes }) in
     let n : word_at_byte all 8 ≡ length code = head_again (length code) (let le = h.code_fits in omega arith) in
@@ -111,7 +118,12 @@ again (Second c) e code bytes h =
     let n : word_at_byte all 8 ≡ length code = head_again (length code) (let le = h.code_fits in omega arith) in
     let x : word_at_byte all 12 ≡ e = head_again e (entry_below (length code) e h.code_fits h.entry) in
     let p = behind_again code bytes (word_at_byte all 8) n (recursion_from_All (λ w. w < 2 ^ 32) code h.code) in
-    same_parts (Second (counts_at all)) (Second c) (word_at_byte all 12) e _ code _ bytes (ap Second (counts_again c (word_at_byte all 20) (word_at_byte all 24) (word_at_byte all 28) (word_at_byte all 32) (word_at_byte all 36) (word_at_byte all 40) (head_again c.same (let le = h.version in omega arith)) (head_again c.unclean (let le = h.version in omega arith)) (head_again c.differs (let le = h.version in omega arith)) (head_again c.full (let le = h.version in omega arith)) (head_again c.no_memory (let le = h.version in omega arith)) (head_again c.missed (let le = h.version in omega arith)))) x p.0 p.1
+    same_parts (Second (counts_at all)) (Second c) (word_at_byte all 12) e _ code _ bytes
+    (ap Second (counts_again c (word_at_byte all 20) (word_at_byte all 24) (word_at_byte all 28) (word_at_byte all 32)
+    (word_at_byte all 36) (word_at_byte all 40) (head_again c.same (let le = h.version in omega arith))
+    (head_again c.unclean (let le = h.version in omega arith)) (head_again c.differs (let le = h.version in omega arith))
+    (head_again c.full (let le = h.version in omega arith)) (head_again c.no_memory (let le = h.version in omega arith))
+    (head_again c.missed (let le = h.version in omega arith)))) x p.0 p.1
 
 pub parts_again : (i : ImageParts) → IsImage i → parts_of (image_bytes i) ≡ i
 parts_again i h = again i.version i.entry i.code i.bytes h
@@ -139,16 +151,19 @@ and a b ea eb = ap₂ (λ x y. x && y) ea eb
 
 -- ---- an image has no fault
 
-sizes_pass : (head most rest : ℕ) (bytes : List ℕ) → 1 ≤ word_at_byte bytes 8 → word_at_byte bytes 8 ≤ 2 ^ 20 → word_at_byte bytes 16 ≤ most → length bytes ≡ head + 4 * word_at_byte bytes 8 + rest → has_sizes head most rest bytes ≡ true
+sizes_pass : (head most rest : ℕ) (bytes : List ℕ) → 1 ≤ word_at_byte bytes 8 → word_at_byte bytes 8 ≤ 2 ^ 20 → word_at_byte bytes 16 ≤ most
+    → length bytes ≡ head + 4 * word_at_byte bytes 8 + rest → has_sizes head most rest bytes ≡ true
 sizes_pass head most rest bytes a b c d = and _ _ (le-leb _ _ a) (and _ _ (le-leb _ _ b) (and _ _ (le-leb _ _ c) (eq-eqb _ _ d)))
 
-none : (v : Version) (e : ℕ) (code bytes : List ℕ) → IsImage (record { version = v; entry = e; code = code; bytes = bytes }) → image_fault (image_bytes (record { version = v; entry = e; code = code; bytes = bytes })) ≡ None
+none : (v : Version) (e : ℕ) (code bytes : List ℕ) → IsImage (record { version = v; entry = e; code = code; bytes = bytes })
+    → image_fault (image_bytes (record { version = v; entry = e; code = code; bytes = bytes })) ≡ None
 none First e code bytes h =
     let all : List ℕ = image_bytes (record { version = First; entry = e; code = code; bytes = bytes }) in
     let n : word_at_byte all 8 ≡ length code = head_again (length code) (let le = h.code_fits in omega arith) in
     let d : word_at_byte all 16 ≡ length bytes / 4 = head_again (length bytes / 4) (let le = h.bytes_fit in omega arith) in
     let x : word_at_byte all 12 ≡ e = head_again e (entry_below (length code) e h.code_fits h.entry) in
-    let tail : length (words_bytes code ++ bytes) ≡ 4 * length code + length bytes = length-append (words_bytes code) bytes ∙ ap (λ k. k + length bytes) (length-words_bytes code) in
+    let tail : length (words_bytes code ++ bytes) ≡ 4 * length code + length bytes = length-append (words_bytes code) bytes
+    ∙ ap (λ k. k + length bytes) (length-words_bytes code) in
     let whole = h.version in
     let s = h.some in
     let f = h.code_fits in
@@ -163,17 +178,23 @@ none (Second c) e code bytes h =
     let n : word_at_byte all 8 ≡ length code = head_again (length code) (let le = h.code_fits in omega arith) in
     let d : word_at_byte all 16 ≡ length bytes = head_again (length bytes) (let le = h.bytes_fit in omega arith) in
     let x : word_at_byte all 12 ≡ e = head_again e (entry_below (length code) e h.code_fits h.entry) in
-    let tail : length (words_bytes code ++ bytes) ≡ 4 * length code + length bytes = length-append (words_bytes code) bytes ∙ ap (λ k. k + length bytes) (length-words_bytes code) in
+    let tail : length (words_bytes code ++ bytes) ≡ 4 * length code + length bytes = length-append (words_bytes code) bytes
+    ∙ ap (λ k. k + length bytes) (length-words_bytes code) in
     let s = h.some in
     let f = h.code_fits in
     let g = h.bytes_fit in
     let v = h.version in
     let sizes = sizes_pass 44 (2 ^ 20) (word_at_byte all 16) all (omega arith) (omega arith) (omega arith) (omega arith) in
     let entry : is_entry (word_at_byte all 8) (word_at_byte all 12) ≡ true = rw (n, x) h.entry in
-    let counts : counts_at all ≡ c = counts_again c (word_at_byte all 20) (word_at_byte all 24) (word_at_byte all 28) (word_at_byte all 32) (word_at_byte all 36) (word_at_byte all 40) (head_again c.same (omega arith)) (head_again c.unclean (omega arith)) (head_again c.differs (omega arith)) (head_again c.full (omega arith)) (head_again c.no_memory (omega arith)) (head_again c.missed (omega arith)) in
+    let counts : counts_at all ≡ c = counts_again c (word_at_byte all 20) (word_at_byte all 24) (word_at_byte all 28) (word_at_byte all 32)
+    (word_at_byte all 36) (word_at_byte all 40) (head_again c.same (omega arith)) (head_again c.unclean (omega arith))
+    (head_again c.differs (omega arith)) (head_again c.full (omega arith)) (head_again c.no_memory (omega arith)) (head_again c.missed (omega arith)) in
     let few : nat_le (total (counts_at all)) (2 ^ 20) ≡ true = ap (λ k. nat_le (total k) (2 ^ 20)) counts ∙ le-leb _ _ v in
     ap (λ b. cond b (Some Length) (second_version_fault all)) (le-ltb (length all) 20 (omega arith))
-    ∙ ap (λ b. cond b (Some Length) (cond (not (has_sizes 44 (2 ^ 20) (word_at_byte all 16) all)) (Some Length) (cond (not (is_entry (word_at_byte all 8) (word_at_byte all 12))) (Some Entry) (cond (not (nat_le (total (counts_at all)) (2 ^ 20))) (Some Counts) None)))) (le-ltb (length all) 44 (omega arith))
+    ∙ ap (λ b. cond b (Some Length)
+    (cond (not (has_sizes 44 (2 ^ 20) (word_at_byte all 16) all)) (Some Length)
+    (cond (not (is_entry (word_at_byte all 8) (word_at_byte all 12))) (Some Entry)
+    (cond (not (nat_le (total (counts_at all)) (2 ^ 20))) (Some Counts) None)))) (le-ltb (length all) 44 (omega arith))
     ∙ passes (has_sizes 44 (2 ^ 20) (word_at_byte all 16) all) Length _ sizes
     ∙ passes (is_entry (word_at_byte all 8) (word_at_byte all 12)) Entry _ entry
     ∙ passes (nat_le (total (counts_at all)) (2 ^ 20)) Counts None few
@@ -187,21 +208,28 @@ one_image i j hi hj e = sym (parts_again i hi) ∙ ap parts_of e ∙ parts_again
 -- ---- of bytes
 
 word-drop : (bytes : List ℕ) (k : ℕ) → word_at_byte (drop k bytes) 0 ≡ word_at_byte bytes k
-word-drop bytes k = rw (get_or-drop k bytes 0 0, get_or-drop k bytes 1 0, get_or-drop k bytes 2 0, get_or-drop k bytes 3 0) (ap (λ n. get_or bytes n 0 * 2 ^ 24 + get_or bytes (k + 1) 0 * 2 ^ 16 + get_or bytes (k + 2) 0 * 2 ^ 8 + get_or bytes (k + 3) 0) (omega arith))
+word-drop bytes k = rw (get_or-drop k bytes 0 0, get_or-drop k bytes 1 0, get_or-drop k bytes 2 0, get_or-drop k bytes 3 0)
+    (ap (λ n. get_or bytes n 0 * 2 ^ 24 + get_or bytes (k + 1) 0 * 2 ^ 16 + get_or bytes (k + 2) 0 * 2 ^ 8 + get_or bytes (k + 3) 0) (omega arith))
 
 -- one word, and the others behind it
 first_of : (n k : ℕ) (bytes : List ℕ) → words_of (suc n) (drop k bytes) ≡ word_at_byte bytes k ∷ words_of n (drop (k + 4) bytes)
 first_of n k bytes = ap₂ (λ x y. x ∷ words_of n y) (word-drop bytes k) (drop-drop 4 k bytes ∙ ap (λ j. drop j bytes) (omega arith))
 
-five : (bytes : List ℕ) (n : ℕ) → words_of (suc (suc (suc (suc (suc n))))) bytes ≡ word_at_byte bytes 0 ∷ word_at_byte bytes 4 ∷ word_at_byte bytes 8 ∷ word_at_byte bytes 12 ∷ word_at_byte bytes 16 ∷ words_of n (drop 20 bytes)
+five : (bytes : List ℕ) (n : ℕ)
+    → words_of (suc (suc (suc (suc (suc n))))) bytes ≡ word_at_byte bytes 0 ∷ word_at_byte bytes 4 ∷ word_at_byte bytes 8 ∷ word_at_byte
+    bytes 12 ∷ word_at_byte bytes 16 ∷ words_of n (drop 20 bytes)
 five bytes n =
-    first_of (suc (suc (suc (suc n)))) 0 bytes ∙ ap (λ x. word_at_byte bytes 0 ∷ x) (first_of (suc (suc (suc n))) 4 bytes ∙ ap (λ x. word_at_byte bytes 4 ∷ x) (first_of (suc (suc n)) 8 bytes
+    first_of (suc (suc (suc (suc n)))) 0 bytes
+    ∙ ap (λ x. word_at_byte bytes 0 ∷ x) (first_of (suc (suc (suc n))) 4 bytes ∙ ap (λ x. word_at_byte bytes 4 ∷ x) (first_of (suc (suc n)) 8 bytes
     ∙ ap (λ x. word_at_byte bytes 8 ∷ x) (first_of (suc n) 12 bytes ∙ ap (λ x. word_at_byte bytes 12 ∷ x) (first_of n 16 bytes))))
 
-six : (bytes : List ℕ) → words_of 6 (drop 20 bytes) ≡ word_at_byte bytes 20 ∷ word_at_byte bytes 24 ∷ word_at_byte bytes 28 ∷ word_at_byte bytes 32 ∷ word_at_byte bytes 36 ∷ word_at_byte bytes 40 ∷ []
+six : (bytes : List ℕ)
+    → words_of 6 (drop 20 bytes) ≡ word_at_byte bytes 20 ∷ word_at_byte bytes 24 ∷ word_at_byte bytes 28 ∷ word_at_byte bytes 32
+    ∷ word_at_byte bytes 36 ∷ word_at_byte bytes 40 ∷ []
 six bytes =
     first_of 5 20 bytes ∙ ap (λ x. word_at_byte bytes 20 ∷ x) (first_of 4 24 bytes ∙ ap (λ x. word_at_byte bytes 24 ∷ x) (first_of 3 28 bytes
-    ∙ ap (λ x. word_at_byte bytes 28 ∷ x) (first_of 2 32 bytes ∙ ap (λ x. word_at_byte bytes 32 ∷ x) (first_of 1 36 bytes ∙ ap (λ x. word_at_byte bytes 36 ∷ x) (first_of 0 40 bytes)))))
+    ∙ ap (λ x. word_at_byte bytes 28 ∷ x)
+    (first_of 2 32 bytes ∙ ap (λ x. word_at_byte bytes 32 ∷ x) (first_of 1 36 bytes ∙ ap (λ x. word_at_byte bytes 36 ∷ x) (first_of 0 40 bytes)))))
 
 heads : (m v n e d k n' d' : ℕ) (rest : List ℕ) → n' ≡ n → d' ≡ d → m ≡ magic → v ≡ k → magic ∷ k ∷ n' ∷ e ∷ d' ∷ rest ≡ m ∷ v ∷ n ∷ e ∷ d ∷ rest
 heads m v n e d k n' d' rest en ed em ev = cc
@@ -218,7 +246,8 @@ pub record Passes (head most rest : ℕ) (bytes : List ℕ) : Type 0 where
   pub exact : length bytes ≡ head + 4 * word_at_byte bytes 8 + rest
   pub entry : is_entry (word_at_byte bytes 8) (word_at_byte bytes 12) ≡ true
 
-sized : (head most rest : ℕ) (bytes : List ℕ) → has_sizes head most rest bytes ≡ true → is_entry (word_at_byte bytes 8) (word_at_byte bytes 12) ≡ true → Passes head most rest bytes
+sized : (head most rest : ℕ) (bytes : List ℕ) → has_sizes head most rest bytes ≡ true
+    → is_entry (word_at_byte bytes 8) (word_at_byte bytes 12) ≡ true → Passes head most rest bytes
 sized head most rest bytes e entry =
     let s0 = both _ _ e in
     let s1 = both _ _ s0.1 in
@@ -228,7 +257,8 @@ sized head most rest bytes e entry =
 -- which version the bytes have, and that they pass its tests
 pub data Passed (bytes : List ℕ) : Type 0 where
   in_first : word_at_byte bytes 0 ≡ magic → word_at_byte bytes 4 ≡ 1 → Passes 20 (2 ^ 18) (4 * word_at_byte bytes 16) bytes → Passed bytes
-  in_second : word_at_byte bytes 0 ≡ magic → word_at_byte bytes 4 ≡ 2 → 44 ≤ length bytes → Passes 44 (2 ^ 20) (word_at_byte bytes 16) bytes → total (counts_at bytes) ≤ 2 ^ 20 → Passed bytes
+  in_second : word_at_byte bytes 0 ≡ magic → word_at_byte bytes 4 ≡ 2 → 44 ≤ length bytes → Passes 44 (2 ^ 20) (word_at_byte bytes 16) bytes
+      → total (counts_at bytes) ≤ 2 ^ 20 → Passed bytes
 
 first_passed : (bytes : List ℕ) → first_version_fault bytes ≡ None → Passes 20 (2 ^ 18) (4 * word_at_byte bytes 16) bytes
 first_passed bytes e =
@@ -250,7 +280,8 @@ passed bytes e =
     let b = guard (not (word_at_byte bytes 0 == magic)) Magic _ a.1 in
     go (eqb-true _ _ (not_false _ b.0)) (word_at_byte bytes 4 == 1) refl b.1
   where
-    go : word_at_byte bytes 0 ≡ magic → (x : Bool) → (word_at_byte bytes 4 == 1) ≡ x → cond x (first_version_fault bytes) (cond (word_at_byte bytes 4 == 2) (second_version_fault bytes) (Some OtherVersion)) ≡ None → Passed bytes
+    go : word_at_byte bytes 0 ≡ magic → (x : Bool) → (word_at_byte bytes 4 == 1) ≡ x
+        → cond x (first_version_fault bytes) (cond (word_at_byte bytes 4 == 2) (second_version_fault bytes) (Some OtherVersion)) ≡ None → Passed bytes
     go m true ex h = in_first m (eqb-true _ _ ex) (first_passed bytes h)
     go m false ex h = let v = versioned (word_at_byte bytes 4 == 2) (second_version_fault bytes) OtherVersion h in second_passed bytes m (eqb-true _ _ v.0) v.1
 
@@ -260,7 +291,8 @@ bytes_all : (bytes : List ℕ) → IsBytes bytes → AllByRecursion (λ b. b < 2
 bytes_all [] h = tt
 bytes_all (b ∷ bytes) h = (h 0, bytes_all bytes (λ i. h (suc i)))
 
-fits_behind : (v : Version) (head most rest : ℕ) (bytes : List ℕ) → IsBytes bytes → Passes head most rest bytes → rest ≤ 2 ^ 20 → FitsVersion v (parts_behind v head bytes).bytes → IsImage (parts_behind v head bytes)
+fits_behind : (v : Version) (head most rest : ℕ) (bytes : List ℕ) → IsBytes bytes → Passes head most rest bytes → rest ≤ 2 ^ 20
+    → FitsVersion v (parts_behind v head bytes).bytes → IsImage (parts_behind v head bytes)
 fits_behind v head most rest bytes h p small fits =
     let n = length-words_of (word_at_byte bytes 8) (drop head bytes) in
     let far : length (drop (4 * word_at_byte bytes 8) (drop head bytes)) ≡ length bytes - head - 4 * word_at_byte bytes 8 =
@@ -273,12 +305,15 @@ fits_behind v head most rest bytes h p small fits =
       entry = rw n p.entry;
       version = fits;
       code = All-from_recursion (λ w. w < 2 ^ 32) _ (words_below (word_at_byte bytes 8) (drop head bytes) (IsBytes-drop head bytes h));
-      bytes = All-from_recursion (λ b. b < 2 ^ 8) _ (bytes_all (drop (4 * word_at_byte bytes 8) (drop head bytes)) (IsBytes-drop (4 * word_at_byte bytes 8) (drop head bytes) (IsBytes-drop head bytes h)));
+      bytes = All-from_recursion (λ b. b < 2 ^ 8) _
+          (bytes_all (drop (4 * word_at_byte bytes 8) (drop head bytes))
+          (IsBytes-drop (4 * word_at_byte bytes 8) (drop head bytes) (IsBytes-drop head bytes h)));
     }
 
 left_over : (head n rest : ℕ) (bytes : List ℕ) → length bytes ≡ head + 4 * n + rest → length (drop (4 * n) (drop head bytes)) ≡ rest
 left_over head n rest bytes x =
-    let far : length (drop (4 * n) (drop head bytes)) ≡ length bytes - head - 4 * n = length-drop (4 * n) (drop head bytes) ∙ ap (λ k. k - 4 * n) (length-drop head bytes) in
+    let far : length (drop (4 * n) (drop head bytes)) ≡ length bytes - head - 4 * n = length-drop (4 * n) (drop head bytes)
+    ∙ ap (λ k. k - 4 * n) (length-drop head bytes) in
     omega arith
 
 pub first_image : (bytes : List ℕ) → IsBytes bytes → Passes 20 (2 ^ 18) (4 * word_at_byte bytes 16) bytes → IsImage (parts_behind First 20 bytes)
@@ -287,37 +322,51 @@ first_image bytes h p =
     let m = p.most_fit in
     fits_behind First 20 (2 ^ 18) (4 * word_at_byte bytes 16) bytes h p (omega arith) (omega arith)
 
-pub second_image : (bytes : List ℕ) → IsBytes bytes → Passes 44 (2 ^ 20) (word_at_byte bytes 16) bytes → total (counts_at bytes) ≤ 2 ^ 20 → IsImage (parts_behind (Second (counts_at bytes)) 44 bytes)
+pub second_image : (bytes : List ℕ) → IsBytes bytes → Passes 44 (2 ^ 20) (word_at_byte bytes 16) bytes → total (counts_at bytes) ≤ 2 ^ 20
+    → IsImage (parts_behind (Second (counts_at bytes)) 44 bytes)
 second_image bytes h p few = fits_behind (Second (counts_at bytes)) 44 (2 ^ 20) (word_at_byte bytes 16) bytes h p p.most_fit few
 
 -- a head, the code words and the data are all the bytes
-whole : (head : List ℕ) (k n : ℕ) (bytes : List ℕ) → words_bytes head ≡ take k bytes → IsBytes bytes → 4 * n ≤ length (drop k bytes) → words_bytes head ++ (words_bytes (words_of n (drop k bytes)) ++ drop (4 * n) (drop k bytes)) ≡ bytes
+whole : (head : List ℕ) (k n : ℕ) (bytes : List ℕ) → words_bytes head ≡ take k bytes → IsBytes bytes → 4 * n ≤ length (drop k bytes)
+    → words_bytes head ++ (words_bytes (words_of n (drop k bytes)) ++ drop (4 * n) (drop k bytes)) ≡ bytes
 whole head k n bytes e h le =
     ap₂ (λ x y. x ++ (y ++ drop (4 * n) (drop k bytes))) e (words_back n (drop k bytes) (IsBytes-drop k bytes h) le)
     ∙ ap (λ y. take k bytes ++ y) (take-append-drop (4 * n) (drop k bytes)) ∙ take-append-drop k bytes
 
-first_bytes : (bytes : List ℕ) → IsBytes bytes → word_at_byte bytes 0 ≡ magic → word_at_byte bytes 4 ≡ 1 → Passes 20 (2 ^ 18) (4 * word_at_byte bytes 16) bytes → image_bytes (parts_behind First 20 bytes) ≡ bytes
+first_bytes : (bytes : List ℕ) → IsBytes bytes → word_at_byte bytes 0 ≡ magic → word_at_byte bytes 4 ≡ 1
+    → Passes 20 (2 ^ 18) (4 * word_at_byte bytes 16) bytes → image_bytes (parts_behind First 20 bytes) ≡ bytes
 first_bytes bytes h m v p =
     let n = length-words_of (word_at_byte bytes 8) (drop 20 bytes) in
     let l = left_over 20 (word_at_byte bytes 8) (4 * word_at_byte bytes 16) bytes p.exact in
     let d : length (drop (4 * word_at_byte bytes 8) (drop 20 bytes)) / 4 ≡ word_at_byte bytes 16 = omega arith in
-    let head : head_of First (length (words_of (word_at_byte bytes 8) (drop 20 bytes))) (word_at_byte bytes 12) (length (drop (4 * word_at_byte bytes 8) (drop 20 bytes))) ≡ words_of 5 bytes =
-    heads (word_at_byte bytes 0) (word_at_byte bytes 4) (word_at_byte bytes 8) (word_at_byte bytes 12) (word_at_byte bytes 16) 1 _ _ [] n d m v ∙ sym (five bytes 0) in
+    let head : head_of First (length (words_of (word_at_byte bytes 8) (drop 20 bytes))) (word_at_byte bytes 12)
+    (length (drop (4 * word_at_byte bytes 8) (drop 20 bytes))) ≡ words_of 5 bytes =
+    heads (word_at_byte bytes 0) (word_at_byte bytes 4) (word_at_byte bytes 8) (word_at_byte bytes 12)
+    (word_at_byte bytes 16) 1 _ _ [] n d m v ∙ sym (five bytes 0) in
     let x = p.exact in
     let behind = length-drop 20 bytes in
-    whole (head_of First (length (words_of (word_at_byte bytes 8) (drop 20 bytes))) (word_at_byte bytes 12) (length (drop (4 * word_at_byte bytes 8) (drop 20 bytes)))) 20 (word_at_byte bytes 8) bytes (ap words_bytes head ∙ words_back 5 bytes h (omega arith)) h (omega arith)
+    whole (head_of First (length (words_of (word_at_byte bytes 8) (drop 20 bytes))) (word_at_byte bytes 12)
+    (length (drop (4 * word_at_byte bytes 8) (drop 20 bytes)))) 20 (word_at_byte bytes 8) bytes
+    (ap words_bytes head ∙ words_back 5 bytes h (omega arith)) h (omega arith)
 
-second_bytes : (bytes : List ℕ) → IsBytes bytes → word_at_byte bytes 0 ≡ magic → word_at_byte bytes 4 ≡ 2 → 44 ≤ length bytes → Passes 44 (2 ^ 20) (word_at_byte bytes 16) bytes → image_bytes (parts_behind (Second (counts_at bytes)) 44 bytes) ≡ bytes
+second_bytes : (bytes : List ℕ) → IsBytes bytes → word_at_byte bytes 0 ≡ magic → word_at_byte bytes 4 ≡ 2 → 44 ≤ length bytes
+    → Passes 44 (2 ^ 20) (word_at_byte bytes 16) bytes → image_bytes (parts_behind (Second (counts_at bytes)) 44 bytes) ≡ bytes
 second_bytes bytes h m v long p =
     let n = length-words_of (word_at_byte bytes 8) (drop 44 bytes) in
     let d = left_over 44 (word_at_byte bytes 8) (word_at_byte bytes 16) bytes p.exact in
-    let six_words : List ℕ = word_at_byte bytes 20 ∷ word_at_byte bytes 24 ∷ word_at_byte bytes 28 ∷ word_at_byte bytes 32 ∷ word_at_byte bytes 36 ∷ word_at_byte bytes 40 ∷ [] in
-    let head : head_of (Second (counts_at bytes)) (length (words_of (word_at_byte bytes 8) (drop 44 bytes))) (word_at_byte bytes 12) (length (drop (4 * word_at_byte bytes 8) (drop 44 bytes))) ≡ words_of 11 bytes =
+    let six_words : List ℕ =
+    word_at_byte bytes 20 ∷ word_at_byte bytes 24 ∷ word_at_byte bytes 28 ∷ word_at_byte bytes 32 ∷ word_at_byte bytes 36
+    ∷ word_at_byte bytes 40 ∷ [] in
+    let head : head_of (Second (counts_at bytes)) (length (words_of (word_at_byte bytes 8) (drop 44 bytes))) (word_at_byte bytes 12)
+    (length (drop (4 * word_at_byte bytes 8) (drop 44 bytes))) ≡ words_of 11 bytes =
     heads (word_at_byte bytes 0) (word_at_byte bytes 4) (word_at_byte bytes 8) (word_at_byte bytes 12) (word_at_byte bytes 16) 2 _ _ six_words n d m v
-    ∙ ap (λ (r : List ℕ). word_at_byte bytes 0 ∷ word_at_byte bytes 4 ∷ word_at_byte bytes 8 ∷ word_at_byte bytes 12 ∷ word_at_byte bytes 16 ∷ r) (sym (six bytes)) ∙ sym (five bytes 6) in
+    ∙ ap (λ (r : List ℕ). word_at_byte bytes 0 ∷ word_at_byte bytes 4 ∷ word_at_byte bytes 8 ∷ word_at_byte bytes 12 ∷ word_at_byte bytes 16
+    ∷ r) (sym (six bytes)) ∙ sym (five bytes 6) in
     let x = p.exact in
     let behind = length-drop 44 bytes in
-    whole (head_of (Second (counts_at bytes)) (length (words_of (word_at_byte bytes 8) (drop 44 bytes))) (word_at_byte bytes 12) (length (drop (4 * word_at_byte bytes 8) (drop 44 bytes)))) 44 (word_at_byte bytes 8) bytes (ap words_bytes head ∙ words_back 11 bytes h (omega arith)) h (omega arith)
+    whole (head_of (Second (counts_at bytes)) (length (words_of (word_at_byte bytes 8) (drop 44 bytes))) (word_at_byte bytes 12)
+    (length (drop (4 * word_at_byte bytes 8) (drop 44 bytes)))) 44 (word_at_byte bytes 8) bytes
+    (ap words_bytes head ∙ words_back 11 bytes h (omega arith)) h (omega arith)
 
 in_first_parts : (bytes : List ℕ) → word_at_byte bytes 4 ≡ 1 → parts_of bytes ≡ parts_behind First 20 bytes
 in_first_parts bytes v = ap (λ b. cond b (parts_behind First 20 bytes) (parts_behind (Second (counts_at bytes)) 44 bytes)) (eq-eqb (word_at_byte bytes 4) 1 v)

@@ -1,5 +1,7 @@
 ghost use Rattle.std.specs.Prelude.{◌≡◌, ℕ, ◌+◌, ◌*◌, ◌≤◌, ◌^◌, ◌++◌, None, length, OnOk, IfOk, IfErr, MatchResult};
-ghost use Rattle.image.specs.Images.{ImageParts, IsImage, EachImageHasItsBytes, head_of, image_bytes, words_bytes, word_at_byte, words_of, counts_at, total, first_version_fault, second_version_fault, image_fault, is_entry, has_sizes, parts_behind, parts_of, IsImageFault};
+ghost use Rattle.image.specs.Images.{ImageParts, IsImage, EachImageHasItsBytes, head_of, image_bytes, words_bytes, word_at_byte, words_of};
+ghost use Rattle.image.specs.Images.{counts_at, total, first_version_fault, second_version_fault, image_fault, is_entry, has_sizes};
+ghost use Rattle.image.specs.Images.{parts_behind, parts_of, IsImageFault};
 ghost use Rattle.image.specs.Views.{counts_of, version_of};
 ghost use Rattle.image.specs.declared.fault.ImageFault.{ImageFault as Fault};
 
@@ -23,7 +25,8 @@ fn put_words(out: &mut Vec<u8>, words: &[u32]) -> Result<(), AllocError>
 }
 
 fn put_head(out: &mut Vec<u8>, image: &Image) -> Result<(), AllocError>
-    ensures { OnOk result (out.new.items ≡ out.old.items ++ words_bytes (head_of image.now.version (length image.now.code) image.now.entry (length image.now.bytes))) }
+    ensures { OnOk result (out.new.items ≡ out.old.items
+        ++ words_bytes (head_of image.now.version (length image.now.code) image.now.entry (length image.now.bytes))) }
 {
     let code = image.code().len() as u32;
     let bytes = image.bytes().len() as u32;

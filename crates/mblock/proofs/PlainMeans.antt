@@ -1,5 +1,6 @@
 -- Plain orders mean their blocks.
-use Rattle.std.proofs.Common.{◌≡◌, ℕ, zero, suc, Bool, true, false, cond, ◌||◌, List, [], ◌∷◌, ◌++◌, map, flat_map, length, slice_get, Some, None, refl, sym, ap, ◌∙◌, subst}
+use Rattle.std.proofs.Common.{◌≡◌, ℕ, zero, suc, Bool, true, false, cond, ◌||◌, List, [], ◌∷◌, ◌++◌, map, flat_map, length, slice_get, Some}
+use Rattle.std.proofs.Common.{None, refl, sym, ap, ◌∙◌, subst}
 use Rattle.std.specs.Prelude.{is_some}
 use Rattle.std.proofs.lemmas.Option.{same_Some, none-some}
 use Rattle.mips_isa.specs.declared.inst.Plain.{Plain}
@@ -45,7 +46,8 @@ skip_total false false rest s = refl
 padded_total : (insts : List Plain) (s : State) → total (map action_of (flat_map padded_inst insts)) s ≡ total (map action_of insts) s
 padded_total [] s = refl
 padded_total (i ∷ rest) s =
-    skip_total (is_load (action_of i)) (is_move (action_of i)) (flat_map padded_inst rest) (state_after (action_of i) s) ∙ padded_total rest (state_after (action_of i) s)
+    skip_total (is_load (action_of i)) (is_move (action_of i)) (flat_map padded_inst rest) (state_after (action_of i) s)
+    ∙ padded_total rest (state_after (action_of i) s)
 
 slot_total : (h : Bool) (s : State) → total (slot_actions (cond h (Some nop) None)) s ≡ s
 slot_total true s = refl
@@ -59,11 +61,16 @@ pub plain_means : (b : BlockParts) → Means b (plain_order_of b)
 plain_means b s link r words low e =
     let block = block_total b s link r e in
     let same = padded_total b.insts s in
-    order_runs (plain_order_of b) s link (slot_fits (is_slotted b.exit)) (clean_plain b) (safe_padded b.insts s block.0) (slot_safe (is_slotted b.exit) _) ∙ ap (λ x. Some (leaves_total b.exit (slot_actions (cond (is_slotted b.exit) (Some nop) None)) link x)) same ∙ ap (λ x. Some (record { state = x; goes = (leaves_total b.exit [] link (total (map action_of b.insts) s)).goes })) (slot_total (is_slotted b.exit) (exited b.exit link (total (map action_of b.insts) s))) ∙ ap Some (sym block.1)
+    order_runs (plain_order_of b) s link (slot_fits (is_slotted b.exit)) (clean_plain b) (safe_padded b.insts s block.0)
+    (slot_safe (is_slotted b.exit) _)
+    ∙ ap (λ x. Some (leaves_total b.exit (slot_actions (cond (is_slotted b.exit) (Some nop) None)) link x)) same
+    ∙ ap (λ x. Some (record { state = x; goes = (leaves_total b.exit [] link (total (map action_of b.insts) s)).goes }))
+    (slot_total (is_slotted b.exit) (exited b.exit link (total (map action_of b.insts) s))) ∙ ap Some (sym block.1)
 
 -- ---- whole units
 
-plain_each : (blocks : List BlockParts) (k : ℕ) (o : OrderParts) → slice_get (map plain_order_of blocks) k ≡ Some o → (b : BlockParts) × (slice_get blocks k ≡ Some b) × (o ≡ plain_order_of b)
+plain_each : (blocks : List BlockParts) (k : ℕ) (o : OrderParts) → slice_get (map plain_order_of blocks) k ≡ Some o → (b : BlockParts)
+    × (slice_get blocks k ≡ Some b) × (o ≡ plain_order_of b)
 plain_each [] k o e = absurd (none-some o e)
 plain_each (b ∷ rest) zero o e = (b, refl, sym (same_Some (plain_order_of b) o e))
 plain_each (b ∷ rest) (suc k) o e = plain_each rest k o e

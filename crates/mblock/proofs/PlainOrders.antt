@@ -1,5 +1,7 @@
 -- Plain orders break no delay rule.
-use Rattle.std.proofs.Common.{◌≡◌, ℕ, zero, suc, ◌<◌, ◌≤◌, ◌⊎◌, ⊎_elim, Bool, true, false, cond, ◌||◌, ◌==◌, ne_eqb, List, [], ◌∷◌, ◌++◌, map, flat_map, length, slice_get, Option, Some, None, refl, sym, ap, ◌∙◌, subst, true≢false, append_assoc, length-append, arith, ◌*◌, ◌+◌, take, get_or}
+use Rattle.std.proofs.Common.{◌≡◌, ℕ, zero, suc, ◌<◌, ◌≤◌, ◌⊎◌, ⊎_elim, Bool, true, false, cond, ◌||◌, ◌==◌, ne_eqb, List, [], ◌∷◌, ◌++◌}
+use Rattle.std.proofs.Common.{map, flat_map, length, slice_get, Option, Some, None, refl, sym, ap, ◌∙◌, subst, true≢false, append_assoc}
+use Rattle.std.proofs.Common.{length-append, arith, ◌*◌, ◌+◌, take, get_or}
 use Rattle.std.proofs.lemmas.List.{take_more}
 use Rattle.std.proofs.lemmas.Option.{same_Some, none-some}
 use Rattle.mips_isa.specs.declared.inst.Plain.{Plain}
@@ -46,14 +48,18 @@ nop_touches (suc r) e =
 abbrev pub Apart : List Plain → Type 0
 Apart l = (i r : ℕ) (a b : Plain) → slice_get l i ≡ Some a → slice_get l (suc i) ≡ Some b → loads (action_of a) r ≡ true → touches (action_of b) r ≡ false
 
-apart_more : (x : Plain) (l : List Plain) → ((r : ℕ) (b : Plain) → slice_get l 0 ≡ Some b → loads (action_of x) r ≡ true → touches (action_of b) r ≡ false) → Apart l → Apart (x ∷ l)
+apart_more : (x : Plain) (l : List Plain)
+    → ((r : ℕ) (b : Plain) → slice_get l 0 ≡ Some b → loads (action_of x) r ≡ true → touches (action_of b) r ≡ false) → Apart l → Apart (x ∷ l)
 apart_more x l h k zero r a b ea eb e = h r b eb (subst (λ y. loads (action_of y) r ≡ true) (sym (same_Some x a ea)) e)
 apart_more x l h k (suc i) r a b ea eb e = k i r a b ea eb e
 
 abbrev pub Behind : List (Option Action) → Type 0
-Behind l = (i : ℕ) (a b : Action) → slice_get l i ≡ Some (Some a) → is_move a ≡ true → (slice_get l (suc i) ≡ Some (Some b)) ⊎ (slice_get l (suc (suc i)) ≡ Some (Some b)) → is_product b ≡ false
+Behind l = (i : ℕ) (a b : Action) → slice_get l i ≡ Some (Some a) → is_move a ≡ true
+    → (slice_get l (suc i) ≡ Some (Some b)) ⊎ (slice_get l (suc (suc i)) ≡ Some (Some b)) → is_product b ≡ false
 
-behind_more : (x : Option Action) (l : List (Option Action)) → ((a b : Action) → x ≡ Some a → is_move a ≡ true → (slice_get l 0 ≡ Some (Some b)) ⊎ (slice_get l 1 ≡ Some (Some b)) → is_product b ≡ false) → Behind l → Behind (x ∷ l)
+behind_more : (x : Option Action) (l : List (Option Action))
+    → ((a b : Action) → x ≡ Some a → is_move a ≡ true → (slice_get l 0 ≡ Some (Some b)) ⊎ (slice_get l 1 ≡ Some (Some b))
+    → is_product b ≡ false) → Behind l → Behind (x ∷ l)
 behind_more x l h k zero a b ea m eb = h a b (same_Some x (Some a) ea) m eb
 behind_more x l h k (suc i) a b ea m eb = k i a b ea m eb
 
@@ -85,9 +91,11 @@ nop_keeps l tail k = record {
   followed = followed_more nop l (λ e. absurd (true≢false (sym e))) k.followed;
 }
 
-pads_keep : (x : Plain) (l m : Bool) (rest : List Plain) (tail : List (Option Action)) → is_load (action_of x) ≡ l → is_move (action_of x) ≡ m → Keeps rest tail → Keeps (x ∷ (pads l m ++ rest)) tail
+pads_keep : (x : Plain) (l m : Bool) (rest : List Plain) (tail : List (Option Action)) → is_load (action_of x) ≡ l
+    → is_move (action_of x) ≡ m → Keeps rest tail → Keeps (x ∷ (pads l m ++ rest)) tail
 pads_keep x true m rest tail el em k = record {
-  apart = apart_more x (nop ∷ rest) (λ r b eb e. subst (λ y. touches (action_of y) r ≡ false) (same_Some nop b eb) (nop_touches r (loads_register (action_of x) r e))) below.apart;
+  apart = apart_more x (nop ∷ rest)
+      (λ r b eb e. subst (λ y. touches (action_of y) r ≡ false) (same_Some nop b eb) (nop_touches r (loads_register (action_of x) r e))) below.apart;
   behind = behind_still (action_of x) (kinds_of (nop ∷ rest) tail) (still (action_of x) el) below.behind;
   followed = followed_more x (nop ∷ rest) (λ _. omega arith) below.followed;
 }
@@ -129,7 +137,8 @@ padded_keep (x ∷ rest) tail h = pads_keep x (is_load (action_of x)) (is_move (
 
 pub padded_append : (a b : List Plain) → flat_map padded_inst (a ++ b) ≡ flat_map padded_inst a ++ flat_map padded_inst b
 padded_append [] b = refl
-padded_append (x ∷ a) b = ap (λ l. padded_inst x ++ l) (padded_append a b) ∙ sym (append_assoc (padded_inst x) (flat_map padded_inst a) (flat_map padded_inst b))
+padded_append (x ∷ a) b = ap (λ l. padded_inst x ++ l) (padded_append a b)
+    ∙ sym (append_assoc (padded_inst x) (flat_map padded_inst a) (flat_map padded_inst b))
 
 pub padded_length : (l : List Plain) → length l ≤ length (flat_map padded_inst l)
 padded_length [] = omega arith
@@ -142,9 +151,14 @@ safe_pads false false rest s h = h
 
 pub safe_padded : (l : List Plain) (s : State) → AllSafe (map action_of l) s → AllSafe (map action_of (flat_map padded_inst l)) s
 safe_padded [] s h = tt
-safe_padded (x ∷ l) s h = (h.0, safe_pads (is_load (action_of x)) (is_move (action_of x)) (flat_map padded_inst l) (state_after (action_of x) s) (safe_padded l (state_after (action_of x) s) h.1))
+safe_padded (x ∷ l) s h = (
+  h.0,
+  safe_pads (is_load (action_of x)) (is_move (action_of x)) (flat_map padded_inst l) (state_after (action_of x) s)
+      (safe_padded l (state_after (action_of x) s) h.1),
+)
 
-pub plain_at : (blocks : List BlockParts) (t : ℕ) (b : BlockParts) → slice_get blocks t ≡ Some b → slice_get (map plain_order_of blocks) t ≡ Some (plain_order_of b)
+pub plain_at : (blocks : List BlockParts) (t : ℕ) (b : BlockParts) → slice_get blocks t ≡ Some b
+    → slice_get (map plain_order_of blocks) t ≡ Some (plain_order_of b)
 plain_at [] t b e = absurd (none-some b e)
 plain_at (x ∷ rest) zero b e = ap (λ y. Some (plain_order_of y)) (same_Some x b e)
 plain_at (x ∷ rest) (suc t) b e = plain_at rest t b e
@@ -157,7 +171,8 @@ pads_short false false = omega arith
 
 pub padded_short : (l : List Plain) → length (flat_map padded_inst l) ≤ 3 * length l
 padded_short [] = omega arith
-padded_short (x ∷ l) = omega (arith, padded_short l, pads_short (is_load (action_of x)) (is_move (action_of x)), length-append (padded_inst x) (flat_map padded_inst l))
+padded_short (x ∷ l) =
+    omega (arith, padded_short l, pads_short (is_load (action_of x)) (is_move (action_of x)), length-append (padded_inst x) (flat_map padded_inst l))
 
 -- ---- the orders of some blocks, and of one more
 

@@ -6,7 +6,8 @@ use Rattle.mips_isa.specs.declared.action.Action.{Action}
 use Rattle.mips_isa.specs.Actions.{action_of, is_safe, state_after}
 use Rattle.mips_isa.proofs.StateWords.{put_below, after_words}
 use Rattle.mblock.specs.declared.exit.Exit.{Exit}
-use Rattle.mblock.specs.BlockMeaning.{Shape, Goes, ChoosesPair, ChoosesZero, Calls, Returns, Prints, Halts, exit_shape, exit_puts, exit_effect, exit_effect_after, run}
+use Rattle.mblock.specs.BlockMeaning.{Shape, Goes, ChoosesPair, ChoosesZero, Calls, Returns, Prints, Halts, exit_shape, exit_puts}
+use Rattle.mblock.specs.BlockMeaning.{exit_effect, exit_effect_after, run}
 use Rattle.mblock.specs.Orders.{EachBlockKeepsWords}
 
 pub run_words : (acts : List Action) (s s' : State) → IsWords s → run acts s ≡ Some s' → IsWords s'
@@ -34,4 +35,5 @@ block_words b s link r h low e = go (run (map action_of b.insts) s) refl e
   where
     go : (x : Option State) → run (map action_of b.insts) s ≡ x → exit_effect_after b.exit x link ≡ Some r → IsWords r.state
     go None ex h' = absurd (none-some r h')
-    go (Some t) ex h' = subst (λ o. IsWords o.state) (same_Some (exit_effect b.exit t link) r h') (leave_words b.exit t link (run_words (map action_of b.insts) s t h ex) low)
+    go (Some t) ex h' =
+        subst (λ o. IsWords o.state) (same_Some (exit_effect b.exit t link) r h') (leave_words b.exit t link (run_words (map action_of b.insts) s t h ex) low)

@@ -1,5 +1,6 @@
 -- The words of an order by their places, and the tests of two delay rules there.
-use Rattle.std.proofs.Common.{◌≡◌, ℕ, zero, suc, ◌+◌, ◌-◌, ◌<◌, ◌≤◌, ◌⊎◌, inl, inr, Bool, true, false, ◌&&◌, ◌||◌, ◌==◌, List, [], ◌∷◌, length, slice_get, Option, Some, None, refl, sym, ap, ap₂, ◌∙◌, subst, true≢false, ⊎_elim, not, IsTrue, arith}
+use Rattle.std.proofs.Common.{◌≡◌, ℕ, zero, suc, ◌+◌, ◌-◌, ◌<◌, ◌≤◌, ◌⊎◌, inl, inr, Bool, true, false, ◌&&◌, ◌||◌, ◌==◌, List, [], ◌∷◌}
+use Rattle.std.proofs.Common.{length, slice_get, Option, Some, None, refl, sym, ap, ap₂, ◌∙◌, subst, true≢false, ⊎_elim, not, IsTrue, arith}
 use Rattle.std.proofs.lemmas.Bool.{and_parts, cases_lt}
 use Rattle.std.proofs.lemmas.Option.{same_Some, none-some, slice_get_within}
 use Rattle.mips_isa.specs.declared.inst.Plain.{Plain}
@@ -10,7 +11,8 @@ use Rattle.mblock.specs.CleanTests.{is_product_word, is_move_word, loads_named, 
 use Rattle.mblock.proofs.Conflicts.{conflict_free, conflict_found}
 
 -- an instruction's word
-pub kind_in : (insts : List Plain) (tail : List (Option Action)) (k : ℕ) (x : Plain) → slice_get insts k ≡ Some x → slice_get (kinds_of insts tail) k ≡ Some (Some (action_of x))
+pub kind_in : (insts : List Plain) (tail : List (Option Action)) (k : ℕ) (x : Plain) → slice_get insts k ≡ Some x
+    → slice_get (kinds_of insts tail) k ≡ Some (Some (action_of x))
 kind_in [] tail k x e = absurd (none-some x e)
 kind_in (i ∷ rest) tail zero x e = ap (λ y. Some (Some (action_of y))) (same_Some i x e)
 kind_in (i ∷ rest) tail (suc k) x e = kind_in rest tail k x e
@@ -32,7 +34,8 @@ kind_beyond insts slot k h =
     kind_past insts (slot_words slot) k (suc (suc (k - length insts - 2))) at ∙ slot_last slot (k - length insts - 2)
 
 -- no product stands there but an instruction or the slot
-pub past_at : (insts : List Plain) (slot : Option Plain) (k : ℕ) → length insts ≤ k → (k ≡ length insts + 1 → ⊥) → is_product_word (slice_get (kinds_of insts (slot_words slot)) k) ≡ false
+pub past_at : (insts : List Plain) (slot : Option Plain) (k : ℕ) → length insts ≤ k → (k ≡ length insts + 1 → ⊥)
+    → is_product_word (slice_get (kinds_of insts (slot_words slot)) k) ≡ false
 past_at insts slot k h apart = go (k - length insts) refl
   where
     go : (j : ℕ) → k - length insts ≡ j → is_product_word (slice_get (kinds_of insts (slot_words slot)) k) ≡ false
@@ -80,7 +83,8 @@ behind_not words k e behind = moves (slice_get words k) refl parts.0
     parts : (is_move_word (slice_get words k) ≡ true) × ((is_product_word (slice_get words (k + 1)) || is_product_word (slice_get words (k + 2))) ≡ true)
     parts = and_parts _ _ e
 
-    product : (a : Action) → slice_get words k ≡ Some (Some a) → is_move a ≡ true → (w : Option (Option Action)) (m : ℕ) → slice_get words m ≡ w → is_product_word w ≡ true → ((b : Action) → slice_get words m ≡ Some (Some b) → is_product b ≡ false) → ⊥
+    product : (a : Action) → slice_get words k ≡ Some (Some a) → is_move a ≡ true → (w : Option (Option Action)) (m : ℕ)
+        → slice_get words m ≡ w → is_product_word w ≡ true → ((b : Action) → slice_get words m ≡ Some (Some b) → is_product b ≡ false) → ⊥
     product a ea ma None m ew h quiet = true≢false (sym h)
     product a ea ma (Some None) m ew h quiet = true≢false (sym h)
     product a ea ma (Some (Some b)) m ew h quiet = true≢false (sym h ∙ quiet b ew)
@@ -100,7 +104,8 @@ behind_not words k e behind = moves (slice_get words k) refl parts.0
         either (inl p) = product a ew h (slice_get words (k + 1)) (k + 1) refl p (λ b eb. behind k a b ew h (inl (ap (slice_get words) one ∙ eb)))
         either (inr p) = product a ew h (slice_get words (k + 2)) (k + 2) refl p (λ b eb. behind k a b ew h (inr (ap (slice_get words) two ∙ eb)))
 
-pub behind_is : (insts : List Plain) (slot : Option Plain) → ((k : ℕ) → k < length insts → early_at (kinds_of insts (slot_words slot)) k ≡ false) → IsBehind (kinds_of insts (slot_words slot))
+pub behind_is : (insts : List Plain) (slot : Option Plain)
+    → ((k : ℕ) → k < length insts → early_at (kinds_of insts (slot_words slot)) k ≡ false) → IsBehind (kinds_of insts (slot_words slot))
 behind_is insts slot h i a b ea ma eb = place (cases_lt i (length insts))
   where
     words : List (Option Action)
@@ -150,16 +155,24 @@ pub below_next : (test : ℕ → Bool) (k : ℕ) → ((i : ℕ) → i < k → te
 below_next test k h here i lt = ⊎_elim (h i) (λ le. let same : i ≡ k = omega (arith, lt, le) in ap test same ∙ here) (cases_lt i k)
 
 -- the last instruction
-pub end_is : (insts : List Plain) (test : ℕ → Bool) (k : ℕ) (x : Plain) → slice_get insts k ≡ Some x → suc k ≡ length insts → loads_named (action_of x) test ≡ false → (i r : ℕ) (a : Plain) → slice_get insts i ≡ Some a → suc i ≡ length insts → loads (action_of a) r ≡ true → test r ≡ false
+pub end_is : (insts : List Plain) (test : ℕ → Bool) (k : ℕ) (x : Plain) → slice_get insts k ≡ Some x → suc k ≡ length insts
+    → loads_named (action_of x) test ≡ false → (i r : ℕ) (a : Plain) → slice_get insts i ≡ Some a → suc i ≡ length insts
+    → loads (action_of a) r ≡ true → test r ≡ false
 end_is insts test k x ex ek free i r a ea ei l =
     let same : i ≡ k = omega (arith, ei, ek) in
     let one : a ≡ x = same_Some a x (sym ea ∙ ap (slice_get insts) same ∙ ex) in
     conflict_free (action_of a) test (ap (λ y. loads_named (action_of y) test) one ∙ free) r l
 
-pub end_not : (insts : List Plain) (test : ℕ → Bool) (k : ℕ) (x : Plain) → slice_get insts k ≡ Some x → suc k ≡ length insts → loads_named (action_of x) test ≡ true → ((i r : ℕ) (a : Plain) → slice_get insts i ≡ Some a → suc i ≡ length insts → loads (action_of a) r ≡ true → test r ≡ false) → ⊥
+pub end_not : (insts : List Plain) (test : ℕ → Bool) (k : ℕ) (x : Plain) → slice_get insts k ≡ Some x → suc k ≡ length insts
+    → loads_named (action_of x) test ≡ true
+    → ((i r : ℕ) (a : Plain) → slice_get insts i ≡ Some a → suc i ≡ length insts → loads (action_of a) r ≡ true → test r ≡ false) → ⊥
 end_not insts test k x ex ek found quiet = conflict_found (action_of x) test found (λ r l. quiet k r x ex ek l)
 
-pub end_test : (insts : List Plain) (test : ℕ → Bool) (k : ℕ) (x : Plain) (b : Bool) → slice_get insts k ≡ Some x → suc k ≡ length insts → b ≡ loads_named (action_of x) test → (IsTrue (not b) → (i r : ℕ) (a : Plain) → slice_get insts i ≡ Some a → suc i ≡ length insts → loads (action_of a) r ≡ true → test r ≡ false) × (((i r : ℕ) (a : Plain) → slice_get insts i ≡ Some a → suc i ≡ length insts → loads (action_of a) r ≡ true → test r ≡ false) → IsTrue (not b))
+pub end_test : (insts : List Plain) (test : ℕ → Bool) (k : ℕ) (x : Plain) (b : Bool) → slice_get insts k ≡ Some x → suc k ≡ length insts
+    → b ≡ loads_named (action_of x) test
+    → (IsTrue (not b) → (i r : ℕ) (a : Plain) → slice_get insts i ≡ Some a → suc i ≡ length insts → loads (action_of a) r ≡ true
+    → test r ≡ false)
+    × (((i r : ℕ) (a : Plain) → slice_get insts i ≡ Some a → suc i ≡ length insts → loads (action_of a) r ≡ true → test r ≡ false) → IsTrue (not b))
 end_test insts test k x true ex ek eb = (λ t. absurd (true≢false (sym t)), λ quiet. absurd (end_not insts test k x ex ek (sym eb) quiet))
 end_test insts test k x false ex ek eb = (λ _. end_is insts test k x ex ek (sym eb), λ _. refl)
 
@@ -168,6 +181,7 @@ some_length zero e = absurd (true≢false (sym e))
 some_length (suc n) e = omega arith
 
 -- the second rule of equal words
-pub behind_along : (insts others : List Plain) (slot other : Option Plain) → insts ≡ others → slot ≡ other → IsBehind (kinds_of insts (slot_words slot)) → IsBehind (kinds_of others (slot_words other))
+pub behind_along : (insts others : List Plain) (slot other : Option Plain) → insts ≡ others → slot ≡ other
+    → IsBehind (kinds_of insts (slot_words slot)) → IsBehind (kinds_of others (slot_words other))
 behind_along insts others slot other e f h =
     subst (λ x. IsBehind (kinds_of others (slot_words x))) f (subst (λ x. IsBehind (kinds_of x (slot_words slot))) e h)

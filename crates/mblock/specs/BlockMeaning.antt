@@ -54,14 +54,14 @@ pub data Departure : Type 0 where
   PrintsTo : (word n : ℕ) → Departure
   HaltsWith : (word : ℕ) → Departure
 
-abbrev pub depart : Shape → List ℕ → Departure
-depart (Goes t) words = GoesTo t
-depart (ChoosesPair test t e) words = GoesTo (if pair_passes test (slice_index words 0) (slice_index words 1) then t else e)
-depart (ChoosesZero test t e) words = GoesTo (if zero_passes test (slice_index words 0) then t else e)
-depart (Calls f n) words = CallsTo f n
-depart Returns words = GoesBack (slice_index words 0)
-depart (Prints n) words = PrintsTo (slice_index words 0) n
-depart Halts words = HaltsWith (slice_index words 0)
+abbrev pub departure_of : Shape → List ℕ → Departure
+departure_of (Goes t) words = GoesTo t
+departure_of (ChoosesPair test t e) words = GoesTo (if pair_passes test (slice_index words 0) (slice_index words 1) then t else e)
+departure_of (ChoosesZero test t e) words = GoesTo (if zero_passes test (slice_index words 0) then t else e)
+departure_of (Calls f n) words = CallsTo f n
+departure_of Returns words = GoesBack (slice_index words 0)
+departure_of (Prints n) words = PrintsTo (slice_index words 0) n
+departure_of Halts words = HaltsWith (slice_index words 0)
 
 pub record Effect : Type 0 where
   pub state : State
@@ -75,7 +75,7 @@ run (a ∷ rest) s = if is_safe a s then run rest (state_after a s) else None
 abbrev pub exit_effect : Exit → State → ℕ → Effect
 exit_effect exit s link = record {
   state = record s { regs = exit_puts link 1 10 (exit_shape exit) s.regs };
-  goes = depart (exit_shape exit) (map (read 0 s.regs) (exit_reads exit));
+  goes = departure_of (exit_shape exit) (map (read 0 s.regs) (exit_reads exit));
 }
 
 abbrev pub exit_effect_after : Exit → Option State → ℕ → Option Effect

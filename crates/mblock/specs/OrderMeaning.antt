@@ -1,6 +1,6 @@
 -- What an order does, word by word. In order: its instructions, a word each, a loaded register showing one word
 -- later (`words_from`); the exit word, which reads its operands, puts in its link and settles where the run goes
--- (`exit_word`, `depart`); the slot (`slot_word`); then what is pending shows (`ends`). Out and Halt have no slot and are
+-- (`exit_word`, `departure_of`); the slot (`slot_word`); then what is pending shows (`effect_at_end`). Out and Halt have no slot and are
 -- two words: the first puts a number into register 2, the second calls the system (`system_call`).
 use Rattle.std.specs.Prelude.{ℕ, pos, Bool, ◌||◌, List, map, Option, Some, None, if◌then◌else◌}
 use Rattle.words.specs.declared.operator.Operator.TheVariants.{Addu}
@@ -12,17 +12,17 @@ use Rattle.mips_isa.specs.declared.action.Action.{Action}
 use Rattle.mips_isa.specs.declared.action.Action.TheVariants.{Computes}
 use Rattle.mips_isa.specs.States.{State, read}
 use Rattle.mips_isa.specs.Actions.{action_of, touches, is_load, is_move}
-use Rattle.mips_isa.specs.Flows.{Flow, settle, on_pending, quiet}
+use Rattle.mips_isa.specs.Flows.{Flow, state_with_pending, on_pending, quiet}
 use Rattle.mips_isa.specs.Controls.{control_touches, flow_past}
 use Rattle.mips_isa.specs.Steps.{word, words_from}
 use Rattle.mblock.specs.declared.exit.Exit.{Exit}
 use Rattle.mblock.specs.declared.exit.Exit.TheVariants.{Goto, BranchPair, BranchZero, Call, Return, Out, Halt}
 use Rattle.mblock.specs.Parts.{OrderParts}
-use Rattle.mblock.specs.BlockMeaning.{exit_shape, exit_reads, exit_puts, Departure, depart, Effect}
+use Rattle.mblock.specs.BlockMeaning.{exit_shape, exit_reads, exit_puts, Departure, departure_of, Effect}
 
 -- the first word of a call to the system: its number into register 2
-abbrev pub puts_number : ℕ → Action
-puts_number number = Computes 2 Addu 0 (Fixed number)
+abbrev pub number_action : ℕ → Action
+number_action number = Computes 2 Addu 0 (Fixed number)
 
 -- the registers that the first word of the exit reads or writes, wherever it leads to
 abbrev pub exit_touches : Exit → ℕ → Bool
@@ -31,8 +31,8 @@ exit_touches (BranchPair test a b t e) r = control_touches (controls.BranchPair 
 exit_touches (BranchZero test a t e) r = control_touches (controls.BranchZero test a (pos 0)) r
 exit_touches (Call f n) r = control_touches (controls.JumpTo JumpAndLink f) r
 exit_touches Return r = control_touches (controls.JumpRegister 31) r
-exit_touches (Out n) r = touches (puts_number 1) r
-exit_touches Halt r = touches (puts_number 10) r
+exit_touches (Out n) r = touches (number_action 1) r
+exit_touches Halt r = touches (number_action 10) r
 
 -- the word of an exit with a slot
 abbrev pub exit_word : Exit → Flow → ℕ → Option Flow
@@ -45,9 +45,9 @@ abbrev pub slot_word : Action → Option Flow → Option Flow
 slot_word a None = None
 slot_word a (Some f) = if is_load a || is_move a then None else word a f
 
-abbrev pub ends : Departure → Option Flow → Option Effect
-ends goes None = None
-ends goes (Some f) = Some (record { state = settle f.pending f.state; goes = goes })
+abbrev pub effect_at_end : Departure → Option Flow → Option Effect
+effect_at_end goes None = None
+effect_at_end goes (Some f) = Some (record { state = state_with_pending f.pending f.state; goes = goes })
 
 abbrev pub operand_words : Exit → Flow → List ℕ
 operand_words exit f = map (read 0 f.state.regs) (exit_reads exit)
@@ -57,30 +57,30 @@ abbrev pub system_word : Exit → Option Flow → Option Effect
 system_word exit None = None
 system_word exit (Some f) =
     if on_pending f.pending (control_touches controls.SystemCall) then None
-    else ends (depart (exit_shape exit) (operand_words exit f)) (Some f)
+    else effect_at_end (departure_of (exit_shape exit) (operand_words exit f)) (Some f)
 
 abbrev pub system_call : Exit → ℕ → Option Plain → Flow → Option Effect
 system_call exit number (Some i) f = None
-system_call exit number None f = system_word exit (word (puts_number number) f)
+system_call exit number None f = system_word exit (word (number_action number) f)
 
 abbrev pub jump : Exit → Option Plain → Flow → ℕ → Option Effect
 jump exit None f link = None
 jump exit (Some i) f link =
-    ends (depart (exit_shape exit) (operand_words exit f)) (slot_word (action_of i) (exit_word exit f link))
+    effect_at_end (departure_of (exit_shape exit) (operand_words exit f)) (slot_word (action_of i) (exit_word exit f link))
 
-abbrev pub order_leaves : Exit → Option Plain → Flow → ℕ → Option Effect
-order_leaves (Goto t) slot f link = jump (Goto t) slot f link
-order_leaves (BranchPair test a b t e) slot f link = jump (BranchPair test a b t e) slot f link
-order_leaves (BranchZero test a t e) slot f link = jump (BranchZero test a t e) slot f link
-order_leaves (Call g n) slot f link = jump (Call g n) slot f link
-order_leaves Return slot f link = jump Return slot f link
-order_leaves (Out n) slot f link = system_call (Out n) 1 slot f
-order_leaves Halt slot f link = system_call Halt 10 slot f
+abbrev pub order_end_effect : Exit → Option Plain → Flow → ℕ → Option Effect
+order_end_effect (Goto t) slot f link = jump (Goto t) slot f link
+order_end_effect (BranchPair test a b t e) slot f link = jump (BranchPair test a b t e) slot f link
+order_end_effect (BranchZero test a t e) slot f link = jump (BranchZero test a t e) slot f link
+order_end_effect (Call g n) slot f link = jump (Call g n) slot f link
+order_end_effect Return slot f link = jump Return slot f link
+order_end_effect (Out n) slot f link = system_call (Out n) 1 slot f
+order_end_effect Halt slot f link = system_call Halt 10 slot f
 
-abbrev pub order_left : Exit → Option Plain → Option Flow → ℕ → Option Effect
-order_left exit slot None link = None
-order_left exit slot (Some f) link = order_leaves exit slot f link
+abbrev pub order_effect_from : Exit → Option Plain → Option Flow → ℕ → Option Effect
+order_effect_from exit slot None link = None
+order_effect_from exit slot (Some f) link = order_end_effect exit slot f link
 
 -- what an order does from a state, with the link that a call of it would put in; or nothing where it is stuck
 abbrev pub order_effect : OrderParts → State → ℕ → Option Effect
-order_effect o s link = order_left o.exit o.slot (words_from (map action_of o.insts) (Some (quiet s))) link
+order_effect o s link = order_effect_from o.exit o.slot (words_from (map action_of o.insts) (Some (quiet s))) link

@@ -17,34 +17,34 @@ wrong out = record { end = Wrong; output = out }
 abbrev pub Next : Type 0
 Next = ℕ → List Plain → State → List ℕ → Outcome
 
-abbrev pub call_goes_on : Exit → Bool → Option ℕ → Option ℕ
-call_goes_on (Call f n) true rest = Some n
-call_goes_on exit found rest = rest
+abbrev pub call_return_of : Exit → Bool → Option ℕ → Option ℕ
+call_return_of (Call f n) true rest = Some n
+call_return_of exit found rest = rest
 
 -- where the call with that link goes on
-abbrev pub returns_to : (ℕ → ℕ) → ℕ → ℕ → List BlockParts → Option ℕ
-returns_to links word k [] = None
-returns_to links word k (b ∷ rest) = call_goes_on b.exit (links k == word) (returns_to links word (suc k) rest)
+abbrev pub return_block_of : (ℕ → ℕ) → ℕ → ℕ → List BlockParts → Option ℕ
+return_block_of links word k [] = None
+return_block_of links word k (b ∷ rest) = call_return_of b.exit (links k == word) (return_block_of links word (suc k) rest)
 
-abbrev pub enter_at : ℕ → Option BlockParts → Next → State → List ℕ → Outcome
-enter_at t None next s out = wrong out
-enter_at t (Some b) next s out = next t b.insts s out
+abbrev pub outcome_at_block : ℕ → Option BlockParts → Next → State → List ℕ → Outcome
+outcome_at_block t None next s out = wrong out
+outcome_at_block t (Some b) next s out = next t b.insts s out
 
-abbrev pub enter_if : List BlockParts → Option ℕ → Next → State → List ℕ → Outcome
-enter_if blocks None next s out = wrong out
-enter_if blocks (Some t) next s out = enter_at t (slice_get blocks t) next s out
+abbrev pub outcome_at_return : List BlockParts → Option ℕ → Next → State → List ℕ → Outcome
+outcome_at_return blocks None next s out = wrong out
+outcome_at_return blocks (Some t) next s out = outcome_at_block t (slice_get blocks t) next s out
 
-abbrev pub goes_on : List BlockParts → (ℕ → ℕ) → Departure → Next → State → List ℕ → Outcome
-goes_on blocks links (GoesTo t) next s out = enter_at t (slice_get blocks t) next s out
-goes_on blocks links (CallsTo f n) next s out = enter_at f (slice_get blocks f) next s out
-goes_on blocks links (GoesBack word) next s out = enter_if blocks (returns_to links word 0 blocks) next s out
-goes_on blocks links (PrintsTo word n) next s out = enter_at n (slice_get blocks n) next s (out ++ word ∷ [])
-goes_on blocks links (HaltsWith word) next s out = record { end = Done word; output = out }
+abbrev pub outcome_of_departure : List BlockParts → (ℕ → ℕ) → Departure → Next → State → List ℕ → Outcome
+outcome_of_departure blocks links (GoesTo t) next s out = outcome_at_block t (slice_get blocks t) next s out
+outcome_of_departure blocks links (CallsTo f n) next s out = outcome_at_block f (slice_get blocks f) next s out
+outcome_of_departure blocks links (GoesBack word) next s out = outcome_at_return blocks (return_block_of links word 0 blocks) next s out
+outcome_of_departure blocks links (PrintsTo word n) next s out = outcome_at_block n (slice_get blocks n) next s (out ++ word ∷ [])
+outcome_of_departure blocks links (HaltsWith word) next s out = record { end = Done word; output = out }
 
 abbrev pub exit_item : List BlockParts → (ℕ → ℕ) → ℕ → Option BlockParts → Next → State → List ℕ → Outcome
 exit_item blocks links k None next s out = wrong out
 exit_item blocks links k (Some b) next s out =
-    goes_on blocks links (exit_effect b.exit s (links k)).goes next (exit_effect b.exit s (links k)).state out
+    outcome_of_departure blocks links (exit_effect b.exit s (links k)).goes next (exit_effect b.exit s (links k)).state out
 
 -- one item
 abbrev pub item : List BlockParts → (ℕ → ℕ) → Next → Next
@@ -59,7 +59,7 @@ items blocks links (suc n) k rest s out = item blocks links (items blocks links 
 
 -- a run of n items from the start of block 0
 abbrev pub unit_run : List BlockParts → (ℕ → ℕ) → State → ℕ → Outcome
-unit_run blocks links s n = enter_at 0 (slice_get blocks 0) (items blocks links n) s []
+unit_run blocks links s n = outcome_at_block 0 (slice_get blocks 0) (items blocks links n) s []
 
 abbrev pub is_call : Exit → Bool
 is_call (Goto t) = false
@@ -73,7 +73,8 @@ is_call Halt = false
 -- a word for each call, and none twice
 pub record TellsApart (links : ℕ → ℕ) (blocks : List BlockParts) : Type 0 where
   pub words : (k : ℕ) → links k < 2 ^ 32
-  pub apart : (i j : ℕ) (a b : BlockParts) → slice_get blocks i ≡ Some a → slice_get blocks j ≡ Some b → is_call a.exit ≡ true → is_call b.exit ≡ true → links i ≡ links j → i ≡ j
+  pub apart : (i j : ℕ) (a b : BlockParts) → slice_get blocks i ≡ Some a → slice_get blocks j ≡ Some b → is_call a.exit ≡ true
+      → is_call b.exit ≡ true → links i ≡ links j → i ≡ j
 
 -- after so many items or more the unit has this end and output, whatever the links
 abbrev pub ComesTo : List BlockParts → State → ℕ → Outcome → Type 0

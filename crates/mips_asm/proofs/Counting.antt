@@ -1,5 +1,6 @@
 -- Counting the words of functions, block by block.
-use Rattle.std.proofs.Common.{◌≡◌, ◌≢◌, ℕ, zero, suc, ◌+◌, ◌<◌, ◌≤◌, Bool, true, false, cond, ◌==◌, inl, inr, List, [], ◌∷◌, ◌++◌, length, take, drop, get_or, take-append-drop, length-take-le, refl, sym, ap, ap₂, ◌∙◌, subst, true≢false, arith}
+use Rattle.std.proofs.Common.{◌≡◌, ◌≢◌, ℕ, zero, suc, ◌+◌, ◌<◌, ◌≤◌, Bool, true, false, cond, ◌==◌, inl, inr, List, [], ◌∷◌, ◌++◌, length}
+use Rattle.std.proofs.Common.{take, drop, get_or, take-append-drop, length-take-le, refl, sym, ap, ap₂, ◌∙◌, subst, true≢false, arith}
 use Rattle.std.proofs.lemmas.Bool.{ne_eqb, eq-eqb, eqb-true, cases_eq}
 use Rattle.std.proofs.lemmas.List.{take_more}
 use Rattle.mblock.specs.Parts.{OrderParts}
@@ -42,10 +43,12 @@ module _ (n : ℕ) (owner : ℕ → ℕ) (h : AreFunctions n owner) (done : List
   k = length done
 
   -- the words so far of the function of block k
-  so_far : (words start : ℕ) → Counts owner done words → (b : Bool) → (owner (length done) == length done) ≡ b → start ≡ cond b 0 words → words_owned owner (owner (length done)) 0 done ≡ start
+  so_far : (words start : ℕ) → Counts owner done words → (b : Bool) → (owner (length done) == length done) ≡ b → start ≡ cond b 0 words
+      → words_owned owner (owner (length done)) 0 done ≡ start
   so_far words start c true eb es =
       let own = eqb-true (owner (length done)) (length done) eb in
-      owned_none owner (owner (length done)) done 0 (λ j lj e. let low = owner_low n owner h j (omega arith) in let x : owner (0 + j) ≡ owner j = ap owner (omega arith) in omega arith) ∙ sym es
+      owned_none owner (owner (length done)) done 0
+      (λ j lj e. let low = owner_low n owner h j (omega arith) in let x : owner (0 + j) ≡ owner j = ap owner (omega arith) in omega arith) ∙ sym es
   so_far words start c false eb es = go (length done) refl
     where
       go : (m : ℕ) → length done ≡ m → words_owned owner (owner (length done)) 0 done ≡ start
@@ -55,13 +58,16 @@ module _ (n : ℕ) (owner : ℕ → ℕ) (h : AreFunctions n owner) (done : List
         | inr e ↦ ap (λ g. words_owned owner g 0 done) (ap owner em ∙ e) ∙ sym (c.last j (sym em)) ∙ sym es
       ]
 
-  with_one : (words start : ℕ) → Counts owner done words → start ≡ cond (owner (length done) == length done) 0 words → words_owned owner (owner (length done)) 0 (done ++ o ∷ []) ≡ start + size o
+  with_one : (words start : ℕ) → Counts owner done words → start ≡ cond (owner (length done) == length done) 0 words
+      → words_owned owner (owner (length done)) 0 (done ++ o ∷ []) ≡ start + size o
   with_one words start c es =
       let s = so_far words start c (owner (length done) == length done) refl es in
-      let one = owned_one owner (owner (length done)) o (0 + length done) true (eq-eqb (owner (0 + length done)) (owner (length done)) (ap owner (omega arith))) in
+      let one = owned_one owner (owner (length done)) o (0 + length done) true
+      (eq-eqb (owner (0 + length done)) (owner (length done)) (ap owner (omega arith))) in
       owned_both owner (owner (length done)) done (o ∷ []) 0 ∙ ap₂ (λ x y. x + y) s one
 
-  pub counts_on : (words start : ℕ) → Counts owner done words → start ≡ cond (owner (length done) == length done) 0 words → start + size o ≤ 32000 → Counts owner (done ++ o ∷ []) (start + size o)
+  pub counts_on : (words start : ℕ) → Counts owner done words → start ≡ cond (owner (length done) == length done) 0 words
+      → start + size o ≤ 32000 → Counts owner (done ++ o ∷ []) (start + size o)
   counts_on words start c es le =
       let mine = with_one words start c es in
       record {
@@ -80,7 +86,8 @@ module _ (n : ℕ) (owner : ℕ → ℕ) (h : AreFunctions n owner) (done : List
         small = le;
       }
 
-  pub too_many : (words start : ℕ) (rest : List OrderParts) → Counts owner done words → start ≡ cond (owner (length done) == length done) 0 words → 32000 < start + size o → FunctionsFit owner ((done ++ o ∷ []) ++ rest) → ⊥
+  pub too_many : (words start : ℕ) (rest : List OrderParts) → Counts owner done words
+      → start ≡ cond (owner (length done) == length done) 0 words → 32000 < start + size o → FunctionsFit owner ((done ++ o ∷ []) ++ rest) → ⊥
   too_many words start rest c es gt fit =
       let mine = with_one words start c es in
       let both = owned_both owner (owner (length done)) (done ++ o ∷ []) rest 0 in
@@ -88,7 +95,8 @@ module _ (n : ℕ) (owner : ℕ → ℕ) (h : AreFunctions n owner) (done : List
       omega arith
 
 -- the same at a place of a list
-module _ (n : ℕ) (owner : ℕ → ℕ) (h : AreFunctions n owner) (os : List OrderParts) (o : OrderParts) (k : ℕ) (long : n ≡ length os) (lt : k < length os) (there : o ≡ get_or os k o) where
+module _ (n : ℕ) (owner : ℕ → ℕ) (h : AreFunctions n owner) (os : List OrderParts) (o : OrderParts) (k : ℕ) (long : n ≡ length os)
+    (lt : k < length os) (there : o ≡ get_or os k o) where
   done_long : length (take k os) ≡ k
   done_long = length-take-le k os (omega arith)
 
@@ -101,10 +109,13 @@ module _ (n : ℕ) (owner : ℕ → ℕ) (h : AreFunctions n owner) (os : List O
   inside : length (take k os) < n
   inside = let l = done_long in omega arith
 
-  pub step_counts : (words start : ℕ) → Counts owner (take k os) words → start ≡ cond (owner k == k) 0 words → start + size o ≤ 32000 → Counts owner (take (k + 1) os) (start + size o)
-  step_counts words start c es le = subst (λ d. Counts owner d (start + size o)) (sym next) (counts_on n owner h (take k os) o inside words start c (started words start es) le)
+  pub step_counts : (words start : ℕ) → Counts owner (take k os) words → start ≡ cond (owner k == k) 0 words → start + size o ≤ 32000
+      → Counts owner (take (k + 1) os) (start + size o)
+  step_counts words start c es le =
+      subst (λ d. Counts owner d (start + size o)) (sym next) (counts_on n owner h (take k os) o inside words start c (started words start es) le)
 
-  pub step_too_many : (words start : ℕ) → Counts owner (take k os) words → start ≡ cond (owner k == k) 0 words → 32000 < start + size o → FunctionsFit owner os → ⊥
+  pub step_too_many : (words start : ℕ) → Counts owner (take k os) words → start ≡ cond (owner k == k) 0 words → 32000 < start + size o
+      → FunctionsFit owner os → ⊥
   step_too_many words start c es gt fit =
       let whole : (take k os ++ o ∷ []) ++ drop (k + 1) os ≡ os = ap (λ d. d ++ drop (k + 1) os) (sym next) ∙ take-append-drop (k + 1) os in
       too_many n owner h (take k os) o inside words start (drop (k + 1) os) c (started words start es) gt (subst (FunctionsFit owner) (sym whole) fit)

@@ -1,7 +1,8 @@
 -- Where the emitter's places are those of the layout.
 use Rattle.std.proofs.lemmas.List.{map-append}
 use Rattle.mips_code.specs.Words.{inst_word}
-use Rattle.std.proofs.Common.{◌≡◌, ℕ, zero, suc, ◌+◌, ◌/◌, ◌<◌, List, [], ◌∷◌, ◌++◌, map, length, All, Option, Some, slice_get, refl, ap, ap₂, arith, get_or, ◌≤◌, subst, drop, append_assoc, sym, ◌∙◌}
+use Rattle.std.proofs.Common.{◌≡◌, ℕ, zero, suc, ◌+◌, ◌/◌, ◌<◌, List, [], ◌∷◌, ◌++◌, map, length, All, Option, Some, slice_get, refl, ap}
+use Rattle.std.proofs.Common.{ap₂, arith, get_or, ◌≤◌, subst, drop, append_assoc, sym, ◌∙◌}
 use Rattle.std.specs.Prelude.{slice_index}
 use Rattle.std.proofs.lemmas.List.Elements.{All-from_recursion}
 use Rattle.mips_isa.specs.declared.inst.Plain.{Plain}
@@ -13,7 +14,8 @@ use Rattle.mips_isa.specs.Ranges.{IsInst}
 use Rattle.mblock.specs.declared.exit.Exit.{Exit}
 use Rattle.mblock.specs.declared.exit.Exit.TheVariants.{Goto, BranchPair, BranchZero, Call, Return, Out, Halt}
 use Rattle.mblock.specs.Parts.{OrderParts}
-use Rattle.mips_layout.specs.Layout.{size, place, slot_insts, hop, jump_to, branch_offset, set_number, address_of_place, exit_insts, insts_of, layout, order_insts}
+use Rattle.mips_layout.specs.Layout.{size, place, slot_insts, hop, jump_to, branch_offset, set_number, address_of_place, exit_insts}
+use Rattle.mips_layout.specs.Layout.{insts_of, layout, order_insts}
 use Rattle.mips_layout.proofs.Within.{place_next, place_mono}
 use Rattle.std.specs.Prelude.{FitsSigned}
 use Rattle.std.specs.Int.{w16}
@@ -34,17 +36,22 @@ same_starts os k lt = let e = place_in os 0 k lt in omega arith
 module _ (n : ℕ) (s s' : ℕ → ℕ) (h : (t : ℕ) → t < n → s t ≡ s' t) where
   same_exit : (here : ℕ) (exit : Exit) (slot : Option Plain) → AreThere n exit → exit_insts s here exit slot ≡ exit_insts s' here exit slot
   same_exit here (Goto t) slot there = ap (λ p. jump_to p ∷ slot_insts slot) (h t there)
-  same_exit here (BranchPair test a b t e) slot there = ap₂ (λ p q. I.Control (controls.BranchPair test a b (branch_offset here p)) ∷ (slot_insts slot ++ hop q)) (h t there.0) (h e there.1)
-  same_exit here (BranchZero test a t e) slot there = ap₂ (λ p q. I.Control (controls.BranchZero test a (branch_offset here p)) ∷ (slot_insts slot ++ hop q)) (h t there.0) (h e there.1)
-  same_exit here (Call f m) slot there = ap₂ (λ p q. I.Control (controls.JumpTo JumpAndLink (address_of_place p / 4)) ∷ (slot_insts slot ++ hop q)) (h f there.0) (h m there.1)
+  same_exit here (BranchPair test a b t e) slot there =
+      ap₂ (λ p q. I.Control (controls.BranchPair test a b (branch_offset here p)) ∷ (slot_insts slot ++ hop q)) (h t there.0) (h e there.1)
+  same_exit here (BranchZero test a t e) slot there =
+      ap₂ (λ p q. I.Control (controls.BranchZero test a (branch_offset here p)) ∷ (slot_insts slot ++ hop q)) (h t there.0) (h e there.1)
+  same_exit here (Call f m) slot there =
+      ap₂ (λ p q. I.Control (controls.JumpTo JumpAndLink (address_of_place p / 4)) ∷ (slot_insts slot ++ hop q)) (h f there.0) (h m there.1)
   same_exit here Return slot there = refl
   same_exit here (Out m) slot there = ap (λ q. set_number (Rattle.std.specs.Prelude.pos 1) ∷ I.Control controls.SystemCall ∷ hop q) (h m there)
   same_exit here Halt slot there = refl
 
-  same_insts : (os : List OrderParts) (here : ℕ) → ((k : ℕ) (o : OrderParts) → slice_get os k ≡ Some o → AreThere n o.exit) → insts_of s here os ≡ insts_of s' here os
+  same_insts : (os : List OrderParts) (here : ℕ) → ((k : ℕ) (o : OrderParts) → slice_get os k ≡ Some o → AreThere n o.exit)
+      → insts_of s here os ≡ insts_of s' here os
   same_insts [] here there = refl
   same_insts (o ∷ os) here there =
-      ap₂ (λ x y. (map I.Plain o.insts ++ x) ++ y) (same_exit (here + length o.insts) o.exit o.slot (there zero o refl)) (same_insts os (here + size o) (λ k. there (suc k)))
+      ap₂ (λ x y. (map I.Plain o.insts ++ x) ++ y) (same_exit (here + length o.insts) o.exit o.slot (there zero o refl))
+      (same_insts os (here + size o) (λ k. there (suc k)))
 
 pub same_layout : (os : List OrderParts) → AllThere os → insts_of (start_of (places_from 0 os)) 0 os ≡ layout os
 same_layout os there = same_insts (length os) (start_of (places_from 0 os)) (place os) (same_starts os) os 0 there
@@ -62,7 +69,8 @@ got (x ∷ os) (suc k) o lt e = got os k o (omega arith) e
 pub place_step : (os : List OrderParts) (k : ℕ) (o : OrderParts) → k < length os → o ≡ get_or os k o → place os (k + 1) ≡ place os k + size o
 place_step os k o lt e = let one : k + 1 ≡ suc k = omega arith in ap (place os) one ∙ place_next os k o (got os k o lt e)
 
-pub place_room : (os : List OrderParts) (k : ℕ) (o : OrderParts) → k < length os → o ≡ get_or os k o → place os (length os) ≤ 1048576 → place os k + size o ≤ 1048576
+pub place_room : (os : List OrderParts) (k : ℕ) (o : OrderParts) → k < length os → o ≡ get_or os k o → place os (length os) ≤ 1048576
+    → place os k + size o ≤ 1048576
 place_room os k o lt e room =
     let step = place_step os k o lt e in
     let most = place_mono os (k + 1) (length os) (omega arith) in
@@ -79,12 +87,15 @@ places_small (o ∷ os) here le = (omega arith, places_small os (here + size o) 
 pub all_small : (os : List OrderParts) → place os (length os) ≤ 1048576 → All (λ p. p ≤ 1048576) (places_from 0 os)
 all_small os le = All-from_recursion (λ p. p ≤ 1048576) (places_from 0 os) (places_small os 0 (omega arith))
 
-near_exit : (owner : ℕ → ℕ) (os : List OrderParts) → AreFunctions (length os) owner → FunctionsFit owner os → (k : ℕ) (o : OrderParts) → slice_get os k ≡ Some o → (x : Exit) → AreThere (length os) x → IsOwn owner k x → IsNear (start_of (places_from 0 os)) (place os k + length o.insts) x
+near_exit : (owner : ℕ → ℕ) (os : List OrderParts) → AreFunctions (length os) owner → FunctionsFit owner os → (k : ℕ) (o : OrderParts)
+    → slice_get os k ≡ Some o → (x : Exit) → AreThere (length os) x → IsOwn owner k x → IsNear (start_of (places_from 0 os)) (place os k + length o.insts) x
 near_exit owner os f fit k o e (Goto t) there own = tt
 near_exit owner os f fit k o e (BranchPair test a b t z) there own =
-    subst (λ p. FitsSigned w16 (branch_offset (place os k + length o.insts) p)) (sym (same_starts os t there.0)) (offset_near owner os f fit k t o e there.0 own)
+    subst (λ p. FitsSigned w16 (branch_offset (place os k + length o.insts) p)) (sym (same_starts os t there.0))
+    (offset_near owner os f fit k t o e there.0 own)
 near_exit owner os f fit k o e (BranchZero test a t z) there own =
-    subst (λ p. FitsSigned w16 (branch_offset (place os k + length o.insts) p)) (sym (same_starts os t there.0)) (offset_near owner os f fit k t o e there.0 own)
+    subst (λ p. FitsSigned w16 (branch_offset (place os k + length o.insts) p)) (sym (same_starts os t there.0))
+    (offset_near owner os f fit k t o e there.0 own)
 near_exit owner os f fit k o e (Call g m) there own = tt
 near_exit owner os f fit k o e Return there own = tt
 near_exit owner os f fit k o e (Out m) there own = tt
@@ -97,20 +108,25 @@ all_both : (a b : List Inst) → Fit a → Fit b → Fit (a ++ b)
 all_both [] b ha hb = hb
 all_both (i ∷ a) b ha hb = (ha.0, all_both a b ha.1 hb)
 
-more_insts : (start : ℕ → ℕ) (os : List OrderParts) (here k : ℕ) (o : OrderParts) → k < length os → o ≡ get_or os k o → insts_of start here (drop k os) ≡ order_insts start here o ++ insts_of start (here + size o) (drop (k + 1) os)
+more_insts : (start : ℕ → ℕ) (os : List OrderParts) (here k : ℕ) (o : OrderParts) → k < length os → o ≡ get_or os k o
+    → insts_of start here (drop k os) ≡ order_insts start here o ++ insts_of start (here + size o) (drop (k + 1) os)
 more_insts start [] here k o lt e = absurd (omega arith)
 more_insts start (x ∷ os) here zero o lt e = ap (λ y. order_insts start here y ++ insts_of start (here + size y) os) (sym e)
 more_insts start (x ∷ os) here (suc k) o lt e =
     let one : suc (k + 1) ≡ suc k + 1 = omega arith in
     more_insts start os here k o (omega arith) e ∙ ap (λ j. order_insts start here o ++ insts_of start (here + size o) (drop j (x ∷ os))) one
 
-pub words_on : (start : ℕ → ℕ) (os : List OrderParts) (here k : ℕ) (o : OrderParts) (code more total : List ℕ) → k < length os → o ≡ get_or os k o → more ≡ code ++ map inst_word (order_insts start here o) → code ++ map inst_word (insts_of start here (drop k os)) ≡ total
+pub words_on : (start : ℕ → ℕ) (os : List OrderParts) (here k : ℕ) (o : OrderParts) (code more total : List ℕ) → k < length os
+    → o ≡ get_or os k o → more ≡ code ++ map inst_word (order_insts start here o) → code ++ map inst_word (insts_of start here (drop k os)) ≡ total
     → more ++ map inst_word (insts_of start (here + size o) (drop (k + 1) os)) ≡ total
 words_on start os here k o code more total lt e em so_far =
     let rest = insts_of start (here + size o) (drop (k + 1) os) in
     ap (λ (x : List ℕ). x ++ map inst_word rest) em ∙ append_assoc code (map inst_word (order_insts start here o)) (map inst_word rest)
-    ∙ ap (λ (x : List ℕ). code ++ x) (sym (map-append inst_word (order_insts start here o) rest)) ∙ ap (λ (x : List Inst). code ++ map inst_word x) (sym (more_insts start os here k o lt e)) ∙ so_far
+    ∙ ap (λ (x : List ℕ). code ++ x) (sym (map-append inst_word (order_insts start here o) rest))
+    ∙ ap (λ (x : List Inst). code ++ map inst_word x) (sym (more_insts start os here k o lt e)) ∙ so_far
 
-pub fit_on : (start : ℕ → ℕ) (os : List OrderParts) (here k : ℕ) (o : OrderParts) → k < length os → o ≡ get_or os k o → Fit (order_insts start here o) → (Fit (insts_of start here (drop k os)) → Fit (insts_of start 0 os))
+pub fit_on : (start : ℕ → ℕ) (os : List OrderParts) (here k : ℕ) (o : OrderParts) → k < length os → o ≡ get_or os k o
+    → Fit (order_insts start here o) → (Fit (insts_of start here (drop k os)) → Fit (insts_of start 0 os))
     → Fit (insts_of start (here + size o) (drop (k + 1) os)) → Fit (insts_of start 0 os)
-fit_on start os here k o lt e one all rest = all (subst Fit (sym (more_insts start os here k o lt e)) (all_both (order_insts start here o) (insts_of start (here + size o) (drop (k + 1) os)) one rest))
+fit_on start os here k o lt e one all rest =
+    all (subst Fit (sym (more_insts start os here k o lt e)) (all_both (order_insts start here o) (insts_of start (here + size o) (drop (k + 1) os)) one rest))

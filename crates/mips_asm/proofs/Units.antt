@@ -1,5 +1,6 @@
 -- A unit's orders are what the emitter asks for, and its words and bytes are an image's.
-use Rattle.std.proofs.Common.{◌≡◌, ℕ, zero, suc, ◌+◌, ◌^◌, ◌<◌, ◌≤◌, true, List, [], ◌∷◌, map, length, All, length-append, inl, inr, Some, slice_get, refl, sym, ap, ◌∙◌, subst, arith}
+use Rattle.std.proofs.Common.{◌≡◌, ℕ, zero, suc, ◌+◌, ◌^◌, ◌<◌, ◌≤◌, true, List, [], ◌∷◌, map, length, All, length-append, inl, inr, Some}
+use Rattle.std.proofs.Common.{slice_get, refl, sym, ap, ◌∙◌, subst, arith}
 use Rattle.std.specs.Prelude.{slice_index}
 use Rattle.std.proofs.lemmas.Bool.{cases_eq, lt-ltb}
 use Rattle.std.proofs.lemmas.Option.{same_Some, none-some, slice_get_within}
@@ -69,7 +70,8 @@ read_at [] i x e = absurd (none-some x e)
 read_at (y ∷ xs) zero x e = same_Some y x e
 read_at (y ∷ xs) (suc i) x e = read_at xs i x e
 
-branches_within : (owner : List ℕ) (k o : ℕ) (exit : Exit) → slice_get owner k ≡ Some o → BranchesWithin owner o exit → OwnShape (slice_index owner) k (exit_shape exit)
+branches_within : (owner : List ℕ) (k o : ℕ) (exit : Exit) → slice_get owner k ≡ Some o → BranchesWithin owner o exit
+    → OwnShape (slice_index owner) k (exit_shape exit)
 branches_within owner k o (Goto t) at h = tt
 branches_within owner k o (BranchPair x a b t e) at h = read_at owner t o h.0 ∙ sym (read_at owner k o at)
 branches_within owner k o (BranchZero x a t e) at h = read_at owner t o h.0 ∙ sym (read_at owner k o at)
@@ -129,7 +131,8 @@ owner_length u orders is h = is.owners.lengths ∙ sym h.long
 
 -- ---- images
 
-insts_length : (start : ℕ → ℕ) (os : List OrderParts) (here : ℕ) → ((k : ℕ) (o : OrderParts) → slice_get os k ≡ Some o → FitsSlot o) → length (insts_of start here os) ≡ place os (length os)
+insts_length : (start : ℕ → ℕ) (os : List OrderParts) (here : ℕ) → ((k : ℕ) (o : OrderParts) → slice_get os k ≡ Some o → FitsSlot o)
+    → length (insts_of start here os) ≡ place os (length os)
 insts_length start [] here fits = refl
 insts_length start (x ∷ rest) here fits =
     length-append (order_insts start here x) (insts_of start (here + size x) rest)
@@ -159,7 +162,8 @@ as_many (i ∷ l) = ap suc (as_many l)
 is_first : (n : ℕ) → 1 ≤ n → is_entry n 4194304 ≡ true
 is_first n lt = lt-ltb 0 n (omega arith)
 
-pub image_made : (u : UnitParts) (orders : List OrderParts) (v : Version) (code bytes : List ℕ) → IsUnit u → AreOrders u.blocks orders → place orders (length orders) ≤ 1048576
+pub image_made : (u : UnitParts) (orders : List OrderParts) (v : Version) (code bytes : List ℕ) → IsUnit u → AreOrders u.blocks orders
+    → place orders (length orders) ≤ 1048576
     → FitsVersion v u.globals → code ≡ map inst_word (layout orders) → bytes ≡ u.globals → All IsInst (layout orders)
     → IsImage (record { version = v; entry = 4194304; code = code; bytes = bytes })
 image_made u orders v code bytes is h room fits code_is bytes_is fit = record {

@@ -19,7 +19,9 @@ use Rattle.mips_isa.specs.declared.inst.Control.TheVariants.{BranchPair, BranchZ
 use Rattle.mips_isa.specs.declared.inst.Inst.{Inst}
 use Rattle.mips_isa.specs.declared.inst.Inst.TheVariants as insts
 use Rattle.mips_isa.specs.Ranges.{IsPlain, IsControl, IsInst}
-use Rattle.mips_code.specs.Words.{register_word, immediate_word, jump_word, inst_word, word_of_plain, word_of_control, half, shift_code, shift_by_code, alu_code, move_code, multiply_code, divide_code, imm_code, logic_code, pair_code, jump_code}
+use Rattle.mips_code.specs.Words.{register_word, immediate_word, jump_word, inst_word, word_of_plain, word_of_control, half, shift_code}
+use Rattle.mips_code.specs.Words.{shift_by_code, alu_code, move_code, multiply_code, divide_code, imm_code, logic_code, pair_code}
+use Rattle.mips_code.specs.Words.{jump_code}
 use Rattle.mips_code.specs.Candidates.{inst_of_fields, candidate_of}
 
 -- a register form gives the instruction that its fields give
@@ -74,48 +76,99 @@ not_zero n h = go (n == 0) refl
 -- one equation for each operation, by computation
 pub candidate-word_of_plain : (i : Plain) → IsPlain i → candidate_of (word_of_plain i) ≡ Some (insts.Plain i)
 candidate-word_of_plain (Shift op rd rt amount) h =
-    register_gives 0 rt rd amount (shift_code op) (omega arith) h.1 h.0 h.2 (elim op as (λ o. shift_code o < 64) [ Sll ↦ omega arith | Srl ↦ omega arith | Sra ↦ omega arith ]) _
-    (λ imm target. elim op as (λ o. inst_of_fields 0 0 rt rd amount (shift_code o) imm target ≡ Some (insts.Plain (Shift o rd rt amount))) [ Sll ↦ refl | Srl ↦ refl | Sra ↦ refl ])
+    register_gives 0 rt rd amount (shift_code op) (omega arith) h.1 h.0 h.2
+    (elim op as (λ o. shift_code o < 64) [ Sll ↦ omega arith | Srl ↦ omega arith | Sra ↦ omega arith ]) _
+    (λ imm target. elim op as
+    (λ o. inst_of_fields 0 0 rt rd amount (shift_code o) imm target ≡ Some (insts.Plain (Shift o rd rt amount))) [ Sll ↦ refl | Srl ↦ refl | Sra ↦ refl ])
 candidate-word_of_plain (ShiftBy op rd rt rs) h =
-    register_gives rs rt rd 0 (shift_by_code op) h.2 h.1 h.0 (omega arith) (elim op as (λ o. shift_by_code o < 64) [ Sll ↦ omega arith | Srl ↦ omega arith | Sra ↦ omega arith ]) _
-    (λ imm target. elim op as (λ o. inst_of_fields 0 rs rt rd 0 (shift_by_code o) imm target ≡ Some (insts.Plain (ShiftBy o rd rt rs))) [ Sll ↦ refl | Srl ↦ refl | Sra ↦ refl ])
+    register_gives rs rt rd 0 (shift_by_code op) h.2 h.1 h.0 (omega arith)
+    (elim op as (λ o. shift_by_code o < 64) [ Sll ↦ omega arith | Srl ↦ omega arith | Sra ↦ omega arith ]) _
+    (λ imm target. elim op as
+    (λ o. inst_of_fields 0 rs rt rd 0 (shift_by_code o) imm target ≡ Some (insts.Plain (ShiftBy o rd rt rs))) [ Sll ↦ refl | Srl ↦ refl | Sra ↦ refl ])
 candidate-word_of_plain (Alu op rd rs rt) h =
-    register_gives rs rt rd 0 (alu_code op) h.1 h.2 h.0 (omega arith) (elim op as (λ o. alu_code o < 64) [ Addu ↦ omega arith | Subu ↦ omega arith | And ↦ omega arith | Or ↦ omega arith | Xor ↦ omega arith | Nor ↦ omega arith | Slt ↦ omega arith | Sltu ↦ omega arith ]) _
-    (λ imm target. elim op as (λ o. inst_of_fields 0 rs rt rd 0 (alu_code o) imm target ≡ Some (insts.Plain (Alu o rd rs rt))) [ Addu ↦ refl | Subu ↦ refl | And ↦ refl | Or ↦ refl | Xor ↦ refl | Nor ↦ refl | Slt ↦ refl | Sltu ↦ refl ])
+    register_gives rs rt rd 0 (alu_code op) h.1 h.2 h.0 (omega arith)
+    (elim op as (λ o. alu_code o < 64) [
+      | Addu ↦ omega arith
+      | Subu ↦ omega arith
+      | And ↦ omega arith
+      | Or ↦ omega arith
+      | Xor ↦ omega arith
+      | Nor ↦ omega arith
+      | Slt ↦
+          omega arith
+      | Sltu ↦ omega arith
+    ]) _
+    (λ imm target. elim op as
+    (λ o. inst_of_fields 0 rs rt rd 0 (alu_code o) imm target ≡ Some (insts.Plain (Alu o rd rs rt)))
+    [ Addu ↦ refl | Subu ↦ refl | And ↦ refl | Or ↦ refl | Xor ↦ refl | Nor ↦ refl | Slt ↦ refl | Sltu ↦ refl ])
 candidate-word_of_plain (Imm op rt rs imm) h =
-    immediate_gives (imm_code op) rs rt (half imm) (elim op as (λ o. imm_code o < 64) [ Addiu ↦ omega arith | Slti ↦ omega arith | Sltiu ↦ omega arith ]) h.1 h.0 (half_small imm h.2) _
-    (λ rd amount funct target. elim op as (λ o. inst_of_fields (imm_code o) rs rt rd amount funct (half imm) target ≡ Some (insts.Plain (Imm o rt rs imm))) [ Addiu ↦ ap (λ z. Some (insts.Plain (Imm Addiu rt rs z))) (half_back imm h.2) | Slti ↦ ap (λ z. Some (insts.Plain (Imm Slti rt rs z))) (half_back imm h.2) | Sltiu ↦ ap (λ z. Some (insts.Plain (Imm Sltiu rt rs z))) (half_back imm h.2) ])
+    immediate_gives (imm_code op) rs rt (half imm)
+    (elim op as (λ o. imm_code o < 64) [ Addiu ↦ omega arith | Slti ↦ omega arith | Sltiu ↦ omega arith ]) h.1 h.0 (half_small imm h.2) _
+    (λ rd amount funct target. elim op as
+    (λ o. inst_of_fields (imm_code o) rs rt rd amount funct (half imm) target ≡ Some (insts.Plain (Imm o rt rs imm))) [
+      | Addiu ↦ ap (λ z. Some (insts.Plain (Imm Addiu rt rs z)))
+          (half_back imm h.2)
+      | Slti ↦ ap (λ z. Some (insts.Plain (Imm Slti rt rs z)))
+          (half_back imm h.2)
+      | Sltiu ↦ ap (λ z. Some (insts.Plain (Imm Sltiu rt rs z))) (half_back imm h.2)
+    ])
 candidate-word_of_plain (Logic op rt rs imm) h =
-    immediate_gives (logic_code op) rs rt imm (elim op as (λ o. logic_code o < 64) [ Andi ↦ omega arith | Ori ↦ omega arith | Xori ↦ omega arith ]) h.1 h.0 h.2 _
-    (λ rd amount funct target. elim op as (λ o. inst_of_fields (logic_code o) rs rt rd amount funct imm target ≡ Some (insts.Plain (Logic o rt rs imm))) [ Andi ↦ refl | Ori ↦ refl | Xori ↦ refl ])
+    immediate_gives (logic_code op) rs rt imm
+    (elim op as (λ o. logic_code o < 64) [ Andi ↦ omega arith | Ori ↦ omega arith | Xori ↦ omega arith ]) h.1 h.0 h.2 _
+    (λ rd amount funct target. elim op as
+    (λ o. inst_of_fields (logic_code o) rs rt rd amount funct imm target ≡ Some (insts.Plain (Logic o rt rs imm)))
+    [ Andi ↦ refl | Ori ↦ refl | Xori ↦ refl ])
 candidate-word_of_plain (LoadUpper rt imm) h = immediate_gives 15 0 rt imm (omega arith) (omega arith) h.0 h.1 _ (λ rd amount funct target. refl)
 candidate-word_of_plain (MoveFrom place rd) h =
-    register_gives 0 0 rd 0 (move_code place) (omega arith) (omega arith) h (omega arith) (elim place as (λ o. move_code o < 64) [ Hi ↦ omega arith | Lo ↦ omega arith ]) _
+    register_gives 0 0 rd 0 (move_code place) (omega arith) (omega arith) h (omega arith)
+    (elim place as (λ o. move_code o < 64) [ Hi ↦ omega arith | Lo ↦ omega arith ]) _
     (λ imm target. elim place as (λ o. inst_of_fields 0 0 0 rd 0 (move_code o) imm target ≡ Some (insts.Plain (MoveFrom o rd))) [ Hi ↦ refl | Lo ↦ refl ])
 candidate-word_of_plain (Multiply sign rs rt) h =
-    register_gives rs rt 0 0 (multiply_code sign) h.0 h.1 (omega arith) (omega arith) (elim sign as (λ o. multiply_code o < 64) [ Signed ↦ omega arith | Unsigned ↦ omega arith ]) _
-    (λ imm target. elim sign as (λ o. inst_of_fields 0 rs rt 0 0 (multiply_code o) imm target ≡ Some (insts.Plain (Multiply o rs rt))) [ Signed ↦ refl | Unsigned ↦ refl ])
+    register_gives rs rt 0 0 (multiply_code sign) h.0 h.1 (omega arith) (omega arith)
+    (elim sign as (λ o. multiply_code o < 64) [ Signed ↦ omega arith | Unsigned ↦ omega arith ]) _
+    (λ imm target. elim sign as
+    (λ o. inst_of_fields 0 rs rt 0 0 (multiply_code o) imm target ≡ Some (insts.Plain (Multiply o rs rt))) [ Signed ↦ refl | Unsigned ↦ refl ])
 candidate-word_of_plain (Divide sign rs rt) h =
-    register_gives rs rt 0 0 (divide_code sign) h.0 h.1 (omega arith) (omega arith) (elim sign as (λ o. divide_code o < 64) [ Signed ↦ omega arith | Unsigned ↦ omega arith ]) _
-    (λ imm target. elim sign as (λ o. inst_of_fields 0 rs rt 0 0 (divide_code o) imm target ≡ Some (insts.Plain (Divide o rs rt))) [ Signed ↦ refl | Unsigned ↦ refl ])
+    register_gives rs rt 0 0 (divide_code sign) h.0 h.1 (omega arith) (omega arith)
+    (elim sign as (λ o. divide_code o < 64) [ Signed ↦ omega arith | Unsigned ↦ omega arith ]) _
+    (λ imm target. elim sign as
+    (λ o. inst_of_fields 0 rs rt 0 0 (divide_code o) imm target ≡ Some (insts.Plain (Divide o rs rt))) [ Signed ↦ refl | Unsigned ↦ refl ])
 candidate-word_of_plain (Load rt base offset) h =
     immediate_gives 35 base rt (half offset) (omega arith) h.2 h.1 (half_small offset h.3) _
-    (λ rd amount funct target. ap (λ b. Rattle.mips_code.specs.Candidates.or_else (Rattle.std.specs.Prelude.option_map insts.Plain (cond b None (Some (Load rt base (cast_signed w16 (half offset)))))) None) (not_zero rt h.0) ∙ ap (λ z. Some (insts.Plain (Load rt base z))) (half_back offset h.3))
+    (λ rd amount funct target.
+    ap (λ b. Rattle.mips_code.specs.Candidates.or_else
+    (Rattle.std.specs.Prelude.option_map insts.Plain (cond b None (Some (Load rt base (cast_signed w16 (half offset)))))) None)
+    (not_zero rt h.0) ∙ ap (λ z. Some (insts.Plain (Load rt base z))) (half_back offset h.3))
 candidate-word_of_plain (Store rt base offset) h =
     immediate_gives 43 base rt (half offset) (omega arith) h.1 h.0 (half_small offset h.2) _
     (λ rd amount funct target. ap (λ z. Some (insts.Plain (Store rt base z))) (half_back offset h.2))
 
 pub candidate-word_of_control : (i : Control) → IsControl i → candidate_of (word_of_control i) ≡ Some (insts.Control i)
 candidate-word_of_control (BranchPair test rs rt offset) h =
-    immediate_gives (pair_code test) rs rt (half offset) (elim test as (λ o. pair_code o < 64) [ Equal ↦ omega arith | NotEqual ↦ omega arith ]) h.0 h.1 (half_small offset h.2) _
-    (λ rd amount funct target. elim test as (λ o. inst_of_fields (pair_code o) rs rt rd amount funct (half offset) target ≡ Some (insts.Control (BranchPair o rs rt offset))) [ Equal ↦ ap (λ z. Some (insts.Control (BranchPair Equal rs rt z))) (half_back offset h.2) | NotEqual ↦ ap (λ z. Some (insts.Control (BranchPair NotEqual rs rt z))) (half_back offset h.2) ])
-candidate-word_of_control (BranchZero AtMostZero rs offset) h = immediate_gives 6 rs 0 (half offset) (omega arith) h.0 (omega arith) (half_small offset h.1) _ (λ rd amount funct target. ap (λ z. Some (insts.Control (BranchZero AtMostZero rs z))) (half_back offset h.1))
-candidate-word_of_control (BranchZero AboveZero rs offset) h = immediate_gives 7 rs 0 (half offset) (omega arith) h.0 (omega arith) (half_small offset h.1) _ (λ rd amount funct target. ap (λ z. Some (insts.Control (BranchZero AboveZero rs z))) (half_back offset h.1))
-candidate-word_of_control (BranchZero BelowZero rs offset) h = immediate_gives 1 rs 0 (half offset) (omega arith) h.0 (omega arith) (half_small offset h.1) _ (λ rd amount funct target. ap (λ z. Some (insts.Control (BranchZero BelowZero rs z))) (half_back offset h.1))
-candidate-word_of_control (BranchZero AtLeastZero rs offset) h = immediate_gives 1 rs 1 (half offset) (omega arith) h.0 (omega arith) (half_small offset h.1) _ (λ rd amount funct target. ap (λ z. Some (insts.Control (BranchZero AtLeastZero rs z))) (half_back offset h.1))
+    immediate_gives (pair_code test) rs rt (half offset)
+    (elim test as (λ o. pair_code o < 64) [ Equal ↦ omega arith | NotEqual ↦ omega arith ]) h.0 h.1 (half_small offset h.2) _
+    (λ rd amount funct target. elim test as
+    (λ o. inst_of_fields (pair_code o) rs rt rd amount funct (half offset) target ≡ Some (insts.Control (BranchPair o rs rt offset))) [
+      | Equal ↦ ap (λ z. Some (insts.Control (BranchPair Equal rs rt z)))
+          (half_back offset h.2)
+      | NotEqual ↦ ap (λ z. Some (insts.Control (BranchPair NotEqual rs rt z))) (half_back offset h.2)
+    ])
+candidate-word_of_control (BranchZero AtMostZero rs offset) h =
+    immediate_gives 6 rs 0 (half offset) (omega arith) h.0 (omega arith) (half_small offset h.1) _
+    (λ rd amount funct target. ap (λ z. Some (insts.Control (BranchZero AtMostZero rs z))) (half_back offset h.1))
+candidate-word_of_control (BranchZero AboveZero rs offset) h =
+    immediate_gives 7 rs 0 (half offset) (omega arith) h.0 (omega arith) (half_small offset h.1) _
+    (λ rd amount funct target. ap (λ z. Some (insts.Control (BranchZero AboveZero rs z))) (half_back offset h.1))
+candidate-word_of_control (BranchZero BelowZero rs offset) h =
+    immediate_gives 1 rs 0 (half offset) (omega arith) h.0 (omega arith) (half_small offset h.1) _
+    (λ rd amount funct target. ap (λ z. Some (insts.Control (BranchZero BelowZero rs z))) (half_back offset h.1))
+candidate-word_of_control (BranchZero AtLeastZero rs offset) h =
+    immediate_gives 1 rs 1 (half offset) (omega arith) h.0 (omega arith) (half_small offset h.1) _
+    (λ rd amount funct target. ap (λ z. Some (insts.Control (BranchZero AtLeastZero rs z))) (half_back offset h.1))
 candidate-word_of_control (JumpTo op target) h =
     jump_gives (jump_code op) target (elim op as (λ o. jump_code o < 64) [ Jump ↦ omega arith | JumpAndLink ↦ omega arith ]) h _
-    (λ rs rt rd amount funct imm. elim op as (λ o. inst_of_fields (jump_code o) rs rt rd amount funct imm target ≡ Some (insts.Control (JumpTo o target))) [ Jump ↦ refl | JumpAndLink ↦ refl ])
+    (λ rs rt rd amount funct imm. elim op as
+    (λ o. inst_of_fields (jump_code o) rs rt rd amount funct imm target ≡ Some (insts.Control (JumpTo o target))) [ Jump ↦ refl | JumpAndLink ↦ refl ])
 candidate-word_of_control (JumpRegister rs) h = register_gives rs 0 0 0 8 h (omega arith) (omega arith) (omega arith) (omega arith) _ (λ imm target. refl)
 candidate-word_of_control SystemCall h = register_gives 0 0 0 0 12 (omega arith) (omega arith) (omega arith) (omega arith) (omega arith) _ (λ imm target. refl)
 

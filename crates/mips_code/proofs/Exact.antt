@@ -10,7 +10,9 @@ use Rattle.mips_isa.specs.declared.inst.Inst.{Inst}
 use Rattle.mips_isa.specs.declared.inst.Inst.TheVariants as insts
 use Rattle.mips_isa.specs.Ranges.{IsPlain, IsControl, IsInst}
 use Rattle.mips_code.specs.Words.{inst_word}
-use Rattle.mips_code.specs.Candidates.{shift_at, shift_by_at, alu_at, move_at, multiply_at, divide_at, imm_at, logic_at, pair_at, jump_at, zero_at, or_else, computing_of, moving_of, special_of, arithmetic_of, memory_of, branch_of, inst_of_fields, candidate_of}
+use Rattle.mips_code.specs.Candidates.{shift_at, shift_by_at, alu_at, move_at, multiply_at, divide_at, imm_at, logic_at, pair_at, jump_at}
+use Rattle.mips_code.specs.Candidates.{zero_at, or_else, computing_of, moving_of, special_of, arithmetic_of, memory_of, branch_of}
+use Rattle.mips_code.specs.Candidates.{inst_of_fields, candidate_of}
 use Rattle.mips_code.proofs.Decoding.{candidate-inst_word}
 use Rattle.mips_code.specs.Decoding.{with_word, instruction_of, DecodingIsExact}
 
@@ -64,7 +66,8 @@ module _ (rs rt rd amount funct imm target : ℕ) (hs : rs < 32) (ht : rt < 32) 
 
   memory_fits : (op : ℕ) → IfSome (memory_of op rs rt imm) IsPlain
   memory_fits op =
-      if_cond IsPlain (op == 35) (cond (rt == 0) None (Some (Load rt rs (cast_signed w16 imm)))) (cond (op == 43) (Some (Store rt rs (cast_signed w16 imm))) None)
+      if_cond IsPlain (op == 35) (cond (rt == 0) None (Some (Load rt rs (cast_signed w16 imm))))
+      (cond (op == 43) (Some (Store rt rs (cast_signed w16 imm))) None)
       (if_cond IsPlain (rt == 0) None (Some (Load rt rs (cast_signed w16 imm))) tt (λ e. (not_zero rt e, ht, hs, half_fits imm hi)))
       (λ e. if_cond IsPlain (op == 43) (Some (Store rt rs (cast_signed w16 imm))) None (ht, hs, half_fits imm hi) (λ e'. tt))
 

@@ -4,7 +4,9 @@ ghost use Rattle.std.specs.Prelude.{◌≡◌, ℕ, ◌+◌, ◌*◌, ◌/◌, �
 ghost use Rattle.mips_isa.specs.declared.inst.Inst.{Inst as AnInst};
 ghost use Rattle.mips_isa.specs.Ranges.{IsPlain, IsControl, IsInst};
 ghost use Rattle.mips_code.specs.Words.{inst_word};
-ghost use Rattle.mips_code.specs.Candidates.{shift_at, shift_by_at, alu_at, move_at, multiply_at, divide_at, imm_at, logic_at, pair_at, jump_at, zero_at, computing_of, moving_of, special_of, arithmetic_of, memory_of, branch_of, candidate_of};
+ghost use Rattle.mips_code.specs.Candidates.{shift_at, shift_by_at, alu_at, move_at, multiply_at, divide_at, imm_at, logic_at, pair_at};
+ghost use Rattle.mips_code.specs.Candidates.{jump_at, zero_at, computing_of, moving_of, special_of, arithmetic_of, memory_of, branch_of};
+ghost use Rattle.mips_code.specs.Candidates.{candidate_of};
 ghost use Rattle.mips_code.specs.Decoding.{instruction_of, DecodingIsExact};
 
 use crate::encoder::encode;

@@ -2,7 +2,9 @@
 
 ghost use Rattle.std.specs.Prelude.{◌≡◌, ℕ, ◌+◌, ◌*◌, ◌/◌, ◌%◌, ◌^◌, ◌<◌};
 ghost use Rattle.mips_isa.specs.Ranges.{IsPlain, IsControl, IsInst};
-ghost use Rattle.mips_code.specs.Words.{register_word, immediate_word, jump_word, inst_word, word_of_plain, word_of_control, half, shift_code, shift_by_code, alu_code, move_code, multiply_code, divide_code, imm_code, logic_code, pair_code, jump_code, zero_code, zero_field};
+ghost use Rattle.mips_code.specs.Words.{register_word, immediate_word, jump_word, inst_word, word_of_plain, word_of_control, half};
+ghost use Rattle.mips_code.specs.Words.{shift_code, shift_by_code, alu_code, move_code, multiply_code, divide_code, imm_code, logic_code};
+ghost use Rattle.mips_code.specs.Words.{pair_code, jump_code, zero_code, zero_field};
 
 use mips_isa::{
     AluOp, Amount, Control, HiLo, ImmOp, Inst, JumpOp, JumpTarget, LogicOp, PairTest, Plain, Reg,

@@ -1,5 +1,6 @@
 -- Which rules are broken: the least of them, and none where an action is safe and nothing holds it up.
-use Rattle.std.proofs.Common.{◌≡◌, ℕ, suc, ◌<◌, ◌==◌, Bool, true, false, cond, not, ◌&&◌, ◌||◌, nat_lt, List, [], ◌∷◌, inl, inr, Option, Some, None, refl, sym, ap, ◌∙◌, subst, arith, true≢false}
+use Rattle.std.proofs.Common.{◌≡◌, ℕ, suc, ◌<◌, ◌==◌, Bool, true, false, cond, not, ◌&&◌, ◌||◌, nat_lt, List, [], ◌∷◌, inl, inr, Option}
+use Rattle.std.proofs.Common.{Some, None, refl, sym, ap, ◌∙◌, subst, arith, true≢false}
 use Rattle.std.specs.Prelude.{find, is_some}
 use Rattle.std.proofs.lemmas.Bool.{cases_lt}
 use Rattle.std.proofs.lemmas.Option.{same_Some, none-some}
@@ -11,13 +12,14 @@ use Rattle.mips_isa.specs.States.{is_aligned, read}
 use Rattle.mips_isa.specs.Actions.{address, is_safe, touches, is_product}
 use Rattle.words.specs.Operators.{has_quotient}
 use Rattle.mips_isa.specs.Flows.{Flow, on_pending}
-use Rattle.mips_isa.specs.Rules.{rules, rule_number, action_breaks, broken_by, is_stuck, IsLeastRule}
+use Rattle.mips_isa.specs.Rules.{rules, rule_number, action_breaks, action_rule_of, is_stuck, IsLeastRule}
 use Rattle.mips_isa.specs.Laws.{StuckActionsBreakARule, SafeActionsKeepTheirRules, EachBrokenRuleIsLeast, ReadsAndWritesAreTouched}
 
 -- ---- the least rule
 
 abbrev rule_at : ℕ → Rule
-rule_at n = cond (n == 1) M1 (cond (n == 2) M2 (cond (n == 3) M3 (cond (n == 4) M4 (cond (n == 5) M5 (cond (n == 6) M6 (cond (n == 7) M7 (cond (n == 8) M8 M9)))))))
+rule_at n = cond (n == 1) M1
+    (cond (n == 2) M2 (cond (n == 3) M3 (cond (n == 4) M4 (cond (n == 5) M5 (cond (n == 6) M6 (cond (n == 7) M7 (cond (n == 8) M8 M9)))))))
 
 rule_back : (r : Rule) → rule_at (rule_number r) ≡ r
 rule_back M1 = refl
@@ -47,11 +49,13 @@ abbrev Numbered : ℕ → List Rule → Type 0
 Numbered n [] = Unit {0}
 Numbered n (x ∷ xs) = (rule_number x ≡ n) × Numbered (suc n) xs
 
-finds_least : (test : Rule → Bool) (r : Rule) (xs : List Rule) (n : ℕ) → Numbered n xs → NoneBelow test n → find test xs ≡ Some r → (test r ≡ true) × NoneBelow test (rule_number r)
+finds_least : (test : Rule → Bool) (r : Rule) (xs : List Rule) (n : ℕ) → Numbered n xs → NoneBelow test n → find test xs ≡ Some r
+    → (test r ≡ true) × NoneBelow test (rule_number r)
 finds_least test r [] n m h e = absurd (none-some r e)
 finds_least test r (x ∷ xs) n m h e = go (λ h' e'. finds_least test r xs (suc n) m.1 h' e') (test x) refl e
   where
-    go : (NoneBelow test (suc n) → find test xs ≡ Some r → (test r ≡ true) × NoneBelow test (rule_number r)) → (b : Bool) → test x ≡ b → cond b (Some x) (find test xs) ≡ Some r → (test r ≡ true) × NoneBelow test (rule_number r)
+    go : (NoneBelow test (suc n) → find test xs ≡ Some r → (test r ≡ true) × NoneBelow test (rule_number r)) → (b : Bool) → test x ≡ b
+        → cond b (Some x) (find test xs) ≡ Some r → (test r ≡ true) × NoneBelow test (rule_number r)
     go next true eb e' =
         let P : Rule → Type 0 = λ y. (test y ≡ true) × NoneBelow test (rule_number y) in
         subst P (same_Some x r e') (eb, subst (NoneBelow test) (sym m.0) h)
@@ -136,7 +140,8 @@ not_either false false true e = absurd (true≢false (sym e))
 not_either false false false e = (refl, refl, refl)
 
 -- an action breaks no rule where it names nothing pending, needs not wait, and is safe
-pub breaks_none : (a : Action) (f : Flow) → on_pending f.pending (touches a) ≡ false → (is_product a && nat_lt 0 f.hold) ≡ false → is_safe a f.state ≡ true → (r : Rule) → action_breaks r a f ≡ false
+pub breaks_none : (a : Action) (f : Flow) → on_pending f.pending (touches a) ≡ false → (is_product a && nat_lt 0 f.hold) ≡ false
+    → is_safe a f.state ≡ true → (r : Rule) → action_breaks r a f ≡ false
 breaks_none a f free ready safe r = go r (not_either (action_breaks M4 a f) (action_breaks M5 a f) (action_breaks M6 a f) (sym (safe_is a f) ∙ safe))
   where
     go : (q : Rule) → (action_breaks M4 a f ≡ false) × (action_breaks M5 a f ≡ false) × (action_breaks M6 a f ≡ false) → action_breaks q a f ≡ false
@@ -150,20 +155,21 @@ breaks_none a f free ready safe r = go r (not_either (action_breaks M4 a f) (act
     go M8 h = refl
     go M9 h = refl
 
-pub not_stuck : (a : Action) (f : Flow) → on_pending f.pending (touches a) ≡ false → (is_product a && nat_lt 0 f.hold) ≡ false → is_safe a f.state ≡ true → is_stuck a f ≡ false
+pub not_stuck : (a : Action) (f : Flow) → on_pending f.pending (touches a) ≡ false → (is_product a && nat_lt 0 f.hold) ≡ false
+    → is_safe a f.state ≡ true → is_stuck a f ≡ false
 not_stuck a f free ready safe = ap is_some (none_found (λ r. action_breaks r a f) (breaks_none a f free ready safe))
 
 pub broken_is_least : EachBrokenRuleIsLeast
 broken_is_least a f r e = first_is_least (λ q. action_breaks q a f) r e
 
-some_found : (a : Action) (f : Flow) (o : Option Rule) → broken_by a f ≡ o → is_some o ≡ true → (r : Rule) × (action_breaks r a f ≡ true)
+some_found : (a : Action) (f : Flow) (o : Option Rule) → action_rule_of a f ≡ o → is_some o ≡ true → (r : Rule) × (action_breaks r a f ≡ true)
 some_found a f None e h = absurd (true≢false (sym h))
 some_found a f (Some r) e h = (r, (broken_is_least a f r e).broken)
 
 pub stuck_is : StuckActionsBreakARule
 stuck_is = record {
-  some = λ a f e. some_found a f (broken_by a f) refl e;
-  none = λ a f e r. each_kept (λ q. action_breaks q a f) (nothing_found (broken_by a f) e) r;
+  some = λ a f e. some_found a f (action_rule_of a f) refl e;
+  none = λ a f e r. each_kept (λ q. action_breaks q a f) (nothing_found (action_rule_of a f) e) r;
 }
 
 -- ---- what an action names

@@ -1,20 +1,12 @@
 -- The operators make words of words, and actions keep a state's words.
-use Rattle.std.proofs.Common.{◌≡◌, ℕ, zero, suc, ◌+◌, ◌-◌, ◌*◌, ◌/◌, ◌%◌, ◌^◌, ◌<◌, ◌≤◌, Bool, true, false, cond, ◌&&◌, ◌==◌, nat_lt, nat_le, ℤ, pos, negsuc, List, length, inl, inr, Some, None, refl, sym, subst, arith}
-use Rattle.std.specs.Prelude.{All, slice_index, int_div, int_rem, int_lt, neg_ℤ, ◌*ℤ◌}
-use Rattle.std.specs.Int.{w32, w64, cast_unsigned}
-use Rattle.std.specs.Int.RustNames.{unsigned_abs}
-use Rattle.std.proofs.lemmas.Int.{ints, unsigned_abs-mul}
-use Rattle.std.proofs.lemmas.Nat.{and_le_l, or_of_32, xor_of_32, mul-lt}
+use Rattle.std.proofs.Common.{ℕ, zero, suc, ◌+◌, ◌-◌, ◌*◌, ◌^◌, ◌<◌, Bool, true, false, cond, ◌&&◌, ◌==◌}
+use Rattle.std.proofs.Common.{nat_le, List, length, inl, inr, sym, subst, arith}
+use Rattle.std.specs.Prelude.{All, slice_index}
 use Rattle.std.proofs.lemmas.Bool.{cases_lt}
 use Rattle.std.proofs.lemmas.List.{get_or_past}
 use Rattle.std.proofs.lemmas.List.Elements.{All-get_or}
-use native.Mathlib.Nat.{div-le_self, mod-le}
-use Rattle.words.specs.declared.sign.Sign.{Sign}
-use Rattle.words.specs.declared.sign.Sign.TheVariants.{Signed, Unsigned}
-use Rattle.words.specs.declared.operator.Operator.{Operator}
-use Rattle.words.specs.declared.operator.Operator.TheVariants.{Addu, Subu, And, Or, Xor, Nor, Slt, Sltu, Sll, Srl, Sra, MultHigh, MultLow, MultuHigh, MultuLow, DivQuotient, DivRemainder, DivuQuotient, DivuRemainder}
-use Rattle.words.specs.Words.{wrap, signed}
-use Rattle.words.specs.Operators.{op_value, or_zero, product, has_quotient, quotient, remainder, srl}
+use Rattle.words.specs.declared.operator.Operator.TheVariants.{Addu}
+use Rattle.words.specs.Words.{wrap}
 use Rattle.mips_isa.specs.declared.action.Operand.{Operand}
 use Rattle.mips_isa.specs.declared.action.Operand.TheVariants.{Held, Fixed}
 use Rattle.mips_isa.specs.declared.action.Action.{Action}
@@ -22,7 +14,7 @@ use Rattle.mips_isa.specs.declared.action.Action.TheVariants.{Computes, Sets, Lo
 use Rattle.words.proofs.Bounds.{op_words}
 use Rattle.mips_isa.specs.States.{State, IsWords, is_register, read, put, is_open, is_inside, byte_of, load_word, store_word}
 use Rattle.mips_isa.specs.Starting.{data_base, stack_base, stack_end, start_state}
-use Rattle.mips_isa.specs.Flows.{Pending, Nothing, Loaded, settle}
+use Rattle.mips_isa.specs.Flows.{Pending, Nothing, Loaded, state_with_pending}
 use Rattle.mips_isa.specs.Actions.{operand, address, state_after, product_high, product_low, quotient_operator, remainder_operator}
 
 either_below : (b : Bool) (x y : ℕ) → x < 2 ^ 32 → y < 2 ^ 32 → cond b x y < 2 ^ 32
@@ -65,10 +57,13 @@ pub address_below : (s : State) (base offset : ℕ) → IsWords s → address s 
 address_below s base offset h = op_words Addu _ _ (read_below s.regs h.regs base) (omega arith)
 
 pub after_words : (a : Action) (s : State) → IsWords s → IsWords (state_after a s)
-after_words (Computes d op x y) s h = record { regs = put_below s.regs d _ h.regs (op_words op _ _ (read_below s.regs h.regs x) (operand_below s y h)); hi = h.hi; lo = h.lo; memory = h.memory }
+after_words (Computes d op x y) s h =
+    record { regs = put_below s.regs d _ h.regs (op_words op _ _ (read_below s.regs h.regs x) (operand_below s y h)); hi = h.hi; lo = h.lo; memory = h.memory }
 after_words (Sets d w) s h = record { regs = put_below s.regs d (wrap w) h.regs (omega arith); hi = h.hi; lo = h.lo; memory = h.memory }
-after_words (Loads d base offset) s h = record { regs = put_below s.regs d _ h.regs (load_below s.mapped s.memory (address s base offset) h.memory); hi = h.hi; lo = h.lo; memory = h.memory }
-after_words (Stores r base offset) s h = record { regs = h.regs; hi = h.hi; lo = h.lo; memory = store_below s.mapped s.memory (address s base offset) (read 0 s.regs r) h.memory }
+after_words (Loads d base offset) s h =
+    record { regs = put_below s.regs d _ h.regs (load_below s.mapped s.memory (address s base offset) h.memory); hi = h.hi; lo = h.lo; memory = h.memory }
+after_words (Stores r base offset) s h =
+    record { regs = h.regs; hi = h.hi; lo = h.lo; memory = store_below s.mapped s.memory (address s base offset) (read 0 s.regs r) h.memory }
 after_words (Multiplies sign x y) s h =
     let a = read_below s.regs h.regs x in
     let b = read_below s.regs h.regs y in
@@ -85,7 +80,7 @@ abbrev pub IsWordPending : Pending → Type 0
 IsWordPending Nothing = Unit {0}
 IsWordPending (Loaded r v) = v < 2 ^ 32
 
-pub settle_words : (p : Pending) (s : State) → IsWords s → IsWordPending p → IsWords (settle p s)
+pub settle_words : (p : Pending) (s : State) → IsWords s → IsWordPending p → IsWords (state_with_pending p s)
 settle_words Nothing s h w = h
 settle_words (Loaded r v) s h w = record { regs = put_below s.regs r v h.regs w; hi = h.hi; lo = h.lo; memory = h.memory }
 
@@ -101,5 +96,6 @@ start_words bytes h = record {
   regs = put_below (λ r. 0) 29 stack_end (λ r. omega arith) (omega arith);
   hi = omega arith;
   lo = omega arith;
-  memory = λ a. either_byte (nat_le stack_base a) 0 _ (omega arith) (either_byte (nat_le data_base a) (slice_index bytes (a - data_base)) 0 (index_small bytes (a - data_base) h) (omega arith));
+  memory = λ a. either_byte (nat_le stack_base a) 0 _ (omega arith)
+      (either_byte (nat_le data_base a) (slice_index bytes (a - data_base)) 0 (index_small bytes (a - data_base) h) (omega arith));
 }

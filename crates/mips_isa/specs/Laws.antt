@@ -5,7 +5,7 @@ use Rattle.mips_isa.specs.declared.rule.Rule.{Rule}
 use Rattle.mips_isa.specs.declared.rule.Rule.TheVariants.{M4, M5, M6}
 use Rattle.mips_isa.specs.Actions.{is_safe, touches, reads, writes}
 use Rattle.mips_isa.specs.Flows.{Flow}
-use Rattle.mips_isa.specs.Rules.{action_breaks, broken_by, is_stuck, IsLeastRule}
+use Rattle.mips_isa.specs.Rules.{action_breaks, action_rule_of, is_stuck, IsLeastRule}
 
 -- a safe action is one that breaks no rule on divisions and addresses
 abbrev pub SafeActionsKeepTheirRules : Type 0
@@ -18,7 +18,7 @@ pub record StuckActionsBreakARule : Type 0 where
 
 -- a stuck action has broken a rule, and no lesser one
 abbrev pub EachBrokenRuleIsLeast : Type 0
-EachBrokenRuleIsLeast = (a : Action) (f : Flow) (r : Rule) → broken_by a f ≡ Some r → IsLeastRule (λ q. action_breaks q a f) r
+EachBrokenRuleIsLeast = (a : Action) (f : Flow) (r : Rule) → action_rule_of a f ≡ Some r → IsLeastRule (λ q. action_breaks q a f) r
 
 abbrev pub ReadsAndWritesAreTouched : Type 0
 ReadsAndWritesAreTouched = (a : Action) (r : ℕ) → touches a r ≡ (writes a r || reads a r)

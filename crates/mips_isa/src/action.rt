@@ -1,14 +1,16 @@
 ghost use Rattle.std.specs.Prelude.{◌≡◌, ℕ, ◌*◌, ◌^◌, ◌<◌, ◌||◌, ◌&&◌, ◌==◌};
 ghost use Rattle.mips_isa.specs.declared.action.Operand.TheVariants.{Fixed, Held};
 ghost use Rattle.mips_isa.specs.declared.action.Action.TheVariants.{Computes};
-ghost use Rattle.mips_isa.specs.Actions.{action_of, sign_extension, shift_operator, alu_operator, imm_operator, logic_operator, product_high, product_low, quotient_operator, remainder_operator, operand_touches, touches, reads, writes, loads, is_load, is_move, is_product};
+ghost use Rattle.mips_isa.specs.Actions.{action_of, sign_extension, shift_operator, alu_operator, imm_operator, logic_operator};
+ghost use Rattle.mips_isa.specs.Actions.{product_high, product_low, quotient_operator, remainder_operator, operand_touches, touches, reads};
+ghost use Rattle.mips_isa.specs.Actions.{writes, loads, is_load, is_move, is_product};
 
 use crate::inst::{AluOp, HiLo, ImmOp, LogicOp, Plain, ShiftOp};
 use crate::reg::{NonzeroReg, Reg};
 use words::{Operator, Sign};
 
 /// A register, or a word of the instruction itself.
-#[derive(Clone, Copy, Debug, PartialEq, Eq)]
+#[derive(Clone, Copy, Debug)]
 pub enum Operand {
     Held(Reg),
     Fixed(u32),
@@ -16,7 +18,7 @@ pub enum Operand {
 
 /// What an instruction does, in one of few ways; the layers above go by these alone. Offsets are the
 /// instruction's, extended to a word; an address is the base's word plus the offset, modulo 2^32.
-#[derive(Clone, Copy, Debug, PartialEq, Eq)]
+#[derive(Clone, Copy, Debug)]
 pub enum Action {
     /// `d` becomes the operator's value at `a` and `b`.
     Computes {
@@ -242,7 +244,7 @@ impl Operand {
         ensures { result ≡ operand_touches self.now r }
     {
         match *self {
-            Operand::Held(a) => a.index() == r.index(),
+            Operand::Held(a) => a == r,
             Operand::Fixed(_) => false,
         }
     }
@@ -253,20 +255,19 @@ impl Action {
     pub fn touches(&self, r: Reg) -> bool
         ensures { result ≡ touches self.now r }
     {
-        let is = |q: Reg| -> bool { q.index() == r.index() };
         match *self {
-            Action::Computes { d, op: _, a, b } => is(d) || (is(a) || b.touches(r)),
-            Action::Sets { d, word: _ } => is(d),
-            Action::Loads { d, base, offset: _ } => d.index() == r.index() || is(base),
+            Action::Computes { d, op: _, a, b } => d == r || (a == r || b.touches(r)),
+            Action::Sets { d, word: _ } => d == r,
+            Action::Loads { d, base, offset: _ } => d.reg() == r || base == r,
             Action::Stores {
                 r: q,
                 base,
                 offset: _,
-            } => is(q) || is(base),
-            Action::Multiplies { sign: _, a, b } => is(a) || is(b),
-            Action::Divides { sign: _, a, b } => is(a) || is(b),
-            Action::MovesHigh { d } => is(d),
-            Action::MovesLow { d } => is(d),
+            } => q == r || base == r,
+            Action::Multiplies { sign: _, a, b } => a == r || b == r,
+            Action::Divides { sign: _, a, b } => a == r || b == r,
+            Action::MovesHigh { d } => d == r,
+            Action::MovesLow { d } => d == r,
         }
     }
 
@@ -274,13 +275,12 @@ impl Action {
     pub fn reads(&self, r: Reg) -> bool
         ensures { result ≡ reads self.now r }
     {
-        let is = |q: Reg| -> bool { q.index() == r.index() };
         match *self {
-            Action::Computes { a, b, .. } => is(a) || b.touches(r),
-            Action::Loads { base, .. } => is(base),
-            Action::Stores { r: q, base, .. } => is(q) || is(base),
-            Action::Multiplies { a, b, .. } => is(a) || is(b),
-            Action::Divides { a, b, .. } => is(a) || is(b),
+            Action::Computes { a, b, .. } => a == r || b.touches(r),
+            Action::Loads { base, .. } => base == r,
+            Action::Stores { r: q, base, .. } => q == r || base == r,
+            Action::Multiplies { a, b, .. } => a == r || b == r,
+            Action::Divides { a, b, .. } => a == r || b == r,
             Action::Sets { .. } | Action::MovesHigh { .. } | Action::MovesLow { .. } => false,
         }
     }
@@ -289,13 +289,12 @@ impl Action {
     pub fn writes(&self, r: Reg) -> bool
         ensures { result ≡ writes self.now r }
     {
-        let is = |q: Reg| -> bool { q.index() == r.index() };
         match *self {
-            Action::Computes { d, .. } => is(d),
-            Action::Sets { d, .. } => is(d),
-            Action::Loads { d, .. } => is(d.reg()),
-            Action::MovesHigh { d } => is(d),
-            Action::MovesLow { d } => is(d),
+            Action::Computes { d, .. } => d == r,
+            Action::Sets { d, .. } => d == r,
+            Action::Loads { d, .. } => d.reg() == r,
+            Action::MovesHigh { d } => d == r,
+            Action::MovesLow { d } => d == r,
             Action::Stores { .. } | Action::Multiplies { .. } | Action::Divides { .. } => false,
         }
     }

@@ -1,7 +1,7 @@
 // The texts of instructions.
 
-ghost use Rattle.std.specs.Prelude.{◌≡◌, Some};
-ghost use Rattle.std.specs.Fmt.{DisplaysOnOk};
+ghost use Rattle.std.specs.Prelude.{◌≡◌, ◌++◌, Some, codes, decimal};
+ghost use Rattle.std.specs.Fmt.{DisplaysOnOk, signed_decimal};
 ghost use Rattle.mips_isa.specs.Actions.{nop};
 ghost use Rattle.mips_isa.specs.Texts.{address_text, is_nop, mnemonic_of, mnemonic_text, operands_text, instruction_text, register_text};
 ghost use Rattle.mips_isa.specs.Texts.{control_name, control_operands, control_text, half_text, target_text};
@@ -15,7 +15,7 @@ use std::fmt;
 use words::Sign;
 
 /// The name of an instruction that computes, loads or stores, without its operands.
-#[derive(Clone, Copy, Debug, PartialEq, Eq)]
+#[derive(Clone, Copy, Debug)]
 pub enum Mnemonic {
     Shift(ShiftOp),
     ShiftBy(ShiftOp),
@@ -134,37 +134,71 @@ impl fmt::Display for NonzeroReg {
     }
 }
 
-// `offset($base)`
-fn write_address<W: fmt::Write>(base: Reg, offset: i16, f: &mut fmt::Formatter<W>) -> fmt::Result
-    ensures { DisplaysOnOk W.write_str_gives f.old result (Some (address_text base offset)) f.new }
+// `$a,$b`; what follows has a function for each form of operands, since one for all is slow to prove.
+fn write_pair<W: fmt::Write>(a: Reg, b: Reg, f: &mut fmt::Formatter<W>) -> fmt::Result
+    ensures { DisplaysOnOk W.write_str_gives f.old result (Some (register_text a ++ (codes "," ++ register_text b))) f.new }
 {
-    write!(f, "{offset}({base})")
+    write!(f, "{a},{b}")
+}
+
+fn write_triple<W: fmt::Write>(a: Reg, b: Reg, c: Reg, f: &mut fmt::Formatter<W>) -> fmt::Result
+    ensures { DisplaysOnOk W.write_str_gives f.old result
+        (Some (register_text a ++ (codes "," ++ (register_text b ++ (codes "," ++ register_text c))))) f.new }
+{
+    write!(f, "{a},{b},{c}")
+}
+
+fn write_signed<W: fmt::Write>(
+    a: Reg,
+    b: Reg,
+    number: i16,
+    f: &mut fmt::Formatter<W>,
+) -> fmt::Result
+    ensures { DisplaysOnOk W.write_str_gives f.old result
+        (Some (register_text a ++ (codes "," ++ (register_text b ++ (codes "," ++ signed_decimal number))))) f.new }
+{
+    write!(f, "{a},{b},{number}")
+}
+
+fn write_unsigned<W: fmt::Write>(
+    a: Reg,
+    b: Reg,
+    number: u16,
+    f: &mut fmt::Formatter<W>,
+) -> fmt::Result
+    ensures { DisplaysOnOk W.write_str_gives f.old result
+        (Some (register_text a ++ (codes "," ++ (register_text b ++ (codes "," ++ decimal number))))) f.new }
+{
+    write!(f, "{a},{b},{number}")
+}
+
+// The register that is loaded or stored, and `offset($base)`.
+fn write_moved<W: fmt::Write>(
+    r: Reg,
+    base: Reg,
+    offset: i16,
+    f: &mut fmt::Formatter<W>,
+) -> fmt::Result
+    ensures { DisplaysOnOk W.write_str_gives f.old result (Some (register_text r ++ (codes "," ++ address_text base offset))) f.new }
+{
+    write!(f, "{r},{offset}({base})")
 }
 
 fn write_operands<W: fmt::Write>(inst: &Plain, f: &mut fmt::Formatter<W>) -> fmt::Result
     ensures { DisplaysOnOk W.write_str_gives f.old result (Some (operands_text inst.now)) f.new }
 {
-    match inst {
-        Plain::Shift { rd, rt, amount, .. } => {
-            let bits = amount.bits();
-            write!(f, "{rd},{rt},{bits}")
-        }
-        Plain::ShiftBy { rd, rt, rs, .. } => write!(f, "{rd},{rt},{rs}"),
-        Plain::Alu { rd, rs, rt, .. } => write!(f, "{rd},{rs},{rt}"),
-        Plain::Imm { rt, rs, imm, .. } => write!(f, "{rt},{rs},{imm}"),
-        Plain::Logic { rt, rs, imm, .. } => write!(f, "{rt},{rs},{imm}"),
+    match *inst {
+        Plain::Shift { rd, rt, amount, .. } => write_unsigned(rd, rt, u16::from(amount.bits()), f),
+        Plain::ShiftBy { rd, rt, rs, .. } => write_triple(rd, rt, rs, f),
+        Plain::Alu { rd, rs, rt, .. } => write_triple(rd, rs, rt, f),
+        Plain::Imm { rt, rs, imm, .. } => write_signed(rt, rs, imm, f),
+        Plain::Logic { rt, rs, imm, .. } => write_unsigned(rt, rs, imm, f),
         Plain::LoadUpper { rt, imm } => write!(f, "{rt},{imm}"),
         Plain::MoveFrom { rd, .. } => write!(f, "{rd}"),
-        Plain::Multiply { rs, rt, .. } => write!(f, "{rs},{rt}"),
-        Plain::Divide { rs, rt, .. } => write!(f, "{rs},{rt}"),
-        Plain::Load { rt, base, offset } => {
-            write!(f, "{rt},")?;
-            write_address(*base, *offset, f)
-        }
-        Plain::Store { rt, base, offset } => {
-            write!(f, "{rt},")?;
-            write_address(*base, *offset, f)
-        }
+        Plain::Multiply { rs, rt, .. } => write_pair(rs, rt, f),
+        Plain::Divide { rs, rt, .. } => write_pair(rs, rt, f),
+        Plain::Load { rt, base, offset } => write_moved(rt.reg(), base, offset, f),
+        Plain::Store { rt, base, offset } => write_moved(rt, base, offset, f),
     }
 }
 
@@ -184,7 +218,7 @@ impl fmt::Display for Plain {
 
 /// A branch, a jump or a call to the system at an address, as a listing shows it: Kane's text, with the target as an
 /// address in hexadecimal.
-#[derive(Clone, Copy, Debug, PartialEq, Eq)]
+#[derive(Clone, Copy, Debug)]
 pub struct ListedControl {
     pub control: Control,
     pub address: u32,

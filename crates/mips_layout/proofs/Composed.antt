@@ -1,5 +1,7 @@
 -- The laid out orders run as the unit does.
-use Rattle.std.proofs.Common.{◌≡◌, ◌≢◌, ℕ, zero, suc, ◌+◌, ◌-◌, ◌*◌, ◌^◌, ◌<◌, ◌≤◌, ⊎_elim, inl, inr, Bool, true, false, cond, List, [], ◌∷◌, ◌++◌, map, length, slice_get, All, Option, Some, None, ◌==◌, refl, sym, ap, ◌∙◌, subst, true≢false, le_trans, eqb-true, length-append, arith}
+use Rattle.std.proofs.Common.{◌≡◌, ◌≢◌, ℕ, zero, suc, ◌+◌, ◌-◌, ◌*◌, ◌^◌, ◌<◌, ◌≤◌, ⊎_elim, inl, inr, Bool, true, false, cond, List, []}
+use Rattle.std.proofs.Common.{◌∷◌, ◌++◌, map, length, slice_get, All, Option, Some, None, ◌==◌, refl, sym, ap, ◌∙◌, subst, true≢false}
+use Rattle.std.proofs.Common.{le_trans, eqb-true, length-append, arith}
 use Rattle.std.specs.Prelude.{is_some}
 use Rattle.std.proofs.lemmas.Bool.{cases_lt}
 use Rattle.std.proofs.lemmas.Option.{same_Some, none-some, slice_get_within}
@@ -19,16 +21,19 @@ use Rattle.mblock.specs.declared.exit.Exit.TheVariants.{Goto, BranchPair, Branch
 use Rattle.mblock.specs.Parts.{BlockParts, OrderParts}
 use Rattle.mblock.specs.Slots.{is_slotted}
 use Rattle.mblock.specs.Clean.{FitsSlot}
-use Rattle.mblock.specs.BlockMeaning.{Calls, exit_shape, Departure, GoesTo, CallsTo, GoesBack, PrintsTo, HaltsWith, exit_effect, exit_effect_after, run, block_effect}
+use Rattle.mblock.specs.BlockMeaning.{Calls, exit_shape, Departure, GoesTo, CallsTo, GoesBack, PrintsTo, HaltsWith, exit_effect}
+use Rattle.mblock.specs.BlockMeaning.{exit_effect_after, run, block_effect}
 use Rattle.mips_steps.specs.declared.steps.Ending.TheVariants as endings
 use Rattle.mips_steps.specs.Machines as def
 use Rattle.mips_steps.specs.Machines.{Machine, words_code, machine_run}
 use Rattle.mips_layout.specs.Fetching.{insts_code}
 use Rattle.mips_isa.specs.Actions.{nop}
-use Rattle.mips_layout.specs.Layout.{size, place, exit_size, exit_insts, slot_insts, jump_to, order_length, address_of_place, order_insts, insts_of, layout, links_of}
+use Rattle.mips_layout.specs.Layout.{size, place, exit_size, exit_insts, slot_insts, jump_to, order_length, address_of_place, order_insts}
+use Rattle.mips_layout.specs.Layout.{insts_of, layout, links_of}
 use Rattle.mips_layout.proofs.Fetches.{runs_same}
 use Rattle.mips_layout.proofs.Within.{place_next, place_mono}
-use Rattle.mblock.specs.UnitRuns.{wrong, enter_at, enter_if, call_goes_on, returns_to, goes_on, exit_item, items, unit_run, is_call, TellsApart}
+use Rattle.mblock.specs.UnitRuns.{wrong, outcome_at_block, outcome_at_return, call_return_of, return_block_of, outcome_of_departure}
+use Rattle.mblock.specs.UnitRuns.{exit_item, items, unit_run, is_call, TellsApart}
 use Rattle.mblock.specs.Orders.{Means, AreOrders}
 use Rattle.mips_steps.specs.Agreement.{Agrees}
 use Rattle.mips_layout.specs.LayoutRuns.{EachLayoutRuns, EachLayoutTellsCallsApart}
@@ -84,12 +89,16 @@ pub record IsScheduled (blocks : List BlockParts) (orders : List OrderParts) : T
 
 module _ (blocks : List BlockParts) (links : ℕ → ℕ) (t : ℕ) (out : List ℕ) where
   -- before its exit a block prints nothing
-  items_within : (rest : List Plain) (n : ℕ) (s : State) → n ≤ length rest → is_wrong (items blocks links n t rest s out) ≡ false → items blocks links n t rest s out ≡ (more out)
+  items_within : (rest : List Plain) (n : ℕ) (s : State) → n ≤ length rest → is_wrong (items blocks links n t rest s out) ≡ false
+      → items blocks links n t rest s out ≡ (more out)
   items_within rest zero s le e = refl
   items_within [] (suc n) s le e = absurd (omega arith)
   items_within (i ∷ rest) (suc n) s le e = go (λ h. items_within rest n (state_after (action_of i) s) (omega arith) h) (is_safe (action_of i) s) e
     where
-      go : (is_wrong (items blocks links n t rest (state_after (action_of i) s) out) ≡ false → items blocks links n t rest (state_after (action_of i) s) out ≡ (more out)) → (b : Bool) → is_wrong (cond b (items blocks links n t rest (state_after (action_of i) s) out) (wrong out)) ≡ false → cond b (items blocks links n t rest (state_after (action_of i) s) out) (wrong out) ≡ (more out)
+      go : (is_wrong (items blocks links n t rest (state_after (action_of i) s) out) ≡ false
+          → items blocks links n t rest (state_after (action_of i) s) out ≡ (more out)) → (b : Bool)
+          → is_wrong (cond b (items blocks links n t rest (state_after (action_of i) s) out) (wrong out)) ≡ false
+          → cond b (items blocks links n t rest (state_after (action_of i) s) out) (wrong out) ≡ (more out)
       go next true h = next h
       go next false h = absurd (true≢false h)
 
@@ -98,14 +107,18 @@ module _ (blocks : List BlockParts) (links : ℕ → ℕ) (t : ℕ) (out : List 
     ran : run (map action_of rest) s ≡ Some end
     goes : items blocks links n t rest s out ≡ exit_item blocks links t (slice_get blocks t) (items blocks links left_over) end out
 
-  items_past : (rest : List Plain) (n left_over : ℕ) (s : State) → n ≡ length rest + 1 + left_over → is_wrong (items blocks links n t rest s out) ≡ false → Passes rest n left_over s
+  items_past : (rest : List Plain) (n left_over : ℕ) (s : State) → n ≡ length rest + 1 + left_over
+      → is_wrong (items blocks links n t rest s out) ≡ false → Passes rest n left_over s
   items_past [] n left_over s e w =
       let one : suc left_over ≡ n = omega arith in
       subst (λ m. Passes [] m left_over s) one (record { end = s; ran = refl; goes = refl })
   items_past (i ∷ rest) zero left_over s e w = absurd (omega arith)
-  items_past (i ∷ rest) (suc n) left_over s e w = go (λ h. items_past rest n left_over (state_after (action_of i) s) (omega arith) h) (is_safe (action_of i) s) refl w
+  items_past (i ∷ rest) (suc n) left_over s e w =
+      go (λ h. items_past rest n left_over (state_after (action_of i) s) (omega arith) h) (is_safe (action_of i) s) refl w
     where
-      go : (is_wrong (items blocks links n t rest (state_after (action_of i) s) out) ≡ false → Passes rest n left_over (state_after (action_of i) s)) → (b : Bool) → is_safe (action_of i) s ≡ b → is_wrong (cond b (items blocks links n t rest (state_after (action_of i) s) out) (wrong out)) ≡ false → Passes (i ∷ rest) (suc n) left_over s
+      go : (is_wrong (items blocks links n t rest (state_after (action_of i) s) out) ≡ false
+          → Passes rest n left_over (state_after (action_of i) s)) → (b : Bool) → is_safe (action_of i) s ≡ b
+          → is_wrong (cond b (items blocks links n t rest (state_after (action_of i) s) out) (wrong out)) ≡ false → Passes (i ∷ rest) (suc n) left_over s
       go next true eb h =
           let p = next h in
           record {
@@ -122,19 +135,33 @@ some_within [] q lt = absurd (omega arith)
 some_within (x ∷ l) zero lt = (x, refl)
 some_within (x ∷ l) (suc q) lt = some_within l q (omega arith)
 
-place_room : (start : ℕ → ℕ) (os : List OrderParts) (here : ℕ) → ((k : ℕ) (o : OrderParts) → slice_get os k ≡ Some o → FitsSlot o) → (k : ℕ) (o : OrderParts) → slice_get os k ≡ Some o → place os k + size o ≤ length (insts_of start here os)
+place_room : (start : ℕ → ℕ) (os : List OrderParts) (here : ℕ) → ((k : ℕ) (o : OrderParts) → slice_get os k ≡ Some o → FitsSlot o)
+    → (k : ℕ) (o : OrderParts) → slice_get os k ≡ Some o → place os k + size o ≤ length (insts_of start here os)
 place_room start [] here fits k o e = absurd (none-some o e)
 place_room start (x ∷ rest) here fits zero o e =
     let same : size x ≡ size o = ap size (same_Some x o e) in
     omega (arith, same, words_length start here x (fits 0 x refl), length-append (order_insts start here x) (insts_of start (here + size x) rest))
 place_room start (x ∷ rest) here fits (suc k) o e =
-    omega (arith, place_room start rest (here + size x) (λ j. fits (suc j)) k o e, words_length start here x (fits 0 x refl), length-append (order_insts start here x) (insts_of start (here + size x) rest))
+    omega (
+      arith,
+      place_room start rest (here + size x) (λ j. fits (suc j)) k o e,
+      words_length start here x (fits 0 x refl),
+      length-append
+          (order_insts start here x) (insts_of start (here + size x) rest),
+    )
 
-place_any : (start : ℕ → ℕ) (os : List OrderParts) (here : ℕ) → ((k : ℕ) (o : OrderParts) → slice_get os k ≡ Some o → FitsSlot o) → (k : ℕ) → place os k ≤ length (insts_of start here os)
+place_any : (start : ℕ → ℕ) (os : List OrderParts) (here : ℕ) → ((k : ℕ) (o : OrderParts) → slice_get os k ≡ Some o → FitsSlot o) → (k : ℕ)
+    → place os k ≤ length (insts_of start here os)
 place_any start [] here fits k = omega arith
 place_any start (x ∷ rest) here fits zero = omega arith
 place_any start (x ∷ rest) here fits (suc k) =
-    omega (arith, place_any start rest (here + size x) (λ j. fits (suc j)) k, words_length start here x (fits 0 x refl), length-append (order_insts start here x) (insts_of start (here + size x) rest))
+    omega (
+      arith,
+      place_any start rest (here + size x) (λ j. fits (suc j)) k,
+      words_length start here x (fits 0 x refl),
+      length-append
+          (order_insts start here x) (insts_of start (here + size x) rest),
+    )
 
 -- the call with a link
 record Returned (links : ℕ → ℕ) (word u k : ℕ) (bs : List BlockParts) : Type 0 where
@@ -145,7 +172,7 @@ record Returned (links : ℕ → ℕ) (word u k : ℕ) (bs : List BlockParts) : 
   calls : block.exit ≡ Call callee u
   link : links (k + nth) ≡ word
 
-returned : (links : ℕ → ℕ) (word u k : ℕ) (bs : List BlockParts) → returns_to links word k bs ≡ Some u → Returned links word u k bs
+returned : (links : ℕ → ℕ) (word u k : ℕ) (bs : List BlockParts) → return_block_of links word k bs ≡ Some u → Returned links word u k bs
 returned links word u k [] e = absurd (none-some u e)
 returned links word u k (b ∷ rest) e = go (returned links word u (suc k) rest) b.exit refl (links k == word) refl e
   where
@@ -154,10 +181,19 @@ returned links word u k (b ∷ rest) e = go (returned links word u (suc k) rest)
         let next : suc k + r.nth ≡ k + suc r.nth = omega arith in
         record { nth = suc r.nth; block = r.block; callee = r.callee; there = r.there; calls = r.calls; link = subst (λ n. links n ≡ word) next r.link }
 
-    go : (returns_to links word (suc k) rest ≡ Some u → Returned links word u (suc k) rest) → (x : Exit) → b.exit ≡ x → (y : Bool) → (links k == word) ≡ y → call_goes_on x y (returns_to links word (suc k) rest) ≡ Some u → Returned links word u k (b ∷ rest)
+    go : (return_block_of links word (suc k) rest ≡ Some u → Returned links word u (suc k) rest) → (x : Exit) → b.exit ≡ x → (y : Bool)
+        → (links k == word) ≡ y → call_return_of x y (return_block_of links word (suc k) rest) ≡ Some u → Returned links word u k (b ∷ rest)
     go next (Call f n) ex true ey h =
         let here : k ≡ k + 0 = omega arith in
-        record { nth = 0; block = b; callee = f; there = refl; calls = ex ∙ ap (Call f) (same_Some n u h); link = subst (λ m. links m ≡ word) here (eqb-true (links k) word ey) }
+        record {
+          nth = 0;
+          block = b;
+          callee = f;
+          there = refl;
+          calls = ex
+              ∙ ap (Call f) (same_Some n u h);
+          link = subst (λ m. links m ≡ word) here (eqb-true (links k) word ey);
+        }
     go next (Call f n) ex false ey h = later (next h)
     go next (Goto x) ex y ey h = later (next h)
     go next (BranchPair test a b' x z) ex y ey h = later (next h)
@@ -176,12 +212,14 @@ shape_call (Out n) f u e = cc
 shape_call Halt f u e = cc
 
 -- behind a call's slot stands the jump to where it goes on
-call_words : (code : List Inst) (start : ℕ → ℕ) (p u f : ℕ) (exit : Exit) (slot : Option Plain) → exit ≡ Call f u → is_some slot ≡ is_slotted exit → HasAt code p (exit_insts start p exit slot) → HasAt code (p + 2) (jump_to (start u) ∷ I.Plain nop ∷ [])
+call_words : (code : List Inst) (start : ℕ → ℕ) (p u f : ℕ) (exit : Exit) (slot : Option Plain) → exit ≡ Call f u
+    → is_some slot ≡ is_slotted exit → HasAt code p (exit_insts start p exit slot) → HasAt code (p + 2) (jump_to (start u) ∷ I.Plain nop ∷ [])
 call_words code start p u f exit slot e fits h =
     let at_call = subst (λ x. HasAt code p (exit_insts start p x slot)) e h in
     let one = slot_length slot (fits ∙ ap is_slotted e) in
     let two : p + 1 + length (slot_insts slot) ≡ p + 2 = omega (arith, one) in
-    subst (λ n. HasAt code n (jump_to (start u) ∷ I.Plain nop ∷ [])) two (has_back code (p + 1) (slot_insts slot) (jump_to (start u) ∷ I.Plain nop ∷ []) at_call.1)
+    subst (λ n. HasAt code n (jump_to (start u) ∷ I.Plain nop ∷ [])) two
+    (has_back code (p + 1) (slot_insts slot) (jump_to (start u) ∷ I.Plain nop ∷ []) at_call.1)
 
 first_place : (os : List OrderParts) → 0 ≡ place os 0
 first_place [] = refl
@@ -215,27 +253,34 @@ module _ (blocks : List BlockParts) (orders : List OrderParts) (sch : IsSchedule
   link_below t o e = omega (arith, link_is t o e, place_room start orders 0 sch.fits t o e, sch.room)
 
   -- a return arrives where its call goes on
-  return_hops : (word u : ℕ) (s : State) (out : List ℕ) → returns_to links word 0 blocks ≡ Some u → Leads (layout orders) 2 (record { flow = quiet s; pc = word; target = None; output = out }) (machine_at (start u) s out)
+  return_hops : (word u : ℕ) (s : State) (out : List ℕ) → return_block_of links word 0 blocks ≡ Some u
+      → Leads (layout orders) 2 (record { flow = quiet s; pc = word; target = None; output = out }) (machine_at (start u) s out)
   return_hops word u s out e =
       let r = returned links word u 0 blocks e in
       let o = order_for r.nth r.block r.there in
       let p = start r.nth + length o.0.insts in
       let same : o.0.exit ≡ Call r.callee u = shape_call o.0.exit r.callee u (sym (sch.exits r.nth r.block o.0 r.there o.1) ∙ ap exit_shape r.calls) in
       let len : start r.nth + length (map I.Plain o.0.insts) ≡ p = ap (λ n. start r.nth + n) (map_length o.0.insts) in
-      let h = subst (λ n. HasAt (layout orders) n (exit_insts start p o.0.exit o.0.slot)) len (has_back (layout orders) (start r.nth) (map I.Plain o.0.insts) (exit_insts start p o.0.exit o.0.slot) (has_order r.nth o.0 o.1)) in
+      let h = subst (λ n. HasAt (layout orders) n (exit_insts start p o.0.exit o.0.slot)) len
+      (has_back (layout orders) (start r.nth) (map I.Plain o.0.insts) (exit_insts start p o.0.exit o.0.slot) (has_order r.nth o.0 o.1)) in
       let jumps = call_words (layout orders) start p u r.callee o.0.exit o.0.slot same (sch.fits r.nth o.0 o.1) h in
       let nth : 0 + r.nth ≡ r.nth = omega arith in
       let address : address_of_place (p + 2) ≡ word = sym (link_is r.nth o.0 o.1) ∙ ap links (sym nth) ∙ r.link in
-      subst (λ x. Leads (layout orders) 2 (record { flow = quiet s; pc = x; target = None; output = out }) (machine_at (start u) s out)) address (hop (layout orders) (p + 2) (start u) s out sch.room jumps)
+      subst (λ x. Leads (layout orders) 2 (record { flow = quiet s; pc = x; target = None; output = out }) (machine_at (start u) s out))
+      address (hop (layout orders) (p + 2) (start u) s out sch.room jumps)
 
 -- how many items a number of words may stand for: the two theorems differ in this alone
 pub record IsMeasure (blocks : List BlockParts) (orders : List OrderParts) (P : ℕ → ℕ → Type 0) (e : ℕ) : Type 0 where
   pub leaves : (n k j : ℕ) → P n k → 2 + k ≤ j → P (n + e) j
   pub halts : (n j : ℕ) → 2 + n ≤ j → P (n + e) j
-  pub block : (t : ℕ) (b : BlockParts) (o : OrderParts) → slice_get blocks t ≡ Some b → slice_get orders t ≡ Some o → (n left_over k j : ℕ) → n ≡ length b.insts + 1 + left_over → P (left_over + e) k → length o.insts + k ≤ j → P n j
-  pub part : (t : ℕ) (b : BlockParts) (s : State) (out : List ℕ) (n : ℕ) → slice_get blocks t ≡ Some b → n ≤ length b.insts → is_wrong (items blocks (links_of orders) n t b.insts s out) ≡ false → (k : ℕ) × P n k × (machine_run (insts_code (layout orders)) k (machine_at (place orders t) s out) ≡ said out)
+  pub block : (t : ℕ) (b : BlockParts) (o : OrderParts) → slice_get blocks t ≡ Some b → slice_get orders t ≡ Some o → (n left_over k j : ℕ)
+      → n ≡ length b.insts + 1 + left_over → P (left_over + e) k → length o.insts + k ≤ j → P n j
+  pub part : (t : ℕ) (b : BlockParts) (s : State) (out : List ℕ) (n : ℕ) → slice_get blocks t ≡ Some b → n ≤ length b.insts
+      → is_wrong (items blocks (links_of orders) n t b.insts s out) ≡ false → (k : ℕ) × P n k
+      × (machine_run (insts_code (layout orders)) k (machine_at (place orders t) s out) ≡ said out)
 
-module _ (blocks : List BlockParts) (orders : List OrderParts) (sch : IsScheduled blocks orders) (P : ℕ → ℕ → Type 0) (e : ℕ) (measure : IsMeasure blocks orders P e) where
+module _ (blocks : List BlockParts) (orders : List OrderParts) (sch : IsScheduled blocks orders) (P : ℕ → ℕ → Type 0) (e : ℕ)
+    (measure : IsMeasure blocks orders P e) where
   abbrev start' : ℕ → ℕ
   start' = place orders
 
@@ -246,43 +291,59 @@ module _ (blocks : List BlockParts) (orders : List OrderParts) (sch : IsSchedule
   Follows n m ran = (k : ℕ) × P n k × Agrees ran (machine_run (insts_code (layout orders)) k m)
 
   abbrev Entered : ℕ → Type 0
-  Entered n = (t : ℕ) (b : BlockParts) (s : State) (out : List ℕ) → slice_get blocks t ≡ Some b → IsWords s → is_wrong (items blocks links' n t b.insts s out) ≡ false → Follows n (machine_at (start' t) s out) (items blocks links' n t b.insts s out)
+  Entered n = (t : ℕ) (b : BlockParts) (s : State) (out : List ℕ) → slice_get blocks t ≡ Some b → IsWords s
+      → is_wrong (items blocks links' n t b.insts s out) ≡ false → Follows n (machine_at (start' t) s out) (items blocks links' n t b.insts s out)
 
   -- behind an exit
-  entered_at : (n : ℕ) → Entered n → (u : ℕ) (m : Machine) (s : State) (out : List ℕ) → IsWords s → Leads (layout orders) 2 m (machine_at (start' u) s out) → is_wrong (enter_at u (slice_get blocks u) (items blocks links' n) s out) ≡ false → Follows (n + e) m (enter_at u (slice_get blocks u) (items blocks links' n) s out)
+  entered_at : (n : ℕ) → Entered n → (u : ℕ) (m : Machine) (s : State) (out : List ℕ) → IsWords s
+      → Leads (layout orders) 2 m (machine_at (start' u) s out)
+      → is_wrong (outcome_at_block u (slice_get blocks u) (items blocks links' n) s out) ≡ false
+      → Follows (n + e) m (outcome_at_block u (slice_get blocks u) (items blocks links' n) s out)
   entered_at n next u m s out words l w = go (slice_get blocks u) refl w
     where
-      go : (x : Option BlockParts) → slice_get blocks u ≡ x → is_wrong (enter_at u x (items blocks links' n) s out) ≡ false → Follows (n + e) m (enter_at u x (items blocks links' n) s out)
+      go : (x : Option BlockParts) → slice_get blocks u ≡ x → is_wrong (outcome_at_block u x (items blocks links' n) s out) ≡ false
+          → Follows (n + e) m (outcome_at_block u x (items blocks links' n) s out)
       go None ex h = absurd (true≢false h)
       go (Some b) ex h =
           let f = next u b s out ex words h in
           let a = l.by f.0 in
           (a.0, measure.leaves n f.0 a.0 f.1 a.1, agrees_by (sym a.2) f.2)
 
-  left_at : (n : ℕ) → Entered n → (g : Departure) (m : Machine) (s : State) (out : List ℕ) → IsWords s → Arrives (layout orders) start' m out g s → is_wrong (goes_on blocks links' g (items blocks links' n) s out) ≡ false → Follows (n + e) m (goes_on blocks links' g (items blocks links' n) s out)
+  left_at : (n : ℕ) → Entered n → (g : Departure) (m : Machine) (s : State) (out : List ℕ) → IsWords s
+      → Arrives (layout orders) start' m out g s → is_wrong (outcome_of_departure blocks links' g (items blocks links' n) s out) ≡ false
+      → Follows (n + e) m (outcome_of_departure blocks links' g (items blocks links' n) s out)
   left_at n next (GoesTo u) m s out words l w = entered_at n next u m s out words l w
   left_at n next (CallsTo f u) m s out words l w = entered_at n next f m s out words l w
   left_at n next (PrintsTo word u) m s out words l w = entered_at n next u m s (out ++ word ∷ []) words l w
   left_at n next (HaltsWith word) m s out words l w = let a = l n in (a.0, measure.halts n a.0 a.1, agrees_by (sym a.2) (record { end = refl; output = refl }))
-  left_at n next (GoesBack word) m s out words l w = go (returns_to links' word 0 blocks) refl w
+  left_at n next (GoesBack word) m s out words l w = go (return_block_of links' word 0 blocks) refl w
     where
-      go : (x : Option ℕ) → returns_to links' word 0 blocks ≡ x → is_wrong (enter_if blocks x (items blocks links' n) s out) ≡ false → Follows (n + e) m (enter_if blocks x (items blocks links' n) s out)
+      go : (x : Option ℕ) → return_block_of links' word 0 blocks ≡ x
+          → is_wrong (outcome_at_return blocks x (items blocks links' n) s out) ≡ false
+          → Follows (n + e) m (outcome_at_return blocks x (items blocks links' n) s out)
       go None ex h = absurd (true≢false h)
       go (Some u) ex h =
-          entered_at n next u m s out words (fewer (layout orders) 4 2 _ _ (omega arith) (leads_on (layout orders) 2 2 _ _ _ l (return_hops blocks orders sch word u s out ex))) h
+          entered_at n next u m s out words
+          (fewer (layout orders) 4 2 _ _ (omega arith) (leads_on (layout orders) 2 2 _ _ _ l (return_hops blocks orders sch word u s out ex))) h
 
   -- a whole block, and what follows
-  block_follows : (n left_over t : ℕ) (b : BlockParts) (s : State) (out : List ℕ) → n ≡ length b.insts + 1 + left_over → Entered left_over → slice_get blocks t ≡ Some b → IsWords s → is_wrong (items blocks links' n t b.insts s out) ≡ false → Follows n (machine_at (start' t) s out) (items blocks links' n t b.insts s out)
+  block_follows : (n left_over t : ℕ) (b : BlockParts) (s : State) (out : List ℕ) → n ≡ length b.insts + 1 + left_over → Entered left_over
+      → slice_get blocks t ≡ Some b → IsWords s → is_wrong (items blocks links' n t b.insts s out) ≡ false
+      → Follows n (machine_at (start' t) s out) (items blocks links' n t b.insts s out)
   block_follows n left_over t b s out en next eb words w =
       let p = items_past blocks links' t out b.insts n left_over s en w in
       let o = order_for blocks orders sch t b eb in
       let r = exit_effect b.exit p.end (links' t) in
       let effect : block_effect b s (links' t) ≡ Some r = ap (λ x. exit_effect_after b.exit x (links' t)) p.ran in
       let same = sch.means t b o.0 eb o.1 s (links' t) r words (link_below blocks orders sch t o.0 o.1) effect in
-      let arrives = order_arrives (layout orders) start' o.0 (start' t) s (links' t) r out (placed blocks orders sch) (link_is blocks orders sch t o.0 o.1) (has_order blocks orders sch t o.0 o.1) same in
+      let arrives =
+      order_arrives (layout orders) start' o.0 (start' t) s (links' t) r out (placed blocks orders sch)
+      (link_is blocks orders sch t o.0 o.1) (has_order blocks orders sch t o.0 o.1) same in
       let goes = p.goes ∙ ap (λ x. exit_item blocks links' t x (items blocks links' left_over) p.end out) eb in
       let fine = subst (λ x. is_wrong x ≡ false) goes w in
-      let f = left_at left_over next r.goes (at (start' t + length o.0.insts) arrives.0 out) r.state out (leave_words b.exit p.end (links' t) (run_words (map action_of b.insts) s p.end words p.ran) (link_below blocks orders sch t o.0 o.1)) arrives.2 fine in
+      let f = left_at left_over next r.goes (at (start' t + length o.0.insts) arrives.0 out) r.state out
+      (leave_words b.exit p.end (links' t) (run_words (map action_of b.insts) s p.end words p.ran)
+      (link_below blocks orders sch t o.0 o.1)) arrives.2 fine in
       let a = arrives.1.by f.0 in
       (a.0, measure.block t b o.0 eb o.1 n left_over f.0 a.0 en f.1 a.1, agrees_of (sym goes) (agrees_by (sym a.2) f.2))
 
@@ -293,16 +354,20 @@ module _ (blocks : List BlockParts) (orders : List OrderParts) (sch : IsSchedule
       (k.0, k.1, goes_on_alike (items_within blocks links' t out b.insts n s under w) k.2)
   follows (suc fuel) n le t b s out eb words w =
       ⊎_elim
-      (λ over. block_follows n (n - (length b.insts + 1)) t b s out (omega (arith, over)) (follows fuel (n - (length b.insts + 1)) (omega (arith, over))) eb words w)
+      (λ over. block_follows n (n - (length b.insts + 1)) t b s out (omega (arith, over))
+      (follows fuel (n - (length b.insts + 1)) (omega (arith, over))) eb words w)
       (λ under. let k = measure.part t b s out n eb under w in (k.0, k.1, goes_on_alike (items_within blocks links' t out b.insts n s under w) k.2))
       (cases_lt (length b.insts) n)
 
 -- a run from block 0
-pub from_start : (blocks : List BlockParts) (orders : List OrderParts) → IsScheduled blocks orders → (P : ℕ → ℕ → Type 0) (e : ℕ) → IsMeasure blocks orders P e → (s : State) → IsWords s → (i : ℕ) → is_wrong (unit_run blocks (links_of orders) s i) ≡ false
+pub from_start : (blocks : List BlockParts) (orders : List OrderParts) → IsScheduled blocks orders → (P : ℕ → ℕ → Type 0) (e : ℕ)
+    → IsMeasure blocks orders P e → (s : State) → IsWords s → (i : ℕ) → is_wrong (unit_run blocks (links_of orders) s i) ≡ false
     → (m : ℕ) × P i m × Agrees (unit_run blocks (links_of orders) s i) (machine_run (insts_code (layout orders)) m (machine_at 0 s []))
 from_start blocks orders sch P e measure s words i w = go (slice_get blocks 0) refl w
   where
-    go : (x : Option BlockParts) → slice_get blocks 0 ≡ x → is_wrong (enter_at 0 x (items blocks (links_of orders) i) s []) ≡ false → (m : ℕ) × P i m × Agrees (enter_at 0 x (items blocks (links_of orders) i) s []) (machine_run (insts_code (layout orders)) m (machine_at 0 s []))
+    go : (x : Option BlockParts) → slice_get blocks 0 ≡ x → is_wrong (outcome_at_block 0 x (items blocks (links_of orders) i) s []) ≡ false
+        → (m : ℕ) × P i m
+        × Agrees (outcome_at_block 0 x (items blocks (links_of orders) i) s []) (machine_run (insts_code (layout orders)) m (machine_at 0 s []))
     go None ex h = absurd (true≢false h)
     go (Some b) ex h =
         let f = follows blocks orders sch P e measure i i (omega arith) 0 b s [] ex words h in
@@ -312,7 +377,8 @@ pub scheduled : (blocks : List BlockParts) (orders : List OrderParts) → AreOrd
 scheduled blocks orders h room = record { long = h.long; short = h.short; fits = h.fits; exits = h.exits; means = h.means; room = room }
 
 -- over words
-pub over_words : (orders : List OrderParts) → All IsInst (layout orders) → (o : Outcome) (m : ℕ) (x : Machine) → Agrees o (machine_run (insts_code (layout orders)) m x) → Agrees o (machine_run (words_code (map inst_word (layout orders))) m x)
+pub over_words : (orders : List OrderParts) → All IsInst (layout orders) → (o : Outcome) (m : ℕ) (x : Machine)
+    → Agrees o (machine_run (insts_code (layout orders)) m x) → Agrees o (machine_run (words_code (map inst_word (layout orders))) m x)
 over_words orders fit o m x h = agrees_by (sym (runs_same (layout orders) fit m x)) h
 
 pub each_layout_runs : EachLayoutRuns
@@ -344,7 +410,8 @@ shape_size Halt y e c = absurd (true≢false (sym c))
 
 module _ (blocks : List BlockParts) (orders : List OrderParts) (h : AreOrders blocks orders) (room : length (layout orders) ≤ 1048576) where
   -- a call before another has the lesser link
-  before : (i j : ℕ) (a b : BlockParts) → slice_get blocks i ≡ Some a → slice_get blocks j ≡ Some b → is_call a.exit ≡ true → i < j → links_of orders i < links_of orders j
+  before : (i j : ℕ) (a b : BlockParts) → slice_get blocks i ≡ Some a → slice_get blocks j ≡ Some b → is_call a.exit ≡ true → i < j
+      → links_of orders i < links_of orders j
   before i j a b ea eb ca lt =
       let sch = scheduled blocks orders h room in
       let x = order_for blocks orders sch i a ea in

@@ -1,5 +1,6 @@
 -- Each field of a laid out instruction is in its range.
-use Rattle.std.proofs.Common.{◌≡◌, ℕ, zero, suc, ◌+◌, ◌/◌, ◌^◌, ◌<◌, ◌≤◌, List, [], ◌∷◌, ◌++◌, map, length, Option, Some, None, slice_get, inl, inr, refl, sym, subst, arith}
+use Rattle.std.proofs.Common.{◌≡◌, ℕ, zero, suc, ◌+◌, ◌/◌, ◌^◌, ◌<◌, ◌≤◌, List, [], ◌∷◌, ◌++◌, map, length, Option, Some, None, slice_get}
+use Rattle.std.proofs.Common.{inl, inr, refl, sym, subst, arith}
 use Rattle.std.specs.Prelude.{IfSome, FitsSigned}
 use Rattle.std.specs.Int.{w16}
 use Rattle.std.specs.List.{AllByRecursion}
@@ -58,7 +59,8 @@ exit_fits owner start here n k Return slot hs s low off = (omega arith, slot_fit
 exit_fits owner start here n k (Out m) slot hs s low off = ((omega arith, omega arith, omega (arith, ints)), (tt, hop_fits (start m) (low m s)))
 exit_fits owner start here n k Halt slot hs s low off = ((omega arith, omega arith, omega (arith, ints)), (tt, tt))
 
-all_fit : (start : ℕ → ℕ) (os : List OrderParts) (here : ℕ) → ((j : ℕ) (o : OrderParts) → slice_get os j ≡ Some o → Fit (order_insts start (here + place os j) o)) → Fit (insts_of start here os)
+all_fit : (start : ℕ → ℕ) (os : List OrderParts) (here : ℕ)
+    → ((j : ℕ) (o : OrderParts) → slice_get os j ≡ Some o → Fit (order_insts start (here + place os j) o)) → Fit (insts_of start here os)
 all_fit start [] here h = tt
 all_fit start (o ∷ rest) here h =
     let first : here + 0 ≡ here = omega arith in
@@ -68,7 +70,9 @@ all_fit start (o ∷ rest) here h =
     (all_fit start rest (here + size o) (λ j x e. subst (λ n. Fit (order_insts start n x)) (next j) (h (suc j) x e)))
 
 -- a branch from the end of block k to a block of its function
-pub offset_near : (owner : ℕ → ℕ) (os : List OrderParts) → AreFunctions (length os) owner → ((f : ℕ) → words_owned owner f 0 os ≤ 32000) → (k t : ℕ) (o : OrderParts) → slice_get os k ≡ Some o → t < length os → owner t ≡ owner k → FitsSigned w16 (branch_offset (place os k + length o.insts) (place os t))
+pub offset_near : (owner : ℕ → ℕ) (os : List OrderParts) → AreFunctions (length os) owner → ((f : ℕ) → words_owned owner f 0 os ≤ 32000)
+    → (k t : ℕ) (o : OrderParts) → slice_get os k ≡ Some o → t < length os → owner t ≡ owner k
+    → FitsSigned w16 (branch_offset (place os k + length o.insts) (place os t))
 offset_near owner os functions few k t o e there same =
     let next = place_next os k o e in
     elim (cases_lt k t) [
@@ -97,7 +101,9 @@ module _ (owner : ℕ → ℕ) (os : List OrderParts) (h : IsLaidOut owner os) w
       (λ t four there same. offset_near owner os h.functions h.functions_fit k t o e there same))
 
   all_orders_fit : Fit (layout os)
-  all_orders_fit = all_fit (place os) os 0 (λ j o e. let here : place os j ≡ 0 + place os j = omega arith in subst (λ n. Fit (order_insts (place os) n o)) here (order_fits j o e))
+  all_orders_fit =
+      all_fit (place os) os 0
+      (λ j o e. let here : place os j ≡ 0 + place os j = omega arith in subst (λ n. Fit (order_insts (place os) n o)) here (order_fits j o e))
 
 pub layout_fits : EachLayoutFits
 layout_fits owner os h = All-from_recursion IsInst (layout os) (all_orders_fit owner os h)

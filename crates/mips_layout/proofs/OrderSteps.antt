@@ -1,5 +1,6 @@
 -- The words of an order lead where the order goes.
-use Rattle.std.proofs.Common.{◌≡◌, ℕ, suc, pred, ◌+◌, ◌/◌, ◌<◌, ◌≤◌, Bool, true, false, cond, not, ◌||◌, ◌==◌, pos, ◌-ℤ◌, List, [], ◌∷◌, ◌++◌, map, length, Option, Some, None, refl, sym, ap, ap₂, ◌∙◌, subst, true≢false, arith}
+use Rattle.std.proofs.Common.{◌≡◌, ℕ, suc, pred, ◌+◌, ◌/◌, ◌<◌, ◌≤◌, Bool, true, false, cond, not, ◌||◌, ◌==◌, pos, ◌-ℤ◌, List, [], ◌∷◌}
+use Rattle.std.proofs.Common.{◌++◌, map, length, Option, Some, None, refl, sym, ap, ap₂, ◌∙◌, subst, true≢false, arith}
 use Rattle.std.proofs.lemmas.Option.{same_Some, none-some}
 use Rattle.std.proofs.lemmas.Int.{ints}
 use Rattle.words.specs.declared.operator.Operator.TheVariants.{Addu}
@@ -17,21 +18,22 @@ use Rattle.mips_isa.specs.declared.action.Action.{Action}
 use Rattle.mips_isa.specs.declared.action.Action.TheVariants.{Computes, Sets, Loads, Stores, Multiplies, Divides, MovesHigh, MovesLow}
 use Rattle.mips_isa.specs.States.{State, read, put}
 use Rattle.mips_isa.specs.Actions.{action_of, is_load, is_move}
-use Rattle.mips_isa.specs.Flows.{Nothing, Flow, settle, pending_of, shown_state, on_pending, flow_after, quiet}
+use Rattle.mips_isa.specs.Flows.{Nothing, Flow, state_with_pending, pending_of, shown_state, on_pending, flow_after, quiet}
 use Rattle.mips_isa.specs.Rules.{is_stuck}
 use Rattle.mips_isa.specs.Steps.{word, words_from}
 use Rattle.mips_isa.specs.declared.rule.Rule.TheVariants.{M1}
 use Rattle.mips_isa.proofs.Rules.{stuck_is}
-use Rattle.mips_isa.proofs.Late.{settled, settled_after}
+use Rattle.mips_isa.proofs.Late.{settled_state, settled_after}
 use Rattle.mblock.specs.declared.exit.Exit.{Exit}
 use Rattle.mblock.specs.declared.exit.Exit.TheVariants.{Goto, BranchPair, BranchZero, Call, Return, Out, Halt}
 use Rattle.mblock.specs.Parts.{OrderParts}
-use Rattle.mblock.specs.BlockMeaning.{exit_shape, Departure, GoesTo, CallsTo, GoesBack, PrintsTo, HaltsWith, depart, Effect}
-use Rattle.mblock.specs.OrderMeaning.{exit_touches, puts_number, slot_word, ends, operand_words, system_word, system_call, jump, order_leaves, order_left, order_effect}
+use Rattle.mblock.specs.BlockMeaning.{exit_shape, Departure, GoesTo, CallsTo, GoesBack, PrintsTo, HaltsWith, departure_of, Effect}
+use Rattle.mblock.specs.OrderMeaning.{exit_touches, number_action, slot_word, effect_at_end, operand_words, system_word, system_call, jump}
+use Rattle.mblock.specs.OrderMeaning.{order_end_effect, order_effect_from, order_effect}
 use Rattle.mblock.proofs.Runs.{exited, one_value, ten_value}
 use Rattle.mips_steps.specs.declared.steps.Ending.TheVariants as endings
 use Rattle.mips_isa.specs.Controls.{pair_passes, zero_passes, control_touches, goes_elsewhere, calls_another, jump_target, branch_target}
-use Rattle.mips_steps.specs.Machines.{Machine, Goes, behind, machine_run, instruction_step, jump_step, system_step}
+use Rattle.mips_steps.specs.Machines.{Machine, Goes, outcome_behind, machine_run, instruction_step, jump_step, system_step}
 use Rattle.mips_layout.specs.Fetching.{insts_code}
 use Rattle.mips_isa.specs.Actions.{nop}
 use Rattle.mips_layout.specs.Layout.{address_of_place, jump_to, branch_offset, exit_insts, order_insts}
@@ -55,7 +57,8 @@ pub words_hold : (insts : List Plain) (f f' : Flow) → f.hold ≤ 2 → words_f
 words_hold [] f f' le e = subst (λ g. g.hold ≤ 2) (same_Some f f' e) le
 words_hold (i ∷ rest) f f' le e = go (λ g h r. words_hold rest g f' h r) (is_stuck (action_of i) f) e
   where
-    go : ((g : Flow) → g.hold ≤ 2 → words_from (map action_of rest) (Some g) ≡ Some f' → f'.hold ≤ 2) → (b : Bool) → words_from (map action_of rest) (cond b None (Some (flow_after (action_of i) f))) ≡ Some f' → f'.hold ≤ 2
+    go : ((g : Flow) → g.hold ≤ 2 → words_from (map action_of rest) (Some g) ≡ Some f' → f'.hold ≤ 2) → (b : Bool)
+        → words_from (map action_of rest) (cond b None (Some (flow_after (action_of i) f))) ≡ Some f' → f'.hold ≤ 2
     go next true r = absurd (none-some f' r)
     go next false r = next (flow_after (action_of i) f) (wait_kept (action_of i) f.hold le) r
 
@@ -78,11 +81,14 @@ pending_none (MovesHigh d) s e = refl
 pending_none (MovesLow d) s e = refl
 
 -- behind a slot nothing is pending and nothing waits
-slot_quiet : (a : Action) (s : State) (h : ℕ) → (is_load a || is_move a) ≡ false → h ≤ 2 → flow_after a (record { state = s; pending = Nothing; hold = pred h }) ≡ quiet (settled (flow_after a (record { state = s; pending = Nothing; hold = pred h })))
+slot_quiet : (a : Action) (s : State) (h : ℕ) → (is_load a || is_move a) ≡ false → h ≤ 2
+    → flow_after a (record { state = s; pending = Nothing; hold = pred h }) ≡ quiet
+    (settled_state (flow_after a (record { state = s; pending = Nothing; hold = pred h })))
 slot_quiet a s h kind le =
     let none = pending_none a s (or_first _ _ kind) in
     let zero_hold : cond (is_move a) 2 (pred (pred h)) ≡ 0 = ap (λ b. cond b 2 (pred (pred h))) (or_second (is_load a) (is_move a) kind) ∙ none_left in
-    ap₂ (λ p n. record { state = shown_state a s; pending = p; hold = n }) none zero_hold ∙ ap quiet (sym (ap (λ p. settle p (shown_state a s)) none))
+    ap₂ (λ p n. record { state = shown_state a s; pending = p; hold = n }) none zero_hold
+    ∙ ap quiet (sym (ap (λ p. state_with_pending p (shown_state a s)) none))
   where
     none_left : pred (pred h) ≡ 0
     none_left = omega arith
@@ -90,52 +96,64 @@ slot_quiet a s h kind le =
 -- ---- a jump
 
 abbrev jump_mid : Exit → ℕ → Flow → Flow
-jump_mid exit link f = record { state = settle f.pending (exited exit link f.state); pending = Nothing; hold = pred f.hold }
+jump_mid exit link f = record { state = state_with_pending f.pending (exited exit link f.state); pending = Nothing; hold = pred f.hold }
 
 record Jumps (exit : Exit) (i : Plain) (f : Flow) (link : ℕ) (r : Effect) : Type 0 where
   free : on_pending f.pending (exit_touches exit) ≡ false
   kind : (is_load (action_of i) || is_move (action_of i)) ≡ false
   ok : is_stuck (action_of i) (jump_mid exit link f) ≡ false
-  leaves : record { state = settled (flow_after (action_of i) (jump_mid exit link f)); goes = depart (exit_shape exit) (operand_words exit f) } ≡ r
+  leaves : record { state = settled_state (flow_after (action_of i) (jump_mid exit link f)); goes = departure_of (exit_shape exit) (operand_words exit f) } ≡ r
 
 jump_parts : (exit : Exit) (i : Plain) (f : Flow) (link : ℕ) (r : Effect) → jump exit (Some i) f link ≡ Some r → Jumps exit i f link r
-jump_parts exit i f link r e = go (on_pending f.pending (exit_touches exit)) (is_load (action_of i) || is_move (action_of i)) (is_stuck (action_of i) (jump_mid exit link f)) refl refl refl e
+jump_parts exit i f link r e =
+    go (on_pending f.pending (exit_touches exit)) (is_load (action_of i) || is_move (action_of i))
+    (is_stuck (action_of i) (jump_mid exit link f)) refl refl refl e
   where
     goes : Departure
-    goes = depart (exit_shape exit) (operand_words exit f)
+    goes = departure_of (exit_shape exit) (operand_words exit f)
 
     slot : Bool → Bool → Option Flow → Option Flow
     slot x y None = None
     slot x y (Some g) = cond x None (cond y None (Some (flow_after (action_of i) g)))
 
-    go : (x y z : Bool) → on_pending f.pending (exit_touches exit) ≡ x → (is_load (action_of i) || is_move (action_of i)) ≡ y → is_stuck (action_of i) (jump_mid exit link f) ≡ z → ends goes (slot_word (action_of i) (cond x None (Some (jump_mid exit link f)))) ≡ Some r → Jumps exit i f link r
+    go : (x y z : Bool) → on_pending f.pending (exit_touches exit) ≡ x → (is_load (action_of i) || is_move (action_of i)) ≡ y
+        → is_stuck (action_of i) (jump_mid exit link f) ≡ z
+        → effect_at_end goes (slot_word (action_of i) (cond x None (Some (jump_mid exit link f)))) ≡ Some r → Jumps exit i f link r
     go true y z ex ey ez h = absurd (none-some r h)
-    go false y z ex ey ez h = go' y z ey ez (ap (λ b. ends goes (cond b None (word (action_of i) (jump_mid exit link f)))) (sym ey) ∙ h)
+    go false y z ex ey ez h = go' y z ey ez (ap (λ b. effect_at_end goes (cond b None (word (action_of i) (jump_mid exit link f)))) (sym ey) ∙ h)
       where
-        go' : (y z : Bool) → (is_load (action_of i) || is_move (action_of i)) ≡ y → is_stuck (action_of i) (jump_mid exit link f) ≡ z → ends goes (cond y None (word (action_of i) (jump_mid exit link f))) ≡ Some r → Jumps exit i f link r
+        go' : (y z : Bool) → (is_load (action_of i) || is_move (action_of i)) ≡ y → is_stuck (action_of i) (jump_mid exit link f) ≡ z
+            → effect_at_end goes (cond y None (word (action_of i) (jump_mid exit link f))) ≡ Some r → Jumps exit i f link r
         go' true z ey ez h = absurd (none-some r h)
-        go' false z ey ez h = go'' z ez (ap (λ b. ends goes (cond b None (Some (flow_after (action_of i) (jump_mid exit link f))))) (sym ez) ∙ h)
+        go' false z ey ez h = go'' z ez (ap (λ b. effect_at_end goes (cond b None (Some (flow_after (action_of i) (jump_mid exit link f))))) (sym ez) ∙ h)
           where
-            go'' : (z : Bool) → is_stuck (action_of i) (jump_mid exit link f) ≡ z → ends goes (cond z None (Some (flow_after (action_of i) (jump_mid exit link f)))) ≡ Some r → Jumps exit i f link r
+            go'' : (z : Bool) → is_stuck (action_of i) (jump_mid exit link f) ≡ z
+                → effect_at_end goes (cond z None (Some (flow_after (action_of i) (jump_mid exit link f)))) ≡ Some r → Jumps exit i f link r
             go'' true ez h = absurd (none-some r h)
             go'' false ez h = record { free = ex; kind = ey; ok = ez; leaves = same_Some _ r h }
 
 -- ---- a call to the system
 
 record Calls (exit : Exit) (number : ℕ) (f : Flow) (r : Effect) : Type 0 where
-  ok : is_stuck (puts_number number) f ≡ false
-  leaves : record { state = (flow_after (puts_number number) f).state; goes = depart (exit_shape exit) (operand_words exit (flow_after (puts_number number) f)) } ≡ r
+  ok : is_stuck (number_action number) f ≡ false
+  leaves : record {
+    state = (flow_after (number_action number) f).state;
+    goes =
+        departure_of (exit_shape exit) (operand_words exit (flow_after (number_action number) f));
+  } ≡ r
 
 call_parts : (exit : Exit) (number : ℕ) (f : Flow) (r : Effect) → system_call exit number None f ≡ Some r → Calls exit number f r
-call_parts exit number f r e = go (is_stuck (puts_number number) f) refl e
+call_parts exit number f r e = go (is_stuck (number_action number) f) refl e
   where
-    go : (x : Bool) → is_stuck (puts_number number) f ≡ x → system_word exit (cond x None (Some (flow_after (puts_number number) f))) ≡ Some r → Calls exit number f r
+    go : (x : Bool) → is_stuck (number_action number) f ≡ x
+        → system_word exit (cond x None (Some (flow_after (number_action number) f))) ≡ Some r → Calls exit number f r
     go true ex h = absurd (none-some r h)
     go false ex h = record { ok = ex; leaves = same_Some _ r h }
 
 -- the number that the first word has put into register 2
-number_there : (number : ℕ) (n : ℕ) (f : Flow) → op_value Addu 0 (wrap number) ≡ n → is_stuck (puts_number number) f ≡ false → (flow_after (puts_number number) f).state.regs 2 ≡ n
-number_there number n f e ok = ap (λ s. s.regs 2) (settled_after (puts_number number) f (stuck_is.none (puts_number number) f ok M1)) ∙ e
+number_there : (number : ℕ) (n : ℕ) (f : Flow) → op_value Addu 0 (wrap number) ≡ n → is_stuck (number_action number) f ≡ false
+    → (flow_after (number_action number) f).state.regs 2 ≡ n
+number_there number n f e ok = ap (λ s. s.regs 2) (settled_after (number_action number) f (stuck_is.none (number_action number) f ok M1)) ∙ e
 
 -- where the machine is once an order has left
 abbrev pub Arrives : List Inst → (ℕ → ℕ) → Machine → List ℕ → Departure → State → Type 0
@@ -147,12 +165,16 @@ Arrives code start m out (HaltsWith w) s = (k : ℕ) → (j : ℕ) × (2 + k ≤
 
 module _ (code : List Inst) (start : ℕ → ℕ) where
   -- a jump, its slot, and the address
-  jump_leads : (exit : Exit) (ctrl : Control) (t p : ℕ) (i : Plain) (f : Flow) (link : ℕ) (r : Effect) (out : List ℕ) → f.hold ≤ 2 → HasAt code p (I.Control ctrl ∷ I.Plain i ∷ []) → goes_elsewhere ctrl ≡ true → calls_another ctrl f.state ≡ false
-      → instruction_step (I.Control ctrl) (at p f out) ≡ jump_step (exited exit link f.state) t (at p f out) → on_pending f.pending (control_touches ctrl) ≡ false → Jumps exit i f link r → Leads code 2 (at p f out) (record { flow = quiet r.state; pc = t; target = None; output = out })
+  jump_leads : (exit : Exit) (ctrl : Control) (t p : ℕ) (i : Plain) (f : Flow) (link : ℕ) (r : Effect) (out : List ℕ) → f.hold ≤ 2
+      → HasAt code p (I.Control ctrl ∷ I.Plain i ∷ []) → goes_elsewhere ctrl ≡ true → calls_another ctrl f.state ≡ false
+      → instruction_step (I.Control ctrl) (at p f out) ≡ jump_step (exited exit link f.state) t (at p f out)
+      → on_pending f.pending (control_touches ctrl) ≡ false → Jumps exit i f link r
+      → Leads code 2 (at p f out) (record { flow = quiet r.state; pc = t; target = None; output = out })
   jump_leads exit ctrl t p i f link r out le h jumps fine does free j =
       let first = control_step code p ctrl t (exited exit link f.state) f out h.0 jumps fine does free in
       let second = slot_step code (p + 1) t i (jump_mid exit link f) out h.1.0 j.ok in
-      let still : flow_after (action_of i) (jump_mid exit link f) ≡ quiet r.state = slot_quiet (action_of i) (settle f.pending (exited exit link f.state)) f.hold j.kind le ∙ ap (λ o. quiet o.state) j.leaves in
+      let still : flow_after (action_of i) (jump_mid exit link f) ≡ quiet r.state =
+      slot_quiet (action_of i) (state_with_pending f.pending (exited exit link f.state)) f.hold j.kind le ∙ ap (λ o. quiet o.state) j.leaves in
       subst (λ g. Leads code 2 (at p f out) (record { flow = g; pc = t; target = None; output = out })) still (leads_on code 1 1 _ _ _ first second)
 
   pub record Placed : Type 0 where
@@ -160,7 +182,17 @@ module _ (code : List Inst) (start : ℕ → ℕ) where
     pub starts : (u : ℕ) → start u ≤ 1048576
 
   -- a branch leads where its test says
-  branch_arrives : (t e p q : ℕ) (m : Machine) (s : State) (out : List ℕ) → Placed → p < 1048576 → p + 2 ≡ q → HasAt code q (jump_to (start e) ∷ I.Plain nop ∷ []) → (b : Bool) → Leads code 2 m (record { flow = quiet s; pc = cond b (branch_target (address_of_place p + 4) (pos (start t) -ℤ pos (p + 1))) (address_of_place p + 8); target = None; output = out }) → Leads code 2 m (machine_at (start (cond b t e)) s out)
+  branch_arrives : (t e p q : ℕ) (m : Machine) (s : State) (out : List ℕ) → Placed → p < 1048576 → p + 2 ≡ q
+      → HasAt code q (jump_to (start e) ∷ I.Plain nop ∷ []) → (b : Bool)
+      → Leads code 2 m
+      (record {
+        flow = quiet s;
+        pc =
+            cond b (branch_target (address_of_place p + 4) (pos (start t) -ℤ pos (p + 1))) (address_of_place p + 8);
+        target = None;
+        output =
+            out;
+      }) → Leads code 2 m (machine_at (start (cond b t e)) s out)
   branch_arrives t e p q m s out placed lp pq h true l =
       subst (λ x. Leads code 2 m (record { flow = quiet s; pc = x; target = None; output = out })) (branch_lands p (start t) lp (placed.starts t)) l
   branch_arrives t e p q m s out placed lp pq h false l =
@@ -168,28 +200,37 @@ module _ (code : List Inst) (start : ℕ → ℕ) where
       let here = subst (λ x. Leads code 2 m (record { flow = quiet s; pc = x; target = None; output = out })) there l in
       fewer code 4 2 _ _ (omega arith) (leads_on code 2 2 _ _ _ here (hop code q (start e) s out placed.room h))
 
-  exit_arrives : (exit : Exit) (slot : Option Plain) (p : ℕ) (f : Flow) (link : ℕ) (r : Effect) (out : List ℕ) → Placed → f.hold ≤ 2 → link ≡ address_of_place (p + 2) → HasAt code p (exit_insts start p exit slot) → order_leaves exit slot f link ≡ Some r → Arrives code start (at p f out) out r.goes r.state
+  exit_arrives : (exit : Exit) (slot : Option Plain) (p : ℕ) (f : Flow) (link : ℕ) (r : Effect) (out : List ℕ) → Placed → f.hold ≤ 2
+      → link ≡ address_of_place (p + 2) → HasAt code p (exit_insts start p exit slot) → order_end_effect exit slot f link ≡ Some r
+      → Arrives code start (at p f out) out r.goes r.state
   exit_arrives (Goto t) None p f link r out placed le el h e = absurd (none-some r e)
   exit_arrives (Goto t) (Some i) p f link r out placed le el h e =
       let j = jump_parts (Goto t) i f link r e in
       let lands = jump_lands p (start t) (within code p _ placed.room h.0) in
       let l = jump_leads (Goto t) (controls.JumpTo Jump (address_of_place (start t) / 4)) _ p i f link r out le h refl refl refl j.free j in
-      subst (λ g. Arrives code start (at p f out) out g r.state) (ap (λ o. o.goes) j.leaves) (subst (λ x. Leads code 2 (at p f out) (record { flow = quiet r.state; pc = x; target = None; output = out })) lands l)
+      subst (λ g. Arrives code start (at p f out) out g r.state) (ap (λ o. o.goes) j.leaves)
+      (subst (λ x. Leads code 2 (at p f out) (record { flow = quiet r.state; pc = x; target = None; output = out })) lands l)
   exit_arrives (BranchPair test a b t n) None p f link r out placed le el h e = absurd (none-some r e)
   exit_arrives (BranchPair test a b t n) (Some i) p f link r out placed le el h e =
       let j = jump_parts (BranchPair test a b t n) i f link r e in
-      let l = jump_leads (BranchPair test a b t n) (controls.BranchPair test a b (branch_offset p (start t))) _ p i f link r out le (h.0, (h.1.0, tt)) refl refl refl j.free j in
+      let l = jump_leads (BranchPair test a b t n) (controls.BranchPair test a b (branch_offset p (start t))) _ p i f link r out le
+      (h.0, (h.1.0, tt)) refl refl refl j.free j in
       let back = subst (λ q. HasAt code q (jump_to (start n) ∷ I.Plain nop ∷ [])) two (h.1.1) in
-      subst (λ g. Arrives code start (at p f out) out g r.state) (ap (λ o. o.goes) j.leaves) (branch_arrives t n p (p + 2) (at p f out) r.state out placed (within code p _ placed.room h.0) refl back (pair_passes test (read 0 f.state.regs a) (read 0 f.state.regs b)) l)
+      subst (λ g. Arrives code start (at p f out) out g r.state) (ap (λ o. o.goes) j.leaves)
+      (branch_arrives t n p (p + 2) (at p f out) r.state out placed (within code p _ placed.room h.0) refl back
+      (pair_passes test (read 0 f.state.regs a) (read 0 f.state.regs b)) l)
     where
       two : p + 1 + 1 ≡ p + 2
       two = omega arith
   exit_arrives (BranchZero test a t n) None p f link r out placed le el h e = absurd (none-some r e)
   exit_arrives (BranchZero test a t n) (Some i) p f link r out placed le el h e =
       let j = jump_parts (BranchZero test a t n) i f link r e in
-      let l = jump_leads (BranchZero test a t n) (controls.BranchZero test a (branch_offset p (start t))) _ p i f link r out le (h.0, (h.1.0, tt)) refl refl refl j.free j in
+      let l = jump_leads (BranchZero test a t n) (controls.BranchZero test a (branch_offset p (start t))) _ p i f link r out le
+      (h.0, (h.1.0, tt)) refl refl refl j.free j in
       let back = subst (λ q. HasAt code q (jump_to (start n) ∷ I.Plain nop ∷ [])) two (h.1.1) in
-      subst (λ g. Arrives code start (at p f out) out g r.state) (ap (λ o. o.goes) j.leaves) (branch_arrives t n p (p + 2) (at p f out) r.state out placed (within code p _ placed.room h.0) refl back (zero_passes test (read 0 f.state.regs a)) l)
+      subst (λ g. Arrives code start (at p f out) out g r.state) (ap (λ o. o.goes) j.leaves)
+      (branch_arrives t n p (p + 2) (at p f out) r.state out placed (within code p _ placed.room h.0) refl back
+      (zero_passes test (read 0 f.state.regs a)) l)
     where
       two : p + 1 + 1 ≡ p + 2
       two = omega arith
@@ -198,8 +239,12 @@ module _ (code : List Inst) (start : ℕ → ℕ) where
       let j = jump_parts (Call g n) i f link r e in
       let lands = jump_lands p (start g) (within code p _ placed.room h.0) in
       let back : address_of_place p + 8 ≡ link = eight ∙ sym el in
-      let l = jump_leads (Call g n) (controls.JumpTo JumpAndLink (address_of_place (start g) / 4)) _ p i f link r out le (h.0, (h.1.0, tt)) refl refl (ap (λ x. jump_step (record f.state { regs = put f.state.regs 31 x }) (jump_target (address_of_place p + 4) (address_of_place (start g) / 4)) (at p f out)) back) j.free j in
-      subst (λ x. Arrives code start (at p f out) out x r.state) (ap (λ o. o.goes) j.leaves) (subst (λ x. Leads code 2 (at p f out) (record { flow = quiet r.state; pc = x; target = None; output = out })) lands l)
+      let l = jump_leads (Call g n) (controls.JumpTo JumpAndLink (address_of_place (start g) / 4)) _ p i f link r out le
+      (h.0, (h.1.0, tt)) refl refl
+      (ap (λ x. jump_step (record f.state { regs = put f.state.regs 31 x })
+      (jump_target (address_of_place p + 4) (address_of_place (start g) / 4)) (at p f out)) back) j.free j in
+      subst (λ x. Arrives code start (at p f out) out x r.state) (ap (λ o. o.goes) j.leaves)
+      (subst (λ x. Leads code 2 (at p f out) (record { flow = quiet r.state; pc = x; target = None; output = out })) lands l)
     where
       eight : address_of_place p + 8 ≡ address_of_place (p + 2)
       eight = omega arith
@@ -211,10 +256,13 @@ module _ (code : List Inst) (start : ℕ → ℕ) where
   exit_arrives (Out n) (Some i) p f link r out placed le el h e = absurd (none-some r e)
   exit_arrives (Out n) None p f link r out placed le el h e =
       let c = call_parts (Out n) 1 f r e in
-      subst (λ o. Arrives code start (at p f out) out o.goes o.state) c.leaves (fewer code 4 2 _ _ (omega arith) (leads_on code 2 2 _ _ _ (leads_on code 1 1 _ _ _ (plain_step code p (Imm Addiu 2 0 (pos 1)) f out h.0 c.ok) (print c)) (hop code (p + 1 + 1) (start n) mid.state (out ++ mid.state.regs 4 ∷ []) placed.room (h.1.1.0, (h.1.1.1.0, tt)))))
+      subst (λ o. Arrives code start (at p f out) out o.goes o.state) c.leaves
+      (fewer code 4 2 _ _ (omega arith)
+      (leads_on code 2 2 _ _ _ (leads_on code 1 1 _ _ _ (plain_step code p (Imm Addiu 2 0 (pos 1)) f out h.0 c.ok) (print c))
+      (hop code (p + 1 + 1) (start n) mid.state (out ++ mid.state.regs 4 ∷ []) placed.room (h.1.1.0, (h.1.1.1.0, tt)))))
     where
       mid : Flow
-      mid = flow_after (puts_number 1) f
+      mid = flow_after (number_action 1) f
 
       still : pred (pred f.hold) ≡ 0
       still = omega arith
@@ -226,26 +274,40 @@ module _ (code : List Inst) (start : ℕ → ℕ) where
       print c =
           let number = number_there 1 1 f one_value c.ok in
           goes code (at (p + 1) mid out) _
-          (at_place code (p + 1) (I.Control controls.SystemCall) (at (p + 1) mid out) h.1.0 refl ∙ system_goes (at (p + 1) mid out) refl (ap (λ x. not ((x == 1) || (x == 10))) number)
+          (at_place code (p + 1) (I.Control controls.SystemCall) (at (p + 1) mid out) h.1.0 refl
+          ∙ system_goes (at (p + 1) mid out) refl (ap (λ x. not ((x == 1) || (x == 10))) number)
           ∙ ap (λ x. system_step x (at (p + 1) mid out)) number
-          ∙ ap₂ (λ x y. Goes (record { flow = record { state = mid.state; pending = Nothing; hold = x }; pc = y; target = None; output = out ++ mid.state.regs 4 ∷ [] })) still there)
+          ∙ ap₂ (λ x y. Goes
+          (record {
+            flow = record { state = mid.state; pending = Nothing; hold = x };
+            pc = y;
+            target = None;
+            output =
+                out ++ mid.state.regs 4 ∷ [];
+          })) still there)
   exit_arrives Halt (Some i) p f link r out placed le el h e = absurd (none-some r e)
   exit_arrives Halt None p f link r out placed le el h e =
       let c = call_parts Halt 10 f r e in
-      subst (λ o. Arrives code start (at p f out) out o.goes o.state) c.leaves (λ k. let a = (plain_step code p (Imm Addiu 2 0 (pos 10)) f out h.0 c.ok).by (suc k) in (a.0, omega (arith, a.1), a.2 ∙ stop c k))
+      subst (λ o. Arrives code start (at p f out) out o.goes o.state) c.leaves
+      (λ k. let a = (plain_step code p (Imm Addiu 2 0 (pos 10)) f out h.0 c.ok).by (suc k) in (a.0, omega (arith, a.1), a.2 ∙ stop c k))
     where
       mid : Flow
-      mid = flow_after (puts_number 10) f
+      mid = flow_after (number_action 10) f
 
-      stop : Calls Halt 10 f r → (k : ℕ) → machine_run (insts_code code) (suc k) (at (p + 1) mid out) ≡ record { end = endings.Halt (mid.state.regs 4); output = out }
+      stop : Calls Halt 10 f r → (k : ℕ)
+          → machine_run (insts_code code) (suc k) (at (p + 1) mid out) ≡ record { end = endings.Halt (mid.state.regs 4); output = out }
       stop c k =
           let number = number_there 10 10 f ten_value c.ok in
-          ap (λ s. behind s (machine_run (insts_code code) k) out)
-          (at_place code (p + 1) (I.Control controls.SystemCall) (at (p + 1) mid out) h.1.0 refl ∙ system_goes (at (p + 1) mid out) refl (ap (λ x. not ((x == 1) || (x == 10))) number)
+          ap (λ s. outcome_behind s (machine_run (insts_code code) k) out)
+          (at_place code (p + 1) (I.Control controls.SystemCall) (at (p + 1) mid out) h.1.0 refl
+          ∙ system_goes (at (p + 1) mid out) refl (ap (λ x. not ((x == 1) || (x == 10))) number)
           ∙ ap (λ x. system_step x (at (p + 1) mid out)) number)
 
   -- the words of a whole order
-  pub order_arrives : (o : OrderParts) (p : ℕ) (s : State) (link : ℕ) (r : Effect) (out : List ℕ) → Placed → link ≡ address_of_place (p + length o.insts + 2) → HasAt code p (order_insts start p o) → order_effect o s link ≡ Some r → (f : Flow) × Leads code (length o.insts) (machine_at p s out) (at (p + length o.insts) f out) × Arrives code start (at (p + length o.insts) f out) out r.goes r.state
+  pub order_arrives : (o : OrderParts) (p : ℕ) (s : State) (link : ℕ) (r : Effect) (out : List ℕ) → Placed
+      → link ≡ address_of_place (p + length o.insts + 2) → HasAt code p (order_insts start p o) → order_effect o s link ≡ Some r
+      → (f : Flow) × Leads code (length o.insts) (machine_at p s out) (at (p + length o.insts) f out)
+      × Arrives code start (at (p + length o.insts) f out) out r.goes r.state
   order_arrives o p s link r out placed el h e = go (words_from (map action_of o.insts) (Some (quiet s))) refl e
     where
       len : p + length (map I.Plain o.insts) ≡ p + length o.insts
@@ -254,7 +316,13 @@ module _ (code : List Inst) (start : ℕ → ℕ) where
       after_insts : HasAt code (p + length o.insts) (exit_insts start (p + length o.insts) o.exit o.slot)
       after_insts = subst (λ n. HasAt code n (exit_insts start (p + length o.insts) o.exit o.slot)) len (has_back code p (map I.Plain o.insts) _ h)
 
-      go : (x : Option Flow) → words_from (map action_of o.insts) (Some (quiet s)) ≡ x → order_left o.exit o.slot x link ≡ Some r → (f : Flow) × Leads code (length o.insts) (machine_at p s out) (at (p + length o.insts) f out) × Arrives code start (at (p + length o.insts) f out) out r.goes r.state
+      go : (x : Option Flow) → words_from (map action_of o.insts) (Some (quiet s)) ≡ x → order_effect_from o.exit o.slot x link ≡ Some r
+          → (f : Flow) × Leads code (length o.insts) (machine_at p s out) (at (p + length o.insts) f out)
+          × Arrives code start (at (p + length o.insts) f out) out r.goes r.state
       go None ex h' = absurd (none-some r h')
-      go (Some f) ex h' =
-          (f, words_lead code o.insts p (quiet s) f out ex (has_front code p (map I.Plain o.insts) _ h), exit_arrives o.exit o.slot (p + length o.insts) f link r out placed (words_hold o.insts (quiet s) f (omega arith) ex) el after_insts h')
+      go (Some f) ex h' = (
+        f,
+        words_lead code o.insts p (quiet s) f out ex (has_front code p (map I.Plain o.insts) _ h),
+        exit_arrives o.exit o.slot
+            (p + length o.insts) f link r out placed (words_hold o.insts (quiet s) f (omega arith) ex) el after_insts h',
+      )

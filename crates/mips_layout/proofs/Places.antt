@@ -1,5 +1,7 @@
 -- Which instruction stands where.
-use Rattle.std.proofs.Common.{◌≡◌, ℕ, zero, suc, ◌+◌, ◌-◌, ◌*◌, ◌/◌, ◌%◌, ◌^◌, ◌<◌, true, cond, ◌&&◌, nat_le, ◌==◌, List, [], ◌∷◌, ◌++◌, map, length, slice_get, Option, Some, None, refl, sym, ap, ap₂, ◌∙◌, subst, true≢false, le-leb, eq-eqb, append_assoc, length-append, arith}
+use Rattle.std.proofs.Common.{◌≡◌, ℕ, zero, suc, ◌+◌, ◌-◌, ◌*◌, ◌/◌, ◌%◌, ◌^◌, ◌<◌, true, cond, ◌&&◌, nat_le, ◌==◌, List, [], ◌∷◌, ◌++◌}
+use Rattle.std.proofs.Common.{map, length, slice_get, Option, Some, None, refl, sym, ap, ap₂, ◌∙◌, subst, true≢false, le-leb, eq-eqb}
+use Rattle.std.proofs.Common.{append_assoc, length-append, arith}
 use Rattle.std.specs.Prelude.{is_some}
 use Rattle.mips_isa.specs.declared.inst.Plain.{Plain}
 use Rattle.mips_isa.specs.declared.inst.Inst.{Inst}
@@ -48,7 +50,8 @@ pub slot_length : (slot : Option Plain) → is_some slot ≡ true → length (sl
 slot_length (Some i) e = refl
 slot_length None e = absurd (true≢false (sym e))
 
-exit_length : (start : ℕ → ℕ) (here : ℕ) (exit : Exit) (slot : Option Plain) → is_some slot ≡ is_slotted exit → length (exit_insts start here exit slot) ≡ exit_size exit
+exit_length : (start : ℕ → ℕ) (here : ℕ) (exit : Exit) (slot : Option Plain) → is_some slot ≡ is_slotted exit
+    → length (exit_insts start here exit slot) ≡ exit_size exit
 exit_length start here (Goto t) (Some i) e = refl
 exit_length start here (Goto t) None e = absurd (true≢false (sym e))
 exit_length start here (BranchPair test a b t n) (Some i) e = refl
@@ -68,14 +71,18 @@ map_length (x ∷ l) = ap suc (map_length l)
 
 pub words_length : (start : ℕ → ℕ) (here : ℕ) (o : OrderParts) → FitsSlot o → length (order_insts start here o) ≡ size o
 words_length start here o e =
-    length-append (map I.Plain o.insts) (exit_insts start (here + length o.insts) o.exit o.slot) ∙ ap₂ (λ x y. x + y) (map_length o.insts) (exit_length start (here + length o.insts) o.exit o.slot e)
+    length-append (map I.Plain o.insts) (exit_insts start (here + length o.insts) o.exit o.slot)
+    ∙ ap₂ (λ x y. x + y) (map_length o.insts) (exit_length start (here + length o.insts) o.exit o.slot e)
 
-order_has : (code : List Inst) (start : ℕ → ℕ) (os : List OrderParts) (here : ℕ) → ((k : ℕ) (o : OrderParts) → slice_get os k ≡ Some o → FitsSlot o) → HasAt code here (insts_of start here os) → (k : ℕ) (o : OrderParts) → slice_get os k ≡ Some o → HasAt code (here + place os k) (order_insts start (here + place os k) o)
+order_has : (code : List Inst) (start : ℕ → ℕ) (os : List OrderParts) (here : ℕ)
+    → ((k : ℕ) (o : OrderParts) → slice_get os k ≡ Some o → FitsSlot o) → HasAt code here (insts_of start here os)
+    → (k : ℕ) (o : OrderParts) → slice_get os k ≡ Some o → HasAt code (here + place os k) (order_insts start (here + place os k) o)
 order_has code start [] here fits h k o e = absurd (Rattle.std.proofs.lemmas.Option.none-some o e)
 order_has code start (x ∷ rest) here fits h zero o e =
     let same : here ≡ here + 0 = omega arith in
     let at = has_front code here (order_insts start here x) (insts_of start (here + size x) rest) h in
-    subst (λ y. HasAt code (here + 0) (order_insts start (here + 0) y)) (Rattle.std.proofs.lemmas.Option.same_Some x o e) (subst (λ n. HasAt code n (order_insts start n x)) same at)
+    subst (λ y. HasAt code (here + 0) (order_insts start (here + 0) y)) (Rattle.std.proofs.lemmas.Option.same_Some x o e)
+    (subst (λ n. HasAt code n (order_insts start n x)) same at)
 order_has code start (x ∷ rest) here fits h (suc k) o e =
     let back = has_back code here (order_insts start here x) (insts_of start (here + size x) rest) h in
     let moved = subst (λ n. HasAt code (here + n) (insts_of start (here + size x) rest)) (words_length start here x (fits 0 x refl)) back in
@@ -84,7 +91,8 @@ order_has code start (x ∷ rest) here fits h (suc k) o e =
     subst (λ n. HasAt code n (order_insts start n o)) same below
 
 -- each order stands at its place
-pub layout_has : (os : List OrderParts) → ((k : ℕ) (o : OrderParts) → slice_get os k ≡ Some o → FitsSlot o) → (k : ℕ) (o : OrderParts) → slice_get os k ≡ Some o → HasAt (layout os) (place os k) (order_insts (place os) (place os k) o)
+pub layout_has : (os : List OrderParts) → ((k : ℕ) (o : OrderParts) → slice_get os k ≡ Some o → FitsSlot o) → (k : ℕ) (o : OrderParts)
+    → slice_get os k ≡ Some o → HasAt (layout os) (place os k) (order_insts (place os) (place os k) o)
 layout_has os fits k o e =
     let all : HasAt (layout os) 0 (layout os) = has_all (layout os) [] in
     let here : 0 + place os k ≡ place os k = omega arith in
@@ -97,7 +105,8 @@ fetch_at code p i e =
     let low : nat_le code_base (address_of_place p) ≡ true = le-leb code_base (address_of_place p) (omega arith) in
     let even : (address_of_place p % 4 == 0) ≡ true = eq-eqb (address_of_place p % 4) 0 (omega arith) in
     let where_at : (address_of_place p - code_base) / 4 ≡ p = omega arith in
-    ap₂ (λ x y. cond (x && y) (of_inst (slice_get code ((address_of_place p - code_base) / 4))) NoWord) low even ∙ ap (λ n. of_inst (slice_get code n)) where_at ∙ ap of_inst e
+    ap₂ (λ x y. cond (x && y) (of_inst (slice_get code ((address_of_place p - code_base) / 4))) NoWord) low even
+    ∙ ap (λ n. of_inst (slice_get code n)) where_at ∙ ap of_inst e
 
 pub jump_lands : (p q : ℕ) → p < 1048576 → jump_target (address_of_place p + 4) (address_of_place q / 4) ≡ address_of_place q
 jump_lands p q lt =

@@ -1,5 +1,6 @@
 -- Plain orders keep every instruction in place, so a word is one item at most.
-use Rattle.std.proofs.Common.{◌≡◌, ℕ, zero, suc, ◌+◌, ◌*◌, ◌<◌, ◌≤◌, Bool, true, false, cond, List, [], ◌∷◌, ◌++◌, map, flat_map, length, slice_get, Some, refl, sym, ap, ◌∙◌, subst, true≢false, take, drop, take-append-drop, length-take-le, arith}
+use Rattle.std.proofs.Common.{◌≡◌, ℕ, zero, suc, ◌+◌, ◌*◌, ◌<◌, ◌≤◌, Bool, true, false, cond, List, [], ◌∷◌, ◌++◌, map, flat_map, length}
+use Rattle.std.proofs.Common.{slice_get, Some, refl, sym, ap, ◌∙◌, subst, true≢false, take, drop, take-append-drop, length-take-le, arith}
 use Rattle.std.proofs.lemmas.Option.{same_Some, none-some}
 use Rattle.mips_isa.specs.declared.inst.Plain.{Plain}
 use Rattle.mips_isa.specs.declared.inst.Inst.TheVariants as I
@@ -25,17 +26,23 @@ map_words : (a b : List Plain) → map I.Plain (a ++ b) ≡ map I.Plain a ++ map
 map_words [] b = refl
 map_words (x ∷ a) b = ap (λ l. I.Plain x ∷ l) (map_words a b)
 
-items_safe : (blocks : List BlockParts) (links : ℕ → ℕ) (t : ℕ) (out : List ℕ) (rest : List Plain) (n : ℕ) (s : State) → n ≤ length rest → is_wrong (items blocks links n t rest s out) ≡ false → AllSafe (map action_of (take n rest)) s
+items_safe : (blocks : List BlockParts) (links : ℕ → ℕ) (t : ℕ) (out : List ℕ) (rest : List Plain) (n : ℕ) (s : State) → n ≤ length rest
+    → is_wrong (items blocks links n t rest s out) ≡ false → AllSafe (map action_of (take n rest)) s
 items_safe blocks links t out rest zero s le w = tt
 items_safe blocks links t out [] (suc n) s le w = absurd (omega arith)
-items_safe blocks links t out (i ∷ rest) (suc n) s le w = go (λ h. items_safe blocks links t out rest n (state_after (action_of i) s) (omega arith) h) (is_safe (action_of i) s) refl w
+items_safe blocks links t out (i ∷ rest) (suc n) s le w =
+    go (λ h. items_safe blocks links t out rest n (state_after (action_of i) s) (omega arith) h) (is_safe (action_of i) s) refl w
   where
-    go : (is_wrong (items blocks links n t rest (state_after (action_of i) s) out) ≡ false → AllSafe (map action_of (take n rest)) (state_after (action_of i) s)) → (b : Bool) → is_safe (action_of i) s ≡ b → is_wrong (cond b (items blocks links n t rest (state_after (action_of i) s) out) (wrong out)) ≡ false → AllSafe (map action_of (take (suc n) (i ∷ rest))) s
+    go : (is_wrong (items blocks links n t rest (state_after (action_of i) s) out) ≡ false
+        → AllSafe (map action_of (take n rest)) (state_after (action_of i) s)) → (b : Bool) → is_safe (action_of i) s ≡ b
+        → is_wrong (cond b (items blocks links n t rest (state_after (action_of i) s) out) (wrong out)) ≡ false
+        → AllSafe (map action_of (take (suc n) (i ∷ rest))) s
     go next true eb h = (eb, next h)
     go next false eb h = absurd (true≢false h)
 
 -- the padded words of some instructions run, whatever exit comes behind them
-padded_run : (l : List Plain) (s : State) → AllSafe (map action_of l) s → (f : Flow) × (words_from (map action_of (flat_map padded_inst l)) (Some (quiet s)) ≡ Some f)
+padded_run : (l : List Plain) (s : State) → AllSafe (map action_of l) s → (f : Flow)
+    × (words_from (map action_of (flat_map padded_inst l)) (Some (quiet s)) ≡ Some f)
 padded_run l s safe =
     let k = padded_keep l [] (λ i a b ea. absurd (none-some (Some a) ea)) in
     let ready : Ready (flat_map padded_inst l) Return [] (quiet s) = record {
@@ -49,15 +56,23 @@ padded_run l s safe =
     let r = words_run (flat_map padded_inst l) Return [] (quiet s) ready (safe_padded l s safe) in
     (r.flow, r.runs)
 
-plain_part : (blocks : List BlockParts) → IsScheduled blocks (map plain_order_of blocks) → (t : ℕ) (b : BlockParts) (s : State) (out : List ℕ) (n : ℕ) → slice_get blocks t ≡ Some b → n ≤ length b.insts → is_wrong (items blocks (links_of (map plain_order_of blocks)) n t b.insts s out) ≡ false → (k : ℕ) × (n < 1 * (k + 1)) × (machine_run (insts_code (layout (map plain_order_of blocks))) k (machine_at (place (map plain_order_of blocks) t) s out) ≡ said out)
+plain_part : (blocks : List BlockParts) → IsScheduled blocks (map plain_order_of blocks)
+    → (t : ℕ) (b : BlockParts) (s : State) (out : List ℕ) (n : ℕ) → slice_get blocks t ≡ Some b → n ≤ length b.insts
+    → is_wrong (items blocks (links_of (map plain_order_of blocks)) n t b.insts s out) ≡ false → (k : ℕ) × (n < 1 * (k + 1))
+    × (machine_run (insts_code (layout (map plain_order_of blocks))) k (machine_at (place (map plain_order_of blocks) t) s out) ≡ said out)
 plain_part blocks sch t b s out n eb le w =
     let orders = map plain_order_of blocks in
     let some = take n b.insts in
     let rest = drop n b.insts in
     let run = padded_run some s (items_safe blocks (links_of orders) t out b.insts n s le w) in
-    let split : map I.Plain (flat_map padded_inst b.insts) ≡ map I.Plain (flat_map padded_inst some) ++ map I.Plain (flat_map padded_inst rest) = ap (λ l. map I.Plain (flat_map padded_inst l)) (sym (take-append-drop n b.insts)) ∙ ap (map I.Plain) (padded_append some rest) ∙ map_words (flat_map padded_inst some) (flat_map padded_inst rest) in
-    let all = has_front (layout orders) (place orders t) (map I.Plain (flat_map padded_inst b.insts)) (exit_insts (place orders) (place orders t + length (flat_map padded_inst b.insts)) b.exit (plain_order_of b).slot) (has_order blocks orders sch t (plain_order_of b) (plain_at blocks t b eb)) in
-    let front = has_front (layout orders) (place orders t) (map I.Plain (flat_map padded_inst some)) (map I.Plain (flat_map padded_inst rest)) (subst (HasAt (layout orders) (place orders t)) split all) in
+    let split : map I.Plain (flat_map padded_inst b.insts) ≡ map I.Plain (flat_map padded_inst some) ++ map I.Plain
+    (flat_map padded_inst rest) = ap (λ l. map I.Plain (flat_map padded_inst l)) (sym (take-append-drop n b.insts))
+    ∙ ap (map I.Plain) (padded_append some rest) ∙ map_words (flat_map padded_inst some) (flat_map padded_inst rest) in
+    let all = has_front (layout orders) (place orders t) (map I.Plain (flat_map padded_inst b.insts))
+    (exit_insts (place orders) (place orders t + length (flat_map padded_inst b.insts)) b.exit (plain_order_of b).slot)
+    (has_order blocks orders sch t (plain_order_of b) (plain_at blocks t b eb)) in
+    let front = has_front (layout orders) (place orders t) (map I.Plain (flat_map padded_inst some))
+    (map I.Plain (flat_map padded_inst rest)) (subst (HasAt (layout orders) (place orders t)) split all) in
     let a = (words_lead (layout orders) (flat_map padded_inst some) (place orders t) (quiet s) run.0 out run.1 front).by 0 in
     (a.0, omega (arith, a.1, padded_length some, length-take-le n b.insts le), a.2)
 
@@ -68,7 +83,8 @@ each_plain_layout_runs blocks h room fit s words i right =
     let r = from_start blocks orders sch (λ n k. n < 1 * (k + 1)) 1 (record {
       leaves = λ n k j lt le. omega arith;
       halts = λ n j le. omega arith;
-      block = λ t b o eb eo n left_over k j en lt le. let same = ap (λ x. length x.insts) (same_Some (plain_order_of b) o (sym (plain_at blocks t b eb) ∙ eo)) in omega (arith, same, padded_length b.insts);
+      block = λ t b o eb eo n left_over k j en lt le. let same =
+          ap (λ x. length x.insts) (same_Some (plain_order_of b) o (sym (plain_at blocks t b eb) ∙ eo)) in omega (arith, same, padded_length b.insts);
       part = plain_part blocks sch;
     }) s words i (not_wrong (unit_run blocks (links_of orders) s i) right) in
     (r.0, r.1, over_words orders fit (unit_run blocks (links_of orders) s i) r.0 (machine_at 0 s []) r.2)

@@ -1,5 +1,6 @@
 -- The machine goes from one word to another.
-use Rattle.std.proofs.Common.{◌≡◌, ℕ, suc, pred, ◌+◌, ◌/◌, ◌<◌, ◌≤◌, Bool, true, false, cond, List, [], ◌∷◌, map, length, slice_get, Some, None, refl, ap, ap₂, ◌∙◌, subst, arith}
+use Rattle.std.proofs.Common.{◌≡◌, ℕ, suc, pred, ◌+◌, ◌/◌, ◌<◌, ◌≤◌, Bool, true, false, cond, List, [], ◌∷◌, map, length, slice_get, Some}
+use Rattle.std.proofs.Common.{None, refl, ap, ap₂, ◌∙◌, subst, arith}
 use Rattle.std.proofs.lemmas.Option.{same_Some, none-some, slice_get_within}
 use Rattle.mips_isa.specs.declared.inst.Plain.{Plain}
 use Rattle.mips_isa.specs.declared.inst.JumpOp.TheVariants.{Jump}
@@ -9,12 +10,12 @@ use Rattle.mips_isa.specs.declared.inst.Inst.{Inst}
 use Rattle.mips_isa.specs.declared.inst.Inst.TheVariants as I
 use Rattle.mips_isa.specs.States.{State}
 use Rattle.mips_isa.specs.Actions.{action_of}
-use Rattle.mips_isa.specs.Flows.{Nothing, Flow, settle, on_pending, flow_after, quiet}
+use Rattle.mips_isa.specs.Flows.{Nothing, Flow, state_with_pending, on_pending, flow_after, quiet}
 use Rattle.mips_isa.specs.Rules.{is_stuck}
 use Rattle.mips_isa.specs.Steps.{words_from}
 use Rattle.mips_steps.specs.declared.steps.Fetched.TheVariants.{Fetches}
 use Rattle.mips_isa.specs.Controls.{control_touches, goes_elsewhere, calls_another, jump_target}
-use Rattle.mips_steps.specs.Machines.{Machine, Goes, behind, machine_run, step_of, instruction_step, jump_step}
+use Rattle.mips_steps.specs.Machines.{Machine, Goes, outcome_behind, machine_run, step_of, instruction_step, jump_step}
 use Rattle.mips_layout.specs.Fetching.{insts_code}
 use Rattle.mips_isa.specs.Actions.{nop}
 use Rattle.mips_layout.specs.Layout.{address_of_place, jump_to}
@@ -46,31 +47,40 @@ module _ (code : List Inst) where
 
   -- a step that goes on
   pub goes : (m m' : Machine) → step_of (insts_code code m.pc) m ≡ Goes m' → Leads code 1 m m'
-  goes m m' e = one_word m m' (λ k. ap (λ s. behind s (machine_run (insts_code code) k) m.output) e)
+  goes m m' e = one_word m m' (λ k. ap (λ s. outcome_behind s (machine_run (insts_code code) k) m.output) e)
 
   -- the step of an instruction at a place
-  pub at_place : (p : ℕ) (i : Inst) (m : Machine) → slice_get code p ≡ Some i → m.pc ≡ address_of_place p → step_of (insts_code code m.pc) m ≡ step_of (Fetches i) m
+  pub at_place : (p : ℕ) (i : Inst) (m : Machine) → slice_get code p ≡ Some i → m.pc ≡ address_of_place p
+      → step_of (insts_code code m.pc) m ≡ step_of (Fetches i) m
   at_place p i m e here = ap (λ f. step_of f m) (ap (insts_code code) here ∙ fetch_at code p i e)
 
   -- a word that isn't stuck
-  pub plain_step : (p : ℕ) (i : Plain) (f : Flow) (out : List ℕ) → slice_get code p ≡ Some (I.Plain i) → is_stuck (action_of i) f ≡ false → Leads code 1 (at p f out) (at (p + 1) (flow_after (action_of i) f) out)
+  pub plain_step : (p : ℕ) (i : Plain) (f : Flow) (out : List ℕ) → slice_get code p ≡ Some (I.Plain i) → is_stuck (action_of i) f ≡ false
+      → Leads code 1 (at p f out) (at (p + 1) (flow_after (action_of i) f) out)
   plain_step p i f out e ok =
       let next : address_of_place p + 4 ≡ address_of_place (p + 1) = omega arith in
       goes (at p f out) (at (p + 1) (flow_after (action_of i) f) out)
-      (at_place p (I.Plain i) (at p f out) e refl ∙ plain_goes i (at p f out) ok ∙ ap (λ x. Goes (record { flow = flow_after (action_of i) f; pc = x; target = None; output = out })) next)
+      (at_place p (I.Plain i) (at p f out) e refl ∙ plain_goes i (at p f out) ok
+      ∙ ap (λ x. Goes (record { flow = flow_after (action_of i) f; pc = x; target = None; output = out })) next)
 
   -- the instructions of an order
-  pub words_lead : (insts : List Plain) (p : ℕ) (f f' : Flow) (out : List ℕ) → words_from (map action_of insts) (Some f) ≡ Some f' → HasAt code p (map I.Plain insts) → Leads code (length insts) (at p f out) (at (p + length insts) f' out)
+  pub words_lead : (insts : List Plain) (p : ℕ) (f f' : Flow) (out : List ℕ) → words_from (map action_of insts) (Some f) ≡ Some f'
+      → HasAt code p (map I.Plain insts) → Leads code (length insts) (at p f out) (at (p + length insts) f' out)
   words_lead [] p f f' out e h =
       let here : p ≡ p + 0 = omega arith in
       no_word _ _ (ap₂ (λ n g. at n g out) here (same_Some f f' e))
   words_lead (i ∷ rest) p f f' out e h = go (λ g r. words_lead rest (p + 1) g f' out r h.1) (is_stuck (action_of i) f) refl e
     where
-      go : ((g : Flow) → words_from (map action_of rest) (Some g) ≡ Some f' → Leads code (length rest) (at (p + 1) g out) (at (p + 1 + length rest) f' out)) → (b : Bool) → is_stuck (action_of i) f ≡ b → words_from (map action_of rest) (cond b None (Some (flow_after (action_of i) f))) ≡ Some f' → Leads code (length (i ∷ rest)) (at p f out) (at (p + length (i ∷ rest)) f' out)
+      go : ((g : Flow) → words_from (map action_of rest) (Some g) ≡ Some f'
+          → Leads code (length rest) (at (p + 1) g out) (at (p + 1 + length rest) f' out)) → (b : Bool) → is_stuck (action_of i) f ≡ b
+          → words_from (map action_of rest) (cond b None (Some (flow_after (action_of i) f))) ≡ Some f'
+          → Leads code (length (i ∷ rest)) (at p f out) (at (p + length (i ∷ rest)) f' out)
       go next true eb r = absurd (none-some f' r)
       go next false eb r =
           let there : p + 1 + length rest ≡ p + length (i ∷ rest) = omega arith in
-          fewer (1 + length rest) (length (i ∷ rest)) _ _ (omega arith) (subst (λ n. Leads code (1 + length rest) (at p f out) (at n f' out)) there (leads_on 1 (length rest) _ _ _ (plain_step p i f out h.0 eb) (next (flow_after (action_of i) f) r)))
+          fewer (1 + length rest) (length (i ∷ rest)) _ _ (omega arith)
+          (subst (λ n. Leads code (1 + length rest) (at p f out) (at n f' out)) there
+          (leads_on 1 (length rest) _ _ _ (plain_step p i f out h.0 eb) (next (flow_after (action_of i) f) r)))
 
   -- ---- jumps
 
@@ -82,21 +92,30 @@ module _ (code : List Inst) where
   slot_at p t f out = record { flow = f; pc = address_of_place p; target = Some t; output = out }
 
   -- a branch or jump
-  pub control_step : (p : ℕ) (c : Control) (t : ℕ) (s : State) (f : Flow) (out : List ℕ) → slice_get code p ≡ Some (I.Control c) → goes_elsewhere c ≡ true → calls_another c f.state ≡ false
-      → instruction_step (I.Control c) (at p f out) ≡ jump_step s t (at p f out) → on_pending f.pending (control_touches c) ≡ false → Leads code 1 (at p f out) (slot_at (p + 1) t (record { state = settle f.pending s; pending = Nothing; hold = pred f.hold }) out)
+  pub control_step : (p : ℕ) (c : Control) (t : ℕ) (s : State) (f : Flow) (out : List ℕ) → slice_get code p ≡ Some (I.Control c)
+      → goes_elsewhere c ≡ true → calls_another c f.state ≡ false
+      → instruction_step (I.Control c) (at p f out) ≡ jump_step s t (at p f out) → on_pending f.pending (control_touches c) ≡ false
+      → Leads code 1 (at p f out) (slot_at (p + 1) t (record { state = state_with_pending f.pending s; pending = Nothing; hold = pred f.hold }) out)
   control_step p c t s f out e jumps fine does free =
       let next : address_of_place p + 4 ≡ address_of_place (p + 1) = omega arith in
-      let mid : Flow = record { state = settle f.pending s; pending = Nothing; hold = pred f.hold } in
+      let mid : Flow = record { state = state_with_pending f.pending s; pending = Nothing; hold = pred f.hold } in
       goes (at p f out) (slot_at (p + 1) t mid out)
-      (at_place p (I.Control c) (at p f out) e refl ∙ control_goes c (at p f out) jumps free refl fine ∙ does ∙ ap (λ x. Goes (record { flow = mid; pc = x; target = Some t; output = out })) next)
+      (at_place p (I.Control c) (at p f out) e refl ∙ control_goes c (at p f out) jumps free refl fine ∙ does
+      ∙ ap (λ x. Goes (record { flow = mid; pc = x; target = Some t; output = out })) next)
 
   -- the word in a slot
-  pub slot_step : (p t : ℕ) (i : Plain) (f : Flow) (out : List ℕ) → slice_get code p ≡ Some (I.Plain i) → is_stuck (action_of i) f ≡ false → Leads code 1 (slot_at p t f out) (record { flow = flow_after (action_of i) f; pc = t; target = None; output = out })
+  pub slot_step : (p t : ℕ) (i : Plain) (f : Flow) (out : List ℕ) → slice_get code p ≡ Some (I.Plain i) → is_stuck (action_of i) f ≡ false
+      → Leads code 1 (slot_at p t f out) (record { flow = flow_after (action_of i) f; pc = t; target = None; output = out })
   slot_step p t i f out e ok =
       goes (slot_at p t f out) _ (at_place p (I.Plain i) (slot_at p t f out) e refl ∙ plain_goes i (slot_at p t f out) ok)
 
   -- a jump that nothing holds up, with a slot that does nothing
-  pub hop : (p q : ℕ) (s : State) (out : List ℕ) → length code ≤ 1048576 → HasAt code p (jump_to q ∷ I.Plain nop ∷ []) → Leads code 2 (machine_at p s out) (machine_at q s out)
+  pub hop : (p q : ℕ) (s : State) (out : List ℕ) → length code ≤ 1048576 → HasAt code p (jump_to q ∷ I.Plain nop ∷ [])
+      → Leads code 2 (machine_at p s out) (machine_at q s out)
   hop p q s out room h =
       let lands = jump_lands p q (within p _ room h.0) in
-      subst (λ t. Leads code 2 (machine_at p s out) (record { flow = quiet s; pc = t; target = None; output = out })) lands (leads_on 1 1 _ _ _ (control_step p (controls.JumpTo Jump (address_of_place q / 4)) (jump_target (address_of_place p + 4) (address_of_place q / 4)) s (quiet s) out h.0 refl refl refl refl) (slot_step (p + 1) (jump_target (address_of_place p + 4) (address_of_place q / 4)) nop (quiet s) out h.1.0 refl))
+      subst (λ t. Leads code 2 (machine_at p s out) (record { flow = quiet s; pc = t; target = None; output = out })) lands
+      (leads_on 1 1 _ _ _
+      (control_step p (controls.JumpTo Jump (address_of_place q / 4)) (jump_target (address_of_place p + 4) (address_of_place q / 4)) s
+      (quiet s) out h.0 refl refl refl refl)
+      (slot_step (p + 1) (jump_target (address_of_place p + 4) (address_of_place q / 4)) nop (quiet s) out h.1.0 refl))

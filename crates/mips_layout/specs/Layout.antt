@@ -54,8 +54,10 @@ set_number z = insts.Plain (Imm Addiu 2 0 z)
 -- the words of an exit at a place, with the places of all blocks
 abbrev pub exit_insts : (ℕ → ℕ) → ℕ → Exit → Option Plain → List Inst
 exit_insts start here (Goto t) slot = jump_to (start t) ∷ slot_insts slot
-exit_insts start here (BranchPair test a b t e) slot = insts.Control (controls.BranchPair test a b (branch_offset here (start t))) ∷ (slot_insts slot ++ hop (start e))
-exit_insts start here (BranchZero test a t e) slot = insts.Control (controls.BranchZero test a (branch_offset here (start t))) ∷ (slot_insts slot ++ hop (start e))
+exit_insts start here (BranchPair test a b t e) slot =
+    insts.Control (controls.BranchPair test a b (branch_offset here (start t))) ∷ (slot_insts slot ++ hop (start e))
+exit_insts start here (BranchZero test a t e) slot =
+    insts.Control (controls.BranchZero test a (branch_offset here (start t))) ∷ (slot_insts slot ++ hop (start e))
 exit_insts start here (Call f n) slot = insts.Control (controls.JumpTo JumpAndLink (address_of_place (start f) / 4)) ∷ (slot_insts slot ++ hop (start n))
 exit_insts start here Return slot = insts.Control (controls.JumpRegister 31) ∷ slot_insts slot
 exit_insts start here (Out n) slot = set_number (pos 1) ∷ insts.Control controls.SystemCall ∷ hop (start n)

@@ -1,4 +1,5 @@
-ghost use Rattle.std.specs.Prelude.{replicate, IfOk, ◌≡◌, ℕ, ◌<◌, ◌≤◌, ◌+◌, ◌*◌, ◌-◌, ◌/◌, ◌^◌, slice_set, slice_index, Some, None, true, length, if◌then◌else◌};
+ghost use Rattle.std.specs.Prelude.{replicate, IfOk, ◌≡◌, ℕ, ◌<◌, ◌≤◌, ◌+◌, ◌*◌, ◌-◌, ◌/◌, ◌^◌, slice_set, slice_index, Some, None, true};
+ghost use Rattle.std.specs.Prelude.{length, if◌then◌else◌};
 ghost use Rattle.mips_isa.specs.States.{is_open, load_word, store_word};
 ghost use Rattle.mips_isa.specs.Starting.{words_mapped, first_bytes};
 ghost use Rattle.mips_machine.specs.Places.{bytes_in, word_in};

@@ -3,7 +3,7 @@ ghost use Rattle.mips_isa.specs.declared.rule.Rule.TheVariants.{M4, M5, M6};
 ghost use Rattle.words.specs.Operators.{op_value, has_quotient};
 ghost use Rattle.mips_isa.specs.States.{read, put, is_aligned, is_open};
 ghost use Rattle.mips_isa.specs.Actions.{operand, address, is_safe, divides_badly, on_address};
-ghost use Rattle.mips_isa.specs.Flows.{shown_state, pending_of, settle};
+ghost use Rattle.mips_isa.specs.Flows.{shown_state, pending_of, state_with_pending};
 ghost use Rattle.mips_machine.specs.Views.{state_of, pending_in};
 
 use crate::memory::Memory;
@@ -124,7 +124,7 @@ impl Registers {
 
     /// What was loaded shows.
     pub fn settle(&mut self, load: Load)
-        ensures { state_of self.new ≡ settle (pending_in load) (state_of self.old) }
+        ensures { state_of self.new ≡ state_with_pending (pending_in load) (state_of self.old) }
     {
         match load {
             Load::Nothing => {}

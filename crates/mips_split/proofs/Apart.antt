@@ -32,7 +32,8 @@ module _ (most : ℕ) (blocks : List BlockParts) where
   last_of_block n b there =
       let whole = split_at_most most blocks in
       let place = place_of most blocks in
-      let p = last_there most (renumbered_exit place b.exit) whole (more_pieces most b) (place n) b.insts (has_pieces most place whole 0 blocks (has_whole whole) n b there) in
+      let p = last_there most (renumbered_exit place b.exit) whole (more_pieces most b) (place n) b.insts
+      (has_pieces most place whole 0 blocks (has_whole whole) n b there) in
       record {
         piece = p.0;
         there = sym (ap (slice_get whole) (last_piece most 0 blocks n b there)) ∙ p.1;
@@ -50,7 +51,8 @@ module _ (most : ℕ) (blocks : List BlockParts) where
   }
 
 -- what the long unit comes to, its pieces come to
-pub comes_to : (most : ℕ) (blocks : List BlockParts) → AreLinked blocks → (s : State) (r : ℕ) (end : Outcome) → ComesTo blocks s r end → ComesTo (split_at_most most blocks) s r end
+pub comes_to : (most : ℕ) (blocks : List BlockParts) → AreLinked blocks → (s : State) (r : ℕ) (end : Outcome) → ComesTo blocks s r end
+    → ComesTo (split_at_most most blocks) s r end
 comes_to most blocks linked s r end comes links tells =
     let long = comes (λ n. links (last_of most blocks n)) (told_apart most blocks links tells) in
     let short = unit_runs most blocks linked links s long.0 in

@@ -1,5 +1,6 @@
 -- Each piece belongs to one block, at one place.
-use Rattle.std.proofs.Common.{◌≡◌, ℕ, zero, suc, ◌+◌, ◌-◌, ◌*◌, ◌/◌, ◌<◌, ◌≤◌, ◌⊎◌, inl, inr, List, [], ◌∷◌, length, length-append, Some, refl, ap, ◌∙◌, subst, arith, take, drop}
+use Rattle.std.proofs.Common.{◌≡◌, ℕ, zero, suc, ◌+◌, ◌-◌, ◌*◌, ◌/◌, ◌<◌, ◌≤◌, ◌⊎◌, inl, inr, List, [], ◌∷◌, length, length-append, Some}
+use Rattle.std.proofs.Common.{refl, ap, ◌∙◌, subst, arith, take, drop}
 use Rattle.std.specs.Prelude.{slice_get, slice_index}
 use Rattle.std.proofs.lemmas.List.{length-take, length-drop}
 use Rattle.std.proofs.lemmas.Option.{same_Some, none-some}
@@ -47,7 +48,8 @@ pub located : (most k : ℕ) (bs : List BlockParts) (i : ℕ) → i < total most
 located most k [] i lt = absurd (omega (arith, lt))
 located most k (b ∷ bs) i lt = by_count (apart_from (count_of most b) i) (λ d lt. located most (k + count_of most b) bs d lt)
   where
-    by_count : (i < count_of most b) ⊎ ((d : ℕ) × (i ≡ count_of most b + d)) → ((d : ℕ) → d < total most bs → Located most (k + count_of most b) bs d) → Located most k (b ∷ bs) i
+    by_count : (i < count_of most b) ⊎ ((d : ℕ) × (i ≡ count_of most b + d))
+        → ((d : ℕ) → d < total most bs → Located most (k + count_of most b) bs d) → Located most k (b ∷ bs) i
     by_count (inl few) rest = record { number = 0; behind = i; block = b; there = refl; within = omega (arith, few); is = refl }
     by_count (inr e) rest =
         let same = e.1 in
@@ -56,7 +58,8 @@ located most k (b ∷ bs) i lt = by_count (apart_from (count_of most b) i) (λ d
         record { number = suc l.number; behind = l.behind; block = l.block; there = l.there; within = l.within; is = omega (arith, is, same) }
 
 -- a block's first piece comes behind the last piece of the block before it
-pub first_next : (most k : ℕ) (bs : List BlockParts) (n : ℕ) (a b : BlockParts) → slice_get bs n ≡ Some a → slice_get bs (suc n) ≡ Some b → slice_index (firsts most k bs) (suc n) ≡ suc (slice_index (firsts most k bs) n + more_pieces most a)
+pub first_next : (most k : ℕ) (bs : List BlockParts) (n : ℕ) (a b : BlockParts) → slice_get bs n ≡ Some a → slice_get bs (suc n) ≡ Some b
+    → slice_index (firsts most k bs) (suc n) ≡ suc (slice_index (firsts most k bs) n + more_pieces most a)
 first_next most k [] n a b a_there b_there = absurd (none-some a a_there)
 first_next most k (x ∷ []) zero a b a_there b_there = absurd (none-some b b_there)
 first_next most k (x ∷ y ∷ bs) zero a b a_there b_there =
@@ -73,9 +76,11 @@ pub record IsPieceAt (most : ℕ) (exit : Exit) (more k j : ℕ) (b : BlockParts
   pub short : length b.insts ≤ most
   pub leaves : ((j ≡ more) × (b.exit ≡ exit)) ⊎ ((j < more) × (b.exit ≡ Goto (suc (k + j))))
 
-pub piece_at : (most : ℕ) (exit : Exit) (more k : ℕ) (insts : List Plain) → length insts ≤ most * more + most → (j : ℕ) (b : BlockParts) → slice_get (pieces most exit more k insts) j ≡ Some b → IsPieceAt most exit more k j b
+pub piece_at : (most : ℕ) (exit : Exit) (more k : ℕ) (insts : List Plain) → length insts ≤ most * more + most → (j : ℕ) (b : BlockParts)
+    → slice_get (pieces most exit more k insts) j ≡ Some b → IsPieceAt most exit more k j b
 piece_at most exit zero k insts few zero b there =
-    subst (λ (b : BlockParts). IsPieceAt most exit 0 k 0 b) (same_Some (piece insts exit) b there) (record { short = omega (arith, few); leaves = inl (refl, refl) })
+    subst (λ (b : BlockParts). IsPieceAt most exit 0 k 0 b) (same_Some (piece insts exit) b there)
+    (record { short = omega (arith, few); leaves = inl (refl, refl) })
 piece_at most exit zero k insts few (suc j) b there = absurd (none-some b there)
 piece_at most exit (suc more) k insts few zero b there =
     let here : k ≡ k + 0 = omega arith in
@@ -92,7 +97,8 @@ piece_at most exit (suc more) k insts few (suc j) b there =
     shifted : IsPieceAt most exit more (suc k) j b → IsPieceAt most exit (suc more) k (suc j) b
     shifted p = record { short = p.short; leaves = moved p.leaves }
       where
-        moved : ((j ≡ more) × (b.exit ≡ exit)) ⊎ ((j < more) × (b.exit ≡ Goto (suc (suc k + j)))) → ((suc j ≡ suc more) × (b.exit ≡ exit)) ⊎ ((suc j < suc more) × (b.exit ≡ Goto (suc (k + suc j))))
+        moved : ((j ≡ more) × (b.exit ≡ exit)) ⊎ ((j < more) × (b.exit ≡ Goto (suc (suc k + j))))
+            → ((suc j ≡ suc more) × (b.exit ≡ exit)) ⊎ ((suc j < suc more) × (b.exit ≡ Goto (suc (k + suc j))))
         moved (inl last) = inl (ap suc last.0, last.1)
         moved (inr other) =
             let lt = other.0 in

@@ -1,5 +1,6 @@
 -- Pieces that are being made.
-use Rattle.std.proofs.Common.{◌≡◌, ℕ, suc, ◌+◌, ◌-◌, ◌/◌, ◌<◌, ◌≤◌, List, [], ◌∷◌, ◌++◌, length, length-append, get_or, sym, ap, ap₂, ◌∙◌, subst, arith, take, drop}
+use Rattle.std.proofs.Common.{◌≡◌, ℕ, suc, ◌+◌, ◌-◌, ◌/◌, ◌<◌, ◌≤◌, List, [], ◌∷◌, ◌++◌, length, length-append, get_or, sym, ap, ap₂, ◌∙◌}
+use Rattle.std.proofs.Common.{subst, arith, take, drop}
 use Rattle.std.specs.Prelude.{All, ◌^◌, slice_index, replicate}
 use Rattle.std.proofs.lemmas.List.{append_assoc, at_drop_more}
 use Rattle.mips_isa.specs.declared.inst.Plain.{Plain}
@@ -13,7 +14,8 @@ use Rattle.mips_split.proofs.Counts.{length-split_from, total_above}
 use Rattle.mips_split.proofs.Well.{pieces_linked, pieces_owned}
 
 -- one more piece of a block
-pub piece_step : (exit : Exit) (out out' all : List BlockParts) (insts front back : List Plain) (next : ℕ) → 512 < length insts → length back + 512 ≡ length insts → front ≡ take 512 insts → back ≡ drop 512 insts → next ≡ length out + 1
+pub piece_step : (exit : Exit) (out out' all : List BlockParts) (insts front back : List Plain) (next : ℕ) → 512 < length insts
+    → length back + 512 ≡ length insts → front ≡ take 512 insts → back ≡ drop 512 insts → next ≡ length out + 1
     → out' ≡ out ++ piece front (Goto next) ∷ [] → length out + (length insts - 1) / 512 < 1048576
     → out ++ pieces 512 exit ((length insts - 1) / 512) (length out) insts ≡ all
     → (length out' + (length back - 1) / 512 < 1048576) × (out' ++ pieces 512 exit ((length back - 1) / 512) (length out') back ≡ all)
@@ -21,7 +23,8 @@ piece_step exit out out' all insts front back next many long front_is back_is ne
     let more = (length back - 1) / 512 in
     let count : (length insts - 1) / 512 ≡ suc more = omega (arith, many, long) in
     let next_suc : next ≡ suc (length out) = omega (arith, next_is) in
-    let longer : length out' ≡ suc (length out) = ap length made ∙ length-append out (piece front (Goto next) ∷ []) ∙ (let one : length out + 1 ≡ suc (length out) = omega arith in one) in (
+    let longer : length out' ≡ suc (length out) = ap length made ∙ length-append out (piece front (Goto next) ∷ [])
+    ∙ (let one : length out + 1 ≡ suc (length out) = omega arith in one) in (
       omega (arith, few, count, longer),
       ap (λ l. l ++ pieces 512 exit more (length out') back) made
           ∙ append_assoc out (piece front (Goto next) ∷ []) (pieces 512 exit more (length out') back)
@@ -33,7 +36,8 @@ piece_step exit out out' all insts front back next many long front_is back_is ne
     )
 
 -- one more block
-pub block_step : (place : ℕ → ℕ) (i : ℕ) (long : List BlockParts) (b : BlockParts) (out out' all : List BlockParts) (exit old : Exit) (insts : List Plain) → i < length long → b ≡ get_or long i b
+pub block_step : (place : ℕ → ℕ) (i : ℕ) (long : List BlockParts) (b : BlockParts) (out out' all : List BlockParts) (exit old : Exit)
+    (insts : List Plain) → i < length long → b ≡ get_or long i b
     → exit ≡ renumbered_exit place old → old ≡ b.exit → insts ≡ b.insts → out' ≡ out ++ pieces 512 exit ((length insts - 1) / 512) (length out) insts
     → length out + total 512 (drop i long) ≡ total 512 long → out ++ split_from 512 place (length out) (drop i long) ≡ all
     → (length out' + total 512 (drop (i + 1) long) ≡ total 512 long) × (out' ++ split_from 512 place (length out') (drop (i + 1) long) ≡ all)
@@ -41,12 +45,18 @@ block_step place i long b out out' all exit old insts within b_is exit_is old_is
     let rest = drop (i + 1) long in
     let more = more_pieces 512 b in
     let here : out' ≡ out ++ pieces 512 (renumbered_exit place b.exit) more (length out) b.insts =
-    made ∙ ap₂ (λ (x : Exit) (l : List Plain). out ++ pieces 512 x ((length l - 1) / 512) (length out) l) (exit_is ∙ ap (renumbered_exit place) old_is) insts_is in
+    made ∙ ap₂ (λ (x : Exit) (l : List Plain). out ++ pieces 512 x ((length l - 1) / 512) (length out) l)
+    (exit_is ∙ ap (renumbered_exit place) old_is) insts_is in
     let parts = length-pieces 512 (renumbered_exit place b.exit) more (length out) b.insts in
-    let long_out : length out' ≡ length out + count_of 512 b = ap length here ∙ length-append out (pieces 512 (renumbered_exit place b.exit) more (length out) b.insts) ∙ ap (λ n. length out + n) parts in
-    let counts : total 512 (drop i long) ≡ count_of 512 b + total 512 rest = at_drop_more (total 512) long i b within ∙ ap (λ (b : BlockParts). count_of 512 b + total 512 rest) (sym b_is) in
-    let forms : split_from 512 place (length out) (drop i long) ≡ pieces 512 (renumbered_exit place b.exit) more (length out) b.insts ++ split_from 512 place (length out + count_of 512 b) rest =
-    at_drop_more (split_from 512 place (length out)) long i b within ∙ ap (λ (b : BlockParts). pieces 512 (renumbered_exit place b.exit) (more_pieces 512 b) (length out) b.insts ++ split_from 512 place (length out + count_of 512 b) rest) (sym b_is) in (
+    let long_out : length out' ≡ length out + count_of 512 b = ap length here
+    ∙ length-append out (pieces 512 (renumbered_exit place b.exit) more (length out) b.insts) ∙ ap (λ n. length out + n) parts in
+    let counts : total 512 (drop i long) ≡ count_of 512 b + total 512 rest = at_drop_more (total 512) long i b within
+    ∙ ap (λ (b : BlockParts). count_of 512 b + total 512 rest) (sym b_is) in
+    let forms : split_from 512 place (length out) (drop i long) ≡ pieces 512 (renumbered_exit place b.exit) more
+    (length out) b.insts ++ split_from 512 place (length out + count_of 512 b) rest =
+    at_drop_more (split_from 512 place (length out)) long i b within
+    ∙ ap (λ (b : BlockParts). pieces 512 (renumbered_exit place b.exit) (more_pieces 512 b) (length out) b.insts ++ split_from 512 place
+    (length out + count_of 512 b) rest) (sym b_is) in (
       omega (arith, count, counts, long_out),
       ap₂ (λ l n. l ++ split_from 512 place n rest) here long_out
           ∙ append_assoc out (pieces 512 (renumbered_exit place b.exit) more (length out) b.insts) (split_from 512 place (length out + count_of 512 b) rest)
@@ -61,7 +71,8 @@ few_pieces place long blocks made few =
     omega (arith, few, count)
 
 -- the owner of one more block's pieces
-pub owner_step : (place : ℕ → ℕ) (i o first more : ℕ) (long : List BlockParts) (owner : List ℕ) (b : BlockParts) (out out' all : List ℕ) → i < length long → length owner ≡ length long → b ≡ get_or long i b → o ≡ get_or owner i o
+pub owner_step : (place : ℕ → ℕ) (i o first more : ℕ) (long : List BlockParts) (owner : List ℕ) (b : BlockParts) (out out' all : List ℕ)
+    → i < length long → length owner ≡ length long → b ≡ get_or long i b → o ≡ get_or owner i o
     → first ≡ place o → more ≡ more_pieces 512 b → out' ≡ out ++ replicate (1 + more) first → out ++ owners_from 512 place (drop i long) (drop i owner) ≡ all
     → out' ++ owners_from 512 place (drop (i + 1) long) (drop (i + 1) owner) ≡ all
 owner_step place i o first more long owner b out out' all within same b_is o_is first_is more_is made before =
@@ -80,16 +91,22 @@ owner_step place i o first more long owner b out out' all within same b_is o_is 
     ∙ before
 
 -- pieces by a table of the numbers of first pieces
-pub pieces_are : (long : List BlockParts) (numbers table : List ℕ) (blocks : List BlockParts) → numbers ≡ firsts 512 0 long → table ≡ numbers → blocks ≡ split_from 512 (λ n. slice_index table n) 0 long → blocks ≡ split_blocks long
-pieces_are long numbers table blocks numbers_is table_is blocks_is = blocks_is ∙ ap (λ (t : List ℕ). split_from 512 (λ n. slice_index t n) 0 long) (table_is ∙ numbers_is)
+pub pieces_are : (long : List BlockParts) (numbers table : List ℕ) (blocks : List BlockParts) → numbers ≡ firsts 512 0 long
+    → table ≡ numbers → blocks ≡ split_from 512 (λ n. slice_index table n) 0 long → blocks ≡ split_blocks long
+pieces_are long numbers table blocks numbers_is table_is blocks_is = blocks_is
+    ∙ ap (λ (t : List ℕ). split_from 512 (λ n. slice_index t n) 0 long) (table_is ∙ numbers_is)
 
 -- pieces with their owners are a unit
-pub unit_made : (long : List BlockParts) (owner globals : List ℕ) (numbers table table2 : List ℕ) (blocks : List BlockParts) (owners : List ℕ) → AreLinked long → AreOwners long owner → 0 < length long → length globals ≤ 1048576 → All (λ b. b < 2 ^ 8) globals → total 512 long ≤ 1048576
-    → numbers ≡ firsts 512 0 long → table ≡ numbers → table2 ≡ numbers → blocks ≡ split_from 512 (λ n. slice_index table n) 0 long → owners ≡ owners_from 512 (λ n. slice_index table2 n) long owner
+pub unit_made : (long : List BlockParts) (owner globals : List ℕ) (numbers table table2 : List ℕ) (blocks : List BlockParts)
+    (owners : List ℕ) → AreLinked long → AreOwners long owner → 0 < length long → length globals ≤ 1048576 → All (λ b. b < 2 ^ 8) globals
+    → total 512 long ≤ 1048576
+    → numbers ≡ firsts 512 0 long → table ≡ numbers → table2 ≡ numbers → blocks ≡ split_from 512 (λ n. slice_index table n) 0 long
+    → owners ≡ owners_from 512 (λ n. slice_index table2 n) long owner
     → IsUnit (unit_parts blocks owners globals)
 unit_made long owner globals numbers table table2 blocks owners linked owned some data_few data_small few numbers_is table_is table2_is blocks_is owners_is =
     subst (λ blocks. IsUnit (unit_parts blocks owners globals)) (sym (pieces_are long numbers table blocks numbers_is table_is blocks_is))
-    (subst (λ owners. IsUnit (unit_parts (split_blocks long) owners globals)) (sym (owners_is ∙ ap (λ (t : List ℕ). owners_from 512 (λ n. slice_index t n) long owner) (table2_is ∙ numbers_is))) (record {
+    (subst (λ owners. IsUnit (unit_parts (split_blocks long) owners globals))
+    (sym (owners_is ∙ ap (λ (t : List ℕ). owners_from 512 (λ n. slice_index t n) long owner) (table2_is ∙ numbers_is))) (record {
       some = (let many = total_above 512 long in omega (arith, some, many, count));
       few = omega (arith, few, count);
       linked = pieces_linked 512 positive long linked;

@@ -1,5 +1,6 @@
 -- Functions one behind another are linked and owned.
-use Rattle.std.proofs.Common.{◌≡◌, ◌≢◌, ℕ, zero, suc, ◌+◌, ◌-◌, ◌<◌, ◌≤◌, ◌⊎◌, inl, inr, List, [], ◌∷◌, length, length-append, Some, refl, sym, ap, ◌∙◌, subst, arith}
+use Rattle.std.proofs.Common.{◌≡◌, ◌≢◌, ℕ, zero, suc, ◌+◌, ◌-◌, ◌<◌, ◌≤◌, ◌⊎◌, inl, inr, List, [], ◌∷◌, length, length-append, Some, refl}
+use Rattle.std.proofs.Common.{sym, ap, ◌∙◌, subst, arith}
 use Rattle.std.specs.Prelude.{slice_get, replicate}
 use Rattle.std.proofs.lemmas.List.{length-replicate}
 use Rattle.std.proofs.lemmas.Option.{same_Some, slice_get_within}
@@ -34,10 +35,12 @@ module _ (bound : ℕ) (blocks : List BlockParts) (owner : List ℕ) where
     blocks_at : HasAt blocks start code
     owned : HasAt owner start (replicate (length code) start)
 
-  in_function : (k : ℕ) (fs : List (List BlockParts)) → k + length (blocks_of fs) ≤ bound → AreFunctions bound k fs → HasAt blocks k (blocks_of fs) → HasAt owner k (owners_of k fs) → (i : ℕ) → i < length (blocks_of fs) → InFunction (k + i)
+  in_function : (k : ℕ) (fs : List (List BlockParts)) → k + length (blocks_of fs) ≤ bound → AreFunctions bound k fs
+      → HasAt blocks k (blocks_of fs) → HasAt owner k (owners_of k fs) → (i : ℕ) → i < length (blocks_of fs) → InFunction (k + i)
   in_function k [] fits are has owned i lt = absurd (omega (arith, lt))
   in_function k (f ∷ fs) fits are has owned i lt =
-      by_length (apart_from (length f) i) (λ d d_lt. in_function (k + length f) fs (omega (arith, fits, sum)) are.1 (has_back blocks k f (blocks_of fs) has) owned_behind d d_lt)
+      by_length (apart_from (length f) i)
+      (λ d d_lt. in_function (k + length f) fs (omega (arith, fits, sum)) are.1 (has_back blocks k f (blocks_of fs) has) owned_behind d d_lt)
     where
       sum : length (blocks_of (f ∷ fs)) ≡ length f + length (blocks_of fs)
       sum = length-append f (blocks_of fs)
@@ -114,15 +117,21 @@ module _ (bound : ℕ) (blocks : List BlockParts) (owner : List ℕ) where
       by_place zero is lt same other = absurd (other (omega (arith, is, same)))
       by_place (suc j) is lt same other = owned_from at.start (length at.code) at.owned i (omega (arith, is), omega (arith, is, lt)) ∙ ap Some same
 
-pub functions_owned : (fs : List (List BlockParts)) → AreFunctions (length (blocks_of fs)) 0 fs → AreLinked (blocks_of fs) × AreOwners (blocks_of fs) (owners_of 0 fs)
+pub functions_owned : (fs : List (List BlockParts)) → AreFunctions (length (blocks_of fs)) 0 fs → AreLinked (blocks_of fs)
+    × AreOwners (blocks_of fs) (owners_of 0 fs)
 functions_owned fs are = (
-  record { by = λ i b there. (let at = place i (slice_get_within blocks i b there) in below bound blocks owner at.start (length at.code) at.fits b.exit (exit_within bound blocks owner i b at there)) },
+  record {
+    by =
+        λ i b there. (let at = place i (slice_get_within blocks i b there) in
+        below bound blocks owner at.start (length at.code) at.fits b.exit (exit_within bound blocks owner i b at there));
+  },
   record {
     lengths = same;
     continues = λ i o here. (let low = slice_get_within owner i o here in goes_on_from bound blocks owner i o (place i (omega (arith, low, same))) here);
     within = λ i o b there here.
         (let at = place i (slice_get_within blocks i b there) in
-        subst (λ o. BranchesWithin owner o b.exit) (same_Some at.start o (sym (owner_at bound blocks owner i at) ∙ here)) (inside bound blocks owner at.start (length at.code) at.owned b.exit (exit_within bound blocks owner i b at there)));
+        subst (λ o. BranchesWithin owner o b.exit) (same_Some at.start o (sym (owner_at bound blocks owner i at) ∙ here))
+        (inside bound blocks owner at.start (length at.code) at.owned b.exit (exit_within bound blocks owner i b at there)));
   },
 )
   where
@@ -139,4 +148,7 @@ functions_owned fs are = (
     same = length-owners_of 0 fs
 
     place : (i : ℕ) → i < length (blocks_of fs) → InFunction (length (blocks_of fs)) (blocks_of fs) (owners_of 0 fs) i
-    place i lt = (let zero_i : 0 + i ≡ i = omega arith in subst (InFunction (length (blocks_of fs)) (blocks_of fs) (owners_of 0 fs)) zero_i (in_function (length (blocks_of fs)) (blocks_of fs) (owners_of 0 fs) 0 fs (omega arith) are (has_whole (blocks_of fs)) (has_whole (owners_of 0 fs)) i lt))
+    place i lt = (let zero_i : 0 + i ≡ i = omega arith in
+        subst (InFunction (length (blocks_of fs)) (blocks_of fs) (owners_of 0 fs)) zero_i
+        (in_function (length (blocks_of fs)) (blocks_of fs) (owners_of 0 fs) 0 fs (omega arith) are (has_whole (blocks_of fs))
+        (has_whole (owners_of 0 fs)) i lt))

@@ -11,7 +11,7 @@ use Rattle.mblock.specs.declared.exit.Exit.{Exit}
 use Rattle.mblock.specs.declared.exit.Exit.TheVariants.{Goto}
 use Rattle.mblock.specs.Parts.{BlockParts}
 use Rattle.mblock.specs.BlockMeaning.{exit_effect}
-use Rattle.mblock.specs.UnitRuns.{wrong, enter_at, goes_on, exit_item, items}
+use Rattle.mblock.specs.UnitRuns.{wrong, outcome_at_block, outcome_of_departure, exit_item, items}
 use Rattle.mips_split.specs.Split.{piece, pieces}
 use Rattle.mips_split.proofs.Places.{HasAt, has_head, has_tail}
 
@@ -32,22 +32,25 @@ module _ (whole : List BlockParts) (links : ℕ → ℕ) where
     pub ends : items whole links count k part s out ≡ end
 
   -- an exit that enters a block
-  entered : (i k : ℕ) (p q : BlockParts) (t : ℕ) (s : State) (out : List ℕ) (end : Outcome) → slice_get whole k ≡ Some p → p.exit ≡ Goto t → slice_get whole t ≡ Some q → Reached i t q.insts s out end → Reached i k [] s out end
+  entered : (i k : ℕ) (p q : BlockParts) (t : ℕ) (s : State) (out : List ℕ) (end : Outcome) → slice_get whole k ≡ Some p → p.exit ≡ Goto t
+      → slice_get whole t ≡ Some q → Reached i t q.insts s out end → Reached i k [] s out end
   entered i k p q t s out end there is at r = record {
     count = suc r.count;
     enough = (let enough = r.enough in omega (arith, enough));
     ends = ap (λ o. exit_item whole links k o (items whole links r.count) s out) there
-        ∙ ap (λ x. goes_on whole links (exit_effect x s (links k)).goes (items whole links r.count) (exit_effect x s (links k)).state out) is
-        ∙ ap (λ o. enter_at t o (items whole links r.count) s out) at
+        ∙ ap (λ x. outcome_of_departure whole links (exit_effect x s (links k)).goes (items whole links r.count) (exit_effect x s (links k)).state out) is
+        ∙ ap (λ o. outcome_at_block t o (items whole links r.count) s out) at
         ∙ r.ends;
   }
 
   -- one instruction
-  one_step : (k : ℕ) (x a : Plain) (part : List Plain) (i : ℕ) (s : State) (out : List ℕ) (end : Outcome) → x ≡ a → Reached i k part (state_after (action_of a) s) out end → Reached (suc i) k (x ∷ part) s out (if is_safe (action_of a) s then end else wrong out)
+  one_step : (k : ℕ) (x a : Plain) (part : List Plain) (i : ℕ) (s : State) (out : List ℕ) (end : Outcome) → x ≡ a
+      → Reached i k part (state_after (action_of a) s) out end → Reached (suc i) k (x ∷ part) s out (if is_safe (action_of a) s then end else wrong out)
   one_step k x a part i s out end e r = record {
     count = suc r.count;
     enough = (let enough = r.enough in omega (arith, enough));
-    ends = ap (λ x. if is_safe (action_of x) s then items whole links r.count k part (state_after (action_of x) s) out else wrong out) e ∙ ap (λ end. if is_safe (action_of a) s then end else wrong out) r.ends;
+    ends = ap (λ x. if is_safe (action_of x) s then items whole links r.count k part (state_after (action_of x) s) out else wrong out) e
+        ∙ ap (λ end. if is_safe (action_of a) s then end else wrong out) r.ends;
   }
 
   module _ (most : ℕ) (exit : Exit) (last : ℕ) where
@@ -83,7 +86,14 @@ module _ (whole : List BlockParts) (links : ℕ → ℕ) where
     enters zero k insts has is = record {
       block = piece insts exit;
       there = has_head whole k (piece insts exit) [] has;
-      inside = record { same = refl; is_last = (let k_zero : k ≡ k + 0 = omega arith in k_zero ∙ is); block = piece insts exit; there = has_head whole k (piece insts exit) [] has; leaves = refl };
+      inside = record {
+        same = refl;
+        is_last = (let k_zero : k ≡ k + 0 = omega arith in k_zero ∙ is);
+        block = piece insts exit;
+        there =
+            has_head whole k (piece insts exit) [] has;
+        leaves = refl;
+      };
     }
     enters (suc more) k insts has is =
         let first = piece (take most insts) (Goto (suc k)) in
@@ -92,23 +102,44 @@ module _ (whole : List BlockParts) (links : ℕ → ℕ) where
         record {
           block = first;
           there = at;
-          inside = record { behind = drop most insts; same = sym (take-append-drop most insts); is_last = (let next : suc k + more ≡ k + suc more = omega arith in next ∙ is); block = first; there = at; leaves = refl; next = has_tail whole k first others has };
+          inside = record {
+            behind = drop most insts;
+            same = sym (take-append-drop most insts);
+            is_last =
+                (let next : suc k + more ≡ k + suc more = omega arith in next ∙ is);
+            block = first;
+            there = at;
+            leaves = refl;
+            next =
+                has_tail whole k first others has;
+          };
         }
 
     -- an instruction of the block
-    pub steps : (more k : ℕ) (part : List Plain) (a : Plain) (rest : List Plain) (i : ℕ) (s : State) (out : List ℕ) (end : Outcome) → Inside more k part (a ∷ rest)
+    pub steps : (more k : ℕ) (part : List Plain) (a : Plain) (rest : List Plain) (i : ℕ) (s : State) (out : List ℕ) (end : Outcome)
+        → Inside more k part (a ∷ rest)
         → ((more k : ℕ) (part : List Plain) → Inside more k part rest → Reached i k part (state_after (action_of a) s) out end)
         → Reached (suc i) k part s out (if is_safe (action_of a) s then end else wrong out)
     steps zero k [] a rest i s out end at f = absurd (none-cons a rest at.same)
     steps zero k (x ∷ part) a rest i s out end at f =
-        let here : InLast k part rest = record { same = same_tail x a part rest at.same; is_last = at.is_last; block = at.block; there = at.there; leaves = at.leaves } in
+        let here : InLast k part rest =
+        record { same = same_tail x a part rest at.same; is_last = at.is_last; block = at.block; there = at.there; leaves = at.leaves } in
         one_step k x a part i s out end (same_head x a part rest at.same) (f zero k part here)
     steps (suc more) k [] a rest i s out end at f =
         let e = enters more (suc k) at.behind at.next at.is_last in
         entered (suc i) k at.block e.block (suc k) s out (if is_safe (action_of a) s then end else wrong out) at.there at.leaves e.there
         (steps more (suc k) e.block.insts a rest i s out end (subst (λ l. Inside more (suc k) e.block.insts l) (sym at.same) e.inside) f)
     steps (suc more) k (x ∷ part) a rest i s out end at f =
-        let here : InPiece more k part rest = record { behind = at.behind; same = same_tail a x rest (part ++ at.behind) at.same; is_last = at.is_last; block = at.block; there = at.there; leaves = at.leaves; next = at.next } in
+        let here : InPiece more k part rest =
+        record {
+          behind = at.behind;
+          same = same_tail a x rest (part ++ at.behind) at.same;
+          is_last = at.is_last;
+          block = at.block;
+          there = at.there;
+          leaves = at.leaves;
+          next = at.next;
+        } in
         one_step k x a part i s out end (sym (same_head a x rest (part ++ at.behind) at.same)) (f (suc more) k part here)
 
     -- the exit of the block
@@ -119,7 +150,7 @@ module _ (whole : List BlockParts) (links : ℕ → ℕ) where
       count = suc r.0;
       enough = (let enough = r.1 in omega (arith, enough));
       ends = ap (λ o. exit_item whole links k o (items whole links r.0) s out) at.there
-          ∙ ap (λ x. goes_on whole links (exit_effect x s (links k)).goes (items whole links r.0) (exit_effect x s (links k)).state out) at.leaves
+          ∙ ap (λ x. outcome_of_departure whole links (exit_effect x s (links k)).goes (items whole links r.0) (exit_effect x s (links k)).state out) at.leaves
           ∙ ap (λ k. exit_item whole links k (Some (piece [] exit)) (items whole links r.0) s out) at.is_last
           ∙ r.2;
     }

@@ -1,5 +1,6 @@
 -- Pieces are short, go to pieces that exist, and keep their functions together.
-use Rattle.std.proofs.Common.{◌≡◌, ◌≢◌, ℕ, zero, suc, ◌+◌, ◌<◌, ◌≤◌, ◌==◌, ◌⊎◌, inl, inr, Bool, true, false, List, [], ◌∷◌, length, length-append, Some, refl, sym, ap, ◌∙◌, subst, arith, eqb-true, eq-eqb, true≢false}
+use Rattle.std.proofs.Common.{◌≡◌, ◌≢◌, ℕ, zero, suc, ◌+◌, ◌<◌, ◌≤◌, ◌==◌, ◌⊎◌, inl, inr, Bool, true, false, List, [], ◌∷◌, length}
+use Rattle.std.proofs.Common.{length-append, Some, refl, sym, ap, ◌∙◌, subst, arith, eqb-true, eq-eqb, true≢false}
 use Rattle.std.specs.Prelude.{slice_get, slice_index, replicate}
 use Rattle.std.proofs.lemmas.List.{length-replicate}
 use Rattle.std.proofs.lemmas.Option.{same_Some, none-some, slice_get_within}
@@ -16,7 +17,8 @@ get_replicate zero x j lt = absurd (omega (arith, lt))
 get_replicate (suc n) x zero lt = refl
 get_replicate (suc n) x (suc j) lt = get_replicate n x j (omega (arith, lt))
 
-length-owners_from : (most : ℕ) (place : ℕ → ℕ) (bs : List BlockParts) (os : List ℕ) → length os ≡ length bs → length (owners_from most place bs os) ≡ total most bs
+length-owners_from : (most : ℕ) (place : ℕ → ℕ) (bs : List BlockParts) (os : List ℕ) → length os ≡ length bs
+    → length (owners_from most place bs os) ≡ total most bs
 length-owners_from most place [] os same = refl
 length-owners_from most place (b ∷ bs) [] same = absurd (omega (arith, same))
 length-owners_from most place (b ∷ bs) (o ∷ os) same =
@@ -26,7 +28,8 @@ length-owners_from most place (b ∷ bs) (o ∷ os) same =
     omega (arith, rest, sum, here)
 
 -- the owners of the pieces of block n
-has_owners : (most : ℕ) (place : ℕ → ℕ) (whole : List ℕ) (k : ℕ) (bs : List BlockParts) (os : List ℕ) → HasAt whole k (owners_from most place bs os) → (n o : ℕ) (b : BlockParts) → slice_get bs n ≡ Some b → slice_get os n ≡ Some o
+has_owners : (most : ℕ) (place : ℕ → ℕ) (whole : List ℕ) (k : ℕ) (bs : List BlockParts) (os : List ℕ)
+    → HasAt whole k (owners_from most place bs os) → (n o : ℕ) (b : BlockParts) → slice_get bs n ≡ Some b → slice_get os n ≡ Some o
     → HasAt whole (slice_index (firsts most k bs) n) (replicate (count_of most b) (place o))
 has_owners most place whole k [] os has n o b there owned = absurd (none-some b there)
 has_owners most place whole k (x ∷ bs) [] has n o b there owned = absurd (none-some o owned)
@@ -37,7 +40,8 @@ has_owners most place whole k (x ∷ bs) (y ∷ os) has zero o b there owned =
 has_owners most place whole k (x ∷ bs) (y ∷ os) has (suc n) o b there owned =
     let next : k + length (replicate (count_of most x) (place y)) ≡ k + count_of most x = ap (λ n. k + n) (length-replicate (count_of most x) (place y)) in
     has_owners most place whole (k + count_of most x) bs os
-    (subst (λ n. HasAt whole n (owners_from most place bs os)) next (has_back whole k (replicate (count_of most x) (place y)) (owners_from most place bs os) has)) n o b there owned
+    (subst (λ n. HasAt whole n (owners_from most place bs os)) next
+    (has_back whole k (replicate (count_of most x) (place y)) (owners_from most place bs os) has)) n o b there owned
 
 first_zero : (most : ℕ) (bs : List BlockParts) → slice_index (firsts most 0 bs) 0 ≡ 0
 first_zero most [] = refl
@@ -50,7 +54,8 @@ module _ (most : ℕ) (some : 0 < most) (blocks : List BlockParts) where
   abbrev whole : List BlockParts
   whole = split_at_most most blocks
 
-  at_block : (n : ℕ) (b : BlockParts) → slice_get blocks n ≡ Some b → HasAt whole (place n) (pieces most (renumbered_exit place b.exit) (more_pieces most b) (place n) b.insts)
+  at_block : (n : ℕ) (b : BlockParts) → slice_get blocks n ≡ Some b
+      → HasAt whole (place n) (pieces most (renumbered_exit place b.exit) (more_pieces most b) (place n) b.insts)
   at_block n b there = has_pieces most place whole 0 blocks (has_whole whole) n b there
 
   -- each piece of a block is there
@@ -88,7 +93,8 @@ module _ (most : ℕ) (some : 0 < most) (blocks : List BlockParts) where
       record {
         at = at;
         is = is;
-        looks = piece_at most exit (more_pieces most at.block) (place at.number) at.block.insts (pieces_enough most (length at.block.insts) some) at.behind p (q.1 ∙ ap Some same);
+        looks = piece_at most exit (more_pieces most at.block) (place at.number) at.block.insts
+            (pieces_enough most (length at.block.insts) some) at.behind p (q.1 ∙ ap Some same);
       }
 
   pub pieces_short : (i : ℕ) (p : BlockParts) → slice_get whole i ≡ Some p → length p.insts ≤ most
@@ -109,7 +115,8 @@ module _ (most : ℕ) (some : 0 < most) (blocks : List BlockParts) where
       by_piece : (i : ℕ) (p : BlockParts) → Piece i p → GoesBelow (length whole) p.exit
       by_piece i p is = go is.looks.leaves
         where
-          go : ((is.at.behind ≡ more_pieces most is.at.block) × (p.exit ≡ renumbered_exit place is.at.block.exit)) ⊎ ((is.at.behind < more_pieces most is.at.block) × (p.exit ≡ Goto (suc (place is.at.number + is.at.behind)))) → GoesBelow (length whole) p.exit
+          go : ((is.at.behind ≡ more_pieces most is.at.block) × (p.exit ≡ renumbered_exit place is.at.block.exit)) ⊎
+              ((is.at.behind < more_pieces most is.at.block) × (p.exit ≡ Goto (suc (place is.at.number + is.at.behind)))) → GoesBelow (length whole) p.exit
           go (inl last) = subst (λ x. GoesBelow (length whole) x) (sym last.1) (goes_below is.at.block.exit (linked.by is.at.number is.at.block is.at.there))
           go (inr other) =
               let lt = other.0 in
@@ -121,8 +128,11 @@ module _ (most : ℕ) (some : 0 < most) (blocks : List BlockParts) where
     owned = owners_from most place blocks owner
 
     -- each piece has its block's owner
-    piece_owner : (n o : ℕ) (b : BlockParts) → slice_get blocks n ≡ Some b → slice_get owner n ≡ Some o → (j : ℕ) → j ≤ more_pieces most b → slice_get owned (place n + j) ≡ Some (place o)
-    piece_owner n o b there is j le = (has_owners most place owned 0 blocks owner (has_whole owned) n o b there is).by j (place o) (get_replicate (count_of most b) (place o) j (omega (arith, le)))
+    piece_owner : (n o : ℕ) (b : BlockParts) → slice_get blocks n ≡ Some b → slice_get owner n ≡ Some o → (j : ℕ) → j ≤ more_pieces most b
+        → slice_get owned (place n + j) ≡ Some (place o)
+    piece_owner n o b there is j le =
+        (has_owners most place owned 0 blocks owner (has_whole owned) n o b there is).by j (place o)
+        (get_replicate (count_of most b) (place o) j (omega (arith, le)))
 
     owner_moved : (t o : ℕ) → slice_get owner t ≡ Some o → slice_get owned (place t) ≡ Some (place o)
     owner_moved t o is =
@@ -157,7 +167,14 @@ module _ (most : ℕ) (some : 0 < most) (blocks : List BlockParts) where
         let low = slice_get_within blocks at.number at.block at.there in
         let same = owners.lengths in
         let o = block_there owner at.number (omega (arith, low, same)) in
-        record { at = at; is = is; owner_is = o.0; by = o.1; here = ap (slice_get owned) is ∙ piece_owner at.number o.0 at.block at.there o.1 at.behind at.within }
+        record {
+          at = at;
+          is = is;
+          owner_is = o.0;
+          by = o.1;
+          here =
+              ap (slice_get owned) is ∙ piece_owner at.number o.0 at.block at.there o.1 at.behind at.within;
+        }
 
     pieces_within : (i o : ℕ) (p : BlockParts) → slice_get whole i ≡ Some p → slice_get owned i ≡ Some o → BranchesWithin owned o p.exit
     pieces_within i o p there is = by_piece (piece_of i p there)
@@ -168,11 +185,17 @@ module _ (most : ℕ) (some : 0 < most) (blocks : List BlockParts) where
             let low = slice_get_within blocks n q.at.block q.at.there in
             let same = owners.lengths in
             let w = block_there owner n (omega (arith, low, same)) in
-            let o_is : place w.0 ≡ o = same_Some (place w.0) o (sym (piece_owner n w.0 q.at.block q.at.there w.1 q.at.behind q.at.within) ∙ sym (ap (slice_get owned) q.is) ∙ is) in
+            let o_is : place w.0 ≡ o =
+            same_Some (place w.0) o
+            (sym (piece_owner n w.0 q.at.block q.at.there w.1 q.at.behind q.at.within) ∙ sym (ap (slice_get owned) q.is) ∙ is) in
             go w.0 o_is (owners.within n w.0 q.at.block q.at.there w.1) q.looks.leaves
           where
-            go : (w : ℕ) → place w ≡ o → BranchesWithin owner w q.at.block.exit → ((q.at.behind ≡ more_pieces most q.at.block) × (p.exit ≡ renumbered_exit place q.at.block.exit)) ⊎ ((q.at.behind < more_pieces most q.at.block) × (p.exit ≡ Goto (suc (place q.at.number + q.at.behind)))) → BranchesWithin owned o p.exit
-            go w e within (inl last) = subst (λ x. BranchesWithin owned o x) (sym last.1) (subst (λ o. BranchesWithin owned o (renumbered_exit place q.at.block.exit)) e (stays_within w q.at.block.exit within))
+            go : (w : ℕ) → place w ≡ o → BranchesWithin owner w q.at.block.exit
+                → ((q.at.behind ≡ more_pieces most q.at.block) × (p.exit ≡ renumbered_exit place q.at.block.exit)) ⊎
+                ((q.at.behind < more_pieces most q.at.block) × (p.exit ≡ Goto (suc (place q.at.number + q.at.behind)))) → BranchesWithin owned o p.exit
+            go w e within (inl last) =
+                subst (λ x. BranchesWithin owned o x) (sym last.1)
+                (subst (λ o. BranchesWithin owned o (renumbered_exit place q.at.block.exit)) e (stays_within w q.at.block.exit within))
             go w e within (inr other) = subst (λ x. BranchesWithin owned o x) (sym other.1) tt
 
     starts_first : (w n j : ℕ) → slice_get owner n ≡ Some w → 0 ≡ place n + j → place w ≡ 0
@@ -187,7 +210,8 @@ module _ (most : ℕ) (some : 0 < most) (blocks : List BlockParts) where
         let next = first_next most 0 blocks m a.0 b.0 a.1 b.1 in
         absurd (omega (arith, next, e))
 
-    continues_from : (i w n j : ℕ) (b : BlockParts) → slice_get blocks n ≡ Some b → j ≤ more_pieces most b → slice_get owner n ≡ Some w → suc i ≡ place n + j → place w ≢ suc i → slice_get owned i ≡ Some (place w)
+    continues_from : (i w n j : ℕ) (b : BlockParts) → slice_get blocks n ≡ Some b → j ≤ more_pieces most b → slice_get owner n ≡ Some w
+        → suc i ≡ place n + j → place w ≢ suc i → slice_get owned i ≡ Some (place w)
     continues_from i w n (suc j) b there le is e other =
         let here : i ≡ place n + j = omega (arith, e) in
         ap (slice_get owned) here ∙ piece_owner n w b there is j (omega (arith, le))
@@ -212,7 +236,8 @@ module _ (most : ℕ) (some : 0 < most) (blocks : List BlockParts) where
             ap (slice_get owned) here ∙ piece_owner m w a.0 a.1 before (more_pieces most a.0) (omega arith)
 
     pieces_continue : (i o : ℕ) → slice_get owned i ≡ Some o → Continues owned i o
-    pieces_continue i o is = by_owned i is (owned_at i (omega (arith, slice_get_within owned i o is, length-owners_from most place blocks owner owners.lengths)))
+    pieces_continue i o is =
+        by_owned i is (owned_at i (omega (arith, slice_get_within owned i o is, length-owners_from most place blocks owner owners.lengths)))
       where
         by_owned : (i : ℕ) → slice_get owned i ≡ Some o → Owned i → Continues owned i o
         by_owned zero is q = sym (same_Some (place q.owner_is) o (sym q.here ∙ is)) ∙ starts_first q.owner_is q.at.number q.at.behind q.by q.is

@@ -1,7 +1,8 @@
 // Long blocks to pieces.
 
 ghost use Rattle.std.specs.Prelude.{◌≡◌, ℕ, suc, ◌+◌, ◌-◌, ◌/◌, ◌^◌, ◌<◌, ◌≤◌, ◌++◌, ◌∷◌, [], length, IfOk, OnOk, IfErr, slice_index, replicate};
-ghost use Rattle.mips_split.specs.Split.{renumbered_exit, more_pieces, piece, pieces, count_of, total, firsts, split_from, owners_from, split_blocks, split_owners};
+ghost use Rattle.mips_split.specs.Split.{renumbered_exit, more_pieces, piece, pieces, count_of, total, firsts, split_from, owners_from};
+ghost use Rattle.mips_split.specs.Split.{split_blocks, split_owners};
 ghost use Rattle.mips_isa.specs.States.{State};
 ghost use Rattle.runs.specs.Runs.{Outcome};
 ghost use Rattle.mblock.specs.declared.limits.TheConstants.{BLOCK_INSTS, UNIT_BLOCKS, UNIT_BYTES};

@@ -11,7 +11,8 @@ use Rattle.mips_isa.specs.States.{read}
 use Rattle.mips_isa.proofs.Rules.{first_is_least}
 use Rattle.mips_steps.specs.declared.steps.Fetched.{Fetched}
 use Rattle.mips_steps.specs.declared.steps.Fetched.TheVariants.{NoWord, NoInstruction, Fetches}
-use Rattle.mips_steps.specs.Machines.{Machine, Stepped, Goes, Halts, Sticks, breaks, broken, unless_broken, instruction_step, system_step, print_step, EachRuleIsLeast}
+use Rattle.mips_steps.specs.Machines.{Machine, Stepped, Goes, Halts, Sticks, breaks, step_rule_of, step_by_rule, instruction_step}
+use Rattle.mips_steps.specs.Machines.{system_step, print_step, EachRuleIsLeast}
 
 -- an instruction that breaks no rule isn't stuck
 abbrev is_stuck_step : Stepped → Bool
@@ -25,7 +26,8 @@ rule_of d (Halts w) = d
 rule_of d (Sticks r) = r
 
 called_moves : (number : ℕ) (m : Machine) → is_stuck_step (system_step number m) ≡ false
-called_moves number m = elim (number == 10) as (λ b. is_stuck_step (cond b (Halts (read 0 m.flow.state.regs 4)) (print_step m)) ≡ false) [ true ↦ refl | false ↦ refl ]
+called_moves number m =
+    elim (number == 10) as (λ b. is_stuck_step (cond b (Halts (read 0 m.flow.state.regs 4)) (print_step m)) ≡ false) [ true ↦ refl | false ↦ refl ]
 
 moves : (i : Inst) (m : Machine) → is_stuck_step (instruction_step i m) ≡ false
 moves (insts.Plain p) m = refl
@@ -36,11 +38,11 @@ moves (insts.Control (JumpTo JumpAndLink field)) m = refl
 moves (insts.Control (JumpRegister a)) m = refl
 moves (insts.Control SystemCall) m = called_moves (read 0 m.flow.state.regs 2) m
 
-sticks_by : (o : Option Rule) (f : Fetched) (m : Machine) (r : Rule) → broken f m ≡ o → unless_broken o f m ≡ Sticks r → broken f m ≡ Some r
+sticks_by : (o : Option Rule) (f : Fetched) (m : Machine) (r : Rule) → step_rule_of f m ≡ o → step_by_rule o f m ≡ Sticks r → step_rule_of f m ≡ Some r
 sticks_by (Some q) f m r is e = is ∙ ap (λ s. Some (rule_of q s)) e
 sticks_by None NoWord m r is e = absurd (none-some M7 (sym is))
 sticks_by None NoInstruction m r is e = absurd (none-some M8 (sym is))
 sticks_by None (Fetches i) m r is e = absurd (true≢false (sym (ap is_stuck_step e) ∙ moves i m))
 
 pub least : EachRuleIsLeast
-least f m r e = first_is_least (λ q. breaks q f m) r (sticks_by (broken f m) f m r refl e)
+least f m r e = first_is_least (λ q. breaks q f m) r (sticks_by (step_rule_of f m) f m r refl e)

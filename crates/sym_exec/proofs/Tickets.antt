@@ -1,5 +1,6 @@
 -- Tickets go on standing for their trees, also after a write.
-use Rattle.std.proofs.Common.{◌≡◌, ◌≢◌, ℕ, zero, suc, ◌+◌, ◌<◌, ◌≤◌, ◌==◌, Bool, true, false, cond, ◌&&◌, List, [], ◌∷◌, ◌++◌, length, slice_index_or, slice_set, Contains, refl, sym, ap, ap₂, ◌∙◌, subst, true≢false, eq-eqb, eqb-true, arith}
+use Rattle.std.proofs.Common.{◌≡◌, ◌≢◌, ℕ, zero, suc, ◌+◌, ◌<◌, ◌≤◌, ◌==◌, Bool, true, false, cond, ◌&&◌, List, [], ◌∷◌, ◌++◌, length}
+use Rattle.std.proofs.Common.{slice_index_or, slice_set, Contains, refl, sym, ap, ap₂, ◌∙◌, subst, true≢false, eq-eqb, eqb-true, arith}
 use Rattle.std.specs.Prelude.{slice_index, OnOk, Result, Ok, Err}
 use Rattle.std.proofs.lemmas.List.{get_or-set_same, get_or-set_other}
 use Rattle.sym_terms.specs.Values.{const_tree}
@@ -7,7 +8,7 @@ use Rattle.mips_isa.proofs.Registers.{put_lost, read-put}
 use Rattle.sym_terms.specs.declared.label.Origin.TheVariants.{Register}
 use Rattle.sym_terms.specs.declared.label.Label.TheVariants.{Init}
 use Rattle.sym_terms.specs.Trees.{Tree, leaf}
-use Rattle.term_table.specs.Passes.{PassState, HasSeen}
+use Rattle.term_table.specs.Passes.{TableState, PassState, HasSeen}
 use Rattle.term_table.specs.Trees.{HasTree}
 use Rattle.term_table.proofs.Callers.{still_seen, still_tree, extends_more, extends_self}
 use Rattle.mips_isa.specs.States.{is_register, read, put}
@@ -17,13 +18,18 @@ use Rattle.sym_exec.specs.declared.state.TermExit.{TermExit}
 use Rattle.sym_exec.specs.declared.state.Guard.{Guard}
 use Rattle.sym_exec.specs.declared.state.Guard.TheVariants.{Address, Division}
 use Rattle.sym_exec.specs.Symbolic.{TreeState, register_tree, start_trees, CodeTrees, GuardTree, AtAddress, AtDivision}
-use Rattle.sym_exec.specs.Standing.{Later, Known, Stands, with_reg, IsGuard, GuardsStand, AllHave, LeavesBy, StandsFor, tickets_of}
+use Rattle.sym_exec.specs.Standing.{Later, AfterInterns, Known, Stands, with_reg, IsGuard, GuardsStand, AllHave, LeavesBy, StandsFor, tickets_of}
 
 pub later_self : (p : PassState) → Later p p
 later_self p = record { extends = extends_self p; legal = λ h. h }
 
 pub later_more : {p q r : PassState} → Later p q → Later q r → Later p r
 later_more {p} {q} {r} e f = record { extends = extends_more e.extends f.extends; legal = λ h. f.legal (e.legal h) }
+
+-- calls behind calls
+pub calls_more : {A B E F : Type 0} {t : TableState} {p q r : PassState} {x : Result A E} {y : Result B F} → AfterInterns t p x q
+    → AfterInterns t q y r → AfterInterns t p y r
+calls_more {A} {B} {E} {F} {t} {p} {q} {r} {x} {y} e f = record { table = f.table; later = later_more e.later f.later; full = f.full }
 
 pub stands_on : {p q : PassState} {s : TermPlaces} {t : TreeState} → Later p q → Stands p s t → Stands q s t
 stands_on {p} {q} {s} {t} e h = record {
@@ -51,14 +57,17 @@ written : List ℕ → ℕ → ℕ → List ℕ
 written regs d v = cond (d == 0) regs (slice_set regs d v)
 
 -- a place after a write: the new ticket, or the one that was there
-written_at : (P : ℕ → ℕ → Type 0) (regs : List ℕ) (d v r : ℕ) → d < length regs → (d ≡ 0 → P r (slice_index regs r)) → ((r == d) ≡ true → 0 < d → P r v) → ((r == d) ≡ false → P r (slice_index regs r)) → P r (slice_index (cond (d == 0) regs (slice_set regs d v)) r)
+written_at : (P : ℕ → ℕ → Type 0) (regs : List ℕ) (d v r : ℕ) → d < length regs → (d ≡ 0 → P r (slice_index regs r))
+    → ((r == d) ≡ true → 0 < d → P r v) → ((r == d) ≡ false → P r (slice_index regs r)) → P r (slice_index (cond (d == 0) regs (slice_set regs d v)) r)
 written_at P regs d v r lt lost same other = go (d == 0) refl (r == d) refl
   where
     go : (z : Bool) → (d == 0) ≡ z → (b : Bool) → (r == d) ≡ b → P r (slice_index (cond z regs (slice_set regs d v)) r)
     go true ez b eb = lost (eqb-true d 0 ez)
     go false ez true eb =
         let is : r ≡ d = eqb-true r d eb in
-        let some : 0 < d = Rattle.std.proofs.Common.⊎_elim (λ x. x) (λ le. let none : d ≡ 0 = omega (arith, le) in absurd (true≢false (sym (eq-eqb d 0 none) ∙ ez))) (Rattle.std.proofs.lemmas.Bool.cases_lt 0 d) in
+        let some : 0 < d =
+        Rattle.std.proofs.Common.⊎_elim (λ x. x)
+        (λ le. let none : d ≡ 0 = omega (arith, le) in absurd (true≢false (sym (eq-eqb d 0 none) ∙ ez))) (Rattle.std.proofs.lemmas.Bool.cases_lt 0 d) in
         subst (P r) (sym (ap (slice_index (slice_set regs d v)) is ∙ get_or-set_same regs d v 0 lt)) (same eb some)
     go false ez false eb =
         subst (P r) (sym (get_or-set_other regs d r v 0 (λ e. true≢false (sym (eq-eqb r d e) ∙ eb)))) (other eb)
@@ -79,7 +88,8 @@ read_put f z x d (suc r) some lt e =
     is_one : (k : ℕ) → 0 < k → k < 32 → is_register k ≡ true
     is_one k a b = grind arith
 
-pub stands_put : {p : PassState} {s s' : TermPlaces} {t : TreeState} {d v : ℕ} {x : Tree} → Stands p s t → HasTree p v x → s' ≡ with_reg s d v → d < 32 → length s.regs ≡ 32 → Stands p s' (record t { regs = put t.regs d x })
+pub stands_put : {p : PassState} {s s' : TermPlaces} {t : TreeState} {d v : ℕ} {x : Tree} → Stands p s t → HasTree p v x
+    → s' ≡ with_reg s d v → d < 32 → length s.regs ≡ 32 → Stands p s' (record t { regs = put t.regs d x })
 stands_put {p} {s} {s'} {t} {d} {v} {x} h tree e lt n = subst (λ y. Stands p y (record t { regs = put t.regs d x })) (sym e) (record {
   regs = λ r low.
       written_at (λ k y. HasTree p y (read (const_tree 0) (put t.regs d x) k)) s.regs d v r (omega (arith, lt, n))
@@ -92,7 +102,8 @@ stands_put {p} {s} {s'} {t} {d} {v} {x} h tree e lt n = subst (λ y. Stands p y 
 })
 
 -- the guards play no part
-pub stands_same : {p : PassState} {s : TermPlaces} {t u : TreeState} → Stands p s t → t.regs ≡ u.regs → t.hi ≡ u.hi → t.lo ≡ u.lo → t.memory ≡ u.memory → Stands p s u
+pub stands_same : {p : PassState} {s : TermPlaces} {t u : TreeState} → Stands p s t → t.regs ≡ u.regs → t.hi ≡ u.hi → t.lo ≡ u.lo
+    → t.memory ≡ u.memory → Stands p s u
 stands_same {p} {s} {t} {u} h a b c d = record {
   regs = λ r lt. subst (λ f. HasTree p (slice_index s.regs r) (read (const_tree 0) f r)) a (h.regs r lt);
   hi = subst (HasTree p s.hi) b h.hi;
@@ -139,7 +150,8 @@ contains_split y x xs new old (zero, lt, e) = new e
 contains_split y x xs new old (suc k, lt, e) = old (k, omega (arith, lt), e)
 
 -- one guard more on both sides
-pub guards_more : {p : PassState} {gs hs : List Guard} {xs : List GuardTree} (g : Guard) (x : GuardTree) → GuardsStand p gs xs → IsGuard p g x → hs ≡ gs ++ g ∷ [] → GuardsStand p hs (x ∷ xs)
+pub guards_more : {p : PassState} {gs hs : List Guard} {xs : List GuardTree} (g : Guard) (x : GuardTree) → GuardsStand p gs xs
+    → IsGuard p g x → hs ≡ gs ++ g ∷ [] → GuardsStand p hs (x ∷ xs)
 guards_more {p} {gs} {hs} {xs} g x h is e = subst (λ l. GuardsStand p l (x ∷ xs)) (sym e) (record {
   down = λ f c. contains_cases gs g f
       (λ old. let r = h.down f old in (r.0, contains_tail x r.0 xs r.1, r.2))
@@ -184,7 +196,8 @@ set_place P xs k v q lt new old = go (q == k) refl
     go false e = subst P (sym (get_or-set_other xs k q v 0 (λ same. true≢false (sym (eq-eqb q k same) ∙ e)))) old
 
 -- the registers' start terms, one more
-pub set_tree : (p : PassState) (xs : List ℕ) (k v q : ℕ) → k < length xs → 1 ≤ k → HasTree p v (leaf (Init (Register k))) → q < k + 1 → (q < k → HasTree p (slice_index xs q) (register_tree start_trees q)) → HasTree p (slice_index (slice_set xs k v) q) (register_tree start_trees q)
+pub set_tree : (p : PassState) (xs : List ℕ) (k v q : ℕ) → k < length xs → 1 ≤ k → HasTree p v (leaf (Init (Register k))) → q < k + 1
+    → (q < k → HasTree p (slice_index xs q) (register_tree start_trees q)) → HasTree p (slice_index (slice_set xs k v) q) (register_tree start_trees q)
 set_tree p xs k v q lt some new low old = go (q == k) refl
   where
     start_of : (r : ℕ) → 1 ≤ r → register_tree start_trees r ≡ leaf (Init (Register r))
@@ -194,12 +207,16 @@ set_tree p xs k v q lt some new low old = go (q == k) refl
     go : (b : Bool) → (q == k) ≡ b → HasTree p (slice_index (slice_set xs k v) q) (register_tree start_trees q)
     go true e =
         let same : q ≡ k = eqb-true q k e in
-        subst (λ r. HasTree p (slice_index (slice_set xs k v) r) (register_tree start_trees r)) (sym same) (subst (HasTree p (slice_index (slice_set xs k v) k)) (sym (start_of k some)) (subst (λ n. HasTree p n (leaf (Init (Register k)))) (sym (get_or-set_same xs k v 0 lt)) new))
+        subst (λ r. HasTree p (slice_index (slice_set xs k v) r) (register_tree start_trees r)) (sym same)
+        (subst (HasTree p (slice_index (slice_set xs k v) k)) (sym (start_of k some))
+        (subst (λ n. HasTree p n (leaf (Init (Register k)))) (sym (get_or-set_same xs k v 0 lt)) new))
     go false e =
         let apart : q ≢ k = λ same. true≢false (sym (eq-eqb q k same) ∙ e) in
-        subst (λ n. HasTree p n (register_tree start_trees q)) (sym (get_or-set_other xs k q v 0 apart)) (old (Rattle.std.proofs.Common.⊎_elim (λ x. x) (λ le. absurd (apart (omega (arith, low, le)))) (Rattle.std.proofs.lemmas.Bool.cases_lt q k)))
+        subst (λ n. HasTree p n (register_tree start_trees q)) (sym (get_or-set_other xs k q v 0 apart))
+        (old (Rattle.std.proofs.Common.⊎_elim (λ x. x) (λ le. absurd (apart (omega (arith, low, le)))) (Rattle.std.proofs.lemmas.Bool.cases_lt q k)))
 
-pub stands_for_on : {p q : PassState} {s : TermPlaces} {e : TermExit} {gs : List Guard} {c : CodeTrees} → Later p q → StandsFor p s e gs c → StandsFor q s e gs c
+pub stands_for_on : {p q : PassState} {s : TermPlaces} {e : TermExit} {gs : List Guard} {c : CodeTrees} → Later p q → StandsFor p s e gs c
+    → StandsFor q s e gs c
 stands_for_on {p} {q} {s} {e} {gs} {c} later h = record {
   places = stands_on later h.places;
   exit = leaves_on e c.shape c.operands later h.exit;

@@ -43,8 +43,10 @@ module _ (s : State) (link : ℕ) (words : IsWords s) (low : link < 2 ^ 32) wher
   address-value t base offset =
       op_tree-value Addu (register_tree t base) (const_tree offset) s link words low ∙ ap (λ x. op_value Addu x (wrap offset)) (register_tree-value t base)
 
-  two-value : (op : Operator) (t : TreeState) (a b : ℕ) → tree_word (op_tree op (register_tree t a) (register_tree t b)) s link ≡ op_value op (read 0 (values s link t).regs a) (read 0 (values s link t).regs b)
-  two-value op t a b = op_tree-value op (register_tree t a) (register_tree t b) s link words low ∙ ap₂ (op_value op) (register_tree-value t a) (register_tree-value t b)
+  two-value : (op : Operator) (t : TreeState) (a b : ℕ)
+      → tree_word (op_tree op (register_tree t a) (register_tree t b)) s link ≡ op_value op (read 0 (values s link t).regs a) (read 0 (values s link t).regs b)
+  two-value op t a b = op_tree-value op (register_tree t a) (register_tree t b) s link words low
+      ∙ ap₂ (op_value op) (register_tree-value t a) (register_tree-value t b)
 
   regs_step : (t : TreeState) (d : ℕ) (v : Tree) (w : ℕ) → tree_word v s link ≡ w → (λ r. tree_word (put t.regs d v r) s link) ≡ put (values s link t).regs d w
   regs_step t d v w e = put-value (λ x. tree_word x s link) t.regs d v w e
@@ -52,14 +54,23 @@ module _ (s : State) (link : ℕ) (words : IsWords s) (low : link < 2 ^ 32) wher
   -- one action
   pub step-value : (a : Action) (t : TreeState) → values s link (trees_after a t) ≡ state_after a (values s link t)
   step-value (Computes d op a b) t =
-      ap (λ f. record (values s link t) { regs = f }) (regs_step t d _ _ (op_tree-value op (register_tree t a) (operand_tree t b) s link words low ∙ ap₂ (op_value op) (register_tree-value t a) (operand-value t b)))
+      ap (λ f. record (values s link t) { regs = f })
+      (regs_step t d _ _
+      (op_tree-value op (register_tree t a) (operand_tree t b) s link words low ∙ ap₂ (op_value op) (register_tree-value t a) (operand-value t b)))
   step-value (Sets d w) t = ap (λ f. record (values s link t) { regs = f }) (regs_step t d _ _ refl)
   step-value (Loads d base offset) t =
-      ap (λ f. record (values s link t) { regs = f }) (regs_step t d _ _ (load_tree-value t.memory (address_tree t base offset) s link words low ∙ ap (load_word s.mapped (tree_memory t.memory s link)) (address-value t base offset)))
+      ap (λ f. record (values s link t) { regs = f })
+      (regs_step t d _ _
+      (load_tree-value t.memory (address_tree t base offset) s link words low
+      ∙ ap (load_word s.mapped (tree_memory t.memory s link)) (address-value t base offset)))
   step-value (Stores r base offset) t =
-      ap (λ m. record (values s link t) { memory = m }) (store_tree-value t.memory (address_tree t base offset) (register_tree t r) s link words low ∙ ap₂ (store_word s.mapped (tree_memory t.memory s link)) (address-value t base offset) (register_tree-value t r))
-  step-value (Multiplies sign a b) t = ap₂ (λ h l. record (values s link t) { hi = h; lo = l }) (two-value (product_high sign) t a b) (two-value (product_low sign) t a b)
-  step-value (Divides sign a b) t = ap₂ (λ h l. record (values s link t) { hi = h; lo = l }) (two-value (remainder_operator sign) t a b) (two-value (quotient_operator sign) t a b)
+      ap (λ m. record (values s link t) { memory = m })
+      (store_tree-value t.memory (address_tree t base offset) (register_tree t r) s link words low
+      ∙ ap₂ (store_word s.mapped (tree_memory t.memory s link)) (address-value t base offset) (register_tree-value t r))
+  step-value (Multiplies sign a b) t =
+      ap₂ (λ h l. record (values s link t) { hi = h; lo = l }) (two-value (product_high sign) t a b) (two-value (product_low sign) t a b)
+  step-value (Divides sign a b) t = ap₂ (λ h l. record (values s link t) { hi = h; lo = l }) (two-value (remainder_operator sign) t a b)
+      (two-value (quotient_operator sign) t a b)
   step-value (MovesHigh d) t = ap (λ f. record (values s link t) { regs = f }) (regs_step t d _ _ refl)
   step-value (MovesLow d) t = ap (λ f. record (values s link t) { regs = f }) (regs_step t d _ _ refl)
 
@@ -68,7 +79,9 @@ module _ (s : State) (link : ℕ) (words : IsWords s) (low : link < 2 ^ 32) wher
   all-value (a ∷ rest) t = all-value rest (trees_after a t) ∙ ap (total rest) (step-value a t)
 
   -- the exit's own writes
-  pub puts-value : (shape : Shape) (f : ℕ → Tree) → (λ r. tree_word (exit_puts (leaf (Init Link)) (const_tree 1) (const_tree 10) shape f r) s link) ≡ exit_puts link 1 10 shape (λ r. tree_word (f r) s link)
+  pub puts-value : (shape : Shape) (f : ℕ → Tree)
+      → (λ r. tree_word (exit_puts (leaf (Init Link)) (const_tree 1) (const_tree 10) shape f r) s link) ≡ exit_puts link 1 10 shape
+      (λ r. tree_word (f r) s link)
   puts-value (Goes t) f = refl
   puts-value (ChoosesPair x t e) f = refl
   puts-value (ChoosesZero x t e) f = refl
@@ -98,7 +111,8 @@ module _ (s : State) (link : ℕ) (words : IsWords s) (low : link < 2 ^ 32) wher
   guards_down (Loads d base offset) t h = (ap (is_open s.mapped) (sym (address-value t base offset)) ∙ good_head _ t.guards h, good_tail _ t.guards h)
   guards_down (Stores r base offset) t h = (ap (is_open s.mapped) (sym (address-value t base offset)) ∙ good_head _ t.guards h, good_tail _ t.guards h)
   guards_down (Multiplies sign a b) t h = (refl, h)
-  guards_down (Divides sign a b) t h = (ap₂ (has_quotient sign) (sym (register_tree-value t a)) (sym (register_tree-value t b)) ∙ good_head _ t.guards h, good_tail _ t.guards h)
+  guards_down (Divides sign a b) t h =
+      (ap₂ (has_quotient sign) (sym (register_tree-value t a)) (sym (register_tree-value t b)) ∙ good_head _ t.guards h, good_tail _ t.guards h)
   guards_down (MovesHigh d) t h = (refl, h)
   guards_down (MovesLow d) t h = (refl, h)
 

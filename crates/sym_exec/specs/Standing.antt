@@ -1,9 +1,9 @@
 -- Tickets that stand for trees in what a pass has seen.
-use Rattle.std.specs.Prelude.{◌≡◌, ℕ, ◌<◌, ◌+◌, ◌≤◌, List, [], ◌∷◌, vec_capacity, slice_index, slice_set, Contains, ◌==◌, if◌then◌else◌}
+use Rattle.std.specs.Prelude.{◌≡◌, ℕ, ◌<◌, ◌+◌, ◌≤◌, List, [], ◌∷◌, vec_capacity, slice_index, slice_set, Contains, ◌==◌, if◌then◌else◌, Result, OnErr}
 use Rattle.std.specs.declared.alloc.Global.{Global}
 use Rattle.std.specs.declared.vec.Vec.{Vec}
 use Rattle.sym_terms.specs.Trees.{Tree}
-use Rattle.term_table.specs.Passes.{PassState, HasSeen}
+use Rattle.term_table.specs.Passes.{TableState, PassState, IsOf, HasSeen, linked}
 use Rattle.term_table.specs.Trees.{HasTree, Extends, HasLegalHistory}
 use Rattle.mblock.specs.declared.limits.TheConstants.{ORDER_INSTS}
 use Rattle.mblock.specs.BlockMeaning.{Shape, Goes, ChoosesPair, ChoosesZero, Calls, Returns, Prints, Halts}
@@ -18,6 +18,12 @@ use Rattle.sym_exec.specs.Symbolic.{GuardTree, AtAddress, AtDivision, TreeState,
 pub record Later (p q : PassState) : Type 0 where
   pub extends : Extends p q
   pub legal : HasLegalHistory p → HasLegalHistory q
+
+-- a pass behind some calls of `intern`: it is the table's and later, and has linked all it may where there is no answer
+pub record AfterInterns {A E : Type 0} (t : TableState) (p : PassState) (result : Result A E) (q : PassState) : Type 0 where
+  pub table : IsOf t q
+  pub later : Later p q
+  pub full : OnErr result (linked q ≡ q.nodes)
 
 -- the pass has seen the tickets
 pub record Known (p : PassState) (s : TermPlaces) : Type 0 where

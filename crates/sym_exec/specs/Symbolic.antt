@@ -65,7 +65,11 @@ trees_after (Loads d base offset) t =
 trees_after (Stores r base offset) t =
     record t { memory = store_tree t.memory (address_tree t base offset) (register_tree t r); guards = AtAddress (address_tree t base offset) ∷ t.guards }
 trees_after (Multiplies sign a b) t =
-    record t { hi = op_tree (product_high sign) (register_tree t a) (register_tree t b); lo = op_tree (product_low sign) (register_tree t a) (register_tree t b) }
+    record t {
+      hi = op_tree (product_high sign) (register_tree t a) (register_tree t b);
+      lo =
+          op_tree (product_low sign) (register_tree t a) (register_tree t b);
+    }
 trees_after (Divides sign a b) t =
     record t {
       hi = op_tree (remainder_operator sign) (register_tree t a) (register_tree t b);

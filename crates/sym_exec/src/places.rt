@@ -1,12 +1,12 @@
 //! What one action does to the terms of the machine's places, done to their tickets.
-ghost use Rattle.std.specs.Prelude.{◌≡◌, ℕ, ◌<◌, OnOk, OnErr, IfOk, slice_index};
+ghost use Rattle.std.specs.Prelude.{◌≡◌, ℕ, ◌<◌, OnOk, IfOk, slice_index};
 ghost use Rattle.mips_isa.specs.declared.action.Action.TheVariants.{Computes, Loads, Stores, Multiplies, Divides};
 ghost use Rattle.mips_isa.specs.States.{put};
 ghost use Rattle.sym_terms.specs.Trees.{Tree, leaf};
-ghost use Rattle.term_table.specs.Passes.{IsOf, HasSeen, linked};
+ghost use Rattle.term_table.specs.Passes.{IsOf, HasSeen};
 ghost use Rattle.term_table.specs.Trees.{HasTree};
 ghost use Rattle.sym_exec.specs.Symbolic.{TreeState, register_tree, operand_tree, address_tree, trees_after};
-ghost use Rattle.sym_exec.specs.Standing.{Later, Known, Stands, with_reg};
+ghost use Rattle.sym_exec.specs.Standing.{AfterInterns, Known, Stands, with_reg};
 
 use crate::state::TermPlaces;
 use crate::terms::{leaf_term, load_term, op_term, store_term};
@@ -18,8 +18,8 @@ use term_table::{Pass, TableFull, TermTable, Ticket};
 use words::{Operator, Sign};
 
 impl TermPlaces {
-    ghost use Rattle.std.specs.Prelude.{◌≡◌, ℕ, ◌<◌, OnOk, OnErr, IfOk, slice_index, length};
-    ghost use Rattle.sym_exec.specs.Standing.{Later, Known, Stands, with_reg};
+    ghost use Rattle.std.specs.Prelude.{◌≡◌, ℕ, ◌<◌, OnOk, IfOk, slice_index, length};
+    ghost use Rattle.sym_exec.specs.Standing.{AfterInterns, Known, Stands, with_reg};
 
     pub(crate) fn get(&self, r: Reg) -> Ticket
         ensures value { result ≡ slice_index self.now.regs r }
@@ -50,9 +50,7 @@ impl TermPlaces {
         requires known { Known pass.old self.now }
         ensures seen { IfOk result (λ x. HasSeen pass.new x) }
         ensures tree { (t : TreeState) → Stands pass.old self.now t → IfOk result (λ x. HasTree pass.new x (operand_tree t operand.now)) }
-        ensures table { IsOf table.now pass.new }
-        ensures later { Later pass.old pass.new }
-        ensures full { OnErr result (linked pass.new ≡ pass.new.nodes) }
+        ensures pass { AfterInterns table.now pass.old result pass.new }
     {
         match *operand {
             Operand::Held(r) => Ok(self.get(r)),
@@ -71,9 +69,7 @@ impl TermPlaces {
         requires known { Known pass.old self.now }
         ensures seen { IfOk result (λ x. HasSeen pass.new x) }
         ensures tree { (t : TreeState) → Stands pass.old self.now t → IfOk result (λ x. HasTree pass.new x (address_tree t base offset)) }
-        ensures table { IsOf table.now pass.new }
-        ensures later { Later pass.old pass.new }
-        ensures full { OnErr result (linked pass.new ≡ pass.new.nodes) }
+        ensures pass { AfterInterns table.now pass.old result pass.new }
     {
         let offset = leaf_term(table, pass, Label::Const(offset))?;
         op_term(table, pass, Operator::Addu, self.get(base), offset)
@@ -92,9 +88,7 @@ impl TermPlaces {
         requires known { Known pass.old self.old }
         ensures known { OnOk result (Known pass.new self.new) }
         ensures stands { (t : TreeState) → Stands pass.old self.old t → OnOk result (Stands pass.new self.new (trees_after (Computes d op a b.now) t)) }
-        ensures table { IsOf table.now pass.new }
-        ensures later { Later pass.old pass.new }
-        ensures full { OnErr result (linked pass.new ≡ pass.new.nodes) }
+        ensures pass { AfterInterns table.now pass.old result pass.new }
     {
         let y = self.operand(table, pass, b)?;
         let value = op_term(table, pass, op, self.get(a), y)?;
@@ -114,9 +108,7 @@ impl TermPlaces {
         requires known { Known pass.old self.old }
         ensures known { OnOk result (Known pass.new self.new) }
         ensures stands { (t : TreeState) → Stands pass.old self.old t → OnOk result (Stands pass.new self.new (record t { regs = put t.regs d (leaf label) })) }
-        ensures table { IsOf table.now pass.new }
-        ensures later { Later pass.old pass.new }
-        ensures full { OnErr result (linked pass.new ≡ pass.new.nodes) }
+        ensures pass { AfterInterns table.now pass.old result pass.new }
     {
         let value = leaf_term(table, pass, label)?;
         self.set(d, value);
@@ -137,9 +129,7 @@ impl TermPlaces {
         ensures known { OnOk result (Known pass.new self.new) }
         ensures stands { (t : TreeState) → Stands pass.old self.old t → OnOk result (Stands pass.new self.new (trees_after (Loads d base offset) t)) }
         ensures address { (t : TreeState) → Stands pass.old self.old t → IfOk result (λ x. HasTree pass.new x (address_tree t base offset)) }
-        ensures table { IsOf table.now pass.new }
-        ensures later { Later pass.old pass.new }
-        ensures full { OnErr result (linked pass.new ≡ pass.new.nodes) }
+        ensures pass { AfterInterns table.now pass.old result pass.new }
     {
         let address = self.address(table, pass, base, offset)?;
         let value = load_term(table, pass, self.memory, address)?;
@@ -161,9 +151,7 @@ impl TermPlaces {
         ensures known { OnOk result (Known pass.new self.new) }
         ensures stands { (t : TreeState) → Stands pass.old self.old t → OnOk result (Stands pass.new self.new (trees_after (Stores r base offset) t)) }
         ensures address { (t : TreeState) → Stands pass.old self.old t → IfOk result (λ x. HasTree pass.new x (address_tree t base offset)) }
-        ensures table { IsOf table.now pass.new }
-        ensures later { Later pass.old pass.new }
-        ensures full { OnErr result (linked pass.new ≡ pass.new.nodes) }
+        ensures pass { AfterInterns table.now pass.old result pass.new }
     {
         let address = self.address(table, pass, base, offset)?;
         let value = self.get(r);
@@ -183,9 +171,7 @@ impl TermPlaces {
         requires known { Known pass.old self.old }
         ensures known { OnOk result (Known pass.new self.new) }
         ensures stands { (t : TreeState) → Stands pass.old self.old t → OnOk result (Stands pass.new self.new (trees_after (Multiplies sign a b) t)) }
-        ensures table { IsOf table.now pass.new }
-        ensures later { Later pass.old pass.new }
-        ensures full { OnErr result (linked pass.new ≡ pass.new.nodes) }
+        ensures pass { AfterInterns table.now pass.old result pass.new }
     {
         let (x, y) = (self.get(a), self.get(b));
         let hi = op_term(table, pass, product_high(sign), x, y)?;
@@ -207,9 +193,7 @@ impl TermPlaces {
         requires known { Known pass.old self.old }
         ensures known { OnOk result (Known pass.new self.new) }
         ensures stands { (t : TreeState) → Stands pass.old self.old t → OnOk result (Stands pass.new self.new (trees_after (Divides sign a b) t)) }
-        ensures table { IsOf table.now pass.new }
-        ensures later { Later pass.old pass.new }
-        ensures full { OnErr result (linked pass.new ≡ pass.new.nodes) }
+        ensures pass { AfterInterns table.now pass.old result pass.new }
     {
         let (x, y) = (self.get(a), self.get(b));
         let hi = op_term(table, pass, remainder_operator(sign), x, y)?;

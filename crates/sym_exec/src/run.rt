@@ -1,5 +1,5 @@
 //! Blocks and orders, instruction by instruction.
-ghost use Rattle.std.specs.Prelude.{◌≡◌, ℕ, ◌+◌, ◌<◌, ◌≤◌, ◌++◌, [], ◌∷◌, OnOk, OnErr, IfOk, map, length, vec_len, vec_capacity};
+ghost use Rattle.std.specs.Prelude.{◌≡◌, ℕ, ◌+◌, ◌<◌, ◌≤◌, ◌++◌, [], ◌∷◌, OnOk, IfOk, map, length, vec_len, vec_capacity};
 ghost use Rattle.mips_isa.specs.declared.action.Action.{Action as AnAction};
 ghost use Rattle.mips_isa.specs.Actions.{action_of};
 ghost use Rattle.mblock.specs.BlockMeaning.{exit_shape};
@@ -8,10 +8,11 @@ ghost use Rattle.mblock.specs.declared.limits.TheConstants.{ORDER_INSTS};
 ghost use Rattle.sym_terms.specs.declared.label.Origin.TheVariants.{Register};
 ghost use Rattle.sym_terms.specs.declared.label.Label.TheVariants.{Init};
 ghost use Rattle.sym_terms.specs.Trees.{leaf};
-ghost use Rattle.term_table.specs.Passes.{PassState, IsOf, linked};
+ghost use Rattle.term_table.specs.Passes.{PassState, IsOf};
 ghost use Rattle.term_table.specs.Trees.{HasTree, HasLegalHistory};
-ghost use Rattle.sym_exec.specs.Symbolic.{TreeState, GuardTree, start_trees, trees_after, all_trees, exit_trees, exit_operands, code_trees, block_trees, order_trees};
-ghost use Rattle.sym_exec.specs.Standing.{Later, Known, Stands, GuardsStand, LeavesBy, StandsFor, HasGuardRoom};
+ghost use Rattle.sym_exec.specs.Symbolic.{TreeState, GuardTree, start_trees, trees_after, all_trees, exit_trees, exit_operands, code_trees};
+ghost use Rattle.sym_exec.specs.Symbolic.{block_trees, order_trees};
+ghost use Rattle.sym_exec.specs.Standing.{AfterInterns, Known, Stands, GuardsStand, LeavesBy, StandsFor, HasGuardRoom};
 
 use crate::guards::GuardRoom;
 use crate::state::{Guard, SymState, TermExit, TermPlaces};
@@ -47,9 +48,7 @@ fn step(
     ensures known { OnOk result (Known pass.new places.new) }
     ensures stands { (t : TreeState) → Stands pass.old places.old t → GuardsStand pass.old guards.old.items t.guards
         → OnOk result (Stands pass.new places.new (trees_after action.now t) × GuardsStand pass.new guards.new.items (trees_after action.now t).guards) }
-    ensures table { IsOf table.now pass.new }
-    ensures later { Later pass.old pass.new }
-    ensures full { OnErr result (linked pass.new ≡ pass.new.nodes) }
+    ensures pass { AfterInterns table.now pass.old result pass.new }
     ensures count { vec_len guards.new ≤ vec_len guards.old + 1 }
     ensures capacity { vec_capacity guards.old ≤ vec_capacity guards.new }
 {
@@ -104,10 +103,9 @@ fn steps(
     requires room { vec_len guards.old + length insts.now ≤ vec_capacity guards.old }
     ensures known { OnOk result (Known pass.new places.new) }
     ensures stands { (t : TreeState) → Stands pass.old places.old t → GuardsStand pass.old guards.old.items t.guards
-        → OnOk result (Stands pass.new places.new (all_trees (map action_of insts.now) t) × GuardsStand pass.new guards.new.items (all_trees (map action_of insts.now) t).guards) }
-    ensures table { IsOf table.now pass.new }
-    ensures later { Later pass.old pass.new }
-    ensures full { OnErr result (linked pass.new ≡ pass.new.nodes) }
+        → OnOk result (Stands pass.new places.new (all_trees (map action_of insts.now) t)
+        × GuardsStand pass.new guards.new.items (all_trees (map action_of insts.now) t).guards) }
+    ensures pass { AfterInterns table.now pass.old result pass.new }
     ensures count { vec_len guards.new ≤ vec_len guards.old + length insts.now }
     ensures capacity { vec_capacity guards.old ≤ vec_capacity guards.new }
 {
@@ -124,9 +122,7 @@ fn start_reg(table: &TermTable, pass: &mut Pass, r: u8) -> Result<Ticket, TableF
     requires low { r < 32 }
     ensures tree { IfOk result (λ t. HasTree pass.new t (leaf (Init (Register r)))) }
     ensures legal { HasLegalHistory pass.new }
-    ensures table { IsOf table.now pass.new }
-    ensures later { Later pass.old pass.new }
-    ensures full { OnErr result (linked pass.new ≡ pass.new.nodes) }
+    ensures pass { AfterInterns table.now pass.old result pass.new }
 {
     let Some(reg) = NonzeroReg::new(r) else {
         unreachable!();
@@ -140,9 +136,7 @@ fn start(table: &TermTable, pass: &mut Pass) -> Result<TermPlaces, TableFull>
     ensures known { IfOk result (Known pass.new) }
     ensures stands { IfOk result (λ s. Stands pass.new s start_trees) }
     ensures legal { HasLegalHistory pass.new }
-    ensures table { IsOf table.now pass.new }
-    ensures later { Later pass.old pass.new }
-    ensures full { OnErr result (linked pass.new ≡ pass.new.nodes) }
+    ensures pass { AfterInterns table.now pass.old result pass.new }
 {
     let zero = leaf_term(table, pass, Label::Const(0))?;
     let mut regs = [zero; 32];
@@ -211,9 +205,7 @@ fn put_own(
     requires known { Known pass.old places.old }
     ensures known { OnOk result (Known pass.new places.new) }
     ensures stands { (t : TreeState) → Stands pass.old places.old t → OnOk result (Stands pass.new places.new (exit_trees exit.now t)) }
-    ensures table { IsOf table.now pass.new }
-    ensures later { Later pass.old pass.new }
-    ensures full { OnErr result (linked pass.new ≡ pass.new.nodes) }
+    ensures pass { AfterInterns table.now pass.old result pass.new }
 {
     match *exit {
         Exit::Call {
@@ -238,10 +230,9 @@ fn run_slot(
     requires known { Known pass.old places.old }
     requires room { vec_len guards.old < vec_capacity guards.old }
     ensures stands { (t : TreeState) → Stands pass.old places.old t → GuardsStand pass.old guards.old.items t.guards
-        → OnOk result (Stands pass.new places.new (all_trees (slot_actions slot.now) t) × GuardsStand pass.new guards.new.items (all_trees (slot_actions slot.now) t).guards) }
-    ensures table { IsOf table.now pass.new }
-    ensures later { Later pass.old pass.new }
-    ensures full { OnErr result (linked pass.new ≡ pass.new.nodes) }
+        → OnOk result (Stands pass.new places.new (all_trees (slot_actions slot.now) t)
+        × GuardsStand pass.new guards.new.items (all_trees (slot_actions slot.now) t).guards) }
+    ensures pass { AfterInterns table.now pass.old result pass.new }
 {
     match slot {
         Some(inst) => step(table, pass, places, guards, &inst.action()),
@@ -260,11 +251,10 @@ fn run_code(
     requires table { IsOf table.now pass.old }
     requires room { HasGuardRoom guards }
     requires few { length insts.now ≤ ORDER_INSTS }
-    ensures trees { IfOk result (λ s. StandsFor pass.new s.places s.exit s.guards.items (code_trees (map action_of insts.now) exit.now (slot_actions slot.now))) }
+    ensures trees { IfOk result (λ s. StandsFor pass.new s.places s.exit s.guards.items
+        (code_trees (map action_of insts.now) exit.now (slot_actions slot.now))) }
     ensures legal { HasLegalHistory pass.new }
-    ensures table { IsOf table.now pass.new }
-    ensures later { Later pass.old pass.new }
-    ensures full { OnErr result (linked pass.new ≡ pass.new.nodes) }
+    ensures pass { AfterInterns table.now pass.old result pass.new }
 {
     let mut places = start(table, pass)?;
     steps(table, pass, &mut places, &mut guards, insts)?;
@@ -291,9 +281,7 @@ pub fn run_block(
     requires table { IsOf table.now pass.old }
     ensures trees { IfOk result (λ s. StandsFor pass.new s.places s.exit s.guards.items (block_trees block.now)) }
     ensures legal { HasLegalHistory pass.new }
-    ensures table { IsOf table.now pass.new }
-    ensures later { Later pass.old pass.new }
-    ensures full { OnErr result (linked pass.new ≡ pass.new.nodes) }
+    ensures pass { AfterInterns table.now pass.old result pass.new }
 {
     run_code(
         table,
@@ -315,9 +303,7 @@ pub fn run_order(
     requires table { IsOf table.now pass.old }
     ensures trees { IfOk result (λ s. StandsFor pass.new s.places s.exit s.guards.items (order_trees order.now)) }
     ensures legal { HasLegalHistory pass.new }
-    ensures table { IsOf table.now pass.new }
-    ensures later { Later pass.old pass.new }
-    ensures full { OnErr result (linked pass.new ≡ pass.new.nodes) }
+    ensures pass { AfterInterns table.now pass.old result pass.new }
 {
     run_code(
         table,

@@ -1,7 +1,8 @@
 -- A label is read back from its word.
 use Rattle.std.proofs.Common.{◌≡◌, ℕ, ◌+◌, ◌*◌, ◌/◌, ◌%◌, ◌^◌, ◌<◌, ◌&&◌, nat_lt, true, Some, refl, sym, ap, subst, ◌∙◌, arith}
 use Rattle.sym_terms.specs.declared.label.Origin.TheVariants.{Register, Hi, Lo, Link}
-use Rattle.words.specs.declared.operator.Operator.TheVariants.{Addu, Subu, And, Or, Xor, Nor, Slt, Sltu, Sll, Srl, Sra, MultHigh, MultLow, MultuHigh, MultuLow, DivQuotient, DivRemainder, DivuQuotient, DivuRemainder}
+use Rattle.words.specs.declared.operator.Operator.TheVariants.{Addu, Subu, And, Or, Xor, Nor, Slt, Sltu, Sll, Srl, Sra, MultHigh, MultLow}
+use Rattle.words.specs.declared.operator.Operator.TheVariants.{MultuHigh, MultuLow, DivQuotient, DivRemainder, DivuQuotient, DivuRemainder}
 use Rattle.sym_terms.specs.declared.label.Label.{Label}
 use Rattle.sym_terms.specs.declared.label.Label.TheVariants.{Init, Mem0, Const, Op, Load, Store}
 use Rattle.sym_terms.specs.Labels.{label_word, is_label, label_with, label_in, origin_at, init_if}

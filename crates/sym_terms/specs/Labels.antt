@@ -1,7 +1,8 @@
 -- The words of labels: the kind in the upper 32 bits, the content in the lower.
 use Rattle.std.specs.Prelude.{ℕ, ◌+◌, ◌*◌, ◌/◌, ◌%◌, ◌^◌, ◌&&◌, Bool, true, Option, Some, None, if◌then◌else◌, ◌==◌, nat_lt}
 use Rattle.words.specs.declared.operator.Operator.{Operator}
-use Rattle.words.specs.declared.operator.Operator.TheVariants.{Addu, Subu, And, Or, Xor, Nor, Slt, Sltu, Sll, Srl, Sra, MultHigh, MultLow, MultuHigh, MultuLow, DivQuotient, DivRemainder, DivuQuotient, DivuRemainder}
+use Rattle.words.specs.declared.operator.Operator.TheVariants.{Addu, Subu, And, Or, Xor, Nor, Slt, Sltu, Sll, Srl, Sra, MultHigh, MultLow}
+use Rattle.words.specs.declared.operator.Operator.TheVariants.{MultuHigh, MultuLow, DivQuotient, DivRemainder, DivuQuotient, DivuRemainder}
 use Rattle.sym_terms.specs.declared.label.Origin.{Origin}
 use Rattle.sym_terms.specs.declared.label.Origin.TheVariants.{Register, Hi, Lo, Link}
 use Rattle.sym_terms.specs.declared.label.Label.{Label}
@@ -31,7 +32,23 @@ operator_code DivuRemainder = 18
 -- the operator that has this code
 abbrev pub operator_at : ℕ → Option Operator
 operator_at n =
-    if n == 0 then Some Addu else (if n == 1 then Some Subu else (if n == 2 then Some And else (if n == 3 then Some Or else (if n == 4 then Some Xor else (if n == 5 then Some Nor else (if n == 6 then Some Slt else (if n == 7 then Some Sltu else (if n == 8 then Some Sll else (if n == 9 then Some Srl else (if n == 10 then Some Sra else (if n == 11 then Some MultHigh else (if n == 12 then Some MultLow else (if n == 13 then Some MultuHigh else (if n == 14 then Some MultuLow else (if n == 15 then Some DivQuotient else (if n == 16 then Some DivRemainder else (if n == 17 then Some DivuQuotient else (if n == 18 then Some DivuRemainder else None))))))))))))))))))
+    if n == 0 then Some Addu else
+    (if n == 1 then Some Subu else
+    (if n == 2 then Some And else
+    (if n == 3 then Some Or else
+    (if n == 4 then Some Xor else
+    (if n == 5 then Some Nor else
+    (if n == 6 then Some Slt else
+    (if n == 7 then Some Sltu else
+    (if n == 8 then Some Sll else
+    (if n == 9 then Some Srl else
+    (if n == 10 then Some Sra else
+    (if n == 11 then Some MultHigh else
+    (if n == 12 then Some MultLow else
+    (if n == 13 then Some MultuHigh else
+    (if n == 14 then Some MultuLow else
+    (if n == 15 then Some DivQuotient else
+    (if n == 16 then Some DivRemainder else (if n == 17 then Some DivuQuotient else (if n == 18 then Some DivuRemainder else None))))))))))))))))))
 
 abbrev pub origin_code : Origin → ℕ
 origin_code (Register r) = r

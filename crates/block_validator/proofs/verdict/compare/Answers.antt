@@ -5,4 +5,7 @@ use Rattle.block_validator.proofs.verdict.compare.Goals as goal
 
 pub returns-clause-exact : goal.returns-clause-exact
 returns-clause-exact c =
-    by_trees c.run_order.new.pass c.in_ok-second.ensures.legal c.in_ok-first.first c.in_ok-second.second (block_trees c.args.block.now) (order_trees c.args.order.now) (stands_for_on c.in_ok-second.ensures.later c.in_ok-first.ensures.trees) c.in_ok-second.ensures.trees c.first_difference.result c.first_difference.ensures
+    by_trees c.run_order.new.pass c.in_ok-second.ensures.legal c.in_ok-first.first c.in_ok-second.second (block_trees c.args.block.now)
+    (order_trees c.args.order.now)
+    (stands_for_on c.in_ok-second.ensures.pass.later c.in_ok-first.ensures.trees) c.in_ok-second.ensures.trees c.first_difference.result
+    c.first_difference.ensures

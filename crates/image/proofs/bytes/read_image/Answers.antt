@@ -9,7 +9,8 @@ returns-in-Some-clause-each c = λ i h e. absurd (none-some c.in-Some.fault (sym
 
 pub returns-clause-read : goal.returns-clause-read
 returns-clause-read c =
-    subst (Says c.args.bytes.now) (sym c.in_ok-image.ensures) (says c.args.bytes.now (λ i. omega (arith, c.type_inv.bytes i)) (passed c.args.bytes.now (sym c.image_fault.ensures ∙ c.in_default.is)))
+    subst (Says c.args.bytes.now) (sym c.in_ok-image.ensures)
+    (says c.args.bytes.now (λ i. omega (arith, c.type_inv.bytes i)) (passed c.args.bytes.now (sym c.image_fault.ensures ∙ c.in_default.is)))
 
 pub returns-clause-each : goal.returns-clause-each
 returns-clause-each c = λ i h e. c.in_ok-image.ensures ∙ ap parts_of (sym e) ∙ parts_again i h

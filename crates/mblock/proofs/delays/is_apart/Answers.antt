@@ -9,7 +9,8 @@ returns-then-is_conflict_at c =
 
 pub loop-k-preserved : goal.loop-k-preserved
 loop-k-preserved c =
-    below_next (λ i. conflict_of (slice_get c.args.insts.now i) (slice_get c.args.insts.now (i + 1))) c.loop-k.k c.loop-k.invariant (sym c.is_conflict_at.ensures ∙ c.if-is_conflict_at.false)
+    below_next (λ i. conflict_of (slice_get c.args.insts.now i) (slice_get c.args.insts.now (i + 1))) c.loop-k.k c.loop-k.invariant
+    (sym c.is_conflict_at.ensures ∙ c.if-is_conflict_at.false)
 
 pub returns : goal.returns
 returns c =

@@ -6,7 +6,8 @@ use Rattle.mblock.proofs.delays.is_behind.Goals as goal
 
 pub loop-k-preserved : goal.loop-k-preserved
 loop-k-preserved c =
-    below_next (early_at (kinds_of c.args.insts.now (slot_words c.args.slot.now))) c.loop-k.k c.loop-k.invariant (sym c.is_early_at.ensures ∙ c.if-is_early_at.false)
+    below_next (early_at (kinds_of c.args.insts.now (slot_words c.args.slot.now))) c.loop-k.k c.loop-k.invariant
+    (sym c.is_early_at.ensures ∙ c.if-is_early_at.false)
 
 pub returns : goal.returns
 returns c =

@@ -9,17 +9,20 @@ use Rattle.mips_asm.proofs.assemble.image_of.Goals as goal
 pub code_of-requires-clause-unit : goal.code_of-requires-clause-unit
 code_of-requires-clause-unit c =
     let orders = c.args.orders.now in
-    subst (λ owner. AreUnits (slice_index owner) orders) (sym c.owner.ensures.value) (unit_orders c.args.unit.now orders c.owner.ensures.sound c.requires.orders)
+    subst (λ owner. AreUnits (slice_index owner) orders) (sym c.owner.ensures.value)
+    (unit_orders c.args.unit.now orders c.owner.ensures.sound c.requires.orders)
 
 pub of-requires : goal.of-requires
 of-requires c =
-    image_made c.args.unit.now c.args.orders.now (version_of c.args.counts) c.in_ok-code.code.items c.in_ok-bytes.bytes.items c.owner.ensures.sound c.requires.orders c.in_ok-code.ensures.within.1
+    image_made c.args.unit.now c.args.orders.now
+    (version_of c.args.counts) c.in_ok-code.code.items c.in_ok-bytes.bytes.items c.owner.ensures.sound c.requires.orders c.in_ok-code.ensures.within.1
     c.requires.version c.in_ok-code.ensures.word (c.in_ok-bytes.ensures.items ∙ c.globals.ensures.value) c.in_ok-code.ensures.fit
 
 pub returns-clause-runs : goal.returns-clause-runs
 returns-clause-runs c =
     let bytes = c.in_ok-bytes.ensures.items ∙ c.globals.ensures.value in
-    let image = image_made c.args.unit.now c.args.orders.now (version_of c.args.counts) c.in_ok-code.code.items c.in_ok-bytes.bytes.items c.owner.ensures.sound c.requires.orders c.in_ok-code.ensures.within.1
+    let image = image_made c.args.unit.now c.args.orders.now
+    (version_of c.args.counts) c.in_ok-code.code.items c.in_ok-bytes.bytes.items c.owner.ensures.sound c.requires.orders c.in_ok-code.ensures.within.1
     c.requires.version c.in_ok-code.ensures.word bytes c.in_ok-code.ensures.fit in
     each_assembled_image_runs c.args.unit.now c.args.orders.now c.of.result c.requires.orders
     (record {

@@ -37,8 +37,12 @@ loop-order-preserved c =
     let v = c.size-here.ensures.value in
     let step = place_step os k o c.loop-order-test.true c.order-item.is in
     let at = c.loop-order.invariant.2 in
-    let words = words_on start os here k o c.loop-order.code.items c.put_order.new.code.items (c.args.code.now.items ++ map inst_word (insts_of start 0 os)) c.loop-order-test.true c.order-item.is c.in_ok-put_order.ensures.word c.loop-order.invariant.0 in
+    let words = words_on start os here k o c.loop-order.code.items c.put_order.new.code.items
+    (c.args.code.now.items ++ map inst_word (insts_of start 0 os)) c.loop-order-test.true c.order-item.is
+    c.in_ok-put_order.ensures.word c.loop-order.invariant.0 in
     let fit = fit_on start os here k o c.loop-order-test.true c.order-item.is c.in_ok-put_order.ensures.fit c.loop-order.invariant.1 in
-    let P : ℕ → Type 0 = λ n. (c.put_order.new.code.items ++ map inst_word (insts_of start (here + n) (drop (k + 1) os)) ≡ c.args.code.now.items ++ map inst_word (insts_of start 0 os))
+    let P : ℕ → Type 0 =
+    λ n. (c.put_order.new.code.items ++ map inst_word
+    (insts_of start (here + n) (drop (k + 1) os)) ≡ c.args.code.now.items ++ map inst_word (insts_of start 0 os))
     × (Fit (insts_of start (here + n) (drop (k + 1) os)) → Fit (insts_of start 0 os)) × (here + n ≡ place os (k + 1)) in
     subst P (sym v) (words, fit, omega arith)

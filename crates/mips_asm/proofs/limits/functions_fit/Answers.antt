@@ -17,8 +17,12 @@ returns-then-words-gt-FUNCTION_WORDS c =
       | else-first-k w ↦ kept_on (own k) k c.if-first-k.words c.loop-k.words (λ e. w.if-first-k.false (sym first ∙ e)) w.words-is
     ] in
     let value = c.size-words.ensures.value in
-    let gt = c.if-words-gt-FUNCTION_WORDS.true in
-    (λ e. absurd (true≢false (sym e)), λ fit. absurd (step_too_many _ own c.requires.functions c.args.orders.now o k refl c.loop-k-test.true c.index-orders-k.is c.loop-k.words c.if-first-k.words c.loop-k.invariant start (omega arith) fit))
+    let gt = c.if-words-gt-FUNCTION_WORDS.true in (
+      λ e. absurd (true≢false (sym e)),
+      λ fit.
+          absurd (step_too_many _ own c.requires.functions c.args.orders.now o k refl c.loop-k-test.true c.index-orders-k.is c.loop-k.words
+          c.if-first-k.words c.loop-k.invariant start (omega arith) fit),
+    )
 
 pub loop-k-preserved : goal.loop-k-preserved
 loop-k-preserved c =
@@ -33,4 +37,5 @@ loop-k-preserved c =
     ] in
     let value = c.size-words.ensures.value in
     let le = c.if-words-gt-FUNCTION_WORDS.false in
-    rw value (step_counts _ own c.requires.functions c.args.orders.now o k refl c.loop-k-test.true c.index-orders-k.is c.loop-k.words c.if-first-k.words c.loop-k.invariant start (omega arith))
+    rw value (step_counts _ own c.requires.functions c.args.orders.now o k refl c.loop-k-test.true c.index-orders-k.is c.loop-k.words
+    c.if-first-k.words c.loop-k.invariant start (omega arith))

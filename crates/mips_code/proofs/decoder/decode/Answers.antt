@@ -28,4 +28,5 @@ returns-then-has_word-clause-value c =
 
 pub returns-clause-value : goal.returns-clause-value
 returns-clause-value c =
-    sym (decoded_other c.args.word c.in_ok-inst.inst (sym (sym c.in_ok-inst.was ∙ c.candidate.ensures)) (λ e. true≢false (sym (c.has_word.ensures.value.1 e) ∙ c.if-has_word.false)))
+    sym (decoded_other c.args.word c.in_ok-inst.inst (sym (sym c.in_ok-inst.was ∙ c.candidate.ensures))
+    (λ e. true≢false (sym (c.has_word.ensures.value.1 e) ∙ c.if-has_word.false)))

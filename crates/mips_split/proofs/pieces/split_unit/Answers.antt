@@ -18,9 +18,12 @@ returns-in_err-numbers-clause-limit c =
 pub of-requires : goal.of-requires
 of-requires c =
     let small : All (λ b. b < 2 ^ 8) c.args.globals.items = search rules in
-    unit_made c.args.long.now c.args.owner.now c.args.globals.items c.in_ok-numbers.numbers.items _ _ _ _ c.requires.linked c.requires.owners c.requires.some c.requires.few small c.in_ok-numbers.ensures.few c.in_ok-numbers.ensures.numbers c.as_slice.ensures.value c.as_slice-2.ensures.value c.in_ok-blocks.ensures c.in_ok-owners.ensures
+    unit_made c.args.long.now c.args.owner.now c.args.globals.items c.in_ok-numbers.numbers.items _ _ _ _ c.requires.linked
+    c.requires.owners c.requires.some c.requires.few small c.in_ok-numbers.ensures.few c.in_ok-numbers.ensures.numbers
+    c.as_slice.ensures.value c.as_slice-2.ensures.value c.in_ok-blocks.ensures c.in_ok-owners.ensures
 
 pub returns-clause-runs : goal.returns-clause-runs
 returns-clause-runs c = λ s r end comes.
-    let blocks_are = ap (λ (u : UnitParts). u.blocks) c.of.ensures ∙ pieces_are c.args.long.now c.in_ok-numbers.numbers.items _ _ c.in_ok-numbers.ensures.numbers c.as_slice.ensures.value c.in_ok-blocks.ensures in
+    let blocks_are = ap (λ (u : UnitParts). u.blocks) c.of.ensures
+    ∙ pieces_are c.args.long.now c.in_ok-numbers.numbers.items _ _ c.in_ok-numbers.ensures.numbers c.as_slice.ensures.value c.in_ok-blocks.ensures in
     subst (λ blocks. ComesTo blocks s r end) (sym blocks_are) (comes_to 512 c.args.long.now c.requires.linked s r end comes)

@@ -13,5 +13,6 @@ invariant-loop-inst l = record {
   count : vec_len l.guards ≤ vec_len l.fn.guards + l.inst-index;
   capacity : vec_capacity l.fn.guards ≤ vec_capacity l.guards;
   stands : (t : TreeState) → Stands l.fn.pass l.fn.places t → GuardsStand l.fn.pass l.fn.guards.items t.guards
-      → (u : TreeState) × Stands l.pass l.places u × GuardsStand l.pass l.guards.items u.guards × (all_trees (map action_of (drop l.inst-index l.insts)) u ≡ all_trees (map action_of l.insts) t);
+      → (u : TreeState) × Stands l.pass l.places u × GuardsStand l.pass l.guards.items u.guards
+      × (all_trees (map action_of (drop l.inst-index l.insts)) u ≡ all_trees (map action_of l.insts) t);
 }

@@ -8,4 +8,5 @@ returns-clause-exit c = rw (sym c.self.view_is) (c.self.invariant.same places.Ex
 
 pub returns-clause-means : goal.returns-clause-means
 returns-clause-means c =
-    rw (sym c.self.view_is) (each_checked_order_means_its_block c.self.inside.block.now c.self.inside.order c.self.invariant.fits c.self.invariant.clean c.self.invariant.same)
+    rw (sym c.self.view_is)
+    (each_checked_order_means_its_block c.self.inside.block.now c.self.inside.order c.self.invariant.fits c.self.invariant.clean c.self.invariant.same)
