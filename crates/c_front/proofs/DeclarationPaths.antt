@@ -19,7 +19,7 @@ use Rattle.c_front.specs.declared.cursor.ParseStop.{ParseStop}
 use Rattle.c_front.specs.declared.cursor.ParseStop.TheVariants.{Syntax, NoMemory}
 use Rattle.c_front.specs.Tree.{Items, Declaration, variable, array, function}
 use Rattle.c_front.specs.Parsing.{StartsWith, StartsWithout, IsRead, AreStuck, IsStuck, IsMissing, StartsWithName, IsNameMissing, HasNoType, StartsWithConstant}
-use Rattle.c_front.specs.Parsing.{IsConstantMissing, IsParameterRead, IsParameterStuck, IsTailRead, IsProgramStuck}
+use Rattle.c_front.specs.Parsing.{IsConstantMissing, IsEndedRead, IsEndedStuck, IsParameterRead, IsParameterStuck, IsTailRead, IsProgramStuck}
 use Rattle.c_front.specs.declared.tree.Parameter.{Parameter}
 use Rattle.c_front.specs.declared.tree.Initial.{Initial}
 use Rattle.c_front.specs.declared.tree.Declaration as Rust
@@ -27,8 +27,8 @@ use Rattle.c_front.specs.Shape.{declaration_of, declarations_of}
 use Rattle.c_front.proofs.Reading.{stuck_after, derived}
 use Rattle.c_front.proofs.Deriving.{type-starts}
 use Rattle.c_front.proofs.Paths.{followed, whole}
-use Rattle.c_front.proofs.Steps.{missing-first, name-missing-first, constant-missing-first, past-mark, past-name, past-constant, past-phrase, first-phrase}
-use Rattle.c_front.proofs.Steps.{inside, mark-then, mark-end, name-then, constant-then}
+use Rattle.c_front.proofs.Steps.{missing-first, name-missing-first, constant-missing-first, past-mark, past-name, past-constant, past-phrase}
+use Rattle.c_front.proofs.Steps.{first-ended, past-ended, ended-then, inside, mark-then, mark-end, name-then, constant-then}
 
 -- the first value of a global variable
 chosen-negative : (ts a : List Token) → StartsWith Minus ts a → one_choice initial (first ts) ≡ Some (T (the Minus) ∷ T a_constant ∷ [], initial_negative)
@@ -156,9 +156,6 @@ in_function = T (the LeftParen) ∷ N parameters ∷ T (the RightParen) ∷ T (t
 abbrev after_open : List Symbol
 after_open = N parameters ∷ T (the RightParen) ∷ T (the LeftBrace) ∷ N items ∷ T (the RightBrace) ∷ []
 
-abbrev after_parameters : List Symbol
-after_parameters = T (the RightParen) ∷ T (the LeftBrace) ∷ N items ∷ T (the RightBrace) ∷ []
-
 abbrev in_body : List Symbol
 in_body = T (the LeftBrace) ∷ N items ∷ T (the RightBrace) ∷ []
 
@@ -168,40 +165,29 @@ function-stuck ts s h = inside function_rule ts s refl (λ z. z) h
 pub function-open-stuck : (ts : List Token) (s : ParseStop) → IsMissing LeftParen ts s → IsStuck function_rest ts s
 function-open-stuck ts s h = function-stuck ts s (missing-first LeftParen after_open ts s h)
 
-pub function-parameters-stuck : (ts a : List Token) (s : ParseStop) → StartsWith LeftParen ts a → IsStuck parameters a s → IsStuck function_rest ts s
-function-parameters-stuck ts a s e h = function-stuck ts s (past-mark LeftParen after_open ts a s e (first-phrase parameters after_parameters a s h))
+pub function-parameters-stuck : (ts a : List Token) (s : ParseStop) → StartsWith LeftParen ts a → IsEndedStuck parameters RightParen a s
+    → IsStuck function_rest ts s
+function-parameters-stuck ts a s e h = function-stuck ts s (past-mark LeftParen after_open ts a s e (first-ended parameters RightParen in_body a s h))
 
-past-parameters : (ts a b : List Token) (ps : List Parameter) (s : ParseStop) → StartsWith LeftParen ts a → IsRead parameters a b ps
-    → AreStuck after_parameters b s → IsStuck function_rest ts s
-past-parameters ts a b ps s e d h = function-stuck ts s (past-mark LeftParen after_open ts a s e (past-phrase parameters after_parameters a b ps s d h))
+past-parameters : (ts a b : List Token) (ps : List Parameter) (s : ParseStop) → StartsWith LeftParen ts a → IsEndedRead parameters RightParen a b ps
+    → AreStuck in_body b s → IsStuck function_rest ts s
+past-parameters ts a b ps s e d h =
+    function-stuck ts s (past-mark LeftParen after_open ts a s e (past-ended parameters RightParen in_body a b ps s d h))
 
-pub function-close-stuck : (ts a b : List Token) (ps : List Parameter) (s : ParseStop) → StartsWith LeftParen ts a → IsRead parameters a b ps
-    → IsMissing RightParen b s → IsStuck function_rest ts s
-function-close-stuck ts a b ps s e d h = past-parameters ts a b ps s e d (missing-first RightParen in_body b s h)
+pub function-brace-stuck : (ts a b : List Token) (ps : List Parameter) (s : ParseStop) → StartsWith LeftParen ts a
+    → IsEndedRead parameters RightParen a b ps → IsMissing LeftBrace b s → IsStuck function_rest ts s
+function-brace-stuck ts a b ps s e d h =
+    past-parameters ts a b ps s e d (missing-first LeftBrace (N items ∷ T (the RightBrace) ∷ []) b s h)
 
-pub function-brace-stuck : (ts a b c : List Token) (ps : List Parameter) (s : ParseStop) → StartsWith LeftParen ts a → IsRead parameters a b ps
-    → StartsWith RightParen b c → IsMissing LeftBrace c s → IsStuck function_rest ts s
-function-brace-stuck ts a b c ps s e d f h = past-parameters ts a b ps s e d
-    (past-mark RightParen in_body b c s f (missing-first LeftBrace (N items ∷ T (the RightBrace) ∷ []) c s h))
+pub function-body-stuck : (ts a b c : List Token) (ps : List Parameter) (s : ParseStop) → StartsWith LeftParen ts a
+    → IsEndedRead parameters RightParen a b ps → StartsWith LeftBrace b c → IsEndedStuck items RightBrace c s → IsStuck function_rest ts s
+function-body-stuck ts a b c ps s e d f h =
+    past-parameters ts a b ps s e d (past-mark LeftBrace (N items ∷ T (the RightBrace) ∷ []) b c s f h)
 
-past-brace : (ts a b c f : List Token) (ps : List Parameter) (s : ParseStop) → StartsWith LeftParen ts a → IsRead parameters a b ps → StartsWith RightParen b c
-    → StartsWith LeftBrace c f → AreStuck (N items ∷ T (the RightBrace) ∷ []) f s → IsStuck function_rest ts s
-past-brace ts a b c f ps s e d g k h = past-parameters ts a b ps s e d (past-mark RightParen in_body b c s g
-    (past-mark LeftBrace (N items ∷ T (the RightBrace) ∷ []) c f s k h))
-
-pub function-body-stuck : (ts a b c f : List Token) (ps : List Parameter) (s : ParseStop) → StartsWith LeftParen ts a → IsRead parameters a b ps
-    → StartsWith RightParen b c → StartsWith LeftBrace c f → IsStuck items f s → IsStuck function_rest ts s
-function-body-stuck ts a b c f ps s e d g k h = past-brace ts a b c f ps s e d g k (first-phrase items (T (the RightBrace) ∷ []) f s h)
-
-pub function-end-stuck : (ts a b c f i : List Token) (ps : List Parameter) (is : Items) (s : ParseStop) → StartsWith LeftParen ts a → IsRead parameters a b ps
-    → StartsWith RightParen b c → StartsWith LeftBrace c f → IsRead items f i is → IsMissing RightBrace i s → IsStuck function_rest ts s
-function-end-stuck ts a b c f i ps is s e d g k q h = past-brace ts a b c f ps s e d g k
-    (past-phrase items (T (the RightBrace) ∷ []) f i is s q (missing-first RightBrace [] i s h))
-
-pub function-read : (ts a b c f i rest : List Token) (ps : List Parameter) (is : Items) → StartsWith LeftParen ts a → IsRead parameters a b ps
-    → StartsWith RightParen b c → StartsWith LeftBrace c f → IsRead items f i is → StartsWith RightBrace i rest →
-    IsRead function_rest ts rest (ps, is)
-function-read ts a b c f i rest ps is e d g k q h = whole function_rule refl (mark-then e (followed d (mark-then g (mark-then k (followed q (mark-end h))))))
+pub function-read : (ts a b c rest : List Token) (ps : List Parameter) (is : Items) → StartsWith LeftParen ts a
+    → IsEndedRead parameters RightParen a b ps → StartsWith LeftBrace b c → IsEndedRead items RightBrace c rest is
+    → IsRead function_rest ts rest (ps, is)
+function-read ts a b c rest ps is e d f q = whole function_rule refl (mark-then e (ended-then d (mark-then f q)))
 
 -- what stands after the type and the name of a declaration
 chosen-by : (ts a : List Token) (u : Mark) → StartsWith u ts a → one_choice after_global (first ts) ≡ one_choice after_global (Some (The u))
@@ -210,18 +196,13 @@ chosen-by ts a u e = ap (λ (x : List Token). one_choice after_global (first x))
 pub tail-plain : (k : IntegerType) (x : Identifier) (ts rest : List Token) → StartsWith Semicolon ts rest → IsTailRead k x ts rest (variable k x None)
 tail-plain k x ts rest e = (variable_tail None, whole global_plain (chosen-by ts rest Semicolon e) (mark-end e), refl)
 
-pub tail-initial : (k : IntegerType) (x : Identifier) (ts a b rest : List Token) (i : Initial) → StartsWith Assign ts a → IsRead initial a b i
-    → StartsWith Semicolon b rest → IsTailRead k x ts rest (variable k x (Some i))
-tail-initial k x ts a b rest i e d f = (variable_tail (Some i), whole global_initial (chosen-by ts a Assign e) (mark-then e (followed d (mark-end f))), refl)
+pub tail-initial : (k : IntegerType) (x : Identifier) (ts a rest : List Token) (i : Initial) → StartsWith Assign ts a
+    → IsEndedRead initial Semicolon a rest i → IsTailRead k x ts rest (variable k x (Some i))
+tail-initial k x ts a rest i e d = (variable_tail (Some i), whole global_initial (chosen-by ts a Assign e) (mark-then e d), refl)
 
-pub tail-initial-stuck : (ts a : List Token) (s : ParseStop) → StartsWith Assign ts a → IsStuck initial a s → IsStuck after_global ts s
+pub tail-initial-stuck : (ts a : List Token) (s : ParseStop) → StartsWith Assign ts a → IsEndedStuck initial Semicolon a s → IsStuck after_global ts s
 tail-initial-stuck ts a s e h = inside global_initial ts s (chosen-by ts a Assign e) (λ z. z)
-    (past-mark Assign (N initial ∷ T (the Semicolon) ∷ []) ts a s e (first-phrase initial (T (the Semicolon) ∷ []) a s h))
-
-pub tail-initial-end-stuck : (ts a b : List Token) (i : Initial) (s : ParseStop) → StartsWith Assign ts a → IsRead initial a b i → IsMissing Semicolon b s
-    → IsStuck after_global ts s
-tail-initial-end-stuck ts a b i s e d h = inside global_initial ts s (chosen-by ts a Assign e) (λ z. z)
-    (past-mark Assign (N initial ∷ T (the Semicolon) ∷ []) ts a s e (past-phrase initial (T (the Semicolon) ∷ []) a b i s d (missing-first Semicolon [] b s h)))
+    (past-mark Assign (N initial ∷ T (the Semicolon) ∷ []) ts a s e h)
 
 abbrev in_array : List Symbol
 in_array = T a_constant ∷ T (the RightBracket) ∷ T (the Semicolon) ∷ []

@@ -5,6 +5,7 @@ pub mod Deriving
 pub mod Theorems
 pub mod Paths
 pub mod Steps
+pub mod Ends
 pub mod Simply
 pub mod Shapes
 pub mod StatementPaths

@@ -21,7 +21,7 @@ use Rattle.c_tokens.specs.declared.token.Literal.{Literal}
 use Rattle.c_front.specs.declared.cursor.ParseStop.{ParseStop}
 use Rattle.c_front.specs.declared.cursor.ParseStop.TheVariants.{Syntax, NoMemory}
 use Rattle.c_front.specs.Tree.{Expression, constant, name, index, unary, binary, conditional}
-use Rattle.c_front.specs.Parsing.{level_of, EndsUpTo, EndsBelow, StartsWith, StartsWithout, IsRead, IsStuck, IsMissing, StartsWithOperator, IsChoiceRead}
+use Rattle.c_front.specs.Parsing.{level_of, EndsUpTo, EndsBelow, StartsWith, StartsWithout, IsRead, IsStuck, StartsWithOperator, IsChoiceRead}
 use Rattle.c_front.specs.Parsing.{IsChoiceStuck, IsClosedRead, IsClosedStuck}
 use Rattle.c_front.proofs.Reading.{stuck_after, stuck-within}
 use Rattle.c_front.proofs.Ranks.{chosen-operator, rank, operator-rank, ends-operands}
@@ -206,22 +206,6 @@ missing-stuck u ts h symbols = stuck_token (λ t v e i. go t v e i)
     go t v e is_the = h e
 
 -- an expression and a mark after it
-pub closed-inner-stuck : (u : Mark) (ts : List Token) (s : ParseStop) → IsStuck an_expression ts s → IsClosedStuck u ts s
-closed-inner-stuck u ts (Syntax rest) h = λ symbols. h (T (the u) ∷ symbols)
-closed-inner-stuck u ts NoMemory h = tt
-
-pub closed-end-stuck : (u : Mark) (ts close : List Token) (a : Expression) (s : ParseStop) → IsRead an_expression ts close a → IsMissing u close s
-    → IsClosedStuck u ts s
-closed-end-stuck u ts close a (Syntax rest) d h = λ symbols.
-    let P : List Token → Type 0 = λ x. Stuck (N an_expression ∷ T (the u) ∷ symbols) ts x in
-    subst P (sym h.0) (stuck_after d (missing-stuck u close h.1 symbols))
-closed-end-stuck u ts close a NoMemory d h = tt
-
-pub closed-read : (u : Mark) (ts close end : List Token) (a : Expression) → IsRead an_expression ts close a → StartsWith u close end → IsClosedRead u ts end a
-closed-read u ts close end a d e =
-    let P : List Token → Type 0 = λ x. Reads (T (the u) ∷ []) x end (tt, tt) in
-    followed d (subst P (sym e) (read_token is_the read_nothing))
-
 closed-then : {u : Mark} {symbols : List Symbol} {ts a rest : List Token} {e : Expression} {m : PhraseTrees symbols} → IsClosedRead u ts a e
     → Reads symbols a rest m →
     Reads (N an_expression ∷ T (the u) ∷ symbols) ts rest (e, (tt, m))
@@ -391,10 +375,10 @@ pub no-operator : (t : Mark) → t ≢ Star → t ≢ Slash → t ≢ Percent �
     t ≢ EqualEqual → t ≢ BangEqual → t ≢ Ampersand → t ≢ Caret → t ≢ Bar → t ≢ AndAnd → t ≢ BarBar → (l : Level) → EndsOperands l (Some (The t))
 no-operator t a b c d e f g h i j k m n o p q r s l = no-operator-at l t (λ w x. none-operates x a b c d e f g h i j k m n o p q r s) (operator_at l t)
 
-pub one-less-stuck : (k : ℕ) (ts : List Token) (s : ParseStop) → k ≢ 0 → IsStuck (operands (above (level_of (k - 1)))) ts s
-    → IsStuck (operands (level_of k)) ts s
-one-less-stuck zero ts s h d = absurd (h refl)
-one-less-stuck (suc k) ts s h d =
+-- what is known of the operands of one level less
+pub one-less : (P : Level → Type 0) (k : ℕ) → k ≢ 0 → P (above (level_of (k - 1))) → P (level_of k)
+one-less P zero h d = absurd (h refl)
+one-less P (suc k) h d =
     let e : suc k - 1 ≡ k = omega arith in
-    let P : ℕ → Type 0 = λ x. IsStuck (operands (above (level_of x))) ts s in
-    subst P e d
+    let Q : ℕ → Type 0 = λ x. P (above (level_of x)) in
+    subst Q e d

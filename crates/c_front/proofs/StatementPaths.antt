@@ -8,8 +8,8 @@ use Rattle.c_tokens.specs.declared.token.Token.{Token}
 use Rattle.c_tokens.specs.declared.token.Token.TheVariants.{Name, Jump, The}
 use Rattle.c_tokens.specs.declared.token.Mark.{Mark}
 use Rattle.c_tokens.specs.declared.token.Mark.TheVariants.{Int, Unsigned, If, Else, While, For, Semicolon, LeftBrace, RightBrace, LeftParen, RightParen, Assign}
-use Rattle.c_front.specs.Grammar.{a_name, the, Nonterminal, a_type, maybe_int, items, an_item, declared, a_statement, else_part, maybe_simple, maybe_expression}
-use Rattle.c_front.specs.Grammar.{simple, value, an_expression, Symbol, T, N, PhraseTree, PhraseTrees, type_int, type_unsigned, int_none, int_some, items_end}
+use Rattle.c_front.specs.Grammar.{a_name, the, a_type, maybe_int, items, an_item, declared, a_statement, else_part, maybe_simple, maybe_expression}
+use Rattle.c_front.specs.Grammar.{simple, value, an_expression, Symbol, T, N, PhraseTrees, type_int, type_unsigned, int_none, int_some, items_end}
 use Rattle.c_front.specs.Grammar.{items_more, item_declare, item_statement, declared_none, declared_some, statement_empty, statement_block, statement_if}
 use Rattle.c_front.specs.Grammar.{statement_while, statement_for, statement_break, statement_continue, statement_return, statement_simple, else_none, else_some}
 use Rattle.c_front.specs.Grammar.{simple_none, simple_some, expression_none, expression_some, first, is_jump, is_the}
@@ -26,8 +26,8 @@ use Rattle.c_front.proofs.Reading.{stuck_after}
 use Rattle.c_front.proofs.Completing.{else-none}
 use Rattle.c_front.proofs.Reading.{derived}
 use Rattle.c_front.proofs.Deriving.{type-starts}
-use Rattle.c_front.proofs.Paths.{followed, whole, missing-stuck}
-use Rattle.c_front.proofs.Steps.{missing-first, name-missing-first, past-mark, past-name, past-phrase, past-ended, first-phrase, first-ended, inside, mark-then}
+use Rattle.c_front.proofs.Paths.{followed, whole}
+use Rattle.c_front.proofs.Steps.{missing-first, name-missing-first, past-mark, past-name, past-phrase, past-ended, first-ended, inside, mark-then}
 use Rattle.c_front.proofs.Steps.{mark-end, name-then, ended-then}
 
 -- items after some others
@@ -41,34 +41,6 @@ pub record GoesOnItems (ts middle : List Token) (all : Items) : Type 0 where
       → Stuck (N items ∷ symbols) ts rest
   pub shorter : length middle ≤ length ts
 
-module _ (u : Mark) (w : Mark) (n : Nonterminal) (ts : List Token) where
-  pub enclosed-read : (a b c : List Token) (v : PhraseTree n) → ts ≡ The u ∷ a → IsRead n a b v → b ≡ The w ∷ c
-      → Reads (T (the u) ∷ N n ∷ T (the w) ∷ []) ts c (tt, (v, (tt, tt)))
-  enclosed-read a b c v e d f =
-      let P : List Token → Type 0 = λ x. Reads (T (the u) ∷ N n ∷ T (the w) ∷ []) x c (tt, (v, (tt, tt))) in
-      let Q : List Token → Type 0 = λ x. Reads (T (the w) ∷ []) x c (tt, tt) in
-      subst P (sym e) (read_token is_the (followed d (subst Q (sym f) (read_token is_the read_nothing))))
-
-  pub enclosed-open-stuck : (s : ParseStop) → IsMissing u ts s → AreStuck (T (the u) ∷ N n ∷ T (the w) ∷ []) ts s
-  enclosed-open-stuck (Syntax rest) h = λ symbols.
-      let P : List Token → Type 0 = λ x. Stuck (T (the u) ∷ N n ∷ T (the w) ∷ symbols) ts x in
-      subst P (sym h.0) (missing-stuck u ts h.1 (N n ∷ T (the w) ∷ symbols))
-  enclosed-open-stuck NoMemory h = tt
-
-  pub enclosed-inner-stuck : (a : List Token) (s : ParseStop) → ts ≡ The u ∷ a → IsStuck n a s → AreStuck (T (the u) ∷ N n ∷ T (the w) ∷ []) ts s
-  enclosed-inner-stuck a (Syntax rest) e h = λ symbols.
-      let P : List Token → Type 0 = λ x. Stuck (T (the u) ∷ N n ∷ T (the w) ∷ symbols) x rest.now in
-      subst P (sym e) (stuck_past is_the (h (T (the w) ∷ symbols)))
-  enclosed-inner-stuck a NoMemory e h = tt
-
-  pub enclosed-close-stuck : (a b : List Token) (v : PhraseTree n) (s : ParseStop) → ts ≡ The u ∷ a → IsRead n a b v → IsMissing w b s
-      → AreStuck (T (the u) ∷ N n ∷ T (the w) ∷ []) ts s
-  enclosed-close-stuck a b v (Syntax rest) e d h = λ symbols.
-      let P : List Token → Type 0 = λ x. Stuck (T (the u) ∷ N n ∷ T (the w) ∷ symbols) x rest.now in
-      let Q : List Token → Type 0 = λ x. Stuck (N n ∷ T (the w) ∷ symbols) a x in
-      subst P (sym e) (stuck_past is_the (subst Q (sym h.0) (stuck_after d (missing-stuck w b h.1 symbols))))
-  enclosed-close-stuck a b v NoMemory e d h = tt
-
 pub empty-read : (ts a : List Token) → ts ≡ The Semicolon ∷ a → IsRead a_statement ts a empty
 empty-read ts a e = let P : List Token → Type 0 = λ x. IsRead a_statement x a empty in
     subst P (sym e) (whole statement_empty refl (read_token is_the read_nothing))
@@ -77,20 +49,12 @@ chosen-block : (ts a : List Token) → ts ≡ The LeftBrace ∷ a → one_choice
     (T (the LeftBrace) ∷ N items ∷ T (the RightBrace) ∷ [], statement_block)
 chosen-block ts a e = ap (λ (x : List Token). one_choice a_statement (first x)) e
 
-pub block-read : (ts a b c : List Token) (m : Items) → ts ≡ The LeftBrace ∷ a → IsRead items a b m → b ≡ The RightBrace ∷ c → IsRead a_statement ts c (block m)
-block-read ts a b c m e d f = whole statement_block (chosen-block ts a e) (enclosed-read LeftBrace RightBrace items ts a b c m e d f)
+pub block-read : (ts a c : List Token) (m : Items) → ts ≡ The LeftBrace ∷ a → IsEndedRead items RightBrace a c m → IsRead a_statement ts c (block m)
+block-read ts a c m e d = whole statement_block (chosen-block ts a e) (mark-then e d)
 
-block-in-stuck : (ts a : List Token) (s : ParseStop) → ts ≡ The LeftBrace ∷ a → AreStuck (T (the LeftBrace) ∷ N items ∷ T (the RightBrace) ∷ []) ts s
-    → IsStuck a_statement ts s
-block-in-stuck ts a (Syntax rest) e h = λ symbols. stuck_inside statement_block (chosen-block ts a e) (λ z. absurd z) (h symbols)
-block-in-stuck ts a NoMemory e h = tt
-
-pub block-stuck : (ts a : List Token) (s : ParseStop) → ts ≡ The LeftBrace ∷ a → IsStuck items a s → IsStuck a_statement ts s
-block-stuck ts a s e h = block-in-stuck ts a s e (enclosed-inner-stuck LeftBrace RightBrace items ts a s e h)
-
-pub block-close-stuck : (ts a b : List Token) (m : Items) (s : ParseStop) → ts ≡ The LeftBrace ∷ a → IsRead items a b m → IsMissing RightBrace b s
-    → IsStuck a_statement ts s
-block-close-stuck ts a b m s e d h = block-in-stuck ts a s e (enclosed-close-stuck LeftBrace RightBrace items ts a b m s e d h)
+pub block-stuck : (ts a : List Token) (s : ParseStop) → ts ≡ The LeftBrace ∷ a → IsEndedStuck items RightBrace a s → IsStuck a_statement ts s
+block-stuck ts a s e h =
+    inside statement_block ts s (chosen-block ts a e) (λ z. z) (past-mark LeftBrace (N items ∷ T (the RightBrace) ∷ []) ts a s e h)
 
 pub if-read : (ts a b : List Token) (s : Statement) → ts ≡ The If ∷ a → IsBranchRead a b s → IsRead a_statement ts b s
 if-read ts a b s e h =
@@ -103,30 +67,16 @@ if-stuck ts a (Syntax rest) e h = λ symbols.
     subst P (sym e) (stuck_inside statement_if refl (λ z. absurd z) (stuck_past is_the (h symbols)))
 if-stuck ts a NoMemory e h = tt
 
-semicolon-then : {n : Nonterminal} {ts b c : List Token} {v : PhraseTree n} → IsRead n ts b v → StartsWith Semicolon b c
-    → Reads (N n ∷ T (the Semicolon) ∷ []) ts c (v, (tt, tt))
-semicolon-then {c = c} d e =
-    let P : List Token → Type 0 = λ x. Reads (T (the Semicolon) ∷ []) x c (tt, tt) in
-    followed d (subst P (sym e) (read_token is_the read_nothing))
-
 simple-chosen : (ts a : List Token) (x : Identifier) → ts ≡ Name x ∷ a → one_choice a_statement (first ts) ≡ Some
     (N simple ∷ T (the Semicolon) ∷ [], statement_simple)
 simple-chosen ts a x e = ap (λ (y : List Token). one_choice a_statement (first y)) e
 
-pub simply-read : (ts a b c : List Token) (x : Identifier) (v : Simple) → ts ≡ Name x ∷ a → IsRead simple ts b v → StartsWith Semicolon b c
+pub simply-read : (ts a c : List Token) (x : Identifier) (v : Simple) → ts ≡ Name x ∷ a → IsEndedRead simple Semicolon ts c v
     → IsRead a_statement ts c (simply v)
-simply-read ts a b c x v e d f = whole statement_simple (simple-chosen ts a x e) (semicolon-then d f)
+simply-read ts a c x v e d = whole statement_simple (simple-chosen ts a x e) d
 
-pub simply-stuck : (ts a : List Token) (x : Identifier) (s : ParseStop) → ts ≡ Name x ∷ a → IsStuck simple ts s → IsStuck a_statement ts s
-simply-stuck ts a x (Syntax rest) e h = λ symbols. stuck_inside statement_simple (simple-chosen ts a x e) (λ z. absurd z) (h (T (the Semicolon) ∷ symbols))
-simply-stuck ts a x NoMemory e h = tt
-
-pub simply-end-stuck : (ts a b : List Token) (x : Identifier) (v : Simple) (s : ParseStop) → ts ≡ Name x ∷ a → IsRead simple ts b v → IsMissing Semicolon b s
-    → IsStuck a_statement ts s
-simply-end-stuck ts a b x v (Syntax rest) e d h = λ symbols.
-    let P : List Token → Type 0 = λ y. Stuck (N a_statement ∷ symbols) ts y in
-    subst P (sym h.0) (stuck_inside statement_simple (simple-chosen ts a x e) (λ z. absurd z) (stuck_after d (missing-stuck Semicolon b h.1 symbols)))
-simply-end-stuck ts a b x v NoMemory e d h = tt
+pub simply-stuck : (ts a : List Token) (x : Identifier) (s : ParseStop) → ts ≡ Name x ∷ a → IsEndedStuck simple Semicolon ts s → IsStuck a_statement ts s
+simply-stuck ts a x s e h = inside statement_simple ts s (simple-chosen ts a x e) (λ z. z) h
 
 pub no-statement : (ts rest : List Token) (t : Token) → ts ≡ t ∷ rest → one_choice a_statement (Some t) ≡ None → (symbols : List Symbol)
     → Stuck (N a_statement ∷ symbols) ts ts
@@ -143,7 +93,7 @@ no-mark For a b c d e = absurd (e refl)
 no-mark _ a b c d e = refl
 
 pub condition-open-stuck : (ts : List Token) (s : ParseStop) → IsMissing LeftParen ts s → IsConditionStuck ts s
-condition-open-stuck ts s h = enclosed-open-stuck LeftParen RightParen an_expression ts s h
+condition-open-stuck ts s h = missing-first LeftParen (N an_expression ∷ T (the RightParen) ∷ []) ts s h
 
 pub condition-inner-stuck : (ts a : List Token) (s : ParseStop) → StartsWith LeftParen ts a → IsClosedStuck RightParen a s → IsConditionStuck ts s
 condition-inner-stuck ts a (Syntax rest) e h = λ symbols.
@@ -226,9 +176,9 @@ pub declared-stuck : (ts a : List Token) (s : ParseStop) → StartsWith Assign t
 declared-stuck ts a s e h = inside declared_some ts s (chosen-value ts a e) (λ z. z) (past-mark Assign (N value ∷ []) ts a s e h)
 
 -- items
-pub declare-read : (ts a b c d : List Token) (k : IntegerType) (x : Identifier) (v : Option Value) → IsRead a_type ts a k → StartsWithName a x b
-    → IsRead declared b c v → StartsWith Semicolon c d → IsRead an_item ts d (declare k x v)
-declare-read ts a b c d k x v q e g h = whole item_declare (type-starts (derived q)).item (followed q (name-then e (followed g (mark-end h))))
+pub declare-read : (ts a b d : List Token) (k : IntegerType) (x : Identifier) (v : Option Value) → IsRead a_type ts a k → StartsWithName a x b
+    → IsEndedRead declared Semicolon b d v → IsRead an_item ts d (declare k x v)
+declare-read ts a b d k x v q e g = whole item_declare (type-starts (derived q)).item (followed q (name-then e g))
 
 declare-stuck : (ts a : List Token) (k : IntegerType) (s : ParseStop) → IsRead a_type ts a k → AreStuck (T a_name ∷ N declared ∷ T (the Semicolon) ∷ []) a s
     → IsStuck an_item ts s
@@ -239,14 +189,8 @@ pub declare-name-stuck : (ts a : List Token) (k : IntegerType) (s : ParseStop) �
 declare-name-stuck ts a k s q h = declare-stuck ts a k s q (name-missing-first (N declared ∷ T (the Semicolon) ∷ []) a s h)
 
 pub declare-value-stuck : (ts a b : List Token) (k : IntegerType) (x : Identifier) (s : ParseStop) → IsRead a_type ts a k → StartsWithName a x b
-    → IsStuck declared b s → IsStuck an_item ts s
-declare-value-stuck ts a b k x s q e h = declare-stuck ts a k s q (past-name (N declared ∷ T (the Semicolon) ∷ []) a b x s e
-    (first-phrase declared (T (the Semicolon) ∷ []) b s h))
-
-pub declare-end-stuck : (ts a b c : List Token) (k : IntegerType) (x : Identifier) (v : Option Value) (s : ParseStop) → IsRead a_type ts a k
-    → StartsWithName a x b → IsRead declared b c v → IsMissing Semicolon c s → IsStuck an_item ts s
-declare-end-stuck ts a b c k x v s q e g h = declare-stuck ts a k s q (past-name (N declared ∷ T (the Semicolon) ∷ []) a b x s e
-    (past-phrase declared (T (the Semicolon) ∷ []) b c v s g (missing-first Semicolon [] c s h)))
+    → IsEndedStuck declared Semicolon b s → IsStuck an_item ts s
+declare-value-stuck ts a b k x s q e h = declare-stuck ts a k s q (past-name (N declared ∷ T (the Semicolon) ∷ []) a b x s e h)
 
 chosen-item : (next : Option Token) → next ≢ Some (The Int) → next ≢ Some (The Unsigned) → one_choice an_item next ≡ Some (N a_statement ∷ [], item_statement)
 chosen-item None h k = refl
@@ -278,19 +222,14 @@ ended-none-stuck u ts s h k = past-phrase maybe_simple (T (the u) ∷ []) ts ts 
 chosen-simple : (ts : List Token) (x : Identifier) → StartsNamed ts x → one_choice maybe_simple (first ts) ≡ Some (N simple ∷ [], simple_some)
 chosen-simple ts x e = ap (one_choice maybe_simple) e
 
-some-simple-read : (ts a : List Token) (x : Identifier) (v : Simple) → StartsNamed ts x → IsRead simple ts a v → IsRead maybe_simple ts a (Some v)
-some-simple-read ts a x v e d = whole simple_some (chosen-simple ts x e) d
-
-pub ended-some-read : (u : Mark) (ts a rest : List Token) (x : Identifier) (v : Simple) → StartsNamed ts x → IsRead simple ts a v → StartsWith u a rest
+pub ended-some-read : (u : Mark) (ts rest : List Token) (x : Identifier) (v : Simple) → StartsNamed ts x → IsEndedRead simple u ts rest v
     → IsEndedRead maybe_simple u ts rest (Some v)
-ended-some-read u ts a rest x v e d h = followed (some-simple-read ts a x v e d) (mark-end h)
+ended-some-read u ts rest x v e (read_phrase r c d q z) = followed (whole simple_some (chosen-simple ts x e) (read_phrase r c d q read_nothing)) z
 
-pub ended-some-stuck : (u : Mark) (ts : List Token) (x : Identifier) (s : ParseStop) → StartsNamed ts x → IsStuck simple ts s → IsEndedStuck maybe_simple u ts s
-ended-some-stuck u ts x s e h = first-phrase maybe_simple (T (the u) ∷ []) ts s (inside simple_some ts s (chosen-simple ts x e) (λ z. z) h)
-
-pub ended-close-stuck : (u : Mark) (ts a : List Token) (x : Identifier) (v : Simple) (s : ParseStop) → StartsNamed ts x → IsRead simple ts a v → IsMissing u a s
+pub ended-some-stuck : (u : Mark) (ts : List Token) (x : Identifier) (s : ParseStop) → StartsNamed ts x → IsEndedStuck simple u ts s
     → IsEndedStuck maybe_simple u ts s
-ended-close-stuck u ts a x v s e d h = past-phrase maybe_simple (T (the u) ∷ []) ts a (Some v) s (some-simple-read ts a x v e d) (missing-first u [] a s h)
+ended-some-stuck u ts x (Syntax rest) e k = λ symbols. stuck_inside simple_some (chosen-simple ts x e) (λ z. absurd z) (k symbols)
+ended-some-stuck u ts x NoMemory e k = tt
 
 -- an expression that may be missing, and the semicolon after it
 pub no-expression-read : (ts rest : List Token) → StartsWith Semicolon ts rest → IsEndedRead maybe_expression Semicolon ts rest None

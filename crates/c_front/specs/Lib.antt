@@ -4,6 +4,7 @@ pub mod Shape
 pub mod Choosing
 pub mod Reading
 pub mod Parsing
+pub mod Ends
 pub mod Syntax
 pub mod Texts
 pub mod Faults

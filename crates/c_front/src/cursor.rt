@@ -12,6 +12,9 @@ pub enum ParseStop<'a> {
     NoMemory,
 }
 
+/// A part that was read, with the tokens after it, or why parsing stopped.
+pub type Parsed<'a, T> = Result<(T, &'a [Token]), ParseStop<'a>>;
+
 impl<'a, T: Drop> From<AllocFailed<T>> for ParseStop<'a> {
     ghost use Rattle.c_front.specs.declared.cursor.ParseStop.TheVariants.{NoMemory};
 
@@ -62,7 +65,7 @@ pub fn starts<'a>(tokens: &'a [Token], wanted: Mark) -> Option<&'a [Token]>
 }
 
 /// The name that has to stand here, and the tokens after it.
-pub fn name<'a>(tokens: &'a [Token]) -> Result<(Identifier, &'a [Token]), ParseStop<'a>>
+pub fn name<'a>(tokens: &'a [Token]) -> Parsed<'a, Identifier>
     ensures ok { IfOk result (λ r. StartsWithName tokens.now r.0 r.1.now) }
     ensures err { IfErr result (IsNameMissing tokens.now) }
 {
@@ -73,7 +76,7 @@ pub fn name<'a>(tokens: &'a [Token]) -> Result<(Identifier, &'a [Token]), ParseS
 }
 
 /// The constant that has to stand here, and the tokens after it.
-pub fn literal<'a>(tokens: &'a [Token]) -> Result<(Literal, &'a [Token]), ParseStop<'a>>
+pub fn literal<'a>(tokens: &'a [Token]) -> Parsed<'a, Literal>
     ensures ok { IfOk result (λ r. StartsWithConstant tokens.now r.0 r.1.now) }
     ensures err { IfErr result (IsConstantMissing tokens.now) }
 {

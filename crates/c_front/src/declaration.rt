@@ -6,14 +6,15 @@ ghost use Rattle.c_front.specs.Syntax.{IsFault};
 ghost use Rattle.c_tokens.specs.declared.token.Token.{Token};
 ghost use Rattle.c_front.specs.Tree as Tree;
 
-use crate::cursor::{ParseStop, expect, literal, name, split, starts};
+use crate::cursor::{ParseStop, Parsed, expect, literal, name, split, starts};
+use crate::part::ended;
 use crate::statement::{integer_type, items};
 use crate::tree::{Declaration, FunctionDefinition, Initial, Item, Parameter};
 use c_tokens::{Identifier, IntegerType, Mark, Token};
 use std::alloc::{AllocError, AllocFailed, Global};
 
 /// The first value of a global variable.
-fn initial<'a>(tokens: &'a [Token]) -> Result<(Initial, &'a [Token]), ParseStop<'a>>
+fn initial<'a>(tokens: &'a [Token]) -> Parsed<'a, Initial>
     ensures ok { IfOk result (λ r. IsRead initial tokens.now r.1.now r.0) }
     ensures shorter { IfOk result (λ r. length r.1.now < length tokens.now) }
     ensures err { IfErr result (IsStuck initial tokens.now) }
@@ -43,7 +44,7 @@ fn initial<'a>(tokens: &'a [Token]) -> Result<(Initial, &'a [Token]), ParseStop<
 }
 
 /// A parameter: its type and its name.
-fn parameter<'a>(tokens: &'a [Token]) -> Result<(Parameter, &'a [Token]), ParseStop<'a>>
+fn parameter<'a>(tokens: &'a [Token]) -> Parsed<'a, Parameter>
     ensures ok { IfOk result (λ r. IsParameterRead tokens.now r.1.now r.0) }
     ensures shorter { IfOk result (λ r. length r.1.now < length tokens.now) }
     ensures err { IfErr result (IsParameterStuck tokens.now) }
@@ -56,10 +57,7 @@ fn parameter<'a>(tokens: &'a [Token]) -> Result<(Parameter, &'a [Token]), ParseS
 }
 
 /// `void`, or the parameters of a function.
-fn parameters<'a>(
-    alloc: Global,
-    tokens: &'a [Token],
-) -> Result<(Vec<Parameter>, &'a [Token]), ParseStop<'a>>
+fn parameters<'a>(alloc: Global, tokens: &'a [Token]) -> Parsed<'a, Vec<Parameter>>
     ensures ok { IfOk result (λ r. IsRead parameters tokens.now r.1.now r.0.items) }
     ensures shorter { IfOk result (λ r. length r.1.now < length tokens.now) }
     ensures err { IfErr result (IsStuck parameters tokens.now) }
@@ -89,11 +87,9 @@ fn function_rest<'a>(
     ensures err { IfErr result (IsStuck function_rest tokens.now) }
 {
     let open = expect(tokens, Mark::LeftParen)?;
-    let (given, close) = parameters(alloc, open)?;
-    let brace = expect(close, Mark::RightParen)?;
+    let (given, brace) = ended(parameters(alloc, open), Mark::RightParen)?;
     let start = expect(brace, Mark::LeftBrace)?;
-    let (body, last) = items(alloc, start)?;
-    let end = expect(last, Mark::RightBrace)?;
+    let (body, end) = ended(items(alloc, start), Mark::RightBrace)?;
     Ok((given, body, end))
 }
 
@@ -103,7 +99,7 @@ fn after_global<'a>(
     integer_type: IntegerType,
     name: Identifier,
     tokens: &'a [Token],
-) -> Result<(Declaration, &'a [Token]), ParseStop<'a>>
+) -> Parsed<'a, Declaration>
     ensures ok { IfOk result (λ r. IsTailRead integer_type name tokens.now r.1.now (declaration_of r.0)) }
     ensures shorter { IfOk result (λ r. length r.1.now < length tokens.now) }
     ensures err { IfErr result (IsStuck after_global tokens.now) }
@@ -112,8 +108,7 @@ fn after_global<'a>(
         return Ok((Declaration::Variable(integer_type, name, None), end));
     }
     if let Some(start) = starts(tokens, Mark::Assign) {
-        let (given, close) = initial(start)?;
-        let end = expect(close, Mark::Semicolon)?;
+        let (given, end) = ended(initial(start), Mark::Semicolon)?;
         return Ok((Declaration::Variable(integer_type, name, Some(given)), end));
     }
     if let Some(start) = starts(tokens, Mark::LeftBracket) {
@@ -136,10 +131,7 @@ fn after_global<'a>(
 }
 
 /// A declaration at file scope.
-fn declaration<'a>(
-    alloc: Global,
-    tokens: &'a [Token],
-) -> Result<(Declaration, &'a [Token]), ParseStop<'a>>
+fn declaration<'a>(alloc: Global, tokens: &'a [Token]) -> Parsed<'a, Declaration>
     ensures ok { IfOk result (λ r. IsRead a_declaration tokens.now r.1.now (declaration_of r.0)) }
     ensures shorter { IfOk result (λ r. length r.1.now < length tokens.now) }
     ensures err { IfErr result (IsStuck a_declaration tokens.now) }
@@ -161,8 +153,7 @@ fn declaration<'a>(
         return Err(ParseStop::Syntax(tokens));
     };
     let (name, start) = name(after)?;
-    let (found, end) = after_global(alloc, integer_type, name, start)?;
-    Ok((found, end))
+    after_global(alloc, integer_type, name, start)
 }
 
 /// The declarations up to the last token.

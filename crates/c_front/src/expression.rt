@@ -6,7 +6,8 @@ ghost use Rattle.c_front.specs.Parsing.{IsRead, IsStuck, level_of, StartsWithOpe
 ghost use Rattle.c_front.specs.Parsing.{IsClosedRead, IsClosedStuck, IsArgumentsRead, IsArgumentsStuck, StartsCall, StartsNoCall};
 ghost use Rattle.c_tokens.specs.declared.token.Token.TheVariants.{The};
 
-use crate::cursor::{ParseStop, expect, split, starts};
+use crate::cursor::{ParseStop, Parsed, expect, split, starts};
+use crate::part::{boxed, ended};
 use crate::tree::{BinaryOp, Call, Expression, UnaryOp, Value};
 use c_tokens::{Identifier, Mark, Token};
 use std::alloc::{AllocError, AllocFailed, Global};
@@ -69,10 +70,7 @@ fn prefix_of(mark: Mark) -> Option<UnaryOp>
 
 /// An expression.
 #[cycle(expressions)]
-pub fn expression<'a>(
-    alloc: Global,
-    tokens: &'a [Token],
-) -> Result<(Expression, &'a [Token]), ParseStop<'a>>
+pub fn expression<'a>(alloc: Global, tokens: &'a [Token]) -> Parsed<'a, Expression>
     ensures ok { IfOk result (λ r. IsRead an_expression tokens.now r.1.now (expression_of r.0)) }
     ensures shorter { IfOk result (λ r. length r.1.now < length tokens.now) }
     ensures err { IfErr result (IsStuck an_expression tokens.now) }
@@ -100,34 +98,24 @@ fn choice<'a>(
     ensures shorter { IfOk result (λ r. length r.2.now < length tokens.now) }
     ensures err { IfErr result (IsChoiceStuck tokens.now) }
 {
-    let (first, rest) = closed(alloc, tokens, Mark::Colon)?;
-    let (second, end) = expression(alloc, rest)?;
-    Ok((Box::new(alloc, first)?, Box::new(alloc, second)?, end))
+    let (first, rest) = boxed(alloc, closed(alloc, tokens, Mark::Colon))?;
+    let (second, end) = boxed(alloc, expression(alloc, rest))?;
+    Ok((first, second, end))
 }
 
 /// An expression, and the token that has to follow it.
 #[cycle(expressions)]
-pub fn closed<'a>(
-    alloc: Global,
-    tokens: &'a [Token],
-    closing: Mark,
-) -> Result<(Expression, &'a [Token]), ParseStop<'a>>
+pub fn closed<'a>(alloc: Global, tokens: &'a [Token], closing: Mark) -> Parsed<'a, Expression>
     ensures ok { IfOk result (λ r. IsClosedRead closing tokens.now r.1.now (expression_of r.0)) }
     ensures shorter { IfOk result (λ r. length r.1.now < length tokens.now) }
     ensures err { IfErr result (IsClosedStuck closing tokens.now) }
 {
-    let (inner, close) = expression(alloc, tokens)?;
-    let end = expect(close, closing)?;
-    Ok((inner, end))
+    ended(expression(alloc, tokens), closing)
 }
 
 /// Operands and the binary operators between them, up to those of a level: by precedence climbing.
 #[cycle(expressions)]
-fn operands<'a>(
-    alloc: Global,
-    level: usize,
-    tokens: &'a [Token],
-) -> Result<(Expression, &'a [Token]), ParseStop<'a>>
+fn operands<'a>(alloc: Global, level: usize, tokens: &'a [Token]) -> Parsed<'a, Expression>
     ensures ok { IfOk result (λ r. IsRead (operands (above (level_of level))) tokens.now r.1.now (expression_of r.0)) }
     ensures shorter { IfOk result (λ r. length r.1.now < length tokens.now) }
     ensures ends { IfOk result (λ r. EndsUpTo level (first r.1.now)) }
@@ -141,38 +129,29 @@ fn operands<'a>(
         if found > level {
             return Ok((left, rest));
         }
-        let (right, next) = tighter(alloc, found, after)?;
-        left = Expression::Binary(operator, Box::new(alloc, left)?, Box::new(alloc, right)?);
+        let (right, next) = boxed(alloc, tighter(alloc, found, after))?;
+        left = Expression::Binary(operator, Box::new(alloc, left)?, right);
         rest = next;
     }
 }
 
 /// An operand of a binary operator of a level.
 #[cycle(expressions)]
-fn tighter<'a>(
-    alloc: Global,
-    level: usize,
-    tokens: &'a [Token],
-) -> Result<(Expression, &'a [Token]), ParseStop<'a>>
+fn tighter<'a>(alloc: Global, level: usize, tokens: &'a [Token]) -> Parsed<'a, Expression>
     ensures ok { IfOk result (λ r. IsRead (operands (level_of level)) tokens.now r.1.now (expression_of r.0)) }
     ensures shorter { IfOk result (λ r. length r.1.now < length tokens.now) }
     ensures ends { IfOk result (λ r. EndsBelow level (first r.1.now)) }
     ensures err { IfErr result (IsStuck (operands (level_of level)) tokens.now) }
 {
     if level == 0 {
-        let (inner, end) = operand(alloc, tokens)?;
-        return Ok((inner, end));
+        return operand(alloc, tokens);
     }
-    let (inner, end) = operands(alloc, level - 1, tokens)?;
-    Ok((inner, end))
+    operands(alloc, level - 1, tokens)
 }
 
 /// An operand: a constant, a name, a name with an index, a prefix with its operand, or an expression in parentheses.
 #[cycle(expressions)]
-fn operand<'a>(
-    alloc: Global,
-    tokens: &'a [Token],
-) -> Result<(Expression, &'a [Token]), ParseStop<'a>>
+fn operand<'a>(alloc: Global, tokens: &'a [Token]) -> Parsed<'a, Expression>
     ensures ok { IfOk result (λ r. IsRead (operands unary_expressions) tokens.now r.1.now (expression_of r.0)) }
     ensures shorter { IfOk result (λ r. length r.1.now < length tokens.now) }
     ensures err { IfErr result (IsStuck (operands unary_expressions) tokens.now) }
@@ -185,21 +164,18 @@ fn operand<'a>(
         Token::Jump(_, _) => Err(ParseStop::Syntax(tokens)),
         Token::Name(name) => match starts(rest, Mark::LeftBracket) {
             Some(after) => {
-                let (index, end) = closed(alloc, after, Mark::RightBracket)?;
-                Ok((Expression::Index(name, Box::new(alloc, index)?), end))
+                let (index, end) = boxed(alloc, closed(alloc, after, Mark::RightBracket))?;
+                Ok((Expression::Index(name, index), end))
             }
             None => Ok((Expression::Name(name), rest)),
         },
         Token::The(mark) => {
             if let Some(operator) = prefix_of(mark) {
-                let (inner, end) = operand(alloc, rest)?;
-                return Ok((Expression::Unary(operator, Box::new(alloc, inner)?), end));
+                let (inner, end) = boxed(alloc, operand(alloc, rest))?;
+                return Ok((Expression::Unary(operator, inner), end));
             }
             match mark {
-                Mark::LeftParen => {
-                    let (inner, end) = closed(alloc, rest, Mark::RightParen)?;
-                    Ok((inner, end))
-                }
+                Mark::LeftParen => closed(alloc, rest, Mark::RightParen),
                 _ => Err(ParseStop::Syntax(tokens)),
             }
         }
@@ -207,10 +183,7 @@ fn operand<'a>(
 }
 
 /// Arguments and their closing parenthesis.
-pub fn arguments<'a>(
-    alloc: Global,
-    tokens: &'a [Token],
-) -> Result<(Vec<Expression>, &'a [Token]), ParseStop<'a>>
+pub fn arguments<'a>(alloc: Global, tokens: &'a [Token]) -> Parsed<'a, Vec<Expression>>
     ensures ok { IfOk result (λ r. IsArgumentsRead tokens.now r.1.now (expressions_of r.0.items)) }
     ensures shorter { IfOk result (λ r. length r.1.now < length tokens.now) }
     ensures err { IfErr result (IsArgumentsStuck tokens.now) }
@@ -246,7 +219,7 @@ fn call_start<'a>(tokens: &'a [Token]) -> Option<(Identifier, &'a [Token])>
 }
 
 /// What a name may be given: an expression or a call.
-pub fn value<'a>(alloc: Global, tokens: &'a [Token]) -> Result<(Value, &'a [Token]), ParseStop<'a>>
+pub fn value<'a>(alloc: Global, tokens: &'a [Token]) -> Parsed<'a, Value>
     ensures ok { IfOk result (λ r. IsRead value tokens.now r.1.now (value_tree r.0)) }
     ensures shorter { IfOk result (λ r. length r.1.now < length tokens.now) }
     ensures err { IfErr result (IsStuck value tokens.now) }

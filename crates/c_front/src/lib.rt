@@ -13,6 +13,7 @@ mod cursor;
 mod declaration;
 mod expression;
 mod fault;
+mod part;
 mod statement;
 mod text;
 mod tree;

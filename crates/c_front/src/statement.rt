@@ -8,25 +8,25 @@ ghost use Rattle.c_front.specs.Parsing.{IsBranchStuck, IsEndedRead, IsEndedStuck
 ghost use Rattle.c_tokens.specs.declared.token.Token.TheVariants.{The, Jump};
 ghost use Rattle.c_tokens.specs.declared.token.Mark.TheVariants.{While, For, Semicolon};
 
-use crate::cursor::{ParseStop, expect, first_name, name, split, starts};
+use crate::cursor::{ParseStop, Parsed, expect, first_name, name, split, starts};
 use crate::expression::{arguments, closed, expression, value};
+use crate::part::{boxed, ended};
 use crate::tree::{Call, Expression, ForParts, Item, Simple, Statement, Value};
 use c_tokens::{IntegerType, JumpWord, Mark, Token};
 use std::alloc::{AllocError, AllocFailed, Global};
 
 /// The value after an equals sign.
-fn assigned<'a>(alloc: Global, tokens: &'a [Token]) -> Result<(Value, &'a [Token]), ParseStop<'a>>
+fn assigned<'a>(alloc: Global, tokens: &'a [Token]) -> Parsed<'a, Value>
     ensures ok { IfOk result (λ r. IsAssignedRead tokens.now r.1.now (value_tree r.0)) }
     ensures shorter { IfOk result (λ r. length r.1.now < length tokens.now) }
     ensures err { IfErr result (IsAssignedStuck tokens.now) }
 {
     let start = expect(tokens, Mark::Assign)?;
-    let (given, end) = value(alloc, start)?;
-    Ok((given, end))
+    value(alloc, start)
 }
 
 /// An assignment, an indexed assignment or a call.
-fn simple<'a>(alloc: Global, tokens: &'a [Token]) -> Result<(Simple, &'a [Token]), ParseStop<'a>>
+fn simple<'a>(alloc: Global, tokens: &'a [Token]) -> Parsed<'a, Simple>
     ensures ok { IfOk result (λ r. IsRead simple tokens.now r.1.now (simple_of r.0)) }
     ensures shorter { IfOk result (λ r. length r.1.now < length tokens.now) }
     ensures err { IfErr result (IsStuck simple tokens.now) }
@@ -47,17 +47,13 @@ fn simple<'a>(alloc: Global, tokens: &'a [Token]) -> Result<(Simple, &'a [Token]
 }
 
 /// A condition in parentheses.
-fn condition<'a>(
-    alloc: Global,
-    tokens: &'a [Token],
-) -> Result<(Expression, &'a [Token]), ParseStop<'a>>
+fn condition<'a>(alloc: Global, tokens: &'a [Token]) -> Parsed<'a, Expression>
     ensures ok { IfOk result (λ r. IsConditionRead tokens.now r.1.now (expression_of r.0)) }
     ensures shorter { IfOk result (λ r. length r.1.now < length tokens.now) }
     ensures err { IfErr result (IsConditionStuck tokens.now) }
 {
     let open = expect(tokens, Mark::LeftParen)?;
-    let (inner, end) = closed(alloc, open, Mark::RightParen)?;
-    Ok((inner, end))
+    closed(alloc, open, Mark::RightParen)
 }
 
 /// The type at the front, if one stands here: `int`, `unsigned` or `unsigned int`.
@@ -77,11 +73,7 @@ pub fn integer_type<'a>(tokens: &'a [Token]) -> Option<(IntegerType, &'a [Token]
 }
 
 /// A simple statement, if one stands here, and the mark that has to follow.
-fn ended_simple<'a>(
-    alloc: Global,
-    tokens: &'a [Token],
-    closing: Mark,
-) -> Result<(Option<Simple>, &'a [Token]), ParseStop<'a>>
+fn ended_simple<'a>(alloc: Global, tokens: &'a [Token], closing: Mark) -> Parsed<'a, Option<Simple>>
     ensures ok { IfOk result (λ r. IsEndedRead maybe_simple closing tokens.now r.1.now (maybe_simple_of r.0)) }
     ensures shorter { IfOk result (λ r. length r.1.now < length tokens.now) }
     ensures err { IfErr result (IsEndedStuck maybe_simple closing tokens.now) }
@@ -92,18 +84,14 @@ fn ended_simple<'a>(
             Ok((None, end))
         }
         Some(_) => {
-            let (inner, close) = simple(alloc, tokens)?;
-            let end = expect(close, closing)?;
+            let (inner, end) = ended(simple(alloc, tokens), closing)?;
             Ok((Some(inner), end))
         }
     }
 }
 
 /// An expression, if one stands here, and the semicolon that has to follow.
-fn ended_expression<'a>(
-    alloc: Global,
-    tokens: &'a [Token],
-) -> Result<(Option<Expression>, &'a [Token]), ParseStop<'a>>
+fn ended_expression<'a>(alloc: Global, tokens: &'a [Token]) -> Parsed<'a, Option<Expression>>
     ensures ok { IfOk result (λ r. IsEndedRead maybe_expression Semicolon tokens.now r.1.now (maybe_expression_of r.0)) }
     ensures shorter { IfOk result (λ r. length r.1.now < length tokens.now) }
     ensures err { IfErr result (IsEndedStuck maybe_expression Semicolon tokens.now) }
@@ -116,10 +104,7 @@ fn ended_expression<'a>(
 }
 
 /// The parts of a `for` in their parentheses.
-fn for_parts<'a>(
-    alloc: Global,
-    tokens: &'a [Token],
-) -> Result<(Box<ForParts>, &'a [Token]), ParseStop<'a>>
+fn for_parts<'a>(alloc: Global, tokens: &'a [Token]) -> Parsed<'a, Box<ForParts>>
     ensures ok { IfOk result (λ r. IsHeadRead tokens.now r.1.now (maybe_simple_of r.0.value.first) (maybe_expression_of r.0.value.test) (maybe_simple_of r.0.value.last)) }
     ensures shorter { IfOk result (λ r. length r.1.now < length tokens.now) }
     ensures err { IfErr result (IsHeadStuck tokens.now) }
@@ -133,12 +118,7 @@ fn for_parts<'a>(
 }
 
 /// What stands after `break`, `continue` or `return`.
-fn jump<'a>(
-    alloc: Global,
-    word: JumpWord,
-    at: usize,
-    tokens: &'a [Token],
-) -> Result<(Statement, &'a [Token]), ParseStop<'a>>
+fn jump<'a>(alloc: Global, word: JumpWord, at: usize, tokens: &'a [Token]) -> Parsed<'a, Statement>
     ensures ok { IfOk result (λ r. IsRead a_statement (Jump word at ∷ tokens.now) r.1.now (statement_of r.0)) }
     ensures shorter { IfOk result (λ r. length r.1.now < length tokens.now) }
     ensures err { IfErr result (IsStuck a_statement (Jump word at ∷ tokens.now)) }
@@ -161,10 +141,7 @@ fn jump<'a>(
 
 /// A statement.
 #[cycle(statements)]
-fn statement<'a>(
-    alloc: Global,
-    tokens: &'a [Token],
-) -> Result<(Statement, &'a [Token]), ParseStop<'a>>
+fn statement<'a>(alloc: Global, tokens: &'a [Token]) -> Parsed<'a, Statement>
     ensures ok { IfOk result (λ r. IsRead a_statement tokens.now r.1.now (statement_of r.0)) }
     ensures shorter { IfOk result (λ r. length r.1.now < length tokens.now) }
     ensures err { IfErr result (IsStuck a_statement tokens.now) }
@@ -174,59 +151,38 @@ fn statement<'a>(
     };
     match token {
         Token::Name(_) => {
-            let (inner, close) = simple(alloc, tokens)?;
-            let end = expect(close, Mark::Semicolon)?;
+            let (inner, end) = ended(simple(alloc, tokens), Mark::Semicolon)?;
             Ok((Statement::Simply(inner), end))
         }
         Token::The(mark) => match mark {
             Mark::Semicolon => Ok((Statement::Empty, rest)),
             Mark::LeftBrace => {
-                let (all, close) = items(alloc, rest)?;
-                let end = expect(close, Mark::RightBrace)?;
+                let (all, end) = ended(items(alloc, rest), Mark::RightBrace)?;
                 Ok((Statement::Block(all), end))
             }
-            Mark::If => {
-                let (whole, end) = if_then(alloc, rest)?;
-                Ok((whole, end))
-            }
-            Mark::While => {
-                let (whole, end) = while_loop(alloc, rest)?;
-                Ok((whole, end))
-            }
-            Mark::For => {
-                let (whole, end) = for_loop(alloc, rest)?;
-                Ok((whole, end))
-            }
+            Mark::If => if_then(alloc, rest),
+            Mark::While => while_loop(alloc, rest),
+            Mark::For => for_loop(alloc, rest),
             _ => Err(ParseStop::Syntax(tokens)),
         },
-        Token::Jump(word, at) => {
-            let (whole, end) = jump(alloc, word, at, rest)?;
-            Ok((whole, end))
-        }
+        Token::Jump(word, at) => jump(alloc, word, at, rest),
         Token::Constant(_) => Err(ParseStop::Syntax(tokens)),
     }
 }
 
 /// What stands after `if`.
 #[cycle(statements)]
-fn if_then<'a>(
-    alloc: Global,
-    tokens: &'a [Token],
-) -> Result<(Statement, &'a [Token]), ParseStop<'a>>
+fn if_then<'a>(alloc: Global, tokens: &'a [Token]) -> Parsed<'a, Statement>
     ensures ok { IfOk result (λ r. IsBranchRead tokens.now r.1.now (statement_of r.0)) }
     ensures shorter { IfOk result (λ r. length r.1.now < length tokens.now) }
     ensures err { IfErr result (IsBranchStuck tokens.now) }
 {
     let (test, start) = condition(alloc, tokens)?;
-    let (first, rest) = statement(alloc, start)?;
-    let first = Box::new(alloc, first)?;
+    let (first, rest) = boxed(alloc, statement(alloc, start))?;
     match starts(rest, Mark::Else) {
         Some(after) => {
-            let (second, end) = statement(alloc, after)?;
-            Ok((
-                Statement::IfElse(test, first, Box::new(alloc, second)?),
-                end,
-            ))
+            let (second, end) = boxed(alloc, statement(alloc, after))?;
+            Ok((Statement::IfElse(test, first, second), end))
         }
         None => Ok((Statement::If(test, first), rest)),
     }
@@ -234,39 +190,30 @@ fn if_then<'a>(
 
 /// What stands after `while`.
 #[cycle(statements)]
-fn while_loop<'a>(
-    alloc: Global,
-    tokens: &'a [Token],
-) -> Result<(Statement, &'a [Token]), ParseStop<'a>>
+fn while_loop<'a>(alloc: Global, tokens: &'a [Token]) -> Parsed<'a, Statement>
     ensures ok { IfOk result (λ r. IsRead a_statement (The While ∷ tokens.now) r.1.now (statement_of r.0)) }
     ensures shorter { IfOk result (λ r. length r.1.now < length tokens.now) }
     ensures err { IfErr result (IsStuck a_statement (The While ∷ tokens.now)) }
 {
     let (test, start) = condition(alloc, tokens)?;
-    let (body, end) = statement(alloc, start)?;
-    Ok((Statement::While(test, Box::new(alloc, body)?), end))
+    let (body, end) = boxed(alloc, statement(alloc, start))?;
+    Ok((Statement::While(test, body), end))
 }
 
 /// What stands after `for`.
 #[cycle(statements)]
-fn for_loop<'a>(
-    alloc: Global,
-    tokens: &'a [Token],
-) -> Result<(Statement, &'a [Token]), ParseStop<'a>>
+fn for_loop<'a>(alloc: Global, tokens: &'a [Token]) -> Parsed<'a, Statement>
     ensures ok { IfOk result (λ r. IsRead a_statement (The For ∷ tokens.now) r.1.now (statement_of r.0)) }
     ensures shorter { IfOk result (λ r. length r.1.now < length tokens.now) }
     ensures err { IfErr result (IsStuck a_statement (The For ∷ tokens.now)) }
 {
     let (parts, start) = for_parts(alloc, tokens)?;
-    let (body, end) = statement(alloc, start)?;
-    Ok((Statement::For(parts, Box::new(alloc, body)?), end))
+    let (body, end) = boxed(alloc, statement(alloc, start))?;
+    Ok((Statement::For(parts, body), end))
 }
 
 /// The first value of a local variable, if one stands here.
-fn first_value<'a>(
-    alloc: Global,
-    tokens: &'a [Token],
-) -> Result<(Option<Value>, &'a [Token]), ParseStop<'a>>
+fn first_value<'a>(alloc: Global, tokens: &'a [Token]) -> Parsed<'a, Option<Value>>
     ensures ok { IfOk result (λ r. IsRead declared tokens.now r.1.now (maybe_value_tree r.0)) }
     ensures shorter { IfOk result (λ r. length r.1.now ≤ length tokens.now) }
     ensures err { IfErr result (IsStuck declared tokens.now) }
@@ -282,7 +229,7 @@ fn first_value<'a>(
 
 /// A declaration of a local variable, or a statement.
 #[cycle(statements)]
-fn item<'a>(alloc: Global, tokens: &'a [Token]) -> Result<(Item, &'a [Token]), ParseStop<'a>>
+fn item<'a>(alloc: Global, tokens: &'a [Token]) -> Parsed<'a, Item>
     ensures ok { IfOk result (λ r. IsRead an_item tokens.now r.1.now (item_of r.0)) }
     ensures shorter { IfOk result (λ r. length r.1.now < length tokens.now) }
     ensures err { IfErr result (IsStuck an_item tokens.now) }
@@ -290,8 +237,7 @@ fn item<'a>(alloc: Global, tokens: &'a [Token]) -> Result<(Item, &'a [Token]), P
     match integer_type(tokens) {
         Some((integer_type, after)) => {
             let (name, start) = name(after)?;
-            let (given, close) = first_value(alloc, start)?;
-            let end = expect(close, Mark::Semicolon)?;
+            let (given, end) = ended(first_value(alloc, start), Mark::Semicolon)?;
             Ok((Item::Declare(integer_type, name, given), end))
         }
         None => {
@@ -319,10 +265,7 @@ fn ends_items(tokens: &[Token]) -> bool
 
 /// The items up to a closing brace, or to the end.
 #[cycle(statements)]
-pub fn items<'a>(
-    alloc: Global,
-    tokens: &'a [Token],
-) -> Result<(Vec<Item>, &'a [Token]), ParseStop<'a>>
+pub fn items<'a>(alloc: Global, tokens: &'a [Token]) -> Parsed<'a, Vec<Item>>
     ensures ok { IfOk result (λ r. IsRead items tokens.now r.1.now (items_of r.0.items)) }
     ensures shorter { IfOk result (λ r. length r.1.now ≤ length tokens.now) }
     ensures err { IfErr result (IsStuck items tokens.now) }

@@ -6,4 +6,4 @@ pub mod Runs
 pub mod Stood
 pub mod Reading
 pub mod Ends
-pub mod Addresses
+pub mod Values

@@ -1,5 +1,6 @@
 -- Where a text is cut.
-use Rattle.std.proofs.Common.{◌≡◌, ℕ, ◌+◌, ◌-◌, ◌<◌, List, [], ◌∷◌, ◌++◌, Bool, true, false, Some, None, length, suc, take, drop, get_or, position, ◌==◌, sym, refl, arith}
+use Rattle.std.proofs.Common.{◌≡◌, ℕ, ◌+◌, ◌-◌, ◌<◌, List, [], ◌∷◌, ◌++◌, Bool, true, false, Some, None, length, suc, take, drop, get_or, position}
+use Rattle.std.proofs.Common.{◌==◌, sym, refl, arith}
 use Rattle.std.specs.List.{position_or_len}
 use Rattle.std.proofs.lemmas.List.{take_rest, take-append-drop, drop_more, take_at, drop_at, append_assoc, length-append, take_all}
 use Rattle.std.proofs.lemmas.List.Quantifiers.{position-Some}

@@ -19,7 +19,8 @@ pub record Reading (text rest : List ℕ) (count : ℕ) (p : StageParts) : Type 
 pub reading_start : (text : List ℕ) → Reading text text 0 AtBlock
 reading_start text = record { seen = []; whole = refl; counted = refl; stood = refl; only = λ q r. sym r }
 
-pub reading_step : (text rest after l : List ℕ) (n : ℕ) (p q : StageParts) → Reading text rest n p → lines_of rest ≡ l ∷ lines_of after → LeadsTo p l (Some q) → Reading text after (n + 1) q
+pub reading_step : (text rest after l : List ℕ) (n : ℕ) (p q : StageParts) → Reading text rest n p → lines_of rest ≡ l ∷ lines_of after
+    → LeadsTo p l (Some q) → Reading text after (n + 1) q
 reading_step text rest after l n p q r e s = record {
   seen = r.seen ++ l ∷ [];
   whole = r.whole ∙ ap (λ xs. r.seen ++ xs) e ∙ sym (append_assoc r.seen (l ∷ []) (lines_of after));
@@ -42,13 +43,15 @@ no_start seen more l p b o only none s =
     let mid : StageParts = parts.2.0 in
     none mid (subst (λ (y : StageParts). Steps y l mid) same parts.2.1)
 
-pub fails_here : (text rest after l : List ℕ) (n : ℕ) (p : StageParts) → Reading text rest n p → lines_of rest ≡ l ∷ lines_of after → LeadsTo p l None → FailsAt (lines_of text) n
+pub fails_here : (text rest after l : List ℕ) (n : ℕ) (p : StageParts) → Reading text rest n p → lines_of rest ≡ l ∷ lines_of after → LeadsTo p l None
+    → FailsAt (lines_of text) n
 fails_here text rest after l n p r e none =
     let whole : lines_of text ≡ r.seen ++ l ∷ lines_of after = r.whole ∙ ap (λ xs. r.seen ++ xs) e in
     let before : take n (lines_of text) ≡ r.seen = ap (λ xs. take n xs) whole ∙ take_at r.seen (l ∷ lines_of after) n r.counted in
     let split : lines_of text ≡ (r.seen ++ l ∷ []) ++ lines_of after = whole ∙ sym (append_assoc r.seen (l ∷ []) (lines_of after)) in
     let long : length (r.seen ++ l ∷ []) ≡ n + 1 = omega (arith, length-append r.seen (l ∷ []), r.counted) in
-    let upto : take (n + 1) (lines_of text) ≡ r.seen ++ l ∷ [] = ap (λ xs. take (n + 1) xs) split ∙ take_at (r.seen ++ l ∷ []) (lines_of after) (n + 1) long in
+    let upto : take (n + 1) (lines_of text) ≡ r.seen ++ l ∷ [] =
+    ap (λ xs. take (n + 1) xs) split ∙ take_at (r.seen ++ l ∷ []) (lines_of after) (n + 1) long in
     let size : length (lines_of text) ≡ length (r.seen ++ l ∷ lines_of after) = ap length whole in
     let inside : n < length (lines_of text) = omega (arith, size, length-append r.seen (l ∷ lines_of after), r.counted) in (
       subst (λ (xs : List (List ℕ)). Begins xs) (sym before) (begins p r.seen r.stood),
@@ -56,13 +59,15 @@ fails_here text rest after l n p r e none =
         inside,
         λ h.
             let k : Begins (r.seen ++ l ∷ []) = subst (λ (xs : List (List ℕ)). Begins xs) upto h in
-            let spelled : SpellsPair (r.seen ++ l ∷ k.0) k.1 k.2 = subst (λ (xs : List (List ℕ)). SpellsPair xs k.1 k.2) (append_assoc r.seen (l ∷ []) k.0) k.3 in
+            let spelled : SpellsPair (r.seen ++ l ∷ k.0) k.1 k.2 =
+            subst (λ (xs : List (List ℕ)). SpellsPair xs k.1 k.2) (append_assoc r.seen (l ∷ []) k.0) k.3 in
             no_start r.seen k.0 l p k.1 k.2 r.only none spelled,
       ),
     )
 
 -- a text that is spelled doesn't fail
-pub no_fail : (text rest after l : List ℕ) (n : ℕ) (p : StageParts) (b : BlockParts) (o : OrderParts) → Reading text rest n p → lines_of rest ≡ l ∷ lines_of after → LeadsTo p l None → SpellsPair (lines_of text) b o → ⊥
+pub no_fail : (text rest after l : List ℕ) (n : ℕ) (p : StageParts) (b : BlockParts) (o : OrderParts) → Reading text rest n p
+    → lines_of rest ≡ l ∷ lines_of after → LeadsTo p l None → SpellsPair (lines_of text) b o → ⊥
 no_fail text rest after l n p b o r e none s =
     let whole : lines_of text ≡ r.seen ++ l ∷ lines_of after = r.whole ∙ ap (λ xs. r.seen ++ xs) e in
     no_start r.seen (lines_of after) l p b o r.only none (subst (λ (xs : List (List ℕ)). SpellsPair xs b o) whole s)
@@ -77,7 +82,8 @@ is_done text n p b o r s =
 pub ends_done : (text : List ℕ) (n : ℕ) (b : BlockParts) (o : OrderParts) → Reading text [] n (Done b o) → SpellsPair (lines_of text) b o
 ends_done text n b o r = subst (λ (xs : List (List ℕ)). SpellsPair xs b o) (sym (all_seen text n (Done b o) r)) r.stood
 
-pub ends_early : (text : List ℕ) (n : ℕ) (p : StageParts) → Reading text [] n p → ((b : BlockParts) (o : OrderParts) → Done b o ≡ p → ⊥) → FailsAt (lines_of text) n
+pub ends_early : (text : List ℕ) (n : ℕ) (p : StageParts) → Reading text [] n p → ((b : BlockParts) (o : OrderParts) → Done b o ≡ p → ⊥)
+    → FailsAt (lines_of text) n
 ends_early text n p r not_done =
     let all : lines_of text ≡ r.seen = all_seen text n p r in
     let before : take n (lines_of text) ≡ r.seen = ap (λ xs. take n xs) (all ∙ sym (append-nil r.seen)) ∙ take_at r.seen [] n r.counted in (

@@ -1,5 +1,6 @@
 -- What a reader's spot says of the lines before it.
-use Rattle.std.proofs.Common.{◌≡◌, ◌∙◌, ℕ, ◌<◌, ◌≤◌, inl, inr, List, [], ◌∷◌, ◌++◌, Bool, true, false, Option, Some, None, length, refl, sym, ap, subst, arith, codes, is_some}
+use Rattle.std.proofs.Common.{◌≡◌, ◌∙◌, ℕ, ◌<◌, ◌≤◌, inl, inr, List, [], ◌∷◌, ◌++◌, Bool, true, false, Option, Some, None, length, refl, sym, ap}
+use Rattle.std.proofs.Common.{subst, arith, codes, is_some}
 use Rattle.std.proofs.lemmas.List.{append_assoc, append-nil, length-append}
 use Rattle.mips_isa.specs.declared.inst.Plain.{Plain}
 use Rattle.mips_isa.specs.declared.inst.Plain.TheVariants.{Shift}
@@ -56,7 +57,8 @@ all_push [] (j ∷ is) l i a h = absurd a
 all_push (k ∷ ls) [] l i a h = absurd a
 all_push (k ∷ ls) (j ∷ is) l i a h = (a.0, all_push ls is l i a.1 h)
 
-more_in_block : (is : List Plain) (ls : List (List ℕ)) (l : List ℕ) (i : Plain) → BlockBegun is ls → SpellsPlain l i → length is < 512 → BlockBegun (is ++ i ∷ []) (ls ++ l ∷ [])
+more_in_block : (is : List Plain) (ls : List (List ℕ)) (l : List ℕ) (i : Plain) → BlockBegun is ls → SpellsPlain l i → length is < 512
+    → BlockBegun (is ++ i ∷ []) (ls ++ l ∷ [])
 more_in_block is ls l i s h n = record {
   lines = s.lines ++ l ∷ [];
   whole = ap (λ xs. xs ++ l ∷ []) s.whole;
@@ -64,7 +66,8 @@ more_in_block is ls l i s h n = record {
   size = omega (arith, length-append is (i ∷ []));
 }
 
-block_left : (is : List Plain) (ls : List (List ℕ)) (l : List ℕ) (e : Exit) → BlockBegun is ls → SpellsExit l e → BlockRead (record { insts = is; exit = e }) (ls ++ l ∷ [])
+block_left : (is : List Plain) (ls : List (List ℕ)) (l : List ℕ) (e : Exit) → BlockBegun is ls → SpellsExit l e
+    → BlockRead (record { insts = is; exit = e }) (ls ++ l ∷ [])
 block_left is ls l e s h = record {
   lines = s.lines;
   exit = l;
@@ -84,7 +87,8 @@ order_begun b ls l s e = record {
   size = omega arith;
 }
 
-more_in_order : (b : BlockParts) (is : List Plain) (ls : List (List ℕ)) (l : List ℕ) (i : Plain) → OrderBegun b is ls → SpellsPlain l i → length is < 2048 → OrderBegun b (is ++ i ∷ []) (ls ++ l ∷ [])
+more_in_order : (b : BlockParts) (is : List Plain) (ls : List (List ℕ)) (l : List ℕ) (i : Plain) → OrderBegun b is ls → SpellsPlain l i
+    → length is < 2048 → OrderBegun b (is ++ i ∷ []) (ls ++ l ∷ [])
 more_in_order b is ls l i s h n = record {
   before = s.before;
   lines = s.lines ++ l ∷ [];
@@ -109,7 +113,8 @@ spelled_whole b is e slot ls last exit s h w v =
       order_lines = s.lines;
       order_exit = exit;
       last_lines = last;
-      whole = second ∙ ap (λ xs. codes "block" ∷ xs) (append_assoc (block.lines ++ block.exit ∷ []) (codes "order" ∷ s.lines) (exit ∷ last) ∙ append_assoc block.lines (block.exit ∷ []) (codes "order" ∷ (s.lines ++ exit ∷ last)));
+      whole = second ∙ ap (λ xs. codes "block" ∷ xs) (append_assoc (block.lines ++ block.exit ∷ []) (codes "order" ∷ s.lines) (exit ∷ last)
+          ∙ append_assoc block.lines (block.exit ∷ []) (codes "order" ∷ (s.lines ++ exit ∷ last)));
       block = block.spelled;
       leaves_block = block.leaves;
       order = s.spelled;
@@ -120,11 +125,13 @@ spelled_whole b is e slot ls last exit s h w v =
       order_size = s.size;
     }
 
-order_left : (b : BlockParts) (is : List Plain) (e : Exit) (ls : List (List ℕ)) (l : List ℕ) (v : Bool) → is_slotted e ≡ v → OrderBegun b is ls → SpellsExit l e → Stood (after_exit b is e) (ls ++ l ∷ [])
+order_left : (b : BlockParts) (is : List Plain) (e : Exit) (ls : List (List ℕ)) (l : List ℕ) (v : Bool) → is_slotted e ≡ v → OrderBegun b is ls
+    → SpellsExit l e → Stood (after_exit b is e) (ls ++ l ∷ [])
 order_left b is e ls l true v s h = rw v (record { before = ls; exit = l; order = s; whole = refl; leaves = h; slotted = v })
 order_left b is e ls l false v s h = rw v (spelled_whole b is e None ls [] l s h refl (sym v))
 
-slot_read : (b : BlockParts) (is : List Plain) (e : Exit) (ls : List (List ℕ)) (l : List ℕ) (i : Plain) → OrderLeft b is e ls → SpellsSlot l i → SpellsPair (ls ++ l ∷ []) b (order_of is e (Some i))
+slot_read : (b : BlockParts) (is : List Plain) (e : Exit) (ls : List (List ℕ)) (l : List ℕ) (i : Plain) → OrderLeft b is e ls → SpellsSlot l i
+    → SpellsPair (ls ++ l ∷ []) b (order_of is e (Some i))
 slot_read b is e ls l i s h =
     let all : ls ++ l ∷ [] ≡ s.before ++ s.exit ∷ (l ∷ []) = ap (λ xs. xs ++ l ∷ []) s.whole ∙ append_assoc s.before (s.exit ∷ []) (l ∷ []) in
     subst (λ (xs : List (List ℕ)). SpellsPair xs b (order_of is e (Some i))) (sym all)
@@ -136,7 +143,8 @@ stood_steps (InBlock is) q ls l s (inl (i, h, n, f)) = rw f (more_in_block is ls
 stood_steps (InBlock is) q ls l s (inr (e, h, f)) = rw f (block_left is ls l e s h)
 stood_steps (AtOrder b) q ls l s (e, f) = rw f (order_begun b ls l s e)
 stood_steps (InOrder b is) q ls l s (inl (i, h, n, f)) = rw f (more_in_order b is ls l i s h n)
-stood_steps (InOrder b is) q ls l s (inr (e, h, f)) = subst (λ (x : StageParts). Stood x (ls ++ l ∷ [])) (sym f) (order_left b is e ls l (is_slotted e) refl s h)
+stood_steps (InOrder b is) q ls l s (inr (e, h, f)) = subst (λ (x : StageParts). Stood x (ls ++ l ∷ [])) (sym f)
+    (order_left b is e ls l (is_slotted e) refl s h)
 stood_steps (AtSlot b is e) q ls l s (i, h, f) = rw f (slot_read b is e ls l i s h)
 stood_steps (Done b o) q ls l s h = absurd h
 
@@ -166,7 +174,8 @@ by_order b ls s = shorter ls (codes "order") (by_order_exit b [] (ls ++ codes "o
 
 by_block_exit : (is : List Plain) (ls : List (List ℕ)) → BlockBegun is ls → Begins ls
 by_block_exit is ls s =
-    shorter ls (codes "return") (by_order (record { insts = is; exit = Return }) (ls ++ codes "return" ∷ []) (block_left is ls (codes "return") Return s (tt, refl)))
+    shorter ls (codes "return") (by_order (record { insts = is; exit = Return }) (ls ++ codes "return" ∷ [])
+    (block_left is ls (codes "return") Return s (tt, refl)))
 
 -- wherever the reader stands, some text goes on from there
 pub begins : (p : StageParts) (ls : List (List ℕ)) → Stood p ls → Begins ls

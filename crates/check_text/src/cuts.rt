@@ -29,29 +29,6 @@ pub fn cut(text: &[u8], mark: u8) -> Option<Halves<'_>>
     })
 }
 
-/// Three texts that stood with commas between them.
-#[derive(Clone, Copy)]
-pub struct Parts<'a> {
-    pub first: &'a [u8],
-    pub second: &'a [u8],
-    pub third: &'a [u8],
-}
-
-/// The text cut at its first two commas.
-pub fn parts_of(text: &[u8]) -> Option<Parts<'_>>
-    ensures found { IfSome result (λ t. text.now ≡ t.first.now ++ 44 ∷ (t.second.now ++ 44 ∷ t.third.now)) }
-    ensures only { (a b c : List ℕ) → lacks 44 a ≡ true → lacks 44 b ≡ true → text.now ≡ a ++ 44 ∷ (b ++ 44 ∷ c)
-        → IsSomeAnd result (λ t. (t.first.now ≡ a) × (t.second.now ≡ b) × (t.third.now ≡ c)) }
-{
-    let outer = cut(text, b',')?;
-    let inner = cut(outer.after, b',')?;
-    Some(Parts {
-        first: outer.before,
-        second: inner.before,
-        third: inner.after,
-    })
-}
-
 /// The first line of a text that isn't empty, and what follows it.
 pub fn first_line(text: &[u8]) -> Halves<'_>
     requires { 0 < length text.now }

@@ -14,6 +14,7 @@ mod names;
 mod numbers;
 mod operands;
 mod reader;
+mod spelled;
 mod stage;
 
 pub use fault::PairFault;

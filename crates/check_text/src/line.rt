@@ -6,12 +6,12 @@ ghost use Rattle.check_text.specs.Spelling.{SpellsPlain, SpellsExit, HasTargets}
 ghost use Rattle.check_text.specs.declared.names.ExitName.TheVariants as names;
 ghost use Rattle.check_text.specs.declared.names.ExitName.{ExitName};
 
-use crate::cuts::{cut, parts_of};
+use crate::cuts::cut;
 use crate::names::{ExitName, exit_named, mnemonic_named};
-use crate::numbers::{block_of, register_of};
 use crate::operands::operands;
+use crate::spelled::{Spelled, three, two};
 use mblock::{BlockNumber, Exit};
-use mips_isa::{PairTest, Plain, ZeroTest};
+use mips_isa::{PairTest, Plain, Reg, ZeroTest};
 
 /// The instruction that the line spells, if it spells one: as it is printed by Plain's Display, or
 /// `sll $0,$0,0` for `nop`.
@@ -34,15 +34,15 @@ struct TwoBlocks {
     second: BlockNumber,
 }
 
-fn two_blocks(text: &[u8]) -> Option<TwoBlocks>
-    ensures found { IfSome result (λ t. (t.first < 2 ^ 20) × (t.second < 2 ^ 20) × (text.now ≡ decimal t.first ++ 44 ∷ decimal t.second)) }
-    ensures only { (a b : ℕ) → a < 2 ^ 20 → b < 2 ^ 20 → text.now ≡ decimal a ++ 44 ∷ decimal b
-        → IsSomeAnd result (λ t. (t.first ≡ a) × (t.second ≡ b)) }
-{
-    let halves = cut(text, b',')?;
-    let first = block_of(halves.before)?;
-    let second = block_of(halves.after)?;
-    Some(TwoBlocks { first, second })
+impl Spelled for TwoBlocks {
+    ghost fits = { λ t. (t.first < 2 ^ 20) × (t.second < 2 ^ 20) };
+
+    ghost spelling = { λ t. decimal t.first ++ 44 ∷ decimal t.second };
+
+    fn read(text: &[u8]) -> Option<TwoBlocks> {
+        let (first, second) = two::<BlockNumber, BlockNumber>(text)?;
+        Some(TwoBlocks { first, second })
+    }
 }
 
 fn pair(test: PairTest, text: &[u8]) -> Option<Exit>
@@ -50,10 +50,7 @@ fn pair(test: PairTest, text: &[u8]) -> Option<Exit>
     ensures only { (rs rt t e : ℕ) → HasTargets (names.BranchPair test) text.now (exits.BranchPair test rs rt t e)
         → result ≡ Some (exits.BranchPair test rs rt t e) }
 {
-    let parts = parts_of(text)?;
-    let rs = register_of(parts.first)?;
-    let rt = register_of(parts.second)?;
-    let targets = two_blocks(parts.third)?;
+    let (rs, rt, targets) = three::<Reg, Reg, TwoBlocks>(text)?;
     Some(Exit::BranchPair {
         test,
         rs,
@@ -68,9 +65,7 @@ fn zero(test: ZeroTest, text: &[u8]) -> Option<Exit>
     ensures only { (rs t e : ℕ) → HasTargets (names.BranchZero test) text.now (exits.BranchZero test rs t e)
         → result ≡ Some (exits.BranchZero test rs t e) }
 {
-    let halves = cut(text, b',')?;
-    let rs = register_of(halves.before)?;
-    let targets = two_blocks(halves.after)?;
+    let (rs, targets) = two::<Reg, TwoBlocks>(text)?;
     Some(Exit::BranchZero {
         test,
         rs,
@@ -83,7 +78,7 @@ fn call(text: &[u8]) -> Option<Exit>
     ensures found { IfSome result (HasTargets names.Call text.now) }
     ensures only { (f n : ℕ) → HasTargets names.Call text.now (exits.Call f n) → result ≡ Some (exits.Call f n) }
 {
-    let targets = two_blocks(text)?;
+    let targets = TwoBlocks::read(text)?;
     Some(Exit::Call {
         function: targets.first,
         next: targets.second,
@@ -96,11 +91,11 @@ fn targets(name: ExitName, text: &[u8]) -> Option<Exit>
     ensures only { (e : Exit) → HasTargets name text.now e → result ≡ Some e }
 {
     match name {
-        ExitName::Goto => Some(Exit::Goto(block_of(text)?)),
+        ExitName::Goto => Some(Exit::Goto(BlockNumber::read(text)?)),
         ExitName::BranchPair(test) => pair(test, text),
         ExitName::BranchZero(test) => zero(test, text),
         ExitName::Call => call(text),
-        ExitName::Out => Some(Exit::Out(block_of(text)?)),
+        ExitName::Out => Some(Exit::Out(BlockNumber::read(text)?)),
     }
 }
 

@@ -1,102 +1,126 @@
-ghost use Rattle.std.specs.Prelude.{◌≡◌, ℕ, ℤ, ◌^◌, ◌<◌, IfSome, Some, decimal, FitsSigned};
+// Numbers and registers as texts.
+
+ghost use Rattle.std.specs.Prelude.{◌<◌, ◌^◌, decimal, FitsSigned};
 ghost use Rattle.std.specs.Fmt.{signed_decimal};
 ghost use Rattle.std.specs.Int.{w16};
 ghost use Rattle.mips_isa.specs.Texts.{register_text};
 
+use crate::spelled::Spelled;
 use itoa::Buffer;
 use mblock::BlockNumber;
 use mips_isa::{Amount, NonzeroReg, Reg};
 use std::str;
 
-/// The number that the text is in decimal, without leading zeros.
-pub fn number_of(text: &[u8]) -> Option<u32>
-    ensures found { IfSome result (λ n. text.now ≡ decimal n) }
-    ensures only { (n : ℕ) → n < 2 ^ 32 → text.now ≡ decimal n → result ≡ Some n }
-{
-    match str::from_utf8(text) {
-        Err(_) => None,
-        Ok(s) => match s.parse::<u32>() {
+/// A number in decimal, without leading zeros.
+impl Spelled for u32 {
+    ghost fits = { λ n. n < 2 ^ 32 };
+
+    ghost spelling = { λ n. decimal n };
+
+    fn read(text: &[u8]) -> Option<u32> {
+        match str::from_utf8(text) {
             Err(_) => None,
-            Ok(n) => {
-                let mut buffer = Buffer::new();
-                if buffer.format(n).as_bytes() == text {
-                    Some(n)
-                } else {
-                    None
+            Ok(s) => match s.parse::<u32>() {
+                Err(_) => None,
+                Ok(n) => {
+                    let mut buffer = Buffer::new();
+                    if buffer.format(n).as_bytes() == text {
+                        Some(n)
+                    } else {
+                        None
+                    }
                 }
-            }
-        },
+            },
+        }
     }
 }
 
-/// The signed number that the text is in decimal, without leading zeros, `+` or `-0`.
-pub fn signed_of(text: &[u8]) -> Option<i16>
-    ensures found { IfSome result (λ n. text.now ≡ signed_decimal n) }
-    ensures only { (n : ℤ) → FitsSigned w16 n → text.now ≡ signed_decimal n → result ≡ Some n }
-{
-    match str::from_utf8(text) {
-        Err(_) => None,
-        Ok(s) => match s.parse::<i16>() {
+/// A number below 2^16.
+impl Spelled for u16 {
+    ghost fits = { λ n. n < 2 ^ 16 };
+
+    ghost spelling = { λ n. decimal n };
+
+    fn read(text: &[u8]) -> Option<u16> {
+        let n = u32::read(text)?;
+        u16::try_from(n).ok()
+    }
+}
+
+/// A signed number, without leading zeros, `+` or `-0`.
+impl Spelled for i16 {
+    ghost fits = { λ n. FitsSigned w16 n };
+
+    ghost spelling = { λ n. signed_decimal n };
+
+    fn read(text: &[u8]) -> Option<i16> {
+        match str::from_utf8(text) {
             Err(_) => None,
-            Ok(n) => {
-                let mut buffer = Buffer::new();
-                if buffer.format(n).as_bytes() == text {
-                    Some(n)
-                } else {
-                    None
+            Ok(s) => match s.parse::<i16>() {
+                Err(_) => None,
+                Ok(n) => {
+                    let mut buffer = Buffer::new();
+                    if buffer.format(n).as_bytes() == text {
+                        Some(n)
+                    } else {
+                        None
+                    }
                 }
-            }
-        },
+            },
+        }
     }
 }
 
-/// The number below 2^16 that the text is in decimal, without leading zeros.
-pub fn unsigned_of(text: &[u8]) -> Option<u16>
-    ensures found { IfSome result (λ n. text.now ≡ decimal n) }
-    ensures only { (n : ℕ) → n < 2 ^ 16 → text.now ≡ decimal n → result ≡ Some n }
-{
-    let n = number_of(text)?;
-    u16::try_from(n).ok()
-}
+/// A register by its number.
+impl Spelled for Reg {
+    ghost fits = { λ r. r < 32 };
 
-/// The register that the text names.
-pub fn register_of(text: &[u8]) -> Option<Reg>
-    ensures found { IfSome result (λ r. (r < 32) × (text.now ≡ register_text r)) }
-    ensures only { (r : ℕ) → r < 32 → text.now ≡ register_text r → result ≡ Some r }
-{
-    let digits = text.strip_prefix(b"$")?;
-    let n = number_of(digits)?;
-    if n >= 32 {
-        return None;
+    ghost spelling = { λ r. register_text r };
+
+    fn read(text: &[u8]) -> Option<Reg> {
+        let digits = text.strip_prefix(b"$")?;
+        let n = u32::read(digits)?;
+        if n >= 32 {
+            return None;
+        }
+        Reg::new(n as u8)
     }
-    Reg::new(n as u8)
 }
 
-/// The register other than 0 that the text names.
-pub fn nonzero_of(text: &[u8]) -> Option<NonzeroReg>
-    ensures found { IfSome result (λ r. (0 < r) × (r < 32) × (text.now ≡ register_text r)) }
-    ensures only { (r : ℕ) → 0 < r → r < 32 → text.now ≡ register_text r → result ≡ Some r }
-{
-    let r = register_of(text)?;
-    NonzeroReg::new(r.index())
-}
+/// A register other than 0.
+impl Spelled for NonzeroReg {
+    ghost fits = { λ r. (0 < r) × (r < 32) };
 
-/// The amount of a shift that the text is.
-pub fn amount_of(text: &[u8]) -> Option<Amount>
-    ensures found { IfSome result (λ n. (n < 32) × (text.now ≡ decimal n)) }
-    ensures only { (n : ℕ) → n < 32 → text.now ≡ decimal n → result ≡ Some n }
-{
-    let n = number_of(text)?;
-    if n >= 32 {
-        return None;
+    ghost spelling = { λ r. register_text r };
+
+    fn read(text: &[u8]) -> Option<NonzeroReg> {
+        let r = Reg::read(text)?;
+        NonzeroReg::new(r.index())
     }
-    Amount::new(n as u8)
 }
 
-/// The number of a block that the text is.
-pub fn block_of(text: &[u8]) -> Option<BlockNumber>
-    ensures found { IfSome result (λ n. (n < 2 ^ 20) × (text.now ≡ decimal n)) }
-    ensures only { (n : ℕ) → n < 2 ^ 20 → text.now ≡ decimal n → result ≡ Some n }
-{
-    BlockNumber::new(number_of(text)?)
+/// The amount of a shift.
+impl Spelled for Amount {
+    ghost fits = { λ n. n < 32 };
+
+    ghost spelling = { λ n. decimal n };
+
+    fn read(text: &[u8]) -> Option<Amount> {
+        let n = u32::read(text)?;
+        if n >= 32 {
+            return None;
+        }
+        Amount::new(n as u8)
+    }
+}
+
+/// The number of a block.
+impl Spelled for BlockNumber {
+    ghost fits = { λ n. n < 2 ^ 20 };
+
+    ghost spelling = { λ n. decimal n };
+
+    fn read(text: &[u8]) -> Option<BlockNumber> {
+        BlockNumber::new(u32::read(text)?)
+    }
 }

@@ -7,9 +7,9 @@ ghost use Rattle.mips_isa.specs.declared.text.Mnemonic.TheVariants as mnemonics;
 ghost use Rattle.mips_isa.specs.declared.text.Mnemonic.{Mnemonic};
 ghost use Rattle.check_text.specs.Spelling.{HasOperands};
 
-use crate::cuts::{cut, parts_of};
-use crate::numbers::{amount_of, nonzero_of, register_of, signed_of, unsigned_of};
-use mips_isa::{AluOp, HiLo, ImmOp, LogicOp, Mnemonic, Plain, Reg, ShiftOp};
+use crate::cuts::cut;
+use crate::spelled::{Spelled, three, two};
+use mips_isa::{AluOp, Amount, HiLo, ImmOp, LogicOp, Mnemonic, NonzeroReg, Plain, Reg, ShiftOp};
 use words::Sign;
 
 fn shift(op: ShiftOp, text: &[u8]) -> Option<Plain>
@@ -17,10 +17,7 @@ fn shift(op: ShiftOp, text: &[u8]) -> Option<Plain>
     ensures only { (rd rt n : ℕ) → HasOperands (mnemonics.Shift op) text.now (plains.Shift op rd rt n)
         → result ≡ Some (plains.Shift op rd rt n) }
 {
-    let parts = parts_of(text)?;
-    let rd = register_of(parts.first)?;
-    let rt = register_of(parts.second)?;
-    let amount = amount_of(parts.third)?;
+    let (rd, rt, amount) = three::<Reg, Reg, Amount>(text)?;
     Some(Plain::Shift { op, rd, rt, amount })
 }
 
@@ -29,10 +26,7 @@ fn shift_by(op: ShiftOp, text: &[u8]) -> Option<Plain>
     ensures only { (rd rt rs : ℕ) → HasOperands (mnemonics.ShiftBy op) text.now (plains.ShiftBy op rd rt rs)
         → result ≡ Some (plains.ShiftBy op rd rt rs) }
 {
-    let parts = parts_of(text)?;
-    let rd = register_of(parts.first)?;
-    let rt = register_of(parts.second)?;
-    let rs = register_of(parts.third)?;
+    let (rd, rt, rs) = three::<Reg, Reg, Reg>(text)?;
     Some(Plain::ShiftBy { op, rd, rt, rs })
 }
 
@@ -41,10 +35,7 @@ fn alu(op: AluOp, text: &[u8]) -> Option<Plain>
     ensures only { (rd rs rt : ℕ) → HasOperands (mnemonics.Alu op) text.now (plains.Alu op rd rs rt)
         → result ≡ Some (plains.Alu op rd rs rt) }
 {
-    let parts = parts_of(text)?;
-    let rd = register_of(parts.first)?;
-    let rs = register_of(parts.second)?;
-    let rt = register_of(parts.third)?;
+    let (rd, rs, rt) = three::<Reg, Reg, Reg>(text)?;
     Some(Plain::Alu { op, rd, rs, rt })
 }
 
@@ -53,10 +44,7 @@ fn imm(op: ImmOp, text: &[u8]) -> Option<Plain>
     ensures only { (rt rs : ℕ) (n : ℤ) → HasOperands (mnemonics.Imm op) text.now (plains.Imm op rt rs n)
         → result ≡ Some (plains.Imm op rt rs n) }
 {
-    let parts = parts_of(text)?;
-    let rt = register_of(parts.first)?;
-    let rs = register_of(parts.second)?;
-    let imm = signed_of(parts.third)?;
+    let (rt, rs, imm) = three::<Reg, Reg, i16>(text)?;
     Some(Plain::Imm { op, rt, rs, imm })
 }
 
@@ -65,10 +53,7 @@ fn logic(op: LogicOp, text: &[u8]) -> Option<Plain>
     ensures only { (rt rs n : ℕ) → HasOperands (mnemonics.Logic op) text.now (plains.Logic op rt rs n)
         → result ≡ Some (plains.Logic op rt rs n) }
 {
-    let parts = parts_of(text)?;
-    let rt = register_of(parts.first)?;
-    let rs = register_of(parts.second)?;
-    let imm = unsigned_of(parts.third)?;
+    let (rt, rs, imm) = three::<Reg, Reg, u16>(text)?;
     Some(Plain::Logic { op, rt, rs, imm })
 }
 
@@ -76,9 +61,7 @@ fn load_upper(text: &[u8]) -> Option<Plain>
     ensures found { IfSome result (HasOperands mnemonics.LoadUpper text.now) }
     ensures only { (rt n : ℕ) → HasOperands mnemonics.LoadUpper text.now (plains.LoadUpper rt n) → result ≡ Some (plains.LoadUpper rt n) }
 {
-    let halves = cut(text, b',')?;
-    let rt = register_of(halves.before)?;
-    let imm = unsigned_of(halves.after)?;
+    let (rt, imm) = two::<Reg, u16>(text)?;
     Some(Plain::LoadUpper { rt, imm })
 }
 
@@ -87,7 +70,7 @@ fn move_from(place: HiLo, text: &[u8]) -> Option<Plain>
     ensures only { (rd : ℕ) → HasOperands (mnemonics.MoveFrom place) text.now (plains.MoveFrom place rd)
         → result ≡ Some (plains.MoveFrom place rd) }
 {
-    let rd = register_of(text)?;
+    let rd = Reg::read(text)?;
     Some(Plain::MoveFrom { place, rd })
 }
 
@@ -96,9 +79,7 @@ fn multiply(sign: Sign, text: &[u8]) -> Option<Plain>
     ensures only { (rs rt : ℕ) → HasOperands (mnemonics.Multiply sign) text.now (plains.Multiply sign rs rt)
         → result ≡ Some (plains.Multiply sign rs rt) }
 {
-    let halves = cut(text, b',')?;
-    let rs = register_of(halves.before)?;
-    let rt = register_of(halves.after)?;
+    let (rs, rt) = two::<Reg, Reg>(text)?;
     Some(Plain::Multiply { sign, rs, rt })
 }
 
@@ -107,9 +88,7 @@ fn divide(sign: Sign, text: &[u8]) -> Option<Plain>
     ensures only { (rs rt : ℕ) → HasOperands (mnemonics.Divide sign) text.now (plains.Divide sign rs rt)
         → result ≡ Some (plains.Divide sign rs rt) }
 {
-    let halves = cut(text, b',')?;
-    let rs = register_of(halves.before)?;
-    let rt = register_of(halves.after)?;
+    let (rs, rt) = two::<Reg, Reg>(text)?;
     Some(Plain::Divide { sign, rs, rt })
 }
 
@@ -120,19 +99,21 @@ struct Address {
     offset: i16,
 }
 
-fn address_of(text: &[u8]) -> Option<Address>
-    ensures found { IfSome result (λ a. (a.base < 32) × (text.now ≡ address_text a.base a.offset)) }
-    ensures only { (base : ℕ) (n : ℤ) → base < 32 → FitsSigned w16 n → text.now ≡ address_text base n
-        → IsSomeAnd result (λ a. (a.base ≡ base) × (a.offset ≡ n)) }
-{
-    let halves = cut(text, b'(')?;
-    let offset = signed_of(halves.before)?;
-    let rest = cut(halves.after, b')')?;
-    let base = register_of(rest.before)?;
-    if !rest.after.is_empty() {
-        return None;
+impl Spelled for Address {
+    ghost fits = { λ a. (a.base < 32) × FitsSigned w16 a.offset };
+
+    ghost spelling = { λ a. address_text a.base a.offset };
+
+    fn read(text: &[u8]) -> Option<Address> {
+        let halves = cut(text, b'(')?;
+        let offset = i16::read(halves.before)?;
+        let rest = cut(halves.after, b')')?;
+        let base = Reg::read(rest.before)?;
+        if !rest.after.is_empty() {
+            return None;
+        }
+        Some(Address { base, offset })
     }
-    Some(Address { base, offset })
 }
 
 fn load(text: &[u8]) -> Option<Plain>
@@ -140,9 +121,7 @@ fn load(text: &[u8]) -> Option<Plain>
     ensures only { (rt base : ℕ) (n : ℤ) → HasOperands mnemonics.Load text.now (plains.Load rt base n)
         → result ≡ Some (plains.Load rt base n) }
 {
-    let halves = cut(text, b',')?;
-    let rt = nonzero_of(halves.before)?;
-    let address = address_of(halves.after)?;
+    let (rt, address) = two::<NonzeroReg, Address>(text)?;
     Some(Plain::Load {
         rt,
         base: address.base,
@@ -155,9 +134,7 @@ fn store(text: &[u8]) -> Option<Plain>
     ensures only { (rt base : ℕ) (n : ℤ) → HasOperands mnemonics.Store text.now (plains.Store rt base n)
         → result ≡ Some (plains.Store rt base n) }
 {
-    let halves = cut(text, b',')?;
-    let rt = register_of(halves.before)?;
-    let address = address_of(halves.after)?;
+    let (rt, address) = two::<Reg, Address>(text)?;
     Some(Plain::Store {
         rt,
         base: address.base,

@@ -1,25 +1,14 @@
 use Rattle.std.proofs.Common.{rules}
-use Rattle.c_front.specs.Parsing.{IsStuck}
-use Rattle.c_front.specs.Grammar.{after_global}
-use Rattle.c_front.proofs.DeclarationPaths.{tail-plain, tail-initial, tail-initial-stuck, tail-initial-end-stuck, array-length-stuck, array-close-stuck}
+use Rattle.c_tokens.specs.declared.token.Mark.TheVariants.{Semicolon}
+use Rattle.c_front.specs.Parsing.{IsStuck, IsEndedStuck}
+use Rattle.c_front.proofs.Ends.{ended-read, ended-stuck}
+use Rattle.c_front.specs.Grammar.{after_global, initial}
+use Rattle.c_front.proofs.DeclarationPaths.{tail-plain, tail-initial, tail-initial-stuck, array-length-stuck, array-close-stuck}
 use Rattle.c_front.proofs.DeclarationPaths.{array-end-stuck, tail-array, tail-function-stuck, tail-function}
 use Rattle.c_front.proofs.declaration.after_global.Goals as goal
 
 pub returns-in-Some-clause-ok : goal.returns-in-Some-clause-ok
 returns-in-Some-clause-ok c = tail-plain _ _ _ _ c.in-Some.ensures.some
-
-pub returns-in_err-given-clause-err : goal.returns-in_err-given-clause-err
-returns-in_err-given-clause-err c =
-    let h : IsStuck after_global c.args.tokens.now c.in_err-given.field-0.0 =
-    tail-initial-stuck _ _ _ c.in-Some-starts.ensures.some c.in_err-given.ensures.err in search rules
-
-pub returns-in_err-end-clause-err : goal.returns-in_err-end-clause-err
-returns-in_err-end-clause-err c =
-    let h : IsStuck after_global c.args.tokens.now c.in_err-end.field-0.0 =
-    tail-initial-end-stuck _ _ _ _ _ c.in-Some-starts.ensures.some c.in_ok-given.ensures.ok c.in_err-end.ensures.err in search rules
-
-pub returns-in-Some-starts-clause-ok : goal.returns-in-Some-starts-clause-ok
-returns-in-Some-starts-clause-ok c = tail-initial _ _ _ _ _ _ _ c.in-Some-starts.ensures.some c.in_ok-given.ensures.ok c.in_ok-end.ensures.ok
 
 pub returns-in_err-length-clause-err : goal.returns-in_err-length-clause-err
 returns-in_err-length-clause-err c =
@@ -31,14 +20,14 @@ returns-in_err-last-clause-err c =
     let h : IsStuck after_global c.args.tokens.now c.in_err-last.field-0.0 =
     array-close-stuck _ _ _ _ _ c.in-Some-starts-2.ensures.some c.in_ok-length.ensures.ok c.in_err-last.ensures.err in search rules
 
-pub returns-in_err-end-2-clause-err : goal.returns-in_err-end-2-clause-err
-returns-in_err-end-2-clause-err c =
-    let h : IsStuck after_global c.args.tokens.now c.in_err-end-2.field-0.0 =
-    array-end-stuck _ _ _ _ _ _ c.in-Some-starts-2.ensures.some c.in_ok-length.ensures.ok c.in_ok-last.ensures.ok c.in_err-end-2.ensures.err in search rules
+pub returns-in_err-end-clause-err : goal.returns-in_err-end-clause-err
+returns-in_err-end-clause-err c =
+    let h : IsStuck after_global c.args.tokens.now c.in_err-end.field-0.0 =
+    array-end-stuck _ _ _ _ _ _ c.in-Some-starts-2.ensures.some c.in_ok-length.ensures.ok c.in_ok-last.ensures.ok c.in_err-end.ensures.err in search rules
 
 pub returns-in-Some-starts-2-clause-ok : goal.returns-in-Some-starts-2-clause-ok
 returns-in-Some-starts-2-clause-ok c = tail-array _ _ _ _ _ _ _ _ c.in-Some-starts-2.ensures.some c.in_ok-length.ensures.ok c.in_ok-last.ensures.ok
-    c.in_ok-end-2.ensures.ok
+    c.in_ok-end.ensures.ok
 
 pub returns-in_err-parameters-clause-err : goal.returns-in_err-parameters-clause-err
 returns-in_err-parameters-clause-err c =
@@ -49,3 +38,14 @@ returns-in_err-parameters-clause-err c =
 pub returns-clause-ok : goal.returns-clause-ok
 returns-clause-ok c = tail-function _ _ _ _ _ _ c.in_default.ensures.none c.in_default-starts.ensures.none c.in_default-starts-2.ensures.none
     c.in_ok-parameters.ensures.ok
+
+pub returns-in_err-given-clause-err : goal.returns-in_err-given-clause-err
+returns-in_err-given-clause-err c =
+    let k : IsEndedStuck initial Semicolon c.in-Some-starts.start.now c.in_err-given.field-0.0 =
+    ended-stuck c.initial.result Semicolon _ initial (λ i. i) _ c.in_err-given.ensures.err c.initial.ensures.ok c.initial.ensures.err in
+    let h : IsStuck after_global c.args.tokens.now c.in_err-given.field-0.0 = tail-initial-stuck _ _ _ c.in-Some-starts.ensures.some k in search rules
+
+pub returns-in-Some-starts-clause-ok : goal.returns-in-Some-starts-clause-ok
+returns-in-Some-starts-clause-ok c =
+    tail-initial _ _ _ _ _ _ c.in-Some-starts.ensures.some
+    (ended-read c.initial.result Semicolon _ initial (λ i. i) (c.in_ok-given.given, c.in_ok-given.end) c.in_ok-given.ensures.ok c.initial.ensures.ok)

@@ -1,4 +1,5 @@
 use Rattle.std.proofs.Common.{rules}
+use Rattle.std.proofs.lemmas.Result.{IfOk-weaker, IfErr-weaker}
 use Rattle.c_front.specs.Parsing.{IsStuck}
 use Rattle.c_front.specs.Grammar.{a_declaration}
 use Rattle.c_front.proofs.DeclarationPaths.{void-name-stuck, void-rest-stuck, void-read, no-declaration, typed-name-stuck, typed-rest-stuck, typed-read}
@@ -25,10 +26,12 @@ returns-in_err-name-2-clause-err c =
     let h : IsStuck a_declaration c.args.tokens.now c.in_err-name-2.field-0.0 =
     typed-name-stuck _ _ _ _ c.in-Some-integer_type.ensures.some c.in_err-name-2.ensures.err in search rules
 
-pub returns-in_err-found-clause-err : goal.returns-in_err-found-clause-err
-returns-in_err-found-clause-err c =
-    let h : IsStuck a_declaration c.args.tokens.now c.in_err-found.field-0.0 =
-    typed-rest-stuck _ _ _ _ _ _ c.in-Some-integer_type.ensures.some c.in_ok-name-2.ensures.ok c.in_err-found.ensures.err in search rules
-
 pub returns-clause-ok : goal.returns-clause-ok
-returns-clause-ok c = typed-read _ _ _ _ _ _ _ c.in-Some-integer_type.ensures.some c.in_ok-name-2.ensures.ok c.in_ok-found.ensures.ok
+returns-clause-ok c =
+    IfOk-weaker c.after_global.result _ _ (λ r d. typed-read _ _ _ _ _ _ _ c.in-Some-integer_type.ensures.some c.in_ok-name-2.ensures.ok d)
+    c.after_global.ensures.ok
+
+pub returns-clause-err : goal.returns-clause-err
+returns-clause-err c =
+    IfErr-weaker c.after_global.result _ _ (λ s h. typed-rest-stuck _ _ _ _ _ _ c.in-Some-integer_type.ensures.some c.in_ok-name-2.ensures.ok h)
+    c.after_global.ensures.err

@@ -1,38 +1,17 @@
-use Rattle.std.proofs.Common.{rules, arith, ◌≡◌, ◌<◌, ◌∷◌, suc, length, ap, refl, ◌∙◌}
+use Rattle.std.proofs.Common.{rules, arith, IfOk, IfErr, ◌≡◌, ◌<◌, ◌∷◌, suc, length, ap, refl, ◌∙◌}
 use Rattle.c_tokens.specs.declared.token.Token.{Token}
 use Rattle.c_tokens.specs.declared.token.Token.TheVariants.{The}
 use Rattle.c_tokens.specs.declared.token.Mark.TheVariants.{LeftParen}
 use Rattle.c_front.specs.Grammar.{operands, above, unary_expressions, an_expression}
-use Rattle.c_front.specs.Parsing.{IsStuck, IsChoiceStuck, IsClosedStuck, level_of}
-use Rattle.c_front.proofs.Paths.{one-less-stuck, climbs-first, climbs-more, climbs-end, further-out, climbs-first-stuck, climbs-more-stuck, closed-inner-stuck}
-use Rattle.c_front.proofs.Paths.{closed-end-stuck, closed-read, choice-first-stuck, choice-second-stuck, choice-read, condition-stuck, expression-alone}
+use Rattle.c_front.specs.Parsing.{IsRead, IsStuck, IsChoiceStuck, level_of}
+use Rattle.c_front.specs.Shape.{expression_of}
+use Rattle.std.proofs.lemmas.Result.{IfOk-at_ok, IfOk-weaker, IfErr-weaker}
+use Rattle.c_front.proofs.Ends.{stops, ended-read, ended-shorter, ended-stuck}
+use Rattle.c_front.proofs.Paths.{one-less, climbs-first, climbs-more, climbs-end, further-out, climbs-first-stuck, climbs-more-stuck, choice-first-stuck}
+use Rattle.c_front.proofs.Paths.{choice-second-stuck, choice-read, condition-stuck, expression-alone}
 use Rattle.c_front.proofs.Paths.{expression-choice, expression-choice-stuck, constant-read, name-read, index-read, index-stuck, prefix-read, prefix-stuck}
 use Rattle.c_front.proofs.Paths.{parens-read, parens-stuck, no-operand, nothing-stuck, no-phrase}
 use Rattle.c_front.proofs.expression.+expressions.Goals as goal
-
-pub choice-returns-in_err-first-clause-err : goal.choice-returns-in_err-first-clause-err
-choice-returns-in_err-first-clause-err t c =
-    let h : IsChoiceStuck c.args.tokens.now c.in_err-first.field-0.0 = choice-first-stuck _ _ c.in_err-first.ensures.err in search rules
-
-pub choice-returns-in_err-second-clause-err : goal.choice-returns-in_err-second-clause-err
-choice-returns-in_err-second-clause-err t c =
-    let h : IsChoiceStuck c.args.tokens.now c.in_err-second.field-0.0 = choice-second-stuck _ _ _ _ c.in_ok-first.ensures.ok c.in_err-second.ensures.err in
-    search rules
-
-pub choice-returns-clause-ok : goal.choice-returns-clause-ok
-choice-returns-clause-ok t c = rw (c.in_ok-new.ensures.ok, c.in_ok-new-2.ensures.ok) (choice-read _ _ _ _ _ c.in_ok-first.ensures.ok c.in_ok-second.ensures.ok)
-
-pub closed-returns-in_err-inner-clause-err : goal.closed-returns-in_err-inner-clause-err
-closed-returns-in_err-inner-clause-err t c =
-    let h : IsClosedStuck c.args.closing c.args.tokens.now c.in_err-inner.field-0.0 = closed-inner-stuck _ _ _ c.in_err-inner.ensures.err in search rules
-
-pub closed-returns-in_err-end-clause-err : goal.closed-returns-in_err-end-clause-err
-closed-returns-in_err-end-clause-err t c =
-    let h : IsClosedStuck c.args.closing c.args.tokens.now c.in_err-end.field-0.0 =
-    closed-end-stuck _ _ _ _ _ c.in_ok-inner.ensures.ok c.in_err-end.ensures.err in search rules
-
-pub closed-returns-clause-ok : goal.closed-returns-clause-ok
-closed-returns-clause-ok t c = closed-read _ _ _ _ _ c.in_ok-inner.ensures.ok c.in_ok-end.ensures.ok
 
 pub expression-returns-in_err-condition-clause-err : goal.expression-returns-in_err-condition-clause-err
 expression-returns-in_err-condition-clause-err t c =
@@ -57,12 +36,7 @@ pub operand-returns-in_err-index-in-Some-starts-clause-err : goal.operand-return
 operand-returns-in_err-index-in-Some-starts-clause-err t c =
     let h : IsStuck (operands unary_expressions) c.args.tokens.now c.in_err-index-in-Some-starts.field-0.0 =
     index-stuck _ _ _ _ _ (c.in-Some.ensures.some ∙ ap (λ (x : Token). x ∷ c.in-Some.rest.now) c.in-Name.is) c.in-Some-starts.ensures.some
-    c.in_err-index-in-Some-starts.ensures.err in search rules
-
-pub operand-returns-in_ok-new-in-Some-starts-clause-ok : goal.operand-returns-in_ok-new-in-Some-starts-clause-ok
-operand-returns-in_ok-new-in-Some-starts-clause-ok t c =
-    rw c.in_ok-new-in-Some-starts.ensures.ok (index-read _ _ _ _ _ _ (c.in-Some.ensures.some ∙ ap (λ (x : Token). x ∷ c.in-Some.rest.now) c.in-Name.is)
-    c.in-Some-starts.ensures.some c.in_ok-index-in-Some-starts.ensures.ok)
+    (stops _ _ _ c.in_err-index-in-Some-starts.ensures.err c.closed.ensures.err tt) in search rules
 
 pub operand-returns-in-None-clause-ok : goal.operand-returns-in-None-clause-ok
 operand-returns-in-None-clause-ok t c = name-read _ _ _ (c.in-Some.ensures.some ∙ ap (λ (x : Token). x ∷ c.in-Some.rest.now) c.in-Name.is)
@@ -70,30 +44,6 @@ operand-returns-in-None-clause-ok t c = name-read _ _ _ (c.in-Some.ensures.some 
 
 pub operand-returns-in-Constant-clause-ok : goal.operand-returns-in-Constant-clause-ok
 operand-returns-in-Constant-clause-ok t c = constant-read _ _ _ (c.in-Some.ensures.some ∙ ap (λ (x : Token). x ∷ c.in-Some.rest.now) c.in-Constant.is)
-
-pub operand-returns-in_err-inner-in-The-clause-err : goal.operand-returns-in_err-inner-in-The-clause-err
-operand-returns-in_err-inner-in-The-clause-err t c =
-    let h : IsStuck (operands unary_expressions) c.args.tokens.now c.in_err-inner-in-The.field-0.0 =
-    prefix-stuck _ _ _ _ _ (c.in-Some.ensures.some ∙ ap (λ (x : Token). x ∷ c.in-Some.rest.now) c.in-The.is) c.in-Some-prefix_of.ensures.some
-    c.in_err-inner-in-The.ensures.err in search rules
-
-pub operand-returns-in-Some-prefix_of-clause-ok : goal.operand-returns-in-Some-prefix_of-clause-ok
-operand-returns-in-Some-prefix_of-clause-ok t c =
-    rw c.in_ok-new-in-The.ensures.ok (prefix-read _ _ _ _ _ _ (c.in-Some.ensures.some ∙ ap (λ (x : Token). x ∷ c.in-Some.rest.now) c.in-The.is)
-    c.in-Some-prefix_of.ensures.some c.in_ok-inner-in-The.ensures.ok)
-
-pub operand-returns-in_err-inner-in-LeftParen-clause-err : goal.operand-returns-in_err-inner-in-LeftParen-clause-err
-operand-returns-in_err-inner-in-LeftParen-clause-err t c =
-    let e : c.args.tokens.now ≡ The LeftParen ∷ c.in-Some.rest.now = c.in-Some.ensures.some
-    ∙ ap (λ (x : Token). x ∷ c.in-Some.rest.now) (c.in-The.is ∙ ap The c.in-LeftParen.is) in
-    let h : IsStuck (operands unary_expressions) c.args.tokens.now c.in_err-inner-in-LeftParen.field-0.0 =
-    parens-stuck _ _ _ e c.in_err-inner-in-LeftParen.ensures.err in search rules
-
-pub operand-returns-in_ok-inner-in-LeftParen-clause-ok : goal.operand-returns-in_ok-inner-in-LeftParen-clause-ok
-operand-returns-in_ok-inner-in-LeftParen-clause-ok t c =
-    let e : c.args.tokens.now ≡ The LeftParen ∷ c.in-Some.rest.now = c.in-Some.ensures.some
-    ∙ ap (λ (x : Token). x ∷ c.in-Some.rest.now) (c.in-The.is ∙ ap The c.in-LeftParen.is) in
-    parens-read _ _ _ _ e c.in_ok-inner-in-LeftParen.ensures.ok
 
 pub operand-returns-in_default-mark : goal.operand-returns-in_default-mark
 operand-returns-in_default-mark t c =
@@ -122,24 +72,87 @@ operands-returns-then-found-level-clause-ok t c = climbs-end _ _ _ _ c.climbing.
 pub operands-returns-then-found-level-clause-ends : goal.operands-returns-then-found-level-clause-ends
 operands-returns-then-found-level-clause-ends t c = further-out _ _ _ _ _ c.in-Some.ensures.some c.if-found-level.true
 
+pub operand-returns-in-Jump-clause-err : goal.operand-returns-in-Jump-clause-err
+operand-returns-in-Jump-clause-err t c = no-phrase (operands unary_expressions) _ _ _
+    (c.in-Some.ensures.some ∙ ap (λ (x : Token). x ∷ c.in-Some.rest.now) c.in-Jump.is) (λ after. refl)
+
+pub choice-returns-in_err-first-clause-err : goal.choice-returns-in_err-first-clause-err
+choice-returns-in_err-first-clause-err t c =
+    let h : IsChoiceStuck c.args.tokens.now c.in_err-first.field-0.0 =
+    choice-first-stuck _ _ (stops _ _ _ c.in_err-first.ensures.err c.closed.ensures.err tt) in search rules
+
+pub choice-returns-in_err-second-clause-err : goal.choice-returns-in_err-second-clause-err
+choice-returns-in_err-second-clause-err t c =
+    let first = IfOk-at_ok _ c.in_ok-first.ensures.ok c.closed.ensures.ok in
+    let h : IsChoiceStuck c.args.tokens.now c.in_err-second.field-0.0 =
+    choice-second-stuck _ _ _ _ first (stops _ _ _ c.in_err-second.ensures.err c.expression.ensures.err tt) in search rules
+
+pub choice-returns-clause-ok : goal.choice-returns-clause-ok
+choice-returns-clause-ok t c =
+    choice-read _ _ _ _ _ (IfOk-at_ok _ c.in_ok-first.ensures.ok c.closed.ensures.ok) (IfOk-at_ok _ c.in_ok-second.ensures.ok c.expression.ensures.ok)
+
+pub closed-returns-clause-ok : goal.closed-returns-clause-ok
+closed-returns-clause-ok t c =
+    IfOk-weaker c.ended.result _ _ (λ r d. ended-read c.expression.result c.args.closing c.args.tokens.now an_expression expression_of r d c.expression.ensures.ok)
+    c.ended.ensures.ok
+
+pub closed-returns-clause-shorter : goal.closed-returns-clause-shorter
+closed-returns-clause-shorter t c =
+    IfOk-weaker c.ended.result _ _ (λ r d. ended-shorter c.expression.result c.args.closing c.args.tokens.now r d c.expression.ensures.shorter) c.ended.ensures.ok
+
+pub closed-returns-clause-err : goal.closed-returns-clause-err
+closed-returns-clause-err t c =
+    IfErr-weaker c.ended.result _ _
+    (λ s d. ended-stuck c.expression.result c.args.closing c.args.tokens.now an_expression expression_of s d c.expression.ensures.ok c.expression.ensures.err)
+    c.ended.ensures.err
+
+pub tighter-returns-clause-ok : goal.tighter-returns-clause-ok
+tighter-returns-clause-ok t c =
+    one-less (λ l. IfOk c.operands.result (λ r. IsRead (operands l) c.args.tokens.now r.1.now (expression_of r.0))) c.args.level c.if-level-eq0.false
+    c.operands.ensures.ok
+
+pub tighter-returns-clause-err : goal.tighter-returns-clause-err
+tighter-returns-clause-err t c =
+    one-less (λ l. IfErr c.operands.result (IsStuck (operands l) c.args.tokens.now)) c.args.level c.if-level-eq0.false c.operands.ensures.err
+
+pub operand-returns-in_ok-index-in-Some-starts-clause-ok : goal.operand-returns-in_ok-index-in-Some-starts-clause-ok
+operand-returns-in_ok-index-in-Some-starts-clause-ok t c =
+    index-read _ _ _ _ _ _ (c.in-Some.ensures.some ∙ ap (λ (x : Token). x ∷ c.in-Some.rest.now) c.in-Name.is)
+    c.in-Some-starts.ensures.some (IfOk-at_ok _ c.in_ok-index-in-Some-starts.ensures.ok c.closed.ensures.ok)
+
+pub operand-returns-in_err-inner-in-The-clause-err : goal.operand-returns-in_err-inner-in-The-clause-err
+operand-returns-in_err-inner-in-The-clause-err t c =
+    let h : IsStuck (operands unary_expressions) c.args.tokens.now c.in_err-inner-in-The.field-0.0 =
+    prefix-stuck _ _ _ _ _ (c.in-Some.ensures.some ∙ ap (λ (x : Token). x ∷ c.in-Some.rest.now) c.in-The.is) c.in-Some-prefix_of.ensures.some
+    (stops _ _ _ c.in_err-inner-in-The.ensures.err c.operand.ensures.err tt) in search rules
+
+pub operand-returns-in-Some-prefix_of-clause-ok : goal.operand-returns-in-Some-prefix_of-clause-ok
+operand-returns-in-Some-prefix_of-clause-ok t c =
+    prefix-read _ _ _ _ _ _ (c.in-Some.ensures.some ∙ ap (λ (x : Token). x ∷ c.in-Some.rest.now) c.in-The.is)
+    c.in-Some-prefix_of.ensures.some (IfOk-at_ok _ c.in_ok-inner-in-The.ensures.ok c.operand.ensures.ok)
+
+pub operand-returns-in-LeftParen-clause-ok : goal.operand-returns-in-LeftParen-clause-ok
+operand-returns-in-LeftParen-clause-ok t c =
+    let e : c.args.tokens.now ≡ The LeftParen ∷ c.in-Some.rest.now = c.in-Some.ensures.some
+    ∙ ap (λ (x : Token). x ∷ c.in-Some.rest.now) (c.in-The.is ∙ ap The c.in-LeftParen.is) in
+    IfOk-weaker c.closed-in-LeftParen.result _ _ (λ r d. parens-read _ _ _ _ e d) c.closed-in-LeftParen.ensures.ok
+
+pub operand-returns-in-LeftParen-clause-err : goal.operand-returns-in-LeftParen-clause-err
+operand-returns-in-LeftParen-clause-err t c =
+    let e : c.args.tokens.now ≡ The LeftParen ∷ c.in-Some.rest.now = c.in-Some.ensures.some
+    ∙ ap (λ (x : Token). x ∷ c.in-Some.rest.now) (c.in-The.is ∙ ap The c.in-LeftParen.is) in
+    IfErr-weaker c.closed-in-LeftParen.result _ _ (λ s h. parens-stuck _ _ _ e h) c.closed-in-LeftParen.ensures.err
+
 pub operands-returns-in_err-right-clause-err : goal.operands-returns-in_err-right-clause-err
 operands-returns-in_err-right-clause-err t c =
     let h : IsStuck (operands (above (level_of c.args.level))) c.args.tokens.now c.in_err-right.field-0.0 =
-    climbs-more-stuck _ _ _ _ _ _ _ _ c.climbing.invariant c.in-Some.ensures.some c.if-found-level.false c.in_err-right.ensures.err in search rules
+    climbs-more-stuck _ _ _ _ _ _ _ _ c.climbing.invariant c.in-Some.ensures.some c.if-found-level.false
+    (stops _ _ _ c.in_err-right.ensures.err c.tighter.ensures.err tt) in search rules
 
 pub operands-climbing-preserved : goal.operands-climbing-preserved
 operands-climbing-preserved t c =
     let e : length c.climbing.rest.now ≡ suc (length c.in-Some.after.now) = ap length c.in-Some.ensures.some.2 in
     let d : length c.climbing.rest.now < length c.args.tokens.now = c.climbing.invariant.shorter in
-    let f : length c.in_ok-right.next.now < length c.in-Some.after.now = c.in_ok-right.ensures.shorter in
-    rw (c.in_ok-new.ensures.ok, c.in_ok-new-2.ensures.ok) (climbs-more _ _ _ _ _ _ _ _ _ c.climbing.invariant c.in-Some.ensures.some c.if-found-level.false
-    c.in_ok-right.ensures.ok c.in_ok-right.ensures.ends (omega (arith, e, d, f)))
-
-pub tighter-returns-in_err-inner-2-clause-err : goal.tighter-returns-in_err-inner-2-clause-err
-tighter-returns-in_err-inner-2-clause-err t c =
-    let h : IsStuck (operands (level_of c.args.level)) c.args.tokens.now c.in_err-inner-2.field-0.0 =
-    one-less-stuck _ _ _ c.if-level-eq0.false c.in_err-inner-2.ensures.err in search rules
-
-pub operand-returns-in-Jump-clause-err : goal.operand-returns-in-Jump-clause-err
-operand-returns-in-Jump-clause-err t c = no-phrase (operands unary_expressions) _ _ _
-    (c.in-Some.ensures.some ∙ ap (λ (x : Token). x ∷ c.in-Some.rest.now) c.in-Jump.is) (λ after. refl)
+    let f : length c.in_ok-right.next.now < length c.in-Some.after.now = IfOk-at_ok _ c.in_ok-right.ensures.ok c.tighter.ensures.shorter in
+    rw c.in_ok-new.ensures.ok (climbs-more _ _ _ _ _ _ _ _ _ c.climbing.invariant c.in-Some.ensures.some c.if-found-level.false
+    (IfOk-at_ok _ c.in_ok-right.ensures.ok c.tighter.ensures.ok) (IfOk-at_ok _ c.in_ok-right.ensures.ok c.tighter.ensures.ends) (omega (arith, e, d, f)))

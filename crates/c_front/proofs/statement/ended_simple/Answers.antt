@@ -1,7 +1,9 @@
 use Rattle.std.proofs.Common.{rules}
 use Rattle.c_front.specs.Parsing.{IsEndedStuck}
-use Rattle.c_front.specs.Grammar.{maybe_simple}
-use Rattle.c_front.proofs.StatementPaths.{ended-none-read, ended-none-stuck, ended-some-read, ended-some-stuck, ended-close-stuck}
+use Rattle.c_front.specs.Grammar.{maybe_simple, simple}
+use Rattle.c_front.proofs.StatementPaths.{ended-none-read, ended-none-stuck, ended-some-read, ended-some-stuck}
+use Rattle.c_front.specs.Shape.{simple_of}
+use Rattle.c_front.proofs.Ends.{ended-read, ended-stuck}
 use Rattle.c_front.proofs.statement.ended_simple.Goals as goal
 
 pub returns-in_err-end-in-None-clause-err : goal.returns-in_err-end-in-None-clause-err
@@ -14,13 +16,12 @@ returns-in_ok-end-in-None-clause-ok c = ended-none-read _ _ _ c.in-None.ensures.
 
 pub returns-in_err-inner-in-Some-clause-err : goal.returns-in_err-inner-in-Some-clause-err
 returns-in_err-inner-in-Some-clause-err c =
+    let k : IsEndedStuck simple c.args.closing c.args.tokens.now c.in_err-inner-in-Some.field-0.0 =
+    ended-stuck c.simple.result c.args.closing _ simple simple_of _ c.in_err-inner-in-Some.ensures.err c.simple.ensures.ok c.simple.ensures.err in
     let h : IsEndedStuck maybe_simple c.args.closing c.args.tokens.now c.in_err-inner-in-Some.field-0.0 =
-    ended-some-stuck _ _ _ _ c.in-Some.ensures.some c.in_err-inner-in-Some.ensures.err in search rules
+    ended-some-stuck _ _ _ _ c.in-Some.ensures.some k in search rules
 
-pub returns-in_err-end-in-Some-clause-err : goal.returns-in_err-end-in-Some-clause-err
-returns-in_err-end-in-Some-clause-err c =
-    let h : IsEndedStuck maybe_simple c.args.closing c.args.tokens.now c.in_err-end-in-Some.field-0.0 =
-    ended-close-stuck _ _ _ _ _ _ c.in-Some.ensures.some c.in_ok-inner-in-Some.ensures.ok c.in_err-end-in-Some.ensures.err in search rules
-
-pub returns-in_ok-end-in-Some-clause-ok : goal.returns-in_ok-end-in-Some-clause-ok
-returns-in_ok-end-in-Some-clause-ok c = ended-some-read _ _ _ _ _ _ c.in-Some.ensures.some c.in_ok-inner-in-Some.ensures.ok c.in_ok-end-in-Some.ensures.ok
+pub returns-in_ok-inner-in-Some-clause-ok : goal.returns-in_ok-inner-in-Some-clause-ok
+returns-in_ok-inner-in-Some-clause-ok c = ended-some-read _ _ _ _ _ c.in-Some.ensures.some
+    (ended-read c.simple.result c.args.closing _ simple simple_of (c.in_ok-inner-in-Some.inner, c.in_ok-inner-in-Some.end)
+    c.in_ok-inner-in-Some.ensures.ok c.simple.ensures.ok)

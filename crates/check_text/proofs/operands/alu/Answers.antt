@@ -1,33 +1,13 @@
-use Rattle.mips_isa.specs.Texts.{register_text}
+use Rattle.mips_isa.specs.declared.inst.Plain.TheVariants as plains
 use Rattle.check_text.proofs.Lacking.{comma_register}
+use Rattle.check_text.proofs.Values.{made-three, nothing}
 use Rattle.check_text.proofs.operands.alu.Goals as goal
-
-pub returns-in_err-parts-clause-only : goal.returns-in_err-parts-clause-only
-returns-in_err-parts-clause-only c = λ rd rs rt h.
-    absurd (let none = c.in_err-parts.ensures.only (register_text rd) (register_text rs) (register_text rt) (comma_register rd h.0.0) (comma_register rs h.0.1) h.2 in none)
 
 pub returns-in_err-rd-clause-only : goal.returns-in_err-rd-clause-only
 returns-in_err-rd-clause-only c = λ rd rs rt h.
-    let at_parts = c.in_ok-parts.ensures.only (register_text rd) (register_text rs) (register_text rt) (comma_register rd h.0.0) (comma_register rs h.0.1) h.2 in
-    absurd (let none = c.in_err-rd.ensures.only rd h.0.0 at_parts.0 in cc)
-
-pub returns-in_err-rs-clause-only : goal.returns-in_err-rs-clause-only
-returns-in_err-rs-clause-only c = λ rd rs rt h.
-    let at_parts = c.in_ok-parts.ensures.only (register_text rd) (register_text rs) (register_text rt) (comma_register rd h.0.0) (comma_register rs h.0.1) h.2 in
-    let at_rd = c.in_ok-rd.ensures.only rd h.0.0 at_parts.0 in
-    absurd (let none = c.in_err-rs.ensures.only rs h.0.1 at_parts.1 in cc)
-
-pub returns-in_err-rt-clause-only : goal.returns-in_err-rt-clause-only
-returns-in_err-rt-clause-only c = λ rd rs rt h.
-    let at_parts = c.in_ok-parts.ensures.only (register_text rd) (register_text rs) (register_text rt) (comma_register rd h.0.0) (comma_register rs h.0.1) h.2 in
-    let at_rd = c.in_ok-rd.ensures.only rd h.0.0 at_parts.0 in
-    let at_rs = c.in_ok-rs.ensures.only rs h.0.1 at_parts.1 in
-    absurd (let none = c.in_err-rt.ensures.only rt h.0.2 at_parts.2 in cc)
+    absurd (nothing (rd, rs, rt) (c.in_err-rd.ensures.only rd rs rt (comma_register rd h.0.0) (comma_register rs h.0.1) h.0.0 h.0.1 h.0.2 h.2))
 
 pub returns-clause-only : goal.returns-clause-only
 returns-clause-only c = λ rd rs rt h.
-    let at_parts = c.in_ok-parts.ensures.only (register_text rd) (register_text rs) (register_text rt) (comma_register rd h.0.0) (comma_register rs h.0.1) h.2 in
-    let at_rd = c.in_ok-rd.ensures.only rd h.0.0 at_parts.0 in
-    let at_rs = c.in_ok-rs.ensures.only rs h.0.1 at_parts.1 in
-    let at_rt = c.in_ok-rt.ensures.only rt h.0.2 at_parts.2 in
-    cc
+    let same = c.in_ok-rd.ensures.only rd rs rt (comma_register rd h.0.0) (comma_register rs h.0.1) h.0.0 h.0.1 h.0.2 h.2 in
+    made-three (plains.Alu c.args.op) _ rd rs rt same

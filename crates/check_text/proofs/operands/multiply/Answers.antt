@@ -1,25 +1,13 @@
-use Rattle.mips_isa.specs.Texts.{register_text}
+use Rattle.mips_isa.specs.declared.inst.Plain.TheVariants as plains
 use Rattle.check_text.proofs.Lacking.{comma_register}
+use Rattle.check_text.proofs.Values.{made-two, nothing}
 use Rattle.check_text.proofs.operands.multiply.Goals as goal
-
-pub returns-in_err-halves-clause-only : goal.returns-in_err-halves-clause-only
-returns-in_err-halves-clause-only c = λ rs rt h.
-    absurd (let none = c.in_err-halves.ensures.only (register_text rs) (register_text rt) (comma_register rs h.0.0) h.2 in none)
 
 pub returns-in_err-rs-clause-only : goal.returns-in_err-rs-clause-only
 returns-in_err-rs-clause-only c = λ rs rt h.
-    let at_halves = c.in_ok-halves.ensures.only (register_text rs) (register_text rt) (comma_register rs h.0.0) h.2 in
-    absurd (let none = c.in_err-rs.ensures.only rs h.0.0 at_halves.0 in cc)
-
-pub returns-in_err-rt-clause-only : goal.returns-in_err-rt-clause-only
-returns-in_err-rt-clause-only c = λ rs rt h.
-    let at_halves = c.in_ok-halves.ensures.only (register_text rs) (register_text rt) (comma_register rs h.0.0) h.2 in
-    let at_rs = c.in_ok-rs.ensures.only rs h.0.0 at_halves.0 in
-    absurd (let none = c.in_err-rt.ensures.only rt h.0.1 at_halves.1 in cc)
+    absurd (nothing (rs, rt) (c.in_err-rs.ensures.only rs rt (comma_register rs h.0.0) h.0.0 h.0.1 h.2))
 
 pub returns-clause-only : goal.returns-clause-only
 returns-clause-only c = λ rs rt h.
-    let at_halves = c.in_ok-halves.ensures.only (register_text rs) (register_text rt) (comma_register rs h.0.0) h.2 in
-    let at_rs = c.in_ok-rs.ensures.only rs h.0.0 at_halves.0 in
-    let at_rt = c.in_ok-rt.ensures.only rt h.0.1 at_halves.1 in
-    cc
+    let same = c.in_ok-rs.ensures.only rs rt (comma_register rs h.0.0) h.0.0 h.0.1 h.2 in
+    made-two (plains.Multiply c.args.sign) _ rs rt same

@@ -1,0 +1,27 @@
+// What any part of a program is read with: the mark after it, and a box for it.
+
+ghost use Rattle.std.specs.Prelude.{◌≡◌, IfOk, IfErr, Ok};
+ghost use Rattle.c_front.specs.Ends.{IsEnded, IsUnended, StopsAs};
+
+use crate::cursor::{Parsed, expect};
+use c_tokens::Mark;
+use std::alloc::{AllocError, AllocFailed, Global};
+
+/// The part, if the mark stands after it that has to.
+pub fn ended<'a, T: Drop>(parsed: Parsed<'a, T>, closing: Mark) -> Parsed<'a, T>
+    ensures ok { IfOk result (IsEnded parsed.entry closing) }
+    ensures err { IfErr result (IsUnended parsed.entry closing) }
+{
+    let (part, close) = parsed?;
+    let end = expect(close, closing)?;
+    Ok((part, end))
+}
+
+/// The part in a box.
+pub fn boxed<'a, T: Drop>(alloc: Global, parsed: Parsed<'a, T>) -> Parsed<'a, Box<T>>
+    ensures ok { IfOk result (λ r. parsed.entry ≡ Ok (r.0.value, r.1)) }
+    ensures err { IfErr result (StopsAs parsed.entry) }
+{
+    let (part, end) = parsed?;
+    Ok((Box::new(alloc, part)?, end))
+}
