@@ -1,0 +1,4 @@
+pub mod Keeping
+pub mod Lookups
+pub mod Loops
+pub mod Results

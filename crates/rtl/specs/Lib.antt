@@ -1,0 +1,4 @@
+pub mod Operators
+pub mod Programs
+pub mod Meaning
+pub mod Laws
