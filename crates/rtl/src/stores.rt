@@ -73,9 +73,9 @@ pub(crate) fn store(globals: &mut [Vec<u32>], global: usize, index: usize, v: u3
     ensures { stored (arrays globals.old) global index v ≡ (if result then Some (arrays globals.new) else None) }
 {
     if global < globals.len() {
-        let elements = &mut globals[global];
-        if index < elements.len() {
-            elements[index] = v;
+        let array = &mut globals[global];
+        if index < array.len() {
+            array[index] = v;
             return true;
         }
     }
