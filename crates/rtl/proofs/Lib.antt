@@ -1,0 +1,7 @@
+pub mod Calls
+pub mod Keeping
+pub mod Lookups
+pub mod Loops
+pub mod Placing
+pub mod Results
+pub mod Running

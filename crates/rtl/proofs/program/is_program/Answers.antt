@@ -1,0 +1,11 @@
+use Rattle.rtl.proofs.Loops.{tested}
+use Rattle.rtl.proofs.program.is_program.Goals as goal
+
+pub returns-then-is_callee : goal.returns-then-is_callee
+returns-then-is_callee c =
+    let sizes = tested c.sizes_fit.result c.sizes_fit.ensures c.if-not-sizes_fit.false in
+    let globals = tested c.are_globals.result c.are_globals.ensures c.if-not-are_globals.false in
+    let main = tested c.is_callee.result c.is_callee.ensures c.if-is_callee.true in (
+      λ t. record { functions = c.are_functions.ensures.0 t; globals = globals; main = main; blocks_fit = sizes.0; words_fit = sizes.1 },
+      λ p. c.are_functions.ensures.1 p.functions,
+    )

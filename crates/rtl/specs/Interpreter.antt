@@ -1,0 +1,114 @@
+-- What the interpreter keeps, and the state that it stands for.
+use Rattle.std.specs.Prelude.{◌≡◌, ℕ, List, ◌∷◌, Option, None, Some, map, reverse, slice_get, slice_index_or}
+use Rattle.std.specs.declared.vec.Vec.{Vec}
+use Rattle.std.specs.declared.alloc.Global.{Global}
+use Rattle.runs.specs.Stores.{Places, Arrays, chain, word_at, written}
+use Rattle.runs.specs.Runs.{Running, Ended, Failed, with_value}
+use Rattle.rtl.specs.declared.operator.Op.{Op}
+use Rattle.rtl.specs.declared.instruction.RInst.{RInst}
+use Rattle.rtl.specs.declared.instruction.RExit.{RExit}
+use Rattle.rtl.specs.declared.block.RBlock.{RBlock}
+use Rattle.rtl.specs.declared.block.RGlobal.{RGlobal}
+use Rattle.rtl.specs.Operators.{op_result}
+use Rattle.rtl.specs.Programs.{Program}
+use Rattle.rtl.specs.Meaning as Meaning
+use Rattle.rtl.specs.Meaning.{Run, Code, code_of, with_inst, state_at_block, state_after_call, state_after_return, state_after_exit}
+use Rattle.rtl.specs.declared.interpreter.Frame.{Frame}
+use Rattle.rtl.specs.declared.interpreter.Interpreter.{Interpreter}
+use Rattle.rtl.specs.declared.interpreter.Reached.{Reached}
+use Rattle.rtl.specs.declared.interpreter.Reached.TheVariants as Reach
+
+-- the registers, None outside
+abbrev pub places : List (Option ℕ) → Places
+places registers = λ x. slice_index_or registers x None
+
+-- the elements of each global
+abbrev pub arrays : List (Vec ℕ Global) → Arrays
+arrays globals = map (λ a. a.items) globals
+
+-- the result of an operator at two registers, or none
+abbrev pub result_at : Op → Places → ℕ → ℕ → Option ℕ
+result_at op r a b = chain (r a) (λ x. chain (r b) (λ y. op_result op x y))
+
+-- the element of a global whose index a register has, or none
+abbrev pub element_at : Places → Arrays → ℕ → ℕ → Option ℕ
+element_at r g a i = chain (r i) (λ x. word_at g a x)
+
+abbrev pub frame_of : Frame → Meaning.Frame
+frame_of f = record {
+  blocks = f.blocks.now;
+  registers = places f.registers.items;
+  code = record { insts = f.insts.now; exit = f.exit.now };
+  result_to = f.result_to;
+}
+
+-- those that wait, the latest one first
+abbrev pub frames_of : List Frame → List Meaning.Frame
+frames_of frames = map frame_of (reverse frames)
+
+abbrev pub state_of : Interpreter → Run
+state_of m = Running (frame_of m.frame ∷ frames_of m.waiting.items) (arrays m.globals.items) m.output.items
+
+-- the state that a step has come to
+abbrev pub state_at : Reached → Interpreter → Run
+state_at Reach.Going m = state_of m
+state_at (Reach.Ended w) m = Ended w m.output.items
+state_at Reach.Failed m = Failed m.output.items
+
+-- the same interpreter with other registers and globals
+abbrev pub state_with : Interpreter → Places → Arrays → Run
+state_with m r g =
+    Running (record {
+      blocks = m.frame.blocks.now;
+      registers = r;
+      code = record { insts = m.frame.insts.now; exit = m.frame.exit.now };
+      result_to = m.frame.result_to;
+    } ∷ frames_of m.waiting.items) g m.output.items
+
+-- the frame at the start of this block
+abbrev pub frame_at : RBlock → Frame → Meaning.Frame
+frame_at block f =
+    record { blocks = f.blocks.now; registers = places f.registers.items; code = code_of block; result_to = f.result_to }
+
+-- a value, if there is one, goes to a register
+abbrev pub Puts : ℕ → Option ℕ → Interpreter → Reached → Interpreter → Type 0
+Puts x v before r after =
+    with_value v before.output.items (λ w. state_with before (written (places before.frame.registers.items) x (Some w)) (arrays before.globals.items))
+    ≡ state_at r after
+
+-- an instruction of a program with these globals takes the interpreter before to what is reached
+abbrev pub Performs : List RGlobal → RInst → Interpreter → Reached → Interpreter → Type 0
+Performs globals i before r after =
+    with_inst globals i (places before.frame.registers.items) (arrays before.globals.items) before.output.items (state_with before) ≡ state_at r after
+
+-- on to a block of the same function
+abbrev pub Jumps : ℕ → Interpreter → Reached → Interpreter → Type 0
+Jumps b before r after =
+    state_at_block before.frame.blocks.now b (places before.frame.registers.items) before.frame.result_to (frames_of before.waiting.items)
+    (arrays before.globals.items) before.output.items
+    ≡ state_at r after
+
+-- a function is called with these words, and its result goes there
+abbrev pub Calls : Program → (depth f : ℕ) → List ℕ → Option ℕ → Interpreter → Reached → Interpreter → Type 0
+Calls p depth f vs to before r after =
+    state_after_call p depth f vs to (frame_of before.frame ∷ frames_of before.waiting.items) (arrays before.globals.items) before.output.items
+    ≡ state_at r after
+
+-- the same by a caller that goes on at this block
+abbrev pub CallsFrom : Program → (depth f : ℕ) → List ℕ → Option ℕ → (next : ℕ) → Interpreter → Reached → Interpreter → Type 0
+CallsFrom p depth f vs to next before r after =
+    with_value (slice_get before.frame.blocks.now next) before.output.items (λ block.
+    state_after_call p depth f vs to (frame_at block before.frame ∷ frames_of before.waiting.items) (arrays before.globals.items) before.output.items)
+    ≡ state_at r after
+
+-- the activation returns, with a word or without
+abbrev pub Returns : Option ℕ → Interpreter → Reached → Interpreter → Type 0
+Returns v before r after =
+    state_after_return v before.frame.result_to (frames_of before.waiting.items) (arrays before.globals.items) before.output.items ≡ state_at r after
+
+-- the block is left by this exit
+abbrev pub Leaves : Program → (depth : ℕ) → RExit → Interpreter → Reached → Interpreter → Type 0
+Leaves p depth exit before r after =
+    state_after_exit p depth exit before.frame.blocks.now (places before.frame.registers.items) before.frame.result_to (frames_of before.waiting.items)
+    (arrays before.globals.items) before.output.items
+    ≡ state_at r after

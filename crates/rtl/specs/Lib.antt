@@ -1,0 +1,9 @@
+-- to believe
+pub mod Operators
+pub mod Programs
+pub mod Meaning
+pub mod Laws
+-- what passes over programs speak of
+pub mod Names
+-- words of private functions
+pub mod Interpreter

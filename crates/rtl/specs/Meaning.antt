@@ -1,0 +1,131 @@
+-- What a program does, one step after another: each instruction and each exit is one step. Wrong is what has no value: a
+-- division without one, a pseudo-register that isn't set in its activation, an index outside a global, a result that is
+-- wanted and not returned, a call beyond the depth, and what isn't there at all, which no program that is an `Rtl` names.
+use Rattle.std.specs.Prelude.{ℕ, ◌%◌, ◌^◌, ◌&&◌, ◌==◌, List, [], ◌∷◌, ◌++◌, Option, Some, None, length, nat_lt, if◌then◌else◌, slice_get, map}
+use Rattle.words.specs.Words.{wrap}
+use Rattle.runs.specs.Stores.{Places, unset_places, written, Arrays, chain, word_at, stored}
+use Rattle.runs.specs.Runs.{Outcome, State, Running, Ended, Failed, with_value, steps, outcome}
+use Rattle.rtl.specs.declared.instruction.RInst.{RInst}
+use Rattle.rtl.specs.declared.instruction.RInst.TheVariants.{Const, Move, Bin, Load, Store}
+use Rattle.rtl.specs.declared.instruction.RExit.{RExit}
+use Rattle.rtl.specs.declared.instruction.RExit.TheVariants.{Goto, Branch, Call, Return, Out}
+use Rattle.rtl.specs.declared.block.RBlock.{RBlock}
+use Rattle.rtl.specs.declared.block.RGlobal.{RGlobal}
+use Rattle.rtl.specs.declared.block.Width.{Width}
+use Rattle.rtl.specs.declared.block.Width.TheVariants.{Word, Byte}
+use Rattle.rtl.specs.Operators.{op_result}
+use Rattle.rtl.specs.Programs.{Program}
+
+-- what an activation still has to do in its block
+pub record Code : Type 0 where
+  pub insts : List RInst
+  pub exit : RExit
+
+abbrev pub code_of : RBlock → Code
+code_of b = record { insts = b.insts.items; exit = b.exit }
+
+-- an activation of a function, which runs or waits: its blocks, its pseudo-registers, what is left of its block, and where
+-- its result goes, if anywhere
+pub record Frame : Type 0 where
+  pub blocks : List RBlock
+  pub registers : Places
+  pub code : Code
+  pub result_to : Option ℕ
+
+abbrev pub Run : Type 0
+Run = State Frame
+
+-- the words of registers, or none where one isn't set
+abbrev pub words_in : Places → List ℕ → Option (List ℕ)
+words_in r [] = Some []
+words_in r (x ∷ xs) = chain (r x) (λ v. chain (words_in r xs) (λ vs. Some (v ∷ vs)))
+
+-- the arguments are the first registers
+abbrev pub argument_registers : List ℕ → Places
+argument_registers vs = λ x. slice_get vs x
+
+-- what an element of this width keeps of a word
+abbrev pub kept : Width → ℕ → ℕ
+kept Word v = v
+kept Byte v = v % 2 ^ 8
+
+-- what an element of a global keeps of a word, or none where there is no such global
+abbrev pub kept_in : List RGlobal → ℕ → ℕ → Option ℕ
+kept_in globals a v = chain (slice_get globals a) (λ global. Some (kept global.width v))
+
+-- an instruction, with what it leaves in the registers and globals
+abbrev pub with_inst : List RGlobal → RInst → Places → Arrays → List ℕ → (Places → Arrays → Run) → Run
+with_inst globals (Const d w) r g out go = go (written r d (Some (wrap w))) g
+with_inst globals (Move d a) r g out go = with_value (r a) out (λ v. go (written r d (Some v)) g)
+with_inst globals (Bin op d a b) r g out go =
+    with_value (r a) out (λ x. with_value (r b) out (λ y. with_value (op_result op x y) out (λ v. go (written r d (Some v)) g)))
+with_inst globals (Load d a i) r g out go =
+    with_value (r i) out (λ x. with_value (word_at g a x) out (λ v. go (written r d (Some v)) g))
+with_inst globals (Store a i b) r g out go =
+    with_value (r i) out (λ x. with_value (r b) out (λ v. with_value (kept_in globals a v) out (λ w. with_value (stored g a x w) out (λ g'. go r g'))))
+
+-- at the start of a block of the same function
+abbrev pub state_at_block : List RBlock → ℕ → Places → Option ℕ → List Frame → Arrays → List ℕ → Run
+state_at_block bs b r to frames g out =
+    with_value (slice_get bs b) out (λ block. Running (record { blocks = bs; registers = r; code = code_of block; result_to = to } ∷ frames) g out)
+
+-- a result goes to a register, where one is wanted
+abbrev pub with_result : Option ℕ → Option ℕ → Places → List ℕ → (Places → Run) → Run
+with_result None v r out go = go r
+with_result (Some d) v r out go = with_value v out (λ w. go (written r d (Some w)))
+
+-- a return with a word or without, to the activation below; the last one's word ends the run
+abbrev pub state_after_return : Option ℕ → Option ℕ → List Frame → Arrays → List ℕ → Run
+state_after_return v to [] g out = with_value v out (λ w. Ended w out)
+state_after_return v to (f ∷ frames) g out =
+    with_result to v f.registers out (λ r. Running (record { blocks = f.blocks; registers = r; code = f.code; result_to = f.result_to } ∷ frames) g out)
+
+-- a call of a function with as many arguments as it has parameters, where the bound on activations lets it
+abbrev pub state_after_call : Program → (depth f : ℕ) → List ℕ → Option ℕ → List Frame → Arrays → List ℕ → Run
+state_after_call p depth f vs to frames g out =
+    with_value (slice_get p.functions f) out (λ function.
+    if nat_lt (length frames) depth && (length vs == function.parameters)
+    then state_at_block function.blocks.items 0 (argument_registers vs) to frames g out
+    else Failed out)
+
+-- how a block is left
+abbrev pub state_after_exit : Program → (depth : ℕ) → RExit → List RBlock → Places → Option ℕ → List Frame → Arrays → List ℕ → Run
+state_after_exit p depth (Goto b) bs r to frames g out = state_at_block bs b r to frames g out
+state_after_exit p depth (Branch a t e) bs r to frames g out =
+    with_value (r a) out (λ v. state_at_block bs (if v == 0 then e else t) r to frames g out)
+state_after_exit p depth (Call f args d next) bs r to frames g out =
+    with_value (words_in r args.items) out (λ vs. with_value (slice_get bs next) out (λ block.
+    state_after_call p depth f vs d (record { blocks = bs; registers = r; code = code_of block; result_to = to } ∷ frames) g out))
+state_after_exit p depth (Return None) bs r to frames g out = state_after_return None to frames g out
+state_after_exit p depth (Return (Some a)) bs r to frames g out = with_value (r a) out (λ v. state_after_return (Some v) to frames g out)
+state_after_exit p depth (Out a next) bs r to frames g out = with_value (r a) out (λ v. state_at_block bs next r to frames g (out ++ v ∷ []))
+
+-- one instruction, or the exit where none is left
+abbrev pub step_at : Program → (depth : ℕ) → List RInst → RExit → List RBlock → Places → Option ℕ → List Frame → Arrays → List ℕ → Run
+step_at p depth [] exit bs r to frames g out = state_after_exit p depth exit bs r to frames g out
+step_at p depth (i ∷ is) exit bs r to frames g out =
+    with_inst p.globals i r g out (λ r' g'.
+    Running (record { blocks = bs; registers = r'; code = record { insts = is; exit = exit }; result_to = to } ∷ frames) g' out)
+
+abbrev pub rtl_step : Program → ℕ → Run → Run
+rtl_step p depth (Running [] g out) = Failed out
+rtl_step p depth (Running (f ∷ frames) g out) = step_at p depth f.code.insts f.code.exit f.blocks f.registers f.result_to frames g out
+rtl_step p depth (Ended w out) = Ended w out
+rtl_step p depth (Failed out) = Failed out
+
+abbrev pub rtl_steps : Program → (depth n : ℕ) → Run → Run
+rtl_steps p depth n s = steps (rtl_step p depth) n s
+
+-- the elements of a global at first
+abbrev pub first_values : RGlobal → List ℕ
+first_values a = map (λ v. kept a.width (wrap v)) a.first.items
+
+-- before the first step: an activation of `main`
+abbrev pub rtl_start : Program → Run
+rtl_start p =
+    with_value (slice_get p.functions p.main) [] (λ main.
+    state_at_block main.blocks.items 0 unset_places None [] (map first_values p.globals) [])
+
+-- what so many steps of a program come to, with at most so many activations at once
+abbrev pub rtl_run : Program → (depth n : ℕ) → Outcome
+rtl_run p depth n = outcome (rtl_steps p depth n (rtl_start p))

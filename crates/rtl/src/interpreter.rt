@@ -1,0 +1,318 @@
+ghost use Rattle.std.specs.Prelude.{◌≡◌, ℕ, List, IfOk, Some, None, map, Option, slice_get};
+ghost use Rattle.std.specs.Option.{option_map};
+ghost use Rattle.rtl.specs.declared.instruction.RInst.TheVariants.{Store};
+ghost use Rattle.rtl.specs.Meaning.{rtl_step, words_in};
+ghost use Rattle.rtl.specs.Interpreter.{places, arrays, result_at, element_at, state_of, state_at, frame_of, frame_at, Puts, Performs, Jumps, Calls, CallsFrom, Returns, Leaves};
+
+use crate::block::{RBlock, RGlobal};
+use crate::instruction::{BlockNumber, FunctionNumber, GlobalNumber, RExit, RInst, Register};
+use crate::operator::Op;
+use crate::program::Rtl;
+use crate::stores::{constant, element, kept_by, register, set, store};
+use std::alloc::{AllocError, Global};
+use std::mem;
+
+/// An activation that runs or waits: the blocks of its function, its registers, what is left of its block, and where its
+/// result goes, if anywhere.
+#[derive(Drop)]
+pub struct Frame<'a> {
+    pub blocks: &'a [RBlock],
+    pub registers: Vec<Option<u32>>,
+    pub insts: &'a [RInst],
+    pub exit: &'a RExit,
+    pub result_to: Option<Register>,
+}
+
+/// A run: the activation that runs, those that wait for it, the elements of the globals, and the output so far.
+#[derive(Drop)]
+pub struct Interpreter<'a> {
+    pub frame: Frame<'a>,
+    pub waiting: Vec<Frame<'a>>,
+    pub globals: Vec<Vec<u32>>,
+    pub output: Vec<u32>,
+}
+
+/// What a step has come to.
+#[derive(Clone, Copy)]
+pub enum Reached {
+    Going,
+    Ended(u32),
+    Failed,
+}
+
+// The result of an operator at two registers.
+fn result_of(registers: &[Option<u32>], op: Op, left: Register, right: Register) -> Option<u32>
+    ensures { result ≡ result_at op (places registers.now) left right }
+{
+    let x = register(registers, left)?;
+    let y = register(registers, right)?;
+    op.result(x, y)
+}
+
+// The element of a global whose index a register has.
+fn element_of(
+    registers: &[Option<u32>],
+    globals: &[Vec<u32>],
+    global: GlobalNumber,
+    index: Register,
+) -> Option<u32>
+    ensures { result ≡ element_at (places registers.now) (arrays globals.now) global index }
+{
+    let index = register(registers, index)?;
+    element(globals, global, index)
+}
+
+// A value, if there is one, goes to a register.
+fn put(
+    interpreter: &mut Interpreter,
+    to: Register,
+    value: Option<u32>,
+) -> Result<Reached, AllocError>
+    ensures { IfOk result (λ r. Puts to value interpreter.old r interpreter.new) }
+{
+    let Some(v) = value else {
+        return Ok(Reached::Failed);
+    };
+    set(&mut interpreter.frame.registers, to, v)?;
+    Ok(Reached::Going)
+}
+
+// `Store(global, index, from)`
+fn store_at(
+    globals: &[RGlobal],
+    interpreter: &mut Interpreter,
+    global: GlobalNumber,
+    index: Register,
+    from: Register,
+) -> Reached
+    ensures { Performs globals.now (Store global index from) interpreter.old result interpreter.new }
+{
+    let Some(index) = register(&interpreter.frame.registers, index) else {
+        return Reached::Failed;
+    };
+    let Some(v) = register(&interpreter.frame.registers, from) else {
+        return Reached::Failed;
+    };
+    let Some(v) = kept_by(globals, global, v) else {
+        return Reached::Failed;
+    };
+    if store(&mut interpreter.globals, global as usize, index as usize, v) {
+        Reached::Going
+    } else {
+        Reached::Failed
+    }
+}
+
+// One instruction.
+fn perform(
+    globals: &[RGlobal],
+    interpreter: &mut Interpreter,
+    inst: RInst,
+) -> Result<Reached, AllocError>
+    ensures { IfOk result (λ r. Performs globals.now inst interpreter.old r interpreter.new) }
+{
+    match inst {
+        RInst::Const(to, word) => put(interpreter, to, Some(constant(word))),
+        RInst::Move(to, from) => {
+            let v = register(&interpreter.frame.registers, from);
+            put(interpreter, to, v)
+        }
+        RInst::Bin(op, to, left, right) => {
+            let v = result_of(&interpreter.frame.registers, op, left, right);
+            put(interpreter, to, v)
+        }
+        RInst::Load(to, global, index) => {
+            let v = element_of(
+                &interpreter.frame.registers,
+                &interpreter.globals,
+                global,
+                index,
+            );
+            put(interpreter, to, v)
+        }
+        RInst::Store(global, index, from) => {
+            Ok(store_at(globals, interpreter, global, index, from))
+        }
+    }
+}
+
+// The block of a number.
+fn block_at(blocks: &[RBlock], number: BlockNumber) -> Option<&RBlock>
+    ensures { option_map (λ b. b.now) result ≡ slice_get blocks.now number }
+{
+    blocks.get(number as usize)
+}
+
+// The activation goes on at the start of a block.
+fn go_to<'a>(frame: &mut Frame<'a>, block: &'a RBlock)
+    ensures { frame_of frame.new ≡ frame_at block.now frame.old }
+{
+    frame.insts = block.insts.as_slice();
+    frame.exit = &block.exit;
+}
+
+// On to a block of the same function.
+fn jump(interpreter: &mut Interpreter, number: BlockNumber) -> Reached
+    ensures { Jumps number interpreter.old result interpreter.new }
+{
+    let Some(block) = block_at(interpreter.frame.blocks, number) else {
+        return Reached::Failed;
+    };
+    go_to(&mut interpreter.frame, block);
+    Reached::Going
+}
+
+// The words of the arguments, each a register that is set; None where one isn't.
+fn arguments(
+    alloc: Global,
+    registers: &[Option<u32>],
+    all: &[Register],
+) -> Result<Option<Vec<Option<u32>>>, AllocError>
+    ensures { let wanted = words_in (places registers.now) all.now in
+        IfOk result (λ r. option_map (λ v. v.items) r ≡ option_map (map Some) wanted) }
+{
+    let mut values = Vec::with_capacity(alloc, all.len())?;
+    for x in all {
+        let Some(v) = register(registers, *x) else {
+            return Ok(None);
+        };
+        values.push(Some(v))?;
+    }
+    Ok(Some(values))
+}
+
+// A function is called with these words.
+fn enter<'a>(
+    program: &'a Rtl,
+    depth: u32,
+    interpreter: &mut Interpreter<'a>,
+    function: FunctionNumber,
+    registers: Vec<Option<u32>>,
+    result_to: Option<Register>,
+) -> Result<Reached, AllocError>
+    ensures { let called = Calls program.now depth function in
+        IfOk result (λ r. (vs : List ℕ) → registers.items ≡ map Some vs → called vs result_to interpreter.old r interpreter.new) }
+{
+    let Some(function) = program.functions().get(function as usize) else {
+        return Ok(Reached::Failed);
+    };
+    if interpreter.waiting.len() + 1 >= depth as usize {
+        return Ok(Reached::Failed);
+    }
+    if registers.len() != function.parameters as usize {
+        return Ok(Reached::Failed);
+    }
+    let blocks = function.blocks.as_slice();
+    let Some(entry) = block_at(blocks, 0) else {
+        return Ok(Reached::Failed);
+    };
+    let frame = Frame {
+        blocks,
+        registers,
+        insts: entry.insts.as_slice(),
+        exit: &entry.exit,
+        result_to,
+    };
+    let caller = mem::replace(&mut interpreter.frame, frame);
+    interpreter.waiting.push(caller)?;
+    Ok(Reached::Going)
+}
+
+// A function is called with these words, and its caller goes on at a block.
+fn call<'a>(
+    program: &'a Rtl,
+    depth: u32,
+    interpreter: &mut Interpreter<'a>,
+    function: FunctionNumber,
+    registers: Vec<Option<u32>>,
+    result_to: Option<Register>,
+    next: BlockNumber,
+) -> Result<Reached, AllocError>
+    ensures { let called = CallsFrom program.now depth function in
+        IfOk result (λ r. (vs : List ℕ) → registers.items ≡ map Some vs → called vs result_to next interpreter.old r interpreter.new) }
+{
+    let Some(next) = block_at(interpreter.frame.blocks, next) else {
+        return Ok(Reached::Failed);
+    };
+    go_to(&mut interpreter.frame, next);
+    enter(program, depth, interpreter, function, registers, result_to)
+}
+
+// The activation returns, with a word or without.
+fn return_word(
+    interpreter: &mut Interpreter,
+    result_word: Option<u32>,
+) -> Result<Reached, AllocError>
+    ensures { IfOk result (λ r. Returns result_word interpreter.old r interpreter.new) }
+{
+    let Some(caller) = interpreter.waiting.pop() else {
+        return match result_word {
+            Some(w) => Ok(Reached::Ended(w)),
+            None => Ok(Reached::Failed),
+        };
+    };
+    let done = mem::replace(&mut interpreter.frame, caller);
+    let Some(to) = done.result_to else {
+        return Ok(Reached::Going);
+    };
+    put(interpreter, to, result_word)
+}
+
+// How a block is left.
+fn leave<'a>(
+    alloc: Global,
+    program: &'a Rtl,
+    depth: u32,
+    interpreter: &mut Interpreter<'a>,
+    exit: &'a RExit,
+) -> Result<Reached, AllocError>
+    ensures { IfOk result (λ r. Leaves program.now depth exit.now interpreter.old r interpreter.new) }
+{
+    match exit {
+        RExit::Goto(number) => Ok(jump(interpreter, *number)),
+        RExit::Branch(test, then, other) => {
+            let Some(v) = register(&interpreter.frame.registers, *test) else {
+                return Ok(Reached::Failed);
+            };
+            Ok(jump(interpreter, if v == 0 { *other } else { *then }))
+        }
+        RExit::Call(function, all, to, next) => {
+            let values = arguments(alloc, &interpreter.frame.registers, all)?;
+            let Some(values) = values else {
+                return Ok(Reached::Failed);
+            };
+            call(program, depth, interpreter, *function, values, *to, *next)
+        }
+        RExit::Return(None) => return_word(interpreter, None),
+        RExit::Return(Some(from)) => {
+            let Some(v) = register(&interpreter.frame.registers, *from) else {
+                return Ok(Reached::Failed);
+            };
+            return_word(interpreter, Some(v))
+        }
+        RExit::Out(from, next) => {
+            let Some(v) = register(&interpreter.frame.registers, *from) else {
+                return Ok(Reached::Failed);
+            };
+            interpreter.output.push(v)?;
+            Ok(jump(interpreter, *next))
+        }
+    }
+}
+
+/// One step of the program.
+pub(crate) fn step<'a>(
+    alloc: Global,
+    program: &'a Rtl,
+    depth: u32,
+    interpreter: &mut Interpreter<'a>,
+) -> Result<Reached, AllocError>
+    ensures { IfOk result (λ r. rtl_step program.now depth (state_of interpreter.old) ≡ state_at r interpreter.new) }
+{
+    let Some((inst, rest)) = interpreter.frame.insts.split_first() else {
+        let exit = interpreter.frame.exit;
+        return leave(alloc, program, depth, interpreter, exit);
+    };
+    interpreter.frame.insts = rest;
+    perform(program.globals(), interpreter, *inst)
+}

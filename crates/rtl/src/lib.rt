@@ -1,0 +1,32 @@
+//! RTL, the intermediate language: functions of blocks over pseudo-registers without bound in number. The idea is
+//! CompCert's (three-address instructions); the block form and its meaning are this project's.
+//!
+//! A program is an `Rtl`, which only `Rtl::new` makes, out of parts that are a program (`specs/Programs.antt`): what its
+//! instructions and exits name is there, and its sizes are within the limits. A pseudo-register is set in one activation of
+//! a function, to a word; a global is an array of words or of bytes. `specs/Operators.antt` has the operators,
+//! `specs/Meaning.antt` what a program does, one instruction or exit after another, and `specs/Laws.antt` what is true of
+//! every run: it keeps to words, and goes on from where it is.
+//!
+//! For the layers above the meaning is `rtl_run`, what a program comes to after so many steps within a depth, and `run`
+//! gives exactly that; an `Err` comes from refused memory alone. A step takes constant time: what is left of a block is
+//! lent, globals and registers are written in place, and the registers of an activation grow only as they are set.
+//! `specs/Interpreter.antt` says which state of the meaning the interpreter's parts stand for.
+#![tactic(auto)]
+
+mod block;
+mod instruction;
+mod interpreter;
+mod laws;
+mod limits;
+mod operator;
+mod program;
+mod steps;
+mod stores;
+
+pub use block::{RBlock, RFunc, RGlobal, Width};
+pub use instruction::{BlockNumber, FunctionNumber, GlobalNumber, RExit, RInst, Register};
+pub use laws::{runs_go_on_from_where_they_are, values_are_words};
+pub use limits::{MAX_BLOCKS, MAX_GLOBAL_WORDS, MAX_PARAMETERS, MAX_REGISTERS};
+pub use operator::Op;
+pub use program::Rtl;
+pub use steps::run;

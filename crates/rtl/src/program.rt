@@ -1,0 +1,264 @@
+ghost use Rattle.std.specs.Prelude.{◌≡◌, ℕ, ◌<◌, ◌≤◌, ◌↔◌, IsTrue, All, length, sum_by};
+ghost use Rattle.std.specs.Option.{SomeIff};
+ghost use Rattle.rtl.specs.Programs.{IsRegister, IsMaybeRegister, IsInst, IsCallee, IsExit, IsBlock, IsFunction, IsGlobal, IsProgram, program_of};
+ghost use Rattle.rtl.specs.Programs.{block_count, word_count, words_of_elements};
+
+use crate::block::{RBlock, RFunc, RGlobal, Width};
+use crate::instruction::{FunctionNumber, RExit, RInst, Register};
+use crate::limits::{MAX_BLOCKS, MAX_GLOBAL_WORDS, MAX_PARAMETERS, MAX_REGISTERS};
+use std::marker::Model;
+
+/// A program: functions, globals, and the number of the function that is run. What they name is there, and the sizes are
+/// within the limits (`specs/Programs.antt`).
+#[derive(Debug, Drop)]
+pub struct Rtl {
+    functions: Vec<RFunc>,
+    globals: Vec<RGlobal>,
+    main: FunctionNumber,
+}
+
+impl Model for Rtl {
+    ghost use Rattle.rtl.specs.Programs.{Program, IsProgram, program_of};
+
+    ghost Value = { Program };
+
+    ghost view = { λ p. program_of p.functions.items p.globals.items p.main };
+
+    ghost invariant = { λ p. IsProgram (program_of p.functions.items p.globals.items p.main) };
+}
+
+fn is_register(x: Register) -> bool
+    ensures { IsTrue result ↔ IsRegister x }
+{
+    x < MAX_REGISTERS
+}
+
+fn is_maybe_register(x: Option<Register>) -> bool
+    ensures { IsTrue result ↔ IsMaybeRegister x }
+{
+    match x {
+        Some(x) => is_register(x),
+        None => true,
+    }
+}
+
+fn are_registers(all: &[Register]) -> bool
+    ensures { IsTrue result ↔ All IsRegister all.now }
+{
+    all.iter().all(|&x| x < MAX_REGISTERS)
+}
+
+// Whether an instruction names what is there, with so many globals.
+fn is_inst(globals: usize, inst: RInst) -> bool
+    ensures { IsTrue result ↔ IsInst globals inst }
+{
+    match inst {
+        RInst::Const(to, _) => is_register(to),
+        RInst::Move(to, from) => is_register(to) && is_register(from),
+        RInst::Bin(_, to, left, right) => {
+            is_register(to) && is_register(left) && is_register(right)
+        }
+        RInst::Load(to, global, index) => {
+            is_register(to) && (global as usize) < globals && is_register(index)
+        }
+        RInst::Store(global, index, from) => {
+            (global as usize) < globals && is_register(index) && is_register(from)
+        }
+    }
+}
+
+// Whether a function is there and takes so many arguments.
+fn is_callee(functions: &[RFunc], function: FunctionNumber, count: usize) -> bool
+    ensures { IsTrue result ↔ IsCallee functions.now function count }
+{
+    match functions.get(function as usize) {
+        Some(callee) => callee.parameters as usize == count,
+        None => false,
+    }
+}
+
+// Whether an exit names what is there, in a function with so many blocks.
+fn is_exit(functions: &[RFunc], blocks: usize, exit: &RExit) -> bool
+    ensures { IsTrue result ↔ IsExit functions.now blocks exit.now }
+{
+    match exit {
+        RExit::Goto(block) => (*block as usize) < blocks,
+        RExit::Branch(test, then, other) => {
+            is_register(*test) && (*then as usize) < blocks && (*other as usize) < blocks
+        }
+        RExit::Call(function, arguments, to, next) => {
+            is_callee(functions, *function, arguments.len())
+                && are_registers(arguments.as_slice())
+                && is_maybe_register(*to)
+                && (*next as usize) < blocks
+        }
+        RExit::Return(from) => is_maybe_register(*from),
+        RExit::Out(from, next) => is_register(*from) && (*next as usize) < blocks,
+    }
+}
+
+fn are_insts(globals: usize, insts: &[RInst]) -> bool
+    ensures { IsTrue result ↔ All (IsInst globals) insts.now }
+{
+    for inst in insts {
+        if !is_inst(globals, *inst) {
+            return false;
+        }
+    }
+    true
+}
+
+fn is_block(functions: &[RFunc], globals: usize, blocks: usize, block: &RBlock) -> bool
+    ensures { IsTrue result ↔ IsBlock functions.now globals blocks block.now }
+{
+    are_insts(globals, block.insts.as_slice()) && is_exit(functions, blocks, &block.exit)
+}
+
+fn are_blocks(functions: &[RFunc], globals: usize, count: usize, blocks: &[RBlock]) -> bool
+    ensures { IsTrue result ↔ All (IsBlock functions.now globals count) blocks.now }
+{
+    for block in blocks {
+        if !is_block(functions, globals, count, block) {
+            return false;
+        }
+    }
+    true
+}
+
+fn is_function(functions: &[RFunc], globals: usize, function: &RFunc) -> bool
+    ensures { IsTrue result ↔ IsFunction functions.now globals function.now }
+{
+    let blocks = function.blocks.as_slice();
+    function.parameters <= MAX_PARAMETERS
+        && !blocks.is_empty()
+        && are_blocks(functions, globals, blocks.len(), blocks)
+}
+
+fn are_functions(functions: &[RFunc], globals: usize) -> bool
+    ensures { IsTrue result ↔ All (IsFunction functions.now globals) functions.now }
+{
+    for function in functions {
+        if !is_function(functions, globals, function) {
+            return false;
+        }
+    }
+    true
+}
+
+fn is_global(global: &RGlobal) -> bool
+    ensures { IsTrue result ↔ IsGlobal global.now }
+{
+    global.length > 0 && global.first.len() == global.length as usize
+}
+
+fn are_globals(globals: &[RGlobal]) -> bool
+    ensures { IsTrue result ↔ All IsGlobal globals.now }
+{
+    for global in globals {
+        if !is_global(global) {
+            return false;
+        }
+    }
+    true
+}
+
+// Whether the functions have no more blocks together than a program may have.
+fn blocks_fit(functions: &[RFunc]) -> bool
+    ensures { IsTrue result ↔ (sum_by block_count functions.now ≤ MAX_BLOCKS) }
+{
+    let mut total = 0;
+    for function in functions {
+        let count = function.blocks.len();
+        if count > MAX_BLOCKS - total {
+            return false;
+        }
+        total += count;
+    }
+    true
+}
+
+// The words that the elements of a global take.
+fn words_of(global: &RGlobal) -> usize
+    ensures { result ≡ word_count global.now }
+{
+    let length = global.length as usize;
+    match global.width {
+        Width::Word => length,
+        Width::Byte => (length + 3) / 4,
+    }
+}
+
+// Whether the globals have no more words together than a program may have.
+fn words_fit(globals: &[RGlobal]) -> bool
+    ensures { IsTrue result ↔ (sum_by word_count globals.now ≤ MAX_GLOBAL_WORDS) }
+{
+    let mut total = 0;
+    for global in globals {
+        let count = words_of(global);
+        if count > MAX_GLOBAL_WORDS - total {
+            return false;
+        }
+        total += count;
+    }
+    true
+}
+
+fn sizes_fit(functions: &[RFunc], globals: &[RGlobal]) -> bool
+    ensures { IsTrue result ↔ (sum_by block_count functions.now ≤ MAX_BLOCKS) × (sum_by word_count globals.now ≤ MAX_GLOBAL_WORDS) }
+{
+    blocks_fit(functions) && words_fit(globals)
+}
+
+fn is_program(functions: &[RFunc], globals: &[RGlobal], main: FunctionNumber) -> bool
+    ensures { IsTrue result ↔ IsProgram (program_of functions.now globals.now main) }
+{
+    if !sizes_fit(functions, globals) || !are_globals(globals) {
+        return false;
+    }
+    is_callee(functions, main, 0) && are_functions(functions, globals.len())
+}
+
+impl Rtl {
+    /// A program of these parts, if they make one: each function, block and global that is named exists; a function has a
+    /// block and at most four parameters; a call has as many arguments as parameters, and `main` has none; pseudo-registers
+    /// are below 8,000; a global has at least one element and as many first values; and there are at most 1,048,575 blocks
+    /// and 262,144 words of globals, where four bytes or less are a word.
+    pub fn new(functions: Vec<RFunc>, globals: Vec<RGlobal>, main: FunctionNumber) -> Option<Rtl>
+        ensures { SomeIff result (IsProgram (program_of functions.items globals.items main))
+            (program_of functions.items globals.items main) }
+    {
+        if is_program(functions.as_slice(), globals.as_slice(), main) {
+            Some(Rtl {
+                functions,
+                globals,
+                main,
+            })
+        } else {
+            None
+        }
+    }
+
+    /// The functions.
+    pub fn functions(&self) -> &[RFunc]
+        ensures value { result.now ≡ self.now.functions }
+        ensures sound { IsProgram self.now }
+    {
+        self.functions.as_slice()
+    }
+
+    /// The globals.
+    pub fn globals(&self) -> &[RGlobal]
+        ensures value { result.now ≡ self.now.globals }
+        ensures sound { IsProgram self.now }
+    {
+        self.globals.as_slice()
+    }
+
+    /// The number of the function that is run.
+    pub fn main(&self) -> FunctionNumber
+        ensures value { result ≡ self.now.main }
+        ensures sound { IsProgram self.now }
+    {
+        self.main
+    }
+}

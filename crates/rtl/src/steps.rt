@@ -1,0 +1,82 @@
+ghost use Rattle.std.specs.Prelude.{◌≡◌, IfOk, map};
+ghost use Rattle.runs.specs.Runs.{outcome_of};
+ghost use Rattle.rtl.specs.Meaning.{first_values, rtl_start, rtl_run};
+ghost use Rattle.rtl.specs.Interpreter.{arrays, state_of};
+
+use crate::block::RGlobal;
+use crate::interpreter::{Frame, Interpreter, Reached, step};
+use crate::program::Rtl;
+use crate::stores::constant;
+use runs::{End, Ran};
+use std::alloc::{AllocError, Global};
+
+// The elements of a global before the first step.
+fn first_elements(alloc: Global, global: &RGlobal) -> Result<Vec<u32>, AllocError>
+    ensures { IfOk result (λ elements. elements.items ≡ first_values global.now) }
+{
+    let mut elements = Vec::with_capacity(alloc, global.first.len())?;
+    for v in &global.first {
+        elements.push(global.width.kept(constant(*v)))?;
+    }
+    Ok(elements)
+}
+
+// The globals before the first step.
+fn first_globals(alloc: Global, globals: &[RGlobal]) -> Result<Vec<Vec<u32>>, AllocError>
+    ensures { IfOk result (λ g. arrays g.items ≡ map first_values globals.now) }
+{
+    let mut all = Vec::with_capacity(alloc, globals.len())?;
+    for global in globals {
+        all.push(first_elements(alloc, global)?)?;
+    }
+    Ok(all)
+}
+
+// The run before its first step.
+fn start<'a>(alloc: Global, program: &'a Rtl) -> Result<Interpreter<'a>, AllocError>
+    ensures { IfOk result (λ r. rtl_start program.now ≡ state_of r) }
+{
+    let main = &program.functions()[program.main() as usize];
+    let blocks = main.blocks.as_slice();
+    let entry = &blocks[0];
+    let globals = first_globals(alloc, program.globals())?;
+    let frame = Frame {
+        blocks,
+        registers: Vec::new(alloc),
+        insts: entry.insts.as_slice(),
+        exit: &entry.exit,
+        result_to: None,
+    };
+    Ok(Interpreter {
+        frame,
+        waiting: Vec::new(alloc),
+        globals,
+        output: Vec::new(alloc),
+    })
+}
+
+/// What so many steps of a program come to, with at most `depth` activations at once, that of `main` among them. `Err`
+/// only where memory is refused.
+pub fn run(alloc: Global, program: &Rtl, depth: u32, steps: u64) -> Result<Ran, AllocError>
+    ensures { IfOk result (λ r. outcome_of r ≡ rtl_run program.now depth steps) }
+{
+    let mut interpreter = start(alloc, program)?;
+    for _ in 0..steps {
+        let reached = step(alloc, program, depth, &mut interpreter)?;
+        match reached {
+            Reached::Going => {}
+            Reached::Ended(w) => return Ok(Ran {
+                end: End::Done(w),
+                output: interpreter.output,
+            }),
+            Reached::Failed => return Ok(Ran {
+                end: End::Wrong,
+                output: interpreter.output,
+            }),
+        }
+    }
+    Ok(Ran {
+        end: End::More,
+        output: interpreter.output,
+    })
+}

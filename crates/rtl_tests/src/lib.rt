@@ -1,0 +1,18 @@
+//! Worked examples of RTL: operators, runs, and what is no program. The expected values are worked by hand from the rules of
+//! the language.
+#![tactic(auto)]
+
+#[cfg(test)]
+mod calls;
+#[cfg(test)]
+mod globals;
+#[cfg(test)]
+mod operators;
+#[cfg(test)]
+mod programs;
+#[cfg(test)]
+mod refusals;
+#[cfg(test)]
+mod runs_of_blocks;
+#[cfg(test)]
+mod sizes;
