@@ -5,7 +5,7 @@ use Rattle.std.specs.List.{slice_get}
 use Rattle.std.proofs.lemmas.Option.{same_Some, none-some}
 use Rattle.std.proofs.lemmas.List.Elements.{All-nil, All-cons, All-head, All-tail, All-push}
 use Rattle.words.specs.Words.{wrap}
-use Rattle.runs.specs.Stores.{Places, Arrays, chain, unset_places, written, word_at, stored, IsWord, PlacesHoldWords, ArraysHoldWords}
+use Rattle.runs.specs.Stores.{Places, Arrays, chain, unset_places, places_with, element_at, arrays_with, IsWord, PlacesHoldWords, ArraysHoldWords}
 use Rattle.runs.specs.Runs.{Running, Ended, Failed, with_value}
 use Rattle.runs.proofs.Words.{chain-some, at-index, word-at, unset-words, written-words, stored-words}
 use Rattle.runs.proofs.Steps.{steps-keep}
@@ -34,7 +34,7 @@ running : (f : Frame) (frames : List Frame) (g : Arrays) (out : List ℕ) → Pl
     → All IsWord out → RunHoldsWords (Running (f ∷ frames) g out)
 running f frames g out a b c d = (All-cons FrameHoldsWords f frames a b, (c, d))
 
-set-words : (r : Places) (x v : ℕ) → PlacesHoldWords r → IsWord v → PlacesHoldWords (written r x (Some v))
+set-words : (r : Places) (x v : ℕ) → PlacesHoldWords r → IsWord v → PlacesHoldWords (places_with r x (Some v))
 set-words r x v h w = written-words r x (Some v) h (λ u e. subst IsWord (same_Some v u e) w)
 
 wrapped : (n : ℕ) → IsWord (wrap n)
@@ -52,23 +52,23 @@ kept-in-word globals a v w h e =
 inst-words : (globals : List RGlobal) (i : RInst) (r : Places) (g : Arrays) (out : List ℕ) (go : Places → Arrays → Run) → PlacesHoldWords r
     → ArraysHoldWords g → All IsWord out → ((r : Places) (g : Arrays) → PlacesHoldWords r → ArraysHoldWords g → RunHoldsWords (go r g))
     → RunHoldsWords (with_inst globals i r g out go)
-inst-words globals (Const d w) r g out go a b c k = k (written r d (Some (wrap w))) g (set-words r d (wrap w) a (wrapped w)) b
+inst-words globals (Const d w) r g out go a b c k = k (places_with r d (Some (wrap w))) g (set-words r d (wrap w) a (wrapped w)) b
 inst-words globals (Move d x) r g out go a b c k =
-    with-words (r x) out (λ v. go (written r d (Some v)) g) c (λ v e. k (written r d (Some v)) g (set-words r d v a (a x v e)) b)
+    with-words (r x) out (λ v. go (places_with r d (Some v)) g) c (λ v e. k (places_with r d (Some v)) g (set-words r d v a (a x v e)) b)
 inst-words globals (Bin op d x y) r g out go a b c k =
-    with-words (r x) out (λ v. with_value (r y) out (λ w. with_value (op_result op v w) out (λ u. go (written r d (Some u)) g))) c
-    (λ v e. with-words (r y) out (λ w. with_value (op_result op v w) out (λ u. go (written r d (Some u)) g)) c
-    (λ w f. with-words (op_result op v w) out (λ u. go (written r d (Some u)) g) c
-    (λ u is. k (written r d (Some u)) g (set-words r d u a (result-word op v w u (a x v e) (a y w f) is)) b)))
+    with-words (r x) out (λ v. with_value (r y) out (λ w. with_value (op_result op v w) out (λ u. go (places_with r d (Some u)) g))) c
+    (λ v e. with-words (r y) out (λ w. with_value (op_result op v w) out (λ u. go (places_with r d (Some u)) g)) c
+    (λ w f. with-words (op_result op v w) out (λ u. go (places_with r d (Some u)) g) c
+    (λ u is. k (places_with r d (Some u)) g (set-words r d u a (result-word op v w u (a x v e) (a y w f) is)) b)))
 inst-words globals (Load d x i) r g out go a b c k =
-    with-words (r i) out (λ j. with_value (word_at g x j) out (λ v. go (written r d (Some v)) g)) c
-    (λ j e. with-words (word_at g x j) out (λ v. go (written r d (Some v)) g) c
-    (λ v is. k (written r d (Some v)) g (set-words r d v a (word-at g x j v b is)) b))
+    with-words (r i) out (λ j. with_value (element_at g x j) out (λ v. go (places_with r d (Some v)) g)) c
+    (λ j e. with-words (element_at g x j) out (λ v. go (places_with r d (Some v)) g) c
+    (λ v is. k (places_with r d (Some v)) g (set-words r d v a (word-at g x j v b is)) b))
 inst-words globals (Store x i y) r g out go a b c k =
-    with-words (r i) out (λ j. with_value (r y) out (λ v. with_value (kept_in globals x v) out (λ w. with_value (stored g x j w) out (λ g'. go r g')))) c
-    (λ j e. with-words (r y) out (λ v. with_value (kept_in globals x v) out (λ w. with_value (stored g x j w) out (λ g'. go r g'))) c
-    (λ v f. with-words (kept_in globals x v) out (λ w. with_value (stored g x j w) out (λ g'. go r g')) c
-    (λ w is. with-words (stored g x j w) out (λ g'. go r g') c
+    with-words (r i) out (λ j. with_value (r y) out (λ v. with_value (kept_in globals x v) out (λ w. with_value (arrays_with g x j w) out (λ g'. go r g')))) c
+    (λ j e. with-words (r y) out (λ v. with_value (kept_in globals x v) out (λ w. with_value (arrays_with g x j w) out (λ g'. go r g'))) c
+    (λ v f. with-words (kept_in globals x v) out (λ w. with_value (arrays_with g x j w) out (λ g'. go r g')) c
+    (λ w is. with-words (arrays_with g x j w) out (λ g'. go r g') c
     (λ g' s. k r g' a (stored-words g x j w g' b (kept-in-word globals x v w (a y v f) is) s)))))
 
 read-words : (r : Places) (xs vs : List ℕ) → PlacesHoldWords r → words_in r xs ≡ Some vs → All IsWord vs
@@ -101,9 +101,9 @@ returned-words : (v to : Option ℕ) (frames : List Frame) (g : Arrays) (out : L
 returned-words v to [] g out a b c d = with-words v out (λ w. Ended w out) d (λ w e. (a w e, d))
 returned-words v None (f ∷ frames) g out a b c d = (b, (c, d))
 returned-words v (Some x) (f ∷ frames) g out a b c d =
-    with-words v out (λ w. Running (record { blocks = f.blocks; registers = written f.registers x (Some w); code = f.code; result_to = f.result_to } ∷ frames)
+    with-words v out (λ w. Running (record { blocks = f.blocks; registers = places_with f.registers x (Some w); code = f.code; result_to = f.result_to } ∷ frames)
     g out) d
-    (λ w e. running (record { blocks = f.blocks; registers = written f.registers x (Some w); code = f.code; result_to = f.result_to }) frames g out
+    (λ w e. running (record { blocks = f.blocks; registers = places_with f.registers x (Some w); code = f.code; result_to = f.result_to }) frames g out
     (set-words f.registers x w (All-head FrameHoldsWords f frames b) (a w e)) (All-tail FrameHoldsWords f frames b) c d)
 
 exit-words : (p : Program) (depth : ℕ) (exit : RExit) (bs : List RBlock) (r : Places) (to : Option ℕ) (frames : List Frame) (g : Arrays) (out : List ℕ)

@@ -10,7 +10,7 @@ use Rattle.std.proofs.lemmas.Option.{slice_get-map, slice_get-get_or, slice_get_
 use mathlib.Core.Path.{fun_ext}
 use Rattle.std.specs.Prelude.{if◌then◌else◌}
 use Rattle.std.proofs.lemmas.Bool.{eqb-false}
-use Rattle.runs.specs.Stores.{written, chain, stored}
+use Rattle.runs.specs.Stores.{places_with, chain, arrays_with}
 use Rattle.rtl.specs.Interpreter.{places, arrays}
 
 one_unset : (xs : List (Option ℕ)) (y : ℕ) → get_or (xs ++ None ∷ []) y None ≡ get_or xs y None
@@ -22,7 +22,7 @@ one_unset (x ∷ xs) (suc y) = one_unset xs y
 pub places-push : (xs : List (Option ℕ)) → places (xs ++ None ∷ []) ≡ places xs
 places-push xs = fun_ext (λ y. one_unset xs y)
 
-pub places-set : (xs : List (Option ℕ)) (x : ℕ) (v : Option ℕ) → x < length xs → places (set xs x v) ≡ written (places xs) x v
+pub places-set : (xs : List (Option ℕ)) (x : ℕ) (v : Option ℕ) → x < length xs → places (set xs x v) ≡ places_with (places xs) x v
 places-set xs x v lt = fun_ext (λ y. by y (nat_eq y x) refl)
   where
     by : (y : ℕ) (b : Bool) → nat_eq y x ≡ b → get_or (set xs x v) y None ≡ (if nat_eq y x then v else get_or xs y None)
@@ -37,7 +37,7 @@ the_words : (gs : List (Vec ℕ Global)) (a : ℕ) (d : Vec ℕ Global) → a < 
 the_words gs a d lt = slice_get-map (λ (v : Vec ℕ Global). v.items) gs a ∙ ap (option_map (λ (v : Vec ℕ Global). v.items)) (slice_get-get_or gs a d lt)
 
 pub stored-there : (gs : List (Vec ℕ Global)) (a i v : ℕ) (d w : Vec ℕ Global) → a < length gs → i < length (get_or gs a d).items
-    → w.items ≡ set (get_or gs a d).items i v → stored (arrays gs) a i v ≡ Some (arrays (set gs a w))
+    → w.items ≡ set (get_or gs a d).items i v → arrays_with (arrays gs) a i v ≡ Some (arrays (set gs a w))
 stored-there gs a i v d w lt inside e =
     let words = (get_or gs a d).items in
     ap (λ o. chain o (λ words. chain (slice_get words i) (λ _. Some (set (arrays gs) a (set words i v))))) (the_words gs a d lt)
@@ -46,13 +46,13 @@ stored-there gs a i v d w lt inside e =
     ∙ ap Some (sym (map-set (λ (v : Vec ℕ Global). v.items) gs a w))
 
 pub stored-outside : (gs : List (Vec ℕ Global)) (a i v : ℕ) (d : Vec ℕ Global) → a < length gs → length (get_or gs a d).items ≤ i
-    → stored (arrays gs) a i v ≡ None
+    → arrays_with (arrays gs) a i v ≡ None
 stored-outside gs a i v d lt past =
     let words = (get_or gs a d).items in
     ap (λ o. chain o (λ words. chain (slice_get words i) (λ _. Some (set (arrays gs) a (set words i v))))) (the_words gs a d lt)
     ∙ ap (λ o. chain o (λ _. Some (set (arrays gs) a (set words i v)))) (slice_get_past words i past)
 
-pub stored-nowhere : (gs : List (Vec ℕ Global)) (a i v : ℕ) → length gs ≤ a → stored (arrays gs) a i v ≡ None
+pub stored-nowhere : (gs : List (Vec ℕ Global)) (a i v : ℕ) → length gs ≤ a → arrays_with (arrays gs) a i v ≡ None
 stored-nowhere gs a i v past =
     ap (λ o. chain o (λ words. chain (slice_get words i) (λ _. Some (set (arrays gs) a (set words i v)))))
     (slice_get-map (λ (v : Vec ℕ Global). v.items) gs a ∙ ap (option_map (λ (v : Vec ℕ Global). v.items)) (slice_get_past gs a past))

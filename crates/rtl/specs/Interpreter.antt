@@ -2,7 +2,7 @@
 use Rattle.std.specs.Prelude.{◌≡◌, ℕ, List, ◌∷◌, Option, None, Some, map, reverse, slice_get, slice_index_or}
 use Rattle.std.specs.declared.vec.Vec.{Vec}
 use Rattle.std.specs.declared.alloc.Global.{Global}
-use Rattle.runs.specs.Stores.{Places, Arrays, chain, word_at, written}
+use Rattle.runs.specs.Stores.{Places, Arrays, chain, element_at, places_with}
 use Rattle.runs.specs.Runs.{Running, Ended, Failed, with_value}
 use Rattle.rtl.specs.declared.operator.Op.{Op}
 use Rattle.rtl.specs.declared.instruction.RInst.{RInst}
@@ -32,7 +32,7 @@ result_at op r a b = chain (r a) (λ x. chain (r b) (λ y. op_result op x y))
 
 -- the element of a global whose index a register has, or none
 abbrev pub element_at : Places → Arrays → ℕ → ℕ → Option ℕ
-element_at r g a i = chain (r i) (λ x. word_at g a x)
+element_at r g a i = chain (r i) (λ x. element_at g a x)
 
 abbrev pub frame_of : Frame → Meaning.Frame
 frame_of f = record {
@@ -73,7 +73,7 @@ frame_at block f =
 -- a value, if there is one, goes to a register
 abbrev pub Puts : ℕ → Option ℕ → Interpreter → Reached → Interpreter → Type 0
 Puts x v before r after =
-    with_value v before.output.items (λ w. state_with before (written (places before.frame.registers.items) x (Some w)) (arrays before.globals.items))
+    with_value v before.output.items (λ w. state_with before (places_with (places before.frame.registers.items) x (Some w)) (arrays before.globals.items))
     ≡ state_at r after
 
 -- an instruction of a program with these globals takes the interpreter before to what is reached

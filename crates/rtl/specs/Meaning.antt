@@ -3,8 +3,8 @@
 -- wanted and not returned, a call beyond the depth, and what isn't there at all, which no program that is an `Rtl` names.
 use Rattle.std.specs.Prelude.{ℕ, ◌%◌, ◌^◌, ◌&&◌, ◌==◌, List, [], ◌∷◌, ◌++◌, Option, Some, None, length, nat_lt, if◌then◌else◌, slice_get, map}
 use Rattle.words.specs.Words.{wrap}
-use Rattle.runs.specs.Stores.{Places, unset_places, written, Arrays, chain, word_at, stored}
-use Rattle.runs.specs.Runs.{Outcome, State, Running, Ended, Failed, with_value, steps, outcome}
+use Rattle.runs.specs.Stores.{Places, unset_places, places_with, Arrays, chain, element_at, arrays_with}
+use Rattle.runs.specs.Runs.{Outcome, Configuration, Running, Ended, Failed, with_value, steps, outcome}
 use Rattle.rtl.specs.declared.instruction.RInst.{RInst}
 use Rattle.rtl.specs.declared.instruction.RInst.TheVariants.{Const, Move, Bin, Load, Store}
 use Rattle.rtl.specs.declared.instruction.RExit.{RExit}
@@ -33,7 +33,7 @@ pub record Frame : Type 0 where
   pub result_to : Option ℕ
 
 abbrev pub Run : Type 0
-Run = State Frame
+Run = Configuration Frame
 
 -- the words of registers, or none where one isn't set
 abbrev pub words_in : Places → List ℕ → Option (List ℕ)
@@ -55,14 +55,14 @@ kept_in globals a v = chain (slice_get globals a) (λ global. Some (kept global.
 
 -- an instruction, with what it leaves in the registers and globals
 abbrev pub with_inst : List RGlobal → RInst → Places → Arrays → List ℕ → (Places → Arrays → Run) → Run
-with_inst globals (Const d w) r g out go = go (written r d (Some (wrap w))) g
-with_inst globals (Move d a) r g out go = with_value (r a) out (λ v. go (written r d (Some v)) g)
+with_inst globals (Const d w) r g out go = go (places_with r d (Some (wrap w))) g
+with_inst globals (Move d a) r g out go = with_value (r a) out (λ v. go (places_with r d (Some v)) g)
 with_inst globals (Bin op d a b) r g out go =
-    with_value (r a) out (λ x. with_value (r b) out (λ y. with_value (op_result op x y) out (λ v. go (written r d (Some v)) g)))
+    with_value (r a) out (λ x. with_value (r b) out (λ y. with_value (op_result op x y) out (λ v. go (places_with r d (Some v)) g)))
 with_inst globals (Load d a i) r g out go =
-    with_value (r i) out (λ x. with_value (word_at g a x) out (λ v. go (written r d (Some v)) g))
+    with_value (r i) out (λ x. with_value (element_at g a x) out (λ v. go (places_with r d (Some v)) g))
 with_inst globals (Store a i b) r g out go =
-    with_value (r i) out (λ x. with_value (r b) out (λ v. with_value (kept_in globals a v) out (λ w. with_value (stored g a x w) out (λ g'. go r g'))))
+    with_value (r i) out (λ x. with_value (r b) out (λ v. with_value (kept_in globals a v) out (λ w. with_value (arrays_with g a x w) out (λ g'. go r g'))))
 
 -- at the start of a block of the same function
 abbrev pub state_at_block : List RBlock → ℕ → Places → Option ℕ → List Frame → Arrays → List ℕ → Run
@@ -72,7 +72,7 @@ state_at_block bs b r to frames g out =
 -- a result goes to a register, where one is wanted
 abbrev pub with_result : Option ℕ → Option ℕ → Places → List ℕ → (Places → Run) → Run
 with_result None v r out go = go r
-with_result (Some d) v r out go = with_value v out (λ w. go (written r d (Some w)))
+with_result (Some d) v r out go = with_value v out (λ w. go (places_with r d (Some w)))
 
 -- a return with a word or without, to the activation below; the last one's word ends the run
 abbrev pub state_after_return : Option ℕ → Option ℕ → List Frame → Arrays → List ℕ → Run

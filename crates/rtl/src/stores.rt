@@ -2,7 +2,7 @@
 
 ghost use Rattle.std.specs.Prelude.{◌≡◌, ◌<◌, length, Option, OnOk, None, Some, if◌then◌else◌};
 ghost use Rattle.words.specs.Words.{wrap};
-ghost use Rattle.runs.specs.Stores.{Places, Arrays, chain, written, word_at, stored};
+ghost use Rattle.runs.specs.Stores.{Places, Arrays, chain, places_with, element_at, arrays_with};
 ghost use Rattle.rtl.specs.Meaning.{kept, kept_in};
 ghost use Rattle.rtl.specs.Interpreter.{places, arrays};
 
@@ -44,7 +44,7 @@ fn make_room(registers: &mut Vec<Option<u32>>, x: usize) -> Result<(), AllocErro
 
 /// A register is set.
 pub(crate) fn set(registers: &mut Vec<Option<u32>>, x: Register, v: u32) -> Result<(), AllocError>
-    ensures { OnOk result (places registers.new.items ≡ written (places registers.old.items) x (Some v)) }
+    ensures { OnOk result (places registers.new.items ≡ places_with (places registers.old.items) x (Some v)) }
 {
     let x = x as usize;
     make_room(registers, x)?;
@@ -55,7 +55,7 @@ pub(crate) fn set(registers: &mut Vec<Option<u32>>, x: Register, v: u32) -> Resu
 /// The element of a global at an index; None outside.
 #[inline]
 pub(crate) fn element(globals: &[Vec<u32>], global: GlobalNumber, index: u32) -> Option<u32>
-    ensures { result ≡ word_at (arrays globals.now) global index }
+    ensures { result ≡ element_at (arrays globals.now) global index }
 {
     let global = global as usize;
     let index = index as usize;
@@ -70,7 +70,7 @@ pub(crate) fn element(globals: &[Vec<u32>], global: GlobalNumber, index: u32) ->
 
 /// An element of a global is written; false outside.
 pub(crate) fn store(globals: &mut [Vec<u32>], global: usize, index: usize, v: u32) -> bool
-    ensures { stored (arrays globals.old) global index v ≡ (if result then Some (arrays globals.new) else None) }
+    ensures { arrays_with (arrays globals.old) global index v ≡ (if result then Some (arrays globals.new) else None) }
 {
     if global < globals.len() {
         let array = &mut globals[global];
