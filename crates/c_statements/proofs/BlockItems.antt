@@ -1,5 +1,6 @@
 -- Lists of items with one more at the end, and the scopes behind statements.
-use Rattle.std.proofs.Common.{◌≡◌, ◌⊎◌, ◌+◌, ◌<◌, ℕ, List, [], ◌∷◌, ◌++◌, Bool, length, get_or, take, Result, Ok, IfOk, IfErr, inl, inr, refl, sym, subst, ap, ◌∙◌, arith}
+use Rattle.std.proofs.Common.{◌≡◌, ◌⊎◌, ◌+◌, ◌<◌, ℕ, List, [], ◌∷◌, ◌++◌, Bool, length, get_or, take, Result, Ok, IfOk, IfErr, inl, inr}
+use Rattle.std.proofs.Common.{refl, sym, subst, ap, ◌∙◌, arith}
 use Rattle.std.proofs.lemmas.List.{take_more}
 use Rattle.std.specs.declared.vec.Vec.{Vec}
 use Rattle.std.specs.declared.alloc.Global.{Global}
@@ -37,46 +38,58 @@ pub statements-append : (xs : List TypedStatement) (s : TypedStatement) → stat
 statements-append [] s = refl
 statements-append (x ∷ xs) s = ap (more_statements (statement_of x)) (statements-append xs s)
 
-behind-append : (text : List ℕ) (sc : Scopes) (xs : Items) (i : Tree.Item) → behind_items text sc (with_item xs i) ≡ behind_item text (behind_items text sc xs) i
+behind-append : (text : List ℕ) (sc : Scopes) (xs : Items) (i : Tree.Item)
+    → behind_items text sc (with_item xs i) ≡ behind_item text (behind_items text sc xs) i
 behind-append text sc no_items i = refl
 behind-append text sc (more_items x rest) i = behind-append text (behind_item text sc x) rest i
 
-typed-append : (text : List ℕ) (sc : Scopes) (xs : Items) (ts : TypedStatements) (i : Tree.Item) (t : Trees.TypedStatement) → TypesItems text sc xs ts → TypesItems text (behind_items text sc xs) (more_items i no_items) (more_statements t no_statements)
+typed-append : (text : List ℕ) (sc : Scopes) (xs : Items) (ts : TypedStatements) (i : Tree.Item) (t : Trees.TypedStatement)
+    → TypesItems text sc xs ts → TypesItems text (behind_items text sc xs) (more_items i no_items) (more_statements t no_statements)
     → TypesItems text sc (with_item xs i) (with_statement ts t)
 typed-append text sc no_items no_statements i t h l = l
 typed-append text sc no_items (more_statements u ts) i t h l = elim h [ ]
 typed-append text sc (more_items (declare k x v) rest) no_statements i t h l = elim h [ ]
 typed-append text sc (more_items (statement s) rest) no_statements i t h l = elim h [ ]
-typed-append text sc (more_items (declare k x v) rest) (more_statements u ts) i t (declare_typed f h) l = declare_typed f (typed-append text (with_local text sc k x) rest ts i t h l)
-typed-append text sc (more_items (statement s) rest) (more_statements u ts) i t (statement_typed f h) l = statement_typed f (typed-append text (behind sc s) rest ts i t h l)
+typed-append text sc (more_items (declare k x v) rest) (more_statements u ts) i t (declare_typed f h) l =
+    declare_typed f (typed-append text (with_local text sc k x) rest ts i t h l)
+typed-append text sc (more_items (statement s) rest) (more_statements u ts) i t (statement_typed f h) l =
+    statement_typed f (typed-append text (behind sc s) rest ts i t h l)
 
-faulty-to : (text : List ℕ) (g b : Bool) (sc : Scopes) (xs : Items) (i : Tree.Item) (k : TypeFaultKind) (at : ℕ) → FaultyItems text g b sc xs k at ⊎ FaultyItems text g b (behind_items text sc xs) (more_items i no_items) k at
+faulty-to : (text : List ℕ) (g b : Bool) (sc : Scopes) (xs : Items) (i : Tree.Item) (k : TypeFaultKind) (at : ℕ)
+    → FaultyItems text g b sc xs k at ⊎ FaultyItems text g b (behind_items text sc xs) (more_items i no_items) k at
     → FaultyItems text g b sc (with_item xs i) k at
 faulty-to text g b sc no_items i k at (inl h) = absurd h
 faulty-to text g b sc no_items i k at (inr h) = h
 faulty-to text g b sc (more_items (declare integer_type x v) rest) i k at (inl (inl h)) = inl h
-faulty-to text g b sc (more_items (declare integer_type x v) rest) i k at (inl (inr h)) = inr (faulty-to text g b (with_local text sc integer_type x) rest i k at (inl h))
-faulty-to text g b sc (more_items (declare integer_type x v) rest) i k at (inr h) = inr (faulty-to text g b (with_local text sc integer_type x) rest i k at (inr h))
+faulty-to text g b sc (more_items (declare integer_type x v) rest) i k at (inl (inr h)) =
+    inr (faulty-to text g b (with_local text sc integer_type x) rest i k at (inl h))
+faulty-to text g b sc (more_items (declare integer_type x v) rest) i k at (inr h) =
+    inr (faulty-to text g b (with_local text sc integer_type x) rest i k at (inr h))
 faulty-to text g b sc (more_items (statement s) rest) i k at (inl (inl h)) = inl h
 faulty-to text g b sc (more_items (statement s) rest) i k at (inl (inr h)) = inr (faulty-to text g b (behind sc s) rest i k at (inl h))
 faulty-to text g b sc (more_items (statement s) rest) i k at (inr h) = inr (faulty-to text g b (behind sc s) rest i k at (inr h))
 
-faulty-from : (text : List ℕ) (g b : Bool) (sc : Scopes) (xs : Items) (i : Tree.Item) (k : TypeFaultKind) (at : ℕ) → FaultyItems text g b sc (with_item xs i) k at
+faulty-from : (text : List ℕ) (g b : Bool) (sc : Scopes) (xs : Items) (i : Tree.Item) (k : TypeFaultKind) (at : ℕ)
+    → FaultyItems text g b sc (with_item xs i) k at
     → FaultyItems text g b sc xs k at ⊎ FaultyItems text g b (behind_items text sc xs) (more_items i no_items) k at
 faulty-from text g b sc no_items i k at h = inr h
 faulty-from text g b sc (more_items (declare integer_type x v) rest) i k at (inl h) = inl (inl h)
-faulty-from text g b sc (more_items (declare integer_type x v) rest) i k at (inr h) = elim (faulty-from text g b (with_local text sc integer_type x) rest i k at h) [ inl l ↦ inl (inr l) | inr r ↦ inr r ]
+faulty-from text g b sc (more_items (declare integer_type x v) rest) i k at (inr h) =
+    elim (faulty-from text g b (with_local text sc integer_type x) rest i k at h) [ inl l ↦ inl (inr l) | inr r ↦ inr r ]
 faulty-from text g b sc (more_items (statement s) rest) i k at (inl h) = inl (inl h)
-faulty-from text g b sc (more_items (statement s) rest) i k at (inr h) = elim (faulty-from text g b (behind sc s) rest i k at h) [ inl l ↦ inl (inr l) | inr r ↦ inr r ]
+faulty-from text g b sc (more_items (statement s) rest) i k at (inr h) =
+    elim (faulty-from text g b (behind sc s) rest i k at h) [ inl l ↦ inl (inr l) | inr r ↦ inr r ]
 
 -- the answer for the items so far
 abbrev pub ItemsSoFar : List ℕ → (gives loop : Bool) → Scopes → List Item → Result (Vec TypedStatement Global) TypeStop → Type 0
-ItemsSoFar text gives loop sc is r = Answers (λ (v : Vec TypedStatement Global). TypesItems text sc (items_of is) (statements_of v.items)) (FaultyItems text gives loop sc (items_of is)) r
+ItemsSoFar text gives loop sc is r = Answers (λ (v : Vec TypedStatement Global). TypesItems text sc (items_of is) (statements_of v.items))
+    (FaultyItems text gives loop sc (items_of is)) r
 
 -- the same of the next item, under the scopes behind those before it
 abbrev pub NextItem : List ℕ → (gives loop : Bool) → Scopes → Item → Result TypedStatement TypeStop → Type 0
 NextItem text gives loop sc i r =
-    Answers (λ t. TypesItems text sc (more_items (item_of i) no_items) (more_statements (statement_of t) no_statements)) (FaultyItems text gives loop sc (more_items (item_of i) no_items)) r
+    Answers (λ t. TypesItems text sc (more_items (item_of i) no_items) (more_statements (statement_of t) no_statements))
+        (FaultyItems text gives loop sc (more_items (item_of i) no_items)) r
 
 pub none-so-far : (text : List ℕ) (g b : Bool) (sc : Scopes) (v : Vec TypedStatement Global) → v.items ≡ [] → ItemsSoFar text g b sc [] (Ok v)
 none-so-far text g b sc v e = record { ok = rw e no_items_typed; none = λ k at h. h; err = tt }
@@ -84,27 +97,41 @@ none-so-far text g b sc v e = record { ok = rw e no_items_typed; none = λ k at 
 next-of : (all : List Item) (i : ℕ) (x : Item) → i < length all → x ≡ get_or all i x → take (i + 1) all ≡ take i all ++ x ∷ []
 next-of all i x l is = take_more all i x l ∙ ap (λ (y : Item). take i all ++ y ∷ []) (sym is)
 
-pub behind-so-far : (text : List ℕ) (sc now : Scopes) (all : List Item) (i : ℕ) (x : Item) → i < length all → x ≡ get_or all i x → now ≡ behind_item text (behind_items text sc (items_of (take i all))) (item_of x)
+pub behind-so-far : (text : List ℕ) (sc now : Scopes) (all : List Item) (i : ℕ) (x : Item) → i < length all → x ≡ get_or all i x
+    → now ≡ behind_item text (behind_items text sc (items_of (take i all))) (item_of x)
     → now ≡ behind_items text sc (items_of (take (i + 1) all))
 behind-so-far text sc now all i x l is e =
-    e ∙ sym (ap (λ (ys : List Item). behind_items text sc (items_of ys)) (next-of all i x l is) ∙ ap (behind_items text sc) (items-append (take i all) x) ∙ behind-append text sc (items_of (take i all)) (item_of x))
+    e ∙ sym (ap (λ (ys : List Item). behind_items text sc (items_of ys)) (next-of all i x l is)
+        ∙ ap (behind_items text sc) (items-append (take i all) x) ∙ behind-append text sc (items_of (take i all)) (item_of x))
 
-same-faults : (text : List ℕ) (g b : Bool) (sc : Scopes) (xs : List Item) (i : Item) → Same (Both (FaultyItems text g b sc (items_of xs)) (FaultyItems text g b (behind_items text sc (items_of xs)) (more_items (item_of i) no_items))) (FaultyItems text g b sc (items_of (xs ++ i ∷ [])))
-same-faults text g b sc xs i = rw items-append record { to = faulty-to text g b sc (items_of xs) (item_of i); from = faulty-from text g b sc (items_of xs) (item_of i) }
+same-faults : (text : List ℕ) (g b : Bool) (sc : Scopes) (xs : List Item) (i : Item)
+    → Same (Both (FaultyItems text g b sc (items_of xs))
+    (FaultyItems text g b (behind_items text sc (items_of xs)) (more_items (item_of i) no_items))) (FaultyItems text g b sc (items_of (xs ++ i ∷ [])))
+same-faults text g b sc xs i =
+    rw items-append record { to = faulty-to text g b sc (items_of xs) (item_of i); from = faulty-from text g b sc (items_of xs) (item_of i) }
 
-typed-more : (text : List ℕ) (sc : Scopes) (xs : List Item) (i : Item) (ts : List TypedStatement) (t : TypedStatement) → TypesItems text sc (items_of xs) (statements_of ts)
-    → TypesItems text (behind_items text sc (items_of xs)) (more_items (item_of i) no_items) (more_statements (statement_of t) no_statements) → TypesItems text sc (items_of (xs ++ i ∷ [])) (statements_of (ts ++ t ∷ []))
-typed-more text sc xs i ts t h l = rw (items-append xs i, statements-append ts t) (typed-append text sc (items_of xs) (statements_of ts) (item_of i) (statement_of t) h l)
+typed-more : (text : List ℕ) (sc : Scopes) (xs : List Item) (i : Item) (ts : List TypedStatement) (t : TypedStatement)
+    → TypesItems text sc (items_of xs) (statements_of ts)
+    → TypesItems text (behind_items text sc (items_of xs)) (more_items (item_of i) no_items)
+        (more_statements (statement_of t) no_statements) → TypesItems text sc (items_of (xs ++ i ∷ [])) (statements_of (ts ++ t ∷ []))
+typed-more text sc xs i ts t h l =
+    rw (items-append xs i, statements-append ts t) (typed-append text sc (items_of xs) (statements_of ts) (item_of i) (statement_of t) h l)
 
-pub one-so-far : (text : List ℕ) (g b : Bool) (sc : Scopes) (all : List Item) (i : ℕ) (x : Item) (typed r : Result (Vec TypedStatement Global) TypeStop) (one : Result TypedStatement TypeStop) → i < length all → x ≡ get_or all i x → ItemsSoFar text g b sc (take i all) typed
+pub one-so-far : (text : List ℕ) (g b : Bool) (sc : Scopes) (all : List Item) (i : ℕ) (x : Item)
+    (typed r : Result (Vec TypedStatement Global) TypeStop) (one : Result TypedStatement TypeStop) → i < length all → x ≡ get_or all i x
+    → ItemsSoFar text g b sc (take i all) typed
     → NextItem text g b (behind_items text sc (items_of (take i all))) x one
-    → IfOk r (λ v. (xs : Vec TypedStatement Global) × (y : TypedStatement) × (typed ≡ Ok xs) × (one ≡ Ok y) × (v.items ≡ xs.items ++ y ∷ [])) → IfErr r (λ s. (s ≡ NoMemory) ⊎ StopsBoth typed one s)
+    → IfOk r (λ v. (xs : Vec TypedStatement Global) × (y : TypedStatement) × (typed ≡ Ok xs) × (one ≡ Ok y)
+        × (v.items ≡ xs.items ++ y ∷ [])) → IfErr r (λ s. (s ≡ NoMemory) ⊎ StopsBoth typed one s)
     → ItemsSoFar text g b sc (take (i + 1) all) r
 one-so-far text g b sc all i x typed r one l is h a f e =
     let Q : List Item → Type 0 = λ ys. ItemsSoFar text g b sc ys r in
     let before : Items = items_of (take i all) in
-    subst Q (sym (next-of all i x l is)) (one-more (λ ts. TypesItems text sc before (statements_of ts)) (λ ts. TypesItems text sc (items_of (take i all ++ x ∷ [])) (statements_of ts))
-    (λ t. TypesItems text (behind_items text sc before) (more_items (item_of x) no_items) (more_statements (statement_of t) no_statements)) (FaultyItems text g b sc before) (FaultyItems text g b (behind_items text sc before) (more_items (item_of x) no_items)) (FaultyItems text g b sc (items_of (take i all ++ x ∷ []))) typed r one
+    subst Q (sym (next-of all i x l is))
+        (one-more (λ ts. TypesItems text sc before (statements_of ts)) (λ ts. TypesItems text sc (items_of (take i all ++ x ∷ [])) (statements_of ts))
+    (λ t. TypesItems text (behind_items text sc before) (more_items (item_of x) no_items) (more_statements (statement_of t) no_statements))
+        (FaultyItems text g b sc before) (FaultyItems text g b (behind_items text sc before) (more_items (item_of x) no_items))
+        (FaultyItems text g b sc (items_of (take i all ++ x ∷ []))) typed r one
     (same-faults text g b sc (take i all) x) (λ ts t p q. typed-more text sc (take i all) x ts t p q) h a f e)
 
 -- the scopes behind a block are those around it, and the locals of its items

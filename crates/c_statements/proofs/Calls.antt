@@ -9,7 +9,8 @@ use Rattle.c_statements.specs.declared.fault.TypeFaultKind.TheVariants.{Kind as 
 use Rattle.c_statements.specs.Calls.{IsTarget, function_target, out_target, Signs, function_signs, out_signs, IsNoFunction}
 use Rattle.c_statements.specs.Faults.{number_of, IsFirstFault, HasNone}
 use Rattle.c_statements.specs.Names.{Environment}
-use Rattle.c_statements.specs.Uses.{Use, as_call, IsWrong, Misused, local_called, global_called, array_called, void_used, out_used, other_count, other_count_out}
+use Rattle.c_statements.specs.Uses.{Use, as_call, IsWrong, Misused, local_called, global_called, array_called, void_used, out_used}
+use Rattle.c_statements.specs.Uses.{other_count, other_count_out}
 use Rattle.c_statements.proofs.Uses.{first-misuse}
 
 -- the result is used only where there is one
@@ -42,13 +43,15 @@ call-least m c w j out_used = omega arith
 call-least m c w j (other_count h) = omega arith
 call-least m c w j (other_count_out h) = omega arith
 
-count-least : (m : Named) (t : Target) (n : ℕ) (r : Bool) (c : ℕ) (w : Bool) (j : TypeFaultKind) → Signs m t n r → Serves w r → IsWrong (Some m) (as_call c w) j → 13 ≤ number_of j
+count-least : (m : Named) (t : Target) (n : ℕ) (r : Bool) (c : ℕ) (w : Bool) (j : TypeFaultKind) → Signs m t n r → Serves w r
+    → IsWrong (Some m) (as_call c w) j → 13 ≤ number_of j
 count-least m t n r c w j function_signs s void_used = absurd s
 count-least m t n r c w j function_signs s (other_count h) = omega arith
 count-least m t n r c w j out_signs s out_used = absurd s
 count-least m t n r c w j out_signs s (other_count_out h) = omega arith
 
-right : (m : Named) (t : Target) (n : ℕ) (r : Bool) (c : ℕ) (w : Bool) (j : TypeFaultKind) → Signs m t n r → Serves w r → c ≡ n → IsWrong (Some m) (as_call c w) j → ⊥
+right : (m : Named) (t : Target) (n : ℕ) (r : Bool) (c : ℕ) (w : Bool) (j : TypeFaultKind) → Signs m t n r → Serves w r → c ≡ n
+    → IsWrong (Some m) (as_call c w) j → ⊥
 right m t n r c w j function_signs s e void_used = s
 right m t n r c w j function_signs s e (other_count h) = h e
 right m t n r c w j out_signs s e out_used = s
@@ -57,16 +60,22 @@ right m t n r c w j out_signs s e (other_count_out h) = h e
 moved : (x : Option Named) (m : Named) (u : Use) (j : TypeFaultKind) → x ≡ Some m → IsWrong x u j → IsWrong (Some m) u j
 moved x m u j e w = let Q : Option Named → Type 0 = λ y. IsWrong y u j in subst Q e w
 
-pub no-function-first : (scope : Environment) (x : Identifier) (m : Named) (c : ℕ) (w : Bool) → scope x ≡ Some m → IsNoFunction m → IsFirstFault (Misused scope x (as_call c w)) KindFault x.at
+pub no-function-first : (scope : Environment) (x : Identifier) (m : Named) (c : ℕ) (w : Bool) → scope x ≡ Some m → IsNoFunction m
+    → IsFirstFault (Misused scope x (as_call c w)) KindFault x.at
 no-function-first scope x m c w e h = first-misuse scope x (as_call c w) KindFault (rw e (no-function m c w h)) (λ j v. call-least m c w j (moved _ m _ j e v))
 
-pub void-first : (scope : Environment) (x : Identifier) (m : Named) (t : Target) (n : ℕ) (r : Bool) (c : ℕ) (w : Bool) → scope x ≡ Some m → Signs m t n r → w ≡ true → r ≡ false → IsFirstFault (Misused scope x (as_call c w)) KindFault x.at
-void-first scope x m t n r c w e h i f = first-misuse scope x (as_call c w) KindFault (rw (e, i) (void-wrong m t n r c h f)) (λ j v. call-least m c w j (moved _ m _ j e v))
+pub void-first : (scope : Environment) (x : Identifier) (m : Named) (t : Target) (n : ℕ) (r : Bool) (c : ℕ) (w : Bool) → scope x ≡ Some m
+    → Signs m t n r → w ≡ true → r ≡ false → IsFirstFault (Misused scope x (as_call c w)) KindFault x.at
+void-first scope x m t n r c w e h i f =
+    first-misuse scope x (as_call c w) KindFault (rw (e, i) (void-wrong m t n r c h f)) (λ j v. call-least m c w j (moved _ m _ j e v))
 
-pub count-first : (scope : Environment) (x : Identifier) (m : Named) (t : Target) (n : ℕ) (r : Bool) (c : ℕ) (w : Bool) → scope x ≡ Some m → Signs m t n r → Serves w r → c ≢ n → IsFirstFault (Misused scope x (as_call c w)) Count x.at
-count-first scope x m t n r c w e h s i = first-misuse scope x (as_call c w) Count (rw e (count-wrong m t n r c w h i)) (λ j v. count-least m t n r c w j h s (moved _ m _ j e v))
+pub count-first : (scope : Environment) (x : Identifier) (m : Named) (t : Target) (n : ℕ) (r : Bool) (c : ℕ) (w : Bool) → scope x ≡ Some m
+    → Signs m t n r → Serves w r → c ≢ n → IsFirstFault (Misused scope x (as_call c w)) Count x.at
+count-first scope x m t n r c w e h s i =
+    first-misuse scope x (as_call c w) Count (rw e (count-wrong m t n r c w h i)) (λ j v. count-least m t n r c w j h s (moved _ m _ j e v))
 
-pub call-right : (scope : Environment) (x : Identifier) (m : Named) (t : Target) (n : ℕ) (r : Bool) (c : ℕ) (w : Bool) → scope x ≡ Some m → Signs m t n r → Serves w r → c ≡ n → HasNone (Misused scope x (as_call c w))
+pub call-right : (scope : Environment) (x : Identifier) (m : Named) (t : Target) (n : ℕ) (r : Bool) (c : ℕ) (w : Bool) → scope x ≡ Some m
+    → Signs m t n r → Serves w r → c ≡ n → HasNone (Misused scope x (as_call c w))
 call-right scope x m t n r c w e h s i k at v = right m t n r c w k h s i (moved _ m _ k e v.0)
 
 pub target-is : (y : Option Named) (m : Named) (t : Target) (n : ℕ) (r : Bool) → y ≡ Some m → Signs m t n r → IsTarget y t

@@ -1,5 +1,6 @@
 -- Calls put together from their target and their arguments.
-use Rattle.std.proofs.Common.{◌≡◌, ◌++◌, ℕ, suc, zero, List, [], ◌∷◌, length, Option, Some, Bool, true, is_some, None, Result, IfOk, IfErr, refl, sym, subst, ap, ◌∙◌, arith}
+use Rattle.std.proofs.Common.{◌≡◌, ◌++◌, ℕ, suc, zero, List, [], ◌∷◌, length, Option, Some, Bool, true, is_some, None, Result, IfOk, IfErr}
+use Rattle.std.proofs.Common.{refl, sym, subst, ap, ◌∙◌, arith}
 use Rattle.std.specs.declared.vec.Vec.{Vec}
 use Rattle.std.specs.declared.alloc.Global.{Global}
 use Rattle.c_tokens.specs.declared.token.Identifier.{Identifier}
@@ -34,21 +35,26 @@ length-expressions (e ∷ es) = ap suc (length-expressions es)
 abbrev Counted : Environment → Identifier → List Expression → ℕ → Bool → TypeFaultKind → ℕ → Type 0
 Counted scope x es n w = Both (Misused scope x (as_call n w)) (FaultyAll scope (expressions_of es))
 
-counted : (scope : Environment) (x : Identifier) (es : List Expression) (n : ℕ) (w v : Bool) (P : (TypeFaultKind → ℕ → Type 0) → Type 0) → n ≡ length es → w ≡ v → P (Counted scope x es n w) → P (FaultyCall scope v (Tree.call x (expressions_of es)))
+counted : (scope : Environment) (x : Identifier) (es : List Expression) (n : ℕ) (w v : Bool) (P : (TypeFaultKind → ℕ → Type 0) → Type 0)
+    → n ≡ length es → w ≡ v → P (Counted scope x es n w) → P (FaultyCall scope v (Tree.call x (expressions_of es)))
 counted scope x es n w v P e f h =
     let N : ℕ → Type 0 = λ m. P (Counted scope x es m v) in
     let W : Bool → Type 0 = λ b. P (Counted scope x es n b) in
     subst N (e ∙ sym (length-expressions es)) (subst W f h)
 
-pub call-stop : (scope : Environment) (x : Identifier) (es : List Expression) (n : ℕ) (w v : Bool) (a : Result Target TypeStop) (b : Result (Vec TypedExpression Global) TypeStop) (s : TypeStop) → n ≡ length es → w ≡ v
-    → IfOk a (λ t. HasNone (Misused scope x (as_call n w))) → IfErr a (StopsAtFirst (Misused scope x (as_call n w))) → IfOk b (λ t. HasNone (FaultyAll scope (expressions_of es))) → IfErr b (StopsAtFirst (FaultyAll scope (expressions_of es)))
+pub call-stop : (scope : Environment) (x : Identifier) (es : List Expression) (n : ℕ) (w v : Bool) (a : Result Target TypeStop)
+    (b : Result (Vec TypedExpression Global) TypeStop) (s : TypeStop) → n ≡ length es → w ≡ v
+    → IfOk a (λ t. HasNone (Misused scope x (as_call n w))) → IfErr a (StopsAtFirst (Misused scope x (as_call n w)))
+        → IfOk b (λ t. HasNone (FaultyAll scope (expressions_of es))) → IfErr b (StopsAtFirst (FaultyAll scope (expressions_of es)))
     → StopsBoth a b s → StopsAtFirst (FaultyCall scope v (Tree.call x (expressions_of es))) s
 call-stop scope x es n w v a b s e f h i l m g =
     counted scope x es n w v (λ p. StopsAtFirst p s) e f (both-stop (Misused scope x (as_call n w)) (FaultyAll scope (expressions_of es)) a b s h i l m g)
 
-pub call-none : (scope : Environment) (x : Identifier) (es : List Expression) (n : ℕ) (w v : Bool) → n ≡ length es → w ≡ v → HasNone (Misused scope x (as_call n w)) → HasNone (FaultyAll scope (expressions_of es))
+pub call-none : (scope : Environment) (x : Identifier) (es : List Expression) (n : ℕ) (w v : Bool) → n ≡ length es → w ≡ v
+    → HasNone (Misused scope x (as_call n w)) → HasNone (FaultyAll scope (expressions_of es))
     → HasNone (FaultyCall scope v (Tree.call x (expressions_of es)))
-call-none scope x es n w v e f h l = counted scope x es n w v (λ p. HasNone p) e f (both-none (Misused scope x (as_call n w)) (FaultyAll scope (expressions_of es)) h l)
+call-none scope x es n w v e f h l =
+    counted scope x es n w v (λ p. HasNone p) e f (both-none (Misused scope x (as_call n w)) (FaultyAll scope (expressions_of es)) h l)
 
 named-function : (m : Option Named) (t : Target) (f : ℕ) → IsTarget m t → t ≡ ToFunction f → (n : ℕ) × (r : Bool) × (m ≡ Some (Function f n r))
 named-function m t f (function_target {f = g} {n = n} {r = r}) e = (n, r, named)
@@ -67,12 +73,14 @@ named-out m t (function_target {f = g}) e = absurd (other e)
     other e = cc
 named-out m t out_target e = refl
 
-pub function-ok : (scope : Environment) (to : Option Destination) (x : Identifier) (t : Target) (f : ℕ) (es : List Tree.Expression) (ts : List Trees.TypedExpression) → IsTarget (scope x) t → t ≡ ToFunction f → TypesAll scope es ts
+pub function-ok : (scope : Environment) (to : Option Destination) (x : Identifier) (t : Target) (f : ℕ) (es : List Tree.Expression)
+    (ts : List Trees.TypedExpression) → IsTarget (scope x) t → t ≡ ToFunction f → TypesAll scope es ts
     → TypesCall scope to (Tree.call x es) (call to f ts)
 function-ok scope to x t f es ts h e l = let n = named-function (scope x) t f h e in function_called n.2 l
 
 -- a call of `out` without a fault has one argument, and its result isn't used
-wrong-out : (scope : Environment) (x : Identifier) (n : ℕ) (w : Bool) (k : TypeFaultKind) → scope x ≡ Some Out → HasNone (Misused scope x (as_call n w)) → IsWrong (Some Out) (as_call n w) k → ⊥
+wrong-out : (scope : Environment) (x : Identifier) (n : ℕ) (w : Bool) (k : TypeFaultKind) → scope x ≡ Some Out
+    → HasNone (Misused scope x (as_call n w)) → IsWrong (Some Out) (as_call n w) k → ⊥
 wrong-out scope x n w k e h i = h k x.at (let Q : Option Named → Type 0 = λ m. IsWrong m (as_call n w) k in subst Q (sym e) i, refl)
 
 out-count : (scope : Environment) (x : Identifier) (n : ℕ) (w : Bool) → scope x ≡ Some Out → HasNone (Misused scope x (as_call n w)) → n ≡ 1
@@ -80,19 +88,23 @@ out-count scope x zero w e h = absurd (wrong-out scope x zero w Count e h (other
 out-count scope x (suc zero) w e h = refl
 out-count scope x (suc (suc n)) w e h = absurd (wrong-out scope x (suc (suc n)) w Count e h (other_count_out (λ g. omega (arith, g))))
 
-out-unused : (scope : Environment) (x : Identifier) (n : ℕ) (to : Option Destination) → scope x ≡ Some Out → HasNone (Misused scope x (as_call n (is_some to))) → to ≡ None
+out-unused : (scope : Environment) (x : Identifier) (n : ℕ) (to : Option Destination) → scope x ≡ Some Out
+    → HasNone (Misused scope x (as_call n (is_some to))) → to ≡ None
 out-unused scope x n None e h = refl
 out-unused scope x n (Some p) e h = absurd (wrong-out scope x n true KindFault e h out_used)
 
-one-argument : (scope : Environment) (es : List Tree.Expression) (xs : List TypedExpression) (t : TypedExpression) → length es ≡ 1 → TypesAll scope es (typed_expressions_of (xs ++ t ∷ [])) → (e : Tree.Expression) × (es ≡ e ∷ []) × Types scope e (typed_expression_of t)
+one-argument : (scope : Environment) (es : List Tree.Expression) (xs : List TypedExpression) (t : TypedExpression) → length es ≡ 1
+    → TypesAll scope es (typed_expressions_of (xs ++ t ∷ [])) → (e : Tree.Expression) × (es ≡ e ∷ []) × Types scope e (typed_expression_of t)
 one-argument scope [] xs t l h = absurd (omega (arith, l))
 one-argument scope (e ∷ []) [] t l (more_typed h rest) = (e, refl, h)
 one-argument scope (e ∷ []) (y ∷ []) t l (more_typed h rest) = elim rest [ ]
 one-argument scope (e ∷ []) (y ∷ z ∷ zs) t l (more_typed h rest) = elim rest [ ]
 one-argument scope (e ∷ f ∷ es) xs t l h = absurd (omega (arith, l))
 
-pub out-ok : (scope : Environment) (to : Option Destination) (x : Identifier) (t : Target) (n : ℕ) (w : Bool) (es : List Expression) (all xs : List TypedExpression) (a : TypedExpression) → IsTarget (scope x) t → t ≡ ToOut → n ≡ length es → w ≡ is_some to
-    → HasNone (Misused scope x (as_call n w)) → TypesAll scope (expressions_of es) (typed_expressions_of all) → all ≡ xs ++ a ∷ [] → TypesCall scope to (Tree.call x (expressions_of es)) (output (typed_expression_of a))
+pub out-ok : (scope : Environment) (to : Option Destination) (x : Identifier) (t : Target) (n : ℕ) (w : Bool) (es : List Expression)
+    (all xs : List TypedExpression) (a : TypedExpression) → IsTarget (scope x) t → t ≡ ToOut → n ≡ length es → w ≡ is_some to
+    → HasNone (Misused scope x (as_call n w)) → TypesAll scope (expressions_of es) (typed_expressions_of all) → all ≡ xs ++ a ∷ []
+        → TypesCall scope to (Tree.call x (expressions_of es)) (output (typed_expression_of a))
 out-ok scope to x t n w es all xs a h e c d l m g =
     let o = named-out (scope x) t h e in
     let W : Bool → Type 0 = λ b. HasNone (Misused scope x (as_call n b)) in
@@ -100,7 +112,8 @@ out-ok scope to x t n w es all xs a h e c d l m g =
     let one = one-argument scope (expressions_of es) xs a (length-expressions es ∙ sym c ∙ out-count scope x n w o l) (subst A g m) in
     rw (out-unused scope x n to o (subst W d l), one.1) (out_called o one.2)
 
-pub out-some : (scope : Environment) (x : Identifier) (t : Target) (n : ℕ) (w : Bool) (es : List Expression) (all : List TypedExpression) → IsTarget (scope x) t → t ≡ ToOut → n ≡ length es → HasNone (Misused scope x (as_call n w))
+pub out-some : (scope : Environment) (x : Identifier) (t : Target) (n : ℕ) (w : Bool) (es : List Expression) (all : List TypedExpression)
+    → IsTarget (scope x) t → t ≡ ToOut → n ≡ length es → HasNone (Misused scope x (as_call n w))
     → TypesAll scope (expressions_of es) (typed_expressions_of all) → all ≡ [] → ⊥
 out-some scope x t n w es all h e c l m g =
     let o = named-out (scope x) t h e in

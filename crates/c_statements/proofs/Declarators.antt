@@ -18,14 +18,16 @@ is-absent m h n = absurd (differ h)
     differ : true ≡ false → ⊥
     differ e = cc
 
-pub redeclared-first : (text : List ℕ) (sc : Scopes) (x : Identifier) → is_some (sc.inner (spelling_in text x)) ≡ true → IsFirstFault (FaultyDeclarator text sc x) Redeclared x.at
+pub redeclared-first : (text : List ℕ) (sc : Scopes) (x : Identifier) → is_some (sc.inner (spelling_in text x)) ≡ true
+    → IsFirstFault (FaultyDeclarator text sc x) Redeclared x.at
 redeclared-first text sc x h = record { has = declared_before (is-there _ h); first = λ j n f. least j n f }
   where
     least : (j : TypeFaultKind) (n : ℕ) → FaultyDeclarator text sc x j n → IsNoLater Redeclared x.at j n
     least j n (declared_before i) = inr (refl, omega arith)
     least j n (local_too_many i) = inr (refl, omega arith)
 
-pub limit-first : (text : List ℕ) (sc : Scopes) (x : Identifier) → is_some (sc.inner (spelling_in text x)) ≡ false → sc.locals ≡ 128 → IsFirstFault (FaultyDeclarator text sc x) Limit x.at
+pub limit-first : (text : List ℕ) (sc : Scopes) (x : Identifier) → is_some (sc.inner (spelling_in text x)) ≡ false → sc.locals ≡ 128
+    → IsFirstFault (FaultyDeclarator text sc x) Limit x.at
 limit-first text sc x h l = record { has = local_too_many l; first = λ j n f. least j n f }
   where
     least : (j : TypeFaultKind) (n : ℕ) → FaultyDeclarator text sc x j n → IsNoLater Limit x.at j n

@@ -1,5 +1,6 @@
 -- The first fault of two parts together.
-use Rattle.std.proofs.Common.{◌≡◌, ◌<◌, ◌≤◌, ◌⊎◌, ℕ, Bool, true, false, Result, Ok, Err, IfOk, IfErr, inl, inr, refl, sym, subst, arith, nat_lt, nat_eq, ◌&&◌, ◌||◌, if◌then◌else◌}
+use Rattle.std.proofs.Common.{◌≡◌, ◌<◌, ◌≤◌, ◌⊎◌, ℕ, Bool, true, false, Result, Ok, Err, IfOk, IfErr, inl, inr, refl, sym, subst, arith}
+use Rattle.std.proofs.Common.{nat_lt, nat_eq, ◌&&◌, ◌||◌, if◌then◌else◌}
 use Rattle.c_statements.specs.declared.fault.TypeFaultKind.{TypeFaultKind}
 use Rattle.c_statements.specs.declared.fault.TypeFault.{TypeFault}
 use Rattle.c_statements.specs.declared.fault.TypeStop.{TypeStop}
@@ -41,13 +42,15 @@ equal x y h = grind (arith, h)
 not-equal : (x y : ℕ) → nat_eq x y ≡ false → x ≡ y → ⊥
 not-equal x y h e = grind (arith, h, e)
 
-later-by : (a b : TypeFault) (x y z : Bool) → nat_lt b.at a.at ≡ x → nat_eq a.at b.at ≡ y → nat_lt (number_of b.kind) (number_of a.kind) ≡ z → (x || (y && z)) ≡ true → IsNoLater b.kind b.at a.kind a.at
+later-by : (a b : TypeFault) (x y z : Bool) → nat_lt b.at a.at ≡ x → nat_eq a.at b.at ≡ y → nat_lt (number_of b.kind) (number_of a.kind) ≡ z
+    → (x || (y && z)) ≡ true → IsNoLater b.kind b.at a.kind a.at
 later-by a b true y z e f g h = inl (less _ _ e)
 later-by a b false true true e f g h = let l = less _ _ g in inr (sym (equal _ _ f), omega (arith, l))
 later-by a b false true false e f g h = cc
 later-by a b false false z e f g h = cc
 
-earlier-by : (a b : TypeFault) (x y z : Bool) → nat_lt b.at a.at ≡ x → nat_eq a.at b.at ≡ y → nat_lt (number_of b.kind) (number_of a.kind) ≡ z → (x || (y && z)) ≡ false → IsNoLater a.kind a.at b.kind b.at
+earlier-by : (a b : TypeFault) (x y z : Bool) → nat_lt b.at a.at ≡ x → nat_eq a.at b.at ≡ y
+    → nat_lt (number_of b.kind) (number_of a.kind) ≡ z → (x || (y && z)) ≡ false → IsNoLater a.kind a.at b.kind b.at
 earlier-by a b true y z e f g h = cc
 earlier-by a b false true true e f g h = cc
 earlier-by a b false true false e f g h = inr (equal _ _ f, not-less _ _ g)
@@ -56,7 +59,8 @@ earlier-by a b false false z e f g h = let l = not-less _ _ e in let m = not-equ
     strict : (x y : ℕ) → x ≤ y → (x ≡ y → ⊥) → x < y
     strict x y l m = grind (arith, l, m)
 
-chosen : (p q : Faults) (a b : TypeFault) (x : Bool) → is_later a b ≡ x → IsFirstFault p a.kind a.at → IsFirstFault q b.kind b.at → StopsAtFirst (Both p q) (if x then Fault b else Fault a)
+chosen : (p q : Faults) (a b : TypeFault) (x : Bool) → is_later a b ≡ x → IsFirstFault p a.kind a.at → IsFirstFault q b.kind b.at
+    → StopsAtFirst (Both p q) (if x then Fault b else Fault a)
 chosen p q a b true e h l = record {
   has = inr l.has;
   first = λ j m y. elim y [ inl z ↦ no-later _ _ _ _ _ _ (later-by a b _ _ _ refl refl refl e) (h.first j m z) | inr z ↦ l.first j m z ];
@@ -72,7 +76,8 @@ first-both p q (Fault a) NoMemory h l = tt
 first-both p q NoMemory b h l = tt
 
 -- why two parts together have no answer, by each part's faults
-pub both-stop : {A B : Type 0} (p q : Faults) (a : Result A TypeStop) (b : Result B TypeStop) (s : TypeStop) → IfOk a (λ x. HasNone p) → IfErr a (StopsAtFirst p) → IfOk b (λ x. HasNone q) → IfErr b (StopsAtFirst q)
+pub both-stop : {A B : Type 0} (p q : Faults) (a : Result A TypeStop) (b : Result B TypeStop) (s : TypeStop) → IfOk a (λ x. HasNone p)
+    → IfErr a (StopsAtFirst p) → IfOk b (λ x. HasNone q) → IfErr b (StopsAtFirst q)
     → StopsBoth a b s → StopsAtFirst (Both p q) s
 both-stop p q (Ok x) (Ok y) s n h m l e = absurd e
 both-stop p q (Ok x) (Err b) s n h m l e = subst (StopsAtFirst (Both p q)) (sym e) (right-alone p q b n l)
@@ -86,18 +91,21 @@ both-none p q h l k at b = elim b [ inl x ↦ h k at x | inr y ↦ l k at y ]
 pub ok-at : {A : Type 0} (P : A → Type 0) (r : Result A TypeStop) (x : A) → r ≡ Ok x → IfOk r P → P x
 ok-at P r x e h = let Q : Result _ TypeStop → Type 0 = λ s. IfOk s P in subst Q e h
 
-both-ok : {A B : Type 0} (p q : Faults) (a : Result A TypeStop) (b : Result B TypeStop) (c : Result (A × B) TypeStop) → IfOk a (λ x. HasNone p) → IfOk b (λ x. HasNone q) → IfOk c (λ r. (a ≡ Ok r.0) × (b ≡ Ok r.1))
+both-ok : {A B : Type 0} (p q : Faults) (a : Result A TypeStop) (b : Result B TypeStop) (c : Result (A × B) TypeStop)
+    → IfOk a (λ x. HasNone p) → IfOk b (λ x. HasNone q) → IfOk c (λ r. (a ≡ Ok r.0) × (b ≡ Ok r.1))
     → IfOk c (λ x. HasNone (Both p q))
 both-ok p q a b (Ok r) h l e = both-none p q (ok-at (λ x. HasNone p) a r.0 e.0 h) (ok-at (λ x. HasNone q) b r.1 e.1 l)
 both-ok p q a b (Err s) h l e = tt
 
-both-err : {A B : Type 0} (p q : Faults) (a : Result A TypeStop) (b : Result B TypeStop) (c : Result (A × B) TypeStop) → IfOk a (λ x. HasNone p) → IfErr a (StopsAtFirst p) → IfOk b (λ x. HasNone q) → IfErr b (StopsAtFirst q)
+both-err : {A B : Type 0} (p q : Faults) (a : Result A TypeStop) (b : Result B TypeStop) (c : Result (A × B) TypeStop)
+    → IfOk a (λ x. HasNone p) → IfErr a (StopsAtFirst p) → IfOk b (λ x. HasNone q) → IfErr b (StopsAtFirst q)
     → IfErr c (StopsBoth a b) → IfErr c (StopsAtFirst (Both p q))
 both-err p q a b (Ok r) n h m l e = tt
 both-err p q a b (Err s) n h m l e = both-stop p q a b s n h m l e
 
 -- the same of three parts, the last two put together first
-pub three-stop : {A B C : Type 0} (p q r : Faults) (a : Result A TypeStop) (b : Result B TypeStop) (c : Result C TypeStop) (d : Result (B × C) TypeStop) (s : TypeStop) → IfOk a (λ x. HasNone p) → IfErr a (StopsAtFirst p)
+pub three-stop : {A B C : Type 0} (p q r : Faults) (a : Result A TypeStop) (b : Result B TypeStop) (c : Result C TypeStop)
+    (d : Result (B × C) TypeStop) (s : TypeStop) → IfOk a (λ x. HasNone p) → IfErr a (StopsAtFirst p)
     → IfOk b (λ x. HasNone q) → IfErr b (StopsAtFirst q) → IfOk c (λ x. HasNone r) → IfErr c (StopsAtFirst r)
     → IfOk d (λ x. (b ≡ Ok x.0) × (c ≡ Ok x.1)) → IfErr d (StopsBoth b c) → StopsBoth a d s → StopsAtFirst (Both p (Both q r)) s
 three-stop p q r a b c d s n h m l o i e f g = both-stop p (Both q r) a d s n h (both-ok q r b c d m o e) (both-err q r b c d m l o i f) g
@@ -123,6 +131,7 @@ tells-same p q (Ok x) s h = (same-none p q s h.0, tt)
 tells-same p q (Err t) s h = (tt, same-stop p q t s h.1)
 
 -- two parts and what they come to together
-pub tells-both : {A B C : Type 0} (p q : Faults) (a : Result A TypeStop) (b : Result B TypeStop) (c : Result C TypeStop) → Tells p a → Tells q b → IfOk c (λ r. (x : A) × (y : B) × (a ≡ Ok x) × (b ≡ Ok y)) → IfErr c (StopsBoth a b) → Tells (Both p q) c
+pub tells-both : {A B C : Type 0} (p q : Faults) (a : Result A TypeStop) (b : Result B TypeStop) (c : Result C TypeStop) → Tells p a
+    → Tells q b → IfOk c (λ r. (x : A) × (y : B) × (a ≡ Ok x) × (b ≡ Ok y)) → IfErr c (StopsBoth a b) → Tells (Both p q) c
 tells-both p q a b (Ok r) h l o e = (both-none p q (ok-at (λ x. HasNone p) a o.0 o.2 h.0) (ok-at (λ x. HasNone q) b o.1 o.3 l.0), tt)
 tells-both p q a b (Err s) h l o e = (tt, both-stop p q a b s h.0 h.1 l.0 l.1 e)

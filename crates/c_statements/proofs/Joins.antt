@@ -17,9 +17,11 @@ use Rattle.c_statements.proofs.BlockItems.{behind-around, behind-locals}
 use Rattle.c_typed.proofs.Shapes.{block-is}
 
 -- the scopes behind a block
-pub behind-block : (text : List ℕ) (sc a b d : Scopes) (all : Items) → a ≡ within sc → b ≡ behind_items text a all → d ≡ outside b → d ≡ behind sc (Tree.block all)
+pub behind-block : (text : List ℕ) (sc a b d : Scopes) (all : Items) → a ≡ within sc → b ≡ behind_items text a all → d ≡ outside b
+    → d ≡ behind sc (Tree.block all)
 behind-block text sc a b d all e f g =
-    g ∙ ap outside (f ∙ ap (λ (s : Scopes). behind_items text s all) e) ∙ around (behind_items text (within sc) all) (behind-around text (within sc) all) (behind-locals text (within sc) all)
+    g ∙ ap outside (f ∙ ap (λ (s : Scopes). behind_items text s all) e)
+        ∙ around (behind_items text (within sc) all) (behind-around text (within sc) all) (behind-locals text (within sc) all)
   where
     around : (s : Scopes) → s.around ≡ sc.inner ∷ sc.around → s.locals ≡ sc.locals + declared_in_all all → outside s ≡ behind sc (Tree.block all)
     around s e f = rw (e, f) refl
@@ -66,17 +68,20 @@ tells-alone p (Err s) h = (tt, left-alone p (λ k at. ⊥) s h.1 (λ k at n. n))
 both-answer : {A B : Type 0} (a : Result A TypeStop) (b : Result B TypeStop) (x : A) (y : B) → a ≡ Ok x → b ≡ Ok y → both_of a b ≡ Ok (x, y)
 both-answer a b x y e f = rw (e, f) refl
 
-stops-two : {A B : Type 0} (p q : Faults) (a : Result A TypeStop) (b : Result B TypeStop) (s : TypeStop) → Tells p a → Tells q b → StopsTwo a b s → StopsAtFirst (Both p q) s
+stops-two : {A B : Type 0} (p q : Faults) (a : Result A TypeStop) (b : Result B TypeStop) (s : TypeStop) → Tells p a → Tells q b
+    → StopsTwo a b s → StopsAtFirst (Both p q) s
 stops-two p q a b s h l (inl e) = subst (StopsAtFirst (Both p q)) (sym e) tt
 stops-two p q a b s h l (inr e) = both-stop p q a b s h.0 h.1 l.0 l.1 e
 
 -- what is made of answers has the faults of their parts
-pub tells-two : {A B D : Type 0} (p q : Faults) (a : Result A TypeStop) (b : Result B TypeStop) (E : A → B → D → Type 0) (r : Result D TypeStop) → Tells p a → Tells q b
+pub tells-two : {A B D : Type 0} (p q : Faults) (a : Result A TypeStop) (b : Result B TypeStop) (E : A → B → D → Type 0)
+    (r : Result D TypeStop) → Tells p a → Tells q b
     → IfOk r (MadeOfTwo a b E) → IfErr r (StopsTwo a b) → Tells (Both p q) r
 tells-two p q a b E (Ok d) h l o e = (both-none p q (ok-at (λ x. HasNone p) a o.0 o.2 h.0) (ok-at (λ x. HasNone q) b o.1 o.3 l.0), tt)
 tells-two p q a b E (Err s) h l o e = (tt, stops-two p q a b s h l e)
 
-pub tells-three : {A B C D : Type 0} (p q : Faults) (a : Result A TypeStop) (b : Result B TypeStop) (c : Result C TypeStop) (E : A → B → C → D → Type 0) (r : Result D TypeStop)
+pub tells-three : {A B C D : Type 0} (p q : Faults) (a : Result A TypeStop) (b : Result B TypeStop) (c : Result C TypeStop)
+    (E : A → B → C → D → Type 0) (r : Result D TypeStop)
     → Tells p a → Tells q (both_of b c) → IfOk r (MadeOfThree a b c E) → IfErr r (StopsTwo a (both_of b c)) → Tells (Both p q) r
 tells-three p q a b c E (Ok d) h l o e =
     (both-none p q (ok-at (λ x. HasNone p) a o.0 o.3 h.0) (ok-at (λ x. HasNone q) (both_of b c) (o.1, o.2) (both-answer b c o.1 o.2 o.4 o.5) l.0), tt)
@@ -119,8 +124,10 @@ parts-last a b c E (Err s) o (inl e) n f = n (ap Err e)
 parts-last a b c E (Err s) o (inr e) n f = n (ap Err (memory-right a (both_of b c) s (memory-both b c f) e))
 
 -- a block of two statements
-pub block-of-two : (new mid v : Vec TypedStatement Global) (first second : TypedStatement) → new.items ≡ [] → mid.items ≡ new.items ++ first ∷ [] → v.items ≡ mid.items ++ second ∷ []
+pub block-of-two : (new mid v : Vec TypedStatement Global) (first second : TypedStatement) → new.items ≡ []
+    → mid.items ≡ new.items ++ first ∷ [] → v.items ≡ mid.items ++ second ∷ []
     → statement_of (Block v) ≡ block (more_statements (statement_of first) (more_statements (statement_of second) no_statements))
 block-of-two new mid v first second n m e =
-    let whole : v.items ≡ first ∷ second ∷ [] = e ∙ ap (λ (xs : List TypedStatement). xs ++ second ∷ []) (m ∙ ap (λ (xs : List TypedStatement). xs ++ first ∷ []) n) in
+    let whole : v.items ≡ first ∷ second ∷ [] = e
+            ∙ ap (λ (xs : List TypedStatement). xs ++ second ∷ []) (m ∙ ap (λ (xs : List TypedStatement). xs ++ first ∷ []) n) in
     block-is v ∙ ap (λ (xs : List TypedStatement). block (statements_of xs)) whole

@@ -7,7 +7,12 @@ use Rattle.c_statements.specs.declared.names.Named.{Named}
 use Rattle.c_typed.specs.declared.tree.Destination.{Destination}
 use Rattle.c_statements.specs.Names.{Environment, Scopes}
 use Rattle.c_typed.specs.Trees.{TypedExpression, TypedStatement, TypedStatements, block, return_with}
-use Rattle.c_statements.specs.Types.{TypesAll, all_typed, more_typed, TypesMaybe, missing_typed, present_typed, TypesPlace, local_place, global_place, TypesCall, function_called, out_called, TypesValue, plain_typed, called_typed, TypesSimple, assign_typed, store_typed, call_typed, TypesPart, no_part, some_part, TypesTest, no_test, some_test, TypesFirst, no_first, some_first, TypesStatement, empty_typed, block_typed, if_then_typed, if_then_else_typed, while_loop_typed, for_loop_typed, break_typed, continue_typed, return_typed, simply_typed, TypesItems, no_items_typed, statement_typed, declare_typed}
+use Rattle.c_statements.specs.Types.{TypesAll, all_typed, more_typed, TypesMaybe, missing_typed, present_typed, TypesPlace, local_place}
+use Rattle.c_statements.specs.Types.{global_place, TypesCall, function_called, out_called, TypesValue, plain_typed, called_typed}
+use Rattle.c_statements.specs.Types.{TypesSimple, assign_typed, store_typed, call_typed, TypesPart, no_part, some_part, TypesTest, no_test}
+use Rattle.c_statements.specs.Types.{some_test, TypesFirst, no_first, some_first, TypesStatement, empty_typed, block_typed, if_then_typed}
+use Rattle.c_statements.specs.Types.{if_then_else_typed, while_loop_typed, for_loop_typed, break_typed, continue_typed, return_typed}
+use Rattle.c_statements.specs.Types.{simply_typed, TypesItems, no_items_typed, statement_typed, declare_typed}
 use Rattle.c_statements.proofs.Once.{once}
 
 same-named : {m : Option Named} {a b : Named} → m ≡ Some a → m ≡ Some b → a ≡ b
@@ -58,13 +63,15 @@ once-first no_first no_first = refl
 once-first (some_first a) (some_first b) = once-value a b
 
 mutual
-  pub once-statement : {text : List ℕ} {sc : Scopes} {s : Tree.Statement} {t u : TypedStatement} → TypesStatement text sc s t → TypesStatement text sc s u → t ≡ u
+  pub once-statement : {text : List ℕ} {sc : Scopes} {s : Tree.Statement} {t u : TypedStatement} → TypesStatement text sc s t
+      → TypesStatement text sc s u → t ≡ u
   once-statement empty_typed empty_typed = refl
   once-statement (block_typed a) (block_typed b) = ap block (once-items a b)
   once-statement (if_then_typed a b) (if_then_typed c d) = let g = once a c in let h = once-statement b d in cc
   once-statement (if_then_else_typed a b c) (if_then_else_typed d e f) = let g = once a d in let h = once-statement b e in let i = once-statement c f in cc
   once-statement (while_loop_typed a b) (while_loop_typed c d) = let g = once a c in let h = once-statement b d in cc
-  once-statement (for_loop_typed a b c d) (for_loop_typed e f g h) = let i = once-part a e in let j = once-test b f in let k = once-part c g in let l = once-statement d h in cc
+  once-statement (for_loop_typed a b c d) (for_loop_typed e f g h) = let i = once-part a e in let j = once-test b f in let k =
+          once-part c g in let l = once-statement d h in cc
   once-statement break_typed break_typed = refl
   once-statement continue_typed continue_typed = refl
   once-statement (return_typed a) (return_typed b) = ap return_with (once-maybe a b)

@@ -8,10 +8,12 @@ use Rattle.c_statements.specs.declared.fault.TypeFaultKind.{TypeFaultKind}
 use Rattle.c_statements.specs.declared.fault.TypeFaultKind.TheVariants.{Undeclared, Kind as KindFault, Count}
 use Rattle.c_statements.specs.Faults.{number_of, IsFirstFault}
 use Rattle.c_statements.specs.Names.{Environment}
-use Rattle.c_statements.specs.Uses.{Use, as_value, with_index, IsWrong, Misused, not_declared, array_alone, function_alone, out_alone, local_indexed, global_indexed, function_indexed, out_indexed}
+use Rattle.c_statements.specs.Uses.{Use, as_value, with_index, IsWrong, Misused, not_declared, array_alone, function_alone, out_alone}
+use Rattle.c_statements.specs.Uses.{local_indexed, global_indexed, function_indexed, out_indexed}
 
 -- a use whose faults have no lesser number
-pub first-misuse : (scope : Environment) (x : Identifier) (u : Use) (k : TypeFaultKind) → IsWrong (scope x) u k → ((j : TypeFaultKind) → IsWrong (scope x) u j → number_of k ≤ number_of j) → IsFirstFault (Misused scope x u) k x.at
+pub first-misuse : (scope : Environment) (x : Identifier) (u : Use) (k : TypeFaultKind) → IsWrong (scope x) u k
+    → ((j : TypeFaultKind) → IsWrong (scope x) u j → number_of k ≤ number_of j) → IsFirstFault (Misused scope x u) k x.at
 first-misuse scope x u k w l = record {
   has = (w, refl);
   first = λ j n m. inr (sym m.1, l j m.0);
@@ -44,20 +46,23 @@ index-wrong (Array n k) h = absurd (h n k refl)
 index-wrong (Function f n r) h = function_indexed
 index-wrong Out h = out_indexed
 
-value-wrong : (m : Named) → ((n : ℕ) (k : IntegerType) → m ≡ Local n k → ⊥) → ((n : ℕ) (k : IntegerType) → m ≡ Global n k → ⊥) → IsWrong (Some m) as_value KindFault
+value-wrong : (m : Named) → ((n : ℕ) (k : IntegerType) → m ≡ Local n k → ⊥) → ((n : ℕ) (k : IntegerType) → m ≡ Global n k → ⊥)
+    → IsWrong (Some m) as_value KindFault
 value-wrong (Local n k) h l = absurd (h n k refl)
 value-wrong (Global n k) h l = absurd (l n k refl)
 value-wrong (Array n k) h l = array_alone
 value-wrong (Function f n r) h l = function_alone
 value-wrong Out h l = out_alone
 
-pub index-first : (scope : Environment) (x : Identifier) (m : Named) → scope x ≡ Some m → ((n : ℕ) (k : IntegerType) → m ≡ Array n k → ⊥) → IsFirstFault (Misused scope x with_index) KindFault x.at
+pub index-first : (scope : Environment) (x : Identifier) (m : Named) → scope x ≡ Some m → ((n : ℕ) (k : IntegerType) → m ≡ Array n k → ⊥)
+    → IsFirstFault (Misused scope x with_index) KindFault x.at
 index-first scope x m e h = first-misuse scope x with_index KindFault (rw e (index-wrong m h)) (λ j w. index-least m j (moved j w))
   where
     moved : (j : TypeFaultKind) → IsWrong (scope x) with_index j → IsWrong (Some m) with_index j
     moved j w = let Q : Option Named → Type 0 = λ y. IsWrong y with_index j in subst Q e w
 
-pub value-first : (scope : Environment) (x : Identifier) (m : Named) → scope x ≡ Some m → ((n : ℕ) (k : IntegerType) → m ≡ Local n k → ⊥) → ((n : ℕ) (k : IntegerType) → m ≡ Global n k → ⊥) → IsFirstFault (Misused scope x as_value) KindFault x.at
+pub value-first : (scope : Environment) (x : Identifier) (m : Named) → scope x ≡ Some m → ((n : ℕ) (k : IntegerType) → m ≡ Local n k → ⊥)
+    → ((n : ℕ) (k : IntegerType) → m ≡ Global n k → ⊥) → IsFirstFault (Misused scope x as_value) KindFault x.at
 value-first scope x m e h l = first-misuse scope x as_value KindFault (rw e (value-wrong m h l)) (λ j w. value-least m j (moved j w))
   where
     moved : (j : TypeFaultKind) → IsWrong (scope x) as_value j → IsWrong (Some m) as_value j

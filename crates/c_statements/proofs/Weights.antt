@@ -2,7 +2,8 @@
 use Rattle.std.proofs.Common.{◌≡◌, ◌≤◌, ◌<◌, ◌+◌, ℕ, suc, zero, List, [], ◌∷◌, length, get_or, ap, arith}
 use Rattle.c_front.specs.declared.tree.Item.{Item}
 use Rattle.c_front.specs.Shape.{item_of, items_of}
-use Rattle.c_front.specs.Tree.{Statement, Item as ItemTree, Items, empty, block, if_then, if_then_else, while_loop, for_loop, break_at, continue_at, return_at, simply, declare, statement, no_items, more_items}
+use Rattle.c_front.specs.Tree.{Statement, Item as ItemTree, Items, empty, block, if_then, if_then_else, while_loop, for_loop, break_at}
+use Rattle.c_front.specs.Tree.{continue_at, return_at, simply, declare, statement, no_items, more_items}
 
 abbrev mutual
   pub weight : Statement → ℕ

@@ -21,16 +21,19 @@ use Rattle.std.specs.Prelude.{Some}
 abbrev pub Typed : Environment → Expression → Result TypedExpression TypeStop → Type 0
 Typed scope e r = IfOk r (λ t. Types scope e (typed_expression_of t))
 
-pub element-ok : (scope : Environment) (x : Identifier) (e : Expression) (a : Result (ℕ × IntegerType) TypeStop) (i r : Result TypedExpression TypeStop) → IfOk a (λ p. scope x ≡ Some (Array p.0 p.1)) → Typed scope e i
+pub element-ok : (scope : Environment) (x : Identifier) (e : Expression) (a : Result (ℕ × IntegerType) TypeStop)
+    (i r : Result TypedExpression TypeStop) → IfOk a (λ p. scope x ≡ Some (Array p.0 p.1)) → Typed scope e i
     → IfOk r (MadeOfTwo a i IsElement) → Typed scope (Tree.index x e) r
 element-ok scope x e a i (Ok t) h l o = rw o.4 (element_typed (ok-at (λ p. scope x ≡ Some (Array p.0 p.1)) a o.0 o.2 h) (ok-at _ i o.1 o.3 l))
 element-ok scope x e a i (Err s) h l o = tt
 
-pub unary-ok : (scope : Environment) (o : UnaryOp) (e : Expression) (i r : Result TypedExpression TypeStop) → Typed scope e i → IfOk r (IsUnary o i) → Typed scope (Tree.unary o e) r
+pub unary-ok : (scope : Environment) (o : UnaryOp) (e : Expression) (i r : Result TypedExpression TypeStop) → Typed scope e i
+    → IfOk r (IsUnary o i) → Typed scope (Tree.unary o e) r
 unary-ok scope o e i (Ok t) h m = rw m.2 (unary_typed (ok-at _ i m.0 m.1 h))
 unary-ok scope o e i (Err s) h m = tt
 
-pub unary-stops : (p : Faults) (o : UnaryOp) (i r : Result TypedExpression TypeStop) → Tells p i → IfErr r (λ s. (s ≡ NoMemory) ⊎ (i ≡ Err s)) → IfErr r (StopsAtFirst p)
+pub unary-stops : (p : Faults) (o : UnaryOp) (i r : Result TypedExpression TypeStop) → Tells p i
+    → IfErr r (λ s. (s ≡ NoMemory) ⊎ (i ≡ Err s)) → IfErr r (StopsAtFirst p)
 unary-stops p o i (Ok t) h e = tt
 unary-stops p o i (Err s) h (inl e) = subst (StopsAtFirst p) (sym e) tt
 unary-stops p o i (Err s) h (inr e) = let Q : Result TypedExpression TypeStop → Type 0 = λ y. Tells p y in (subst Q e h).1
@@ -39,10 +42,12 @@ pub unary-none : (p : Faults) (o : UnaryOp) (i r : Result TypedExpression TypeSt
 unary-none p o i (Ok t) h m = ok-at (λ x. HasNone p) i m.0 m.1 h
 unary-none p o i (Err s) h m = tt
 
-pub binary-ok : (scope : Environment) (o : BinaryOp) (e f : Expression) (a b r : Result TypedExpression TypeStop) → Typed scope e a → Typed scope f b → IfOk r (MadeOfTwo a b (IsBinary o)) → Typed scope (Tree.binary o e f) r
+pub binary-ok : (scope : Environment) (o : BinaryOp) (e f : Expression) (a b r : Result TypedExpression TypeStop) → Typed scope e a
+    → Typed scope f b → IfOk r (MadeOfTwo a b (IsBinary o)) → Typed scope (Tree.binary o e f) r
 binary-ok scope o e f a b (Ok t) h l m = rw m.4 (binary_typed (ok-at _ a m.0 m.2 h) (ok-at _ b m.1 m.3 l))
 binary-ok scope o e f a b (Err s) h l m = tt
 
-pub conditional-ok : (scope : Environment) (c e f : Expression) (a b d r : Result TypedExpression TypeStop) → Typed scope c a → Typed scope e b → Typed scope f d → IfOk r (MadeOfThree a b d IsConditional) → Typed scope (Tree.conditional c e f) r
+pub conditional-ok : (scope : Environment) (c e f : Expression) (a b d r : Result TypedExpression TypeStop) → Typed scope c a
+    → Typed scope e b → Typed scope f d → IfOk r (MadeOfThree a b d IsConditional) → Typed scope (Tree.conditional c e f) r
 conditional-ok scope c e f a b d (Ok t) h l n m = rw m.6 (conditional_typed (ok-at _ a m.0 m.3 h) (ok-at _ b m.1 m.4 l) (ok-at _ d m.2 m.5 n))
 conditional-ok scope c e f a b d (Err s) h l n m = tt

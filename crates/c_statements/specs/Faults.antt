@@ -1,5 +1,6 @@
 -- Faults: their numbers, names and text, and which of them is the first.
-use Rattle.std.specs.Prelude.{◌≡◌, ◌<◌, ◌≤◌, ◌⊎◌, ℕ, Bool, nat_lt, nat_eq, ◌&&◌, ◌||◌, if◌then◌else◌, Result, Ok, Err, IfOk, IfErr, List, length, ◌++◌, codes, decimal}
+use Rattle.std.specs.Prelude.{◌≡◌, ◌<◌, ◌≤◌, ◌⊎◌, ℕ, Bool, nat_lt, nat_eq, ◌&&◌, ◌||◌, if◌then◌else◌, Result, Ok, Err, IfOk, IfErr, List}
+use Rattle.std.specs.Prelude.{length, ◌++◌, codes, decimal}
 use Rattle.c_statements.specs.declared.fault.TypeFaultKind.{TypeFaultKind}
 use Rattle.c_statements.specs.declared.fault.TypeFaultKind.TheVariants.{Undeclared, Redeclared, Kind, Count, NoMain, Outside, Limit, NoMemory as WantOfMemory}
 use Rattle.c_statements.specs.declared.fault.TypeFault.{TypeFault}

@@ -6,7 +6,8 @@ use Rattle.c_front.specs.declared.tree.BinaryOp.{BinaryOp}
 use Rattle.c_typed.specs.declared.tree.TypedExpression.{TypedExpression}
 use Rattle.c_typed.specs.declared.tree.TypedStatement.{TypedStatement}
 use Rattle.c_typed.specs.Shape.{typed_expression_of, statement_of}
-use Rattle.c_typed.specs.Trees.{element, unary, binary, conditional, type_of, common_type, prefix_type, operation_type, if_else, loop, block, more_statements, no_statements}
+use Rattle.c_typed.specs.Trees.{element, unary, binary, conditional, type_of, common_type, prefix_type, operation_type, if_else, loop}
+use Rattle.c_typed.specs.Trees.{block, more_statements, no_statements}
 use Rattle.c_statements.specs.declared.fault.TypeStop.{TypeStop}
 
 -- what is made of two answers, or of three
@@ -23,10 +24,13 @@ abbrev pub IsUnary : UnaryOp → Result TypedExpression TypeStop → TypedExpres
 IsUnary o r t = (x : TypedExpression) × (r ≡ Ok x) × (typed_expression_of t ≡ unary o (prefix_type o (type_of (typed_expression_of x))) (typed_expression_of x))
 
 abbrev pub IsBinary : BinaryOp → TypedExpression → TypedExpression → TypedExpression → Type 0
-IsBinary o l r t = typed_expression_of t ≡ binary o (operation_type o (type_of (typed_expression_of l)) (type_of (typed_expression_of r))) (typed_expression_of l) (typed_expression_of r)
+IsBinary o l r t = typed_expression_of t ≡ binary o (operation_type o (type_of (typed_expression_of l)) (type_of (typed_expression_of r)))
+    (typed_expression_of l) (typed_expression_of r)
 
 abbrev pub IsConditional : TypedExpression → TypedExpression → TypedExpression → TypedExpression → Type 0
-IsConditional c y n t = typed_expression_of t ≡ conditional (common_type (type_of (typed_expression_of y)) (type_of (typed_expression_of n))) (typed_expression_of c) (typed_expression_of y) (typed_expression_of n)
+IsConditional c y n t =
+    typed_expression_of t ≡ conditional (common_type (type_of (typed_expression_of y)) (type_of (typed_expression_of n)))
+    (typed_expression_of c) (typed_expression_of y) (typed_expression_of n)
 
 abbrev pub IsIf : TypedExpression → TypedStatement → TypedStatement → TypedStatement → Type 0
 IsIf c f s t = statement_of t ≡ if_else (typed_expression_of c) (statement_of f) (statement_of s)

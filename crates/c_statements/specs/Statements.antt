@@ -3,7 +3,9 @@ use Rattle.std.specs.Prelude.{◌≡◌, ◌≢◌, ◌⊎◌, ℕ, List, [], �
 use Rattle.c_tokens.specs.declared.token.Identifier.{Identifier}
 use Rattle.c_tokens.specs.declared.token.IntegerType.{IntegerType}
 use Rattle.c_front.specs.Tree as Tree
-use Rattle.c_front.specs.Tree.{Expression, Statement, Items, empty, block, if_then, if_then_else, while_loop, for_loop, break_at, continue_at, return_at, simply, declare, statement, no_items, more_items, call, plain, called, assign, assign_at, call_statement}
+use Rattle.c_front.specs.Tree.{Expression, Statement, Items, empty, block, if_then, if_then_else, while_loop, for_loop, break_at}
+use Rattle.c_front.specs.Tree.{continue_at, return_at, simply, declare, statement, no_items, more_items, call, plain, called, assign}
+use Rattle.c_front.specs.Tree.{assign_at, call_statement}
 use Rattle.c_statements.specs.declared.fault.TypeFaultKind.{TypeFaultKind}
 use Rattle.c_statements.specs.declared.fault.TypeFaultKind.TheVariants.{Redeclared, Kind as KindFault, Outside, Limit}
 use Rattle.c_typed.specs.declared.limits.TheConstants.{MAX_LOCALS}
@@ -79,7 +81,8 @@ abbrev mutual
       Faulty (environment_in text sc) c k at ⊎ (FaultyStatement text gives loop sc s k at ⊎ FaultyStatement text gives loop (behind sc s) t k at)
   FaultyStatement text gives loop sc (while_loop c s) k at = Faulty (environment_in text sc) c k at ⊎ FaultyStatement text gives true sc s k at
   FaultyStatement text gives loop sc (for_loop f c l s) k at =
-      FaultyPart (environment_in text sc) f k at ⊎ (FaultyMaybe (environment_in text sc) c k at ⊎ (FaultyPart (environment_in text sc) l k at ⊎ FaultyStatement text gives true sc s k at))
+      FaultyPart (environment_in text sc) f k at ⊎
+          (FaultyMaybe (environment_in text sc) c k at ⊎ (FaultyPart (environment_in text sc) l k at ⊎ FaultyStatement text gives true sc s k at))
   FaultyStatement text gives loop sc (break_at place) k at = FaultyJump loop place k at
   FaultyStatement text gives loop sc (continue_at place) k at = FaultyJump loop place k at
   FaultyStatement text gives loop sc (return_at place e) k at = FaultyReturn gives e place k at ⊎ FaultyMaybe (environment_in text sc) e k at
@@ -87,6 +90,7 @@ abbrev mutual
 
   pub FaultyItems : List ℕ → (gives loop : Bool) → Scopes → Items → Faults
   FaultyItems text gives loop sc no_items k at = ⊥
-  FaultyItems text gives loop sc (more_items (statement s) rest) k at = FaultyStatement text gives loop sc s k at ⊎ FaultyItems text gives loop (behind sc s) rest k at
+  FaultyItems text gives loop sc (more_items (statement s) rest) k at =
+      FaultyStatement text gives loop sc s k at ⊎ FaultyItems text gives loop (behind sc s) rest k at
   FaultyItems text gives loop sc (more_items (declare integer_type x v) rest) k at =
       FaultyLocal text sc integer_type x v k at ⊎ FaultyItems text gives loop (with_local text sc integer_type x) rest k at

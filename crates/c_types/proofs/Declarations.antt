@@ -1,5 +1,6 @@
 -- Declarations at file scope with one more at the end.
-use Rattle.std.proofs.Common.{◌≡◌, ◌⊎◌, ◌+◌, ◌<◌, ◌≤◌, arith, ℕ, List, [], ◌∷◌, ◌++◌, length, get_or, take, Result, Ok, Err, IfOk, IfErr, inl, inr, refl, sym, subst, ap, ◌∙◌, Option}
+use Rattle.std.proofs.Common.{◌≡◌, ◌⊎◌, ◌+◌, ◌<◌, ◌≤◌, arith, ℕ, List, [], ◌∷◌, ◌++◌, length, get_or, take, Result, Ok, Err, IfOk, IfErr}
+use Rattle.std.proofs.Common.{inl, inr, refl, sym, subst, ap, ◌∙◌, Option}
 use Rattle.std.proofs.lemmas.List.{take_more}
 use Rattle.c_front.specs.declared.tree.Declaration.{Declaration}
 use Rattle.c_front.specs.declared.tree.Parameter.{Parameter}
@@ -21,10 +22,14 @@ use Rattle.c_statements.proofs.Firsts.{Both, both-none, both-stop, ok-at, same-s
 use Rattle.c_types.specs.declared.program.Declared.{Declared}
 use Rattle.c_types.specs.declared.program.Parts.{Parts}
 use Rattle.c_types.specs.Files.{AreParts, AreTyped, IsFunction, IsWith, declared_of}
-use Rattle.c_types.specs.Programs.{Counts, File, FaultyBody, FaultyDeclaration, FaultyDeclarations, FaultyName, TypedDeclaration, TypesDeclaration, TypesDeclarations, a_function, a_global, after, after_all, all_declared, function_typed, functions_in, globals_in, more_declared, name_of, named_by, counts_after, no_declarations}
+use Rattle.c_types.specs.Programs.{Counts, File, FaultyBody, FaultyDeclaration, FaultyDeclarations, FaultyName, TypedDeclaration}
+use Rattle.c_types.specs.Programs.{TypesDeclaration, TypesDeclarations, a_function, a_global, after, after_all, all_declared}
+use Rattle.c_types.specs.Programs.{function_typed, functions_in, globals_in, more_declared, name_of, named_by, counts_after}
+use Rattle.c_types.specs.Programs.{no_declarations}
 
 -- a function under the names that its own name is among
-pub function-typed : (text : List ℕ) (f : File) (names : Bindings) (r : Option IntegerType) (x : Identifier) (ps : List Parameter) (body : Tree.Items) (t : TypedFunction) → (after text f (Tree.function r x ps body)).names ≡ names
+pub function-typed : (text : List ℕ) (f : File) (names : Bindings) (r : Option IntegerType) (x : Identifier) (ps : List Parameter)
+    (body : Tree.Items) (t : TypedFunction) → (after text f (Tree.function r x ps body)).names ≡ names
     → IsFunction text names r x ps body t → TypesDeclaration text f (Tree.function r x ps body) (a_function t)
 function-typed text f names r x ps body t e h =
     let Q : Bindings → Type 0 = λ n. IsFunction text n r x ps body t in
@@ -33,8 +38,10 @@ function-typed text f names r x ps body t e h =
     subst P (sym l.is) (function_typed l.types)
 
 -- the name of a declaration and what follows it together
-pub declaration-stop : {A B : Type 0} (text : List ℕ) (f : File) (d : Tree.Declaration) (x : Identifier) (m : Named) (old new : Scopes) (a : Result A TypeStop) (b : Result B TypeStop) (s : TypeStop) → old.inner ≡ f.names → new ≡ with_declared text old x m
-    → x ≡ name_of d → m ≡ named_by f.counts d → IfOk a (λ y. HasNone (FaultyName text f d)) → IfErr a (StopsAtFirst (FaultyName text f d)) → IfOk b (λ y. HasNone (FaultyBody text new.inner d))
+pub declaration-stop : {A B : Type 0} (text : List ℕ) (f : File) (d : Tree.Declaration) (x : Identifier) (m : Named) (old new : Scopes)
+    (a : Result A TypeStop) (b : Result B TypeStop) (s : TypeStop) → old.inner ≡ f.names → new ≡ with_declared text old x m
+    → x ≡ name_of d → m ≡ named_by f.counts d → IfOk a (λ y. HasNone (FaultyName text f d)) → IfErr a (StopsAtFirst (FaultyName text f d))
+        → IfOk b (λ y. HasNone (FaultyBody text new.inner d))
     → IfErr b (StopsAtFirst (FaultyBody text new.inner d)) → StopsBoth a b s → StopsAtFirst (FaultyDeclaration text f d) s
 declaration-stop text f d x m old new a b s o e i j n h k l t =
     let there : new.inner ≡ (after text f d).names = ap (λ (y : Scopes). y.inner) e ∙ rw (i, j, o) refl in
@@ -59,15 +66,18 @@ append-none : {A : Type 0} (xs : List A) → xs ++ [] ≡ xs
 append-none [] = refl
 append-none (x ∷ xs) = ap (λ ys. x ∷ ys) (append-none xs)
 
-pub with-global : (old new : Parts) (g : OneGlobal.Global) (all : List TypedDeclaration) → new.functions ≡ old.functions → new.globals.items ≡ old.globals.items ++ g ∷ [] → AreParts old all → AreParts new (all ++ a_global g ∷ [])
+pub with-global : (old new : Parts) (g : OneGlobal.Global) (all : List TypedDeclaration) → new.functions ≡ old.functions
+    → new.globals.items ≡ old.globals.items ++ g ∷ [] → AreParts old all → AreParts new (all ++ a_global g ∷ [])
 with-global old new g all e i h = record {
   functions = ap (λ v. functions_of v.items) e ∙ h.functions ∙ sym (append-none (functions_in all)) ∙ sym (functions-in all (a_global g));
   globals = i ∙ ap (λ ys. ys ++ g ∷ []) h.globals ∙ sym (globals-in all (a_global g));
 }
 
-pub with-function : (old new : Parts) (f : OneFunction.Function) (all : List TypedDeclaration) → new.globals ≡ old.globals → new.functions.items ≡ old.functions.items ++ f ∷ [] → AreParts old all → AreParts new (all ++ a_function (function_of f) ∷ [])
+pub with-function : (old new : Parts) (f : OneFunction.Function) (all : List TypedDeclaration) → new.globals ≡ old.globals
+    → new.functions.items ≡ old.functions.items ++ f ∷ [] → AreParts old all → AreParts new (all ++ a_function (function_of f) ∷ [])
 with-function old new f all e i h = record {
-  functions = ap functions_of i ∙ functions-append old.functions.items f ∙ ap (λ ys. ys ++ function_of f ∷ []) h.functions ∙ sym (functions-in all (a_function (function_of f)));
+  functions = ap functions_of i ∙ functions-append old.functions.items f ∙ ap (λ ys. ys ++ function_of f ∷ []) h.functions
+      ∙ sym (functions-in all (a_function (function_of f)));
   globals = ap (λ v. v.items) e ∙ h.globals ∙ sym (append-none (globals_in all)) ∙ sym (globals-in all (a_function (function_of f)));
 }
 
@@ -75,24 +85,28 @@ declarations-append : (xs : List Declaration) (d : Declaration) → declarations
 declarations-append [] d = refl
 declarations-append (x ∷ xs) d = ap (λ ys. declaration_of x ∷ ys) (declarations-append xs d)
 
-after-append : (text : List ℕ) (f : File) (xs : List Tree.Declaration) (d : Tree.Declaration) → after_all text f (xs ++ d ∷ []) ≡ after text (after_all text f xs) d
+after-append : (text : List ℕ) (f : File) (xs : List Tree.Declaration) (d : Tree.Declaration)
+    → after_all text f (xs ++ d ∷ []) ≡ after text (after_all text f xs) d
 after-append text f [] d = refl
 after-append text f (x ∷ xs) d = after-append text (after text f x) xs d
 
-faulty-to : (text : List ℕ) (f : File) (xs : List Tree.Declaration) (d : Tree.Declaration) (k : TypeFaultKind) (at : ℕ) → FaultyDeclarations text f xs k at ⊎ FaultyDeclaration text (after_all text f xs) d k at → FaultyDeclarations text f (xs ++ d ∷ []) k at
+faulty-to : (text : List ℕ) (f : File) (xs : List Tree.Declaration) (d : Tree.Declaration) (k : TypeFaultKind) (at : ℕ)
+    → FaultyDeclarations text f xs k at ⊎ FaultyDeclaration text (after_all text f xs) d k at → FaultyDeclarations text f (xs ++ d ∷ []) k at
 faulty-to text f [] d k at (inl h) = absurd h
 faulty-to text f [] d k at (inr h) = inl h
 faulty-to text f (x ∷ xs) d k at (inl (inl h)) = inl h
 faulty-to text f (x ∷ xs) d k at (inl (inr h)) = inr (faulty-to text (after text f x) xs d k at (inl h))
 faulty-to text f (x ∷ xs) d k at (inr h) = inr (faulty-to text (after text f x) xs d k at (inr h))
 
-faulty-from : (text : List ℕ) (f : File) (xs : List Tree.Declaration) (d : Tree.Declaration) (k : TypeFaultKind) (at : ℕ) → FaultyDeclarations text f (xs ++ d ∷ []) k at → FaultyDeclarations text f xs k at ⊎ FaultyDeclaration text (after_all text f xs) d k at
+faulty-from : (text : List ℕ) (f : File) (xs : List Tree.Declaration) (d : Tree.Declaration) (k : TypeFaultKind) (at : ℕ)
+    → FaultyDeclarations text f (xs ++ d ∷ []) k at → FaultyDeclarations text f xs k at ⊎ FaultyDeclaration text (after_all text f xs) d k at
 faulty-from text f [] d k at (inl h) = inr h
 faulty-from text f [] d k at (inr h) = absurd h
 faulty-from text f (x ∷ xs) d k at (inl h) = inl (inl h)
 faulty-from text f (x ∷ xs) d k at (inr h) = elim (faulty-from text (after text f x) xs d k at h) [ inl l ↦ inl (inr l) | inr r ↦ inr r ]
 
-typed-append : {text : List ℕ} {f : File} {xs : List Tree.Declaration} {ts : List TypedDeclaration} {d : Tree.Declaration} {t : TypedDeclaration} → TypesDeclarations text f xs ts → TypesDeclaration text (after_all text f xs) d t
+typed-append : {text : List ℕ} {f : File} {xs : List Tree.Declaration} {ts : List TypedDeclaration} {d : Tree.Declaration}
+    {t : TypedDeclaration} → TypesDeclarations text f xs ts → TypesDeclaration text (after_all text f xs) d t
     → TypesDeclarations text f (xs ++ d ∷ []) (ts ++ t ∷ [])
 typed-append all_declared h = more_declared h all_declared
 typed-append (more_declared l rest) h = more_declared l (typed-append rest h)
@@ -101,16 +115,20 @@ typed-append (more_declared l rest) h = more_declared l (typed-append rest h)
 abbrev pub SoFar : List ℕ → List Declaration → Result Parts TypeStop → Type 0
 SoFar text ds r = Answers (AreTyped text (declarations_of ds)) (FaultyDeclarations text no_declarations (declarations_of ds)) r
 
-joined : (text : List ℕ) (xs : List Tree.Declaration) (d : Tree.Declaration) (all r : Result Parts TypeStop) (one : Result Declared TypeStop) → Answers (AreTyped text xs) (FaultyDeclarations text no_declarations xs) all
-    → Answers (λ t. TypesDeclaration text (after_all text no_declarations xs) d (declared_of t)) (FaultyDeclaration text (after_all text no_declarations xs) d) one → IfOk r (IsWith all one) → IfErr r (λ s. (s ≡ NoMemory) ⊎ StopsBoth all one s)
+joined : (text : List ℕ) (xs : List Tree.Declaration) (d : Tree.Declaration) (all r : Result Parts TypeStop)
+    (one : Result Declared TypeStop) → Answers (AreTyped text xs) (FaultyDeclarations text no_declarations xs) all
+    → Answers (λ t. TypesDeclaration text (after_all text no_declarations xs) d (declared_of t))
+        (FaultyDeclaration text (after_all text no_declarations xs) d) one → IfOk r (IsWith all one) → IfErr r (λ s. (s ≡ NoMemory) ⊎ StopsBoth all one s)
     → Answers (AreTyped text (xs ++ d ∷ [])) (FaultyDeclarations text no_declarations (xs ++ d ∷ [])) r
 joined text xs d all (Ok v) one h l e f =
     let a = ok-at (AreTyped text xs) all e.old e.before h.ok in
     let b = ok-at (λ t. TypesDeclaration text (after_all text no_declarations xs) d (declared_of t)) one e.more e.last l.ok in
     record {
       ok = record { declarations = a.declarations ++ declared_of e.more ∷ []; typed = typed-append a.typed b; parts = e.is a.declarations a.parts };
-      none = λ k at w. both-none (FaultyDeclarations text no_declarations xs) (FaultyDeclaration text (after_all text no_declarations xs) d) (ok-at (λ y. HasNone (FaultyDeclarations text no_declarations xs)) all e.old e.before h.none)
-          (ok-at (λ y. HasNone (FaultyDeclaration text (after_all text no_declarations xs) d)) one e.more e.last l.none) k at (faulty-from text no_declarations xs d k at w);
+      none = λ k at w. both-none (FaultyDeclarations text no_declarations xs) (FaultyDeclaration text (after_all text no_declarations xs) d)
+          (ok-at (λ y. HasNone (FaultyDeclarations text no_declarations xs)) all e.old e.before h.none)
+          (ok-at (λ y. HasNone (FaultyDeclaration text (after_all text no_declarations xs) d)) one e.more e.last l.none) k at
+              (faulty-from text no_declarations xs d k at w);
       err = tt;
     }
 joined text xs d all (Err t) one h l e f = record { ok = tt; none = tt; err = stopped f }
@@ -121,25 +139,34 @@ joined text xs d all (Err t) one h l e f = record { ok = tt; none = tt; err = st
     stopped : (t ≡ NoMemory) ⊎ StopsBoth all one t → StopsAtFirst (FaultyDeclarations text no_declarations (xs ++ d ∷ [])) t
     stopped (inl g) = subst (StopsAtFirst (FaultyDeclarations text no_declarations (xs ++ d ∷ []))) (sym g) tt
     stopped (inr g) =
-        same-stop both (FaultyDeclarations text no_declarations (xs ++ d ∷ [])) t (record { to = faulty-to text no_declarations xs d; from = faulty-from text no_declarations xs d })
-        (both-stop (FaultyDeclarations text no_declarations xs) (FaultyDeclaration text (after_all text no_declarations xs) d) all one t h.none h.err l.none l.err g)
+        same-stop both (FaultyDeclarations text no_declarations (xs ++ d ∷ [])) t
+            (record { to = faulty-to text no_declarations xs d; from = faulty-from text no_declarations xs d })
+        (both-stop (FaultyDeclarations text no_declarations xs)
+            (FaultyDeclaration text (after_all text no_declarations xs) d) all one t h.none h.err l.none l.err g)
 
-next-of : (all : List Declaration) (i : ℕ) (x : Declaration) → i < length all → x ≡ get_or all i x → declarations_of (take (i + 1) all) ≡ declarations_of (take i all) ++ declaration_of x ∷ []
+next-of : (all : List Declaration) (i : ℕ) (x : Declaration) → i < length all → x ≡ get_or all i x
+    → declarations_of (take (i + 1) all) ≡ declarations_of (take i all) ++ declaration_of x ∷ []
 next-of all i x l is = ap declarations_of (take_more all i x l ∙ ap (λ (y : Declaration). take i all ++ y ∷ []) (sym is)) ∙ declarations-append (take i all) x
 
-pub one-so-far : (text : List ℕ) (all : List Declaration) (i : ℕ) (x : Declaration) (typed r : Result Parts TypeStop) (one : Result Declared TypeStop) → i < length all → x ≡ get_or all i x → SoFar text (take i all) typed
-    → Answers (λ t. TypesDeclaration text (after_all text no_declarations (declarations_of (take i all))) (declaration_of x) (declared_of t)) (FaultyDeclaration text (after_all text no_declarations (declarations_of (take i all))) (declaration_of x)) one
+pub one-so-far : (text : List ℕ) (all : List Declaration) (i : ℕ) (x : Declaration) (typed r : Result Parts TypeStop)
+    (one : Result Declared TypeStop) → i < length all → x ≡ get_or all i x → SoFar text (take i all) typed
+    → Answers (λ t. TypesDeclaration text (after_all text no_declarations (declarations_of (take i all))) (declaration_of x)
+        (declared_of t)) (FaultyDeclaration text (after_all text no_declarations (declarations_of (take i all))) (declaration_of x)) one
     → IfOk r (IsWith typed one) → IfErr r (λ s. (s ≡ NoMemory) ⊎ StopsBoth typed one s) → SoFar text (take (i + 1) all) r
 one-so-far text all i x typed r one l is h a f g =
     let Q : List Tree.Declaration → Type 0 = λ ys. Answers (AreTyped text ys) (FaultyDeclarations text no_declarations ys) r in
     subst Q (sym (next-of all i x l is)) (joined text (declarations_of (take i all)) (declaration_of x) typed r one h a f g)
 
 pub after-more : (text : List ℕ) (all : List Declaration) (i : ℕ) (x : Declaration) → i < length all → x ≡ get_or all i x
-    → after text (after_all text no_declarations (declarations_of (take i all))) (declaration_of x) ≡ after_all text no_declarations (declarations_of (take (i + 1) all))
-after-more text all i x l is = sym (ap (after_all text no_declarations) (next-of all i x l is) ∙ after-append text no_declarations (declarations_of (take i all)) (declaration_of x))
+    → after text (after_all text no_declarations (declarations_of (take i all))) (declaration_of x) ≡ after_all text no_declarations
+        (declarations_of (take (i + 1) all))
+after-more text all i x l is =
+    sym (ap (after_all text no_declarations) (next-of all i x l is) ∙ after-append text no_declarations (declarations_of (take i all)) (declaration_of x))
 
 pub none-so-far : (text : List ℕ) (p : Parts) → p.functions.items ≡ [] → p.globals.items ≡ [] → SoFar text [] (Ok p)
-none-so-far text p e f = record { ok = record { declarations = []; typed = all_declared; parts = record { functions = ap functions_of e; globals = f } }; none = λ k at h. h; err = tt }
+none-so-far text p e f =
+    record { ok = record { declarations = []; typed = all_declared; parts = record { functions = ap functions_of e; globals = f } }; none =
+    λ k at h. h; err = tt }
 
 pub globals-grow : (n : Counts) (d : Tree.Declaration) → (counts_after n d).globals ≤ n.globals + 1
 globals-grow n (Tree.variable k x i) = omega arith

@@ -33,14 +33,16 @@ least (array_of_nothing h) = omega arith
 least (too_many_words h l) = omega arith
 least (too_many_functions h) = omega arith
 
-least-new : {text : List ℕ} {f : File} {d : Declaration} {j : TypeFaultKind} {n : ℕ} → f.names (spelling_in text (name_of d)) ≡ None → FaultyName text f d j n → 12 ≤ number_of j
+least-new : {text : List ℕ} {f : File} {d : Declaration} {j : TypeFaultKind} {n : ℕ} → f.names (spelling_in text (name_of d)) ≡ None
+    → FaultyName text f d j n → 12 ≤ number_of j
 least-new e (declared_again h) = absurd (h e)
 least-new e (other_main h i) = omega arith
 least-new e (array_of_nothing h) = omega arith
 least-new e (too_many_words h l) = omega arith
 least-new e (too_many_functions h) = omega arith
 
-exceeds : {text : List ℕ} {f : File} {d : Declaration} {j : TypeFaultKind} {n : ℕ} → f.names (spelling_in text (name_of d)) ≡ None → (IsOtherKind text d → ⊥) → FaultyName text f d j n → Exceeds f.counts d × (20 ≤ number_of j)
+exceeds : {text : List ℕ} {f : File} {d : Declaration} {j : TypeFaultKind} {n : ℕ} → f.names (spelling_in text (name_of d)) ≡ None
+    → (IsOtherKind text d → ⊥) → FaultyName text f d j n → Exceeds f.counts d × (20 ≤ number_of j)
 exceeds e k (declared_again h) = absurd (h e)
 exceeds e k (other_main h i) = absurd (k (inr (h, i)))
 exceeds e k (array_of_nothing {n = n} h) = absurd (k (inl (is_zero n.value h)))
@@ -49,7 +51,8 @@ exceeds {d = array integer_type x n} e k (too_many_words h l) = ((h, l), omega a
 exceeds {d = function t x ps body} e k (too_many_words h l) = absurd (omega (arith, h, l))
 exceeds e k (too_many_functions h) = (h, omega arith)
 
-pub again-first : (text : List ℕ) (f : File) (d : Declaration) → f.names (spelling_in text (name_of d)) ≢ None → IsFirstFault (FaultyName text f d) Redeclared (name_of d).at
+pub again-first : (text : List ℕ) (f : File) (d : Declaration) → f.names (spelling_in text (name_of d)) ≢ None
+    → IsFirstFault (FaultyName text f d) Redeclared (name_of d).at
 again-first text f d h = record { has = declared_again h; first = λ j n w. inr (place w, least w) }
 
 wrong-kind : (text : List ℕ) (f : File) (d : Declaration) → IsOtherKind text d → FaultyName text f d KindFault (name_of d).at
@@ -58,7 +61,8 @@ wrong-kind text f (array k x n) (inl h) = array_of_nothing (zero n.value h)
 wrong-kind text f (variable k x i) (inl h) = cc
 wrong-kind text f (function r x ps body) (inl h) = cc
 
-pub kind-first : (text : List ℕ) (f : File) (d : Declaration) → f.names (spelling_in text (name_of d)) ≡ None → IsOtherKind text d → IsFirstFault (FaultyName text f d) KindFault (name_of d).at
+pub kind-first : (text : List ℕ) (f : File) (d : Declaration) → f.names (spelling_in text (name_of d)) ≡ None → IsOtherKind text d
+    → IsFirstFault (FaultyName text f d) KindFault (name_of d).at
 kind-first text f d e h = record { has = wrong-kind text f d h; first = λ j n w. inr (place w, least-new e w) }
 
 too-many : (text : List ℕ) (f : File) (d : Declaration) → Exceeds f.counts d → FaultyName text f d Limit (name_of d).at
@@ -66,10 +70,12 @@ too-many text f (variable k x i) h = too_many_words h.0 h.1
 too-many text f (array k x n) h = too_many_words h.0 h.1
 too-many text f (function r x ps body) h = too_many_functions h
 
-pub limit-first : (text : List ℕ) (f : File) (d : Declaration) → f.names (spelling_in text (name_of d)) ≡ None → (IsOtherKind text d → ⊥) → Exceeds f.counts d → IsFirstFault (FaultyName text f d) Limit (name_of d).at
+pub limit-first : (text : List ℕ) (f : File) (d : Declaration) → f.names (spelling_in text (name_of d)) ≡ None → (IsOtherKind text d → ⊥)
+    → Exceeds f.counts d → IsFirstFault (FaultyName text f d) Limit (name_of d).at
 limit-first text f d e k h = record { has = too-many text f d h; first = λ j n w. inr (place w, (exceeds e k w).1) }
 
-pub no-fault : (text : List ℕ) (f : File) (d : Declaration) → f.names (spelling_in text (name_of d)) ≡ None → (IsOtherKind text d → ⊥) → (Exceeds f.counts d → ⊥) → HasNone (FaultyName text f d)
+pub no-fault : (text : List ℕ) (f : File) (d : Declaration) → f.names (spelling_in text (name_of d)) ≡ None → (IsOtherKind text d → ⊥)
+    → (Exceeds f.counts d → ⊥) → HasNone (FaultyName text f d)
 no-fault text f d e k h j n w = h (exceeds e k w).0
 
 pub some-there : {A : Type 0} (o : Option A) → is_some o ≡ true → o ≢ None
@@ -81,21 +87,27 @@ none-there (Some a) h = cc
 none-there None h = refl
 
 -- the same of a name and a stop that a call answered
-pub again-stops : (text : List ℕ) (f : File) (d : Declaration) (x : Identifier) (b : Bool) (s : TypeStop) → x ≡ name_of d → b ≡ is_some (f.names (spelling_in text x)) → b ≡ true → s ≡ Fault (record { kind = Redeclared; at = x.at })
+pub again-stops : (text : List ℕ) (f : File) (d : Declaration) (x : Identifier) (b : Bool) (s : TypeStop) → x ≡ name_of d
+    → b ≡ is_some (f.names (spelling_in text x)) → b ≡ true → s ≡ Fault (record { kind = Redeclared; at = x.at })
     → StopsAtFirst (FaultyName text f d) s
-again-stops text f d x b s e i t q = rw (q, e) (again-first text f d (some-there _ (ap (λ (y : Identifier). is_some (f.names (spelling_in text y))) (sym e) ∙ sym i ∙ t)))
+again-stops text f d x b s e i t q =
+    rw (q, e) (again-first text f d (some-there _ (ap (λ (y : Identifier). is_some (f.names (spelling_in text y))) (sym e) ∙ sym i ∙ t)))
 
-unseen : (text : List ℕ) (f : File) (d : Declaration) (x : Identifier) (b : Bool) → x ≡ name_of d → b ≡ is_some (f.names (spelling_in text x)) → b ≡ false → f.names (spelling_in text (name_of d)) ≡ None
+unseen : (text : List ℕ) (f : File) (d : Declaration) (x : Identifier) (b : Bool) → x ≡ name_of d
+    → b ≡ is_some (f.names (spelling_in text x)) → b ≡ false → f.names (spelling_in text (name_of d)) ≡ None
 unseen text f d x b e i t = none-there _ (ap (λ (y : Identifier). is_some (f.names (spelling_in text y))) (sym e) ∙ sym i ∙ t)
 
-pub kind-stops : (text : List ℕ) (f : File) (d : Declaration) (x : Identifier) (b : Bool) (s : TypeStop) → x ≡ name_of d → b ≡ is_some (f.names (spelling_in text x)) → b ≡ false → IsOtherKind text d
+pub kind-stops : (text : List ℕ) (f : File) (d : Declaration) (x : Identifier) (b : Bool) (s : TypeStop) → x ≡ name_of d
+    → b ≡ is_some (f.names (spelling_in text x)) → b ≡ false → IsOtherKind text d
     → s ≡ Fault (record { kind = KindFault; at = x.at }) → StopsAtFirst (FaultyName text f d) s
 kind-stops text f d x b s e i t k q = rw (q, e) (kind-first text f d (unseen text f d x b e i t) k)
 
-pub limit-stops : (text : List ℕ) (f : File) (d : Declaration) (x : Identifier) (b : Bool) (s : TypeStop) → x ≡ name_of d → b ≡ is_some (f.names (spelling_in text x)) → b ≡ false → (IsOtherKind text d → ⊥) → Exceeds f.counts d
+pub limit-stops : (text : List ℕ) (f : File) (d : Declaration) (x : Identifier) (b : Bool) (s : TypeStop) → x ≡ name_of d
+    → b ≡ is_some (f.names (spelling_in text x)) → b ≡ false → (IsOtherKind text d → ⊥) → Exceeds f.counts d
     → s ≡ Fault (record { kind = Limit; at = x.at }) → StopsAtFirst (FaultyName text f d) s
 limit-stops text f d x b s e i t k h q = rw (q, e) (limit-first text f d (unseen text f d x b e i t) k h)
 
-pub no-stop : (text : List ℕ) (f : File) (d : Declaration) (x : Identifier) (b : Bool) → x ≡ name_of d → b ≡ is_some (f.names (spelling_in text x)) → b ≡ false → (IsOtherKind text d → ⊥) → (Exceeds f.counts d → ⊥)
+pub no-stop : (text : List ℕ) (f : File) (d : Declaration) (x : Identifier) (b : Bool) → x ≡ name_of d
+    → b ≡ is_some (f.names (spelling_in text x)) → b ≡ false → (IsOtherKind text d → ⊥) → (Exceeds f.counts d → ⊥)
     → HasNone (FaultyName text f d)
 no-stop text f d x b e i t k h = no-fault text f d (unseen text f d x b e i t) k h

@@ -1,5 +1,6 @@
 -- Typed programs without faults are well formed.
-use Rattle.std.proofs.Common.{◌≡◌, ◌≢◌, ◌<◌, ◌≤◌, ◌+◌, ℕ, suc, List, [], ◌∷◌, ◌++◌, Option, Some, None, Bool, true, false, length, inl, inr, refl, sym, subst, ap, ◌∙◌, arith, if◌then◌else◌}
+use Rattle.std.proofs.Common.{◌≡◌, ◌≢◌, ◌<◌, ◌≤◌, ◌+◌, ℕ, suc, List, [], ◌∷◌, ◌++◌, Option, Some, None, Bool, true, false, length, inl, inr}
+use Rattle.std.proofs.Common.{refl, sym, subst, ap, ◌∙◌, arith, if◌then◌else◌}
 use Rattle.std.specs.Prelude.{is_some, slice_get, bytes_eq, All}
 use Rattle.std.proofs.lemmas.List.{length-append}
 use Rattle.std.proofs.lemmas.List.Elements.{All-nil, All-cons, All-same}
@@ -15,7 +16,11 @@ use Rattle.c_statements.specs.declared.names.Named.TheVariants.{Local, Global, A
 use Rattle.c_typed.specs.declared.tree.Global as Typed
 use Rattle.c_statements.specs.Faults.{HasNone}
 use Rattle.c_statements.specs.Names.{Bindings, Scopes, hides, named_in, nothing, spelling_in, with_name, with_local, behind_items, declared_in_all}
-use Rattle.c_types.specs.Programs.{File, no_declarations, out_name, main_name, after, after_all, IsNotMain, array_of_nothing, other_main, too_many_words, too_many_functions, fifth_parameter, FaultyParameters, behind_parameters, scopes_at, FaultyBody, FaultyDeclaration, FaultyDeclarations, with_last, closing, TypedDeclaration, a_global, a_function, TypesDeclaration, variable_typed, array_typed, function_typed, TypesDeclarations, all_declared, more_declared, functions_in, globals_in}
+use Rattle.c_types.specs.Programs.{File, no_declarations, out_name, main_name, after, after_all, IsNotMain, array_of_nothing, other_main}
+use Rattle.c_types.specs.Programs.{too_many_words, too_many_functions, fifth_parameter, FaultyParameters, behind_parameters, scopes_at}
+use Rattle.c_types.specs.Programs.{FaultyBody, FaultyDeclaration, FaultyDeclarations, with_last, closing, TypedDeclaration, a_global}
+use Rattle.c_types.specs.Programs.{a_function, TypesDeclaration, variable_typed, array_typed, function_typed, TypesDeclarations}
+use Rattle.c_types.specs.Programs.{all_declared, more_declared, functions_in, globals_in}
 use Rattle.c_typed.specs.Trees.{TypedStatements, TypedFunction, TypedProgram, no_statements, more_statements}
 use Rattle.c_statements.specs.Types.{TypesItems}
 use Rattle.c_typed.specs.declared.tree.Function as Rust
@@ -27,10 +32,12 @@ use Rattle.c_types.proofs.FitsStatements.{IsThere, AreThere, declared-there, fit
 
 -- the parameters
 
-parameters-there : (p : TypedProgram) (n : ℕ) (text : List ℕ) (sc : Scopes) (ps : List Parameter) → AreThere p n (named_in sc) → sc.locals + length ps ≤ n → AreThere p n (named_in (behind_parameters text sc ps))
+parameters-there : (p : TypedProgram) (n : ℕ) (text : List ℕ) (sc : Scopes) (ps : List Parameter) → AreThere p n (named_in sc)
+    → sc.locals + length ps ≤ n → AreThere p n (named_in (behind_parameters text sc ps))
 parameters-there p n text sc [] h room = h
 parameters-there p n text sc (q ∷ rest) h room =
-    parameters-there p n text (with_local text sc q.integer_type q.name) rest (declared-there p n text sc q.integer_type q.name h (omega (arith, room))) (omega (arith, room))
+    parameters-there p n text (with_local text sc q.integer_type q.name) rest
+        (declared-there p n text sc q.integer_type q.name h (omega (arith, room))) (omega (arith, room))
 
 behind-parameters : (text : List ℕ) (sc : Scopes) (ps : List Parameter) → (behind_parameters text sc ps).locals ≡ sc.locals + length ps
 behind-parameters text sc [] = omega arith
@@ -46,11 +53,13 @@ parameters-fit text sc (q ∷ rest) few none =
 
 -- the end of a body
 
-fits-last : (p : TypedProgram) (n : ℕ) (g l : Bool) (all last : TypedStatements) → FitsStatements p n g l all → FitsStatements p n g l last → FitsStatements p n g l (with_last all last)
+fits-last : (p : TypedProgram) (n : ℕ) (g l : Bool) (all last : TypedStatements) → FitsStatements p n g l all → FitsStatements p n g l last
+    → FitsStatements p n g l (with_last all last)
 fits-last p n g l no_statements last h end = end
 fits-last p n g l (more_statements s rest) last h end = (h.0, fits-last p n g l rest last h.1 end)
 
-fits-closing : (p : TypedProgram) (n : ℕ) (is_main : Bool) (r : Option IntegerType) → (is_main ≡ true → is_some r ≡ true) → FitsStatements p n (is_some r) false (closing is_main r)
+fits-closing : (p : TypedProgram) (n : ℕ) (is_main : Bool) (r : Option IntegerType) → (is_main ≡ true → is_some r ≡ true)
+    → FitsStatements p n (is_some r) false (closing is_main r)
 fits-closing p n true r h = ((sym (h refl), tt), tt)
 fits-closing p n false None h = ((refl, tt), tt)
 fits-closing p n false (Some k) h = tt
@@ -69,7 +78,8 @@ at-file p n (Some j) i h e = wider p n i (h i e)
 at-file p n None i h e = absurd (none-some _ e)
 
 -- a declaration that may be `main`
-int-result : (r : Option IntegerType) (x : Identifier) (ps : List Parameter) (body : Tree.Items) → (IsNotMain (Tree.function r x ps body) → ⊥) → r ≡ Some SignedInt
+int-result : (r : Option IntegerType) (x : Identifier) (ps : List Parameter) (body : Tree.Items)
+    → (IsNotMain (Tree.function r x ps body) → ⊥) → r ≡ Some SignedInt
 int-result (Some SignedInt) x ps body h = refl
 int-result (Some UnsignedInt) x ps body h = absurd (h (inl other))
   where
@@ -78,8 +88,10 @@ int-result (Some UnsignedInt) x ps body h = absurd (h (inl other))
 int-result None x ps body h = absurd (h (inl (none-some _)))
 
 -- a function, under the names at file scope and its own
-fits-function : (p : TypedProgram) (text : List ℕ) (f : File) (r : Option IntegerType) (x : Identifier) (ps : List Parameter) (body : Tree.Items) (t : TypedStatements) → AreThere p 0 (after text f (Tree.function r x ps body)).names
-    → TypesItems text (behind_parameters text (scopes_at (after text f (Tree.function r x ps body)).names) ps) body t → HasNone (FaultyDeclaration text f (Tree.function r x ps body)) → FitsFunction p (record {
+fits-function : (p : TypedProgram) (text : List ℕ) (f : File) (r : Option IntegerType) (x : Identifier) (ps : List Parameter)
+    (body : Tree.Items) (t : TypedStatements) → AreThere p 0 (after text f (Tree.function r x ps body)).names
+    → TypesItems text (behind_parameters text (scopes_at (after text f (Tree.function r x ps body)).names) ps) body t
+        → HasNone (FaultyDeclaration text f (Tree.function r x ps body)) → FitsFunction p (record {
       result = r;
       parameters = length ps;
       locals = (behind_items text (behind_parameters text (scopes_at (after text f (Tree.function r x ps body)).names) ps) body).locals;
@@ -94,15 +106,19 @@ fits-function p text f r x ps body t there typed none =
     let first : inner.locals ≡ 0 + length ps = behind-parameters text outer ps in
     let all : n ≡ inner.locals + declared_in_all body = behind-locals text inner body in
     let four : 0 + length ps ≤ 4 = parameters-fit text outer ps (omega arith) (λ k at w. faultless k at (inl w)) in
-    let few : inner.locals + declared_in_all body ≤ 128 = all-locals-fit text (is_some r) false inner body (omega (arith, four, first)) (λ k at w. faultless k at (inr w)) in
+    let few : inner.locals + declared_in_all body ≤ 128 =
+            all-locals-fit text (is_some r) false inner body (omega (arith, four, first)) (λ k at w. faultless k at (inr w)) in
     let outside : AreThere p n (named_in outer) = λ w m e. at-file p n (names w) m (there w) e in
     let inside : AreThere p n (named_in inner) = parameters-there p n text outer ps outside (omega (arith, first, all)) in
-    let main : bytes_eq (spelling_in text x) main_name ≡ true → is_some r ≡ true = λ e. ap (λ (k : Option IntegerType). is_some k) (int-result r x ps body (λ w. none KindFault x.at (inl (other_main e w)))) in
+    let main : bytes_eq (spelling_in text x) main_name ≡ true
+            → is_some r ≡ true = λ e. ap (λ (k : Option IntegerType). is_some k) (int-result r x ps body (λ w. none KindFault x.at (inl (other_main e w)))) in
     record {
       parameters = omega (arith, four);
       first = omega (arith, first, all);
       locals = omega (arith, few, all);
-      body = fits-last p n (is_some r) false t (closing (bytes_eq (spelling_in text x) main_name) r) (fits-items p n (is_some r) false inside (omega (arith, all)) typed (λ k at w. faultless k at (inr w))) (fits-closing p n (bytes_eq (spelling_in text x) main_name) r main);
+      body = fits-last p n (is_some r) false t (closing (bytes_eq (spelling_in text x) main_name) r)
+          (fits-items p n (is_some r) false inside (omega (arith, all)) typed (λ k at w. faultless k at (inr w)))
+          (fits-closing p n (bytes_eq (spelling_in text x) main_name) r main);
     }
 
 -- the declarations, one after another
@@ -136,17 +152,22 @@ named p names x m h there w i e = by (bytes_eq x w) e
     by true e = subst (IsThere p 0) (same_Some _ _ e) there
     by false e = h w i e
 
-global-here : {p : TypedProgram} {f : File} {g : Typed.Global} {rest : List TypedDeclaration} → IsAt p f (a_global g ∷ rest) → f.counts.globals < length p.globals
+global-here : {p : TypedProgram} {f : File} {g : Typed.Global} {rest : List TypedDeclaration} → IsAt p f (a_global g ∷ rest)
+    → f.counts.globals < length p.globals
 global-here {p = p} {f = f} {g = g} {rest = rest} h =
-    let e : length p.globals ≡ length h.globals + length (g ∷ globals_in rest) = ap (λ (l : List Typed.Global). length l) h.are_globals ∙ length-append h.globals (g ∷ globals_in rest) in
+    let e : length p.globals ≡ length h.globals + length (g ∷ globals_in rest) = ap (λ (l : List Typed.Global). length l) h.are_globals
+            ∙ length-append h.globals (g ∷ globals_in rest) in
     let c = h.globals_counted in
     omega (arith, e, c)
 
-function-here : {p : TypedProgram} {f : File} {g : TypedFunction} {rest : List TypedDeclaration} → IsAt p f (a_function g ∷ rest) → slice_get p.functions f.counts.functions ≡ Some g
+function-here : {p : TypedProgram} {f : File} {g : TypedFunction} {rest : List TypedDeclaration} → IsAt p f (a_function g ∷ rest)
+    → slice_get p.functions f.counts.functions ≡ Some g
 function-here {p = p} {f = f} {g = g} {rest = rest} h =
-    ap (λ (l : List TypedFunction). slice_get l f.counts.functions) h.are_functions ∙ ap (λ (i : ℕ). slice_get (h.functions ++ g ∷ functions_in rest) i) (sym h.functions_counted) ∙ at-seam h.functions g (functions_in rest)
+    ap (λ (l : List TypedFunction). slice_get l f.counts.functions) h.are_functions
+        ∙ ap (λ (i : ℕ). slice_get (h.functions ++ g ∷ functions_in rest) i) (sym h.functions_counted) ∙ at-seam h.functions g (functions_in rest)
 
-next : {p : TypedProgram} {text : List ℕ} {f : File} {d : Tree.Declaration} {t : TypedDeclaration} {rest : List TypedDeclaration} → IsAt p f (t ∷ rest) → TypesDeclaration text f d t → IsAt p (after text f d) rest
+next : {p : TypedProgram} {text : List ℕ} {f : File} {d : Tree.Declaration} {t : TypedDeclaration} {rest : List TypedDeclaration}
+    → IsAt p f (t ∷ rest) → TypesDeclaration text f d t → IsAt p (after text f d) rest
 next {p = p} {text = text} {f = f} {rest = rest} h (variable_typed {k = k} {x = x}) = record {
   functions = h.functions;
   are_functions = h.are_functions;
@@ -175,46 +196,56 @@ next {p = p} {text = text} {f = f} {rest = rest} h (function_typed {r = r} {x = 
   names = named p f.names (spelling_in text x) (Function f.counts.functions (length ps) (is_some r)) h.names (_, (function-here h, (refl, refl)));
 }
 
-first-fits : (p : TypedProgram) {text : List ℕ} {f : File} {d : Tree.Declaration} {t : TypedDeclaration} (rest : List TypedDeclaration) → AreThere p 0 (after text f d).names → TypesDeclaration text f d t → HasNone (FaultyDeclaration text f d)
+first-fits : (p : TypedProgram) {text : List ℕ} {f : File} {d : Tree.Declaration} {t : TypedDeclaration} (rest : List TypedDeclaration)
+    → AreThere p 0 (after text f d).names → TypesDeclaration text f d t → HasNone (FaultyDeclaration text f d)
     → All (FitsFunction p) (functions_in rest) → All (FitsFunction p) (functions_in (t ∷ rest))
 first-fits p rest there variable_typed none h = h
 first-fits p rest there array_typed none h = h
 first-fits p {text = text} {f = f} rest there (function_typed {r = r} {x = x} {ps = ps} {body = body} {typed = t} typed) none h =
     All-cons (FitsFunction p) _ (functions_in rest) (fits-function p text f r x ps body t there typed none) h
 
-functions-fit : {p : TypedProgram} {text : List ℕ} {f : File} {ds : List Tree.Declaration} {ts : List TypedDeclaration} → IsAt p f ts → TypesDeclarations text f ds ts → HasNone (FaultyDeclarations text f ds) → All (FitsFunction p) (functions_in ts)
+functions-fit : {p : TypedProgram} {text : List ℕ} {f : File} {ds : List Tree.Declaration} {ts : List TypedDeclaration} → IsAt p f ts
+    → TypesDeclarations text f ds ts → HasNone (FaultyDeclarations text f ds) → All (FitsFunction p) (functions_in ts)
 functions-fit {p = p} h all_declared none = All-nil (FitsFunction p)
 functions-fit {p = p} h (more_declared {typed = ts} one more) none =
     let after-it = next h one in
     first-fits p ts after-it.names one (λ k at w. none k at (inl w)) (functions-fit after-it more (λ k at w. none k at (inr w)))
 
-names-there : {p : TypedProgram} {text : List ℕ} {f : File} {ds : List Tree.Declaration} {ts : List TypedDeclaration} → IsAt p f ts → TypesDeclarations text f ds ts → AreThere p 0 (after_all text f ds).names
+names-there : {p : TypedProgram} {text : List ℕ} {f : File} {ds : List Tree.Declaration} {ts : List TypedDeclaration} → IsAt p f ts
+    → TypesDeclarations text f ds ts → AreThere p 0 (after_all text f ds).names
 names-there h all_declared = h.names
 names-there h (more_declared one more) = names-there (next h one) more
 
 -- `main`, once it is declared, gives an `int`
 abbrev GivesInt : TypedProgram → Bindings → Type 0
-GivesInt p names = (n m : ℕ) (r : Bool) → names main_name ≡ Some (Function n m r) → (g : TypedFunction) × ((slice_get p.functions n ≡ Some g) × (g.result ≡ Some SignedInt))
+GivesInt p names = (n m : ℕ) (r : Bool) → names main_name ≡ Some (Function n m r) → (g : TypedFunction)
+    × ((slice_get p.functions n ≡ Some g) × (g.result ≡ Some SignedInt))
 
 abbrev IsFunction : TypedProgram → Named → Type 0
 IsFunction p (Function n m r) = (g : TypedFunction) × ((slice_get p.functions n ≡ Some g) × (g.result ≡ Some SignedInt))
 IsFunction p i = Unit {0}
 
-named-main : (p : TypedProgram) (names : Bindings) (x : List ℕ) (i : Named) → GivesInt p names → (bytes_eq x main_name ≡ true → IsFunction p i) → GivesInt p (with_name names x i)
+named-main : (p : TypedProgram) (names : Bindings) (x : List ℕ) (i : Named) → GivesInt p names
+    → (bytes_eq x main_name ≡ true → IsFunction p i) → GivesInt p (with_name names x i)
 named-main p names x i h there n m r e = by (bytes_eq x main_name) refl e
   where
     by : (b : Bool) → bytes_eq x main_name ≡ b → (if b then Some i else names main_name) ≡ Some (Function n m r) → IsFunction p (Function n m r)
     by true q e = subst (IsFunction p) (same_Some _ _ e) (there q)
     by false q e = h n m r e
 
-next-main : {p : TypedProgram} {text : List ℕ} {f : File} {d : Tree.Declaration} {t : TypedDeclaration} {rest : List TypedDeclaration} → IsAt p f (t ∷ rest) → TypesDeclaration text f d t → HasNone (FaultyDeclaration text f d) → GivesInt p f.names
+next-main : {p : TypedProgram} {text : List ℕ} {f : File} {d : Tree.Declaration} {t : TypedDeclaration} {rest : List TypedDeclaration}
+    → IsAt p f (t ∷ rest) → TypesDeclaration text f d t → HasNone (FaultyDeclaration text f d) → GivesInt p f.names
     → GivesInt p (after text f d).names
-next-main {p = p} {text = text} {f = f} at (variable_typed {k = k} {x = x}) none h = named-main p f.names (spelling_in text x) (Global f.counts.globals k) h (λ e. tt)
-next-main {p = p} {text = text} {f = f} at (array_typed {k = k} {x = x}) none h = named-main p f.names (spelling_in text x) (Array f.counts.globals k) h (λ e. tt)
+next-main {p = p} {text = text} {f = f} at (variable_typed {k = k} {x = x}) none h =
+    named-main p f.names (spelling_in text x) (Global f.counts.globals k) h (λ e. tt)
+next-main {p = p} {text = text} {f = f} at (array_typed {k = k} {x = x}) none h =
+    named-main p f.names (spelling_in text x) (Array f.counts.globals k) h (λ e. tt)
 next-main {p = p} {text = text} {f = f} at (function_typed {r = r} {x = x} {ps = ps} {body = body} typed) none h =
-    named-main p f.names (spelling_in text x) (Function f.counts.functions (length ps) (is_some r)) h (λ e. (_, (function-here at, int-result r x ps body (λ w. none KindFault x.at (inl (other_main e w))))))
+    named-main p f.names (spelling_in text x) (Function f.counts.functions (length ps) (is_some r)) h
+        (λ e. (_, (function-here at, int-result r x ps body (λ w. none KindFault x.at (inl (other_main e w))))))
 
-gives-int : {p : TypedProgram} {text : List ℕ} {f : File} {ds : List Tree.Declaration} {ts : List TypedDeclaration} → IsAt p f ts → TypesDeclarations text f ds ts → HasNone (FaultyDeclarations text f ds) → GivesInt p f.names
+gives-int : {p : TypedProgram} {text : List ℕ} {f : File} {ds : List Tree.Declaration} {ts : List TypedDeclaration} → IsAt p f ts
+    → TypesDeclarations text f ds ts → HasNone (FaultyDeclarations text f ds) → GivesInt p f.names
     → GivesInt p (after_all text f ds).names
 gives-int at all_declared none h = h
 gives-int at (more_declared one more) none h = gives-int (next at one) more (λ k n w. none k n (inr w)) (next-main at one (λ k n w. none k n (inl w)) h)
@@ -230,14 +261,16 @@ IsWord g = 1 ≤ g.length
 positive : (n : ℕ) → n ≢ 0 → 1 ≤ n
 positive n h = omega (arith, h)
 
-globals-fit : {text : List ℕ} {f : File} {ds : List Tree.Declaration} {ts : List TypedDeclaration} → TypesDeclarations text f ds ts → HasNone (FaultyDeclarations text f ds) → All IsWord (globals_in ts)
+globals-fit : {text : List ℕ} {f : File} {ds : List Tree.Declaration} {ts : List TypedDeclaration} → TypesDeclarations text f ds ts
+    → HasNone (FaultyDeclarations text f ds) → All IsWord (globals_in ts)
 globals-fit all_declared none = All-nil IsWord
 globals-fit (more_declared variable_typed more) none = All-cons IsWord _ _ (omega arith) (globals-fit more (λ k at w. none k at (inr w)))
 globals-fit (more_declared (array_typed {x = x} {n = n}) more) none =
     All-cons IsWord _ _ (positive n.value (λ e. none KindFault x.at (inl (inl (array_of_nothing e))))) (globals-fit more (λ k at w. none k at (inr w)))
 globals-fit (more_declared (function_typed typed) more) none = globals-fit more (λ k at w. none k at (inr w))
 
-counted : {text : List ℕ} {f : File} {ds : List Tree.Declaration} {ts : List TypedDeclaration} → TypesDeclarations text f ds ts → HasNone (FaultyDeclarations text f ds) → f.counts.functions ≤ 256 → f.counts.functions + length (functions_in ts) ≤ 256
+counted : {text : List ℕ} {f : File} {ds : List Tree.Declaration} {ts : List TypedDeclaration} → TypesDeclarations text f ds ts
+    → HasNone (FaultyDeclarations text f ds) → f.counts.functions ≤ 256 → f.counts.functions + length (functions_in ts) ≤ 256
 counted all_declared none few = omega (arith, few)
 counted (more_declared variable_typed more) none few = counted more (λ k at w. none k at (inr w)) few
 counted (more_declared array_typed more) none few = counted more (λ k at w. none k at (inr w)) few
@@ -246,7 +279,8 @@ counted {f = f} (more_declared (function_typed {x = x} typed) more) none few =
     let h = counted more (λ k at w. none k at (inr w)) (omega (arith, few, other)) in
     omega (arith, h)
 
-words-fit : {text : List ℕ} {f : File} {ds : List Tree.Declaration} {ts : List TypedDeclaration} → TypesDeclarations text f ds ts → HasNone (FaultyDeclarations text f ds) → f.counts.words ≤ 262144 → f.counts.words + words_in (globals_in ts) ≤ 262144
+words-fit : {text : List ℕ} {f : File} {ds : List Tree.Declaration} {ts : List TypedDeclaration} → TypesDeclarations text f ds ts
+    → HasNone (FaultyDeclarations text f ds) → f.counts.words ≤ 262144 → f.counts.words + words_in (globals_in ts) ≤ 262144
 words-fit all_declared none few = omega (arith, few)
 words-fit {f = f} (more_declared (variable_typed {x = x}) more) none few =
     let fits : 262144 < f.counts.words + 1 → ⊥ = λ l. none Limit x.at (inl (inl (too_many_words few l))) in

@@ -1,5 +1,6 @@
 -- The meaning of `main` in a program without faults.
-use Rattle.std.proofs.Common.{◌≡◌, ◌≢◌, ◌⊎◌, ℕ, List, [], ◌∷◌, length, Bool, true, false, Option, Some, None, inl, inr, refl, sym, subst, ap, ◌∙◌, arith, Result, Ok, IfOk, IfErr}
+use Rattle.std.proofs.Common.{◌≡◌, ◌≢◌, ◌⊎◌, ℕ, List, [], ◌∷◌, length, Bool, true, false, Option, Some, None, inl, inr, refl, sym, subst}
+use Rattle.std.proofs.Common.{ap, ◌∙◌, arith, Result, Ok, IfOk, IfErr}
 use Rattle.std.specs.Prelude.{bytes_eq, if◌then◌else◌}
 use Rattle.std.proofs.lemmas.Option.{none-some}
 use Rattle.c_front.specs.Tree as Tree
@@ -14,7 +15,8 @@ use Rattle.c_statements.specs.Names.{Bindings, spelling_in}
 use Rattle.c_statements.proofs.Firsts.{Both, both-stop, ok-at}
 use Rattle.c_types.specs.declared.program.Parts.{Parts}
 use Rattle.c_types.specs.Files.{AreTyped}
-use Rattle.c_types.specs.Programs.{File, FaultyDeclarations, FaultyName, FaultyProgram, IsNotMain, LacksMain, TypesProgram, after, after_all, main_name, name_of, named_by, no_declarations, no_main, other_main}
+use Rattle.c_types.specs.Programs.{File, FaultyDeclarations, FaultyName, FaultyProgram, IsNotMain, LacksMain, TypesProgram, after}
+use Rattle.c_types.specs.Programs.{after_all, main_name, name_of, named_by, no_declarations, no_main, other_main}
 
 -- `main` isn't declared yet, or is a function without parameters that gives a result
 abbrev pub IsMainOr : Bindings → Type 0
@@ -34,8 +36,10 @@ is-main f (Tree.function (Some SignedInt) x (p ∷ ps) body) h = absurd (h (inr 
     some : (p ∷ ps) ≢ []
     some e = cc
 
-step-by : (text : List ℕ) (f : File) (d : Tree.Declaration) (b : Bool) → bytes_eq (spelling_in text (name_of d)) main_name ≡ b → IsMainOr f.names → HasNone (FaultyName text f d)
-    → ((if b then Some (named_by f.counts d) else f.names main_name) ≡ None) ⊎ ((n : ℕ) × ((if b then Some (named_by f.counts d) else f.names main_name) ≡ Some (Function n 0 true)))
+step-by : (text : List ℕ) (f : File) (d : Tree.Declaration) (b : Bool) → bytes_eq (spelling_in text (name_of d)) main_name ≡ b
+    → IsMainOr f.names → HasNone (FaultyName text f d)
+    → ((if b then Some (named_by f.counts d) else f.names main_name) ≡ None) ⊎
+        ((n : ℕ) × ((if b then Some (named_by f.counts d) else f.names main_name) ≡ Some (Function n 0 true)))
 step-by text f d true e h n = let m = is-main f d (λ w. n _ _ (other_main e w)) in inr (m.0, ap (λ (x : Named). Some x) m.1)
 step-by text f d false e h n = h
 
@@ -46,7 +50,8 @@ all : (text : List ℕ) (f : File) (ds : List Tree.Declaration) → IsMainOr f.n
 all text f [] h n = h
 all text f (d ∷ rest) h n = all text (after text f d) rest (step text f d h (λ k at w. n k at (inl (inl w)))) (λ k at w. n k at (inr w))
 
-pub main-is : (text : List ℕ) (ds : List Tree.Declaration) (names : Bindings) → names ≡ (after_all text no_declarations ds).names → HasNone (FaultyDeclarations text no_declarations ds) → HasNone (LacksMain text names)
+pub main-is : (text : List ℕ) (ds : List Tree.Declaration) (names : Bindings) → names ≡ (after_all text no_declarations ds).names
+    → HasNone (FaultyDeclarations text no_declarations ds) → HasNone (LacksMain text names)
     → (n : ℕ) × (names main_name ≡ Some (Function n 0 true))
 main-is text ds names e h l =
     let m : IsMainOr names = subst IsMainOr (sym e) (all text no_declarations ds (inl refl) h) in
@@ -62,18 +67,25 @@ none-at : {A : Type 0} (p : Faults) (r : Result A TypeStop) (x : A) → r ≡ Ok
 none-at p r x e h = ok-at (λ y. HasNone p) r x e h
 
 -- the declarations and `main` together
-pub program-stop : {A B : Type 0} (text : List ℕ) (ds : List Tree.Declaration) (names : Bindings) (a : Result A TypeStop) (b : Result B TypeStop) (s : TypeStop) → names ≡ (after_all text no_declarations ds).names
-    → IfOk a (λ y. HasNone (FaultyDeclarations text no_declarations ds)) → IfErr a (StopsAtFirst (FaultyDeclarations text no_declarations ds)) → IfOk b (λ y. HasNone (LacksMain text names)) → IfErr b (StopsAtFirst (LacksMain text names))
+pub program-stop : {A B : Type 0} (text : List ℕ) (ds : List Tree.Declaration) (names : Bindings) (a : Result A TypeStop)
+    (b : Result B TypeStop) (s : TypeStop) → names ≡ (after_all text no_declarations ds).names
+    → IfOk a (λ y. HasNone (FaultyDeclarations text no_declarations ds))
+        → IfErr a (StopsAtFirst (FaultyDeclarations text no_declarations ds)) → IfOk b (λ y. HasNone (LacksMain text names))
+        → IfErr b (StopsAtFirst (LacksMain text names))
     → StopsBoth a b s → StopsAtFirst (FaultyProgram text ds) s
 program-stop text ds names a b s e n h m l t =
     let Q : Bindings → Type 0 = λ y. StopsAtFirst (Both (FaultyDeclarations text no_declarations ds) (LacksMain text y)) s in
     subst Q e (both-stop (FaultyDeclarations text no_declarations ds) (LacksMain text names) a b s n h m l t)
 
-pub main-found : {A B : Type 0} (text : List ℕ) (ds : List Tree.Declaration) (names : Bindings) (a : Result A TypeStop) (b : Result B TypeStop) (x : A) (y : B) (found : Option Named) → names ≡ (after_all text no_declarations ds).names
-    → IfOk a (λ z. HasNone (FaultyDeclarations text no_declarations ds)) → IfOk b (λ z. HasNone (LacksMain text names)) → a ≡ Ok x → b ≡ Ok y → found ≡ names main_name → (n : ℕ) × (found ≡ Some (Function n 0 true))
-main-found text ds names a b x y found e n m i j f = let w = main-is text ds names e (none-at (FaultyDeclarations text no_declarations ds) a x i n) (none-at (LacksMain text names) b y j m) in (w.0, f ∙ w.1)
+pub main-found : {A B : Type 0} (text : List ℕ) (ds : List Tree.Declaration) (names : Bindings) (a : Result A TypeStop)
+    (b : Result B TypeStop) (x : A) (y : B) (found : Option Named) → names ≡ (after_all text no_declarations ds).names
+    → IfOk a (λ z. HasNone (FaultyDeclarations text no_declarations ds)) → IfOk b (λ z. HasNone (LacksMain text names)) → a ≡ Ok x
+        → b ≡ Ok y → found ≡ names main_name → (n : ℕ) × (found ≡ Some (Function n 0 true))
+main-found text ds names a b x y found e n m i j f = let w =
+        main-is text ds names e (none-at (FaultyDeclarations text no_declarations ds) a x i n) (none-at (LacksMain text names) b y j m) in (w.0, f ∙ w.1)
 
-pub typed-program : (text : List ℕ) (ds : List Tree.Declaration) (names : Bindings) (p : Parts) (m : ℕ) (found : Option Named) → AreTyped text ds p → names ≡ (after_all text no_declarations ds).names → found ≡ names main_name
+pub typed-program : (text : List ℕ) (ds : List Tree.Declaration) (names : Bindings) (p : Parts) (m : ℕ) (found : Option Named)
+    → AreTyped text ds p → names ≡ (after_all text no_declarations ds).names → found ≡ names main_name
     → found ≡ Some (Function m 0 true) → TypesProgram text ds (record { functions = functions_of p.functions.items; globals = p.globals.items; main = m })
 typed-program text ds names p m found a e f q = record {
   declarations = a.declarations;

@@ -14,7 +14,8 @@ use Rattle.c_typed.specs.Shape.{function_of, functions_of}
 use Rattle.c_statements.specs.declared.fault.TypeStop.{TypeStop}
 use Rattle.c_typed.specs.Trees.{TypedFunction, TypedStatements}
 use Rattle.c_statements.specs.Types.{TypesItems}
-use Rattle.c_types.specs.Programs.{Counts, File, IsNotMain, main_name, name_of, scopes_at, behind_parameters, closing, with_last, TypedDeclaration, a_global, a_function, TypesDeclarations, no_declarations, functions_in, globals_in}
+use Rattle.c_types.specs.Programs.{Counts, File, IsNotMain, main_name, name_of, scopes_at, behind_parameters, closing, with_last}
+use Rattle.c_types.specs.Programs.{TypedDeclaration, a_global, a_function, TypesDeclarations, no_declarations, functions_in, globals_in}
 use Rattle.c_types.specs.declared.program.Declared.{Declared}
 use Rattle.c_types.specs.declared.program.Declared.TheVariants.{Variable, Function}
 use Rattle.c_types.specs.declared.program.Parts.{Parts}
@@ -45,7 +46,8 @@ abbrev pub file_scopes : Bindings → Names.Scopes
 file_scopes names = record { inner = names; around = []; locals = 0 }
 
 -- what a function at file scope comes to, under the names there
-pub record IsFunction (text : List ℕ) (names : Bindings) (r : Option IntegerType) (x : Identifier) (ps : List Parameter) (body : Items) (t : TypedFunction) : Type 0 where
+pub record IsFunction (text : List ℕ) (names : Bindings) (r : Option IntegerType) (x : Identifier) (ps : List Parameter) (body : Items)
+    (t : TypedFunction) : Type 0 where
   pub typed : TypedStatements
   pub types : TypesItems text (behind_parameters text (scopes_at names) ps) body typed
   pub is : t ≡ record {

@@ -1,5 +1,6 @@
 -- The faults of a program, and which typed program it has (C99 6.9, 5.1.2.2.1).
-use Rattle.std.specs.Prelude.{◌≡◌, ◌≢◌, ◌⊎◌, ◌+◌, ◌<◌, ◌≤◌, ◌-◌, ◌%◌, ◌^◌, ℕ, suc, List, [], ◌∷◌, Option, Some, None, Bool, true, false, length, is_some, if◌then◌else◌, bytes_eq}
+use Rattle.std.specs.Prelude.{◌≡◌, ◌≢◌, ◌⊎◌, ◌+◌, ◌<◌, ◌≤◌, ◌-◌, ◌%◌, ◌^◌, ℕ, suc, List, [], ◌∷◌, Option, Some, None, Bool, true, false}
+use Rattle.std.specs.Prelude.{length, is_some, if◌then◌else◌, bytes_eq}
 use Rattle.c_tokens.specs.declared.token.Identifier.{Identifier}
 use Rattle.c_tokens.specs.declared.token.IntegerType.{IntegerType}
 use Rattle.c_tokens.specs.declared.token.IntegerType.TheVariants.{SignedInt}
@@ -79,7 +80,8 @@ pub data FaultyName (text : List ℕ) (f : File) : Declaration → TypeFaultKind
   declared_again : {d : Declaration} → f.names (spelling_in text (name_of d)) ≢ None → FaultyName text f d Redeclared (name_of d).at
   other_main : {d : Declaration} → bytes_eq (spelling_in text (name_of d)) main_name ≡ true → IsNotMain d → FaultyName text f d KindFault (name_of d).at
   array_of_nothing : {k : IntegerType} {x : Identifier} {n : Literal} → n.value ≡ 0 → FaultyName text f (array k x n) KindFault x.at
-  too_many_words : {d : Declaration} → f.counts.words ≤ MAX_GLOBAL_WORDS → MAX_GLOBAL_WORDS < f.counts.words + words_of d → FaultyName text f d Limit (name_of d).at
+  too_many_words : {d : Declaration} → f.counts.words ≤ MAX_GLOBAL_WORDS → MAX_GLOBAL_WORDS < f.counts.words + words_of d
+      → FaultyName text f d Limit (name_of d).at
   too_many_functions : {r : Option IntegerType} {x : Identifier} {ps : List Parameter} {body : Items} → f.counts.functions ≡ MAX_FUNCTIONS →
       FaultyName text f (function r x ps body) Limit x.at
 
@@ -145,7 +147,8 @@ pub data TypedDeclaration : Type 0 where
   a_function : TypedFunction → TypedDeclaration
 
 pub data TypesDeclaration (text : List ℕ) (f : File) : Declaration → TypedDeclaration → Type 0 where
-  variable_typed : {k : IntegerType} {x : Identifier} {i : Option Initial} → TypesDeclaration text f (variable k x i) (a_global (record { length = 1; first = first_word i }))
+  variable_typed : {k : IntegerType} {x : Identifier} {i : Option Initial}
+      → TypesDeclaration text f (variable k x i) (a_global (record { length = 1; first = first_word i }))
   array_typed : {k : IntegerType} {x : Identifier} {n : Literal} → TypesDeclaration text f (array k x n) (a_global (record { length = n.value; first = 0 }))
   function_typed : {r : Option IntegerType} {x : Identifier} {ps : List Parameter} {body : Items} {typed : TypedStatements} →
       TypesItems text (behind_parameters text (scopes_at (after text f (function r x ps body)).names) ps) body typed →

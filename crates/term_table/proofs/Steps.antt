@@ -1,5 +1,6 @@
 -- What the single steps of a call tell.
-use Rattle.std.proofs.Common.{◌≡◌, ℕ, zero, suc, ◌+◌, ◌-◌, ◌*◌, ◌<◌, ◌≤◌, ◌≢◌, ◌==◌, Bool, true, false, cond, List, [], ◌∷◌, ◌++◌, slice_index, refl, sym, ap, subst, ◌∙◌, ne_eqb, eq-eqb, arith}
+use Rattle.std.proofs.Common.{◌≡◌, ℕ, zero, suc, ◌+◌, ◌-◌, ◌*◌, ◌<◌, ◌≤◌, ◌≢◌, ◌==◌, Bool, true, false, cond, List, [], ◌∷◌, ◌++◌}
+use Rattle.std.proofs.Common.{slice_index, refl, sym, ap, subst, ◌∙◌, ne_eqb, eq-eqb, arith}
 use Rattle.sym_terms.specs.declared.label.Label.{Label}
 use Rattle.sym_terms.specs.Labels.{label_word}
 use Rattle.atomic_table.specs.Table.{Me}
@@ -26,17 +27,20 @@ paired me u l p q = λ i. (p i, q i)
 
 -- the end of a call
 pub ended : (s : Shape) (v x : Walker) (told h : List Entry) (c : Call) (a : Answer) (u : View) → x.by ≡ v.by → x.seen ≡ v.seen → x.mine ≡ v.mine
-    → Rattle.term_core.specs.Terms.StartsWith h v.seen → u ≡ Walking (ends h x c a).walker told → Sees s (h ++ (ends h x c a).said) (ends h x c a).walker → Ended s v told c a x.own x.room x.probes u
+    → Rattle.term_core.specs.Terms.StartsWith h v.seen → u ≡ Walking (ends h x c a).walker told
+        → Sees s (h ++ (ends h x c a).said) (ends h x c a).walker → Ended s v told c a x.own x.room x.probes u
 ended s v x told h c a u by seen mine front view sees = record {
   walker = (ends h x c a).walker;
   view = view;
   called = record {
     between = front.0;
-    seen = ap (λ (l : List Entry). l ++ record { by = x.by; call = c; answer = a } ∷ []) front.1 ∙ ap (λ (k : ℕ). (v.seen ++ front.0) ++ record { by = k; call = c; answer = a } ∷ []) by;
+    seen = ap (λ (l : List Entry). l ++ record { by = x.by; call = c; answer = a } ∷ []) front.1
+        ∙ ap (λ (k : ℕ). (v.seen ++ front.0) ++ record { by = k; call = c; answer = a } ∷ []) by;
     mine = (λ i. mine i ++ record { by = by i; call = c; answer = a } ∷ []);
     legal = sees.legal;
     own = ap (λ (k : ℕ). Rattle.term_core.specs.Terms.calls_by k (ends h x c a).walker.seen) (sym by) ∙ sees.own;
-    count = ap (λ (k : ℕ). Rattle.term_core.specs.Terms.added_by k (Rattle.term_core.specs.Terms.pairs_of (ends h x c a).walker.seen) + x.room) (sym by) ∙ sees.count;
+    count = ap (λ (k : ℕ). Rattle.term_core.specs.Terms.added_by k
+        (Rattle.term_core.specs.Terms.pairs_of (ends h x c a).walker.seen) + x.room) (sym by) ∙ sees.count;
     same = sees.same;
     probes = sees.probes;
     by = by;
@@ -49,7 +53,8 @@ ended s v x told h c a u by seen mine front view sees = record {
 }
 
 module _ {S : Type 0} (s : Shape) (c : Call) (v : Walker) (told : List Entry) (p : ℕ) where
-  pub ready_store : (me : Me S View) (a i word new : ℕ) → me ≡ at v told (Writing c a i) p → word ≡ link_of s v.own + 1 + i → new ≡ slice_index (content c) i → Ready s (begins c) me.0 word (λ n. new) (λ n. new)
+  pub ready_store : (me : Me S View) (a i word new : ℕ) → me ≡ at v told (Writing c a i) p → word ≡ link_of s v.own + 1 + i
+      → new ≡ slice_index (content c) i → Ready s (begins c) me.0 word (λ n. new) (λ n. new)
   ready_store me a i word new is place_is new_is =
       let P : Me S View → Type 0 = λ x. Ready s (begins c) x.0 word (λ n. new) (λ n. new) in
       subst P (sym is) (refl, place_is, (λ n. new_is), (λ h n. refl))
@@ -61,33 +66,42 @@ module _ {S : Type 0} (s : Shape) (c : Call) (v : Walker) (told : List Entry) (p
       let d = subst P is m in
       paired me' _ [] d.view (rest ∙ ap (λ (x : Me S View). x.1) is)
 
-  pub ready_content : (me : Me S View) (w : Bool) (k i word : ℕ) → me ≡ at v told (AtContent c w k i) p → word ≡ link_of s k + 1 + i → Ready s (begins c) me.0 word (λ n. n) (λ n. n)
+  pub ready_content : (me : Me S View) (w : Bool) (k i word : ℕ) → me ≡ at v told (AtContent c w k i) p → word ≡ link_of s k + 1 + i
+      → Ready s (begins c) me.0 word (λ n. n) (λ n. n)
   ready_content me w k i word is place_is =
       let P : Me S View → Type 0 = λ x. Ready s (begins c) x.0 word (λ n. n) (λ n. n) in
       subst P (sym is) (refl, place_is, (λ n. refl), (λ h n. refl))
 
-  pub differs : (me me' : Me S View) (w : Bool) (k i n : ℕ) → me ≡ at v told (AtContent c w k i) p → MovedFrom s (begins c) me.0 n me'.0 → me'.1 ≡ me.1 → n ≢ slice_index (content c) i
+  pub differs : (me me' : Me S View) (w : Bool) (k i n : ℕ) → me ≡ at v told (AtContent c w k i) p → MovedFrom s (begins c) me.0 n me'.0
+      → me'.1 ≡ me.1 → n ≢ slice_index (content c) i
       → me' ≡ at v told (AtLink c w (link_of s k)) p
   differs me me' w k i n is m rest ne =
       let P : Me S View → Type 0 = λ x. MovedFrom s (begins c) x.0 n me'.0 in
       let d = subst P is m in
       let x : Walker = inside v (AtContent c w k i) p in
       let same : Turn → Bool → Turn = λ t b. cond b t (goes x (AtLink c w (link_of s k))) in
-      paired me' _ [] (d.view ∙ ap (λ (b : Bool). Walking (same (cond (i == 3) (ends d.history x c (hit c k)) (goes x (AtContent c w k (suc i)))) b).walker told) (ne_eqb n (slice_index (content c) i) ne))
+      paired me' _ []
+          (d.view ∙ ap (λ (b : Bool). Walking
+          (same (cond (i == 3) (ends d.history x c (hit c k)) (goes x (AtContent c w k (suc i)))) b).walker told) (ne_eqb n (slice_index (content c) i) ne))
       (rest ∙ ap (λ (x : Me S View). x.1) is)
 
-  pub more : (me me' : Me S View) (w : Bool) (k i n : ℕ) → me ≡ at v told (AtContent c w k i) p → MovedFrom s (begins c) me.0 n me'.0 → me'.1 ≡ me.1 → n ≡ slice_index (content c) i → (i == 3) ≡ false
+  pub more : (me me' : Me S View) (w : Bool) (k i n : ℕ) → me ≡ at v told (AtContent c w k i) p → MovedFrom s (begins c) me.0 n me'.0
+      → me'.1 ≡ me.1 → n ≡ slice_index (content c) i → (i == 3) ≡ false
       → me' ≡ at v told (AtContent c w k (suc i)) p
   more me me' w k i n is m rest eq low =
       let P : Me S View → Type 0 = λ x. MovedFrom s (begins c) x.0 n me'.0 in
       let d = subst P is m in
       let x : Walker = inside v (AtContent c w k i) p in
-      paired me' _ [] (d.view ∙ ap (λ (b : Bool). Walking (cond b (cond (i == 3) (ends d.history x c (hit c k)) (goes x (AtContent c w k (suc i)))) (goes x (AtLink c w (link_of s k)))).walker told) (eq-eqb n (slice_index (content c) i) eq)
+      paired me' _ []
+          (d.view ∙ ap (λ (b : Bool). Walking
+          (cond b (cond (i == 3) (ends d.history x c (hit c k)) (goes x (AtContent c w k (suc i))))
+          (goes x (AtLink c w (link_of s k)))).walker told) (eq-eqb n (slice_index (content c) i) eq)
       ∙ ap (λ (b : Bool). Walking (cond b (ends d.history x c (hit c k)) (goes x (AtContent c w k (suc i)))).walker told) low)
       (rest ∙ ap (λ (x : Me S View). x.1) is)
 
   -- the last content word is the call's too
-  pub matches : (me me' : Me S View) (w : Bool) (k i n : ℕ) → me ≡ at v told (AtContent c w k i) p → MovedFrom s (begins c) me.0 n me'.0 → n ≡ slice_index (content c) i → (i == 3) ≡ true
+  pub matches : (me me' : Me S View) (w : Bool) (k i n : ℕ) → me ≡ at v told (AtContent c w k i) p → MovedFrom s (begins c) me.0 n me'.0
+      → n ≡ slice_index (content c) i → (i == 3) ≡ true
       → Ended s v told c (hit c k) v.own v.room p me'.0
   matches me me' w k i n is m eq last =
       let P : Me S View → Type 0 = λ x. MovedFrom s (begins c) x.0 n me'.0 in
@@ -95,7 +109,8 @@ module _ {S : Type 0} (s : Shape) (c : Call) (v : Walker) (told : List Entry) (p
       let x : Walker = inside v (AtContent c w k i) p in
       let t : Turn → Type 0 = λ t. (me'.0 ≡ Walking t.walker told) × Sees s (d.history ++ t.said) t.walker in
       let e : turn s d.history n x ≡ ends d.history x c (hit c k) =
-      ap (λ (b : Bool). cond b (cond (i == 3) (ends d.history x c (hit c k)) (goes x (AtContent c w k (suc i)))) (goes x (AtLink c w (link_of s k)))) (eq-eqb n (slice_index (content c) i) eq)
+      ap (λ (b : Bool). cond b (cond (i == 3) (ends d.history x c (hit c k)) (goes x (AtContent c w k (suc i))))
+          (goes x (AtLink c w (link_of s k)))) (eq-eqb n (slice_index (content c) i) eq)
       ∙ ap (λ (b : Bool). cond b (ends d.history x c (hit c k)) (goes x (AtContent c w k (suc i)))) last in
       let r = subst t e (d.view, d.sees) in
       ended s v x told d.history c (hit c k) me'.0 refl refl refl d.begins r.0 r.1
@@ -108,11 +123,14 @@ module _ (s : Shape) (l : Label) (ks : List ℕ) (v : Walker) (told : List Entry
   abbrev x : Walker
   x = inside v (AtLink c wr a) (suc p)
 
-  after_follows : (h : List Entry) (n : ℕ) (u : View) → Rattle.term_core.specs.Terms.StartsWith h v.seen → u ≡ Walking (follows h x c wr a n).walker told → Sees s (h ++ (follows h x c wr a n).said) (follows h x c wr a n).walker → Arrived s v told c wr a n (suc p) u
+  after_follows : (h : List Entry) (n : ℕ) (u : View) → Rattle.term_core.specs.Terms.StartsWith h v.seen
+      → u ≡ Walking (follows h x c wr a n).walker told → Sees s (h ++ (follows h x c wr a n).said) (follows h x c wr a n).walker
+      → Arrived s v told c wr a n (suc p) u
   after_follows h zero u front view sees = record {
     full = λ z r.
         let R : Turn → Type 0 = λ t. (u ≡ Walking t.walker told) × Sees s (h ++ t.said) t.walker in
-        let e : found_none h x c wr a ≡ ends h x c Full = ap (λ (b : Bool). cond b (ends h x c Full) (goes x (cond wr (Linking c a) (Writing c a 0)))) (eq-eqb v.room 0 r) in
+        let e : found_none h x c wr a ≡ ends h x c Full =
+                ap (λ (b : Bool). cond b (ends h x c Full) (goes x (cond wr (Linking c a) (Writing c a 0)))) (eq-eqb v.room 0 r) in
         let q = subst R e (view, sees) in
         ended s v x told h c Full u refl refl refl front q.0 q.1;
     free = λ z r.
@@ -123,11 +141,15 @@ module _ (s : Shape) (l : Label) (ks : List ℕ) (v : Walker) (told : List Entry
     own_low = low_of (v.room == 0) sees;
   }
     where
-      few_of : (b : Bool) → Sees s (h ++ (cond b (ends h x c Full) (goes x (cond wr (Linking c a) (Writing c a 0)))).said) (cond b (ends h x c Full) (goes x (cond wr (Linking c a) (Writing c a 0)))).walker → suc p ≤ s.workers * s.nodes + 1
+      few_of : (b : Bool)
+          → Sees s (h ++ (cond b (ends h x c Full) (goes x (cond wr (Linking c a) (Writing c a 0)))).said)
+          (cond b (ends h x c Full) (goes x (cond wr (Linking c a) (Writing c a 0)))).walker → suc p ≤ s.workers * s.nodes + 1
       few_of true d = let q = d.probes in let r = d.pairs in omega arith
       few_of false d = let q = d.probes in let r = d.pairs in omega arith
 
-      low_of : (b : Bool) → Sees s (h ++ (cond b (ends h x c Full) (goes x (cond wr (Linking c a) (Writing c a 0)))).said) (cond b (ends h x c Full) (goes x (cond wr (Linking c a) (Writing c a 0)))).walker → 0 < v.room → v.own < s.workers * s.nodes
+      low_of : (b : Bool)
+          → Sees s (h ++ (cond b (ends h x c Full) (goes x (cond wr (Linking c a) (Writing c a 0)))).said)
+          (cond b (ends h x c Full) (goes x (cond wr (Linking c a) (Writing c a 0)))).walker → 0 < v.room → v.own < s.workers * s.nodes
       low_of true d = d.own_low
       low_of false d = d.own_low
   after_follows h (suc n) u front view sees = record {
@@ -141,22 +163,29 @@ module _ (s : Shape) (l : Label) (ks : List ℕ) (v : Walker) (told : List Entry
     own_low = sees.own_low;
   }
 
-pub first_arrived : {S : Type 0} (s : Shape) (c : Call) (v : Walker) (told : List Entry) (a n : ℕ) (me : Me S View) (u : View) → (l : Label) × (ks : List ℕ) × (c ≡ Intern l ks) × (a ≡ s.chain (label_word l) ks) → (v.stage ≡ Idle) × (may_begin v.seen c ≡ true) → me ≡ (Walking v told, [])
+pub first_arrived : {S : Type 0} (s : Shape) (c : Call) (v : Walker) (told : List Entry) (a n : ℕ) (me : Me S View) (u : View) → (l : Label)
+    × (ks : List ℕ) × (c ≡ Intern l ks) × (a ≡ s.chain (label_word l) ks) → (v.stage ≡ Idle) × (may_begin v.seen c ≡ true) → me ≡ (Walking v told, [])
     → MovedFrom s (begins c) me.0 n u → Arrived s v told c false a n 1 u
 first_arrived {S} s c v told a n me u call may is m =
     let l = call.0 in let ks = call.1 in
     let d : Moved s (begins c) v told n u = subst (λ (x : Me S View). MovedFrom s (begins c) x.0 n u) is m in
-    let P : Walker → Type 0 = λ b. (u ≡ Walking (turn s d.history n b).walker told) × Sees s (d.history ++ (turn s d.history n b).said) (turn s d.history n b).walker in
+    let P : Walker → Type 0 = λ b. (u ≡ Walking (turn s d.history n b).walker told)
+            × Sees s (d.history ++ (turn s d.history n b).said) (turn s d.history n b).walker in
     let Q : Call → ℕ → Type 0 = λ k y. Arrived s v told k false y n 1 u in
-    let starts : begun s (begins c) v ≡ inside v (first_stage s c) 0 = ap (begun_at s (begins c) v) may.0 ∙ ap (λ (b : Bool). cond b (inside v (first_stage s c) 0) v) may.1 in
-    let goes_on : begun s (begins c) v ≡ inside v (AtLink (Intern l ks) false (s.chain (label_word l) ks)) 0 = starts ∙ ap (λ (k : Call). inside v (first_stage s k) 0) call.2 in
+    let starts : begun s (begins c) v ≡ inside v (first_stage s c) 0 = ap (begun_at s (begins c) v) may.0
+            ∙ ap (λ (b : Bool). cond b (inside v (first_stage s c) 0) v) may.1 in
+    let goes_on : begun s (begins c) v ≡ inside v (AtLink (Intern l ks) false (s.chain (label_word l) ks)) 0 = starts
+            ∙ ap (λ (k : Call). inside v (first_stage s k) 0) call.2 in
     let r = subst P goes_on (d.view, d.sees) in
-    subst (λ (k : Call). Q k a) (sym call.2) (subst (λ (y : ℕ). Q (Intern l ks) y) (sym call.3) (after_follows s l ks v told 0 false (s.chain (label_word l) ks) d.history n u d.begins r.0 r.1))
+    subst (λ (k : Call). Q k a) (sym call.2)
+        (subst (λ (y : ℕ). Q (Intern l ks) y) (sym call.3) (after_follows s l ks v told 0 false (s.chain (label_word l) ks) d.history n u d.begins r.0 r.1))
 
-pub next_arrived : {S : Type 0} (s : Shape) (c : Call) (v : Walker) (told : List Entry) (wr : Bool) (a n p : ℕ) (me : Me S View) (u : View) → (l : Label) × (ks : List ℕ) × (c ≡ Intern l ks) → me ≡ at v told (AtLink c wr a) p
+pub next_arrived : {S : Type 0} (s : Shape) (c : Call) (v : Walker) (told : List Entry) (wr : Bool) (a n p : ℕ) (me : Me S View) (u : View)
+    → (l : Label) × (ks : List ℕ) × (c ≡ Intern l ks) → me ≡ at v told (AtLink c wr a) p
     → MovedFrom s (begins c) me.0 n u → Arrived s v told c wr a n (suc p) u
 next_arrived {S} s c v told wr a n p me u call is m =
     let l = call.0 in let ks = call.1 in
     let T : Call → Me S View → Type 0 = λ k x. MovedFrom s (begins k) x.0 n u in
-    let d : Moved s (begins (Intern l ks)) (inside v (AtLink (Intern l ks) wr a) p) told n u = subst (λ (k : Call). MovedFrom s (begins k) (Walking (inside v (AtLink k wr a) p) told) n u) call.2 (subst (λ (x : Me S View). T c x) is m) in
+    let d : Moved s (begins (Intern l ks)) (inside v (AtLink (Intern l ks) wr a) p) told n u =
+            subst (λ (k : Call). MovedFrom s (begins k) (Walking (inside v (AtLink k wr a) p) told) n u) call.2 (subst (λ (x : Me S View). T c x) is m) in
     subst (λ (k : Call). Arrived s v told k wr a n (suc p) u) (sym call.2) (after_follows s l ks v told p wr a d.history n u d.begins d.view d.sees)

@@ -1,5 +1,6 @@
 -- Each operator gives a word at two words.
-use Rattle.std.proofs.Common.{◌≡◌, ℕ, zero, suc, ◌+◌, ◌-◌, ◌*◌, ◌/◌, ◌%◌, ◌^◌, ◌<◌, ◌≤◌, Bool, true, false, cond, nat_lt, ℤ, pos, negsuc, Some, None, refl, sym, subst, arith}
+use Rattle.std.proofs.Common.{◌≡◌, ℕ, zero, suc, ◌+◌, ◌-◌, ◌*◌, ◌/◌, ◌%◌, ◌^◌, ◌<◌, ◌≤◌, Bool, true, false, cond, nat_lt, ℤ, pos, negsuc}
+use Rattle.std.proofs.Common.{Some, None, refl, sym, subst, arith}
 use Rattle.std.specs.Prelude.{int_div, int_rem, int_lt, neg_ℤ, ◌*ℤ◌}
 use Rattle.std.specs.Int.{w32, w64, cast_unsigned}
 use Rattle.std.specs.Int.RustNames.{unsigned_abs}
@@ -9,7 +10,8 @@ use native.Mathlib.Nat.{div-le_self, mod-le}
 use Rattle.words.specs.declared.sign.Sign.{Sign}
 use Rattle.words.specs.declared.sign.Sign.TheVariants.{Signed, Unsigned}
 use Rattle.words.specs.declared.operator.Operator.{Operator}
-use Rattle.words.specs.declared.operator.Operator.TheVariants.{Addu, Subu, And, Or, Xor, Nor, Slt, Sltu, Sll, Srl, Sra, MultHigh, MultLow, MultuHigh, MultuLow, DivQuotient, DivRemainder, DivuQuotient, DivuRemainder}
+use Rattle.words.specs.declared.operator.Operator.TheVariants.{Addu, Subu, And, Or, Xor, Nor, Slt, Sltu, Sll, Srl, Sra, MultHigh, MultLow}
+use Rattle.words.specs.declared.operator.Operator.TheVariants.{MultuHigh, MultuLow, DivQuotient, DivRemainder, DivuQuotient, DivuRemainder}
 use Rattle.words.specs.Words.{signed}
 use Rattle.words.specs.Operators.{op_value, or_zero, product, has_quotient, quotient, remainder, srl}
 
@@ -49,7 +51,8 @@ product_below Signed a b la lb =
     let size : unsigned_abs (signed a *ℤ signed b) ≡ unsigned_abs (signed a) * unsigned_abs (signed b) = unsigned_abs-mul (signed a) (signed b) in
     let x = signed_abs a la in
     let y = signed_abs b lb in
-    let both : unsigned_abs (signed a) * unsigned_abs (signed b) < 2 ^ 32 * 2 ^ 32 = mul-lt (unsigned_abs (signed a)) (unsigned_abs (signed b)) (2 ^ 32) (2 ^ 32) (omega arith) (omega arith) in
+    let both : unsigned_abs (signed a) * unsigned_abs (signed b) < 2 ^ 32 * 2 ^ 32 =
+            mul-lt (unsigned_abs (signed a)) (unsigned_abs (signed b)) (2 ^ 32) (2 ^ 32) (omega arith) (omega arith) in
     unsigned_64 (signed a *ℤ signed b) (omega arith)
 product_below Unsigned a b la lb = mul-lt a b (2 ^ 32) (2 ^ 32) la lb
 
@@ -58,11 +61,13 @@ if_below true x h = h
 if_below false x h = omega arith
 
 quotient_below : (sign : Sign) (a b : ℕ) → a < 2 ^ 32 → quotient sign a b < 2 ^ 32
-quotient_below Signed a b la = let q = quotient_abs (signed a) (signed b) in let s = signed_abs a la in unsigned_32 (int_div (signed a) (signed b)) (omega arith)
+quotient_below Signed a b la = let q = quotient_abs (signed a) (signed b) in let s = signed_abs a la in
+        unsigned_32 (int_div (signed a) (signed b)) (omega arith)
 quotient_below Unsigned a b la = let q = div-le_self a b in omega arith
 
 remainder_below : (sign : Sign) (a b : ℕ) → a < 2 ^ 32 → remainder sign a b < 2 ^ 32
-remainder_below Signed a b la = let q = remainder_abs (signed a) (signed b) in let s = signed_abs a la in unsigned_32 (int_rem (signed a) (signed b)) (omega arith)
+remainder_below Signed a b la = let q = remainder_abs (signed a) (signed b) in let s = signed_abs a la in
+        unsigned_32 (int_rem (signed a) (signed b)) (omega arith)
 remainder_below Unsigned a b la = let q = mod-le a b in omega arith
 
 -- every operator gives a word at two words
@@ -78,7 +83,8 @@ op_words Slt a b la lb = either_below (int_lt (signed a) (signed b)) 1 0 (omega 
 op_words Sltu a b la lb = either_below (nat_lt a b) 1 0 (omega arith) (omega arith)
 op_words Sll a b la lb = omega arith
 op_words Srl a b la lb = let le = div-le_self a (2 ^ (b % 32)) in omega arith
-op_words Sra a b la lb = let le = div-le_self a (2 ^ (b % 32)) in either_below (nat_lt a (2 ^ 31)) (srl a b) (2 ^ 32 - 1 - srl (2 ^ 32 - 1 - a) b) (omega arith) (omega arith)
+op_words Sra a b la lb = let le = div-le_self a (2 ^ (b % 32)) in
+        either_below (nat_lt a (2 ^ 31)) (srl a b) (2 ^ 32 - 1 - srl (2 ^ 32 - 1 - a) b) (omega arith) (omega arith)
 op_words MultHigh a b la lb = let p = product_below Signed a b la lb in omega arith
 op_words MultLow a b la lb = omega arith
 op_words MultuHigh a b la lb = let p = product_below Unsigned a b la lb in omega arith

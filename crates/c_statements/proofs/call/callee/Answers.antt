@@ -10,21 +10,26 @@ pub returns-in_default : goal.returns-in_default
 returns-in_default c = record {
   ok = tt;
   none = tt;
-  err = rw c.misuse.ensures (undeclared-first (environment_in c.args.program.now.text.items (scopes_of c.args.scopes.now)) c.args.name _ (sym c.in_default.ensures));
+  err = rw c.misuse.ensures
+      (undeclared-first (environment_in c.args.program.now.text.items (scopes_of c.args.scopes.now)) c.args.name _ (sym c.in_default.ensures));
 }
 
 pub returns-in_default-signature : goal.returns-in_default-signature
 returns-in_default-signature c = record {
   ok = tt;
   none = tt;
-  err = rw c.misuse-in_default-signature.ensures (no-function-first (environment_in c.args.program.now.text.items (scopes_of c.args.scopes.now)) c.args.name c.in-Some.named _ _ (sym c.in-Some.ensures) c.in_default-signature.ensures.none);
+  err = rw c.misuse-in_default-signature.ensures
+      (no-function-first (environment_in c.args.program.now.text.items (scopes_of c.args.scopes.now)) c.args.name c.in-Some.named _ _
+      (sym c.in-Some.ensures) c.in_default-signature.ensures.none);
 }
 
 pub returns-then-not-gives : goal.returns-then-not-gives
 returns-then-not-gives c = record {
   ok = tt;
   none = tt;
-  err = rw c.misuse-then-not-gives.ensures (void-first (environment_in c.args.program.now.text.items (scopes_of c.args.scopes.now)) c.args.name c.in-Some.named c.in-Some-signature.target c.in-Some-signature.parameters c.in-Some-signature.gives _ _
+  err = rw c.misuse-then-not-gives.ensures
+      (void-first (environment_in c.args.program.now.text.items (scopes_of c.args.scopes.now)) c.args.name c.in-Some.named
+      c.in-Some-signature.target c.in-Some-signature.parameters c.in-Some-signature.gives _ _
       (sym c.in-Some.ensures) c.in-Some-signature.ensures.some c.if-wanted.true c.if-not-gives.true);
 }
 
@@ -38,7 +43,9 @@ returns-then-count-parameters c = record {
         | else-wanted-via-else-wanted w ↦ serves-unwanted _ _ w.if-wanted.false
       ]
       in
-      rw c.misuse-then-count-parameters.ensures (count-first (environment_in c.args.program.now.text.items (scopes_of c.args.scopes.now)) c.args.name c.in-Some.named c.in-Some-signature.target c.in-Some-signature.parameters c.in-Some-signature.gives _ _
+      rw c.misuse-then-count-parameters.ensures
+          (count-first (environment_in c.args.program.now.text.items (scopes_of c.args.scopes.now)) c.args.name c.in-Some.named
+          c.in-Some-signature.target c.in-Some-signature.parameters c.in-Some-signature.gives _ _
       (sym c.in-Some.ensures) c.in-Some-signature.ensures.some s c.if-count-parameters.true);
 }
 
@@ -51,7 +58,8 @@ returns c = record {
         | else-wanted-via-else-wanted w ↦ serves-unwanted _ _ w.if-wanted.false
       ]
       in
-      call-right (environment_in c.args.program.now.text.items (scopes_of c.args.scopes.now)) c.args.name c.in-Some.named c.in-Some-signature.target c.in-Some-signature.parameters c.in-Some-signature.gives c.args.count c.args.wanted
+      call-right (environment_in c.args.program.now.text.items (scopes_of c.args.scopes.now)) c.args.name c.in-Some.named
+          c.in-Some-signature.target c.in-Some-signature.parameters c.in-Some-signature.gives c.args.count c.args.wanted
       (sym c.in-Some.ensures) c.in-Some-signature.ensures.some s c.if-count-parameters.false;
   err = tt;
 }

@@ -16,8 +16,10 @@ loop-parameter-preserved c =
     rw (take_more c.args.all.now c.loop-parameter.parameter-index d c.loop-parameter-test.true) (
       c.in_ok-declare_local.ensures ∙ ap (λ (s : Scopes). with_local c.args.program.now.text.items s p.integer_type p.name) c.loop-parameter.invariant.0
           ∙ sym (behind-more c.args.program.now.text.items (scopes_of c.args.scopes.now) (take c.loop-parameter.parameter-index c.args.all.now) p),
-      one-more c.args.program.now.text.items (scopes_of c.args.scopes.now) (scopes_of c.loop-parameter.scopes) (take c.loop-parameter.parameter-index c.args.all.now) p c.loop-parameter.fault c.parameter_fault.result c.either-fault.result
-          c.loop-parameter.invariant.0 c.loop-parameter.invariant.1 c.parameter_fault.ensures.none c.parameter_fault.ensures.err c.either-fault.ensures.ok c.either-fault.ensures.err,
+      one-more c.args.program.now.text.items (scopes_of c.args.scopes.now) (scopes_of c.loop-parameter.scopes)
+          (take c.loop-parameter.parameter-index c.args.all.now) p c.loop-parameter.fault c.parameter_fault.result c.either-fault.result
+          c.loop-parameter.invariant.0 c.loop-parameter.invariant.1 c.parameter_fault.ensures.none c.parameter_fault.ensures.err
+              c.either-fault.ensures.ok c.either-fault.ensures.err,
     )
 
 pub returns-clause-err : goal.returns-clause-err
