@@ -7,7 +7,7 @@ use Rattle.std.proofs.lemmas.List.Elements.{All-nil, All-cons, All-head, All-tai
 use Rattle.words.specs.Words.{wrap}
 use Rattle.runs.specs.Stores.{Places, Arrays, chain, unset_places, places_with, element_at, arrays_with, IsWord, PlacesHoldWords, ArraysHoldWords}
 use Rattle.runs.specs.Runs.{Running, Ended, Failed, with_value}
-use Rattle.runs.proofs.Words.{chain-some, at-index, word-at, unset-words, written-words, stored-words}
+use Rattle.runs.proofs.Words.{chain-some, at-index, element-at, unset-words, written-words, stored-words}
 use Rattle.runs.proofs.Steps.{steps-keep}
 use Rattle.rtl.specs.declared.instruction.RInst.{RInst}
 use Rattle.rtl.specs.declared.instruction.RInst.TheVariants.{Const, Move, Bin, Load, Store}
@@ -63,7 +63,7 @@ inst-words globals (Bin op d x y) r g out go a b c k =
 inst-words globals (Load d x i) r g out go a b c k =
     with-words (r i) out (λ j. with_value (element_at g x j) out (λ v. go (places_with r d (Some v)) g)) c
     (λ j e. with-words (element_at g x j) out (λ v. go (places_with r d (Some v)) g) c
-    (λ v is. k (places_with r d (Some v)) g (set-words r d v a (word-at g x j v b is)) b))
+    (λ v is. k (places_with r d (Some v)) g (set-words r d v a (element-at g x j v b is)) b))
 inst-words globals (Store x i y) r g out go a b c k =
     with-words (r i) out (λ j. with_value (r y) out (λ v. with_value (kept_in globals x v) out (λ w. with_value (arrays_with g x j w) out (λ g'. go r g')))) c
     (λ j e. with-words (r y) out (λ v. with_value (kept_in globals x v) out (λ w. with_value (arrays_with g x j w) out (λ g'. go r g'))) c

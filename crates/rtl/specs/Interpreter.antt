@@ -31,8 +31,8 @@ abbrev pub result_at : Op → Places → ℕ → ℕ → Option ℕ
 result_at op r a b = chain (r a) (λ x. chain (r b) (λ y. op_result op x y))
 
 -- the element of a global whose index a register has, or none
-abbrev pub element_at : Places → Arrays → ℕ → ℕ → Option ℕ
-element_at r g a i = chain (r i) (λ x. element_at g a x)
+abbrev pub load_at : Places → Arrays → ℕ → ℕ → Option ℕ
+load_at r g a i = chain (r i) (λ x. element_at g a x)
 
 abbrev pub frame_of : Frame → Meaning.Frame
 frame_of f = record {
