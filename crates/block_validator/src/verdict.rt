@@ -99,6 +99,26 @@ fn compare(
     Ok(first_difference(&first, &second))
 }
 
+// What a comparison says of a clean order.
+fn verdict_of<'a>(
+    block: &'a Block,
+    order: Order,
+    compared: Result<Option<Place>, TableFull>,
+) -> Verdict<'a>
+    requires clean { IsClean order }
+    requires exact { IfOk compared (λ r. MatchOption r (SameTrees (block_trees block.now) (order_trees order))
+        (DiffersFirst (block_trees block.now) (order_trees order))) }
+    ensures exact { IsVerdict block.now order result }
+    ensures full { result ≡ Verdict.Full → IfOk compared (λ _. ⊥) }
+    ensures memory { result ≡ Verdict.NoMemory → ⊥ }
+{
+    match compared {
+        Err(_) => Verdict::Full,
+        Ok(Some(place)) => Verdict::Differs(place),
+        Ok(None) => Verdict::Same(Checked { block, order }),
+    }
+}
+
 /// The verdict on an order for a block: the least delay rule that it breaks, else the first place whose
 /// terms differ, else that it means the block.
 ///
@@ -128,11 +148,8 @@ pub fn validate<'a>(
     let (Ok(block_room), Ok(order_room)) = (GuardRoom::new(alloc), GuardRoom::new(alloc)) else {
         return Verdict::NoMemory;
     };
-    match compare(table, pass, block, &order, block_room, order_room) {
-        Err(_) => Verdict::Full,
-        Ok(Some(place)) => Verdict::Differs(place),
-        Ok(None) => Verdict::Same(Checked { block, order }),
-    }
+    let compared = compare(table, pass, block, &order, block_room, order_room);
+    verdict_of(block, order, compared)
 }
 
 /// Each clean order that has its block's trees means the block. A law: it computes nothing.

@@ -1,6 +1,7 @@
 -- What each item does, in each world that a list of items reaches.
 use prog.Atomic.{either}
-use Rattle.std.proofs.Common.{◌≡◌, ◌≢◌, ℕ, zero, suc, ◌+◌, ◌<◌, ◌≤◌, ◌==◌, ne_eqb, ◌⊎◌, Bool, true, false, cond, List, [], ◌∷◌, ◌++◌, slice_index, slice_set, refl, sym, ap, subst, ◌∙◌, inl, inr, ⊎_elim, arith, length}
+use Rattle.std.proofs.Common.{◌≡◌, ◌≢◌, ℕ, zero, suc, ◌+◌, ◌<◌, ◌≤◌, ◌==◌, ne_eqb, ◌⊎◌, Bool, true, false, cond, List, [], ◌∷◌, ◌++◌}
+use Rattle.std.proofs.Common.{slice_index, slice_set, refl, sym, ap, subst, ◌∙◌, inl, inr, ⊎_elim, arith, length}
 use mathlib.Core.Option.{some, none, some-ne-none, some-injective}
 use mathlib.Core.Option as O
 use lib.ListN.{get_elem?}
@@ -11,7 +12,8 @@ use Rattle.term_core.specs.declared.Stage.{Stage}
 use Rattle.term_core.specs.declared.Stage.TheVariants.{Idle, Looking, AtLink, AtContent, Writing, Linking, Reading}
 use Rattle.term_core.specs.declared.Walker.{Walker}
 use Rattle.term_core.specs.Terms.{StartsWith, Pair, pairs_of}
-use Rattle.term_core.specs.World.{Shape, World, Item, Choice, begins, looks, Turn, turn, place, first_stage, may_begin, chosen, begun_at, begun, is_idle, does, acts, steps, step, reached}
+use Rattle.term_core.specs.World.{Shape, World, Item, Choice, begins, looks, Turn, turn, place, first_stage, may_begin, chosen, begun_at}
+use Rattle.term_core.specs.World.{begun, is_idle, does, acts, steps, step, reached}
 use Rattle.term_core.specs.Items.{link_loads, GoesOn, EndsCall, Does, EachItemDoes, OthersStand, SeenAgree}
 use Rattle.term_core.proofs.Kept.{Spot, Inv, Stands}
 use Rattle.term_core.proofs.Reaching.{keeps_all, lawful}
@@ -42,7 +44,8 @@ idle_loads (Linking c a) e = refl
 idle_loads (Reading t xs) e = refl
 
 begun_seen : (s : Shape) (choice : Choice) (v : Walker) (g : Stage) → (begun_at s choice v g).seen ≡ v.seen
-begun_seen s (begins c) v Idle = elim (may_begin v.seen c) as (λ (k : Bool). (cond k (record v { stage = first_stage s c; probes = 0 }) v).seen ≡ v.seen) [ true ↦ refl | false ↦ refl ]
+begun_seen s (begins c) v Idle =
+    elim (may_begin v.seen c) as (λ (k : Bool). (cond k (record v { stage = first_stage s c; probes = 0 }) v).seen ≡ v.seen) [ true ↦ refl | false ↦ refl ]
 begun_seen s (looks n) v Idle = refl
 begun_seen s choice v (Looking k) = refl
 begun_seen s choice v (AtLink c w a) = refl
@@ -61,11 +64,14 @@ busy_first s (Intern l ks) = refl
 busy_first s (Find l ks) = refl
 busy_first s (Read t) = refl
 
-asks_if : (s : Shape) (c : Call) (v : Walker) (k : Bool) → v.stage ≡ Idle → is_idle (cond k (record v { stage = first_stage s c; probes = 0 }) v).stage ≡ false → Asks (cond k (record v { stage = first_stage s c; probes = 0 }) v).stage
+asks_if : (s : Shape) (c : Call) (v : Walker) (k : Bool) → v.stage ≡ Idle
+    → is_idle (cond k (record v { stage = first_stage s c; probes = 0 }) v).stage ≡ false
+    → Asks (cond k (record v { stage = first_stage s c; probes = 0 }) v).stage
 asks_if s c v true i e = asks_first s c
 asks_if s c v false i e = let x : true ≡ false = ap is_idle (sym i) ∙ e in absurd cc
 
-asks_begun : (s : Shape) (words : List ℕ) (ps : List Pair) (chains : ℕ → List ℕ) (choice : Choice) (v : Walker) (g : Stage) → v.stage ≡ g → Spot s words ps chains v g
+asks_begun : (s : Shape) (words : List ℕ) (ps : List Pair) (chains : ℕ → List ℕ) (choice : Choice) (v : Walker) (g : Stage) → v.stage ≡ g
+    → Spot s words ps chains v g
     → is_idle (begun_at s choice v g).stage ≡ false → Asks (begun_at s choice v g).stage
 asks_begun s words ps chains (begins c) v Idle i k e = asks_if s c v (may_begin v.seen c) i e
 asks_begun s words ps chains (looks n) v Idle i k e = tt
@@ -76,7 +82,8 @@ asks_begun s words ps chains choice v (Writing c a j) i k e = subst Asks (sym i)
 asks_begun s words ps chains choice v (Linking c a) i k e = subst Asks (sym i) tt
 asks_begun s words ps chains choice v (Reading t xs) i k e = subst Asks (sym i) tt
 
-idle_if : (s : Shape) (c : Call) (v : Walker) (k : Bool) → is_idle (cond k (record v { stage = first_stage s c; probes = 0 }) v).stage ≡ true → cond k (record v { stage = first_stage s c; probes = 0 }) v ≡ v
+idle_if : (s : Shape) (c : Call) (v : Walker) (k : Bool)
+    → is_idle (cond k (record v { stage = first_stage s c; probes = 0 }) v).stage ≡ true → cond k (record v { stage = first_stage s c; probes = 0 }) v ≡ v
 idle_if s c v true e = let x : false ≡ true = sym (busy_first s c) ∙ e in absurd cc
 idle_if s c v false e = refl
 
@@ -144,12 +151,15 @@ module _ (s : Shape) (w : World) (inv : Inv s w) (i : Item) (v v' : Walker) (her
       (subst (λ (x : List Entry). StartsWith w.history x) (sym (begun_seen s i.choice v v.stage)) st.begins))
 
   does_it : get_elem? (step s w i).passes i.by ≡ some v' → Does w (step s w i) b v'
-  does_it after = subst (λ (x : World). Does w x b v') (sym step_is) (it_does (is_idle b.stage) refl (subst (λ (x : World). get_elem? x.passes i.by ≡ some v') step_is after))
+  does_it after =
+      subst (λ (x : World). Does w x b v') (sym step_is)
+      (it_does (is_idle b.stage) refl (subst (λ (x : World). get_elem? x.passes i.by ≡ some v') step_is after))
 
 pub each_item_does : EachItemDoes
 each_item_does s items i v v' ok here after = does_it s (reached s items) (keeps_all s items ok) i v v' here after
 
-others_if : (s : Shape) (w : World) (i : Item) (by : ℕ) (b : Walker) (k : Bool) → by ≢ i.by → get_elem? (cond k w (steps s w i.by b)).passes by ≡ get_elem? w.passes by
+others_if : (s : Shape) (w : World) (i : Item) (by : ℕ) (b : Walker) (k : Bool) → by ≢ i.by
+    → get_elem? (cond k w (steps s w i.by b)).passes by ≡ get_elem? w.passes by
 others_if s w i by b true ne = refl
 others_if s w i by b false ne = set_else w.passes i.by by _ ne
 
@@ -199,7 +209,8 @@ either_some x y m e = subst (λ (z : ℕ). either (z == 0) y z ≡ z) (sym e) (a
 loads_only : (words : List ℕ) (p a : ℕ) → slice_index (slice_set words p (slice_index words p)) a ≡ slice_index words a
 loads_only words p a = ap (λ (l : List ℕ). slice_index l a) (set_itself words p)
 
-module _ (s : Shape) (w : World) (inv : Inv s w) (by : ℕ) (v : Walker) (st : Stands s w.words w.history inv.chains by v) (a : ℕ) (low : place s v < length w.words) where
+module _ (s : Shape) (w : World) (inv : Inv s w) (by : ℕ) (v : Walker) (st : Stands s w.words w.history inv.chains by v) (a : ℕ)
+    (low : place s v < length w.words) where
   abbrev pub Fine : World → Type 0
   Fine w' = (slice_index w'.words a ≡ slice_index w.words a) ⊎ (Links s w w' v a ⊎ Writes s w v a)
 
@@ -209,30 +220,53 @@ module _ (s : Shape) (w : World) (inv : Inv s w) (by : ℕ) (v : Walker) (st : S
   linking : (c : Call) (l : ℕ) → v.stage ≡ Linking c l → (n : ℕ) → slice_index w.words l ≡ n → (a ≡ l) ⊎ (a ≢ l) → Fine (steps s w by v)
   linking c l i n f (inr d) = inl (ap (λ (h : Stage). slice_index (At h) a) i ∙ at_other w.words l a _ d)
   linking c l i zero f (inl e) =
-      let below : l < length w.words = let q : place_at s v (Linking c l) < length w.words = subst (λ (h : Stage). place_at s v h < length w.words) i low in q in
+      let below : l < length w.words = let q : place_at s v (Linking c l) < length w.words =
+      subst (λ (h : Stage). place_at s v h < length w.words) i low in q in
       inr (inl (record {
         call = c;
         stage = i ∙ ap (λ (x : ℕ). Linking c x) (sym e);
         none = ap (slice_index w.words) e ∙ f;
-        own = ap (λ (h : Stage). slice_index (At h) a) i ∙ ap (slice_index (At (Linking c l))) e ∙ at_same w.words l _ below ∙ either_none (slice_index w.words l) (suc v.own) f;
+        own = ap (λ (h : Stage). slice_index (At h) a) i ∙ ap (slice_index (At (Linking c l))) e ∙ at_same w.words l _ below
+            ∙ either_none (slice_index w.words l) (suc v.own) f;
       }))
   linking c l i (suc m) f (inl e) =
-      inl (ap (λ (h : Stage). slice_index (At h) a) i ∙ ap (λ (x : ℕ). slice_index (slice_set w.words l x) a) (either_some (slice_index w.words l) (suc v.own) m f) ∙ loads_only w.words l a)
+      inl (ap (λ (h : Stage). slice_index (At h) a) i
+      ∙ ap (λ (x : ℕ). slice_index (slice_set w.words l x) a) (either_some (slice_index w.words l) (suc v.own) m f) ∙ loads_only w.words l a)
 
   -- what the step of the pass itself does, from its stage
   of_stage : (g : Stage) → v.stage ≡ g → Spot s w.words (pairs_of w.history) inv.chains v g → Fine (steps s w by v)
-  of_stage Idle i k = subst (λ (h : Stage). (slice_index (slice_set w.words (place_at s v h) (becomes_at v h (slice_index w.words (place_at s v h)))) a ≡ slice_index w.words a) ⊎ (Links s w (steps s w by v) v a ⊎ Writes s w v a)) (sym i) (inl (loads_only w.words 0 a))
-  of_stage (Looking m) i k = subst (λ (h : Stage). (slice_index (slice_set w.words (place_at s v h) (becomes_at v h (slice_index w.words (place_at s v h)))) a ≡ slice_index w.words a) ⊎ (Links s w (steps s w by v) v a ⊎ Writes s w v a)) (sym i) (inl (loads_only w.words 0 a))
-  of_stage (AtLink c wr l) i k = subst (λ (h : Stage). (slice_index (slice_set w.words (place_at s v h) (becomes_at v h (slice_index w.words (place_at s v h)))) a ≡ slice_index w.words a) ⊎ (Links s w (steps s w by v) v a ⊎ Writes s w v a)) (sym i) (inl (loads_only w.words l a))
-  of_stage (AtContent c wr n j) i k = subst (λ (h : Stage). (slice_index (slice_set w.words (place_at s v h) (becomes_at v h (slice_index w.words (place_at s v h)))) a ≡ slice_index w.words a) ⊎ (Links s w (steps s w by v) v a ⊎ Writes s w v a)) (sym i) (inl (loads_only w.words _ a))
-  of_stage (Reading t xs) i k = subst (λ (h : Stage). (slice_index (slice_set w.words (place_at s v h) (becomes_at v h (slice_index w.words (place_at s v h)))) a ≡ slice_index w.words a) ⊎ (Links s w (steps s w by v) v a ⊎ Writes s w v a)) (sym i) (inl (loads_only w.words _ a))
+  of_stage Idle i k =
+      subst (λ (h : Stage).
+      (slice_index (slice_set w.words (place_at s v h) (becomes_at v h (slice_index w.words (place_at s v h)))) a ≡ slice_index w.words a) ⊎
+      (Links s w (steps s w by v) v a ⊎ Writes s w v a)) (sym i) (inl (loads_only w.words 0 a))
+  of_stage (Looking m) i k =
+      subst (λ (h : Stage).
+      (slice_index (slice_set w.words (place_at s v h) (becomes_at v h (slice_index w.words (place_at s v h)))) a ≡ slice_index w.words a) ⊎
+      (Links s w (steps s w by v) v a ⊎ Writes s w v a)) (sym i) (inl (loads_only w.words 0 a))
+  of_stage (AtLink c wr l) i k =
+      subst (λ (h : Stage).
+      (slice_index (slice_set w.words (place_at s v h) (becomes_at v h (slice_index w.words (place_at s v h)))) a ≡ slice_index w.words a) ⊎
+      (Links s w (steps s w by v) v a ⊎ Writes s w v a)) (sym i) (inl (loads_only w.words l a))
+  of_stage (AtContent c wr n j) i k =
+      subst (λ (h : Stage).
+      (slice_index (slice_set w.words (place_at s v h) (becomes_at v h (slice_index w.words (place_at s v h)))) a ≡ slice_index w.words a) ⊎
+      (Links s w (steps s w by v) v a ⊎ Writes s w v a)) (sym i) (inl (loads_only w.words _ a))
+  of_stage (Reading t xs) i k =
+      subst (λ (h : Stage).
+      (slice_index (slice_set w.words (place_at s v h) (becomes_at v h (slice_index w.words (place_at s v h)))) a ≡ slice_index w.words a) ⊎
+      (Links s w (steps s w by v) v a ⊎ Writes s w v a)) (sym i) (inl (loads_only w.words _ a))
   of_stage (Writing c l j) i k = ⊎_elim
-      (λ (e : a ≡ link_of s v.own + 1 + j). inr (inr (record { index = j; below = k.below; place = e; unused = let r = k.room in (st.free v.own (omega arith) (omega arith)).1 })))
-      (λ (d : a ≢ link_of s v.own + 1 + j). subst (λ (h : Stage). (slice_index (slice_set w.words (place_at s v h) (becomes_at v h (slice_index w.words (place_at s v h)))) a ≡ slice_index w.words a) ⊎ (Links s w (steps s w by v) v a ⊎ Writes s w v a)) (sym i) (inl (at_other w.words (link_of s v.own + 1 + j) a _ d)))
+      (λ (e : a ≡ link_of s v.own + 1 + j). inr
+      (inr (record { index = j; below = k.below; place = e; unused = let r = k.room in (st.free v.own (omega arith) (omega arith)).1 })))
+      (λ (d : a ≢ link_of s v.own + 1 + j).
+      subst (λ (h : Stage).
+      (slice_index (slice_set w.words (place_at s v h) (becomes_at v h (slice_index w.words (place_at s v h)))) a ≡ slice_index w.words
+      a) ⊎ (Links s w (steps s w by v) v a ⊎ Writes s w v a)) (sym i) (inl (at_other w.words (link_of s v.own + 1 + j) a _ d)))
       (same_or_not a (link_of s v.own + 1 + j))
   of_stage (Linking c l) i k = linking c l i (slice_index w.words l) refl (same_or_not a l)
 
-module _ (s : Shape) (w : World) (inv : Inv s w) (i : Item) (v : Walker) (here : get_elem? w.passes i.by ≡ some v) (a : ℕ) (low : place s v < length w.words) where
+module _ (s : Shape) (w : World) (inv : Inv s w) (i : Item) (v : Walker) (here : get_elem? w.passes i.by ≡ some v) (a : ℕ)
+    (low : place s v < length w.words) where
   first_words : (c : Call) → slice_index (steps s w i.by (record v { stage = first_stage s c; probes = 0 })).words a ≡ slice_index w.words a
   first_words (Intern l ks) = loads_only w.words _ a
   first_words (Find l ks) = loads_only w.words _ a
@@ -243,11 +277,13 @@ module _ (s : Shape) (w : World) (inv : Inv s w) (i : Item) (v : Walker) (here :
   fine_if c true e busy = first_words c
   fine_if c false e busy = let x : true ≡ false = ap is_idle (sym e) ∙ busy in absurd cc
 
-  fine_chosen : (choice : Choice) → v.stage ≡ Idle → is_idle (chosen s choice v).stage ≡ false → slice_index (steps s w i.by (chosen s choice v)).words a ≡ slice_index w.words a
+  fine_chosen : (choice : Choice) → v.stage ≡ Idle → is_idle (chosen s choice v).stage ≡ false
+      → slice_index (steps s w i.by (chosen s choice v)).words a ≡ slice_index w.words a
   fine_chosen (begins c) e busy = fine_if c (may_begin v.seen c) e busy
   fine_chosen (looks n) e busy = loads_only w.words 0 a
 
-  fine_busy : (g : Stage) → v.stage ≡ g → is_idle (begun_at s i.choice v g).stage ≡ false → Fine s w inv i.by v (inv.passes i.by v here) a low (steps s w i.by (begun_at s i.choice v g))
+  fine_busy : (g : Stage) → v.stage ≡ g → is_idle (begun_at s i.choice v g).stage ≡ false
+      → Fine s w inv i.by v (inv.passes i.by v here) a low (steps s w i.by (begun_at s i.choice v g))
   fine_busy Idle e busy = inl (fine_chosen i.choice e busy)
   fine_busy (Looking k) e busy = of_stage s w inv i.by v (inv.passes i.by v here) a low v.stage refl (inv.passes i.by v here).spot
   fine_busy (AtLink c x y) e busy = of_stage s w inv i.by v (inv.passes i.by v here) a low v.stage refl (inv.passes i.by v here).spot
@@ -256,7 +292,8 @@ module _ (s : Shape) (w : World) (inv : Inv s w) (i : Item) (v : Walker) (here :
   fine_busy (Linking c x) e busy = of_stage s w inv i.by v (inv.passes i.by v here) a low v.stage refl (inv.passes i.by v here).spot
   fine_busy (Reading x y) e busy = of_stage s w inv i.by v (inv.passes i.by v here) a low v.stage refl (inv.passes i.by v here).spot
 
-  fine : (k : Bool) → is_idle (begun s i.choice v).stage ≡ k → Fine s w inv i.by v (inv.passes i.by v here) a low (cond k w (steps s w i.by (begun s i.choice v)))
+  fine : (k : Bool) → is_idle (begun s i.choice v).stage ≡ k
+      → Fine s w inv i.by v (inv.passes i.by v here) a low (cond k w (steps s w i.by (begun s i.choice v)))
   fine true e = inl refl
   fine false e = fine_busy v.stage refl e
 
@@ -265,4 +302,5 @@ words_stay s items i v a ok here =
     let w : World = reached s items in
     let inv = keeps_all s items ok in
     let low : place s v < length w.words = let q = ((lawful s items ok).sees i.by v here).1.within in let l = inv.shared.long in omega arith in
-    subst (λ (x : World). Fine s w inv i.by v (inv.passes i.by v here) a low x) (sym (step_is s w inv i v v here)) (fine s w inv i v here a low (is_idle (begun s i.choice v).stage) refl)
+    subst (λ (x : World). Fine s w inv i.by v (inv.passes i.by v here) a low x) (sym (step_is s w inv i v v here))
+    (fine s w inv i v here a low (is_idle (begun s i.choice v).stage) refl)

@@ -1,5 +1,7 @@
 -- The step that links a node.
-use Rattle.std.proofs.Common.{◌≡◌, ℕ, zero, suc, ◌+◌, ◌-◌, ◌*◌, ◌<◌, ◌≤◌, ◌≢◌, ◌==◌, ◌⊎◌, Bool, true, false, cond, List, [], ◌∷◌, ◌++◌, length, slice_index, slice_set, Option, Some, None, refl, sym, ap, subst, ◌∙◌, inl, inr, ⊎_elim, append_assoc, append-nil, length-append, length-set, eq-eqb, ne_eqb, arith}
+use Rattle.std.proofs.Common.{◌≡◌, ℕ, zero, suc, ◌+◌, ◌-◌, ◌*◌, ◌<◌, ◌≤◌, ◌≢◌, ◌==◌, ◌⊎◌, Bool, true, false, cond, List, [], ◌∷◌, ◌++◌}
+use Rattle.std.proofs.Common.{length, slice_index, slice_set, Option, Some, None, refl, sym, ap, subst, ◌∙◌, inl, inr, ⊎_elim, append_assoc}
+use Rattle.std.proofs.Common.{append-nil, length-append, length-set, eq-eqb, ne_eqb, arith}
 use native.Mathlib.Decide.{ℕ_discrete}
 use mathlib.Core.Logic.{dite}
 use mathlib.Core.Option.{some}
@@ -14,23 +16,28 @@ use Rattle.sym_terms.specs.Trees.{Tree}
 use Rattle.term_core.specs.Terms.{Pair, tree_at, trees_at, tree_over, is_there, pair_if, added_by, adds, pairs_of, Has}
 use Rattle.term_core.specs.World.{Shape, IsShape, World, link_of, content, content_of, entry, ends}
 use Rattle.term_core.proofs.Replay.{IsThere, one_of, maybe, tree_more, tree_new, trees_more, added_append}
-use Rattle.term_core.proofs.Chains.{Mem, mem_left, mem_here, mem_cases, Linked, end_of, end_cases, at_end, at_other, linked_rest, linked_other, linked_longer, linked_none}
+use Rattle.term_core.proofs.Chains.{Mem, mem_left, mem_here, mem_cases, Linked, end_of, end_cases, at_end, at_other, linked_rest}
+use Rattle.term_core.proofs.Chains.{linked_other, linked_longer, linked_none}
 use Rattle.term_core.proofs.Kept.{word, SameAs, home, Stored, Shared, Stands, Inv, OnLinking, Interns, chain_of, label_of, kids_of}
 use Rattle.term_core.proofs.Keys.{content_is, home_is, tree_of, over, missing}
 use Rattle.term_core.proofs.Turns.{combine, pairs_are, calls_are, silent_calls, legal_after}
 
-adds_new : (ps : List Pair) (by : ℕ) (c : Call) (t : ℕ) (x : Tree) → Interns c → tree_at ps t ≡ None → tree_over ps (label_of c) (kids_of c) ≡ Some x → adds ps by c (Ticket t) ≡ record { tree = x; ticket = t; by = by } ∷ []
-adds_new ps by (Intern l ks) t x i vacant covers = ap (λ (o : Option Tree). cond (is_there o) [] (pair_if (tree_over ps l ks) t by)) vacant ∙ ap (λ (o : Option Tree). pair_if o t by) covers
+adds_new : (ps : List Pair) (by : ℕ) (c : Call) (t : ℕ) (x : Tree) → Interns c → tree_at ps t ≡ None
+    → tree_over ps (label_of c) (kids_of c) ≡ Some x → adds ps by c (Ticket t) ≡ record { tree = x; ticket = t; by = by } ∷ []
+adds_new ps by (Intern l ks) t x i vacant covers = ap (λ (o : Option Tree). cond (is_there o) [] (pair_if (tree_over ps l ks) t by)) vacant
+    ∙ ap (λ (o : Option Tree). pair_if o t by) covers
 adds_new ps by (Find l ks) t x i vacant covers = absurd i
 adds_new ps by (Read k) t x i vacant covers = absurd i
 
-answers_new : (n : ℕ) (ps : List Pair) (by : ℕ) (c : Call) (t : ℕ) (x : Tree) → Interns c → tree_at ps t ≡ None → tree_over ps (label_of c) (kids_of c) ≡ Some x → (Has ps x → ⊥) → added_by by ps < n
+answers_new : (n : ℕ) (ps : List Pair) (by : ℕ) (c : Call) (t : ℕ) (x : Tree) → Interns c → tree_at ps t ≡ None
+    → tree_over ps (label_of c) (kids_of c) ≡ Some x → (Has ps x → ⊥) → added_by by ps < n
     → Rattle.term_core.specs.Terms.MayAnswer n ps by c (Ticket t)
 answers_new n ps by (Intern l ks) t x i vacant covers missed room = (x, covers, inr (missed, vacant, room))
 answers_new n ps by (Find l ks) t x i vacant covers missed room = absurd i
 answers_new n ps by (Read k) t x i vacant covers missed room = absurd i
 
-module _ (s : Shape) (ok : IsShape s) (w : World) (inv : Inv s w) (p : ℕ) (v : Walker) (at : get_elem? w.passes p ≡ some v) (b : Walker) (same_room : b.room ≡ v.room) (st : Stands s w.words w.history inv.chains p b)
+module _ (s : Shape) (ok : IsShape s) (w : World) (inv : Inv s w) (p : ℕ) (v : Walker) (at : get_elem? w.passes p ≡ some v) (b : Walker)
+    (same_room : b.room ≡ v.room) (st : Stands s w.words w.history inv.chains p b)
     (c : Call) (a : ℕ) (k : OnLinking s w.words (pairs_of w.history) inv.chains b c a) (z : slice_index w.words a ≡ 0) where
   abbrev ps : List Pair
   ps = pairs_of w.history
@@ -89,7 +96,8 @@ module _ (s : Shape) (ok : IsShape s) (w : World) (inv : Inv s w) (p : ℕ) (v :
 
   -- the link word a is the head's, or one of a node that is there
   a_cases : (a ≡ C) ⊎ ((n : ℕ) × Mem n (inv.chains C) × (a ≡ link_of s n))
-  a_cases = ⊎_elim (λ e. inl (a_is ∙ e)) (λ (g : (n : ℕ) × Mem n (inv.chains C) × (end_of s C (inv.chains C) ≡ link_of s n)). inr (g.0, g.1, a_is ∙ g.2)) (end_cases s C (inv.chains C))
+  a_cases = ⊎_elim (λ e. inl (a_is ∙ e))
+      (λ (g : (n : ℕ) × Mem n (inv.chains C) × (end_of s C (inv.chains C) ≡ link_of s n)). inr (g.0, g.1, a_is ∙ g.2)) (end_cases s C (inv.chains C))
 
   there_or : (t : ℕ) → tree_at ps t ≡ None → IsThere ps t → ⊥
   there_or t e h = let f : None ≡ Some h.0 = sym e ∙ h.1 in cc
@@ -114,7 +122,8 @@ module _ (s : Shape) (ok : IsShape s) (w : World) (inv : Inv s w) (p : ℕ) (v :
 
   home_same : (t : ℕ) → home s words' t ≡ home s w.words t
   home_same t =
-      let x = content_same t 0 (omega arith) in let y = content_same t 1 (omega arith) in let z = content_same t 2 (omega arith) in let u = content_same t 3 (omega arith) in
+      let x = content_same t 0 (omega arith) in let y = content_same t 1 (omega arith) in let z = content_same t 2 (omega arith) in let u =
+      content_same t 3 (omega arith) in
       λ i. s.chain (x i) (Rattle.term_core.specs.World.kid_in (y i) (Rattle.term_core.specs.World.kid_in (z i) (Rattle.term_core.specs.World.kid_in (u i) [])))
 
   absent : Has ps T → ⊥
@@ -146,7 +155,8 @@ module _ (s : Shape) (ok : IsShape s) (w : World) (inv : Inv s w) (p : ℕ) (v :
   a_low : a < length w.words
   a_low = let l = inv.shared.long in ⊎_elim
       (λ (e : a ≡ C). let h = C_low in omega arith)
-      (λ (g : (n : ℕ) × Mem n (inv.chains C) × (a ≡ link_of s n)). let h = (inv.shared.back C g.0 g.1).1 in let f = ((inv.shared.there g.0 h.0 h.1).0).low in let e = g.2 in omega arith)
+      (λ (g : (n : ℕ) × Mem n (inv.chains C) × (a ≡ link_of s n)). let h = (inv.shared.back C g.0 g.1).1 in let f =
+      ((inv.shared.there g.0 h.0 h.1).0).low in let e = g.2 in omega arith)
       a_cases
 
   rows : (i : ℕ) → i < s.heads → Linked s words' i (chains' i)
@@ -158,12 +168,14 @@ module _ (s : Shape) (ok : IsShape s) (w : World) (inv : Inv s w) (p : ℕ) (v :
       let ne : link_of s own ≢ end_of s C (inv.chains C) = λ q. off_link own free.1 (q ∙ sym a_is) in
       let l = linked_longer s w.words own C (inv.chains C) low_there zero_there free.0 ne (inv.shared.rows C C_low) in
       subst (λ (n : ℕ). Linked s words' n (chains' n)) (sym e) (subst (λ (x : List ℕ). Linked s words' C x) (sym chain_here) (subst P (sym a_is) l)))
-      (λ ne. subst (λ (x : List ℕ). Linked s words' i x) (sym (chain_else i ne)) (linked_other s w.words a (suc own) i (inv.chains i) z (ends_apart i lt ne) (inv.shared.rows i lt)))
+      (λ ne. subst (λ (x : List ℕ). Linked s words' i x) (sym (chain_else i ne))
+      (linked_other s w.words a (suc own) i (inv.chains i) z (ends_apart i lt ne) (inv.shared.rows i lt)))
     where
       ends_apart : (i : ℕ) → i < s.heads → i ≢ C → end_of s i (inv.chains i) ≢ a
       ends_apart i lt ne q = ⊎_elim
           (λ (e : end_of s i (inv.chains i) ≡ i).
-          ⊎_elim (λ (f : a ≡ C). ne (sym e ∙ (q ∙ f))) (λ (g : (n : ℕ) × Mem n (inv.chains C) × (a ≡ link_of s n)). let f = g.2 in absurd (omega arith)) a_cases)
+          ⊎_elim (λ (f : a ≡ C). ne (sym e ∙ (q ∙ f)))
+          (λ (g : (n : ℕ) × Mem n (inv.chains C) × (a ≡ link_of s n)). let f = g.2 in absurd (omega arith)) a_cases)
           (λ (m : (n : ℕ) × Mem n (inv.chains i) × (end_of s i (inv.chains i) ≡ link_of s n)).
           ⊎_elim (λ (f : a ≡ C). let l = C_low in let e = m.2 in absurd (omega arith))
           (λ (g : (n : ℕ) × Mem n (inv.chains C) × (a ≡ link_of s n)).
@@ -216,7 +228,8 @@ module _ (s : Shape) (ok : IsShape s) (w : World) (inv : Inv s w) (p : ℕ) (v :
           holds = λ i lt. content_same t i lt ∙ o.holds i lt;
           low = o.low;
         },
-        subst (λ (n : ℕ). Mem t (chains' n)) (sym (home_same t)) (subst (λ (l : List ℕ). Mem t l) (sym (grows (home s w.words t)).1) (mem_left t (inv.chains (home s w.words t)) (grows (home s w.words t)).0 r.1)),
+        subst (λ (n : ℕ). Mem t (chains' n)) (sym (home_same t))
+            (subst (λ (l : List ℕ). Mem t l) (sym (grows (home s w.words t)).1) (mem_left t (inv.chains (home s w.words t)) (grows (home s w.words t)).0 r.1)),
       ))
       (maybe (tree_at ps t))
 
@@ -229,14 +242,18 @@ module _ (s : Shape) (ok : IsShape s) (w : World) (inv : Inv s w) (p : ℕ) (v :
       let m' : Mem t (inv.chains C ++ own ∷ []) = subst (λ (l : List ℕ). Mem t l) chain_here (subst (λ (n : ℕ). Mem t (chains' n)) e m) in
       let R : ℕ → Type 0 = λ n. (home s words' t ≡ n) × IsThere (ps ++ pair ∷ []) t in
       subst R (sym e) (⊎_elim (λ (o : Mem t (inv.chains C)). back_old C t o)
-      (λ (o : (t ≡ own) ⊎ ⊥). ⊎_elim (λ (q : t ≡ own). subst (λ (n : ℕ). (home s words' n ≡ C) × IsThere (ps ++ pair ∷ []) n) (sym q) (home_own, (T, new_tree))) (λ (bad : ⊥). absurd bad) o)
+      (λ (o : (t ≡ own) ⊎ ⊥). ⊎_elim
+      (λ (q : t ≡ own). subst (λ (n : ℕ). (home s words' n ≡ C) × IsThere (ps ++ pair ∷ []) n) (sym q) (home_own, (T, new_tree)))
+      (λ (bad : ⊥). absurd bad) o)
       (mem_cases t (inv.chains C) (own ∷ []) m')))
       (λ ne. back_old i t (subst (λ (l : List ℕ). Mem t l) (chain_else i ne) m))
 
   few : (i : ℕ) → length (chains' i) ≤ length (ps ++ pair ∷ [])
   few i = dite (ℕ_discrete i C)
-      (λ e. let f = inv.shared.few C in let g : length (chains' i) ≡ length (inv.chains C ++ own ∷ []) = ap length (ap chains' e ∙ chain_here) in omega (arith, length-append (inv.chains C) (own ∷ []), length-append ps (pair ∷ [])))
-      (λ ne. let f = inv.shared.few i in let g : length (chains' i) ≡ length (inv.chains i) = ap length (chain_else i ne) in omega (arith, length-append ps (pair ∷ [])))
+      (λ e. let f = inv.shared.few C in let g : length (chains' i) ≡ length (inv.chains C ++ own ∷ []) =
+      ap length (ap chains' e ∙ chain_here) in omega (arith, length-append (inv.chains C) (own ∷ []), length-append ps (pair ∷ [])))
+      (λ ne. let f = inv.shared.few i in let g : length (chains' i) ≡ length (inv.chains i) = ap length (chain_else i ne) in
+      omega (arith, length-append ps (pair ∷ [])))
 
   shared' : Shared s words' (ps ++ pair ∷ []) chains'
   shared' = record { rows = rows; there = there; back = back; few = few; long = length-set w.words a (suc own) ∙ inv.shared.long }
@@ -245,13 +262,16 @@ module _ (s : Shape) (ok : IsShape s) (w : World) (inv : Inv s w) (p : ℕ) (v :
   after = (ends w.history (record b { own = suc b.own; room = b.room - 1 }) c (Ticket own)).walker
 
   outside : (t : ℕ) → (t < p * s.nodes) ⊎ (p * s.nodes + s.nodes ≤ t) → t ≢ own
-  outside t o q = let r = st.range in let e = st.base in let g = some_room in ⊎_elim (λ (l : t < p * s.nodes). absurd (omega arith)) (λ (l : p * s.nodes + s.nodes ≤ t). absurd (omega arith)) o
+  outside t o q = let r = st.range in let e = st.base in let g = some_room in
+      ⊎_elim (λ (l : t < p * s.nodes). absurd (omega arith)) (λ (l : p * s.nodes + s.nodes ≤ t). absurd (omega arith)) o
 
   added_here : added_by p (ps ++ pair ∷ []) ≡ added_by p ps + 1
   added_here = added_append p ps (pair ∷ []) ∙ ap (λ (x : Bool). added_by p ps + cond x 1 0) (eq-eqb b.by p st.number)
 
   added_there : (q : ℕ) → q ≢ p → added_by q (ps ++ pair ∷ []) ≡ added_by q ps
-  added_there q ne = added_append q ps (pair ∷ []) ∙ (ap (λ (x : Bool). added_by q ps + cond x 1 0) (ne_eqb b.by q (λ (e : b.by ≡ q). ne (sym e ∙ st.number))) ∙ Rattle.std.proofs.Common.add-zero (added_by q ps))
+  added_there q ne = added_append q ps (pair ∷ [])
+      ∙ (ap (λ (x : Bool). added_by q ps + cond x 1 0) (ne_eqb b.by q (λ (e : b.by ≡ q). ne (sym e ∙ st.number)))
+      ∙ Rattle.std.proofs.Common.add-zero (added_by q ps))
 
   abbrev In : List Pair → Type 0
   In l = Shared s words' l chains'
@@ -279,14 +299,19 @@ module _ (s : Shape) (ok : IsShape s) (w : World) (inv : Inv s w) (p : ℕ) (v :
         begins = ([], sym (append-nil h'));
         own_calls = calls_are s w inv p v at b same_room st c (Ticket own);
         all_calls = calls_are s w inv p v at b same_room st c (Ticket own);
-        count = let q = st.count in let r = some_room in let e : added_by p (pairs_of h') ≡ added_by p ps + 1 = ap (added_by p) pairs_is ∙ added_here in omega arith;
-        probes = let q = st.probes in let l : length (pairs_of h') ≡ length (ps ++ pair ∷ []) = ap length pairs_is in omega (arith, length-append ps (pair ∷ []));
+        count = let q = st.count in let r = some_room in let e : added_by p (pairs_of h') ≡ added_by p ps + 1 = ap (added_by p) pairs_is
+            ∙ added_here in omega arith;
+        probes = let q = st.probes in let l : length (pairs_of h') ≡ length (ps ++ pair ∷ []) = ap length pairs_is in
+            omega (arith, length-append ps (pair ∷ []));
         range = let q = st.range in let r = some_room in omega arith;
         base = let q = st.base in omega arith;
         free = λ n lo hi.
             let r = some_room in
             let f = st.free n (omega arith) (omega arith) in
-            let ne : n ≢ own = λ q. absurd (omega arith) in
-            (at_other w.words a (link_of s n) (suc own) (off_link n f.1) ∙ f.0, subst (λ (l : List Pair). tree_at l n ≡ None) (sym pairs_is) (other_tree n ne f.1));
+            let ne : n ≢ own = λ q. absurd (omega arith) in (
+              at_other w.words a (link_of s n) (suc own) (off_link n f.1)
+                  ∙ f.0,
+              subst (λ (l : List Pair). tree_at l n ≡ None) (sym pairs_is) (other_tree n ne f.1),
+            );
         spot = tt;
       })

@@ -1,5 +1,7 @@
 -- What every step keeps: the words hold the chains of the nodes that the history has, and each pass stands where its walk is right.
-use Rattle.std.proofs.Common.{◌≡◌, ℕ, zero, suc, ◌+◌, ◌*◌, ◌<◌, ◌≤◌, ◌≢◌, ◌==◌, ◌&&◌, ◌⊎◌, Bool, true, false, cond, List, [], ◌∷◌, ◌++◌, length, slice_index, slice_set, Option, Some, None, refl, sym, ap, subst, ◌∙◌, inl, inr, ⊎_elim, append_assoc, append-nil, arith}
+use Rattle.std.proofs.Common.{◌≡◌, ℕ, zero, suc, ◌+◌, ◌*◌, ◌<◌, ◌≤◌, ◌≢◌, ◌==◌, ◌&&◌, ◌⊎◌, Bool, true, false, cond, List, [], ◌∷◌, ◌++◌}
+use Rattle.std.proofs.Common.{length, slice_index, slice_set, Option, Some, None, refl, sym, ap, subst, ◌∙◌, inl, inr, ⊎_elim, append_assoc}
+use Rattle.std.proofs.Common.{append-nil, arith}
 use mathlib.Core.Option.{some}
 use lib.ListN.{get_elem?}
 use Rattle.sym_terms.specs.declared.label.Label.{Label}
@@ -164,12 +166,14 @@ pub record Change (s : Shape) (p : ℕ) (words words' : List ℕ) (h h' : List E
   pub longer : length (pairs_of h) ≤ length (pairs_of h')
   pub trees : (t : ℕ) (x : Tree) → tree_at (pairs_of h) t ≡ Some x → tree_at (pairs_of h') t ≡ Some x
   pub none : (t : ℕ) → tree_at (pairs_of h) t ≡ None → (t < p * s.nodes) ⊎ (p * s.nodes + s.nodes ≤ t) → tree_at (pairs_of h') t ≡ None
-  pub links : (t : ℕ) → tree_at (pairs_of h) t ≡ None → (t < p * s.nodes) ⊎ (p * s.nodes + s.nodes ≤ t) → slice_index words' (link_of s t) ≡ slice_index words (link_of s t)
+  pub links : (t : ℕ) → tree_at (pairs_of h) t ≡ None → (t < p * s.nodes) ⊎ (p * s.nodes + s.nodes ≤ t)
+      → slice_index words' (link_of s t) ≡ slice_index words (link_of s t)
   pub contents : (t : ℕ) → IsThere (pairs_of h) t ⊎ ((t < p * s.nodes) ⊎ (p * s.nodes + s.nodes ≤ t)) → (i : ℕ) → i < 4 → word s words' t i ≡ word s words t i
   pub grows : (c : ℕ) → (more : List ℕ) × (chains' c ≡ chains c ++ more)
 
 -- trees of tickets that stay where single trees stay
-pub trees_stay : (ps qs : List Pair) → ((t : ℕ) (x : Tree) → tree_at ps t ≡ Some x → tree_at qs t ≡ Some x) → (ts : List ℕ) (xs : Trees) → trees_at ps ts ≡ Some xs → trees_at qs ts ≡ Some xs
+pub trees_stay : (ps qs : List Pair) → ((t : ℕ) (x : Tree) → tree_at ps t ≡ Some x → tree_at qs t ≡ Some x) → (ts : List ℕ) (xs : Trees)
+    → trees_at ps ts ≡ Some xs → trees_at qs ts ≡ Some xs
 trees_stay ps qs m [] xs e = e
 trees_stay ps qs m (t ∷ ts) xs e =
     let h = Rattle.term_core.proofs.Replay.trees_cons ps t ts xs e in
@@ -187,9 +191,11 @@ apart p q n k ne lo hi = ⊎_elim
     either_side : (q p : ℕ) → q ≢ p → (q < p) ⊎ (p < q)
     either_side q p ne = mathlib.Core.Logic.dite (native.Mathlib.Decide.dec_le q p) (λ le. inl (omega arith)) (λ gt. inr (omega arith))
 
-module _ (s : Shape) (p : ℕ) (words words' : List ℕ) (h h' : List Entry) (chains chains' : ℕ → List ℕ) (d : Change s p words words' h h' chains chains') (sh : Shared s words (pairs_of h) chains) where
+module _ (s : Shape) (p : ℕ) (words words' : List ℕ) (h h' : List Entry) (chains chains' : ℕ → List ℕ)
+    (d : Change s p words words' h h' chains chains') (sh : Shared s words (pairs_of h) chains) where
   -- a walk goes on, if its own node stays
-  pub walk_stays : (v : Walker) (c : Call) (w : Bool) (pre post : List ℕ) → (w ≡ true → (i : ℕ) → i < 4 → word s words' v.own i ≡ word s words v.own i) → Walk s words (pairs_of h) chains v c w pre post
+  pub walk_stays : (v : Walker) (c : Call) (w : Bool) (pre post : List ℕ)
+      → (w ≡ true → (i : ℕ) → i < 4 → word s words' v.own i ≡ word s words v.own i) → Walk s words (pairs_of h) chains v c w pre post
       → Walk s words' (pairs_of h') chains' v c w pre (post ++ (d.grows (chain_of s c)).0)
   walk_stays v c w pre post own k = record {
     searches = k.searches;
@@ -198,7 +204,10 @@ module _ (s : Shape) (p : ℕ) (words words' : List ℕ) (h h' : List Entry) (ch
     known = trees_stay (pairs_of h) (pairs_of h') d.trees (kids_of c) k.trees k.known;
     three = k.three;
     split = (d.grows (chain_of s c)).1 ∙ (ap (λ (l : List ℕ). l ++ (d.grows (chain_of s c)).0) k.split ∙ append_assoc pre post (d.grows (chain_of s c)).0);
-    differ = λ t m same. k.differ t m (λ i lt. sym (d.contents t (inl ((sh.back (chain_of s c) t (subst (λ (l : List ℕ). Mem t l) (sym k.split) (Rattle.term_core.proofs.Chains.mem_left t pre post m))).1)) i lt) ∙ same i lt);
+    differ = λ t m same. k.differ t m
+        (λ i lt. sym (d.contents t
+        (inl ((sh.back (chain_of s c) t
+        (subst (λ (l : List ℕ). Mem t l) (sym k.split) (Rattle.term_core.proofs.Chains.mem_left t pre post m))).1)) i lt) ∙ same i lt);
     wrote = λ e. let z = k.wrote e in (z.0, z.1, (λ i lt. own e i lt ∙ z.2 i lt));
   }
 
@@ -224,7 +233,10 @@ module _ (s : Shape) (p : ℕ) (words words' : List ℕ) (h h' : List Entry) (ch
       post = k.post ++ (d.grows (chain_of s c)).0;
       walk = walk_stays v c w k.pre (n ∷ k.post) (λ e. own_stays (k.walk.wrote e).1) k.walk;
       below = k.below;
-      alike = λ j lt. let b = k.below in d.contents n (inl ((sh.back (chain_of s c) n (subst (λ (l : List ℕ). Mem n l) (sym k.walk.split) (Rattle.term_core.proofs.Chains.mem_here n k.pre k.post))).1)) j (omega arith) ∙ k.alike j lt;
+      alike = λ j lt. let b = k.below in
+          d.contents n (inl
+          ((sh.back (chain_of s c) n
+          (subst (λ (l : List ℕ). Mem n l) (sym k.walk.split) (Rattle.term_core.proofs.Chains.mem_here n k.pre k.post))).1)) j (omega arith) ∙ k.alike j lt;
       probes = k.probes;
     }
     spot_stays (Writing c a i) k = record {
@@ -258,7 +270,9 @@ module _ (s : Shape) (p : ℕ) (words words' : List ℕ) (h h' : List Entry) (ch
       low = st.low;
       begins = (st.begins.0 ++ d.said, d.says ∙ (ap (λ (l : List Entry). l ++ d.said) st.begins.1 ∙ append_assoc v.seen st.begins.0 d.said));
       own_calls = st.own_calls;
-      all_calls = ap (calls_by q) d.says ∙ (Rattle.term_core.proofs.Replay.calls_append q h d.said ∙ (ap (λ (l : List Entry). calls_by q h ++ l) (d.silent q ne) ∙ (append-nil (calls_by q h) ∙ st.all_calls)));
+      all_calls = ap (calls_by q) d.says
+          ∙ (Rattle.term_core.proofs.Replay.calls_append q h d.said
+          ∙ (ap (λ (l : List Entry). calls_by q h ++ l) (d.silent q ne) ∙ (append-nil (calls_by q h) ∙ st.all_calls)));
       count = ap (λ (n : ℕ). n + v.room) (d.same_count q ne) ∙ st.count;
       probes = let a = st.probes in let b = d.longer in omega arith;
       range = st.range;

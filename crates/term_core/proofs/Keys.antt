@@ -42,7 +42,8 @@ module _ (s : Shape) (words : List ℕ) (t : ℕ) (l : Label) (ks : List ℕ) (t
   pub home_is : home s words t ≡ s.chain (label_word l) ks
   home_is = λ i. s.chain (label_is i) (kids_is i)
 
-module _ (s : Shape) (words : List ℕ) (ps : List Pair) (chains : ℕ → List ℕ) (sh : Shared s words ps chains) (v : Walker) (c : Call) (w : Bool) (pre post : List ℕ) (k : Walk s words ps chains v c w pre post) where
+module _ (s : Shape) (words : List ℕ) (ps : List Pair) (chains : ℕ → List ℕ) (sh : Shared s words ps chains) (v : Walker) (c : Call)
+    (w : Bool) (pre post : List ℕ) (k : Walk s words ps chains v c w pre post) where
   abbrev pub tree_of : Tree
   tree_of = node (label_of c) k.trees
 
@@ -56,7 +57,8 @@ module _ (s : Shape) (words : List ℕ) (ps : List Pair) (chains : ℕ → List 
       let st = (sh.there t at.0 at.1).0 in
       let P : List ℕ → Type 0 = λ row. SameAs s words t row in
       let mine : SameAs s words t (content_of (label_of c) (kids_of c)) = subst P (content_is c k.searches) same in
-      let lw : label_word st.label ≡ label_word (label_of c) = sym (label_is s words t st.label st.kids st.three st.holds) ∙ label_is s words t (label_of c) (kids_of c) k.three mine in
+      let lw : label_word st.label ≡ label_word (label_of c) = sym (label_is s words t st.label st.kids st.three st.holds)
+      ∙ label_is s words t (label_of c) (kids_of c) k.three mine in
       let l : st.label ≡ label_of c = one_label st.label (label_of c) st.proper k.proper lw in
       let ks : st.kids ≡ kids_of c = sym (kids_is s words t st.label st.kids st.three st.holds) ∙ kids_is s words t (label_of c) (kids_of c) k.three mine in
       let q : Some st.trees ≡ Some k.trees = sym st.kids_are ∙ (ap (trees_at ps) ks ∙ k.known) in

@@ -1,5 +1,6 @@
 -- What the last entry of a legal history says.
-use Rattle.std.proofs.Common.{◌≡◌, ℕ, ◌+◌, ◌<◌, ◌≤◌, ◌==◌, Bool, true, false, cond, List, [], ◌∷◌, ◌++◌, Option, Some, None, refl, sym, ap, subst, ◌∙◌, ⊎_elim, eq-eqb, arith}
+use Rattle.std.proofs.Common.{◌≡◌, ℕ, ◌+◌, ◌<◌, ◌≤◌, ◌==◌, Bool, true, false, cond, List, [], ◌∷◌, ◌++◌, Option, Some, None, refl, sym, ap}
+use Rattle.std.proofs.Common.{subst, ◌∙◌, ⊎_elim, eq-eqb, arith}
 use Rattle.sym_terms.specs.declared.label.Label.{Label}
 use Rattle.term_core.specs.declared.Call.{Call}
 use Rattle.term_core.specs.declared.Call.TheVariants.{Intern, Find, Read}
@@ -7,7 +8,8 @@ use Rattle.term_core.specs.declared.Answer.{Answer}
 use Rattle.term_core.specs.declared.Answer.TheVariants.{Ticket, Full, Found, Missing, Node}
 use Rattle.term_core.specs.declared.Entry.{Entry}
 use Rattle.sym_terms.specs.Trees.{Tree}
-use Rattle.term_core.specs.Terms.{Pair, tree_at, tree_over, Has, added_by, is_there, pair_if, adds, pairs_after, pairs_from, pairs_of, MayAnswer, legal_from, IsLegal}
+use Rattle.term_core.specs.Terms.{Pair, tree_at, tree_over, Has, added_by, is_there, pair_if, adds, pairs_after, pairs_from, pairs_of}
+use Rattle.term_core.specs.Terms.{MayAnswer, legal_from, IsLegal}
 use Rattle.term_core.proofs.Replay.{tree_more, tree_new, pairs_append, added_append, eqb_eq}
 
 legal_back : (n : ℕ) (ps : List Pair) (h g : List Entry) → legal_from n ps (h ++ g) → legal_from n (pairs_from ps h) g
@@ -22,15 +24,19 @@ pub pairs_last : (h : List Entry) (e : Entry) → pairs_of (h ++ e ∷ []) ≡ p
 pairs_last h e = pairs_append [] h (e ∷ [])
 
 -- a ticket whose tree was not there names the new pair
-pub added_row : (ps : List Pair) (by : ℕ) (l : Label) (ks : List ℕ) (t : ℕ) (x : Tree) → tree_over ps l ks ≡ Some x → tree_at ps t ≡ None → adds ps by (Intern l ks) (Ticket t) ≡ record { tree = x; ticket = t; by = by } ∷ []
-added_row ps by l ks t x over none = ap (λ (o : Option Tree). cond (is_there o) [] (pair_if (tree_over ps l ks) t by)) none ∙ ap (λ (o : Option Tree). pair_if o t by) over
+pub added_row : (ps : List Pair) (by : ℕ) (l : Label) (ks : List ℕ) (t : ℕ) (x : Tree) → tree_over ps l ks ≡ Some x → tree_at ps t ≡ None
+    → adds ps by (Intern l ks) (Ticket t) ≡ record { tree = x; ticket = t; by = by } ∷ []
+added_row ps by l ks t x over none = ap (λ (o : Option Tree). cond (is_there o) [] (pair_if (tree_over ps l ks) t by)) none
+    ∙ ap (λ (o : Option Tree). pair_if o t by) over
 
 -- a ticket that an intern answers has the tree of the call
-pub ticket_tree : (n : ℕ) (ps : List Pair) (by : ℕ) (l : Label) (ks : List ℕ) (t : ℕ) (x : Tree) → MayAnswer n ps by (Intern l ks) (Ticket t) → tree_over ps l ks ≡ Some x → tree_at (ps ++ adds ps by (Intern l ks) (Ticket t)) t ≡ Some x
+pub ticket_tree : (n : ℕ) (ps : List Pair) (by : ℕ) (l : Label) (ks : List ℕ) (t : ℕ) (x : Tree)
+    → MayAnswer n ps by (Intern l ks) (Ticket t) → tree_over ps l ks ≡ Some x → tree_at (ps ++ adds ps by (Intern l ks) (Ticket t)) t ≡ Some x
 ticket_tree n ps by l ks t x ans over = (⊎_elim
     (λ (e : tree_at ps t ≡ Some ans.0). tree_more ps (adds ps by (Intern l ks) (Ticket t)) t ans.0 e)
     (λ (e : (Has ps ans.0 → ⊥) × (tree_at ps t ≡ None) × (added_by by ps < n)).
-    tree_new ps (adds ps by (Intern l ks) (Ticket t)) t e.1 ∙ ap (λ (qs : List Pair). tree_at qs t) (added_row ps by l ks t ans.0 ans.1 e.1) ∙ ap (λ (b : Bool). cond b (Some ans.0) None) (eq-eqb t t refl))
+    tree_new ps (adds ps by (Intern l ks) (Ticket t)) t e.1 ∙ ap (λ (qs : List Pair). tree_at qs t) (added_row ps by l ks t ans.0 ans.1 e.1)
+    ∙ ap (λ (b : Bool). cond b (Some ans.0) None) (eq-eqb t t refl))
     ans.2) ∙ (sym ans.1 ∙ over)
 
 silent : (n : ℕ) (ps : List Pair) (by : ℕ) → added_by by ps ≤ n → added_by by (ps ++ []) ≤ n
@@ -48,7 +54,8 @@ adds_low n ps by q (Intern l ks) (Ticket t) ans low = subst (λ (k : ℕ). k ≤
     one (q == by) refl row e.2)
     ans.2)
   where
-    one : (b : Bool) → (q == by) ≡ b → added_by by (adds ps q (Intern l ks) (Ticket t)) ≡ cond b 1 0 → added_by q ps < n → added_by by ps + added_by by (adds ps q (Intern l ks) (Ticket t)) ≤ n
+    one : (b : Bool) → (q == by) ≡ b → added_by by (adds ps q (Intern l ks) (Ticket t)) ≡ cond b 1 0 → added_by q ps < n
+        → added_by by ps + added_by by (adds ps q (Intern l ks) (Ticket t)) ≤ n
     one true e row less = let few : added_by by ps < n = subst (λ (k : ℕ). added_by k ps < n) (eqb_eq q by e) less in omega arith
     one false e row less = omega arith
 adds_low n ps by q (Intern l ks) Full ans low = silent n ps by low

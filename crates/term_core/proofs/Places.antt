@@ -25,14 +25,16 @@ module _ (s : Shape) (ok : IsShape s) (w : World) (inv : Inv s w) where
       let t = there_in (chain_of s c) e.0 (subst (Mem e.0) (sym split) (mem_left e.0 pre post e.1)) in inr (e.0, t.0, t.1, at ∙ e.2))
       (end_cases s (chain_of s c) pre)
 
-  at_place : (by : ℕ) (v : Walker) → Stands s w.words w.history inv.chains by v → (g : Stage) → Spot s w.words (pairs_of w.history) inv.chains v g → IsPlaceOf s w v (kind g) (place_at s v g)
+  at_place : (by : ℕ) (v : Walker) → Stands s w.words w.history inv.chains by v → (g : Stage)
+      → Spot s w.words (pairs_of w.history) inv.chains v g → IsPlaceOf s w v (kind g) (place_at s v g)
   at_place by v st Idle k = inl ok.0
   at_place by v st (Looking n) k = inl ok.0
   at_place by v st (AtLink c wr a) k = end_reached c k.pre k.post a k.walk.split k.place_is
   at_place by v st (AtContent c wr n i) k =
       let t = there_in (chain_of s c) n (subst (Mem n) (sym k.walk.split) (mem_here n k.pre k.post)) in
       record { node = n; tree = t.0; linked = t.1; index = i; below = k.below; place = refl }
-  at_place by v st (Writing c a i) k = record { index = i; below = k.below; place = refl; unused = let r = k.room in (st.free v.own (omega arith) (omega arith)).1 }
+  at_place by v st (Writing c a i) k =
+      record { index = i; below = k.below; place = refl; unused = let r = k.room in (st.free v.own (omega arith) (omega arith)).1 }
   at_place by v st (Linking c a) k = end_reached c k.pre k.post a k.walk.split k.place_is
   at_place by v st (Reading t xs) k =
       record { node = t; tree = k.there.0; linked = k.there.1; index = length xs; below = k.below; place = refl }

@@ -1,5 +1,6 @@
 -- Links that name a node stay, and so does the content of a linked node.
-use Rattle.std.proofs.Common.{◌≡◌, ℕ, suc, ◌+◌, ◌<◌, ◌⊎◌, Bool, true, false, cond, List, [], ◌∷◌, ◌++◌, slice_index, refl, sym, ap, subst, ◌∙◌, inl, inr, ⊎_elim, append_assoc, append-nil, arith, Some, None}
+use Rattle.std.proofs.Common.{◌≡◌, ℕ, suc, ◌+◌, ◌<◌, ◌⊎◌, Bool, true, false, cond, List, [], ◌∷◌, ◌++◌, slice_index, refl, sym, ap, subst}
+use Rattle.std.proofs.Common.{◌∙◌, inl, inr, ⊎_elim, append_assoc, append-nil, arith, Some, None}
 use mathlib.Core.Option.{some, none}
 use mathlib.Core.Option as O
 use lib.ListN.{get_elem?}
@@ -31,10 +32,12 @@ history_of : (s : Shape) (w : World) (i : Item) (o : O.Option Walker) → (rest 
 history_of s w i none = ([], sym (append-nil w.history))
 history_of s w i (some v) = history_if s w i.by (begun s i.choice v) (is_idle (begun s i.choice v).stage)
 
-tree_stays : (s : Shape) (w : World) (i : Item) (t : ℕ) (x : Tree) → tree_at (pairs_of w.history) t ≡ Some x → tree_at (pairs_of (step s w i).history) t ≡ Some x
+tree_stays : (s : Shape) (w : World) (i : Item) (t : ℕ) (x : Tree) → tree_at (pairs_of w.history) t ≡ Some x
+    → tree_at (pairs_of (step s w i).history) t ≡ Some x
 tree_stays s w i t x e =
     let h = history_of s w i (get_elem? w.passes i.by) in
-    subst (λ (l : List Entry). tree_at (pairs_of l) t ≡ Some x) (sym h.1) (ap (λ ps. tree_at ps t) (pairs_append [] w.history h.0) ∙ tree_later (pairs_of w.history) h.0 t x e)
+    subst (λ (l : List Entry). tree_at (pairs_of l) t ≡ Some x) (sym h.1)
+    (ap (λ ps. tree_at ps t) (pairs_append [] w.history h.0) ∙ tree_later (pairs_of w.history) h.0 t x e)
 
 not_content : (s : Shape) (a n k : ℕ) → IsLink s a → k < 4 → a ≡ link_of s n + 1 + k → ⊥
 not_content s a n k l lt e = ⊎_elim (λ (b : a < s.heads). omega arith) (λ (b : (m : ℕ) × (a ≡ link_of s m)). let f = b.1 in omega arith) l
@@ -52,10 +55,12 @@ module _ (s : Shape) (items : List Item) (i : Item) (ok : IsShape s) where
   link_at : (v : Walker) (call : Call) (a : ℕ) → get_elem? w.passes i.by ≡ some v → v.stage ≡ Linking call a → IsLink s a
   link_at v call a here stage =
       let inv = keeps_all s items ok in
-      let at : OnLinking s w.words (pairs_of w.history) inv.chains v call a = subst (λ (g : Stage). Spot s w.words (pairs_of w.history) inv.chains v g) stage (inv.passes i.by v here).spot in
+      let at : OnLinking s w.words (pairs_of w.history) inv.chains v call a =
+      subst (λ (g : Stage). Spot s w.words (pairs_of w.history) inv.chains v g) stage (inv.passes i.by v here).spot in
       is_link s (chain_of s call) a at.pre (ok.1 (label_word (label_of call)) (kids_of call)) at.place_is
 
-  one_link : (o : O.Option Walker) → get_elem? w.passes i.by ≡ o → (a n : ℕ) → IsLink s a → slice_index w.words a ≡ suc n → slice_index (step s w i).words a ≡ suc n
+  one_link : (o : O.Option Walker) → get_elem? w.passes i.by ≡ o → (a n : ℕ) → IsLink s a → slice_index w.words a ≡ suc n
+      → slice_index (step s w i).words a ≡ suc n
   one_link none here a n l e = ap (λ (p : O.Option Walker). slice_index (does s w i p).words a) here ∙ e
   one_link (some v) here a n l e = ⊎_elim
       (λ (same : slice_index (step s w i).words a ≡ slice_index w.words a). same ∙ e)
@@ -65,12 +70,14 @@ module _ (s : Shape) (items : List Item) (i : Item) (ok : IsShape s) where
       d)
       (words_stay s items i v a ok here)
 
-  one_content : (o : O.Option Walker) → get_elem? w.passes i.by ≡ o → (t : ℕ) (x : Tree) (k : ℕ) → k < 4 → tree_at (pairs_of w.history) t ≡ Some x → slice_index (step s w i).words (link_of s t + 1 + k) ≡ slice_index w.words (link_of s t + 1 + k)
+  one_content : (o : O.Option Walker) → get_elem? w.passes i.by ≡ o → (t : ℕ) (x : Tree) (k : ℕ) → k < 4
+      → tree_at (pairs_of w.history) t ≡ Some x → slice_index (step s w i).words (link_of s t + 1 + k) ≡ slice_index w.words (link_of s t + 1 + k)
   one_content none here t x k lt e = ap (λ (p : O.Option Walker). slice_index (does s w i p).words (link_of s t + 1 + k)) here
   one_content (some v) here t x k lt e = ⊎_elim
       (λ (same : slice_index (step s w i).words (link_of s t + 1 + k) ≡ slice_index w.words (link_of s t + 1 + k)). same)
       (λ (d : Links s w (step s w i) v (link_of s t + 1 + k) ⊎ Writes s w v (link_of s t + 1 + k)). ⊎_elim
-      (λ (j : Links s w (step s w i) v (link_of s t + 1 + k)). absurd (not_content s (link_of s t + 1 + k) t k (link_at v j.call (link_of s t + 1 + k) here j.stage) lt refl))
+      (λ (j : Links s w (step s w i) v (link_of s t + 1 + k)).
+      absurd (not_content s (link_of s t + 1 + k) t k (link_at v j.call (link_of s t + 1 + k) here j.stage) lt refl))
       (λ (j : Writes s w v (link_of s t + 1 + k)).
       let below = j.below in
       let place = j.place in

@@ -10,7 +10,8 @@ use Rattle.term_core.specs.declared.Walker.{Walker}
 use Rattle.term_core.specs.declared.Stage.{Stage}
 use Rattle.term_core.specs.declared.Stage.TheVariants.{Idle, Looking, AtLink, AtContent, Writing, Linking, Reading}
 use Rattle.term_core.specs.Terms.{StartsWith, pairs_of, tree_at}
-use Rattle.term_core.specs.World.{Shape, World, Item, IsShape, Kind, load_link, load_content, store_content, exchange_link, kind, place, begun, step, reached, link_of}
+use Rattle.term_core.specs.World.{Shape, World, Item, IsShape, Kind, load_link, load_content, store_content, exchange_link, kind, place}
+use Rattle.term_core.specs.World.{begun, step, reached, link_of}
 
 -- the call that a pass is inside
 abbrev pub call_in : Stage → Option Call
