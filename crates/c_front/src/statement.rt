@@ -104,8 +104,8 @@ fn ended_expression<'a>(alloc: Global, tokens: &'a [Token]) -> Parsed<'a, Option
 }
 
 /// The parts of a `for` in their parentheses.
-fn for_parts<'a>(alloc: Global, tokens: &'a [Token]) -> Parsed<'a, Box<ForParts>>
-    ensures ok { IfOk result (λ r. IsHeadRead tokens.now r.1.now (maybe_simple_of r.0.value.first) (maybe_expression_of r.0.value.test) (maybe_simple_of r.0.value.last)) }
+fn for_parts<'a>(alloc: Global, tokens: &'a [Token]) -> Parsed<'a, ForParts>
+    ensures ok { IfOk result (λ r. IsHeadRead tokens.now r.1.now (maybe_simple_of r.0.first) (maybe_expression_of r.0.test) (maybe_simple_of r.0.last)) }
     ensures shorter { IfOk result (λ r. length r.1.now < length tokens.now) }
     ensures err { IfErr result (IsHeadStuck tokens.now) }
 {
@@ -113,8 +113,7 @@ fn for_parts<'a>(alloc: Global, tokens: &'a [Token]) -> Parsed<'a, Box<ForParts>
     let (first, second) = ended_simple(alloc, open, Mark::Semicolon)?;
     let (test, third) = ended_expression(alloc, second)?;
     let (last, end) = ended_simple(alloc, third, Mark::RightParen)?;
-    let parts = Box::new(alloc, ForParts { first, test, last })?;
-    Ok((parts, end))
+    Ok((ForParts { first, test, last }, end))
 }
 
 /// What stands after `break`, `continue` or `return`.
@@ -207,7 +206,7 @@ fn for_loop<'a>(alloc: Global, tokens: &'a [Token]) -> Parsed<'a, Statement>
     ensures shorter { IfOk result (λ r. length r.1.now < length tokens.now) }
     ensures err { IfErr result (IsStuck a_statement (The For ∷ tokens.now)) }
 {
-    let (parts, start) = for_parts(alloc, tokens)?;
+    let (parts, start) = boxed(alloc, for_parts(alloc, tokens))?;
     let (body, end) = boxed(alloc, statement(alloc, start))?;
     Ok((Statement::For(parts, body), end))
 }

@@ -73,7 +73,7 @@ while_loop-returns-in_err-test-clause-err t c = let h : IsStuck a_statement (The
 
 pub for_loop-returns-in_err-parts-clause-err : goal.for_loop-returns-in_err-parts-clause-err
 for_loop-returns-in_err-parts-clause-err t c = let h : IsStuck a_statement (The For ∷ c.args.tokens.now) c.in_err-parts.field-0.0 =
-    for-head-stuck _ _ c.in_err-parts.ensures.err in search rules
+    for-head-stuck _ _ (stops _ _ _ c.in_err-parts.ensures.err c.for_parts.ensures.err tt) in search rules
 
 pub if_then-returns-in_err-first-clause-err : goal.if_then-returns-in_err-first-clause-err
 if_then-returns-in_err-first-clause-err t c =
@@ -107,15 +107,18 @@ while_loop-returns-clause-ok t c = while-read _ _ _ _ _ c.in_ok-test.ensures.ok 
 pub for_loop-returns-in_err-body-clause-err : goal.for_loop-returns-in_err-body-clause-err
 for_loop-returns-in_err-body-clause-err t c =
     let h : IsStuck a_statement (The For ∷ c.args.tokens.now) c.in_err-body.field-0.0 =
-    for-body-stuck _ _ _ _ _ _ c.in_ok-parts.ensures.ok (stops _ _ _ c.in_err-body.ensures.err c.statement.ensures.err tt) in search rules
+    for-body-stuck _ _ _ _ _ _ (IfOk-at_ok _ c.in_ok-parts.ensures.ok c.for_parts.ensures.ok)
+    (stops _ _ _ c.in_err-body.ensures.err c.statement.ensures.err tt) in search rules
 
 pub for_loop-returns-clause-ok : goal.for_loop-returns-clause-ok
-for_loop-returns-clause-ok t c = for-read _ _ _ _ _ _ _ c.in_ok-parts.ensures.ok (IfOk-at_ok _ c.in_ok-body.ensures.ok c.statement.ensures.ok)
+for_loop-returns-clause-ok t c = for-read _ _ _ _ _ _ _ (IfOk-at_ok _ c.in_ok-parts.ensures.ok c.for_parts.ensures.ok)
+    (IfOk-at_ok _ c.in_ok-body.ensures.ok c.statement.ensures.ok)
 
 pub item-returns-in_err-given-in-Some-clause-err : goal.item-returns-in_err-given-in-Some-clause-err
 item-returns-in_err-given-in-Some-clause-err t c =
     let k : IsEndedStuck declared Semicolon _ c.in_err-given-in-Some.field-0.0 =
-    ended-stuck c.first_value.result Semicolon _ declared maybe_value_tree _ c.in_err-given-in-Some.ensures.err c.first_value.ensures.ok c.first_value.ensures.err in
+    ended-stuck c.first_value.result Semicolon _ declared maybe_value_tree _ c.in_err-given-in-Some.ensures.err c.first_value.ensures.ok
+    c.first_value.ensures.err in
     let h : IsStuck an_item c.args.tokens.now c.in_err-given-in-Some.field-0.0 =
     declare-value-stuck _ _ _ _ _ _ c.in-Some.ensures.some c.in_ok-name-in-Some.ensures.ok k in search rules
 
@@ -130,7 +133,8 @@ statement-returns-in_err-all-in-LeftBrace-clause-err t c =
     let e : c.args.tokens.now ≡ The LeftBrace ∷ c.in-Some.rest.now = c.in-Some.ensures.some
     ∙ ap (λ (x : Token). x ∷ c.in-Some.rest.now) (c.in-The.is ∙ ap The c.in-LeftBrace.is) in
     let k : IsEndedStuck items RightBrace c.in-Some.rest.now c.in_err-all-in-LeftBrace.field-0.0 =
-    ended-stuck c.items.result RightBrace _ items (λ all. items_of all.items) _ c.in_err-all-in-LeftBrace.ensures.err c.items.ensures.ok c.items.ensures.err in
+    ended-stuck c.items.result RightBrace _ items (λ all. items_of all.items) _ c.in_err-all-in-LeftBrace.ensures.err c.items.ensures.ok
+    c.items.ensures.err in
     let h : IsStuck a_statement c.args.tokens.now c.in_err-all-in-LeftBrace.field-0.0 = block-stuck _ _ _ e k in search rules
 
 pub statement-returns-in_ok-all-in-LeftBrace-clause-ok : goal.statement-returns-in_ok-all-in-LeftBrace-clause-ok
@@ -156,40 +160,48 @@ statement-returns-in_ok-inner-in-Name-clause-ok t c =
 
 pub statement-returns-in-If-clause-ok : goal.statement-returns-in-If-clause-ok
 statement-returns-in-If-clause-ok t c =
-    IfOk-weaker c.if_then.result _ _ (λ r d. if-read _ _ _ _ (c.in-Some.ensures.some ∙ ap (λ (x : Token). x ∷ c.in-Some.rest.now) (c.in-The.is ∙ ap The c.in-If.is)) d)
+    IfOk-weaker c.if_then.result _ _ (λ r d. if-read _ _ _ _ (c.in-Some.ensures.some
+    ∙ ap (λ (x : Token). x ∷ c.in-Some.rest.now) (c.in-The.is ∙ ap The c.in-If.is)) d)
     c.if_then.ensures.ok
 
 pub statement-returns-in-If-clause-err : goal.statement-returns-in-If-clause-err
 statement-returns-in-If-clause-err t c =
-    IfErr-weaker c.if_then.result _ _ (λ s h. if-stuck _ _ _ (c.in-Some.ensures.some ∙ ap (λ (x : Token). x ∷ c.in-Some.rest.now) (c.in-The.is ∙ ap The c.in-If.is)) h)
+    IfErr-weaker c.if_then.result _ _ (λ s h. if-stuck _ _ _ (c.in-Some.ensures.some
+    ∙ ap (λ (x : Token). x ∷ c.in-Some.rest.now) (c.in-The.is ∙ ap The c.in-If.is)) h)
     c.if_then.ensures.err
 
 pub statement-returns-in-While-clause-ok : goal.statement-returns-in-While-clause-ok
 statement-returns-in-While-clause-ok t c =
-    IfOk-weaker c.while_loop.result _ _ (λ r d. moved-read a_statement _ _ _ _ _ (c.in-Some.ensures.some ∙ ap (λ (x : Token). x ∷ c.in-Some.rest.now) (c.in-The.is ∙ ap The c.in-While.is)) d)
+    IfOk-weaker c.while_loop.result _ _ (λ r d. moved-read a_statement _ _ _ _ _
+    (c.in-Some.ensures.some ∙ ap (λ (x : Token). x ∷ c.in-Some.rest.now) (c.in-The.is ∙ ap The c.in-While.is)) d)
     c.while_loop.ensures.ok
 
 pub statement-returns-in-While-clause-err : goal.statement-returns-in-While-clause-err
 statement-returns-in-While-clause-err t c =
-    IfErr-weaker c.while_loop.result _ _ (λ s h. moved-stuck a_statement _ _ _ _ (c.in-Some.ensures.some ∙ ap (λ (x : Token). x ∷ c.in-Some.rest.now) (c.in-The.is ∙ ap The c.in-While.is)) h)
+    IfErr-weaker c.while_loop.result _ _ (λ s h. moved-stuck a_statement _ _ _ _
+    (c.in-Some.ensures.some ∙ ap (λ (x : Token). x ∷ c.in-Some.rest.now) (c.in-The.is ∙ ap The c.in-While.is)) h)
     c.while_loop.ensures.err
 
 pub statement-returns-in-For-clause-ok : goal.statement-returns-in-For-clause-ok
 statement-returns-in-For-clause-ok t c =
-    IfOk-weaker c.for_loop.result _ _ (λ r d. moved-read a_statement _ _ _ _ _ (c.in-Some.ensures.some ∙ ap (λ (x : Token). x ∷ c.in-Some.rest.now) (c.in-The.is ∙ ap The c.in-For.is)) d)
+    IfOk-weaker c.for_loop.result _ _ (λ r d. moved-read a_statement _ _ _ _ _
+    (c.in-Some.ensures.some ∙ ap (λ (x : Token). x ∷ c.in-Some.rest.now) (c.in-The.is ∙ ap The c.in-For.is)) d)
     c.for_loop.ensures.ok
 
 pub statement-returns-in-For-clause-err : goal.statement-returns-in-For-clause-err
 statement-returns-in-For-clause-err t c =
-    IfErr-weaker c.for_loop.result _ _ (λ s h. moved-stuck a_statement _ _ _ _ (c.in-Some.ensures.some ∙ ap (λ (x : Token). x ∷ c.in-Some.rest.now) (c.in-The.is ∙ ap The c.in-For.is)) h)
+    IfErr-weaker c.for_loop.result _ _ (λ s h. moved-stuck a_statement _ _ _ _
+    (c.in-Some.ensures.some ∙ ap (λ (x : Token). x ∷ c.in-Some.rest.now) (c.in-The.is ∙ ap The c.in-For.is)) h)
     c.for_loop.ensures.err
 
 pub statement-returns-in-Jump-clause-ok : goal.statement-returns-in-Jump-clause-ok
 statement-returns-in-Jump-clause-ok t c =
-    IfOk-weaker c.jump.result _ _ (λ r d. moved-read a_statement _ _ _ _ _ (c.in-Some.ensures.some ∙ ap (λ (x : Token). x ∷ c.in-Some.rest.now) c.in-Jump.is) d)
+    IfOk-weaker c.jump.result _ _ (λ r d. moved-read a_statement _ _ _ _ _
+    (c.in-Some.ensures.some ∙ ap (λ (x : Token). x ∷ c.in-Some.rest.now) c.in-Jump.is) d)
     c.jump.ensures.ok
 
 pub statement-returns-in-Jump-clause-err : goal.statement-returns-in-Jump-clause-err
 statement-returns-in-Jump-clause-err t c =
-    IfErr-weaker c.jump.result _ _ (λ s h. moved-stuck a_statement _ _ _ _ (c.in-Some.ensures.some ∙ ap (λ (x : Token). x ∷ c.in-Some.rest.now) c.in-Jump.is) h)
+    IfErr-weaker c.jump.result _ _ (λ s h. moved-stuck a_statement _ _ _ _
+    (c.in-Some.ensures.some ∙ ap (λ (x : Token). x ∷ c.in-Some.rest.now) c.in-Jump.is) h)
     c.jump.ensures.err
