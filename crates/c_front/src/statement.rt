@@ -10,7 +10,7 @@ ghost use Rattle.c_tokens.specs.declared.token.Mark.TheVariants.{While, For, Sem
 
 use crate::cursor::{ParseStop, Parsed, expect, first_name, name, split, starts};
 use crate::expression::{arguments, closed, expression, value};
-use crate::part::{boxed, ended};
+use crate::part::{boxed, ended, pushed};
 use crate::tree::{Call, Expression, ForParts, Item, Simple, Statement, Value};
 use c_tokens::{IntegerType, JumpWord, Mark, Token};
 use std::alloc::{AllocError, AllocFailed, Global};
@@ -272,9 +272,7 @@ pub fn items<'a>(alloc: Global, tokens: &'a [Token]) -> Parsed<'a, Vec<Item>>
     let mut all = Vec::new(alloc);
     let mut rest = tokens;
     'items: while !ends_items(rest) {
-        let (one, next) = item(alloc, rest)?;
-        all.push(one)?;
-        rest = next;
+        rest = pushed(&mut all, item(alloc, rest))?;
     }
     Ok((all, rest))
 }

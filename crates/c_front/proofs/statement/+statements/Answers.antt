@@ -51,19 +51,6 @@ pub statement-returns-in-Constant-clause-err : goal.statement-returns-in-Constan
 statement-returns-in-Constant-clause-err t c =
     no-statement _ _ _ (c.in-Some.ensures.some ∙ ap (λ (x : Token). x ∷ c.in-Some.rest.now) c.in-Constant.is) refl
 
-pub items-returns-in_err-one-clause-err : goal.items-returns-in_err-one-clause-err
-items-returns-in_err-one-clause-err t c =
-    let g : EndsItems (first c.items.rest.now) → ⊥ = λ h. test-differs _ (c.ends_items.ensures.1 h) c.items-test.true in
-    let h : IsStuck items c.args.tokens.now c.in_err-one.field-0.0 = items-item-stuck _ _ _ _ c.items.invariant g c.in_err-one.ensures.err in search rules
-
-pub items-items-preserved : goal.items-items-preserved
-items-items-preserved t c =
-    let g : EndsItems (first c.items.rest.now) → ⊥ = λ h. test-differs _ (c.ends_items.ensures.1 h) c.items-test.true in
-    let d : length c.items.rest.now ≤ length c.args.tokens.now = c.items.invariant.shorter in
-    let e : length c.in_ok-one.next.now < length c.items.rest.now = c.in_ok-one.ensures.shorter in
-    rw (c.in_ok-push.ensures.items, items_of-append c.items.all.items c.in_ok-one.one)
-    (goes-on-items-more _ _ _ _ _ c.items.invariant g c.in_ok-one.ensures.ok (omega (arith, d, e)))
-
 pub items-returns-clause-ok : goal.items-returns-clause-ok
 items-returns-clause-ok t c = items-end-read _ _ _ c.items.invariant (c.ends_items.ensures.0 c.items-test.false)
 
@@ -205,3 +192,18 @@ statement-returns-in-Jump-clause-err t c =
     IfErr-weaker c.jump.result _ _ (λ s h. moved-stuck a_statement _ _ _ _
     (c.in-Some.ensures.some ∙ ap (λ (x : Token). x ∷ c.in-Some.rest.now) c.in-Jump.is) h)
     c.jump.ensures.err
+
+pub items-returns-in_err-rest-clause-err : goal.items-returns-in_err-rest-clause-err
+items-returns-in_err-rest-clause-err t c =
+    let g : EndsItems (first c.items.rest.now) → ⊥ = λ h. test-differs _ (c.ends_items.ensures.1 h) c.items-test.true in
+    let k = stops _ _ _ c.in_err-rest.ensures.err c.item.ensures.err tt in
+    let h : IsStuck items c.args.tokens.now c.in_err-rest.field-0.0 = items-item-stuck _ _ _ _ c.items.invariant g k in search rules
+
+pub items-items-preserved : goal.items-items-preserved
+items-items-preserved t c =
+    let r = c.in_ok-rest.ensures.ok in
+    let g : EndsItems (first c.items.rest.now) → ⊥ = λ h. test-differs _ (c.ends_items.ensures.1 h) c.items-test.true in
+    let d : length c.items.rest.now ≤ length c.args.tokens.now = c.items.invariant.shorter in
+    let e : length c.in_ok-rest.rest.now < length c.items.rest.now = IfOk-at_ok _ r.1 c.item.ensures.shorter in
+    rw (r.2, items_of-append c.items.all.items r.0)
+    (goes-on-items-more _ _ _ _ _ c.items.invariant g (IfOk-at_ok _ r.1 c.item.ensures.ok) (omega (arith, d, e)))
