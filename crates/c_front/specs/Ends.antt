@@ -1,5 +1,5 @@
 -- A part of a text, and what may follow it.
-use Rattle.std.specs.Prelude.{◌≡◌, ◌⊎◌, List, Result, Ok, Err}
+use Rattle.std.specs.Prelude.{◌≡◌, ◌⊎◌, List, [], ◌∷◌, ◌++◌, Result, Ok, Err}
 use Rattle.std.specs.Borrow.{Bor}
 use Rattle.c_tokens.specs.declared.token.Mark.{Mark}
 use Rattle.c_tokens.specs.declared.token.Token.{Token}
@@ -22,3 +22,7 @@ IsEnded parsed u r = (rest : Bor (List Token)) × (parsed ≡ Ok (r.0, rest)) ×
 -- the part has stopped here, or the mark after it is missing
 abbrev pub IsUnended : {A : Type 0} → Parsed A → Mark → ParseStop → Type 0
 IsUnended {A} parsed u s = (parsed ≡ Err s) ⊎ ((a : A) × (rest : Bor (List Token)) × (parsed ≡ Ok (a, rest)) × IsMissing u rest.now s)
+
+-- the part stands behind the others
+abbrev pub IsPushed : {A : Type 0} → Parsed A → Bor (List Token) → List A → List A → Type 0
+IsPushed {A} parsed rest old new = (a : A) × (parsed ≡ Ok (a, rest)) × (new ≡ old ++ a ∷ [])

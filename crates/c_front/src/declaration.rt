@@ -7,7 +7,7 @@ ghost use Rattle.c_tokens.specs.declared.token.Token.{Token};
 ghost use Rattle.c_front.specs.Tree as Tree;
 
 use crate::cursor::{ParseStop, Parsed, expect, literal, name, split, starts};
-use crate::part::ended;
+use crate::part::{ended, pushed};
 use crate::statement::{integer_type, items};
 use crate::tree::{Declaration, FunctionDefinition, Initial, Item, Parameter};
 use c_tokens::{Identifier, IntegerType, Mark, Token};
@@ -66,13 +66,9 @@ fn parameters<'a>(alloc: Global, tokens: &'a [Token]) -> Parsed<'a, Vec<Paramete
     if let Some(end) = starts(tokens, Mark::Void) {
         return Ok((all, end));
     }
-    let (one, next) = parameter(tokens)?;
-    all.push(one)?;
-    let mut rest = next;
+    let mut rest = pushed(&mut all, parameter(tokens))?;
     'more: while let Some(after) = starts(rest, Mark::Comma) {
-        let (another, next) = parameter(after)?;
-        all.push(another)?;
-        rest = next;
+        rest = pushed(&mut all, parameter(after))?;
     }
     Ok((all, rest))
 }
@@ -164,9 +160,7 @@ fn declarations<'a>(alloc: Global, tokens: &'a [Token]) -> Result<Vec<Declaratio
     let mut all = Vec::new(alloc);
     let mut rest = tokens;
     'declarations: while let Some(_) = split(rest) {
-        let (one, next) = declaration(alloc, rest)?;
-        all.push(one)?;
-        rest = next;
+        rest = pushed(&mut all, declaration(alloc, rest))?;
     }
     Ok(all)
 }

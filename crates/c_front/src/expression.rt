@@ -7,7 +7,7 @@ ghost use Rattle.c_front.specs.Parsing.{IsClosedRead, IsClosedStuck, IsArguments
 ghost use Rattle.c_tokens.specs.declared.token.Token.TheVariants.{The};
 
 use crate::cursor::{ParseStop, Parsed, expect, split, starts};
-use crate::part::{boxed, ended};
+use crate::part::{boxed, ended, pushed};
 use crate::tree::{BinaryOp, Call, Expression, UnaryOp, Value};
 use c_tokens::{Identifier, Mark, Token};
 use std::alloc::{AllocError, AllocFailed, Global};
@@ -192,13 +192,9 @@ pub fn arguments<'a>(alloc: Global, tokens: &'a [Token]) -> Parsed<'a, Vec<Expre
     if let Some(end) = starts(tokens, Mark::RightParen) {
         return Ok((all, end));
     }
-    let (one, next) = expression(alloc, tokens)?;
-    all.push(one)?;
-    let mut rest = next;
+    let mut rest = pushed(&mut all, expression(alloc, tokens))?;
     'more: while let Some(after) = starts(rest, Mark::Comma) {
-        let (another, next) = expression(alloc, after)?;
-        all.push(another)?;
-        rest = next;
+        rest = pushed(&mut all, expression(alloc, after))?;
     }
     let end = expect(rest, Mark::RightParen)?;
     Ok((all, end))

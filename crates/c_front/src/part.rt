@@ -1,10 +1,10 @@
-// What any part of a program is read with: the mark after it, and a box for it.
+// What any part of a program is read with: the mark after it, a box for it, and its place in a list.
 
 ghost use Rattle.std.specs.Prelude.{◌≡◌, IfOk, IfErr, Ok};
-ghost use Rattle.c_front.specs.Ends.{IsEnded, IsUnended, StopsAs};
+ghost use Rattle.c_front.specs.Ends.{IsEnded, IsPushed, IsUnended, StopsAs};
 
-use crate::cursor::{Parsed, expect};
-use c_tokens::Mark;
+use crate::cursor::{ParseStop, Parsed, expect};
+use c_tokens::{Mark, Token};
 use std::alloc::{AllocError, AllocFailed, Global};
 
 /// The part, if the mark stands after it that has to.
@@ -24,4 +24,17 @@ pub fn boxed<'a, T: Drop>(alloc: Global, parsed: Parsed<'a, T>) -> Parsed<'a, Bo
 {
     let (part, end) = parsed?;
     Ok((Box::new(alloc, part)?, end))
+}
+
+/// The part at the end of a list, and the tokens after it.
+pub fn pushed<'a, T: Drop>(
+    all: &mut Vec<T>,
+    parsed: Parsed<'a, T>,
+) -> Result<&'a [Token], ParseStop<'a>>
+    ensures ok { IfOk result (λ rest. IsPushed parsed.entry rest all.old.items all.new.items) }
+    ensures err { IfErr result (StopsAs parsed.entry) }
+{
+    let (part, rest) = parsed?;
+    all.push(part)?;
+    Ok(rest)
 }

@@ -10,7 +10,7 @@ ghost use Rattle.c_tokens.specs.declared.token.Mark.TheVariants.{While, For, Sem
 
 use crate::cursor::{ParseStop, Parsed, expect, first_name, name, split, starts};
 use crate::expression::{arguments, closed, expression, value};
-use crate::part::{boxed, ended};
+use crate::part::{boxed, ended, pushed};
 use crate::tree::{Call, Expression, ForParts, Item, Simple, Statement, Value};
 use c_tokens::{IntegerType, JumpWord, Mark, Token};
 use std::alloc::{AllocError, AllocFailed, Global};
@@ -104,8 +104,8 @@ fn ended_expression<'a>(alloc: Global, tokens: &'a [Token]) -> Parsed<'a, Option
 }
 
 /// The parts of a `for` in their parentheses.
-fn for_parts<'a>(alloc: Global, tokens: &'a [Token]) -> Parsed<'a, Box<ForParts>>
-    ensures ok { IfOk result (λ r. IsHeadRead tokens.now r.1.now (maybe_simple_of r.0.value.first) (maybe_expression_of r.0.value.test) (maybe_simple_of r.0.value.last)) }
+fn for_parts<'a>(alloc: Global, tokens: &'a [Token]) -> Parsed<'a, ForParts>
+    ensures ok { IfOk result (λ r. IsHeadRead tokens.now r.1.now (maybe_simple_of r.0.first) (maybe_expression_of r.0.test) (maybe_simple_of r.0.last)) }
     ensures shorter { IfOk result (λ r. length r.1.now < length tokens.now) }
     ensures err { IfErr result (IsHeadStuck tokens.now) }
 {
@@ -113,8 +113,7 @@ fn for_parts<'a>(alloc: Global, tokens: &'a [Token]) -> Parsed<'a, Box<ForParts>
     let (first, second) = ended_simple(alloc, open, Mark::Semicolon)?;
     let (test, third) = ended_expression(alloc, second)?;
     let (last, end) = ended_simple(alloc, third, Mark::RightParen)?;
-    let parts = Box::new(alloc, ForParts { first, test, last })?;
-    Ok((parts, end))
+    Ok((ForParts { first, test, last }, end))
 }
 
 /// What stands after `break`, `continue` or `return`.
@@ -207,7 +206,7 @@ fn for_loop<'a>(alloc: Global, tokens: &'a [Token]) -> Parsed<'a, Statement>
     ensures shorter { IfOk result (λ r. length r.1.now < length tokens.now) }
     ensures err { IfErr result (IsStuck a_statement (The For ∷ tokens.now)) }
 {
-    let (parts, start) = for_parts(alloc, tokens)?;
+    let (parts, start) = boxed(alloc, for_parts(alloc, tokens))?;
     let (body, end) = boxed(alloc, statement(alloc, start))?;
     Ok((Statement::For(parts, body), end))
 }
@@ -273,9 +272,7 @@ pub fn items<'a>(alloc: Global, tokens: &'a [Token]) -> Parsed<'a, Vec<Item>>
     let mut all = Vec::new(alloc);
     let mut rest = tokens;
     'items: while !ends_items(rest) {
-        let (one, next) = item(alloc, rest)?;
-        all.push(one)?;
-        rest = next;
+        rest = pushed(&mut all, item(alloc, rest))?;
     }
     Ok((all, rest))
 }

@@ -29,8 +29,12 @@ source_app = with_rule (new_app (codes "interp")) (required_rule (codes "SOURCE"
 abbrev pub interp_app : App
 interp_app = with_rule (with_rule source_app (number_rule (codes "depth") 1 4096)) (number_rule (codes "steps") 0 4294967295)
 
+-- `mcc` before its second command
+abbrev pub checking_app : App
+checking_app = with_subcommand (with_required_subcommand (new_app (codes "mcc"))) check_app.top
+
 abbrev pub mcc_app : App
-mcc_app = with_subcommand (with_subcommand (with_required_subcommand (new_app (codes "mcc"))) check_app.top) interp_app.top
+mcc_app = with_subcommand checking_app interp_app.top
 
 -- the number that the text gives, or the default where there is no text
 abbrev pub IsNumber : Option Text → ℕ → ℕ → Type 0

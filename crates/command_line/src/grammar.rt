@@ -3,7 +3,7 @@
 ghost use Rattle.std.specs.Prelude.{◌≡◌, false, IfOk};
 ghost use Rattle.clap.specs.declared.builder.command.Command.TheViews.{out-Command};
 ghost use Rattle.clap.specs.Words.{app_of, rule_of};
-ghost use Rattle.command_line.specs.Commands.{check_app, interp_app, mcc_app, source_app, number_rule};
+ghost use Rattle.command_line.specs.Commands.{check_app, checking_app, interp_app, mcc_app, number_rule, required_rule, source_app};
 
 use clap::builder::ValueParser;
 use clap::{Arg, ArgAction, Command as CommandLine};
@@ -52,18 +52,25 @@ wrong words, 4 for `more`, 3 for any other answer.
 Examples: mcc check crates/example_files/data/slot-filled.check
           mcc interp crates/example_files/data/squares.c";
 
+/// An argument by its place, which must be there.
+fn required<'a>(alloc: Global, id: &'a str, about: &'a str) -> Arg<'a>
+    ensures rule { rule_of result ≡ required_rule id.entry.now }
+    ensures local { result.global ≡ false }
+{
+    Arg::new(alloc, id)
+        .required(true)
+        .action(ArgAction::Set)
+        .help(about)
+}
+
 fn check_command<'a>(alloc: Global) -> Result<CommandLine<'a>, AllocError>
     ensures app { IfOk result (λ c. app_of c ≡ check_app) }
     ensures local { IfOk result (λ c. (out-Command c).has_globals ≡ false) }
 {
-    let file = Arg::new(alloc, "FILE")
-        .required(true)
-        .action(ArgAction::Set)
-        .help("The check text");
     CommandLine::new(alloc, "check")
         .about("Says whether an order may stand for a block")
         .after_help(CHECK_HELP)
-        .arg(file)
+        .arg(required(alloc, "FILE", "The check text"))
 }
 
 /// The option `--id N` with N from low to high.
@@ -82,14 +89,10 @@ fn source_command<'a>(alloc: Global) -> Result<CommandLine<'a>, AllocError>
     ensures app { IfOk result (λ c. app_of c ≡ source_app) }
     ensures local { IfOk result (λ c. (out-Command c).has_globals ≡ false) }
 {
-    let source = Arg::new(alloc, "SOURCE")
-        .required(true)
-        .action(ArgAction::Set)
-        .help("The C program");
     CommandLine::new(alloc, "interp")
         .about("Runs a C program by its meaning")
         .after_help(INTERP_HELP)
-        .arg(source)
+        .arg(required(alloc, "SOURCE", "The C program"))
 }
 
 fn interp_command<'a>(alloc: Global) -> Result<CommandLine<'a>, AllocError>
@@ -97,21 +100,26 @@ fn interp_command<'a>(alloc: Global) -> Result<CommandLine<'a>, AllocError>
     ensures local { IfOk result (λ c. (out-Command c).has_globals ≡ false) }
 {
     let command = source_command(alloc)?;
-    let depth = number(alloc, "depth", 1, 4096, DEPTH_HELP);
-    let steps = number(alloc, "steps", 0, 4294967295, STEPS_HELP);
-    command.arg(depth)?.arg(steps)
+    let command = command.arg(number(alloc, "depth", 1, 4096, DEPTH_HELP))?;
+    command.arg(number(alloc, "steps", 0, 4294967295, STEPS_HELP))
+}
+
+/// `mcc` before its second command.
+fn checking_command<'a>(alloc: Global) -> Result<CommandLine<'a>, AllocError>
+    ensures { IfOk result (λ c. app_of c ≡ checking_app) }
+{
+    let check = check_command(alloc)?;
+    CommandLine::new(alloc, "mcc")
+        .about("A checked scheduler for MIPS I, and a C interpreter")
+        .after_help(STATUS_HELP)
+        .subcommand_required(true)
+        .subcommand(check)
 }
 
 /// The command line of `mcc`.
 pub fn grammar<'a>(alloc: Global) -> Result<CommandLine<'a>, AllocError>
     ensures { IfOk result (λ c. app_of c ≡ mcc_app) }
 {
-    let check = check_command(alloc)?;
-    let interp = interp_command(alloc)?;
-    CommandLine::new(alloc, "mcc")
-        .about("A checked scheduler for MIPS I, and a C interpreter")
-        .after_help(STATUS_HELP)
-        .subcommand_required(true)
-        .subcommand(check)?
-        .subcommand(interp)
+    let command = checking_command(alloc)?;
+    command.subcommand(interp_command(alloc)?)
 }

@@ -57,7 +57,8 @@ operand-returns-in_default-mark t c =
 
 pub operands-returns-in_err-left-clause-err : goal.operands-returns-in_err-left-clause-err
 operands-returns-in_err-left-clause-err t c =
-    let h : IsStuck (operands (above (level_of c.args.level))) c.args.tokens.now c.in_err-left.field-0.0 = climbs-first-stuck _ _ _ c.in_err-left.ensures.err in
+    let h : IsStuck (operands (above (level_of c.args.level))) c.args.tokens.now c.in_err-left.field-0.0 =
+    climbs-first-stuck _ _ _ c.in_err-left.ensures.err in
     search rules
 
 pub operands-climbing-init : goal.operands-climbing-init
@@ -93,12 +94,14 @@ choice-returns-clause-ok t c =
 
 pub closed-returns-clause-ok : goal.closed-returns-clause-ok
 closed-returns-clause-ok t c =
-    IfOk-weaker c.ended.result _ _ (λ r d. ended-read c.expression.result c.args.closing c.args.tokens.now an_expression expression_of r d c.expression.ensures.ok)
+    IfOk-weaker c.ended.result _ _ (λ r d. ended-read c.expression.result c.args.closing c.args.tokens.now an_expression expression_of r d
+    c.expression.ensures.ok)
     c.ended.ensures.ok
 
 pub closed-returns-clause-shorter : goal.closed-returns-clause-shorter
 closed-returns-clause-shorter t c =
-    IfOk-weaker c.ended.result _ _ (λ r d. ended-shorter c.expression.result c.args.closing c.args.tokens.now r d c.expression.ensures.shorter) c.ended.ensures.ok
+    IfOk-weaker c.ended.result _ _ (λ r d. ended-shorter c.expression.result c.args.closing c.args.tokens.now r d c.expression.ensures.shorter)
+    c.ended.ensures.ok
 
 pub closed-returns-clause-err : goal.closed-returns-clause-err
 closed-returns-clause-err t c =

@@ -51,19 +51,6 @@ pub statement-returns-in-Constant-clause-err : goal.statement-returns-in-Constan
 statement-returns-in-Constant-clause-err t c =
     no-statement _ _ _ (c.in-Some.ensures.some ∙ ap (λ (x : Token). x ∷ c.in-Some.rest.now) c.in-Constant.is) refl
 
-pub items-returns-in_err-one-clause-err : goal.items-returns-in_err-one-clause-err
-items-returns-in_err-one-clause-err t c =
-    let g : EndsItems (first c.items.rest.now) → ⊥ = λ h. test-differs _ (c.ends_items.ensures.1 h) c.items-test.true in
-    let h : IsStuck items c.args.tokens.now c.in_err-one.field-0.0 = items-item-stuck _ _ _ _ c.items.invariant g c.in_err-one.ensures.err in search rules
-
-pub items-items-preserved : goal.items-items-preserved
-items-items-preserved t c =
-    let g : EndsItems (first c.items.rest.now) → ⊥ = λ h. test-differs _ (c.ends_items.ensures.1 h) c.items-test.true in
-    let d : length c.items.rest.now ≤ length c.args.tokens.now = c.items.invariant.shorter in
-    let e : length c.in_ok-one.next.now < length c.items.rest.now = c.in_ok-one.ensures.shorter in
-    rw (c.in_ok-push.ensures.items, items_of-append c.items.all.items c.in_ok-one.one)
-    (goes-on-items-more _ _ _ _ _ c.items.invariant g c.in_ok-one.ensures.ok (omega (arith, d, e)))
-
 pub items-returns-clause-ok : goal.items-returns-clause-ok
 items-returns-clause-ok t c = items-end-read _ _ _ c.items.invariant (c.ends_items.ensures.0 c.items-test.false)
 
@@ -73,7 +60,7 @@ while_loop-returns-in_err-test-clause-err t c = let h : IsStuck a_statement (The
 
 pub for_loop-returns-in_err-parts-clause-err : goal.for_loop-returns-in_err-parts-clause-err
 for_loop-returns-in_err-parts-clause-err t c = let h : IsStuck a_statement (The For ∷ c.args.tokens.now) c.in_err-parts.field-0.0 =
-    for-head-stuck _ _ c.in_err-parts.ensures.err in search rules
+    for-head-stuck _ _ (stops _ _ _ c.in_err-parts.ensures.err c.for_parts.ensures.err tt) in search rules
 
 pub if_then-returns-in_err-first-clause-err : goal.if_then-returns-in_err-first-clause-err
 if_then-returns-in_err-first-clause-err t c =
@@ -107,15 +94,18 @@ while_loop-returns-clause-ok t c = while-read _ _ _ _ _ c.in_ok-test.ensures.ok 
 pub for_loop-returns-in_err-body-clause-err : goal.for_loop-returns-in_err-body-clause-err
 for_loop-returns-in_err-body-clause-err t c =
     let h : IsStuck a_statement (The For ∷ c.args.tokens.now) c.in_err-body.field-0.0 =
-    for-body-stuck _ _ _ _ _ _ c.in_ok-parts.ensures.ok (stops _ _ _ c.in_err-body.ensures.err c.statement.ensures.err tt) in search rules
+    for-body-stuck _ _ _ _ _ _ (IfOk-at_ok _ c.in_ok-parts.ensures.ok c.for_parts.ensures.ok)
+    (stops _ _ _ c.in_err-body.ensures.err c.statement.ensures.err tt) in search rules
 
 pub for_loop-returns-clause-ok : goal.for_loop-returns-clause-ok
-for_loop-returns-clause-ok t c = for-read _ _ _ _ _ _ _ c.in_ok-parts.ensures.ok (IfOk-at_ok _ c.in_ok-body.ensures.ok c.statement.ensures.ok)
+for_loop-returns-clause-ok t c = for-read _ _ _ _ _ _ _ (IfOk-at_ok _ c.in_ok-parts.ensures.ok c.for_parts.ensures.ok)
+    (IfOk-at_ok _ c.in_ok-body.ensures.ok c.statement.ensures.ok)
 
 pub item-returns-in_err-given-in-Some-clause-err : goal.item-returns-in_err-given-in-Some-clause-err
 item-returns-in_err-given-in-Some-clause-err t c =
     let k : IsEndedStuck declared Semicolon _ c.in_err-given-in-Some.field-0.0 =
-    ended-stuck c.first_value.result Semicolon _ declared maybe_value_tree _ c.in_err-given-in-Some.ensures.err c.first_value.ensures.ok c.first_value.ensures.err in
+    ended-stuck c.first_value.result Semicolon _ declared maybe_value_tree _ c.in_err-given-in-Some.ensures.err c.first_value.ensures.ok
+    c.first_value.ensures.err in
     let h : IsStuck an_item c.args.tokens.now c.in_err-given-in-Some.field-0.0 =
     declare-value-stuck _ _ _ _ _ _ c.in-Some.ensures.some c.in_ok-name-in-Some.ensures.ok k in search rules
 
@@ -130,7 +120,8 @@ statement-returns-in_err-all-in-LeftBrace-clause-err t c =
     let e : c.args.tokens.now ≡ The LeftBrace ∷ c.in-Some.rest.now = c.in-Some.ensures.some
     ∙ ap (λ (x : Token). x ∷ c.in-Some.rest.now) (c.in-The.is ∙ ap The c.in-LeftBrace.is) in
     let k : IsEndedStuck items RightBrace c.in-Some.rest.now c.in_err-all-in-LeftBrace.field-0.0 =
-    ended-stuck c.items.result RightBrace _ items (λ all. items_of all.items) _ c.in_err-all-in-LeftBrace.ensures.err c.items.ensures.ok c.items.ensures.err in
+    ended-stuck c.items.result RightBrace _ items (λ all. items_of all.items) _ c.in_err-all-in-LeftBrace.ensures.err c.items.ensures.ok
+    c.items.ensures.err in
     let h : IsStuck a_statement c.args.tokens.now c.in_err-all-in-LeftBrace.field-0.0 = block-stuck _ _ _ e k in search rules
 
 pub statement-returns-in_ok-all-in-LeftBrace-clause-ok : goal.statement-returns-in_ok-all-in-LeftBrace-clause-ok
@@ -156,40 +147,63 @@ statement-returns-in_ok-inner-in-Name-clause-ok t c =
 
 pub statement-returns-in-If-clause-ok : goal.statement-returns-in-If-clause-ok
 statement-returns-in-If-clause-ok t c =
-    IfOk-weaker c.if_then.result _ _ (λ r d. if-read _ _ _ _ (c.in-Some.ensures.some ∙ ap (λ (x : Token). x ∷ c.in-Some.rest.now) (c.in-The.is ∙ ap The c.in-If.is)) d)
+    IfOk-weaker c.if_then.result _ _ (λ r d. if-read _ _ _ _ (c.in-Some.ensures.some
+    ∙ ap (λ (x : Token). x ∷ c.in-Some.rest.now) (c.in-The.is ∙ ap The c.in-If.is)) d)
     c.if_then.ensures.ok
 
 pub statement-returns-in-If-clause-err : goal.statement-returns-in-If-clause-err
 statement-returns-in-If-clause-err t c =
-    IfErr-weaker c.if_then.result _ _ (λ s h. if-stuck _ _ _ (c.in-Some.ensures.some ∙ ap (λ (x : Token). x ∷ c.in-Some.rest.now) (c.in-The.is ∙ ap The c.in-If.is)) h)
+    IfErr-weaker c.if_then.result _ _ (λ s h. if-stuck _ _ _ (c.in-Some.ensures.some
+    ∙ ap (λ (x : Token). x ∷ c.in-Some.rest.now) (c.in-The.is ∙ ap The c.in-If.is)) h)
     c.if_then.ensures.err
 
 pub statement-returns-in-While-clause-ok : goal.statement-returns-in-While-clause-ok
 statement-returns-in-While-clause-ok t c =
-    IfOk-weaker c.while_loop.result _ _ (λ r d. moved-read a_statement _ _ _ _ _ (c.in-Some.ensures.some ∙ ap (λ (x : Token). x ∷ c.in-Some.rest.now) (c.in-The.is ∙ ap The c.in-While.is)) d)
+    IfOk-weaker c.while_loop.result _ _ (λ r d. moved-read a_statement _ _ _ _ _
+    (c.in-Some.ensures.some ∙ ap (λ (x : Token). x ∷ c.in-Some.rest.now) (c.in-The.is ∙ ap The c.in-While.is)) d)
     c.while_loop.ensures.ok
 
 pub statement-returns-in-While-clause-err : goal.statement-returns-in-While-clause-err
 statement-returns-in-While-clause-err t c =
-    IfErr-weaker c.while_loop.result _ _ (λ s h. moved-stuck a_statement _ _ _ _ (c.in-Some.ensures.some ∙ ap (λ (x : Token). x ∷ c.in-Some.rest.now) (c.in-The.is ∙ ap The c.in-While.is)) h)
+    IfErr-weaker c.while_loop.result _ _ (λ s h. moved-stuck a_statement _ _ _ _
+    (c.in-Some.ensures.some ∙ ap (λ (x : Token). x ∷ c.in-Some.rest.now) (c.in-The.is ∙ ap The c.in-While.is)) h)
     c.while_loop.ensures.err
 
 pub statement-returns-in-For-clause-ok : goal.statement-returns-in-For-clause-ok
 statement-returns-in-For-clause-ok t c =
-    IfOk-weaker c.for_loop.result _ _ (λ r d. moved-read a_statement _ _ _ _ _ (c.in-Some.ensures.some ∙ ap (λ (x : Token). x ∷ c.in-Some.rest.now) (c.in-The.is ∙ ap The c.in-For.is)) d)
+    IfOk-weaker c.for_loop.result _ _ (λ r d. moved-read a_statement _ _ _ _ _
+    (c.in-Some.ensures.some ∙ ap (λ (x : Token). x ∷ c.in-Some.rest.now) (c.in-The.is ∙ ap The c.in-For.is)) d)
     c.for_loop.ensures.ok
 
 pub statement-returns-in-For-clause-err : goal.statement-returns-in-For-clause-err
 statement-returns-in-For-clause-err t c =
-    IfErr-weaker c.for_loop.result _ _ (λ s h. moved-stuck a_statement _ _ _ _ (c.in-Some.ensures.some ∙ ap (λ (x : Token). x ∷ c.in-Some.rest.now) (c.in-The.is ∙ ap The c.in-For.is)) h)
+    IfErr-weaker c.for_loop.result _ _ (λ s h. moved-stuck a_statement _ _ _ _
+    (c.in-Some.ensures.some ∙ ap (λ (x : Token). x ∷ c.in-Some.rest.now) (c.in-The.is ∙ ap The c.in-For.is)) h)
     c.for_loop.ensures.err
 
 pub statement-returns-in-Jump-clause-ok : goal.statement-returns-in-Jump-clause-ok
 statement-returns-in-Jump-clause-ok t c =
-    IfOk-weaker c.jump.result _ _ (λ r d. moved-read a_statement _ _ _ _ _ (c.in-Some.ensures.some ∙ ap (λ (x : Token). x ∷ c.in-Some.rest.now) c.in-Jump.is) d)
+    IfOk-weaker c.jump.result _ _ (λ r d. moved-read a_statement _ _ _ _ _
+    (c.in-Some.ensures.some ∙ ap (λ (x : Token). x ∷ c.in-Some.rest.now) c.in-Jump.is) d)
     c.jump.ensures.ok
 
 pub statement-returns-in-Jump-clause-err : goal.statement-returns-in-Jump-clause-err
 statement-returns-in-Jump-clause-err t c =
-    IfErr-weaker c.jump.result _ _ (λ s h. moved-stuck a_statement _ _ _ _ (c.in-Some.ensures.some ∙ ap (λ (x : Token). x ∷ c.in-Some.rest.now) c.in-Jump.is) h)
+    IfErr-weaker c.jump.result _ _ (λ s h. moved-stuck a_statement _ _ _ _
+    (c.in-Some.ensures.some ∙ ap (λ (x : Token). x ∷ c.in-Some.rest.now) c.in-Jump.is) h)
     c.jump.ensures.err
+
+pub items-returns-in_err-rest-clause-err : goal.items-returns-in_err-rest-clause-err
+items-returns-in_err-rest-clause-err t c =
+    let g : EndsItems (first c.items.rest.now) → ⊥ = λ h. test-differs _ (c.ends_items.ensures.1 h) c.items-test.true in
+    let k = stops _ _ _ c.in_err-rest.ensures.err c.item.ensures.err tt in
+    let h : IsStuck items c.args.tokens.now c.in_err-rest.field-0.0 = items-item-stuck _ _ _ _ c.items.invariant g k in search rules
+
+pub items-items-preserved : goal.items-items-preserved
+items-items-preserved t c =
+    let r = c.in_ok-rest.ensures.ok in
+    let g : EndsItems (first c.items.rest.now) → ⊥ = λ h. test-differs _ (c.ends_items.ensures.1 h) c.items-test.true in
+    let d : length c.items.rest.now ≤ length c.args.tokens.now = c.items.invariant.shorter in
+    let e : length c.in_ok-rest.rest.now < length c.items.rest.now = IfOk-at_ok _ r.1 c.item.ensures.shorter in
+    rw (r.2, items_of-append c.items.all.items r.0)
+    (goes-on-items-more _ _ _ _ _ c.items.invariant g (IfOk-at_ok _ r.1 c.item.ensures.ok) (omega (arith, d, e)))

@@ -22,4 +22,4 @@ returns-in_err-last-clause-err c =
     c.in_ok-test.ensures.ok c.in_err-last.ensures.err in search rules
 
 pub returns-clause-ok : goal.returns-clause-ok
-returns-clause-ok c = rw c.in_ok-parts.ensures.ok (head-read _ _ _ _ _ _ _ _ c.in_ok-open.ensures.ok c.in_ok-first.ensures.ok c.in_ok-test.ensures.ok c.in_ok-last.ensures.ok)
+returns-clause-ok c = head-read _ _ _ _ _ _ _ _ c.in_ok-open.ensures.ok c.in_ok-first.ensures.ok c.in_ok-test.ensures.ok c.in_ok-last.ensures.ok

@@ -5,5 +5,6 @@ use Rattle.command_line.proofs.values.words.Goals as goal
 
 pub returns-in_err-matches-clause-refused : goal.returns-in_err-matches-clause-refused
 returns-in_err-matches-clause-refused c =
-    let moved = refused_moves (app_of c.in_ok-command.command) mcc_app _ (kind_of c.in_err-matches.field-0.0) c.in_ok-command.ensures c.in_err-matches.ensures.passes in
+    let moved = refused_moves (app_of c.in_ok-command.command) mcc_app _
+    (kind_of c.in_err-matches.field-0.0) c.in_ok-command.ensures c.in_err-matches.ensures.passes in
     err_of c.from_residual-in_err-matches.result c.in_err-matches.field-0.0 _ c.from_residual-in_err-matches.ensures.1 moved
