@@ -98,16 +98,10 @@ fn wrong_words_are_told_on_standard_error(rt: HostRuntime) -> Result<(), Fail> {
         ["mcc", "check", "x", "y"].as_slice(),
         ["mcc", "check", "--frob", "x"].as_slice(),
     ] {
-        let mut files = OneText {
-            text: SAME,
-            fault: None,
-        };
-        let mut out = Vec::new(rt.alloc());
-        let mut err = Vec::new(rt.alloc());
-        let got = mcc(rt.alloc(), args, &mut files, &mut out, &mut err);
-        assert_eq!(rt; got, 2);
-        assert!(rt; out.is_empty());
-        assert!(rt; !err.is_empty());
+        let got = told(rt.alloc(), SAME, args);
+        assert_eq!(rt; got.status, 2);
+        assert!(rt; got.out.is_empty());
+        assert!(rt; !got.err.is_empty());
     }
     Ok(())
 }
@@ -123,16 +117,10 @@ fn help_is_on_standard_output(rt: HostRuntime) -> Result<(), Fail> {
         (["mcc", "check", "--help"].as_slice(), "`same`"),
         (["mcc", "help", "check"].as_slice(), "unclean U1"),
     ] {
-        let mut files = OneText {
-            text: SAME,
-            fault: None,
-        };
-        let mut out = Vec::new(rt.alloc());
-        let mut err = Vec::new(rt.alloc());
-        let got = mcc(rt.alloc(), args, &mut files, &mut out, &mut err);
-        assert_eq!(rt; got, 0);
+        let got = told(rt.alloc(), SAME, args);
+        assert_eq!(rt; got.status, 0);
         assert!(rt; tells(out.as_slice(), taught));
-        assert!(rt; err.is_empty());
+        assert!(rt; got.err.is_empty());
     }
     Ok(())
 }

@@ -49,14 +49,10 @@ const PROGRAMS: [(&str, &str, u8); 10] = [
 #[test]
 fn programs_print_their_output_and_end(rt: HostRuntime) -> Result<(), Fail> {
     for (text, printed, status) in PROGRAMS {
-        let mut files = OneText { text, fault: None };
-        let mut out = Vec::new(rt.alloc());
-        let mut err = Vec::new(rt.alloc());
-        let args = ["mcc", "interp", "x"];
-        let got = mcc(rt.alloc(), args.as_slice(), &mut files, &mut out, &mut err);
-        assert_eq!(rt; got, status, "at {text}");
-        assert_eq!(rt; out.as_slice(), printed.as_bytes(), "at {text}");
-        assert!(rt; err.is_empty(), "at {text}");
+        let got = told(rt.alloc(), text, ["mcc", "interp", "x"].as_slice());
+        assert_eq!(rt; got.status, status, "at {text}");
+        assert_eq!(rt; got.out.as_slice(), printed.as_bytes(), "at {text}");
+        assert!(rt; got.err.is_empty(), "at {text}");
     }
     Ok(())
 }
@@ -77,14 +73,10 @@ fn options_bound_the_run(rt: HostRuntime) -> Result<(), Fail> {
         (DEEP, "--depth", "255", "wrong\n", 3),
         ("int main(void){}", "--depth", "1", "done 0\n", 0),
     ] {
-        let mut files = OneText { text, fault: None };
-        let mut out = Vec::new(rt.alloc());
-        let mut err = Vec::new(rt.alloc());
-        let args = ["mcc", "interp", "x", option, bound];
-        let got = mcc(rt.alloc(), args.as_slice(), &mut files, &mut out, &mut err);
-        assert_eq!(rt; got, status, "at {text}");
-        assert_eq!(rt; out.as_slice(), printed.as_bytes(), "at {text}");
-        assert!(rt; err.is_empty(), "at {text}");
+        let got = told(rt.alloc(), text, ["mcc", "interp", "x", option, bound].as_slice());
+        assert_eq!(rt; got.status, status, "at {text}");
+        assert_eq!(rt; got.out.as_slice(), printed.as_bytes(), "at {text}");
+        assert!(rt; got.err.is_empty(), "at {text}");
     }
     Ok(())
 }
@@ -143,14 +135,10 @@ const FAULTS: [(&str, &str); 14] = [
 #[test]
 fn faults_tell_their_place(rt: HostRuntime) -> Result<(), Fail> {
     for (text, told) in FAULTS {
-        let mut files = OneText { text, fault: None };
-        let mut out = Vec::new(rt.alloc());
-        let mut err = Vec::new(rt.alloc());
-        let args = ["mcc", "interp", "x"];
-        let got = mcc(rt.alloc(), args.as_slice(), &mut files, &mut out, &mut err);
-        assert_eq!(rt; got, 1, "at {text}");
-        assert!(rt; out.is_empty(), "at {text}");
-        assert_eq!(rt; err.as_slice(), told.as_bytes(), "at {text}");
+        let got = told(rt.alloc(), text, ["mcc", "interp", "x"].as_slice());
+        assert_eq!(rt; got.status, 1, "at {text}");
+        assert!(rt; got.out.is_empty(), "at {text}");
+        assert_eq!(rt; got.err.as_slice(), told.as_bytes(), "at {text}");
     }
     Ok(())
 }
@@ -179,17 +167,10 @@ fn wrong_numbers_are_wrong_words(rt: HostRuntime) -> Result<(), Fail> {
         ("--steps", "4294967296", "0..=4294967295"),
         ("--steps", "-1", "-1"),
     ] {
-        let mut files = OneText {
-            text: "int main(void){}",
-            fault: None,
-        };
-        let mut out = Vec::new(rt.alloc());
-        let mut err = Vec::new(rt.alloc());
-        let args = ["mcc", "interp", option, number, "x"];
-        let got = mcc(rt.alloc(), args.as_slice(), &mut files, &mut out, &mut err);
-        assert_eq!(rt; got, 2, "at {option} {number}");
-        assert!(rt; out.is_empty());
-        assert!(rt; tells(err.as_slice(), range), "at {option} {number}");
+        let got = told(rt.alloc(), "int main(void){}", ["mcc", "interp", option, number, "x"].as_slice());
+        assert_eq!(rt; got.status, 2, "at {option} {number}");
+        assert!(rt; got.out.is_empty());
+        assert!(rt; tells(got.err.as_slice(), range), "at {option} {number}");
     }
     Ok(())
 }

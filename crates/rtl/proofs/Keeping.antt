@@ -92,7 +92,8 @@ called-words p depth f vs to frames g out a b c d =
     then state_at_block function.blocks.items 0 (argument_registers vs) to frames g out else Failed out) d
     (λ function e. by function (nat_lt (length frames) depth && (length vs == function.parameters)))
   where
-    by : (function : RFunc) (t : Bool) → RunHoldsWords (if t then state_at_block function.blocks.items 0 (argument_registers vs) to frames g out else Failed out)
+    by : (function : RFunc) (t : Bool)
+        → RunHoldsWords (if t then state_at_block function.blocks.items 0 (argument_registers vs) to frames g out else Failed out)
     by function true = block-words function.blocks.items 0 (argument_registers vs) to frames g out (λ x v e. at-index IsWord vs x v a e) b c d
     by function false = d
 

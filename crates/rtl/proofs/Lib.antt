@@ -1,4 +1,5 @@
 pub mod Calls
+pub mod Computing
 pub mod Keeping
 pub mod Lookups
 pub mod Loops

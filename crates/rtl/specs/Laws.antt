@@ -1,7 +1,14 @@
--- What is true of every run of a program.
-use Rattle.std.specs.Prelude.{◌≡◌, ◌+◌, ℕ, List}
-use Rattle.runs.specs.Stores.{PlacesHoldWords}
+-- What is true of every run of a program, and of the operators beside those of C.
+use Rattle.std.specs.Prelude.{◌≡◌, ◌+◌, ◌-◌, ◌^◌, ℕ, List, Some, not}
+use Rattle.words.specs.declared.sign.Sign.{Sign}
+use Rattle.words.specs.declared.sign.Sign.TheVariants.{Signed, Unsigned}
+use Rattle.words.specs.Operators.{quotient_of, remainder_of}
+use Rattle.words.specs.C.{sum_of, difference_of, times_of, negation_of, left_shift_of, right_shift_of, is_below}
+use Rattle.runs.specs.Stores.{IsWord, PlacesHoldWords}
 use Rattle.runs.specs.Runs.{Ended, Failed, HoldsWords}
+use Rattle.rtl.specs.declared.operator.Op.{Op}
+use Rattle.rtl.specs.declared.operator.Op.TheVariants.{Add, Sub, Mul, DivS, DivU, RemS, RemU, Xor, Shl, ShrU, ShrS, LtS, LtU, LeS, LeU}
+use Rattle.rtl.specs.Operators.{truth_word, op_result}
 use Rattle.rtl.specs.Programs.{Program}
 use Rattle.rtl.specs.Meaning.{Frame, Run, rtl_start, rtl_step, rtl_steps}
 
@@ -22,3 +29,38 @@ pub record RunsGoOnFromWhereTheyAre : Type 0 where
   pub sum : (p : Program) (depth a b : ℕ) (s : Run) → rtl_steps p depth (a + b) s ≡ rtl_steps p depth b (rtl_steps p depth a s)
   pub ended : (p : Program) (depth n w : ℕ) (out : List ℕ) → rtl_steps p depth n (Ended w out) ≡ Ended w out
   pub failed : (p : Program) (depth n : ℕ) (out : List ℕ) → rtl_steps p depth n (Failed out) ≡ Failed out
+
+-- the operators that compute in a type of C, by its sign
+abbrev pub quotient_op : Sign → Op
+quotient_op Signed = DivS
+quotient_op Unsigned = DivU
+
+abbrev pub remainder_op : Sign → Op
+remainder_op Signed = RemS
+remainder_op Unsigned = RemU
+
+abbrev pub right_shift_op : Sign → Op
+right_shift_op Signed = ShrS
+right_shift_op Unsigned = ShrU
+
+abbrev pub below_op : Sign → Op
+below_op Signed = LtS
+below_op Unsigned = LtU
+
+abbrev pub not_above_op : Sign → Op
+not_above_op Signed = LeS
+not_above_op Unsigned = LeU
+
+-- where C gives two words a value, it is the result of an operator here; the complement is that of `xor` with all ones
+pub record ComputesAsC : Type 0 where
+  pub sum : (s : Sign) (a b v : ℕ) → IsWord a → IsWord b → sum_of s a b ≡ Some v → op_result Add a b ≡ Some v
+  pub difference : (s : Sign) (a b v : ℕ) → IsWord a → IsWord b → difference_of s a b ≡ Some v → op_result Sub a b ≡ Some v
+  pub product : (s : Sign) (a b v : ℕ) → IsWord a → IsWord b → times_of s a b ≡ Some v → op_result Mul a b ≡ Some v
+  pub quotient : (s : Sign) (a b : ℕ) → quotient_of s a b ≡ op_result (quotient_op s) a b
+  pub remainder : (s : Sign) (a b : ℕ) → remainder_of s a b ≡ op_result (remainder_op s) a b
+  pub negation : (s : Sign) (a v : ℕ) → IsWord a → negation_of s a ≡ Some v → op_result Sub 0 a ≡ Some v
+  pub left_shift : (s : Sign) (a n v : ℕ) → left_shift_of s a n ≡ Some v → op_result Shl a n ≡ Some v
+  pub right_shift : (s : Sign) (a n v : ℕ) → right_shift_of s a n ≡ Some v → op_result (right_shift_op s) a n ≡ Some v
+  pub below : (s : Sign) (a b : ℕ) → op_result (below_op s) a b ≡ Some (truth_word (is_below s a b))
+  pub not_above : (s : Sign) (a b : ℕ) → op_result (not_above_op s) a b ≡ Some (truth_word (not (is_below s b a)))
+  pub complement : (a : ℕ) → IsWord a → op_result Xor a (2 ^ 32 - 1) ≡ Some (2 ^ 32 - 1 - a)

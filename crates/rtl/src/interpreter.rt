@@ -2,7 +2,8 @@ ghost use Rattle.std.specs.Prelude.{◌≡◌, ℕ, List, IfOk, Some, None, map,
 ghost use Rattle.std.specs.Option.{option_map};
 ghost use Rattle.rtl.specs.declared.instruction.RInst.TheVariants.{Store};
 ghost use Rattle.rtl.specs.Meaning.{rtl_step, words_in};
-ghost use Rattle.rtl.specs.Interpreter.{places, arrays, result_at, load_at, state_of, state_at, frame_of, frame_at, Puts, Performs, Jumps, Calls, CallsFrom, Returns, Leaves};
+ghost use Rattle.rtl.specs.Interpreter.{places, arrays, result_at, load_at, state_of, state_at, frame_of, frame_at};
+ghost use Rattle.rtl.specs.Interpreter.{Puts, Performs, Jumps, Calls, CallsFrom, Returns, Leaves};
 
 use crate::block::{RBlock, RGlobal};
 use crate::instruction::{BlockNumber, FunctionNumber, GlobalNumber, RExit, RInst, Register};

@@ -1,4 +1,4 @@
-ghost use Rattle.rtl.specs.Laws.{RunsGoOnFromWhereTheyAre, ValuesAreWords};
+ghost use Rattle.rtl.specs.Laws.{ComputesAsC, RunsGoOnFromWhereTheyAre, ValuesAreWords};
 
 /// Constants and first values mean words, so all that a program computes and keeps is words. A law: it computes nothing.
 pub fn values_are_words()
@@ -8,4 +8,9 @@ pub fn values_are_words()
 /// Runs compose, and one that ended or failed stays so. A law: it computes nothing.
 pub fn runs_go_on_from_where_they_are()
     ensures { RunsGoOnFromWhereTheyAre }
+{}
+
+/// Where C gives an operation on two words a value, an operator here has it as its result. A law: it computes nothing.
+pub fn operators_compute_as_c()
+    ensures { ComputesAsC }
 {}

@@ -5,7 +5,7 @@
 //! instructions and exits name is there, and its sizes are within the limits. A pseudo-register is set in one activation of
 //! a function, to a word; a global is an array of words or of bytes. `specs/Operators.antt` has the operators,
 //! `specs/Meaning.antt` what a program does, one instruction or exit after another, and `specs/Laws.antt` what is true of
-//! every run: it keeps to words, and goes on from where it is.
+//! every run (it keeps to words, and goes on from where it is) and of the operators beside those of C.
 //!
 //! For the layers above the meaning is `rtl_run`, what a program comes to after so many steps within a depth, and `run`
 //! gives exactly that; an `Err` comes from refused memory alone. A step takes constant time: what is left of a block is
@@ -25,7 +25,7 @@ mod stores;
 
 pub use block::{RBlock, RFunc, RGlobal, Width};
 pub use instruction::{BlockNumber, FunctionNumber, GlobalNumber, RExit, RInst, Register};
-pub use laws::{runs_go_on_from_where_they_are, values_are_words};
+pub use laws::{operators_compute_as_c, runs_go_on_from_where_they_are, values_are_words};
 pub use limits::{MAX_BLOCKS, MAX_GLOBAL_WORDS, MAX_PARAMETERS, MAX_REGISTERS};
 pub use operator::Op;
 pub use program::Rtl;

@@ -1,9 +1,11 @@
-//! Worked examples of RTL: operators, runs, and what is no program. The expected values are worked by hand from the rules of
-//! the language.
+//! Worked examples of RTL: operators, runs, what is no program, and the homes of pseudo-registers. The expected values are
+//! worked by hand from the rules of the language.
 #![tactic(auto)]
 
 #[cfg(test)]
 mod calls;
+#[cfg(test)]
+mod chosen_homes;
 #[cfg(test)]
 mod globals;
 #[cfg(test)]

@@ -1,6 +1,6 @@
 // The operators at their edges.
 
-use rtl::Op;
+use rtl::{Op, operators_compute_as_c};
 use std::test::Fail;
 
 const LEAST: u32 = 0x8000_0000;
@@ -22,6 +22,7 @@ fn sums_and_products_wrap(rt: HostRuntime) {
     ] {
         assert_eq!(rt; op.result(x, y), Some(want));
     }
+    operators_compute_as_c();
 }
 
 #[test]

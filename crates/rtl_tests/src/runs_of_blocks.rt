@@ -6,8 +6,8 @@ use runs::End;
 use std::alloc::{AllocError, Global};
 use std::test::Fail;
 
-// Writes a sum, and ends with 1.
-fn writes_a_sum(alloc: Global) -> Result<RFunc, AllocError> {
+/// Writes a sum, and ends with 1.
+pub fn writes_a_sum(alloc: Global) -> Result<RFunc, AllocError> {
     let insts = [
         RInst::Const(0, 4_294_967_295),
         RInst::Const(1, 1),

@@ -1,0 +1,63 @@
+-- Counts of mentions, one after another.
+use Rattle.std.proofs.Common.{◌≡◌, ℕ, zero, suc, ◌+◌, ◌<◌, ◌≤◌, List, [], ◌∷◌, ◌++◌, refl, sym, ap, ◌∙◌, subst, arith, length, drop, get_or, nat_lt}
+use Rattle.std.specs.Prelude.{if◌then◌else◌}
+use Rattle.std.proofs.Math.Seq.{drop-cons}
+use Rattle.std.proofs.lemmas.List.{append_assoc}
+use Rattle.rtl.specs.Names.{occurrences, bound, exit_names, insts_names, blocks_names}
+use Rattle.mips_homes.specs.Counts.{Adds}
+use Rattle.rtl.specs.declared.instruction.RInst.{RInst}
+use Rattle.rtl.specs.declared.block.RBlock.{RBlock}
+
+pub bound_append : (n : ℕ) (xs ys : List ℕ) → bound n (xs ++ ys) ≡ bound (bound n xs) ys
+bound_append n [] ys = refl
+bound_append n (x ∷ xs) ys = bound_append (if nat_lt x n then n else suc x) xs ys
+
+pub occurrences_append : (xs ys : List ℕ) (x : ℕ) → occurrences (xs ++ ys) x ≡ occurrences xs x + occurrences ys x
+occurrences_append [] ys x = omega arith
+occurrences_append (z ∷ xs) ys x = (let e = occurrences_append xs ys x in omega (arith, e))
+
+pub adds_none : (us : List ℕ) → Adds us us []
+adds_none us = record { long = refl; room = λ le. le; by = λ x. omega arith }
+
+pub adds_then : (us vs ws xs ys : List ℕ) → Adds us vs xs → Adds vs ws ys → Adds us ws (xs ++ ys)
+adds_then us vs ws xs ys a b = record {
+  long = b.long ∙ ap (λ n. bound n ys) a.long ∙ sym (bound_append (length us) xs ys);
+  room = λ le. b.room (a.room le);
+  by = λ x. (let p = a.by x in let q = b.by x in let r = occurrences_append xs ys x in omega (arith, p, q, r));
+}
+
+pub drop_end : {X : Type 0} (xs : List X) (i : ℕ) → length xs ≤ i → drop i xs ≡ []
+drop_end [] zero le = refl
+drop_end [] (suc i) le = refl
+drop_end (x ∷ xs) zero le = absurd (omega (arith, le))
+drop_end (x ∷ xs) (suc i) le = drop_end xs i (omega (arith, le))
+
+-- a step of a loop that counts the names of each item, and its end
+pub counts_step : {X : Type 0} (names : List X → List ℕ) (name : X → List ℕ) → ((x : X) (xs : List X) → names (x ∷ xs) ≡ name x ++ names xs)
+    → (xs : List X) (i : ℕ) (x d : X) (start us vs : List ℕ) → i < length xs → x ≡ get_or xs i d → Adds us vs (name x)
+    → ((ys : List ℕ) → Adds us ys (names (drop i xs)) → Adds start ys (names xs)) → (ys : List ℕ) → Adds vs ys (names (drop (i + 1) xs))
+    → Adds start ys (names xs)
+counts_step names name split xs i x d start us vs lt is one before ys rest =
+    let next : i + 1 ≡ suc i = omega arith in
+    let here : drop i xs ≡ x ∷ drop (i + 1) xs = drop-cons xs i d lt ∙ ap (λ y. y ∷ drop (suc i) xs) (sym is) ∙ ap (λ k. x ∷ drop k xs) (sym next) in
+    before ys (subst (λ l. Adds us ys l) (sym (ap names here ∙ split x (drop (i + 1) xs))) (adds_then us vs ys (name x) (names (drop (i + 1) xs)) one rest))
+
+pub counts_end : {X : Type 0} (names : List X → List ℕ) → names [] ≡ [] → (xs : List X) (i : ℕ) (start us : List ℕ) → length xs ≤ i
+    → ((ys : List ℕ) → Adds us ys (names (drop i xs)) → Adds start ys (names xs)) → Adds start us (names xs)
+counts_end names none xs i start us le before =
+    before us (subst (λ l. Adds us us l) (sym (ap names (drop_end xs i le) ∙ none)) (adds_none us))
+
+pub blocks_split : (b : RBlock) (bs : List RBlock) → blocks_names (b ∷ bs) ≡ (insts_names b.insts.items ++ exit_names b.exit) ++ blocks_names bs
+blocks_split b bs = sym (append_assoc (insts_names b.insts.items) (exit_names b.exit) (blocks_names bs))
+
+pub block_counted : (us vs ws : List ℕ) (is insts : List RInst) (names : List ℕ) → is ≡ insts → Adds us vs (insts_names is)
+    → Adds vs ws names → Adds us ws (insts_names insts ++ names)
+block_counted us vs ws is insts names same a b = adds_then us vs ws (insts_names insts) names (subst (λ l. Adds us vs (insts_names l)) same a) b
+
+pub call_counted : (us vs ws xs ys zs : List ℕ) → xs ≡ ys → Adds us vs xs → Adds vs ws zs → Adds us ws (ys ++ zs)
+call_counted us vs ws xs ys zs same a b = adds_then us vs ws ys zs (subst (λ l. Adds us vs l) same a) b
+
+-- from counts of 0
+pub counted_from : (n : ℕ) (zs us names : List ℕ) → length zs ≡ n → ((y : ℕ) → get_or zs y 0 ≡ 0) → Adds zs us names
+    → (length us ≡ bound n names) × ((x : ℕ) → get_or us x 0 ≡ occurrences names x)
+counted_from n zs us names long none a = (a.long ∙ ap (λ k. bound k names) long, λ x. (let p = a.by x in let q = none x in omega (arith, p, q)))

@@ -1,0 +1,442 @@
+-- Each step over homes is one step over pseudo-registers.
+use Rattle.std.proofs.Common.{◌≡◌, ◌≢◌, ℕ, zero, suc, ◌+◌, ◌<◌, Bool, true, false, ◌&&◌, List, [], ◌∷◌, ◌++◌, Option, Some, None, refl, sym}
+use Rattle.std.proofs.Common.{◌∙◌, ap, ap₂, subst, arith, length, nat_eq, nat_lt, eqb-true, eq-eqb, ne_eqb, true≢false}
+use mathlib.Core.Path.{fun_ext}
+use Rattle.std.specs.Prelude.{slice_get, if◌then◌else◌, ◌==◌, map}
+use Rattle.words.specs.Words.{wrap}
+use Rattle.runs.specs.Stores.{Places, unset_places, places_with, Arrays, chain, element_at, arrays_with}
+use Rattle.runs.specs.Runs as Runs
+use Rattle.runs.specs.Runs.{steps}
+use Rattle.rtl.specs.declared.block.RGlobal.{RGlobal}
+use Rattle.rtl.specs.Operators.{op_result}
+use Rattle.rtl.specs.Names.{inst_names, optional, exit_names, insts_names, blocks_names}
+use Rattle.rtl.specs.Meaning as Meaning
+use Rattle.rtl.specs.Meaning.{Code, code_of, words_in, argument_registers, kept_in, first_values, rtl_step, rtl_steps, rtl_start}
+use Rattle.mips_homes.specs.HomedRun.{Activation, Run, Running, Ended, Failed, with_value, in_home, read_home, read_homes, write_at}
+use Rattle.mips_homes.specs.HomedRun.{write_home, write_homes, is_in, registers_at_entry, registers_at_return, with_inst, at_code}
+use Rattle.mips_homes.specs.HomedRun.{state_at_block, with_result, state_after_return, state_after_call, state_after_exit, step_at}
+use Rattle.mips_homes.specs.HomedRun.{homed_step, homed_steps, homed_start, outcome}
+use Rattle.mips_homes.specs.Homes.{HasHome, HaveHomes, AreHomes, Serves, AreAllHomes}
+use Rattle.mips_homes.specs.Correct.{KeepsRtlRuns}
+use Rattle.mips_homes.specs.declared.homed.Home.{Home}
+use Rattle.mips_homes.specs.declared.homed.Home.TheVariants.{Reg, Slot}
+use Rattle.mips_homes.specs.declared.homed.Frame.{Frame}
+use Rattle.mips_homes.specs.declared.homed.Homed.{Homed}
+use Rattle.rtl.specs.declared.instruction.RInst.{RInst}
+use Rattle.rtl.specs.declared.instruction.RInst.TheVariants.{Const, Move, Bin, Load, Store}
+use Rattle.rtl.specs.declared.instruction.RExit.{RExit}
+use Rattle.rtl.specs.declared.instruction.RExit.TheVariants.{Goto, Branch, Call, Return, Out}
+use Rattle.rtl.specs.declared.block.RBlock.{RBlock}
+use Rattle.rtl.specs.declared.block.RFunc.{RFunc}
+
+-- what is left of a block names unset_places without a home
+pub record CodeHasHomes (hs : List Home) (c : Code) : Type 0 where
+  pub insts : HaveHomes hs (insts_names c.insts)
+  pub exit : HaveHomes hs (exit_names c.exit)
+
+named_front : (hs : List Home) (xs ys : List ℕ) → HaveHomes hs (xs ++ ys) → HaveHomes hs xs
+named_front hs [] ys n = tt
+named_front hs (x ∷ xs) ys n = (n.0, named_front hs xs ys n.1)
+
+named_back : (hs : List Home) (xs ys : List ℕ) → HaveHomes hs (xs ++ ys) → HaveHomes hs ys
+named_back hs [] ys n = n
+named_back hs (x ∷ xs) ys n = named_back hs xs ys n.1
+
+named_block : (hs : List Home) (bs : List RBlock) (b : ℕ) (block : RBlock) → HaveHomes hs (blocks_names bs) → slice_get bs b ≡ Some block
+    → CodeHasHomes hs (code_of block)
+named_block hs [] b block n e = absurd cc
+named_block hs (k ∷ bs) zero block n e =
+    let rest = named_back hs (insts_names k.insts.items) (exit_names k.exit ++ blocks_names bs) n in
+    subst (λ o. (match_named o)) e
+    (record {
+      insts = named_front hs (insts_names k.insts.items) (exit_names k.exit ++ blocks_names bs) n;
+      exit =
+          named_front hs (exit_names k.exit) (blocks_names bs) rest;
+    })
+  where
+    match_named : Option RBlock → Type 0
+    match_named None = Unit {0}
+    match_named (Some k) = CodeHasHomes hs (code_of k)
+named_block hs (k ∷ bs) (suc b) block n e =
+    named_block hs bs b block
+    (named_back hs (exit_names k.exit) (blocks_names bs) (named_back hs (insts_names k.insts.items) (exit_names k.exit ++ blocks_names bs) n)) e
+
+-- the homes hold what the pseudo-registers hold; what has no home is unset
+pub record Agrees (hs : List Home) (registers slots regs : Places) : Type 0 where
+  pub by : (x : ℕ) → read_home hs registers slots x ≡ regs x
+
+pub record Good (a : Activation) (registers regs : Places) : Type 0 where
+  pub homes : AreHomes a.frame.homes.items a.frame.saved.items a.blocks
+  pub agrees : Agrees a.frame.homes.items registers a.slots regs
+  pub code : CodeHasHomes a.frame.homes.items a.code
+
+abbrev pub ResultHasHome : Option ℕ → List Activation → Type 0
+ResultHasHome d [] = Unit {0}
+ResultHasHome d (a ∷ ws) = HaveHomes a.frame.homes.items (optional d)
+
+-- the registers of each activation, as they are once those above have state_after_return
+abbrev pub Stack : Places → List Activation → List Places → Type 0
+Stack registers [] [] = Unit {0}
+Stack registers (a ∷ ws) (r ∷ rs) = Good a registers r × ResultHasHome a.result_to ws × Stack (registers_at_return a.frame.saved.items a.aside registers) ws rs
+Stack registers [] (r ∷ rs) = ⊥
+Stack registers (a ∷ ws) [] = ⊥
+
+abbrev pub plain : List Activation → List Places → List Meaning.Frame
+plain [] rs = []
+plain (a ∷ ws) [] = []
+plain (a ∷ ws) (r ∷ rs) = record { blocks = a.blocks; registers = r; code = a.code; result_to = a.result_to } ∷ plain ws rs
+
+abbrev pub Alike : Run → Meaning.Run → Type 0
+Alike (Running registers ws g out) t = (rs : List Places) × (t ≡ Runs.Running (plain ws rs) g out) × Stack registers ws rs
+Alike (Ended v out) t = t ≡ Runs.Ended v out
+Alike (Failed out) t = t ≡ Runs.Failed out
+
+-- the same value on both sides
+both_value : {A : Type 0} (o o' : Option A) (out : List ℕ) (go : A → Run) (go' : A → Meaning.Run) → o ≡ o'
+    → ((v : A) → Alike (go v) (go' v)) → Alike (with_value o out go) (Runs.with_value o' out go')
+both_value o o' out go go' e f = subst (λ o'. Alike (with_value o out go) (Runs.with_value o' out go')) e (same o)
+  where
+    same : (o : Option _) → Alike (with_value o out go) (Runs.with_value o out go')
+    same None = refl
+    same (Some v) = f v
+
+-- the same, where the value's equation is needed
+both_value_is : {A : Type 0} (o : Option A) (out : List ℕ) (go : A → Run) (go' : A → Meaning.Run)
+    → ((v : A) → o ≡ Some v → Alike (go v) (go' v)) → Alike (with_value o out go) (Runs.with_value o out go')
+both_value_is {A} o out go go' f = by o refl
+  where
+    by : (o1 : Option A) → o ≡ o1 → Alike (with_value o1 out go) (Runs.with_value o1 out go')
+    by None e = refl
+    by (Some v) e = f v e
+
+other : (p : Places) (x : ℕ) (v : Option ℕ) (y : ℕ) → y ≢ x → places_with p x v y ≡ p y
+other p x v y ne = ap (λ c. if c then v else p y) (ne_eqb y x ne)
+
+same_place : (p : Places) (x : ℕ) (v : Option ℕ) → places_with p x v x ≡ v
+same_place p x v = ap (λ c. if c then v else p x) (eq-eqb x x refl)
+
+-- what a write changes comes back when the activation returns
+restored_write : (saved : List ℕ) (aside registers : Places) (r : ℕ) (v : Option ℕ) → is_in saved r ≡ true
+    → registers_at_return saved aside (places_with registers r v) ≡ registers_at_return saved aside registers
+restored_write saved aside registers r v kept = fun_ext (λ q. by q (nat_eq q r) refl)
+  where
+    by : (q : ℕ) (b : Bool) → nat_eq q r ≡ b → registers_at_return saved aside (places_with registers r v) q ≡ registers_at_return saved aside registers q
+    by q true e =
+        let q_r : q ≡ r = eqb-true q r e in
+        let yes_saved : is_in saved q ≡ true = ap (is_in saved) q_r ∙ kept in
+        ap (λ c. if c then aside q else places_with registers r v q) yes_saved ∙ sym (ap (λ c. if c then aside q else registers q) yes_saved)
+    by q false e = ap (λ w. if is_in saved q then aside q else w) (ap (λ c. if c then v else registers q) e)
+
+-- what a call puts aside comes back
+restored_cleared : (saved : List ℕ) (registers : Places) → registers_at_return saved registers (registers_at_entry saved registers) ≡ registers
+restored_cleared saved registers = fun_ext (λ q. by q (is_in saved q) refl)
+  where
+    by : (q : ℕ) (b : Bool) → is_in saved q ≡ b → registers_at_return saved registers (registers_at_entry saved registers) q ≡ registers q
+    by q true e = ap (λ c. if c then registers q else registers_at_entry saved registers q) e
+    by q false e = ap (λ c. if c then registers q else registers_at_entry saved registers q) e ∙ ap (λ c. if c then None else registers q) e
+
+-- a write to a home
+writes : (hs : List Home) (saved : List ℕ) (blocks : List RBlock) (aside registers slots regs : Places) (d v : ℕ) (out : List ℕ)
+    (go : Places → Places → Run) (t : Meaning.Run)
+    → AreHomes hs saved blocks → Agrees hs registers slots regs → HasHome hs d
+    → ((registers' slots' : Places) → Agrees hs registers' slots' (places_with regs d (Some v))
+    → registers_at_return saved aside registers' ≡ registers_at_return saved aside registers → Alike (go registers' slots') t)
+    → Alike (write_home hs registers slots d v out go) t
+writes hs saved blocks aside registers slots regs d v out go t ok ag has f =
+    subst (λ o. Alike (with_value o out (λ h. write_at h registers slots v go)) t) (sym has.is) (at has.home has.is)
+  where
+    -- another pseudo-register
+    elsewhere : (h : Home) → slice_get hs d ≡ Some h → (registers' slots' : Places) → in_home registers' slots' h ≡ Some v
+        → ((k : Home) → k ≢ h → in_home registers' slots' k ≡ in_home registers slots k) → (x : ℕ) → (b : Bool) → nat_eq x d ≡ b
+        → read_home hs registers' slots' x ≡ (if b then Some v else regs x)
+    elsewhere h is registers' slots' here there x true e =
+        let x_d : x ≡ d = eqb-true x d e in
+        ap (λ o. chain o (in_home registers' slots')) (ap (slice_get hs) x_d ∙ is) ∙ here
+    elsewhere h is registers' slots' here there x false e = by (slice_get hs x) refl
+      where
+        by : (o : Option Home) → slice_get hs x ≡ o → read_home hs registers' slots' x ≡ regs x
+        by None none = ap (λ o. chain o (in_home registers' slots')) none ∙ sym (ap (λ o. chain o (in_home registers slots)) none) ∙ ag.by x
+        by (Some k) some =
+            let ne : k ≢ h = λ k_h. let x_d : x ≡ d = ok.apart x d h (some ∙ ap Some k_h) is in let yes_eq = eq-eqb x d x_d in cc in
+            ap (λ o. chain o (in_home registers' slots')) some ∙ there k ne ∙ sym (ap (λ o. chain o (in_home registers slots)) some) ∙ ag.by x
+
+    reg_other : (r : ℕ) (k : Home) → k ≢ Reg r → in_home (places_with registers r (Some v)) slots k ≡ in_home registers slots k
+    reg_other r (Reg q) ne = other registers r (Some v) q (λ e. ne (ap Reg e))
+    reg_other r (Slot q) ne = refl
+
+    slot_other : (s : ℕ) (k : Home) → k ≢ Slot s → in_home registers (places_with slots s (Some v)) k ≡ in_home registers slots k
+    slot_other s (Reg q) ne = refl
+    slot_other s (Slot q) ne = other slots s (Some v) q (λ e. ne (ap Slot e))
+
+    at : (h : Home) → slice_get hs d ≡ Some h → Alike (write_at h registers slots v go) t
+    at (Reg r) is = f (places_with registers r (Some v)) slots
+        (record { by = λ x. elsewhere (Reg r) is (places_with registers r (Some v)) slots (same_place registers r (Some v)) (reg_other r) x (nat_eq x d) refl })
+        (restored_write saved aside registers r (Some v) (ok.kept d r is))
+    at (Slot s) is = f registers (places_with slots s (Some v))
+        (record { by = λ x. elsewhere (Slot s) is registers (places_with slots s (Some v)) (same_place slots s (Some v)) (slot_other s) x (nat_eq x d) refl })
+        refl
+
+-- words for the pseudo-registers from x on
+abbrev written_all : Places → ℕ → List ℕ → Places
+written_all r x [] = r
+written_all r x (v ∷ vs) = written_all (places_with r x (Some v)) (suc x) vs
+
+written_low : (r : Places) (x : ℕ) (vs : List ℕ) (y : ℕ) → y < x → written_all r x vs y ≡ r y
+written_low r x [] y lt = refl
+written_low r x (v ∷ vs) y lt = written_low (places_with r x (Some v)) (suc x) vs y (omega (arith, lt)) ∙ other r x (Some v) y (λ e. absurd (omega (arith, e, lt)))
+
+written_at : (r : Places) (x : ℕ) (vs : List ℕ) (k : ℕ) → ((y : ℕ) → r (x + y) ≡ None) → written_all r x vs (x + k) ≡ slice_get vs k
+written_at r x [] k none = none k
+written_at r x (v ∷ vs) zero none =
+    let same : x + 0 ≡ x = omega arith in
+    written_low (places_with r x (Some v)) (suc x) vs (x + 0) (omega arith) ∙ ap (places_with r x (Some v)) same ∙ same_place r x (Some v)
+written_at r x (v ∷ vs) (suc k) none =
+    let next : x + suc k ≡ suc x + k = omega arith in
+    ap (written_all (places_with r x (Some v)) (suc x) vs) next ∙ written_at (places_with r x (Some v)) (suc x) vs k (λ y.
+    let there : suc x + y ≡ x + suc y = omega arith in
+    other r x (Some v) (suc x + y) (λ e. absurd (omega (arith, e))) ∙ ap r there ∙ none (suc y))
+
+-- the arguments are the first registers
+arguments_written : (vs : List ℕ) → written_all unset_places 0 vs ≡ argument_registers vs
+arguments_written vs =
+    fun_ext (λ y. let same : 0 + y ≡ y = omega arith in ap (written_all unset_places 0 vs) (sym same) ∙ written_at unset_places 0 vs y (λ z. refl))
+
+-- words into the homes of the pseudo-registers from x on
+writes_all : (hs : List Home) (saved : List ℕ) (blocks : List RBlock) (aside registers slots regs : Places) (x : ℕ) (vs : List ℕ)
+    (out : List ℕ) (go : Places → Places → Run) (t : Meaning.Run)
+    → AreHomes hs saved blocks → Agrees hs registers slots regs → ((y : ℕ) → y < x + length vs → HasHome hs y)
+    → ((registers' slots' : Places) → Agrees hs registers' slots' (written_all regs x vs)
+    → registers_at_return saved aside registers' ≡ registers_at_return saved aside registers → Alike (go registers' slots') t)
+    → Alike (write_homes hs registers slots x vs out go) t
+writes_all hs saved blocks aside registers slots regs x [] out go t ok ag has f = f registers slots ag refl
+writes_all hs saved blocks aside registers slots regs x (v ∷ vs) out go t ok ag has f =
+    writes hs saved blocks aside registers slots regs x v out _ t ok ag (has x (omega arith)) (λ r1 s1 ag1 e1.
+    writes_all hs saved blocks aside r1 s1 (places_with regs x (Some v)) (suc x) vs out go t ok ag1 (λ y lt. has y (omega (arith, lt))) (λ r2 s2 ag2 e2.
+    f r2 s2 ag2 (e2 ∙ e1)))
+
+reads_all : (hs : List Home) (registers slots regs : Places) (xs : List ℕ) → Agrees hs registers slots regs
+    → read_homes hs registers slots xs ≡ words_in regs xs
+reads_all hs registers slots regs [] ag = refl
+reads_all hs registers slots regs (x ∷ xs) ag =
+    ap₂ (λ (a : Option ℕ) (b : Option (List ℕ)). chain a (λ v. chain b (λ vs. Some (v ∷ vs)))) (ag.by x) (reads_all hs registers slots regs xs ag)
+
+-- one instruction
+performs : (globals : List RGlobal) (i : RInst) (hs : List Home) (saved : List ℕ) (blocks : List RBlock)
+    (aside registers slots regs : Places) (g : Arrays) (out : List ℕ) (go : Places → Places → Arrays → Run) (go' : Places → Arrays → Meaning.Run)
+    → AreHomes hs saved blocks → Agrees hs registers slots regs → HaveHomes hs (inst_names i)
+    → ((registers' slots' regs' : Places) (g' : Arrays) → Agrees hs registers' slots' regs'
+    → registers_at_return saved aside registers' ≡ registers_at_return saved aside registers → Alike (go registers' slots' g') (go' regs' g'))
+    → Alike (with_inst globals i hs registers slots g out go) (Meaning.with_inst globals i regs g out go')
+performs globals (Const d w) hs saved blocks aside r s regs g out go go' ok ag n f =
+    writes hs saved blocks aside r s regs d (wrap w) out _ _ ok ag n.0 (λ r' s' ag' e. f r' s' _ g ag' e)
+performs globals (Move d a) hs saved blocks aside r s regs g out go go' ok ag n f =
+    both_value _ _ out _ _ (ag.by a) (λ v. writes hs saved blocks aside r s regs d v out _ _ ok ag n.0 (λ r' s' ag' e. f r' s' _ g ag' e))
+performs globals (Bin op d a b) hs saved blocks aside r s regs g out go go' ok ag n f =
+    both_value _ _ out _ _ (ag.by a) (λ x. both_value _ _ out _ _ (ag.by b) (λ y. both_value (op_result op x y) _ out _ _ refl (λ v.
+    writes hs saved blocks aside r s regs d v out _ _ ok ag n.0 (λ r' s' ag' e. f r' s' _ g ag' e))))
+performs globals (Load d a i) hs saved blocks aside r s regs g out go go' ok ag n f =
+    both_value _ _ out _ _ (ag.by i) (λ x. both_value (element_at g a x) _ out _ _ refl (λ v.
+    writes hs saved blocks aside r s regs d v out _ _ ok ag n.0 (λ r' s' ag' e. f r' s' _ g ag' e)))
+performs globals (Store a i b) hs saved blocks aside r s regs g out go go' ok ag n f =
+    both_value _ _ out _ _ (ag.by i)
+    (λ x. both_value _ _ out _ _ (ag.by b)
+    (λ v. both_value (kept_in globals a v) _ out _ _ refl (λ w. both_value (arrays_with g a x w) _ out _ _ refl (λ g'. f r s regs g' ag refl))))
+
+-- the state of an activation, with what stands below it
+alike_top : (a : Activation) (registers regs : Places) (ws : List Activation) (rs : List Places) (g : Arrays) (out : List ℕ)
+    → AreHomes a.frame.homes.items a.frame.saved.items a.blocks → Agrees a.frame.homes.items registers a.slots regs
+    → CodeHasHomes a.frame.homes.items a.code → ResultHasHome a.result_to ws → Stack (registers_at_return a.frame.saved.items a.aside registers) ws rs
+    → Alike (Running registers (a ∷ ws) g out)
+    (Runs.Running (record { blocks = a.blocks; registers = regs; code = a.code; result_to = a.result_to } ∷ plain ws rs) g out)
+alike_top a registers regs ws rs g out ok ag code dest st = (regs ∷ rs, refl, (record { homes = ok; agrees = ag; code = code }, dest, st))
+
+jumps : (b : ℕ) (a : Activation) (registers slots regs : Places) (ws : List Activation) (rs : List Places) (g : Arrays) (out : List ℕ)
+    → AreHomes a.frame.homes.items a.frame.saved.items a.blocks → Agrees a.frame.homes.items registers slots regs → ResultHasHome a.result_to ws
+    → Stack (registers_at_return a.frame.saved.items a.aside registers) ws rs
+    → Alike (state_at_block b a registers slots ws g out) (Meaning.state_at_block a.blocks b regs a.result_to (plain ws rs) g out)
+jumps b a registers slots regs ws rs g out ok ag dest st =
+    both_value_is (slice_get a.blocks b) out _ _ (λ block e.
+    alike_top (at_code a slots (code_of block)) registers regs ws rs g out ok ag (named_block a.frame.homes.items a.blocks b block ok.named e) dest st)
+
+as_deep : (registers : Places) (ws : List Activation) (rs : List Places) → Stack registers ws rs → length (plain ws rs) ≡ length ws
+as_deep registers [] [] s = refl
+as_deep registers (a ∷ ws) (r ∷ rs) s = ap suc (as_deep (registers_at_return a.frame.saved.items a.aside registers) ws rs s.2)
+as_deep registers [] (r ∷ rs) s = absurd s
+as_deep registers (a ∷ ws) [] s = absurd s
+
+-- a result
+returns : (o : Option ℕ) (a : Activation) (registers : Places) (ws : List Activation) (rs : List Places) (g : Arrays) (out : List ℕ)
+    → ResultHasHome a.result_to ws → Stack (registers_at_return a.frame.saved.items a.aside registers) ws rs
+    → Alike (state_after_return o a registers ws g out) (Meaning.state_after_return o a.result_to (plain ws rs) g out)
+returns o a registers [] [] g out dest st = both_value o o out _ _ refl (λ v. refl)
+returns o a registers (w ∷ ws) (r ∷ rs) g out dest st = to a.result_to dest
+  where
+    below : Places
+    below = registers_at_return a.frame.saved.items a.aside registers
+
+    to : (d : Option ℕ) → HaveHomes w.frame.homes.items (optional d)
+        → Alike (with_result d o w.frame.homes.items below w.slots out (λ r' s'. Running r' (at_code w s' w.code ∷ ws) g out))
+        (Meaning.with_result d o r out
+        (λ r'. Runs.Running (record { blocks = w.blocks; registers = r'; code = w.code; result_to = w.result_to } ∷ plain ws rs) g out))
+    to None n = alike_top (at_code w w.slots w.code) below r ws rs g out (st.0).homes (st.0).agrees (st.0).code st.1 st.2
+    to (Some d) n =
+        both_value o o out _ _ refl (λ v.
+        writes w.frame.homes.items w.frame.saved.items w.blocks w.aside below w.slots r d v out _ _ (st.0).homes (st.0).agrees n.0 (λ r' s' ag' e.
+        alike_top (at_code w s' w.code) r' (places_with r d (Some v)) ws rs g out (st.0).homes ag' (st.0).code st.1
+        (subst (λ p. Stack p ws rs) (sym e) st.2)))
+returns o a registers [] (r ∷ rs) g out dest st = absurd st
+returns o a registers (w ∷ ws) [] g out dest st = absurd st
+
+both_true : (a b : Bool) → (a && b) ≡ true → b ≡ true
+both_true true b e = e
+both_true false b e = absurd (true≢false (sym e))
+
+-- a function begins with all its homes unset
+home_unset : (hs : List Home) (saved : List ℕ) (bs : List RBlock) (registers : Places) → AreHomes hs saved bs → (x : ℕ) (h : Home)
+    → slice_get hs x ≡ Some h → in_home (registers_at_entry saved registers) unset_places h ≡ None
+home_unset hs saved bs registers ok x (Slot k) e = refl
+home_unset hs saved bs registers ok x (Reg r) e = ap (λ c. if c then None else registers r) (ok.kept x r e)
+
+all_unset : (hs : List Home) (saved : List ℕ) (bs : List RBlock) (registers : Places) → AreHomes hs saved bs
+    → Agrees hs (registers_at_entry saved registers) unset_places unset_places
+all_unset hs saved bs registers ok = record { by = λ x. at x (slice_get hs x) refl }
+  where
+    at : (x : ℕ) (o : Option Home) → slice_get hs x ≡ o → read_home hs (registers_at_entry saved registers) unset_places x ≡ None
+    at x None e = ap (λ o. chain o (in_home (registers_at_entry saved registers) unset_places)) e
+    at x (Some h) e = ap (λ o. chain o (in_home (registers_at_entry saved registers) unset_places)) e ∙ home_unset hs saved bs registers ok x h e
+
+-- a call
+calls : (h : Homed) → AreAllHomes h
+    → (depth f : ℕ) (vs : List ℕ) (dest : Option ℕ) (registers : Places) (ws : List Activation) (rs : List Places) (g : Arrays)
+    (out : List ℕ) → ResultHasHome dest ws → Stack registers ws rs
+    → Alike (state_after_call h depth f vs dest registers ws g out) (Meaning.state_after_call (h.rtl.now) depth f vs dest (plain ws rs) g out)
+calls h all depth f vs dest registers ws rs g out dn st =
+    both_value_is (slice_get (h.rtl.now).functions f) out _ _ (λ func is.
+    let has = all.by f func is in
+    subst (λ o. Alike (with_value o out (enter func (fits (length ws) func))) (enters func (fits (length (plain ws rs)) func))) (sym has.1)
+    (subst (λ n. Alike (enter func (fits (length ws) func) has.0) (enters func (fits n func))) (sym (as_deep registers ws rs st))
+    (by func has.0 has.2 (fits (length ws) func) refl)))
+  where
+    fits : ℕ → RFunc → Bool
+    fits n func = nat_lt n depth && (length vs == func.parameters)
+
+    start : RFunc → Frame → Places → Activation
+    start func frame s =
+        record { blocks = func.blocks.items; frame = frame; slots = s; aside = registers; code = record { insts = []; exit = Goto 0 }; result_to = dest }
+
+    enter : RFunc → Bool → Frame → Run
+    enter func b frame = if b then write_homes frame.homes.items (registers_at_entry frame.saved.items registers) unset_places 0 vs out
+        (λ r' s'. state_at_block 0 (start func frame s') r' s' ws g out) else Failed out
+
+    enters : RFunc → Bool → Meaning.Run
+    enters func b = if b then Meaning.state_at_block func.blocks.items 0 (argument_registers vs) dest (plain ws rs) g out else Runs.Failed out
+
+    by : (func : RFunc) (frame : Frame) → Serves frame func → (b : Bool) → fits (length ws) func ≡ b → Alike (enter func b frame) (enters func b)
+    by func frame ok false e = refl
+    by func frame ok true e =
+        let as_many : length vs ≡ func.parameters =
+        eqb-true (length vs) func.parameters (both_true (nat_lt (length ws) depth) (length vs == func.parameters) e) in
+        writes_all frame.homes.items frame.saved.items func.blocks.items registers
+        (registers_at_entry frame.saved.items registers) unset_places unset_places 0 vs out _ _ (ok.homes)
+        (all_unset frame.homes.items frame.saved.items func.blocks.items registers ok.homes)
+        (λ y lt. ok.parameters y (omega (arith, lt, as_many))) (λ r' s' ag e1.
+        jumps 0 (start func frame s') r' s' (argument_registers vs) ws rs g out ok.homes
+        (subst (λ regs. Agrees frame.homes.items r' s' regs) (arguments_written vs) ag) dn
+        (subst (λ p. Stack p ws rs) (sym (e1 ∙ restored_cleared frame.saved.items registers)) st))
+
+exits : (h : Homed) → AreAllHomes h
+    → (depth : ℕ) (exit : RExit) (a : Activation) (registers regs : Places) (ws : List Activation) (rs : List Places) (g : Arrays) (out : List ℕ)
+    → AreHomes a.frame.homes.items a.frame.saved.items a.blocks → Agrees a.frame.homes.items registers a.slots regs
+    → HaveHomes a.frame.homes.items (exit_names exit) → ResultHasHome a.result_to ws → Stack (registers_at_return a.frame.saved.items a.aside registers) ws rs
+    → Alike (state_after_exit h depth exit a registers ws g out) (Meaning.state_after_exit (h.rtl.now) depth exit a.blocks regs a.result_to (plain ws rs) g out)
+exits h all depth (Goto b) a registers regs ws rs g out ok ag n dest st = jumps b a registers a.slots regs ws rs g out ok ag dest st
+exits h all depth (Branch c x y) a registers regs ws rs g out ok ag n dest st =
+    both_value _ _ out _ _ (ag.by c) (λ v. jumps (if v == 0 then y else x) a registers a.slots regs ws rs g out ok ag dest st)
+exits h all depth (Call f xs d next) a registers regs ws rs g out ok ag n dest st =
+    both_value _ _ out _ _ (reads_all a.frame.homes.items registers a.slots regs xs.items ag) (λ vs. both_value_is (slice_get a.blocks next) out _ _ (λ block e.
+    calls h all depth f vs d registers (at_code a a.slots (code_of block) ∷ ws) (regs ∷ rs) g out (named_back a.frame.homes.items xs.items (optional d) n)
+    (record { homes = ok; agrees = ag; code = named_block a.frame.homes.items a.blocks next block ok.named e }, dest, st)))
+exits h all depth (Return None) a registers regs ws rs g out ok ag n dest st = returns None a registers ws rs g out dest st
+exits h all depth (Return (Some x)) a registers regs ws rs g out ok ag n dest st =
+    both_value _ _ out _ _ (ag.by x) (λ v. returns (Some v) a registers ws rs g out dest st)
+exits h all depth (Out x next) a registers regs ws rs g out ok ag n dest st =
+    both_value _ _ out _ _ (ag.by x) (λ v. jumps next a registers a.slots regs ws rs g (out ++ v ∷ []) ok ag dest st)
+
+code_alike : (h : Homed) → AreAllHomes h
+    → (depth : ℕ) (is : List RInst) (exit : RExit) (a : Activation) (registers regs : Places) (ws : List Activation) (rs : List Places)
+    (g : Arrays) (out : List ℕ)
+    → AreHomes a.frame.homes.items a.frame.saved.items a.blocks → Agrees a.frame.homes.items registers a.slots regs
+    → HaveHomes a.frame.homes.items (insts_names is) → HaveHomes a.frame.homes.items (exit_names exit) → ResultHasHome a.result_to ws
+    → Stack (registers_at_return a.frame.saved.items a.aside registers) ws rs
+    → Alike (step_at h depth is exit a registers ws g out) (Meaning.step_at (h.rtl.now) depth is exit a.blocks regs a.result_to (plain ws rs) g out)
+code_alike h all depth [] exit a registers regs ws rs g out ok ag ni ne dest st = exits h all depth exit a registers regs ws rs g out ok ag ne dest st
+code_alike h all depth (i ∷ is) exit a registers regs ws rs g out ok ag ni ne dest st =
+    performs (h.rtl.now).globals i a.frame.homes.items a.frame.saved.items a.blocks a.aside registers a.slots regs g out _ _ ok ag
+    (named_front a.frame.homes.items (inst_names i) (insts_names is) ni) (λ r' s' regs' g' ag' e.
+    alike_top (at_code a s' (record { insts = is; exit = exit })) r' regs' ws rs g' out ok ag'
+    (record { insts = named_back a.frame.homes.items (inst_names i) (insts_names is) ni; exit = ne }) dest
+    (subst (λ p. Stack p ws rs) (sym e) st))
+
+steps_alike : (h : Homed) → AreAllHomes h → (depth : ℕ) (s : Run) (t : Meaning.Run) → Alike s t → Alike (homed_step h depth s) (rtl_step (h.rtl.now) depth t)
+steps_alike h all depth (Ended v out) t m = ap (rtl_step (h.rtl.now) depth) m
+steps_alike h all depth (Failed out) t m = ap (rtl_step (h.rtl.now) depth) m
+steps_alike h all depth (Running registers [] g out) t m = empty m.0 m.1 m.2
+  where
+    empty : (rs : List Places) → t ≡ Runs.Running (plain [] rs) g out → Stack registers [] rs → rtl_step (h.rtl.now) depth t ≡ Runs.Failed out
+    empty rs e st = ap (rtl_step (h.rtl.now) depth) e
+steps_alike h all depth (Running registers (a ∷ ws) g out) t m = one m.0 m.1 m.2
+  where
+    one : (rs : List Places) → t ≡ Runs.Running (plain (a ∷ ws) rs) g out → Stack registers (a ∷ ws) rs
+        → Alike (homed_step h depth (Running registers (a ∷ ws) g out)) (rtl_step (h.rtl.now) depth t)
+    one [] e st = absurd st
+    one (r ∷ rs) e st =
+        subst (λ t. Alike (homed_step h depth (Running registers (a ∷ ws) g out)) (rtl_step (h.rtl.now) depth t)) (sym e)
+        (code_alike h all depth a.code.insts a.code.exit a registers r ws rs g out (st.0).homes (st.0).agrees (st.0).code.insts (st.0).code.exit st.1 st.2)
+
+same_ran : (s : Run) (t : Meaning.Run) → Alike s t → outcome s ≡ Runs.outcome t
+same_ran (Running registers ws g out) t m = sym (ap Runs.outcome m.1)
+same_ran (Ended v out) t m = sym (ap Runs.outcome m)
+same_ran (Failed out) t m = sym (ap Runs.outcome m)
+
+runs_alike : (h : Homed) → AreAllHomes h → (depth n : ℕ) (s : Run) (t : Meaning.Run) → Alike s t
+    → outcome (homed_steps h depth n s) ≡ Runs.outcome (rtl_steps (h.rtl.now) depth n t)
+runs_alike h all depth zero s t m = same_ran s t m
+runs_alike h all depth (suc n) s t m = runs_alike h all depth n (homed_step h depth s) (rtl_step (h.rtl.now) depth t) (steps_alike h all depth s t m)
+
+-- at the start all homes are unset
+starts_alike : (h : Homed) → AreAllHomes h → Alike (homed_start h) (rtl_start (h.rtl.now))
+starts_alike h all =
+    both_value_is (slice_get (h.rtl.now).functions (h.rtl.now).main) [] _ _ (λ func is.
+    let has = all.by (h.rtl.now).main func is in
+    subst (λ o. Alike
+    (with_value o []
+    (λ frame. state_at_block 0 (start func frame) unset_places unset_places [] (map first_values (h.rtl.now).globals) []))
+    (Meaning.state_at_block func.blocks.items 0 unset_places None [] (map first_values (h.rtl.now).globals) [])) (sym has.1)
+    (jumps 0 (start func has.0) unset_places unset_places unset_places [] [] (map first_values (h.rtl.now).globals) [] has.2.homes
+    (record { by = unset has.0.homes.items }) tt tt))
+  where
+    start : RFunc → Frame → Activation
+    start func frame =
+        record {
+          blocks = func.blocks.items;
+          frame = frame;
+          slots = unset_places;
+          aside = unset_places;
+          code =
+              record { insts = []; exit = Goto 0 };
+          result_to = None;
+        }
+
+    empty : (h : Home) → in_home unset_places unset_places h ≡ None
+    empty (Reg r) = refl
+    empty (Slot k) = refl
+
+    unset : (hs : List Home) (x : ℕ) → read_home hs unset_places unset_places x ≡ None
+    unset hs x = at (slice_get hs x)
+      where
+        at : (o : Option Home) → chain o (in_home unset_places unset_places) ≡ None
+        at None = refl
+        at (Some h) = empty h
+
+pub each_homed_run : (h : Homed) → AreAllHomes h → KeepsRtlRuns h
+each_homed_run h all depth n = runs_alike h all depth n (homed_start h) (rtl_start (h.rtl.now)) (starts_alike h all)

@@ -1,0 +1,14 @@
+use Rattle.mips_homes.proofs.Placing.{home_register, home_slot}
+use Rattle.mips_homes.proofs.frames.homes_of.Goals as goal
+use Rattle.mips_homes.proofs.frames.homes_of.Goals.{in-Some+in_ok-push-in-Some, in-None+in_ok-push-in-None}
+
+pub loop-x-preserved : goal.loop-x-preserved
+loop-x-preserved c = elim c.match-place_of.branch [
+  | in-Some+in_ok-push-in-Some w ↦ rw w.homes-is
+      (rw w.slots-is
+      (home_register c.args.best.now c.loop-x.x c.loop-x.slots w.in-Some.j c.loop-x.homes.items _ w.in_ok-push-in-Some.ensures.items
+      w.in-Some.ensures c.loop-x.invariant))
+  | in-None+in_ok-push-in-None w ↦ rw w.homes-is
+      (rw w.slots-is
+      (home_slot c.args.best.now c.loop-x.x c.loop-x.slots c.loop-x.homes.items _ w.in_ok-push-in-None.ensures.items w.in-None.ensures c.loop-x.invariant))
+]

@@ -1,0 +1,175 @@
+-- What a program does where its pseudo-registers live in homes.
+use Rattle.std.specs.Prelude.{ℕ, suc, Bool, false, ◌&&◌, ◌||◌, ◌==◌, List, [], ◌∷◌, ◌++◌, Option, Some, None, length, nat_eq, nat_lt}
+use Rattle.std.specs.Prelude.{if◌then◌else◌, slice_get, map}
+use Rattle.words.specs.Words.{wrap}
+use Rattle.runs.specs.declared.ran.End.TheVariants.{Done, Wrong, More}
+use Rattle.runs.specs.Stores.{Places, unset_places, places_with, Arrays, chain, element_at, arrays_with}
+use Rattle.runs.specs.Runs.{Outcome, steps}
+use Rattle.rtl.specs.declared.block.RGlobal.{RGlobal}
+use Rattle.rtl.specs.Operators.{op_result}
+use Rattle.rtl.specs.Meaning.{Code, code_of, kept_in, first_values}
+use Rattle.mips_homes.specs.declared.homed.Home.{Home}
+use Rattle.mips_homes.specs.declared.homed.Home.TheVariants.{Reg, Slot}
+use Rattle.mips_homes.specs.declared.homed.Frame.{Frame}
+use Rattle.mips_homes.specs.declared.homed.Homed.{Homed}
+use Rattle.rtl.specs.declared.instruction.RInst.{RInst}
+use Rattle.rtl.specs.declared.instruction.RInst.TheVariants.{Const, Move, Bin, Load, Store}
+use Rattle.rtl.specs.declared.instruction.RExit.{RExit}
+use Rattle.rtl.specs.declared.instruction.RExit.TheVariants.{Goto, Branch, Call, Return, Out}
+use Rattle.rtl.specs.declared.block.RBlock.{RBlock}
+
+-- an activation: its blocks, its homes, its slots, what it put aside, its code, and where its result goes
+pub record Activation : Type 0 where
+  pub blocks : List RBlock
+  pub frame : Frame
+  pub slots : Places
+  pub aside : Places
+  pub code : Code
+  pub result_to : Option ℕ
+
+-- before its first block
+abbrev pub new_activation : List RBlock → Frame → (slots aside : Places) → Option ℕ → Activation
+new_activation blocks frame slots aside to =
+    record { blocks = blocks; frame = frame; slots = slots; aside = aside; code = record { insts = []; exit = Goto 0 }; result_to = to }
+
+-- how far a run has come: the registers, which all activations share, the activations, the globals and the output
+pub data Run : Type 0 where
+  Running : (registers : Places) → List Activation → Arrays → List ℕ → Run
+  Ended : ℕ → List ℕ → Run
+  Failed : List ℕ → Run
+
+-- goes on with a value, or fails
+abbrev pub with_value : {A : Type 0} → Option A → List ℕ → (A → Run) → Run
+with_value None out go = Failed out
+with_value (Some a) out go = go a
+
+-- what a home holds
+abbrev pub in_home : Places → Places → Home → Option ℕ
+in_home registers slots (Reg r) = registers r
+in_home registers slots (Slot k) = slots k
+
+-- what the home of a pseudo-register holds, or none where it has none
+abbrev pub read_home : List Home → Places → Places → ℕ → Option ℕ
+read_home homes registers slots x = chain (slice_get homes x) (in_home registers slots)
+
+abbrev pub read_homes : List Home → Places → Places → List ℕ → Option (List ℕ)
+read_homes homes registers slots [] = Some []
+read_homes homes registers slots (x ∷ xs) =
+    chain (read_home homes registers slots x) (λ v. chain (read_homes homes registers slots xs) (λ vs. Some (v ∷ vs)))
+
+-- a word into a home
+abbrev pub write_at : Home → Places → Places → ℕ → (Places → Places → Run) → Run
+write_at (Reg r) registers slots v go = go (places_with registers r (Some v)) slots
+write_at (Slot k) registers slots v go = go registers (places_with slots k (Some v))
+
+-- a word into the home of a pseudo-register
+abbrev pub write_home : List Home → Places → Places → ℕ → ℕ → List ℕ → (Places → Places → Run) → Run
+write_home homes registers slots x v out go = with_value (slice_get homes x) out (λ h. write_at h registers slots v go)
+
+-- words into the homes of the pseudo-registers from x on
+abbrev pub write_homes : List Home → Places → Places → ℕ → List ℕ → List ℕ → (Places → Places → Run) → Run
+write_homes homes registers slots x [] out go = go registers slots
+write_homes homes registers slots x (v ∷ vs) out go =
+    write_home homes registers slots x v out (λ r s. write_homes homes r s (suc x) vs out go)
+
+-- whether a number is in a list
+abbrev pub is_in : List ℕ → ℕ → Bool
+is_in [] r = false
+is_in (x ∷ xs) r = nat_eq r x || is_in xs r
+
+-- the registers that a function saves are unset at its entry, and come back at its return
+abbrev pub registers_at_entry : List ℕ → Places → Places
+registers_at_entry saved registers = λ r. if is_in saved r then None else registers r
+
+abbrev pub registers_at_return : List ℕ → Places → Places → Places
+registers_at_return saved aside registers = λ r. if is_in saved r then aside r else registers r
+
+-- an instruction, with what it leaves in the registers, slots and globals
+abbrev pub with_inst : List RGlobal → RInst → List Home → Places → Places → Arrays → List ℕ → (Places → Places → Arrays → Run) → Run
+with_inst globals (Const d w) hs r s g out go = write_home hs r s d (wrap w) out (λ r s. go r s g)
+with_inst globals (Move d a) hs r s g out go = with_value (read_home hs r s a) out (λ v. write_home hs r s d v out (λ r s. go r s g))
+with_inst globals (Bin op d a b) hs r s g out go =
+    with_value (read_home hs r s a) out
+    (λ x. with_value (read_home hs r s b) out (λ y. with_value (op_result op x y) out (λ v. write_home hs r s d v out (λ r s. go r s g))))
+with_inst globals (Load d a i) hs r s g out go =
+    with_value (read_home hs r s i) out (λ x. with_value (element_at g a x) out (λ v. write_home hs r s d v out (λ r s. go r s g)))
+with_inst globals (Store a i b) hs r s g out go =
+    with_value (read_home hs r s i) out
+    (λ x. with_value (read_home hs r s b) out (λ v. with_value (kept_in globals a v) out (λ w. with_value (arrays_with g a x w) out (λ g'. go r s g'))))
+
+-- an activation with other slots, at other code
+abbrev pub at_code : Activation → Places → Code → Activation
+at_code a s code = record { blocks = a.blocks; frame = a.frame; slots = s; aside = a.aside; code = code; result_to = a.result_to }
+
+-- at the start of a block of the same function
+abbrev pub state_at_block : ℕ → Activation → Places → Places → List Activation → Arrays → List ℕ → Run
+state_at_block b a r s ws g out =
+    with_value (slice_get a.blocks b) out (λ block. Running r (at_code a s (code_of block) ∷ ws) g out)
+
+-- a result where one is wanted
+abbrev pub with_result : Option ℕ → Option ℕ → List Home → Places → Places → List ℕ → (Places → Places → Run) → Run
+with_result None o homes r s out go = go r s
+with_result (Some d) o homes r s out go = with_value o out (λ v. write_home homes r s d v out go)
+
+-- a return: what was put aside comes back first, then the result is arrays_with in its home below
+abbrev pub state_after_return : Option ℕ → Activation → Places → List Activation → Arrays → List ℕ → Run
+state_after_return o a r [] g out = with_value o out (λ v. Ended v out)
+state_after_return o a r (w ∷ ws) g out =
+    with_result a.result_to o w.frame.homes.items (registers_at_return a.frame.saved.items a.aside r) w.slots out (λ r' s'.
+    Running r' (at_code w s' w.code ∷ ws) g out)
+
+-- a call: the arguments were read; the registers that the function saves are put aside and unset, and the parameters are set
+abbrev pub state_after_call : Homed → (depth f : ℕ) → List ℕ → Option ℕ → Places → List Activation → Arrays → List ℕ → Run
+state_after_call h depth f vs dest r ws g out =
+    with_value (slice_get (h.rtl.now).functions f) out (λ func. with_value (slice_get h.frames.items f) out (λ frame.
+    if nat_lt (length ws) depth && (length vs == func.parameters)
+    then write_homes frame.homes.items (registers_at_entry frame.saved.items r) unset_places 0 vs out (λ r' s'.
+    state_at_block 0 (new_activation func.blocks.items frame s' r dest) r' s' ws g out)
+    else Failed out))
+
+-- how a block is left
+abbrev pub state_after_exit : Homed → (depth : ℕ) → RExit → Activation → Places → List Activation → Arrays → List ℕ → Run
+state_after_exit h depth (Goto b) a r ws g out = state_at_block b a r a.slots ws g out
+state_after_exit h depth (Branch c t e) a r ws g out =
+    with_value (read_home a.frame.homes.items r a.slots c) out (λ v. state_at_block (if v == 0 then e else t) a r a.slots ws g out)
+state_after_exit h depth (Call f xs dest next) a r ws g out =
+    with_value (read_homes a.frame.homes.items r a.slots xs.items) out (λ vs. with_value (slice_get a.blocks next) out (λ block.
+    state_after_call h depth f vs dest r (at_code a a.slots (code_of block) ∷ ws) g out))
+state_after_exit h depth (Return None) a r ws g out = state_after_return None a r ws g out
+state_after_exit h depth (Return (Some x)) a r ws g out =
+    with_value (read_home a.frame.homes.items r a.slots x) out (λ v. state_after_return (Some v) a r ws g out)
+state_after_exit h depth (Out x next) a r ws g out =
+    with_value (read_home a.frame.homes.items r a.slots x) out (λ v. state_at_block next a r a.slots ws g (out ++ v ∷ []))
+
+-- one instruction, or the exit where none is left
+abbrev pub step_at : Homed → (depth : ℕ) → List RInst → RExit → Activation → Places → List Activation → Arrays → List ℕ → Run
+step_at h depth [] exit a r ws g out = state_after_exit h depth exit a r ws g out
+step_at h depth (i ∷ is) exit a r ws g out =
+    with_inst (h.rtl.now).globals i a.frame.homes.items r a.slots g out (λ r' s' g'.
+    Running r' (at_code a s' (record { insts = is; exit = exit }) ∷ ws) g' out)
+
+abbrev pub homed_step : Homed → ℕ → Run → Run
+homed_step h depth (Running r [] g out) = Failed out
+homed_step h depth (Running r (a ∷ ws) g out) = step_at h depth a.code.insts a.code.exit a r ws g out
+homed_step h depth (Ended v out) = Ended v out
+homed_step h depth (Failed out) = Failed out
+
+abbrev pub homed_steps : Homed → (depth n : ℕ) → Run → Run
+homed_steps h depth n s = steps (homed_step h depth) n s
+
+-- what a run that goes no further comes to
+abbrev pub outcome : Run → Outcome
+outcome (Running r ws g out) = record { end = More; output = out }
+outcome (Ended s out) = record { end = Done s; output = out }
+outcome (Failed out) = record { end = Wrong; output = out }
+
+-- before the first step: `main`, and all homes unset
+abbrev pub homed_start : Homed → Run
+homed_start h =
+    with_value (slice_get (h.rtl.now).functions (h.rtl.now).main) [] (λ func. with_value (slice_get h.frames.items (h.rtl.now).main) [] (λ frame.
+    state_at_block 0 (new_activation func.blocks.items frame unset_places unset_places None) unset_places unset_places []
+    (map first_values (h.rtl.now).globals) []))
+
+-- n steps of a program over its homes, with at most so many activations
+abbrev pub homed_run : Homed → (depth n : ℕ) → Outcome
+homed_run h depth n = outcome (homed_steps h depth n (homed_start h))

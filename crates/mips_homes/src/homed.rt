@@ -1,0 +1,25 @@
+use rtl::Rtl;
+
+/// Where a pseudo-register lives.
+#[derive(Clone, Copy, Debug, PartialEq, Eq)]
+pub enum Home {
+    /// A register, 16 to 23.
+    Reg(u8),
+    /// A slot of the frame, from 0 on.
+    Slot(u32),
+}
+
+/// The homes of a function, the registers that it saves, and how many slots its frame has.
+#[derive(Debug, Drop)]
+pub struct Frame {
+    pub homes: Vec<Home>,
+    pub saved: Vec<u8>,
+    pub slots: u32,
+}
+
+/// A program, and a frame for each function.
+#[derive(Debug, Drop)]
+pub struct Homed<'a> {
+    pub rtl: &'a Rtl,
+    pub frames: Vec<Frame>,
+}
