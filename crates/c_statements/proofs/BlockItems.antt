@@ -89,7 +89,7 @@ ItemsSoFar text gives loop sc is r = Answers (λ (v : Vec TypedStatement Global)
 abbrev pub NextItem : List ℕ → (gives loop : Bool) → Scopes → Item → Result TypedStatement TypeStop → Type 0
 NextItem text gives loop sc i r =
     Answers (λ t. TypesItems text sc (more_items (item_of i) no_items) (more_statements (statement_of t) no_statements))
-        (FaultyItems text gives loop sc (more_items (item_of i) no_items)) r
+    (FaultyItems text gives loop sc (more_items (item_of i) no_items)) r
 
 pub none-so-far : (text : List ℕ) (g b : Bool) (sc : Scopes) (v : Vec TypedStatement Global) → v.items ≡ [] → ItemsSoFar text g b sc [] (Ok v)
 none-so-far text g b sc v e = record { ok = rw e no_items_typed; none = λ k at h. h; err = tt }
@@ -102,7 +102,7 @@ pub behind-so-far : (text : List ℕ) (sc now : Scopes) (all : List Item) (i : �
     → now ≡ behind_items text sc (items_of (take (i + 1) all))
 behind-so-far text sc now all i x l is e =
     e ∙ sym (ap (λ (ys : List Item). behind_items text sc (items_of ys)) (next-of all i x l is)
-        ∙ ap (behind_items text sc) (items-append (take i all) x) ∙ behind-append text sc (items_of (take i all)) (item_of x))
+    ∙ ap (behind_items text sc) (items-append (take i all) x) ∙ behind-append text sc (items_of (take i all)) (item_of x))
 
 same-faults : (text : List ℕ) (g b : Bool) (sc : Scopes) (xs : List Item) (i : Item)
     → Same (Both (FaultyItems text g b sc (items_of xs))
@@ -113,7 +113,7 @@ same-faults text g b sc xs i =
 typed-more : (text : List ℕ) (sc : Scopes) (xs : List Item) (i : Item) (ts : List TypedStatement) (t : TypedStatement)
     → TypesItems text sc (items_of xs) (statements_of ts)
     → TypesItems text (behind_items text sc (items_of xs)) (more_items (item_of i) no_items)
-        (more_statements (statement_of t) no_statements) → TypesItems text sc (items_of (xs ++ i ∷ [])) (statements_of (ts ++ t ∷ []))
+    (more_statements (statement_of t) no_statements) → TypesItems text sc (items_of (xs ++ i ∷ [])) (statements_of (ts ++ t ∷ []))
 typed-more text sc xs i ts t h l =
     rw (items-append xs i, statements-append ts t) (typed-append text sc (items_of xs) (statements_of ts) (item_of i) (statement_of t) h l)
 
@@ -122,16 +122,16 @@ pub one-so-far : (text : List ℕ) (g b : Bool) (sc : Scopes) (all : List Item) 
     → ItemsSoFar text g b sc (take i all) typed
     → NextItem text g b (behind_items text sc (items_of (take i all))) x one
     → IfOk r (λ v. (xs : Vec TypedStatement Global) × (y : TypedStatement) × (typed ≡ Ok xs) × (one ≡ Ok y)
-        × (v.items ≡ xs.items ++ y ∷ [])) → IfErr r (λ s. (s ≡ NoMemory) ⊎ StopsBoth typed one s)
+    × (v.items ≡ xs.items ++ y ∷ [])) → IfErr r (λ s. (s ≡ NoMemory) ⊎ StopsBoth typed one s)
     → ItemsSoFar text g b sc (take (i + 1) all) r
 one-so-far text g b sc all i x typed r one l is h a f e =
     let Q : List Item → Type 0 = λ ys. ItemsSoFar text g b sc ys r in
     let before : Items = items_of (take i all) in
     subst Q (sym (next-of all i x l is))
-        (one-more (λ ts. TypesItems text sc before (statements_of ts)) (λ ts. TypesItems text sc (items_of (take i all ++ x ∷ [])) (statements_of ts))
+    (one-more (λ ts. TypesItems text sc before (statements_of ts)) (λ ts. TypesItems text sc (items_of (take i all ++ x ∷ [])) (statements_of ts))
     (λ t. TypesItems text (behind_items text sc before) (more_items (item_of x) no_items) (more_statements (statement_of t) no_statements))
-        (FaultyItems text g b sc before) (FaultyItems text g b (behind_items text sc before) (more_items (item_of x) no_items))
-        (FaultyItems text g b sc (items_of (take i all ++ x ∷ []))) typed r one
+    (FaultyItems text g b sc before) (FaultyItems text g b (behind_items text sc before) (more_items (item_of x) no_items))
+    (FaultyItems text g b sc (items_of (take i all ++ x ∷ []))) typed r one
     (same-faults text g b sc (take i all) x) (λ ts t p q. typed-more text sc (take i all) x ts t p q) h a f e)
 
 -- the scopes behind a block are those around it, and the locals of its items

@@ -45,7 +45,7 @@ counted scope x es n w v P e f h =
 pub call-stop : (scope : Environment) (x : Identifier) (es : List Expression) (n : ℕ) (w v : Bool) (a : Result Target TypeStop)
     (b : Result (Vec TypedExpression Global) TypeStop) (s : TypeStop) → n ≡ length es → w ≡ v
     → IfOk a (λ t. HasNone (Misused scope x (as_call n w))) → IfErr a (StopsAtFirst (Misused scope x (as_call n w)))
-        → IfOk b (λ t. HasNone (FaultyAll scope (expressions_of es))) → IfErr b (StopsAtFirst (FaultyAll scope (expressions_of es)))
+    → IfOk b (λ t. HasNone (FaultyAll scope (expressions_of es))) → IfErr b (StopsAtFirst (FaultyAll scope (expressions_of es)))
     → StopsBoth a b s → StopsAtFirst (FaultyCall scope v (Tree.call x (expressions_of es))) s
 call-stop scope x es n w v a b s e f h i l m g =
     counted scope x es n w v (λ p. StopsAtFirst p s) e f (both-stop (Misused scope x (as_call n w)) (FaultyAll scope (expressions_of es)) a b s h i l m g)
@@ -104,7 +104,7 @@ one-argument scope (e ∷ f ∷ es) xs t l h = absurd (omega (arith, l))
 pub out-ok : (scope : Environment) (to : Option Destination) (x : Identifier) (t : Target) (n : ℕ) (w : Bool) (es : List Expression)
     (all xs : List TypedExpression) (a : TypedExpression) → IsTarget (scope x) t → t ≡ ToOut → n ≡ length es → w ≡ is_some to
     → HasNone (Misused scope x (as_call n w)) → TypesAll scope (expressions_of es) (typed_expressions_of all) → all ≡ xs ++ a ∷ []
-        → TypesCall scope to (Tree.call x (expressions_of es)) (output (typed_expression_of a))
+    → TypesCall scope to (Tree.call x (expressions_of es)) (output (typed_expression_of a))
 out-ok scope to x t n w es all xs a h e c d l m g =
     let o = named-out (scope x) t h e in
     let W : Bool → Type 0 = λ b. HasNone (Misused scope x (as_call n b)) in

@@ -12,7 +12,7 @@ pub one-more : {T : Type 0} (P W : List T → Type 0) (Q : T → Type 0) (p q w 
     (one : Result T TypeStop) → Same (Both p q) w
     → ((xs : List T) (x : T) → P xs → Q x → W (xs ++ x ∷ [])) → Answers (λ (v : Vec T Global). P v.items) p all → Answers Q q one
     → IfOk r (λ v. (xs : Vec T Global) × (x : T) × (all ≡ Ok xs) × (one ≡ Ok x) × (v.items ≡ xs.items ++ x ∷ []))
-        → IfErr r (λ s. (s ≡ NoMemory) ⊎ StopsBoth all one s)
+    → IfErr r (λ s. (s ≡ NoMemory) ⊎ StopsBoth all one s)
     → Answers (λ (v : Vec T Global). W v.items) w r
 one-more P W Q p q w all (Ok v) one s more h l e f = record {
   ok = subst W (sym e.4) (more e.0.items e.1 (ok-at (λ y. P y.items) all e.0 e.2 h.ok) (ok-at Q one e.1 e.3 l.ok));

@@ -21,7 +21,7 @@ pub behind-block : (text : List ℕ) (sc a b d : Scopes) (all : Items) → a ≡
     → d ≡ behind sc (Tree.block all)
 behind-block text sc a b d all e f g =
     g ∙ ap outside (f ∙ ap (λ (s : Scopes). behind_items text s all) e)
-        ∙ around (behind_items text (within sc) all) (behind-around text (within sc) all) (behind-locals text (within sc) all)
+    ∙ around (behind_items text (within sc) all) (behind-around text (within sc) all) (behind-locals text (within sc) all)
   where
     around : (s : Scopes) → s.around ≡ sc.inner ∷ sc.around → s.locals ≡ sc.locals + declared_in_all all → outside s ≡ behind sc (Tree.block all)
     around s e f = rw (e, f) refl
@@ -129,5 +129,5 @@ pub block-of-two : (new mid v : Vec TypedStatement Global) (first second : Typed
     → statement_of (Block v) ≡ block (more_statements (statement_of first) (more_statements (statement_of second) no_statements))
 block-of-two new mid v first second n m e =
     let whole : v.items ≡ first ∷ second ∷ [] = e
-            ∙ ap (λ (xs : List TypedStatement). xs ++ second ∷ []) (m ∙ ap (λ (xs : List TypedStatement). xs ++ first ∷ []) n) in
+    ∙ ap (λ (xs : List TypedStatement). xs ++ second ∷ []) (m ∙ ap (λ (xs : List TypedStatement). xs ++ first ∷ []) n) in
     block-is v ∙ ap (λ (xs : List TypedStatement). block (statements_of xs)) whole

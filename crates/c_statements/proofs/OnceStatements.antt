@@ -71,7 +71,7 @@ mutual
   once-statement (if_then_else_typed a b c) (if_then_else_typed d e f) = let g = once a d in let h = once-statement b e in let i = once-statement c f in cc
   once-statement (while_loop_typed a b) (while_loop_typed c d) = let g = once a c in let h = once-statement b d in cc
   once-statement (for_loop_typed a b c d) (for_loop_typed e f g h) = let i = once-part a e in let j = once-test b f in let k =
-          once-part c g in let l = once-statement d h in cc
+      once-part c g in let l = once-statement d h in cc
   once-statement break_typed break_typed = refl
   once-statement continue_typed continue_typed = refl
   once-statement (return_typed a) (return_typed b) = ap return_with (once-maybe a b)

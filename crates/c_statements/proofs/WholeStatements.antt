@@ -33,8 +33,8 @@ pub if-then-ok : (text : List ℕ) (sc : Scopes) (c : Expression) (s : Tree.Stat
     → IfOk r (MadeOfThree a b (Ok Empty) IsIf) → TypedAs text sc (Tree.if_then c s) r
 if-then-ok text sc c s a b (Ok x) h l o =
     let e : statement_of x ≡ if_else (typed_expression_of o.0) (statement_of o.1) (statement_of Empty) = o.6
-            ∙ ap (λ (y : TypedStatement). if_else (typed_expression_of o.0) (statement_of o.1) (statement_of y))
-            (sym (same-answer (Ok Empty) Empty o.2 refl o.5)) in
+    ∙ ap (λ (y : TypedStatement). if_else (typed_expression_of o.0) (statement_of o.1) (statement_of y))
+    (sym (same-answer (Ok Empty) Empty o.2 refl o.5)) in
     rw e (if_then_typed (ok-at _ a o.0 o.3 h) (ok-at _ b o.1 o.4 l))
 if-then-ok text sc c s a b (Err t) h l o = tt
 
@@ -51,16 +51,16 @@ pub while-ok : (text : List ℕ) (sc : Scopes) (c : Expression) (s : Tree.Statem
     → IfOk r (MadeOfThree a (Ok Empty) b IsLoop) → TypedAs text sc (Tree.while_loop c s) r
 while-ok text sc c s a b (Ok x) h l o =
     let e : statement_of x ≡ loop (typed_expression_of o.0) (statement_of Empty) (statement_of o.2) = o.6
-            ∙ ap (λ (y : TypedStatement). loop (typed_expression_of o.0) (statement_of y) (statement_of o.2))
-            (sym (same-answer (Ok Empty) Empty o.1 refl o.4)) in
+    ∙ ap (λ (y : TypedStatement). loop (typed_expression_of o.0) (statement_of y) (statement_of o.2))
+    (sym (same-answer (Ok Empty) Empty o.1 refl o.4)) in
     rw e (while_loop_typed (ok-at _ a o.0 o.3 h) (ok-at _ b o.2 o.5 l))
 while-ok text sc c s a b (Err t) h l o = tt
 
 pub for-ok : (text : List ℕ) (sc : Scopes) (f l : Option Simple) (c : Option Expression) (s : Tree.Statement)
     (first last body turns r : Result TypedStatement TypeStop) (test : Result TypedExpression TypeStop)
     → IfOk first (λ t. TypesPart (environment_in text sc) f (statement_of t))
-        → IfOk test (λ t. TypesTest (environment_in text sc) c (typed_expression_of t))
-        → IfOk last (λ t. TypesPart (environment_in text sc) l (statement_of t)) → TypedAs text sc s body
+    → IfOk test (λ t. TypesTest (environment_in text sc) c (typed_expression_of t))
+    → IfOk last (λ t. TypesPart (environment_in text sc) l (statement_of t)) → TypedAs text sc s body
     → IfOk turns (MadeOfThree test last body IsLoop) → IfOk r (MadeOfTwo first turns IsSequence) → TypedAs text sc (Tree.for_loop f c l s) r
 for-ok text sc f l c s first last body turns (Ok x) test h m k n t o =
     let u = ok-at (MadeOfThree test last body IsLoop) turns o.1 o.3 t in
@@ -71,7 +71,7 @@ for-ok text sc f l c s first last body turns (Err v) test h m k n t o = tt
 pub tells-behind : (text : List ℕ) (g i : Bool) (sc now : Scopes) (s t : Tree.Statement) (b d : Result TypedStatement TypeStop)
     → Tells (FaultyStatement text g i sc s) b
     → ((b ≡ Err NoMemory → ⊥) → now ≡ behind sc s) → Tells (FaultyStatement text g i now t) d
-        → Tells (Both (FaultyStatement text g i sc s) (FaultyStatement text g i (behind sc s) t)) (both_of b d)
+    → Tells (Both (FaultyStatement text g i sc s) (FaultyStatement text g i (behind sc s) t)) (both_of b d)
 tells-behind text g i sc now s t (Err NoMemory) (Ok y) h f l = (tt, tt)
 tells-behind text g i sc now s t (Err NoMemory) (Err u) h f l = (tt, tt)
 tells-behind text g i sc now s t (Ok x) d h f l =

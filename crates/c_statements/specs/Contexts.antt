@@ -1,12 +1,13 @@
 -- What is told of a statement in its context.
-use Rattle.std.specs.Prelude.{ℕ, List, Result}
+use Rattle.std.specs.Prelude.{◌≡◌, ℕ, List, Result, Err}
 use Rattle.c_front.specs.Tree.{Statement}
 use Rattle.c_typed.specs.declared.tree.TypedStatement.{TypedStatement}
 use Rattle.c_typed.specs.Shape.{statement_of}
 use Rattle.c_statements.specs.declared.fault.TypeStop.{TypeStop}
+use Rattle.c_statements.specs.declared.fault.TypeStop.TheVariants.{NoMemory}
 use Rattle.c_statements.specs.declared.statement.Context.{Context}
 use Rattle.c_statements.specs.Faults.{Answers}
-use Rattle.c_statements.specs.Names.{Scopes}
+use Rattle.c_statements.specs.Names.{Scopes, behind}
 use Rattle.c_statements.specs.Statements.{FaultyStatement}
 use Rattle.c_statements.specs.Types.{TypesStatement}
 
@@ -14,5 +15,7 @@ use Rattle.c_statements.specs.Types.{TypesStatement}
 abbrev pub text_of : Context → List ℕ
 text_of at = at.program.now.text.items
 
-abbrev pub AnswersStatement : Context → Scopes → Statement → Result TypedStatement TypeStop → Type 0
-AnswersStatement at sc s r = Answers (λ t. TypesStatement (text_of at) sc s (statement_of t)) (FaultyStatement (text_of at) at.gives at.in_loop sc s) r
+-- what a function that types a statement comes to: its answer, and behind it the scopes behind the statement, unless memory was refused
+pub record Typing (at : Context) (before after : Scopes) (s : Statement) (r : Result TypedStatement TypeStop) : Type 0 where
+  pub typed : Answers (λ t. TypesStatement (text_of at) before s (statement_of t)) (FaultyStatement (text_of at) at.gives at.in_loop before s) r
+  pub scopes : (r ≡ Err NoMemory → ⊥) → after ≡ behind before s

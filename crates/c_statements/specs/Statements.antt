@@ -82,7 +82,7 @@ abbrev mutual
   FaultyStatement text gives loop sc (while_loop c s) k at = Faulty (environment_in text sc) c k at ⊎ FaultyStatement text gives true sc s k at
   FaultyStatement text gives loop sc (for_loop f c l s) k at =
       FaultyPart (environment_in text sc) f k at ⊎
-          (FaultyMaybe (environment_in text sc) c k at ⊎ (FaultyPart (environment_in text sc) l k at ⊎ FaultyStatement text gives true sc s k at))
+      (FaultyMaybe (environment_in text sc) c k at ⊎ (FaultyPart (environment_in text sc) l k at ⊎ FaultyStatement text gives true sc s k at))
   FaultyStatement text gives loop sc (break_at place) k at = FaultyJump loop place k at
   FaultyStatement text gives loop sc (continue_at place) k at = FaultyJump loop place k at
   FaultyStatement text gives loop sc (return_at place e) k at = FaultyReturn gives e place k at ⊎ FaultyMaybe (environment_in text sc) e k at

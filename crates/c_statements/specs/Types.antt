@@ -96,7 +96,7 @@ mutual
     for_loop_typed : {sc : Scopes} {f l : Option Tree.Simple} {c : Option Expression} {s : Tree.Statement} {first last u : TypedStatement}
         {t : TypedExpression} →
         TypesPart (environment_in text sc) f first → TypesTest (environment_in text sc) c t → TypesPart (environment_in text sc) l last
-            → TypesStatement text sc s u →
+        → TypesStatement text sc s u →
         TypesStatement text sc (Tree.for_loop f c l s) (block (more_statements first (more_statements (loop t last u) no_statements)))
     break_typed : {sc : Scopes} {at : ℕ} → TypesStatement text sc (Tree.break_at at) break_loop
     continue_typed : {sc : Scopes} {at : ℕ} → TypesStatement text sc (Tree.continue_at at) continue_loop

@@ -5,7 +5,7 @@ ghost use Rattle.c_front.specs.Tree.{block, if_then, if_then_else, while_loop, f
 ghost use Rattle.c_statements.specs.declared.fault.TypeStop.TheVariants.{NoMemory};
 ghost use Rattle.c_statements.specs.Faults.{Answers, HasNone, StopsAtFirst};
 ghost use Rattle.c_statements.specs.Shape.{environment_of, scopes_of};
-ghost use Rattle.c_statements.specs.Contexts.{AnswersStatement, text_of};
+ghost use Rattle.c_statements.specs.Contexts.{Typing, text_of};
 ghost use Rattle.c_statements.specs.Names as Names;
 ghost use Rattle.c_statements.specs.Names.{environment_in, with_local, behind, behind_item, behind_items};
 ghost use Rattle.c_typed.specs.Shape.{maybe_typed_expression_of, statement_of as typed_of, statements_of};
@@ -135,8 +135,7 @@ fn block<'a>(
     scopes: &mut Scopes<'a>,
     all: &[Item],
 ) -> Result<TypedStatement, TypeStop>
-    ensures typed { AnswersStatement context.now (scopes_of scopes.old) (block (items_of all.now)) result }
-    ensures scopes { (result ≡ Err NoMemory → ⊥) → scopes_of scopes.new ≡ behind (scopes_of scopes.old) (block (items_of all.now)) }
+    ensures { Typing context.now (scopes_of scopes.old) (scopes_of scopes.new) (block (items_of all.now)) result }
 {
     scopes.enter(context.alloc)?;
     let typed = items(context, scopes, all);
@@ -152,8 +151,7 @@ fn if_then<'a>(
     condition: &Expression,
     first: &Statement,
 ) -> Result<TypedStatement, TypeStop>
-    ensures typed { AnswersStatement context.now (scopes_of scopes.old) (if_then (expression_of condition.now) (statement_of first.now)) result }
-    ensures scopes { (result ≡ Err NoMemory → ⊥) → scopes_of scopes.new ≡ behind (scopes_of scopes.old) (if_then (expression_of condition.now) (statement_of first.now)) }
+    ensures { Typing context.now (scopes_of scopes.old) (scopes_of scopes.new) (if_then (expression_of condition.now) (statement_of first.now)) result }
 {
     let condition = expression(context.alloc, context.program, scopes, condition);
     let first = statement(context, scopes, first);
@@ -169,8 +167,7 @@ fn if_then_else<'a>(
     first: &Statement,
     second: &Statement,
 ) -> Result<TypedStatement, TypeStop>
-    ensures typed { AnswersStatement context.now (scopes_of scopes.old) (if_then_else (expression_of condition.now) (statement_of first.now) (statement_of second.now)) result }
-    ensures scopes { (result ≡ Err NoMemory → ⊥) → scopes_of scopes.new ≡ behind (scopes_of scopes.old) (if_then_else (expression_of condition.now) (statement_of first.now) (statement_of second.now)) }
+    ensures { Typing context.now (scopes_of scopes.old) (scopes_of scopes.new) (if_then_else (expression_of condition.now) (statement_of first.now) (statement_of second.now)) result }
 {
     let condition = expression(context.alloc, context.program, scopes, condition);
     let first = statement(context, scopes, first);
@@ -186,8 +183,7 @@ fn while_loop<'a>(
     condition: &Expression,
     body: &Statement,
 ) -> Result<TypedStatement, TypeStop>
-    ensures typed { AnswersStatement context.now (scopes_of scopes.old) (while_loop (expression_of condition.now) (statement_of body.now)) result }
-    ensures scopes { (result ≡ Err NoMemory → ⊥) → scopes_of scopes.new ≡ behind (scopes_of scopes.old) (while_loop (expression_of condition.now) (statement_of body.now)) }
+    ensures { Typing context.now (scopes_of scopes.old) (scopes_of scopes.new) (while_loop (expression_of condition.now) (statement_of body.now)) result }
 {
     let inside = Context {
         in_loop: true,
@@ -206,8 +202,8 @@ fn for_loop<'a>(
     parts: &ForParts,
     body: &Statement,
 ) -> Result<TypedStatement, TypeStop>
-    ensures typed { AnswersStatement context.now (scopes_of scopes.old) (for_loop (maybe_simple_of parts.now.first) (maybe_expression_of parts.now.test) (maybe_simple_of parts.now.last) (statement_of body.now)) result }
-    ensures scopes { (result ≡ Err NoMemory → ⊥) → scopes_of scopes.new ≡ behind (scopes_of scopes.old) (for_loop (maybe_simple_of parts.now.first) (maybe_expression_of parts.now.test) (maybe_simple_of parts.now.last) (statement_of body.now)) }
+    ensures { Typing context.now (scopes_of scopes.old) (scopes_of scopes.new)
+        (for_loop (maybe_simple_of parts.now.first) (maybe_expression_of parts.now.test) (maybe_simple_of parts.now.last) (statement_of body.now)) result }
 {
     let inside = Context {
         in_loop: true,
@@ -231,8 +227,7 @@ pub fn statement<'a>(
     scopes: &mut Scopes<'a>,
     s: &Statement,
 ) -> Result<TypedStatement, TypeStop>
-    ensures typed { AnswersStatement context.now (scopes_of scopes.old) (statement_of s.now) result }
-    ensures scopes { (result ≡ Err NoMemory → ⊥) → scopes_of scopes.new ≡ behind (scopes_of scopes.old) (statement_of s.now) }
+    ensures { Typing context.now (scopes_of scopes.old) (scopes_of scopes.new) (statement_of s.now) result }
 {
     match s {
         Statement::Empty => Ok(TypedStatement::Empty),

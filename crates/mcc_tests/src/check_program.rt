@@ -1,6 +1,6 @@
 // The whole program, over files and streams that can fail.
 
-use crate::stand_ins::{OneText, Shut, tells};
+use crate::stand_ins::{OneText, Shut, tells, told};
 use driver::{Command, FileFault, mcc, words};
 use std::test::Fail;
 
@@ -12,7 +12,7 @@ const DIFFERS: &str = "block\naddiu $31,$31,4\nreturn\norder\nreturn\nslot addiu
 
 #[test]
 fn verdicts_and_faults_have_their_line_and_status(rt: HostRuntime) -> Result<(), Fail> {
-    for (text, fault, line, told, status) in [
+    for (text, fault, line, shown, status) in [
         (SAME, None, "same\n", "", 0u8),
         (UNCLEAN, None, "unclean U3\n", "", 3),
         (DIFFERS, None, "differs exit\n", "", 3),
@@ -44,9 +44,9 @@ fn verdicts_and_faults_have_their_line_and_status(rt: HostRuntime) -> Result<(),
         let mut err = Vec::new(rt.alloc());
         let args = ["mcc", "check", "x"];
         let got = mcc(rt.alloc(), args.as_slice(), &mut files, &mut out, &mut err);
-        assert_eq!(rt; got, status, "at {line}{told}");
+        assert_eq!(rt; got, status, "at {line}{shown}");
         assert_eq!(rt; out.as_slice(), line.as_bytes());
-        assert_eq!(rt; err.as_slice(), told.as_bytes());
+        assert_eq!(rt; err.as_slice(), shown.as_bytes());
     }
     Ok(())
 }
@@ -119,7 +119,7 @@ fn help_is_on_standard_output(rt: HostRuntime) -> Result<(), Fail> {
     ] {
         let got = told(rt.alloc(), SAME, args);
         assert_eq!(rt; got.status, 0);
-        assert!(rt; tells(out.as_slice(), taught));
+        assert!(rt; tells(got.out.as_slice(), taught));
         assert!(rt; got.err.is_empty());
     }
     Ok(())

@@ -1,6 +1,6 @@
 // `mcc interp` over a text in memory: its output, its faults and its statuses.
 
-use crate::stand_ins::{OneText, Shut, tells};
+use crate::stand_ins::{OneText, Shut, tells, told};
 use driver::{Command, mcc, words};
 use std::test::Fail;
 
@@ -134,11 +134,11 @@ const FAULTS: [(&str, &str); 14] = [
 // The fault's line, then the line of the text in which it lies, and a caret under its place.
 #[test]
 fn faults_tell_their_place(rt: HostRuntime) -> Result<(), Fail> {
-    for (text, told) in FAULTS {
+    for (text, shown) in FAULTS {
         let got = told(rt.alloc(), text, ["mcc", "interp", "x"].as_slice());
         assert_eq!(rt; got.status, 1, "at {text}");
         assert!(rt; got.out.is_empty(), "at {text}");
-        assert_eq!(rt; got.err.as_slice(), told.as_bytes(), "at {text}");
+        assert_eq!(rt; got.err.as_slice(), shown.as_bytes(), "at {text}");
     }
     Ok(())
 }
@@ -167,7 +167,8 @@ fn wrong_numbers_are_wrong_words(rt: HostRuntime) -> Result<(), Fail> {
         ("--steps", "4294967296", "0..=4294967295"),
         ("--steps", "-1", "-1"),
     ] {
-        let got = told(rt.alloc(), "int main(void){}", ["mcc", "interp", option, number, "x"].as_slice());
+        let words = ["mcc", "interp", option, number, "x"];
+        let got = told(rt.alloc(), "int main(void){}", words.as_slice());
         assert_eq!(rt; got.status, 2, "at {option} {number}");
         assert!(rt; got.out.is_empty());
         assert!(rt; tells(got.err.as_slice(), range), "at {option} {number}");

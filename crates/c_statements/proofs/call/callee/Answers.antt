@@ -44,8 +44,8 @@ returns-then-count-parameters c = record {
       ]
       in
       rw c.misuse-then-count-parameters.ensures
-          (count-first (environment_in c.args.program.now.text.items (scopes_of c.args.scopes.now)) c.args.name c.in-Some.named
-          c.in-Some-signature.target c.in-Some-signature.parameters c.in-Some-signature.gives _ _
+      (count-first (environment_in c.args.program.now.text.items (scopes_of c.args.scopes.now)) c.args.name c.in-Some.named
+      c.in-Some-signature.target c.in-Some-signature.parameters c.in-Some-signature.gives _ _
       (sym c.in-Some.ensures) c.in-Some-signature.ensures.some s c.if-count-parameters.true);
 }
 
@@ -59,7 +59,7 @@ returns c = record {
       ]
       in
       call-right (environment_in c.args.program.now.text.items (scopes_of c.args.scopes.now)) c.args.name c.in-Some.named
-          c.in-Some-signature.target c.in-Some-signature.parameters c.in-Some-signature.gives c.args.count c.args.wanted
+      c.in-Some-signature.target c.in-Some-signature.parameters c.in-Some-signature.gives c.args.count c.args.wanted
       (sym c.in-Some.ensures) c.in-Some-signature.ensures.some s c.if-count-parameters.false;
   err = tt;
 }

@@ -2,6 +2,11 @@ use Rattle.c_statements.proofs.Joins.{block-of-two}
 use Rattle.c_statements.proofs.compound.sequence.Goals as goal
 
 pub returns-clause-ok : goal.returns-clause-ok
-returns-clause-ok c =
-    (c.in_ok-first.first, c.in_ok-first.second, c.in_ok-first.ensures.ok.0, c.in_ok-first.ensures.ok.1, block-of-two c.new-all.result
-        c.push.new.self c.push-2.new.self _ _ c.new-all.ensures.items c.in_ok-push.ensures.items c.in_ok-push-2.ensures.items)
+returns-clause-ok c = (
+  c.in_ok-first.first,
+  c.in_ok-first.second,
+  c.in_ok-first.ensures.ok.0,
+  c.in_ok-first.ensures.ok.1,
+  block-of-two c.new-all.result
+      c.push.new.self c.push-2.new.self _ _ c.new-all.ensures.items c.in_ok-push.ensures.items c.in_ok-push-2.ensures.items,
+)

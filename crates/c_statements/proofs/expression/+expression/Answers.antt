@@ -23,7 +23,7 @@ returns-in-Index t c =
     let name = c.in-Index.name in
     rw (c.in-Index.is, sym c.deref.ensures) (answers
     (element-ok scope name inner c.array.result c.expression-index.result c.element.result c.array.ensures.ok c.expression-index.ensures.ok
-        c.element.ensures.ok)
+    c.element.ensures.ok)
     (tells-two (Misused scope name with_index) (Faulty scope inner) c.array.result c.expression-index.result IsElement c.element.result
     (tells c.array.ensures) (tells c.expression-index.ensures) c.element.ensures.ok c.element.ensures.err))
 
@@ -55,10 +55,10 @@ returns-in-Conditional t c =
     let yes = expression_of c.deref-in-Conditional-2.result.now in
     let no = expression_of c.deref-in-Conditional-3.result.now in
     let values = tells-both-of (Faulty scope yes) (Faulty scope no) c.expression-yes.result c.expression-no.result
-            (tells c.expression-yes.ensures) (tells c.expression-no.ensures) in
+    (tells c.expression-yes.ensures) (tells c.expression-no.ensures) in
     rw (c.in-Conditional.is, sym c.deref-in-Conditional.ensures, sym c.deref-in-Conditional-2.ensures, sym c.deref-in-Conditional-3.ensures) (answers
     (conditional-ok scope test yes no c.expression-test.result c.expression-yes.result c.expression-no.result c.conditional.result
     c.expression-test.ensures.ok c.expression-yes.ensures.ok c.expression-no.ensures.ok c.conditional.ensures.ok)
     (tells-three (Faulty scope test)
-        (Both (Faulty scope yes) (Faulty scope no)) c.expression-test.result c.expression-yes.result c.expression-no.result IsConditional c.conditional.result
+    (Both (Faulty scope yes) (Faulty scope no)) c.expression-test.result c.expression-yes.result c.expression-no.result IsConditional c.conditional.result
     (tells c.expression-test.ensures) values c.conditional.ensures.ok c.conditional.ensures.err))

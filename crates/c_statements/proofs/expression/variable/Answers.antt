@@ -8,9 +8,13 @@ use Rattle.c_statements.proofs.expression.variable.Goals as goal
 
 pub returns-in_default : goal.returns-in_default
 returns-in_default c =
-    record { ok = tt; none = tt; err =
-    rw c.misuse.ensures
-    (undeclared-first (environment_in c.args.program.now.text.items (scopes_of c.args.scopes.now)) c.args.name _ (sym c.in_default.ensures)) }
+    record {
+      ok = tt;
+      none = tt;
+      err =
+          rw c.misuse.ensures
+          (undeclared-first (environment_in c.args.program.now.text.items (scopes_of c.args.scopes.now)) c.args.name _ (sym c.in_default.ensures));
+    }
 
 pub returns-in-Local : goal.returns-in-Local
 returns-in-Local c = record { ok = local_typed (sym c.in-Some.ensures ∙ ap (λ (m : Named). Some m) c.in-Local.is); none = search rules; err = tt }
@@ -20,7 +24,11 @@ returns-in-Global c = record { ok = global_typed (sym c.in-Some.ensures ∙ ap (
 
 pub returns-in_default-named : goal.returns-in_default-named
 returns-in_default-named c =
-    record { ok = tt; none = tt; err =
-    rw c.misuse-in_default-named.ensures
-    (value-first (environment_in c.args.program.now.text.items (scopes_of c.args.scopes.now)) c.args.name _
-    (sym c.in-Some.ensures) c.in_default-named.not-Local c.in_default-named.not-Global) }
+    record {
+      ok = tt;
+      none = tt;
+      err =
+          rw c.misuse-in_default-named.ensures
+          (value-first (environment_in c.args.program.now.text.items (scopes_of c.args.scopes.now)) c.args.name _
+          (sym c.in-Some.ensures) c.in_default-named.not-Local c.in_default-named.not-Global);
+    }

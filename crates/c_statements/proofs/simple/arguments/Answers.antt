@@ -10,9 +10,9 @@ loop-one-init c = none-so-far (environment_in c.args.program.now.text.items (sco
 pub loop-one-preserved : goal.loop-one-preserved
 loop-one-preserved c =
     one-so-far (environment_in c.args.program.now.text.items (scopes_of c.args.scopes.now)) c.args.all.now c.loop-one.one-index
-        c.one-item.result c.loop-one.typed c.with_one-typed.result c.expression.result c.loop-one-test.true c.one-item.is c.loop-one.invariant
+    c.one-item.result c.loop-one.typed c.with_one-typed.result c.expression.result c.loop-one-test.true c.one-item.is c.loop-one.invariant
     record { ok = c.expression.ensures.ok; none = c.expression.ensures.none; err = c.expression.ensures.err } c.with_one-typed.ensures.ok
-        c.with_one-typed.ensures.err
+    c.with_one-typed.ensures.err
 
 pub returns : goal.returns
 returns c =

@@ -30,7 +30,11 @@ returns-in-Global c = record {
 
 pub returns-in_default-named : goal.returns-in_default-named
 returns-in_default-named c =
-    record { ok = tt; none = tt; err =
-    rw c.misuse-in_default-named.ensures
-    (value-first (environment_in c.args.program.now.text.items (scopes_of c.args.scopes.now)) c.args.name _
-    (sym c.in-Some.ensures) c.in_default-named.not-Local c.in_default-named.not-Global) }
+    record {
+      ok = tt;
+      none = tt;
+      err =
+          rw c.misuse-in_default-named.ensures
+          (value-first (environment_in c.args.program.now.text.items (scopes_of c.args.scopes.now)) c.args.name _
+          (sym c.in-Some.ensures) c.in_default-named.not-Local c.in_default-named.not-Global);
+    }

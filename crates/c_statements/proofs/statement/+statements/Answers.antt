@@ -24,97 +24,109 @@ use Rattle.c_statements.proofs.WholeStatements.{if-then-ok, if-then-else-ok, whi
 use Rattle.c_statements.proofs.Weights.{weight, weight_all, weight-within}
 use Rattle.c_statements.proofs.statement.+statements.Goals as goal
 
-pub block-returns-in_err-typed-clause-scopes : goal.block-returns-in_err-typed-clause-scopes
-block-returns-in_err-typed-clause-scopes t c =
-    let refused : Result Typed TypeStop = Err NoMemory in
-    let lasts : c.items-typed.result ≡ Err NoMemory → c.from_residual-in_err-typed.result ≡ refused = search rules in
-    λ n. behind-block c.args.context.now.program.now.text.items (scopes_of c.args.scopes.now) (scopes_of c.enter.new.self)
-        (scopes_of c.items-typed.new.scopes) (scopes_of c.leave.new.self) (items_of c.args.all.now) c.in_ok-enter.ensures
-        (c.items-typed.ensures.scopes (λ e. n (lasts e))) c.leave.ensures
+pub block-returns-in_err-typed : goal.block-returns-in_err-typed
+block-returns-in_err-typed t c = record {
+  typed = search rules;
+  scopes = let refused : Result Typed TypeStop = Err NoMemory in
+      let lasts : c.items-typed.result ≡ Err NoMemory → c.from_residual-in_err-typed.result ≡ refused = search rules in
+      λ n. behind-block c.args.context.now.program.now.text.items (scopes_of c.args.scopes.now) (scopes_of c.enter.new.self)
+      (scopes_of c.items-typed.new.scopes) (scopes_of c.leave.new.self) (items_of c.args.all.now) c.in_ok-enter.ensures
+      (c.items-typed.ensures.scopes (λ e. n (lasts e))) c.leave.ensures;
+}
 
-pub block-returns-clause-scopes : goal.block-returns-clause-scopes
-block-returns-clause-scopes t c =
-    λ n. behind-block c.args.context.now.program.now.text.items (scopes_of c.args.scopes.now) (scopes_of c.enter.new.self)
-        (scopes_of c.items-typed.new.scopes) (scopes_of c.leave.new.self) (items_of c.args.all.now) c.in_ok-enter.ensures
-        (c.items-typed.ensures.scopes (λ e. let f = sym c.in_ok-typed.was ∙ e in cc)) c.leave.ensures
+pub block-returns : goal.block-returns
+block-returns t c = record {
+  typed = let Q : Scopes
+      → Type 0 = λ s. TypesItems c.args.context.now.program.now.text.items s (items_of c.args.all.now) (statements_of c.in_ok-typed.field-0.items) in
+      let P : TypedStatement
+      → Type 0 = λ u. TypesStatement c.args.context.now.program.now.text.items (scopes_of c.args.scopes.now) (block (items_of c.args.all.now)) u in
+      record {
+        ok =
+            subst P (sym (block-is c.in_ok-typed.field-0)) (block_typed (subst Q c.in_ok-enter.ensures c.in_ok-typed.ensures.typed.ok));
+        none =
+            search rules;
+        err = tt;
+      };
+  scopes = λ n. behind-block c.args.context.now.program.now.text.items (scopes_of c.args.scopes.now) (scopes_of c.enter.new.self)
+      (scopes_of c.items-typed.new.scopes) (scopes_of c.leave.new.self) (items_of c.args.all.now) c.in_ok-enter.ensures
+      (c.items-typed.ensures.scopes (λ e. let f = sym c.in_ok-typed.was ∙ e in cc)) c.leave.ensures;
+}
 
-pub block-returns-clause-typed : goal.block-returns-clause-typed
-block-returns-clause-typed t c =
-    let Q : Scopes
-            → Type 0 = λ s. TypesItems c.args.context.now.program.now.text.items s (items_of c.args.all.now) (statements_of c.in_ok-typed.field-0.items) in
-    let P : TypedStatement
-            → Type 0 = λ u. TypesStatement c.args.context.now.program.now.text.items (scopes_of c.args.scopes.now) (block (items_of c.args.all.now)) u in
-    record { ok =
-        subst P (sym (block-is c.in_ok-typed.field-0)) (block_typed (subst Q c.in_ok-enter.ensures c.in_ok-typed.ensures.typed.ok)); none =
-        search rules; err = tt }
+pub if_then-returns : goal.if_then-returns
+if_then-returns t c = record {
+  typed = let text = c.args.context.now.program.now.text.items in
+      let sc = scopes_of c.args.scopes.now in
+      let faults = FaultyStatement text c.args.context.now.gives c.args.context.now.in_loop sc (statement_of c.args.first.now) in
+      answers
+      (if-then-ok c.args.context.now.program.now.text.items (scopes_of c.args.scopes.now) (expression_of c.args.condition.now)
+      (statement_of c.args.first.now) c.expression-condition.result c.statement-first.result c.if_else.result
+      c.expression-condition.ensures.ok c.statement-first.ensures.typed.ok c.if_else.ensures.ok)
+      (tells-three (Faulty (environment_in text sc) (expression_of c.args.condition.now)) faults c.expression-condition.result
+      c.statement-first.result (Ok Empty) IsIf c.if_else.result
+      (tells c.expression-condition.ensures)
+      (tells-left faults c.statement-first.result Empty (tells c.statement-first.ensures.typed)) c.if_else.ensures.ok c.if_else.ensures.err);
+  scopes = search rules;
+}
 
-pub if_then-returns-clause-typed : goal.if_then-returns-clause-typed
-if_then-returns-clause-typed t c =
-    let text = c.args.context.now.program.now.text.items in
-    let sc = scopes_of c.args.scopes.now in
-    let faults = FaultyStatement text c.args.context.now.gives c.args.context.now.in_loop sc (statement_of c.args.first.now) in
-    answers
-    (if-then-ok c.args.context.now.program.now.text.items (scopes_of c.args.scopes.now) (expression_of c.args.condition.now)
-        (statement_of c.args.first.now) c.expression-condition.result c.statement-first.result c.if_else.result
-    c.expression-condition.ensures.ok c.statement-first.ensures.typed.ok c.if_else.ensures.ok)
-    (tells-three (Faulty (environment_in text sc) (expression_of c.args.condition.now)) faults c.expression-condition.result
-        c.statement-first.result (Ok Empty) IsIf c.if_else.result
-    (tells c.expression-condition.ensures)
-        (tells-left faults c.statement-first.result Empty (tells c.statement-first.ensures.typed)) c.if_else.ensures.ok c.if_else.ensures.err)
+pub while_loop-returns : goal.while_loop-returns
+while_loop-returns t c = record {
+  typed = let text = c.args.context.now.program.now.text.items in
+      let sc = scopes_of c.args.scopes.now in
+      let faults = FaultyStatement text c.args.context.now.gives true sc (statement_of c.args.body.now) in
+      answers
+      (while-ok c.args.context.now.program.now.text.items (scopes_of c.args.scopes.now) (expression_of c.args.condition.now)
+      (statement_of c.args.body.now) c.expression-condition.result c.statement-body.result c.loop_of.result
+      c.expression-condition.ensures.ok c.statement-body.ensures.typed.ok c.loop_of.ensures.ok)
+      (tells-three (Faulty (environment_in text sc) (expression_of c.args.condition.now)) faults c.expression-condition.result
+      (Ok Empty) c.statement-body.result IsLoop c.loop_of.result
+      (tells c.expression-condition.ensures)
+      (tells-right faults Empty c.statement-body.result (tells c.statement-body.ensures.typed)) c.loop_of.ensures.ok c.loop_of.ensures.err);
+  scopes = search rules;
+}
 
-pub while_loop-returns-clause-typed : goal.while_loop-returns-clause-typed
-while_loop-returns-clause-typed t c =
-    let text = c.args.context.now.program.now.text.items in
-    let sc = scopes_of c.args.scopes.now in
-    let faults = FaultyStatement text c.args.context.now.gives true sc (statement_of c.args.body.now) in
-    answers
-    (while-ok c.args.context.now.program.now.text.items (scopes_of c.args.scopes.now) (expression_of c.args.condition.now)
-        (statement_of c.args.body.now) c.expression-condition.result c.statement-body.result c.loop_of.result
-    c.expression-condition.ensures.ok c.statement-body.ensures.typed.ok c.loop_of.ensures.ok)
-    (tells-three (Faulty (environment_in text sc) (expression_of c.args.condition.now)) faults c.expression-condition.result
-        (Ok Empty) c.statement-body.result IsLoop c.loop_of.result
-    (tells c.expression-condition.ensures)
-        (tells-right faults Empty c.statement-body.result (tells c.statement-body.ensures.typed)) c.loop_of.ensures.ok c.loop_of.ensures.err)
+pub if_then_else-returns : goal.if_then_else-returns
+if_then_else-returns t c = record {
+  typed = let text = c.args.context.now.program.now.text.items in
+      let sc = scopes_of c.args.scopes.now in
+      let first = FaultyStatement text c.args.context.now.gives c.args.context.now.in_loop sc (statement_of c.args.first.now) in
+      let second = FaultyStatement text c.args.context.now.gives c.args.context.now.in_loop (behind sc (statement_of c.args.first.now))
+      (statement_of c.args.second.now) in
+      let both = tells-behind text c.args.context.now.gives c.args.context.now.in_loop sc (scopes_of c.statement-first.new.scopes)
+      (statement_of c.args.first.now) (statement_of c.args.second.now) c.statement-first.result c.statement-second.result
+      (tells c.statement-first.ensures.typed) c.statement-first.ensures.scopes (tells c.statement-second.ensures.typed) in
+      answers
+      (if-then-else-ok c.args.context.now.program.now.text.items (scopes_of c.args.scopes.now) (scopes_of c.statement-first.new.scopes)
+      (expression_of c.args.condition.now) (statement_of c.args.first.now) (statement_of c.args.second.now)
+      c.expression-condition.result c.statement-first.result c.statement-second.result c.if_else.result
+      c.expression-condition.ensures.ok c.statement-first.ensures.typed.ok c.statement-first.ensures.scopes
+      c.statement-second.ensures.typed.ok c.if_else.ensures.ok)
+      (tells-three (Faulty (environment_in text sc) (expression_of c.args.condition.now))
+      (Both first second) c.expression-condition.result c.statement-first.result c.statement-second.result IsIf c.if_else.result
+      (tells c.expression-condition.ensures) both c.if_else.ensures.ok c.if_else.ensures.err);
+  scopes = search rules;
+}
 
-pub if_then_else-returns-clause-typed : goal.if_then_else-returns-clause-typed
-if_then_else-returns-clause-typed t c =
-    let text = c.args.context.now.program.now.text.items in
-    let sc = scopes_of c.args.scopes.now in
-    let first = FaultyStatement text c.args.context.now.gives c.args.context.now.in_loop sc (statement_of c.args.first.now) in
-    let second = FaultyStatement text c.args.context.now.gives c.args.context.now.in_loop (behind sc (statement_of c.args.first.now))
-            (statement_of c.args.second.now) in
-    let both = tells-behind text c.args.context.now.gives c.args.context.now.in_loop sc (scopes_of c.statement-first.new.scopes)
-            (statement_of c.args.first.now) (statement_of c.args.second.now) c.statement-first.result c.statement-second.result
-    (tells c.statement-first.ensures.typed) c.statement-first.ensures.scopes (tells c.statement-second.ensures.typed) in
-    answers
-    (if-then-else-ok c.args.context.now.program.now.text.items (scopes_of c.args.scopes.now) (scopes_of c.statement-first.new.scopes)
-        (expression_of c.args.condition.now) (statement_of c.args.first.now) (statement_of c.args.second.now)
-    c.expression-condition.result c.statement-first.result c.statement-second.result c.if_else.result
-    c.expression-condition.ensures.ok c.statement-first.ensures.typed.ok c.statement-first.ensures.scopes
-        c.statement-second.ensures.typed.ok c.if_else.ensures.ok)
-    (tells-three (Faulty (environment_in text sc) (expression_of c.args.condition.now))
-        (Both first second) c.expression-condition.result c.statement-first.result c.statement-second.result IsIf c.if_else.result
-    (tells c.expression-condition.ensures) both c.if_else.ensures.ok c.if_else.ensures.err)
-
-pub for_loop-returns-clause-typed : goal.for_loop-returns-clause-typed
-for_loop-returns-clause-typed t c =
-    let text = c.args.context.now.program.now.text.items in
-    let scope = environment_in text (scopes_of c.args.scopes.now) in
-    let test = FaultyMaybe scope (maybe_expression_of c.args.parts.now.test) in
-    let last = FaultyPart scope (maybe_simple_of c.args.parts.now.last) in
-    let body = FaultyStatement text c.args.context.now.gives true (scopes_of c.args.scopes.now) (statement_of c.args.body.now) in
-    let turns = tells-three test (Both last body) c.test-condition.result c.part-last.result c.statement-body.result IsLoop c.loop_of.result
-            (tells c.test-condition.ensures)
-    (tells-both-of last body c.part-last.result c.statement-body.result (tells c.part-last.ensures) (tells c.statement-body.ensures.typed))
-        c.loop_of.ensures.ok c.loop_of.ensures.err in
-    answers
-    (for-ok c.args.context.now.program.now.text.items (scopes_of c.args.scopes.now) (maybe_simple_of c.args.parts.now.first)
-        (maybe_simple_of c.args.parts.now.last) (maybe_expression_of c.args.parts.now.test) (statement_of c.args.body.now)
-    c.part-first.result c.part-last.result c.statement-body.result c.loop_of.result c.sequence.result c.test-condition.result
-    c.part-first.ensures.ok c.test-condition.ensures.ok c.part-last.ensures.ok c.statement-body.ensures.typed.ok c.loop_of.ensures.ok c.sequence.ensures.ok)
-    (tells-two (FaultyPart scope (maybe_simple_of c.args.parts.now.first))
-        (Both test (Both last body)) c.part-first.result c.loop_of.result IsSequence c.sequence.result (tells c.part-first.ensures) turns
-    c.sequence.ensures.ok c.sequence.ensures.err)
+pub for_loop-returns : goal.for_loop-returns
+for_loop-returns t c = record {
+  typed = let text = c.args.context.now.program.now.text.items in
+      let scope = environment_in text (scopes_of c.args.scopes.now) in
+      let test = FaultyMaybe scope (maybe_expression_of c.args.parts.now.test) in
+      let last = FaultyPart scope (maybe_simple_of c.args.parts.now.last) in
+      let body = FaultyStatement text c.args.context.now.gives true (scopes_of c.args.scopes.now) (statement_of c.args.body.now) in
+      let turns = tells-three test (Both last body) c.test-condition.result c.part-last.result c.statement-body.result IsLoop c.loop_of.result
+      (tells c.test-condition.ensures)
+      (tells-both-of last body c.part-last.result c.statement-body.result (tells c.part-last.ensures) (tells c.statement-body.ensures.typed))
+      c.loop_of.ensures.ok c.loop_of.ensures.err in
+      answers
+      (for-ok c.args.context.now.program.now.text.items (scopes_of c.args.scopes.now) (maybe_simple_of c.args.parts.now.first)
+      (maybe_simple_of c.args.parts.now.last) (maybe_expression_of c.args.parts.now.test) (statement_of c.args.body.now)
+      c.part-first.result c.part-last.result c.statement-body.result c.loop_of.result c.sequence.result c.test-condition.result
+      c.part-first.ensures.ok c.test-condition.ensures.ok c.part-last.ensures.ok c.statement-body.ensures.typed.ok c.loop_of.ensures.ok c.sequence.ensures.ok)
+      (tells-two (FaultyPart scope (maybe_simple_of c.args.parts.now.first))
+      (Both test (Both last body)) c.part-first.result c.loop_of.result IsSequence c.sequence.result (tells c.part-first.ensures) turns
+      c.sequence.ensures.ok c.sequence.ensures.err);
+  scopes = search rules;
+}
 
 pub item-returns-in-Declare-clause-typed : goal.item-returns-in-Declare-clause-typed
 item-returns-in-Declare-clause-typed t c =
@@ -123,10 +135,10 @@ item-returns-in-Declare-clause-typed t c =
     let faults = FaultyLocal text sc c.in-Declare.integer_type c.in-Declare.name (maybe_value_tree c.in-Declare.given) in
     let given = maybe_value_tree c.in-Declare.given in
     rw c.in-Declare.is
-        (answers (if-ok (λ u. TypesFirst (environment_in text (with_local text sc c.in-Declare.integer_type c.in-Declare.name)) sc.locals given (typed_of u))
+    (answers (if-ok (λ u. TypesFirst (environment_in text (with_local text sc c.in-Declare.integer_type c.in-Declare.name)) sc.locals given (typed_of u))
     (λ u. TypesItems text sc (more_items (declare c.in-Declare.integer_type c.in-Declare.name given) no_items)
-        (more_statements (typed_of u) no_statements)) c.declare.result (λ u h. declare_typed h no_items_typed) c.declare.ensures.typed.ok)
-        (tells-alone faults c.declare.result (tells c.declare.ensures.typed)))
+    (more_statements (typed_of u) no_statements)) c.declare.result (λ u h. declare_typed h no_items_typed) c.declare.ensures.typed.ok)
+    (tells-alone faults c.declare.result (tells c.declare.ensures.typed)))
 
 pub item-returns-in-Statement-clause-typed : goal.item-returns-in-Statement-clause-typed
 item-returns-in-Statement-clause-typed t c =
@@ -135,24 +147,27 @@ item-returns-in-Statement-clause-typed t c =
     let faults = FaultyStatement text c.args.context.now.gives c.args.context.now.in_loop sc (statement_of c.in-Statement.s) in
     rw c.in-Statement.is (answers (if-ok (λ u. TypesStatement text sc (statement_of c.in-Statement.s) (typed_of u))
     (λ u. TypesItems text sc (more_items (statement (statement_of c.in-Statement.s)) no_items) (more_statements (typed_of u) no_statements))
-        c.statement.result (λ u h. statement_typed h no_items_typed) c.statement.ensures.typed.ok)
-        (tells-alone faults c.statement.result (tells c.statement.ensures.typed)))
+    c.statement.result (λ u h. statement_typed h no_items_typed) c.statement.ensures.typed.ok)
+    (tells-alone faults c.statement.result (tells c.statement.ensures.typed)))
 
 pub items-loop-one-init : goal.items-loop-one-init
 items-loop-one-init t c =
-    record { so_far = none-so-far c.args.context.now.program.now.text.items c.args.context.now.gives c.args.context.now.in_loop
-    (scopes_of c.args.scopes.now) c.new.result c.new.ensures.items; scopes = refl }
+    record {
+      so_far = none-so-far c.args.context.now.program.now.text.items c.args.context.now.gives c.args.context.now.in_loop
+          (scopes_of c.args.scopes.now) c.new.result c.new.ensures.items;
+      scopes = refl;
+    }
 
 pub items-loop-one-preserved : goal.items-loop-one-preserved
 items-loop-one-preserved t c =
     let here : NextItem c.args.context.now.program.now.text.items c.args.context.now.gives c.args.context.now.in_loop
-            (scopes_of c.loop-one.scopes) c.one-item.result c.item.result = c.item.ensures.typed in
+    (scopes_of c.loop-one.scopes) c.one-item.result c.item.result = c.item.ensures.typed in
     let Q : Scopes
-            → Type 0 = λ s. NextItem c.args.context.now.program.now.text.items c.args.context.now.gives c.args.context.now.in_loop s
-            c.one-item.result c.in_ok-next.next in
+    → Type 0 = λ s. NextItem c.args.context.now.program.now.text.items c.args.context.now.gives c.args.context.now.in_loop s
+    c.one-item.result c.in_ok-next.next in
     let next = subst Q c.loop-one.invariant.scopes
-            (moved (NextItem c.args.context.now.program.now.text.items c.args.context.now.gives c.args.context.now.in_loop
-            (scopes_of c.loop-one.scopes) c.one-item.result) c.in_ok-next.next c.item.result c.in_ok-next.ensures.ok.0 here) in
+    (moved (NextItem c.args.context.now.program.now.text.items c.args.context.now.gives c.args.context.now.in_loop
+    (scopes_of c.loop-one.scopes) c.one-item.result) c.in_ok-next.next c.item.result c.in_ok-next.ensures.ok.0 here) in
     record {
       so_far = one-so-far c.args.context.now.program.now.text.items c.args.context.now.gives c.args.context.now.in_loop
           (scopes_of c.args.scopes.now) c.args.all.now c.loop-one.one-index c.one-item.result c.loop-one.typed c.with_one-typed.result
@@ -170,33 +185,46 @@ items-item-requires t c =
 pub statement-block-requires : goal.statement-block-requires
 statement-block-requires t c =
     let e : statement_of c.args.s.now ≡ block (items_of c.deref.result.now) = ap statement_of c.in-Block.is ∙ read-block-is c.in-Block.all
-            ∙ ap (λ (xs : List Item). block (items_of xs)) (sym c.deref.ensures.value) in
+    ∙ ap (λ (xs : List Item). block (items_of xs)) (sym c.deref.ensures.value) in
     let w : weight (statement_of c.args.s.now) ≡ weight_all (items_of c.deref.result.now) + 3 = ap weight e in
     (omega (arith, w), tt)
 
-pub statement-returns-in-Block-clause-typed : goal.statement-returns-in-Block-clause-typed
-statement-returns-in-Block-clause-typed t c =
-    let e : statement_of c.args.s.now ≡ block (items_of c.deref.result.now) = ap statement_of c.in-Block.is ∙ read-block-is c.in-Block.all
-            ∙ ap (λ (xs : List Item). block (items_of xs)) (sym c.deref.ensures.value) in
-    rw e c.block.ensures.typed
+pub statement-returns-in-Block : goal.statement-returns-in-Block
+statement-returns-in-Block t c = record {
+  typed = let e : statement_of c.args.s.now ≡ block (items_of c.deref.result.now) = ap statement_of c.in-Block.is ∙ read-block-is c.in-Block.all
+      ∙ ap (λ (xs : List Item). block (items_of xs)) (sym c.deref.ensures.value) in
+      rw e c.block.ensures.typed;
+  scopes = let e : statement_of c.args.s.now ≡ block (items_of c.deref.result.now) = ap statement_of c.in-Block.is ∙ read-block-is c.in-Block.all
+      ∙ ap (λ (xs : List Item). block (items_of xs)) (sym c.deref.ensures.value) in
+      rw e c.block.ensures.scopes;
+}
 
-pub statement-returns-in-Block-clause-scopes : goal.statement-returns-in-Block-clause-scopes
-statement-returns-in-Block-clause-scopes t c =
-    let e : statement_of c.args.s.now ≡ block (items_of c.deref.result.now) = ap statement_of c.in-Block.is ∙ read-block-is c.in-Block.all
-            ∙ ap (λ (xs : List Item). block (items_of xs)) (sym c.deref.ensures.value) in
-    rw e c.block.ensures.scopes
+pub statement-returns-in-Empty : goal.statement-returns-in-Empty
+statement-returns-in-Empty t c = record {
+  typed = rw c.in-Empty.is record { ok = empty_typed; none = search rules; err = tt };
+  scopes = search rules;
+}
 
-pub statement-returns-in-Empty-clause-typed : goal.statement-returns-in-Empty-clause-typed
-statement-returns-in-Empty-clause-typed t c = rw c.in-Empty.is record { ok = empty_typed; none = search rules; err = tt }
+pub statement-returns-in_ok-jump-in-Break : goal.statement-returns-in_ok-jump-in-Break
+statement-returns-in_ok-jump-in-Break t c = record {
+  typed = rw c.in-Break.is record { ok = break_typed; none = search rules; err = tt };
+  scopes = search rules;
+}
 
-pub statement-returns-in_ok-jump-in-Break-clause-typed : goal.statement-returns-in_ok-jump-in-Break-clause-typed
-statement-returns-in_ok-jump-in-Break-clause-typed t c = rw c.in-Break.is record { ok = break_typed; none = search rules; err = tt }
+pub statement-returns-in_ok-jump-in-Continue : goal.statement-returns-in_ok-jump-in-Continue
+statement-returns-in_ok-jump-in-Continue t c = record {
+  typed = rw c.in-Continue.is record { ok = continue_typed; none = search rules; err = tt };
+  scopes = search rules;
+}
 
-pub statement-returns-in_ok-jump-in-Continue-clause-typed : goal.statement-returns-in_ok-jump-in-Continue-clause-typed
-statement-returns-in_ok-jump-in-Continue-clause-typed t c = rw c.in-Continue.is record { ok = continue_typed; none = search rules; err = tt }
+pub statement-returns-in-Return : goal.statement-returns-in-Return
+statement-returns-in-Return t c = record {
+  typed = rw c.in-Return.is c.return_from.ensures;
+  scopes = search rules;
+}
 
-pub statement-returns-in-Return-clause-typed : goal.statement-returns-in-Return-clause-typed
-statement-returns-in-Return-clause-typed t c = rw c.in-Return.is c.return_from.ensures
-
-pub statement-returns-in-Simply-clause-typed : goal.statement-returns-in-Simply-clause-typed
-statement-returns-in-Simply-clause-typed t c = rw c.in-Simply.is (answers-as (λ u h. simply_typed h) c.simple.ensures)
+pub statement-returns-in-Simply : goal.statement-returns-in-Simply
+statement-returns-in-Simply t c = record {
+  typed = rw c.in-Simply.is (answers-as (λ u h. simply_typed h) c.simple.ensures);
+  scopes = search rules;
+}

@@ -10,5 +10,5 @@ returns-then-declares-clause-err c =
 pub returns-then-locals-eq-MAX_LOCALS-clause-err : goal.returns-then-locals-eq-MAX_LOCALS-clause-err
 returns-then-locals-eq-MAX_LOCALS-clause-err c =
     rw c.misuse-then-locals-eq-MAX_LOCALS.ensures
-        (limit-first c.args.program.now.text.items (scopes_of c.args.scopes.now) c.args.name (sym c.declares.ensures ∙ c.if-declares.false)
-        (sym c.locals.ensures ∙ c.if-locals-eq-MAX_LOCALS.true))
+    (limit-first c.args.program.now.text.items (scopes_of c.args.scopes.now) c.args.name (sym c.declares.ensures ∙ c.if-declares.false)
+    (sym c.locals.ensures ∙ c.if-locals-eq-MAX_LOCALS.true))

@@ -15,7 +15,7 @@ returns-in_err-first-clause-typed c =
     let u = subst Q c.in_ok-declare_local.ensures (c.first_value.ensures.none, c.first_value.ensures.err) in
     let h : StopsAtFirst (FaultyLocal text before c.args.integer_type c.args.name (maybe_value_tree c.args.given.now)) c.in_err-first.field-0.0 =
     both-stop (FaultyDeclarator text before c.args.name)
-        (FaultyFirst (environment_in text (with_local text before c.args.integer_type c.args.name)) (maybe_value_tree c.args.given.now))
-        c.declarator-refused.result c.first_value.result _
+    (FaultyFirst (environment_in text (with_local text before c.args.integer_type c.args.name)) (maybe_value_tree c.args.given.now))
+    c.declarator-refused.result c.first_value.result _
     c.declarator-refused.ensures.none c.declarator-refused.ensures.err u.0 u.1 c.in_err-first.ensures.err
     in record { ok = search rules; none = search rules; err = search rules }

@@ -14,11 +14,11 @@ returns-in_err-value c = record {
   ok = search rules;
   none = search rules;
   err = let h : StopsAtFirst
-          (FaultyStatement c.args.context.now.program.now.text.items c.args.context.now.gives false (scopes_of c.args.scopes.now)
-          (return_at c.args.at (maybe_expression_of c.args.given.now))) c.in_err-value.field-0.0 =
+      (FaultyStatement c.args.context.now.program.now.text.items c.args.context.now.gives false (scopes_of c.args.scopes.now)
+      (return_at c.args.at (maybe_expression_of c.args.given.now))) c.in_err-value.field-0.0 =
       both-stop (FaultyReturn c.args.context.now.gives (maybe_expression_of c.args.given.now) c.args.at)
-          (FaultyMaybe (environment_in c.args.context.now.program.now.text.items (scopes_of c.args.scopes.now))
-          (maybe_expression_of c.args.given.now)) c.fits.result c.returned-value.result _
+      (FaultyMaybe (environment_in c.args.context.now.program.now.text.items (scopes_of c.args.scopes.now))
+      (maybe_expression_of c.args.given.now)) c.fits.result c.returned-value.result _
       c.fits.ensures.none c.fits.ensures.err c.returned-value.ensures.none c.returned-value.ensures.err c.in_err-value.ensures.err
       in search rules;
 }

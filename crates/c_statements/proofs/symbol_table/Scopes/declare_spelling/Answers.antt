@@ -8,6 +8,6 @@ use Rattle.c_statements.proofs.symbol_table.Scopes.declare_spelling.Goals as goa
 pub returns : goal.returns
 returns c =
     let f : Bindings
-            → Scopes = λ i.
-            record { inner = i; around = map bindings_of (reverse c.args.self.now.around.items); locals = length c.args.self.now.locals.items } in
+    → Scopes = λ i.
+    record { inner = i; around = map bindings_of (reverse c.args.self.now.around.items); locals = length c.args.self.now.locals.items } in
     ap f (fun_ext (λ w. c.in_ok-insert.ensures.updates.0 (record { ref_ptr = c.args.spelling.ref_ptr; now = w })))
