@@ -114,7 +114,8 @@ fn declare<'a>(
     name: Identifier,
     given: &Option<Value>,
 ) -> Result<TypedStatement, TypeStop>
-    ensures typed { Answers (λ t. TypesFirst (environment_in (text_of context.now) (with_local (text_of context.now) (scopes_of scopes.old) integer_type name)) (scopes_of scopes.old).locals (maybe_value_tree given.now) (typed_of t))
+    ensures typed { Answers (λ t. TypesFirst (environment_in (text_of context.now) (with_local (text_of context.now) (scopes_of scopes.old) integer_type name))
+        (scopes_of scopes.old).locals (maybe_value_tree given.now) (typed_of t))
         (FaultyLocal (text_of context.now) (scopes_of scopes.old) integer_type name (maybe_value_tree given.now)) result }
     ensures scopes { (result ≡ Err NoMemory → ⊥) → scopes_of scopes.new ≡ with_local (text_of context.now) (scopes_of scopes.old) integer_type name }
 {
@@ -167,7 +168,8 @@ fn if_then_else<'a>(
     first: &Statement,
     second: &Statement,
 ) -> Result<TypedStatement, TypeStop>
-    ensures { Typing context.now (scopes_of scopes.old) (scopes_of scopes.new) (if_then_else (expression_of condition.now) (statement_of first.now) (statement_of second.now)) result }
+    ensures { Typing context.now (scopes_of scopes.old) (scopes_of scopes.new)
+        (if_then_else (expression_of condition.now) (statement_of first.now) (statement_of second.now)) result }
 {
     let condition = expression(context.alloc, context.program, scopes, condition);
     let first = statement(context, scopes, first);
@@ -258,7 +260,8 @@ fn item<'a>(
     scopes: &mut Scopes<'a>,
     one: &Item,
 ) -> Result<TypedStatement, TypeStop>
-    ensures typed { Answers (λ t. TypesItems (text_of context.now) (scopes_of scopes.old) (more_items (item_of one.now) no_items) (more_statements (typed_of t) no_statements))
+    ensures typed { Answers (λ t. TypesItems (text_of context.now) (scopes_of scopes.old) (more_items (item_of one.now) no_items)
+        (more_statements (typed_of t) no_statements))
         (FaultyItems (text_of context.now) context.now.gives context.now.in_loop (scopes_of scopes.old) (more_items (item_of one.now) no_items)) result }
     ensures scopes { (result ≡ Err NoMemory → ⊥) → scopes_of scopes.new ≡ behind_item (text_of context.now) (scopes_of scopes.old) (item_of one.now) }
 {
@@ -291,6 +294,8 @@ pub fn items<'a>(
 
 /// A statement, and the items of a block, have at most one typed tree under the scopes before them.
 pub fn one_typing_of_statements()
-    ensures statement { (text : List ℕ) (scopes : Names.Scopes) (s : Tree.Statement) (t u : Trees.TypedStatement) → TypesStatement text scopes s t → TypesStatement text scopes s u → t ≡ u }
-    ensures items { (text : List ℕ) (scopes : Names.Scopes) (all : Tree.Items) (t u : TypedStatements) → TypesItems text scopes all t → TypesItems text scopes all u → t ≡ u }
+    ensures statement { (text : List ℕ) (scopes : Names.Scopes) (s : Tree.Statement) (t u : Trees.TypedStatement)
+        → TypesStatement text scopes s t → TypesStatement text scopes s u → t ≡ u }
+    ensures items { (text : List ℕ) (scopes : Names.Scopes) (all : Tree.Items) (t u : TypedStatements)
+        → TypesItems text scopes all t → TypesItems text scopes all u → t ≡ u }
 {}

@@ -1,6 +1,7 @@
 ghost use Rattle.std.specs.Prelude.{◌≡◌, OnOk, is_some};
 ghost use Rattle.c_statements.specs.Shape.{scopes_of};
-ghost use Rattle.c_statements.specs.Names.{Scopes, named_in, environment_in, with_spelling, no_scopes, within, outside, with_declared, with_local, without_locals, spelling_in};
+ghost use Rattle.c_statements.specs.Names.{Scopes, named_in, environment_in, with_spelling, no_scopes, within};
+ghost use Rattle.c_statements.specs.Names.{outside, with_declared, with_local, without_locals, spelling_in};
 
 use crate::names::Named;
 use c_front::Program;

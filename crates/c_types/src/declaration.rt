@@ -4,7 +4,8 @@ ghost use Rattle.c_statements.specs.Faults.{HasNone, StopsAtFirst};
 ghost use Rattle.c_statements.specs.Shape.{scopes_of};
 ghost use Rattle.c_statements.specs.Names.{spelling_in};
 ghost use Rattle.c_types.specs.Files.{counts_of, file_of, Exceeds, IsOtherKind, is_array_of_nothing};
-ghost use Rattle.c_types.specs.Programs.{FaultyName, FaultyParameter, FaultyParameters, behind_parameters, IsNotMain, first_word, main_name, name_of, named_by, counts_after, words_of};
+ghost use Rattle.c_types.specs.Programs.{FaultyName, FaultyParameter, FaultyParameters, behind_parameters, IsNotMain, first_word};
+ghost use Rattle.c_types.specs.Programs.{main_name, name_of, named_by, counts_after, words_of};
 
 use c_front::{Declaration, Initial, Parameter, Program};
 use c_statements::{Named, Scopes, TypeFaultKind, TypeStop, either, misuse};

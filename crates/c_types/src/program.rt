@@ -8,7 +8,8 @@ ghost use Rattle.c_statements.specs.Shape.{scopes_of};
 ghost use Rattle.c_typed.specs.Shape.{function_of, statements_of};
 ghost use Rattle.c_typed.specs.Trees.{TypedProgram};
 ghost use Rattle.c_types.specs.Files.{AreTyped, IsFunction, IsWith, declared_of, file_of, file_scopes};
-ghost use Rattle.c_types.specs.Programs.{File, FaultyBody, FaultyDeclaration, FaultyDeclarations, FaultyProgram, LacksMain, TypesDeclaration, TypesProgram, after, after_all, closing, no_declarations, with_last};
+ghost use Rattle.c_types.specs.Programs.{File, FaultyBody, FaultyDeclaration, FaultyDeclarations, FaultyProgram, LacksMain, TypesDeclaration};
+ghost use Rattle.c_types.specs.Programs.{TypesProgram, after, after_all, closing, no_declarations, with_last};
 ghost use Rattle.c_types.specs.Shape.{program_of};
 ghost use Rattle.c_types.specs.Typed.{EachTypedProgramIsWellFormed, SpellsTyped};
 
@@ -69,8 +70,10 @@ fn function<'a>(
     f: &FunctionDefinition,
 ) -> Result<Function, TypeStop>
     requires { scopes_of scopes.now ≡ file_scopes (scopes_of scopes.now).inner }
-    ensures typed { Answers (λ t. IsFunction program.now.text.items (scopes_of scopes.old).inner f.now.result f.now.name f.now.parameters.items (items_of f.now.body.items) (function_of t))
-        (FaultyBody program.now.text.items (scopes_of scopes.old).inner (function f.now.result f.now.name f.now.parameters.items (items_of f.now.body.items))) result }
+    ensures typed { Answers (λ t. IsFunction program.now.text.items (scopes_of scopes.old).inner
+        f.now.result f.now.name f.now.parameters.items (items_of f.now.body.items) (function_of t))
+        (FaultyBody program.now.text.items (scopes_of scopes.old).inner
+            (function f.now.result f.now.name f.now.parameters.items (items_of f.now.body.items))) result }
     ensures scopes { (result ≡ Err NoMemory → ⊥) → scopes_of scopes.new ≡ scopes_of scopes.old }
 {
     scopes.enter(alloc)?;
@@ -103,7 +106,8 @@ fn body<'a>(
     d: &Declaration,
 ) -> Result<Declared, TypeStop>
     requires { scopes_of scopes.now ≡ file_scopes (scopes_of scopes.now).inner }
-    ensures typed { Answers (λ t. (f : File) → (after program.now.text.items f (declaration_of d.now)).names ≡ (scopes_of scopes.old).inner → TypesDeclaration program.now.text.items f (declaration_of d.now) (declared_of t))
+    ensures typed { Answers (λ t. (f : File) → (after program.now.text.items f (declaration_of d.now)).names ≡ (scopes_of scopes.old).inner
+        → TypesDeclaration program.now.text.items f (declaration_of d.now) (declared_of t))
         (FaultyBody program.now.text.items (scopes_of scopes.old).inner (declaration_of d.now)) result }
     ensures scopes { (result ≡ Err NoMemory → ⊥) → scopes_of scopes.new ≡ scopes_of scopes.old }
 {
@@ -134,7 +138,8 @@ fn declaration<'a>(
     requires { scopes_of scopes.now ≡ file_scopes (scopes_of scopes.now).inner }
     ensures typed { Answers (λ t. TypesDeclaration program.now.text.items (file_of scopes.old tally.now) (declaration_of d.now) (declared_of t))
         (FaultyDeclaration program.now.text.items (file_of scopes.old tally.now) (declaration_of d.now)) result }
-    ensures scopes { (result ≡ Err NoMemory → ⊥) → scopes_of scopes.new ≡ file_scopes (after program.now.text.items (file_of scopes.old tally.now) (declaration_of d.now)).names }
+    ensures scopes { (result ≡ Err NoMemory → ⊥)
+        → scopes_of scopes.new ≡ file_scopes (after program.now.text.items (file_of scopes.old tally.now) (declaration_of d.now)).names }
 {
     let fault = name_fault(program, scopes, tally, d);
     scopes.declare(program, declared_name(d), tally.named(d))?;
@@ -169,7 +174,8 @@ fn declarations<'a>(
     requires { scopes_of scopes.now ≡ file_scopes no_declarations.names }
     ensures typed { Answers (AreTyped program.now.text.items (declarations_of all.now))
         (FaultyDeclarations program.now.text.items no_declarations (declarations_of all.now)) result }
-    ensures scopes { (result ≡ Err NoMemory → ⊥) → scopes_of scopes.new ≡ file_scopes (after_all program.now.text.items no_declarations (declarations_of all.now)).names }
+    ensures scopes { (result ≡ Err NoMemory → ⊥)
+        → scopes_of scopes.new ≡ file_scopes (after_all program.now.text.items no_declarations (declarations_of all.now)).names }
 {
     let mut tally = Tally {
         globals: 0,

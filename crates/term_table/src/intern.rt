@@ -108,7 +108,8 @@ impl Nodes {
         requires before { seat.old.me ≡ at C.start C.told (Linking C.call link) _probes }
         ensures table { (seat.new.table_id ≡ seat.old.table_id) × (seat.new.me.1 ≡ []) }
         ensures linked { result ≡ 0 → Ended C.shape C.start C.told C.call (Ticket own) (own + 1) (C.start.room - 1) _probes seat.new.me.0 }
-        ensures lost { 0 < result → (seat.new.me.0 ≡ Walking (inside C.start (AtContent C.call true (result - 1) 0) _probes) C.told) × (result - 1 < self.now.size.workers * self.now.size.nodes) }
+        ensures lost { 0 < result → (seat.new.me.0 ≡ Walking (inside C.start (AtContent C.call true (result - 1) 0) _probes) C.told)
+            × (result - 1 < self.now.size.workers * self.now.size.nodes) }
     {
         self.link::<C>(seat, link, own + 1)
     }
