@@ -10,7 +10,7 @@ pub enum Home {
 }
 
 /// The homes of a function, the registers that it saves, and how many slots its frame has.
-#[derive(Debug, Drop)]
+#[derive(Drop)]
 pub struct Frame {
     pub homes: Vec<Home>,
     pub saved: Vec<u8>,
@@ -18,7 +18,7 @@ pub struct Frame {
 }
 
 /// A program, and a frame for each function.
-#[derive(Debug, Drop)]
+#[derive(Drop)]
 pub struct Homed<'a> {
     pub rtl: &'a Rtl,
     pub frames: Vec<Frame>,

@@ -1,14 +1,14 @@
 use crate::instruction::{RExit, RInst};
 
 /// A block: what it does, and how it is left.
-#[derive(Debug, Drop)]
+#[derive(Drop)]
 pub struct RBlock {
     pub insts: Vec<RInst>,
     pub exit: RExit,
 }
 
 /// A function. Its parameters are its first pseudo-registers, its first block is its entry.
-#[derive(Debug, Drop)]
+#[derive(Drop)]
 pub struct RFunc {
     pub parameters: u32,
     pub blocks: Vec<RBlock>,
@@ -17,6 +17,7 @@ pub struct RFunc {
 /// What the elements of a global are.
 #[derive(Clone, Copy, Debug, PartialEq, Eq)]
 pub enum Width {
+    /// A whole word.
     Word,
     /// Eight bits of a word.
     Byte,
@@ -24,7 +25,7 @@ pub enum Width {
 
 /// A global array, or a variable as an array of length 1: its length in elements and their first values, of which an
 /// array of bytes has the low eight bits.
-#[derive(Debug, Drop)]
+#[derive(Drop)]
 pub struct RGlobal {
     pub width: Width,
     pub length: u32,

@@ -28,7 +28,7 @@ pub enum RInst {
 }
 
 /// How a block is left.
-#[derive(Debug, Drop)]
+#[derive(Drop)]
 pub enum RExit {
     /// `Goto(block)`
     Goto(BlockNumber),

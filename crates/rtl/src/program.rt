@@ -10,7 +10,7 @@ use std::marker::Model;
 
 /// A program: functions, globals, and the number of the function that is run. What they name is there, and the sizes are
 /// within the limits (`specs/Programs.antt`).
-#[derive(Debug, Drop)]
+#[derive(Drop)]
 pub struct Rtl {
     functions: Vec<RFunc>,
     globals: Vec<RGlobal>,
