@@ -37,8 +37,7 @@ fn simple<'a>(alloc: Global, tokens: &'a [Token]) -> Parsed<'a, Simple>
         return Ok((Simple::CallStatement(Call { name, arguments }), end));
     }
     if let Some(after) = starts(rest, Mark::LeftBracket) {
-        let (index, close) = closed(alloc, after, Mark::RightBracket)?;
-        let start = expect(close, Mark::Assign)?;
+        let (index, start) = ended(closed(alloc, after, Mark::RightBracket), Mark::Assign)?;
         let (given, end) = expression(alloc, start)?;
         return Ok((Simple::AssignAt(name, index, given), end));
     }
