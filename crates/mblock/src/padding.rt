@@ -1,11 +1,14 @@
 // The orders that keep every instruction in place.
 
-ghost use Rattle.std.specs.Prelude.{◌≡◌, ◌≤◌, ◌++◌, length, map, OnOk, IfOk};
+ghost use Rattle.std.specs.Prelude.{◌≡◌, ◌≤◌, ◌++◌, length, map, OnOk, IfOk, Some, None, if◌then◌else◌};
+ghost use Rattle.mips_isa.specs.Actions.{nop};
+ghost use Rattle.mblock.specs.Slots.{is_slotted};
 ghost use Rattle.mblock.specs.declared.limits.TheConstants.{BLOCK_INSTS};
 ghost use Rattle.mblock.specs.Orders.{AreOrders};
 ghost use Rattle.mblock.specs.PlainOrders.{padded_inst, plain_order_of};
 
 use crate::block::Block;
+use crate::exit::Exit;
 use crate::order::Order;
 use crate::unit::Unit;
 use mips_isa::Plain;
@@ -26,6 +29,17 @@ fn push_padded(insts: &mut Vec<Plain>, inst: &Plain) -> Result<(), AllocError>
     Ok(())
 }
 
+// A Nop where the exit has a slot.
+fn plain_slot(exit: &Exit) -> Option<Plain>
+    ensures { result ≡ (if is_slotted exit.now then Some nop else None) }
+{
+    if exit.has_slot() {
+        Some(Plain::nop())
+    } else {
+        None
+    }
+}
+
 /// The plain order of a block: its instructions in place, a Nop behind each load and two behind each move from HI or LO,
 /// and a Nop in the slot. It is clean and means the block (`each_plain_order_means_its_block`).
 pub fn plain(alloc: Global, block: &Block) -> Result<Order, AllocError>
@@ -36,13 +50,8 @@ pub fn plain(alloc: Global, block: &Block) -> Result<Order, AllocError>
     for inst in block.insts() {
         push_padded(&mut insts, inst)?;
     }
-    let exit = block.exit();
-    let slot = if exit.has_slot() {
-        Some(Plain::nop())
-    } else {
-        None
-    };
-    Ok(Order::of(insts, exit, slot))
+    let slot = plain_slot(&block.exit());
+    Ok(Order::of(insts, block.exit(), slot))
 }
 
 /// The plain orders of a unit's blocks, which are orders of them.

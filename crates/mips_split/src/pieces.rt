@@ -1,6 +1,6 @@
 // Long blocks to pieces.
 
-ghost use Rattle.std.specs.Prelude.{◌≡◌, ℕ, suc, ◌+◌, ◌-◌, ◌/◌, ◌^◌, ◌<◌, ◌≤◌, ◌++◌, ◌∷◌, [], length, IfOk, OnOk, IfErr, slice_index, replicate};
+ghost use Rattle.std.specs.Prelude.{◌≡◌, ◌↔◌, ℕ, suc, ◌+◌, ◌-◌, ◌/◌, ◌^◌, ◌<◌, ◌≤◌, ◌++◌, ◌∷◌, [], length, IfOk, OnOk, IfErr, IsTrue, slice_index, replicate};
 ghost use Rattle.mips_split.specs.Split.{renumbered_exit, more_pieces, piece, pieces, count_of, total, firsts, split_from, owners_from};
 ghost use Rattle.mips_split.specs.Split.{split_blocks, split_owners};
 ghost use Rattle.mips_isa.specs.States.{State};
@@ -43,6 +43,14 @@ fn number(n: usize) -> BlockNumber
     }
 }
 
+// Behind `k` pieces there is no place for one and `more`.
+fn is_beyond(k: usize, more: usize) -> bool
+    requires { k ≤ UNIT_BLOCKS }
+    ensures { IsTrue result ↔ (UNIT_BLOCKS < k + 1 + more) }
+{
+    more >= UNIT_BLOCKS - k
+}
+
 // The number of each block's first piece.
 fn number_pieces(alloc: Global, long: &[LongBlock]) -> Result<Vec<BlockNumber>, SelectFault>
     ensures numbers { IfOk result (λ ns. ns.items ≡ firsts BLOCK_INSTS 0 long.now) }
@@ -53,7 +61,7 @@ fn number_pieces(alloc: Global, long: &[LongBlock]) -> Result<Vec<BlockNumber>, 
     let mut k: usize = 0;
     for block in long {
         let more = count_more(block);
-        if more >= UNIT_BLOCKS - k {
+        if is_beyond(k, more) {
             return Err(SelectFault::Limit);
         }
         push_number(&mut numbers, number(k))?;
