@@ -4,9 +4,9 @@
 //! size (memory aside), and else tells the fault that comes first in the order of the tests. `specs/Texts.antt` says
 //! what a text spells and which fault it has, `specs/Messages.antt` what a fault prints, `specs/Grammar.antt` is the
 //! grammar as a table of rules, `specs/Tree.antt` has the trees and `specs/Shape.antt` the tree that a Rust value
-//! stands for. The tokens are those of `c_tokens`. `specs/Choosing.antt`, `specs/Reading.antt` and
-//! `specs/Parsing.antt` are words of the private functions: the rule that the next two tokens choose, and where a
-//! derivation gets stuck.
+//! stands for. The tokens are those of `c_tokens`. `specs/Choosing.antt`, `specs/Reading.antt`, `specs/Parsing.antt` and
+//! `specs/Ends.antt` are words of the private functions: the rule that the next two tokens choose, where a derivation
+//! gets stuck, and the mark that follows a part.
 #![tactic(auto)]
 
 mod cursor;

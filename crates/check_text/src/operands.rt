@@ -1,4 +1,4 @@
-ghost use Rattle.std.specs.Prelude.{◌≡◌, ℕ, ℤ, ◌<◌, IfSome, IsSomeAnd, Some, FitsSigned};
+ghost use Rattle.std.specs.Prelude.{◌≡◌, ℕ, ℤ, ◌<◌, IfSome, Some, FitsSigned};
 ghost use Rattle.std.specs.Int.{w16};
 ghost use Rattle.mips_isa.specs.Texts.{address_text};
 ghost use Rattle.mips_isa.specs.declared.inst.Plain.TheVariants as plains;

@@ -23,7 +23,8 @@ more-init c =
 pub returns-in_err-rest-2-clause-err : goal.returns-in_err-rest-2-clause-err
 returns-in_err-rest-2-clause-err c =
     let k = stops _ _ _ c.in_err-rest-2.ensures.err c.expression-in-Some-starts.ensures.err tt in
-    let h : IsArgumentsStuck c.args.tokens.now c.in_err-rest-2.field-0.0 = next-argument-stuck _ _ _ _ _ c.more.invariant c.in-Some-starts.ensures.some k in search rules
+    let h : IsArgumentsStuck c.args.tokens.now c.in_err-rest-2.field-0.0 =
+    next-argument-stuck _ _ _ _ _ c.more.invariant c.in-Some-starts.ensures.some k in search rules
 
 pub more-preserved : goal.more-preserved
 more-preserved c =
