@@ -41,7 +41,7 @@ function-typed text f names r x ps body t e h =
 pub declaration-stop : {A B : Type 0} (text : List ℕ) (f : File) (d : Tree.Declaration) (x : Identifier) (m : Named) (old new : Scopes)
     (a : Result A TypeStop) (b : Result B TypeStop) (s : TypeStop) → old.inner ≡ f.names → new ≡ with_declared text old x m
     → x ≡ name_of d → m ≡ named_by f.counts d → IfOk a (λ y. HasNone (FaultyName text f d)) → IfErr a (StopsAtFirst (FaultyName text f d))
-        → IfOk b (λ y. HasNone (FaultyBody text new.inner d))
+    → IfOk b (λ y. HasNone (FaultyBody text new.inner d))
     → IfErr b (StopsAtFirst (FaultyBody text new.inner d)) → StopsBoth a b s → StopsAtFirst (FaultyDeclaration text f d) s
 declaration-stop text f d x m old new a b s o e i j n h k l t =
     let there : new.inner ≡ (after text f d).names = ap (λ (y : Scopes). y.inner) e ∙ rw (i, j, o) refl in
@@ -118,7 +118,7 @@ SoFar text ds r = Answers (AreTyped text (declarations_of ds)) (FaultyDeclaratio
 joined : (text : List ℕ) (xs : List Tree.Declaration) (d : Tree.Declaration) (all r : Result Parts TypeStop)
     (one : Result Declared TypeStop) → Answers (AreTyped text xs) (FaultyDeclarations text no_declarations xs) all
     → Answers (λ t. TypesDeclaration text (after_all text no_declarations xs) d (declared_of t))
-        (FaultyDeclaration text (after_all text no_declarations xs) d) one → IfOk r (IsWith all one) → IfErr r (λ s. (s ≡ NoMemory) ⊎ StopsBoth all one s)
+    (FaultyDeclaration text (after_all text no_declarations xs) d) one → IfOk r (IsWith all one) → IfErr r (λ s. (s ≡ NoMemory) ⊎ StopsBoth all one s)
     → Answers (AreTyped text (xs ++ d ∷ [])) (FaultyDeclarations text no_declarations (xs ++ d ∷ [])) r
 joined text xs d all (Ok v) one h l e f =
     let a = ok-at (AreTyped text xs) all e.old e.before h.ok in
@@ -128,7 +128,7 @@ joined text xs d all (Ok v) one h l e f =
       none = λ k at w. both-none (FaultyDeclarations text no_declarations xs) (FaultyDeclaration text (after_all text no_declarations xs) d)
           (ok-at (λ y. HasNone (FaultyDeclarations text no_declarations xs)) all e.old e.before h.none)
           (ok-at (λ y. HasNone (FaultyDeclaration text (after_all text no_declarations xs) d)) one e.more e.last l.none) k at
-              (faulty-from text no_declarations xs d k at w);
+          (faulty-from text no_declarations xs d k at w);
       err = tt;
     }
 joined text xs d all (Err t) one h l e f = record { ok = tt; none = tt; err = stopped f }
@@ -140,9 +140,9 @@ joined text xs d all (Err t) one h l e f = record { ok = tt; none = tt; err = st
     stopped (inl g) = subst (StopsAtFirst (FaultyDeclarations text no_declarations (xs ++ d ∷ []))) (sym g) tt
     stopped (inr g) =
         same-stop both (FaultyDeclarations text no_declarations (xs ++ d ∷ [])) t
-            (record { to = faulty-to text no_declarations xs d; from = faulty-from text no_declarations xs d })
+        (record { to = faulty-to text no_declarations xs d; from = faulty-from text no_declarations xs d })
         (both-stop (FaultyDeclarations text no_declarations xs)
-            (FaultyDeclaration text (after_all text no_declarations xs) d) all one t h.none h.err l.none l.err g)
+        (FaultyDeclaration text (after_all text no_declarations xs) d) all one t h.none h.err l.none l.err g)
 
 next-of : (all : List Declaration) (i : ℕ) (x : Declaration) → i < length all → x ≡ get_or all i x
     → declarations_of (take (i + 1) all) ≡ declarations_of (take i all) ++ declaration_of x ∷ []
@@ -151,7 +151,7 @@ next-of all i x l is = ap declarations_of (take_more all i x l ∙ ap (λ (y : D
 pub one-so-far : (text : List ℕ) (all : List Declaration) (i : ℕ) (x : Declaration) (typed r : Result Parts TypeStop)
     (one : Result Declared TypeStop) → i < length all → x ≡ get_or all i x → SoFar text (take i all) typed
     → Answers (λ t. TypesDeclaration text (after_all text no_declarations (declarations_of (take i all))) (declaration_of x)
-        (declared_of t)) (FaultyDeclaration text (after_all text no_declarations (declarations_of (take i all))) (declaration_of x)) one
+    (declared_of t)) (FaultyDeclaration text (after_all text no_declarations (declarations_of (take i all))) (declaration_of x)) one
     → IfOk r (IsWith typed one) → IfErr r (λ s. (s ≡ NoMemory) ⊎ StopsBoth typed one s) → SoFar text (take (i + 1) all) r
 one-so-far text all i x typed r one l is h a f g =
     let Q : List Tree.Declaration → Type 0 = λ ys. Answers (AreTyped text ys) (FaultyDeclarations text no_declarations ys) r in
@@ -159,14 +159,18 @@ one-so-far text all i x typed r one l is h a f g =
 
 pub after-more : (text : List ℕ) (all : List Declaration) (i : ℕ) (x : Declaration) → i < length all → x ≡ get_or all i x
     → after text (after_all text no_declarations (declarations_of (take i all))) (declaration_of x) ≡ after_all text no_declarations
-        (declarations_of (take (i + 1) all))
+    (declarations_of (take (i + 1) all))
 after-more text all i x l is =
     sym (ap (after_all text no_declarations) (next-of all i x l is) ∙ after-append text no_declarations (declarations_of (take i all)) (declaration_of x))
 
 pub none-so-far : (text : List ℕ) (p : Parts) → p.functions.items ≡ [] → p.globals.items ≡ [] → SoFar text [] (Ok p)
 none-so-far text p e f =
-    record { ok = record { declarations = []; typed = all_declared; parts = record { functions = ap functions_of e; globals = f } }; none =
-    λ k at h. h; err = tt }
+    record {
+      ok = record { declarations = []; typed = all_declared; parts = record { functions = ap functions_of e; globals = f } };
+      none =
+          λ k at h. h;
+      err = tt;
+    }
 
 pub globals-grow : (n : Counts) (d : Tree.Declaration) → (counts_after n d).globals ≤ n.globals + 1
 globals-grow n (Tree.variable k x i) = omega arith

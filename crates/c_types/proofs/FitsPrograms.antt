@@ -37,7 +37,7 @@ parameters-there : (p : TypedProgram) (n : ℕ) (text : List ℕ) (sc : Scopes) 
 parameters-there p n text sc [] h room = h
 parameters-there p n text sc (q ∷ rest) h room =
     parameters-there p n text (with_local text sc q.integer_type q.name) rest
-        (declared-there p n text sc q.integer_type q.name h (omega (arith, room))) (omega (arith, room))
+    (declared-there p n text sc q.integer_type q.name h (omega (arith, room))) (omega (arith, room))
 
 behind-parameters : (text : List ℕ) (sc : Scopes) (ps : List Parameter) → (behind_parameters text sc ps).locals ≡ sc.locals + length ps
 behind-parameters text sc [] = omega arith
@@ -91,7 +91,7 @@ int-result None x ps body h = absurd (h (inl (none-some _)))
 fits-function : (p : TypedProgram) (text : List ℕ) (f : File) (r : Option IntegerType) (x : Identifier) (ps : List Parameter)
     (body : Tree.Items) (t : TypedStatements) → AreThere p 0 (after text f (Tree.function r x ps body)).names
     → TypesItems text (behind_parameters text (scopes_at (after text f (Tree.function r x ps body)).names) ps) body t
-        → HasNone (FaultyDeclaration text f (Tree.function r x ps body)) → FitsFunction p (record {
+    → HasNone (FaultyDeclaration text f (Tree.function r x ps body)) → FitsFunction p (record {
       result = r;
       parameters = length ps;
       locals = (behind_items text (behind_parameters text (scopes_at (after text f (Tree.function r x ps body)).names) ps) body).locals;
@@ -107,11 +107,11 @@ fits-function p text f r x ps body t there typed none =
     let all : n ≡ inner.locals + declared_in_all body = behind-locals text inner body in
     let four : 0 + length ps ≤ 4 = parameters-fit text outer ps (omega arith) (λ k at w. faultless k at (inl w)) in
     let few : inner.locals + declared_in_all body ≤ 128 =
-            all-locals-fit text (is_some r) false inner body (omega (arith, four, first)) (λ k at w. faultless k at (inr w)) in
+    all-locals-fit text (is_some r) false inner body (omega (arith, four, first)) (λ k at w. faultless k at (inr w)) in
     let outside : AreThere p n (named_in outer) = λ w m e. at-file p n (names w) m (there w) e in
     let inside : AreThere p n (named_in inner) = parameters-there p n text outer ps outside (omega (arith, first, all)) in
     let main : bytes_eq (spelling_in text x) main_name ≡ true
-            → is_some r ≡ true = λ e. ap (λ (k : Option IntegerType). is_some k) (int-result r x ps body (λ w. none KindFault x.at (inl (other_main e w)))) in
+    → is_some r ≡ true = λ e. ap (λ (k : Option IntegerType). is_some k) (int-result r x ps body (λ w. none KindFault x.at (inl (other_main e w)))) in
     record {
       parameters = omega (arith, four);
       first = omega (arith, first, all);
@@ -156,7 +156,7 @@ global-here : {p : TypedProgram} {f : File} {g : Typed.Global} {rest : List Type
     → f.counts.globals < length p.globals
 global-here {p = p} {f = f} {g = g} {rest = rest} h =
     let e : length p.globals ≡ length h.globals + length (g ∷ globals_in rest) = ap (λ (l : List Typed.Global). length l) h.are_globals
-            ∙ length-append h.globals (g ∷ globals_in rest) in
+    ∙ length-append h.globals (g ∷ globals_in rest) in
     let c = h.globals_counted in
     omega (arith, e, c)
 
@@ -164,7 +164,7 @@ function-here : {p : TypedProgram} {f : File} {g : TypedFunction} {rest : List T
     → slice_get p.functions f.counts.functions ≡ Some g
 function-here {p = p} {f = f} {g = g} {rest = rest} h =
     ap (λ (l : List TypedFunction). slice_get l f.counts.functions) h.are_functions
-        ∙ ap (λ (i : ℕ). slice_get (h.functions ++ g ∷ functions_in rest) i) (sym h.functions_counted) ∙ at-seam h.functions g (functions_in rest)
+    ∙ ap (λ (i : ℕ). slice_get (h.functions ++ g ∷ functions_in rest) i) (sym h.functions_counted) ∙ at-seam h.functions g (functions_in rest)
 
 next : {p : TypedProgram} {text : List ℕ} {f : File} {d : Tree.Declaration} {t : TypedDeclaration} {rest : List TypedDeclaration}
     → IsAt p f (t ∷ rest) → TypesDeclaration text f d t → IsAt p (after text f d) rest
@@ -242,7 +242,7 @@ next-main {p = p} {text = text} {f = f} at (array_typed {k = k} {x = x}) none h 
     named-main p f.names (spelling_in text x) (Array f.counts.globals k) h (λ e. tt)
 next-main {p = p} {text = text} {f = f} at (function_typed {r = r} {x = x} {ps = ps} {body = body} typed) none h =
     named-main p f.names (spelling_in text x) (Function f.counts.functions (length ps) (is_some r)) h
-        (λ e. (_, (function-here at, int-result r x ps body (λ w. none KindFault x.at (inl (other_main e w))))))
+    (λ e. (_, (function-here at, int-result r x ps body (λ w. none KindFault x.at (inl (other_main e w))))))
 
 gives-int : {p : TypedProgram} {text : List ℕ} {f : File} {ds : List Tree.Declaration} {ts : List TypedDeclaration} → IsAt p f ts
     → TypesDeclarations text f ds ts → HasNone (FaultyDeclarations text f ds) → GivesInt p f.names

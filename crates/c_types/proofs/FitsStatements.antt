@@ -105,9 +105,19 @@ module _ (p : TypedProgram) (n : ℕ) where
   fits-call {scope = scope} {to = to} g l h target (function_called {x = x} {f = f} {n = m} {r = r} {all = es} e all) none =
       let there = h _ _ e in
       let right : (k : TypeFaultKind) → IsWrong (scope x) (as_call (length es) (is_some to)) k → ⊥ = λ k w. none k x.at (inl (w, refl)) in
-      let count = right-count (scope x) f m (length es) r (is_some to) e right in
-      (target, (record { callee = there.0; there = there.1.0; count = typed-length all ∙ count ∙ there.1.1.0; gives = λ i. there.1.1.1
-          ∙ is-given (scope x) f m (length es) r (is_some to) e right i }, fits-all h all))
+      let count = right-count (scope x) f m (length es) r (is_some to) e right in (
+        target,
+        (
+          record {
+            callee = there.0;
+            there = there.1.0;
+            count = typed-length all ∙ count ∙ there.1.1.0;
+            gives = λ i. there.1.1.1
+                ∙ is-given (scope x) f m (length es) r (is_some to) e right i;
+          },
+          fits-all h all,
+        ),
+      )
   fits-call g l h target (out_called e s) none = fits h s
 
   fits-value : {scope : Environment} {to : Destination} {v : Tree.Value} {t : TypedStatement} (g l : Bool) → AreSeen p n scope
@@ -158,18 +168,30 @@ module _ (p : TypedProgram) (n : ℕ) where
     fits-statement g l h room (block_typed all) none = fits-items g l h room all none
     fits-statement {text = text} {sc = sc} g l h room (if_then_typed c s) none =
         (fits (seen text sc h) c, (fits-statement g l h room s (λ k at w. none k at (inr w)), tt))
-    fits-statement {text = text} {sc = sc} g l h room (if_then_else_typed {s = s} {e = e} c a b) none =
-        (fits (seen text sc h) c,
-            (fits-statement g l h (omega (arith, room)) a (λ k at w. none k at (inr (inl w))), fits-statement g l h (omega (arith, room)) b
-            (λ k at w. none k at (inr (inr w)))))
+    fits-statement {text = text} {sc = sc} g l h room (if_then_else_typed {s = s} {e = e} c a b) none = (
+      fits (seen text sc h) c,
+      (
+        fits-statement g l h (omega (arith, room)) a (λ k at w. none k at (inr (inl w))),
+        fits-statement g l h (omega (arith, room)) b
+            (λ k at w. none k at (inr (inr w))),
+      ),
+    )
     fits-statement {text = text} {sc = sc} g l h room (while_loop_typed c s) none =
         (fits (seen text sc h) c, (tt, fits-statement g true h room s (λ k at w. none k at (inr w))))
     fits-statement {text = text} {sc = sc} g l h room (for_loop_typed f c last s) none =
         let sees = seen text sc h in (
           fits-part g l sees f (λ k at w. none k at (inl w)),
-          ((fits-test sees c,
-              (fits-part g false sees last (λ k at w. none k at (inr (inr (inl w)))), fits-statement g true h room s
-              (λ k at w. none k at (inr (inr (inr w)))))), tt),
+          (
+            (
+              fits-test sees c,
+              (
+                fits-part g false sees last (λ k at w. none k at (inr (inr (inl w)))),
+                fits-statement g true h room s
+                    (λ k at w. none k at (inr (inr (inr w)))),
+              ),
+            ),
+            tt,
+          ),
         )
     fits-statement g l h room (break_typed {at = at}) none = in-loop l at none
     fits-statement g l h room (continue_typed {at = at}) none = in-loop l at none
@@ -186,9 +208,11 @@ module _ (p : TypedProgram) (n : ℕ) where
     fits-items {text = text} {sc = sc} g l h room (declare_typed {k = integer_type} {x = x} {rest = others} v rest) none =
         let here : sc.locals < n = omega (arith, room) in
         let there = declared-there text sc integer_type x h here in
-        let next : suc sc.locals + declared_in_all others ≤ n = omega (arith, room) in
-        (fits-first g l (seen text (with_local text sc integer_type x) there) here v
-            (λ k at w. none k at (inl (inr w))), fits-items g l there next rest (λ k at w. none k at (inr w)))
+        let next : suc sc.locals + declared_in_all others ≤ n = omega (arith, room) in (
+          fits-first g l (seen text (with_local text sc integer_type x) there) here v
+              (λ k at w. none k at (inl (inr w))),
+          fits-items g l there next rest (λ k at w. none k at (inr w)),
+        )
 
 no-more : (text : List ℕ) (sc : Scopes) (x : Identifier) → sc.locals ≤ 128 → HasNone (FaultyDeclarator text sc x) → suc sc.locals ≤ 128
 no-more text sc x few none = let other : sc.locals ≢ 128 = λ e. none Limit x.at (local_too_many e) in omega (arith, few, other)
@@ -226,4 +250,4 @@ pub behind-locals : (text : List ℕ) (sc : Scopes) (is : Tree.Items) → (behin
 behind-locals text sc Tree.no_items = omega arith
 behind-locals text sc (Tree.more_items (Tree.statement s) rest) = let h = behind-locals text (behind sc s) rest in omega (arith, h)
 behind-locals text sc (Tree.more_items (Tree.declare integer_type x v) rest) = let h =
-        behind-locals text (with_local text sc integer_type x) rest in omega (arith, h)
+    behind-locals text (with_local text sc integer_type x) rest in omega (arith, h)

@@ -33,12 +33,12 @@ at-parameters old s1 o a = a ∙ ap within o
 pub body-stop : {A B : Type 0} (text : List ℕ) (old s1 s2 : Scopes) (r : Option IntegerType) (x : Identifier) (ps : List Parameter)
     (body : Items) (a : Result A TypeStop) (b : Result B TypeStop) (s : TypeStop) (g : Bool) → g ≡ is_some r → old ≡ file_scopes old.inner
     → s1 ≡ within old → s2 ≡ behind_parameters text s1 ps → IfOk a (λ y. HasNone (FaultyParameters text s1 ps))
-        → IfErr a (StopsAtFirst (FaultyParameters text s1 ps))
+    → IfErr a (StopsAtFirst (FaultyParameters text s1 ps))
     → IfOk b (λ y. HasNone (FaultyItems text g false s2 body)) → IfErr b (StopsAtFirst (FaultyItems text g false s2 body)) → StopsBoth a b s
-        → StopsAtFirst (FaultyBody text old.inner (function r x ps body)) s
+    → StopsAtFirst (FaultyBody text old.inner (function r x ps body)) s
 body-stop text old s1 s2 r x ps body a b s g q o e f n h m l t =
     let Q : Scopes → Type 0 = λ y. StopsAtFirst (Both (FaultyParameters text y ps) (FaultyItems text (is_some r) false (behind_parameters text y ps) body)) s in
     subst Q (at-parameters old s1 o e)
-        (let R : Scopes → Type 0 = λ y. StopsAtFirst (Both (FaultyParameters text s1 ps) (FaultyItems text (is_some r) false y body)) s in
+    (let R : Scopes → Type 0 = λ y. StopsAtFirst (Both (FaultyParameters text s1 ps) (FaultyItems text (is_some r) false y body)) s in
     subst R f (let P : Bool → Type 0 = λ y. StopsAtFirst (Both (FaultyParameters text s1 ps) (FaultyItems text y false s2 body)) s in
     subst P q (both-stop (FaultyParameters text s1 ps) (FaultyItems text g false s2 body) a b s n h m l t)))

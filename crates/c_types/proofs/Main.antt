@@ -39,7 +39,7 @@ is-main f (Tree.function (Some SignedInt) x (p ∷ ps) body) h = absurd (h (inr 
 step-by : (text : List ℕ) (f : File) (d : Tree.Declaration) (b : Bool) → bytes_eq (spelling_in text (name_of d)) main_name ≡ b
     → IsMainOr f.names → HasNone (FaultyName text f d)
     → ((if b then Some (named_by f.counts d) else f.names main_name) ≡ None) ⊎
-        ((n : ℕ) × ((if b then Some (named_by f.counts d) else f.names main_name) ≡ Some (Function n 0 true)))
+    ((n : ℕ) × ((if b then Some (named_by f.counts d) else f.names main_name) ≡ Some (Function n 0 true)))
 step-by text f d true e h n = let m = is-main f d (λ w. n _ _ (other_main e w)) in inr (m.0, ap (λ (x : Named). Some x) m.1)
 step-by text f d false e h n = h
 
@@ -70,8 +70,8 @@ none-at p r x e h = ok-at (λ y. HasNone p) r x e h
 pub program-stop : {A B : Type 0} (text : List ℕ) (ds : List Tree.Declaration) (names : Bindings) (a : Result A TypeStop)
     (b : Result B TypeStop) (s : TypeStop) → names ≡ (after_all text no_declarations ds).names
     → IfOk a (λ y. HasNone (FaultyDeclarations text no_declarations ds))
-        → IfErr a (StopsAtFirst (FaultyDeclarations text no_declarations ds)) → IfOk b (λ y. HasNone (LacksMain text names))
-        → IfErr b (StopsAtFirst (LacksMain text names))
+    → IfErr a (StopsAtFirst (FaultyDeclarations text no_declarations ds)) → IfOk b (λ y. HasNone (LacksMain text names))
+    → IfErr b (StopsAtFirst (LacksMain text names))
     → StopsBoth a b s → StopsAtFirst (FaultyProgram text ds) s
 program-stop text ds names a b s e n h m l t =
     let Q : Bindings → Type 0 = λ y. StopsAtFirst (Both (FaultyDeclarations text no_declarations ds) (LacksMain text y)) s in
@@ -80,9 +80,9 @@ program-stop text ds names a b s e n h m l t =
 pub main-found : {A B : Type 0} (text : List ℕ) (ds : List Tree.Declaration) (names : Bindings) (a : Result A TypeStop)
     (b : Result B TypeStop) (x : A) (y : B) (found : Option Named) → names ≡ (after_all text no_declarations ds).names
     → IfOk a (λ z. HasNone (FaultyDeclarations text no_declarations ds)) → IfOk b (λ z. HasNone (LacksMain text names)) → a ≡ Ok x
-        → b ≡ Ok y → found ≡ names main_name → (n : ℕ) × (found ≡ Some (Function n 0 true))
+    → b ≡ Ok y → found ≡ names main_name → (n : ℕ) × (found ≡ Some (Function n 0 true))
 main-found text ds names a b x y found e n m i j f = let w =
-        main-is text ds names e (none-at (FaultyDeclarations text no_declarations ds) a x i n) (none-at (LacksMain text names) b y j m) in (w.0, f ∙ w.1)
+    main-is text ds names e (none-at (FaultyDeclarations text no_declarations ds) a x i n) (none-at (LacksMain text names) b y j m) in (w.0, f ∙ w.1)
 
 pub typed-program : (text : List ℕ) (ds : List Tree.Declaration) (names : Bindings) (p : Parts) (m : ℕ) (found : Option Named)
     → AreTyped text ds p → names ≡ (after_all text no_declarations ds).names → found ≡ names main_name

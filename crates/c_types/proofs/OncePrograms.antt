@@ -25,7 +25,7 @@ once-declarations (more_declared a b) (more_declared c d) = let e = once-declara
 same : (p q : TypedProgram) → p.functions ≡ q.functions → p.globals ≡ q.globals → p.main ≡ q.main → p ≡ q
 same p q e f g =
     ap (λ (x : List TypedFunction). let t : TypedProgram = record { functions = x; globals = p.globals; main = p.main } in t) e
-            ∙ ap (λ (x : List Global). let t : TypedProgram = record { functions = q.functions; globals = x; main = p.main } in t) f
+    ∙ ap (λ (x : List Global). let t : TypedProgram = record { functions = q.functions; globals = x; main = p.main } in t) f
     ∙ ap (λ (x : ℕ). let t : TypedProgram = record { functions = q.functions; globals = q.globals; main = x } in t) g
 
 abbrev number : Option Named → ℕ

@@ -39,7 +39,7 @@ least-many e k (fifth_parameter h) = absurd (k h)
 pub again-stops : (text : List ℕ) (sc : Scopes) (x : Identifier) (b : Bool) (s : TypeStop) → b ≡ is_some (sc.inner (spelling_in text x))
     → b ≡ true → s ≡ Fault (record { kind = Redeclared; at = x.at }) → StopsAtFirst (FaultyParameter text sc x) s
 again-stops text sc x b s i t q = let h = some-there _ (sym i ∙ t) in
-        rw q (record { has = faulty_declarator (declared_before h); first = λ j n w. inr (place w, least w) })
+    rw q (record { has = faulty_declarator (declared_before h); first = λ j n w. inr (place w, least w) })
 
 pub fifth-stops : (text : List ℕ) (sc : Scopes) (x : Identifier) (b : Bool) (s : TypeStop) → b ≡ is_some (sc.inner (spelling_in text x))
     → b ≡ false → sc.locals ≡ 4 → s ≡ Fault (record { kind = Count; at = x.at }) → StopsAtFirst (FaultyParameter text sc x) s
@@ -49,7 +49,7 @@ pub limit-stops : (text : List ℕ) (sc : Scopes) (x : Identifier) (b : Bool) (s
     → b ≡ false → (sc.locals ≡ 4 → ⊥) → sc.locals ≡ 128 → s ≡ Fault (record { kind = Limit; at = x.at })
     → StopsAtFirst (FaultyParameter text sc x) s
 limit-stops text sc x b s i t k l q = let e = none-there _ (sym i ∙ t) in
-        rw q (record { has = faulty_declarator (local_too_many l); first = λ j n w. inr (place w, (least-many e k w).1) })
+    rw q (record { has = faulty_declarator (local_too_many l); first = λ j n w. inr (place w, (least-many e k w).1) })
 
 faults-to : (text : List ℕ) (sc : Scopes) (done : List Parameter) (p : Parameter) (k : TypeFaultKind) (at : ℕ)
     → Both (FaultyParameters text sc done) (FaultyParameter text (behind_parameters text sc done) p.name) k at
@@ -78,13 +78,13 @@ behind-more text sc (q ∷ done) p = behind-more text (with_local text sc q.inte
 pub one-more : (text : List ℕ) (sc now : Scopes) (done : List Parameter) (p : Parameter) (a b c : Result Unit TypeStop)
     → now ≡ behind_parameters text sc done → Tells (FaultyParameters text sc done) a
     → IfOk b (λ x. HasNone (FaultyParameter text now p.name)) → IfErr b (StopsAtFirst (FaultyParameter text now p.name))
-        → IfOk c (λ x. (a ≡ Ok tt) × (b ≡ Ok tt)) → IfErr c (StopsBoth a b)
+    → IfOk c (λ x. (a ≡ Ok tt) × (b ≡ Ok tt)) → IfErr c (StopsBoth a b)
     → Tells (FaultyParameters text sc (done ++ p ∷ [])) c
 one-more text sc now done p a b c e h n s o t =
     let q : Faults = FaultyParameter text (behind_parameters text sc done) p.name in
     let l : Tells q b = rw (sym e) (n, s) in
     tells-same (Both (FaultyParameters text sc done) q) (FaultyParameters text sc (done ++ p ∷ [])) c
-        (record { to = faults-to text sc done p; from = faults-from text sc done p })
+    (record { to = faults-to text sc done p; from = faults-from text sc done p })
     (tells-both (FaultyParameters text sc done) q a b c h l (shaped c o) t)
   where
     shaped : (r : Result Unit TypeStop) → IfOk r (λ x. (a ≡ Ok tt) × (b ≡ Ok tt)) → IfOk r (λ r. (x : Unit) × (y : Unit) × (a ≡ Ok x) × (b ≡ Ok y))

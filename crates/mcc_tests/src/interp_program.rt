@@ -73,7 +73,11 @@ fn options_bound_the_run(rt: HostRuntime) -> Result<(), Fail> {
         (DEEP, "--depth", "255", "wrong\n", 3),
         ("int main(void){}", "--depth", "1", "done 0\n", 0),
     ] {
-        let got = told(rt.alloc(), text, ["mcc", "interp", "x", option, bound].as_slice());
+        let got = told(
+            rt.alloc(),
+            text,
+            ["mcc", "interp", "x", option, bound].as_slice(),
+        );
         assert_eq!(rt; got.status, status, "at {text}");
         assert_eq!(rt; got.out.as_slice(), printed.as_bytes(), "at {text}");
         assert!(rt; got.err.is_empty(), "at {text}");

@@ -53,10 +53,10 @@ first_sought {S} s c v told a n me u call may is m =
     let l = call.0 in let ks = call.1 in
     let d : Moved s (begins c) v told n u = subst (λ (x : Me S View). MovedFrom s (begins c) x.0 n u) is m in
     let P : Walker → Type 0 = λ b. (u ≡ Walking (turn s d.history n b).walker told)
-            × Sees s (d.history ++ (turn s d.history n b).said) (turn s d.history n b).walker in
+    × Sees s (d.history ++ (turn s d.history n b).said) (turn s d.history n b).walker in
     let Q : Call → Type 0 = λ k. Sought s v told k n 1 u in
     let goes_on : begun s (begins c) v ≡ inside v (AtLink (Find l ks) false (s.chain (label_word l) ks)) 0 = starts_as s c v may
-            ∙ ap (λ (k : Call). inside v (first_stage s k) 0) call.2 in
+    ∙ ap (λ (k : Call). inside v (first_stage s k) 0) call.2 in
     let r = subst P goes_on (d.view, d.sees) in
     subst Q (sym call.2) (sought_follows s l ks v told 0 (s.chain (label_word l) ks) d.history n u d.begins r.0 r.1)
 
@@ -67,7 +67,7 @@ next_sought {S} s c v told a n p me u call is m =
     let l = call.0 in let ks = call.1 in
     let T : Call → Me S View → Type 0 = λ k x. MovedFrom s (begins k) x.0 n u in
     let d : Moved s (begins (Find l ks)) (inside v (AtLink (Find l ks) false a) p) told n u =
-            subst (λ (k : Call). MovedFrom s (begins k) (Walking (inside v (AtLink k false a) p) told) n u) call.2 (subst (λ (x : Me S View). T c x) is m) in
+    subst (λ (k : Call). MovedFrom s (begins k) (Walking (inside v (AtLink k false a) p) told) n u) call.2 (subst (λ (x : Me S View). T c x) is m) in
     subst (λ (k : Call). Sought s v told k n (suc p) u) (sym call.2) (sought_follows s l ks v told p a d.history n u d.begins d.view d.sees)
 
 -- the first content word of a node was read
@@ -95,9 +95,9 @@ module _ {S : Type 0} (s : Shape) (c : Call) (v : Walker) (told : List Entry) (t
       let d = moved_so in
       let ne : length row ≢ 3 = omega arith in
       paired me' _ []
-          (d.view ∙ ap (λ (b : Bool). Walking
-          (cond b (ends d.history y (Read t) (answer_of (row ++ n ∷ []))) (goes y (Reading t (row ++ n ∷ [])))).walker told)
-          (ne_eqb (length row) 3 ne)) none_left
+      (d.view ∙ ap (λ (b : Bool). Walking
+      (cond b (ends d.history y (Read t) (answer_of (row ++ n ∷ []))) (goes y (Reading t (row ++ n ∷ [])))).walker told)
+      (ne_eqb (length row) 3 ne)) none_left
 
   pub last_read : length row ≡ 3 → Ended s v told c (answer_of (row ++ n ∷ [])) v.own v.room 0 me'.0
   last_read e =
@@ -107,4 +107,4 @@ module _ {S : Type 0} (s : Shape) (c : Call) (v : Walker) (told : List Entry) (t
       ap (λ (b : Bool). cond b (ends d.history y (Read t) (answer_of (row ++ n ∷ []))) (goes y (Reading t (row ++ n ∷ [])))) (eq-eqb (length row) 3 e) in
       let r = subst P is_end (d.view, d.sees) in
       subst (λ (k : Call). Ended s v told k (answer_of (row ++ n ∷ [])) v.own v.room 0 me'.0) (sym call)
-          (ended s v y told d.history (Read t) (answer_of (row ++ n ∷ [])) me'.0 refl refl refl d.begins r.0 r.1)
+      (ended s v y told d.history (Read t) (answer_of (row ++ n ∷ [])) me'.0 refl refl refl d.begins r.0 r.1)

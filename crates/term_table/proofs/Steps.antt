@@ -28,7 +28,7 @@ paired me u l p q = λ i. (p i, q i)
 -- the end of a call
 pub ended : (s : Shape) (v x : Walker) (told h : List Entry) (c : Call) (a : Answer) (u : View) → x.by ≡ v.by → x.seen ≡ v.seen → x.mine ≡ v.mine
     → Rattle.term_core.specs.Terms.StartsWith h v.seen → u ≡ Walking (ends h x c a).walker told
-        → Sees s (h ++ (ends h x c a).said) (ends h x c a).walker → Ended s v told c a x.own x.room x.probes u
+    → Sees s (h ++ (ends h x c a).said) (ends h x c a).walker → Ended s v told c a x.own x.room x.probes u
 ended s v x told h c a u by seen mine front view sees = record {
   walker = (ends h x c a).walker;
   view = view;
@@ -81,8 +81,8 @@ module _ {S : Type 0} (s : Shape) (c : Call) (v : Walker) (told : List Entry) (p
       let x : Walker = inside v (AtContent c w k i) p in
       let same : Turn → Bool → Turn = λ t b. cond b t (goes x (AtLink c w (link_of s k))) in
       paired me' _ []
-          (d.view ∙ ap (λ (b : Bool). Walking
-          (same (cond (i == 3) (ends d.history x c (hit c k)) (goes x (AtContent c w k (suc i)))) b).walker told) (ne_eqb n (slice_index (content c) i) ne))
+      (d.view ∙ ap (λ (b : Bool). Walking
+      (same (cond (i == 3) (ends d.history x c (hit c k)) (goes x (AtContent c w k (suc i)))) b).walker told) (ne_eqb n (slice_index (content c) i) ne))
       (rest ∙ ap (λ (x : Me S View). x.1) is)
 
   pub more : (me me' : Me S View) (w : Bool) (k i n : ℕ) → me ≡ at v told (AtContent c w k i) p → MovedFrom s (begins c) me.0 n me'.0
@@ -93,9 +93,9 @@ module _ {S : Type 0} (s : Shape) (c : Call) (v : Walker) (told : List Entry) (p
       let d = subst P is m in
       let x : Walker = inside v (AtContent c w k i) p in
       paired me' _ []
-          (d.view ∙ ap (λ (b : Bool). Walking
-          (cond b (cond (i == 3) (ends d.history x c (hit c k)) (goes x (AtContent c w k (suc i))))
-          (goes x (AtLink c w (link_of s k)))).walker told) (eq-eqb n (slice_index (content c) i) eq)
+      (d.view ∙ ap (λ (b : Bool). Walking
+      (cond b (cond (i == 3) (ends d.history x c (hit c k)) (goes x (AtContent c w k (suc i))))
+      (goes x (AtLink c w (link_of s k)))).walker told) (eq-eqb n (slice_index (content c) i) eq)
       ∙ ap (λ (b : Bool). Walking (cond b (ends d.history x c (hit c k)) (goes x (AtContent c w k (suc i)))).walker told) low)
       (rest ∙ ap (λ (x : Me S View). x.1) is)
 
@@ -110,7 +110,7 @@ module _ {S : Type 0} (s : Shape) (c : Call) (v : Walker) (told : List Entry) (p
       let t : Turn → Type 0 = λ t. (me'.0 ≡ Walking t.walker told) × Sees s (d.history ++ t.said) t.walker in
       let e : turn s d.history n x ≡ ends d.history x c (hit c k) =
       ap (λ (b : Bool). cond b (cond (i == 3) (ends d.history x c (hit c k)) (goes x (AtContent c w k (suc i))))
-          (goes x (AtLink c w (link_of s k)))) (eq-eqb n (slice_index (content c) i) eq)
+      (goes x (AtLink c w (link_of s k)))) (eq-eqb n (slice_index (content c) i) eq)
       ∙ ap (λ (b : Bool). cond b (ends d.history x c (hit c k)) (goes x (AtContent c w k (suc i)))) last in
       let r = subst t e (d.view, d.sees) in
       ended s v x told d.history c (hit c k) me'.0 refl refl refl d.begins r.0 r.1
@@ -130,7 +130,7 @@ module _ (s : Shape) (l : Label) (ks : List ℕ) (v : Walker) (told : List Entry
     full = λ z r.
         let R : Turn → Type 0 = λ t. (u ≡ Walking t.walker told) × Sees s (h ++ t.said) t.walker in
         let e : found_none h x c wr a ≡ ends h x c Full =
-                ap (λ (b : Bool). cond b (ends h x c Full) (goes x (cond wr (Linking c a) (Writing c a 0)))) (eq-eqb v.room 0 r) in
+        ap (λ (b : Bool). cond b (ends h x c Full) (goes x (cond wr (Linking c a) (Writing c a 0)))) (eq-eqb v.room 0 r) in
         let q = subst R e (view, sees) in
         ended s v x told h c Full u refl refl refl front q.0 q.1;
     free = λ z r.
@@ -170,15 +170,15 @@ first_arrived {S} s c v told a n me u call may is m =
     let l = call.0 in let ks = call.1 in
     let d : Moved s (begins c) v told n u = subst (λ (x : Me S View). MovedFrom s (begins c) x.0 n u) is m in
     let P : Walker → Type 0 = λ b. (u ≡ Walking (turn s d.history n b).walker told)
-            × Sees s (d.history ++ (turn s d.history n b).said) (turn s d.history n b).walker in
+    × Sees s (d.history ++ (turn s d.history n b).said) (turn s d.history n b).walker in
     let Q : Call → ℕ → Type 0 = λ k y. Arrived s v told k false y n 1 u in
     let starts : begun s (begins c) v ≡ inside v (first_stage s c) 0 = ap (begun_at s (begins c) v) may.0
-            ∙ ap (λ (b : Bool). cond b (inside v (first_stage s c) 0) v) may.1 in
+    ∙ ap (λ (b : Bool). cond b (inside v (first_stage s c) 0) v) may.1 in
     let goes_on : begun s (begins c) v ≡ inside v (AtLink (Intern l ks) false (s.chain (label_word l) ks)) 0 = starts
-            ∙ ap (λ (k : Call). inside v (first_stage s k) 0) call.2 in
+    ∙ ap (λ (k : Call). inside v (first_stage s k) 0) call.2 in
     let r = subst P goes_on (d.view, d.sees) in
     subst (λ (k : Call). Q k a) (sym call.2)
-        (subst (λ (y : ℕ). Q (Intern l ks) y) (sym call.3) (after_follows s l ks v told 0 false (s.chain (label_word l) ks) d.history n u d.begins r.0 r.1))
+    (subst (λ (y : ℕ). Q (Intern l ks) y) (sym call.3) (after_follows s l ks v told 0 false (s.chain (label_word l) ks) d.history n u d.begins r.0 r.1))
 
 pub next_arrived : {S : Type 0} (s : Shape) (c : Call) (v : Walker) (told : List Entry) (wr : Bool) (a n p : ℕ) (me : Me S View) (u : View)
     → (l : Label) × (ks : List ℕ) × (c ≡ Intern l ks) → me ≡ at v told (AtLink c wr a) p
@@ -187,5 +187,5 @@ next_arrived {S} s c v told wr a n p me u call is m =
     let l = call.0 in let ks = call.1 in
     let T : Call → Me S View → Type 0 = λ k x. MovedFrom s (begins k) x.0 n u in
     let d : Moved s (begins (Intern l ks)) (inside v (AtLink (Intern l ks) wr a) p) told n u =
-            subst (λ (k : Call). MovedFrom s (begins k) (Walking (inside v (AtLink k wr a) p) told) n u) call.2 (subst (λ (x : Me S View). T c x) is m) in
+    subst (λ (k : Call). MovedFrom s (begins k) (Walking (inside v (AtLink k wr a) p) told) n u) call.2 (subst (λ (x : Me S View). T c x) is m) in
     subst (λ (k : Call). Arrived s v told k wr a n (suc p) u) (sym call.2) (after_follows s l ks v told p wr a d.history n u d.begins d.view d.sees)

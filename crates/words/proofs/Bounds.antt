@@ -52,7 +52,7 @@ product_below Signed a b la lb =
     let x = signed_abs a la in
     let y = signed_abs b lb in
     let both : unsigned_abs (signed a) * unsigned_abs (signed b) < 2 ^ 32 * 2 ^ 32 =
-            mul-lt (unsigned_abs (signed a)) (unsigned_abs (signed b)) (2 ^ 32) (2 ^ 32) (omega arith) (omega arith) in
+    mul-lt (unsigned_abs (signed a)) (unsigned_abs (signed b)) (2 ^ 32) (2 ^ 32) (omega arith) (omega arith) in
     unsigned_64 (signed a *ℤ signed b) (omega arith)
 product_below Unsigned a b la lb = mul-lt a b (2 ^ 32) (2 ^ 32) la lb
 
@@ -62,12 +62,12 @@ if_below false x h = omega arith
 
 quotient_below : (sign : Sign) (a b : ℕ) → a < 2 ^ 32 → quotient sign a b < 2 ^ 32
 quotient_below Signed a b la = let q = quotient_abs (signed a) (signed b) in let s = signed_abs a la in
-        unsigned_32 (int_div (signed a) (signed b)) (omega arith)
+    unsigned_32 (int_div (signed a) (signed b)) (omega arith)
 quotient_below Unsigned a b la = let q = div-le_self a b in omega arith
 
 remainder_below : (sign : Sign) (a b : ℕ) → a < 2 ^ 32 → remainder sign a b < 2 ^ 32
 remainder_below Signed a b la = let q = remainder_abs (signed a) (signed b) in let s = signed_abs a la in
-        unsigned_32 (int_rem (signed a) (signed b)) (omega arith)
+    unsigned_32 (int_rem (signed a) (signed b)) (omega arith)
 remainder_below Unsigned a b la = let q = mod-le a b in omega arith
 
 -- every operator gives a word at two words
@@ -84,7 +84,7 @@ op_words Sltu a b la lb = either_below (nat_lt a b) 1 0 (omega arith) (omega ari
 op_words Sll a b la lb = omega arith
 op_words Srl a b la lb = let le = div-le_self a (2 ^ (b % 32)) in omega arith
 op_words Sra a b la lb = let le = div-le_self a (2 ^ (b % 32)) in
-        either_below (nat_lt a (2 ^ 31)) (srl a b) (2 ^ 32 - 1 - srl (2 ^ 32 - 1 - a) b) (omega arith) (omega arith)
+    either_below (nat_lt a (2 ^ 31)) (srl a b) (2 ^ 32 - 1 - srl (2 ^ 32 - 1 - a) b) (omega arith) (omega arith)
 op_words MultHigh a b la lb = let p = product_below Signed a b la lb in omega arith
 op_words MultLow a b la lb = omega arith
 op_words MultuHigh a b la lb = let p = product_below Unsigned a b la lb in omega arith

@@ -19,7 +19,7 @@ loop-parameter-preserved c =
       one-more c.args.program.now.text.items (scopes_of c.args.scopes.now) (scopes_of c.loop-parameter.scopes)
           (take c.loop-parameter.parameter-index c.args.all.now) p c.loop-parameter.fault c.parameter_fault.result c.either-fault.result
           c.loop-parameter.invariant.0 c.loop-parameter.invariant.1 c.parameter_fault.ensures.none c.parameter_fault.ensures.err
-              c.either-fault.ensures.ok c.either-fault.ensures.err,
+          c.either-fault.ensures.ok c.either-fault.ensures.err,
     )
 
 pub returns-clause-err : goal.returns-clause-err

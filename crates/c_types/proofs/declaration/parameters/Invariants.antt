@@ -7,4 +7,4 @@ use Rattle.c_types.proofs.declaration.parameters.Given as goal
 abbrev pub invariant-loop-parameter : goal.invariant-loop-parameter
 invariant-loop-parameter l =
     (scopes_of l.scopes ≡ behind_parameters l.program.text.items (scopes_of l.initial.scopes) (take l.parameter-index l.all))
-        × Tells (FaultyParameters l.program.text.items (scopes_of l.initial.scopes) (take l.parameter-index l.all)) l.fault
+    × Tells (FaultyParameters l.program.text.items (scopes_of l.initial.scopes) (take l.parameter-index l.all)) l.fault

@@ -16,11 +16,15 @@ returns-in-Array-clause-typed c =
 
 pub returns-in-Ok-clause-typed : goal.returns-in-Ok-clause-typed
 returns-in-Ok-clause-typed c =
-    record { ok =
-        rw c.in-Function.is
-        (λ f e. function-typed c.args.program.now.text.items f
-        (scopes_of c.args.scopes.now).inner c.in-Function.f.result c.in-Function.f.name c.in-Function.f.parameters.items
-        (items_of c.in-Function.f.body.items) (function_of c.in-Ok.typed) e c.in-Ok.ensures.typed.ok); none = search rules; err = tt }
+    record {
+      ok =
+          rw c.in-Function.is
+          (λ f e. function-typed c.args.program.now.text.items f
+          (scopes_of c.args.scopes.now).inner c.in-Function.f.result c.in-Function.f.name c.in-Function.f.parameters.items
+          (items_of c.in-Function.f.body.items) (function_of c.in-Ok.typed) e c.in-Ok.ensures.typed.ok);
+      none = search rules;
+      err = tt;
+    }
 
 pub returns-in-Err-clause-typed : goal.returns-in-Err-clause-typed
 returns-in-Err-clause-typed c =

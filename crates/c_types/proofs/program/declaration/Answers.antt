@@ -18,13 +18,13 @@ returns-in_err-typed-2-clause-typed c =
           subst Q c.in_ok-typed.ensures.ok.0 c.in_err-typed-2.ensures.err
           in
           let h : StopsAtFirst
-                  (FaultyDeclaration c.args.program.now.text.items (file_of c.args.scopes.now c.args.tally.now)
-                  (declaration_of c.args.d.now)) c.in_err-typed-2.field-0.0 =
+          (FaultyDeclaration c.args.program.now.text.items (file_of c.args.scopes.now c.args.tally.now)
+          (declaration_of c.args.d.now)) c.in_err-typed-2.field-0.0 =
           declaration-stop c.args.program.now.text.items (file_of c.args.scopes.now c.args.tally.now)
-              (declaration_of c.args.d.now) c.declared_name.result c.named.result (scopes_of c.args.scopes.now)
-              (scopes_of c.declare.new.self) c.name_fault-fault.result c.body.result
+          (declaration_of c.args.d.now) c.declared_name.result c.named.result (scopes_of c.args.scopes.now)
+          (scopes_of c.declare.new.self) c.name_fault-fault.result c.body.result
           c.in_err-typed-2.field-0.0 refl c.in_ok-declare.ensures c.declared_name.ensures c.named.ensures c.name_fault-fault.ensures.none
-              c.name_fault-fault.ensures.err c.body.ensures.typed.none c.body.ensures.typed.err t
+          c.name_fault-fault.ensures.err c.body.ensures.typed.none c.body.ensures.typed.err t
           in
           search rules;
     }

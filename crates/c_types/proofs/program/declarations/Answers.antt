@@ -28,17 +28,17 @@ loop-one-preserved c =
     let d : Tree.Declaration = declaration_of c.one-item.result in
     let before : File = file_of c.loop-one.scopes c.loop-one.tally in
     let At : File → Result Declared TypeStop
-            → Type 0 = λ f r. Answers
-            (λ t. TypesDeclaration c.args.program.now.text.items f (declaration_of c.one-item.result) (declared_of t))
-            (FaultyDeclaration c.args.program.now.text.items f (declaration_of c.one-item.result)) r in
+    → Type 0 = λ f r. Answers
+    (λ t. TypesDeclaration c.args.program.now.text.items f (declaration_of c.one-item.result) (declared_of t))
+    (FaultyDeclaration c.args.program.now.text.items f (declaration_of c.one-item.result)) r in
     let answered : At before c.declaration.result = c.declaration.ensures.typed in
     let kept : At before c.in_ok-next.next = subst (At before) (sym c.in_ok-next.ensures.ok.0) answered in
     let moved : At
-            (after_all c.args.program.now.text.items no_declarations (declarations_of (take c.loop-one.one-index c.args.all.now)))
-            c.in_ok-next.next = subst (λ f. At f c.in_ok-next.next) c.loop-one.invariant.file kept in
+    (after_all c.args.program.now.text.items no_declarations (declarations_of (take c.loop-one.one-index c.args.all.now)))
+    c.in_ok-next.next = subst (λ f. At f c.in_ok-next.next) c.loop-one.invariant.file kept in
     let there : scopes_of c.declaration.new.scopes ≡ file_scopes
-            (after c.args.program.now.text.items (file_of c.loop-one.scopes c.loop-one.tally) (declaration_of c.one-item.result)).names =
-            c.declaration.ensures.scopes c.in_ok-next.ensures.ok.1 in
+    (after c.args.program.now.text.items (file_of c.loop-one.scopes c.loop-one.tally) (declaration_of c.one-item.result)).names =
+    c.declaration.ensures.scopes c.in_ok-next.ensures.ok.1 in
     let g = globals-grow (counts_of c.loop-one.tally) (declaration_of c.one-item.result) in
     let h = functions-grow (counts_of c.loop-one.tally) (declaration_of c.one-item.result) in
     let i = c.loop-one.invariant.globals in
@@ -49,11 +49,14 @@ loop-one-preserved c =
           c.with_declared-parts.ensures.ok c.with_declared-parts.ensures.err;
       file = ap (λ (s : Scopes). let f : File = record { names = s.inner; counts = counts_of c.after-tally.result } in f) there
           ∙ ap (λ (n : Counts). let f : File =
-                  record { names =
-                  (after c.args.program.now.text.items (file_of c.loop-one.scopes c.loop-one.tally)
-                  (declaration_of c.one-item.result)).names; counts = n } in f) c.after-tally.ensures.value
+          record {
+            names =
+                (after c.args.program.now.text.items (file_of c.loop-one.scopes c.loop-one.tally)
+                (declaration_of c.one-item.result)).names;
+            counts = n;
+          } in f) c.after-tally.ensures.value
           ∙ ap (λ (f : File). after c.args.program.now.text.items f (declaration_of c.one-item.result)) c.loop-one.invariant.file
-              ∙ after-more c.args.program.now.text.items c.args.all.now c.loop-one.one-index c.one-item.result c.loop-one-test.true c.one-item.is;
+          ∙ after-more c.args.program.now.text.items c.args.all.now c.loop-one.one-index c.one-item.result c.loop-one-test.true c.one-item.is;
       scopes = there ∙ ap (λ (s : Scopes). file_scopes s.inner) (sym there);
       globals = omega (arith, g, i, ap (λ (n : Counts). n.globals) c.after-tally.ensures.value);
       functions = omega (arith, h, j, ap (λ (n : Counts). n.functions) c.after-tally.ensures.value);
