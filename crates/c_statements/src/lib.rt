@@ -9,7 +9,8 @@
 //!
 //! Definitions: `specs/Statements.antt` and `specs/Uses.antt` have the faults of statements, expressions and names,
 //! `specs/Types.antt` the typing of statements and expressions by the typed trees of `c_typed`, `specs/Names.antt` the
-//! scopes, `specs/Faults.antt` which fault is the first. `specs/Shape.antt` says which scopes a Rust value stands for;
+//! scopes, `specs/Faults.antt` which fault is the first and what is told of a part (`Answers`), `specs/Contexts.antt` the
+//! same of a statement in its context (`Typing`). `specs/Shape.antt` says which scopes a Rust value stands for;
 //! `specs/Calls.antt` and `specs/Made.antt` are words of functions that only this layer calls.
 //!
 //! `statement` and `expression` call themselves on the parts of a tree, so the stack grows with its depth.
