@@ -5,6 +5,7 @@ use Rattle.std.specs.List.{slice_get}
 use Rattle.std.proofs.lemmas.Option.{same_Some, none-some}
 use Rattle.std.proofs.lemmas.List.Elements.{All-nil, All-cons, All-head, All-tail, All-push}
 use Rattle.words.specs.Words.{wrap}
+use Rattle.words.specs.Widths.{kept}
 use Rattle.runs.specs.Stores.{Places, Arrays, chain, unset_places, places_with, element_at, arrays_with, IsWord, PlacesHoldWords, ArraysHoldWords}
 use Rattle.runs.specs.Runs.{Running, Ended, Failed, with_value}
 use Rattle.runs.proofs.Words.{chain-some, at-index, element-at, unset-words, written-words, stored-words}
@@ -16,11 +17,11 @@ use Rattle.rtl.specs.declared.instruction.RExit.TheVariants.{Goto, Branch, Call,
 use Rattle.rtl.specs.declared.block.RBlock.{RBlock}
 use Rattle.rtl.specs.declared.block.RFunc.{RFunc}
 use Rattle.rtl.specs.declared.block.RGlobal.{RGlobal}
-use Rattle.rtl.specs.declared.block.Width.{Width}
-use Rattle.rtl.specs.declared.block.Width.TheVariants.{Word, Byte}
+use Rattle.words.specs.declared.width.Width.{Width}
+use Rattle.words.specs.declared.width.Width.TheVariants.{Word, Byte}
 use Rattle.rtl.specs.Operators.{op_result}
 use Rattle.rtl.specs.Programs.{Program}
-use Rattle.rtl.specs.Meaning.{Frame, Run, code_of, words_in, argument_registers, kept, kept_in, with_inst, state_at_block, state_after_return}
+use Rattle.rtl.specs.Meaning.{Frame, Run, code_of, words_in, argument_registers, kept_in, with_inst, state_at_block, state_after_return}
 use Rattle.rtl.specs.Meaning.{state_after_call, state_after_exit, step_at, rtl_step, rtl_steps, rtl_start, first_values}
 use Rattle.rtl.specs.Laws.{FrameHoldsWords, RunHoldsWords}
 use Rattle.rtl.proofs.Results.{result-word}

@@ -3,6 +3,7 @@
 -- wanted and not returned, a call beyond the depth, and what isn't there at all, which no program that is an `Rtl` names.
 use Rattle.std.specs.Prelude.{ℕ, ◌%◌, ◌^◌, ◌&&◌, ◌==◌, List, [], ◌∷◌, ◌++◌, Option, Some, None, length, nat_lt, if◌then◌else◌, slice_get, map}
 use Rattle.words.specs.Words.{wrap}
+use Rattle.words.specs.Widths.{kept}
 use Rattle.runs.specs.Stores.{Places, unset_places, places_with, Arrays, chain, element_at, arrays_with}
 use Rattle.runs.specs.Runs.{Outcome, Configuration, Running, Ended, Failed, with_value, steps, outcome}
 use Rattle.rtl.specs.declared.instruction.RInst.{RInst}
@@ -11,8 +12,6 @@ use Rattle.rtl.specs.declared.instruction.RExit.{RExit}
 use Rattle.rtl.specs.declared.instruction.RExit.TheVariants.{Goto, Branch, Call, Return, Out}
 use Rattle.rtl.specs.declared.block.RBlock.{RBlock}
 use Rattle.rtl.specs.declared.block.RGlobal.{RGlobal}
-use Rattle.rtl.specs.declared.block.Width.{Width}
-use Rattle.rtl.specs.declared.block.Width.TheVariants.{Word, Byte}
 use Rattle.rtl.specs.Operators.{op_result}
 use Rattle.rtl.specs.Programs.{Program}
 
@@ -43,11 +42,6 @@ words_in r (x ∷ xs) = chain (r x) (λ v. chain (words_in r xs) (λ vs. Some (v
 -- the arguments are the first registers
 abbrev pub argument_registers : List ℕ → Places
 argument_registers vs = λ x. slice_get vs x
-
--- what an element of this width keeps of a word
-abbrev pub kept : Width → ℕ → ℕ
-kept Word v = v
-kept Byte v = v % 2 ^ 8
 
 -- what an element of a global keeps of a word, or none where there is no such global
 abbrev pub kept_in : List RGlobal → ℕ → ℕ → Option ℕ

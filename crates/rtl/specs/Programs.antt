@@ -1,5 +1,6 @@
 -- Which functions and globals are a program: what is named is there, and the sizes are within the limits.
-use Rattle.std.specs.Prelude.{◌≡◌, ℕ, ◌+◌, ◌/◌, ◌<◌, ◌≤◌, List, Option, Some, None, All, length, slice_get, sum_by}
+use Rattle.std.specs.Prelude.{◌≡◌, ℕ, ◌<◌, ◌≤◌, List, Option, Some, None, All, length, slice_get, sum_by}
+use Rattle.words.specs.Widths.{words_of_elements}
 use Rattle.rtl.specs.declared.instruction.RInst.{RInst}
 use Rattle.rtl.specs.declared.instruction.RInst.TheVariants.{Const, Move, Bin, Load, Store}
 use Rattle.rtl.specs.declared.instruction.RExit.{RExit}
@@ -7,8 +8,6 @@ use Rattle.rtl.specs.declared.instruction.RExit.TheVariants.{Goto, Branch, Call,
 use Rattle.rtl.specs.declared.block.RBlock.{RBlock}
 use Rattle.rtl.specs.declared.block.RFunc.{RFunc}
 use Rattle.rtl.specs.declared.block.RGlobal.{RGlobal}
-use Rattle.rtl.specs.declared.block.Width.{Width}
-use Rattle.rtl.specs.declared.block.Width.TheVariants.{Word, Byte}
 use Rattle.rtl.specs.declared.limits.TheConstants.{MAX_PARAMETERS, MAX_REGISTERS, MAX_BLOCKS, MAX_GLOBAL_WORDS}
 
 -- the functions, the globals, and the number of the function that is run
@@ -69,11 +68,6 @@ pub record IsGlobal (g : RGlobal) : Type 0 where
 
 abbrev pub block_count : RFunc → ℕ
 block_count f = length f.blocks.items
-
--- four bytes are one word, and so are those that are left
-abbrev pub words_of_elements : Width → ℕ → ℕ
-words_of_elements Word n = n
-words_of_elements Byte n = (n + 3) / 4
 
 abbrev pub word_count : RGlobal → ℕ
 word_count g = words_of_elements g.width g.length

@@ -1,4 +1,5 @@
 use crate::instruction::{RExit, RInst};
+use words::Width;
 
 /// A block: what it does, and how it is left.
 #[derive(Drop)]
@@ -12,15 +13,6 @@ pub struct RBlock {
 pub struct RFunc {
     pub parameters: u32,
     pub blocks: Vec<RBlock>,
-}
-
-/// What the elements of a global are.
-#[derive(Clone, Copy, Debug, PartialEq, Eq)]
-pub enum Width {
-    /// A whole word.
-    Word,
-    /// Eight bits of a word.
-    Byte,
 }
 
 /// A global array, or a variable as an array of length 1: its length in elements and their first values, of which an

@@ -23,7 +23,7 @@ mod program;
 mod steps;
 mod stores;
 
-pub use block::{RBlock, RFunc, RGlobal, Width};
+pub use block::{RBlock, RFunc, RGlobal};
 pub use instruction::{BlockNumber, FunctionNumber, GlobalNumber, RExit, RInst, Register};
 pub use laws::{operators_compute_as_c, runs_go_on_from_where_they_are, values_are_words};
 pub use limits::{MAX_BLOCKS, MAX_GLOBAL_WORDS, MAX_PARAMETERS, MAX_REGISTERS};

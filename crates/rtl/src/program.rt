@@ -1,9 +1,9 @@
 ghost use Rattle.std.specs.Prelude.{◌≡◌, ℕ, ◌<◌, ◌≤◌, ◌↔◌, IsTrue, All, length, sum_by};
 ghost use Rattle.std.specs.Option.{SomeIff};
 ghost use Rattle.rtl.specs.Programs.{IsRegister, IsMaybeRegister, IsInst, IsCallee, IsExit, IsBlock, IsFunction, IsGlobal, IsProgram, program_of};
-ghost use Rattle.rtl.specs.Programs.{block_count, word_count, words_of_elements};
+ghost use Rattle.rtl.specs.Programs.{block_count, word_count};
 
-use crate::block::{RBlock, RFunc, RGlobal, Width};
+use crate::block::{RBlock, RFunc, RGlobal};
 use crate::instruction::{FunctionNumber, RExit, RInst, Register};
 use crate::limits::{MAX_BLOCKS, MAX_GLOBAL_WORDS, MAX_PARAMETERS, MAX_REGISTERS};
 use std::marker::Model;
@@ -177,24 +177,13 @@ fn blocks_fit(functions: &[RFunc]) -> bool
     true
 }
 
-// The words that the elements of a global take.
-fn words_of(global: &RGlobal) -> usize
-    ensures { result ≡ word_count global.now }
-{
-    let length = global.length as usize;
-    match global.width {
-        Width::Word => length,
-        Width::Byte => (length + 3) / 4,
-    }
-}
-
 // Whether the globals have no more words together than a program may have.
 fn words_fit(globals: &[RGlobal]) -> bool
     ensures { IsTrue result ↔ (sum_by word_count globals.now ≤ MAX_GLOBAL_WORDS) }
 {
     let mut total = 0;
     for global in globals {
-        let count = words_of(global);
+        let count = global.width.words_of(global.length) as usize;
         if count > MAX_GLOBAL_WORDS - total {
             return false;
         }

@@ -3,10 +3,10 @@
 ghost use Rattle.std.specs.Prelude.{◌≡◌, ◌<◌, length, Option, OnOk, None, Some, if◌then◌else◌};
 ghost use Rattle.words.specs.Words.{wrap};
 ghost use Rattle.runs.specs.Stores.{Places, Arrays, chain, places_with, element_at, arrays_with};
-ghost use Rattle.rtl.specs.Meaning.{kept, kept_in};
+ghost use Rattle.rtl.specs.Meaning.{kept_in};
 ghost use Rattle.rtl.specs.Interpreter.{places, arrays};
 
-use crate::block::{RGlobal, Width};
+use crate::block::RGlobal;
 use crate::instruction::{GlobalNumber, Register};
 use std::alloc::AllocError;
 
@@ -80,19 +80,6 @@ pub(crate) fn store(globals: &mut [Vec<u32>], global: usize, index: usize, v: u3
         }
     }
     false
-}
-
-impl Width {
-    /// What an element of this width keeps of a word.
-    #[inline]
-    pub(crate) fn kept(self, v: u32) -> u32
-        ensures { result ≡ kept self v }
-    {
-        match self {
-            Width::Word => v,
-            Width::Byte => v % 256,
-        }
-    }
 }
 
 /// What an element of a global keeps of a word; None where there is no such global.

@@ -1,11 +1,12 @@
 // Globals of words and of bytes.
 
 use crate::programs::{block, comes_to, program};
-use rtl::{RExit, RFunc, RGlobal, RInst, Rtl, Width};
+use rtl::{RExit, RFunc, RGlobal, RInst, Rtl};
 use runs::End;
 use std::alloc::{AllocError, Global};
 use std::process::Abort;
 use std::test::Fail;
+use words::Width;
 
 // A global of these first values.
 fn global(alloc: Global, width: Width, first: &[u32]) -> Result<RGlobal, AllocError> {

@@ -1,9 +1,10 @@
 // What is no program.
 
 use crate::programs::{block, one_block};
-use rtl::{Op, RExit, RFunc, RGlobal, RInst, Rtl, Width};
+use rtl::{Op, RExit, RFunc, RGlobal, RInst, Rtl};
 use std::alloc::{AllocError, Global};
 use std::test::Fail;
+use words::Width;
 
 // A global of so many words whose first values are these.
 fn words(alloc: Global, length: u32, first: &[u32]) -> Result<RGlobal, AllocError> {

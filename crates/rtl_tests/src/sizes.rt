@@ -1,9 +1,10 @@
 // The limits of a program's blocks and of the words of its globals.
 
 use crate::programs::{block, one_block};
-use rtl::{RExit, RFunc, RGlobal, Rtl, Width};
+use rtl::{RExit, RFunc, RGlobal, Rtl};
 use std::alloc::{AllocError, Global};
 use std::test::Fail;
+use words::Width;
 
 // A function of so many blocks.
 fn long(alloc: Global, count: usize) -> Result<RFunc, AllocError> {

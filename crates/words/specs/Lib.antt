@@ -1,4 +1,5 @@
 pub mod Words
+pub mod Widths
 pub mod Operators
 pub mod C
 pub mod Laws

@@ -1,6 +1,6 @@
 use Rattle.std.proofs.Common.{◌≡◌, map, take}
 use Rattle.words.specs.Words.{wrap}
-use Rattle.rtl.specs.Meaning.{kept}
+use Rattle.words.specs.Widths.{kept}
 use Rattle.rtl.proofs.steps.first_elements.Given as goal
 
 abbrev pub invariant-loop-v : goal.invariant-loop-v
