@@ -3,7 +3,7 @@ use Rattle.std.proofs.Common.{◌≡◌, ℕ, Bool, true, false, cond, ◌&&◌,
 use Rattle.words.specs.declared.operator.Operator.TheVariants as operators
 use Rattle.words.specs.Words.{wrap}
 use Rattle.words.specs.Operators.{op_value, has_quotient}
-use Rattle.mips_isa.specs.States.{State, is_register, read, put, is_open, load_word, store_word}
+use Rattle.mips_isa.specs.States.{State, is_register, read, put, is_open, load_at, store_at}
 use Rattle.mips_isa.specs.declared.action.Operand.{Operand}
 use Rattle.mips_isa.specs.declared.action.Operand.TheVariants.{Held, Fixed}
 use Rattle.mips_isa.specs.declared.action.Action.{Action}
@@ -42,8 +42,8 @@ module _ (s : State) (q w : ℕ) where
   safe_late : (a : Action) → touches a q ≡ false → is_safe a late ≡ is_safe a s
   safe_late (Computes d op x y) e = refl
   safe_late (Sets d v) e = refl
-  safe_late (Loads d base offset) e = ap (is_open s.mapped) (address_late base offset (or_right _ _ e))
-  safe_late (Stores r base offset) e = ap (is_open s.mapped) (address_late base offset (or_right _ _ e))
+  safe_late (Loads v d base offset) e = ap (is_open v s.mapped) (address_late base offset (or_right _ _ e))
+  safe_late (Stores v r base offset) e = ap (is_open v s.mapped) (address_late base offset (or_right _ _ e))
   safe_late (Multiplies sign x y) e = refl
   safe_late (Divides sign x y) e = two_late (has_quotient sign) x y e
   safe_late (MovesHigh d) e = refl
@@ -58,10 +58,10 @@ module _ (s : State) (q w : ℕ) where
       ap₂ (op_value op) (read-put 0 s.regs q w x (or_left _ _ (or_right _ _ e))) (operand_late y (or_right _ _ (or_right _ _ e))) in
       ap (λ f. record s { regs = f }) (sym (put-put s.regs q w d v (or_left _ _ e)) ∙ ap (put (put s.regs q w) d) (sym same))
   after_late (Sets d v) e = ap (λ f. record s { regs = f }) (sym (put-put s.regs q w d (wrap v) e))
-  after_late (Loads d base offset) e =
-      ap (λ x. record s { regs = put (put s.regs q w) d (load_word s.mapped s.memory x) }) (sym (address_late base offset (or_right _ _ e)))
-  after_late (Stores r base offset) e =
-      ap₂ (λ x v. record late { memory = store_word s.mapped s.memory x v }) (sym (address_late base offset (or_right _ _ e)))
+  after_late (Loads v d base offset) e =
+      ap (λ x. record s { regs = put (put s.regs q w) d (load_at v s.mapped s.memory x) }) (sym (address_late base offset (or_right _ _ e)))
+  after_late (Stores v r base offset) e =
+      ap₂ (λ x y. record late { memory = store_at v s.mapped s.memory x y }) (sym (address_late base offset (or_right _ _ e)))
       (sym (read-put 0 s.regs q w r (or_left _ _ e)))
   after_late (Multiplies sign x y) e = sym (two_late (λ m n. record late { hi = op_value (product_high sign) m n; lo = op_value (product_low sign) m n }) x y e)
   after_late (Divides sign x y) e =
@@ -72,8 +72,8 @@ module _ (s : State) (q w : ℕ) where
 -- with nothing pending
 after_now : (a : Action) (s : State) → state_with_pending (pending_of a s) (shown_state a s) ≡ state_after a s
 after_now (Computes d op x y) s = refl
-after_now (Loads d base offset) s = refl
-after_now (Stores r base offset) s = refl
+after_now (Loads v d base offset) s = refl
+after_now (Stores v r base offset) s = refl
 after_now (Sets d v) s = refl
 after_now (Multiplies sign x y) s = refl
 after_now (Divides sign x y) s = refl

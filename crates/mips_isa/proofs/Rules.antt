@@ -126,8 +126,8 @@ divides false = refl
 pub safe_is : SafeActionsKeepTheirRules
 safe_is (Computes d op x y) f = refl
 safe_is (Sets d w) f = refl
-safe_is (Loads d base offset) f = let x = address f.state base offset in opens (is_aligned x) (f.state.mapped x)
-safe_is (Stores r base offset) f = let x = address f.state base offset in opens (is_aligned x) (f.state.mapped x)
+safe_is (Loads w d base offset) f = let x = address f.state base offset in opens (is_aligned w x) (f.state.mapped x)
+safe_is (Stores w r base offset) f = let x = address f.state base offset in opens (is_aligned w x) (f.state.mapped x)
 safe_is (Multiplies sign x y) f = refl
 safe_is (Divides sign x y) f = divides (has_quotient sign (read 0 f.state.regs x) (read 0 f.state.regs y))
 safe_is (MovesHigh d) f = refl
@@ -181,8 +181,8 @@ or-false false = refl
 pub touches_is : ReadsAndWritesAreTouched
 touches_is (Computes d op x y) r = refl
 touches_is (Sets d w) r = or-false (d == r)
-touches_is (Loads d base offset) r = refl
-touches_is (Stores q base offset) r = refl
+touches_is (Loads w d base offset) r = refl
+touches_is (Stores w q base offset) r = refl
 touches_is (Multiplies sign x y) r = refl
 touches_is (Divides sign x y) r = refl
 touches_is (MovesHigh d) r = or-false (d == r)

@@ -1,8 +1,10 @@
 -- Laws of the definitions.
-use Rattle.std.specs.Prelude.{◌≡◌, ℕ, true, false, not, ◌||◌, Some}
+use Rattle.std.specs.Prelude.{◌≡◌, ℕ, Bool, true, false, not, ◌||◌, Some}
+use Rattle.words.specs.declared.width.Width.{Width}
 use Rattle.mips_isa.specs.declared.action.Action.{Action}
 use Rattle.mips_isa.specs.declared.rule.Rule.{Rule}
 use Rattle.mips_isa.specs.declared.rule.Rule.TheVariants.{M4, M5, M6}
+use Rattle.mips_isa.specs.States.{AreApart, load_at, store_at}
 use Rattle.mips_isa.specs.Actions.{is_safe, touches, reads, writes}
 use Rattle.mips_isa.specs.Flows.{Flow}
 use Rattle.mips_isa.specs.Rules.{action_breaks, action_rule_of, is_stuck, IsLeastRule}
@@ -22,3 +24,13 @@ EachBrokenRuleIsLeast = (a : Action) (f : Flow) (r : Rule) → action_rule_of a 
 
 abbrev pub ReadsAndWritesAreTouched : Type 0
 ReadsAndWritesAreTouched = (a : Action) (r : ℕ) → touches a r ≡ (writes a r || reads a r)
+
+-- a load passes a store of either width that shares no byte with it
+abbrev pub LoadsPassStores : Type 0
+LoadsPassStores = (w v : Width) (mapped : ℕ → Bool) (memory : ℕ → ℕ) (a word b : ℕ) → AreApart w a v b
+    → load_at v mapped (store_at w mapped memory a word) b ≡ load_at v mapped memory b
+
+-- two stores of either width that share no byte may be exchanged
+abbrev pub StoresCommute : Type 0
+StoresCommute = (w v : Width) (mapped : ℕ → Bool) (memory : ℕ → ℕ) (a first b second : ℕ) → AreApart w a v b
+    → store_at v mapped (store_at w mapped memory a first) b second ≡ store_at w mapped (store_at v mapped memory b second) a first

@@ -3,6 +3,7 @@ use Rattle.std.specs.Prelude.{ℕ, ◌+◌, ◌/◌, ◌%◌, ◌^◌, ℤ, List
 use Rattle.std.specs.Fmt.{signed_decimal, digits}
 use Rattle.words.specs.Words.{wrap}
 use Rattle.words.specs.declared.sign.Sign.TheVariants.{Signed, Unsigned}
+use Rattle.words.specs.declared.width.Width.TheVariants.{Word, Byte}
 use Rattle.mips_isa.specs.declared.inst.ShiftOp.TheVariants.{Sll, Srl, Sra}
 use Rattle.mips_isa.specs.declared.inst.AluOp.TheVariants.{Addu, Subu, And, Or, Xor, Nor, Slt, Sltu}
 use Rattle.mips_isa.specs.declared.inst.ImmOp.TheVariants.{Addiu, Slti, Sltiu}
@@ -52,8 +53,10 @@ mnemonic_text (mnemonics.Multiply Signed) = codes "mult"
 mnemonic_text (mnemonics.Multiply Unsigned) = codes "multu"
 mnemonic_text (mnemonics.Divide Signed) = codes "div"
 mnemonic_text (mnemonics.Divide Unsigned) = codes "divu"
-mnemonic_text mnemonics.Load = codes "lw"
-mnemonic_text mnemonics.Store = codes "sw"
+mnemonic_text (mnemonics.Load Word) = codes "lw"
+mnemonic_text (mnemonics.Load Byte) = codes "lbu"
+mnemonic_text (mnemonics.Store Word) = codes "sw"
+mnemonic_text (mnemonics.Store Byte) = codes "sb"
 
 abbrev pub mnemonic_of : Plain → Mnemonic
 mnemonic_of (Shift op rd rt amount) = mnemonics.Shift op
@@ -65,8 +68,8 @@ mnemonic_of (LoadUpper rt imm) = mnemonics.LoadUpper
 mnemonic_of (MoveFrom place rd) = mnemonics.MoveFrom place
 mnemonic_of (Multiply sign rs rt) = mnemonics.Multiply sign
 mnemonic_of (Divide sign rs rt) = mnemonics.Divide sign
-mnemonic_of (Load rt base offset) = mnemonics.Load
-mnemonic_of (Store rt base offset) = mnemonics.Store
+mnemonic_of (Load w rt base offset) = mnemonics.Load w
+mnemonic_of (Store w rt base offset) = mnemonics.Store w
 
 -- `offset($base)`
 abbrev pub address_text : ℕ → ℤ → List ℕ
@@ -82,8 +85,8 @@ operands_text (LoadUpper rt imm) = register_text rt ++ (codes "," ++ decimal imm
 operands_text (MoveFrom place rd) = register_text rd
 operands_text (Multiply sign rs rt) = register_text rs ++ (codes "," ++ register_text rt)
 operands_text (Divide sign rs rt) = register_text rs ++ (codes "," ++ register_text rt)
-operands_text (Load rt base offset) = register_text rt ++ (codes "," ++ address_text base offset)
-operands_text (Store rt base offset) = register_text rt ++ (codes "," ++ address_text base offset)
+operands_text (Load w rt base offset) = register_text rt ++ (codes "," ++ address_text base offset)
+operands_text (Store w rt base offset) = register_text rt ++ (codes "," ++ address_text base offset)
 
 -- the mnemonic, one space, and the operands
 abbrev pub plain_text : Plain → List ℕ
@@ -102,8 +105,8 @@ is_nop (LoadUpper rt imm) = false
 is_nop (MoveFrom place rd) = false
 is_nop (Multiply sign rs rt) = false
 is_nop (Divide sign rs rt) = false
-is_nop (Load rt base offset) = false
-is_nop (Store rt base offset) = false
+is_nop (Load w rt base offset) = false
+is_nop (Store w rt base offset) = false
 
 -- as an instruction is printed
 abbrev pub instruction_text : Plain → List ℕ

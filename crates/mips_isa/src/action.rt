@@ -7,7 +7,7 @@ ghost use Rattle.mips_isa.specs.Actions.{writes, loads, is_load, is_move, is_pro
 
 use crate::inst::{AluOp, HiLo, ImmOp, LogicOp, Plain, ShiftOp};
 use crate::reg::{NonzeroReg, Reg};
-use words::{Operator, Sign};
+use words::{Operator, Sign, Width};
 
 /// A register, or a word of the instruction itself.
 #[derive(Clone, Copy, Debug)]
@@ -32,14 +32,16 @@ pub enum Action {
         d: Reg,
         word: u32,
     },
-    /// `d` becomes the word in memory.
+    /// `d` becomes the word in memory, or the byte, extended with zeros.
     Loads {
+        width: Width,
         d: NonzeroReg,
         base: Reg,
         offset: u32,
     },
-    /// The word in memory becomes `r`.
+    /// The word in memory becomes `r`, or the byte its low eight bits.
     Stores {
+        width: Width,
         r: Reg,
         base: Reg,
         offset: u32,
@@ -170,12 +172,24 @@ impl Plain {
             },
             Plain::Multiply { sign, rs, rt } => Action::Multiplies { sign, a: rs, b: rt },
             Plain::Divide { sign, rs, rt } => Action::Divides { sign, a: rs, b: rt },
-            Plain::Load { rt, base, offset } => Action::Loads {
+            Plain::Load {
+                width,
+                rt,
+                base,
+                offset,
+            } => Action::Loads {
+                width,
                 d: rt,
                 base,
                 offset: extend(offset),
             },
-            Plain::Store { rt, base, offset } => Action::Stores {
+            Plain::Store {
+                width,
+                rt,
+                base,
+                offset,
+            } => Action::Stores {
+                width,
                 r: rt,
                 base,
                 offset: extend(offset),
@@ -258,8 +272,14 @@ impl Action {
         match *self {
             Action::Computes { d, op: _, a, b } => d == r || (a == r || b.touches(r)),
             Action::Sets { d, word: _ } => d == r,
-            Action::Loads { d, base, offset: _ } => d.reg() == r || base == r,
+            Action::Loads {
+                width: _,
+                d,
+                base,
+                offset: _,
+            } => d.reg() == r || base == r,
             Action::Stores {
+                width: _,
                 r: q,
                 base,
                 offset: _,

@@ -1,5 +1,5 @@
 use crate::reg::{Amount, JumpTarget, NonzeroReg, Reg};
-use words::Sign;
+use words::{Sign, Width};
 
 /// The shifts, by a constant (`sll`) or by a register (`sllv`).
 #[derive(Clone, Copy, Debug, PartialEq, Eq)]
@@ -106,14 +106,16 @@ pub enum Plain {
         rs: Reg,
         rt: Reg,
     },
-    /// `lw $rt,offset($base)`
+    /// `lw $rt,offset($base)`, `lbu $rt,offset($base)`
     Load {
+        width: Width,
         rt: NonzeroReg,
         base: Reg,
         offset: i16,
     },
-    /// `sw $rt,offset($base)`
+    /// `sw $rt,offset($base)`, `sb $rt,offset($base)`
     Store {
+        width: Width,
         rt: Reg,
         base: Reg,
         offset: i16,

@@ -1,6 +1,7 @@
 // Laws of the definitions.
 
-ghost use Rattle.mips_isa.specs.Laws.{EachBrokenRuleIsLeast, ReadsAndWritesAreTouched, SafeActionsKeepTheirRules, StuckActionsBreakARule};
+ghost use Rattle.mips_isa.specs.Laws.{EachBrokenRuleIsLeast, LoadsPassStores, ReadsAndWritesAreTouched, SafeActionsKeepTheirRules};
+ghost use Rattle.mips_isa.specs.Laws.{StoresCommute, StuckActionsBreakARule};
 
 /// An action is safe exactly where it breaks no rule on divisions (M4) or addresses (M5, M6).
 pub fn safe_actions_keep_their_rules()
@@ -20,4 +21,14 @@ pub fn each_broken_rule_is_least()
 /// An action touches what it writes and what it reads.
 pub fn reads_and_writes_are_touched()
     ensures { ReadsAndWritesAreTouched }
+{}
+
+/// A load passes a store that shares no byte with it.
+pub fn loads_pass_stores()
+    ensures { LoadsPassStores }
+{}
+
+/// Two stores that share no byte may be exchanged.
+pub fn stores_commute()
+    ensures { StoresCommute }
 {}

@@ -1,6 +1,6 @@
 //! The instructions of MIPS I in use, their text, and what they do (Kane, MIPS RISC Architecture).
 //!
-//! `Plain::action` turns each of the 29 instructions that compute, load or store into one of eight
+//! `Plain::action` turns each of the 31 instructions that compute, load or store into one of eight
 //! actions, exactly `action_of`; blocks, orders, cleanliness, terms and the machine are defined over
 //! actions alone.
 //! The definitions: `specs/Ranges.antt` (each field's range), `specs/Texts.antt` (the text),
@@ -26,8 +26,8 @@ pub use inst::{
     AluOp, Control, HiLo, ImmOp, Inst, JumpOp, LogicOp, PairTest, Plain, ShiftOp, ZeroTest,
 };
 pub use laws::{
-    each_broken_rule_is_least, reads_and_writes_are_touched, safe_actions_keep_their_rules,
-    stuck_actions_break_a_rule,
+    each_broken_rule_is_least, loads_pass_stores, reads_and_writes_are_touched,
+    safe_actions_keep_their_rules, stores_commute, stuck_actions_break_a_rule,
 };
 pub use reg::{Amount, JumpTarget, NonzeroReg, Reg};
 pub use rule::Rule;

@@ -16,7 +16,7 @@ pub enum Rule {
     M3,
     /// A division without a value.
     M4,
-    /// An address that is no multiple of 4.
+    /// A word's address that is no multiple of 4.
     M5,
     /// An address that isn't mapped.
     M6,

@@ -12,7 +12,7 @@ use crate::inst::{
 use crate::reg::{Amount, NonzeroReg, Reg};
 use crate::targets::{branch_target, jump_target};
 use std::fmt;
-use words::Sign;
+use words::{Sign, Width};
 
 /// The name of an instruction that computes, loads or stores, without its operands.
 #[derive(Clone, Copy, Debug)]
@@ -26,8 +26,8 @@ pub enum Mnemonic {
     MoveFrom(HiLo),
     Multiply(Sign),
     Divide(Sign),
-    Load,
-    Store,
+    Load(Width),
+    Store(Width),
 }
 
 impl Mnemonic {
@@ -63,8 +63,10 @@ impl Mnemonic {
             Mnemonic::Multiply(Sign::Unsigned) => "multu",
             Mnemonic::Divide(Sign::Signed) => "div",
             Mnemonic::Divide(Sign::Unsigned) => "divu",
-            Mnemonic::Load => "lw",
-            Mnemonic::Store => "sw",
+            Mnemonic::Load(Width::Word) => "lw",
+            Mnemonic::Load(Width::Byte) => "lbu",
+            Mnemonic::Store(Width::Word) => "sw",
+            Mnemonic::Store(Width::Byte) => "sb",
         }
     }
 }
@@ -84,8 +86,8 @@ impl Plain {
             Plain::MoveFrom { place, .. } => Mnemonic::MoveFrom(*place),
             Plain::Multiply { sign, .. } => Mnemonic::Multiply(*sign),
             Plain::Divide { sign, .. } => Mnemonic::Divide(*sign),
-            Plain::Load { .. } => Mnemonic::Load,
-            Plain::Store { .. } => Mnemonic::Store,
+            Plain::Load { width, .. } => Mnemonic::Load(*width),
+            Plain::Store { width, .. } => Mnemonic::Store(*width),
         }
     }
 
@@ -197,8 +199,18 @@ fn write_operands<W: fmt::Write>(inst: &Plain, f: &mut fmt::Formatter<W>) -> fmt
         Plain::MoveFrom { rd, .. } => write!(f, "{rd}"),
         Plain::Multiply { rs, rt, .. } => write_pair(rs, rt, f),
         Plain::Divide { rs, rt, .. } => write_pair(rs, rt, f),
-        Plain::Load { rt, base, offset } => write_moved(rt.reg(), base, offset, f),
-        Plain::Store { rt, base, offset } => write_moved(rt, base, offset, f),
+        Plain::Load {
+            rt,
+            base,
+            offset,
+            ..
+        } => write_moved(rt.reg(), base, offset, f),
+        Plain::Store {
+            rt,
+            base,
+            offset,
+            ..
+        } => write_moved(rt, base, offset, f),
     }
 }
 
