@@ -3,9 +3,10 @@ use Rattle.std.proofs.Common.{◌≡◌, ℕ, ◌+◌, ◌*◌, ◌/◌, ◌%◌
 use Rattle.sym_terms.specs.declared.label.Origin.TheVariants.{Register, Hi, Lo, Link}
 use Rattle.words.specs.declared.operator.Operator.TheVariants.{Addu, Subu, And, Or, Xor, Nor, Slt, Sltu, Sll, Srl, Sra, MultHigh, MultLow}
 use Rattle.words.specs.declared.operator.Operator.TheVariants.{MultuHigh, MultuLow, DivQuotient, DivRemainder, DivuQuotient, DivuRemainder}
+use Rattle.words.specs.declared.width.Width.TheVariants.{Word, Byte}
 use Rattle.sym_terms.specs.declared.label.Label.{Label}
 use Rattle.sym_terms.specs.declared.label.Label.TheVariants.{Init, Mem0, Const, Op, Load, Store}
-use Rattle.sym_terms.specs.Labels.{label_word, is_label, label_with, label_in, origin_at, init_if}
+use Rattle.sym_terms.specs.Labels.{label_word, is_label, label_with, label_in, label_if, origin_at}
 
 register_back : (r : ℕ) → nat_lt 0 r && nat_lt r 32 ≡ true → origin_at r ≡ Some (Register r)
 register_back r e = grind arith
@@ -23,7 +24,7 @@ read_at : (k c : ℕ) → c < 2 ^ 32 → label_with (k * 2 ^ 32 + c) ≡ label_i
 read_at k c lt = λ i. label_in (kind_is k c lt i) (content_is k c lt i)
 
 pub label_with-back : (l : Label) → is_label l ≡ true → label_with (label_word l) ≡ Some l
-label_with-back (Init (Register r)) e = read_at 1 r (register_low r e) ∙ ap init_if (register_back r e)
+label_with-back (Init (Register r)) e = read_at 1 r (register_low r e) ∙ ap (label_if Init) (register_back r e)
 label_with-back (Init Hi) e = refl
 label_with-back (Init Lo) e = refl
 label_with-back (Init Link) e = refl
@@ -48,8 +49,10 @@ label_with-back (Op DivQuotient) e = refl
 label_with-back (Op DivRemainder) e = refl
 label_with-back (Op DivuQuotient) e = refl
 label_with-back (Op DivuRemainder) e = refl
-label_with-back Load e = refl
-label_with-back Store e = refl
+label_with-back (Load Word) e = refl
+label_with-back (Load Byte) e = refl
+label_with-back (Store Word) e = refl
+label_with-back (Store Byte) e = refl
 
 -- labels with one word are one
 pub one_label : (l m : Label) → is_label l ≡ true → is_label m ≡ true → label_word l ≡ label_word m → l ≡ m

@@ -3,6 +3,8 @@ use Rattle.std.specs.Prelude.{ℕ, ◌+◌, ◌*◌, ◌/◌, ◌%◌, ◌^◌, 
 use Rattle.words.specs.declared.operator.Operator.{Operator}
 use Rattle.words.specs.declared.operator.Operator.TheVariants.{Addu, Subu, And, Or, Xor, Nor, Slt, Sltu, Sll, Srl, Sra, MultHigh, MultLow}
 use Rattle.words.specs.declared.operator.Operator.TheVariants.{MultuHigh, MultuLow, DivQuotient, DivRemainder, DivuQuotient, DivuRemainder}
+use Rattle.words.specs.declared.width.Width.{Width}
+use Rattle.words.specs.declared.width.Width.TheVariants.{Word, Byte}
 use Rattle.sym_terms.specs.declared.label.Origin.{Origin}
 use Rattle.sym_terms.specs.declared.label.Origin.TheVariants.{Register, Hi, Lo, Link}
 use Rattle.sym_terms.specs.declared.label.Label.{Label}
@@ -69,13 +71,21 @@ is_origin Hi = true
 is_origin Lo = true
 is_origin Link = true
 
+abbrev pub width_code : Width → ℕ
+width_code Word = 0
+width_code Byte = 1
+
+-- the width that has this code
+abbrev pub width_at : ℕ → Option Width
+width_at n = if n == 0 then Some Word else (if n == 1 then Some Byte else None)
+
 abbrev pub label_word : Label → ℕ
 label_word (Init origin) = 1 * 2 ^ 32 + origin_code origin
 label_word Mem0 = 2 * 2 ^ 32
 label_word (Const n) = 3 * 2 ^ 32 + n
 label_word (Op operator) = 4 * 2 ^ 32 + operator_code operator
-label_word Load = 5 * 2 ^ 32
-label_word Store = 6 * 2 ^ 32
+label_word (Load w) = 5 * 2 ^ 32 + width_code w
+label_word (Store w) = 6 * 2 ^ 32 + width_code w
 
 -- the numbers in the label are within their ranges, as those of each running label are
 abbrev pub is_label : Label → Bool
@@ -83,23 +93,19 @@ is_label (Init origin) = is_origin origin
 is_label Mem0 = true
 is_label (Const n) = nat_lt n (2 ^ 32)
 is_label (Op operator) = true
-is_label Load = true
-is_label Store = true
+is_label (Load w) = true
+is_label (Store w) = true
 
-abbrev pub init_if : Option Origin → Option Label
-init_if (Some x) = Some (Init x)
-init_if None = None
-
-abbrev pub op_if : Option Operator → Option Label
-op_if (Some x) = Some (Op x)
-op_if None = None
+abbrev pub label_if : {A : Type 0} → (A → Label) → Option A → Option Label
+label_if label None = None
+label_if label (Some x) = Some (label x)
 
 -- the label of this kind with this content
 abbrev pub label_in : ℕ → ℕ → Option Label
 label_in kind content =
-    if kind == 1 then init_if (origin_at content) else (if kind == 2 then (if content == 0 then Some Mem0 else None) else (
-    if kind == 3 then Some (Const content) else (if kind == 4 then op_if (operator_at content) else (
-    if kind == 5 then (if content == 0 then Some Load else None) else (if kind == 6 then (if content == 0 then Some Store else None) else None)))))
+    if kind == 1 then label_if Init (origin_at content) else (if kind == 2 then (if content == 0 then Some Mem0 else None) else (
+    if kind == 3 then Some (Const content) else (if kind == 4 then label_if Op (operator_at content) else (
+    if kind == 5 then label_if Load (width_at content) else (if kind == 6 then label_if Store (width_at content) else None)))))
 
 -- the label that has this word
 abbrev pub label_with : ℕ → Option Label

@@ -1,14 +1,13 @@
--- The value of a term in a start state, and the only ways to build the terms of instructions.
+-- The value of a term in a start state.
 use Rattle.std.specs.Prelude.{ℕ, Bool}
-use Rattle.words.specs.declared.operator.Operator.{Operator}
 use Rattle.words.specs.Words.{wrap}
 use Rattle.words.specs.Operators.{op_value}
-use Rattle.mips_isa.specs.States.{State, load_word, store_word}
+use Rattle.mips_isa.specs.States.{State, load_at, store_at}
 use Rattle.sym_terms.specs.declared.label.Origin.{Origin}
 use Rattle.sym_terms.specs.declared.label.Origin.TheVariants.{Register, Hi, Lo, Link}
 use Rattle.sym_terms.specs.declared.label.Label.{Label}
 use Rattle.sym_terms.specs.declared.label.Label.TheVariants.{Init, Const, Op, Load, Store}
-use Rattle.sym_terms.specs.Trees.{Tree, node, none, more, leaf, binary, ternary}
+use Rattle.sym_terms.specs.Trees.{Tree, node, none, more}
 
 abbrev pub origin_value : Origin → State → ℕ → ℕ
 origin_value (Register r) s link = s.regs r
@@ -23,11 +22,11 @@ leaf_value _ s link = 0
 
 abbrev pub binary_value : Label → (ℕ → Bool) → (ℕ → ℕ) → ℕ → ℕ → ℕ
 binary_value (Op op) mapped memory a b = op_value op a b
-binary_value Load mapped memory a b = load_word mapped memory b
+binary_value (Load w) mapped memory a b = load_at w mapped memory b
 binary_value _ mapped memory a b = 0
 
 abbrev pub ternary_memory : Label → (ℕ → Bool) → (ℕ → ℕ) → ℕ → ℕ → ℕ → ℕ
-ternary_memory Store mapped memory a v = store_word mapped memory a v
+ternary_memory (Store w) mapped memory a v = store_at w mapped memory a v
 ternary_memory _ mapped memory a v = memory
 
 abbrev mutual
@@ -46,16 +45,3 @@ abbrev mutual
   tree_memory (node l (more a (more b none))) s link = s.memory
   tree_memory (node l (more a (more b (more c none)))) s link = ternary_memory l s.mapped (tree_memory a s link) (tree_word b s link) (tree_word c s link)
   tree_memory (node l (more a (more b (more c (more d rest))))) s link = s.memory
-
--- trees in normal form, made from trees in normal form: today the plain nodes
-abbrev pub const_tree : ℕ → Tree
-const_tree w = leaf (Const w)
-
-unfoldable pub op_tree : Operator → Tree → Tree → Tree
-op_tree op a b = binary (Op op) a b
-
-unfoldable pub load_tree : Tree → Tree → Tree
-load_tree m a = binary Load m a
-
-unfoldable pub store_tree : Tree → Tree → Tree → Tree
-store_tree m a v = ternary Store m a v

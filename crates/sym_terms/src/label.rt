@@ -1,10 +1,10 @@
 //! Labels, and the 64-bit word of each.
 ghost use Rattle.std.specs.Prelude.{◌≡◌, ◌⊎◌, ℕ, ◌<◌, IfSome, Some, true};
 ghost use Rattle.sym_terms.specs.declared.label.Label.{Label};
-ghost use Rattle.sym_terms.specs.Labels.{operator_code, operator_at, origin_code, origin_at, label_word, label_with, is_label, is_origin};
+ghost use Rattle.sym_terms.specs.Labels.{operator_code, operator_at, origin_code, origin_at, width_code, width_at, label_word, label_with, is_label, is_origin};
 
 use mips_isa::NonzeroReg;
-use words::Operator;
+use words::{Operator, Width};
 
 /// Where a value that is there at the start of a block comes from: a register 1 to 31, HI, LO, or the link that a call leaves in register 31.
 #[derive(Clone, Copy, Debug, PartialEq, Eq)]
@@ -26,10 +26,10 @@ pub enum Label {
     Const(u32),
     /// The operator, applied to two children.
     Op(Operator),
-    /// The word that a memory holds at an address: two children, memory and address.
-    Load,
-    /// A memory with one word replaced: three children, memory, address and word.
-    Store,
+    /// The word or the byte that a memory holds at an address: two children, memory and address.
+    Load(Width),
+    /// A memory with one word or byte replaced: three children, memory, address and what is stored.
+    Store(Width),
 }
 
 fn operator_number(operator: Operator) -> u32
@@ -85,6 +85,25 @@ fn operator_of(number: u32) -> Option<Operator>
     }
 }
 
+fn width_number(width: Width) -> u32
+    ensures { result ≡ width_code width }
+{
+    match width {
+        Width::Word => 0,
+        Width::Byte => 1,
+    }
+}
+
+fn width_of(number: u32) -> Option<Width>
+    ensures { result ≡ width_at number }
+{
+    match number {
+        0 => Some(Width::Word),
+        1 => Some(Width::Byte),
+        _ => None,
+    }
+}
+
 impl Origin {
     fn number(self) -> u32
         ensures value { result ≡ origin_code self }
@@ -131,8 +150,8 @@ pub fn word_of(label: Label) -> u64
         Label::Mem0 => 2 * 4294967296,
         Label::Const(n) => 3 * 4294967296 + u64::from(n),
         Label::Op(operator) => 4 * 4294967296 + u64::from(operator_number(operator)),
-        Label::Load => 5 * 4294967296,
-        Label::Store => 6 * 4294967296,
+        Label::Load(width) => 5 * 4294967296 + u64::from(width_number(width)),
+        Label::Store(width) => 6 * 4294967296 + u64::from(width_number(width)),
     }
 }
 
@@ -158,16 +177,14 @@ pub fn label_of(word: u64) -> Option<Label>
             let operator = operator_of(content)?;
             Some(Label::Op(operator))
         }
-        5 => if content == 0 {
-            Some(Label::Load)
-        } else {
-            None
-        },
-        6 => if content == 0 {
-            Some(Label::Store)
-        } else {
-            None
-        },
+        5 => {
+            let width = width_of(content)?;
+            Some(Label::Load(width))
+        }
+        6 => {
+            let width = width_of(content)?;
+            Some(Label::Store(width))
+        }
         _ => None,
     }
 }
