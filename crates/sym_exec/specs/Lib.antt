@@ -1,2 +1,3 @@
 pub mod Symbolic
 pub mod Standing
+pub mod Stores

@@ -1,12 +1,11 @@
 -- Tickets that stand for trees in what a pass has seen.
-use Rattle.std.specs.Prelude.{◌≡◌, ℕ, ◌<◌, ◌+◌, ◌≤◌, List, [], ◌∷◌, vec_capacity, slice_index, slice_set, Contains, ◌==◌, if◌then◌else◌, Result, OnErr}
-use Rattle.std.specs.declared.alloc.Global.{Global}
-use Rattle.std.specs.declared.vec.Vec.{Vec}
+use Rattle.std.specs.Prelude.{◌≡◌, ℕ, ◌<◌, List, [], ◌∷◌, slice_index, slice_set, Contains, ◌==◌, if◌then◌else◌, Result, OnErr}
 use Rattle.sym_terms.specs.Trees.{Tree}
 use Rattle.term_table.specs.Passes.{TableState, PassState, IsOf, HasSeen, linked}
 use Rattle.term_table.specs.Trees.{HasTree, Extends, HasLegalHistory}
-use Rattle.mblock.specs.declared.limits.TheConstants.{ORDER_INSTS}
 use Rattle.mblock.specs.BlockMeaning.{Shape, Goes, ChoosesPair, ChoosesZero, Calls, Returns, Prints, Halts}
+use Rattle.sym_terms.specs.NormalForms.{Address as TreeAddress}
+use Rattle.sym_exec.specs.declared.address.TermAddress.{TermAddress}
 use Rattle.sym_exec.specs.declared.state.Guard.{Guard}
 use Rattle.sym_exec.specs.declared.state.Guard.TheVariants.{Address, Division}
 use Rattle.sym_exec.specs.declared.state.TermPlaces.{TermPlaces}
@@ -25,6 +24,16 @@ pub record AfterInterns {A E : Type 0} (t : TableState) (p : PassState) (result 
   pub later : Later p q
   pub full : OnErr result (linked q ≡ q.nodes)
 
+-- a pass behind some reads: it is the table's and later
+pub record AfterReads (t : TableState) (p q : PassState) : Type 0 where
+  pub table : IsOf t q
+  pub later : Later p q
+
+-- an address by tickets stands for one by trees
+pub record IsAddress (p : PassState) (a : TermAddress) (x : TreeAddress) : Type 0 where
+  pub base : HasTree p a.base x.base
+  pub offset : a.offset ≡ x.offset
+
 -- the pass has seen the tickets
 pub record Known (p : PassState) (s : TermPlaces) : Type 0 where
   pub regs : (r : ℕ) → r < 32 → HasSeen p (slice_index s.regs r)
@@ -34,10 +43,10 @@ pub record Known (p : PassState) (s : TermPlaces) : Type 0 where
 
 -- a guard by tickets stands for one by trees
 abbrev pub IsGuard : PassState → Guard → GuardTree → Type 0
-IsGuard p (Address t) (AtAddress x) = HasTree p t x
+IsGuard p (Address w t) (AtAddress v x) = (w ≡ v) × HasTree p t x
 IsGuard p (Division sign a b) (AtDivision other x y) = (sign ≡ other) × HasTree p a x × HasTree p b y
-IsGuard p (Address t) (AtDivision other x y) = ⊥
-IsGuard p (Division sign a b) (AtAddress x) = ⊥
+IsGuard p (Address w t) (AtDivision other x y) = ⊥
+IsGuard p (Division sign a b) (AtAddress v x) = ⊥
 
 -- two sets of guards are the same ones
 pub record GuardsStand (p : PassState) (gs : List Guard) (xs : List GuardTree) : Type 0 where
@@ -89,7 +98,3 @@ pub record StandsFor (p : PassState) (s : TermPlaces) (e : TermExit) (gs : List 
 -- a write, which register 0 loses
 abbrev pub with_reg : TermPlaces → ℕ → ℕ → TermPlaces
 with_reg s d v = record s { regs = if d == 0 then s.regs else slice_set s.regs d v }
-
--- a list without guards, which has memory for one of each instruction of any order and of its slot
-abbrev pub HasGuardRoom : Vec Guard Global → Type 0
-HasGuardRoom guards = (guards.items ≡ []) × (ORDER_INSTS + 1 ≤ vec_capacity guards)

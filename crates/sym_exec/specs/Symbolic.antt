@@ -2,6 +2,7 @@
 -- on (Tristan and Leroy, POPL 2008).
 use Rattle.std.specs.Prelude.{ℕ, Bool, List, [], ◌∷◌, map}
 use Rattle.words.specs.declared.sign.Sign.{Sign}
+use Rattle.words.specs.declared.width.Width.{Width}
 use Rattle.words.specs.declared.operator.Operator.TheVariants.{Addu}
 use Rattle.words.specs.Operators.{has_quotient}
 use Rattle.mips_isa.specs.declared.action.Operand.{Operand}
@@ -17,16 +18,17 @@ use Rattle.mblock.specs.Clean.{slot_actions}
 use Rattle.sym_terms.specs.declared.label.Origin.TheVariants.{Register, Hi, Lo, Link}
 use Rattle.sym_terms.specs.declared.label.Label.TheVariants.{Init, Mem0}
 use Rattle.sym_terms.specs.Trees.{Tree, leaf}
-use Rattle.sym_terms.specs.Values.{tree_word, const_tree, op_tree, load_tree, store_tree}
+use Rattle.sym_terms.specs.Values.{tree_word}
+use Rattle.sym_terms.specs.NormalForms.{const_tree, op_tree, load_tree, store_tree}
 
--- what a run may rely on: an address of a mapped word, or a division with a value
+-- what a run may rely on: an address of a word or a byte that is mapped, or a division with a value
 pub data GuardTree : Type 0 where
-  AtAddress : Tree → GuardTree
+  AtAddress : Width → Tree → GuardTree
   AtDivision : Sign → Tree → Tree → GuardTree
 
 -- a guard that holds in a start state
 abbrev pub is_good : State → ℕ → GuardTree → Bool
-is_good s link (AtAddress a) = is_open s.mapped (tree_word a s link)
+is_good s link (AtAddress w a) = is_open w s.mapped (tree_word a s link)
 is_good s link (AtDivision sign a b) = has_quotient sign (tree_word a s link) (tree_word b s link)
 
 -- the trees that the machine's places hold, and the guards so far
@@ -60,10 +62,10 @@ address_tree t base offset = op_tree Addu (register_tree t base) (const_tree off
 abbrev pub trees_after : Action → TreeState → TreeState
 trees_after (Computes d op a b) t = record t { regs = put t.regs d (op_tree op (register_tree t a) (operand_tree t b)) }
 trees_after (Sets d w) t = record t { regs = put t.regs d (const_tree w) }
-trees_after (Loads d base offset) t =
-    record t { regs = put t.regs d (load_tree t.memory (address_tree t base offset)); guards = AtAddress (address_tree t base offset) ∷ t.guards }
-trees_after (Stores r base offset) t =
-    record t { memory = store_tree t.memory (address_tree t base offset) (register_tree t r); guards = AtAddress (address_tree t base offset) ∷ t.guards }
+trees_after (Loads w d base offset) t =
+    record t { regs = put t.regs d (load_tree w t.memory (address_tree t base offset)); guards = AtAddress w (address_tree t base offset) ∷ t.guards }
+trees_after (Stores w r base offset) t =
+    record t { memory = store_tree w t.memory (address_tree t base offset) (register_tree t r); guards = AtAddress w (address_tree t base offset) ∷ t.guards }
 trees_after (Multiplies sign a b) t =
     record t {
       hi = op_tree (product_high sign) (register_tree t a) (register_tree t b);

@@ -2,16 +2,18 @@
 //!
 //! `run_block` and `run_order` answer the tickets of the trees that `block_trees` and `order_trees`
 //! define (`specs/Symbolic.antt`): what each register, HI, LO and memory hold at the end, the exit with
-//! its operands, and the guards. `specs/Standing.antt` says when tickets stand for trees. The memory for guards is
-//! taken first (`GuardRoom`), so the only error of a run is that the pass is full.
+//! its operands, and the guards. `specs/Standing.antt` says when tickets stand for trees, `specs/Stores.antt` what the
+//! run keeps of its stores. Memory is taken first (`RunRoom`), so the only error of a run is that the pass is full.
 #![tactic(auto)]
 
-mod guards;
+mod address;
 mod places;
+mod room;
 mod run;
 mod state;
+mod stores;
 mod terms;
 
-pub use guards::GuardRoom;
+pub use room::RunRoom;
 pub use run::{run_block, run_order};
 pub use state::{Guard, SymState, TermExit, TermPlaces};

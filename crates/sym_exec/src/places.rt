@@ -1,5 +1,5 @@
 //! What one action does to the terms of the machine's places, done to their tickets.
-ghost use Rattle.std.specs.Prelude.{◌≡◌, ℕ, ◌<◌, OnOk, IfOk, slice_index};
+ghost use Rattle.std.specs.Prelude.{◌≡◌, ℕ, ◌<◌, ◌+◌, OnOk, IfOk, slice_index, vec_len};
 ghost use Rattle.mips_isa.specs.declared.action.Action.TheVariants.{Computes, Loads, Stores, Multiplies, Divides};
 ghost use Rattle.mips_isa.specs.States.{put};
 ghost use Rattle.sym_terms.specs.Trees.{Tree, leaf};
@@ -8,18 +8,23 @@ ghost use Rattle.term_table.specs.Trees.{HasTree};
 ghost use Rattle.sym_exec.specs.Symbolic.{TreeState, register_tree, operand_tree, address_tree, trees_after};
 ghost use Rattle.sym_exec.specs.Standing.{AfterInterns, Known, Stands, with_reg};
 
+use crate::address::{address_at, plus_term};
 use crate::state::TermPlaces;
-use crate::terms::{leaf_term, load_term, op_term, store_term};
+use crate::stores::StoreChain;
+use crate::terms::{leaf_term, op_term};
 use mips_isa::{
     NonzeroReg, Operand, Reg, product_high, product_low, quotient_operator, remainder_operator,
 };
 use sym_terms::Label;
 use term_table::{Pass, TableFull, TermTable, Ticket};
-use words::{Operator, Sign};
+use words::{Operator, Sign, Width};
 
 impl TermPlaces {
-    ghost use Rattle.std.specs.Prelude.{◌≡◌, ℕ, ◌<◌, OnOk, IfOk, slice_index, length};
+    ghost use Rattle.std.specs.Prelude.{◌≡◌, ℕ, ◌<◌, ◌+◌, OnOk, IfOk, slice_index, length, vec_len};
+    ghost use Rattle.mblock.specs.declared.limits.TheConstants.{ORDER_INSTS};
+    ghost use Rattle.term_table.specs.Trees.{HasTree, HasLegalHistory};
     ghost use Rattle.sym_exec.specs.Standing.{AfterInterns, Known, Stands, with_reg};
+    ghost use Rattle.sym_exec.specs.Stores.{IsChain, HasStoreRoom};
 
     pub(crate) fn get(&self, r: Reg) -> Ticket
         ensures value { result ≡ slice_index self.now.regs r }
@@ -71,8 +76,8 @@ impl TermPlaces {
         ensures tree { (t : TreeState) → Stands pass.old self.now t → IfOk result (λ x. HasTree pass.new x (address_tree t base offset)) }
         ensures pass { AfterInterns table.now pass.old result pass.new }
     {
-        let offset = leaf_term(table, pass, Label::Const(offset))?;
-        op_term(table, pass, Operator::Addu, self.get(base), offset)
+        let at = address_at(table, pass, self.get(base));
+        plus_term(table, pass, at.base, at.offset.wrapping_add(offset))
     }
 
     pub(crate) fn computes(
@@ -88,6 +93,7 @@ impl TermPlaces {
         requires known { Known pass.old self.old }
         ensures known { OnOk result (Known pass.new self.new) }
         ensures stands { (t : TreeState) → Stands pass.old self.old t → OnOk result (Stands pass.new self.new (trees_after (Computes d op a b.now) t)) }
+        ensures memory { self.new.memory ≡ self.old.memory }
         ensures pass { AfterInterns table.now pass.old result pass.new }
     {
         let y = self.operand(table, pass, b)?;
@@ -108,6 +114,7 @@ impl TermPlaces {
         requires known { Known pass.old self.old }
         ensures known { OnOk result (Known pass.new self.new) }
         ensures stands { (t : TreeState) → Stands pass.old self.old t → OnOk result (Stands pass.new self.new (record t { regs = put t.regs d (leaf label) })) }
+        ensures memory { self.new.memory ≡ self.old.memory }
         ensures pass { AfterInterns table.now pass.old result pass.new }
     {
         let value = leaf_term(table, pass, label)?;
@@ -120,19 +127,25 @@ impl TermPlaces {
         &mut self,
         table: &TermTable,
         pass: &mut Pass,
+        chain: &StoreChain,
+        width: Width,
         d: NonzeroReg,
         base: Reg,
         offset: u32,
     ) -> Result<Ticket, TableFull>
         requires table { IsOf table.now pass.old }
+        requires legal { HasLegalHistory pass.old }
         requires known { Known pass.old self.old }
+        requires chain { IsChain pass.old chain.now.stores.items self.old.memory }
         ensures known { OnOk result (Known pass.new self.new) }
-        ensures stands { (t : TreeState) → Stands pass.old self.old t → OnOk result (Stands pass.new self.new (trees_after (Loads d base offset) t)) }
+        ensures stands { (t : TreeState) → Stands pass.old self.old t → OnOk result (Stands pass.new self.new (trees_after (Loads width d base offset) t)) }
         ensures address { (t : TreeState) → Stands pass.old self.old t → IfOk result (λ x. HasTree pass.new x (address_tree t base offset)) }
+        ensures memory { self.new.memory ≡ self.old.memory }
         ensures pass { AfterInterns table.now pass.old result pass.new }
     {
         let address = self.address(table, pass, base, offset)?;
-        let value = load_term(table, pass, self.memory, address)?;
+        let at = address_at(table, pass, address);
+        let value = chain.load_term(table, pass, self.memory, width, at, address)?;
         self.set(d.reg(), value);
         Ok(address)
     }
@@ -142,20 +155,30 @@ impl TermPlaces {
         &mut self,
         table: &TermTable,
         pass: &mut Pass,
+        chain: &mut StoreChain,
+        width: Width,
         r: Reg,
         base: Reg,
         offset: u32,
     ) -> Result<Ticket, TableFull>
         requires table { IsOf table.now pass.old }
+        requires legal { HasLegalHistory pass.old }
         requires known { Known pass.old self.old }
+        requires chain { IsChain pass.old chain.old.stores.items self.old.memory }
+        requires room { HasStoreRoom chain.old }
+        requires few { vec_len chain.old.stores < ORDER_INSTS + 1 }
         ensures known { OnOk result (Known pass.new self.new) }
-        ensures stands { (t : TreeState) → Stands pass.old self.old t → OnOk result (Stands pass.new self.new (trees_after (Stores r base offset) t)) }
+        ensures stands { (t : TreeState) → Stands pass.old self.old t → OnOk result (Stands pass.new self.new (trees_after (Stores width r base offset) t)) }
         ensures address { (t : TreeState) → Stands pass.old self.old t → IfOk result (λ x. HasTree pass.new x (address_tree t base offset)) }
+        ensures chain { OnOk result (IsChain pass.new chain.new.stores.items self.new.memory) }
+        ensures room { OnOk result (HasStoreRoom chain.new) }
+        ensures count { OnOk result (vec_len chain.new.stores ≡ vec_len chain.old.stores + 1) }
         ensures pass { AfterInterns table.now pass.old result pass.new }
     {
         let address = self.address(table, pass, base, offset)?;
+        let at = address_at(table, pass, address);
         let value = self.get(r);
-        self.memory = store_term(table, pass, self.memory, address, value)?;
+        self.memory = chain.store_term(table, pass, self.memory, width, at, address, value)?;
         Ok(address)
     }
 
@@ -171,6 +194,7 @@ impl TermPlaces {
         requires known { Known pass.old self.old }
         ensures known { OnOk result (Known pass.new self.new) }
         ensures stands { (t : TreeState) → Stands pass.old self.old t → OnOk result (Stands pass.new self.new (trees_after (Multiplies sign a b) t)) }
+        ensures memory { self.new.memory ≡ self.old.memory }
         ensures pass { AfterInterns table.now pass.old result pass.new }
     {
         let (x, y) = (self.get(a), self.get(b));
@@ -193,6 +217,7 @@ impl TermPlaces {
         requires known { Known pass.old self.old }
         ensures known { OnOk result (Known pass.new self.new) }
         ensures stands { (t : TreeState) → Stands pass.old self.old t → OnOk result (Stands pass.new self.new (trees_after (Divides sign a b) t)) }
+        ensures memory { self.new.memory ≡ self.old.memory }
         ensures pass { AfterInterns table.now pass.old result pass.new }
     {
         let (x, y) = (self.get(a), self.get(b));

@@ -1,5 +1,5 @@
 //! Blocks and orders, instruction by instruction.
-ghost use Rattle.std.specs.Prelude.{◌≡◌, ℕ, ◌+◌, ◌<◌, ◌≤◌, ◌++◌, [], ◌∷◌, OnOk, IfOk, map, length, vec_len, vec_capacity};
+ghost use Rattle.std.specs.Prelude.{◌≡◌, ℕ, ◌+◌, ◌<◌, ◌≤◌, [], OnOk, IfOk, map, length, vec_len};
 ghost use Rattle.mips_isa.specs.declared.action.Action.{Action as AnAction};
 ghost use Rattle.mips_isa.specs.Actions.{action_of};
 ghost use Rattle.mblock.specs.BlockMeaning.{exit_shape};
@@ -12,9 +12,10 @@ ghost use Rattle.term_table.specs.Passes.{PassState, IsOf};
 ghost use Rattle.term_table.specs.Trees.{HasTree, HasLegalHistory};
 ghost use Rattle.sym_exec.specs.Symbolic.{TreeState, GuardTree, start_trees, trees_after, all_trees, exit_trees, exit_operands, code_trees};
 ghost use Rattle.sym_exec.specs.Symbolic.{block_trees, order_trees};
-ghost use Rattle.sym_exec.specs.Standing.{AfterInterns, Known, Stands, GuardsStand, LeavesBy, StandsFor, HasGuardRoom};
+ghost use Rattle.sym_exec.specs.Standing.{AfterInterns, Known, Stands, GuardsStand, LeavesBy, StandsFor};
+ghost use Rattle.sym_exec.specs.Stores.{IsChain, HasRoom};
 
-use crate::guards::GuardRoom;
+use crate::room::{RunLists, RunRoom};
 use crate::state::{Guard, SymState, TermExit, TermPlaces};
 use crate::terms::leaf_term;
 use mblock::{Block, Exit, Order};
@@ -22,16 +23,18 @@ use mips_isa::{Action, NonzeroReg, Plain, Reg};
 use sym_terms::{Label, Origin};
 use term_table::{Pass, TableFull, TermTable, Ticket};
 
-/// A guard more, in memory that was taken before.
-fn push_guard(guards: &mut Vec<Guard>, guard: Guard)
-    requires { vec_len guards.old < vec_capacity guards.old }
-    ensures pushed { guards.new.items ≡ guards.old.items ++ guard ∷ [] }
-    ensures count { vec_len guards.new ≡ vec_len guards.old + 1 }
-    ensures capacity { vec_capacity guards.old ≤ vec_capacity guards.new }
-{
-    let Ok(()) = guards.push(guard) else {
-        unreachable!();
-    };
+impl RunLists {
+    ghost use Rattle.std.specs.Prelude.{◌≡◌, ◌<◌, ◌++◌, [], ◌∷◌, vec_len, vec_capacity};
+
+    /// A guard more, in memory that was taken before.
+    fn push_guard(&mut self, guard: Guard)
+        requires { vec_len self.old.guards < vec_capacity self.old.guards }
+        ensures pushed { self.new.guards.items ≡ self.old.guards.items ++ guard ∷ [] }
+        ensures capacity { vec_capacity self.new.guards ≡ vec_capacity self.old.guards }
+        ensures chain { self.new.chain ≡ self.old.chain }
+    {
+        self.guards.push_reserved(guard);
+    }
 }
 
 /// What an action does to the trees, done to their tickets.
@@ -39,30 +42,44 @@ fn step(
     table: &TermTable,
     pass: &mut Pass,
     places: &mut TermPlaces,
-    guards: &mut Vec<Guard>,
+    lists: &mut RunLists,
     action: &Action,
 ) -> Result<(), TableFull>
     requires table { IsOf table.now pass.old }
+    requires legal { HasLegalHistory pass.old }
     requires known { Known pass.old places.old }
-    requires room { vec_len guards.old < vec_capacity guards.old }
+    requires chain { IsChain pass.old lists.old.chain.stores.items places.old.memory }
+    requires room { HasRoom lists.old }
+    requires few { vec_len lists.old.guards ≤ ORDER_INSTS }
     ensures known { OnOk result (Known pass.new places.new) }
-    ensures stands { (t : TreeState) → Stands pass.old places.old t → GuardsStand pass.old guards.old.items t.guards
-        → OnOk result (Stands pass.new places.new (trees_after action.now t) × GuardsStand pass.new guards.new.items (trees_after action.now t).guards) }
+    ensures chain { OnOk result (IsChain pass.new lists.new.chain.stores.items places.new.memory) }
+    ensures stands { (t : TreeState) → Stands pass.old places.old t → GuardsStand pass.old lists.old.guards.items t.guards
+        → OnOk result (Stands pass.new places.new (trees_after action.now t) × GuardsStand pass.new lists.new.guards.items (trees_after action.now t).guards) }
     ensures pass { AfterInterns table.now pass.old result pass.new }
-    ensures count { vec_len guards.new ≤ vec_len guards.old + 1 }
-    ensures capacity { vec_capacity guards.old ≤ vec_capacity guards.new }
+    ensures room { OnOk result (HasRoom lists.new) }
+    ensures count { OnOk result (vec_len lists.new.guards ≤ vec_len lists.old.guards + 1) }
 {
     match *action {
         Action::Computes { d, op, a, b } => { places.computes(table, pass, d, op, a, &b) }
         Action::Sets { d, word } => { places.put_leaf(table, pass, d, Label::Const(word)) }
-        Action::Loads { d, base, offset } => {
-            let address = places.loads(table, pass, d, base, offset)?;
-            push_guard(guards, Guard::Address(address));
+        Action::Loads {
+            width,
+            d,
+            base,
+            offset,
+        } => {
+            let address = places.loads(table, pass, &lists.chain, width, d, base, offset)?;
+            lists.push_guard(Guard::Address { width, address });
             Ok(())
         }
-        Action::Stores { r, base, offset } => {
-            let address = places.stores(table, pass, r, base, offset)?;
-            push_guard(guards, Guard::Address(address));
+        Action::Stores {
+            width,
+            r,
+            base,
+            offset,
+        } => {
+            let address = places.stores(table, pass, &mut lists.chain, width, r, base, offset)?;
+            lists.push_guard(Guard::Address { width, address });
             Ok(())
         }
         Action::Multiplies { sign, a, b } => { places.multiplies(table, pass, sign, a, b) }
@@ -70,14 +87,11 @@ fn step(
             let dividend = places.get(a);
             let divisor = places.get(b);
             places.divides(table, pass, sign, a, b)?;
-            push_guard(
-                guards,
-                Guard::Division {
-                    sign,
-                    dividend,
-                    divisor,
-                },
-            );
+            lists.push_guard(Guard::Division {
+                sign,
+                dividend,
+                divisor,
+            });
             Ok(())
         }
         Action::MovesHigh { d } => {
@@ -95,22 +109,26 @@ fn steps(
     table: &TermTable,
     pass: &mut Pass,
     places: &mut TermPlaces,
-    guards: &mut Vec<Guard>,
+    lists: &mut RunLists,
     insts: &[Plain],
 ) -> Result<(), TableFull>
     requires table { IsOf table.now pass.old }
+    requires legal { HasLegalHistory pass.old }
     requires known { Known pass.old places.old }
-    requires room { vec_len guards.old + length insts.now ≤ vec_capacity guards.old }
+    requires chain { IsChain pass.old lists.old.chain.stores.items places.old.memory }
+    requires room { HasRoom lists.old }
+    requires few { vec_len lists.old.guards + length insts.now ≤ ORDER_INSTS }
     ensures known { OnOk result (Known pass.new places.new) }
-    ensures stands { (t : TreeState) → Stands pass.old places.old t → GuardsStand pass.old guards.old.items t.guards
+    ensures chain { OnOk result (IsChain pass.new lists.new.chain.stores.items places.new.memory) }
+    ensures stands { (t : TreeState) → Stands pass.old places.old t → GuardsStand pass.old lists.old.guards.items t.guards
         → OnOk result (Stands pass.new places.new (all_trees (map action_of insts.now) t)
-        × GuardsStand pass.new guards.new.items (all_trees (map action_of insts.now) t).guards) }
+        × GuardsStand pass.new lists.new.guards.items (all_trees (map action_of insts.now) t).guards) }
     ensures pass { AfterInterns table.now pass.old result pass.new }
-    ensures count { vec_len guards.new ≤ vec_len guards.old + length insts.now }
-    ensures capacity { vec_capacity guards.old ≤ vec_capacity guards.new }
+    ensures room { OnOk result (HasRoom lists.new) }
+    ensures count { OnOk result (vec_len lists.new.guards ≤ vec_len lists.old.guards + length insts.now) }
 {
     for inst in insts {
-        step(table, pass, places, guards, &inst.action())?;
+        step(table, pass, places, lists, &inst.action())?;
     }
     Ok(())
 }
@@ -135,6 +153,7 @@ fn start(table: &TermTable, pass: &mut Pass) -> Result<TermPlaces, TableFull>
     requires { IsOf table.now pass.old }
     ensures known { IfOk result (Known pass.new) }
     ensures stands { IfOk result (λ s. Stands pass.new s start_trees) }
+    ensures chain { IfOk result (λ s. IsChain pass.new [] s.memory) }
     ensures legal { HasLegalHistory pass.new }
     ensures pass { AfterInterns table.now pass.old result pass.new }
 {
@@ -205,6 +224,7 @@ fn put_own(
     requires known { Known pass.old places.old }
     ensures known { OnOk result (Known pass.new places.new) }
     ensures stands { (t : TreeState) → Stands pass.old places.old t → OnOk result (Stands pass.new places.new (exit_trees exit.now t)) }
+    ensures memory { places.new.memory ≡ places.old.memory }
     ensures pass { AfterInterns table.now pass.old result pass.new }
 {
     match *exit {
@@ -223,19 +243,22 @@ fn run_slot(
     table: &TermTable,
     pass: &mut Pass,
     places: &mut TermPlaces,
-    guards: &mut Vec<Guard>,
+    lists: &mut RunLists,
     slot: &Option<Plain>,
 ) -> Result<(), TableFull>
     requires table { IsOf table.now pass.old }
+    requires legal { HasLegalHistory pass.old }
     requires known { Known pass.old places.old }
-    requires room { vec_len guards.old < vec_capacity guards.old }
-    ensures stands { (t : TreeState) → Stands pass.old places.old t → GuardsStand pass.old guards.old.items t.guards
+    requires chain { IsChain pass.old lists.old.chain.stores.items places.old.memory }
+    requires room { HasRoom lists.old }
+    requires few { vec_len lists.old.guards ≤ ORDER_INSTS }
+    ensures stands { (t : TreeState) → Stands pass.old places.old t → GuardsStand pass.old lists.old.guards.items t.guards
         → OnOk result (Stands pass.new places.new (all_trees (slot_actions slot.now) t)
-        × GuardsStand pass.new guards.new.items (all_trees (slot_actions slot.now) t).guards) }
+        × GuardsStand pass.new lists.new.guards.items (all_trees (slot_actions slot.now) t).guards) }
     ensures pass { AfterInterns table.now pass.old result pass.new }
 {
     match slot {
-        Some(inst) => step(table, pass, places, guards, &inst.action()),
+        Some(inst) => step(table, pass, places, lists, &inst.action()),
         None => Ok(()),
     }
 }
@@ -246,10 +269,11 @@ fn run_code(
     insts: &[Plain],
     exit: &Exit,
     slot: &Option<Plain>,
-    mut guards: Vec<Guard>,
+    mut lists: RunLists,
 ) -> Result<SymState, TableFull>
     requires table { IsOf table.now pass.old }
-    requires room { HasGuardRoom guards }
+    requires room { HasRoom lists }
+    requires none { (lists.guards.items ≡ []) × (lists.chain.stores.items ≡ []) }
     requires few { length insts.now ≤ ORDER_INSTS }
     ensures trees { IfOk result (λ s. StandsFor pass.new s.places s.exit s.guards.items
         (code_trees (map action_of insts.now) exit.now (slot_actions slot.now))) }
@@ -257,18 +281,18 @@ fn run_code(
     ensures pass { AfterInterns table.now pass.old result pass.new }
 {
     let mut places = start(table, pass)?;
-    steps(table, pass, &mut places, &mut guards, insts)?;
+    steps(table, pass, &mut places, &mut lists, insts)?;
     let left = leave(&places, exit);
     put_own(table, pass, &mut places, exit)?;
-    run_slot(table, pass, &mut places, &mut guards, slot)?;
+    run_slot(table, pass, &mut places, &mut lists, slot)?;
     Ok(SymState {
         places,
         exit: left,
-        guards,
+        guards: lists.guards,
     })
 }
 
-/// The tickets of what a block leaves: those of its trees. The guards go into `room`, so nothing is allocated.
+/// The tickets of what a block leaves: those of its trees. The guards and stores go into `room`, so nothing is allocated.
 ///
 /// `TableFull` comes only where the pass has linked as many terms as it may. The terms that were linked
 /// stay.
@@ -276,7 +300,7 @@ pub fn run_block(
     table: &TermTable,
     pass: &mut Pass,
     block: &Block,
-    room: GuardRoom,
+    room: RunRoom,
 ) -> Result<SymState, TableFull>
     requires table { IsOf table.now pass.old }
     ensures trees { IfOk result (λ s. StandsFor pass.new s.places s.exit s.guards.items (block_trees block.now)) }
@@ -289,7 +313,7 @@ pub fn run_block(
         block.insts(),
         &block.exit(),
         &None,
-        room.into_list(),
+        room.into_lists(),
     )
 }
 
@@ -298,7 +322,7 @@ pub fn run_order(
     table: &TermTable,
     pass: &mut Pass,
     order: &Order,
-    room: GuardRoom,
+    room: RunRoom,
 ) -> Result<SymState, TableFull>
     requires table { IsOf table.now pass.old }
     ensures trees { IfOk result (λ s. StandsFor pass.new s.places s.exit s.guards.items (order_trees order.now)) }
@@ -311,6 +335,6 @@ pub fn run_order(
         order.insts(),
         &order.exit(),
         &order.slot(),
-        room.into_list(),
+        room.into_lists(),
     )
 }

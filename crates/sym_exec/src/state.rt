@@ -2,13 +2,13 @@
 use mblock::BlockNumber;
 use mips_isa::{PairTest, ZeroTest};
 use term_table::Ticket;
-use words::Sign;
+use words::{Sign, Width};
 
-/// What the code relies on, by the terms' tickets: that an address is a mapped word's, or that a
+/// What the code relies on, by the terms' tickets: that an address is that of a word or a byte that is mapped, or that a
 /// division has a value.
 #[derive(Clone, Copy, Debug, PartialEq, Eq)]
 pub enum Guard {
-    Address(Ticket),
+    Address { width: Width, address: Ticket },
     Division {
         sign: Sign,
         dividend: Ticket,

@@ -1,12 +1,12 @@
-//! Terms of labels, operations, loads and stores. They allocate nothing, so their only error is that
-//! the pass is full.
+//! Terms of labels and operations. They allocate nothing, so their only error is that the pass is full.
 ghost use Rattle.std.specs.Prelude.{◌≡◌, ℕ, IfOk};
 ghost use Rattle.sym_terms.specs.Trees.{Tree, leaf, binary, ternary};
-ghost use Rattle.sym_terms.specs.Values.{op_tree, load_tree, store_tree};
+ghost use Rattle.sym_terms.specs.NormalForms.{constant_of, is_addition, sum_tree, op_tree};
 ghost use Rattle.term_table.specs.Passes.{IsOf, HasSeen};
 ghost use Rattle.term_table.specs.Trees.{HasTree, HasLegalHistory};
 ghost use Rattle.sym_exec.specs.Standing.{AfterInterns};
 
+use crate::address::{address_at, constant_at, plus_term};
 use sym_terms::Label;
 use term_table::{Pass, TableFull, TermTable, Ticket};
 use words::Operator;
@@ -25,7 +25,7 @@ pub(crate) fn leaf_term(
     Ok(interned.ticket)
 }
 
-fn binary_term(
+pub(crate) fn binary_term(
     table: &TermTable,
     pass: &mut Pass,
     label: Label,
@@ -43,7 +43,7 @@ fn binary_term(
     Ok(interned.ticket)
 }
 
-fn ternary_term(
+pub(crate) fn ternary_term(
     table: &TermTable,
     pass: &mut Pass,
     label: Label,
@@ -64,7 +64,39 @@ fn ternary_term(
     Ok(interned.ticket)
 }
 
-#[tactic(auto, unfolding(sym_terms::specs::Values::op_tree))]
+fn is_addition(op: Operator) -> bool
+    ensures { result ≡ is_addition op }
+{
+    match op {
+        Operator::Addu => true,
+        _ => false,
+    }
+}
+
+// A sum: a constant on its right is added to the constant on its left.
+fn sum_term(
+    table: &TermTable,
+    pass: &mut Pass,
+    a: Ticket,
+    b: Ticket,
+) -> Result<Ticket, TableFull>
+    requires table { IsOf table.now pass.old }
+    requires a { HasSeen pass.old a }
+    requires b { HasSeen pass.old b }
+    ensures seen { IfOk result (λ t. HasSeen pass.new t) }
+    ensures tree { (x y : Tree) → HasTree pass.old a x → HasTree pass.old b y → IfOk result (λ t. HasTree pass.new t (sum_tree x y (constant_of y))) }
+    ensures pass { AfterInterns table.now pass.old result pass.new }
+{
+    match constant_at(table, pass, b) {
+        Some(constant) => {
+            let at = address_at(table, pass, a);
+            plus_term(table, pass, at.base, at.offset.wrapping_add(constant))
+        }
+        None => binary_term(table, pass, Label::Op(Operator::Addu), a, b),
+    }
+}
+
+#[tactic(auto, unfolding(sym_terms::specs::NormalForms::op_tree))]
 pub(crate) fn op_term(
     table: &TermTable,
     pass: &mut Pass,
@@ -79,42 +111,9 @@ pub(crate) fn op_term(
     ensures tree { (x y : Tree) → HasTree pass.old a x → HasTree pass.old b y → IfOk result (λ t. HasTree pass.new t (op_tree op x y)) }
     ensures pass { AfterInterns table.now pass.old result pass.new }
 {
-    binary_term(table, pass, Label::Op(op), a, b)
-}
-
-#[tactic(auto, unfolding(sym_terms::specs::Values::load_tree))]
-pub(crate) fn load_term(
-    table: &TermTable,
-    pass: &mut Pass,
-    memory: Ticket,
-    address: Ticket,
-) -> Result<Ticket, TableFull>
-    requires table { IsOf table.now pass.old }
-    requires memory { HasSeen pass.old memory }
-    requires address { HasSeen pass.old address }
-    ensures seen { IfOk result (λ t. HasSeen pass.new t) }
-    ensures tree { (x y : Tree) → HasTree pass.old memory x → HasTree pass.old address y → IfOk result (λ t. HasTree pass.new t (load_tree x y)) }
-    ensures pass { AfterInterns table.now pass.old result pass.new }
-{
-    binary_term(table, pass, Label::Load, memory, address)
-}
-
-#[tactic(auto, unfolding(sym_terms::specs::Values::store_tree))]
-pub(crate) fn store_term(
-    table: &TermTable,
-    pass: &mut Pass,
-    memory: Ticket,
-    address: Ticket,
-    value: Ticket,
-) -> Result<Ticket, TableFull>
-    requires table { IsOf table.now pass.old }
-    requires memory { HasSeen pass.old memory }
-    requires address { HasSeen pass.old address }
-    requires value { HasSeen pass.old value }
-    ensures seen { IfOk result (λ t. HasSeen pass.new t) }
-    ensures tree { (x y z : Tree) → HasTree pass.old memory x → HasTree pass.old address y → HasTree pass.old value z
-        → IfOk result (λ t. HasTree pass.new t (store_tree x y z)) }
-    ensures pass { AfterInterns table.now pass.old result pass.new }
-{
-    ternary_term(table, pass, Label::Store, memory, address, value)
+    if is_addition(op) {
+        sum_term(table, pass, a, b)
+    } else {
+        binary_term(table, pass, Label::Op(op), a, b)
+    }
 }
