@@ -5,7 +5,7 @@ ghost use Rattle.check_text.specs.Spelling.{exit_name_text};
 ghost use Rattle.check_text.specs.declared.names.ExitName.{ExitName};
 
 use mips_isa::{AluOp, HiLo, ImmOp, LogicOp, Mnemonic, PairTest, ShiftOp, ZeroTest};
-use words::Sign;
+use words::{Sign, Width};
 
 /// The mnemonic that the word is.
 pub fn mnemonic_named(word: &[u8]) -> Option<Mnemonic>
@@ -40,8 +40,10 @@ pub fn mnemonic_named(word: &[u8]) -> Option<Mnemonic>
         b"multu" => Some(Mnemonic::Multiply(Sign::Unsigned)),
         b"div" => Some(Mnemonic::Divide(Sign::Signed)),
         b"divu" => Some(Mnemonic::Divide(Sign::Unsigned)),
-        b"lw" => Some(Mnemonic::Load),
-        b"sw" => Some(Mnemonic::Store),
+        b"lw" => Some(Mnemonic::Load(Width::Word)),
+        b"lbu" => Some(Mnemonic::Load(Width::Byte)),
+        b"sw" => Some(Mnemonic::Store(Width::Word)),
+        b"sb" => Some(Mnemonic::Store(Width::Byte)),
         _ => None,
     }
 }

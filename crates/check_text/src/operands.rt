@@ -10,7 +10,7 @@ ghost use Rattle.check_text.specs.Spelling.{HasOperands};
 use crate::cuts::cut;
 use crate::spelled::{Spelled, three, two};
 use mips_isa::{AluOp, Amount, HiLo, ImmOp, LogicOp, Mnemonic, NonzeroReg, Plain, Reg, ShiftOp};
-use words::Sign;
+use words::{Sign, Width};
 
 fn shift(op: ShiftOp, text: &[u8]) -> Option<Plain>
     ensures found { IfSome result (HasOperands (mnemonics.Shift op) text.now) }
@@ -116,26 +116,28 @@ impl Spelled for Address {
     }
 }
 
-fn load(text: &[u8]) -> Option<Plain>
-    ensures found { IfSome result (HasOperands mnemonics.Load text.now) }
-    ensures only { (rt base : ℕ) (n : ℤ) → HasOperands mnemonics.Load text.now (plains.Load rt base n)
-        → result ≡ Some (plains.Load rt base n) }
+fn load(width: Width, text: &[u8]) -> Option<Plain>
+    ensures found { IfSome result (HasOperands (mnemonics.Load width) text.now) }
+    ensures only { (rt base : ℕ) (n : ℤ) → HasOperands (mnemonics.Load width) text.now (plains.Load width rt base n)
+        → result ≡ Some (plains.Load width rt base n) }
 {
     let (rt, address) = two::<NonzeroReg, Address>(text)?;
     Some(Plain::Load {
+        width,
         rt,
         base: address.base,
         offset: address.offset,
     })
 }
 
-fn store(text: &[u8]) -> Option<Plain>
-    ensures found { IfSome result (HasOperands mnemonics.Store text.now) }
-    ensures only { (rt base : ℕ) (n : ℤ) → HasOperands mnemonics.Store text.now (plains.Store rt base n)
-        → result ≡ Some (plains.Store rt base n) }
+fn store(width: Width, text: &[u8]) -> Option<Plain>
+    ensures found { IfSome result (HasOperands (mnemonics.Store width) text.now) }
+    ensures only { (rt base : ℕ) (n : ℤ) → HasOperands (mnemonics.Store width) text.now (plains.Store width rt base n)
+        → result ≡ Some (plains.Store width rt base n) }
 {
     let (rt, address) = two::<Reg, Address>(text)?;
     Some(Plain::Store {
+        width,
         rt,
         base: address.base,
         offset: address.offset,
@@ -157,7 +159,7 @@ pub fn operands(name: Mnemonic, text: &[u8]) -> Option<Plain>
         Mnemonic::MoveFrom(place) => move_from(place, text),
         Mnemonic::Multiply(sign) => multiply(sign, text),
         Mnemonic::Divide(sign) => divide(sign, text),
-        Mnemonic::Load => load(text),
-        Mnemonic::Store => store(text),
+        Mnemonic::Load(width) => load(width, text),
+        Mnemonic::Store(width) => store(width, text),
     }
 }

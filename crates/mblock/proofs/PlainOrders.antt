@@ -20,9 +20,9 @@ pads l m = cond l (nop ∷ []) (cond m (nop ∷ nop ∷ []) [])
 -- ---- the rules
 
 pub loads_load : (a : Action) (r : ℕ) → loads a r ≡ true → is_load a ≡ true
-loads_load (Loads d base offset) r e = refl
+loads_load (Loads w d base offset) r e = refl
 loads_load (Computes d op x y) r e = e
-loads_load (Stores q base offset) r e = e
+loads_load (Stores w q base offset) r e = e
 loads_load (Sets d w) r e = e
 loads_load (Multiplies sign x y) r e = e
 loads_load (Divides sign x y) r e = e
@@ -30,9 +30,9 @@ loads_load (MovesHigh d) r e = e
 loads_load (MovesLow d) r e = e
 
 loads_register : (a : Action) (r : ℕ) → loads a r ≡ true → is_register r ≡ true
-loads_register (Loads d base offset) r e = (Rattle.std.proofs.lemmas.Bool.and_parts (is_register r) _ e).0
+loads_register (Loads w d base offset) r e = (Rattle.std.proofs.lemmas.Bool.and_parts (is_register r) _ e).0
 loads_register (Computes d op x y) r e = absurd (true≢false (sym e))
-loads_register (Stores q base offset) r e = absurd (true≢false (sym e))
+loads_register (Stores w q base offset) r e = absurd (true≢false (sym e))
 loads_register (Sets d w) r e = absurd (true≢false (sym e))
 loads_register (Multiplies sign x y) r e = absurd (true≢false (sym e))
 loads_register (Divides sign x y) r e = absurd (true≢false (sym e))
@@ -104,9 +104,9 @@ pads_keep x true m rest tail el em k = record {
     below = nop_keeps rest tail k
 
     still : (a : Action) → is_load a ≡ true → is_move a ≡ false
-    still (Loads d base offset) e = refl
+    still (Loads w d base offset) e = refl
     still (Computes d op u v) e = refl
-    still (Stores q base offset) e = refl
+    still (Stores w q base offset) e = refl
     still (Sets d w) e = refl
     still (Multiplies sign u v) e = refl
     still (Divides sign u v) e = refl

@@ -43,14 +43,14 @@ pub record Ready (insts : List Plain) (exit : Exit) (tail : List (Option Action)
 
 -- nothing that is loaded is named by the test
 pending_apart : (a : Action) (s : State) (test : ℕ → Bool) → ((r : ℕ) → loads a r ≡ true → test r ≡ false) → on_pending (pending_of a s) test ≡ false
-pending_apart (Loads d base offset) s test h = go (is_register d) refl
+pending_apart (Loads w d base offset) s test h = go (is_register d) refl
   where
     go : (b : Bool) → is_register d ≡ b → (b && test d) ≡ false
     go false e = refl
     go true e = h d (ap₂ (λ x y. x && y) e (eq-eqb d d refl))
 pending_apart (Computes d op x y) s test h = refl
 pending_apart (Sets d v) s test h = refl
-pending_apart (Stores r base offset) s test h = refl
+pending_apart (Stores w r base offset) s test h = refl
 pending_apart (Multiplies sign x y) s test h = refl
 pending_apart (Divides sign x y) s test h = refl
 pending_apart (MovesHigh d) s test h = refl

@@ -8,7 +8,7 @@ use Rattle.mips_isa.specs.Actions.{action_of, touches, is_move, is_product}
 
 -- the action loads a register that the test names
 abbrev pub loads_named : Action → (ℕ → Bool) → Bool
-loads_named (Loads d base offset) test = is_register d && test d
+loads_named (Loads w d base offset) test = is_register d && test d
 loads_named _ test = false
 
 -- the word is a product

@@ -46,11 +46,7 @@ fn loads_for(a: &Action, b: &Action) -> bool
     ensures { result ≡ loads_named a.now (touches b.now) }
 {
     match *a {
-        Action::Loads {
-            d,
-            base: _,
-            offset: _,
-        } => b.touches(d.reg()),
+        Action::Loads { d, .. } => b.touches(d.reg()),
         _ => false,
     }
 }
@@ -60,11 +56,7 @@ fn loads_for_exit(a: &Action, exit: &Exit) -> bool
     ensures { result ≡ loads_named a.now (exit_touches exit.now) }
 {
     match *a {
-        Action::Loads {
-            d,
-            base: _,
-            offset: _,
-        } => exit_names(exit, d.reg()),
+        Action::Loads { d, .. } => exit_names(exit, d.reg()),
         _ => false,
     }
 }

@@ -6,6 +6,7 @@ use Rattle.std.specs.List.{AllByRecursion}
 use Rattle.std.proofs.lemmas.Int.{ints}
 use Rattle.std.proofs.lemmas.List.Elements.{All-from_recursion, recursion_from_All}
 use Rattle.words.specs.declared.sign.Sign.TheVariants.{Signed, Unsigned}
+use Rattle.words.specs.declared.width.Width.TheVariants.{Word, Byte}
 use Rattle.mips_isa.specs.declared.inst.ShiftOp.TheVariants.{Sll, Srl, Sra}
 use Rattle.mips_isa.specs.declared.inst.AluOp.TheVariants.{Addu, Subu, And, Or, Xor, Nor, Slt, Sltu}
 use Rattle.mips_isa.specs.declared.inst.ImmOp.TheVariants.{Addiu, Slti, Sltiu}
@@ -22,7 +23,8 @@ use Rattle.mips_isa.specs.declared.inst.Inst.{Inst}
 use Rattle.mips_isa.specs.declared.inst.Inst.TheVariants as insts
 use Rattle.mips_isa.specs.Ranges.{IsPlain, IsControl, IsInst}
 use Rattle.mips_code.specs.Words.{register_word, immediate_word, inst_word, word_of_plain, word_of_control, half, shift_code, shift_by_code}
-use Rattle.mips_code.specs.Words.{alu_code, move_code, multiply_code, divide_code, imm_code, logic_code, pair_code, zero_code, zero_field}
+use Rattle.mips_code.specs.Words.{alu_code, move_code, multiply_code, divide_code, imm_code, logic_code, load_code, store_code, pair_code}
+use Rattle.mips_code.specs.Words.{zero_code, zero_field}
 
 register_below : (rs rt rd amount funct : ℕ) → rs < 32 → rt < 32 → rd < 32 → amount < 32 → funct < 64 → register_word rs rt rd amount funct < 2 ^ 32
 register_below rs rt rd amount funct a b c d e = omega arith
@@ -68,8 +70,12 @@ plain_below (Multiply sign rs rt) h =
 plain_below (Divide sign rs rt) h =
     register_below rs rt 0 0 (divide_code sign) h.0 h.1 (omega arith) (omega arith)
     (elim sign as (λ o. divide_code o < 64) [ Signed ↦ omega arith | Unsigned ↦ omega arith ])
-plain_below (Load rt base offset) h = immediate_below 35 base rt (half offset) (omega arith) h.2 h.1 (half_small offset h.3)
-plain_below (Store rt base offset) h = immediate_below 43 base rt (half offset) (omega arith) h.1 h.0 (half_small offset h.2)
+plain_below (Load w rt base offset) h =
+    immediate_below (load_code w) base rt (half offset) (elim w as (λ o. load_code o < 64) [ Word ↦ omega arith | Byte ↦ omega arith ]) h.2 h.1
+    (half_small offset h.3)
+plain_below (Store w rt base offset) h =
+    immediate_below (store_code w) base rt (half offset) (elim w as (λ o. store_code o < 64) [ Word ↦ omega arith | Byte ↦ omega arith ]) h.1 h.0
+    (half_small offset h.2)
 
 control_below : (i : Control) → IsControl i → word_of_control i < 2 ^ 32
 control_below (BranchPair test rs rt offset) h =

@@ -1,9 +1,11 @@
 -- The candidate for the word of an instruction is that instruction.
 use Rattle.std.proofs.Common.{◌≡◌, ℕ, ◌/◌, ◌%◌, ◌^◌, ◌<◌, ◌==◌, Bool, true, false, refl, ap, sym, ◌∙◌, arith, Some, None, cond, eqb-true}
-use Rattle.std.specs.Prelude.{FitsSigned, ℤ}
-use Rattle.std.specs.Int.{w16, cast_unsigned, cast_signed}
+use Rattle.std.specs.Prelude.{FitsSigned, ℤ, Option, option_map}
+use Rattle.std.specs.Int.{w16, cast_signed}
 use Rattle.std.proofs.lemmas.Int.{to_z-of_z, ints}
 use Rattle.words.specs.declared.sign.Sign.TheVariants.{Signed, Unsigned}
+use Rattle.words.specs.declared.width.Width.{Width}
+use Rattle.words.specs.declared.width.Width.TheVariants.{Word, Byte}
 use Rattle.mips_isa.specs.declared.inst.ShiftOp.TheVariants.{Sll, Srl, Sra}
 use Rattle.mips_isa.specs.declared.inst.AluOp.TheVariants.{Addu, Subu, And, Or, Xor, Nor, Slt, Sltu}
 use Rattle.mips_isa.specs.declared.inst.ImmOp.TheVariants.{Addiu, Slti, Sltiu}
@@ -21,8 +23,8 @@ use Rattle.mips_isa.specs.declared.inst.Inst.TheVariants as insts
 use Rattle.mips_isa.specs.Ranges.{IsPlain, IsControl, IsInst}
 use Rattle.mips_code.specs.Words.{register_word, immediate_word, jump_word, inst_word, word_of_plain, word_of_control, half, shift_code}
 use Rattle.mips_code.specs.Words.{shift_by_code, alu_code, move_code, multiply_code, divide_code, imm_code, logic_code, pair_code}
-use Rattle.mips_code.specs.Words.{jump_code}
-use Rattle.mips_code.specs.Candidates.{inst_of_fields, candidate_of}
+use Rattle.mips_code.specs.Words.{load_code, store_code, jump_code}
+use Rattle.mips_code.specs.Candidates.{or_else, inst_of_fields, candidate_of}
 
 -- a register form gives the instruction that its fields give
 register_gives : (rs rt rd amount funct : ℕ) → rs < 32 → rt < 32 → rd < 32 → amount < 32 → funct < 64
@@ -133,15 +135,31 @@ candidate-word_of_plain (Divide sign rs rt) h =
     (elim sign as (λ o. divide_code o < 64) [ Signed ↦ omega arith | Unsigned ↦ omega arith ]) _
     (λ imm target. elim sign as
     (λ o. inst_of_fields 0 rs rt 0 0 (divide_code o) imm target ≡ Some (insts.Plain (Divide o rs rt))) [ Signed ↦ refl | Unsigned ↦ refl ])
-candidate-word_of_plain (Load rt base offset) h =
-    immediate_gives 35 base rt (half offset) (omega arith) h.2 h.1 (half_small offset h.3) _
+candidate-word_of_plain (Load w rt base offset) h =
+    immediate_gives (load_code w) base rt (half offset) (elim w as (λ o. load_code o < 64) [ Word ↦ omega arith | Byte ↦ omega arith ]) h.2 h.1
+    (half_small offset h.3) _
     (λ rd amount funct target.
-    ap (λ b. Rattle.mips_code.specs.Candidates.or_else
-    (Rattle.std.specs.Prelude.option_map insts.Plain (cond b None (Some (Load rt base (cast_signed w16 (half offset)))))) None)
-    (not_zero rt h.0) ∙ ap (λ z. Some (insts.Plain (Load rt base z))) (half_back offset h.3))
-candidate-word_of_plain (Store rt base offset) h =
-    immediate_gives 43 base rt (half offset) (omega arith) h.1 h.0 (half_small offset h.2) _
-    (λ rd amount funct target. ap (λ z. Some (insts.Plain (Store rt base z))) (half_back offset h.2))
+    elim w as
+    (λ o. inst_of_fields (load_code o) base rt rd amount funct (half offset) target ≡ Some (insts.Plain (Load o rt base offset)))
+    [ Word ↦ loaded Word | Byte ↦ loaded Byte ])
+  where
+    found : Option Plain → Option Inst
+    found o = or_else (option_map insts.Plain o) None
+
+    loaded : (o : Width) → found (cond (rt == 0) None (Some (Load o rt base (cast_signed w16 (half offset))))) ≡ Some (insts.Plain (Load o rt base offset))
+    loaded o =
+        ap (λ b. found (cond b None (Some (Load o rt base (cast_signed w16 (half offset)))))) (not_zero rt h.0)
+        ∙ ap (λ z. Some (insts.Plain (Load o rt base z))) (half_back offset h.3)
+candidate-word_of_plain (Store w rt base offset) h =
+    immediate_gives (store_code w) base rt (half offset) (elim w as (λ o. store_code o < 64) [ Word ↦ omega arith | Byte ↦ omega arith ]) h.1 h.0
+    (half_small offset h.2) _
+    (λ rd amount funct target.
+    elim w as
+    (λ o. inst_of_fields (store_code o) base rt rd amount funct (half offset) target ≡ Some (insts.Plain (Store o rt base offset))) [
+      | Word ↦ ap (λ z. Some (insts.Plain (Store Word rt base z)))
+          (half_back offset h.2)
+      | Byte ↦ ap (λ z. Some (insts.Plain (Store Byte rt base z))) (half_back offset h.2)
+    ])
 
 pub candidate-word_of_control : (i : Control) → IsControl i → candidate_of (word_of_control i) ≡ Some (insts.Control i)
 candidate-word_of_control (BranchPair test rs rt offset) h =

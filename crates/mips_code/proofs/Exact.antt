@@ -4,6 +4,8 @@ use Rattle.std.specs.Prelude.{IfSome, option_map, FitsSigned}
 use Rattle.std.specs.Int.{w16, cast_signed}
 use Rattle.std.proofs.lemmas.Int.{ints}
 use Rattle.std.proofs.lemmas.Option.{same_Some, none-some}
+use Rattle.words.specs.declared.width.Width.{Width}
+use Rattle.words.specs.declared.width.Width.TheVariants.{Word, Byte}
 use Rattle.mips_isa.specs.declared.inst.Plain.TheVariants.{LoadUpper, Load, Store}
 use Rattle.mips_isa.specs.declared.inst.Control.TheVariants.{JumpTo, JumpRegister, SystemCall}
 use Rattle.mips_isa.specs.declared.inst.Inst.{Inst}
@@ -11,8 +13,8 @@ use Rattle.mips_isa.specs.declared.inst.Inst.TheVariants as insts
 use Rattle.mips_isa.specs.Ranges.{IsPlain, IsControl, IsInst}
 use Rattle.mips_code.specs.Words.{inst_word}
 use Rattle.mips_code.specs.Candidates.{shift_at, shift_by_at, alu_at, move_at, multiply_at, divide_at, imm_at, logic_at, pair_at, jump_at}
-use Rattle.mips_code.specs.Candidates.{zero_at, or_else, computing_of, moving_of, special_of, arithmetic_of, memory_of, branch_of}
-use Rattle.mips_code.specs.Candidates.{inst_of_fields, candidate_of}
+use Rattle.mips_code.specs.Candidates.{zero_at, or_else, computing_of, moving_of, special_of, arithmetic_of, loading_of, memory_of}
+use Rattle.mips_code.specs.Candidates.{branch_of, inst_of_fields, candidate_of}
 use Rattle.mips_code.proofs.Decoding.{candidate-inst_word}
 use Rattle.mips_code.specs.Decoding.{with_word, instruction_of, DecodingIsExact}
 
@@ -64,12 +66,15 @@ module _ (rs rt rd amount funct imm target : ℕ) (hs : rs < 32) (ht : rt < 32) 
       (if_or IsPlain _ _ (if_map IsPlain _ (logic_at op) (λ o. (ht, hs, hi)))
       (if_cond IsPlain (op == 15) (Some (LoadUpper rt imm)) None (ht, hi) (λ e. tt)))
 
+  loading_fits : (w : Width) → IfSome (loading_of w rs rt imm) IsPlain
+  loading_fits w = if_cond IsPlain (rt == 0) None (Some (Load w rt rs (cast_signed w16 imm))) tt (λ e. (not_zero rt e, ht, hs, half_fits imm hi))
+
   memory_fits : (op : ℕ) → IfSome (memory_of op rs rt imm) IsPlain
   memory_fits op =
-      if_cond IsPlain (op == 35) (cond (rt == 0) None (Some (Load rt rs (cast_signed w16 imm))))
-      (cond (op == 43) (Some (Store rt rs (cast_signed w16 imm))) None)
-      (if_cond IsPlain (rt == 0) None (Some (Load rt rs (cast_signed w16 imm))) tt (λ e. (not_zero rt e, ht, hs, half_fits imm hi)))
-      (λ e. if_cond IsPlain (op == 43) (Some (Store rt rs (cast_signed w16 imm))) None (ht, hs, half_fits imm hi) (λ e'. tt))
+      if_cond IsPlain (op == 35) _ _ (loading_fits Word) (λ e.
+      if_cond IsPlain (op == 36) _ _ (loading_fits Byte) (λ f.
+      if_cond IsPlain (op == 40) (Some (Store Byte rt rs (cast_signed w16 imm))) _ (ht, hs, half_fits imm hi) (λ g.
+      if_cond IsPlain (op == 43) (Some (Store Word rt rs (cast_signed w16 imm))) None (ht, hs, half_fits imm hi) (λ h. tt))))
 
   branch_fits : (op : ℕ) → IfSome (branch_of op rs rt imm) IsControl
   branch_fits op =

@@ -1,12 +1,14 @@
 // From a word to the instruction that has it.
 
 ghost use Rattle.std.specs.Prelude.{◌≡◌, ℕ, ◌+◌, ◌*◌, ◌/◌, ◌%◌, ◌^◌, ◌<◌, ◌↔◌, IsTrue, IfSome, Option, Some};
+ghost use Rattle.std.specs.Int.{w16, cast_signed};
+ghost use Rattle.mips_isa.specs.declared.inst.Plain.TheVariants.{Store};
 ghost use Rattle.mips_isa.specs.declared.inst.Inst.{Inst as AnInst};
 ghost use Rattle.mips_isa.specs.Ranges.{IsPlain, IsControl, IsInst};
 ghost use Rattle.mips_code.specs.Words.{inst_word};
 ghost use Rattle.mips_code.specs.Candidates.{shift_at, shift_by_at, alu_at, move_at, multiply_at, divide_at, imm_at, logic_at, pair_at};
-ghost use Rattle.mips_code.specs.Candidates.{jump_at, zero_at, computing_of, moving_of, special_of, arithmetic_of, memory_of, branch_of};
-ghost use Rattle.mips_code.specs.Candidates.{candidate_of};
+ghost use Rattle.mips_code.specs.Candidates.{jump_at, zero_at, computing_of, moving_of, special_of, arithmetic_of, loading_of, memory_of};
+ghost use Rattle.mips_code.specs.Candidates.{branch_of, candidate_of};
 ghost use Rattle.mips_code.specs.Decoding.{instruction_of, DecodingIsExact};
 
 use crate::encoder::encode;
@@ -14,7 +16,7 @@ use mips_isa::{
     AluOp, Amount, Control, HiLo, ImmOp, Inst, JumpOp, JumpTarget, LogicOp, NonzeroReg, PairTest,
     Plain, Reg, ShiftOp, ZeroTest,
 };
-use words::Sign;
+use words::{Sign, Width};
 
 fn shift_at(code: u8) -> Option<ShiftOp>
     ensures { result ≡ shift_at code }
@@ -244,21 +246,41 @@ fn arithmetic(word: u32) -> Option<Plain>
     None
 }
 
+fn loading(width: Width, word: u32) -> Option<Plain>
+    ensures { result ≡ loading_of width (word / 2 ^ 21 % 32) (word / 2 ^ 16 % 32) (word % 2 ^ 16) }
+{
+    let base = reg_at(word, 21);
+    let rt = NonzeroReg::new(field(word, 16))?;
+    let offset = imm_of(word).cast_signed();
+    Some(Plain::Load {
+        width,
+        rt,
+        base,
+        offset,
+    })
+}
+
+fn storing(width: Width, word: u32) -> Plain
+    ensures { result ≡ Store width (word / 2 ^ 16 % 32) (word / 2 ^ 21 % 32) (cast_signed w16 (word % 2 ^ 16)) }
+{
+    Plain::Store {
+        width,
+        rt: reg_at(word, 16),
+        base: reg_at(word, 21),
+        offset: imm_of(word).cast_signed(),
+    }
+}
+
 fn memory(word: u32) -> Option<Plain>
     ensures { result ≡ memory_of (word / 2 ^ 26) (word / 2 ^ 21 % 32) (word / 2 ^ 16 % 32) (word % 2 ^ 16) }
 {
-    let code = op_at(word);
-    let base = reg_at(word, 21);
-    let rt = reg_at(word, 16);
-    let offset = imm_of(word).cast_signed();
-    if code == 35 {
-        let rt = NonzeroReg::new(rt.index())?;
-        return Some(Plain::Load { rt, base, offset });
+    match op_at(word) {
+        35 => loading(Width::Word, word),
+        36 => loading(Width::Byte, word),
+        40 => Some(storing(Width::Byte, word)),
+        43 => Some(storing(Width::Word, word)),
+        _ => None,
     }
-    if code == 43 {
-        return Some(Plain::Store { rt, base, offset });
-    }
-    None
 }
 
 fn branch(word: u32) -> Option<Control>

@@ -4,13 +4,13 @@ ghost use Rattle.std.specs.Prelude.{◌≡◌, ℕ, ◌+◌, ◌*◌, ◌/◌, �
 ghost use Rattle.mips_isa.specs.Ranges.{IsPlain, IsControl, IsInst};
 ghost use Rattle.mips_code.specs.Words.{register_word, immediate_word, jump_word, inst_word, word_of_plain, word_of_control, half};
 ghost use Rattle.mips_code.specs.Words.{shift_code, shift_by_code, alu_code, move_code, multiply_code, divide_code, imm_code, logic_code};
-ghost use Rattle.mips_code.specs.Words.{pair_code, jump_code, zero_code, zero_field};
+ghost use Rattle.mips_code.specs.Words.{load_code, store_code, pair_code, jump_code, zero_code, zero_field};
 
 use mips_isa::{
     AluOp, Amount, Control, HiLo, ImmOp, Inst, JumpOp, JumpTarget, LogicOp, PairTest, Plain, Reg,
     ShiftOp, ZeroTest,
 };
-use words::Sign;
+use words::{Sign, Width};
 
 fn shift_code(op: ShiftOp) -> u8
     ensures { result ≡ shift_code op }
@@ -91,6 +91,24 @@ fn logic_code(op: LogicOp) -> u8
         LogicOp::Andi => 12,
         LogicOp::Ori => 13,
         LogicOp::Xori => 14,
+    }
+}
+
+fn load_code(width: Width) -> u8
+    ensures { result ≡ load_code width }
+{
+    match width {
+        Width::Word => 35,
+        Width::Byte => 36,
+    }
+}
+
+fn store_code(width: Width) -> u8
+    ensures { result ≡ store_code width }
+{
+    match width {
+        Width::Word => 43,
+        Width::Byte => 40,
     }
 }
 
@@ -180,10 +198,18 @@ fn encode_plain(plain: Plain) -> u32
         Plain::MoveFrom { place, rd } => register_form(zero, zero, rd, 0, move_code(place)),
         Plain::Multiply { sign, rs, rt } => register_form(rs, rt, zero, 0, multiply_code(sign)),
         Plain::Divide { sign, rs, rt } => register_form(rs, rt, zero, 0, divide_code(sign)),
-        Plain::Load { rt, base, offset } => {
-            immediate_form(35, base, rt.reg(), offset.cast_unsigned())
-        }
-        Plain::Store { rt, base, offset } => immediate_form(43, base, rt, offset.cast_unsigned()),
+        Plain::Load {
+            width,
+            rt,
+            base,
+            offset,
+        } => immediate_form(load_code(width), base, rt.reg(), offset.cast_unsigned()),
+        Plain::Store {
+            width,
+            rt,
+            base,
+            offset,
+        } => immediate_form(store_code(width), base, rt, offset.cast_unsigned()),
     }
 }
 

@@ -14,7 +14,8 @@ use Rattle.mips_isa.specs.declared.action.Operand.TheVariants.{Held, Fixed}
 use Rattle.mips_isa.specs.declared.action.Action.{Action}
 use Rattle.mips_isa.specs.declared.action.Action.TheVariants.{Computes, Sets, Loads, Stores, Multiplies, Divides, MovesHigh, MovesLow}
 use Rattle.words.proofs.Bounds.{op_words}
-use Rattle.mips_isa.specs.States.{State, IsWords, is_register, read, put, is_open, is_inside, byte_of, load_word, load_byte, load_at, store_word, store_byte, store_at}
+use Rattle.mips_isa.specs.States.{State, IsWords, is_register, read, put, is_open, is_inside, byte_of}
+use Rattle.mips_isa.specs.States.{load_word, load_byte, load_at, store_word, store_byte, store_at}
 use Rattle.mips_isa.specs.Starting.{data_base, stack_base, stack_end, start_state}
 use Rattle.mips_isa.specs.Flows.{Pending, Nothing, Loaded, state_with_pending}
 use Rattle.mips_isa.specs.Actions.{operand, address, state_after, product_high, product_low, quotient_operator, remainder_operator}
