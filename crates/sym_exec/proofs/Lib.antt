@@ -1,2 +1,4 @@
-pub mod Values
 pub mod Tickets
+pub mod Reading
+pub mod Chains
+pub mod Values

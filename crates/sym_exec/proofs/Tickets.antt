@@ -1,9 +1,9 @@
 -- Tickets go on standing for their trees, also after a write.
 use Rattle.std.proofs.Common.{◌≡◌, ◌≢◌, ℕ, zero, suc, ◌+◌, ◌<◌, ◌≤◌, ◌==◌, Bool, true, false, cond, ◌&&◌, List, [], ◌∷◌, ◌++◌, length}
 use Rattle.std.proofs.Common.{slice_index_or, slice_set, Contains, refl, sym, ap, ap₂, ◌∙◌, subst, true≢false, eq-eqb, eqb-true, arith}
-use Rattle.std.specs.Prelude.{slice_index, OnOk, Result, Ok, Err}
+use Rattle.std.specs.Prelude.{slice_index, OnOk, IfOk, Result, Ok, Err}
 use Rattle.std.proofs.lemmas.List.{get_or-set_same, get_or-set_other}
-use Rattle.sym_terms.specs.Values.{const_tree}
+use Rattle.sym_terms.specs.NormalForms.{const_tree}
 use Rattle.mips_isa.proofs.Registers.{put_lost, read-put}
 use Rattle.sym_terms.specs.declared.label.Origin.TheVariants.{Register}
 use Rattle.sym_terms.specs.declared.label.Label.TheVariants.{Init}
@@ -112,9 +112,9 @@ stands_same {p} {s} {t} {u} h a b c d = record {
 }
 
 guard_on : {p q : PassState} → Later p q → (g : Guard) (x : GuardTree) → IsGuard p g x → IsGuard q g x
-guard_on {p} {q} e (Address t) (AtAddress x) h = still_tree e.extends h
-guard_on {p} {q} e (Address t) (AtDivision sign x y) h = h
-guard_on {p} {q} e (Division sign a b) (AtAddress x) h = h
+guard_on {p} {q} e (Address w t) (AtAddress v x) h = (h.0, still_tree e.extends h.1)
+guard_on {p} {q} e (Address w t) (AtDivision sign x y) h = h
+guard_on {p} {q} e (Division sign a b) (AtAddress v x) h = h
 guard_on {p} {q} e (Division sign a b) (AtDivision other x y) h = (h.0, still_tree e.extends h.1, still_tree e.extends h.2)
 
 pub guards_on : {p q : PassState} {gs : List Guard} {xs : List GuardTree} → Later p q → GuardsStand p gs xs → GuardsStand q gs xs
@@ -165,6 +165,14 @@ guards_more {p} {gs} {hs} {xs} g x h is e = subst (λ l. GuardsStand p l (x ∷ 
 pub on_ok : {X E : Type 0} {A B : Type 0} (r : Result X E) → OnOk r A → (A → B) → OnOk r B
 on_ok (Ok x) h f = f h
 on_ok (Err e) h f = h
+
+pub ok_always : {X E : Type 0} {A : Type 0} (r : Result X E) → A → OnOk r A
+ok_always (Ok x) h = h
+ok_always (Err e) h = tt
+
+pub if_ok : {X E : Type 0} {P Q : X → Type 0} (r : Result X E) → IfOk r P → ((x : X) → P x → Q x) → IfOk r Q
+if_ok (Ok x) h f = f x h
+if_ok (Err e) h f = h
 
 all_on : {p q : PassState} → Later p q → (ts : List ℕ) (xs : List Tree) → AllHave p ts xs → AllHave q ts xs
 all_on {p} {q} e [] [] h = h

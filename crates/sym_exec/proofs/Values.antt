@@ -8,7 +8,7 @@ use Rattle.mips_isa.specs.declared.action.Operand.{Operand}
 use Rattle.mips_isa.specs.declared.action.Operand.TheVariants.{Held, Fixed}
 use Rattle.mips_isa.specs.declared.action.Action.{Action}
 use Rattle.mips_isa.specs.declared.action.Action.TheVariants.{Computes, Sets, Loads, Stores, Multiplies, Divides, MovesHigh, MovesLow}
-use Rattle.mips_isa.specs.States.{State, IsWords, is_register, read, put, is_open, load_word, store_word}
+use Rattle.mips_isa.specs.States.{State, IsWords, is_register, read, put, is_open, load_at, store_at}
 use Rattle.mips_isa.specs.Actions.{operand, address, is_safe, state_after, product_high, product_low, quotient_operator, remainder_operator}
 use Rattle.mips_isa.proofs.Registers.{put-value, put_outside}
 use Rattle.mblock.specs.BlockMeaning.{Shape, Goes, ChoosesPair, ChoosesZero, Calls, Returns, Prints, Halts, exit_puts}
@@ -16,7 +16,8 @@ use Rattle.mblock.proofs.Runs.{total, AllSafe}
 use Rattle.sym_terms.specs.declared.label.Origin.TheVariants.{Link}
 use Rattle.sym_terms.specs.declared.label.Label.TheVariants.{Init}
 use Rattle.sym_terms.specs.Trees.{Tree, leaf}
-use Rattle.sym_terms.specs.Values.{tree_word, tree_memory, const_tree, op_tree}
+use Rattle.sym_terms.specs.Values.{tree_word, tree_memory}
+use Rattle.sym_terms.specs.NormalForms.{const_tree, op_tree}
 use Rattle.sym_terms.proofs.ValueLaws.{op_tree-value, load_tree-value, store_tree-value}
 use Rattle.sym_exec.specs.Symbolic.{GuardTree, is_good, TreeState, register_tree, operand_tree, address_tree, trees_after, all_trees}
 
@@ -58,15 +59,15 @@ module _ (s : State) (link : ℕ) (words : IsWords s) (low : link < 2 ^ 32) wher
       (regs_step t d _ _
       (op_tree-value op (register_tree t a) (operand_tree t b) s link words low ∙ ap₂ (op_value op) (register_tree-value t a) (operand-value t b)))
   step-value (Sets d w) t = ap (λ f. record (values s link t) { regs = f }) (regs_step t d _ _ refl)
-  step-value (Loads d base offset) t =
+  step-value (Loads w d base offset) t =
       ap (λ f. record (values s link t) { regs = f })
       (regs_step t d _ _
-      (load_tree-value t.memory (address_tree t base offset) s link words low
-      ∙ ap (load_word s.mapped (tree_memory t.memory s link)) (address-value t base offset)))
-  step-value (Stores r base offset) t =
+      (load_tree-value w t.memory (address_tree t base offset) s link words low
+      ∙ ap (load_at w s.mapped (tree_memory t.memory s link)) (address-value t base offset)))
+  step-value (Stores w r base offset) t =
       ap (λ m. record (values s link t) { memory = m })
-      (store_tree-value t.memory (address_tree t base offset) (register_tree t r) s link words low
-      ∙ ap₂ (store_word s.mapped (tree_memory t.memory s link)) (address-value t base offset) (register_tree-value t r))
+      (store_tree-value w t.memory (address_tree t base offset) (register_tree t r) s link words low
+      ∙ ap₂ (store_at w s.mapped (tree_memory t.memory s link)) (address-value t base offset) (register_tree-value t r))
   step-value (Multiplies sign a b) t =
       ap₂ (λ h l. record (values s link t) { hi = h; lo = l }) (two-value (product_high sign) t a b) (two-value (product_low sign) t a b)
   step-value (Divides sign a b) t = ap₂ (λ h l. record (values s link t) { hi = h; lo = l }) (two-value (remainder_operator sign) t a b)
@@ -108,8 +109,8 @@ module _ (s : State) (link : ℕ) (words : IsWords s) (low : link < 2 ^ 32) wher
   pub guards_down : (a : Action) (t : TreeState) → AllGood (trees_after a t).guards → (is_safe a (values s link t) ≡ true) × AllGood t.guards
   guards_down (Computes d op a b) t h = (refl, h)
   guards_down (Sets d w) t h = (refl, h)
-  guards_down (Loads d base offset) t h = (ap (is_open s.mapped) (sym (address-value t base offset)) ∙ good_head _ t.guards h, good_tail _ t.guards h)
-  guards_down (Stores r base offset) t h = (ap (is_open s.mapped) (sym (address-value t base offset)) ∙ good_head _ t.guards h, good_tail _ t.guards h)
+  guards_down (Loads w d base offset) t h = (ap (is_open w s.mapped) (sym (address-value t base offset)) ∙ good_head _ t.guards h, good_tail _ t.guards h)
+  guards_down (Stores w r base offset) t h = (ap (is_open w s.mapped) (sym (address-value t base offset)) ∙ good_head _ t.guards h, good_tail _ t.guards h)
   guards_down (Multiplies sign a b) t h = (refl, h)
   guards_down (Divides sign a b) t h =
       (ap₂ (has_quotient sign) (sym (register_tree-value t a)) (sym (register_tree-value t b)) ∙ good_head _ t.guards h, good_tail _ t.guards h)
@@ -119,8 +120,8 @@ module _ (s : State) (link : ℕ) (words : IsWords s) (low : link < 2 ^ 32) wher
   pub guards_up : (a : Action) (t : TreeState) → is_safe a (values s link t) ≡ true → AllGood t.guards → AllGood (trees_after a t).guards
   guards_up (Computes d op a b) t e h = h
   guards_up (Sets d w) t e h = h
-  guards_up (Loads d base offset) t e h = good_more _ t.guards (ap (is_open s.mapped) (address-value t base offset) ∙ e) h
-  guards_up (Stores r base offset) t e h = good_more _ t.guards (ap (is_open s.mapped) (address-value t base offset) ∙ e) h
+  guards_up (Loads w d base offset) t e h = good_more _ t.guards (ap (is_open w s.mapped) (address-value t base offset) ∙ e) h
+  guards_up (Stores w r base offset) t e h = good_more _ t.guards (ap (is_open w s.mapped) (address-value t base offset) ∙ e) h
   guards_up (Multiplies sign a b) t e h = h
   guards_up (Divides sign a b) t e h = good_more _ t.guards (ap₂ (has_quotient sign) (register_tree-value t a) (register_tree-value t b) ∙ e) h
   guards_up (MovesHigh d) t e h = h
@@ -142,8 +143,8 @@ module _ (s : State) (link : ℕ) (words : IsWords s) (low : link < 2 ^ 32) wher
 pub after_outside : (a : Action) (t : TreeState) (r : ℕ) → is_register r ≡ false → (trees_after a t).regs r ≡ t.regs r
 after_outside (Computes d op a b) t r e = put_outside t.regs d _ r e
 after_outside (Sets d w) t r e = put_outside t.regs d _ r e
-after_outside (Loads d base offset) t r e = put_outside t.regs d _ r e
-after_outside (Stores q base offset) t r e = refl
+after_outside (Loads w d base offset) t r e = put_outside t.regs d _ r e
+after_outside (Stores w q base offset) t r e = refl
 after_outside (Multiplies sign a b) t r e = refl
 after_outside (Divides sign a b) t r e = refl
 after_outside (MovesHigh d) t r e = put_outside t.regs d _ r e

@@ -1,6 +1,8 @@
 -- Tickets that stand for trees in what a pass has seen.
 use Rattle.std.specs.Prelude.{◌≡◌, ℕ, ◌<◌, List, [], ◌∷◌, slice_index, slice_set, Contains, ◌==◌, if◌then◌else◌, Result, OnErr}
-use Rattle.sym_terms.specs.Trees.{Tree}
+use Rattle.words.specs.declared.operator.Operator.TheVariants.{Addu}
+use Rattle.sym_terms.specs.declared.label.Label.TheVariants.{Op}
+use Rattle.sym_terms.specs.Trees.{Tree, binary}
 use Rattle.term_table.specs.Passes.{TableState, PassState, IsOf, HasSeen, linked}
 use Rattle.term_table.specs.Trees.{HasTree, Extends, HasLegalHistory}
 use Rattle.mblock.specs.BlockMeaning.{Shape, Goes, ChoosesPair, ChoosesZero, Calls, Returns, Prints, Halts}
@@ -33,6 +35,14 @@ pub record AfterReads (t : TableState) (p q : PassState) : Type 0 where
 pub record IsAddress (p : PassState) (a : TermAddress) (x : TreeAddress) : Type 0 where
   pub base : HasTree p a.base x.base
   pub offset : a.offset ≡ x.offset
+
+-- the tree is the sum of the trees of two tickets
+pub record AreSummands (p : PassState) (left right : ℕ) (x : Tree) : Type 0 where
+  pub a : Tree
+  pub b : Tree
+  pub has_left : HasTree p left a
+  pub has_right : HasTree p right b
+  pub sum : x ≡ binary (Op Addu) a b
 
 -- the pass has seen the tickets
 pub record Known (p : PassState) (s : TermPlaces) : Type 0 where

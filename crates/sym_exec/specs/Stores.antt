@@ -38,8 +38,9 @@ LeadsTo p k t (s ∷ rest) m =
     (s.before ≡ k) × HasTree p k t × (u : Tree) × (n : ℕ) × Makes p s t u × LeadsTo p n u rest m
 
 -- the stores make the memory of this ticket out of that at the start
-abbrev pub IsChain : PassState → List Stored → ℕ → Type 0
-IsChain p stores m = (k : ℕ) × LeadsTo p k (leaf Mem0) stores m
+pub record IsChain (p : PassState) (stores : List Stored) (m : ℕ) : Type 0 where
+  pub start : ℕ
+  pub leads : LeadsTo p start (leaf Mem0) stores m
 
 -- done again upon memory t, the last one first, the stores make memory u
 abbrev pub Rebuilds : PassState → List Stored → Tree → Tree → Type 0

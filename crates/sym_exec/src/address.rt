@@ -1,11 +1,10 @@
 //! Addresses by tickets: the constant that a term is, and the base and the constant of a sum.
-ghost use Rattle.std.specs.Prelude.{◌≡◌, ℕ, ◌<◌, ◌+◌, IfOk};
-ghost use Rattle.words.specs.Words.{wrap};
+ghost use Rattle.std.specs.Prelude.{◌≡◌, IfOk, IfSome, IfNone};
 ghost use Rattle.sym_terms.specs.Trees.{Tree};
-ghost use Rattle.sym_terms.specs.NormalForms.{constant_of, is_sum, address_of, tree_plus};
+ghost use Rattle.sym_terms.specs.NormalForms.{label_constant, constant_of, is_sum, at_base, address_of, tree_plus};
 ghost use Rattle.term_table.specs.Passes.{IsOf, HasSeen};
 ghost use Rattle.term_table.specs.Trees.{HasTree};
-ghost use Rattle.sym_exec.specs.Standing.{AfterInterns, AfterReads, IsAddress};
+ghost use Rattle.sym_exec.specs.Standing.{AfterInterns, AfterReads, IsAddress, AreSummands};
 
 use crate::terms::{binary_term, leaf_term};
 use sym_terms::Label;
@@ -19,6 +18,15 @@ pub(crate) struct TermAddress {
     pub(crate) offset: u32,
 }
 
+fn label_constant(label: Label) -> Option<u32>
+    ensures { result ≡ label_constant label }
+{
+    match label {
+        Label::Const(word) => Some(word),
+        _ => None,
+    }
+}
+
 /// The constant that a term is.
 pub(crate) fn constant_at(table: &TermTable, pass: &mut Pass, ticket: Ticket) -> Option<u32>
     requires table { IsOf table.now pass.old }
@@ -26,10 +34,11 @@ pub(crate) fn constant_at(table: &TermTable, pass: &mut Pass, ticket: Ticket) ->
     ensures value { (x : Tree) → HasTree pass.old ticket x → result ≡ constant_of x }
     ensures pass { AfterReads table.now pass.old pass.new }
 {
-    match table.read(pass, ticket).label {
-        Label::Const(word) => Some(word),
-        _ => None,
+    let node = table.read(pass, ticket);
+    if node.children.len() > 0 {
+        return None;
     }
+    label_constant(node.label)
 }
 
 fn is_sum_label(label: Label) -> bool
@@ -41,29 +50,45 @@ fn is_sum_label(label: Label) -> bool
     }
 }
 
+// The two terms that a sum is made of.
+fn summands(table: &TermTable, pass: &mut Pass, ticket: Ticket) -> Option<(Ticket, Ticket)>
+    requires table { IsOf table.now pass.old }
+    requires seen { HasSeen pass.old ticket }
+    ensures seen { IfSome result (λ s. HasSeen pass.new s.0 × HasSeen pass.new s.1) }
+    ensures none { (x : Tree) → HasTree pass.old ticket x → IfNone result (address_of x ≡ at_base x) }
+    ensures some { (x : Tree) → HasTree pass.old ticket x → IfSome result (λ s. AreSummands pass.new s.0 s.1 x) }
+    ensures pass { AfterReads table.now pass.old pass.new }
+{
+    let node = table.read(pass, ticket);
+    if !is_sum_label(node.label) {
+        return None;
+    }
+    match *node.children.as_slice() {
+        [left, right] => Some((left, right)),
+        _ => None,
+    }
+}
+
 /// The base and the constant of an address.
 pub(crate) fn address_at(table: &TermTable, pass: &mut Pass, ticket: Ticket) -> TermAddress
     requires table { IsOf table.now pass.old }
     requires seen { HasSeen pass.old ticket }
     ensures seen { HasSeen pass.new result.base }
     ensures tree { (x : Tree) → HasTree pass.old ticket x → IsAddress pass.new result (address_of x) }
-    ensures range { result.offset < 2 ^ 32 }
     ensures pass { AfterReads table.now pass.old pass.new }
 {
-    let whole = TermAddress {
-        base: ticket,
-        offset: 0,
-    };
-    let node = table.read(pass, ticket);
-    if !is_sum_label(node.label) {
-        return whole;
-    }
-    let [base, constant] = *node.children.as_slice() else {
-        return whole;
+    let Some((base, constant)) = summands(table, pass, ticket) else {
+        return TermAddress {
+            base: ticket,
+            offset: 0,
+        };
     };
     match constant_at(table, pass, constant) {
         Some(offset) => TermAddress { base, offset },
-        None => whole,
+        None => TermAddress {
+            base: ticket,
+            offset: 0,
+        },
     }
 }
 

@@ -145,7 +145,7 @@ impl TermPlaces {
     {
         let address = self.address(table, pass, base, offset)?;
         let at = address_at(table, pass, address);
-        let value = chain.load_term(table, pass, self.memory, width, at, address)?;
+        let value = chain.load_term(table, pass, self.memory, width, &at, address)?;
         self.set(d.reg(), value);
         Ok(address)
     }
@@ -178,7 +178,7 @@ impl TermPlaces {
         let address = self.address(table, pass, base, offset)?;
         let at = address_at(table, pass, address);
         let value = self.get(r);
-        self.memory = chain.store_term(table, pass, self.memory, width, at, address, value)?;
+        self.memory = chain.store_term(table, pass, self.memory, width, &at, address, value)?;
         Ok(address)
     }
 

@@ -50,23 +50,24 @@ impl Stored {
     ghost use Rattle.sym_exec.specs.Stores.{passes, passes_inward};
 
     /// Whether an access doesn't meet this store.
-    fn is_passed(&self, width: Width, at: TermAddress) -> bool
-        ensures { result ≡ passes self.now width at }
+    fn is_passed(&self, width: Width, at: &TermAddress) -> bool
+        ensures { result ≡ passes self.now width at.now }
     {
         self.at.base == at.base && are_disjoint(self.width, self.at.offset, width, at.offset)
     }
 
     /// Whether a store at this address belongs inside this one.
-    fn is_passed_inward(&self, width: Width, at: TermAddress) -> bool
-        ensures { result ≡ passes_inward self.now width at }
+    fn is_passed_inward(&self, width: Width, at: &TermAddress) -> bool
+        ensures { result ≡ passes_inward self.now width at.now }
     {
-        self.is_passed(width, at) && at.offset.cast_signed() < self.at.offset.cast_signed()
+        let (outer, inner) = (self.at.offset, at.offset);
+        self.is_passed(width, at) && inner.cast_signed() < outer.cast_signed()
     }
 }
 
 /// The memory that a load sees, behind all stores that it passes.
-fn seen_memory(stores: &[Stored], memory: Ticket, width: Width, at: TermAddress) -> Ticket
-    ensures { (p : PassState) (m b : Tree) → HasLegalHistory p → IsChain p stores.now memory → HasTree p memory m → IsAddress p at (address_of b)
+fn seen_memory(stores: &[Stored], memory: Ticket, width: Width, at: &TermAddress) -> Ticket
+    ensures { (p : PassState) (m b : Tree) → HasLegalHistory p → IsChain p stores.now memory → HasTree p memory m → IsAddress p at.now (address_of b)
         → (n : Tree) × HasTree p result n × (load_tree width m b ≡ binary (Load width) n b) }
 {
     let mut memory = memory;
@@ -99,14 +100,14 @@ impl StoreChain {
         pass: &mut Pass,
         memory: Ticket,
         width: Width,
-        at: TermAddress,
+        at: &TermAddress,
         address: Ticket,
     ) -> Result<Ticket, TableFull>
         requires table { IsOf table.now pass.old }
         requires legal { HasLegalHistory pass.old }
         requires chain { IsChain pass.old self.now.stores.items memory }
         requires address { HasSeen pass.old address }
-        requires at { (b : Tree) → HasTree pass.old address b → IsAddress pass.old at (address_of b) }
+        requires at { (b : Tree) → HasTree pass.old address b → IsAddress pass.old at.now (address_of b) }
         ensures seen { IfOk result (λ t. HasSeen pass.new t) }
         ensures tree { (m b : Tree) → HasTree pass.old memory m → HasTree pass.old address b → IfOk result (λ t. HasTree pass.new t (load_tree width m b)) }
         ensures pass { AfterInterns table.now pass.old result pass.new }
@@ -116,12 +117,12 @@ impl StoreChain {
     }
 
     // Sets aside the stores that a store at this address belongs inside of. Answers the memory before them.
-    fn set_aside(&mut self, memory: Ticket, width: Width, at: TermAddress) -> Ticket
+    fn set_aside(&mut self, memory: Ticket, width: Width, at: &TermAddress) -> Ticket
         requires room { HasStoreRoom self.old }
         requires few { vec_len self.old.stores < ORDER_INSTS + 1 }
         ensures chain { (p : PassState) → IsChain p self.old.stores.items memory → IsChain p self.new.stores.items result }
         ensures trees { (p : PassState) (m b v : Tree) → HasLegalHistory p → IsChain p self.old.stores.items memory → HasTree p memory m
-            → IsAddress p at (address_of b)
+            → IsAddress p at.now (address_of b)
             → (n : Tree) × HasTree p result n × Rebuilds p self.new.moved.items (ternary (Store width) n b v) (store_tree width m b v) }
         ensures count { vec_len self.new.stores + vec_len self.new.moved ≡ vec_len self.old.stores }
         ensures capacity { (vec_capacity self.new.stores ≡ vec_capacity self.old.stores) × (vec_capacity self.new.moved ≡ vec_capacity self.old.moved) }
@@ -132,8 +133,8 @@ impl StoreChain {
                 self.stores.push_reserved(last);
                 return memory;
             }
-            self.moved.push_reserved(last);
             memory = last.before;
+            self.moved.push_reserved(last);
         }
         memory
     }
@@ -178,7 +179,7 @@ impl StoreChain {
         pass: &mut Pass,
         memory: Ticket,
         width: Width,
-        at: TermAddress,
+        at: &TermAddress,
         address: Ticket,
         value: Ticket,
     ) -> Result<Ticket, TableFull>
@@ -189,7 +190,7 @@ impl StoreChain {
         requires chain { IsChain pass.old self.old.stores.items memory }
         requires address { HasSeen pass.old address }
         requires value { HasSeen pass.old value }
-        requires at { (b : Tree) → HasTree pass.old address b → IsAddress pass.old at (address_of b) }
+        requires at { (b : Tree) → HasTree pass.old address b → IsAddress pass.old at.now (address_of b) }
         ensures chain { IfOk result (IsChain pass.new self.new.stores.items) }
         ensures tree { (m b v : Tree) → HasTree pass.old memory m → HasTree pass.old address b → HasTree pass.old value v
             → IfOk result (λ k. HasTree pass.new k (store_tree width m b v)) }
@@ -200,7 +201,7 @@ impl StoreChain {
         let inner = self.set_aside(memory, width, at);
         let stored = Stored {
             width,
-            at,
+            at: *at,
             address,
             value,
             before: inner,

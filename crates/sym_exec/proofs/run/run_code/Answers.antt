@@ -1,14 +1,16 @@
-use Rattle.std.proofs.Common.{map, rules}
+use Rattle.std.proofs.Common.{map, rules, sym, subst}
 use Rattle.mips_isa.specs.Actions.{action_of}
 use Rattle.mblock.specs.BlockMeaning.{exit_shape}
 use Rattle.sym_exec.specs.Symbolic.{start_trees, all_trees, exit_trees, exit_operands}
+use Rattle.sym_exec.specs.Stores.{IsChain}
+use Rattle.sym_exec.proofs.Chains.{chain-on}
 use Rattle.sym_exec.proofs.Tickets.{later_more, guards_on, guards_none, leaves_on}
 use Rattle.sym_exec.proofs.run.run_code.Goals as goal
 
 pub returns-clause-trees : goal.returns-clause-trees
 returns-clause-trees c =
     let t = all_trees (map action_of c.args.insts.now) start_trees in
-    let run = c.in_ok-steps.ensures.stands start_trees c.in_ok-places.ensures.stands (guards_none c.requires.room.0) in
+    let run = c.in_ok-steps.ensures.stands start_trees c.in_ok-places.ensures.stands (guards_none c.requires.none.0) in
     let own = c.in_ok-put_own.ensures.stands t run.0 in
     let own_later = c.in_ok-put_own.ensures.pass.later in
     let last = c.in_ok-run_slot.ensures.stands (exit_trees c.args.exit.now t) own (guards_on own_later run.1) in
@@ -72,3 +74,8 @@ pub returns-clause-legal : goal.returns-clause-legal
 returns-clause-legal c =
     (later_more c.in_ok-steps.ensures.pass.later
     (later_more c.in_ok-put_own.ensures.pass.later (c.in_ok-run_slot.ensures.pass.later))).legal c.in_ok-places.ensures.legal
+
+pub run_slot-requires-clause-chain : goal.run_slot-requires-clause-chain
+run_slot-requires-clause-chain c =
+    subst (IsChain c.put_own.new.pass c.steps.new.lists.chain.stores.items) (sym c.in_ok-put_own.ensures.memory)
+    (chain-on c.in_ok-put_own.ensures.pass.later c.in_ok-steps.ensures.chain)

@@ -1,16 +1,19 @@
-use Rattle.term_table.proofs.Callers.{still_seen, still_tree}
+use Rattle.std.proofs.Common.{◌∙◌, sym, ap, subst, rules}
+use Rattle.std.specs.Prelude.{IfOk}
+use Rattle.sym_terms.specs.NormalForms.{address_of, tree_plus}
+use Rattle.term_table.specs.Trees.{HasTree}
 use Rattle.sym_exec.specs.Symbolic.{register_tree}
-use Rattle.sym_exec.proofs.Tickets.{get_seen, get_tree, calls_more}
+use Rattle.sym_exec.proofs.Tickets.{get_seen, get_tree, later_more}
+use Rattle.sym_exec.proofs.Reading.{address-is}
 use Rattle.sym_exec.proofs.state.TermPlaces.address.Goals as goal
 
-pub op_term-requires-clause-a : goal.op_term-requires-clause-a
-op_term-requires-clause-a c =
-    still_seen c.in_ok-offset.ensures.pass.later.extends c.get.result (get_seen c.requires.known c.get.ensures.value c.get.ensures.range)
+pub address_at-at-requires-clause-seen : goal.address_at-at-requires-clause-seen
+address_at-at-requires-clause-seen c = get_seen c.requires.known c.get.ensures.value c.get.ensures.range
 
 pub returns-clause-tree : goal.returns-clause-tree
-returns-clause-tree c =
-    λ t h. c.op_term.ensures.tree (register_tree t c.args.base) _
-    (still_tree c.in_ok-offset.ensures.pass.later.extends (get_tree {t = t} h c.get.ensures.value c.get.ensures.range)) c.in_ok-offset.ensures.tree
-
-pub returns-clause-pass : goal.returns-clause-pass
-returns-clause-pass c = calls_more c.in_ok-offset.ensures.pass c.op_term.ensures.pass
+returns-clause-tree c = λ t h.
+    let x = register_tree t c.args.base in
+    let at = c.address_at-at.ensures.tree x (get_tree {t = t} h c.get.ensures.value c.get.ensures.range) in
+    subst (λ y. IfOk c.plus_term.result (λ k. HasTree c.plus_term.new.pass k y)) (sym (address-is x c.args.offset))
+    (subst (λ n. IfOk c.plus_term.result (λ k. HasTree c.plus_term.new.pass k (tree_plus (address_of x).base n))) (search rules)
+    (c.plus_term.ensures.tree (address_of x).base at.base))

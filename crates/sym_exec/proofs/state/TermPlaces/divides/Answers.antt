@@ -1,5 +1,5 @@
 use Rattle.std.proofs.Common.{subst, rules}
-use Rattle.sym_terms.specs.Values.{op_tree}
+use Rattle.sym_terms.specs.NormalForms.{op_tree}
 use Rattle.term_table.proofs.Callers.{still_seen, still_tree}
 use Rattle.sym_exec.specs.Symbolic.{register_tree}
 use Rattle.sym_exec.specs.Standing.{Stands, Known}

@@ -1,0 +1,120 @@
+-- What a node that was read says of its tree.
+use Rattle.std.proofs.Common.{◌≡◌, ◌≢◌, ℕ, zero, suc, ◌+◌, ◌<◌, ◌≤◌, ◌^◌, ◌==◌, Bool, true, false, cond, List, [], ◌∷◌, length, slice_index_or, Option, Some, None, refl, sym, ap, ap₂, ◌∙◌, subst, true≢false, eqb-true, arith}
+use Rattle.words.specs.declared.operator.Operator.{Operator}
+use Rattle.words.specs.declared.operator.Operator.TheVariants.{Addu}
+use Rattle.words.specs.Words.{wrap}
+use Rattle.sym_terms.specs.declared.label.Label.{Label}
+use Rattle.sym_terms.specs.declared.label.Label.TheVariants.{Init, Mem0, Const, Op, Load, Store}
+use Rattle.sym_terms.specs.Trees.{Tree, Trees, node, none, more, leaf, binary}
+use Rattle.sym_terms.specs.NormalForms.{label_constant, constant_of, is_addition, is_sum, at_base, sum_address, address_of, tree_plus, sum_tree, const_tree, op_tree}
+use Rattle.sym_terms.proofs.Sameness.{operator-is}
+use Rattle.term_table.specs.Passes.{TableState, PassState, IsOf, HasSeen}
+use Rattle.term_table.specs.Trees.{HasTree, HaveTrees, Extends, HasLegalHistory, IsNode}
+use Rattle.term_table.proofs.Callers.{still_tree, seen_tree, one_tree}
+use Rattle.sym_exec.specs.declared.address.TermAddress.{TermAddress}
+use Rattle.sym_exec.specs.Standing.{Later, AfterReads, IsAddress, AreSummands}
+use Rattle.sym_exec.proofs.Tickets.{later_self, later_more}
+
+pub reads-self : {t : TableState} {p : PassState} → IsOf t p → AfterReads t p p
+reads-self {t} {p} h = record { table = h; later = later_self p }
+
+pub reads-more : {t : TableState} {p q r : PassState} → AfterReads t p q → AfterReads t q r → AfterReads t p r
+reads-more {t} {p} {q} {r} e f = record { table = f.table; later = later_more e.later f.later }
+
+-- a tree without children
+node-leaf : {p : PassState} {l : Label} {x : Tree} → IsNode p l [] x → x ≡ leaf l
+node-leaf {p} {l} {x} n = go n.trees n.tree n.have
+  where
+    go : (ts : Trees) → x ≡ node l ts → HaveTrees p [] ts → x ≡ leaf l
+    go none e h = e
+    go (more y ys) e h = absurd h
+
+-- a leaf's constant, and none where there are children
+pub constant-leaf : {p : PassState} {l : Label} (ks : List ℕ) {x : Tree} → IsNode p l ks x → length ks ≤ 0 → constant_of x ≡ label_constant l
+constant-leaf {p} {l} [] {x} n few = ap constant_of (node-leaf n)
+constant-leaf {p} {l} (k ∷ ks) {x} n few = absurd (omega (arith, few))
+
+pub constant-none : {p : PassState} {l : Label} (ks : List ℕ) {x : Tree} → IsNode p l ks x → 0 < length ks → constant_of x ≡ None
+constant-none {p} {l} [] {x} n some = absurd (omega (arith, some))
+constant-none {p} {l} (k ∷ ks) {x} n some = go n.trees n.tree n.have
+  where
+    go : (ts : Trees) → x ≡ node l ts → HaveTrees p (k ∷ ks) ts → constant_of x ≡ None
+    go none e h = absurd h
+    go (more y ys) e h = ap constant_of e
+
+-- what is no sum of two terms is a base itself
+pub address-other : {p : PassState} {l : Label} (ks : List ℕ) {x : Tree} → IsNode p l ks x → is_sum l ≡ false → address_of x ≡ at_base x
+address-other {p} {l} ks {x} n e = go n.trees n.tree
+  where
+    at : (ts : Trees) → address_of (node l ts) ≡ at_base (node l ts)
+    at none = refl
+    at (more a none) = refl
+    at (more a (more b none)) = ap (λ t. sum_address t (binary l a b) a (constant_of b)) e
+    at (more a (more b (more c rest))) = refl
+
+    go : (ts : Trees) → x ≡ node l ts → address_of x ≡ at_base x
+    go ts is = subst (λ y. address_of y ≡ at_base y) (sym is) (at ts)
+
+pub address-few : {p : PassState} {l : Label} (ks : List ℕ) {x : Tree} → IsNode p l ks x → length ks ≢ 2 → address_of x ≡ at_base x
+address-few {p} {l} ks {x} n many = go ks many n.trees n.tree n.have
+  where
+    go : (js : List ℕ) → length js ≢ 2 → (ts : Trees) → x ≡ node l ts → HaveTrees p js ts → address_of x ≡ at_base x
+    go js other none is h = subst (λ y. address_of y ≡ at_base y) (sym is) refl
+    go js other (more a none) is h = subst (λ y. address_of y ≡ at_base y) (sym is) refl
+    go js other (more a (more b (more c rest))) is h = subst (λ y. address_of y ≡ at_base y) (sym is) refl
+    go (j ∷ k ∷ []) other (more a (more b none)) is h = absurd (other refl)
+    go [] other (more a (more b none)) is h = absurd h
+    go (j ∷ []) other (more a (more b none)) is h = absurd h.1
+    go (j ∷ k ∷ i ∷ rest) other (more a (more b none)) is h = absurd h.1.1
+
+sum-is : (l : Label) → is_sum l ≡ true → l ≡ Op Addu
+sum-is (Op op) h = ap Op (operator-is op Addu h)
+sum-is (Init p) h = absurd (true≢false (sym h))
+sum-is Mem0 h = absurd (true≢false (sym h))
+sum-is (Const w) h = absurd (true≢false (sym h))
+sum-is (Load w) h = absurd (true≢false (sym h))
+sum-is (Store w) h = absurd (true≢false (sym h))
+
+pub summands-of : {p : PassState} {l : Label} {left right : ℕ} {x : Tree} → IsNode p l (left ∷ right ∷ []) x → is_sum l ≡ true → AreSummands p left right x
+summands-of {p} {l} {left} {right} {x} n e = go n.trees n.tree n.have
+  where
+    go : (ts : Trees) → x ≡ node l ts → HaveTrees p (left ∷ right ∷ []) ts → AreSummands p left right x
+    go none is h = absurd h
+    go (more a none) is h = absurd h.1
+    go (more a (more b none)) is h =
+        record { a = a; b = b; has_left = h.0; has_right = h.1.0; sum = is ∙ ap (λ k. binary k a b) (sum-is l e) }
+    go (more a (more b (more c rest))) is h = absurd h.1.1
+
+-- the address of a sum, by what its right side is
+pub address-sum : {p : PassState} {left right : ℕ} {x : Tree} (s : AreSummands p left right x) (c : ℕ) → c < 2 ^ 32 → constant_of s.b ≡ Some c
+    → address_of x ≡ record { base = s.a; offset = c }
+address-sum {p} {left} {right} {x} s c low e =
+    ap address_of s.sum ∙ (ap (λ o. sum_address true (binary (Op Addu) s.a s.b) s.a o) e ∙ ap (λ n. record { base = s.a; offset = n }) (let h : wrap c ≡ c = omega (arith, low) in h))
+
+pub address-none : {p : PassState} {left right : ℕ} {x : Tree} (s : AreSummands p left right x) → constant_of s.b ≡ None → address_of x ≡ at_base x
+address-none {p} {left} {right} {x} s e =
+    ap address_of s.sum ∙ (ap (λ o. sum_address true (binary (Op Addu) s.a s.b) s.a o) e ∙ ap at_base (sym s.sum))
+
+pub address-base : {p q : PassState} {t : ℕ} {x : Tree} → Later p q → HasTree p t x → address_of x ≡ at_base x
+    → IsAddress q (record { base = t; offset = 0 }) (address_of x)
+address-base {p} {q} {t} {x} e h is =
+    subst (IsAddress q (record { base = t; offset = 0 })) (sym is) (record { base = still_tree e.extends h; offset = refl })
+
+-- a list of two
+pub two-of : (xs : List ℕ) (a b : ℕ) → 2 ≤ length xs → length xs < 3 → a ≡ slice_index_or xs 0 a → b ≡ slice_index_or xs 1 b → xs ≡ a ∷ b ∷ []
+two-of [] a b least below ea eb = absurd (omega (arith, least))
+two-of (x ∷ []) a b least below ea eb = absurd (omega (arith, least))
+two-of (x ∷ y ∷ []) a b least below ea eb = ap₂ (λ i j. i ∷ j ∷ []) (sym ea) (sym eb)
+two-of (x ∷ y ∷ z ∷ rest) a b least below ea eb = absurd (omega (arith, below))
+
+-- an address in normal form
+pub address-is : (x : Tree) (c : ℕ) → op_tree Addu x (const_tree c) ≡ tree_plus (address_of x).base (wrap ((address_of x).offset + c))
+unfolding op_tree
+address-is x c = refl
+
+-- an address that was read is that of the tree which the ticket has later
+pub address-later : {p q : PassState} {t : ℕ} {a : TermAddress} → HasLegalHistory p → HasSeen p t → Later p q
+    → ((x : Tree) → HasTree p t x → IsAddress q a (address_of x)) → (b : Tree) → HasTree q t b → IsAddress q a (address_of b)
+address-later {p} {q} {t} {a} legal seen on at b h =
+    let x = seen_tree legal seen in
+    subst (λ y. IsAddress q a (address_of y)) (one_tree (still_tree on.extends x.1) h) (at x.0 x.1)
