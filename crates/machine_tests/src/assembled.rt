@@ -12,6 +12,7 @@ use mips_machine::run;
 use mips_steps::Ending;
 use std::alloc::{AllocError, Global};
 use std::test::Fail;
+use words::Width;
 
 // Register 4 as one that can be written.
 fn argument() -> NonzeroReg {
@@ -53,6 +54,7 @@ fn blocks(alloc: Global) -> Result<Vec<Block>, AllocError> {
             imm: 4096,
         },
         Plain::Load {
+            width: Width::Word,
             rt: argument(),
             base,
             offset: 4,
@@ -217,6 +219,71 @@ fn a_unit_becomes_an_image_of_the_second_version(rt: HostRuntime) -> Result<(), 
 fn data_of_half_a_word_has_no_first_version(rt: HostRuntime) -> Result<(), Fail> {
     if let Some(unit) = program(rt.alloc(), [1, 2].as_slice())? {
         assert!(rt; first_version(rt.alloc(), &unit)?.is_none());
+    }
+    Ok(())
+}
+
+// Adds 1 to a byte of data, writes it before another, and ends with the word that it then stands in.
+fn byte_block(alloc: Global) -> Result<Vec<Block>, AllocError> {
+    let base = Reg::masked(8);
+    let insts = [
+        Plain::LoadUpper {
+            rt: base,
+            imm: 4096,
+        },
+        Plain::Load {
+            width: Width::Byte,
+            rt: argument(),
+            base,
+            offset: 5,
+        },
+        add(Reg::ARGUMENT, 1),
+        Plain::Store {
+            width: Width::Byte,
+            rt: Reg::ARGUMENT,
+            base,
+            offset: 2,
+        },
+        Plain::Load {
+            width: Width::Word,
+            rt: argument(),
+            base,
+            offset: 0,
+        },
+    ];
+    let mut blocks = Vec::new(alloc);
+    push_block(alloc, &mut blocks, insts.as_slice(), Exit::Halt)?;
+    Ok(blocks)
+}
+
+const BYTE_WORDS: [u32; 9] = [
+    0x3c08_1000,
+    0x9104_0005,
+    0,
+    0x2484_0001,
+    0xa104_0002,
+    0x8d04_0000,
+    0,
+    0x2402_000a,
+    0x0000_000c,
+];
+
+// A loaded byte is waited for as a loaded word is.
+#[test]
+fn bytes_become_an_image(rt: HostRuntime) -> Result<(), Fail> {
+    let mut owner = Vec::new(rt.alloc());
+    owner.push(number(0))?;
+    let data = Vec::from_slice(rt.alloc(), [1, 2, 3, 4, 5, 255, 7, 8].as_slice())?;
+    let unit = Unit::new(byte_block(rt.alloc())?, owner, data);
+    assert!(rt; unit.is_some());
+    if let Some(unit) = unit {
+        let image = first_version(rt.alloc(), &unit)?;
+        assert!(rt; image.is_some());
+        if let Some(image) = image {
+            assert_eq!(rt; image.code(), BYTE_WORDS.as_slice());
+            let ran = run(rt.alloc(), &image, 1000)?;
+            assert!(rt; ran.end == Ending::Halt(0x0102_0004));
+        }
     }
     Ok(())
 }

@@ -117,6 +117,57 @@ fn data_is_loaded_and_stored(rt: HostRuntime) -> Result<(), Fail> {
 }
 
 #[test]
+fn bytes_are_loaded_and_stored_at_any_address(rt: HostRuntime) -> Result<(), Fail> {
+    let words = [
+        // lui $8,4096
+        0x3c08_1000,
+        // lbu $4,3($8), which is printed; a byte of 128 or more stays positive
+        0x9104_0003,
+        0x2402_0001,
+        0x0000_000c,
+        // lbu $4,5($8), likewise
+        0x9104_0005,
+        0x2402_0001,
+        0x0000_000c,
+        // addiu $9,$0,511; sb $9,6($8); the word around it is printed
+        0x2409_01ff,
+        0xa109_0006,
+        0x8d04_0004,
+        0x2402_0001,
+        0x0000_000c,
+        // sw $4,-4($29); lbu $4,-2($29), with which the program ends
+        0xafa4_fffc,
+        0x93a4_fffe,
+        0x2402_000a,
+        0x0000_000c,
+    ];
+    let data = [0x0102_0380, 0xa1b2_c3d4];
+    let output = [0x80, 0xb2, 0xa1b2_ffd4];
+    assert!(rt; comes_to(rt.alloc(), &words, &data, 100, Ending::Halt(0xff), &output)?);
+    Ok(())
+}
+
+#[test]
+fn a_byte_has_the_rules_of_a_load_but_for_its_address(rt: HostRuntime) -> Result<(), Fail> {
+    for (words, end) in [
+        // lbu $8,-3($29); addu $9,$8,$8
+        (
+            [0x93a8_fffd, 0x0108_4821].as_slice(),
+            Ending::Stuck(Rule::M1),
+        ),
+        // lbu $8,1($0)
+        ([0x9008_0001].as_slice(), Ending::Stuck(Rule::M6)),
+        // sb $8,1($0)
+        ([0xa008_0001].as_slice(), Ending::Stuck(Rule::M6)),
+        // lbu $0,4($29) is no instruction
+        ([0x93a0_0004].as_slice(), Ending::Stuck(Rule::M8)),
+    ] {
+        assert!(rt; comes_to(rt.alloc(), words, &[0; 0], 1000, end, &[0; 0])?);
+    }
+    Ok(())
+}
+
+#[test]
 fn a_long_run_goes_on(rt: HostRuntime) -> Result<(), Fail> {
     let words = [
         0x2508_0001,

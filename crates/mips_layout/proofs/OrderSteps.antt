@@ -71,9 +71,9 @@ or_second true b e = absurd (true≢false e)
 or_second false b e = e
 
 pending_none : (a : Action) (s : State) → is_load a ≡ false → pending_of a s ≡ Nothing
-pending_none (Loads d base offset) s e = absurd (true≢false e)
+pending_none (Loads w d base offset) s e = absurd (true≢false e)
 pending_none (Computes d op x y) s e = refl
-pending_none (Stores q base offset) s e = refl
+pending_none (Stores w q base offset) s e = refl
 pending_none (Sets d w) s e = refl
 pending_none (Multiplies sign x y) s e = refl
 pending_none (Divides sign x y) s e = refl

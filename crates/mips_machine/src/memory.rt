@@ -1,10 +1,11 @@
 ghost use Rattle.std.specs.Prelude.{replicate, IfOk, ◌≡◌, ℕ, ◌<◌, ◌≤◌, ◌+◌, ◌*◌, ◌-◌, ◌/◌, ◌^◌, slice_set, slice_index, Some, None, true};
-ghost use Rattle.std.specs.Prelude.{length, if◌then◌else◌};
-ghost use Rattle.mips_isa.specs.States.{is_open, load_word, store_word};
+ghost use Rattle.std.specs.Prelude.{length, if◌then◌else◌, ◌==◌};
+ghost use Rattle.mips_isa.specs.States.{is_open, byte_of, load_at, store_at};
 ghost use Rattle.mips_isa.specs.Starting.{words_mapped, first_bytes};
-ghost use Rattle.mips_machine.specs.Places.{bytes_in, word_in};
+ghost use Rattle.mips_machine.specs.Places.{bytes_in, word_holding, with_word, word_in};
 
 use std::alloc::{AllocError, Global};
+use words::Width;
 
 const DATA_BASE: u32 = 0x1000_0000;
 
@@ -29,6 +30,24 @@ fn word_of(words: &[u32], place: usize) -> u32
     words[place]
 }
 
+// The byte at a place of a word, the highest first.
+fn byte_at_place(word: u32, place: usize) -> u8
+    requires { place < 4 }
+    ensures { result ≡ byte_of word place }
+{
+    word.to_be_bytes()[place]
+}
+
+// The word with this byte at a place.
+fn with_byte(word: u32, place: usize, byte: u8) -> u32
+    requires { place < 4 }
+    ensures { (i : ℕ) → i < 4 → byte_of result i ≡ (if i == place then byte else byte_of word i) }
+{
+    let mut bytes = word.to_be_bytes();
+    bytes[place] = byte;
+    u32::from_be_bytes(bytes)
+}
+
 impl Memory {
     /// Whether the address of a byte is mapped.
     pub fn is_mapped(&self, a: u32) -> bool
@@ -38,10 +57,11 @@ impl Memory {
             || (STACK_BASE <= a && a < 0x7000_0000)
     }
 
-    /// The word at an address.
-    pub fn load(&self, a: u32) -> u32
-        requires { is_open (words_mapped (length self.now.globals.items)) a ≡ true }
-        ensures { result ≡ load_word (words_mapped (length self.now.globals.items)) (bytes_in self.now.globals.items self.now.stack.items) a }
+    // The word that holds the byte at an address.
+    fn word_at(&self, a: u32) -> u32
+        requires { words_mapped (length self.now.globals.items) a ≡ true }
+        ensures value { result ≡ word_holding self.now.globals.items self.now.stack.items a }
+        ensures range { result < 2 ^ 32 }
     {
         if STACK_BASE <= a {
             word_of(&self.stack, ((a - STACK_BASE) / 4) as usize)
@@ -50,17 +70,46 @@ impl Memory {
         }
     }
 
-    /// Writes the word at an address.
-    pub fn store(&mut self, a: u32, word: u32)
-        requires { is_open (words_mapped (length self.old.globals.items)) a ≡ true }
+    // Replaces the word that holds the byte at an address.
+    fn put_word(&mut self, a: u32, word: u32)
+        requires { words_mapped (length self.old.globals.items) a ≡ true }
         ensures bytes { bytes_in self.new.globals.items self.new.stack.items
-            ≡ store_word (words_mapped (length self.old.globals.items)) (bytes_in self.old.globals.items self.old.stack.items) a word }
+            ≡ with_word (bytes_in self.old.globals.items self.old.stack.items) a word }
         ensures length { length self.new.globals.items ≡ length self.old.globals.items }
     {
         if STACK_BASE <= a {
             self.stack[((a - STACK_BASE) / 4) as usize] = word;
         } else {
             self.globals[((a - DATA_BASE) / 4) as usize] = word;
+        }
+    }
+
+    /// The word at an address, or the byte, extended with zeros.
+    pub fn load(&self, width: Width, a: u32) -> u32
+        requires { is_open width (words_mapped (length self.now.globals.items)) a ≡ true }
+        ensures { result ≡ load_at width (words_mapped (length self.now.globals.items)) (bytes_in self.now.globals.items self.now.stack.items) a }
+    {
+        let word = self.word_at(a);
+        match width {
+            Width::Word => word,
+            Width::Byte => u32::from(byte_at_place(word, (a % 4) as usize)),
+        }
+    }
+
+    /// Writes the word at an address, or its low eight bits as the byte there.
+    pub fn store(&mut self, width: Width, a: u32, word: u32)
+        requires { is_open width (words_mapped (length self.old.globals.items)) a ≡ true }
+        ensures bytes { bytes_in self.new.globals.items self.new.stack.items
+            ≡ store_at width (words_mapped (length self.old.globals.items)) (bytes_in self.old.globals.items self.old.stack.items) a word }
+        ensures length { length self.new.globals.items ≡ length self.old.globals.items }
+    {
+        match width {
+            Width::Word => self.put_word(a, word),
+            Width::Byte => {
+                let held = self.word_at(a);
+                let whole = with_byte(held, (a % 4) as usize, (word % 256) as u8);
+                self.put_word(a, whole);
+            }
         }
     }
 }

@@ -11,7 +11,7 @@ use mips_isa::{
     Action, NonzeroReg, Operand, Reg, Rule, product_high, product_low, quotient_operator,
     remainder_operator,
 };
-use words::Operator;
+use words::{Operator, Width};
 
 /// What the last word loaded, which doesn't show yet.
 #[derive(Clone, Copy)]
@@ -37,6 +37,16 @@ fn value(op: Operator, a: u32, b: u32) -> u32
     match op.value(a, b) {
         Some(word) => word,
         None => 0,
+    }
+}
+
+// Whether a word or a byte may stand at the address.
+fn is_aligned(width: Width, a: u32) -> bool
+    ensures { result ≡ is_aligned width a }
+{
+    match width {
+        Width::Word => a % 4 == 0,
+        Width::Byte => true,
     }
 }
 
@@ -88,10 +98,15 @@ impl Registers {
             }
             Action::Sets { d, word } => self.put(d, word),
             Action::Loads { .. } => {}
-            Action::Stores { r, base, offset } => {
+            Action::Stores {
+                width,
+                r,
+                base,
+                offset,
+            } => {
                 let at = self.address(base, offset);
                 let word = self.read(r);
-                self.memory.store(at, word);
+                self.memory.store(width, at, word);
             }
             Action::Multiplies { sign, a, b } => {
                 let (a, b) = (self.read(a), self.read(b));
@@ -114,9 +129,14 @@ impl Registers {
         ensures { pending_in result ≡ pending_of action (state_of self.now) }
     {
         match action {
-            Action::Loads { d, base, offset } => Load::Loaded {
+            Action::Loads {
+                width,
+                d,
+                base,
+                offset,
+            } => Load::Loaded {
                 register: d,
-                word: self.memory.load(self.address(base, offset)),
+                word: self.memory.load(width, self.address(base, offset)),
             },
             _ => Load::Nothing,
         }
@@ -136,8 +156,8 @@ impl Registers {
     pub fn broken(&self, action: Action) -> Option<Rule>
         ensures rule { let s = state_of self.now in result ≡ (
             if divides_badly action s then Some M4
-            else (if on_address (λ x. not (is_aligned x)) action s then Some M5
-            else (if on_address (λ x. not (s.mapped x)) action s then Some M6 else None))) }
+            else (if on_address (λ w x. not (is_aligned w x)) action s then Some M5
+            else (if on_address (λ w x. not (s.mapped x)) action s then Some M6 else None))) }
         ensures safe { result ≡ None → is_safe action (state_of self.now) ≡ true }
     {
         match action {
@@ -148,19 +168,27 @@ impl Registers {
                     Some(Rule::M4)
                 }
             }
-            Action::Loads { d: _, base, offset } => self.address_broken(self.address(base, offset)),
-            Action::Stores { r: _, base, offset } => {
-                self.address_broken(self.address(base, offset))
-            }
+            Action::Loads {
+                width,
+                d: _,
+                base,
+                offset,
+            } => self.address_broken(width, self.address(base, offset)),
+            Action::Stores {
+                width,
+                r: _,
+                base,
+                offset,
+            } => self.address_broken(width, self.address(base, offset)),
             _ => None,
         }
     }
 
-    fn address_broken(&self, a: u32) -> Option<Rule>
-        ensures rule { result ≡ (if not (is_aligned a) then Some M5 else (if not ((state_of self.now).mapped a) then Some M6 else None)) }
-        ensures open { result ≡ None → is_open (state_of self.now).mapped a ≡ true }
+    fn address_broken(&self, width: Width, a: u32) -> Option<Rule>
+        ensures rule { result ≡ (if not (is_aligned width a) then Some M5 else (if not ((state_of self.now).mapped a) then Some M6 else None)) }
+        ensures open { result ≡ None → is_open width (state_of self.now).mapped a ≡ true }
     {
-        if a % 4 != 0 {
+        if !is_aligned(width, a) {
             return Some(Rule::M5);
         }
         if !self.memory.is_mapped(a) {
