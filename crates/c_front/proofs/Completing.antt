@@ -4,12 +4,14 @@ use Rattle.c_tokens.specs.declared.token.Identifier.{Identifier}
 use Rattle.c_tokens.specs.declared.token.IntegerType.TheVariants.{SignedInt}
 use Rattle.c_tokens.specs.declared.token.Token.{Token}
 use Rattle.c_tokens.specs.declared.token.Token.TheVariants.{Name, Constant, Jump, The}
-use Rattle.c_tokens.specs.declared.token.Mark.TheVariants.{Int, Unsigned, Void, Else, Semicolon, LeftBrace, RightBrace, LeftParen, RightParen, LeftBracket, Assign}
+use Rattle.c_tokens.specs.declared.token.Mark.TheVariants.{Int, Unsigned, Void, Else, Semicolon, LeftBrace, RightBrace, LeftParen, RightParen}
+use Rattle.c_tokens.specs.declared.token.Mark.TheVariants.{LeftBracket, Assign}
 use Rattle.c_front.specs.Grammar.{Sort, a_name, a_constant, a_jump, the, Level, unary_expressions, above, ors, Nonterminal, a_program, declarations}
 use Rattle.c_front.specs.Grammar.{a_declaration, a_type, maybe_int, after_global, initial, function_rest, parameters, more_parameters, items, an_item, declared}
 use Rattle.c_front.specs.Grammar.{a_statement, else_part, maybe_simple, maybe_expression, simple, value, a_call, arguments, more_arguments, an_expression}
 use Rattle.c_front.specs.Grammar.{choice, operands, more_operands, Symbol, T, N, SortTree, Rule, program_rule, declarations_end, declarations_more}
-use Rattle.c_front.specs.Grammar.{declaration_typed, declaration_bytes, declaration_void, type_int, type_unsigned, int_none, int_some, global_plain, global_initial, global_array}
+use Rattle.c_front.specs.Grammar.{declaration_typed, declaration_bytes, declaration_void, type_int, type_unsigned, int_none, int_some, global_plain}
+use Rattle.c_front.specs.Grammar.{global_initial, global_array}
 use Rattle.c_front.specs.Grammar.{global_function, initial_plain, initial_negative, function_rule, parameters_void, parameters_some, more_parameters_end}
 use Rattle.c_front.specs.Grammar.{more_parameters_more, items_end, items_more, item_declare, item_statement, declared_none, declared_some, statement_empty}
 use Rattle.c_front.specs.Grammar.{statement_block, statement_if, statement_while, statement_for, statement_break, statement_continue, statement_return}

@@ -1,5 +1,6 @@
 -- The ways through declarations at file scope.
-use Rattle.std.proofs.Common.{◌≡◌, ◌≢◌, ◌<◌, ◌≤◌, List, [], ◌∷◌, ◌++◌, length, Option, Some, None, true, false, refl, sym, ap, subst, append_assoc, append-nil, arith, ◌∙◌}
+use Rattle.std.proofs.Common.{◌≡◌, ◌≢◌, ◌<◌, ◌≤◌, List, [], ◌∷◌, ◌++◌, length, Option, Some, None, true, false, refl, sym, ap, subst, append_assoc}
+use Rattle.std.proofs.Common.{append-nil, arith, ◌∙◌}
 use Rattle.c_tokens.specs.declared.token.Identifier.{Identifier}
 use Rattle.c_tokens.specs.declared.token.IntegerType.{IntegerType}
 use Rattle.c_tokens.specs.declared.token.IntegerType.TheVariants.{SignedInt}
@@ -7,11 +8,13 @@ use Rattle.words.specs.declared.width.Width.TheVariants.{Word, Byte}
 use Rattle.c_tokens.specs.declared.token.Token.{Token}
 use Rattle.c_tokens.specs.declared.token.Token.TheVariants.{The}
 use Rattle.c_tokens.specs.declared.token.Mark.{Mark}
-use Rattle.c_tokens.specs.declared.token.Mark.TheVariants.{Int, Unsigned, Char, Void, Semicolon, Comma, LeftBrace, RightBrace, LeftParen, RightParen, LeftBracket}
+use Rattle.c_tokens.specs.declared.token.Mark.TheVariants.{Int, Unsigned, Char, Void, Semicolon, Comma, LeftBrace, RightBrace, LeftParen, RightParen}
+use Rattle.c_tokens.specs.declared.token.Mark.TheVariants.{LeftBracket}
 use Rattle.c_tokens.specs.declared.token.Mark.TheVariants.{RightBracket, Assign, Minus}
 use Rattle.c_front.specs.Grammar.{a_name, a_constant, the, declarations, a_declaration, a_type, after_global, initial, function_rest, parameters}
 use Rattle.c_front.specs.Grammar.{more_parameters, items, Symbol, T, N, variable_tail, array_tail, function_tail, PhraseTrees, program_rule, declarations_end}
-use Rattle.c_front.specs.Grammar.{declarations_more, declaration_typed, declaration_bytes, declaration_void, global_plain, global_initial, global_array, global_function}
+use Rattle.c_front.specs.Grammar.{declarations_more, declaration_typed, declaration_bytes, declaration_void, global_plain, global_initial}
+use Rattle.c_front.specs.Grammar.{global_array, global_function}
 use Rattle.c_front.specs.Grammar.{initial_plain, initial_negative, function_rule, parameters_void, parameters_some, more_parameters_end, more_parameters_more}
 use Rattle.c_front.specs.Grammar.{first, second, is_the, Spells}
 use Rattle.c_front.specs.Reading.{Reads, read_nothing, read_token, read_phrase, Stuck, stuck_past, stuck_phrase, stuck_inside}

@@ -10,7 +10,8 @@ use Rattle.c_front.specs.Grammar.{function_rest, parameters, more_parameters, it
 use Rattle.c_front.specs.Grammar.{simple, value, a_call, arguments, more_arguments, an_expression, choice, operands, more_operands, Symbol, T, N, PhraseTrees}
 use Rattle.c_front.specs.Grammar.{negate, identity, complement, not, Rule, program_rule, declarations_end, declarations_more, declaration_typed}
 use Rattle.c_front.specs.Grammar.{declaration_void, type_int, type_unsigned, int_none, int_some, global_plain, global_initial, global_array, global_function}
-use Rattle.c_front.specs.Grammar.{initial_plain, initial_negative, function_rule, parameters_void, parameters_some, more_parameters_end, more_parameters_more, declaration_bytes}
+use Rattle.c_front.specs.Grammar.{initial_plain, initial_negative, function_rule, parameters_void, parameters_some, more_parameters_end}
+use Rattle.c_front.specs.Grammar.{more_parameters_more, declaration_bytes}
 use Rattle.c_front.specs.Grammar.{items_end, items_more, item_declare, item_statement, declared_none, declared_some, statement_empty, statement_block}
 use Rattle.c_front.specs.Grammar.{statement_if, statement_while, statement_for, statement_break, statement_continue, statement_return, statement_simple}
 use Rattle.c_front.specs.Grammar.{else_none, else_some, simple_none, simple_some, expression_none, expression_some, simple_assign, simple_assign_at}

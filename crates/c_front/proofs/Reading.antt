@@ -4,7 +4,8 @@ use Rattle.c_tokens.specs.declared.token.JumpWord.{JumpWord}
 use Rattle.c_tokens.specs.declared.token.Token.{Token}
 use Rattle.c_tokens.specs.declared.token.Token.TheVariants.{Name, Jump, The}
 use Rattle.c_tokens.specs.declared.token.Mark.TheVariants.{Unsigned, Else, Minus}
-use Rattle.c_front.specs.Grammar.{Sort, a_name, a_constant, a_jump, the, Level, unary_expressions, above, Nonterminal, a_declaration, a_type, a_statement, else_part}
+use Rattle.c_front.specs.Grammar.{Sort, a_name, a_constant, a_jump, the, Level, unary_expressions, above, Nonterminal, a_declaration, a_type}
+use Rattle.c_front.specs.Grammar.{a_statement, else_part}
 use Rattle.c_front.specs.Grammar.{simple, value, a_call, an_expression, operands, Symbol, T, N, PhraseTree, SortTree, PhraseTrees, Rule, declaration_typed}
 use Rattle.c_front.specs.Grammar.{declaration_bytes, declaration_void, type_int, type_unsigned, else_none, simple_assign}
 use Rattle.c_front.specs.Grammar.{simple_assign_at, simple_call, value_plain, value_call, call_rule, expression_rule, operands_rule, operand_constant}

@@ -5,7 +5,8 @@ use Rattle.c_tokens.specs.declared.token.Token.{Token}
 use Rattle.c_tokens.specs.declared.token.Token.TheVariants.{Name, Constant, Jump, The}
 use Rattle.c_tokens.specs.declared.token.Mark.{Mark}
 use Rattle.c_tokens.specs.declared.token.Mark.TheVariants.{Int, Unsigned, Char, Void, If, Else, While, For, Semicolon, Comma, LeftBrace}
-use Rattle.c_tokens.specs.declared.token.Mark.TheVariants.{RightBrace, LeftParen, RightParen, LeftBracket, Assign, Question, Plus, Minus, Star, Slash, Percent, Bang, Tilde, BarBar}
+use Rattle.c_tokens.specs.declared.token.Mark.TheVariants.{RightBrace, LeftParen, RightParen, LeftBracket, Assign, Question, Plus, Minus, Star, Slash}
+use Rattle.c_tokens.specs.declared.token.Mark.TheVariants.{Percent, Bang, Tilde, BarBar}
 use Rattle.c_tokens.specs.declared.token.Mark.TheVariants.{AndAnd, Bar, Caret, Ampersand, EqualEqual, BangEqual, LessSign, GreaterSign, LessEqual, GreaterEqual}
 use Rattle.c_tokens.specs.declared.token.Mark.TheVariants.{LessLess, GreaterGreater}
 use Rattle.c_front.specs.declared.tree.BinaryOp.{BinaryOp}
@@ -15,7 +16,8 @@ use Rattle.c_front.specs.Grammar.{maybe_expression, simple, value, a_call, argum
 use Rattle.c_front.specs.Grammar.{N, Operator, multiply, divide, remainder, add, subtract, shift_left, shift_right, less, greater, less_or_equal}
 use Rattle.c_front.specs.Grammar.{greater_or_equal, equal, not_equal, bit_and, bit_xor, bit_or, logical_and, logical_or, negate, identity, complement, not}
 use Rattle.c_front.specs.Grammar.{Rule, program_rule, declarations_end, declarations_more, declaration_typed, declaration_bytes, declaration_void, type_int}
-use Rattle.c_front.specs.Grammar.{type_unsigned, int_none, int_some, global_plain, global_initial, global_array, global_function, initial_plain, initial_negative}
+use Rattle.c_front.specs.Grammar.{type_unsigned, int_none, int_some, global_plain, global_initial, global_array, global_function, initial_plain}
+use Rattle.c_front.specs.Grammar.{initial_negative}
 use Rattle.c_front.specs.Grammar.{function_rule, parameters_void, parameters_some, more_parameters_end, more_parameters_more, items_end, items_more}
 use Rattle.c_front.specs.Grammar.{item_declare, item_statement, declared_none, declared_some, statement_empty, statement_block, statement_if, statement_while}
 use Rattle.c_front.specs.Grammar.{statement_for, statement_break, statement_continue, statement_return, statement_simple, else_none, else_some, simple_none}

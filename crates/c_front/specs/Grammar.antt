@@ -9,7 +9,8 @@ use Rattle.c_tokens.specs.declared.token.Token.{Token}
 use Rattle.c_tokens.specs.declared.token.Token.TheVariants.{Name, Constant, Jump, The}
 use Rattle.c_tokens.specs.declared.token.Mark.{Mark}
 use Rattle.c_tokens.specs.declared.token.Mark.TheVariants.{Int, Unsigned, Char, Void, If, Else, While, For, Semicolon, Comma, LeftBrace}
-use Rattle.c_tokens.specs.declared.token.Mark.TheVariants.{RightBrace, LeftParen, RightParen, LeftBracket, RightBracket, Assign, Question, Colon, Plus, Minus, Star, Slash, Percent}
+use Rattle.c_tokens.specs.declared.token.Mark.TheVariants.{RightBrace, LeftParen, RightParen, LeftBracket, RightBracket, Assign, Question, Colon}
+use Rattle.c_tokens.specs.declared.token.Mark.TheVariants.{Plus, Minus, Star, Slash, Percent}
 use Rattle.c_tokens.specs.declared.token.Mark.TheVariants.{Bang, Tilde, BarBar, AndAnd, Bar, Caret, Ampersand, EqualEqual, BangEqual, LessSign, GreaterSign}
 use Rattle.c_tokens.specs.declared.token.Mark.TheVariants.{LessEqual, GreaterEqual, LessLess, GreaterGreater}
 use Rattle.c_front.specs.declared.tree.UnaryOp.{UnaryOp}

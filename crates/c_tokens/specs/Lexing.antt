@@ -68,8 +68,8 @@ signs =
 abbrev pub keywords : List (List ℕ × Reserved)
 keywords =
     (codes "int", Marked Int) ∷ (codes "unsigned", Marked Unsigned) ∷ (codes "char", Marked Char) ∷ (codes "void", Marked Void) ∷ (codes "if", Marked If) ∷
-    (codes "else", Marked Else) ∷ (codes "while", Marked While) ∷ (codes "for", Marked For) ∷ (codes "break", Jumping Break) ∷ (codes "continue", Jumping Continue)
-    ∷ (codes "return", Jumping Return) ∷
+    (codes "else", Marked Else) ∷ (codes "while", Marked While) ∷ (codes "for", Marked For) ∷ (codes "break", Jumping Break) ∷
+    (codes "continue", Jumping Continue) ∷ (codes "return", Jumping Return) ∷
     (codes "auto", Unused) ∷ (codes "case", Unused) ∷ (codes "const", Unused) ∷ (codes "default", Unused) ∷ (codes "do", Unused)
     ∷ (codes "double", Unused) ∷ (codes "enum", Unused) ∷ (codes "extern", Unused) ∷
     (codes "float", Unused) ∷ (codes "goto", Unused) ∷ (codes "inline", Unused) ∷ (codes "long", Unused) ∷ (codes "register", Unused)

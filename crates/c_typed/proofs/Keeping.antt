@@ -60,10 +60,11 @@ elements-words globals g a i v after h w e =
     let t = chain-some (slice_get globals a) (λ (global : Global). Some (kept global.width v)) s.0 s.1 in
     stored-words g a i s.0 after h (subst IsWord (same_Some (kept t.0.width v) s.0 t.2) (kept-word t.0.width v w)) s.2
 
-placed-words : (globals : List Global) (to : Destination) (v : ℕ) (l : Places) (g : Arrays) (out : List ℕ) (go : Places → Arrays → Run) → IsWord v → PlacesHoldWords l
-    → ArraysHoldWords g → All IsWord out
+placed-words : (globals : List Global) (to : Destination) (v : ℕ) (l : Places) (g : Arrays) (out : List ℕ) (go : Places → Arrays → Run)
+    → IsWord v → PlacesHoldWords l → ArraysHoldWords g → All IsWord out
     → ((l : Places) (g : Arrays) → PlacesHoldWords l → ArraysHoldWords g → RunHoldsWords (go l g)) → RunHoldsWords (with_assignment globals to v l g out go)
-placed-words globals (Local x) v l g out go w a b c k = k (places_with l x (Some v)) g (written-words l x (Some v) a (λ u e. subst IsWord (same_Some v u e) w)) b
+placed-words globals (Local x) v l g out go w a b c k =
+    k (places_with l x (Some v)) g (written-words l x (Some v) a (λ u e. subst IsWord (same_Some v u e) w)) b
 placed-words globals (Variable x) v l g out go w a b c k =
     with-words (elements_with globals g x 0 v) out (λ g'. go l g') c (λ g' e. k l g' a (elements-words globals g x 0 v g' b w e))
 
@@ -84,15 +85,16 @@ called-words p depth f vs to frames g out a b c d =
         b c d
     by function false = d
 
-returned-words : (globals : List Global) (v : Option ℕ) (to : Option Destination) (frames : List Frame) (g : Arrays) (out : List ℕ) → ((w : ℕ) → v ≡ Some w → IsWord w)
-    → All FrameHoldsWords frames → ArraysHoldWords g → All IsWord out
+returned-words : (globals : List Global) (v : Option ℕ) (to : Option Destination) (frames : List Frame) (g : Arrays) (out : List ℕ)
+    → ((w : ℕ) → v ≡ Some w → IsWord w) → All FrameHoldsWords frames → ArraysHoldWords g → All IsWord out
     → RunHoldsWords (state_after_return globals v to frames g out)
 returned-words globals v to [] g out a b c d = with-words v out (λ w. Ended w out) d (λ w e. (a w e, d))
 returned-words globals v None (f ∷ frames) g out a b c d = (b, (c, d))
 returned-words globals v (Some place) (f ∷ frames) g out a b c d =
-    with-words v out (λ w. with_assignment globals place w f.locals g out (λ l g'. Running (record { locals = l; todo = f.todo; result_to = f.result_to } ∷ frames) g'
-    out)) d
-    (λ w e. placed-words globals place w f.locals g out (λ l g'. Running (record { locals = l; todo = f.todo; result_to = f.result_to } ∷ frames) g' out) (a w e)
+    with-words v out (λ w. with_assignment globals place w f.locals g out
+    (λ l g'. Running (record { locals = l; todo = f.todo; result_to = f.result_to } ∷ frames) g' out)) d
+    (λ w e. placed-words globals place w f.locals g out
+    (λ l g'. Running (record { locals = l; todo = f.todo; result_to = f.result_to } ∷ frames) g' out) (a w e)
     (All-head FrameHoldsWords f frames b) c d
     (λ l g' h i. running (record { locals = l; todo = f.todo; result_to = f.result_to }) frames g' out h (All-tail FrameHoldsWords f frames b) i d))
 
@@ -100,8 +102,10 @@ step-words : (p : TypedProgram) (depth : ℕ) (l : Places) (k : List Todo) (to :
     → PlacesHoldWords l → All FrameHoldsWords frames → ArraysHoldWords g → All IsWord out
     → RunHoldsWords (step_at p depth l k to frames g out)
 step-words p depth l (Do (assign x e) ∷ k) to frames g out a b c d =
-    with-words (value_of e l g) out (λ v. with_assignment p.globals x v l g out (λ l' g'. Running (record { locals = l'; todo = k; result_to = to } ∷ frames) g' out)) d
-    (λ v is. placed-words p.globals x v l g out (λ l' g'. Running (record { locals = l'; todo = k; result_to = to } ∷ frames) g' out) (value-word e l g a c v is) a c d
+    with-words (value_of e l g) out (λ v. with_assignment p.globals x v l g out
+    (λ l' g'. Running (record { locals = l'; todo = k; result_to = to } ∷ frames) g' out)) d
+    (λ v is. placed-words p.globals x v l g out (λ l' g'. Running (record { locals = l'; todo = k; result_to = to } ∷ frames) g' out)
+    (value-word e l g a c v is) a c d
     (λ l' g' h i. running (record { locals = l'; todo = k; result_to = to }) frames g' out h b i d))
 step-words p depth l (Do (store x i e) ∷ k) to frames g out a b c d =
     with-words (value_of i l g) out (λ j. with_value (value_of e l g) out
@@ -109,7 +113,8 @@ step-words p depth l (Do (store x i e) ∷ k) to frames g out a b c d =
     (λ j at. with-words (value_of e l g) out (λ v. with_value (elements_with p.globals g x j v) out
     (λ g'. Running (record { locals = l; todo = k; result_to = to } ∷ frames) g' out)) d
     (λ v is. with-words (elements_with p.globals g x j v) out (λ g'. Running (record { locals = l; todo = k; result_to = to } ∷ frames) g' out) d
-    (λ g' w. running (record { locals = l; todo = k; result_to = to }) frames g' out a b (elements-words p.globals g x j v g' c (value-word e l g a c v is) w) d)))
+    (λ g' w. running (record { locals = l; todo = k; result_to = to }) frames g' out a b
+    (elements-words p.globals g x j v g' c (value-word e l g a c v is) w) d)))
 step-words p depth l (Do (call x f all) ∷ k) to frames g out a b c d =
     with-words (values_of all l g) out (λ vs. state_after_call p depth f vs x (record { locals = l; todo = k; result_to = to } ∷ frames) g out) d
     (λ vs is. called-words p depth f vs x (record { locals = l; todo = k; result_to = to } ∷ frames) g out (values-words all l g a c vs is)
@@ -147,8 +152,8 @@ wrapped n = omega arith
 
 globals-words : (all : List Global) → ArraysHoldWords (map first_words all)
 globals-words [] = All-nil (All IsWord)
-globals-words (a ∷ rest) = All-cons (All IsWord) (first_words a) (map first_words rest) (All-replicate IsWord a.length (kept a.width (wrap a.first)) (kept-word a.width (wrap a.first) (wrapped a.first)))
-    (globals-words rest)
+globals-words (a ∷ rest) = All-cons (All IsWord) (first_words a) (map first_words rest)
+    (All-replicate IsWord a.length (kept a.width (wrap a.first)) (kept-word a.width (wrap a.first) (wrapped a.first))) (globals-words rest)
 
 pub source-start-words : (p : TypedProgram) → RunHoldsWords (source_start p)
 source-start-words p =

@@ -33,14 +33,20 @@ returns-in_default-integer_type-clause-err c = no-declaration _ c.in_default.ens
 pub returns-in_err-name-2-clause-err : goal.returns-in_err-name-2-clause-err
 returns-in_err-name-2-clause-err c =
     let h : IsStuck a_declaration c.args.tokens.now c.in_err-name-2.field-0.0 =
-    typed-name-stuck _ _ _ _ c.in_default.ensures.none c.in_default-starts_bytes.ensures.none c.in-Some-integer_type.ensures.some c.in_err-name-2.ensures.err in search rules
+    typed-name-stuck _ _ _ _ c.in_default.ensures.none c.in_default-starts_bytes.ensures.none c.in-Some-integer_type.ensures.some
+    c.in_err-name-2.ensures.err in
+    search rules
 
 pub returns-clause-ok : goal.returns-clause-ok
 returns-clause-ok c =
-    IfOk-weaker c.after_global.result _ _ (λ r d. typed-read _ _ _ _ _ _ _ c.in_default.ensures.none c.in_default-starts_bytes.ensures.none c.in-Some-integer_type.ensures.some c.in_ok-name-2.ensures.ok d)
-    c.after_global.ensures.ok
+    let void = c.in_default.ensures.none in
+    let bytes = c.in_default-starts_bytes.ensures.none in
+    IfOk-weaker c.after_global.result _ _
+    (λ r d. typed-read _ _ _ _ _ _ _ void bytes c.in-Some-integer_type.ensures.some c.in_ok-name-2.ensures.ok d) c.after_global.ensures.ok
 
 pub returns-clause-err : goal.returns-clause-err
 returns-clause-err c =
-    IfErr-weaker c.after_global.result _ _ (λ s h. typed-rest-stuck _ _ _ _ _ _ c.in_default.ensures.none c.in_default-starts_bytes.ensures.none c.in-Some-integer_type.ensures.some c.in_ok-name-2.ensures.ok h)
-    c.after_global.ensures.err
+    let void = c.in_default.ensures.none in
+    let bytes = c.in_default-starts_bytes.ensures.none in
+    IfErr-weaker c.after_global.result _ _
+    (λ s h. typed-rest-stuck _ _ _ _ _ _ void bytes c.in-Some-integer_type.ensures.some c.in_ok-name-2.ensures.ok h) c.after_global.ensures.err

@@ -6,8 +6,8 @@ use Rattle.c_run.proofs.Acts.{acted, acted-here}
 use Rattle.c_run.proofs.interpreter.act.Goals as goal
 
 pub returns-in-Assign : goal.returns-in-Assign
-returns-in-Assign c = acted-here (program_of c.args.program.now) c.args.depth c.args.s.now _ c.args.interpreter.now c.assign_to.new.interpreter c.assign_to.result
-    (ap statement_of c.in-Assign.is) c.assign_to.ensures
+returns-in-Assign c = acted-here (program_of c.args.program.now) c.args.depth c.args.s.now _ c.args.interpreter.now c.assign_to.new.interpreter
+    c.assign_to.result (ap statement_of c.in-Assign.is) c.assign_to.ensures
 
 pub returns-in-Store : goal.returns-in-Store
 returns-in-Store c = acted-here (program_of c.args.program.now) c.args.depth c.args.s.now _ c.args.interpreter.now c.store_at.new.interpreter c.store_at.result
