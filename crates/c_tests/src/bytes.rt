@@ -44,11 +44,7 @@ const SIZES: [(&[u8], u8, usize); 8] = [
         20,
         47,
     ),
-    (
-        b"unsigned char s[1048573];int a;int main(void){}",
-        20,
-        29,
-    ),
+    (b"unsigned char s[1048573];int a;int main(void){}", 20, 29),
 ];
 
 const RUNS: [(&[u8], End, &[u32]); 7] = [

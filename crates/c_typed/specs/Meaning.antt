@@ -78,7 +78,7 @@ kept_in globals a v = chain (slice_get globals a) (λ global. Some (kept global.
 abbrev pub elements_with : List Global → Arrays → ℕ → ℕ → ℕ → Option Arrays
 elements_with globals g a i v = chain (kept_in globals a v) (λ w. arrays_with g a i w)
 
--- a word goes to a local, or to a global variable
+-- a word goes to a local, or to a global variable, which keeps what its width lets it
 abbrev pub with_assignment : List Global → Destination → ℕ → Places → Arrays → List ℕ → (Places → Arrays → Run) → Run
 with_assignment globals (Local x) v l g out go = go (places_with l x (Some v)) g
 with_assignment globals (Variable x) v l g out go = with_value (elements_with globals g x 0 v) out (λ g'. go l g')
