@@ -25,7 +25,7 @@ use Rattle.c_front.specs.declared.cursor.ParseStop.TheVariants.{Syntax, NoMemory
 use Rattle.c_front.specs.Tree.{Items, Declaration, variable, array, function}
 use Rattle.c_front.specs.Parsing.{StartsWith, StartsWithout, IsRead, AreStuck, IsStuck, IsMissing, StartsWithName, IsNameMissing, HasNoType, StartsWithConstant}
 use Rattle.c_front.specs.Parsing.{IsConstantMissing, IsEndedRead, IsEndedStuck, IsParameterRead, IsParameterStuck, IsTailRead, IsProgramStuck}
-use Rattle.c_front.specs.Parsing.{length_symbols, IsLengthRead, IsLengthStuck, bytes_symbols, IsBytesRead, IsBytesStuck, StartsBytes, StartsNoBytes}
+use Rattle.c_front.specs.Parsing.{length_symbols, IsLengthRead, IsLengthStuck, IsBytesRead, IsBytesStuck, StartsBytes, StartsNoBytes}
 use Rattle.c_front.specs.declared.tree.Parameter.{Parameter}
 use Rattle.c_front.specs.declared.tree.Initial.{Initial}
 use Rattle.c_front.specs.declared.tree.Declaration as Rust

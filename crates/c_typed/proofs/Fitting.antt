@@ -4,7 +4,7 @@ use Rattle.std.proofs.Common.{length, nat_lt, arith}
 use Rattle.std.specs.Prelude.{All, map, if◌then◌else◌}
 use Rattle.std.specs.List.{slice_get, slice_set}
 use Rattle.std.specs.Option.{option_map}
-use Rattle.std.proofs.lemmas.Option.{none-some, same_Some, slice_get-map}
+use Rattle.std.proofs.lemmas.Option.{same_Some, slice_get-map}
 use Rattle.std.proofs.lemmas.List.Elements.{All-set, All-replicate}
 use Rattle.words.specs.declared.width.Width.{Width}
 use Rattle.words.specs.declared.width.Width.TheVariants.{Word, Byte}
@@ -18,7 +18,7 @@ use Rattle.c_tokens.specs.declared.token.IntegerType.{IntegerType}
 use Rattle.c_typed.specs.declared.tree.Destination.{Destination}
 use Rattle.c_typed.specs.declared.tree.Destination.TheVariants.{Local, Global as Variable}
 use Rattle.c_typed.specs.declared.tree.Global.{Global}
-use Rattle.c_typed.specs.Trees.{TypedExpression, TypedFunction, TypedProgram, element, unset, assign, store, call, output, if_else, loop, return_with}
+use Rattle.c_typed.specs.Trees.{TypedExpression, TypedFunction, TypedProgram, element, assign, store, call, output, if_else, loop, return_with}
 use Rattle.c_typed.specs.Values.{value_of, values_of}
 use Rattle.c_typed.specs.Meaning.{Todo, Do, Next, Going, Frame, Run, before, before_all, next_point, kept_in, elements_with, with_assignment}
 use Rattle.c_typed.specs.Meaning.{argument_places, state_after_call, state_after_return, todo_of_test, step_at, source_step, source_steps, source_start}
