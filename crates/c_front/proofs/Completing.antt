@@ -4,12 +4,14 @@ use Rattle.c_tokens.specs.declared.token.Identifier.{Identifier}
 use Rattle.c_tokens.specs.declared.token.IntegerType.TheVariants.{SignedInt}
 use Rattle.c_tokens.specs.declared.token.Token.{Token}
 use Rattle.c_tokens.specs.declared.token.Token.TheVariants.{Name, Constant, Jump, The}
-use Rattle.c_tokens.specs.declared.token.Mark.TheVariants.{Int, Void, Else, Semicolon, LeftBrace, RightBrace, LeftParen, RightParen, LeftBracket, Assign}
+use Rattle.c_tokens.specs.declared.token.Mark.TheVariants.{Int, Unsigned, Void, Else, Semicolon, LeftBrace, RightBrace, LeftParen, RightParen}
+use Rattle.c_tokens.specs.declared.token.Mark.TheVariants.{LeftBracket, Assign}
 use Rattle.c_front.specs.Grammar.{Sort, a_name, a_constant, a_jump, the, Level, unary_expressions, above, ors, Nonterminal, a_program, declarations}
 use Rattle.c_front.specs.Grammar.{a_declaration, a_type, maybe_int, after_global, initial, function_rest, parameters, more_parameters, items, an_item, declared}
 use Rattle.c_front.specs.Grammar.{a_statement, else_part, maybe_simple, maybe_expression, simple, value, a_call, arguments, more_arguments, an_expression}
 use Rattle.c_front.specs.Grammar.{choice, operands, more_operands, Symbol, T, N, SortTree, Rule, program_rule, declarations_end, declarations_more}
-use Rattle.c_front.specs.Grammar.{declaration_typed, declaration_void, type_int, type_unsigned, int_none, int_some, global_plain, global_initial, global_array}
+use Rattle.c_front.specs.Grammar.{declaration_typed, declaration_bytes, declaration_void, type_int, type_unsigned, int_none, int_some, global_plain}
+use Rattle.c_front.specs.Grammar.{global_initial, global_array}
 use Rattle.c_front.specs.Grammar.{global_function, initial_plain, initial_negative, function_rule, parameters_void, parameters_some, more_parameters_end}
 use Rattle.c_front.specs.Grammar.{more_parameters_more, items_end, items_more, item_declare, item_statement, declared_none, declared_some, statement_empty}
 use Rattle.c_front.specs.Grammar.{statement_block, statement_if, statement_while, statement_for, statement_break, statement_continue, statement_return}
@@ -129,6 +131,7 @@ fit-parts program_rule symbols h f = (h, f)
 fit-parts declarations_end symbols h f = f
 fit-parts declarations_more symbols h f = (tt, (h, f))
 fit-parts declaration_typed symbols h f = (refl, (tt, f))
+fit-parts declaration_bytes symbols h f = f
 fit-parts declaration_void symbols h f = (tt, f)
 fit-parts type_int symbols h f = f
 fit-parts type_unsigned symbols h f = (h, f)
@@ -276,6 +279,12 @@ name-expression x = only expression_rule refl (then-reads (name-operands ors x [
 -- tokens after the first one, where the second one has a say
 start-from : (n : Nonterminal) (t : Token) → Peeks n (Some t) → (w : List Token)
     × ((rest : List Token) → MayFollow n (first rest) → CanRead (N n ∷ []) (t ∷ w ++ rest) rest)
+start-from a_declaration (The Unsigned) k = (
+  Name some_name ∷ The Semicolon ∷ [],
+  λ rest h. only declaration_typed refl
+      (then-reads (only type_unsigned refl (token-then is_the (only int_none refl end-reads)))
+      (token-then is_name (only global_plain refl (token-then is_the end-reads)))),
+)
 start-from simple (Name x) k = (
   The Assign ∷ Constant zero_literal ∷ [],
   λ rest h. only simple_assign refl
@@ -290,6 +299,9 @@ start-from (operands unary_expressions) (Name x) k = ([], λ rest h. name-operan
 start-from _ _ k = absurd k
 
 peeks? : (n : Nonterminal) (next : Option Token) → Peeks n next ⊎ (Peeks n next → ⊥)
+peeks? a_declaration None = inr (λ h. h)
+peeks? a_declaration (Some (The Unsigned)) = inl tt
+peeks? a_declaration (Some _) = inr (λ h. h)
 peeks? simple None = inr (λ h. h)
 peeks? simple (Some (Name x)) = inl tt
 peeks? simple (Some _) = inr (λ h. h)

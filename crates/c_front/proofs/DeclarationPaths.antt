@@ -1,31 +1,36 @@
 -- The ways through declarations at file scope.
-use Rattle.std.proofs.Common.{◌≡◌, ◌≢◌, ◌<◌, ◌≤◌, List, [], ◌∷◌, ◌++◌, length, Option, Some, None, true, false, refl, sym, ap, subst, append_assoc, append-nil}
+use Rattle.std.proofs.Common.{◌≡◌, ◌≢◌, ◌<◌, ◌≤◌, List, [], ◌∷◌, ◌++◌, length, Option, Some, None, true, false, refl, sym, ap, subst, append_assoc}
+use Rattle.std.proofs.Common.{append-nil, arith, ◌∙◌}
 use Rattle.c_tokens.specs.declared.token.Identifier.{Identifier}
 use Rattle.c_tokens.specs.declared.token.IntegerType.{IntegerType}
+use Rattle.c_tokens.specs.declared.token.IntegerType.TheVariants.{SignedInt}
+use Rattle.words.specs.declared.width.Width.TheVariants.{Word, Byte}
 use Rattle.c_tokens.specs.declared.token.Token.{Token}
 use Rattle.c_tokens.specs.declared.token.Token.TheVariants.{The}
 use Rattle.c_tokens.specs.declared.token.Mark.{Mark}
-use Rattle.c_tokens.specs.declared.token.Mark.TheVariants.{Int, Unsigned, Void, Semicolon, Comma, LeftBrace, RightBrace, LeftParen, RightParen, LeftBracket}
+use Rattle.c_tokens.specs.declared.token.Mark.TheVariants.{Int, Unsigned, Char, Void, Semicolon, Comma, LeftBrace, RightBrace, LeftParen, RightParen}
+use Rattle.c_tokens.specs.declared.token.Mark.TheVariants.{LeftBracket}
 use Rattle.c_tokens.specs.declared.token.Mark.TheVariants.{RightBracket, Assign, Minus}
 use Rattle.c_front.specs.Grammar.{a_name, a_constant, the, declarations, a_declaration, a_type, after_global, initial, function_rest, parameters}
 use Rattle.c_front.specs.Grammar.{more_parameters, items, Symbol, T, N, variable_tail, array_tail, function_tail, PhraseTrees, program_rule, declarations_end}
-use Rattle.c_front.specs.Grammar.{declarations_more, declaration_typed, declaration_void, global_plain, global_initial, global_array, global_function}
+use Rattle.c_front.specs.Grammar.{declarations_more, declaration_typed, declaration_bytes, declaration_void, global_plain, global_initial}
+use Rattle.c_front.specs.Grammar.{global_array, global_function}
 use Rattle.c_front.specs.Grammar.{initial_plain, initial_negative, function_rule, parameters_void, parameters_some, more_parameters_end, more_parameters_more}
-use Rattle.c_front.specs.Grammar.{first, is_the, Spells}
+use Rattle.c_front.specs.Grammar.{first, second, is_the, Spells}
 use Rattle.c_front.specs.Reading.{Reads, read_nothing, read_token, read_phrase, Stuck, stuck_past, stuck_phrase, stuck_inside}
-use Rattle.c_front.specs.Choosing.{one_choice, EndsParameters}
+use Rattle.c_front.specs.Choosing.{one_choice, chosen_rule, Peeks, EndsParameters}
 use Rattle.c_tokens.specs.declared.token.Literal.{Literal}
 use Rattle.c_front.specs.declared.cursor.ParseStop.{ParseStop}
 use Rattle.c_front.specs.declared.cursor.ParseStop.TheVariants.{Syntax, NoMemory}
 use Rattle.c_front.specs.Tree.{Items, Declaration, variable, array, function}
 use Rattle.c_front.specs.Parsing.{StartsWith, StartsWithout, IsRead, AreStuck, IsStuck, IsMissing, StartsWithName, IsNameMissing, HasNoType, StartsWithConstant}
 use Rattle.c_front.specs.Parsing.{IsConstantMissing, IsEndedRead, IsEndedStuck, IsParameterRead, IsParameterStuck, IsTailRead, IsProgramStuck}
+use Rattle.c_front.specs.Parsing.{length_symbols, IsLengthRead, IsLengthStuck, IsBytesRead, IsBytesStuck, StartsBytes, StartsNoBytes}
 use Rattle.c_front.specs.declared.tree.Parameter.{Parameter}
 use Rattle.c_front.specs.declared.tree.Initial.{Initial}
 use Rattle.c_front.specs.declared.tree.Declaration as Rust
 use Rattle.c_front.specs.Shape.{declaration_of, declarations_of}
-use Rattle.c_front.proofs.Reading.{stuck_after, derived}
-use Rattle.c_front.proofs.Deriving.{type-starts}
+use Rattle.c_front.proofs.Reading.{stuck_after, stuck-within, type-takes, derived}
 use Rattle.c_front.proofs.Paths.{followed, whole}
 use Rattle.c_front.proofs.Steps.{missing-first, name-missing-first, constant-missing-first, past-mark, past-name, past-constant, past-phrase}
 use Rattle.c_front.proofs.Steps.{first-ended, past-ended, ended-then, inside, mark-then, mark-end, name-then, constant-then}
@@ -204,33 +209,43 @@ pub tail-initial-stuck : (ts a : List Token) (s : ParseStop) → StartsWith Assi
 tail-initial-stuck ts a s e h = inside global_initial ts s (chosen-by ts a Assign e) (λ z. z)
     (past-mark Assign (N initial ∷ T (the Semicolon) ∷ []) ts a s e h)
 
-abbrev in_array : List Symbol
-in_array = T a_constant ∷ T (the RightBracket) ∷ T (the Semicolon) ∷ []
+pub length-stuck : (ts : List Token) (s : ParseStop) → IsConstantMissing ts s → IsLengthStuck ts s
+length-stuck ts s h = constant-missing-first (T (the RightBracket) ∷ T (the Semicolon) ∷ []) ts s h
 
-array-stuck : (ts a : List Token) (s : ParseStop) → StartsWith LeftBracket ts a → AreStuck in_array a s → IsStuck after_global ts s
-array-stuck ts a s e h = inside global_array ts s (chosen-by ts a LeftBracket e) (λ z. z) (past-mark LeftBracket in_array ts a s e h)
+pub length-close-stuck : (ts a : List Token) (n : Literal) (s : ParseStop) → StartsWithConstant ts n a → IsMissing RightBracket a s → IsLengthStuck ts s
+length-close-stuck ts a n s e h = past-constant (T (the RightBracket) ∷ T (the Semicolon) ∷ []) ts a n s e
+    (missing-first RightBracket (T (the Semicolon) ∷ []) a s h)
 
-pub array-length-stuck : (ts a : List Token) (s : ParseStop) → StartsWith LeftBracket ts a → IsConstantMissing a s → IsStuck after_global ts s
-array-length-stuck ts a s e h = array-stuck ts a s e (constant-missing-first (T (the RightBracket) ∷ T (the Semicolon) ∷ []) a s h)
+pub length-end-stuck : (ts a b : List Token) (n : Literal) (s : ParseStop) → StartsWithConstant ts n a → StartsWith RightBracket a b
+    → IsMissing Semicolon b s → IsLengthStuck ts s
+length-end-stuck ts a b n s e f h = past-constant (T (the RightBracket) ∷ T (the Semicolon) ∷ []) ts a n s e
+    (past-mark RightBracket (T (the Semicolon) ∷ []) a b s f (missing-first Semicolon [] b s h))
 
-pub array-close-stuck : (ts a b : List Token) (n : Literal) (s : ParseStop) → StartsWith LeftBracket ts a → StartsWithConstant a n b
-    → IsMissing RightBracket b s → IsStuck after_global ts s
-array-close-stuck ts a b n s e f h = array-stuck ts a s e (past-constant (T (the RightBracket) ∷ T (the Semicolon) ∷ []) a b n s f
-    (missing-first RightBracket (T (the Semicolon) ∷ []) b s h))
+pub length-read : (ts a b rest : List Token) (n : Literal) → StartsWithConstant ts n a → StartsWith RightBracket a b → StartsWith Semicolon b rest
+    → IsLengthRead ts rest n
+length-read ts a b rest n e f g = constant-then e (mark-then f (mark-end g))
 
-pub array-end-stuck : (ts a b c : List Token) (n : Literal) (s : ParseStop) → StartsWith LeftBracket ts a → StartsWithConstant a n b
-    → StartsWith RightBracket b c → IsMissing Semicolon c s → IsStuck after_global ts s
-array-end-stuck ts a b c n s e f g h = array-stuck ts a s e (past-constant (T (the RightBracket) ∷ T (the Semicolon) ∷ []) a b n s f
-    (past-mark RightBracket (T (the Semicolon) ∷ []) b c s g (missing-first Semicolon [] c s h)))
+pub array-stuck : (ts a : List Token) (s : ParseStop) → StartsWith LeftBracket ts a → IsLengthStuck a s → IsStuck after_global ts s
+array-stuck ts a s e h = inside global_array ts s (chosen-by ts a LeftBracket e) (λ z. z) (past-mark LeftBracket length_symbols ts a s e h)
 
-pub tail-array : (k : IntegerType) (x : Identifier) (ts a b c rest : List Token) (n : Literal) → StartsWith LeftBracket ts a → StartsWithConstant a n b
-    → StartsWith RightBracket b c → StartsWith Semicolon c rest → IsTailRead k x ts rest (array k x n)
-tail-array k x ts a b c rest n e f g h = (
-  array_tail n,
-  whole global_array (chosen-by ts a LeftBracket e)
-      (mark-then e (constant-then f (mark-then g (mark-end h)))),
-  refl,
-)
+pub tail-array : (k : IntegerType) (x : Identifier) (ts a rest : List Token) (n : Literal) → StartsWith LeftBracket ts a → IsLengthRead a rest n
+    → IsTailRead k x ts rest (array Word k x n)
+tail-array k x ts a rest n e d = (array_tail n, whole global_array (chosen-by ts a LeftBracket e) (mark-then e d), refl)
+
+-- an array of bytes
+pub bytes-name-stuck : (ts : List Token) (s : ParseStop) → IsNameMissing ts s → IsBytesStuck ts s
+bytes-name-stuck ts s h = name-missing-first (T (the LeftBracket) ∷ length_symbols) ts s h
+
+pub bytes-open-stuck : (ts a : List Token) (x : Identifier) (s : ParseStop) → StartsWithName ts x a → IsMissing LeftBracket a s → IsBytesStuck ts s
+bytes-open-stuck ts a x s e h = past-name (T (the LeftBracket) ∷ length_symbols) ts a x s e (missing-first LeftBracket length_symbols a s h)
+
+pub bytes-length-stuck : (ts a b : List Token) (x : Identifier) (s : ParseStop) → StartsWithName ts x a → StartsWith LeftBracket a b → IsLengthStuck b s
+    → IsBytesStuck ts s
+bytes-length-stuck ts a b x s e f h = past-name (T (the LeftBracket) ∷ length_symbols) ts a x s e (past-mark LeftBracket length_symbols a b s f h)
+
+pub bytes-read : (ts a b rest : List Token) (x : Identifier) (n : Literal) → StartsWithName ts x a → StartsWith LeftBracket a b → IsLengthRead b rest n
+    → IsBytesRead ts rest (array Byte SignedInt x n)
+bytes-read ts a b rest x n e f d = (x, n, name-then e (mark-then f d), refl)
 
 chosen-function : (next : Option Token) → next ≢ Some (The Semicolon) → next ≢ Some (The Assign) → next ≢ Some (The LeftBracket)
     → one_choice after_global next ≡ Some (N function_rest ∷ [], global_function)
@@ -250,47 +265,87 @@ pub tail-function : (k : IntegerType) (x : Identifier) (ts rest : List Token) (p
 tail-function k x ts rest ps is a b c d = (function_tail ps is, whole global_function (chosen-function (first ts) a b c) d, refl)
 
 -- a declaration
-chosen-void : (ts a : List Token) → StartsWith Void ts a → one_choice a_declaration (first ts) ≡ Some
+chosen-void : (ts a : List Token) → StartsWith Void ts a → chosen_rule a_declaration (first ts) (second ts) ≡ Some
     (T (the Void) ∷ T a_name ∷ N function_rest ∷ [], declaration_void)
-chosen-void ts a e = ap (λ (x : List Token). one_choice a_declaration (first x)) e
+chosen-void ts a e = ap (λ (x : List Token). chosen_rule a_declaration (first x) (second x)) e
+
+void-quiet : (ts a : List Token) → StartsWith Void ts a → Peeks a_declaration (first ts) → ⊥
+void-quiet ts a e h = let P : List Token → Type 0 = λ x. Peeks a_declaration (first x) in subst P e h
 
 pub void-name-stuck : (ts a : List Token) (s : ParseStop) → StartsWith Void ts a → IsNameMissing a s → IsStuck a_declaration ts s
-void-name-stuck ts a s e h = inside declaration_void ts s (chosen-void ts a e) (λ z. z)
+void-name-stuck ts a s e h = inside declaration_void ts s (chosen-void ts a e) (void-quiet ts a e)
     (past-mark Void (T a_name ∷ N function_rest ∷ []) ts a s e (name-missing-first (N function_rest ∷ []) a s h))
 
 pub void-rest-stuck : (ts a b : List Token) (x : Identifier) (s : ParseStop) → StartsWith Void ts a → StartsWithName a x b → IsStuck function_rest b s
     → IsStuck a_declaration ts s
-void-rest-stuck ts a b x s e f h = inside declaration_void ts s (chosen-void ts a e) (λ z. z)
+void-rest-stuck ts a b x s e f h = inside declaration_void ts s (chosen-void ts a e) (void-quiet ts a e)
     (past-mark Void (T a_name ∷ N function_rest ∷ []) ts a s e (past-name (N function_rest ∷ []) a b x s f h))
 
 pub void-read : (ts a b rest : List Token) (x : Identifier) (ps : List Parameter) (is : Items) → StartsWith Void ts a → StartsWithName a x b
     → IsRead function_rest b rest (ps, is) → IsRead a_declaration ts rest (function None x ps is)
 void-read ts a b rest x ps is e f d = whole declaration_void (chosen-void ts a e) (mark-then e (name-then f d))
 
-chosen-typed : (next : Option Token) → next ≢ Some (The Void) → one_choice a_declaration next ≡ Some
-    (N a_type ∷ T a_name ∷ N after_global ∷ [], declaration_typed)
-chosen-typed None h = refl
-chosen-typed (Some (The Void)) h = absurd (h refl)
-chosen-typed (Some _) h = refl
+chosen-typed : (next after : Option Token) → next ≢ Some (The Void) → (next ≡ Some (The Unsigned) → after ≢ Some (The Char))
+    → chosen_rule a_declaration next after ≡ Some (N a_type ∷ T a_name ∷ N after_global ∷ [], declaration_typed)
+chosen-typed None after h k = refl
+chosen-typed (Some (The Void)) after h k = absurd (h refl)
+chosen-typed (Some (The Unsigned)) None h k = refl
+chosen-typed (Some (The Unsigned)) (Some (The Char)) h k = absurd (k refl refl)
+chosen-typed (Some (The Unsigned)) (Some _) h k = refl
+chosen-typed (Some _) after h k = refl
+
+no-unsigned : (next : Option Token) → next ≢ Some (The Unsigned) → Peeks a_declaration next → ⊥
+no-unsigned (Some (The Unsigned)) h k = h refl
+no-unsigned _ h k = k
 
 pub no-declaration : (ts : List Token) → StartsWithout Void ts → HasNoType ts → (symbols : List Symbol) → Stuck (N a_declaration ∷ symbols) ts ts
-no-declaration ts h k symbols = stuck_inside declaration_typed (chosen-typed (first ts) h) (λ z. absurd z)
-    (type-missing ts k (T a_name ∷ N after_global ∷ symbols))
+no-declaration ts h k symbols = stuck_inside declaration_typed (chosen-typed (first ts) (second ts) h (λ e. absurd (k.1 e)))
+    (λ z. absurd (no-unsigned (first ts) k.1 z)) (type-missing ts k (T a_name ∷ N after_global ∷ symbols))
 
-pub typed-name-stuck : (ts a : List Token) (k : IntegerType) (s : ParseStop) → IsRead a_type ts a k → IsNameMissing a s → IsStuck a_declaration ts s
-typed-name-stuck ts a k s d h = inside declaration_typed ts s (type-starts (derived d)).declaration (λ z. z)
-    (past-phrase a_type (T a_name ∷ N after_global ∷ []) ts a k s d (name-missing-first (N after_global ∷ []) a s h))
+-- stuck past the type
+typed-stuck : (ts a : List Token) (k : IntegerType) (s : ParseStop) → StartsWithout Void ts → StartsNoBytes ts → IsRead a_type ts a k
+    → AreStuck (T a_name ∷ N after_global ∷ []) a s → IsStuck a_declaration ts s
+typed-stuck ts a k (Syntax rest) v n d h = λ symbols.
+    let x : length rest.now ≤ length a = stuck-within (h symbols) in
+    let y : length a < length ts = type-takes d in
+    stuck_inside declaration_typed (chosen-typed (first ts) (second ts) v n) (λ z. omega (arith, x, y)) (stuck_after d (h symbols))
+typed-stuck ts a k NoMemory v n d h = tt
 
-pub typed-rest-stuck : (ts a b : List Token) (k : IntegerType) (x : Identifier) (s : ParseStop) → IsRead a_type ts a k → StartsWithName a x b
-    → IsStuck after_global b s → IsStuck a_declaration ts s
-typed-rest-stuck ts a b k x s d e h = inside declaration_typed ts s (type-starts (derived d)).declaration (λ z. z)
-    (past-phrase a_type (T a_name ∷ N after_global ∷ []) ts a k s d (past-name (N after_global ∷ []) a b x s e h))
+pub typed-name-stuck : (ts a : List Token) (k : IntegerType) (s : ParseStop) → StartsWithout Void ts → StartsNoBytes ts → IsRead a_type ts a k
+    → IsNameMissing a s → IsStuck a_declaration ts s
+typed-name-stuck ts a k s v n d h = typed-stuck ts a k s v n d (name-missing-first (N after_global ∷ []) a s h)
 
-pub typed-read : (ts a b rest : List Token) (k : IntegerType) (x : Identifier) (d : Declaration) → IsRead a_type ts a k → StartsWithName a x b
-    → IsTailRead k x b rest d → IsRead a_declaration ts rest d
-typed-read ts a b rest k x d q e h =
+pub typed-rest-stuck : (ts a b : List Token) (k : IntegerType) (x : Identifier) (s : ParseStop) → StartsWithout Void ts → StartsNoBytes ts
+    → IsRead a_type ts a k → StartsWithName a x b → IsStuck after_global b s → IsStuck a_declaration ts s
+typed-rest-stuck ts a b k x s v n d e h = typed-stuck ts a k s v n d (past-name (N after_global ∷ []) a b x s e h)
+
+pub typed-read : (ts a b rest : List Token) (k : IntegerType) (x : Identifier) (d : Declaration) → StartsWithout Void ts → StartsNoBytes ts
+    → IsRead a_type ts a k → StartsWithName a x b → IsTailRead k x b rest d → IsRead a_declaration ts rest d
+typed-read ts a b rest k x d v n q e h =
     let P : Declaration → Type 0 = λ y. IsRead a_declaration ts rest y in
-    subst P (sym h.2) (whole declaration_typed (type-starts (derived q)).declaration (followed q (name-then e h.1)))
+    subst P (sym h.2) (whole declaration_typed (chosen-typed (first ts) (second ts) v n) (followed q (name-then e h.1)))
+
+-- `unsigned char`, and what stands behind it
+pub bytes-stuck : (ts a : List Token) (s : ParseStop) → StartsBytes ts a → IsBytesStuck a s → IsStuck a_declaration ts s
+bytes-stuck ts a (Syntax rest) e h = λ symbols.
+    let P : List Token → Type 0 = λ x. Stuck (N a_declaration ∷ symbols) x rest.now in
+    let x : length rest.now ≤ length a = stuck-within (h symbols) in
+    subst P (sym e) (stuck_inside declaration_bytes refl (λ z. omega (arith, x)) (stuck_past is_the (stuck_past is_the (h symbols))))
+bytes-stuck ts a NoMemory e h = tt
+
+pub bytes-declared : (ts a rest : List Token) (d : Declaration) → StartsBytes ts a → IsBytesRead a rest d → IsRead a_declaration ts rest d
+bytes-declared ts a rest d e h =
+    let P : List Token → Type 0 = λ x. IsRead a_declaration x rest d in
+    let Q : Declaration → Type 0 = λ y. IsRead a_declaration (The Unsigned ∷ The Char ∷ a) rest y in
+    subst P (sym e) (subst Q (sym h.3) (whole declaration_bytes refl (read_token is_the (read_token is_the h.2))))
+
+pub starts-bytes : (ts a b : List Token) → StartsWith Unsigned ts a → StartsWith Char a b → StartsBytes ts b
+starts-bytes ts a b e f = e ∙ ap (λ (x : List Token). The Unsigned ∷ x) f
+
+pub no-char : (ts a : List Token) → StartsWith Unsigned ts a → StartsWithout Char a → StartsNoBytes ts
+no-char ts a e h =
+    let P : List Token → Type 0 = λ x. first x ≡ Some (The Unsigned) → second x ≢ Some (The Char) in
+    subst P (sym e) (λ x. h)
 
 -- the declarations of a program
 pub record GoesOnDeclarations (ts middle : List Token) (all : List Declaration) : Type 0 where

@@ -10,7 +10,8 @@ use Rattle.c_front.specs.Grammar.{function_rest, parameters, more_parameters, it
 use Rattle.c_front.specs.Grammar.{simple, value, a_call, arguments, more_arguments, an_expression, choice, operands, more_operands, Symbol, T, N, PhraseTrees}
 use Rattle.c_front.specs.Grammar.{negate, identity, complement, not, Rule, program_rule, declarations_end, declarations_more, declaration_typed}
 use Rattle.c_front.specs.Grammar.{declaration_void, type_int, type_unsigned, int_none, int_some, global_plain, global_initial, global_array, global_function}
-use Rattle.c_front.specs.Grammar.{initial_plain, initial_negative, function_rule, parameters_void, parameters_some, more_parameters_end, more_parameters_more}
+use Rattle.c_front.specs.Grammar.{initial_plain, initial_negative, function_rule, parameters_void, parameters_some, more_parameters_end}
+use Rattle.c_front.specs.Grammar.{more_parameters_more, declaration_bytes}
 use Rattle.c_front.specs.Grammar.{items_end, items_more, item_declare, item_statement, declared_none, declared_some, statement_empty, statement_block}
 use Rattle.c_front.specs.Grammar.{statement_if, statement_while, statement_for, statement_break, statement_continue, statement_return, statement_simple}
 use Rattle.c_front.specs.Grammar.{else_none, else_some, simple_none, simple_some, expression_none, expression_some, simple_assign, simple_assign_at}
@@ -118,6 +119,7 @@ parts-closed program_rule next h = (by-next h, tt)
 parts-closed declarations_end next h = tt
 parts-closed declarations_more next h = (by-anything (λ x. tt), (by-next h, tt))
 parts-closed declaration_typed next h = (by-name (λ x. refl), (by-next tt, tt))
+parts-closed declaration_bytes next h = tt
 parts-closed declaration_void next h = (by-next tt, tt)
 parts-closed type_int next h = tt
 parts-closed type_unsigned next h = (by-next h, tt)
@@ -254,23 +256,30 @@ statement-starts (phrase statement_continue (token is_jump d) f q d') = (refl, r
 statement-starts (phrase statement_return (token is_jump d) f q d') = (refl, refl)
 statement-starts (phrase statement_simple d f q d') = simple-starts d
 
--- a type begins a declaration, a parameter or an item
+-- a type begins one of some declarations, a parameter or an item
 pub record TypeStart (next : Option Token) : Type 0 where
   pub declarations : one_choice declarations next ≡ Some (N a_declaration ∷ N declarations ∷ [], declarations_more)
-  pub declaration : one_choice a_declaration next ≡ Some (N a_type ∷ T a_name ∷ N after_global ∷ [], declaration_typed)
   pub parameters : one_choice parameters next ≡ Some (N a_type ∷ T a_name ∷ N more_parameters ∷ [], parameters_some)
   pub items : one_choice items next ≡ Some (N an_item ∷ N items ∷ [], items_more)
   pub item : one_choice an_item next ≡ Some (N a_type ∷ T a_name ∷ N declared ∷ T (the Semicolon) ∷ [], item_declare)
 
 pub type-starts : {symbols : List Symbol} {ts rest : List Token} {m : PhraseTrees (N a_type ∷ symbols)} → Derives (N a_type ∷ symbols) ts rest m
     → TypeStart (first ts)
-type-starts (phrase type_int (token is_the d) f q d') = record { declarations = refl; declaration = refl; parameters = refl; items = refl; item = refl }
-type-starts (phrase type_unsigned (token is_the d) f q d') = record { declarations = refl; declaration = refl; parameters = refl; items = refl; item = refl }
+type-starts (phrase type_int (token is_the d) f q d') = record { declarations = refl; parameters = refl; items = refl; item = refl }
+type-starts (phrase type_unsigned (token is_the d) f q d') = record { declarations = refl; parameters = refl; items = refl; item = refl }
+
+typed-chosen : {ts rest : List Token} {m : PhraseTrees (N a_type ∷ T a_name ∷ N after_global ∷ [])}
+    → Derives (N a_type ∷ T a_name ∷ N after_global ∷ []) ts rest m
+    → chosen_rule a_declaration (first ts) (second ts) ≡ Some (N a_type ∷ T a_name ∷ N after_global ∷ [], declaration_typed)
+typed-chosen (phrase type_int (token is_the d) f q d') = refl
+typed-chosen (phrase type_unsigned (token is_the (phrase int_none nothing f q nothing)) f' q' (token is_name d)) = refl
+typed-chosen (phrase type_unsigned (token is_the (phrase int_some (token is_the d) f q d')) f' q' d'') = refl
 
 pub declaration-starts : {symbols : List Symbol} {ts rest : List Token} {m : PhraseTrees (N a_declaration ∷ symbols)}
     → Derives (N a_declaration ∷ symbols) ts rest m →
     one_choice declarations (first ts) ≡ Some (N a_declaration ∷ N declarations ∷ [], declarations_more)
 declaration-starts (phrase declaration_typed d f q d') = (type-starts d).declarations
+declaration-starts (phrase declaration_bytes (token is_the d) f q d') = refl
 declaration-starts (phrase declaration_void (token is_the d) f q d') = refl
 
 pub function-starts : {ts rest : List Token} {m : PhraseTrees (N function_rest ∷ [])} → Derives (N function_rest ∷ []) ts rest m
@@ -292,7 +301,8 @@ chooses : {n : Nonterminal} {inner : List Symbol} {ts rest : List Token} {m : Ph
 chooses program_rule d f h = refl
 chooses declarations_end nothing f h = h
 chooses declarations_more d f h = declaration-starts d
-chooses declaration_typed d f h = (type-starts d).declaration
+chooses declaration_typed d f h = typed-chosen d
+chooses declaration_bytes (token is_the (token is_the d)) f h = refl
 chooses declaration_void (token is_the d) f h = refl
 chooses type_int (token is_the d) f h = refl
 chooses type_unsigned (token is_the d) f h = refl

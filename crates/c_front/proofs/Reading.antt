@@ -3,9 +3,11 @@ use Rattle.std.proofs.Common.{◌<◌, ◌≤◌, arith, length, ◌≡◌, ◌�
 use Rattle.c_tokens.specs.declared.token.JumpWord.{JumpWord}
 use Rattle.c_tokens.specs.declared.token.Token.{Token}
 use Rattle.c_tokens.specs.declared.token.Token.TheVariants.{Name, Jump, The}
-use Rattle.c_tokens.specs.declared.token.Mark.TheVariants.{Else, Minus}
-use Rattle.c_front.specs.Grammar.{Sort, a_name, a_constant, a_jump, the, Level, unary_expressions, above, Nonterminal, a_statement, else_part, simple, value}
-use Rattle.c_front.specs.Grammar.{a_call, an_expression, operands, Symbol, T, N, PhraseTree, SortTree, PhraseTrees, Rule, else_none, simple_assign}
+use Rattle.c_tokens.specs.declared.token.Mark.TheVariants.{Unsigned, Else, Minus}
+use Rattle.c_front.specs.Grammar.{Sort, a_name, a_constant, a_jump, the, Level, unary_expressions, above, Nonterminal, a_declaration, a_type}
+use Rattle.c_front.specs.Grammar.{a_statement, else_part}
+use Rattle.c_front.specs.Grammar.{simple, value, a_call, an_expression, operands, Symbol, T, N, PhraseTree, SortTree, PhraseTrees, Rule, declaration_typed}
+use Rattle.c_front.specs.Grammar.{declaration_bytes, declaration_void, type_int, type_unsigned, else_none, simple_assign}
 use Rattle.c_front.specs.Grammar.{simple_assign_at, simple_call, value_plain, value_call, call_rule, expression_rule, operands_rule, operand_constant}
 use Rattle.c_front.specs.Grammar.{operand_name, operand_index, operand_unary, operand_paren, tree_of, first, second, MayPrecede, IsToken, is_name, is_constant}
 use Rattle.c_front.specs.Grammar.{is_jump, Derives, nothing, token, phrase}
@@ -66,9 +68,17 @@ call-takes : {symbols : List Symbol} {ts rest : List Token} {m : PhraseTrees (N 
     → length rest < length ts
 call-takes (read_phrase call_rule c (read_token i d) e d') = let a = reads-within d in let b = reads-within d' in omega (arith, a, b)
 
+pub type-takes : {symbols : List Symbol} {ts rest : List Token} {m : PhraseTrees (N a_type ∷ symbols)} → Reads (N a_type ∷ symbols) ts rest m
+    → length rest < length ts
+type-takes (read_phrase type_int c (read_token i d) e d') = let a = reads-within d in let b = reads-within d' in omega (arith, a, b)
+type-takes (read_phrase type_unsigned c (read_token i d) e d') = let a = reads-within d in let b = reads-within d' in omega (arith, a, b)
+
 -- a phrase for which the second token has a say has a token at least
 pub peeked : {n : Nonterminal} {inner : List Symbol} {ts middle : List Token} {m : PhraseTrees inner} (r : Rule n inner) → Peeks n (first ts)
     → Reads inner ts middle m → length middle < length ts
+peeked declaration_typed h d = type-takes d
+peeked declaration_bytes h (read_token i d) = let a = reads-within d in omega (arith, a)
+peeked declaration_void h (read_token i d) = let a = reads-within d in omega (arith, a)
 peeked simple_assign h (read_token i d) = let a = reads-within d in omega (arith, a)
 peeked simple_assign_at h (read_token i d) = let a = reads-within d in omega (arith, a)
 peeked simple_call h d = call-takes d
@@ -179,6 +189,9 @@ first-before (before_past b) = refl
 
 -- where the second token has no say, it may change
 pub one-token : (n : Nonterminal) (next after other : Option Token) → (Peeks n next → ⊥) → chosen_rule n next after ≡ chosen_rule n next other
+one-token a_declaration None after other h = refl
+one-token a_declaration (Some (The Unsigned)) after other h = absurd (h tt)
+one-token a_declaration (Some _) after other h = refl
 one-token simple None after other h = refl
 one-token simple (Some (Name x)) after other h = absurd (h tt)
 one-token simple (Some _) after other h = refl

@@ -4,8 +4,9 @@ use Rattle.c_tokens.specs.declared.token.JumpWord.TheVariants.{Break, Continue, 
 use Rattle.c_tokens.specs.declared.token.Token.{Token}
 use Rattle.c_tokens.specs.declared.token.Token.TheVariants.{Name, Constant, Jump, The}
 use Rattle.c_tokens.specs.declared.token.Mark.{Mark}
-use Rattle.c_tokens.specs.declared.token.Mark.TheVariants.{Int, Unsigned, Void, If, Else, While, For, Semicolon, Comma, LeftBrace, RightBrace, LeftParen}
-use Rattle.c_tokens.specs.declared.token.Mark.TheVariants.{RightParen, LeftBracket, Assign, Question, Plus, Minus, Star, Slash, Percent, Bang, Tilde, BarBar}
+use Rattle.c_tokens.specs.declared.token.Mark.TheVariants.{Int, Unsigned, Char, Void, If, Else, While, For, Semicolon, Comma, LeftBrace}
+use Rattle.c_tokens.specs.declared.token.Mark.TheVariants.{RightBrace, LeftParen, RightParen, LeftBracket, Assign, Question, Plus, Minus, Star, Slash}
+use Rattle.c_tokens.specs.declared.token.Mark.TheVariants.{Percent, Bang, Tilde, BarBar}
 use Rattle.c_tokens.specs.declared.token.Mark.TheVariants.{AndAnd, Bar, Caret, Ampersand, EqualEqual, BangEqual, LessSign, GreaterSign, LessEqual, GreaterEqual}
 use Rattle.c_tokens.specs.declared.token.Mark.TheVariants.{LessLess, GreaterGreater}
 use Rattle.c_front.specs.declared.tree.BinaryOp.{BinaryOp}
@@ -14,8 +15,9 @@ use Rattle.c_front.specs.Grammar.{initial, function_rest, parameters, more_param
 use Rattle.c_front.specs.Grammar.{maybe_expression, simple, value, a_call, arguments, more_arguments, an_expression, choice, operands, more_operands, Symbol, T}
 use Rattle.c_front.specs.Grammar.{N, Operator, multiply, divide, remainder, add, subtract, shift_left, shift_right, less, greater, less_or_equal}
 use Rattle.c_front.specs.Grammar.{greater_or_equal, equal, not_equal, bit_and, bit_xor, bit_or, logical_and, logical_or, negate, identity, complement, not}
-use Rattle.c_front.specs.Grammar.{Rule, program_rule, declarations_end, declarations_more, declaration_typed, declaration_void, type_int, type_unsigned}
-use Rattle.c_front.specs.Grammar.{int_none, int_some, global_plain, global_initial, global_array, global_function, initial_plain, initial_negative}
+use Rattle.c_front.specs.Grammar.{Rule, program_rule, declarations_end, declarations_more, declaration_typed, declaration_bytes, declaration_void, type_int}
+use Rattle.c_front.specs.Grammar.{type_unsigned, int_none, int_some, global_plain, global_initial, global_array, global_function, initial_plain}
+use Rattle.c_front.specs.Grammar.{initial_negative}
 use Rattle.c_front.specs.Grammar.{function_rule, parameters_void, parameters_some, more_parameters_end, more_parameters_more, items_end, items_more}
 use Rattle.c_front.specs.Grammar.{item_declare, item_statement, declared_none, declared_some, statement_empty, statement_block, statement_if, statement_while}
 use Rattle.c_front.specs.Grammar.{statement_for, statement_break, statement_continue, statement_return, statement_simple, else_none, else_some, simple_none}
@@ -57,8 +59,6 @@ abbrev pub one_choice : (n : Nonterminal) → Option Token → Option (Choice n)
 one_choice a_program _ = Some (_, program_rule)
 one_choice declarations None = Some (_, declarations_end)
 one_choice declarations (Some _) = Some (_, declarations_more)
-one_choice a_declaration (Some (The Void)) = Some (_, declaration_void)
-one_choice a_declaration _ = Some (_, declaration_typed)
 one_choice a_type (Some (The Int)) = Some (_, type_int)
 one_choice a_type (Some (The Unsigned)) = Some (_, type_unsigned)
 one_choice a_type _ = None
@@ -111,9 +111,15 @@ one_choice (operands (above l)) _ = Some (_, operands_rule)
 one_choice (more_operands l) None = Some (_, operands_end)
 one_choice (more_operands l) (Some (The t)) = Some (more_choice l t (operator_at l t))
 one_choice (more_operands l) (Some _) = Some (_, operands_end)
+one_choice a_declaration _ = None
 one_choice simple _ = None
 one_choice value _ = None
 one_choice (operands unary_expressions) _ = None
+
+abbrev pub declaration_choice : Option Token → Option Token → Option (Choice a_declaration)
+declaration_choice (Some (The Void)) _ = Some (_, declaration_void)
+declaration_choice (Some (The Unsigned)) (Some (The Char)) = Some (_, declaration_bytes)
+declaration_choice _ _ = Some (_, declaration_typed)
 
 abbrev pub simple_choice : Option Token → Option Token → Option (Choice simple)
 simple_choice (Some (Name x)) (Some (The LeftParen)) = Some (_, simple_call)
@@ -137,6 +143,7 @@ unit_choice (Some (The LeftParen)) _ = Some (_, operand_paren)
 unit_choice _ _ = None
 
 abbrev pub chosen_rule : (n : Nonterminal) → Option Token → Option Token → Option (Choice n)
+chosen_rule a_declaration next after = declaration_choice next after
 chosen_rule simple next after = simple_choice next after
 chosen_rule value next after = value_choice next after
 chosen_rule (operands unary_expressions) next after = unit_choice next after
@@ -144,6 +151,7 @@ chosen_rule n next after = one_choice n next
 
 -- the second token has a say
 abbrev pub Peeks : Nonterminal → Option Token → Type 0
+Peeks a_declaration (Some (The Unsigned)) = Unit {0}
 Peeks simple (Some (Name x)) = Unit {0}
 Peeks value (Some (Name x)) = Unit {0}
 Peeks (operands unary_expressions) (Some (Name x)) = Unit {0}

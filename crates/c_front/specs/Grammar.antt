@@ -8,8 +8,9 @@ use Rattle.c_tokens.specs.declared.token.JumpWord.TheVariants.{Break, Continue, 
 use Rattle.c_tokens.specs.declared.token.Token.{Token}
 use Rattle.c_tokens.specs.declared.token.Token.TheVariants.{Name, Constant, Jump, The}
 use Rattle.c_tokens.specs.declared.token.Mark.{Mark}
-use Rattle.c_tokens.specs.declared.token.Mark.TheVariants.{Int, Unsigned, Void, If, Else, While, For, Semicolon, Comma, LeftBrace, RightBrace, LeftParen}
-use Rattle.c_tokens.specs.declared.token.Mark.TheVariants.{RightParen, LeftBracket, RightBracket, Assign, Question, Colon, Plus, Minus, Star, Slash, Percent}
+use Rattle.c_tokens.specs.declared.token.Mark.TheVariants.{Int, Unsigned, Char, Void, If, Else, While, For, Semicolon, Comma, LeftBrace}
+use Rattle.c_tokens.specs.declared.token.Mark.TheVariants.{RightBrace, LeftParen, RightParen, LeftBracket, RightBracket, Assign, Question, Colon}
+use Rattle.c_tokens.specs.declared.token.Mark.TheVariants.{Plus, Minus, Star, Slash, Percent}
 use Rattle.c_tokens.specs.declared.token.Mark.TheVariants.{Bang, Tilde, BarBar, AndAnd, Bar, Caret, Ampersand, EqualEqual, BangEqual, LessSign, GreaterSign}
 use Rattle.c_tokens.specs.declared.token.Mark.TheVariants.{LessEqual, GreaterEqual, LessLess, GreaterGreater}
 use Rattle.c_front.specs.declared.tree.UnaryOp.{UnaryOp}
@@ -18,6 +19,7 @@ use Rattle.c_front.specs.declared.tree.BinaryOp.{BinaryOp}
 use Rattle.c_front.specs.declared.tree.BinaryOp.TheVariants.{Multiply, Divide, Remainder, Add, Subtract, ShiftLeft, ShiftRight, Less, Greater, LessOrEqual}
 use Rattle.c_front.specs.declared.tree.BinaryOp.TheVariants.{GreaterOrEqual, Equal, NotEqual, BitAnd, BitXor, BitOr, LogicalAnd, LogicalOr}
 use Rattle.c_tokens.specs.declared.token.Literal.{Literal}
+use Rattle.words.specs.declared.width.Width.TheVariants.{Word, Byte}
 use Rattle.c_front.specs.declared.tree.Initial.{Initial}
 use Rattle.c_front.specs.declared.tree.Parameter.{Parameter}
 use Rattle.c_front.specs.Tree.{Expression, constant, name, index, unary, binary, conditional, Call, call, Value, plain, called, Simple, assign, assign_at}
@@ -179,6 +181,8 @@ pub data Rule : Nonterminal → List Symbol → Type 0 where
   declarations_end : Rule declarations []
   declarations_more : Rule declarations (N a_declaration ∷ N declarations ∷ [])
   declaration_typed : Rule a_declaration (N a_type ∷ T a_name ∷ N after_global ∷ [])
+  declaration_bytes : Rule a_declaration (T (the Unsigned) ∷ T (the Char) ∷ T a_name ∷ T (the LeftBracket) ∷ T a_constant ∷ T (the RightBracket)
+      ∷ T (the Semicolon) ∷ [])
   declaration_void : Rule a_declaration (T (the Void) ∷ T a_name ∷ N function_rest ∷ [])
   type_int : Rule a_type (T (the Int) ∷ [])
   type_unsigned : Rule a_type (T (the Unsigned) ∷ N maybe_int ∷ [])
@@ -258,18 +262,19 @@ operator_of_rule {o = o} r = o
 abbrev pub prefix_of_rule : {o : UnaryOp} {t : Mark} → Prefix o t → UnaryOp
 prefix_of_rule {o = o} r = o
 
--- the declaration of a name
-abbrev pub declared_as : IntegerType → Identifier → Tail → Declaration
-declared_as k x (variable_tail i) = variable k x i
-declared_as k x (array_tail n) = array k x n
-declared_as k x (function_tail ps is) = function (Some k) x ps is
+-- the declaration of a name behind `int` or `unsigned int`
+abbrev pub typed_declaration : IntegerType → Identifier → Tail → Declaration
+typed_declaration k x (variable_tail i) = variable k x i
+typed_declaration k x (array_tail n) = array Word k x n
+typed_declaration k x (function_tail ps is) = function (Some k) x ps is
 
 -- the tree of a phrase from those of its parts
 abbrev pub tree_of : {n : Nonterminal} {symbols : List Symbol} → Rule n symbols → PhraseTrees symbols → PhraseTree n
 tree_of program_rule m = m.0
 tree_of declarations_end m = []
 tree_of declarations_more m = m.0 ∷ m.1.0
-tree_of declaration_typed m = declared_as m.0 m.1.0 m.1.1.0
+tree_of declaration_typed m = typed_declaration m.0 m.1.0 m.1.1.0
+tree_of declaration_bytes m = array Byte SignedInt m.1.1.0 m.1.1.1.1.0
 tree_of declaration_void m = function None m.1.0 m.1.1.0.0 m.1.1.0.1
 tree_of type_int m = SignedInt
 tree_of type_unsigned m = UnsignedInt

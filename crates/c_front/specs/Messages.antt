@@ -20,6 +20,9 @@ kind_name Constant = codes "Constant"
 kind_name Size = codes "Size"
 kind_name NoMemory = codes "NoMemory"
 
+-- what a fault with a place prints: its number, its name and its offset
+abbrev pub placed_fault_text : (number : ℕ) → (name : List ℕ) → (at : ℕ) → List ℕ
+placed_fault_text number name at = codes "fault " ++ decimal number ++ codes " " ++ name ++ codes " at " ++ decimal at
+
 abbrev pub fault_text : FrontFault → List ℕ
-fault_text fault =
-    codes "fault " ++ decimal (number_of fault.kind) ++ codes " " ++ kind_name fault.kind ++ codes " at " ++ decimal fault.at
+fault_text fault = placed_fault_text (number_of fault.kind) (kind_name fault.kind) fault.at

@@ -5,14 +5,20 @@ use Rattle.c_tokens.specs.declared.token.IntegerType.{IntegerType}
 use Rattle.c_tokens.specs.declared.token.Token.{Token}
 use Rattle.c_tokens.specs.declared.token.Token.TheVariants.{Name, Constant, The}
 use Rattle.c_tokens.specs.declared.token.Mark.{Mark}
-use Rattle.c_tokens.specs.declared.token.Mark.TheVariants.{Int, Unsigned, Else, Semicolon, LeftParen, RightParen, Assign, Colon, Plus, Minus, Bang, Tilde}
+use Rattle.c_tokens.specs.declared.token.Mark.TheVariants.{Int, Unsigned, Char, Else, Semicolon, LeftParen, RightParen, LeftBracket, RightBracket}
+use Rattle.c_tokens.specs.declared.token.Mark.TheVariants.{Assign, Colon}
+use Rattle.c_tokens.specs.declared.token.Mark.TheVariants.{Plus, Minus, Bang, Tilde}
+use Rattle.c_tokens.specs.declared.token.IntegerType.TheVariants.{SignedInt}
+use Rattle.words.specs.declared.width.Width.TheVariants.{Byte}
 use Rattle.c_front.specs.declared.tree.BinaryOp.{BinaryOp}
-use Rattle.c_front.specs.Grammar.{a_name, the, Level, unary_expressions, above, Nonterminal, a_program, a_type, after_global, a_statement, else_part}
-use Rattle.c_front.specs.Grammar.{maybe_simple, maybe_expression, value, arguments, an_expression, Symbol, T, N, Tail, PhraseTree, Operator, if_of, declared_as}
+use Rattle.c_front.specs.Grammar.{a_name, a_constant, the, Level, unary_expressions, above, Nonterminal, a_program, a_type, after_global, a_statement}
+use Rattle.c_front.specs.Grammar.{else_part}
+use Rattle.c_front.specs.Grammar.{maybe_simple, maybe_expression, value, arguments, an_expression, Symbol, T, N, Tail, PhraseTree, Operator, if_of}
+use Rattle.c_front.specs.Grammar.{typed_declaration}
 use Rattle.c_front.specs.Grammar.{first, second}
 use Rattle.c_front.specs.declared.cursor.ParseStop.{ParseStop}
 use Rattle.c_front.specs.declared.cursor.ParseStop.TheVariants.{Syntax, NoMemory}
-use Rattle.c_front.specs.Tree.{Expression, Value, Simple, Statement, Declaration}
+use Rattle.c_front.specs.Tree.{Expression, Value, Simple, Statement, Declaration, array}
 use Rattle.c_tokens.specs.declared.token.Literal.{Literal}
 use Rattle.c_front.specs.declared.tree.Parameter.{Parameter}
 use Rattle.c_front.specs.Reading.{Reads, Stuck}
@@ -120,6 +126,13 @@ HasNoElse ts = first ts ≢ Some (The Else)
 abbrev pub HasNoType : List Token → Type 0
 HasNoType ts = (first ts ≢ Some (The Int)) × (first ts ≢ Some (The Unsigned))
 
+-- `unsigned char`
+abbrev pub StartsBytes : List Token → List Token → Type 0
+StartsBytes ts rest = ts ≡ The Unsigned ∷ The Char ∷ rest
+
+abbrev pub StartsNoBytes : List Token → Type 0
+StartsNoBytes ts = first ts ≡ Some (The Unsigned) → second ts ≢ Some (The Char)
+
 abbrev pub StartsWithConstant : List Token → Literal → List Token → Type 0
 StartsWithConstant ts k rest = ts ≡ Constant k ∷ rest
 
@@ -157,9 +170,30 @@ IsParameterRead ts rest p = Reads (N a_type ∷ T a_name ∷ []) ts rest (p.inte
 abbrev pub IsParameterStuck : List Token → ParseStop → Type 0
 IsParameterStuck = AreStuck (N a_type ∷ T a_name ∷ [])
 
+-- what stands after the opening bracket of an array
+abbrev pub length_symbols : List Symbol
+length_symbols = T a_constant ∷ T (the RightBracket) ∷ T (the Semicolon) ∷ []
+
+abbrev pub IsLengthRead : List Token → List Token → Literal → Type 0
+IsLengthRead ts rest n = Reads length_symbols ts rest (n, (tt, (tt, tt)))
+
+abbrev pub IsLengthStuck : List Token → ParseStop → Type 0
+IsLengthStuck = AreStuck length_symbols
+
+-- what stands after `unsigned char`
+abbrev pub bytes_symbols : List Symbol
+bytes_symbols = T a_name ∷ T (the LeftBracket) ∷ length_symbols
+
+abbrev pub IsBytesRead : List Token → List Token → Declaration → Type 0
+IsBytesRead ts rest d =
+    (x : Identifier) × (n : Literal) × Reads bytes_symbols ts rest (x, (tt, (n, (tt, (tt, tt))))) × (d ≡ array Byte SignedInt x n)
+
+abbrev pub IsBytesStuck : List Token → ParseStop → Type 0
+IsBytesStuck = AreStuck bytes_symbols
+
 -- what stands after the type and the name of a declaration
 abbrev pub IsTailRead : IntegerType → Identifier → List Token → List Token → Declaration → Type 0
-IsTailRead k x ts rest d = (t : Tail) × IsRead after_global ts rest t × (d ≡ declared_as k x t)
+IsTailRead k x ts rest d = (t : Tail) × IsRead after_global ts rest t × (d ≡ typed_declaration k x t)
 
 abbrev pub IsProgramStuck : List Token → ParseStop → Type 0
 IsProgramStuck ts (Syntax rest) = Stuck (N a_program ∷ []) ts rest.now

@@ -79,7 +79,7 @@ items_of (i ∷ rest) = more_items (item_of i) (items_of rest)
 
 abbrev pub declaration_of : Declaration → Tree.Declaration
 declaration_of (Variable k x i) = variable k x i
-declaration_of (Array k x n) = array k x n
+declaration_of (Array w k x n) = array w k x n
 declaration_of (Function f) = function f.result f.name f.parameters.items (items_of f.body.items)
 
 abbrev pub declarations_of : List Declaration → List Tree.Declaration

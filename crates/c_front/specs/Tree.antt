@@ -3,6 +3,7 @@ use Rattle.std.specs.Prelude.{ℕ, List, Option}
 use Rattle.c_tokens.specs.declared.token.Identifier.{Identifier}
 use Rattle.c_tokens.specs.declared.token.IntegerType.{IntegerType}
 use Rattle.c_tokens.specs.declared.token.Literal.{Literal}
+use Rattle.words.specs.declared.width.Width.{Width}
 use Rattle.c_front.specs.declared.tree.UnaryOp.{UnaryOp}
 use Rattle.c_front.specs.declared.tree.BinaryOp.{BinaryOp}
 use Rattle.c_front.specs.declared.tree.Initial.{Initial}
@@ -50,8 +51,9 @@ mutual
     no_items : Items
     more_items : Item → Items → Items
 
--- a declaration at file scope; a function without a type has no result
+-- a declaration at file scope; an array has the width of its elements, and the type that one of them is read as, which
+-- for bytes is `int` (C99 6.3.1.1); a function without a type has no result
 pub data Declaration : Type 0 where
   variable : IntegerType → Identifier → Option Initial → Declaration
-  array : IntegerType → Identifier → Literal → Declaration
+  array : Width → IntegerType → Identifier → Literal → Declaration
   function : Option IntegerType → Identifier → List Parameter → Items → Declaration

@@ -1,6 +1,6 @@
 ghost use Rattle.std.specs.Prelude.{◌≡◌, ◌∷◌, [], IfOk, IfErr, IfSome, IfNone};
 ghost use Rattle.c_front.specs.Parsing.{IsMissing, StartsWith, StartsWithout, StartsWithName, IsNameMissing, StartsWithConstant, IsConstantMissing};
-ghost use Rattle.c_front.specs.Parsing.{StartsNamed, StartsUnnamed};
+ghost use Rattle.c_front.specs.Parsing.{StartsNamed, StartsUnnamed, StartsBytes, StartsNoBytes};
 
 use c_tokens::{Identifier, Literal, Mark, Token};
 use std::alloc::{AllocError, AllocFailed};
@@ -62,6 +62,16 @@ pub fn starts<'a>(tokens: &'a [Token], wanted: Mark) -> Option<&'a [Token]>
         (Token::The(mark), rest) => { if mark == wanted { Some(rest) } else { None } }
         _ => None,
     }
+}
+
+/// The tokens after `unsigned char`, if these two stand here.
+pub fn starts_bytes<'a>(tokens: &'a [Token]) -> Option<&'a [Token]>
+    ensures none { IfNone result (StartsNoBytes tokens.now) }
+    ensures some { IfSome result (λ after. StartsBytes tokens.now after.now) }
+{
+    let rest = starts(tokens, Mark::Unsigned)?;
+    let after = starts(rest, Mark::Char)?;
+    Some(after)
 }
 
 /// The name that has to stand here, and the tokens after it.

@@ -1,17 +1,19 @@
 ghost use Rattle.std.specs.Prelude.{◌≡◌, ◌<◌, length, IfOk, IfErr, List};
 ghost use Rattle.c_front.specs.Grammar.{Spells, initial, parameters, function_rest, after_global, a_declaration};
 ghost use Rattle.c_front.specs.Shape.{items_of, declaration_of, declarations_of};
-ghost use Rattle.c_front.specs.Parsing.{IsRead, IsStuck, IsParameterRead, IsParameterStuck, IsTailRead, IsProgramStuck};
+ghost use Rattle.c_front.specs.Parsing.{IsRead, IsStuck, IsParameterRead, IsParameterStuck, IsTailRead, IsProgramStuck, IsLengthRead, IsLengthStuck};
+ghost use Rattle.c_front.specs.Parsing.{IsBytesRead, IsBytesStuck};
 ghost use Rattle.c_front.specs.Syntax.{IsFault};
 ghost use Rattle.c_tokens.specs.declared.token.Token.{Token};
 ghost use Rattle.c_front.specs.Tree as Tree;
 
-use crate::cursor::{ParseStop, Parsed, expect, literal, name, split, starts};
+use crate::cursor::{ParseStop, Parsed, expect, literal, name, split, starts, starts_bytes};
 use crate::part::{ended, pushed};
 use crate::statement::{integer_type, items};
 use crate::tree::{Declaration, FunctionDefinition, Initial, Item, Parameter};
-use c_tokens::{Identifier, IntegerType, Mark, Token};
+use c_tokens::{Identifier, IntegerType, Literal, Mark, Token};
 use std::alloc::{AllocError, AllocFailed, Global};
+use words::Width;
 
 /// The first value of a global variable.
 fn initial<'a>(tokens: &'a [Token]) -> Parsed<'a, Initial>
@@ -89,6 +91,33 @@ fn function_rest<'a>(
     Ok((given, body, end))
 }
 
+/// The length of an array behind its opening bracket, up to the end of its declaration.
+fn array_length<'a>(tokens: &'a [Token]) -> Parsed<'a, Literal>
+    ensures ok { IfOk result (λ r. IsLengthRead tokens.now r.1.now r.0) }
+    ensures shorter { IfOk result (λ r. length r.1.now < length tokens.now) }
+    ensures err { IfErr result (IsLengthStuck tokens.now) }
+{
+    let (length, close) = literal(tokens)?;
+    let last = expect(close, Mark::RightBracket)?;
+    let end = expect(last, Mark::Semicolon)?;
+    Ok((length, end))
+}
+
+/// An array of bytes behind `unsigned char`.
+fn bytes<'a>(tokens: &'a [Token]) -> Parsed<'a, Declaration>
+    ensures ok { IfOk result (λ r. IsBytesRead tokens.now r.1.now (declaration_of r.0)) }
+    ensures shorter { IfOk result (λ r. length r.1.now < length tokens.now) }
+    ensures err { IfErr result (IsBytesStuck tokens.now) }
+{
+    let (name, open) = name(tokens)?;
+    let start = expect(open, Mark::LeftBracket)?;
+    let (length, end) = array_length(start)?;
+    Ok((
+        Declaration::Array(Width::Byte, IntegerType::SignedInt, name, length),
+        end,
+    ))
+}
+
 /// What stands after the type and the name of a declaration.
 fn after_global<'a>(
     alloc: Global,
@@ -108,10 +137,11 @@ fn after_global<'a>(
         return Ok((Declaration::Variable(integer_type, name, Some(given)), end));
     }
     if let Some(start) = starts(tokens, Mark::LeftBracket) {
-        let (length, close) = literal(start)?;
-        let last = expect(close, Mark::RightBracket)?;
-        let end = expect(last, Mark::Semicolon)?;
-        return Ok((Declaration::Array(integer_type, name, length), end));
+        let (length, end) = array_length(start)?;
+        return Ok((
+            Declaration::Array(Width::Word, integer_type, name, length),
+            end,
+        ));
     }
     let (parameters, body, end) = function_rest(alloc, tokens)?;
     let result = Some(integer_type);
@@ -144,6 +174,10 @@ fn declaration<'a>(alloc: Global, tokens: &'a [Token]) -> Parsed<'a, Declaration
             }),
             end,
         ));
+    }
+    if let Some(after) = starts_bytes(tokens) {
+        let (found, end) = bytes(after)?;
+        return Ok((found, end));
     }
     let Some((integer_type, after)) = integer_type(tokens) else {
         return Err(ParseStop::Syntax(tokens));

@@ -1,4 +1,5 @@
 use c_tokens::{Identifier, IntegerType, Literal};
+use words::Width;
 
 /// An operator before its operand: `-`, `+`, `~`, `!`.
 #[derive(Clone, Copy, PartialEq, Eq)]
@@ -120,11 +121,12 @@ pub struct FunctionDefinition {
     pub body: Vec<Item>,
 }
 
-/// A declaration at file scope: a variable with its first value, an array with its length, or a function.
+/// A declaration at file scope: a variable with its first value, an array with the width of its elements, the type that
+/// one of them is read as (`int` for bytes) and its length, or a function.
 #[derive(Drop)]
 pub enum Declaration {
     Variable(IntegerType, Identifier, Option<Initial>),
-    Array(IntegerType, Identifier, Literal),
+    Array(Width, IntegerType, Identifier, Literal),
     Function(FunctionDefinition),
 }
 

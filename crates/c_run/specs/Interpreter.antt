@@ -6,6 +6,7 @@ use Rattle.runs.specs.Stores.{Places, Arrays}
 use Rattle.runs.specs.Runs.{Running, Ended, Failed}
 use Rattle.c_typed.specs.Trees.{TypedStatement, TypedProgram}
 use Rattle.c_typed.specs.declared.tree.Destination.{Destination}
+use Rattle.c_typed.specs.declared.tree.Global as Variable
 use Rattle.c_typed.specs.Shape.{statement_of, statements_of}
 use Rattle.c_typed.specs.Meaning as Meaning
 use Rattle.c_typed.specs.Meaning.{Todo, Do, Next, before, before_all, Point, Run, step_at, with_assignment, state_after_call, state_after_return}
@@ -82,14 +83,18 @@ state_after_step p depth k m =
 abbrev pub DoesIn : TypedProgram → (depth : ℕ) → TypedStatement → Interpreter → Reached → Interpreter → Type 0
 DoesIn p depth s before r after = state_after_step p depth (Do s ∷ todos before.frame.todo.items) before ≡ state_at r after
 
+-- the same at any depth
+abbrev pub DoesAtAnyDepth : TypedProgram → TypedStatement → Interpreter → Reached → Interpreter → Type 0
+DoesAtAnyDepth p s before r after = (depth : ℕ) → DoesIn p depth s before r after
+
 -- the same in any program
 abbrev pub Does : TypedStatement → Interpreter → Reached → Interpreter → Type 0
-Does s before r after = (p : TypedProgram) (depth : ℕ) → DoesIn p depth s before r after
+Does s before r after = (p : TypedProgram) → DoesAtAnyDepth p s before r after
 
 -- a word goes to this place
-abbrev pub Assigns : Destination → ℕ → Interpreter → Reached → Interpreter → Type 0
-Assigns to v before r after =
-    with_assignment to v (places before.frame.locals.items) (arrays before.globals.items) before.output.items (state_with before) ≡ state_at r after
+abbrev pub Assigns : List Variable.Global → Destination → ℕ → Interpreter → Reached → Interpreter → Type 0
+Assigns globals to v before r after =
+    with_assignment globals to v (places before.frame.locals.items) (arrays before.globals.items) before.output.items (state_with before) ≡ state_at r after
 
 -- a function is called with these values, and its result goes there
 abbrev pub Calls : TypedProgram → (depth f : ℕ) → List ℕ → Option Destination → Interpreter → Reached → Interpreter → Type 0
@@ -98,9 +103,9 @@ Calls p depth f vs to before r after =
     state_after_call p depth f vs to frames (arrays before.globals.items) before.output.items ≡ state_at r after
 
 -- the call returns, with a word or without
-abbrev pub Returns : Option ℕ → Interpreter → Reached → Interpreter → Type 0
-Returns v before r after =
-    state_after_return v before.frame.result_to (frames_of before.waiting.items) (arrays before.globals.items) before.output.items ≡ state_at r after
+abbrev pub Returns : List Variable.Global → Option ℕ → Interpreter → Reached → Interpreter → Type 0
+Returns globals v before r after =
+    state_after_return globals v before.frame.result_to (frames_of before.waiting.items) (arrays before.globals.items) before.output.items ≡ state_at r after
 
 -- the locals, with what comes first and the others behind it
 abbrev pub point_at : Places → Head → List Todo → Point

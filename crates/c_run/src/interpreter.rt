@@ -1,10 +1,11 @@
 ghost use Rattle.std.specs.Prelude.{◌≡◌, ℕ, ◌<◌, ◌∷◌, [], length, Option, IfOk, OnOk, None, Some, if◌then◌else◌, List, map};
 ghost use Rattle.runs.specs.Stores.{Places, Arrays, places_with, arrays_with};
+ghost use Rattle.c_typed.specs.Meaning.{kept_in, elements_with};
 ghost use Rattle.c_typed.specs.Shape.{statement_of, typed_expression_of, typed_expressions_of, maybe_typed_expression_of};
 ghost use Rattle.c_typed.specs.Trees.{assign, store, call, output, if_else, loop, return_with};
 ghost use Rattle.c_types.specs.Shape.{program_of};
 ghost use Rattle.c_typed.specs.Meaning.{source_step};
-ghost use Rattle.c_run.specs.Interpreter.{places, arrays, state_of, state_at, Assigns, Calls, Returns, Does, DoesIn};
+ghost use Rattle.c_run.specs.Interpreter.{places, arrays, state_of, state_at, Assigns, Calls, Returns, Does, DoesAtAnyDepth, DoesIn};
 
 use crate::pending::{Head, Pending, put, settle};
 use crate::value::{arguments, value};
@@ -72,9 +73,38 @@ fn store(globals: &mut [Vec<u32>], array: usize, index: usize, v: u32) -> bool
     false
 }
 
+// What an element of a global keeps of a word; None where there is no such global.
+fn kept_by(program: &Typed, global: usize, v: u32) -> Option<u32>
+    ensures { result ≡ kept_in program.now.globals global v }
+{
+    let global = program.globals().get(global)?;
+    Some(global.width.kept(v))
+}
+
+// An element of a global is assigned to, and keeps what its width lets it; false outside.
+fn assign_element(
+    program: &Typed,
+    globals: &mut [Vec<u32>],
+    global: usize,
+    index: usize,
+    v: u32,
+) -> bool
+    ensures { elements_with program.now.globals (arrays globals.old) global index v ≡ (if result then Some (arrays globals.new) else None) }
+{
+    let Some(word) = kept_by(program, global, v) else {
+        return false;
+    };
+    store(globals, global, index, word)
+}
+
 // A word goes to a local, or to a global variable.
-fn put_at(interpreter: &mut Interpreter, place: Destination, v: u32) -> Result<Reached, AllocError>
-    ensures { IfOk result (λ r. Assigns place v interpreter.old r interpreter.new) }
+fn put_at(
+    program: &Typed,
+    interpreter: &mut Interpreter,
+    place: Destination,
+    v: u32,
+) -> Result<Reached, AllocError>
+    ensures { IfOk result (λ r. Assigns program.now.globals place v interpreter.old r interpreter.new) }
 {
     match place {
         Destination::Local(number) => {
@@ -82,7 +112,7 @@ fn put_at(interpreter: &mut Interpreter, place: Destination, v: u32) -> Result<R
             Ok(Reached::Going)
         }
         Destination::Global(number) => {
-            if store(&mut interpreter.globals, number, 0, v) {
+            if assign_element(program, &mut interpreter.globals, number, 0, v) {
                 Ok(Reached::Going)
             } else {
                 Ok(Reached::Failed)
@@ -123,8 +153,12 @@ fn enter<'a>(
 }
 
 // A call returns, with a word or without.
-fn leave(interpreter: &mut Interpreter, result_word: Option<u32>) -> Result<Reached, AllocError>
-    ensures { IfOk result (λ r. Returns result_word interpreter.old r interpreter.new) }
+fn leave(
+    program: &Typed,
+    interpreter: &mut Interpreter,
+    result_word: Option<u32>,
+) -> Result<Reached, AllocError>
+    ensures { IfOk result (λ r. Returns program.now.globals result_word interpreter.old r interpreter.new) }
 {
     let Some(caller) = interpreter.waiting.pop() else {
         return match result_word {
@@ -139,32 +173,36 @@ fn leave(interpreter: &mut Interpreter, result_word: Option<u32>) -> Result<Reac
     let Some(v) = result_word else {
         return Ok(Reached::Failed);
     };
-    let r = put_at(interpreter, place, v)?;
+    let r = put_at(program, interpreter, place, v)?;
     Ok(r)
 }
 
 // `place = e`
 fn assign_to(
+    program: &Typed,
     interpreter: &mut Interpreter,
     place: Destination,
     e: &TypedExpression,
 ) -> Result<Reached, AllocError>
-    ensures { IfOk result (λ r. Does (assign place (typed_expression_of e.now)) interpreter.old r interpreter.new) }
+    ensures { let statement = assign place (typed_expression_of e.now) in
+        IfOk result (λ r. DoesAtAnyDepth (program_of program.now) statement interpreter.old r interpreter.new) }
 {
     let Some(v) = value(e, &interpreter.frame.locals, &interpreter.globals) else {
         return Ok(Reached::Failed);
     };
-    put_at(interpreter, place, v)
+    put_at(program, interpreter, place, v)
 }
 
 // `array[i] = e`
 fn store_at(
+    program: &Typed,
     interpreter: &mut Interpreter,
     array: usize,
     i: &TypedExpression,
     e: &TypedExpression,
 ) -> Result<Reached, AllocError>
-    ensures { IfOk result (λ r. Does (store array (typed_expression_of i.now) (typed_expression_of e.now)) interpreter.old r interpreter.new) }
+    ensures { let statement = store array (typed_expression_of i.now) (typed_expression_of e.now) in
+        IfOk result (λ r. DoesAtAnyDepth (program_of program.now) statement interpreter.old r interpreter.new) }
 {
     let Some(index) = value(i, &interpreter.frame.locals, &interpreter.globals) else {
         return Ok(Reached::Failed);
@@ -172,7 +210,7 @@ fn store_at(
     let Some(v) = value(e, &interpreter.frame.locals, &interpreter.globals) else {
         return Ok(Reached::Failed);
     };
-    if store(&mut interpreter.globals, array, index as usize, v) {
+    if assign_element(program, &mut interpreter.globals, array, index as usize, v) {
         Ok(Reached::Going)
     } else {
         Ok(Reached::Failed)
@@ -260,19 +298,21 @@ fn repeat<'a>(
 
 // `return` or `return e`
 fn return_word(
+    program: &Typed,
     interpreter: &mut Interpreter,
     e: &Option<TypedExpression>,
 ) -> Result<Reached, AllocError>
-    ensures { IfOk result (λ r. Does (return_with (maybe_typed_expression_of e.now)) interpreter.old r interpreter.new) }
+    ensures { let statement = return_with (maybe_typed_expression_of e.now) in
+        IfOk result (λ r. DoesAtAnyDepth (program_of program.now) statement interpreter.old r interpreter.new) }
 {
     let Some(e) = e else {
-        let r = leave(interpreter, None)?;
+        let r = leave(program, interpreter, None)?;
         return Ok(r);
     };
     let Some(v) = value(e, &interpreter.frame.locals, &interpreter.globals) else {
         return Ok(Reached::Failed);
     };
-    let r = leave(interpreter, Some(v))?;
+    let r = leave(program, interpreter, Some(v))?;
     Ok(r)
 }
 
@@ -287,8 +327,8 @@ fn act<'a>(
     ensures { IfOk result (λ r. DoesIn (program_of program.now) depth (statement_of s.now) interpreter.old r interpreter.new) }
 {
     match s {
-        TypedStatement::Assign(place, e) => assign_to(interpreter, *place, e),
-        TypedStatement::Store(array, i, e) => store_at(interpreter, *array, i, e),
+        TypedStatement::Assign(place, e) => assign_to(program, interpreter, *place, e),
+        TypedStatement::Store(array, i, e) => store_at(program, interpreter, *array, i, e),
         TypedStatement::Call(to, f, all) => call_function(
             alloc,
             program,
@@ -301,7 +341,7 @@ fn act<'a>(
         TypedStatement::Output(e) => write_out(interpreter, e),
         TypedStatement::If(test, first, second) => branch_on(interpreter, test, first, second),
         TypedStatement::Loop(test, last, body) => repeat(interpreter, s, test, last, body),
-        TypedStatement::Return(e) => return_word(interpreter, e),
+        TypedStatement::Return(e) => return_word(program, interpreter, e),
         TypedStatement::Empty
         | TypedStatement::Block(_)
         | TypedStatement::Unset(_)

@@ -16,8 +16,9 @@ fn first_globals(alloc: Global, program: &Typed) -> Result<Vec<Vec<u32>>, AllocE
 {
     let mut globals = Vec::with_capacity(alloc, program.globals().len())?;
     for global in program.globals() {
-        let words = vec![in alloc; global.first; global.length]?;
-        globals.push(words)?;
+        let first = global.width.kept(global.first);
+        let elements = vec![in alloc; first; global.length]?;
+        globals.push(elements)?;
     }
     Ok(globals)
 }

@@ -1,6 +1,7 @@
 -- Faults: their numbers, names and text, and which of them is the first.
 use Rattle.std.specs.Prelude.{◌≡◌, ◌<◌, ◌≤◌, ◌⊎◌, ℕ, Bool, nat_lt, nat_eq, ◌&&◌, ◌||◌, if◌then◌else◌, Result, Ok, Err, IfOk, IfErr, List}
-use Rattle.std.specs.Prelude.{length, ◌++◌, codes, decimal}
+use Rattle.std.specs.Prelude.{length, codes}
+use Rattle.c_front.specs.Messages.{placed_fault_text}
 use Rattle.c_statements.specs.declared.fault.TypeFaultKind.{TypeFaultKind}
 use Rattle.c_statements.specs.declared.fault.TypeFaultKind.TheVariants.{Undeclared, Redeclared, Kind, Count, NoMain, Outside, Limit, NoMemory as WantOfMemory}
 use Rattle.c_statements.specs.declared.fault.TypeFault.{TypeFault}
@@ -29,8 +30,7 @@ kind_name WantOfMemory = codes "NoMemory"
 
 -- what a fault prints
 abbrev pub fault_text : TypeFault → List ℕ
-fault_text fault =
-    codes "fault " ++ decimal (number_of fault.kind) ++ codes " " ++ kind_name fault.kind ++ codes " at " ++ decimal fault.at
+fault_text fault = placed_fault_text (number_of fault.kind) (kind_name fault.kind) fault.at
 
 -- a set of faults: which kinds stand at which offsets
 abbrev pub Faults : Type 1

@@ -1,7 +1,9 @@
 //! Worked C texts: their faults with their offsets, sizes at their limits, the deepest legal texts, refused memory, and
-//! what programs come to: each operator at its edges, and statements with their steps.
+//! what programs come to: each operator at its edges, arrays of bytes, and statements with their steps.
 #![tactic(auto)]
 
+#[cfg(test)]
+mod bytes;
 #[cfg(test)]
 mod operators;
 #[cfg(test)]

@@ -94,10 +94,9 @@ const ACCEPTED: [&[u8]; 12] = [
     b"int main(void){a=b?c:d?e:f;}",
 ];
 
-const REFUSED_WORDS: [&[u8]; 27] = [
+const REFUSED_WORDS: [&[u8]; 26] = [
     b"auto",
     b"case",
-    b"char",
     b"const",
     b"default",
     b"do",

@@ -11,7 +11,7 @@ use Rattle.c_tokens.specs.Digits.{constant_lexeme}
 use Rattle.c_tokens.specs.Fronts.{word_length, run_length, line_length, longest, longer, sign_lexeme, comment_lexeme, line_lexeme, lexeme_of, word_at}
 use Rattle.c_tokens.specs.Fronts.{constant_at, comment_at, line_at, sign_at}
 use Rattle.c_tokens.specs.Pieces.{IsWord, word_end, word_more, IsRun, run_end, run_more, IsLine, line_end, line_more, IsOpen, open_end, open_more, IsClosed}
-use Rattle.c_tokens.specs.Pieces.{closed_here, closed_later, entry_in, closed_comment}
+use Rattle.c_tokens.specs.Pieces.{closed_here, closed_later, entry_in, comment_piece}
 use Rattle.c_tokens.proofs.Shapes.{IsShape, a_byte, a_word, a_number, an_operator, a_line, a_comment, an_open_comment, IsLongestShape, closed_meaning}
 use Rattle.c_tokens.proofs.Shapes.{operator_meaning, or_operator, or_line, or_comment, or_number, or_word, meaning_of, IsShapeNext, at_end, at_piece}
 
@@ -494,7 +494,7 @@ closed-next cs n h =
     let w = c.within in
     let e : length (47 ∷ 42 ∷ take n cs) ≡ n + 2 = simp length-take (omega (arith, w)) in
     at_piece {n = suc (suc n)} (record { within = omega (arith, w); piece = a_comment c.taken; longest = go c })
-    (sym (ap (closed_meaning (length (47 ∷ 42 ∷ take n cs)) (take n cs)) q.1 ∙ ap (λ (x : ℕ). closed_comment x (take n cs)) e))
+    (sym (ap (closed_meaning (length (47 ∷ 42 ∷ take n cs)) (take n cs)) q.1 ∙ ap (λ (x : ℕ). comment_piece x (take n cs)) e))
   where
     go : Closes cs n → (m : ℕ) → suc (suc n) < m → m ≤ length (47 ∷ 42 ∷ cs) → IsShape (take m (47 ∷ 42 ∷ cs)) → ⊥
     go c zero i l p = omega (arith, i)
@@ -522,7 +522,7 @@ line-next cs =
     let w = line-within cs in
     let e : length (47 ∷ 47 ∷ take (line_length cs) cs) ≡ line_length cs + 2 = simp length-take (omega (arith, w)) in
     at_piece {n = suc (suc (line_length cs))} (record { within = omega (arith, w); piece = a_line (line-taken cs); longest = go })
-    (sym (ap (λ (x : ℕ). closed_comment x (take (line_length cs) cs)) e))
+    (sym (ap (λ (x : ℕ). comment_piece x (take (line_length cs) cs)) e))
   where
     go : (m : ℕ) → suc (suc (line_length cs)) < m → m ≤ length (47 ∷ 47 ∷ cs) → IsShape (take m (47 ∷ 47 ∷ cs)) → ⊥
     go zero i l p = omega (arith, i)
@@ -543,7 +543,7 @@ plain-meaning b bs p =
     ∙
     ap (λ (x : Bool). if x then constant_lexeme (b ∷ bs) else or_comment b bs) p.digit ∙
     ap (λ (x : Bool). if x then closed_meaning (length (b ∷ bs)) (drop 1 bs) (comment_length (drop 1 bs)) else or_line b bs) p.comment ∙
-    ap (λ (x : Bool). if x then closed_comment (length (b ∷ bs)) (drop 1 bs) else or_operator b bs) p.line
+    ap (λ (x : Bool). if x then comment_piece (length (b ∷ bs)) (drop 1 bs) else or_operator b bs) p.line
 
 plain-taken : (b : ℕ) (bs : List ℕ) (m : ℕ) → Plain b bs → Plain b (take m bs)
 plain-taken b bs m p = record {

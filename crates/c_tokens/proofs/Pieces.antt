@@ -10,7 +10,7 @@ use Rattle.c_tokens.proofs.Numbers.{Known, is_constant, is_none, known, constant
 use Rattle.c_tokens.specs.Lexing.{is_space, is_letter, is_digit, is_front, signs, keywords, word_lexeme}
 use Rattle.c_tokens.specs.Digits.{constant_lexeme}
 use Rattle.c_tokens.specs.Fronts.{lexeme_of}
-use Rattle.c_tokens.specs.Pieces.{word_end, IsRun, run_end, run_more, IsClosed, IsOpen, entry_in, closed_comment, IsPiece, a_space, a_word, a_constant}
+use Rattle.c_tokens.specs.Pieces.{word_end, IsRun, run_end, run_more, IsClosed, IsOpen, entry_in, comment_piece, IsPiece, a_space, a_word, a_constant}
 use Rattle.c_tokens.specs.Pieces.{no_constant, an_operator, an_unused_operator, a_line, a_comment, an_open_comment, a_stray_byte, IsNext, at_end, at_piece}
 use Rattle.c_tokens.proofs.Shapes as Shapes
 use Rattle.c_tokens.proofs.Shapes.{IsShape, IsLongestShape, IsShapeNext, closed_meaning, operator_meaning, or_operator, or_comment, or_number, or_word}
@@ -47,13 +47,13 @@ operator-is (b ∷ bs) m h =
 two-more : (a b : ℕ) (bs : List ℕ) → length (a ∷ b ∷ bs) ≡ length bs + 2
 two-more a b bs = omega arith
 
-line-is : (bs : List ℕ) → meaning_of (47 ∷ 47 ∷ bs) ≡ closed_comment (length bs + 2) bs
-line-is bs = ap (λ (n : ℕ). closed_comment n bs) (two-more 47 47 bs)
+line-is : (bs : List ℕ) → meaning_of (47 ∷ 47 ∷ bs) ≡ comment_piece (length bs + 2) bs
+line-is bs = ap (λ (n : ℕ). comment_piece n bs) (two-more 47 47 bs)
 
-comment-is : (bs : List ℕ) → IsClosed bs → meaning_of (47 ∷ 42 ∷ bs) ≡ closed_comment (length bs + 2) bs
+comment-is : (bs : List ℕ) → IsClosed bs → meaning_of (47 ∷ 42 ∷ bs) ≡ comment_piece (length bs + 2) bs
 comment-is bs c =
     let q = closed-length bs c in
-    ap (closed_meaning (length (47 ∷ 42 ∷ bs)) bs) q.1 ∙ ap (λ (n : ℕ). closed_comment n bs) (two-more 47 42 bs)
+    ap (closed_meaning (length (47 ∷ 42 ∷ bs)) bs) q.1 ∙ ap (λ (n : ℕ). comment_piece n bs) (two-more 47 42 bs)
 
 open-is : (bs : List ℕ) → IsOpen bs → meaning_of (47 ∷ 42 ∷ bs) ≡ Refused 0
 open-is bs c = ap (closed_meaning (length (47 ∷ 42 ∷ bs)) bs) (open-length bs c)

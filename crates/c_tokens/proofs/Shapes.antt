@@ -5,7 +5,7 @@ use Rattle.c_tokens.specs.declared.lexer.Lexeme.{Lexeme}
 use Rattle.c_tokens.specs.declared.lexer.Lexeme.TheVariants.{End, Separator, Sign, Refused}
 use Rattle.c_tokens.specs.Lexing.{is_space, is_letter, is_digit, is_front, signs, keywords, word_lexeme, comment_length}
 use Rattle.c_tokens.specs.Digits.{constant_lexeme}
-use Rattle.c_tokens.specs.Pieces.{IsWord, IsRun, IsLine, IsOpen, IsClosed, entry_in, closed_comment}
+use Rattle.c_tokens.specs.Pieces.{IsWord, IsRun, IsLine, IsOpen, IsClosed, entry_in, comment_piece}
 
 -- a comment that isn't closed is a piece too, which is refused
 pub data IsShape : List ℕ → Type 0 where
@@ -26,7 +26,7 @@ pub record IsLongestShape (bs : List ℕ) (n : ℕ) : Type 0 where
 -- what pieces are, tested in this order: a space, a word, a number, a comment, a comment to the end of its line, an operator
 abbrev pub closed_meaning : ℕ → List ℕ → Option ℕ → Lexeme
 closed_meaning n inside None = Refused 0
-closed_meaning n inside (Some k) = closed_comment n inside
+closed_meaning n inside (Some k) = comment_piece n inside
 
 abbrev pub operator_meaning : List ℕ → Option (Option Mark) → Lexeme
 operator_meaning o None = Refused 0
@@ -37,7 +37,7 @@ abbrev pub or_operator : ℕ → List ℕ → Lexeme
 or_operator b bs = operator_meaning (b ∷ bs) (entry_in signs (b ∷ bs))
 
 abbrev pub or_line : ℕ → List ℕ → Lexeme
-or_line b bs = if is_front (codes "//") (b ∷ bs) then closed_comment (length (b ∷ bs)) (drop 1 bs) else or_operator b bs
+or_line b bs = if is_front (codes "//") (b ∷ bs) then comment_piece (length (b ∷ bs)) (drop 1 bs) else or_operator b bs
 
 abbrev pub or_comment : ℕ → List ℕ → Lexeme
 or_comment b bs = if is_front (codes "/*") (b ∷ bs) then closed_meaning (length (b ∷ bs)) (drop 1 bs) (comment_length (drop 1 bs)) else or_line b bs

@@ -2,7 +2,7 @@
 use Rattle.std.specs.Prelude.{ℕ, suc, List, [], ◌∷◌, length, Bool, true, false, nat_eq, nat_le, ◌&&◌, ◌||◌, if◌then◌else◌, Option, Some, None, codes}
 use Rattle.c_tokens.specs.declared.token.JumpWord.TheVariants.{Break, Continue, Return}
 use Rattle.c_tokens.specs.declared.token.Mark.{Mark}
-use Rattle.c_tokens.specs.declared.token.Mark.TheVariants.{Int, Unsigned, Void, If, Else, While, For, Semicolon, Comma, LeftBrace, RightBrace, LeftParen}
+use Rattle.c_tokens.specs.declared.token.Mark.TheVariants.{Int, Unsigned, Char, Void, If, Else, While, For, Semicolon, Comma, LeftBrace, RightBrace, LeftParen}
 use Rattle.c_tokens.specs.declared.token.Mark.TheVariants.{RightParen, LeftBracket, RightBracket, Assign, Question, Colon, Plus, Minus, Star, Slash, Percent}
 use Rattle.c_tokens.specs.declared.token.Mark.TheVariants.{Bang, Tilde, BarBar, AndAnd, Bar, Caret, Ampersand, EqualEqual, BangEqual, LessSign, GreaterSign}
 use Rattle.c_tokens.specs.declared.token.Mark.TheVariants.{LessEqual, GreaterEqual, LessLess, GreaterGreater}
@@ -67,10 +67,10 @@ signs =
 -- the 37 keywords of C99; those that are not in use are refused
 abbrev pub keywords : List (List ℕ × Reserved)
 keywords =
-    (codes "int", Marked Int) ∷ (codes "unsigned", Marked Unsigned) ∷ (codes "void", Marked Void) ∷ (codes "if", Marked If) ∷ (codes "else", Marked Else) ∷
-    (codes "while", Marked While) ∷ (codes "for", Marked For) ∷ (codes "break", Jumping Break) ∷ (codes "continue", Jumping Continue)
-    ∷ (codes "return", Jumping Return) ∷
-    (codes "auto", Unused) ∷ (codes "case", Unused) ∷ (codes "char", Unused) ∷ (codes "const", Unused) ∷ (codes "default", Unused) ∷ (codes "do", Unused)
+    (codes "int", Marked Int) ∷ (codes "unsigned", Marked Unsigned) ∷ (codes "char", Marked Char) ∷ (codes "void", Marked Void) ∷ (codes "if", Marked If) ∷
+    (codes "else", Marked Else) ∷ (codes "while", Marked While) ∷ (codes "for", Marked For) ∷ (codes "break", Jumping Break) ∷
+    (codes "continue", Jumping Continue) ∷ (codes "return", Jumping Return) ∷
+    (codes "auto", Unused) ∷ (codes "case", Unused) ∷ (codes "const", Unused) ∷ (codes "default", Unused) ∷ (codes "do", Unused)
     ∷ (codes "double", Unused) ∷ (codes "enum", Unused) ∷ (codes "extern", Unused) ∷
     (codes "float", Unused) ∷ (codes "goto", Unused) ∷ (codes "inline", Unused) ∷ (codes "long", Unused) ∷ (codes "register", Unused)
     ∷ (codes "restrict", Unused) ∷ (codes "short", Unused) ∷ (codes "signed", Unused) ∷ (codes "sizeof", Unused) ∷

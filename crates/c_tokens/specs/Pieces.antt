@@ -38,8 +38,8 @@ entry_in [] o = None
 entry_in (e ∷ es) o = if same_bytes e.0 o then Some e.1 else entry_in es o
 
 -- a comment is a separator, and refused where a backslash or two question marks in a row stand in it
-abbrev pub closed_comment : ℕ → List ℕ → Lexeme
-closed_comment n inside = elim (escape_at inside) [ None ↦ Separator n | Some k ↦ Refused (k + 2) ]
+abbrev pub comment_piece : ℕ → List ℕ → Lexeme
+comment_piece n inside = elim (escape_at inside) [ None ↦ Separator n | Some k ↦ Refused (k + 2) ]
 
 -- the pieces, and what each of them is; a comment that isn't closed is a piece too, and so is a byte that begins no other
 pub data IsPiece : List ℕ → Lexeme → Type 0 where
@@ -50,8 +50,8 @@ pub data IsPiece : List ℕ → Lexeme → Type 0 where
   no_constant : {b : ℕ} {bs : List ℕ} → is_digit b ≡ true → IsRun false (b ∷ bs) → ((c : Literal) → IsConstant (b ∷ bs) c → ⊥) → IsPiece (b ∷ bs) NoConstant
   an_operator : {o : List ℕ} {m : Mark} → entry_in signs o ≡ Some (Some m) → IsPiece o (Sign m (length o))
   an_unused_operator : {o : List ℕ} → entry_in signs o ≡ Some None → IsPiece o (Refused 0)
-  a_line : {bs : List ℕ} → IsLine bs → IsPiece (47 ∷ 47 ∷ bs) (closed_comment (length bs + 2) bs)
-  a_comment : {bs : List ℕ} → IsClosed bs → IsPiece (47 ∷ 42 ∷ bs) (closed_comment (length bs + 2) bs)
+  a_line : {bs : List ℕ} → IsLine bs → IsPiece (47 ∷ 47 ∷ bs) (comment_piece (length bs + 2) bs)
+  a_comment : {bs : List ℕ} → IsClosed bs → IsPiece (47 ∷ 42 ∷ bs) (comment_piece (length bs + 2) bs)
   an_open_comment : {bs : List ℕ} → IsOpen bs → IsPiece (47 ∷ 42 ∷ bs) (Refused 0)
   a_stray_byte : {b : ℕ} → is_space b ≡ false → is_letter b ≡ false → is_digit b ≡ false → entry_in signs (b ∷ []) ≡ None → IsPiece (b ∷ []) (Refused 0)
 

@@ -33,6 +33,10 @@ const KEYWORDS: [Keyword; 37] = [
         word: Reserved::Marked(Mark::Unsigned),
     },
     Keyword {
+        spelling: b"char",
+        word: Reserved::Marked(Mark::Char),
+    },
+    Keyword {
         spelling: b"void",
         word: Reserved::Marked(Mark::Void),
     },
@@ -70,10 +74,6 @@ const KEYWORDS: [Keyword; 37] = [
     },
     Keyword {
         spelling: b"case",
-        word: Reserved::Unused,
-    },
-    Keyword {
-        spelling: b"char",
         word: Reserved::Unused,
     },
     Keyword {

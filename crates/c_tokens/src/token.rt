@@ -32,6 +32,7 @@ pub enum JumpWord {
 pub enum Mark {
     Int,
     Unsigned,
+    Char,
     Void,
     If,
     Else,

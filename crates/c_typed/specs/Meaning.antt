@@ -1,9 +1,10 @@
 -- What a program does, one step after another (C99 5.1.2.3, 6.8): each assignment, test, call, return and output is one
 -- step. A declaration, `break` and `continue` are none.
 use Rattle.std.specs.Prelude.{ℕ, List, [], ◌∷◌, ◌++◌, Option, Some, None, length, nat_lt, if◌then◌else◌, ◌==◌, slice_get, map, replicate}
-use Rattle.runs.specs.Stores.{Places, unset_places, places_with, Arrays, arrays_with}
+use Rattle.runs.specs.Stores.{Places, unset_places, places_with, Arrays, arrays_with, chain}
 use Rattle.runs.specs.Runs.{Outcome, Configuration, Running, Ended, Failed, with_value, steps, outcome}
 use Rattle.words.specs.Words.{wrap}
+use Rattle.words.specs.Widths.{kept}
 use Rattle.c_typed.specs.declared.tree.Destination.{Destination}
 use Rattle.c_typed.specs.declared.tree.Destination.TheVariants.{Local, Global as Variable}
 use Rattle.c_typed.specs.declared.tree.Global.{Global}
@@ -69,10 +70,18 @@ pub record Frame : Type 0 where
 abbrev pub Run : Type 0
 Run = Configuration Frame
 
--- a word goes to a local, or to a global variable
-abbrev pub with_assignment : Destination → ℕ → Places → Arrays → List ℕ → (Places → Arrays → Run) → Run
-with_assignment (Local x) v l g out go = go (places_with l x (Some v)) g
-with_assignment (Variable x) v l g out go = with_value (arrays_with g x 0 v) out (λ g'. go l g')
+-- what an element of a global keeps of a word, or none where there is no such global
+abbrev pub kept_in : List Global → ℕ → ℕ → Option ℕ
+kept_in globals a v = chain (slice_get globals a) (λ global. Some (kept global.width v))
+
+-- the globals after an assignment to an element, which keeps what its width lets it (C99 6.3.1.3), or none outside
+abbrev pub elements_with : List Global → Arrays → ℕ → ℕ → ℕ → Option Arrays
+elements_with globals g a i v = chain (kept_in globals a v) (λ w. arrays_with g a i w)
+
+-- a word goes to a local, or to a global variable, which keeps what its width lets it
+abbrev pub with_assignment : List Global → Destination → ℕ → Places → Arrays → List ℕ → (Places → Arrays → Run) → Run
+with_assignment globals (Local x) v l g out go = go (places_with l x (Some v)) g
+with_assignment globals (Variable x) v l g out go = with_value (elements_with globals g x 0 v) out (λ g'. go l g')
 
 -- the arguments are the first locals
 abbrev pub argument_places : List ℕ → Places
@@ -88,11 +97,11 @@ state_after_call p depth f vs to frames g out =
 
 -- a return with a word or without, to the call below: where a word is wanted there has to be one. The last call's word
 -- ends the run
-abbrev pub state_after_return : Option ℕ → Option Destination → List Frame → Arrays → List ℕ → Run
-state_after_return v to [] g out = with_value v out (λ w. Ended w out)
-state_after_return v None (f ∷ frames) g out = Running (f ∷ frames) g out
-state_after_return v (Some place) (f ∷ frames) g out =
-    with_value v out (λ w. with_assignment place w f.locals g out (λ l g'.
+abbrev pub state_after_return : List Global → Option ℕ → Option Destination → List Frame → Arrays → List ℕ → Run
+state_after_return globals v to [] g out = with_value v out (λ w. Ended w out)
+state_after_return globals v None (f ∷ frames) g out = Running (f ∷ frames) g out
+state_after_return globals v (Some place) (f ∷ frames) g out =
+    with_value v out (λ w. with_assignment globals place w f.locals g out (λ l g'.
     Running (record { locals = l; todo = f.todo; result_to = f.result_to } ∷ frames) g' out))
 
 -- by the word of a test
@@ -102,10 +111,10 @@ todo_of_test v a b = if v == 0 then b else a
 -- one step, at a statement that takes one
 abbrev pub step_at : TypedProgram → (depth : ℕ) → Places → List Todo → Option Destination → List Frame → Arrays → List ℕ → Run
 step_at p depth l (Do (assign x e) ∷ k) to frames g out =
-    with_value (value_of e l g) out (λ v. with_assignment x v l g out (λ l' g'.
+    with_value (value_of e l g) out (λ v. with_assignment p.globals x v l g out (λ l' g'.
     Running (record { locals = l'; todo = k; result_to = to } ∷ frames) g' out))
 step_at p depth l (Do (store a i e) ∷ k) to frames g out =
-    with_value (value_of i l g) out (λ x. with_value (value_of e l g) out (λ v. with_value (arrays_with g a x v) out (λ g'.
+    with_value (value_of i l g) out (λ x. with_value (value_of e l g) out (λ v. with_value (elements_with p.globals g a x v) out (λ g'.
     Running (record { locals = l; todo = k; result_to = to } ∷ frames) g' out)))
 step_at p depth l (Do (call x f all) ∷ k) to frames g out =
     with_value (values_of all l g) out (λ vs.
@@ -119,9 +128,9 @@ step_at p depth l (Do (if_else c a b) ∷ k) to frames g out =
 step_at p depth l (Do (loop c last body) ∷ k) to frames g out =
     with_value (value_of c l g) out (λ v.
     Running (record { locals = l; todo = todo_of_test v (before body (Next last (loop c last body) ∷ k)) k; result_to = to } ∷ frames) g out)
-step_at p depth l (Do (return_with None) ∷ k) to frames g out = state_after_return None to frames g out
+step_at p depth l (Do (return_with None) ∷ k) to frames g out = state_after_return p.globals None to frames g out
 step_at p depth l (Do (return_with (Some e)) ∷ k) to frames g out =
-    with_value (value_of e l g) out (λ v. state_after_return (Some v) to frames g out)
+    with_value (value_of e l g) out (λ v. state_after_return p.globals (Some v) to frames g out)
 step_at p depth l _ to frames g out = Failed out
 
 abbrev pub source_step : TypedProgram → ℕ → Run → Run
@@ -134,9 +143,9 @@ source_step p depth (Failed out) = Failed out
 abbrev pub source_steps : TypedProgram → (depth n : ℕ) → Run → Run
 source_steps p depth n s = steps (source_step p depth) n s
 
--- the words of a global at first
+-- the words that the elements of a global hold at first
 abbrev pub first_words : Global → List ℕ
-first_words a = replicate a.length (wrap a.first)
+first_words a = replicate a.length (kept a.width (wrap a.first))
 
 -- before the first step: a call of `main`
 abbrev pub source_start : TypedProgram → Run

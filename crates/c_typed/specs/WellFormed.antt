@@ -2,6 +2,7 @@
 -- functions, operators compute in the types of their operands, jumps stand in loops, and the sizes are within the limits.
 use Rattle.std.specs.Prelude.{◌≡◌, ◌<◌, ◌≤◌, ◌+◌, ℕ, List, [], ◌∷◌, Option, Some, None, Bool, true, false, length, is_some, slice_get, All}
 use Rattle.c_tokens.specs.declared.token.IntegerType.TheVariants.{SignedInt}
+use Rattle.words.specs.Widths.{words_of_elements}
 use Rattle.c_typed.specs.declared.limits.TheConstants.{MAX_FUNCTIONS, MAX_GLOBAL_WORDS, MAX_LOCALS, MAX_PARAMETERS}
 use Rattle.c_typed.specs.declared.tree.Destination.{Destination}
 use Rattle.c_typed.specs.declared.tree.Destination.TheVariants.{Local, Global as Variable}
@@ -72,12 +73,12 @@ pub record FitsFunction (p : TypedProgram) (f : TypedFunction) : Type 0 where
   pub locals : f.locals ≤ MAX_LOCALS
   pub body : FitsStatements p f.locals (is_some f.result) false f.body
 
--- the words of these globals
+-- the words that these globals take
 abbrev pub words_in : List Global → ℕ
 words_in [] = 0
-words_in (g ∷ rest) = g.length + words_in rest
+words_in (g ∷ rest) = words_of_elements g.width g.length + words_in rest
 
--- each global has a word at least, and there is an `int main(void)`
+-- each global has an element at least, and there is an `int main(void)`
 pub record IsWellFormed (p : TypedProgram) : Type 0 where
   pub functions : All (FitsFunction p) p.functions
   pub functions_fit : length p.functions ≤ MAX_FUNCTIONS

@@ -1,8 +1,14 @@
-ghost use Rattle.c_typed.specs.Laws.{RunsGoOnFromWhereTheyAre, ValuesAreWords};
+ghost use Rattle.c_typed.specs.Laws.{ElementsFitTheirWidths, RunsGoOnFromWhereTheyAre, ValuesAreWords};
 
 /// Constants mean words, so all that a typed program computes and keeps is words. A law: it computes nothing.
 pub fn values_are_words()
     ensures { ValuesAreWords }
+{}
+
+/// The elements of a global fit its width, so one of an array of bytes is read as a number from 0 to 255. A law: it
+/// computes nothing.
+pub fn elements_fit_their_widths()
+    ensures { ElementsFitTheirWidths }
 {}
 
 /// Runs compose, and one that ended or failed stays so. A law: it computes nothing.

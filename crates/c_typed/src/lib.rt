@@ -13,6 +13,6 @@ mod laws;
 mod limits;
 mod tree;
 
-pub use laws::{runs_go_on_from_where_they_are, values_are_words};
+pub use laws::{elements_fit_their_widths, runs_go_on_from_where_they_are, values_are_words};
 pub use limits::{MAX_FUNCTIONS, MAX_GLOBAL_WORDS, MAX_LOCALS, MAX_PARAMETERS};
 pub use tree::{Destination, Function, Global, TypedExpression, TypedStatement};

@@ -4,6 +4,7 @@ ghost use Rattle.c_typed.specs.Trees.{type_of};
 
 use c_front::{BinaryOp, UnaryOp};
 use c_tokens::{IntegerType, Literal};
+use words::Width;
 
 /// A typed expression. A local, a global variable and an array stand as their numbers. An operator keeps the type that
 /// it computes in: for a comparison that is the operands' common type.
@@ -55,9 +56,11 @@ pub struct Function {
     pub body: Vec<TypedStatement>,
 }
 
-/// A global variable or array: its length in words, 1 for a variable, and the word that each of them has at first.
+/// A global variable or array: the width of its elements, how many there are, 1 for a variable, and the word that each of
+/// them keeps at first what its width lets it of.
 #[derive(Clone, Copy, PartialEq, Eq)]
 pub struct Global {
+    pub width: Width,
     pub length: usize,
     pub first: u32,
 }

@@ -47,7 +47,7 @@ exceeds e k (declared_again h) = absurd (h e)
 exceeds e k (other_main h i) = absurd (k (inr (h, i)))
 exceeds e k (array_of_nothing {n = n} h) = absurd (k (inl (is_zero n.value h)))
 exceeds {d = variable integer_type x i} e k (too_many_words h l) = ((h, l), omega arith)
-exceeds {d = array integer_type x n} e k (too_many_words h l) = ((h, l), omega arith)
+exceeds {d = array w integer_type x n} e k (too_many_words h l) = ((h, l), omega arith)
 exceeds {d = function t x ps body} e k (too_many_words h l) = absurd (omega (arith, h, l))
 exceeds e k (too_many_functions h) = (h, omega arith)
 
@@ -57,7 +57,7 @@ again-first text f d h = record { has = declared_again h; first = λ j n w. inr 
 
 wrong-kind : (text : List ℕ) (f : File) (d : Declaration) → IsOtherKind text d → FaultyName text f d KindFault (name_of d).at
 wrong-kind text f d (inr h) = other_main h.0 h.1
-wrong-kind text f (array k x n) (inl h) = array_of_nothing (zero n.value h)
+wrong-kind text f (array w k x n) (inl h) = array_of_nothing (zero n.value h)
 wrong-kind text f (variable k x i) (inl h) = cc
 wrong-kind text f (function r x ps body) (inl h) = cc
 
@@ -67,7 +67,7 @@ kind-first text f d e h = record { has = wrong-kind text f d h; first = λ j n w
 
 too-many : (text : List ℕ) (f : File) (d : Declaration) → Exceeds f.counts d → FaultyName text f d Limit (name_of d).at
 too-many text f (variable k x i) h = too_many_words h.0 h.1
-too-many text f (array k x n) h = too_many_words h.0 h.1
+too-many text f (array w k x n) h = too_many_words h.0 h.1
 too-many text f (function r x ps body) h = too_many_functions h
 
 pub limit-first : (text : List ℕ) (f : File) (d : Declaration) → f.names (spelling_in text (name_of d)) ≡ None → (IsOtherKind text d → ⊥)

@@ -26,6 +26,7 @@ use Rattle.c_statements.specs.Types.{TypesItems}
 use Rattle.c_typed.specs.declared.tree.Function as Rust
 use Rattle.c_typed.specs.Shape.{functions_of}
 use Rattle.c_types.specs.Shape.{TypedParts, program_of}
+use Rattle.words.specs.Widths.{words_of_elements}
 use Rattle.c_typed.specs.WellFormed.{FitsStatements, FitsFunction, words_in, IsWellFormed}
 use Rattle.c_types.specs.Typed.{IsTyped}
 use Rattle.c_types.proofs.FitsStatements.{IsThere, AreThere, declared-there, fits-items, all-locals-fit, behind-locals}
@@ -286,8 +287,8 @@ words-fit {f = f} (more_declared (variable_typed {x = x}) more) none few =
     let fits : 262144 < f.counts.words + 1 → ⊥ = λ l. none Limit x.at (inl (inl (too_many_words few l))) in
     let h = words-fit more (λ k at w. none k at (inr w)) (omega (arith, fits)) in
     omega (arith, h)
-words-fit {f = f} (more_declared (array_typed {x = x} {n = n}) more) none few =
-    let fits : 262144 < f.counts.words + n.value → ⊥ = λ l. none Limit x.at (inl (inl (too_many_words few l))) in
+words-fit {f = f} (more_declared (array_typed {w = w} {x = x} {n = n}) more) none few =
+    let fits : 262144 < f.counts.words + words_of_elements w n.value → ⊥ = λ l. none Limit x.at (inl (inl (too_many_words few l))) in
     let h = words-fit more (λ k at w. none k at (inr w)) (omega (arith, fits)) in
     omega (arith, h)
 words-fit (more_declared (function_typed typed) more) none few = words-fit more (λ k at w. none k at (inr w)) few

@@ -24,7 +24,7 @@ IsMainOr names = (names main_name ≡ None) ⊎ ((n : ℕ) × (names main_name �
 
 is-main : (f : File) (d : Tree.Declaration) → (IsNotMain d → ⊥) → (n : ℕ) × (named_by f.counts d ≡ Function n 0 true)
 is-main f (Tree.variable k x i) h = absurd (h tt)
-is-main f (Tree.array k x n) h = absurd (h tt)
+is-main f (Tree.array w k x n) h = absurd (h tt)
 is-main f (Tree.function None x ps body) h = absurd (h (inl (λ e. none-some _ e)))
 is-main f (Tree.function (Some UnsignedInt) x ps body) h = absurd (h (inl other))
   where

@@ -1,6 +1,7 @@
 -- What the walk over the declarations keeps.
 use Rattle.std.specs.Prelude.{length, [], ◌∷◌, ◌++◌, Result, Ok, ◌≡◌, ◌+◌, ◌<◌, ◌≤◌, ◌⊎◌, ℕ, List, Option, Bool, true, false, nat_eq, bytes_eq}
 use Rattle.c_front.specs.Tree.{Declaration, Items, variable, array, function}
+use Rattle.words.specs.Widths.{words_of_elements}
 use Rattle.c_typed.specs.declared.limits.TheConstants.{MAX_FUNCTIONS, MAX_GLOBAL_WORDS}
 use Rattle.c_statements.specs.declared.symbol_table.Scopes.{Scopes}
 use Rattle.c_statements.specs.Shape.{scopes_of}
@@ -29,12 +30,12 @@ file_of f t = record { names = (scopes_of f).inner; counts = counts_of t }
 -- the 257th function, or the global with which the words are exceeded
 abbrev pub Exceeds : Counts → Declaration → Type 0
 Exceeds n (variable k x i) = (n.words ≤ MAX_GLOBAL_WORDS) × (MAX_GLOBAL_WORDS < n.words + 1)
-Exceeds n (array k x l) = (n.words ≤ MAX_GLOBAL_WORDS) × (MAX_GLOBAL_WORDS < n.words + l.value)
+Exceeds n (array w k x l) = (n.words ≤ MAX_GLOBAL_WORDS) × (MAX_GLOBAL_WORDS < n.words + words_of_elements w l.value)
 Exceeds n (function r x ps body) = n.functions ≡ MAX_FUNCTIONS
 
 abbrev pub is_array_of_nothing : Declaration → Bool
 is_array_of_nothing (variable k x i) = false
-is_array_of_nothing (array k x n) = nat_eq n.value 0
+is_array_of_nothing (array w k x n) = nat_eq n.value 0
 is_array_of_nothing (function r x ps body) = false
 
 -- a `main` that isn't `int main(void)`, or an array of length 0

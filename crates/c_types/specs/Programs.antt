@@ -5,6 +5,9 @@ use Rattle.c_tokens.specs.declared.token.Identifier.{Identifier}
 use Rattle.c_tokens.specs.declared.token.IntegerType.{IntegerType}
 use Rattle.c_tokens.specs.declared.token.IntegerType.TheVariants.{SignedInt}
 use Rattle.c_tokens.specs.declared.token.Literal.{Literal}
+use Rattle.words.specs.declared.width.Width.{Width}
+use Rattle.words.specs.declared.width.Width.TheVariants.{Word}
+use Rattle.words.specs.Widths.{words_of_elements}
 use Rattle.c_front.specs.declared.tree.Initial.{Initial}
 use Rattle.c_front.specs.declared.tree.Parameter.{Parameter}
 use Rattle.c_front.specs.Tree.{Declaration, variable, array, function, Items}
@@ -43,22 +46,23 @@ no_declarations = record { names = with_name nothing out_name Out; counts = reco
 
 abbrev pub name_of : Declaration → Identifier
 name_of (variable k x i) = x
-name_of (array k x n) = x
+name_of (array w k x n) = x
 name_of (function r x ps body) = x
 
+-- the words that a declaration takes of those for globals: four bytes of an array are one, and so are those that are left
 abbrev pub words_of : Declaration → ℕ
 words_of (variable k x i) = 1
-words_of (array k x n) = n.value
+words_of (array w k x n) = words_of_elements w n.value
 words_of (function r x ps body) = 0
 
 abbrev pub named_by : Counts → Declaration → Named
 named_by n (variable k x i) = Global n.globals k
-named_by n (array k x l) = Array n.globals k
+named_by n (array w k x l) = Array n.globals k
 named_by n (function r x ps body) = Function n.functions (length ps) (is_some r)
 
 abbrev pub counts_after : Counts → Declaration → Counts
 counts_after n (variable k x i) = record { globals = suc n.globals; functions = n.functions; words = n.words + 1 }
-counts_after n (array k x l) = record { globals = suc n.globals; functions = n.functions; words = n.words + l.value }
+counts_after n (array w k x l) = record { globals = suc n.globals; functions = n.functions; words = n.words + words_of_elements w l.value }
 counts_after n (function r x ps body) = record { globals = n.globals; functions = suc n.functions; words = n.words }
 
 abbrev pub after : List ℕ → File → Declaration → File
@@ -71,7 +75,7 @@ after_all text f (d ∷ rest) = after_all text (after text f d) rest
 -- a declaration that isn't `int main(void)`
 abbrev pub IsNotMain : Declaration → Type 0
 IsNotMain (variable k x i) = Unit {0}
-IsNotMain (array k x n) = Unit {0}
+IsNotMain (array w k x n) = Unit {0}
 IsNotMain (function r x ps body) = (r ≢ Some SignedInt) ⊎ (ps ≢ [])
 
 -- what is wrong with the name that is declared at file scope, at that name; too many words are told at the global with
@@ -79,7 +83,7 @@ IsNotMain (function r x ps body) = (r ≢ Some SignedInt) ⊎ (ps ≢ [])
 pub data FaultyName (text : List ℕ) (f : File) : Declaration → TypeFaultKind → ℕ → Type 0 where
   declared_again : {d : Declaration} → f.names (spelling_in text (name_of d)) ≢ None → FaultyName text f d Redeclared (name_of d).at
   other_main : {d : Declaration} → bytes_eq (spelling_in text (name_of d)) main_name ≡ true → IsNotMain d → FaultyName text f d KindFault (name_of d).at
-  array_of_nothing : {k : IntegerType} {x : Identifier} {n : Literal} → n.value ≡ 0 → FaultyName text f (array k x n) KindFault x.at
+  array_of_nothing : {w : Width} {k : IntegerType} {x : Identifier} {n : Literal} → n.value ≡ 0 → FaultyName text f (array w k x n) KindFault x.at
   too_many_words : {d : Declaration} → f.counts.words ≤ MAX_GLOBAL_WORDS → MAX_GLOBAL_WORDS < f.counts.words + words_of d
       → FaultyName text f d Limit (name_of d).at
   too_many_functions : {r : Option IntegerType} {x : Identifier} {ps : List Parameter} {body : Items} → f.counts.functions ≡ MAX_FUNCTIONS →
@@ -104,7 +108,7 @@ scopes_at names = record { inner = nothing; around = names ∷ []; locals = 0 }
 
 abbrev pub FaultyBody : List ℕ → Bindings → Declaration → TypeFaultKind → ℕ → Type 0
 FaultyBody text names (variable integer_type x i) k at = ⊥
-FaultyBody text names (array integer_type x n) k at = ⊥
+FaultyBody text names (array w integer_type x n) k at = ⊥
 FaultyBody text names (function r x ps body) k at =
     FaultyParameters text (scopes_at names) ps k at ⊎ FaultyItems text (is_some r) false (behind_parameters text (scopes_at names) ps) body k at
 
@@ -148,8 +152,9 @@ pub data TypedDeclaration : Type 0 where
 
 pub data TypesDeclaration (text : List ℕ) (f : File) : Declaration → TypedDeclaration → Type 0 where
   variable_typed : {k : IntegerType} {x : Identifier} {i : Option Initial}
-      → TypesDeclaration text f (variable k x i) (a_global (record { length = 1; first = first_word i }))
-  array_typed : {k : IntegerType} {x : Identifier} {n : Literal} → TypesDeclaration text f (array k x n) (a_global (record { length = n.value; first = 0 }))
+      → TypesDeclaration text f (variable k x i) (a_global (record { width = Word; length = 1; first = first_word i }))
+  array_typed : {w : Width} {k : IntegerType} {x : Identifier} {n : Literal}
+      → TypesDeclaration text f (array w k x n) (a_global (record { width = w; length = n.value; first = 0 }))
   function_typed : {r : Option IntegerType} {x : Identifier} {ps : List Parameter} {body : Items} {typed : TypedStatements} →
       TypesItems text (behind_parameters text (scopes_at (after text f (function r x ps body)).names) ps) body typed →
       TypesDeclaration text f (function r x ps body) (a_function (record {

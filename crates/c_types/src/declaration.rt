@@ -35,18 +35,18 @@ pub fn declared_name(declaration: &Declaration) -> Identifier
 {
     match declaration {
         Declaration::Variable(_, name, _) => *name,
-        Declaration::Array(_, name, _) => *name,
+        Declaration::Array(_, _, name, _) => *name,
         Declaration::Function(function) => function.name,
     }
 }
 
-/// The words that a declaration takes of those for globals.
+/// The words that a declaration takes of those for globals: four bytes of an array are one, and so are those that are left.
 fn words(declaration: &Declaration) -> u32
     ensures { result ≡ words_of (declaration_of declaration.now) }
 {
     match declaration {
         Declaration::Variable(_, _, _) => 1,
-        Declaration::Array(_, _, length) => length.value,
+        Declaration::Array(width, _, _, length) => width.words_of(length.value),
         Declaration::Function(_) => 0,
     }
 }
@@ -69,7 +69,7 @@ fn is_empty_array(declaration: &Declaration) -> bool
     ensures { result ≡ is_array_of_nothing (declaration_of declaration.now) }
 {
     match declaration {
-        Declaration::Array(_, _, length) => length.value == 0,
+        Declaration::Array(_, _, _, length) => length.value == 0,
         _ => false,
     }
 }
@@ -97,7 +97,7 @@ impl Tally {
     {
         match declaration {
             Declaration::Variable(integer_type, _, _) => Named::Global(self.globals, *integer_type),
-            Declaration::Array(integer_type, _, _) => Named::Array(self.globals, *integer_type),
+            Declaration::Array(_, integer_type, _, _) => Named::Array(self.globals, *integer_type),
             Declaration::Function(function) => Named::Function(
                 self.functions,
                 function.parameters.len(),

@@ -22,6 +22,7 @@ use c_statements::{
 use c_tokens::{IntegerType, Literal};
 use c_typed::{Function, Global as Variable, TypedExpression, TypedStatement};
 use std::alloc::{AllocError, AllocFailed, Global};
+use words::Width;
 
 /// What a declaration at file scope comes to.
 #[derive(Drop)]
@@ -113,10 +114,12 @@ fn body<'a>(
 {
     match d {
         Declaration::Variable(_, _, initial) => Ok(Declared::Variable(Variable {
+            width: Width::Word,
             length: 1,
             first: first(initial),
         })),
-        Declaration::Array(_, _, length) => Ok(Declared::Variable(Variable {
+        Declaration::Array(width, _, _, length) => Ok(Declared::Variable(Variable {
+            width: *width,
             length: length.value as usize,
             first: 0,
         })),

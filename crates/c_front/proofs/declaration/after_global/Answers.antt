@@ -3,8 +3,8 @@ use Rattle.c_tokens.specs.declared.token.Mark.TheVariants.{Semicolon}
 use Rattle.c_front.specs.Parsing.{IsStuck, IsEndedStuck}
 use Rattle.c_front.proofs.Ends.{ended-read, ended-stuck}
 use Rattle.c_front.specs.Grammar.{after_global, initial}
-use Rattle.c_front.proofs.DeclarationPaths.{tail-plain, tail-initial, tail-initial-stuck, array-length-stuck, array-close-stuck}
-use Rattle.c_front.proofs.DeclarationPaths.{array-end-stuck, tail-array, tail-function-stuck, tail-function}
+use Rattle.c_front.proofs.DeclarationPaths.{tail-plain, tail-initial, tail-initial-stuck, array-stuck, tail-array}
+use Rattle.c_front.proofs.DeclarationPaths.{tail-function-stuck, tail-function}
 use Rattle.c_front.proofs.declaration.after_global.Goals as goal
 
 pub returns-in-Some-clause-ok : goal.returns-in-Some-clause-ok
@@ -13,21 +13,10 @@ returns-in-Some-clause-ok c = tail-plain _ _ _ _ c.in-Some.ensures.some
 pub returns-in_err-length-clause-err : goal.returns-in_err-length-clause-err
 returns-in_err-length-clause-err c =
     let h : IsStuck after_global c.args.tokens.now c.in_err-length.field-0.0 =
-    array-length-stuck _ _ _ c.in-Some-starts-2.ensures.some c.in_err-length.ensures.err in search rules
-
-pub returns-in_err-last-clause-err : goal.returns-in_err-last-clause-err
-returns-in_err-last-clause-err c =
-    let h : IsStuck after_global c.args.tokens.now c.in_err-last.field-0.0 =
-    array-close-stuck _ _ _ _ _ c.in-Some-starts-2.ensures.some c.in_ok-length.ensures.ok c.in_err-last.ensures.err in search rules
-
-pub returns-in_err-end-clause-err : goal.returns-in_err-end-clause-err
-returns-in_err-end-clause-err c =
-    let h : IsStuck after_global c.args.tokens.now c.in_err-end.field-0.0 =
-    array-end-stuck _ _ _ _ _ _ c.in-Some-starts-2.ensures.some c.in_ok-length.ensures.ok c.in_ok-last.ensures.ok c.in_err-end.ensures.err in search rules
+    array-stuck _ _ _ c.in-Some-starts-2.ensures.some c.in_err-length.ensures.err in search rules
 
 pub returns-in-Some-starts-2-clause-ok : goal.returns-in-Some-starts-2-clause-ok
-returns-in-Some-starts-2-clause-ok c = tail-array _ _ _ _ _ _ _ _ c.in-Some-starts-2.ensures.some c.in_ok-length.ensures.ok c.in_ok-last.ensures.ok
-    c.in_ok-end.ensures.ok
+returns-in-Some-starts-2-clause-ok c = tail-array _ _ _ _ _ _ c.in-Some-starts-2.ensures.some c.in_ok-length.ensures.ok
 
 pub returns-in_err-parameters-clause-err : goal.returns-in_err-parameters-clause-err
 returns-in_err-parameters-clause-err c =

@@ -2,15 +2,15 @@ use Rattle.std.proofs.Common.{◌≡◌, ap, rules}
 use Rattle.c_typed.specs.Shape.{statement_of, typed_expression_of}
 use Rattle.c_types.specs.Shape.{program_of}
 use Rattle.c_typed.specs.Trees.{if_else}
-use Rattle.c_run.proofs.Acts.{acted}
+use Rattle.c_run.proofs.Acts.{acted, acted-here}
 use Rattle.c_run.proofs.interpreter.act.Goals as goal
 
 pub returns-in-Assign : goal.returns-in-Assign
-returns-in-Assign c = acted (program_of c.args.program.now) c.args.depth c.args.s.now _ c.args.interpreter.now c.assign_to.new.interpreter c.assign_to.result
-    (ap statement_of c.in-Assign.is) c.assign_to.ensures
+returns-in-Assign c = acted-here (program_of c.args.program.now) c.args.depth c.args.s.now _ c.args.interpreter.now c.assign_to.new.interpreter
+    c.assign_to.result (ap statement_of c.in-Assign.is) c.assign_to.ensures
 
 pub returns-in-Store : goal.returns-in-Store
-returns-in-Store c = acted (program_of c.args.program.now) c.args.depth c.args.s.now _ c.args.interpreter.now c.store_at.new.interpreter c.store_at.result
+returns-in-Store c = acted-here (program_of c.args.program.now) c.args.depth c.args.s.now _ c.args.interpreter.now c.store_at.new.interpreter c.store_at.result
     (ap statement_of c.in-Store.is) c.store_at.ensures
 
 pub returns-in-Output : goal.returns-in-Output
@@ -25,5 +25,5 @@ returns-in-If c =
     c.branch_on.ensures
 
 pub returns-in-Return : goal.returns-in-Return
-returns-in-Return c = acted (program_of c.args.program.now) c.args.depth c.args.s.now _ c.args.interpreter.now c.return_word.new.interpreter
+returns-in-Return c = acted-here (program_of c.args.program.now) c.args.depth c.args.s.now _ c.args.interpreter.now c.return_word.new.interpreter
     c.return_word.result (ap statement_of c.in-Return.is) c.return_word.ensures
