@@ -1,13 +1,35 @@
-// How long `driver::check` takes for the longest legal text, of 512 and 2,048 instructions, against one of an eighth of
-// it. Each instruction of the block loads at an offset of its own; the order loads the last two again and again into the
-// block's two registers, so each of its guards is looked for among all of the block's, and the verdict is `same`.
+// How long `driver::check` takes for the longest legal texts, of 512 and 2,048 instructions, against those of an eighth of
+// them, and how many terms they take in a table that none of them fills.
 
-ghost use Rattle.std.specs.Prelude.{◌≡◌, ◌≤◌, ◌%◌};
+ghost use Rattle.std.specs.Prelude.{◌≡◌, ◌≤◌, ◌%◌, IfSome};
+ghost use Rattle.term_table.specs.Passes.{IsOf};
 
+use block_validator::validate;
+use check_text::Text;
 use driver::{CheckAnswer, check};
 use std::alloc::{AllocError, Global};
 use std::io;
 use std::time::{Clock, Instant};
+use term_table::{Pass, TermTable};
+
+/// What a text is made of.
+#[derive(Clone, Copy)]
+enum Kind {
+    /// Each instruction of the block loads at an offset of its own; the order loads the last two again and again into the
+    /// block's two registers, so each of its guards is looked for among all of the block's, and the verdict is `same`.
+    Loads,
+    /// Each instruction stores over one base, each below the one before, so that each new store goes inside all others.
+    Downward,
+}
+
+impl Kind {
+    fn name(self) -> &'static str {
+        match self {
+            Kind::Loads => "loads",
+            Kind::Downward => "downward stores",
+        }
+    }
+}
 
 /// A check text with `count` loads in its block, and four times as many in its order.
 fn loads(alloc: Global, count: u32) -> Result<String, AllocError>
@@ -32,6 +54,46 @@ fn loads(alloc: Global, count: u32) -> Result<String, AllocError>
     Ok(text)
 }
 
+/// A check text with `count` stores in its block, and four times as many in its order.
+fn stores(alloc: Global, count: u32) -> Result<String, AllocError>
+    requires most { count ≤ 512 }
+{
+    let mut text = String::new(alloc);
+    text.push_str("block\n")?;
+    for k in 0..count {
+        let offset = (count - k) * 4;
+        writeln!(text, "sw $8,{offset}($29)")?;
+    }
+    text.push_str("return\norder\n")?;
+    for k in 0..4 * count {
+        let offset = (4 * count - k) * 4;
+        writeln!(text, "sw $8,{offset}($29)")?;
+    }
+    text.push_str("return\nslot nop\n")?;
+    Ok(text)
+}
+
+/// A table for one pass that may link a million terms.
+fn opened(alloc: Global) -> Option<(TermTable, Pass)>
+    ensures { IfSome result (λ t. IsOf t.0 t.1) }
+{
+    let Ok((table, mut passes)) = TermTable::open(alloc, 1, 1_048_576, 65_536) else {
+        return None;
+    };
+    let pass = passes.pop()?;
+    Some((table, pass))
+}
+
+/// How many terms the check of a text links, in a table of a million; None where there is no text or no memory.
+fn terms(alloc: Global, text: &str) -> Option<usize> {
+    let Ok(Text { block, order }) = check_text::read(alloc, text.as_bytes()) else {
+        return None;
+    };
+    let (table, mut pass) = opened(alloc)?;
+    validate(alloc, &table, &mut pass, &block, order);
+    Some(pass.linked())
+}
+
 /// The verdict on a text, and the time of the fastest of `runs` runs in nanoseconds.
 fn fastest<R: Clock>(
     rt: &R,
@@ -54,28 +116,50 @@ fn fastest<R: Clock>(
     Ok(best)
 }
 
-/// The verdicts, and with figures the fastest of five runs and the ratio.
-pub(crate) fn show(rt: &HostRuntime, figures: bool) -> anyhow::Result<()> {
+/// The verdict on a text, with figures the fastest of five runs and the ratio to the shorter text's time.
+fn show_text(
+    rt: &HostRuntime,
+    kind: Kind,
+    count: u32,
+    figures: bool,
+    shorter: u128,
+) -> anyhow::Result<u128>
+    requires even { count % 2 ≡ 0 }
+    requires some { 2 ≤ count }
+    requires most { count ≤ 512 }
+{
     let runs = if figures { 5 } else { 1 };
-    let mut shorter = 1u128;
-    for count in [64u32, 512] {
-        let text = loads(rt.alloc(), count)?;
-        let Some((answer, took)) = fastest(rt, rt.alloc(), text.as_str(), runs)? else {
-            println!(rt; "{count}: no verdict")?;
-            continue;
-        };
-        let ordered = 4 * count;
-        println!(rt; "{count} and {ordered} instructions: {answer}")?;
-        if figures {
-            let micros = took / 1000;
-            let tenths = took.saturating_mul(10) / shorter.max(1);
-            let (whole, tenth) = (tenths / 10, tenths % 10);
-            println!(rt; "  {micros} microseconds")?;
-            if count == 512 {
-                println!(rt; "  {whole}.{tenth} times as long as the shorter text")?;
-            }
+    let name = kind.name();
+    let text = match kind {
+        Kind::Loads => loads(rt.alloc(), count)?,
+        Kind::Downward => stores(rt.alloc(), count)?,
+    };
+    let Some((answer, took)) = fastest(rt, rt.alloc(), text.as_str(), runs)? else {
+        println!(rt; "{count} {name}: no verdict")?;
+        return Ok(shorter);
+    };
+    let ordered = 4 * count;
+    println!(rt; "{count} and {ordered} {name}: {answer}")?;
+    if figures {
+        let micros = took / 1000;
+        let tenths = took.saturating_mul(10) / shorter.max(1);
+        let (whole, tenth) = (tenths / 10, tenths % 10);
+        println!(rt; "  {micros} microseconds")?;
+        if count == 512 {
+            println!(rt; "  {whole}.{tenth} times as long as the shorter text")?;
         }
-        shorter = took;
+        if let Some(linked) = terms(rt.alloc(), text.as_str()) {
+            println!(rt; "  {linked} terms")?;
+        }
+    }
+    Ok(took)
+}
+
+/// The verdicts, and with figures the times and the terms.
+pub(crate) fn show(rt: &HostRuntime, figures: bool) -> anyhow::Result<()> {
+    for kind in [Kind::Loads, Kind::Downward] {
+        let shorter = show_text(rt, kind, 64, figures, 1)?;
+        show_text(rt, kind, 512, figures, shorter)?;
     }
     Ok(())
 }

@@ -21,11 +21,11 @@ use Rattle.block_validator.specs.Same.{SameAt, SameTicketsAt, IsPlace, place_ran
 
 -- a guard by tickets has one tree, and a guard's tree one guard
 one_guard : (p : PassState) (g : Guard) (x y : GuardTree) → IsGuard p g x → IsGuard p g y → x ≡ y
-one_guard p (Address t) (AtAddress x) (AtAddress y) h k = ap AtAddress (one_tree h k)
-one_guard p (Address t) (AtAddress x) (AtDivision s a b) h k = absurd k
-one_guard p (Address t) (AtDivision s a b) y h k = absurd h
-one_guard p (Division s a b) (AtAddress x) y h k = absurd h
-one_guard p (Division s a b) (AtDivision s' x y) (AtAddress z) h k = absurd k
+one_guard p (Address w t) (AtAddress v x) (AtAddress u y) h k = ap₂ AtAddress (sym h.0 ∙ k.0) (one_tree h.1 k.1)
+one_guard p (Address w t) (AtAddress v x) (AtDivision s a b) h k = absurd k
+one_guard p (Address w t) (AtDivision s a b) y h k = absurd h
+one_guard p (Division s a b) (AtAddress v x) y h k = absurd h
+one_guard p (Division s a b) (AtDivision s' x y) (AtAddress v z) h k = absurd k
 one_guard p (Division s a b) (AtDivision s' x y) (AtDivision s'' z w) h k =
     let es = sym h.0 ∙ k.0 in
     let ex = one_tree h.1 k.1 in
@@ -33,11 +33,11 @@ one_guard p (Division s a b) (AtDivision s' x y) (AtDivision s'' z w) h k =
     λ i. AtDivision (es i) (ex i) (ey i)
 
 same_guard : (p : PassState) → HasLegalHistory p → (g h : Guard) (x : GuardTree) → IsGuard p g x → IsGuard p h x → g ≡ h
-same_guard p legal (Address t) (Address u) (AtAddress x) j k = ap Address ((same_trees legal j k).1 refl)
-same_guard p legal (Address t) (Division s a b) (AtAddress x) j k = absurd k
-same_guard p legal (Address t) h (AtDivision s x y) j k = absurd j
-same_guard p legal (Division s a b) h (AtAddress x) j k = absurd j
-same_guard p legal (Division s a b) (Address u) (AtDivision s' x y) j k = absurd k
+same_guard p legal (Address w t) (Address v u) (AtAddress z x) j k = ap₂ Address (j.0 ∙ sym k.0) ((same_trees legal j.1 k.1).1 refl)
+same_guard p legal (Address w t) (Division s a b) (AtAddress v x) j k = absurd k
+same_guard p legal (Address w t) h (AtDivision s x y) j k = absurd j
+same_guard p legal (Division s a b) h (AtAddress v x) j k = absurd j
+same_guard p legal (Division s a b) (Address v u) (AtDivision s' x y) j k = absurd k
 same_guard p legal (Division s a b) (Division s'' c d) (AtDivision s' x y) j k =
     let es = j.0 ∙ sym k.0 in
     let ea = (same_trees legal j.1 k.1).1 refl in

@@ -16,7 +16,7 @@ use crate::place::Place;
 use mblock::{Block, Order, Unclean, clean};
 use std::alloc::Global;
 use std::marker::Model;
-use sym_exec::{GuardRoom, run_block, run_order};
+use sym_exec::{RunRoom, run_block, run_order};
 use term_table::{Pass, TableFull, TermTable};
 
 /// A lent block, and a clean order that has its terms in every place. Only `validate` makes one.
@@ -85,8 +85,8 @@ fn compare(
     pass: &mut Pass,
     block: &Block,
     order: &Order,
-    block_room: GuardRoom,
-    order_room: GuardRoom,
+    block_room: RunRoom,
+    order_room: RunRoom,
 ) -> Result<Option<Place>, TableFull>
     requires table { IsOf table.now pass.old }
     ensures exact { IfOk result (λ r. MatchOption r (SameTrees (block_trees block.now) (order_trees order.now))
@@ -145,7 +145,7 @@ pub fn validate<'a>(
     if let Err(rule) = clean(&order) {
         return Verdict::Unclean(rule);
     }
-    let (Ok(block_room), Ok(order_room)) = (GuardRoom::new(alloc), GuardRoom::new(alloc)) else {
+    let (Ok(block_room), Ok(order_room)) = (RunRoom::new(alloc), RunRoom::new(alloc)) else {
         return Verdict::NoMemory;
     };
     let compared = compare(table, pass, block, &order, block_room, order_room);

@@ -9,7 +9,7 @@ use mips_isa::{Amount, ImmOp, Plain, Reg, ShiftOp};
 use std::alloc::Global;
 use std::process::Abort;
 use std::test::Fail;
-use sym_exec::{GuardRoom, run_block};
+use sym_exec::{RunRoom, run_block};
 use term_table::{Pass, TermTable};
 
 // `addiu $8,$0,n` for each n from 1 to `count`: each has two terms of its own.
@@ -61,7 +61,7 @@ fn has_room(rt: &impl Abort, alloc: Global, table: &TermTable, pass: &mut Pass, 
     ensures { IsOf table.now pass.new }
 {
     let block = block_of(rt, alloc, count);
-    let Ok(room) = GuardRoom::new(alloc) else {
+    let Ok(room) = RunRoom::new(alloc) else {
         panic!(rt; "no memory")
     };
     run_block(table, pass, &block, room).is_ok()
