@@ -10,6 +10,10 @@ use std::test::Fail;
 const WHOLE: &str = "block\naddiu $10,$10,1\nlw $8,-4($29)\nbeq $8,$9,1,2\n\
                      order\nlw $8,-4($29)\naddiu $10,$10,1\nbeq $8,$9,1,2\nslot nop\n";
 
+/// The same with bytes.
+const BYTES: &str = "block\nsb $10,7($29)\nlbu $8,-3($29)\nbeq $8,$9,1,2\n\
+                     order\nlbu $8,-3($29)\nsb $10,7($29)\nbeq $8,$9,1,2\nslot nop\n";
+
 /// The line of the fault, 0 where there is a verdict, and no line's number for any other fault.
 fn fault_line(alloc: Global, text: &[u8]) -> u32 {
     match check(alloc, text) {
@@ -52,6 +56,10 @@ fn short_and_wrong_texts_name_their_line(rt: HostRuntime) -> Result<(), Fail> {
         ("block\naddu $1,$2,$32\n", 2),
         ("block\naddu $01,$2,$3\n", 2),
         ("block\nlw $0,0($29)\n", 2),
+        ("block\nlbu $0,0($29)\n", 2),
+        ("block\nlbu $8,0 ($29)\n", 2),
+        ("block\nlb $8,0($29)\n", 2),
+        ("block\nsb $8,32768($29)\n", 2),
         ("block\naddiu $1,$2,32768\n", 2),
         ("block\naddiu $1,$2,-0\n", 2),
         ("block\naddiu $1,$2,+1\n", 2),
@@ -70,18 +78,19 @@ fn short_and_wrong_texts_name_their_line(rt: HostRuntime) -> Result<(), Fail> {
 
 #[test]
 fn each_cut_has_a_verdict_or_a_line(rt: HostRuntime) -> Result<(), Fail> {
-    let whole = WHOLE.as_bytes();
-    let mut lines = 0u32;
-    for end in 0..whole.len() {
-        let text = &whole[..end];
-        let line = fault_line(rt.alloc(), text);
-        assert!(rt; line <= line_count(text).saturating_add(1), "at {end}");
-        if end == 0 || whole[end - 1] == b'\n' {
-            lines = lines.saturating_add(1);
-            assert_eq!(rt; line, lines, "at {end}");
+    for whole in [WHOLE.as_bytes(), BYTES.as_bytes()] {
+        let mut lines = 0u32;
+        for end in 0..whole.len() {
+            let text = &whole[..end];
+            let line = fault_line(rt.alloc(), text);
+            assert!(rt; line <= line_count(text).saturating_add(1), "at {end}");
+            if end == 0 || whole[end - 1] == b'\n' {
+                lines = lines.saturating_add(1);
+                assert_eq!(rt; line, lines, "at {end}");
+            }
         }
+        assert!(rt; read(rt.alloc(), whole).is_ok());
     }
-    assert!(rt; read(rt.alloc(), whole).is_ok());
     Ok(())
 }
 

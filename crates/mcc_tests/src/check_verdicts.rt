@@ -11,7 +11,7 @@ fn printed(alloc: Global, text: &str) -> Result<String, AllocError> {
     }
 }
 
-const DELAYS: [(&str, &str); 5] = [
+const DELAYS: [(&str, &str); 8] = [
     (
         "block\nmflo $8\nmultu $9,$10\nreturn\norder\nmflo $8\nmultu $9,$10\nreturn\nslot nop\n",
         "unclean U2",
@@ -31,6 +31,19 @@ const DELAYS: [(&str, &str); 5] = [
     (
         "block\nlw $4,0($29)\nout 1\norder\nlw $4,0($29)\nout 1\n",
         "same",
+    ),
+    (
+        "block\nlbu $8,1($29)\naddu $9,$8,$8\nreturn\n\
+         order\nlbu $8,1($29)\naddu $9,$8,$8\nreturn\nslot nop\n",
+        "unclean U1",
+    ),
+    (
+        "block\nlbu $8,1($29)\nreturn\norder\nreturn\nslot lbu $8,1($29)\n",
+        "unclean U3",
+    ),
+    (
+        "block\nlbu $2,1($29)\nhalt\norder\nlbu $2,1($29)\nhalt\n",
+        "unclean U4",
     ),
 ];
 
@@ -66,6 +79,48 @@ const DIFFERENCES: [(&str, &str); 5] = [
         "differs hi",
     ),
 ];
+
+const BYTES: [(&str, &str); 6] = [
+    (
+        "block\nsb $8,0($4)\nsb $9,1($4)\nreturn\n\
+         order\nsb $9,1($4)\nsb $8,0($4)\nreturn\nslot nop\n",
+        "same",
+    ),
+    (
+        "block\nsb $8,1($4)\nsb $9,1($4)\nreturn\n\
+         order\nsb $9,1($4)\nsb $8,1($4)\nreturn\nslot nop\n",
+        "differs mem",
+    ),
+    (
+        "block\nsw $8,0($4)\nlbu $9,4($4)\nreturn\n\
+         order\nlbu $9,4($4)\nsw $8,0($4)\nreturn\nslot nop\n",
+        "same",
+    ),
+    (
+        "block\nsw $8,0($4)\nlbu $9,3($4)\nreturn\n\
+         order\nlbu $9,3($4)\nsw $8,0($4)\nreturn\nslot nop\n",
+        "differs $9",
+    ),
+    (
+        "block\nlbu $8,0($4)\naddiu $8,$0,1\nreturn\n\
+         order\nlw $8,0($4)\nnop\naddiu $8,$0,1\nreturn\nslot nop\n",
+        "differs guards",
+    ),
+    (
+        "block\nsb $8,0($4)\nlw $9,0($4)\nreturn\n\
+         order\nsb $8,0($4)\nreturn\nslot nop\n",
+        "differs $9",
+    ),
+];
+
+#[test]
+fn bytes_are_told_from_words(rt: HostRuntime) -> Result<(), Fail> {
+    for (text, want) in BYTES {
+        let line = printed(rt.alloc(), text)?;
+        assert_eq!(rt; line.as_str(), want, "at {text}");
+    }
+    Ok(())
+}
 
 #[test]
 fn the_first_place_that_differs_is_told(rt: HostRuntime) -> Result<(), Fail> {

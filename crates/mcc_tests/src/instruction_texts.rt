@@ -7,7 +7,7 @@ use mips_isa::{
 };
 use std::alloc::Global;
 use std::test::Fail;
-use words::Sign;
+use words::{Sign, Width};
 
 /// Whether the instruction prints as the text, and the text is read as the instruction.
 fn is_text(alloc: Global, inst: &Plain, text: &str) -> bool {
@@ -143,18 +143,25 @@ fn memory(rt: HostRuntime) -> Result<(), Fail> {
     let Some(loaded) = NonzeroReg::new(8) else {
         panic!(rt; "no register 8")
     };
-    let load = Plain::Load {
-        rt: loaded,
-        base: Reg::masked(9),
-        offset: 4,
-    };
-    assert!(rt; is_text(rt.alloc(), &load, "lw $8,4($9)"));
-    let store = Plain::Store {
-        rt: Reg::ZERO,
-        base: Reg::masked(10),
-        offset: -4,
-    };
-    assert!(rt; is_text(rt.alloc(), &store, "sw $0,-4($10)"));
+    for (width, loads, stores) in [
+        (Width::Word, "lw $8,4($9)", "sw $0,-4($10)"),
+        (Width::Byte, "lbu $8,4($9)", "sb $0,-4($10)"),
+    ] {
+        let load = Plain::Load {
+            width,
+            rt: loaded,
+            base: Reg::masked(9),
+            offset: 4,
+        };
+        assert!(rt; is_text(rt.alloc(), &load, loads), "at {loads}");
+        let store = Plain::Store {
+            width,
+            rt: Reg::ZERO,
+            base: Reg::masked(10),
+            offset: -4,
+        };
+        assert!(rt; is_text(rt.alloc(), &store, stores), "at {stores}");
+    }
     Ok(())
 }
 

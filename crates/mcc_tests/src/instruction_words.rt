@@ -6,7 +6,7 @@ use mips_isa::{
     ZeroTest,
 };
 use std::test::Fail;
-use words::Operator;
+use words::{Operator, Width};
 
 const OPERATORS: [(Operator, u32, u32, Option<u32>); 61] = [
     (Operator::Addu, 0xffffffff, 0x1, Some(0x0)),
@@ -111,11 +111,30 @@ fn plain_instructions_have_their_words(rt: HostRuntime) -> Result<(), Fail> {
         ),
         (
             Plain::Load {
+                width: Width::Word,
                 rt: loaded,
                 base: reg(29),
                 offset: 4,
             },
             0x8fa8_0004,
+        ),
+        (
+            Plain::Load {
+                width: Width::Byte,
+                rt: loaded,
+                base: reg(4),
+                offset: 3,
+            },
+            0x9088_0003,
+        ),
+        (
+            Plain::Store {
+                width: Width::Byte,
+                rt: reg(9),
+                base: reg(4),
+                offset: -1,
+            },
+            0xa089_ffff,
         ),
         (
             Plain::Shift {
@@ -170,11 +189,12 @@ fn jumps_and_branches_have_their_words(rt: HostRuntime) -> Result<(), Fail> {
 
 #[test]
 fn words_of_no_instruction(rt: HostRuntime) -> Result<(), Fail> {
-    // An unused field that isn't 0, a load of register 0, a sign test with rt 2, an op not in use.
+    // An unused field that isn't 0, loads of register 0, a sign test with rt 2, an op not in use.
     for word in [
         0x012a_4061u32,
         0x03e0_0048,
         0x8fa0_0004,
+        0x93a0_0004,
         0x0502_0002,
         0xfc00_0000,
         0x3c20_0001,
