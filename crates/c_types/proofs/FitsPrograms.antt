@@ -256,18 +256,18 @@ same-function o f g e h = cc
 
 -- the sizes
 
-abbrev IsWord : Typed.Global → Type 0
-IsWord g = 1 ≤ g.length
+abbrev HasElement : Typed.Global → Type 0
+HasElement g = 1 ≤ g.length
 
 positive : (n : ℕ) → n ≢ 0 → 1 ≤ n
 positive n h = omega (arith, h)
 
 globals-fit : {text : List ℕ} {f : File} {ds : List Tree.Declaration} {ts : List TypedDeclaration} → TypesDeclarations text f ds ts
-    → HasNone (FaultyDeclarations text f ds) → All IsWord (globals_in ts)
-globals-fit all_declared none = All-nil IsWord
-globals-fit (more_declared variable_typed more) none = All-cons IsWord _ _ (omega arith) (globals-fit more (λ k at w. none k at (inr w)))
+    → HasNone (FaultyDeclarations text f ds) → All HasElement (globals_in ts)
+globals-fit all_declared none = All-nil HasElement
+globals-fit (more_declared variable_typed more) none = All-cons HasElement _ _ (omega arith) (globals-fit more (λ k at w. none k at (inr w)))
 globals-fit (more_declared (array_typed {x = x} {n = n}) more) none =
-    All-cons IsWord _ _ (positive n.value (λ e. none KindFault x.at (inl (inl (array_of_nothing e))))) (globals-fit more (λ k at w. none k at (inr w)))
+    All-cons HasElement _ _ (positive n.value (λ e. none KindFault x.at (inl (inl (array_of_nothing e))))) (globals-fit more (λ k at w. none k at (inr w)))
 globals-fit (more_declared (function_typed typed) more) none = globals-fit more (λ k at w. none k at (inr w))
 
 counted : {text : List ℕ} {f : File} {ds : List Tree.Declaration} {ts : List TypedDeclaration} → TypesDeclarations text f ds ts

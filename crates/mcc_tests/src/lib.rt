@@ -24,4 +24,6 @@ mod interp_sizes;
 #[cfg(test)]
 mod interp_texts;
 #[cfg(test)]
+mod normal_forms;
+#[cfg(test)]
 mod stand_ins;

@@ -14,7 +14,7 @@ use std::thread;
 use std::thread::Threads;
 use sym_terms::{Label, Origin, label_of, word_of};
 use term_table::{OpenFault, Pass, TermTable};
-use words::Operator;
+use words::{Operator, Width};
 
 fn init(index: u8) -> Option<Label> {
     let register = NonzeroReg::new(index)?;
@@ -321,8 +321,10 @@ fn labels_have_their_words(rt: HostRuntime) -> Result<(), Fail> {
         (Label::Const(0xffff_ffff), 0x3_ffff_ffff),
         (Label::Op(Operator::Addu), 0x4_0000_0000),
         (Label::Op(Operator::DivuRemainder), 0x4_0000_0012),
-        (Label::Load, 0x5_0000_0000),
-        (Label::Store, 0x6_0000_0000),
+        (Label::Load(Width::Word), 0x5_0000_0000),
+        (Label::Load(Width::Byte), 0x5_0000_0001),
+        (Label::Store(Width::Word), 0x6_0000_0000),
+        (Label::Store(Width::Byte), 0x6_0000_0001),
     ] {
         assert_eq!(rt; word_of(label), word);
         assert!(rt; label_of(word).is_some());
@@ -333,7 +335,7 @@ fn labels_have_their_words(rt: HostRuntime) -> Result<(), Fail> {
         0x1_0000_0023,
         0x2_0000_0001,
         0x4_0000_0013,
-        0x5_0000_0001,
+        0x5_0000_0002,
         0x7_0000_0000,
     ] {
         assert!(rt; label_of(word).is_none());

@@ -1,0 +1,79 @@
+-- A list of blocks that grows.
+use Rattle.std.proofs.Common.{◌≡◌, ◌≢◌, ℕ, zero, suc, ◌+◌, ◌<◌, List, [], ◌∷◌, ◌++◌, Some, refl, ◌∙◌, ap, arith, length, length-append}
+use Rattle.std.specs.Prelude.{slice_get, slice_set}
+use Rattle.std.proofs.Math.ListN.{length-set}
+use Rattle.rtl.specs.Meaning.{Code, code_of}
+use Rattle.rtl_emit.specs.Blocks.{Grows, Has, At, Fills}
+use Rattle.rtl.specs.declared.block.RBlock.{RBlock}
+
+pub grows_then : (a b c : List RBlock) → Grows a b → Grows b c → Grows a c
+grows_then a b c f h = record { longer = omega (arith, f.longer, h.longer); kept = λ i lt. h.kept i (omega (arith, f.longer)) ∙ f.kept i lt }
+
+pub has_front : (bs a b c : List RBlock) → Grows b c → Has bs a c → Has bs a b
+has_front bs a b c g h = record { by = λ i le lt. h.by i le (omega (arith, g.longer)) ∙ g.kept i lt }
+
+pub has_back : (bs a b c : List RBlock) → Grows a b → Has bs a c → Has bs b c
+has_back bs a b c g h = record { by = λ i le lt. h.by i (omega (arith, g.longer)) lt }
+
+seam : (a : List RBlock) (b : RBlock) → slice_get (a ++ b ∷ []) (length a) ≡ Some b
+seam [] b = refl
+seam (x ∷ a) b = seam a b
+
+pub at_seam : (bs old new : List RBlock) (b : RBlock) (c : Code) → new ≡ old ++ b ∷ [] → code_of b ≡ c → Has bs old new → At bs (length old) c
+at_seam bs old new b c e is h =
+    let one : length (old ++ b ∷ []) ≡ length old + 1 = omega (arith, length-append old (b ∷ [])) in
+    record {
+      block = b;
+      there = h.by (length old) (omega arith) (omega (arith, ap length e, one)) ∙ ap (λ l. slice_get l (length old)) e
+          ∙ seam old b;
+      is = is;
+    }
+
+set_there : (l : List RBlock) (b : ℕ) (x : RBlock) → b < length l → slice_get (slice_set l b x) b ≡ Some x
+set_there [] b x lt = absurd (omega arith)
+set_there (y ∷ l) zero x lt = refl
+set_there (y ∷ l) (suc b) x lt = set_there l b x (omega arith)
+
+set_others : (l : List RBlock) (b : ℕ) (x : RBlock) (i : ℕ) → i ≢ b → slice_get (slice_set l b x) i ≡ slice_get l i
+set_others [] b x i ne = refl
+set_others (y ∷ l) zero x zero ne = absurd (ne refl)
+set_others (y ∷ l) zero x (suc i) ne = refl
+set_others (y ∷ l) (suc b) x zero ne = refl
+set_others (y ∷ l) (suc b) x (suc i) ne = set_others l b x i (λ e. ne (ap suc e))
+
+pub fills_set : (old : List RBlock) (b : ℕ) (x : RBlock) (c : Code) → b < length old → code_of x ≡ c → Fills old (slice_set old b x) b c
+fills_set old b x c lt is = record {
+  same_length = length-set old b x;
+  others = λ i ne. set_others old b x i ne;
+  at = record { block = x; there = set_there old b x lt; is = is };
+}
+
+-- the parts of what was added
+pub split2 : (bs a b c : List RBlock) → Grows a b → Grows b c → Has bs a c → Has bs a b × Has bs b c
+split2 bs a b c g1 g2 h = (has_front bs a b c g2 h, has_back bs a b c g1 h)
+
+pub split3 : (bs a b c d : List RBlock) → Grows a b → Grows b c → Grows c d → Has bs a d → Has bs a b × Has bs b c × Has bs c d
+split3 bs a b c d g1 g2 g3 h =
+    let s = split2 bs a b d g1 (grows_then b c d g2 g3) h in
+    let t = split2 bs b c d g2 g3 s.1 in
+    (s.0, t.0, t.1)
+
+pub split4 : (bs a b c d e : List RBlock) → Grows a b → Grows b c → Grows c d → Grows d e → Has bs a e → Has bs a b × Has bs b c × Has bs c d × Has bs d e
+split4 bs a b c d e g1 g2 g3 g4 h =
+    let s = split2 bs a b e g1 (grows_then b c e g2 (grows_then c d e g3 g4)) h in
+    let t = split3 bs b c d e g2 g3 g4 s.1 in
+    (s.0, t.0, t.1, t.2)
+
+pub split5 : (bs a b c d e f : List RBlock) → Grows a b → Grows b c → Grows c d → Grows d e → Grows e f → Has bs a f
+    → Has bs a b × Has bs b c × Has bs c d × Has bs d e × Has bs e f
+split5 bs a b c d e f g1 g2 g3 g4 g5 h =
+    let s = split2 bs a b f g1 (grows_then b c f g2 (grows_then c d f g3 (grows_then d e f g4 g5))) h in
+    let t = split4 bs b c d e f g2 g3 g4 g5 s.1 in
+    (s.0, t.0, t.1, t.2, t.3)
+
+pub split6 : (bs a b c d e f i : List RBlock) → Grows a b → Grows b c → Grows c d → Grows d e → Grows e f → Grows f i → Has bs a i
+    → Has bs a b × Has bs b c × Has bs c d × Has bs d e × Has bs e f × Has bs f i
+split6 bs a b c d e f i g1 g2 g3 g4 g5 g6 h =
+    let s = split2 bs a b i g1 (grows_then b c i g2 (grows_then c d i g3 (grows_then d e i g4 (grows_then e f i g5 g6)))) h in
+    let t = split5 bs b c d e f i g2 g3 g4 g5 g6 s.1 in
+    (s.0, t.0, t.1, t.2, t.3, t.4)

@@ -1,0 +1,282 @@
+-- What the code of a condition does, and values that branches tell.
+use Rattle.std.proofs.Common.{◌≡◌, ◌≢◌, ℕ, ◌<◌, ◌≤◌, Bool, true, false, List, Option, Some, None, refl, sym, ◌∙◌, ap, subst, arith, nat_eq}
+use Rattle.std.specs.Prelude.{if◌then◌else◌, not}
+use Rattle.words.specs.Words.{wrap}
+use Rattle.runs.specs.Stores.{Places, Arrays, places_with, chain}
+use Rattle.c_tokens.specs.declared.token.IntegerType.{IntegerType}
+use Rattle.c_tokens.specs.declared.token.Literal.{Literal}
+use Rattle.c_front.specs.declared.tree.BinaryOp.{BinaryOp}
+use Rattle.c_front.specs.declared.tree.BinaryOp.TheVariants as B
+use Rattle.c_front.specs.declared.tree.UnaryOp.TheVariants as U
+use Rattle.c_typed.specs.Trees.{TypedExpression, constant, unary, binary, conditional}
+use Rattle.c_typed.specs.Values.{sign_of, truth, binary_of, value_of}
+use Rattle.rtl.specs.declared.operator.Op.TheVariants as O
+use Rattle.rtl.specs.declared.instruction.RInst.TheVariants as I
+use Rattle.rtl.specs.declared.instruction.RExit.TheVariants as X
+use Rattle.rtl.specs.declared.block.RBlock.{RBlock}
+use Rattle.rtl.specs.Meaning.{Code, rtl_step, state_at_block}
+use Rattle.rtl_emit.specs.Operations.{ComputesContrary}
+use Rattle.rtl_emit.specs.Blocks.{goto, exit_code, first, Spot, line_of, Lands, At}
+use Rattle.rtl_emit.specs.Runs.{Goes, Moves, Surroundings, at, Holds, Yields, Arrives}
+use Rattle.rtl_emit.specs.Expressions.{IsPlace, Evaluates, Fetches, Operates, Combines, Decides, IsTruth}
+use Rattle.rtl_emit.specs.declared.operation.Operation.{Operation}
+use Rattle.rtl_emit.proofs.Operations.{straight_op}
+use Rattle.rtl_emit.proofs.Steps.{goes_then, goes_one, moves_one, moves_then, moves_after, goes_of, with_some, chained, written_here, written_other}
+use Rattle.rtl_emit.proofs.Steps.{jump_to, joins, holds_kept}
+use Rattle.rtl_emit.proofs.Values.{taken, yields_after, yields_then}
+
+-- a branch, by the word in a register
+branch : (w : Surroundings) (bs : List RBlock) (p yes_block no_block : ℕ) (r : Places) (v : ℕ) → r p ≡ Some v
+    → rtl_step w.program w.depth (at w bs r (exit_code (X.Branch p yes_block no_block)))
+    ≡ state_at_block bs (if nat_eq v 0 then no_block else yes_block) r w.result_to w.waiting w.globals w.output
+branch w bs p yes_block no_block r v e =
+    with_some (r p) v w.output (λ v. state_at_block bs (if nat_eq v 0 then no_block else yes_block) r w.result_to w.waiting w.globals w.output) e
+
+-- on from the block that a first condition led to
+arrives_then : (w : Surroundings) (bs : List RBlock) (free : ℕ) (r : Places) (from second_code : Code) (second to : ℕ) (a : Arrives w bs free r from second)
+    → At bs second second_code → Arrives w bs free a.regs second_code to → Arrives w bs free r from to
+arrives_then w bs free r from second_code second to a ats b =
+    let here : Moves w.program w.depth (at w bs r from) (at w bs a.regs second_code) =
+    subst (λ s. Moves w.program w.depth (at w bs r from) s) (jump_to ats a.regs w.result_to w.waiting w.globals w.output) a.moves in
+    record { regs = b.regs; moves = moves_then here (goes_of b.moves); kept = λ x k. b.kept x k ∙ a.kept x k }
+
+arrives_at : (w : Surroundings) (bs : List RBlock) (free : ℕ) (r : Places) (from : Code) (to to' : ℕ) → to ≡ to' → Arrives w bs free r from to
+    → Arrives w bs free r from to'
+arrives_at w bs free r from to to' e a = subst (λ c. Arrives w bs free r from c) e a
+
+pub constant_decides : (bs : List RBlock) (c : Literal) (target yes_block no_block free : ℕ) → target
+    ≡ (if nat_eq (wrap c.value) 0 then no_block else yes_block)
+    → Decides bs (constant c) free yes_block no_block (goto target)
+constant_decides bs c target yes_block no_block free t = record {
+  by = λ w l r v h e.
+      let is : wrap c.value ≡ v = cc in
+      arrives_at w bs free r (goto target) target _ (t ∙ ap (λ v. if nat_eq v 0 then no_block else yes_block) is)
+      (record { regs = r; moves = moves_one refl; kept = λ x k. refl });
+}
+
+-- one of two blocks, by the truth of a word
+pub flipped : (z : Bool) (c d : ℕ) → (if nat_eq (truth z) 0 then c else d) ≡ (if z then d else c)
+flipped true c d = refl
+flipped false c d = refl
+
+pub same_way : (z : Bool) (c d : ℕ) → (if nat_eq (truth (not z)) 0 then c else d) ≡ (if z then c else d)
+same_way true c d = refl
+same_way false c d = refl
+
+-- a contrary test, which goes the other way
+pub negated_decides : (bs : List RBlock) (e : TypedExpression) (z yes_block no_block free : ℕ) (from : Code) → free ≤ z
+    → Combines bs (straight_op O.Eq) e 0 free z from (exit_code (X.Branch z no_block yes_block)) → Decides bs e free yes_block no_block from
+negated_decides bs e z yes_block no_block free from le ne = record {
+  by = λ w l r v h is.
+      let y = ne.by w l r v (truth (nat_eq v 0)) h is refl in
+      arrives_at w bs free r from _ _ (flipped (nat_eq v 0) yes_block no_block) (record {
+        regs = y.regs;
+        moves = moves_then y.moves (goes_one w.program w.depth _ _ (branch w bs z no_block yes_block y.regs (truth (nat_eq v 0)) y.value));
+        kept = λ x k. let ne : x ≢ z = omega arith in y.kept x k ne;
+      });
+}
+
+pub contrary_decides : (bs : List RBlock) (o : BinaryOp) (k : IntegerType) (op : Operation) (a b : TypedExpression) (z yes_block no_block free : ℕ)
+    (from : Code)
+    → ComputesContrary o (sign_of k) op → free ≤ z → Operates bs op a b free z from (exit_code (X.Branch z no_block yes_block))
+    → Decides bs (binary o k a b) free yes_block no_block from
+contrary_decides bs o k op a b z yes_block no_block free from tests le o' = record {
+  by = λ w l r v h e.
+      let s = sign_of k in
+      let g = w.globals in
+      let both = sym (tests.both (value_of a l g) (value_of b l g)) ∙ e in
+      let ca = chained (value_of a l g) (λ x. chain (value_of b l g) (λ y. binary_of o s x y)) v both in
+      let cb = chained (value_of b l g) (λ y. binary_of o s ca.value y) v ca.then_is in
+      let t = tests.by ca.value cb.value in
+      let some : Some (truth t.0) ≡ Some v = sym t.1 ∙ cb.then_is in
+      let is : truth t.0 ≡ v = cc in
+      let y = o'.by w l r ca.value cb.value (truth (not t.0)) h ca.is cb.is t.2 in
+      arrives_at w bs free r from _ _ (same_way t.0 yes_block no_block ∙ sym (flipped t.0 no_block yes_block)
+      ∙ ap (λ v. if nat_eq v 0 then no_block else yes_block) is) (record {
+        regs = y.regs;
+        moves = moves_then y.moves (goes_one w.program w.depth _ _ (branch w bs z no_block yes_block y.regs (truth (not t.0)) y.value));
+        kept = λ x k. let ne : x ≢ z = omega arith in y.kept x k ne;
+      });
+}
+
+pub plain_decides : (bs : List RBlock) (e : TypedExpression) (p yes_block no_block free next : ℕ) (from : Code) → IsPlace e free p next
+    → Fetches bs e free p from (exit_code (X.Branch p yes_block no_block)) → Decides bs e free yes_block no_block from
+plain_decides bs e p yes_block no_block free next from pl f = record {
+  by = λ w l r v h is.
+      let t = taken w bs e free p next from _ l r v pl f h is in
+      record { regs = t.regs; moves = moves_after t.goes (moves_one (branch w bs p yes_block no_block t.regs v t.value)); kept = t.kept };
+}
+
+pub identity_decides : (bs : List RBlock) (k : IntegerType) (a : TypedExpression) (yes_block no_block free : ℕ) (from : Code)
+    → Decides bs a free yes_block no_block from → Decides bs (unary U.Identity k a) free yes_block no_block from
+identity_decides bs k a yes_block no_block free from da = record {
+  by = λ w l r v h e.
+      let c = chained (value_of a l w.globals) (λ x. Some x) v e in
+      da.by w l r v h (c.is ∙ c.then_is);
+}
+
+pub not_decides : (bs : List RBlock) (k : IntegerType) (a : TypedExpression) (yes_block no_block free : ℕ) (from : Code)
+    → Decides bs a free no_block yes_block from → Decides bs (unary U.Not k a) free yes_block no_block from
+not_decides bs k a yes_block no_block free from da = record {
+  by = λ w l r v h e.
+      let c = chained (value_of a l w.globals) (λ x. Some (truth (nat_eq x 0))) v e in
+      let is : truth (nat_eq c.value 0) ≡ v = cc in
+      arrives_at w bs free r from _ _ (sym (flipped (nat_eq c.value 0) no_block yes_block) ∙ ap (λ v. if nat_eq v 0 then no_block else yes_block) is)
+      (da.by w l r c.value h c.is);
+}
+
+pub and_decides : (bs : List RBlock) (k : IntegerType) (a b : TypedExpression) (yes_block no_block second free : ℕ) (from second_code : Code)
+    → Decides bs a free second no_block from → At bs second second_code → Decides bs b free yes_block no_block second_code
+    → Decides bs (binary B.LogicalAnd k a b) free yes_block no_block from
+and_decides bs k a b yes_block no_block second free from second_code da ats db = record {
+  by = λ w l r v h e.
+      let c = chained (value_of a l w.globals) (λ x. if nat_eq x 0 then Some 0 else chain (value_of b l w.globals)
+      (λ y. Some (truth (not (nat_eq y 0))))) v e in
+      after_first w l r v h (nat_eq c.value 0) c.then_is (da.by w l r c.value h c.is);
+}
+  where
+    after_first : (w : Surroundings) (l r : Places) (v : ℕ) → Holds free l r w.globals → (z : Bool)
+        → (if z then Some 0 else chain (value_of b l w.globals) (λ y. Some (truth (not (nat_eq y 0))))) ≡ Some v
+        → Arrives w bs free r from (if z then no_block else second) → Arrives w bs free r from (if nat_eq v 0 then no_block else yes_block)
+    after_first w l r v h true e ar =
+        let is : 0 ≡ v = cc in
+        subst (λ v. Arrives w bs free r from (if nat_eq v 0 then no_block else yes_block)) is ar
+    after_first w l r v h false e ar =
+        let c = chained (value_of b l w.globals) (λ y. Some (truth (not (nat_eq y 0)))) v e in
+        let is : truth (not (nat_eq c.value 0)) ≡ v = cc in
+        arrives_at w bs free r from _ _ (sym (same_way (nat_eq c.value 0) no_block yes_block) ∙ ap (λ v. if nat_eq v 0 then no_block else yes_block) is)
+        (arrives_then w bs free r from second_code second _ ar ats
+        (db.by w l ar.regs c.value (holds_kept free free l r ar.regs w.globals (omega arith) h ar.kept) c.is))
+
+pub or_decides : (bs : List RBlock) (k : IntegerType) (a b : TypedExpression) (yes_block no_block second free : ℕ) (from second_code : Code)
+    → Decides bs a free yes_block second from → At bs second second_code → Decides bs b free yes_block no_block second_code
+    → Decides bs (binary B.LogicalOr k a b) free yes_block no_block from
+or_decides bs k a b yes_block no_block second free from second_code da ats db = record {
+  by = λ w l r v h e.
+      let c = chained (value_of a l w.globals) (λ x. if nat_eq x 0 then chain (value_of b l w.globals) (λ y. Some (truth (not (nat_eq y 0)))) else
+      Some 1) v e in
+      after_first w l r v h (nat_eq c.value 0) c.then_is (da.by w l r c.value h c.is);
+}
+  where
+    after_first : (w : Surroundings) (l r : Places) (v : ℕ) → Holds free l r w.globals → (z : Bool)
+        → (if z then chain (value_of b l w.globals) (λ y. Some (truth (not (nat_eq y 0)))) else Some 1) ≡ Some v
+        → Arrives w bs free r from (if z then second else yes_block) → Arrives w bs free r from (if nat_eq v 0 then no_block else yes_block)
+    after_first w l r v h false e ar =
+        let is : 1 ≡ v = cc in
+        subst (λ v. Arrives w bs free r from (if nat_eq v 0 then no_block else yes_block)) is ar
+    after_first w l r v h true e ar =
+        let c = chained (value_of b l w.globals) (λ y. Some (truth (not (nat_eq y 0)))) v e in
+        let is : truth (not (nat_eq c.value 0)) ≡ v = cc in
+        arrives_at w bs free r from _ _ (sym (same_way (nat_eq c.value 0) no_block yes_block) ∙ ap (λ v. if nat_eq v 0 then no_block else yes_block) is)
+        (arrives_then w bs free r from second_code second _ ar ats
+        (db.by w l ar.regs c.value (holds_kept free free l r ar.regs w.globals (omega arith) h ar.kept) c.is))
+
+pub conditional_decides : (bs : List RBlock) (k : IntegerType) (c a b : TypedExpression) (yes_block no_block y n free : ℕ) (from y_code n_code : Code)
+    → Decides bs c free y n from → At bs y y_code → At bs n n_code → Decides bs a free yes_block no_block y_code
+    → Decides bs b free yes_block no_block n_code
+    → Decides bs (conditional k c a b) free yes_block no_block from
+conditional_decides bs k c a b yes_block no_block y n free from y_code n_code dc aty atn da db = record {
+  by = λ w l r v h e.
+      let ch = chained (value_of c l w.globals) (λ x. if nat_eq x 0 then value_of b l w.globals else value_of a l w.globals) v e in
+      after_first w l r v h (nat_eq ch.value 0) ch.then_is (dc.by w l r ch.value h ch.is);
+}
+  where
+    after_first : (w : Surroundings) (l r : Places) (v : ℕ) → Holds free l r w.globals → (z : Bool)
+        → (if z then value_of b l w.globals else value_of a l w.globals) ≡ Some v
+        → Arrives w bs free r from (if z then n else y) → Arrives w bs free r from (if nat_eq v 0 then no_block else yes_block)
+    after_first w l r v h true e ar =
+        arrives_then w bs free r from n_code n _ ar atn (db.by w l ar.regs v (holds_kept free free l r ar.regs w.globals (omega arith) h ar.kept) e)
+    after_first w l r v h false e ar =
+        arrives_then w bs free r from y_code y _ ar aty (da.by w l ar.regs v (holds_kept free free l r ar.regs w.globals (omega arith) h ar.kept) e)
+
+-- values by conditions
+
+-- the code of a block, where a condition has arrived
+enters : (w : Surroundings) (bs : List RBlock) (free : ℕ) (r : Places) (from code : Code) (side : ℕ) (ar : Arrives w bs free r from side) → At bs side code
+    → Moves w.program w.depth (at w bs r from) (at w bs ar.regs code)
+enters w bs free r from code side ar a =
+    subst (λ s. Moves w.program w.depth (at w bs r from) s) (jump_to a ar.regs w.result_to w.waiting w.globals w.output) ar.moves
+
+-- a constant in a block, and on to a spot
+const_jump : (w : Surroundings) (bs : List RBlock) (free d x join side : ℕ) (after : Spot) (r0 : Places) (from : Code) → wrap x ≡ x → Lands bs join after
+    → At bs side (first (I.Const d x) (goto join)) → (ar : Arrives w bs free r0 from side) → Yields w bs free d r0 from (line_of after) x
+const_jump w bs free d x join side after r0 from small aj side_at ar =
+    let in_side = enters w bs free r0 from _ side ar side_at in
+    let write : Goes w.program w.depth (at w bs ar.regs (first (I.Const d x) (goto join))) (at w bs (places_with ar.regs d (Some x)) (goto join)) =
+    goes_one w.program w.depth _ _ (ap (λ x. at w bs (places_with ar.regs d (Some x)) (goto join)) small) in
+    record {
+      regs = places_with ar.regs d (Some x);
+      moves = moves_then in_side (goes_then write (joins join after aj (places_with ar.regs d (Some x)) w.result_to w.waiting w.globals w.output));
+      value = written_here ar.regs d (Some x);
+      kept = λ y k ne. written_other ar.regs d (Some x) y ne ∙ ar.kept y k;
+    }
+
+-- an expression whose value is 0 or 1
+abbrev pub IsTest : TypedExpression → Type 0
+IsTest e = (l : Places) (g : Arrays) (v : ℕ) → value_of e l g ≡ Some v → (if nat_eq v 0 then 0 else 1) ≡ v
+
+bit : (z : Bool) → (if nat_eq (truth z) 0 then 0 else 1) ≡ truth z
+bit true = refl
+bit false = refl
+
+bit_of : (z : Bool) (v : ℕ) → Some (truth z) ≡ Some v → (if nat_eq v 0 then 0 else 1) ≡ v
+bit_of z v e = let is : truth z ≡ v = cc in subst (λ v. (if nat_eq v 0 then 0 else 1) ≡ v) is (bit z)
+
+pub not_tests : (k : IntegerType) (a : TypedExpression) → IsTest (unary U.Not k a)
+not_tests k a l g v e = let c = chained (value_of a l g) (λ x. Some (truth (nat_eq x 0))) v e in bit_of (nat_eq c.value 0) v c.then_is
+
+pub and_tests : (k : IntegerType) (a b : TypedExpression) → IsTest (binary B.LogicalAnd k a b)
+and_tests k a b l g v e =
+    let c = chained (value_of a l g) (λ x. if nat_eq x 0 then Some 0 else chain (value_of b l g) (λ y. Some (truth (not (nat_eq y 0))))) v e in
+    by (nat_eq c.value 0) c.then_is
+  where
+    by : (z : Bool) → (if z then Some 0 else chain (value_of b l g) (λ y. Some (truth (not (nat_eq y 0))))) ≡ Some v → (if nat_eq v 0 then 0 else 1) ≡ v
+    by true e = bit_of false v e
+    by false e = let c = chained (value_of b l g) (λ y. Some (truth (not (nat_eq y 0)))) v e in bit_of (not (nat_eq c.value 0)) v c.then_is
+
+pub or_tests : (k : IntegerType) (a b : TypedExpression) → IsTest (binary B.LogicalOr k a b)
+or_tests k a b l g v e =
+    let c = chained (value_of a l g) (λ x. if nat_eq x 0 then chain (value_of b l g) (λ y. Some (truth (not (nat_eq y 0)))) else Some 1) v e in
+    by (nat_eq c.value 0) c.then_is
+  where
+    by : (z : Bool) → (if z then chain (value_of b l g) (λ y. Some (truth (not (nat_eq y 0)))) else Some 1) ≡ Some v → (if nat_eq v 0 then 0 else 1) ≡ v
+    by false e = bit_of true v e
+    by true e = let c = chained (value_of b l g) (λ y. Some (truth (not (nat_eq y 0)))) v e in bit_of (not (nat_eq c.value 0)) v c.then_is
+
+pub told : (bs : List RBlock) (e : TypedExpression) (d yes_block no_block free : ℕ) (from : Code) (after : Spot) → IsTest e
+    → IsTruth bs d yes_block no_block after
+    → Decides bs e free yes_block no_block from → Evaluates bs e free d from (line_of after)
+told bs e d yes_block no_block free from after test t de = record {
+  by = λ w l r v h is. by w r v (nat_eq v 0) (test l w.globals v is) (de.by w l r v h is);
+}
+  where
+    by : (w : Surroundings) (r : Places) (v : ℕ) (z : Bool) → (if z then 0 else 1) ≡ v → Arrives w bs free r from (if z then no_block else yes_block)
+        → Yields w bs free d r from (line_of after) v
+    by w r v true is ar = subst (λ v. Yields w bs free d r from (line_of after) v) is
+        (const_jump w bs free d 0 t.join no_block after r from refl t.joined t.no_at ar)
+    by w r v false is ar = subst (λ v. Yields w bs free d r from (line_of after) v) is
+        (const_jump w bs free d 1 t.join yes_block after r from refl t.joined t.yes_at ar)
+
+pub conditional_value : (bs : List RBlock) (k : IntegerType) (c a b : TypedExpression) (d join y n free : ℕ) (from : Code) (after : Spot)
+    (y_code n_code : Code)
+    → Lands bs join after → At bs y y_code → At bs n n_code → Decides bs c free y n from
+    → Evaluates bs a free d y_code (goto join) → Evaluates bs b free d n_code (goto join) → Evaluates bs (conditional k c a b) free d from (line_of after)
+conditional_value bs k c a b d join y n free from after y_code n_code aj aty atn dc ea eb = record {
+  by = λ w l r v h e.
+      let ch = chained (value_of c l w.globals) (λ x. if nat_eq x 0 then value_of b l w.globals else value_of a l w.globals) v e in
+      after_first w l r v h (nat_eq ch.value 0) ch.then_is (dc.by w l r ch.value h ch.is);
+}
+  where
+    through : (w : Surroundings) (r : Places) (side_code : Code) (side : ℕ) (v : ℕ) → At bs side side_code → (ar : Arrives w bs free r from side)
+        → Yields w bs free d ar.regs side_code (goto join) v → Yields w bs free d r from (line_of after) v
+    through w r side_code side v ats ar y =
+        yields_after w bs free d r ar.regs from side_code (line_of after) v (goes_of (enters w bs free r from side_code side ar ats)) ar.kept
+        (yields_then w bs free d ar.regs side_code (goto join) (line_of after) v y (joins join after aj y.regs w.result_to w.waiting w.globals w.output))
+
+    after_first : (w : Surroundings) (l r : Places) (v : ℕ) → Holds free l r w.globals → (z : Bool)
+        → (if z then value_of b l w.globals else value_of a l w.globals) ≡ Some v
+        → Arrives w bs free r from (if z then n else y) → Yields w bs free d r from (line_of after) v
+    after_first w l r v h true e ar = through w r n_code n v atn ar
+        (eb.by w l ar.regs v (holds_kept free free l r ar.regs w.globals (omega arith) h ar.kept) e)
+    after_first w l r v h false e ar = through w r y_code y v aty ar
+        (ea.by w l ar.regs v (holds_kept free free l r ar.regs w.globals (omega arith) h ar.kept) e)

@@ -1,0 +1,6 @@
+pub mod Steps
+pub mod Blocks
+pub mod Operations
+pub mod Values
+pub mod Conditions
+pub mod Emitted

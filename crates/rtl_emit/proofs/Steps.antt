@@ -1,0 +1,83 @@
+-- Steps of a program of blocks, put together.
+use Rattle.std.proofs.Common.{◌≡◌, ◌≢◌, ℕ, suc, ◌+◌, ◌<◌, ◌≤◌, List, Option, Some, None, refl, sym, ◌∙◌, ap, subst, arith, eq-eqb, ne_eqb}
+use Rattle.std.specs.Prelude.{slice_get, if◌then◌else◌}
+use Rattle.runs.specs.Stores.{Places, Arrays, places_with, chain}
+use Rattle.runs.specs.Runs.{Configuration, with_value}
+use Rattle.runs.proofs.Steps.{steps-add}
+use Rattle.rtl.specs.Programs.{Program}
+use Rattle.rtl.specs.Meaning.{Code, Frame, Run, rtl_step, rtl_steps, state_at_block, code_of}
+use Rattle.rtl.specs.declared.block.RBlock.{RBlock}
+use Rattle.rtl_emit.specs.Blocks.{goto, Spot, Block, Line, line_of, Lands, At}
+use Rattle.rtl_emit.specs.Runs.{at_code, Goes, Moves, Holds}
+
+pub goes_nowhere : (p : Program) (depth : ℕ) (s : Run) → Goes p depth s s
+goes_nowhere p depth s = record { count = 0; ends = refl }
+
+pub goes_then : {p : Program} {depth : ℕ} {s t u : Run} → Goes p depth s t → Goes p depth t u → Goes p depth s u
+goes_then {p} {depth} {s} a b = record {
+  count = a.count + b.count;
+  ends = steps-add (rtl_step p depth) a.count b.count s ∙ ap (rtl_steps p depth b.count) a.ends ∙ b.ends;
+}
+
+pub goes_one : (p : Program) (depth : ℕ) (s t : Run) → rtl_step p depth s ≡ t → Goes p depth s t
+goes_one p depth s t e = record { count = 1; ends = e }
+
+pub moves_one : {p : Program} {depth : ℕ} {s t : Run} → rtl_step p depth s ≡ t → Moves p depth s t
+moves_one e = record { more = 0; ends = e }
+
+pub moves_then : {p : Program} {depth : ℕ} {s t u : Run} → Moves p depth s t → Goes p depth t u → Moves p depth s u
+moves_then {p} {depth} {s} a b =
+    let e : suc (a.more + b.count) ≡ suc a.more + b.count = omega arith in
+    record {
+      more = a.more + b.count;
+      ends = ap (λ n. rtl_steps p depth n s) e ∙ steps-add (rtl_step p depth) (suc a.more) b.count s ∙ ap (rtl_steps p depth b.count) a.ends ∙ b.ends;
+    }
+
+pub moves_after : {p : Program} {depth : ℕ} {s t u : Run} → Goes p depth s t → Moves p depth t u → Moves p depth s u
+moves_after {p} {depth} {s} a b =
+    let e : suc (a.count + b.more) ≡ a.count + suc b.more = omega arith in
+    record {
+      more = a.count + b.more;
+      ends = ap (λ n. rtl_steps p depth n s) e ∙ steps-add (rtl_step p depth) a.count (suc b.more) s ∙ ap (rtl_steps p depth (suc b.more)) a.ends ∙ b.ends;
+    }
+
+pub goes_of : {p : Program} {depth : ℕ} {s t : Run} → Moves p depth s t → Goes p depth s t
+goes_of a = record { count = suc a.more; ends = a.ends }
+
+pub with_some : {C A : Type 0} (o : Option A) (a : A) (out : List ℕ) (go : A → Configuration C) → o ≡ Some a → with_value o out go ≡ go a
+with_some o a out go e = ap (λ o. with_value o out go) e
+
+pub record Chained {A B : Type 0} (o : Option A) (f : A → Option B) (b : B) : Type 0 where
+  pub value : A
+  pub is : o ≡ Some value
+  pub then_is : f value ≡ Some b
+
+pub chained : {A B : Type 0} (o : Option A) (f : A → Option B) (b : B) → chain o f ≡ Some b → Chained o f b
+chained None f b e = cc
+chained (Some a) f b e = record { value = a; is = refl; then_is = e }
+
+pub written_here : (r : Places) (t : ℕ) (v : Option ℕ) → places_with r t v t ≡ v
+written_here r t v = ap (λ c. if c then v else r t) (eq-eqb t t refl)
+
+pub written_other : (r : Places) (t : ℕ) (v : Option ℕ) (x : ℕ) → x ≢ t → places_with r t v x ≡ r x
+written_other r t v x ne = ap (λ c. if c then v else r x) (ne_eqb x t ne)
+
+pub jump_to : {bs : List RBlock} {b : ℕ} {c : Code} → At bs b c → (r : Places) (to : Option ℕ) (ws : List Frame) (g : Arrays) (out : List ℕ)
+    → state_at_block bs b r to ws g out ≡ at_code bs r c to ws g out
+jump_to {bs} {b} {c} at r to ws g out =
+    with_some (slice_get bs b) at.block out (λ block. at_code bs r (code_of block) to ws g out) at.there ∙ ap (λ c. at_code bs r c to ws g out) at.is
+
+-- the registers of locals are the same, so they still hold the locals
+pub holds_kept : (free next : ℕ) (l r r' : Places) (g : Arrays) → free ≤ next → Holds free l r g → ((x : ℕ) → x < free → r' x ≡ r x) → Holds next l r' g
+holds_kept free next l r r' g le h same = record {
+  by = λ x v e. let b = h.by x v e in (omega (arith, b.0), same x b.0 ∙ b.1);
+  locals = h.locals;
+  globals = h.globals;
+}
+
+-- a jump to it, or to the spot at once
+pub joins : {p : Program} {depth : ℕ} {bs : List RBlock} (b : ℕ) (s : Spot) → Lands bs b s
+    → (r : Places) (to : Option ℕ) (ws : List Frame) (g : Arrays) (out : List ℕ)
+    → Goes p depth (at_code bs r (goto b) to ws g out) (at_code bs r (line_of s) to ws g out)
+joins {p} {depth} {bs} b (Block b') l r to ws g out = record { count = 0; ends = ap (λ b. at_code bs r (goto b) to ws g out) l }
+joins {p} {depth} {bs} b (Line c) l r to ws g out = goes_one p depth _ _ (jump_to l r to ws g out)

@@ -1,0 +1,12 @@
+use Rattle.std.proofs.Common.{List, sym, ap, subst, ◌∙◌}
+use Rattle.rtl.specs.Meaning.{Code}
+use Rattle.rtl.specs.declared.instruction.RInst.{RInst}
+use Rattle.rtl_emit.specs.Blocks.{open_code, At}
+use Rattle.rtl_emit.proofs.Blocks.{at_seam}
+use Rattle.rtl_emit.proofs.block.seal.Goals as goal
+
+pub returns-clause-at : goal.returns-clause-at
+returns-clause-at c = λ bs h.
+    let is = ap (λ (l : List RInst). let r : Code = record { insts = l; exit = c.args.code.exit } in r) c.reverse.ensures.items in
+    let a = at_seam bs _ _ _ (open_code c.args.code) c.in_ok-put_block.ensures is h in
+    subst (λ n. At bs n (open_code c.args.code)) (sym (c.len-number.ensures ∙ c.args.blocks.now.ok.0)) a

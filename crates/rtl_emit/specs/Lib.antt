@@ -1,0 +1,5 @@
+-- to believe
+pub mod Operations
+pub mod Blocks
+pub mod Runs
+pub mod Expressions

@@ -1,0 +1,48 @@
+-- Which operator of RTL computes an operator of C (C99 6.5.5 to 6.5.14), and which one computes the contrary of a test.
+use Rattle.std.specs.Prelude.{◌≡◌, ℕ, Bool, true, false, not, Option, Some, None, if◌then◌else◌}
+use Rattle.c_front.specs.declared.tree.BinaryOp.{BinaryOp}
+use Rattle.c_front.specs.declared.tree.BinaryOp.TheVariants as B
+use Rattle.words.specs.declared.sign.Sign.{Sign}
+use Rattle.words.specs.declared.sign.Sign.TheVariants.{Signed, Unsigned}
+use Rattle.runs.specs.Stores.{IsWord, chain}
+use Rattle.c_typed.specs.Values.{truth, binary_of, binary_value}
+use Rattle.rtl.specs.declared.operator.Op.{Op}
+use Rattle.rtl.specs.declared.operator.Op.TheVariants as O
+use Rattle.rtl.specs.declared.instruction.RInst.{RInst}
+use Rattle.rtl.specs.declared.instruction.RInst.TheVariants.{Bin}
+use Rattle.rtl.specs.Operators.{truth_word, op_result}
+use Rattle.rtl_emit.specs.declared.operation.Operation.{Operation}
+use Rattle.rtl_emit.specs.declared.operation.Form.{Form}
+use Rattle.rtl_emit.specs.declared.operation.Form.TheVariants as F
+
+-- one operator for words read as signed numbers, another for words as they are
+abbrev pub by_sign : Sign → Op → Op → Op
+by_sign Signed a b = a
+by_sign Unsigned a b = b
+
+-- what an operation gives at two words
+abbrev pub result_of : Operation → ℕ → ℕ → Option ℕ
+result_of o x y = if o.turned then op_result o.op y x else op_result o.op x y
+
+-- the instruction that puts it into the register `to`, of the words in two registers
+abbrev pub inst_of : Operation → (to left right : ℕ) → RInst
+inst_of o to left right = if o.turned then Bin o.op to right left else Bin o.op to left right
+
+-- both operands are evaluated, the left one first
+abbrev pub EvaluatesBoth : BinaryOp → Sign → Type 0
+EvaluatesBoth o s = (left right : Option ℕ) → binary_value o s left right ≡ chain left (λ x. chain right (λ y. binary_of o s x y))
+
+-- wherever C gives two words a value, the operation gives it
+pub record Computes (o : BinaryOp) (s : Sign) (op : Operation) : Type 0 where
+  pub both : EvaluatesBoth o s
+  pub by : (x y v : ℕ) → IsWord x → IsWord y → binary_of o s x y ≡ Some v → result_of op x y ≡ Some v
+
+abbrev pub IsForm : BinaryOp → Sign → Form → Type 0
+IsForm o s F.LogicalAnd = o ≡ B.LogicalAnd
+IsForm o s F.LogicalOr = o ≡ B.LogicalOr
+IsForm o s (F.Plain op) = Computes o s op
+
+-- a test, and an operation that tells of two words whether it is false
+pub record ComputesContrary (o : BinaryOp) (s : Sign) (op : Operation) : Type 0 where
+  pub both : EvaluatesBoth o s
+  pub by : (x y : ℕ) → (z : Bool) × (binary_of o s x y ≡ Some (truth z)) × (result_of op x y ≡ Some (truth_word (not z)))

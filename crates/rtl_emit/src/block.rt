@@ -1,0 +1,122 @@
+ghost use Rattle.std.specs.Prelude.{◌≡◌, ◌++◌, ◌∷◌, ◌<◌, [], List, length, IfOk, OnOk};
+ghost use Rattle.rtl_emit.specs.Blocks.{open_code, exit_code, first, spot, line_of, Grows, Has, At, Lands, Reserves, Fills};
+ghost use Rattle.rtl.specs.declared.block.RBlock.{RBlock};
+
+use crate::fault::LowerFault;
+use rtl::{BlockNumber, MAX_BLOCKS, RBlock, RExit, RInst};
+use std::alloc::{AllocError, Global};
+
+/// A block that is being made, from its exit on backwards.
+#[derive(Drop)]
+pub struct OpenBlock {
+    // The last instruction first.
+    insts: Vec<RInst>,
+    exit: RExit,
+}
+
+/// Where code goes on: at a block that is there, or in one that is being made.
+#[derive(Drop)]
+pub enum Continuation {
+    Jump(BlockNumber),
+    Made(OpenBlock),
+}
+
+/// Code that only leaves its block.
+pub fn leaving(alloc: Global, exit: RExit) -> OpenBlock
+    ensures { open_code result ≡ exit_code exit }
+{
+    OpenBlock {
+        insts: Vec::new(alloc),
+        exit,
+    }
+}
+
+/// An instruction before the code; an Err is refused memory.
+pub fn put_first(inst: RInst, mut code: OpenBlock) -> Result<OpenBlock, AllocError>
+    ensures { IfOk result (λ c. open_code c ≡ first inst (open_code code)) }
+{
+    code.insts.push(inst)?;
+    Ok(code)
+}
+
+/// Code that comes there.
+pub fn opened(alloc: Global, after: Continuation) -> OpenBlock
+    ensures { open_code result ≡ line_of (spot after) }
+{
+    match after {
+        Continuation::Jump(block) => leaving(alloc, RExit::Goto(block)),
+        Continuation::Made(code) => code,
+    }
+}
+
+/// An instruction before what comes there; an Err is refused memory.
+pub fn put_before(alloc: Global, inst: RInst, after: Continuation) -> Result<OpenBlock, AllocError>
+    ensures { IfOk result (λ c. open_code c ≡ first inst (line_of (spot after))) }
+{
+    let code = opened(alloc, after);
+    let from = put_first(inst, code)?;
+    Ok(from)
+}
+
+/// A block that begins there: no new one for a block that is there. A function with more than 1,048,575 blocks is a Limit.
+pub fn sealed(blocks: &mut Vec<RBlock>, after: Continuation) -> Result<BlockNumber, LowerFault>
+    ensures grows { OnOk result (Grows blocks.old.items blocks.new.items) }
+    ensures lands { IfOk result (λ b. (bs : List RBlock) → Has bs blocks.old.items blocks.new.items → Lands bs b (spot after)) }
+{
+    match after {
+        Continuation::Jump(block) => Ok(block),
+        Continuation::Made(code) => {
+            let block = seal(blocks, code)?;
+            Ok(block)
+        }
+    }
+}
+
+/// The code as a block of its own; a Limit as for `sealed`.
+pub fn seal(blocks: &mut Vec<RBlock>, code: OpenBlock) -> Result<BlockNumber, LowerFault>
+    ensures grows { OnOk result (Grows blocks.old.items blocks.new.items) }
+    ensures at { IfOk result (λ b. (bs : List RBlock) → Has bs blocks.old.items blocks.new.items → At bs b (open_code code)) }
+{
+    let number = blocks.len();
+    if number >= MAX_BLOCKS {
+        return Err(LowerFault::Limit);
+    }
+    let OpenBlock { mut insts, exit } = code;
+    insts.reverse();
+    put_block(blocks, RBlock { insts, exit })?;
+    Ok(number as u32)
+}
+
+// One more block.
+fn put_block(blocks: &mut Vec<RBlock>, block: RBlock) -> Result<(), AllocError>
+    ensures { OnOk result (blocks.new.items ≡ blocks.old.items ++ block ∷ []) }
+{
+    blocks.push(block)?;
+    Ok(())
+}
+
+/// A block that is filled later, and its number; a Limit as for `sealed`.
+pub fn reserve(alloc: Global, blocks: &mut Vec<RBlock>) -> Result<BlockNumber, LowerFault>
+    ensures { IfOk result (λ b. Reserves blocks.old.items blocks.new.items b) }
+{
+    let number = blocks.len();
+    if number >= MAX_BLOCKS {
+        return Err(LowerFault::Limit);
+    }
+    let block = RBlock {
+        insts: Vec::new(alloc),
+        exit: RExit::Return(None),
+    };
+    put_block(blocks, block)?;
+    Ok(number as u32)
+}
+
+/// The code as the block of a number that was reserved.
+pub fn fill(blocks: &mut Vec<RBlock>, number: BlockNumber, code: OpenBlock)
+    requires { number < length blocks.old.items }
+    ensures { Fills blocks.old.items blocks.new.items number (open_code code) }
+{
+    let OpenBlock { mut insts, exit } = code;
+    insts.reverse();
+    blocks[number as usize] = RBlock { insts, exit };
+}

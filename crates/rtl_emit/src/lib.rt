@@ -1,0 +1,31 @@
+//! Code of RTL for the expressions and conditions of typed C programs.
+//!
+//! Code is made backwards: who emits an expression has the code in hand that comes next (`OpenBlock`, whose instructions
+//! are kept last first), or the number of the block that does (`Continuation`). So each target exists already, and an
+//! instruction before others is one push. Blocks are only ever added to the function's list; `reserve` and `fill` are for
+//! the head of a loop and the entry of a function.
+//!
+//! Locals are the first pseudo-registers. `free` is everywhere the first register that is free: code may write it and
+//! those above, and its destination. An operand that is a local is read in place; others take the first free register
+//! (`place_of`), and code for later operands keeps it. `&&`, `||` and `?:` become branches (`condition`), whose likely
+//! target stands first.
+//!
+//! A contract speaks of every list of blocks that has those which the call has added: `specs/Expressions.antt` says what
+//! the code does there (`Evaluates`, `Fetches`, `Decides`, `FetchAll`), by the meaning of RTL (`rtl_run`) and that of
+//! typed expressions (`value_of`), wherever the locals are in their registers and locals and globals hold words.
+//! `specs/Blocks.antt` has the words on code and blocks, `specs/Runs.antt` those on steps, `specs/Operations.antt` which
+//! operator of RTL computes which of C.
+#![tactic(auto)]
+
+mod block;
+mod expression;
+mod fault;
+mod operation;
+mod place;
+
+pub use block::{
+    Continuation, OpenBlock, fill, leaving, opened, put_before, put_first, reserve, sealed,
+};
+pub use expression::{condition, operand_into, operands_into, value_into};
+pub use fault::LowerFault;
+pub use place::{Place, place_of, places_of, register_of, registers_of};

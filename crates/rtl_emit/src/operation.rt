@@ -1,0 +1,100 @@
+ghost use Rattle.std.specs.Prelude.{◌≡◌, true, false, IfSome};
+ghost use Rattle.c_typed.specs.Values.{sign_of};
+ghost use Rattle.rtl_emit.specs.Operations.{by_sign, inst_of, IsForm, ComputesContrary};
+
+use c_front::BinaryOp;
+use c_tokens::IntegerType;
+use rtl::{Op, RInst, Register};
+
+/// An operator of RTL at two words, or at the same words turned round.
+#[derive(Clone, Copy)]
+pub struct Operation {
+    pub op: Op,
+    pub turned: bool,
+}
+
+/// How a binary operator of C is computed: `&&` and `||` by branches, any other by one operation.
+#[derive(Clone, Copy)]
+pub enum Form {
+    LogicalAnd,
+    LogicalOr,
+    Plain(Operation),
+}
+
+/// The operator at the words as they stand.
+pub fn straight(op: Op) -> Operation
+    ensures { result ≡ record { op = op; turned = false } }
+{
+    Operation { op, turned: false }
+}
+
+/// The operator at the words turned round.
+pub fn turned(op: Op) -> Operation
+    ensures { result ≡ record { op = op; turned = true } }
+{
+    Operation { op, turned: true }
+}
+
+impl Operation {
+    /// The instruction that puts the result at two registers into a third.
+    pub fn instruction(self, to: Register, left: Register, right: Register) -> RInst
+        ensures { result ≡ inst_of self to left right }
+    {
+        if self.turned {
+            RInst::Bin(self.op, to, right, left)
+        } else {
+            RInst::Bin(self.op, to, left, right)
+        }
+    }
+}
+
+// One operator for words read as signed numbers, another for words as they are.
+fn by_type(integer_type: IntegerType, signed: Op, unsigned: Op) -> Op
+    ensures { result ≡ by_sign (sign_of integer_type) signed unsigned }
+{
+    match integer_type {
+        IntegerType::SignedInt => signed,
+        IntegerType::UnsignedInt => unsigned,
+    }
+}
+
+/// How an operator that computes in a type is computed.
+pub fn form_of(operator: BinaryOp, integer_type: IntegerType) -> Form
+    ensures { IsForm operator (sign_of integer_type) result }
+{
+    match operator {
+        BinaryOp::Multiply => Form::Plain(straight(Op::Mul)),
+        BinaryOp::Divide => Form::Plain(straight(by_type(integer_type, Op::DivS, Op::DivU))),
+        BinaryOp::Remainder => Form::Plain(straight(by_type(integer_type, Op::RemS, Op::RemU))),
+        BinaryOp::Add => Form::Plain(straight(Op::Add)),
+        BinaryOp::Subtract => Form::Plain(straight(Op::Sub)),
+        BinaryOp::ShiftLeft => Form::Plain(straight(Op::Shl)),
+        BinaryOp::ShiftRight => Form::Plain(straight(by_type(integer_type, Op::ShrS, Op::ShrU))),
+        BinaryOp::Less => Form::Plain(straight(by_type(integer_type, Op::LtS, Op::LtU))),
+        BinaryOp::Greater => Form::Plain(turned(by_type(integer_type, Op::LtS, Op::LtU))),
+        BinaryOp::LessOrEqual => Form::Plain(straight(by_type(integer_type, Op::LeS, Op::LeU))),
+        BinaryOp::GreaterOrEqual => Form::Plain(turned(by_type(integer_type, Op::LeS, Op::LeU))),
+        BinaryOp::Equal => Form::Plain(straight(Op::Eq)),
+        BinaryOp::NotEqual => Form::Plain(straight(Op::Ne)),
+        BinaryOp::BitAnd => Form::Plain(straight(Op::And)),
+        BinaryOp::BitXor => Form::Plain(straight(Op::Xor)),
+        BinaryOp::BitOr => Form::Plain(straight(Op::Or)),
+        BinaryOp::LogicalAnd => Form::LogicalAnd,
+        BinaryOp::LogicalOr => Form::LogicalOr,
+    }
+}
+
+/// The operation that computes the contrary of a comparison; None for other operators.
+pub fn contrary_of(operator: BinaryOp, integer_type: IntegerType) -> Option<Operation>
+    ensures { IfSome result (λ op. ComputesContrary operator (sign_of integer_type) op) }
+{
+    match operator {
+        BinaryOp::Less => Some(turned(by_type(integer_type, Op::LeS, Op::LeU))),
+        BinaryOp::Greater => Some(straight(by_type(integer_type, Op::LeS, Op::LeU))),
+        BinaryOp::LessOrEqual => Some(turned(by_type(integer_type, Op::LtS, Op::LtU))),
+        BinaryOp::GreaterOrEqual => Some(straight(by_type(integer_type, Op::LtS, Op::LtU))),
+        BinaryOp::Equal => Some(straight(Op::Ne)),
+        BinaryOp::NotEqual => Some(straight(Op::Eq)),
+        _ => None,
+    }
+}

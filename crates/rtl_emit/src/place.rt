@@ -1,0 +1,96 @@
+ghost use Rattle.std.specs.Prelude.{◌≡◌, ◌++◌, ◌∷◌, [], ◌<◌, map, IfOk, OnOk};
+ghost use Rattle.c_typed.specs.Shape.{typed_expression_of, typed_expressions_of};
+ghost use Rattle.rtl.specs.declared.limits.TheConstants.{MAX_REGISTERS};
+ghost use Rattle.rtl_emit.specs.Expressions.{IsPlace, AddPlaces};
+
+use crate::fault::LowerFault;
+use c_typed::TypedExpression;
+use rtl::{MAX_REGISTERS, Register};
+use std::alloc::{AllocError, Global};
+
+/// A register for an operand, and the first that is free while it is held.
+#[derive(Clone, Copy)]
+pub struct Place {
+    pub register: Register,
+    pub free: Register,
+}
+
+/// The register of a local; a Limit above the last register.
+pub fn register_of(local: usize) -> Result<Register, LowerFault>
+    ensures { IfOk result (λ r. r ≡ local) }
+{
+    if local >= MAX_REGISTERS as usize {
+        return Err(LowerFault::Limit);
+    }
+    Ok(local as u32)
+}
+
+/// A register that is free; a Limit above the last one.
+pub fn spare(free: Register) -> Result<Register, LowerFault>
+    ensures is { IfOk result (λ r. r ≡ free) }
+    ensures within { IfOk result (λ r. r < MAX_REGISTERS) }
+{
+    if free >= MAX_REGISTERS {
+        return Err(LowerFault::Limit);
+    }
+    Ok(free)
+}
+
+/// Where the value of an operand is found: a local in its own register, others in a free one. A Limit where there is none.
+pub fn place_of(e: &TypedExpression, free: Register) -> Result<Place, LowerFault>
+    ensures { IfOk result (λ p. IsPlace (typed_expression_of e.now) free p.register p.free) }
+{
+    if let TypedExpression::Local(number, _) = e {
+        let register = register_of(*number)?;
+        return Ok(Place { register, free });
+    }
+    let register = spare(free)?;
+    Ok(Place {
+        register,
+        free: register + 1,
+    })
+}
+
+/// Places for the values of a list, behind others. A Limit where the registers don't suffice.
+pub fn places_of(
+    es: &[TypedExpression],
+    free: Register,
+    places: &mut Vec<Place>,
+) -> Result<(), LowerFault>
+    ensures { OnOk result (AddPlaces (typed_expressions_of es.now) free places.old.items places.new.items) }
+{
+    let Some((e, rest)) = es.split_first() else {
+        return Ok(());
+    };
+    let first_place = place_of(e, free)?;
+    put_place(places, first_place)?;
+    places_of(rest, first_place.free, places)?;
+    Ok(())
+}
+
+// One more place.
+fn put_place(places: &mut Vec<Place>, place: Place) -> Result<(), AllocError>
+    ensures { OnOk result (places.new.items ≡ places.old.items ++ place ∷ []) }
+{
+    places.push(place)?;
+    Ok(())
+}
+
+/// The registers of places; an Err is refused memory.
+pub fn registers_of(alloc: Global, places: &[Place]) -> Result<Vec<Register>, AllocError>
+    ensures { IfOk result (λ rs. rs.items ≡ map (λ p. p.register) places.now) }
+{
+    let mut registers = Vec::new(alloc);
+    for place in places {
+        put_register(&mut registers, place.register)?;
+    }
+    Ok(registers)
+}
+
+// One more register.
+fn put_register(registers: &mut Vec<Register>, register: Register) -> Result<(), AllocError>
+    ensures { OnOk result (registers.new.items ≡ registers.old.items ++ register ∷ []) }
+{
+    registers.push(register)?;
+    Ok(())
+}

@@ -1,0 +1,245 @@
+-- What is still to do in the source, and where its code stands.
+use Rattle.std.proofs.Common.{◌≡◌, ◌≢◌, ℕ, ◌<◌, Bool, true, false, List, [], ◌∷◌, ◌⊎◌, inl, inr, Option, Some, None, refl, sym, ◌∙◌, ap, subst}
+use Rattle.std.proofs.Common.{arith, nat_eq}
+use Rattle.std.specs.Prelude.{if◌then◌else◌}
+use Rattle.std.proofs.lemmas.Bool.Decides.{eqb_tells}
+use Rattle.runs.specs.Stores.{Places, Arrays, places_with, IsWord}
+use Rattle.runs.proofs.Words.{written-words}
+use Rattle.c_typed.specs.declared.tree.Destination.TheVariants.{Local, Global as Variable}
+use Rattle.c_typed.specs.Trees.{TypedStatement, TypedStatements, TypedProgram, empty, block, unset, assign, store, call, output, if_else, loop}
+use Rattle.c_typed.specs.Trees.{break_loop, continue_loop, return_with, no_statements, more_statements}
+use Rattle.c_typed.specs.WellFormed.{FitsStatement, FitsStatements}
+use Rattle.c_typed.specs.Meaning.{Todo, Do, Next, Mode, Going, Breaking, Continuing, Point, before, before_all, next_point}
+use Rattle.rtl.specs.Programs.{Program}
+use Rattle.rtl.specs.Meaning.{Code, Frame}
+use Rattle.rtl.specs.declared.block.RBlock.{RBlock}
+use Rattle.rtl_emit.specs.Blocks.{Spot, Block, Line, Lands}
+use Rattle.rtl_emit.specs.Runs.{at_code, Goes, Holds}
+use Rattle.rtl_emit.proofs.Steps.{goes_nowhere, goes_then}
+use Rattle.rtl_lower.specs.Coded.{Sits, IsThere, Comes, Coded, CodedAll}
+use Rattle.rtl_lower.proofs.Spots.{comes_equal, comes_join, comes_then}
+
+-- a statement that fits a function of the program
+abbrev pub Fits : TypedProgram → ℕ → TypedStatement → Type 0
+Fits p n s = (gives : Bool) × (inside : Bool) × FitsStatement p n gives inside s
+
+-- `break` and `continue` lead to blocks that are there
+pub record Targets (bs : List RBlock) (leave : ℕ) (next : Option ℕ) : Type 0 where
+  pub leaves : IsThere bs (Block leave)
+  pub continues : (b : ℕ) → next ≡ Some b → IsThere bs (Block b)
+
+-- a statement, and then the rest
+pub record StandsDo (src : TypedProgram) (bs : List RBlock) (n : ℕ) (s : TypedStatement) (leave : ℕ) (next : Option ℕ) (from : Spot)
+    (Rest : Spot → Type 0) : Type 0 where
+  pub at : Spot
+  pub comes : Comes bs from at
+  pub middle : Spot
+  pub coded : Coded bs n s leave next at middle
+  pub fits : Fits src n s
+  pub rest : Rest middle
+
+-- the last part of a loop, the loop again at the test behind it, and then the rest
+pub record StandsNext (src : TypedProgram) (bs : List RBlock) (n : ℕ) (last again : TypedStatement) (leave : ℕ) (next : Option ℕ) (from : Spot)
+    (Rest : (leave : ℕ) (next : Option ℕ) → Spot → Type 0) : Type 0 where
+  pub last_spot : Spot
+  pub comes : Comes bs from last_spot
+  pub bottom : Code
+  pub after : Spot
+  pub left : Lands bs leave after
+  pub continues : (b : ℕ) → next ≡ Some b → Lands bs b last_spot
+  pub outer_leave : ℕ
+  pub outer_next : Option ℕ
+  pub targets : Targets bs outer_leave outer_next
+  pub last_coded : Coded bs n last outer_leave outer_next last_spot (Line bottom)
+  pub loop_coded : Coded bs n again outer_leave outer_next (Line bottom) after
+  pub last_fits : Fits src n last
+  pub loop_fits : Fits src n again
+  pub rest : Rest outer_leave outer_next after
+
+-- from this spot on stands what is still to do, where `break` leads to one block and `continue` to another
+abbrev pub Follows : TypedProgram → List RBlock → ℕ → List Todo → (leave : ℕ) (next : Option ℕ) → Spot → Type 0
+Follows src bs n [] leave next from = IsThere bs from
+Follows src bs n (Do s ∷ k) leave next from = StandsDo src bs n s leave next from (λ c. Follows src bs n k leave next c)
+Follows src bs n (Next last again ∷ k) leave next from = StandsNext src bs n last again leave next from
+    (λ leave' next' c. Follows src bs n k leave' next' c)
+
+mutual
+  pub there_coded : (bs : List RBlock) (n : ℕ) (s : TypedStatement) (leave : ℕ) (next : Option ℕ) (from after : Spot) → Targets bs leave next
+      → Coded bs n s leave next from after → IsThere bs after → IsThere bs from
+  there_coded bs n empty leave next from after t c th = subst (λ s. IsThere bs s) (sym c) th
+  there_coded bs n (block all) leave next from after t c th = there_all bs n all leave next from after t c th
+  there_coded bs n (unset x) leave next from after t c th = subst (λ s. IsThere bs s) (sym c) th
+  there_coded bs n (assign (Local x) e) leave next from after t c th = subst (λ s. IsThere bs s) (sym c.is) tt
+  there_coded bs n (assign (Variable x) e) leave next from after t c th = subst (λ s. IsThere bs s) (sym c.is) tt
+  there_coded bs n (store a i e) leave next from after t c th = subst (λ s. IsThere bs s) (sym c.is) tt
+  there_coded bs n (call to f es) leave next from after t c th = subst (λ s. IsThere bs s) (sym c.is) tt
+  there_coded bs n (output e) leave next from after t c th = subst (λ s. IsThere bs s) (sym c.leaves.is) tt
+  there_coded bs n (if_else e a b) leave next from after t c th = subst (λ s. IsThere bs s) (sym c.is) tt
+  there_coded bs n (loop e last body) leave next from after t c th = subst (λ s. IsThere bs s) (sym c.is) tt
+  there_coded bs n break_loop leave next from after t c th = subst (λ s. IsThere bs s) (sym c) t.leaves
+  there_coded bs n continue_loop leave next from after t c th = subst (λ s. IsThere bs s) (sym c.2) (t.continues c.0 c.1)
+  there_coded bs n (return_with None) leave next from after t c th = subst (λ s. IsThere bs s) (sym c) tt
+  there_coded bs n (return_with (Some e)) leave next from after t c th = subst (λ s. IsThere bs s) (sym c.is) tt
+
+  pub there_all : (bs : List RBlock) (n : ℕ) (all : TypedStatements) (leave : ℕ) (next : Option ℕ) (from after : Spot) → Targets bs leave next
+      → CodedAll bs n all leave next from after → IsThere bs after → IsThere bs from
+  there_all bs n no_statements leave next from after t c th = subst (λ s. IsThere bs s) (sym c) th
+  there_all bs n (more_statements s rest) leave next from after t c th =
+      there_coded bs n s leave next from c.0 t c.1 (there_all bs n rest leave next c.0 after t c.2 th)
+
+pub there_follows : (src : TypedProgram) (bs : List RBlock) (n : ℕ) (k : List Todo) (leave : ℕ) (next : Option ℕ) (from : Spot)
+    → Targets bs leave next → Follows src bs n k leave next from → IsThere bs from
+there_follows src bs n [] leave next from t f = f
+there_follows src bs n (Do s ∷ k) leave next from t f = f.comes.there
+    (there_coded bs n s leave next f.at f.middle t f.coded (there_follows src bs n k leave next f.middle t f.rest))
+there_follows src bs n (Next last again ∷ k) leave next from t f =
+    f.comes.there (there_coded bs n last f.outer_leave f.outer_next f.last_spot (Line f.bottom) f.targets f.last_coded tt)
+
+pub follows_from : (src : TypedProgram) (bs : List RBlock) (n : ℕ) (k : List Todo) (leave : ℕ) (next : Option ℕ) (from to : Spot) → Comes bs from to
+    → Follows src bs n k leave next to → Follows src bs n k leave next from
+follows_from src bs n [] leave next from to c f = c.there f
+follows_from src bs n (Do s ∷ k) leave next from to c f = record
+    { at = f.at; comes = comes_then c f.comes; middle = f.middle; coded = f.coded; fits = f.fits; rest = f.rest }
+follows_from src bs n (Next last again ∷ k) leave next from to c f = record {
+  last_spot = f.last_spot;
+  comes = comes_then c f.comes;
+  bottom = f.bottom;
+  after = f.after;
+  left = f.left;
+  continues = f.continues;
+  outer_leave = f.outer_leave;
+  outer_next = f.outer_next;
+  targets = f.targets;
+  last_coded = f.last_coded;
+  loop_coded = f.loop_coded;
+  last_fits = f.last_fits;
+  loop_fits = f.loop_fits;
+  rest = f.rest;
+}
+
+pub follows_do : (src : TypedProgram) (bs : List RBlock) (n : ℕ) (s : TypedStatement) (k : List Todo) (leave : ℕ) (next : Option ℕ)
+    (from middle : Spot) → Coded bs n s leave next from middle → Fits src n s → Follows src bs n k leave next middle
+    → Follows src bs n (Do s ∷ k) leave next from
+follows_do src bs n s k leave next from middle c sc f = record
+    { at = from; comes = comes_equal bs from from refl; middle = middle; coded = c; fits = sc; rest = f }
+
+mutual
+  pub follows_before : (src : TypedProgram) (bs : List RBlock) (n : ℕ) (s : TypedStatement) (k : List Todo) (leave : ℕ) (next : Option ℕ)
+      (from middle : Spot) → Coded bs n s leave next from middle → Fits src n s → Follows src bs n k leave next middle
+      → Follows src bs n (before s k) leave next from
+  follows_before src bs n empty k leave next from middle c sc f = subst (λ m. Follows src bs n k leave next m) (sym c) f
+  follows_before src bs n (block all) k leave next from middle c sc f = follows_all src bs n all k leave next from middle c sc.0 sc.1 sc.2 f
+  follows_before src bs n (unset x) k leave next from middle c sc f = follows_do src bs n (unset x) k leave next from middle c sc f
+  follows_before src bs n (assign x e) k leave next from middle c sc f = follows_do src bs n (assign x e) k leave next from middle c sc f
+  follows_before src bs n (store a i e) k leave next from middle c sc f = follows_do src bs n (store a i e) k leave next from middle c sc f
+  follows_before src bs n (call to g es) k leave next from middle c sc f = follows_do src bs n (call to g es) k leave next from middle c sc f
+  follows_before src bs n (output e) k leave next from middle c sc f = follows_do src bs n (output e) k leave next from middle c sc f
+  follows_before src bs n (if_else e a b) k leave next from middle c sc f = follows_do src bs n (if_else e a b) k leave next from middle c sc f
+  follows_before src bs n (loop e last body) k leave next from middle c sc f = follows_do src bs n (loop e last body) k leave next from middle c sc f
+  follows_before src bs n break_loop k leave next from middle c sc f = follows_do src bs n break_loop k leave next from middle c sc f
+  follows_before src bs n continue_loop k leave next from middle c sc f = follows_do src bs n continue_loop k leave next from middle c sc f
+  follows_before src bs n (return_with e) k leave next from middle c sc f = follows_do src bs n (return_with e) k leave next from middle c sc f
+
+  pub follows_all : (src : TypedProgram) (bs : List RBlock) (n : ℕ) (all : TypedStatements) (k : List Todo) (leave : ℕ) (next : Option ℕ)
+      (from middle : Spot) → CodedAll bs n all leave next from middle → (gives inside : Bool) → FitsStatements src n gives inside all
+      → Follows src bs n k leave next middle → Follows src bs n (before_all all k) leave next from
+  follows_all src bs n no_statements k leave next from middle c gives inside sc f = subst (λ m. Follows src bs n k leave next m) (sym c) f
+  follows_all src bs n (more_statements s rest) k leave next from middle c gives inside sc f =
+      follows_before src bs n s (before_all rest k) leave next from c.0 c.1 (gives, inside, sc.0)
+      (follows_all src bs n rest k leave next c.0 middle c.2 gives inside sc.1 f)
+
+-- a local that is unset needs no register
+pub holds_unset : (n : ℕ) (l r : Places) (g : Arrays) (x : ℕ) → Holds n l r g → Holds n (places_with l x None) r g
+holds_unset n l r g x h = record { by = λ y v e. by y v (nat_eq y x) e; locals = written-words l x None h.locals (λ v e. cc); globals = h.globals }
+  where
+    by : (y v : ℕ) (b : Bool) → (if b then None else l y) ≡ Some v → (y < n) × (r y ≡ Some v)
+    by y v true e = cc
+    by y v false e = h.by y v e
+
+-- where the code of a mode is
+abbrev pub Seated : List RBlock → Mode → Spot → (leave : ℕ) (next : Option ℕ) → Code → Type 0
+Seated bs Going from leave next c = Sits bs from c
+Seated bs Breaking from leave next c = Sits bs (Block leave) c
+Seated bs Continuing from leave next c = (b : ℕ) × (next ≡ Some b) × Sits bs (Block b) c
+
+-- the blocks come to the next statement that takes a step
+pub record Settles (src : TypedProgram) (p : Program) (depth : ℕ) (bs : List RBlock) (n : ℕ) (r : Places) (d : Option ℕ) (ws : List Frame)
+    (g : Arrays) (out : List ℕ) (from : Code) (point : Point) : Type 0 where
+  pub code : Code
+  pub spot : Spot
+  pub leave : ℕ
+  pub next : Option ℕ
+  pub targets : Targets bs leave next
+  pub goes : Goes p depth (at_code bs r from d ws g out) (at_code bs r code d ws g out)
+  pub sits : Sits bs spot code
+  pub holds : Holds n point.locals r g
+  pub follows : Follows src bs n point.todo leave next spot
+
+module _ (src : TypedProgram) (p : Program) (depth : ℕ) (bs : List RBlock) (n : ℕ) (r : Places) (d : Option ℕ) (ws : List Frame) (g : Arrays)
+    (out : List ℕ) where
+  here : (code : Code) (spot : Spot) (point : Point) (leave : ℕ) (next : Option ℕ) → Targets bs leave next → Sits bs spot code
+      → Holds n point.locals r g → Follows src bs n point.todo leave next spot → Settles src p depth bs n r d ws g out code point
+  here code spot point leave next t s h f = record {
+    code = code;
+    spot = spot;
+    leave = leave;
+    next = next;
+    targets = t;
+    goes = goes_nowhere p depth _;
+    sits = s;
+    holds = h;
+    follows = f;
+  }
+
+  settles_from : (code : Code) (spot spot' : Spot) (point : Point) → Comes bs spot spot' → Sits bs spot code
+      → ((code' : Code) → Sits bs spot' code' → Settles src p depth bs n r d ws g out code' point) → Settles src p depth bs n r d ws g out code point
+  settles_from code spot spot' point c s k =
+      let x = c.by code s p depth r d ws g out in
+      let y = k x.0 x.1 in
+      record {
+        code = y.code;
+        spot = y.spot;
+        leave = y.leave;
+        next = y.next;
+        targets = y.targets;
+        goes = goes_then x.2 y.goes;
+        sits = y.sits;
+        holds =
+            y.holds;
+        follows = y.follows;
+      }
+
+  -- the last part of a loop, and the loop again
+  settles_turn : (l : Places) (k : List Todo) (last again : TypedStatement) (leave : ℕ) (next : Option ℕ) (from spot : Spot) (code : Code)
+      → (f : StandsNext src bs n last again leave next from (λ leave' next' c. Follows src bs n k leave' next' c)) → Comes bs spot f.last_spot
+      → Sits bs spot code → Holds n l r g → Settles src p depth bs n r d ws g out code (record { locals = l; todo = before last (before again k) })
+  settles_turn l k last again leave next from spot code f c s h =
+      settles_from code spot f.last_spot _ c s (λ code' s'.
+      here code' f.last_spot _ f.outer_leave f.outer_next f.targets s' h
+      (follows_before src bs n last (before again k) f.outer_leave f.outer_next f.last_spot (Line f.bottom) f.last_coded f.last_fits
+      (follows_before src bs n again k f.outer_leave f.outer_next (Line f.bottom) f.after f.loop_coded f.loop_fits f.rest)))
+
+  pub settles : (m : Mode) (l : Places) (k : List Todo) (leave : ℕ) (next : Option ℕ) (from : Spot) (code : Code) → Seated bs m from leave next code
+      → Targets bs leave next → Follows src bs n k leave next from → Holds n l r g → Settles src p depth bs n r d ws g out code (next_point m l k)
+  settles Going l [] leave next from code s t f h = here code from _ leave next t s h f
+  settles Breaking l [] leave next from code s t f h = here code (Block leave) _ leave next t s h t.leaves
+  settles Continuing l [] leave next from code s t f h = here code (Block s.0) _ leave next t s.2 h (t.continues s.0 s.1)
+  settles Going l (Do (unset x) ∷ k) leave next from code s t f h =
+      settles_from code from f.middle _ (comes_then f.comes (comes_equal bs f.at f.middle f.coded)) s
+      (λ code' s'. settles Going (places_with l x None) k leave next f.middle code' s' t f.rest (holds_unset n l r g x h))
+  settles Going l (Do break_loop ∷ k) leave next from code s t f h =
+      settles_from code from (Block leave) _ (comes_then f.comes (comes_equal bs f.at (Block leave) f.coded)) s
+      (λ code' s'. settles Breaking l k leave next f.middle code' s' t f.rest h)
+  settles Going l (Do continue_loop ∷ k) leave next from code s t f h =
+      let c = f.coded in
+      settles_from code from (Block c.0) _ (comes_then f.comes (comes_equal bs f.at (Block c.0) c.2)) s
+      (λ code' s'. settles Continuing l k leave next f.middle code' (c.0, c.1, s') t f.rest h)
+  settles Going l (Next last again ∷ k) leave next from code s t f h = settles_turn l k last again leave next from from code f f.comes s h
+  settles Going l (Do s ∷ k) leave next from code si t f h = here code from _ leave next t si h f
+  settles Breaking l (Do s ∷ k) leave next from code si t f h = settles Breaking l k leave next f.middle code si t f.rest h
+  settles Breaking l (Next last again ∷ k) leave next from code s t f h =
+      settles_from code (Block leave) f.after _ (comes_join bs leave f.after f.left) s
+      (λ code' s'. settles Going l k f.outer_leave f.outer_next f.after code' s' f.targets f.rest h)
+  settles Continuing l (Do s ∷ k) leave next from code si t f h = settles Continuing l k leave next f.middle code si t f.rest h
+  settles Continuing l (Next last again ∷ k) leave next from code s t f h =
+      settles_turn l k last again leave next from (Block s.0) code f (comes_join bs s.0 f.last_spot (f.continues s.0 s.1)) s.2 h

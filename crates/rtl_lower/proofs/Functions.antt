@@ -1,0 +1,167 @@
+-- From the blocks of functions to those of a program.
+use Rattle.std.proofs.Common.{◌≡◌, ◌≢◌, ℕ, zero, suc, ◌+◌, ◌-◌, ◌<◌, ◌≤◌, List, [], ◌∷◌, ◌++◌, Some, None, refl, sym, ◌∙◌, ap, subst, arith, length}
+use Rattle.std.proofs.Common.{get_or, take, drop}
+use Rattle.std.specs.Prelude.{slice_get, map, replicate}
+use Rattle.std.proofs.Math.Seq.{take-suc, drop-cons}
+use Rattle.words.specs.Words.{wrap}
+use Rattle.words.specs.Widths.{kept}
+use Rattle.words.specs.declared.width.Width.{Width}
+use Rattle.words.specs.declared.width.Width.TheVariants.{Word}
+use Rattle.c_typed.specs.declared.tree.Function.{Function}
+use Rattle.c_typed.specs.declared.tree.Global.{Global}
+use Rattle.c_typed.specs.declared.tree.TypedStatement.{TypedStatement}
+use Rattle.c_typed.specs.Shape.{function_of, functions_of, statement_of, statements_of}
+use Rattle.c_typed.specs.Trees.{TypedFunction, TypedProgram, TypedStatements}
+use Rattle.c_typed.specs.Meaning.{first_words}
+use Rattle.c_typed.specs.WellFormed.{IsWellFormed}
+use Rattle.c_types.specs.Shape.{TypedParts, program_of}
+use Rattle.rtl.specs.Programs as Programs
+use Rattle.rtl.specs.Programs.{Program}
+use Rattle.rtl.specs.Meaning.{Code, first_values}
+use Rattle.rtl.specs.declared.block.RBlock.{RBlock}
+use Rattle.rtl.specs.declared.block.RFunc.{RFunc}
+use Rattle.rtl.specs.declared.block.RGlobal.{RGlobal}
+use Rattle.rtl_emit.specs.Blocks.{Spot, Line, line_of, At, Grows, Reserves, Fills}
+use Rattle.rtl_emit.proofs.Blocks.{grows_then}
+use Rattle.rtl_lower.specs.Correct.{KeepsRuns}
+use Rattle.rtl_lower.specs.Coded.{IsCodeOf, IsGlobalOf, IsCodeOfProgram, AreCodesOf, AreGlobalsOf, CodedAll}
+use Rattle.rtl_lower.proofs.Statements.{Makes, MakesAll, more_code}
+use Rattle.rtl_lower.proofs.Simulation.{keeps_runs}
+
+-- the statements of a list, from the last one on
+
+drop_all : {A : Type 0} (xs : List A) → drop (length xs) xs ≡ []
+drop_all [] = refl
+drop_all (x ∷ xs) = drop_all xs
+
+pub none_done : (bs : List RBlock) (free : ℕ) (all : List TypedStatement) (n leave : ℕ) (next : _) (after : Spot) → n ≡ length all
+    → CodedAll bs free (statements_of (drop n all)) leave next after after
+none_done bs free all n leave next after is =
+    let e : drop n all ≡ [] = ap (λ n. drop n all) is ∙ drop_all all in
+    subst (λ xs. CodedAll bs free (statements_of xs) leave next after after) (sym e) refl
+
+pub one_done : (b0 b1 b2 : List RBlock) (free : ℕ) (all : List TypedStatement) (s : TypedStatement) (k k' j leave : ℕ) (next : _) (from middle after : Spot)
+    → k < length all → k' ≡ k → s ≡ get_or all k' s → j ≡ suc k → Grows b0 b1 → Grows b1 b2
+    → MakesAll b0 b1 free (statements_of (drop j all)) leave next middle after
+    → Makes b1 b2 free (statement_of s) leave next from middle → MakesAll b0 b2 free (statements_of (drop k all)) leave next from after
+one_done b0 b1 b2 free all s k k' j leave next from middle after lt ik is ij g1 g2 mr ms =
+    let cut : drop k all ≡ s ∷ drop j all = drop-cons all k s lt ∙ ap (λ x. x ∷ drop (suc k) all) (sym (is ∙ ap (λ n. get_or all n s) ik))
+    ∙ ap (λ n. s ∷ drop n all) (sym ij) in
+    more_code b0 b1 b2 free (statements_of (drop k all)) (statement_of s) (statements_of (drop j all)) leave next from middle after
+    (ap statements_of cut) g1 g2 mr ms
+
+pub grows_same : (b : List RBlock) → Grows b b
+grows_same b = record { longer = omega arith; kept = λ i lt. refl }
+
+pub all_done : (b0 b1 : List RBlock) (free : ℕ) (all : List TypedStatement) (done leave : ℕ) (next : _) (from after : Spot) → length all ≤ done
+    → MakesAll b0 b1 free (statements_of (drop (length all - done) all)) leave next from after
+    → MakesAll b0 b1 free (statements_of all) leave next from after
+all_done b0 b1 free all done leave next from after past m bs h =
+    let none : length all - done ≡ 0 = omega arith in
+    subst (λ n. CodedAll bs free (statements_of (drop n all)) leave next from after) none (m bs h)
+
+pub function_code : (f : TypedFunction) (r : RFunc) (b0 b1 b2 : List RBlock) (free entry : ℕ) (all : TypedStatements) (filled end : Code) (from : Spot)
+    → free ≡ f.locals → r.parameters ≡ f.parameters → all ≡ f.body → b0 ≡ [] → Reserves b0 b1 entry → MakesAll b1 b2 free all 0 None from (Line end)
+    → filled ≡ line_of from → Fills b2 r.blocks.items entry filled → IsCodeOf f r
+function_code f r b0 b1 b2 free entry all filled end from il ip ib e0 res makes fe f' =
+    let zero_entry : entry ≡ 0 = res.number ∙ ap length e0 in
+    let one : length b1 ≡ 1 = omega (arith, res.longer, ap length e0) in
+    let here = makes r.blocks.items (record { by = λ i low high. let ne : i ≢ entry = omega arith in f'.others i ne }) in
+    record {
+      parameters = ip;
+      entry = from;
+      entry_at = subst (λ c. At r.blocks.items 0 c) fe (subst (λ n. At r.blocks.items n filled) zero_entry f'.at);
+      after = end;
+      body = subst (λ n. CodedAll r.blocks.items n f.body 0 None from (Line end)) il
+          (subst (λ b. CodedAll r.blocks.items free b 0 None from (Line end)) ib here);
+    }
+
+-- globals of words
+
+same_words : (n w : ℕ) → map (λ v. kept Word (wrap v)) (replicate n w) ≡ replicate n (wrap w)
+same_words zero w = refl
+same_words (suc n) w = ap (λ xs. wrap w ∷ xs) (same_words n w)
+
+pub global_code : (g : Global) (r : RGlobal) → r.width ≡ Word → r.first.items ≡ replicate g.length g.first → IsGlobalOf g r
+global_code g r iw is = record {
+  width = iw;
+  first = ap (λ (w : Width). map (λ v. kept w (wrap v)) r.first.items) iw ∙ ap (map (λ v. kept Word (wrap v))) is ∙ same_words g.length g.first;
+}
+
+-- one after another
+
+codes_push : (fs : List TypedFunction) (rs : List RFunc) (f : TypedFunction) (r : RFunc) → AreCodesOf fs rs → IsCodeOf f r
+    → AreCodesOf (fs ++ f ∷ []) (rs ++ r ∷ [])
+codes_push [] [] f r m c = (c, tt)
+codes_push (x ∷ fs) (y ∷ rs) f r m c = (m.0, codes_push fs rs f r m.1 c)
+codes_push [] (y ∷ rs) f r m c = absurd m
+codes_push (x ∷ fs) [] f r m c = absurd m
+
+globals_push : (gs : List Global) (rs : List RGlobal) (g : Global) (r : RGlobal) → AreGlobalsOf gs rs → IsGlobalOf g r
+    → AreGlobalsOf (gs ++ g ∷ []) (rs ++ r ∷ [])
+globals_push [] [] g r m c = (c, tt)
+globals_push (x ∷ gs) (y ∷ rs) g r m c = (m.0, globals_push gs rs g r m.1 c)
+globals_push [] (y ∷ rs) g r m c = absurd m
+globals_push (x ∷ gs) [] g r m c = absurd m
+
+functions-append : (xs ys : List Function) → functions_of (xs ++ ys) ≡ functions_of xs ++ functions_of ys
+functions-append [] ys = refl
+functions-append (x ∷ xs) ys = ap (λ l. function_of x ∷ l) (functions-append xs ys)
+
+pub one_function : (all : List Function) (rs rs' : List RFunc) (i : ℕ) (f : Function) (r : RFunc) → rs' ≡ rs ++ r ∷ [] → i < length all → f ≡ get_or all i f
+    → IsCodeOf (function_of f) r → AreCodesOf (functions_of (take i all)) rs → AreCodesOf (functions_of (take (i + 1) all)) rs'
+one_function all rs rs' i f r e lt is c m =
+    let n : i + 1 ≡ suc i = omega arith in
+    let cut : take (i + 1) all ≡ take i all ++ f ∷ [] = ap (λ n. take n all) n ∙ take-suc all i f lt ∙ ap (λ x. take i all ++ x ∷ []) (sym is) in
+    let names : functions_of (take (i + 1) all) ≡ functions_of (take i all) ++ function_of f ∷ [] = ap functions_of cut
+    ∙ functions-append (take i all) (f ∷ []) in
+    subst (λ fs. AreCodesOf fs rs') (sym names) (subst (λ rs. AreCodesOf (functions_of (take i all) ++ function_of f ∷ []) rs) (sym e)
+    (codes_push (functions_of (take i all)) rs (function_of f) r m c))
+
+pub one_global : (all : List Global) (rs rs' : List RGlobal) (i : ℕ) (g d : Global) (r : RGlobal) → rs' ≡ rs ++ r ∷ [] → i < length all → g ≡ get_or all i d
+    → IsGlobalOf g r → AreGlobalsOf (take i all) rs → AreGlobalsOf (take (i + 1) all) rs'
+one_global all rs rs' i g d r e lt is c m =
+    let n : i + 1 ≡ suc i = omega arith in
+    let cut : take (i + 1) all ≡ take i all ++ g ∷ [] = ap (λ n. take n all) n ∙ take-suc all i d lt ∙ ap (λ x. take i all ++ x ∷ []) (sym is) in
+    subst (λ gs. AreGlobalsOf gs rs') (sym cut) (subst (λ rs. AreGlobalsOf (take i all ++ g ∷ []) rs) (sym e) (globals_push (take i all) rs g r m c))
+
+codes_at : (fs : List TypedFunction) (rs : List RFunc) → AreCodesOf fs rs → (i : ℕ) (f : TypedFunction) → slice_get fs i ≡ Some f
+    → (r : RFunc) × (slice_get rs i ≡ Some r) × IsCodeOf f r
+codes_at [] rs m i f e = cc
+codes_at (x ∷ fs) (y ∷ rs) m zero f e = let is : x ≡ f = cc in (y, refl, subst (λ f. IsCodeOf f y) is m.0)
+codes_at (x ∷ fs) (y ∷ rs) m (suc i) f e = codes_at fs rs m.1 i f e
+codes_at (x ∷ fs) [] m i f e = absurd m
+
+globals_at : (gs : List Global) (rs : List RGlobal) → AreGlobalsOf gs rs → (i : ℕ) (g : Global) → slice_get gs i ≡ Some g
+    → (r : RGlobal) × (slice_get rs i ≡ Some r) × IsGlobalOf g r
+globals_at [] rs m i g e = cc
+globals_at (x ∷ gs) (y ∷ rs) m zero g e = let is : x ≡ g = cc in (y, refl, subst (λ g. IsGlobalOf g y) is m.0)
+globals_at (x ∷ gs) (y ∷ rs) m (suc i) g e = globals_at gs rs m.1 i g e
+globals_at (x ∷ gs) [] m i g e = absurd m
+
+firsts : (gs : List Global) (rs : List RGlobal) → AreGlobalsOf gs rs → map first_values rs ≡ map first_words gs
+firsts [] [] m = refl
+firsts (x ∷ gs) (y ∷ rs) m = ap (λ v. v ∷ map first_values rs) m.0.first ∙ ap (λ l. first_words x ∷ l) (firsts gs rs m.1)
+firsts [] (y ∷ rs) m = absurd m
+firsts (x ∷ gs) [] m = absurd m
+
+pub program_code : (src : TypedProgram) (p : Program) → p.main ≡ src.main → AreCodesOf src.functions p.functions → AreGlobalsOf src.globals p.globals
+    → IsWellFormed src
+    → KeepsRuns src p
+program_code src p em fs gs well = keeps_runs src p
+    (record {
+      main = em;
+      functions = codes_at src.functions p.functions fs;
+      globals = globals_at src.globals p.globals gs;
+      first = firsts src.globals p.globals gs;
+    })
+    well
+
+pub program_made : (parts : TypedParts) (fs : List Function) (gs : List Global) (rfs : List RFunc) (rgs : List RGlobal) (m : ℕ) (p : Program)
+    → p ≡ Programs.program_of rfs rgs m → m ≡ parts.main → fs ≡ parts.functions → gs ≡ parts.globals → AreCodesOf (functions_of fs) rfs
+    → AreGlobalsOf gs rgs
+    → IsWellFormed (program_of parts) → KeepsRuns (program_of parts) p
+program_made parts fs gs rfs rgs m p ip im ifs igs cs ds well =
+    subst (λ p. KeepsRuns (program_of parts) p) (sym ip)
+    (program_code (program_of parts) (Programs.program_of rfs rgs m) im (subst (λ fs. AreCodesOf (functions_of fs) rfs) ifs cs)
+    (subst (λ gs. AreGlobalsOf gs rgs) igs ds) well)

@@ -1,0 +1,5 @@
+pub mod Spots
+pub mod Statements
+pub mod Follows
+pub mod Simulation
+pub mod Functions

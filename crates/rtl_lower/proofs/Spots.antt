@@ -1,0 +1,54 @@
+-- Spots: where code is, and jumps from one to another.
+use Rattle.std.proofs.Common.{◌≡◌, ◌≢◌, ℕ, suc, ◌+◌, ◌<◌, List, ◌⊎◌, inl, inr, Option, Some, None, refl, sym, ◌∙◌, ap, subst, arith}
+use Rattle.runs.specs.Stores.{Places, Arrays}
+use Rattle.rtl.specs.Programs.{Program}
+use Rattle.rtl.specs.Meaning.{Code, Frame, code_of}
+use Rattle.rtl.specs.declared.block.RBlock.{RBlock}
+use Rattle.rtl_emit.specs.Blocks.{goto, Spot, Block, Line, line_of, Lands, At}
+use Rattle.rtl_emit.specs.Runs.{at_code, Goes}
+use Rattle.rtl_emit.proofs.Steps.{goes_nowhere, goes_then, joins}
+use Rattle.rtl_lower.specs.Coded.{Sits, IsThere, Comes, IsTurn}
+
+-- the code of a block is one
+pub at_unique : {bs : List RBlock} {b : ℕ} {c c' : Code} → At bs b c → At bs b c' → c ≡ c'
+at_unique {bs} {b} x y =
+    let e : Some x.block ≡ Some y.block = sym x.there ∙ y.there in
+    let same : x.block ≡ y.block = cc in
+    sym x.is ∙ ap code_of same ∙ y.is
+
+pub lands_sits : {bs : List RBlock} (b : ℕ) (s : Spot) (c : Code) → Lands bs b s → At bs b c → Sits bs s c
+lands_sits {bs} b (Block b') c l a = inr (subst (λ b. At bs b c) l a)
+lands_sits {bs} b (Line c') c l a = at_unique a l
+
+pub sits_there : (bs : List RBlock) (s : Spot) → Sits bs s (line_of s)
+sits_there bs (Block b) = inl refl
+sits_there bs (Line c) = refl
+
+-- a block that begins at a spot that is there
+pub lands_there : {bs : List RBlock} (b : ℕ) (s : Spot) → Lands bs b s → IsThere bs s → IsThere bs (Block b)
+lands_there {bs} b (Block b') l t = (t.0, subst (λ b. At bs b t.0) (sym l) t.1)
+lands_there {bs} b (Line c) l t = (c, l)
+
+pub comes_equal : (bs : List RBlock) (from to : Spot) → from ≡ to → Comes bs from to
+comes_equal bs from to e = subst (λ s. Comes bs from s) e (record { there = λ t. t; by = λ c s p depth r d ws g out. (c, s, goes_nowhere p depth _) })
+
+pub comes_join : (bs : List RBlock) (b : ℕ) (s : Spot) → Lands bs b s → Comes bs (Block b) s
+comes_join bs b s l = record { there = λ t. lands_there b s l t; by = λ c si p depth r d ws g out. by c si p depth r d ws g out }
+  where
+    by : (c : Code) → (c ≡ goto b) ⊎ At bs b c → (p : Program) (depth : ℕ) (r : Places) (d : Option ℕ) (ws : List Frame) (g : Arrays) (out : List ℕ)
+        → (c' : Code) × Sits bs s c' × Goes p depth (at_code bs r c d ws g out) (at_code bs r c' d ws g out)
+    by c (inl e) p depth r d ws g out = (
+      line_of s,
+      sits_there bs s,
+      subst (λ c. Goes p depth (at_code bs r c d ws g out) (at_code bs r (line_of s) d ws g out)) (sym e) (joins b s l r d ws g out),
+    )
+    by c (inr at) p depth r d ws g out = (c, lands_sits b s c l at, goes_nowhere p depth _)
+
+pub comes_then : {bs : List RBlock} {from mid to : Spot} → Comes bs from mid → Comes bs mid to → Comes bs from to
+comes_then a b = record {
+  there = λ t. a.there (b.there t);
+  by = λ c s p depth r d ws g out.
+      let x = a.by c s p depth r d ws g out in
+      let y = b.by x.0 x.1 p depth r d ws g out in
+      (y.0, y.1, goes_then x.2 y.2);
+}

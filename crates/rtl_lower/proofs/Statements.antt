@@ -1,0 +1,263 @@
+-- From what the parts of a statement have emitted to the whole: one lemma for each kind.
+use Rattle.std.proofs.Common.{Vec, Global, ◌≡◌, ◌≢◌, ℕ, ◌+◌, ◌<◌, ◌≤◌, List, [], ◌∷◌, ◌++◌, Option, Some, None, refl, sym, ◌∙◌, ap, subst, arith, length}
+use Rattle.std.specs.Prelude.{map, slice_get}
+use Rattle.runs.specs.Runs.{with_value}
+use Rattle.c_typed.specs.declared.tree.Destination.{Destination}
+use Rattle.c_typed.specs.declared.tree.Destination.TheVariants.{Local, Global as Variable}
+use Rattle.c_typed.specs.Trees.{TypedExpression, TypedStatement, TypedStatements, block, assign, store, call, output, if_else, loop, return_with}
+use Rattle.c_typed.specs.Trees.{no_statements, more_statements}
+use Rattle.rtl.specs.declared.instruction.RExit.{RExit}
+use Rattle.rtl.specs.declared.instruction.RInst.TheVariants as I
+use Rattle.rtl.specs.declared.instruction.RExit.TheVariants as X
+use Rattle.rtl.specs.declared.block.RBlock.{RBlock}
+use Rattle.rtl.specs.Meaning.{Code, code_of, words_in, state_after_call}
+use Rattle.rtl_emit.specs.Blocks.{exit_code, first, Spot, Block, Line, line_of, Lands, Grows, Has, At, Reserves, Fills}
+use Rattle.rtl_emit.specs.Expressions.{IsPlace, ArePlaces, AddPlaces, FetchAll}
+use Rattle.rtl_emit.specs.declared.place.Place.{Place}
+use Rattle.rtl_emit.proofs.Blocks.{grows_then, split2, split5, split6}
+use Rattle.rtl_emit.proofs.Emitted.{Over, Joins, Gives, Finds, Ways, finds_to, at_equal}
+use Rattle.rtl_lower.specs.Coded.{put_code, Leaves, Exits, PutsResult, Receives, IsTurn, Coded, CodedAll}
+use Rattle.rtl_lower.proofs.Spots.{comes_equal, comes_join}
+
+-- what was emitted for a statement
+abbrev pub Makes : List RBlock → List RBlock → ℕ → TypedStatement → (leave : ℕ) (next : Option ℕ) → Spot → Spot → Type 0
+Makes old new free s leave next from after = (bs : List RBlock) → Has bs old new → Coded bs free s leave next from after
+
+abbrev pub MakesAll : List RBlock → List RBlock → ℕ → TypedStatements → (leave : ℕ) (next : Option ℕ) → Spot → Spot → Type 0
+MakesAll old new free all leave next from after = (bs : List RBlock) → Has bs old new → CodedAll bs free all leave next from after
+
+-- wherever `break` and `continue` lead
+abbrev pub MakesSimply : List RBlock → List RBlock → ℕ → TypedStatement → Spot → Spot → Type 0
+MakesSimply old new free s from after = (leave : ℕ) (next : Option ℕ) → Makes old new free s leave next from after
+
+pub coded_equal : (bs : List RBlock) (free : ℕ) (s s' : TypedStatement) (leave : ℕ) (next : Option ℕ) (from after : Spot) → s ≡ s'
+    → Coded bs free s' leave next from after → Coded bs free s leave next from after
+coded_equal bs free s s' leave next from after e c = subst (λ s. Coded bs free s leave next from after) (sym e) c
+
+pub simply_code : (b0 b1 : List RBlock) (free : ℕ) (s s' : TypedStatement) (leave : ℕ) (next : Option ℕ) (from after : Spot) → s ≡ s'
+    → MakesSimply b0 b1 free s' from after → Makes b0 b1 free s leave next from after
+simply_code b0 b1 free s s' leave next from after e m bs h = coded_equal bs free s s' leave next from after e (m leave next bs h)
+
+pub block_code : (b0 b1 : List RBlock) (free : ℕ) (s : TypedStatement) (all all' : TypedStatements) (leave : ℕ) (next : Option ℕ) (from after : Spot)
+    → s ≡ block all → all' ≡ all → MakesAll b0 b1 free all' leave next from after → Makes b0 b1 free s leave next from after
+block_code b0 b1 free s all all' leave next from after e ia m bs h =
+    coded_equal bs free s (block all') leave next from after (e ∙ ap block (sym ia)) (m bs h)
+
+-- one more statement in front
+pub more_code : (b0 b1 b2 : List RBlock) (free : ℕ) (all : TypedStatements) (s : TypedStatement) (rest : TypedStatements) (leave : ℕ) (next : Option ℕ)
+    (from middle after : Spot) → all ≡ more_statements s rest → Grows b0 b1 → Grows b1 b2 → MakesAll b0 b1 free rest leave next middle after
+    → Makes b1 b2 free s leave next from middle → MakesAll b0 b2 free all leave next from after
+more_code b0 b1 b2 free all s rest leave next from middle after is g1 g2 mr ms bs h =
+    let sp = split2 bs b0 b1 b2 g1 g2 h in
+    subst (λ all. CodedAll bs free all leave next from after) (sym is) (middle, ms bs sp.1, mr bs sp.0)
+
+pub assign_code : (b0 b1 : List RBlock) (free : ℕ) (to : Destination) (x x' : ℕ) (e : TypedExpression) (code : Code) (after : Spot) → to ≡ Local x → x' ≡ x
+    → Gives b0 b1 e free x' code (line_of after) → MakesSimply b0 b1 free (assign to e) (Line code) after
+assign_code b0 b1 free to x x' e code after is ix ge leave next bs h =
+    coded_equal bs free (assign to e) (assign (Local x') e) leave next (Line code) after (ap (λ to. assign to e) (is ∙ ap Local (sym ix)))
+    (record { code = code; is = refl; value = ge bs h })
+
+pub put_code_code : (b0 b1 : List RBlock) (free : ℕ) (to : Destination) (x x' : ℕ) (e : TypedExpression) (p next_free z : ℕ) (code last middle : Code)
+    (after : Spot)
+    → to ≡ Variable x → x' ≡ x → z ≡ next_free → last ≡ first (I.Store x' z p) (line_of after) → middle ≡ first (I.Const z 0) last
+    → IsPlace e free p next_free
+    → Finds b0 b1 e free p code middle → MakesSimply b0 b1 free (assign to e) (Line code) after
+put_code_code b0 b1 free to x x' e p next_free z code last middle after is ix iz fl fm pl f leave next bs h =
+    coded_equal bs free (assign to e) (assign (Variable x') e) leave next (Line code) after (ap (λ to. assign to e) (is ∙ ap Variable (sym ix))) (record {
+      code = code;
+      is = refl;
+      p = p;
+      next = next_free;
+      z = z;
+      is_place = pl;
+      spare = omega arith;
+      value = finds_to (fm ∙ ap (first (I.Const z 0)) fl) (f bs h);
+    })
+
+pub store_code : (b0 b1 b2 : List RBlock) (free : ℕ) (a a' : ℕ) (i e : TypedExpression) (p next_free q last : ℕ) (code middle after' : Code) (after : Spot)
+    → a' ≡ a → after' ≡ first (I.Store a' p q) (line_of after) → IsPlace i free p next_free → IsPlace e next_free q last → Grows b0 b1 → Grows b1 b2
+    → Finds b0 b1 e next_free q middle after' → Finds b1 b2 i free p code middle → MakesSimply b0 b2 free (store a i e) (Line code) after
+store_code b0 b1 b2 free a a' i e p next_free q last code middle after' after ia fe pi pe g1 g2 fb fa leave next bs h =
+    let sp = split2 bs b0 b1 b2 g1 g2 h in
+    coded_equal bs free (store a i e) (store a' i e) leave next (Line code) after (ap (λ a. store a i e) (sym ia)) (record {
+      code = code;
+      is = refl;
+      p = p;
+      q = q;
+      next = next_free;
+      last = last;
+      index_place = pi;
+      value_place = pe;
+      middle = middle;
+      index = fa bs sp.1;
+      value = finds_to fe (fb bs sp.0);
+    })
+
+-- an exit by a value
+pub leaves_code : (b0 b1 : List RBlock) (free next_free : ℕ) (e : TypedExpression) (p : ℕ) (exit : ℕ → RExit) (code end : Code) → end ≡ exit_code (exit p)
+    → IsPlace e free p next_free → Finds b0 b1 e free p code end → Over b0 b1 (λ bs. Leaves bs free e (Line code) exit)
+leaves_code b0 b1 free next_free e p exit code end fe pl f bs h =
+    record { code = code; is = refl; p = p; next = next_free; is_place = pl; value = finds_to fe (f bs h) }
+
+pub return_code : (b0 b1 : List RBlock) (free next_free : ℕ) (e : TypedExpression) (p : ℕ) (code end : Code) → end ≡ exit_code (X.Return (Some p))
+    → IsPlace e free p next_free → Finds b0 b1 e free p code end
+    → (leave : ℕ) (next : Option ℕ) (after : Spot) → Makes b0 b1 free (return_with (Some e)) leave next (Line code) after
+return_code b0 b1 free next_free e p code end fe pl f leave next after bs h =
+    leaves_code b0 b1 free next_free e p (λ p. X.Return (Some p)) code end fe pl f bs h
+
+pub output_code : (b0 b1 b2 : List RBlock) (free next_free : ℕ) (e : TypedExpression) (p : ℕ) (code end : Code) (after : Spot) (goes_on : ℕ)
+    → end ≡ exit_code (X.Out p goes_on) → IsPlace e free p next_free → Grows b0 b1 → Grows b1 b2 → Joins b0 b1 goes_on after
+    → Finds b1 b2 e free p code end
+    → MakesSimply b0 b2 free (output e) (Line code) after
+output_code b0 b1 b2 free next_free e p code end after goes_on fe pl g1 g2 s1 f leave next bs h =
+    let sp = split2 bs b0 b1 b2 g1 g2 h in
+    record { block = goes_on; lands = s1 bs sp.0; leaves = leaves_code b1 b2 free next_free e p (λ p. X.Out p goes_on) code end fe pl f bs sp.1 }
+
+-- where a result goes
+
+abbrev pub Places : List RBlock → List RBlock → ℕ → Option Destination → Option ℕ → ℕ → Spot → Type 0
+Places old new free place to goes_on after = (bs : List RBlock) → Has bs old new → Receives bs free place to goes_on after
+
+pub nowhere_code : (b0 b1 : List RBlock) (free : ℕ) (place : Option Destination) (goes_on : ℕ) (after : Spot) → place ≡ None
+    → Joins b0 b1 goes_on after
+    → Places b0 b1 free place None goes_on after
+nowhere_code b0 b1 free place goes_on after is j bs h = subst (λ pl. Receives bs free pl None goes_on after) (sym is) (refl, j bs h)
+
+pub to_local_code : (b0 b1 : List RBlock) (free : ℕ) (place : Option Destination) (x x' goes_on : ℕ) (after : Spot) → place ≡ Some (Local x) → x' ≡ x
+    → Joins b0 b1 goes_on after → Places b0 b1 free place (Some x') goes_on after
+to_local_code b0 b1 free place x x' goes_on after is ix j bs h =
+    subst (λ pl. Receives bs free pl (Some x') goes_on after) (sym (is ∙ ap (λ x. Some (Local x)) (sym ix))) (refl, j bs h)
+
+pub to_global_code : (b0 b1 : List RBlock) (free : ℕ) (place : Option Destination) (x x' t z goes_on : ℕ) (last code : Code) (after : Spot)
+    → place ≡ Some (Variable x) → x' ≡ x → t ≡ free → z ≡ t + 1 → last ≡ first (I.Store x' z t) (line_of after) → code ≡ first (I.Const z 0) last
+    → Joins b0 b1 goes_on (Line code) → Places b0 b1 free place (Some t) goes_on after
+to_global_code b0 b1 free place x x' t z goes_on last code after is ix it iz fl fc j bs h =
+    let here : PutsResult bs free x' (Some t) goes_on after = record {
+      t = t;
+      z = z;
+      is = refl;
+      low = omega arith;
+      apart = omega arith;
+      there = at_equal (fc ∙ ap (first (I.Const z 0)) fl) (j bs h);
+    } in
+    subst (λ pl. Receives bs free pl (Some t) goes_on after) (sym (is ∙ ap (λ x. Some (Variable x)) (sym ix))) here
+
+pub call_code : (b0 b1 b2 : List RBlock) (free : ℕ) (place : Option Destination) (f f' : ℕ) (to : Option ℕ) (es : List TypedExpression)
+    (places0 places ps1 ps2 : List Place) (args : Vec ℕ Global) (code end : Code) (after : Spot) (goes_on : ℕ) → f' ≡ f → places0 ≡ []
+    → AddPlaces es free places0 places → ps1 ≡ places → ps2 ≡ places → args.items ≡ map (λ p. p.register) ps1 → end
+    ≡ exit_code (X.Call f' args to goes_on)
+    → Grows b0 b1 → Grows b1 b2 → Places b0 b1 free place to goes_on after → Over b1 b2 (λ bs. FetchAll bs es free ps2 code end)
+    → MakesSimply b0 b2 free (call place f es) (Line code) after
+call_code b0 b1 b2 free place f f' to es places0 places ps1 ps2 args code end after goes_on ig i0 ad ip1 ip2 ia fe g1 g2 s1 v leave next bs h =
+    let sp = split2 bs b0 b1 b2 g1 g2 h in
+    let all : places ≡ ad.0 = ad.1 ∙ ap (λ l. l ++ ad.0) i0 in
+    let regs : args.items ≡ map (λ p. p.register) ad.0 = ia ∙ ap (map (λ p. p.register)) (ip1 ∙ all) in
+    let exit = X.Call f' args to goes_on in
+    let values : FetchAll bs es free ad.0 code (exit_code exit) =
+    subst (λ ps. FetchAll bs es free ps code (exit_code exit)) (ip2 ∙ all) (subst (λ c. FetchAll bs es free ps2 code c) fe (v bs sp.1)) in
+    coded_equal bs free (call place f es) (call place f' es) leave next (Line code) after (ap (λ f. call place f es) (sym ig)) (record {
+      code = code;
+      is = refl;
+      to = to;
+      block = goes_on;
+      receives = s1 bs sp.0;
+      places = ad.0;
+      are_places = ad.2;
+      exit = exit;
+      leaves = λ p depth r d ws g out. ap (λ l. with_value (words_in r l) out (λ vs. with_value (slice_get bs goes_on) out (λ b.
+          state_after_call p depth f' vs to (record { blocks = bs; registers = r; code = code_of b; result_to = d } ∷ ws) g out))) regs;
+      values = values;
+    })
+
+pub if_code : (b0 b1 b2 b3 b4 b5 b6 : List RBlock) (free : ℕ) (s : TypedStatement) (e : TypedExpression) (a b a' b' : TypedStatement) (leave : ℕ)
+    (next : Option ℕ)
+    (code : Code) (after a_spot b_spot : Spot) (join a_block b_block : ℕ) → s ≡ if_else e a b → a' ≡ a → b' ≡ b
+    → Grows b0 b1 → Grows b1 b2 → Grows b2 b3 → Grows b3 b4 → Grows b4 b5 → Grows b5 b6
+    → Joins b0 b1 join after → Makes b1 b2 free a' leave next a_spot (Block join) → Joins b2 b3 a_block a_spot
+    → Makes b3 b4 free b' leave next b_spot (Block join)
+    → Joins b4 b5 b_block b_spot → Ways b5 b6 e free a_block b_block code → Makes b0 b6 free s leave next (Line code) after
+if_code b0 b1 b2 b3 b4 b5 b6 free s e a b a' b' leave next code after a_spot b_spot join a_block b_block is ia ib g1 g2 g3 g4 g5 g6 s1 ma s3 mb s5 ge bs h =
+    let sp = split6 bs b0 b1 b2 b3 b4 b5 b6 g1 g2 g3 g4 g5 g6 h in
+    coded_equal bs free s (if_else e a b) leave next (Line code) after is (record {
+      code = code;
+      is = refl;
+      join = join;
+      joined = s1 bs sp.0;
+      a = a_block;
+      a_spot = a_spot;
+      a_lands = s3 bs sp.2;
+      a_for = coded_equal bs free a a' leave next a_spot (Block join) (sym ia) (ma bs sp.1);
+      b = b_block;
+      b_spot = b_spot;
+      b_lands = s5 bs sp.4;
+      b_for = coded_equal bs free b b' leave next b_spot (Block join) (sym ib) (mb bs sp.3);
+      test = ge bs sp.5;
+    })
+
+-- the end of a turn
+pub turn_block : (b0 b1 : List RBlock) (b : ℕ) (last : Spot) → Joins b0 b1 b last → Over b0 b1 (λ bs. IsTurn bs (Some b) (Block b) last)
+turn_block b0 b1 b last l bs h = record {
+  comes = comes_join bs b last (l bs h);
+  continues = λ b' e. let is : b
+      ≡ b' = cc in subst (λ b. Lands bs b last) is (l bs h);
+}
+
+pub turn_on : (bs : List RBlock) (last : Spot) → IsTurn bs None last last
+turn_on bs last = record { comes = comes_equal bs last last refl; continues = λ b e. cc }
+
+-- before the block that was filled
+has_before : (bs b0 b1 b7 b8 : List RBlock) (head : ℕ) (c : Code) → Grows b1 b7 → length b1 ≤ head → Fills b7 b8 head c → Has bs b0 b8 → Has bs b0 b1
+has_before bs b0 b1 b7 b8 head c g le f h = record {
+  by = λ i low high.
+      let ne : i ≢ head = omega arith in
+      h.by i low (omega (arith, f.same_length, g.longer)) ∙ f.others i ne ∙ g.kept i high;
+}
+
+-- after it
+has_past : (bs b0 b2 b7 b8 : List RBlock) (head : ℕ) (c : Code) → length b0 ≤ length b2 → head < length b2 → Fills b7 b8 head c → Has bs b0 b8
+    → Has bs b2 b7
+has_past bs b0 b2 b7 b8 head c le lt f h = record {
+  by = λ i low high.
+      let ne : i ≢ head = omega arith in
+      h.by i (omega arith) (omega (arith, f.same_length)) ∙ f.others i ne;
+}
+
+at_filled : (bs b0 b7 b8 : List RBlock) (head : ℕ) (c : Code) → length b0 ≤ head → head < length b8 → Fills b7 b8 head c → Has bs b0 b8 → At bs head c
+at_filled bs b0 b7 b8 head c le lt f h = let a = f.at in record { block = a.block; there = h.by head le lt ∙ a.there; is = a.is }
+
+pub loop_code : (b0 b1 b2 b3 b4 b5 b6 b7 b8 : List RBlock) (free : ℕ) (s : TypedStatement) (e : TypedExpression) (l b l' b' : TypedStatement) (leave : ℕ)
+    (next next' : Option ℕ) (top bottom filled : Code) (after last_spot turn body_spot : Spot) (left head : ℕ)
+    → s ≡ loop e l b → l' ≡ l → b' ≡ b → filled ≡ line_of body_spot
+    → Grows b0 b1 → Reserves b1 b2 head → Grows b2 b3 → Grows b3 b4 → Grows b4 b5 → Grows b5 b6 → Grows b6 b7 → Fills b7 b8 head filled
+    → Joins b0 b1 left after → Ways b2 b3 e free head left bottom → Makes b3 b4 free l' leave next last_spot (Line bottom)
+    → Over b4 b5 (λ bs. IsTurn bs next' turn last_spot) → Makes b5 b6 free b' left next' body_spot turn → Ways b6 b7 e free head left top
+    → Makes b0 b8 free s leave next (Line top) after
+loop_code b0 b1 b2 b3 b4 b5 b6 b7 b8 free s e l b l' b' leave next next' top bottom filled after last_spot turn body_spot left head is il ib e1 g1 r
+    g3 g4 g5 g6 g7 f s1 wb ml tu mb wt bs h =
+    let g67 = grows_then b5 b6 b7 g6 g7 in
+    let g57 = grows_then b4 b5 b7 g5 g67 in
+    let g47 = grows_then b3 b4 b7 g4 g57 in
+    let g37 = grows_then b2 b3 b7 g3 g47 in
+    let g27 = grows_then b1 b2 b7 r.grows g37 in
+    let low : length b0 ≤ head = omega (arith, g1.longer, r.number) in
+    let in_b2 : head < length b2 = omega (arith, r.number, r.longer) in
+    let h2 = has_past bs b0 b2 b7 b8 head filled (omega (arith, g1.longer, r.longer)) in_b2 f h in
+    let sp = split5 bs b2 b3 b4 b5 b6 b7 g3 g4 g5 g6 g7 h2 in
+    coded_equal bs free s (loop e l b) leave next (Line top) after is (record {
+      leave = left;
+      left = s1 bs (has_before bs b0 b1 b7 b8 head filled g27 (omega (arith, r.number)) f h);
+      next = next';
+      body = head;
+      body_spot = body_spot;
+      body_at = subst (λ c. At bs head c) e1 (at_filled bs b0 b7 b8 head filled low (omega (arith, f.same_length, g37.longer)) f h);
+      turn = turn;
+      body_for = coded_equal bs free b b' left next' body_spot turn (sym ib) (mb bs sp.3);
+      last_spot = last_spot;
+      is_turn = tu bs sp.2;
+      bottom = bottom;
+      last_for = coded_equal bs free l l' leave next last_spot (Line bottom) (sym il) (ml bs sp.1);
+      again = wb bs sp.0;
+      top = top;
+      is = refl;
+      test = wt bs sp.4;
+    })

@@ -1,0 +1,5 @@
+use Rattle.rtl_lower.proofs.Statements.{turn_block, turn_on}
+use Rattle.rtl_lower.proofs.statement.turn_to.Goals as goal
+
+pub returns-in_ok-block-clause-turn : goal.returns-in_ok-block-clause-turn
+returns-in_ok-block-clause-turn c = turn_block _ _ _ _ c.in_ok-block.ensures.lands

@@ -1,0 +1,4 @@
+-- to believe
+pub mod Correct
+-- words of private functions
+pub mod Coded
