@@ -4,12 +4,14 @@
 //! - `check`: the longest check text against one of an eighth of it
 //! - `front`: the reader on 1 MiB of C against 64 KiB; `front ifs N` and `front parens N` read N nested statements or
 //!   parentheses, to see what stack they take
-//! - `run`: C programs of some million steps
+//! - `lower`: lowering 1 MiB of C against 64 KiB; `lower FILE..` says what each file is lowered to
+//! - `run`: C programs of some million steps, by the interpreter and lowered
 //! - `table`: interns a second by 1, 2 and 4 threads
 #![tactic(auto)]
 
 mod checks;
 mod fronts;
+mod lowers;
 mod programs;
 mod tables;
 mod worker;
@@ -22,6 +24,7 @@ fn main(rt: HostRuntime) -> anyhow::Result<()> {
     let Some(figure) = words.first() else {
         checks::show(&rt, false)?;
         fronts::show(&rt, false)?;
+        lowers::show(&rt, false)?;
         programs::show(&rt, false)?;
         return tables::show(&rt, false);
     };
@@ -31,8 +34,13 @@ fn main(rt: HostRuntime) -> anyhow::Result<()> {
             (Some(shape), Some(depth)) => fronts::nested(&rt, shape.as_str(), depth.parse()?),
             _ => fronts::show(&rt, true),
         },
+        "lower" => match words.as_slice() {
+            [_] => lowers::show(&rt, true),
+            [_, names @ ..] => lowers::files(&rt, names),
+            [] => Ok(()),
+        },
         "run" => programs::show(&rt, true),
         "table" => tables::show(&rt, true),
-        _ => bail!("the words are check, front, run and table"),
+        _ => bail!("the words are check, front, lower, run and table"),
     }
 }

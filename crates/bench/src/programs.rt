@@ -2,7 +2,8 @@
 
 use c_front::read;
 use c_run::run;
-use c_types::check;
+use c_types::{Typed, check};
+use rtl_lower::lower;
 use runs::End;
 use std::alloc::{AllocError, Global};
 use std::fmt::Write;
@@ -39,6 +40,20 @@ fn program_text(
     Ok(text)
 }
 
+/// The same of the program lowered to RTL.
+fn show_lowered(rt: &HostRuntime, typed: &Typed, figures: bool) -> anyhow::Result<()> {
+    let lowered = lower(rt.alloc(), typed)?;
+    let start = Instant::now(rt)?;
+    let ran = rtl::run(rt.alloc(), &lowered, 2, u64::MAX)?;
+    let took = start.elapsed(rt)?;
+    let done = ran.end == End::Done(0);
+    println!(rt; "  lowered: done {done}, {} words out", ran.output.len())?;
+    if figures {
+        println!(rt; "  {} microseconds", took.as_micros())?;
+    }
+    Ok(())
+}
+
 /// What each program comes to, and with figures how long the run took.
 pub(crate) fn show(rt: &HostRuntime, figures: bool) -> anyhow::Result<()> {
     let alloc = rt.alloc();
@@ -57,6 +72,7 @@ pub(crate) fn show(rt: &HostRuntime, figures: bool) -> anyhow::Result<()> {
         if figures {
             println!(rt; "  {} microseconds", took.as_micros())?;
         }
+        show_lowered(rt, &typed, figures)?;
     }
     Ok(())
 }

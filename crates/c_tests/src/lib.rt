@@ -1,5 +1,6 @@
 //! Worked C texts: their faults with their offsets, sizes at their limits, the deepest legal texts, refused memory, and
-//! what programs come to: each operator at its edges, arrays of bytes, and statements with their steps.
+//! what programs come to, and what they are lowered to: each operator at its edges, arrays of bytes, and statements with
+//! their steps.
 #![tactic(auto)]
 
 #[cfg(test)]
@@ -16,8 +17,6 @@ mod program_sizes;
 mod programs;
 #[cfg(test)]
 mod refused_memory;
-#[cfg(test)]
-mod runs_of_texts;
 #[cfg(test)]
 mod sources;
 #[cfg(test)]

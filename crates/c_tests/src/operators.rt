@@ -1,6 +1,6 @@
 // Operators at their edges. The expected words are C's own.
 
-use crate::runs_of_texts::comes_to;
+use crate::sources::comes_to;
 use runs::End;
 use std::alloc::{AllocError, Global};
 use std::process::Abort;
@@ -129,8 +129,8 @@ fn spelled(alloc: Global, sign: Sign, word: u32) -> Result<String, AllocError> {
 fn gives(rt: &impl Abort, alloc: Global, e: &str, want: Option<u32>) -> Result<(), AllocError> {
     let text = format!(in alloc; "int main(void) {{ out({e}); return 0; }}")?;
     match want {
-        Some(word) => comes_to(rt, alloc, &text, 1, 2, End::Done(0), &[word]),
-        None => comes_to(rt, alloc, &text, 1, 2, End::Wrong, &[]),
+        Some(word) => comes_to(rt, alloc, text.as_bytes(), 1, 2, End::Done(0), &[word]),
+        None => comes_to(rt, alloc, text.as_bytes(), 1, 2, End::Wrong, &[]),
     }
 }
 

@@ -3,6 +3,7 @@
 use c_front::read;
 use c_run::run;
 use c_types::check;
+use rtl_lower::lower;
 use runs::End;
 use std::alloc::{AllocError, Global};
 use std::test::Fail;
@@ -33,7 +34,7 @@ fn nest(alloc: Global, statement: &[u8], loops: usize) -> Result<Vec<u8>, AllocE
     around(alloc, full.as_slice(), b"}", 128, b"")
 }
 
-// The end of a text's program; More where the text has a fault.
+// The end of a text's program, which is that of what it is lowered to; More where the text has a fault.
 fn end(alloc: Global, text: &[u8]) -> End {
     let Ok(program) = read(alloc, text) else {
         return End::More;
@@ -41,9 +42,16 @@ fn end(alloc: Global, text: &[u8]) -> End {
     let Ok(typed) = check(alloc, program) else {
         return End::More;
     };
-    match run(alloc, &typed, 1, 1_000_000) {
-        Ok(ran) => ran.end,
-        Err(_) => End::More,
+    let Ok(lowered) = lower(alloc, &typed) else {
+        return End::More;
+    };
+    match (run(alloc, &typed, 1, 1_000_000), rtl::run(alloc, &lowered, 1, 16_000_000)) {
+        (Ok(source), Ok(ran)) => if source.end == ran.end {
+            ran.end
+        } else {
+            End::Wrong
+        },
+        _ => End::More,
     }
 }
 

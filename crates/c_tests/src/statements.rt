@@ -1,6 +1,6 @@
 // Statements, the steps that they take, and calls.
 
-use crate::runs_of_texts::comes_to;
+use crate::sources::comes_to;
 use runs::End;
 use std::test::Fail;
 
@@ -22,13 +22,13 @@ fn loops(rt: HostRuntime) -> Result<(), Fail> {
         (19, End::Done(0), 3),
         (1000, End::Done(0), 3),
     ] {
-        comes_to(&rt, alloc, TURNS, 1, steps, end, &[0u32, 2, 99][..outputs])?;
+        comes_to(&rt, alloc, TURNS.as_bytes(), 1, steps, end, &[0u32, 2, 99][..outputs])?;
     }
     // a test that isn't there is a step like any
     let ever = "int main(void) { for (;;) out(1); }";
-    comes_to(&rt, alloc, ever, 1, 5, End::More, &[1, 1])?;
-    comes_to(&rt, alloc, ever, 1, 6, End::More, &[1, 1, 1])?;
-    comes_to(&rt, alloc, ever, 1, 7, End::More, &[1, 1, 1])?;
+    comes_to(&rt, alloc, ever.as_bytes(), 1, 5, End::More, &[1, 1])?;
+    comes_to(&rt, alloc, ever.as_bytes(), 1, 6, End::More, &[1, 1, 1])?;
+    comes_to(&rt, alloc, ever.as_bytes(), 1, 7, End::More, &[1, 1, 1])?;
     Ok(())
 }
 
@@ -39,20 +39,20 @@ const NESTED: &str = "int g = 9; \
 #[test]
 fn calls(rt: HostRuntime) -> Result<(), Fail> {
     let alloc = rt.alloc();
-    comes_to(&rt, alloc, NESTED, 5, 1000, End::Done(5), &[7, 3])?;
-    comes_to(&rt, alloc, NESTED, 4, 1000, End::Wrong, &[7])?;
+    comes_to(&rt, alloc, NESTED.as_bytes(), 5, 1000, End::Done(5), &[7, 3])?;
+    comes_to(&rt, alloc, NESTED.as_bytes(), 4, 1000, End::Wrong, &[7])?;
     // out, four calls, four tests, four returns, out, return
-    comes_to(&rt, alloc, NESTED, 5, 15, End::Done(5), &[7, 3])?;
-    comes_to(&rt, alloc, NESTED, 5, 14, End::More, &[7, 3])?;
-    comes_to(&rt, alloc, NESTED, 5, 13, End::More, &[7])?;
+    comes_to(&rt, alloc, NESTED.as_bytes(), 5, 15, End::Done(5), &[7, 3])?;
+    comes_to(&rt, alloc, NESTED.as_bytes(), 5, 14, End::More, &[7, 3])?;
+    comes_to(&rt, alloc, NESTED.as_bytes(), 5, 13, End::More, &[7])?;
     // the end of a function that returns no word
     let falls = "int f(void) {} int main(void) { f(); return 0; }";
-    comes_to(&rt, alloc, falls, 2, 1, End::More, &[])?;
-    comes_to(&rt, alloc, falls, 2, 2, End::Wrong, &[])?;
+    comes_to(&rt, alloc, falls.as_bytes(), 2, 1, End::More, &[])?;
+    comes_to(&rt, alloc, falls.as_bytes(), 2, 2, End::Wrong, &[])?;
     // a return without a word
     let quiet = "void f(void) { return; } int main(void) { f(); return 0; }";
-    comes_to(&rt, alloc, quiet, 2, 2, End::More, &[])?;
-    comes_to(&rt, alloc, quiet, 2, 3, End::Done(0), &[])?;
+    comes_to(&rt, alloc, quiet.as_bytes(), 2, 2, End::More, &[])?;
+    comes_to(&rt, alloc, quiet.as_bytes(), 2, 3, End::Done(0), &[])?;
     Ok(())
 }
 
@@ -62,10 +62,10 @@ fn locals_that_are_not_set(rt: HostRuntime) -> Result<(), Fail> {
     let alloc = rt.alloc();
     let inside = "int main(void) { int i; \
         for (i = 0; i < 2; i = i + 1) { int x; if (i == 1) out(x); x = 5; } return 0; }";
-    comes_to(&rt, alloc, inside, 1, 100, End::Wrong, &[])?;
+    comes_to(&rt, alloc, inside.as_bytes(), 1, 100, End::Wrong, &[])?;
     let before = "int main(void) { int i; int x; \
         for (i = 0; i < 2; i = i + 1) { if (i == 1) out(x); x = 5; } return 0; }";
-    comes_to(&rt, alloc, before, 1, 100, End::Done(0), &[5])?;
+    comes_to(&rt, alloc, before.as_bytes(), 1, 100, End::Done(0), &[5])?;
     Ok(())
 }
 

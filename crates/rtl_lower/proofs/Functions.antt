@@ -6,7 +6,6 @@ use Rattle.std.proofs.Math.Seq.{take-suc, drop-cons}
 use Rattle.words.specs.Words.{wrap}
 use Rattle.words.specs.Widths.{kept}
 use Rattle.words.specs.declared.width.Width.{Width}
-use Rattle.words.specs.declared.width.Width.TheVariants.{Word}
 use Rattle.c_typed.specs.declared.tree.Function.{Function}
 use Rattle.c_typed.specs.declared.tree.Global.{Global}
 use Rattle.c_typed.specs.declared.tree.TypedStatement.{TypedStatement}
@@ -76,16 +75,16 @@ function_code f r b0 b1 b2 free entry all filled end from il ip ib e0 res makes 
           (subst (λ b. CodedAll r.blocks.items free b 0 None from (Line end)) ib here);
     }
 
--- globals of words
+-- globals
 
-same_words : (n w : ℕ) → map (λ v. kept Word (wrap v)) (replicate n w) ≡ replicate n (wrap w)
-same_words zero w = refl
-same_words (suc n) w = ap (λ xs. wrap w ∷ xs) (same_words n w)
+same_values : (w : Width) (n v : ℕ) → map (λ v. kept w (wrap v)) (replicate n v) ≡ replicate n (kept w (wrap v))
+same_values w zero v = refl
+same_values w (suc n) v = ap (λ xs. kept w (wrap v) ∷ xs) (same_values w n v)
 
-pub global_code : (g : Global) (r : RGlobal) → r.width ≡ Word → r.first.items ≡ replicate g.length g.first → IsGlobalOf g r
+pub global_code : (g : Global) (r : RGlobal) → r.width ≡ g.width → r.first.items ≡ replicate g.length g.first → IsGlobalOf g r
 global_code g r iw is = record {
   width = iw;
-  first = ap (λ (w : Width). map (λ v. kept w (wrap v)) r.first.items) iw ∙ ap (map (λ v. kept Word (wrap v))) is ∙ same_words g.length g.first;
+  first = ap (λ (w : Width). map (λ v. kept w (wrap v)) r.first.items) iw ∙ ap (map (λ v. kept g.width (wrap v))) is ∙ same_values g.width g.length g.first;
 }
 
 -- one after another

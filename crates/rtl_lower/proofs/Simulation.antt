@@ -7,7 +7,6 @@ use Rattle.std.proofs.lemmas.Bool.{true≢false}
 use Rattle.std.proofs.lemmas.Option.{slice_get_within, none-some}
 use Rattle.std.proofs.lemmas.List.Elements.{All-head}
 use Rattle.words.specs.declared.width.Width.{Width}
-use Rattle.words.specs.declared.width.Width.TheVariants.{Word}
 use Rattle.words.specs.Widths.{kept}
 use Rattle.runs.specs.Stores.{Places, Arrays, PlacesHoldWords, ArraysHoldWords, IsWord, unset_places, places_with, chain, arrays_with}
 use Rattle.runs.specs.Runs.{Configuration, Running, Ended, Failed, with_value, outcome}
@@ -198,17 +197,30 @@ call_step p depth f vs to ws g out r there many =
     (Failed out) (eq-eqb (length vs) r.parameters many)
 
 module _ (src : TypedProgram) (p : Program) (ok : IsCodeOfProgram src p) (well : IsWellFormed src) (depth : ℕ) where
-  -- a global of words keeps each word
-  kept_word : (a v : ℕ) → a < length src.globals → kept_in p.globals a v ≡ Some v
-  kept_word a v lt =
+  -- what an element of a global keeps is the same
+  same_kept : (a v : ℕ) → a < length src.globals → kept_in p.globals a v ≡ Src.kept_in src.globals a v
+  same_kept a v lt =
       let there = get_some src.globals a lt in
       let r = ok.globals a there.0 there.1 in
-      ap (λ (o : Option RGlobal). chain o (λ global. Some (kept global.width v))) r.1 ∙ ap (λ (w : Width). Some (kept w v)) r.2.width
+      ap (λ (o : Option RGlobal). chain o (λ global. Some (kept global.width v))) r.1
+      ∙ ap (λ (w : Width). Some (kept w v)) r.2.width
+      ∙ sym (ap (λ (o : Option Global). chain o (λ global. Some (kept global.width v))) there.1)
+
+  -- a store that has its global in the source has it in RTL
+  stored : (a i v : ℕ) (g g' : Arrays) (out : List ℕ) (done : Arrays → Blk.Run) → a < length src.globals
+      → Src.elements_with src.globals g a i v ≡ Some g'
+      → with_value (kept_in p.globals a v) out (λ w. with_value (arrays_with g a i w) out done) ≡ done g'
+  stored a i v g g' out done lt e = go (kept_in p.globals a v) (ap (λ o. chain o (λ w. arrays_with g a i w)) (same_kept a v lt) ∙ e)
+    where
+      go : (o : Option ℕ) → chain o (λ w. arrays_with g a i w) ≡ Some g'
+          → with_value o out (λ w. with_value (arrays_with g a i w) out done) ≡ done g'
+      go None h = absurd (none-some g' h)
+      go (Some w) h = with_some (arrays_with g a i w) g' out done h
 
   -- a word from a register to a global variable
   puts : (bs : List RBlock) (r : Places) (d : Option ℕ) (ws : List Blk.Frame) (g g' : Arrays) (out : List ℕ) (x z q v : ℕ) (after : Code)
       → x < length src.globals → q ≢ z
-      → r q ≡ Some v → arrays_with g x 0 v ≡ Some g'
+      → r q ≡ Some v → Src.elements_with src.globals g x 0 v ≡ Some g'
       → Moves p depth (at_code bs r (put_code x z q after) d ws g out) (at_code bs (places_with r z (Some 0)) after d ws g' out)
   puts bs r d ws g g' out x z q v after low ne there is =
       let r1 = places_with r z (Some 0) in
@@ -219,8 +231,7 @@ module _ (src : TypedProgram) (p : Program) (ok : IsCodeOfProgram src p) (well :
       with_some (r1 z) 0 out (λ i. with_value (r1 q) out (λ v.
       with_value (kept_in p.globals x v) out (λ w. with_value (arrays_with g x i w) out done))) z_there
       ∙ with_some (r1 q) v out (λ v. with_value (kept_in p.globals x v) out (λ w. with_value (arrays_with g x 0 w) out done)) q_there
-      ∙ with_some (kept_in p.globals x v) v out (λ w. with_value (arrays_with g x 0 w) out done) (kept_word x v low)
-      ∙ with_some (arrays_with g x 0 v) g' out done is in
+      ∙ stored x 0 v g g' out done low is in
       record { more = 1; ends = step }
 
   -- what an activation of a function begins with
@@ -284,7 +295,7 @@ module _ (src : TypedProgram) (p : Program) (ok : IsCodeOfProgram src p) (well :
   -- a result
   returns : (v : Option ℕ) (place : Option Destination) (to : Option ℕ) (fs : List Src.Frame) (ws : List Blk.Frame) (g : Arrays) (out : List ℕ)
       (t : Blk.Run) → Stack src place to fs ws
-      → rtl_step p depth t ≡ Blk.state_after_return v to ws g out → Advance src p depth t (Src.state_after_return v place fs g out)
+      → rtl_step p depth t ≡ Blk.state_after_return v to ws g out → Advance src p depth t (Src.state_after_return src.globals v place fs g out)
   returns None place to [] [] g out t m e = advance_failed src p depth t out
   returns (Some v) place to [] [] g out t m e = advance_one src p depth t _ _ e refl
   returns v place to [] (a ∷ ws) g out t m e = absurd m
@@ -315,7 +326,7 @@ module _ (src : TypedProgram) (p : Program) (ok : IsCodeOfProgram src p) (well :
         };
         below = m.1;
       })
-  returns (Some v) (Some (Variable x)) to (f ∷ fs) (a ∷ ws) g out t m e = advance_value src p depth t (arrays_with g x 0 v) out _ (λ g' gs.
+  returns (Some v) (Some (Variable x)) to (f ∷ fs) (a ∷ ws) g out t m e = advance_value src p depth t (Src.elements_with src.globals g x 0 v) out _ (λ g' gs.
       let w = m.0 in
       let top = w.match in
       let is = ap (λ to. Blk.state_after_return (Some v) to (a ∷ ws) g out) w.is in
@@ -481,7 +492,7 @@ module _ (src : TypedProgram) (p : Program) (ok : IsCodeOfProgram src p) (well :
         (located_assigned n l r y.regs x v sc.2.0 h.by y.value y.kept) f)))
     acts_at (assign (Variable x) e) k leave next from after code t si c sc f =
         in_line from c.code code _ c.is si (with_operand e c.p c.next c.code _ _ c.is_place c.value (λ v is r' rv same held.
-        advance_value src p depth _ (arrays_with g x 0 v) out _ (λ g' gs.
+        advance_value src p depth _ (Src.elements_with src.globals g x 0 v) out _ (λ g' gs.
         let ne : c.p ≢ c.z = omega (arith, held, c.spare) in
         advance_moves src p depth _ _ _ (puts bs r' d ws g g' out x c.z c.p v (line_of after) sc.2.0 ne rv gs)
         (matches l (places_with r' c.z (Some 0)) k leave next after (line_of after) g' out t (sits_there bs after)
@@ -495,14 +506,13 @@ module _ (src : TypedProgram) (p : Program) (ok : IsCodeOfProgram src p) (well :
         let x_there : y.regs c.p ≡ Some x = y.kept c.p held1 ∙ rx in
         let kept : (z : ℕ) → z < n → y.regs z ≡ r z = λ z lt. let lt' : z < c.next = omega (arith, c.index_place.rooms) in y.kept z lt' ∙ same1 z lt in
         advance_after src p depth _ (at_code bs y.regs (first (I.Store a c.p c.q) (line_of after)) d ws g out) _ y.goes
-        (advance_value src p depth _ (arrays_with g a x v) out _ (λ g' gs.
+        (advance_value src p depth _ (Src.elements_with src.globals g a x v) out _ (λ g' gs.
         let done = λ (g' : Arrays). at_code bs y.regs (line_of after) d ws g' out in
         advance_one src p depth _ _ _
         (with_some (y.regs c.p) x out (λ x. with_value (y.regs c.q) out
         (λ v. with_value (kept_in p.globals a v) out (λ w. with_value (arrays_with g a x w) out done))) x_there
         ∙ with_some (y.regs c.q) v out (λ v. with_value (kept_in p.globals a v) out (λ w. with_value (arrays_with g a x w) out done)) y.value
-        ∙ with_some (kept_in p.globals a v) v out (λ w. with_value (arrays_with g a x w) out done) (kept_word a v sc.2.0)
-        ∙ with_some (arrays_with g a x v) g' out done gs)
+        ∙ stored a x v g g' out done sc.2.0 gs)
         (matches l y.regs k leave next after (line_of after) g' out t (sits_there bs after) (located_kept n l r y.regs h.by kept) f))))))
     acts_at (output e) k leave next from after code t si c sc f =
         let th = lands_there c.block after c.lands (there_follows src bs n k leave next after t f) in

@@ -1,7 +1,6 @@
 -- Which code stands for a statement, a function and a program. `free` is the number of the function's locals, and so the
 -- first register that is free.
 use Rattle.std.specs.Prelude.{◌≡◌, ℕ, ◌<◌, ◌≤◌, ◌⊎◌, List, [], ◌∷◌, length, Option, Some, None, slice_get, map, replicate}
-use Rattle.words.specs.declared.width.Width.TheVariants.{Word}
 use Rattle.words.specs.Words.{wrap}
 use Rattle.runs.specs.Stores.{Places, Arrays}
 use Rattle.runs.specs.Runs.{with_value}
@@ -191,9 +190,9 @@ pub record IsCodeOf (f : TypedFunction) (r : RFunc) : Type 0 where
   pub after : Code
   pub body : CodedAll r.blocks.items f.locals f.body 0 None entry (Line after)
 
--- a global of as many words, with the same first ones
+-- a global of the same width, with as many first values, and the same ones
 pub record IsGlobalOf (g : Global) (r : RGlobal) : Type 0 where
-  pub width : r.width ≡ Word
+  pub width : r.width ≡ g.width
   pub first : first_values r ≡ first_words g
 
 -- the code of each function, and the globals

@@ -7,7 +7,6 @@ use c_typed::{Function, Global as TypedGlobal};
 use rtl::{RExit, RFunc, RGlobal};
 use rtl_emit::{Continuation, LowerFault, fill, leaving, opened, register_of, reserve};
 use std::alloc::Global;
-use words::Width;
 
 /// The blocks of a function.
 pub fn function(alloc: Global, f: &Function) -> Result<RFunc, LowerFault>
@@ -23,7 +22,7 @@ pub fn function(alloc: Global, f: &Function) -> Result<RFunc, LowerFault>
     Ok(RFunc { parameters, blocks })
 }
 
-/// A global of as many words, with the same first ones.
+/// A global of the same width, with as many first values, and the same ones.
 pub fn global(alloc: Global, g: TypedGlobal) -> Result<RGlobal, LowerFault>
     ensures { IfOk result (λ r. IsGlobalOf g r) }
 {
@@ -32,7 +31,7 @@ pub fn global(alloc: Global, g: TypedGlobal) -> Result<RGlobal, LowerFault>
     }
     let first = vec![in alloc; g.first; g.length]?;
     Ok(RGlobal {
-        width: Width::Word,
+        width: g.width,
         length: g.length as u32,
         first,
     })

@@ -1,0 +1,128 @@
+// How long a text of 1 MiB takes to be lowered against one of 64 KiB, and what programs are lowered to.
+
+use c_front::read;
+use c_types::check;
+use rtl::{RBlock, RExit, RInst, Rtl};
+use rtl_lower::lower;
+use std::alloc::{AllocError, Global};
+use std::fmt::Write;
+use std::fs;
+use std::time::Instant;
+
+const TURN: &str = "while(r<100&&m!=0u){a[r]=r>>1;if(r&1)r=r+3;else r=f(r,m);}";
+
+const FUNCTIONS: usize = 250;
+
+/// A program of so many functions with loops, of about so many bytes.
+fn program_text(alloc: Global, length: usize) -> Result<String, AllocError> {
+    let turns = length / FUNCTIONS / (TURN.len() + 1);
+    let mut text = String::from_str(alloc, "int a[64];int f(int n,unsigned m){return n+1;}\n")?;
+    for number in 0..FUNCTIONS {
+        write!(text, "int f{number}(int n,unsigned m){{int r=n;")?;
+        for _ in 0..turns {
+            text.push_str(TURN)?;
+        }
+        text.push_str("return r;}\n")?;
+    }
+    text.push_str("int main(void){return f0(1,0u);}\n")?;
+    Ok(text)
+}
+
+/// The size of a program of RTL: its blocks, its instructions (an exit is one too), and the most pseudo-registers of a
+/// function.
+#[derive(Clone, Copy, Debug)]
+struct Sizes {
+    blocks: usize,
+    insts: usize,
+    registers: u32,
+}
+
+// One more than the number of the register that an instruction sets, 0 where it sets none.
+fn behind_set(inst: &RInst) -> u32 {
+    match inst {
+        RInst::Const(d, _) | RInst::Move(d, _) | RInst::Bin(_, d, _, _) | RInst::Load(d, _, _) => {
+            d.saturating_add(1)
+        }
+        RInst::Store(_, _, _) => 0,
+    }
+}
+
+fn behind_exit(exit: &RExit) -> u32 {
+    match exit {
+        RExit::Call(_, _, Some(d), _) => d.saturating_add(1),
+        _ => 0,
+    }
+}
+
+fn registers_of(blocks: &[RBlock]) -> u32 {
+    let mut most = 0u32;
+    for block in blocks {
+        for inst in block.insts.iter() {
+            most = most.max(behind_set(inst));
+        }
+        most = most.max(behind_exit(&block.exit));
+    }
+    most
+}
+
+fn sizes(program: &Rtl) -> Sizes {
+    let mut all = Sizes {
+        blocks: 0,
+        insts: 0,
+        registers: 0,
+    };
+    for function in program.functions() {
+        for block in function.blocks.iter() {
+            let count = block.insts.len().saturating_add(1);
+            all.insts = all.insts.saturating_add(count);
+        }
+        all.blocks = all.blocks.saturating_add(function.blocks.len());
+        let own = registers_of(function.blocks.as_slice()).max(function.parameters);
+        all.registers = all.registers.max(own);
+    }
+    all
+}
+
+/// Lowers a text and says what came of it, with figures how long reading with types and lowering took.
+fn show_text(rt: &HostRuntime, name: &str, text: &[u8], figures: bool) -> anyhow::Result<()> {
+    let alloc = rt.alloc();
+    let start = Instant::now(rt)?;
+    let typed = check(alloc, read(alloc, text)?)?;
+    let front = start.elapsed(rt)?;
+    let begun = Instant::now(rt)?;
+    let lowered = lower(alloc, &typed)?;
+    let took = begun.elapsed(rt)?;
+    let Sizes {
+        blocks,
+        insts,
+        registers,
+    } = sizes(&lowered);
+    println!(rt; "{name}: {blocks} blocks, {insts} instructions, {registers} pseudo-registers")?;
+    if figures {
+        println!(rt;
+            "  read and typed in {} microseconds, lowered in {}",
+            front.as_micros(),
+            took.as_micros()
+        )?;
+    }
+    Ok(())
+}
+
+/// What the files of C are lowered to.
+pub(crate) fn files(rt: &HostRuntime, names: &[String]) -> anyhow::Result<()> {
+    for name in names {
+        let text = fs::read(rt, name.as_str())?;
+        show_text(rt, name.as_str(), text.as_slice(), false)?;
+    }
+    Ok(())
+}
+
+/// What the texts of 64 KiB and 1 MiB are lowered to, and with figures the times.
+pub(crate) fn show(rt: &HostRuntime, figures: bool) -> anyhow::Result<()> {
+    for length in [65_536, 1_048_576] {
+        let text = program_text(rt.alloc(), length - 16_000)?;
+        let name = format!(in rt.alloc(); "{length} bytes of C at most")?;
+        show_text(rt, name.as_str(), text.as_bytes(), figures)?;
+    }
+    Ok(())
+}
