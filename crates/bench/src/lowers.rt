@@ -24,7 +24,7 @@ fn program_text(alloc: Global, length: usize) -> Result<String, AllocError> {
         }
         text.push_str("return r;}\n")?;
     }
-    text.push_str("int main(void){return f0(1,0u);}\n")?;
+    text.push_str("int main(void){int r=0;r=f0(1,0u);return r;}\n")?;
     Ok(text)
 }
 
@@ -65,7 +65,7 @@ fn registers_of(blocks: &[RBlock]) -> u32 {
     most
 }
 
-fn sizes(program: &Rtl) -> Sizes {
+fn measured(program: &Rtl) -> Sizes {
     let mut all = Sizes {
         blocks: 0,
         insts: 0,
@@ -96,7 +96,7 @@ fn show_text(rt: &HostRuntime, name: &str, text: &[u8], figures: bool) -> anyhow
         blocks,
         insts,
         registers,
-    } = sizes(&lowered);
+    } = measured(&lowered);
     println!(rt; "{name}: {blocks} blocks, {insts} instructions, {registers} pseudo-registers")?;
     if figures {
         println!(rt;

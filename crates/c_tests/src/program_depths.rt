@@ -45,7 +45,10 @@ fn end(alloc: Global, text: &[u8]) -> End {
     let Ok(lowered) = lower(alloc, &typed) else {
         return End::More;
     };
-    match (run(alloc, &typed, 1, 1_000_000), rtl::run(alloc, &lowered, 1, 16_000_000)) {
+    match (
+        run(alloc, &typed, 1, 1_000_000),
+        rtl::run(alloc, &lowered, 1, 16_000_000),
+    ) {
         (Ok(source), Ok(ran)) => if source.end == ran.end {
             ran.end
         } else {

@@ -22,7 +22,15 @@ fn loops(rt: HostRuntime) -> Result<(), Fail> {
         (19, End::Done(0), 3),
         (1000, End::Done(0), 3),
     ] {
-        comes_to(&rt, alloc, TURNS.as_bytes(), 1, steps, end, &[0u32, 2, 99][..outputs])?;
+        comes_to(
+            &rt,
+            alloc,
+            TURNS.as_bytes(),
+            1,
+            steps,
+            end,
+            &[0u32, 2, 99][..outputs],
+        )?;
     }
     // a test that isn't there is a step like any
     let ever = "int main(void) { for (;;) out(1); }";
@@ -39,7 +47,15 @@ const NESTED: &str = "int g = 9; \
 #[test]
 fn calls(rt: HostRuntime) -> Result<(), Fail> {
     let alloc = rt.alloc();
-    comes_to(&rt, alloc, NESTED.as_bytes(), 5, 1000, End::Done(5), &[7, 3])?;
+    comes_to(
+        &rt,
+        alloc,
+        NESTED.as_bytes(),
+        5,
+        1000,
+        End::Done(5),
+        &[7, 3],
+    )?;
     comes_to(&rt, alloc, NESTED.as_bytes(), 4, 1000, End::Wrong, &[7])?;
     // out, four calls, four tests, four returns, out, return
     comes_to(&rt, alloc, NESTED.as_bytes(), 5, 15, End::Done(5), &[7, 3])?;
@@ -83,7 +99,7 @@ fn globals(rt: HostRuntime) -> Result<(), Fail> {
             int main(void) {{ out(g); a[{index}] = 8; out(a[{index}]); return 0; }}"
         )?;
         let output: &[u32] = if end == End::Wrong { &[42] } else { &[42, 8] };
-        comes_to(&rt, alloc, &text, 1, 4, end, output)?;
+        comes_to(&rt, alloc, text.as_bytes(), 1, 4, end, output)?;
     }
     Ok(())
 }
