@@ -1,5 +1,5 @@
 -- From what the parts of an expression have emitted to the whole: one lemma for each kind.
-use Rattle.std.proofs.Common.{◌≡◌, ◌≢◌, ℕ, ◌+◌, ◌<◌, ◌≤◌, List, [], ◌∷◌, ◌++◌, Some, refl, sym, ◌∙◌, ap, subst, arith, append-nil, append_assoc}
+use Rattle.std.proofs.Common.{◌≡◌, ◌≢◌, ℕ, List, ◌∷◌, refl, sym, ◌∙◌, ap, subst, arith}
 use Rattle.std.proofs.Common.{nat_eq, eq-eqb, ne_eqb}
 use Rattle.std.specs.Prelude.{if◌then◌else◌, ◌-◌, ◌^◌}
 use Rattle.words.specs.Words.{wrap}
@@ -19,14 +19,14 @@ use Rattle.rtl.specs.declared.block.RBlock.{RBlock}
 use Rattle.rtl.specs.Meaning.{Code}
 use Rattle.rtl_emit.specs.Operations.{inst_of, Computes, ComputesContrary}
 use Rattle.rtl_emit.specs.Blocks.{goto, exit_code, first, Spot, line_of, Lands, Grows, Has, At}
-use Rattle.rtl_emit.specs.Expressions.{IsPlace, IsTruth, Evaluates, Fetches, Operates, Combines, Decides, ArePlaces, AddPlaces, FetchAll}
+use Rattle.rtl_emit.specs.Expressions.{IsPlace, IsTruth, Evaluates, Fetches, Operates, Combines, Decides, FetchAll}
 use Rattle.rtl_emit.specs.declared.operation.Operation.{Operation}
 use Rattle.rtl_emit.specs.declared.place.Place.{Place}
 use Rattle.rtl_emit.proofs.Operations.{straight_op, turned_op}
 use Rattle.rtl_emit.proofs.Blocks.{grows_then, split2, split3, split5, split6}
-use Rattle.rtl_emit.proofs.Values.{number, local_value, fetched_local, fetched, global_value, element_value, operates, operator_value, combines}
-use Rattle.rtl_emit.proofs.Values.{negation_value, complement_value, not_value, identity_value}
-use Rattle.rtl_emit.proofs.Conditions.{constant_decides, plain_decides, negated_decides, contrary_decides, identity_decides, not_decides, and_decides}
+use Rattle.rtl_emit.proofs.Values.{number, local_value, fetched, global_value, element_value, operates, operator_value, combines}
+use Rattle.rtl_emit.proofs.Values.{negation_value, complement_value, not_value}
+use Rattle.rtl_emit.proofs.Conditions.{constant_decides, plain_decides, negated_decides, contrary_decides, not_decides, and_decides}
 use Rattle.rtl_emit.proofs.Conditions.{or_decides, conditional_decides, not_tests, and_tests, or_tests, told, conditional_value}
 
 -- what holds of every list of blocks that has those which were added
@@ -55,10 +55,6 @@ Ways old new e free y n from = Over old new (λ bs. Decides bs e free y n from)
 pub gives_of : {bs : List RBlock} {e e' : TypedExpression} {free d : ℕ} {from after : Code} → e ≡ e' → Evaluates bs e' free d from after
     → Evaluates bs e free d from after
 gives_of {bs} {e} {e'} {free} {d} {from} {after} is ev = subst (λ e. Evaluates bs e free d from after) (sym is) ev
-
-pub gives_to : {bs : List RBlock} {e : TypedExpression} {free d : ℕ} {from to to' : Code} → to ≡ to' → Evaluates bs e free d from to
-    → Evaluates bs e free d from to'
-gives_to {bs} {e} {free} {d} {from} is ev = subst (λ c. Evaluates bs e free d from c) is ev
 
 pub gives_from : {bs : List RBlock} {e : TypedExpression} {free d : ℕ} {from from' to : Code} → from ≡ from' → Evaluates bs e free d from' to
     → Evaluates bs e free d from to
@@ -138,11 +134,6 @@ operator_code b0 b1 b2 e o k op a b a' b' d free p next q last inst from mid aft
     gives_of is (operator_value bs o k op a b d free from after c
     (operate_code b0 b1 b2 op a b a' b' d free p next q last inst from mid after after' ia ib ii fe pa pb g1 g2 fb fa bs h))
 
--- an operand that is its own register
-pub fetched_code : (b0 : List RBlock) (e : TypedExpression) (x p : ℕ) (k : IntegerType) (free : ℕ) (after : Code) → e ≡ local x k → x ≡ p
-    → Finds b0 b0 e free p after after
-fetched_code b0 e x p k free after is eq bs h = finds_of is (subst (λ p. Fetches bs (local x k) free p after after) eq (fetched_local bs x k free after))
-
 pub into_code : (b0 b1 : List RBlock) (e : TypedExpression) (free p : ℕ) (from after : Code) → Gives b0 b1 e free p from after
     → Finds b0 b1 e free p from after
 into_code b0 b1 e free p from after gi bs h = fetched bs e free p from after (gi bs h)
@@ -159,11 +150,6 @@ combines_to : {bs : List RBlock} {op op' : Operation} {e : TypedExpression} {c f
     → Combines bs op e c free d from to → Combines bs op' e c free d from to'
 combines_to {bs} {op} {op'} {e} {c} {free} {d} {from} {to} {to'} io is ev =
     subst (λ op. Combines bs op e c free d from to') io (subst (λ t. Combines bs op e c free d from t) is ev)
-
-pub identity_code : (b0 b1 : List RBlock) (e : TypedExpression) (k : IntegerType) (a : TypedExpression) (d free : ℕ) (from after : Code) → e
-    ≡ unary U.Identity k a
-    → Gives b0 b1 a free d from after → Gives b0 b1 e free d from after
-identity_code b0 b1 e k a d free from after is ga bs h = gives_of is (identity_value bs k a d free from after (ga bs h))
 
 pub negation_code : (b0 b1 : List RBlock) (e : TypedExpression) (k : IntegerType) (a : TypedExpression) (op : Operation) (d free : ℕ)
     (from code after : Code)
@@ -215,11 +201,6 @@ contrary_way b0 b1 b2 e o k op a b a' b' z y n free p next q last inst from mid 
     decides_of is (contrary_decides bs o k op a b z y n free from tests (omega arith)
     (subst (λ c. Operates bs op a b free z from c) fe
     (operate_code b0 b1 b2 op a b a' b' z free p next q last inst from mid end after' ia ib ii f2 pa pb g1 g2 fb fa bs h)))
-
-pub identity_way : (b0 b1 : List RBlock) (e : TypedExpression) (k : IntegerType) (a : TypedExpression) (y n free : ℕ) (from : Code) → e
-    ≡ unary U.Identity k a
-    → Ways b0 b1 a free y n from → Ways b0 b1 e free y n from
-identity_way b0 b1 e k a y n free from is wa bs h = decides_of is (identity_decides bs k a y n free from (wa bs h))
 
 pub not_way : (b0 b1 : List RBlock) (e : TypedExpression) (k : IntegerType) (a : TypedExpression) (y n free : ℕ) (from : Code) → e ≡ unary U.Not k a
     → Ways b0 b1 a free n y from → Ways b0 b1 e free y n from
@@ -311,14 +292,3 @@ operands_code b0 b1 b2 es es2 e ps ps2 p free from middle after ie ip g1 g2 rest
     let s = split2 bs b0 b1 b2 g1 g2 h in
     let here : FetchAll bs (e ∷ es2) free (p ∷ ps2) from after = (middle, f bs s.1, rest bs s.0) in
     subst (λ es. FetchAll bs es free ps from after) (sym ie) (subst (λ ps. FetchAll bs (e ∷ es2) free ps from after) (sym ip) here)
-
-pub add_none : (es : List TypedExpression) (free : ℕ) (old : List Place) → es ≡ [] → AddPlaces es free old old
-add_none es free old e = ([], sym (append-nil old), subst (λ es. ArePlaces es free []) (sym e) tt)
-
-pub add_one : (es es2 : List TypedExpression) (e : TypedExpression) (free : ℕ) (p : Place) (old one new : List Place) → es ≡ e ∷ es2
-    → IsPlace e free p.register p.free → one ≡ old ++ p ∷ [] → AddPlaces es2 p.free one new → AddPlaces es free old new
-add_one es es2 e free p old one new ie pl io a = (
-  p ∷ a.0,
-  a.1 ∙ ap (λ l. l ++ a.0) io ∙ append_assoc old (p ∷ []) a.0,
-  subst (λ es. ArePlaces es free (p ∷ a.0)) (sym ie) (pl, a.2),
-)

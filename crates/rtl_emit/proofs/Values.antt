@@ -1,18 +1,18 @@
 -- What the code of a value does.
-use Rattle.std.proofs.Common.{◌≡◌, ◌≢◌, ℕ, ◌+◌, ◌<◌, ◌≤◌, ◌⊎◌, inl, inr, Bool, true, false, List, [], ◌∷◌, Option, Some, None, refl, sym, ◌∙◌, ap}
+use Rattle.std.proofs.Common.{◌≡◌, ◌≢◌, ℕ, ◌<◌, ◌≤◌, ◌⊎◌, inl, inr, Bool, true, false, List, [], ◌∷◌, Some, refl, sym, ◌∙◌, ap}
 use Rattle.std.proofs.Common.{subst, arith, nat_eq}
-use Rattle.std.specs.Prelude.{map, if◌then◌else◌, not, ◌==◌, ◌-◌, ◌^◌}
+use Rattle.std.specs.Prelude.{map, if◌then◌else◌, ◌-◌, ◌^◌}
 use Rattle.std.proofs.lemmas.Bool.Decides.{eqb_tells}
 use Rattle.words.specs.Words.{wrap}
-use Rattle.runs.specs.Stores.{Places, Arrays, places_with, chain, element_at, IsWord}
+use Rattle.runs.specs.Stores.{Places, places_with, chain, element_at, IsWord}
 use Rattle.runs.specs.Runs.{with_value}
 use Rattle.c_tokens.specs.declared.token.IntegerType.{IntegerType}
 use Rattle.c_tokens.specs.declared.token.Literal.{Literal}
 use Rattle.c_front.specs.declared.tree.BinaryOp.{BinaryOp}
 use Rattle.c_front.specs.declared.tree.UnaryOp.{UnaryOp}
 use Rattle.c_front.specs.declared.tree.UnaryOp.TheVariants as U
-use Rattle.c_typed.specs.Trees.{TypedExpression, constant, local, global, element, unary, binary, conditional}
-use Rattle.c_typed.specs.Values.{sign_of, truth, unary_of, binary_of, value_of, values_of}
+use Rattle.c_typed.specs.Trees.{TypedExpression, constant, local, global, element, unary, binary}
+use Rattle.c_typed.specs.Values.{sign_of, unary_of, binary_of, value_of, values_of}
 use Rattle.c_typed.proofs.Values.{value-word}
 use Rattle.rtl.specs.declared.operator.Op.{Op}
 use Rattle.rtl.specs.declared.operator.Op.TheVariants as O
@@ -23,7 +23,7 @@ use Rattle.rtl.specs.Meaning.{Code, rtl_step, words_in}
 use Rattle.rtl.proofs.Computing.{negation-is, complement-is}
 use Rattle.rtl_emit.specs.Operations.{result_of, inst_of, Computes}
 use Rattle.rtl_emit.specs.Blocks.{first}
-use Rattle.rtl_emit.specs.Runs.{Goes, Moves, Surroundings, at, Holds, Yields, Takes}
+use Rattle.rtl_emit.specs.Runs.{Goes, Surroundings, at, Holds, Yields, Takes}
 use Rattle.rtl_emit.specs.Expressions.{Reads, IsPlace, Evaluates, Fetches, Operates, Combines, ArePlaces, FetchAll}
 use Rattle.rtl_emit.specs.declared.operation.Operation.{Operation}
 use Rattle.rtl_emit.specs.declared.place.Place.{Place}
@@ -32,15 +32,6 @@ use Rattle.rtl_emit.proofs.Steps.{goes_nowhere, goes_then, goes_one, moves_one, 
 use Rattle.rtl_emit.proofs.Steps.{written_other, holds_kept}
 
 -- places
-
-pub local_place : (e : TypedExpression) (x : ℕ) (k : IntegerType) (p free : ℕ) → e ≡ local x k → p ≡ x → IsPlace e free p free
-local_place e x k p free is ip = record {
-  rooms = omega arith;
-  is = inl (λ l g v ev. ap l ip ∙ ap (λ e. value_of e l g) (sym is) ∙ ev);
-}
-
-pub free_place : (e : TypedExpression) (p free : ℕ) → p ≡ free → IsPlace e free p (p + 1)
-free_place e p free is = record { rooms = omega arith; is = inr (omega arith, omega arith) }
 
 -- an operand in its place: all that is kept is the same, and the place is kept by what comes later
 pub record Taken (w : Surroundings) (bs : List RBlock) (free p next : ℕ) (r : Places) (from to : Code) (v : ℕ) : Type 0 where

@@ -1,6 +1,6 @@
 -- Which code stands for an expression: what the emitter promises of every list of blocks that has those which it made.
 -- In all of this `free` is the first register that is free, from which on code may write.
-use Rattle.std.specs.Prelude.{◌≡◌, ◌≢◌, ℕ, ◌<◌, ◌≤◌, ◌⊎◌, ◌==◌, List, [], ◌∷◌, ◌++◌, Some, if◌then◌else◌}
+use Rattle.std.specs.Prelude.{◌≡◌, ℕ, ◌<◌, ◌≤◌, ◌⊎◌, ◌==◌, List, [], ◌∷◌, ◌++◌, Some, if◌then◌else◌}
 use Rattle.words.specs.Words.{wrap}
 use Rattle.runs.specs.Stores.{Places, Arrays}
 use Rattle.c_typed.specs.Trees.{TypedExpression}

@@ -1,5 +1,5 @@
 -- Which operator of RTL computes an operator of C (C99 6.5.5 to 6.5.14), and which one computes the contrary of a test.
-use Rattle.std.specs.Prelude.{◌≡◌, ℕ, Bool, true, false, not, Option, Some, None, if◌then◌else◌}
+use Rattle.std.specs.Prelude.{◌≡◌, ℕ, Bool, not, Option, Some, if◌then◌else◌}
 use Rattle.c_front.specs.declared.tree.BinaryOp.{BinaryOp}
 use Rattle.c_front.specs.declared.tree.BinaryOp.TheVariants as B
 use Rattle.words.specs.declared.sign.Sign.{Sign}
@@ -7,7 +7,6 @@ use Rattle.words.specs.declared.sign.Sign.TheVariants.{Signed, Unsigned}
 use Rattle.runs.specs.Stores.{IsWord, chain}
 use Rattle.c_typed.specs.Values.{truth, binary_of, binary_value}
 use Rattle.rtl.specs.declared.operator.Op.{Op}
-use Rattle.rtl.specs.declared.operator.Op.TheVariants as O
 use Rattle.rtl.specs.declared.instruction.RInst.{RInst}
 use Rattle.rtl.specs.declared.instruction.RInst.TheVariants.{Bin}
 use Rattle.rtl.specs.Operators.{truth_word, op_result}

@@ -1,9 +1,8 @@
 -- What is still to do in the source, and where its code stands.
-use Rattle.std.proofs.Common.{◌≡◌, ◌≢◌, ℕ, ◌<◌, Bool, true, false, List, [], ◌∷◌, ◌⊎◌, inl, inr, Option, Some, None, refl, sym, ◌∙◌, ap, subst}
-use Rattle.std.proofs.Common.{arith, nat_eq}
+use Rattle.std.proofs.Common.{◌≡◌, ℕ, ◌<◌, Bool, true, false, List, [], ◌∷◌, Option, Some, None, refl, sym, subst}
+use Rattle.std.proofs.Common.{nat_eq}
 use Rattle.std.specs.Prelude.{if◌then◌else◌}
-use Rattle.std.proofs.lemmas.Bool.Decides.{eqb_tells}
-use Rattle.runs.specs.Stores.{Places, Arrays, places_with, IsWord}
+use Rattle.runs.specs.Stores.{Places, Arrays, places_with}
 use Rattle.runs.proofs.Words.{written-words}
 use Rattle.c_typed.specs.declared.tree.Destination.TheVariants.{Local, Global as Variable}
 use Rattle.c_typed.specs.Trees.{TypedStatement, TypedStatements, TypedProgram, empty, block, unset, assign, store, call, output, if_else, loop}

@@ -21,9 +21,8 @@ use Rattle.rtl.specs.declared.block.RBlock.{RBlock}
 use Rattle.rtl.specs.declared.block.RFunc.{RFunc}
 use Rattle.rtl.specs.declared.block.RGlobal.{RGlobal}
 use Rattle.rtl_emit.specs.Blocks.{Spot, Line, line_of, At, Grows, Reserves, Fills}
-use Rattle.rtl_emit.proofs.Blocks.{grows_then}
 use Rattle.rtl_lower.specs.Correct.{KeepsRuns}
-use Rattle.rtl_lower.specs.Coded.{IsCodeOf, IsGlobalOf, IsCodeOfProgram, AreCodesOf, AreGlobalsOf, CodedAll}
+use Rattle.rtl_lower.specs.Coded.{IsCodeOf, IsGlobalOf, AreCodesOf, AreGlobalsOf, CodedAll}
 use Rattle.rtl_lower.proofs.Statements.{Makes, MakesAll, more_code}
 use Rattle.rtl_lower.proofs.Simulation.{keeps_runs}
 

@@ -1,21 +1,20 @@
 -- Each step of the source is one or more steps of RTL.
 use Rattle.std.proofs.Common.{◌≡◌, ◌≢◌, ℕ, zero, suc, ◌+◌, ◌<◌, ◌≤◌, ◌⊎◌, inl, inr, Bool, true, false, List, [], ◌∷◌, ◌++◌, Option, Some, None, refl}
 use Rattle.std.proofs.Common.{sym, ◌∙◌, ap, subst, arith, length, nat_eq, nat_lt, eq-eqb}
-use Rattle.std.specs.Prelude.{slice_get, if◌then◌else◌, map, ◌==◌, ◌&&◌, All}
+use Rattle.std.specs.Prelude.{slice_get, if◌then◌else◌, map, ◌==◌, ◌&&◌}
 use Rattle.std.proofs.lemmas.Bool.Decides.{eqb_tells}
 use Rattle.std.proofs.lemmas.Bool.{true≢false}
 use Rattle.std.proofs.lemmas.Option.{slice_get_within, none-some}
 use Rattle.std.proofs.lemmas.List.Elements.{All-head}
 use Rattle.words.specs.declared.width.Width.{Width}
 use Rattle.words.specs.Widths.{kept}
-use Rattle.runs.specs.Stores.{Places, Arrays, PlacesHoldWords, ArraysHoldWords, IsWord, unset_places, places_with, chain, arrays_with}
-use Rattle.runs.specs.Runs.{Configuration, Running, Ended, Failed, with_value, outcome}
+use Rattle.runs.specs.Stores.{Places, Arrays, unset_places, places_with, chain, arrays_with}
+use Rattle.runs.specs.Runs.{Running, Ended, Failed, with_value, outcome}
 use Rattle.runs.specs.declared.ran.End.TheVariants.{Wrong}
 use Rattle.runs.proofs.Steps.{steps-add}
-use Rattle.runs.proofs.Words.{at-index, written-words}
+use Rattle.runs.proofs.Words.{at-index}
 use Rattle.c_typed.specs.declared.tree.Destination.{Destination}
 use Rattle.c_typed.specs.declared.tree.Destination.TheVariants.{Local, Global as Variable}
-use Rattle.c_typed.specs.declared.tree.Global.{Global}
 use Rattle.c_typed.specs.Trees.{TypedExpression, TypedStatement, TypedFunction, TypedProgram, empty, block, unset, assign, store, call, output}
 use Rattle.c_typed.specs.Trees.{if_else, loop}
 use Rattle.c_typed.specs.Trees.{break_loop, continue_loop, return_with}
@@ -26,9 +25,7 @@ use Rattle.c_typed.specs.Meaning.{Todo, Do, Next, Going, before, before_all, nex
 use Rattle.c_typed.specs.Meaning.{source_start, source_run, first_words}
 use Rattle.c_typed.specs.Laws.{FrameHoldsWords, RunHoldsWords}
 use Rattle.c_typed.proofs.Keeping.{source-start-words, source-step-words}
-use Rattle.c_typed.proofs.Values.{value-word}
 use Rattle.rtl.specs.declared.instruction.RInst.TheVariants as I
-use Rattle.rtl.specs.declared.instruction.RExit.{RExit}
 use Rattle.rtl.specs.declared.instruction.RExit.TheVariants as X
 use Rattle.rtl.specs.declared.block.RBlock.{RBlock}
 use Rattle.rtl.specs.declared.block.RFunc.{RFunc}
@@ -36,13 +33,13 @@ use Rattle.rtl.specs.declared.block.RGlobal.{RGlobal}
 use Rattle.rtl.specs.Programs.{Program}
 use Rattle.rtl.specs.Meaning as Blk
 use Rattle.rtl.specs.Meaning.{Code, code_of, kept_in, state_at_block, words_in, rtl_step, rtl_steps, rtl_start, rtl_run, first_values, argument_registers}
-use Rattle.rtl_emit.specs.Blocks.{exit_code, first, Spot, Block, Line, line_of, Lands, At}
+use Rattle.rtl_emit.specs.Blocks.{exit_code, first, Spot, Block, Line, line_of, At}
 use Rattle.rtl_emit.specs.Runs.{at_code, at, Surroundings, Goes, Moves, Holds}
 use Rattle.rtl_emit.specs.Expressions.{IsPlace, Fetches, Decides}
-use Rattle.rtl_emit.proofs.Steps.{goes_one, goes_then, with_some, chained, jump_to, holds_kept, written_here, written_other}
+use Rattle.rtl_emit.proofs.Steps.{goes_one, with_some, chained, jump_to, holds_kept, written_here, written_other}
 use Rattle.rtl_emit.proofs.Values.{taken, taken_all}
 use Rattle.rtl_lower.specs.Correct.{KeepsRuns}
-use Rattle.rtl_lower.specs.Coded.{Sits, put_code, Leaves, Coded, PutsResult, Receives, IsCodeOf, IsCodeOfProgram}
+use Rattle.rtl_lower.specs.Coded.{Sits, put_code, Coded, Receives, IsCodeOf, IsCodeOfProgram}
 use Rattle.rtl_lower.proofs.Spots.{lands_sits, sits_there, lands_there, comes_join}
 use Rattle.rtl_lower.proofs.Follows.{Fits, Targets, Follows, there_coded, there_follows, follows_before, follows_all, follows_from, settles}
 

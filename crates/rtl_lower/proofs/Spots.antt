@@ -1,5 +1,5 @@
 -- Spots: where code is, and jumps from one to another.
-use Rattle.std.proofs.Common.{◌≡◌, ◌≢◌, ℕ, suc, ◌+◌, ◌<◌, List, ◌⊎◌, inl, inr, Option, Some, None, refl, sym, ◌∙◌, ap, subst, arith}
+use Rattle.std.proofs.Common.{◌≡◌, ℕ, List, ◌⊎◌, inl, inr, Option, Some, refl, sym, ◌∙◌, ap, subst}
 use Rattle.runs.specs.Stores.{Places, Arrays}
 use Rattle.rtl.specs.Programs.{Program}
 use Rattle.rtl.specs.Meaning.{Code, Frame, code_of}
@@ -7,7 +7,7 @@ use Rattle.rtl.specs.declared.block.RBlock.{RBlock}
 use Rattle.rtl_emit.specs.Blocks.{goto, Spot, Block, Line, line_of, Lands, At}
 use Rattle.rtl_emit.specs.Runs.{at_code, Goes}
 use Rattle.rtl_emit.proofs.Steps.{goes_nowhere, goes_then, joins}
-use Rattle.rtl_lower.specs.Coded.{Sits, IsThere, Comes, IsTurn}
+use Rattle.rtl_lower.specs.Coded.{Sits, IsThere, Comes}
 
 -- the code of a block is one
 pub at_unique : {bs : List RBlock} {b : ℕ} {c c' : Code} → At bs b c → At bs b c' → c ≡ c'

@@ -1,23 +1,21 @@
 -- From what the parts of a statement have emitted to the whole: one lemma for each kind.
-use Rattle.std.proofs.Common.{Vec, Global, ◌≡◌, ◌≢◌, ℕ, ◌+◌, ◌<◌, ◌≤◌, List, [], ◌∷◌, ◌++◌, Option, Some, None, refl, sym, ◌∙◌, ap, subst, arith, length}
+use Rattle.std.proofs.Common.{Vec, Global, ◌≡◌, ◌≢◌, ℕ, ◌<◌, ◌≤◌, List, [], ◌∷◌, ◌++◌, Option, Some, refl, sym, ◌∙◌, ap, subst, arith, length}
 use Rattle.std.specs.Prelude.{map, slice_get}
 use Rattle.runs.specs.Runs.{with_value}
 use Rattle.c_typed.specs.declared.tree.Destination.{Destination}
-use Rattle.c_typed.specs.declared.tree.Destination.TheVariants.{Local, Global as Variable}
-use Rattle.c_typed.specs.Trees.{TypedExpression, TypedStatement, TypedStatements, block, assign, store, call, output, if_else, loop, return_with}
-use Rattle.c_typed.specs.Trees.{no_statements, more_statements}
-use Rattle.rtl.specs.declared.instruction.RExit.{RExit}
+use Rattle.c_typed.specs.Trees.{TypedExpression, TypedStatement, TypedStatements, block, store, call, if_else, loop}
+use Rattle.c_typed.specs.Trees.{more_statements}
 use Rattle.rtl.specs.declared.instruction.RInst.TheVariants as I
 use Rattle.rtl.specs.declared.instruction.RExit.TheVariants as X
 use Rattle.rtl.specs.declared.block.RBlock.{RBlock}
 use Rattle.rtl.specs.Meaning.{Code, code_of, words_in, state_after_call}
 use Rattle.rtl_emit.specs.Blocks.{exit_code, first, Spot, Block, Line, line_of, Lands, Grows, Has, At, Reserves, Fills}
-use Rattle.rtl_emit.specs.Expressions.{IsPlace, ArePlaces, AddPlaces, FetchAll}
+use Rattle.rtl_emit.specs.Expressions.{IsPlace, AddPlaces, FetchAll}
 use Rattle.rtl_emit.specs.declared.place.Place.{Place}
 use Rattle.rtl_emit.proofs.Blocks.{grows_then, split2, split5, split6}
-use Rattle.rtl_emit.proofs.Emitted.{Over, Joins, Gives, Finds, Ways, finds_to, at_equal}
-use Rattle.rtl_lower.specs.Coded.{put_code, Leaves, Exits, PutsResult, Receives, IsTurn, Coded, CodedAll}
-use Rattle.rtl_lower.proofs.Spots.{comes_equal, comes_join}
+use Rattle.rtl_emit.proofs.Emitted.{Over, Joins, Finds, Ways, finds_to}
+use Rattle.rtl_lower.specs.Coded.{Receives, IsTurn, Coded, CodedAll}
+use Rattle.rtl_lower.proofs.Spots.{comes_join}
 
 -- what was emitted for a statement
 abbrev pub Makes : List RBlock → List RBlock → ℕ → TypedStatement → (leave : ℕ) (next : Option ℕ) → Spot → Spot → Type 0
@@ -51,29 +49,6 @@ more_code b0 b1 b2 free all s rest leave next from middle after is g1 g2 mr ms b
     let sp = split2 bs b0 b1 b2 g1 g2 h in
     subst (λ all. CodedAll bs free all leave next from after) (sym is) (middle, ms bs sp.1, mr bs sp.0)
 
-pub assign_code : (b0 b1 : List RBlock) (free : ℕ) (to : Destination) (x x' : ℕ) (e : TypedExpression) (code : Code) (after : Spot) → to ≡ Local x → x' ≡ x
-    → Gives b0 b1 e free x' code (line_of after) → MakesSimply b0 b1 free (assign to e) (Line code) after
-assign_code b0 b1 free to x x' e code after is ix ge leave next bs h =
-    coded_equal bs free (assign to e) (assign (Local x') e) leave next (Line code) after (ap (λ to. assign to e) (is ∙ ap Local (sym ix)))
-    (record { code = code; is = refl; value = ge bs h })
-
-pub put_code_code : (b0 b1 : List RBlock) (free : ℕ) (to : Destination) (x x' : ℕ) (e : TypedExpression) (p next_free z : ℕ) (code last middle : Code)
-    (after : Spot)
-    → to ≡ Variable x → x' ≡ x → z ≡ next_free → last ≡ first (I.Store x' z p) (line_of after) → middle ≡ first (I.Const z 0) last
-    → IsPlace e free p next_free
-    → Finds b0 b1 e free p code middle → MakesSimply b0 b1 free (assign to e) (Line code) after
-put_code_code b0 b1 free to x x' e p next_free z code last middle after is ix iz fl fm pl f leave next bs h =
-    coded_equal bs free (assign to e) (assign (Variable x') e) leave next (Line code) after (ap (λ to. assign to e) (is ∙ ap Variable (sym ix))) (record {
-      code = code;
-      is = refl;
-      p = p;
-      next = next_free;
-      z = z;
-      is_place = pl;
-      spare = omega arith;
-      value = finds_to (fm ∙ ap (first (I.Const z 0)) fl) (f bs h);
-    })
-
 pub store_code : (b0 b1 b2 : List RBlock) (free : ℕ) (a a' : ℕ) (i e : TypedExpression) (p next_free q last : ℕ) (code middle after' : Code) (after : Spot)
     → a' ≡ a → after' ≡ first (I.Store a' p q) (line_of after) → IsPlace i free p next_free → IsPlace e next_free q last → Grows b0 b1 → Grows b1 b2
     → Finds b0 b1 e next_free q middle after' → Finds b1 b2 i free p code middle → MakesSimply b0 b2 free (store a i e) (Line code) after
@@ -93,54 +68,10 @@ store_code b0 b1 b2 free a a' i e p next_free q last code middle after' after ia
       value = finds_to fe (fb bs sp.0);
     })
 
--- an exit by a value
-pub leaves_code : (b0 b1 : List RBlock) (free next_free : ℕ) (e : TypedExpression) (p : ℕ) (exit : ℕ → RExit) (code end : Code) → end ≡ exit_code (exit p)
-    → IsPlace e free p next_free → Finds b0 b1 e free p code end → Over b0 b1 (λ bs. Leaves bs free e (Line code) exit)
-leaves_code b0 b1 free next_free e p exit code end fe pl f bs h =
-    record { code = code; is = refl; p = p; next = next_free; is_place = pl; value = finds_to fe (f bs h) }
-
-pub return_code : (b0 b1 : List RBlock) (free next_free : ℕ) (e : TypedExpression) (p : ℕ) (code end : Code) → end ≡ exit_code (X.Return (Some p))
-    → IsPlace e free p next_free → Finds b0 b1 e free p code end
-    → (leave : ℕ) (next : Option ℕ) (after : Spot) → Makes b0 b1 free (return_with (Some e)) leave next (Line code) after
-return_code b0 b1 free next_free e p code end fe pl f leave next after bs h =
-    leaves_code b0 b1 free next_free e p (λ p. X.Return (Some p)) code end fe pl f bs h
-
-pub output_code : (b0 b1 b2 : List RBlock) (free next_free : ℕ) (e : TypedExpression) (p : ℕ) (code end : Code) (after : Spot) (goes_on : ℕ)
-    → end ≡ exit_code (X.Out p goes_on) → IsPlace e free p next_free → Grows b0 b1 → Grows b1 b2 → Joins b0 b1 goes_on after
-    → Finds b1 b2 e free p code end
-    → MakesSimply b0 b2 free (output e) (Line code) after
-output_code b0 b1 b2 free next_free e p code end after goes_on fe pl g1 g2 s1 f leave next bs h =
-    let sp = split2 bs b0 b1 b2 g1 g2 h in
-    record { block = goes_on; lands = s1 bs sp.0; leaves = leaves_code b1 b2 free next_free e p (λ p. X.Out p goes_on) code end fe pl f bs sp.1 }
-
 -- where a result goes
 
 abbrev pub Places : List RBlock → List RBlock → ℕ → Option Destination → Option ℕ → ℕ → Spot → Type 0
 Places old new free place to goes_on after = (bs : List RBlock) → Has bs old new → Receives bs free place to goes_on after
-
-pub nowhere_code : (b0 b1 : List RBlock) (free : ℕ) (place : Option Destination) (goes_on : ℕ) (after : Spot) → place ≡ None
-    → Joins b0 b1 goes_on after
-    → Places b0 b1 free place None goes_on after
-nowhere_code b0 b1 free place goes_on after is j bs h = subst (λ pl. Receives bs free pl None goes_on after) (sym is) (refl, j bs h)
-
-pub to_local_code : (b0 b1 : List RBlock) (free : ℕ) (place : Option Destination) (x x' goes_on : ℕ) (after : Spot) → place ≡ Some (Local x) → x' ≡ x
-    → Joins b0 b1 goes_on after → Places b0 b1 free place (Some x') goes_on after
-to_local_code b0 b1 free place x x' goes_on after is ix j bs h =
-    subst (λ pl. Receives bs free pl (Some x') goes_on after) (sym (is ∙ ap (λ x. Some (Local x)) (sym ix))) (refl, j bs h)
-
-pub to_global_code : (b0 b1 : List RBlock) (free : ℕ) (place : Option Destination) (x x' t z goes_on : ℕ) (last code : Code) (after : Spot)
-    → place ≡ Some (Variable x) → x' ≡ x → t ≡ free → z ≡ t + 1 → last ≡ first (I.Store x' z t) (line_of after) → code ≡ first (I.Const z 0) last
-    → Joins b0 b1 goes_on (Line code) → Places b0 b1 free place (Some t) goes_on after
-to_global_code b0 b1 free place x x' t z goes_on last code after is ix it iz fl fc j bs h =
-    let here : PutsResult bs free x' (Some t) goes_on after = record {
-      t = t;
-      z = z;
-      is = refl;
-      low = omega arith;
-      apart = omega arith;
-      there = at_equal (fc ∙ ap (first (I.Const z 0)) fl) (j bs h);
-    } in
-    subst (λ pl. Receives bs free pl (Some t) goes_on after) (sym (is ∙ ap (λ x. Some (Variable x)) (sym ix))) here
 
 pub call_code : (b0 b1 b2 : List RBlock) (free : ℕ) (place : Option Destination) (f f' : ℕ) (to : Option ℕ) (es : List TypedExpression)
     (places0 places ps1 ps2 : List Place) (args : Vec ℕ Global) (code end : Code) (after : Spot) (goes_on : ℕ) → f' ≡ f → places0 ≡ []
@@ -201,9 +132,6 @@ turn_block b0 b1 b last l bs h = record {
   continues = λ b' e. let is : b
       ≡ b' = cc in subst (λ b. Lands bs b last) is (l bs h);
 }
-
-pub turn_on : (bs : List RBlock) (last : Spot) → IsTurn bs None last last
-turn_on bs last = record { comes = comes_equal bs last last refl; continues = λ b e. cc }
 
 -- before the block that was filled
 has_before : (bs b0 b1 b7 b8 : List RBlock) (head : ℕ) (c : Code) → Grows b1 b7 → length b1 ≤ head → Fills b7 b8 head c → Has bs b0 b8 → Has bs b0 b1

@@ -1,7 +1,6 @@
 -- Which code stands for a statement, a function and a program. `free` is the number of the function's locals, and so the
 -- first register that is free.
-use Rattle.std.specs.Prelude.{◌≡◌, ℕ, ◌<◌, ◌≤◌, ◌⊎◌, List, [], ◌∷◌, length, Option, Some, None, slice_get, map, replicate}
-use Rattle.words.specs.Words.{wrap}
+use Rattle.std.specs.Prelude.{◌≡◌, ℕ, ◌<◌, ◌≤◌, ◌⊎◌, List, [], ◌∷◌, Option, Some, None, slice_get, map}
 use Rattle.runs.specs.Stores.{Places, Arrays}
 use Rattle.runs.specs.Runs.{with_value}
 use Rattle.c_typed.specs.declared.tree.Destination.{Destination}

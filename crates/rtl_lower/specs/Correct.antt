@@ -1,6 +1,5 @@
 -- The theorem of the lowering.
 use Rattle.std.specs.Prelude.{◌≡◌, ◌≢◌, ℕ, ◌≤◌}
-use Rattle.runs.specs.Runs.{Outcome}
 use Rattle.runs.specs.declared.ran.End.TheVariants.{Wrong}
 use Rattle.c_typed.specs.Trees.{TypedProgram}
 use Rattle.c_typed.specs.Meaning.{source_run}

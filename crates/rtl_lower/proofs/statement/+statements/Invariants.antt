@@ -1,4 +1,4 @@
-use Rattle.std.proofs.Common.{◌≡◌, ◌-◌, length, drop}
+use Rattle.std.proofs.Common.{◌-◌, length, drop}
 use Rattle.c_typed.specs.Shape.{statements_of}
 use Rattle.rtl_emit.specs.Blocks.{spot, Grows}
 use Rattle.rtl_lower.proofs.Statements.{MakesAll}

@@ -1,4 +1,4 @@
-use Rattle.rtl_lower.proofs.Statements.{turn_block, turn_on}
+use Rattle.rtl_lower.proofs.Statements.{turn_block}
 use Rattle.rtl_lower.proofs.statement.turn_to.Goals as goal
 
 pub returns-in_ok-block-clause-turn : goal.returns-in_ok-block-clause-turn
