@@ -15,6 +15,7 @@ use Rattle.runs.proofs.Steps.{steps-add}
 use Rattle.runs.proofs.Words.{at-index}
 use Rattle.c_typed.specs.declared.tree.Destination.{Destination}
 use Rattle.c_typed.specs.declared.tree.Destination.TheVariants.{Local, Global as Variable}
+use Rattle.c_typed.specs.declared.tree.Global.{Global}
 use Rattle.c_typed.specs.Trees.{TypedExpression, TypedStatement, TypedFunction, TypedProgram, empty, block, unset, assign, store, call, output}
 use Rattle.c_typed.specs.Trees.{if_else, loop}
 use Rattle.c_typed.specs.Trees.{break_loop, continue_loop, return_with}
