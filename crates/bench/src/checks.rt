@@ -86,6 +86,9 @@ fn opened(alloc: Global) -> Option<(TermTable, Pass)>
 
 /// How many terms the check of a text links, in a table of a million; None where there is no text or no memory.
 fn terms(alloc: Global, text: &str) -> Option<u64> {
+    if text.len() > 1_048_576 {
+        return None;
+    }
     let Ok(Text { block, order }) = check_text::read(alloc, text.as_bytes()) else {
         return None;
     };

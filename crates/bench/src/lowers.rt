@@ -11,11 +11,14 @@ use std::time::Instant;
 
 const TURN: &str = "while(r<100&&m!=0u){a[r]=r>>1;if(r&1)r=r+3;else r=f(r,m);}";
 
-const FUNCTIONS: usize = 250;
+const FUNCTIONS: usize = 50;
 
-/// A program of so many functions with loops, of about so many bytes.
+/// What a function has around its loops, in bytes.
+const AROUND: usize = 50;
+
+/// A program of functions with loops, of at most so many bytes and not many less.
 fn program_text(alloc: Global, length: usize) -> Result<String, AllocError> {
-    let turns = length / FUNCTIONS / (TURN.len() + 1);
+    let turns = (length / FUNCTIONS).saturating_sub(AROUND) / TURN.len();
     let mut text = String::from_str(alloc, "int a[64];int f(int n,unsigned m){return n+1;}\n")?;
     for number in 0..FUNCTIONS {
         write!(text, "int f{number}(int n,unsigned m){{int r=n;")?;
@@ -120,7 +123,7 @@ pub(crate) fn files(rt: &HostRuntime, names: &[String]) -> anyhow::Result<()> {
 /// What the texts of 64 KiB and 1 MiB are lowered to, and with figures the times.
 pub(crate) fn show(rt: &HostRuntime, figures: bool) -> anyhow::Result<()> {
     for length in [65_536, 1_048_576] {
-        let text = program_text(rt.alloc(), length - 16_000)?;
+        let text = program_text(rt.alloc(), length)?;
         let name = format!(in rt.alloc(); "{length} bytes of C at most")?;
         show_text(rt, name.as_str(), text.as_bytes(), figures)?;
     }

@@ -7,7 +7,10 @@ use std::test::Fail;
 /// What `check` prints of a block and an order with the same exit, `return`, and an empty slot.
 fn printed(alloc: Global, block: &str, order: &str) -> Result<String, AllocError> {
     let mut text = String::new(alloc);
-    write!(text, "block\n{block}return\norder\n{order}return\nslot nop\n")?;
+    write!(
+        text,
+        "block\n{block}return\norder\n{order}return\nslot nop\n"
+    )?;
     match check(alloc, text.as_bytes()) {
         Ok(answer) => format!(in alloc; "{answer}"),
         Err(_) => Ok(String::new(alloc)),
@@ -20,11 +23,7 @@ const ROWS: [(&str, &str, &str); 10] = [
         "sw $9,4($29)\nsw $8,0($29)\n",
         "same",
     ),
-    (
-        "addiu $8,$8,4\naddiu $8,$8,4\n",
-        "addiu $8,$8,8\n",
-        "same",
-    ),
+    ("addiu $8,$8,4\naddiu $8,$8,4\n", "addiu $8,$8,8\n", "same"),
     ("addiu $8,$8,4\naddiu $8,$8,-4\n", "", "same"),
     (
         "sw $8,0($29)\nlw $9,4($29)\n",

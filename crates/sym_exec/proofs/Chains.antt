@@ -199,16 +199,19 @@ pub store-goes : {p : PassState} {k : ℕ} {n : Tree} {at : TermAddress} (xs : L
     → (o : Tree) × HasTree p s.before o × Makes p s (store_tree w o b y) (store_tree w n b y)
 store-goes {p} {k} {n} {at} xs s w b y legal chain tree h e =
     let l = chain-pop chain tree in
-    let m = l.makes in
-    (l.old, l.has_old, record {
-      address = m.address;
-      value = m.value;
-      has_address = m.has_address;
-      has_value = m.has_value;
-      at = m.at;
-      tree = ap (λ t. store_tree w t b y) m.tree
-          ∙ store-step w s.width l.old m.address m.value b y true (passes_inward-is w b legal m h ∙ e);
-    })
+    let m = l.makes in (
+      l.old,
+      l.has_old,
+      record {
+        address = m.address;
+        value = m.value;
+        has_address = m.has_address;
+        has_value = m.has_value;
+        at = m.at;
+        tree = ap (λ t. store_tree w t b y) m.tree
+            ∙ store-step w s.width l.old m.address m.value b y true (passes_inward-is w b legal m h ∙ e);
+      },
+    )
 
 pub store-last : {p : PassState} {k : ℕ} {n : Tree} (w : Width) (b y : Tree) → IsChain p [] k → HasTree p k n
     → store_tree w n b y ≡ ternary (Store w) n b y

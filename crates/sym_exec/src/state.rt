@@ -8,7 +8,10 @@ use words::{Sign, Width};
 /// division has a value.
 #[derive(Clone, Copy, Debug, PartialEq, Eq)]
 pub enum Guard {
-    Address { width: Width, address: Ticket },
+    Address {
+        width: Width,
+        address: Ticket,
+    },
     Division {
         sign: Sign,
         dividend: Ticket,

@@ -74,12 +74,7 @@ fn is_addition(op: Operator) -> bool
 }
 
 // A sum: a constant on its right is added to the constant on its left.
-fn sum_term(
-    table: &TermTable,
-    pass: &mut Pass,
-    a: Ticket,
-    b: Ticket,
-) -> Result<Ticket, TableFull>
+fn sum_term(table: &TermTable, pass: &mut Pass, a: Ticket, b: Ticket) -> Result<Ticket, TableFull>
     requires table { IsOf table.now pass.old }
     requires a { HasSeen pass.old a }
     requires b { HasSeen pass.old b }

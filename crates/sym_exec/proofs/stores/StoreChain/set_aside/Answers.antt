@@ -46,9 +46,12 @@ loop-last-preserved c = record {
   trees = λ p m b v legal chain tree at.
       let now = c.loop-last.invariant.trees p m b v legal chain tree at in
       let whole = subst (λ xs. IsChain p xs c.loop-last.memory) c.in-Some.ensures.items (c.loop-last.invariant.chain p chain) in
-      let next = store-goes c.pop.new.self.items c.in-Some.last c.args.width b v legal whole now.1 at (search rules) in
-      (next.0, next.1, subst (λ xs. Rebuilds p xs (store_tree c.args.width next.0 b v) (store_tree c.args.width m b v)) (sym c.push_reserved-in-Some.ensures.items)
-      (rebuilds-push p c.loop-last.self.moved.items c.in-Some.last _ _ _ now.2 next.2));
+      let next = store-goes c.pop.new.self.items c.in-Some.last c.args.width b v legal whole now.1 at (search rules) in (
+        next.0,
+        next.1,
+        subst (λ xs. Rebuilds p xs (store_tree c.args.width next.0 b v) (store_tree c.args.width m b v)) (sym c.push_reserved-in-Some.ensures.items)
+            (rebuilds-push p c.loop-last.self.moved.items c.in-Some.last _ _ _ now.2 next.2),
+      );
   count = search rules;
   kept = search rules;
   moving = search rules;

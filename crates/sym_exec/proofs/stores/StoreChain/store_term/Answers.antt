@@ -12,15 +12,17 @@ use Rattle.sym_exec.proofs.stores.StoreChain.store_term.Goals as goal
 pub push-requires-clause-made : goal.push-requires-clause-made
 push-requires-clause-made c = λ t h.
     let b = seen_tree c.requires.legal c.requires.address in
-    let v = seen_tree c.requires.legal c.requires.value in
-    (ternary (Store c.args.width) t b.0 v.0, record {
-      address = b.0;
-      value = v.0;
-      has_address = b.1;
-      has_value = v.1;
-      at = c.requires.at b.0 b.1;
-      tree = refl;
-    })
+    let v = seen_tree c.requires.legal c.requires.value in (
+      ternary (Store c.args.width) t b.0 v.0,
+      record {
+        address = b.0;
+        value = v.0;
+        has_address = b.1;
+        has_value = v.1;
+        at = c.requires.at b.0 b.1;
+        tree = refl;
+      },
+    )
 
 pub loop-stored-init : goal.loop-stored-init
 loop-stored-init c =
@@ -36,10 +38,14 @@ loop-stored-init c =
       table = c.in_ok-memory.ensures.pass.table;
       later = on;
       chain = c.in_ok-memory.ensures.chain;
-      trees = (first, whole, c.in_ok-memory.ensures.tree aside.0 first aside.1
-        (record { address = b.0; value = v.0; has_address = b.1; has_value = v.1; at = at; tree = refl }),
+      trees = (
+        first,
+        whole,
+        c.in_ok-memory.ensures.tree aside.0 first aside.1
+            (record { address = b.0; value = v.0; has_address = b.1; has_value = v.1; at = at; tree = refl }),
         subst (λ xs. Rebuilds c.push.new.pass xs first whole) (search rules) (rebuilds-on c.set_aside-inner.new.self.moved.items first whole on aside.2),
-        λ x y z hx hy hz. λ i. store_tree c.args.width (one_tree m.1 hx i) (one_tree b.1 hy i) (one_tree v.1 hz i));
+        λ x y z hx hy hz. λ i. store_tree c.args.width (one_tree m.1 hx i) (one_tree b.1 hy i) (one_tree v.1 hz i),
+      );
       count = search rules;
       kept = search rules;
       moving = search rules;
@@ -81,9 +87,13 @@ loop-stored-preserved c =
       table = c.in_ok-memory-2.ensures.pass.table;
       later = later_more c.loop-stored.invariant.later on;
       chain = c.in_ok-memory-2.ensures.chain;
-      trees = (next.0, now.1, c.in_ok-memory-2.ensures.tree now.0 next.0 now.2 next.1,
+      trees = (
+        next.0,
+        now.1,
+        c.in_ok-memory-2.ensures.tree now.0 next.0 now.2 next.1,
         subst (λ xs. Rebuilds c.push-in-Some.new.pass xs next.0 now.1) (search rules) (rebuilds-on c.pop.new.self.items next.0 now.1 on next.2),
-        now.4);
+        now.4,
+      );
       count = search rules;
       kept = search rules;
       moving = search rules;
