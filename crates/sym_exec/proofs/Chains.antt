@@ -1,14 +1,15 @@
 -- Chains of stores: they go on, and a store comes to their end and goes from it.
-use Rattle.std.proofs.Common.{◌≡◌, ℕ, ◌&&◌, ◌==◌, ◌++◌, Bool, true, false, cond, List, [], ◌∷◌, refl, sym, ap, ap₂, ◌∙◌, subst, true≢false, eq-eqb, eqb-true, length, arith}
+use Rattle.std.proofs.Common.{◌≡◌, ℕ, ◌&&◌, ◌==◌, ◌++◌, Bool, true, false, cond, List, [], ◌∷◌, refl, sym}
+use Rattle.std.proofs.Common.{ap, ap₂, ◌∙◌, subst, true≢false, eq-eqb, eqb-true, length, arith}
 use Rattle.std.specs.Prelude.{int_lt}
 use Rattle.words.specs.declared.width.Width.{Width}
 use Rattle.words.specs.Words.{signed}
 use Rattle.sym_terms.specs.declared.label.Label.TheVariants.{Mem0, Load, Store}
 use Rattle.sym_terms.specs.Trees.{Tree, leaf, binary, ternary}
 use Rattle.sym_terms.specs.Sameness.{are_same}
-use Rattle.sym_terms.specs.NormalForms.{Address, address_of, are_disjoint, are_apart, is_passed, is_passed_inward, load_tree, store_tree}
+use Rattle.sym_terms.specs.NormalForms.{Address, address_of, are_disjoint, is_passed, is_passed_inward, load_tree, store_tree}
 use Rattle.sym_terms.proofs.Sameness.{same-is, same-self}
-use Rattle.term_table.specs.Passes.{PassState, HasSeen}
+use Rattle.term_table.specs.Passes.{PassState}
 use Rattle.term_table.specs.Trees.{HasTree, HasLegalHistory}
 use Rattle.term_table.proofs.Callers.{still_tree, same_trees, one_tree}
 use Rattle.sym_exec.specs.declared.address.TermAddress.{TermAddress}
@@ -101,7 +102,12 @@ pub record Popped (p : PassState) (xs : List Stored) (s : Stored) (n : ℕ) (u :
 pub chain-pop : {p : PassState} {xs : List Stored} {s : Stored} {n : ℕ} {u : Tree} → IsChain p (xs ++ s ∷ []) n → HasTree p n u → Popped p xs s n u
 chain-pop {p} {xs} {s} {n} {u} h tree =
     let l = leads-pop p h.start (leaf Mem0) xs s n h.leads in
-    record { chain = record { start = h.start; leads = l.rest }; old = l.old; has_old = l.has_old; makes = subst (Makes p s l.old) (one_tree l.has_new tree) l.makes }
+    record {
+      chain = record { start = h.start; leads = l.rest };
+      old = l.old;
+      has_old = l.has_old;
+      makes = subst (Makes p s l.old) (one_tree l.has_new tree) l.makes;
+    }
 
 -- what is rebuilt from one store less
 pub rebuilds-push : (p : PassState) (xs : List Stored) (s : Stored) (t v u : Tree) → Rebuilds p xs v u → Makes p s t v → Rebuilds p (xs ++ s ∷ []) t u

@@ -1,15 +1,15 @@
 -- What a node that was read says of its tree.
-use Rattle.std.proofs.Common.{◌≡◌, ◌≢◌, ℕ, zero, suc, ◌+◌, ◌<◌, ◌≤◌, ◌^◌, ◌==◌, Bool, true, false, cond, List, [], ◌∷◌, length, slice_index_or, Option, Some, None, refl, sym, ap, ap₂, ◌∙◌, subst, true≢false, eqb-true, arith}
-use Rattle.words.specs.declared.operator.Operator.{Operator}
+use Rattle.std.proofs.Common.{◌≡◌, ◌≢◌, ℕ, ◌+◌, ◌<◌, ◌≤◌, ◌^◌, true, false, List, [], ◌∷◌, length}
+use Rattle.std.proofs.Common.{slice_index_or, Some, None, refl, sym, ap, ap₂, ◌∙◌, subst, true≢false, arith}
 use Rattle.words.specs.declared.operator.Operator.TheVariants.{Addu}
 use Rattle.words.specs.Words.{wrap}
 use Rattle.sym_terms.specs.declared.label.Label.{Label}
 use Rattle.sym_terms.specs.declared.label.Label.TheVariants.{Init, Mem0, Const, Op, Load, Store}
 use Rattle.sym_terms.specs.Trees.{Tree, Trees, node, none, more, leaf, binary}
-use Rattle.sym_terms.specs.NormalForms.{label_constant, constant_of, is_addition, is_sum, at_base, sum_address, address_of, tree_plus, sum_tree, const_tree, op_tree}
+use Rattle.sym_terms.specs.NormalForms.{label_constant, constant_of, is_sum, at_base, sum_address, address_of, tree_plus, const_tree, op_tree}
 use Rattle.sym_terms.proofs.Sameness.{operator-is}
 use Rattle.term_table.specs.Passes.{TableState, PassState, IsOf, HasSeen}
-use Rattle.term_table.specs.Trees.{HasTree, HaveTrees, Extends, HasLegalHistory, IsNode}
+use Rattle.term_table.specs.Trees.{HasTree, HaveTrees, HasLegalHistory, IsNode}
 use Rattle.term_table.proofs.Callers.{still_tree, seen_tree, one_tree}
 use Rattle.sym_exec.specs.declared.address.TermAddress.{TermAddress}
 use Rattle.sym_exec.specs.Standing.{Later, AfterReads, IsAddress, AreSummands}
@@ -89,7 +89,9 @@ summands-of {p} {l} {left} {right} {x} n e = go n.trees n.tree n.have
 pub address-sum : {p : PassState} {left right : ℕ} {x : Tree} (s : AreSummands p left right x) (c : ℕ) → c < 2 ^ 32 → constant_of s.b ≡ Some c
     → address_of x ≡ record { base = s.a; offset = c }
 address-sum {p} {left} {right} {x} s c low e =
-    ap address_of s.sum ∙ (ap (λ o. sum_address true (binary (Op Addu) s.a s.b) s.a o) e ∙ ap (λ n. record { base = s.a; offset = n }) (let h : wrap c ≡ c = omega (arith, low) in h))
+    let same : wrap c ≡ c = omega (arith, low) in
+    ap address_of s.sum
+    ∙ (ap (λ o. sum_address true (binary (Op Addu) s.a s.b) s.a o) e ∙ ap (λ n. record { base = s.a; offset = n }) same)
 
 pub address-none : {p : PassState} {left right : ℕ} {x : Tree} (s : AreSummands p left right x) → constant_of s.b ≡ None → address_of x ≡ at_base x
 address-none {p} {left} {right} {x} s e =

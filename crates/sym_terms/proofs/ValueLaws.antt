@@ -1,5 +1,5 @@
 -- Normal forms keep the value.
-use Rattle.std.proofs.Common.{◌≡◌, ◌≢◌, ℕ, ◌+◌, ◌-◌, ◌%◌, ◌^◌, ◌<◌, ◌≤◌, nat_le, Bool, true, false, cond, not, ◌&&◌, ◌==◌, Option, Some, None}
+use Rattle.std.proofs.Common.{◌≡◌, ◌≢◌, ℕ, ◌+◌, ◌%◌, ◌^◌, ◌<◌, Bool, true, false, cond, not, ◌==◌, Option, Some, None}
 use Rattle.std.proofs.Common.{refl, sym, ap, ap₂, ◌∙◌, subst, true≢false, eqb-true, leb-true, arith}
 use Rattle.std.proofs.lemmas.Bool.{and_parts, eqb-false, not-true}
 use Rattle.std.proofs.lemmas.Option.{same_Some, none-some}
@@ -13,11 +13,10 @@ use Rattle.words.proofs.Bounds.{op_words}
 use Rattle.mips_isa.specs.States.{State, IsWords, AreApart, load_at, store_at}
 use Rattle.mips_isa.proofs.Memory.{load-past-store, stores-commute}
 use Rattle.mips_isa.proofs.StateWords.{load_below, store_below}
-use Rattle.sym_terms.specs.declared.label.Origin.{Origin}
 use Rattle.sym_terms.specs.declared.label.Origin.TheVariants.{Register, Hi, Lo, Link}
 use Rattle.sym_terms.specs.declared.label.Label.{Label}
 use Rattle.sym_terms.specs.declared.label.Label.TheVariants.{Init, Mem0, Const, Op, Load, Store}
-use Rattle.sym_terms.specs.Trees.{Tree, Trees, node, none, more, leaf, binary, ternary}
+use Rattle.sym_terms.specs.Trees.{Tree, node, none, more, leaf, binary, ternary}
 use Rattle.sym_terms.specs.Values.{tree_word, tree_memory, leaf_value, binary_value, ternary_memory}
 use Rattle.sym_terms.specs.Sameness.{are_same}
 use Rattle.sym_terms.specs.NormalForms.{const_tree, label_constant, constant_of, is_addition, is_sum, Address, sum_address, address_of, tree_plus, sum_tree}
@@ -201,7 +200,8 @@ module _ (s : State) (link : ℕ) (words : IsWords s) (low : link < 2 ^ 32) wher
       go below true e =
           let p = store-passed l (address_of a) w (address_of b) e in
           below
-          ∙ (sym (load-past-store p.0 w s.mapped (tree_memory m s link) (tree_word a s link) (tree_word y s link) (tree_word b s link) (apart-values p.0 w a b p.2))
+          ∙ (sym (load-past-store p.0 w s.mapped (tree_memory m s link) (tree_word a s link) (tree_word y s link) (tree_word b s link)
+          (apart-values p.0 w a b p.2))
           ∙ ap (λ k. load_at w s.mapped (tree_memory (ternary k m a y) s link) (tree_word b s link)) (sym p.1))
   load-value w (node l (more x (more y (more z (more u rest))))) b = refl
 

@@ -1,16 +1,16 @@
 -- Where C gives two words a value, the machine's operator gives the same.
-use Rattle.std.proofs.Common.{◌≡◌, ℕ, zero, suc, ◌+◌, ◌-◌, ◌*◌, ◌/◌, ◌%◌, ◌^◌, ◌<◌, ◌≤◌, Bool, true, false, cond, ◌&&◌, nat_lt, ℤ, pos}
-use Rattle.std.proofs.Common.{negsuc, Option, Some, None, refl, sym, ap, subst, ◌∙◌, arith}
+use Rattle.std.proofs.Common.{◌≡◌, ℕ, ◌-◌, ◌*◌, ◌%◌, ◌^◌, ◌<◌, Bool, true, false, cond, ◌&&◌, nat_lt, ℤ, pos}
+use Rattle.std.proofs.Common.{negsuc, Option, Some, None, refl, sym, ap, ◌∙◌, arith}
 use Rattle.std.specs.Prelude.{neg_ℤ, ◌+ℤ◌, ◌-ℤ◌, ◌*ℤ◌}
-use Rattle.std.specs.Int.{w32, w64, cast_unsigned}
+use Rattle.std.specs.Int.{w64, cast_unsigned}
 use Rattle.std.proofs.lemmas.Int.{ints}
 use Rattle.std.proofs.lemmas.Option.{same_Some, none-some}
 use Rattle.std.specs.Int.Bits.{or_zero_r}
 use Rattle.words.specs.declared.sign.Sign.{Sign}
 use Rattle.words.specs.declared.sign.Sign.TheVariants.{Signed, Unsigned}
-use Rattle.words.specs.declared.operator.Operator.TheVariants.{Addu, Subu, Nor, Sll, Srl, Sra}
+use Rattle.words.specs.declared.operator.Operator.TheVariants.{Addu, Subu, Nor, Sll}
 use Rattle.words.specs.Words.{wrap, signed, word_of_int}
-use Rattle.words.specs.Operators.{op_value, or_zero, product, quotient_of, remainder_of, low_half}
+use Rattle.words.specs.Operators.{op_value, or_zero, quotient_of, remainder_of}
 use Rattle.words.specs.C.{fits_int, as_int, sum_of, difference_of, times_of, negation_of, left_shift_of, right_shift_of}
 use Rattle.words.specs.Laws.{product_operator, quotient_operator, remainder_operator, right_shift_operator}
 

@@ -3,7 +3,7 @@ use Rattle.std.specs.Prelude.{◌≡◌, ◌<◌, ◌-◌, ◌^◌, ℕ, Some}
 use Rattle.words.specs.declared.sign.Sign.{Sign}
 use Rattle.words.specs.declared.sign.Sign.TheVariants.{Signed, Unsigned}
 use Rattle.words.specs.declared.operator.Operator.{Operator}
-use Rattle.words.specs.declared.operator.Operator.TheVariants.{Addu, Subu, Nor, Slt, Sltu, Sll, Srl, Sra, MultLow, MultuLow, DivQuotient}
+use Rattle.words.specs.declared.operator.Operator.TheVariants.{Addu, Subu, Nor, Sll, Srl, Sra, MultLow, MultuLow, DivQuotient}
 use Rattle.words.specs.declared.operator.Operator.TheVariants.{DivRemainder, DivuQuotient, DivuRemainder}
 use Rattle.words.specs.Operators.{op_value, quotient_of, remainder_of}
 use Rattle.words.specs.C.{sum_of, difference_of, times_of, negation_of, left_shift_of, right_shift_of}

@@ -13,5 +13,7 @@ binary_term-requires-clause-a c = still_seen c.in_ok-constant.ensures.pass.later
 
 pub returns-clause-tree : goal.returns-clause-tree
 returns-clause-tree c = λ x h.
-    subst (λ b. IfOk c.binary_term.result (λ t. HasTree c.binary_term.new.pass t (cond b x (binary (Op Addu) x (const_tree c.args.offset))))) (sym (ne_eqb c.args.offset 0 c.if-offset-eq0.false))
+    let sum = binary (Op Addu) x (const_tree c.args.offset) in
+    subst (λ b. IfOk c.binary_term.result (λ t. HasTree c.binary_term.new.pass t (cond b x sum)))
+    (sym (ne_eqb c.args.offset 0 c.if-offset-eq0.false))
     (c.binary_term.ensures.tree x _ (still_tree c.in_ok-constant.ensures.pass.later.extends h) c.in_ok-constant.ensures.tree)

@@ -1,4 +1,4 @@
-use Rattle.std.proofs.Common.{◌≡◌, ◌∙◌, sym, subst, false, true, rules, List, ℕ}
+use Rattle.std.proofs.Common.{◌≡◌, ◌∙◌, sym, subst, false, rules, List, ℕ}
 use Rattle.sym_terms.specs.NormalForms.{is_sum}
 use Rattle.term_table.specs.Trees.{IsNode}
 use Rattle.sym_exec.proofs.Reading.{address-other, address-few, summands-of, two-of}

@@ -1,5 +1,4 @@
-use Rattle.std.proofs.Common.{◌≡◌, ◌∙◌, ◌++◌, ◌∷◌, [], List, refl, sym, subst, length, arith, rules}
-use Rattle.sym_exec.specs.declared.stores.Stored.{Stored}
+use Rattle.std.proofs.Common.{◌∙◌, refl, subst, rules}
 use Rattle.sym_exec.specs.Stores.{IsChain}
 use Rattle.sym_exec.proofs.Chains.{chain-pop, load-stays, load-passes, load-last, none-of}
 use Rattle.sym_exec.proofs.stores.seen_memory.Goals as goal

@@ -1,9 +1,8 @@
-use Rattle.std.proofs.Common.{◌≡◌, ◌∙◌, sym, ap, subst, rules}
+use Rattle.std.proofs.Common.{◌∙◌, sym, subst, rules}
 use Rattle.std.specs.Prelude.{IfOk}
 use Rattle.term_table.specs.Trees.{HasTree}
 use Rattle.term_table.proofs.Callers.{still_seen, still_tree}
 use Rattle.sym_terms.specs.NormalForms.{address_of, tree_plus, sum_tree}
-use Rattle.sym_exec.proofs.Tickets.{later_more}
 use Rattle.sym_exec.proofs.terms.sum_term.Goals as goal
 
 pub address_at-at-requires-clause-seen : goal.address_at-at-requires-clause-seen

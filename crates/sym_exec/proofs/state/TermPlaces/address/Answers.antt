@@ -1,9 +1,9 @@
-use Rattle.std.proofs.Common.{◌∙◌, sym, ap, subst, rules}
+use Rattle.std.proofs.Common.{sym, subst, rules}
 use Rattle.std.specs.Prelude.{IfOk}
 use Rattle.sym_terms.specs.NormalForms.{address_of, tree_plus}
 use Rattle.term_table.specs.Trees.{HasTree}
 use Rattle.sym_exec.specs.Symbolic.{register_tree}
-use Rattle.sym_exec.proofs.Tickets.{get_seen, get_tree, later_more}
+use Rattle.sym_exec.proofs.Tickets.{get_seen, get_tree}
 use Rattle.sym_exec.proofs.Reading.{address-is}
 use Rattle.sym_exec.proofs.state.TermPlaces.address.Goals as goal
 

@@ -1,4 +1,4 @@
-use Rattle.std.proofs.Common.{refl, subst, rules}
+use Rattle.std.proofs.Common.{refl, subst}
 use Rattle.mips_isa.specs.States.{put}
 use Rattle.sym_terms.specs.NormalForms.{load_tree}
 use Rattle.term_table.proofs.Callers.{still_seen, still_tree}

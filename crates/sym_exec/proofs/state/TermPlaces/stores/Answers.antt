@@ -1,4 +1,3 @@
-use Rattle.std.proofs.Common.{rules}
 use Rattle.term_table.proofs.Callers.{still_seen, still_tree}
 use Rattle.sym_exec.specs.Symbolic.{register_tree, address_tree}
 use Rattle.sym_exec.specs.Standing.{Stands, Known}

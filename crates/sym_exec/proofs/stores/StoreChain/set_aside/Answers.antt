@@ -1,7 +1,5 @@
-use Rattle.std.proofs.Common.{◌≡◌, ◌∙◌, ◌++◌, ◌∷◌, [], ◌+◌, ◌<◌, refl, sym, ap, subst, length, arith, rules}
-use Rattle.sym_terms.specs.Trees.{Tree}
+use Rattle.std.proofs.Common.{◌≡◌, ◌∙◌, [], refl, sym, subst, rules}
 use Rattle.sym_terms.specs.NormalForms.{store_tree}
-use Rattle.sym_exec.specs.declared.stores.Stored.{Stored}
 use Rattle.sym_exec.specs.Stores.{IsChain, Rebuilds}
 use Rattle.sym_exec.proofs.Chains.{chain-pop, chain-tree, rebuilds-push, store-stays, store-goes, store-last, none-of}
 use Rattle.sym_exec.proofs.stores.StoreChain.set_aside.Goals as goal
@@ -9,7 +7,9 @@ use Rattle.sym_exec.proofs.stores.StoreChain.set_aside.Goals as goal
 pub loop-last-init : goal.loop-last-init
 loop-last-init c = record {
   chain = λ p h. h;
-  trees = λ p m b v legal chain tree at. (m, tree, subst (λ xs. Rebuilds p xs (store_tree c.args.width m b v) (store_tree c.args.width m b v)) (sym c.requires.room.none) refl);
+  trees = λ p m b v legal chain tree at.
+      let stored = store_tree c.args.width m b v in
+      (m, tree, subst (λ xs. Rebuilds p xs stored stored) (sym c.requires.room.none) refl);
   count = search rules;
   kept = refl;
   moving = refl;

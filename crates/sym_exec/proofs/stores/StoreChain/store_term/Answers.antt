@@ -1,12 +1,12 @@
-use Rattle.std.proofs.Common.{◌≡◌, ◌∙◌, [], refl, sym, ap, subst, rules}
+use Rattle.std.proofs.Common.{◌∙◌, refl, subst, rules}
 use Rattle.sym_terms.specs.declared.label.Label.TheVariants.{Store}
-use Rattle.sym_terms.specs.Trees.{Tree, ternary}
+use Rattle.sym_terms.specs.Trees.{ternary}
 use Rattle.sym_terms.specs.NormalForms.{store_tree}
 use Rattle.term_table.specs.Trees.{HasTree}
-use Rattle.term_table.proofs.Callers.{seen_tree, one_tree, still_tree}
+use Rattle.term_table.proofs.Callers.{seen_tree, one_tree}
 use Rattle.sym_exec.specs.Stores.{Makes, Rebuilds}
 use Rattle.sym_exec.proofs.Tickets.{later_more}
-use Rattle.sym_exec.proofs.Chains.{chain-tree, makes-on, rebuilds-on, rebuilds-pop, none-of}
+use Rattle.sym_exec.proofs.Chains.{chain-tree, rebuilds-on, rebuilds-pop, none-of}
 use Rattle.sym_exec.proofs.stores.StoreChain.store_term.Goals as goal
 
 pub push-requires-clause-made : goal.push-requires-clause-made
