@@ -56,8 +56,8 @@ pub struct Function {
     pub body: Vec<TypedStatement>,
 }
 
-/// A global variable or array: the width of its elements, how many there are, 1 for a variable, and the word of which each
-/// of them at first keeps what its width lets it.
+/// A global variable or array: the width of its elements, how many there are, 1 for a variable, and the word that each of
+/// them keeps at first what its width lets it of.
 #[derive(Clone, Copy, PartialEq, Eq)]
 pub struct Global {
     pub width: Width,
