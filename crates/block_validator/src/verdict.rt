@@ -62,6 +62,19 @@ impl<'a> Checked<'a> {
     {
         &self.order
     }
+
+    /// The order alone, with the same promises.
+    pub fn into_order(self) -> Order
+        ensures value { result ≡ self.entry.order }
+        ensures clean { IsClean result }
+        ensures fits { FitsSlot result }
+        ensures same { SameTrees (block_trees self.entry.block) (order_trees result) }
+        ensures exit { exit_shape self.entry.block.exit ≡ exit_shape result.exit }
+        ensures means { Means self.entry.block result }
+    {
+        let Checked { block: _, order } = self;
+        order
+    }
 }
 
 /// What a validator says of an order for a block.

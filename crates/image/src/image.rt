@@ -1,3 +1,8 @@
+ghost use Rattle.std.specs.Prelude.{Some};
+ghost use Rattle.image.specs.Texts.{counts_text};
+ghost use Rattle.image.specs.Views.{counts_of};
+
+use std::fmt;
 use std::marker::Model;
 
 /// How many blocks of a build had which verdict.
@@ -9,6 +14,20 @@ pub struct Counts {
     pub full: u32,
     pub no_memory: u32,
     pub missed: u32,
+}
+
+/// Each count behind the name of its verdict.
+impl fmt::Display for Counts {
+    ghost output = { λ c. Some (counts_text (counts_of c)) };
+
+    fn fmt<W: fmt::Write>(&self, f: &mut fmt::Formatter<W>) -> fmt::Result {
+        let (same, unclean, differs) = (self.same, self.unclean, self.differs);
+        let (full, no_memory, missed) = (self.full, self.no_memory, self.missed);
+        write!(
+            f,
+            "same {same} unclean {unclean} differs {differs} full {full} nomemory {no_memory} missed {missed}"
+        )
+    }
 }
 
 /// A program as the machine runs it: version 1 where there are no counts, else version 2.

@@ -1,11 +1,14 @@
 use std::alloc::AllocError;
+use thiserror::Error;
 
 /// Why a program has no unit.
-#[derive(Clone, Copy, Debug, PartialEq, Eq)]
+#[derive(Clone, Copy, Debug, PartialEq, Eq, Error)]
 pub enum SelectFault {
-    /// More than 1,048,576 blocks.
+    /// 20: more than 1,048,576 blocks, a frame beyond 32,000 bytes, or more frames than the stack has room for.
+    #[error("fault 20 Limit")]
     Limit,
-    /// Memory was refused.
+    /// 30: memory was refused.
+    #[error("fault 30 NoMemory")]
     NoMemory,
 }
 

@@ -12,8 +12,8 @@ use Rattle.term_core.specs.declared.Stage.{Stage}
 use Rattle.term_core.specs.declared.Stage.TheVariants.{Idle, Looking, AtLink, AtContent, Writing, Linking, Reading}
 use Rattle.term_core.specs.declared.Walker.{Walker}
 use Rattle.term_core.specs.Terms.{StartsWith, Pair, pairs_of}
-use Rattle.term_core.specs.World.{Shape, World, Item, Choice, begins, looks, Turn, turn, place, first_stage, may_begin, chosen, begun_at}
-use Rattle.term_core.specs.World.{begun, is_idle, does, acts, steps, step, reached}
+use Rattle.term_core.specs.World.{Shape, World, Item, Choice, begins, looks, Turn, turn, place, first_stage, may_begin, call_start, step_start_at}
+use Rattle.term_core.specs.World.{step_start, is_idle, does, acts, steps, step, world_of}
 use Rattle.term_core.specs.Items.{link_loads, GoesOn, EndsCall, Does, EachItemDoes, OthersStand, SeenAgree}
 use Rattle.term_core.proofs.Kept.{Spot, Inv, Stands}
 use Rattle.term_core.proofs.Reaching.{keeps_all, lawful}
@@ -43,7 +43,7 @@ idle_loads (Writing c a i) e = refl
 idle_loads (Linking c a) e = refl
 idle_loads (Reading t xs) e = refl
 
-begun_seen : (s : Shape) (choice : Choice) (v : Walker) (g : Stage) → (begun_at s choice v g).seen ≡ v.seen
+begun_seen : (s : Shape) (choice : Choice) (v : Walker) (g : Stage) → (step_start_at s choice v g).seen ≡ v.seen
 begun_seen s (begins c) v Idle =
     elim (may_begin v.seen c) as (λ (k : Bool). (cond k (record v { stage = first_stage s c; probes = 0 }) v).seen ≡ v.seen) [ true ↦ refl | false ↦ refl ]
 begun_seen s (looks n) v Idle = refl
@@ -72,7 +72,7 @@ asks_if s c v false i e = let x : true ≡ false = ap is_idle (sym i) ∙ e in a
 
 asks_begun : (s : Shape) (words : List ℕ) (ps : List Pair) (chains : ℕ → List ℕ) (choice : Choice) (v : Walker) (g : Stage) → v.stage ≡ g
     → Spot s words ps chains v g
-    → is_idle (begun_at s choice v g).stage ≡ false → Asks (begun_at s choice v g).stage
+    → is_idle (step_start_at s choice v g).stage ≡ false → Asks (step_start_at s choice v g).stage
 asks_begun s words ps chains (begins c) v Idle i k e = asks_if s c v (may_begin v.seen c) i e
 asks_begun s words ps chains (looks n) v Idle i k e = tt
 asks_begun s words ps chains choice v (Looking m) i k e = subst Asks (sym i) tt
@@ -87,7 +87,7 @@ idle_if : (s : Shape) (c : Call) (v : Walker) (k : Bool)
 idle_if s c v true e = let x : false ≡ true = sym (busy_first s c) ∙ e in absurd cc
 idle_if s c v false e = refl
 
-idle_begun : (s : Shape) (choice : Choice) (v : Walker) (g : Stage) → is_idle (begun_at s choice v g).stage ≡ true → begun_at s choice v g ≡ v
+idle_begun : (s : Shape) (choice : Choice) (v : Walker) (g : Stage) → is_idle (step_start_at s choice v g).stage ≡ true → step_start_at s choice v g ≡ v
 idle_begun s (begins c) v Idle e = idle_if s c v (may_begin v.seen c) e
 idle_begun s (looks n) v Idle e = absurd cc
 idle_begun s choice v (Looking k) e = refl
@@ -116,9 +116,9 @@ module _ (s : Shape) (w : World) (by : ℕ) (b : Walker) where
       d
 
   busy_does : Asks b.stage → StartsWith w.history b.seen → Does w (steps s w by b) b t.walker
-  busy_does asks begun = let told = tells s w.history (slice_index w.words (place s b)) b b.stage asks in record {
+  busy_does asks step_start = let told = tells s w.history (slice_index w.words (place s b)) b b.stage asks in record {
     by = same_by s w.history (slice_index w.words (place s b)) b b.stage;
-    seen = grows s w.history (slice_index w.words (place s b)) b b.stage begun;
+    seen = grows s w.history (slice_index w.words (place s b)) b b.stage step_start;
     said = said_so told.0;
     probes = told.1;
   }
@@ -133,7 +133,7 @@ still_does w b e = record {
 
 module _ (s : Shape) (w : World) (inv : Inv s w) (i : Item) (v v' : Walker) (here : get_elem? w.passes i.by ≡ some v) where
   abbrev b : Walker
-  b = begun s i.choice v
+  b = step_start s i.choice v
 
   step_is : step s w i ≡ acts s w i.by b
   step_is = ap (λ (o : O.Option Walker). does s w i o) here
@@ -156,7 +156,7 @@ module _ (s : Shape) (w : World) (inv : Inv s w) (i : Item) (v v' : Walker) (her
       (it_does (is_idle b.stage) refl (subst (λ (x : World). get_elem? x.passes i.by ≡ some v') step_is after))
 
 pub each_item_does : EachItemDoes
-each_item_does s items i v v' ok here after = does_it s (reached s items) (keeps_all s items ok) i v v' here after
+each_item_does s items i v v' ok here after = does_it s (world_of s items) (keeps_all s items ok) i v v' here after
 
 others_if : (s : Shape) (w : World) (i : Item) (by : ℕ) (b : Walker) (k : Bool) → by ≢ i.by
     → get_elem? (cond k w (steps s w i.by b)).passes by ≡ get_elem? w.passes by
@@ -165,10 +165,10 @@ others_if s w i by b false ne = set_else w.passes i.by by _ ne
 
 others_of : (s : Shape) (w : World) (i : Item) (by : ℕ) (o : O.Option Walker) → by ≢ i.by → get_elem? (does s w i o).passes by ≡ get_elem? w.passes by
 others_of s w i by none ne = refl
-others_of s w i by (some v) ne = others_if s w i by (begun s i.choice v) (is_idle (begun s i.choice v).stage) ne
+others_of s w i by (some v) ne = others_if s w i by (step_start s i.choice v) (is_idle (step_start s i.choice v).stage) ne
 
 pub others_stand : OthersStand
-others_stand s items i by ne = others_of s (reached s items) i by (get_elem? (reached s items).passes i.by) ne
+others_stand s items i by ne = others_of s (world_of s items) i by (get_elem? (world_of s items).passes i.by) ne
 
 of_two : (h x y : List Entry) → StartsWith h x → StartsWith h y → length x ≤ length y → StartsWith y x
 of_two h [] y p q le = (y, refl)
@@ -189,8 +189,8 @@ pub seen_agree : SeenAgree
 seen_agree s items p q v u ok hp hq =
     let sp = ((lawful s items ok).sees p v hp).1.begins in
     let sq = ((lawful s items ok).sees q u hq).1.begins in
-    ⊎_elim (λ (l : length u.seen ≤ length v.seen). inl (of_two (reached s items).history u.seen v.seen sq sp l))
-    (λ (l : length v.seen ≤ length u.seen). inr (of_two (reached s items).history v.seen u.seen sp sq l))
+    ⊎_elim (λ (l : length u.seen ≤ length v.seen). inl (of_two (world_of s items).history u.seen v.seen sq sp l))
+    (λ (l : length v.seen ≤ length u.seen). inr (of_two (world_of s items).history v.seen u.seen sp sq l))
     (either_way (length u.seen) (length v.seen))
 
 same_or_not : (m n : ℕ) → (m ≡ n) ⊎ (m ≢ n)
@@ -277,13 +277,13 @@ module _ (s : Shape) (w : World) (inv : Inv s w) (i : Item) (v : Walker) (here :
   fine_if c true e busy = first_words c
   fine_if c false e busy = let x : true ≡ false = ap is_idle (sym e) ∙ busy in absurd cc
 
-  fine_chosen : (choice : Choice) → v.stage ≡ Idle → is_idle (chosen s choice v).stage ≡ false
-      → slice_index (steps s w i.by (chosen s choice v)).words a ≡ slice_index w.words a
+  fine_chosen : (choice : Choice) → v.stage ≡ Idle → is_idle (call_start s choice v).stage ≡ false
+      → slice_index (steps s w i.by (call_start s choice v)).words a ≡ slice_index w.words a
   fine_chosen (begins c) e busy = fine_if c (may_begin v.seen c) e busy
   fine_chosen (looks n) e busy = loads_only w.words 0 a
 
-  fine_busy : (g : Stage) → v.stage ≡ g → is_idle (begun_at s i.choice v g).stage ≡ false
-      → Fine s w inv i.by v (inv.passes i.by v here) a low (steps s w i.by (begun_at s i.choice v g))
+  fine_busy : (g : Stage) → v.stage ≡ g → is_idle (step_start_at s i.choice v g).stage ≡ false
+      → Fine s w inv i.by v (inv.passes i.by v here) a low (steps s w i.by (step_start_at s i.choice v g))
   fine_busy Idle e busy = inl (fine_chosen i.choice e busy)
   fine_busy (Looking k) e busy = of_stage s w inv i.by v (inv.passes i.by v here) a low v.stage refl (inv.passes i.by v here).spot
   fine_busy (AtLink c x y) e busy = of_stage s w inv i.by v (inv.passes i.by v here) a low v.stage refl (inv.passes i.by v here).spot
@@ -292,15 +292,15 @@ module _ (s : Shape) (w : World) (inv : Inv s w) (i : Item) (v : Walker) (here :
   fine_busy (Linking c x) e busy = of_stage s w inv i.by v (inv.passes i.by v here) a low v.stage refl (inv.passes i.by v here).spot
   fine_busy (Reading x y) e busy = of_stage s w inv i.by v (inv.passes i.by v here) a low v.stage refl (inv.passes i.by v here).spot
 
-  fine : (k : Bool) → is_idle (begun s i.choice v).stage ≡ k
-      → Fine s w inv i.by v (inv.passes i.by v here) a low (cond k w (steps s w i.by (begun s i.choice v)))
+  fine : (k : Bool) → is_idle (step_start s i.choice v).stage ≡ k
+      → Fine s w inv i.by v (inv.passes i.by v here) a low (cond k w (steps s w i.by (step_start s i.choice v)))
   fine true e = inl refl
   fine false e = fine_busy v.stage refl e
 
 pub words_stay : WordsStay
 words_stay s items i v a ok here =
-    let w : World = reached s items in
+    let w : World = world_of s items in
     let inv = keeps_all s items ok in
     let low : place s v < length w.words = let q = ((lawful s items ok).sees i.by v here).1.within in let l = inv.shared.long in omega arith in
     subst (λ (x : World). Fine s w inv i.by v (inv.passes i.by v here) a low x) (sym (step_is s w inv i v v here))
-    (fine s w inv i v here a low (is_idle (begun s i.choice v).stage) refl)
+    (fine s w inv i v here a low (is_idle (step_start s i.choice v).stage) refl)

@@ -4,6 +4,7 @@ pub mod Kept
 pub mod Keys
 pub mod Turns
 pub mod Joining
+pub mod EachStep
 pub mod Reaching
 pub mod Does
 pub mod EachItem

@@ -6,7 +6,7 @@ use Rattle.term_core.specs.declared.Stage.{Stage}
 use Rattle.term_core.specs.declared.Stage.TheVariants.{Idle, Looking, AtLink, AtContent, Writing, Linking, Reading}
 use Rattle.term_core.specs.declared.Walker.{Walker}
 use Rattle.term_core.specs.Terms.{pairs_of}
-use Rattle.term_core.specs.World.{Shape, IsShape, World, link_of, kind, place_at, begun, reached}
+use Rattle.term_core.specs.World.{Shape, IsShape, World, link_of, kind, place_at, step_start, world_of}
 use Rattle.term_core.specs.Items.{IsReachedLink, IsPlaceOf, EachStepHasItsPlace}
 use Rattle.term_core.proofs.Replay.{IsThere}
 use Rattle.term_core.proofs.Chains.{Mem, mem_left, mem_here, end_of, end_cases}
@@ -42,5 +42,5 @@ module _ (s : Shape) (ok : IsShape s) (w : World) (inv : Inv s w) where
 pub each_step_has_its_place : EachStepHasItsPlace
 each_step_has_its_place s items i v ok here =
     let inv = keeps_all s items ok in
-    let st = begun_stands s ok (reached s items) inv i.by v here i.choice v.stage in
-    at_place s ok (reached s items) inv i.by (begun s i.choice v) st (begun s i.choice v).stage st.spot
+    let st = begun_stands s ok (world_of s items) inv i.by v here i.choice v.stage in
+    at_place s ok (world_of s items) inv i.by (step_start s i.choice v) st (step_start s i.choice v).stage st.spot

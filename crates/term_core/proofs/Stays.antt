@@ -12,7 +12,7 @@ use Rattle.term_core.specs.declared.Stage.{Stage}
 use Rattle.term_core.specs.declared.Stage.TheVariants.{Linking}
 use Rattle.term_core.specs.declared.Walker.{Walker}
 use Rattle.term_core.specs.Terms.{tree_at, pairs_of}
-use Rattle.term_core.specs.World.{Shape, IsShape, World, Item, link_of, begun, is_idle, does, steps, step, world_after, start, reached}
+use Rattle.term_core.specs.World.{Shape, IsShape, World, Item, link_of, step_start, is_idle, does, steps, step, world_after, start, world_of}
 use Rattle.term_core.specs.Items.{Links, Writes, IsLink, LinksStay, ContentStays}
 use Rattle.term_core.proofs.Replay.{pairs_append, tree_later}
 use Rattle.term_core.proofs.Chains.{Mem, end_of, end_cases}
@@ -30,7 +30,7 @@ history_if s w by b false = (_, refl)
 
 history_of : (s : Shape) (w : World) (i : Item) (o : O.Option Walker) → (rest : List Entry) × ((does s w i o).history ≡ w.history ++ rest)
 history_of s w i none = ([], sym (append-nil w.history))
-history_of s w i (some v) = history_if s w i.by (begun s i.choice v) (is_idle (begun s i.choice v).stage)
+history_of s w i (some v) = history_if s w i.by (step_start s i.choice v) (is_idle (step_start s i.choice v).stage)
 
 tree_stays : (s : Shape) (w : World) (i : Item) (t : ℕ) (x : Tree) → tree_at (pairs_of w.history) t ≡ Some x
     → tree_at (pairs_of (step s w i).history) t ≡ Some x
@@ -50,7 +50,7 @@ is_link s c a pre low e = ⊎_elim
 
 module _ (s : Shape) (items : List Item) (i : Item) (ok : IsShape s) where
   abbrev w : World
-  w = reached s items
+  w = world_of s items
 
   link_at : (v : Walker) (call : Call) (a : ℕ) → get_elem? w.passes i.by ≡ some v → v.stage ≡ Linking call a → IsLink s a
   link_at v call a here stage =
@@ -87,20 +87,20 @@ module _ (s : Shape) (items : List Item) (i : Item) (ok : IsShape s) where
       d)
       (words_stay s items i v (link_of s t + 1 + k) ok here)
 
-snoc : (s : Shape) (items : List Item) (i : Item) → reached s (items ++ i ∷ []) ≡ step s (reached s items) i
+snoc : (s : Shape) (items : List Item) (i : Item) → world_of s (items ++ i ∷ []) ≡ step s (world_of s items) i
 snoc s items i = world_after-append s (start s) items (i ∷ [])
 
 pub links_stay : LinksStay
-links_stay s items [] a n ok l e = ap (λ (is : List Item). slice_index (reached s is).words a) (append-nil items) ∙ e
+links_stay s items [] a n ok l e = ap (λ (is : List Item). slice_index (world_of s is).words a) (append-nil items) ∙ e
 links_stay s items (i ∷ more) a n ok l e =
-    let next = ap (λ (w : World). slice_index w.words a) (snoc s items i) ∙ one_link s items i ok (get_elem? (reached s items).passes i.by) refl a n l e in
-    ap (λ (is : List Item). slice_index (reached s is).words a) (sym (append_assoc items (i ∷ []) more)) ∙ links_stay s (items ++ i ∷ []) more a n ok l next
+    let next = ap (λ (w : World). slice_index w.words a) (snoc s items i) ∙ one_link s items i ok (get_elem? (world_of s items).passes i.by) refl a n l e in
+    ap (λ (is : List Item). slice_index (world_of s is).words a) (sym (append_assoc items (i ∷ []) more)) ∙ links_stay s (items ++ i ∷ []) more a n ok l next
 
 pub content_stays : ContentStays
-content_stays s items [] t x k ok lt e = ap (λ (is : List Item). slice_index (reached s is).words (link_of s t + 1 + k)) (append-nil items)
+content_stays s items [] t x k ok lt e = ap (λ (is : List Item). slice_index (world_of s is).words (link_of s t + 1 + k)) (append-nil items)
 content_stays s items (i ∷ more) t x k ok lt e =
-    let there = subst (λ (w : World). tree_at (pairs_of w.history) t ≡ Some x) (sym (snoc s items i)) (tree_stays s (reached s items) i t x e) in
-    ap (λ (is : List Item). slice_index (reached s is).words (link_of s t + 1 + k)) (sym (append_assoc items (i ∷ []) more))
+    let there = subst (λ (w : World). tree_at (pairs_of w.history) t ≡ Some x) (sym (snoc s items i)) (tree_stays s (world_of s items) i t x e) in
+    ap (λ (is : List Item). slice_index (world_of s is).words (link_of s t + 1 + k)) (sym (append_assoc items (i ∷ []) more))
     ∙ (content_stays s (items ++ i ∷ []) more t x k ok lt there
     ∙ (ap (λ (w : World). slice_index w.words (link_of s t + 1 + k)) (snoc s items i)
-    ∙ one_content s items i ok (get_elem? (reached s items).passes i.by) refl t x k lt e))
+    ∙ one_content s items i ok (get_elem? (world_of s items).passes i.by) refl t x k lt e))

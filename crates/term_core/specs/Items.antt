@@ -11,7 +11,7 @@ use Rattle.term_core.specs.declared.Stage.{Stage}
 use Rattle.term_core.specs.declared.Stage.TheVariants.{Idle, Looking, AtLink, AtContent, Writing, Linking, Reading}
 use Rattle.term_core.specs.Terms.{StartsWith, pairs_of, tree_at}
 use Rattle.term_core.specs.World.{Shape, World, Item, IsShape, Kind, load_link, load_content, store_content, exchange_link, kind, place}
-use Rattle.term_core.specs.World.{begun, step, reached, link_of}
+use Rattle.term_core.specs.World.{step_start, step, world_of, link_of}
 
 -- the call that a pass is inside
 abbrev pub call_in : Stage → Option Call
@@ -55,17 +55,17 @@ pub record Does (w w' : World) (b v : Walker) : Type 0 where
 
 abbrev pub EachItemDoes : Type 0
 EachItemDoes = (s : Shape) (items : List Item) (i : Item) (v v' : Walker) → IsShape s
-    → get_elem? (reached s items).passes i.by ≡ some v → get_elem? (step s (reached s items) i).passes i.by ≡ some v'
-    → Does (reached s items) (step s (reached s items) i) (begun s i.choice v) v'
+    → get_elem? (world_of s items).passes i.by ≡ some v → get_elem? (step s (world_of s items) i).passes i.by ≡ some v'
+    → Does (world_of s items) (step s (world_of s items) i) (step_start s i.choice v) v'
 
 abbrev pub OthersStand : Type 0
 OthersStand = (s : Shape) (items : List Item) (i : Item) (by : ℕ) → by ≢ i.by
-    → get_elem? (step s (reached s items) i).passes by ≡ get_elem? (reached s items).passes by
+    → get_elem? (step s (world_of s items) i).passes by ≡ get_elem? (world_of s items).passes by
 
 -- what two passes have seen: one is the beginning of the other
 abbrev pub SeenAgree : Type 0
 SeenAgree = (s : Shape) (items : List Item) (p q : ℕ) (v u : Walker) → IsShape s
-    → get_elem? (reached s items).passes p ≡ some v → get_elem? (reached s items).passes q ≡ some u
+    → get_elem? (world_of s items).passes p ≡ some v → get_elem? (world_of s items).passes q ≡ some u
     → StartsWith v.seen u.seen ⊎ StartsWith u.seen v.seen
 
 -- A word that an item changes is a link that was none and becomes the node of the pass, or a content word of the pass's next node, which no ticket names yet
@@ -82,9 +82,9 @@ pub record Writes (s : Shape) (w : World) (v : Walker) (a : ℕ) : Type 0 where
   pub unused : tree_at (pairs_of w.history) v.own ≡ None
 
 abbrev pub WordsStay : Type 0
-WordsStay = (s : Shape) (items : List Item) (i : Item) (v : Walker) (a : ℕ) → IsShape s → get_elem? (reached s items).passes i.by ≡ some v
-    → (slice_index (step s (reached s items) i).words a ≡ slice_index (reached s items).words a)
-    ⊎ (Links s (reached s items) (step s (reached s items) i) v a ⊎ Writes s (reached s items) v a)
+WordsStay = (s : Shape) (items : List Item) (i : Item) (v : Walker) (a : ℕ) → IsShape s → get_elem? (world_of s items).passes i.by ≡ some v
+    → (slice_index (step s (world_of s items) i).words a ≡ slice_index (world_of s items).words a)
+    ⊎ (Links s (world_of s items) (step s (world_of s items) i) v a ⊎ Writes s (world_of s items) v a)
 
 -- a link: the head of a chain, or the link of a node
 abbrev pub IsLink : Shape → ℕ → Type 0
@@ -93,13 +93,13 @@ IsLink s a = (a < s.heads) ⊎ ((n : ℕ) × (a ≡ link_of s n))
 -- a link that names a node names it for ever
 abbrev pub LinksStay : Type 0
 LinksStay = (s : Shape) (items more : List Item) (a n : ℕ) → IsShape s → IsLink s a
-    → slice_index (reached s items).words a ≡ suc n → slice_index (reached s (items ++ more)).words a ≡ suc n
+    → slice_index (world_of s items).words a ≡ suc n → slice_index (world_of s (items ++ more)).words a ≡ suc n
 
 -- the four content words of a linked node, which the history names by a ticket, never change
 abbrev pub ContentStays : Type 0
 ContentStays = (s : Shape) (items more : List Item) (t : ℕ) (x : Tree) (k : ℕ) → IsShape s → k < 4
-    → tree_at (pairs_of (reached s items).history) t ≡ Some x
-    → slice_index (reached s (items ++ more)).words (link_of s t + 1 + k) ≡ slice_index (reached s items).words (link_of s t + 1 + k)
+    → tree_at (pairs_of (world_of s items).history) t ≡ Some x
+    → slice_index (world_of s (items ++ more)).words (link_of s t + 1 + k) ≡ slice_index (world_of s items).words (link_of s t + 1 + k)
 
 -- a link that a walk comes to: the head of a chain, or the link of a node that is linked
 abbrev pub IsReachedLink : Shape → World → ℕ → Type 0
@@ -123,5 +123,5 @@ IsPlaceOf s w v exchange_link a = IsReachedLink s w a
 
 -- the word of each step that an item takes is one that its kind may be on
 abbrev pub EachStepHasItsPlace : Type 0
-EachStepHasItsPlace = (s : Shape) (items : List Item) (i : Item) (v : Walker) → IsShape s → get_elem? (reached s items).passes i.by ≡ some v
-    → IsPlaceOf s (reached s items) (begun s i.choice v) (kind (begun s i.choice v).stage) (place s (begun s i.choice v))
+EachStepHasItsPlace = (s : Shape) (items : List Item) (i : Item) (v : Walker) → IsShape s → get_elem? (world_of s items).passes i.by ≡ some v
+    → IsPlaceOf s (world_of s items) (step_start s i.choice v) (kind (step_start s i.choice v).stage) (place s (step_start s i.choice v))

@@ -89,22 +89,22 @@ first_stage s (Intern label kids) = AtLink (Intern label kids) false (s.chain (l
 first_stage s (Find label kids) = AtLink (Find label kids) false (s.chain (label_word label) kids)
 first_stage s (Read t) = Reading t []
 
-abbrev pub chosen : Shape → Choice → Walker → Walker
-chosen s (begins c) v = cond (may_begin v.seen c) (record v { stage = first_stage s c; probes = 0 }) v
-chosen s (looks n) v = record v { stage = Looking n }
+abbrev pub call_start : Shape → Choice → Walker → Walker
+call_start s (begins c) v = cond (may_begin v.seen c) (record v { stage = first_stage s c; probes = 0 }) v
+call_start s (looks n) v = record v { stage = Looking n }
 
 -- a pass between calls begins what was chosen
-abbrev pub begun_at : Shape → Choice → Walker → Stage → Walker
-begun_at s choice v Idle = chosen s choice v
-begun_at s choice v (Looking n) = v
-begun_at s choice v (AtLink c w a) = v
-begun_at s choice v (AtContent c w n i) = v
-begun_at s choice v (Writing c a i) = v
-begun_at s choice v (Linking c a) = v
-begun_at s choice v (Reading t xs) = v
+abbrev pub step_start_at : Shape → Choice → Walker → Stage → Walker
+step_start_at s choice v Idle = call_start s choice v
+step_start_at s choice v (Looking n) = v
+step_start_at s choice v (AtLink c w a) = v
+step_start_at s choice v (AtContent c w n i) = v
+step_start_at s choice v (Writing c a i) = v
+step_start_at s choice v (Linking c a) = v
+step_start_at s choice v (Reading t xs) = v
 
-abbrev pub begun : Shape → Choice → Walker → Walker
-begun s choice v = begun_at s choice v v.stage
+abbrev pub step_start : Shape → Choice → Walker → Walker
+step_start s choice v = step_start_at s choice v v.stage
 
 abbrev pub is_idle : Stage → Bool
 is_idle Idle = true
@@ -173,11 +173,11 @@ abbrev pub ends : List Entry → Walker → Call → Answer → Turn
 ends h v c a =
     record { walker = record v { stage = Idle; seen = h ++ entry v c a ∷ []; mine = v.mine ++ entry v c a ∷ [] }; said = entry v c a ∷ [] }
 
-abbrev pub found_none : List Entry → Walker → Call → Bool → ℕ → Turn
-found_none h v (Intern label kids) w a =
+abbrev pub turn_without_node : List Entry → Walker → Call → Bool → ℕ → Turn
+turn_without_node h v (Intern label kids) w a =
     cond (v.room == 0) (ends h v (Intern label kids) Full) (goes v (cond w (Linking (Intern label kids) a) (Writing (Intern label kids) a 0)))
-found_none h v (Find label kids) w a = ends h v (Find label kids) Missing
-found_none h v (Read t) w a = goes v Idle
+turn_without_node h v (Find label kids) w a = ends h v (Find label kids) Missing
+turn_without_node h v (Read t) w a = goes v Idle
 
 abbrev pub hit : Call → ℕ → Answer
 hit (Intern label kids) n = Ticket n
@@ -186,12 +186,12 @@ hit (Read t) n = Missing
 
 -- the link word: none, or a node and one
 abbrev pub follows : List Entry → Walker → Call → Bool → ℕ → ℕ → Turn
-follows h v c w a zero = found_none h v c w a
+follows h v c w a zero = turn_without_node h v c w a
 follows h v c w a (suc n) = goes v (AtContent c w n 0)
 
-abbrev pub linked : List Entry → Walker → Call → ℕ → ℕ → Turn
-linked h v c a zero = ends h (record v { own = suc v.own; room = v.room - 1 }) c (Ticket v.own)
-linked h v c a (suc n) = goes v (AtContent c true n 0)
+abbrev pub turn_of_exchange : List Entry → Walker → Call → ℕ → ℕ → Turn
+turn_of_exchange h v c a zero = ends h (record v { own = suc v.own; room = v.room - 1 }) c (Ticket v.own)
+turn_of_exchange h v c a (suc n) = goes v (AtContent c true n 0)
 
 -- a pass after its next step, which found the number n
 abbrev pub turn_at : Shape → List Entry → ℕ → Walker → Stage → Turn
@@ -201,7 +201,7 @@ turn_at s h n v (AtLink c w a) = follows h (record v { probes = suc v.probes }) 
 turn_at s h n v (AtContent c w k i) =
     cond (n == slice_index (content c) i) (cond (i == 3) (ends h v c (hit c k)) (goes v (AtContent c w k (suc i)))) (goes v (AtLink c w (link_of s k)))
 turn_at s h n v (Writing c a i) = goes v (cond (i == 3) (Linking c a) (Writing c a (suc i)))
-turn_at s h n v (Linking c a) = linked h v c a n
+turn_at s h n v (Linking c a) = turn_of_exchange h v c a n
 turn_at s h n v (Reading t xs) = cond (length xs == 3) (ends h v (Read t) (answer_of (xs ++ n ∷ []))) (goes v (Reading t (xs ++ n ∷ [])))
 
 abbrev pub turn : Shape → List Entry → ℕ → Walker → Turn
@@ -224,7 +224,7 @@ acts s w by v = cond (is_idle v.stage) w (steps s w by v)
 
 abbrev pub does : Shape → World → Item → Option Walker → World
 does s w item none = w
-does s w item (some v) = acts s w item.by (begun s item.choice v)
+does s w item (some v) = acts s w item.by (step_start s item.choice v)
 
 abbrev pub step : Shape → World → Item → World
 step s w item = does s w item (get_elem? w.passes item.by)
@@ -245,5 +245,5 @@ abbrev pub start : Shape → World
 start s = record { words = replicate (s.heads + 5 * (s.workers * s.nodes)) 0; passes = fresh_from s 0 s.workers; history = [] }
 
 -- the world that a list of items reaches
-abbrev pub reached : Shape → List Item → World
-reached s items = world_after s (start s) items
+abbrev pub world_of : Shape → List Item → World
+world_of s items = world_after s (start s) items

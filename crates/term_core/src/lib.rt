@@ -9,7 +9,7 @@
 #![tactic(auto)]
 
 ghost use Rattle.std.specs.Prelude.{◌≡◌, ℕ, List};
-ghost use Rattle.term_core.specs.World.{Shape, Item, IsShape, reached};
+ghost use Rattle.term_core.specs.World.{Shape, Item, IsShape, world_of};
 ghost use Rattle.term_core.specs.Law.{Lawful};
 ghost use Rattle.term_core.specs.Items.{EachItemDoes, OthersStand, SeenAgree, WordsStay, LinksStay, ContentStays, EachStepHasItsPlace};
 
@@ -93,7 +93,7 @@ pub struct Walker {
 /// the link of a linked node, a load of content at a content word of a linked node, and a store at one
 /// of the pass's next node, which is not linked.
 pub fn any_schedule()
-    ensures lawful { (shape : Shape) (items : List Item) → IsShape shape → Lawful shape (reached shape items) }
+    ensures lawful { (shape : Shape) (items : List Item) → IsShape shape → Lawful shape (world_of shape items) }
     ensures does { EachItemDoes }
     ensures others { OthersStand }
     ensures agree { SeenAgree }
