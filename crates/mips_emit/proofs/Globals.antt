@@ -1,0 +1,204 @@
+-- Elements of globals, and their places in data.
+use Rattle.std.proofs.Common.{◌≡◌, ◌≢◌, ℕ, zero, suc, ◌+◌, ◌*◌, ◌%◌, ◌^◌, ◌<◌, ◌≤◌, ◌⊎◌, inl, inr, Bool, true, false, cond, ◌&&◌, ◌==◌, List, []}
+use Rattle.std.proofs.Common.{◌∷◌, Option, Some, None, refl, sym, ap, ap₂, ◌∙◌, arith, nat_eq, eqb-true, ne_eqb}
+use Rattle.std.specs.Prelude.{slice_get, slice_set}
+use Rattle.std.proofs.lemmas.Bool.{eqb-false}
+use Rattle.std.proofs.lemmas.Option.{same_Some, none-some}
+use Rattle.words.specs.declared.width.Width.{Width}
+use Rattle.words.specs.declared.width.Width.TheVariants.{Word, Byte}
+use Rattle.words.specs.Widths.{kept}
+use Rattle.runs.specs.Stores.{Places, Arrays, chain, element_at, arrays_with}
+use Rattle.mips_isa.specs.States.{State, AreApart, is_open, load_word, store_byte}
+use Rattle.mips_isa.specs.Starting.{data_base, stack_base}
+use Rattle.mblock.specs.declared.limits.TheConstants.{UNIT_BYTES}
+use Rattle.rtl.specs.declared.block.RGlobal.{RGlobal}
+use Rattle.rtl.specs.Meaning.{kept_in}
+use Rattle.mips_emit.specs.Elements.{width_of, width_in, width_bytes, place_in, place_behind, address_of_place}
+use Rattle.mips_emit.proofs.View.{word_at, shown_at, set_at, shown_here, shown_other, word_other, set_at_words}
+use Rattle.mips_emit.proofs.Stands.{Stored, stack_same, Stands, element_aligned, open_data}
+
+-- what a store keeps
+pub kept_is : (gs : List RGlobal) (a v w : ℕ) → kept_in gs a v ≡ Some w → w ≡ kept (width_of gs a) v
+kept_is gs a v w e = go (slice_get gs a) e
+  where
+    go : (o : Option RGlobal) → chain o (λ global. Some (kept global.width v)) ≡ Some w → w ≡ kept (width_in o) v
+    go None e = absurd (none-some w e)
+    go (Some global) e = sym (same_Some (kept global.width v) w e)
+
+-- a word behind a byte that is stored
+word_past_byte : (mapped : ℕ → Bool) (m : ℕ → ℕ) (a v b : ℕ) → a < b → load_word mapped (store_byte mapped m a v) b ≡ load_word mapped m b
+unfolding load_word store_byte
+word_past_byte mapped m a v b lt =
+    let first = other b (omega (arith, lt)) in
+    let second = other (b + 1) (omega (arith, lt)) in
+    let third = other (b + 2) (omega (arith, lt)) in
+    let fourth = other (b + 3) (omega (arith, lt)) in
+    ap (λ x. cond (is_open Word mapped b) x 0)
+    (ap₂ (λ x y. x + y) (ap₂ (λ x y. x + y) (ap₂ (λ x y. x * 2 ^ 24 + y * 2 ^ 16) first second) (ap (λ x. x * 2 ^ 8) third)) fourth)
+  where
+    and-false : (x : Bool) → (x && false) ≡ false
+    and-false true = refl
+    and-false false = refl
+
+    other : (c : ℕ) → a < c → cond (is_open Byte mapped a && (c == a)) (v % 2 ^ 8) (m c) ≡ m c
+    other c lt =
+        let ne : c ≢ a = λ e. absurd (omega (arith, lt, e)) in
+        ap (λ x. cond (is_open Byte mapped a && x) (v % 2 ^ 8) (m c)) (ne_eqb c a ne) ∙ ap (λ x. cond x (v % 2 ^ 8) (m c)) (and-false (is_open Byte mapped a))
+
+-- the stack keeps its words when an element is stored
+stack_kept : (w : Width) (s : State) (p v total b : ℕ) → p + width_bytes w ≤ total → total ≤ UNIT_BYTES → stack_base ≤ b
+    → word_at (set_at w s (address_of_place p) v) b ≡ word_at s b
+stack_kept Word s p v total b inside few le = (let ne : b ≢ data_base + p = λ e. absurd (omega (arith, inside, few, le, e)) in
+    word_other s (data_base + p) v b ne)
+stack_kept Byte s p v total b inside few le = word_past_byte s.mapped s.memory (data_base + p) v b (omega (arith, inside, few, le))
+
+-- elements one behind the other share no byte
+parts_apart : (w u : Width) (p q total : ℕ) → p + width_bytes w ≤ total → q + width_bytes u ≤ total → total ≤ UNIT_BYTES
+    → (p + width_bytes w ≤ q) ⊎ (q + width_bytes u ≤ p) → AreApart w (address_of_place p) u (address_of_place q)
+parts_apart Word Word p q total hp hq few (inl le) = λ e. absurd (omega (arith, le, e))
+parts_apart Word Word p q total hp hq few (inr le) = λ e. absurd (omega (arith, le, e))
+parts_apart Byte Byte p q total hp hq few (inl le) = λ e. absurd (omega (arith, le, e))
+parts_apart Byte Byte p q total hp hq few (inr le) = λ e. absurd (omega (arith, le, e))
+parts_apart Word Byte p q total hp hq few (inl le) = omega (arith, le, hq, few)
+parts_apart Word Byte p q total hp hq few (inr le) = omega (arith, le, hp, few)
+parts_apart Byte Word p q total hp hq few (inl le) = omega (arith, le, hq, few)
+parts_apart Byte Word p q total hp hq few (inr le) = omega (arith, le, hp, few)
+
+set_there : {A : Type 0} (l : List A) (b : ℕ) (x y : A) → slice_get l b ≡ Some y → slice_get (slice_set l b x) b ≡ Some x
+set_there [] b x y e = absurd (none-some y e)
+set_there (z ∷ l) zero x y e = refl
+set_there (z ∷ l) (suc b) x y e = set_there l b x y e
+
+set_others : {A : Type 0} (l : List A) (b : ℕ) (x : A) (i : ℕ) → i ≢ b → slice_get (slice_set l b x) i ≡ slice_get l i
+set_others [] b x i ne = refl
+set_others (y ∷ l) zero x zero ne = absurd (ne refl)
+set_others (y ∷ l) zero x (suc i) ne = refl
+set_others (y ∷ l) (suc b) x zero ne = refl
+set_others (y ∷ l) (suc b) x (suc i) ne = set_others l b x i (λ e. ne (ap suc e))
+
+-- the arrays after a write
+pub record StoredAt (g : Arrays) (a i v : ℕ) (g' : Arrays) : Type 0 where
+  pub old : ℕ
+  pub was : element_at g a i ≡ Some old
+  pub now : (b j w : ℕ) → element_at g' b j ≡ Some w → ((b ≡ a) × (j ≡ i) × (w ≡ v)) ⊎ ((b ≡ a → j ≡ i → ⊥) × (element_at g b j ≡ Some w))
+
+pub stored_at : (g : Arrays) (a i v : ℕ) (g' : Arrays) → arrays_with g a i v ≡ Some g' → StoredAt g a i v g'
+stored_at g a i v g' e = array (slice_get g a) refl e
+  where
+    array : (o : Option (List ℕ)) → slice_get g a ≡ o → chain o (λ words. chain (slice_get words i) (λ _. Some (slice_set g a (slice_set words i v))))
+        ≡ Some g' → StoredAt g a i v g'
+    array None there e = absurd (none-some g' e)
+    array (Some words) there e = place (slice_get words i) refl e
+      where
+        place : (o : Option ℕ) → slice_get words i ≡ o → chain o (λ _. Some (slice_set g a (slice_set words i v))) ≡ Some g' → StoredAt g a i v g'
+        place None at e = absurd (none-some g' e)
+        place (Some old) at e = record {
+          old = old;
+          was = ap (λ o. chain o (λ words. slice_get words i)) there ∙ at;
+          now = λ b j w is. same b j w (ap (λ g. element_at g b j) (same_Some _ _ e) ∙ is) (nat_eq b a) refl;
+        }
+          where
+            other_array : (b j w : ℕ) → b ≢ a → element_at (slice_set g a (slice_set words i v)) b j ≡ Some w → element_at g b j ≡ Some w
+            other_array b j w ne is = ap (λ o. chain o (λ words. slice_get words j)) (sym (set_others g a (slice_set words i v) b ne)) ∙ is
+
+            same_array : (b j w : ℕ) → b ≡ a → element_at (slice_set g a (slice_set words i v)) b j ≡ Some w → slice_get (slice_set words i v) j ≡ Some w
+            same_array b j w b_a is = ap (λ o. chain o (λ words. slice_get words j))
+                (sym (ap (slice_get (slice_set g a (slice_set words i v))) b_a ∙ set_there g a (slice_set words i v) words there)) ∙ is
+
+            here : (b j w : ℕ) → b ≡ a → slice_get (slice_set words i v) j ≡ Some w → (t : Bool) → nat_eq j i ≡ t
+                → ((b ≡ a) × (j ≡ i) × (w ≡ v)) ⊎ ((b ≡ a → j ≡ i → ⊥) × (element_at g b j ≡ Some w))
+            here b j w b_a is true t =
+                let j_i = eqb-true j i t in
+                inl (b_a, j_i, same_Some w v (sym is ∙ ap (slice_get (slice_set words i v)) j_i ∙ set_there words i v old at))
+            here b j w b_a is false t =
+                let ne = eqb-false j i t in
+                inr (
+                  (λ _ j_i. ne j_i),
+                  ap (λ b. element_at g b j) b_a ∙ ap (λ o. chain o (λ words. slice_get words j)) there
+                      ∙ sym (set_others words i v j ne) ∙ is,
+                )
+
+            same : (b j w : ℕ) → element_at (slice_set g a (slice_set words i v)) b j ≡ Some w → (t : Bool) → nat_eq b a ≡ t
+                → ((b ≡ a) × (j ≡ i) × (w ≡ v)) ⊎ ((b ≡ a → j ≡ i → ⊥) × (element_at g b j ≡ Some w))
+            same b j w is true t = here b j w (eqb-true b a t) (same_array b j w (eqb-true b a t) is) (nat_eq j i) refl
+            same b j w is false t = inr ((λ b_a _. eqb-false b a t b_a), other_array b j w (eqb-false b a t) is)
+
+module _ (most total : ℕ) (gs : List RGlobal) (starts : ℕ → ℕ) where
+  -- an element that there is can be reached
+  pub data_open : (registers : Places) (g : Arrays) (fs : List Stored) (s : State) (a i v : ℕ) → element_at g a i ≡ Some v
+      → Stands most total gs starts registers g fs s
+      → is_open (width_of gs a) s.mapped (address_of_place (place_in gs starts a i)) ≡ true
+  data_open registers g fs s a i v there h =
+      ap (λ m. is_open (width_of gs a) m (address_of_place (place_in gs starts a i))) h.mapped
+      ∙ open_data (width_of gs a) total (place_in gs starts a i) (element_aligned (width_of gs a) (starts a) i (h.even a))
+      (below (width_of gs a) (place_in gs starts a i) (h.inside a i v there))
+    where
+      below : (w : Width) (p : ℕ) → p + width_bytes w ≤ total → p < total
+      below Word p le = omega (arith, le)
+      below Byte p le = omega (arith, le)
+
+  -- an element is written in memory
+  pub data_written : (registers : Places) (g : Arrays) (fs : List Stored) (s : State) (a i v : ℕ) (g' : Arrays) → v < 2 ^ 32
+      → arrays_with g a i (kept (width_of gs a) v) ≡ Some g' → Stands most total gs starts registers g fs s
+      → Stands most total gs starts registers g' fs (set_at (width_of gs a) s (address_of_place (place_in gs starts a i)) v)
+  data_written registers g fs s a i v g' lt e h =
+      let at = stored_at g a i (kept (width_of gs a) v) g' e in
+      let w = width_of gs a in
+      let p = address_of_place (place_in gs starts a i) in
+      let here = h.inside a i at.old at.was in
+      let low = h.room in
+      let few = h.few in
+      let open_at = data_open registers g fs s a i at.old at.was h in
+      record {
+        words = set_at_words w s p v h.words;
+        mapped = h.mapped;
+        held = h.held;
+        stack = stack_same most (word_at s) (word_at (set_at w s p v)) (s.regs 29) fs
+            (λ b le. stack_kept w s (place_in gs starts a i) v total b here few (omega (arith, le, low))) h.stack;
+        room = h.room;
+        aligned = h.aligned;
+        elements = λ b j x is. value at open_at b j x (at.now b j x is);
+        inside = λ b j x is. inside at b j x (at.now b j x is);
+        apart = λ b j c k x y is there ne. apart at b j c k x y (at.now b j x is) (at.now c k y there) ne;
+        even = h.even;
+        few = h.few;
+        linked = h.linked;
+        gp = h.gp;
+      }
+    where
+      -- the element that was stored, or another as it was
+      Now : (b j w : ℕ) → Type 0
+      Now b j w = ((b ≡ a) × (j ≡ i) × (w ≡ kept (width_of gs a) v)) ⊎ ((b ≡ a → j ≡ i → ⊥) × (element_at g b j ≡ Some w))
+
+      At : Type 0
+      At = StoredAt g a i (kept (width_of gs a) v) g'
+
+      value : At → is_open (width_of gs a) s.mapped (address_of_place (place_in gs starts a i)) ≡ true → (b j w : ℕ) → Now b j w
+          → shown_at (width_of gs b) (set_at (width_of gs a) s (address_of_place (place_in gs starts a i)) v) (address_of_place (place_in gs starts b j)) ≡ w
+      value at ok b j w (inl x) =
+          ap (λ b. shown_at (width_of gs b) (set_at (width_of gs a) s (address_of_place (place_in gs starts a i)) v)
+          (address_of_place (place_in gs starts b j))) x.0
+          ∙ ap (λ j. shown_at (width_of gs a) (set_at (width_of gs a) s (address_of_place (place_in gs starts a i)) v)
+          (address_of_place (place_in gs starts a j))) x.1
+          ∙ shown_here (width_of gs a) s (address_of_place (place_in gs starts a i)) v ok lt ∙ sym x.2
+      value at ok b j w (inr x) =
+          shown_other (width_of gs a) (width_of gs b) s (address_of_place (place_in gs starts a i)) v (address_of_place (place_in gs starts b j))
+          (parts_apart (width_of gs a) (width_of gs b) (place_in gs starts a i) (place_in gs starts b j) total (h.inside a i at.old at.was)
+          (h.inside b j w x.1) h.few
+          (h.apart a i b j at.old w at.was x.1 (λ e f. x.0 (sym e) (sym f))))
+          ∙ h.elements b j w x.1
+
+      -- an element that there is, there was
+      was : At → (b j w : ℕ) → Now b j w → (old : ℕ) × (element_at g b j ≡ Some old)
+      was at b j w (inl x) = (at.old, ap (λ b. element_at g b j) x.0 ∙ ap (element_at g a) x.1 ∙ at.was)
+      was at b j w (inr x) = (w, x.1)
+
+      inside : At → (b j w : ℕ) → Now b j w → place_behind gs starts b j ≤ total
+      inside at b j w x = let o = was at b j w x in h.inside b j o.0 o.1
+
+      apart : At → (b j c k w y : ℕ) → Now b j w → Now c k y → (b ≡ c → j ≡ k → ⊥)
+          → (place_behind gs starts b j ≤ place_in gs starts c k) ⊎ (place_behind gs starts c k ≤ place_in gs starts b j)
+      apart at b j c k w y x z ne =
+          let o = was at b j w x in
+          let q = was at c k y z in
+          h.apart b j c k o.0 q.0 o.1 q.1 ne

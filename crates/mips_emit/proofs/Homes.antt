@@ -1,0 +1,501 @@
+-- Locations are read and written.
+use Rattle.std.proofs.Common.{◌≡◌, ◌≢◌, ℕ, ◌+◌, ◌*◌, ◌/◌, ◌%◌, ◌^◌, ◌<◌, ◌≤◌, Bool, true, false, List, [], ◌∷◌, ◌++◌, map, length, length-append}
+use Rattle.std.proofs.Common.{Option, Some, None, refl, sym, ap, ◌∙◌, subst, arith, eq-eqb, eqb-true, nat_eq}
+use Rattle.std.specs.Prelude.{if◌then◌else◌, slice_get}
+use Rattle.std.proofs.lemmas.Bool.{eqb-false}
+use Rattle.std.proofs.lemmas.Option.{same_Some, none-some}
+use Rattle.words.specs.declared.width.Width.{Width}
+use Rattle.words.specs.declared.width.Width.TheVariants as widths
+use Rattle.words.specs.declared.operator.Operator.TheVariants as operators
+use Rattle.words.specs.Operators.{op_value}
+use Rattle.runs.specs.Stores.{Places, places_with, Arrays, chain}
+use Rattle.mips_isa.specs.declared.inst.ImmOp.TheVariants.{Addiu}
+use Rattle.mips_isa.specs.declared.inst.LogicOp.TheVariants.{Ori}
+use Rattle.mips_isa.specs.declared.inst.Plain.{Plain}
+use Rattle.mips_isa.specs.declared.inst.Plain.TheVariants.{Imm, Logic, LoadUpper}
+use Rattle.mips_isa.specs.States.{State, IsWords, AreApart, is_open, read}
+use Rattle.mips_isa.specs.Starting.{stack_base, stack_end}
+use Rattle.mips_isa.specs.Actions.{action_of}
+use Rattle.mblock.specs.declared.limits.TheConstants.{UNIT_BYTES}
+use Rattle.mblock.proofs.StateWords.{run_words}
+use Rattle.rtl.specs.declared.block.RGlobal.{RGlobal}
+use Rattle.mips_homes.specs.HomedRun.{Run, Failed, with_value, in_home, read_home, write_at, write_home}
+use Rattle.mips_homes.specs.declared.homed.Home.{Home}
+use Rattle.mips_homes.specs.declared.homed.Home.TheVariants.{Reg, Slot}
+use Rattle.mips_homes.specs.declared.homed.Frame.{Frame}
+use Rattle.mips_emit.specs.declared.location.Location.TheVariants.{Held, InSlot}
+use Rattle.mips_emit.specs.declared.location.Source.{Source}
+use Rattle.mips_emit.specs.declared.location.Source.TheVariants.{Zero, Word, From}
+use Rattle.mips_emit.specs.declared.facts.Above.{Above}
+use Rattle.mips_emit.specs.declared.facts.Last.{Last}
+use Rattle.mips_emit.specs.Frames.{IsHome, AreFrameHomes, IsFrame}
+use Rattle.mips_emit.specs.Locations.{known_in, no_last, location_of, location_at, in_slot, fresh_source, known_source, source}
+use Rattle.mips_emit.specs.Elements.{width_of, width_bytes, place_in, address_of_place}
+use Rattle.mips_emit.specs.Code.{is_small, half, constant, li, load_word_at, store_word_at, move_code, fetch, seat, bring, into, finish, put_at}
+use Rattle.mips_emit.proofs.Runs.{RunsTo, runs_none, runs_then}
+use Rattle.mips_emit.proofs.View.{word_at, set_word, shown_other, word_here, word_other, word_below, set_at_words, IsTarget, read_register}
+use Rattle.mips_emit.proofs.View.{read_other, moves, loads_word, stores_word, Sets, set_sets, li_sets}
+use Rattle.mips_emit.proofs.Stands.{Stored, size_of, with_slots, StackHolds, stack_same, stack_top, Linked, Stands, open_stack}
+
+-- words that pseudo-registers hold
+pub record IsKnown (known : Places) (hs : List Home) (registers slots : Places) : Type 0 where
+  pub by : (x w : ℕ) → known x ≡ Some w → read_home hs registers slots x ≡ Some w
+
+pub nothing_known : (hs : List Home) (registers slots : Places) → IsKnown (known_in []) hs registers slots
+nothing_known hs registers slots = record { by = λ x w e. absurd (none-some w e) }
+
+-- a pseudo-register is written
+known_register : (known : Places) (hs : List Home) (count : ℕ) (registers slots : Places) (x r v : ℕ) (o : Option ℕ) → AreFrameHomes hs count
+    → slice_get hs x ≡ Some (Reg r) → ((w : ℕ) → o ≡ Some w → w ≡ v) → IsKnown known hs registers slots
+    → IsKnown (places_with known x o) hs (places_with registers r (Some v)) slots
+known_register known hs count registers slots x r v o ok there is h = record { by = λ y w e. by y w (nat_eq y x) refl e }
+  where
+    other : (y w : ℕ) → y ≢ x → (p : Option Home) → slice_get hs y ≡ p → chain p (in_home registers slots) ≡ Some w
+        → chain p (in_home (places_with registers r (Some v)) slots) ≡ Some w
+    other y w ne None at e = absurd (none-some w e)
+    other y w ne (Some (Slot k)) at e = e
+    other y w ne (Some (Reg q)) at e = go (nat_eq q r) refl
+      where
+        go : (b : Bool) → nat_eq q r ≡ b → (if b then Some v else registers q) ≡ Some w
+        go false t = e
+        go true t = absurd (ne (ok.apart y x (Reg q) at (there ∙ ap (λ r. Some (Reg r)) (sym (eqb-true q r t)))))
+
+    by : (y w : ℕ) → (b : Bool) → nat_eq y x ≡ b → (if b then o else known y) ≡ Some w → read_home hs (places_with registers r (Some v)) slots y ≡ Some w
+    by y w true t e =
+        ap (read_home hs (places_with registers r (Some v)) slots) (eqb-true y x t)
+        ∙ ap (λ p. chain p (in_home (places_with registers r (Some v)) slots)) there
+        ∙ ap (λ b. if b then Some v else registers r) (eq-eqb r r refl) ∙ ap Some (sym (is w e))
+    by y w false t e = other y w (eqb-false y x t) (slice_get hs y) refl (h.by y w e)
+
+known_slot : (known : Places) (hs : List Home) (count : ℕ) (registers slots : Places) (x k v : ℕ) (o : Option ℕ) → AreFrameHomes hs count
+    → slice_get hs x ≡ Some (Slot k) → ((w : ℕ) → o ≡ Some w → w ≡ v) → IsKnown known hs registers slots
+    → IsKnown (places_with known x o) hs registers (places_with slots k (Some v))
+known_slot known hs count registers slots x k v o ok there is h = record { by = λ y w e. by y w (nat_eq y x) refl e }
+  where
+    other : (y w : ℕ) → y ≢ x → (p : Option Home) → slice_get hs y ≡ p → chain p (in_home registers slots) ≡ Some w
+        → chain p (in_home registers (places_with slots k (Some v))) ≡ Some w
+    other y w ne None at e = absurd (none-some w e)
+    other y w ne (Some (Reg q)) at e = e
+    other y w ne (Some (Slot q)) at e = go (nat_eq q k) refl
+      where
+        go : (b : Bool) → nat_eq q k ≡ b → (if b then Some v else slots q) ≡ Some w
+        go false t = e
+        go true t = absurd (ne (ok.apart y x (Slot q) at (there ∙ ap (λ r. Some (Slot r)) (sym (eqb-true q k t)))))
+
+    by : (y w : ℕ) → (b : Bool) → nat_eq y x ≡ b → (if b then o else known y) ≡ Some w → read_home hs registers (places_with slots k (Some v)) y ≡ Some w
+    by y w true t e =
+        ap (read_home hs registers (places_with slots k (Some v))) (eqb-true y x t)
+        ∙ ap (λ p. chain p (in_home registers (places_with slots k (Some v)))) there
+        ∙ ap (λ b. if b then Some v else slots k) (eq-eqb k k refl) ∙ ap Some (sym (is w e))
+    by y w false t e = other y w (eqb-false y x t) (slice_get hs y) refl (h.by y w e)
+
+-- the word of a pseudo-register is in register 1
+pub record IsFresh (fresh : Option ℕ) (hs : List Home) (registers slots : Places) (s : State) : Type 0 where
+  pub by : (x w : ℕ) → fresh ≡ Some x → read_home hs registers slots x ≡ Some w → s.regs 1 ≡ w
+
+pub none_fresh : (hs : List Home) (registers slots : Places) (s : State) → IsFresh None hs registers slots s
+none_fresh hs registers slots s = record { by = λ x w e. absurd (none-some x e) }
+
+-- what an exit can use of the last instruction
+pub record IsLast (last : Last) (hs : List Home) (registers slots : Places) (s : State) : Type 0 where
+  pub fresh : IsFresh last.fresh hs registers slots s
+  pub above : (a : Above) (v : ℕ) → last.above ≡ Some a → read_home hs registers slots a.result ≡ Some v
+      → (0 < a.register) × (v ≡ op_value operators.Slt 0 (s.regs a.register))
+
+pub none_last : (hs : List Home) (registers slots : Places) (s : State) → IsLast no_last hs registers slots s
+none_last hs registers slots s = record { fresh = none_fresh hs registers slots s; above = λ a v e. absurd (none-some a e) }
+
+-- one more known word, and two words less
+pub known_with : (known : Places) (hs : List Home) (registers slots : Places) (b w : ℕ) → read_home hs registers slots b ≡ Some w
+    → IsKnown known hs registers slots → IsKnown (places_with known b (Some w)) hs registers slots
+known_with known hs registers slots b w there k = record { by = λ x u e. by x u (nat_eq x b) refl e }
+  where
+    by : (x u : ℕ) (t : Bool) → nat_eq x b ≡ t → (if t then Some w else known x) ≡ Some u → read_home hs registers slots x ≡ Some u
+    by x u true t e = ap (read_home hs registers slots) (eqb-true x b t) ∙ there ∙ e
+    by x u false t e = k.by x u e
+
+pub known_without : (known : Places) (hs : List Home) (registers slots : Places) (b w d v : ℕ) → ((u : ℕ) → known b ≡ Some u → u ≡ w)
+    → IsKnown (places_with (places_with known b (Some w)) d (Some v)) hs registers slots → IsKnown (places_with known d None) hs registers slots
+known_without known hs registers slots b w d v same k = record { by = λ x u e. by x u (nat_eq x d) refl e }
+  where
+    inner : (x u : ℕ) (t : Bool) → nat_eq x b ≡ t → known x ≡ Some u → (if t then Some w else known x) ≡ Some u
+    inner x u true t e = ap Some (sym (same u (ap known (sym (eqb-true x b t)) ∙ e)))
+    inner x u false t e = e
+
+    by : (x u : ℕ) (t : Bool) → nat_eq x d ≡ t → (if t then None else known x) ≡ Some u → read_home hs registers slots x ≡ Some u
+    by x u true t e = absurd (none-some u e)
+    by x u false t e = k.by x u (ap (λ t. if t then Some v else (places_with known b (Some w)) x) t ∙ inner x u (nat_eq x b) refl e)
+
+-- a word of the stack shares no byte with an element of data
+pub stack_apart : (u : Width) (a p total : ℕ) → stack_base ≤ a → a < stack_end → p + width_bytes u ≤ total → total ≤ UNIT_BYTES
+    → AreApart widths.Word a u (address_of_place p)
+stack_apart widths.Word a p total low high inside few = λ e. absurd (omega (arith, low, high, inside, few, e))
+stack_apart widths.Byte a p total low high inside few = omega (arith, low, high, inside, few)
+
+-- what an operand means in a state, in which the frame has so many slots
+abbrev pub Denotes : ℕ → State → Source → ℕ → Type 0
+Denotes count s Zero v = v ≡ 0
+Denotes count s (Word w) v = (w ≡ v) × (w < 2 ^ 32)
+Denotes count s (From (Held r)) v = read 0 s.regs r ≡ v
+Denotes count s (From (InSlot k)) v = (k < count) × (word_at s (s.regs 29 + 4 * k) ≡ v)
+
+-- an operand that isn't in a register below 16
+abbrev pub IsAway : Source → Type 0
+IsAway (From (Held r)) = 16 ≤ r
+IsAway (From (InSlot k)) = Unit {0}
+IsAway Zero = Unit {0}
+IsAway (Word w) = Unit {0}
+
+pub seat_kept : (x : Source) (t u : ℕ) (f f' : ℕ → ℕ) → IsAway x → t ≢ u → u < 16 → ((r : ℕ) → r ≢ u → f' r ≡ f r) → read 0 f' (seat t x) ≡ read 0 f (seat t x)
+seat_kept Zero t u f f' away ne low same = refl
+seat_kept (Word w) t u f f' away ne low same = read_other f f' t (λ _. same t ne)
+seat_kept (From (Held r)) t u f f' away ne low same = read_other f f' r (λ _. same r (omega (arith, away, low)))
+seat_kept (From (InSlot k)) t u f f' away ne low same = read_other f f' t (λ _. same t ne)
+
+pub longer : (a b : List Plain) → 1 ≤ length a → 1 ≤ length (a ++ b)
+longer a b h = omega (arith, h, length-append a b)
+
+pub longer_behind : (a b : List Plain) → 1 ≤ length b → 1 ≤ length (a ++ b)
+longer_behind a b h = omega (arith, h, length-append a b)
+
+li_some : (t w : ℕ) → 1 ≤ length (li t w)
+li_some t w = go (is_small w) (nat_lt' w) (nat_eq (w % 65536) 0)
+  where
+    nat_lt' : ℕ → Bool
+    nat_lt' w = Rattle.std.specs.Prelude.nat_lt w 65536
+
+    go : (a b c : Bool) → 1 ≤ length (if a then Imm Addiu t 0 (half w) ∷ [] else if b then Logic Ori t 0 w ∷ [] else if c then LoadUpper t
+        (w / 65536 % 65536) ∷ [] else constant t w)
+    go true b c = omega arith
+    go false true c = omega arith
+    go false false true = omega arith
+    go false false false = omega arith
+
+bring_some : (t : ℕ) (x : Source) → 1 ≤ length (bring t x)
+bring_some t Zero = omega arith
+bring_some t (Word w) = li_some t w
+bring_some t (From (Held r)) = omega arith
+bring_some t (From (InSlot k)) = omega arith
+
+-- instructions that end in a write of register d, from a state m that they have reached but for it
+pub record Ends (is : List Plain) (s m : State) (d v : ℕ) : Type 0 where
+  pub regs : ℕ → ℕ
+  pub runs : RunsTo is s (record m { regs = regs })
+  pub here : regs d ≡ v
+  pub others : (r : ℕ) → r ≢ d → regs r ≡ m.regs r
+  pub below : v < 2 ^ 32
+
+pub frame_homes : (most : ℕ) (f : Frame) → IsFrame most f → AreFrameHomes f.homes.items f.slots
+frame_homes most f ok = ok.homes
+
+module _ (most total : ℕ) (gs : List RGlobal) (starts : ℕ → ℕ) where
+  -- registers that are no homes change
+  pub call_kept : (registers : Places) (g : Arrays) (fs : List Stored) (s : State) (f : ℕ → ℕ) → IsWords (record s { regs = f }) → Linked fs (f 31)
+      → ((r : ℕ) → 16 ≤ r → r < 30 → f r ≡ s.regs r) → Stands most total gs starts registers g fs s
+      → Stands most total gs starts registers g fs (record s { regs = f })
+  call_kept registers g fs s f words linked same h =
+      let pointer : f 29 ≡ s.regs 29 = same 29 (omega arith) (omega arith) in
+      record {
+        words = words;
+        mapped = h.mapped;
+        held = λ r v low high is. same r low (omega (arith, high)) ∙ h.held r v low high is;
+        stack = subst (λ at. StackHolds most (word_at s) at fs) (sym pointer) h.stack;
+        room = subst (λ at. stack_base ≤ at) (sym pointer) h.room;
+        aligned = ap (λ at. at % 4) pointer ∙ h.aligned;
+        elements = h.elements;
+        inside = h.inside;
+        apart = h.apart;
+        even = h.even;
+        few = h.few;
+        linked = linked;
+        gp = same 28 (omega arith) (omega arith) ∙ h.gp;
+      }
+
+  pub words_kept : (registers : Places) (g : Arrays) (fs : List Stored) (s : State) (f : ℕ → ℕ) → IsWords (record s { regs = f })
+      → ((r : ℕ) → 16 ≤ r → r < 32 → f r ≡ s.regs r) → Stands most total gs starts registers g fs s
+      → Stands most total gs starts registers g fs (record s { regs = f })
+  words_kept registers g fs s f words same h = call_kept registers g fs s f words (subst (Linked fs) (sym (same 31 (omega arith) (omega arith))) h.linked)
+      (λ r low high. same r low (omega (arith, high))) h
+
+  pub regs_kept : (registers : Places) (g : Arrays) (fs : List Stored) (is : List Plain) (s : State) (f : ℕ → ℕ) → RunsTo is s (record s { regs = f })
+      → ((r : ℕ) → 16 ≤ r → r < 32 → f r ≡ s.regs r) → Stands most total gs starts registers g fs s
+      → Stands most total gs starts registers g fs (record s { regs = f })
+  regs_kept registers g fs is s f e same h =
+      words_kept registers g fs s f (run_words (map action_of is) s (record s { regs = f }) h.words e.ends) same h
+
+  module _ (registers : Places) (g : Arrays) (top : Stored) (fs : List Stored) (s : State) (h : Stands most total gs starts registers g (top ∷ fs) s) where
+    -- a word of the top frame
+    pub frame_open : (o : ℕ) → o % 4 ≡ 0 → o < size_of top → (s.regs 29 + o < 2 ^ 32) × (is_open widths.Word s.mapped (s.regs 29 + o) ≡ true)
+    frame_open o aligned lt =
+        let up = stack_top most (word_at s) (s.regs 29 + size_of top) fs h.stack.1 in
+        let a4 = h.aligned in
+        let low = h.room in (
+          omega (arith, up, lt),
+          ap (λ m. is_open widths.Word m (s.regs 29 + o)) h.mapped
+              ∙ open_stack total (s.regs 29 + o) (omega (arith, a4, aligned)) (omega (arith, low)) (omega (arith, up, lt)),
+        )
+
+    pub home_below : (home : Home) (v : ℕ) → IsHome top.count home → in_home registers top.slots home ≡ Some v → v < 2 ^ 32
+    home_below (Reg r) v ok is = subst (λ v. v < 2 ^ 32) (h.held r v ok.0 ok.1 is) ((h.words).regs r)
+    home_below (Slot k) v ok is = subst (λ v. v < 2 ^ 32) ((h.stack.0).slots k v ok is) (word_below s (s.regs 29 + 4 * k) h.words)
+
+    pub operand_below : (hs : List Home) (x v : ℕ) → AreFrameHomes hs top.count → read_home hs registers top.slots x ≡ Some v → v < 2 ^ 32
+    operand_below hs x v ok e = go (slice_get hs x) refl e
+      where
+        go : (o : Option Home) → slice_get hs x ≡ o → chain o (in_home registers top.slots) ≡ Some v → v < 2 ^ 32
+        go None is e = absurd (none-some v e)
+        go (Some home) is e = home_below home v (ok.by x home is) e
+
+    -- an operand is what the pseudo-register holds
+    pub operand_means : (known : Places) (hs : List Home) (x v : ℕ) → AreFrameHomes hs top.count → IsKnown known hs registers top.slots
+        → read_home hs registers top.slots x ≡ Some v
+        → Denotes top.count s (source (known x) (location_at (slice_get hs x))) v × IsAway (source (known x) (location_at (slice_get hs x)))
+    operand_means known hs x v ok k e = go (slice_get hs x) (known x) refl refl e
+      where
+        home_means : (home : Home) → IsHome top.count home → in_home registers top.slots home ≡ Some v
+            → Denotes top.count s (From (location_of home)) v × IsAway (From (location_of home))
+        home_means (Reg r) ok is = (let low = ok.0 in read_register s.regs r (omega (arith, low)) ∙ h.held r v ok.0 ok.1 is, ok.0)
+        home_means (Slot q) ok is = ((ok, (h.stack.0).slots q v ok is), tt)
+
+        word_means : (w : ℕ) (o : Option Home) → slice_get hs x ≡ o → w ≡ v → w < 2 ^ 32 → chain o (in_home registers top.slots) ≡ Some v → (b : Bool)
+            → nat_eq w 0 ≡ b
+            → Denotes top.count s (if b then Zero else known_source w (location_at o)) v × IsAway (if b then Zero else known_source w (location_at o))
+        word_means w o is w_v below e true t = (sym w_v ∙ eqb-true w 0 t, tt)
+        word_means w None is w_v below e false t = ((w_v, below), tt)
+        word_means w (Some (Reg r)) is w_v below e false t = home_means (Reg r) (ok.by x (Reg r) is) e
+        word_means w (Some (Slot q)) is w_v below e false t = ((w_v, below), tt)
+
+        go : (o : Option Home) (p : Option ℕ) → slice_get hs x ≡ o → known x ≡ p → chain o (in_home registers top.slots) ≡ Some v
+            → Denotes top.count s (source p (location_at o)) v × IsAway (source p (location_at o))
+        go None p is kp e = absurd (none-some v e)
+        go (Some home) None is kp e = home_means home (ok.by x home is) e
+        go (Some home) (Some w) is kp e =
+            let same : w ≡ v = same_Some w v (sym (k.by x w kp) ∙ ap (λ o. chain o (in_home registers top.slots)) is ∙ e) in
+            let below : v < 2 ^ 32 = home_below home v (ok.by x home is) e in
+            word_means w (Some home) is same (omega (arith, same, below)) e (nat_eq w 0) refl
+
+    -- an operand of an exit
+    pub last_means : (known : Places) (fresh : Option ℕ) (hs : List Home) (x v : ℕ) → AreFrameHomes hs top.count → IsKnown known hs registers top.slots
+        → IsFresh fresh hs registers top.slots s → read_home hs registers top.slots x ≡ Some v
+        → Denotes top.count s (fresh_source fresh x (source (known x) (location_at (slice_get hs x)))) v
+    last_means known fresh hs x v ok k f e = go fresh refl
+      where
+        go : (o : Option ℕ) → fresh ≡ o → Denotes top.count s (fresh_source o x (source (known x) (location_at (slice_get hs x)))) v
+        go None is = (operand_means known hs x v ok k e).0
+        go (Some y) is = test (nat_eq y x) refl
+          where
+            test : (b : Bool) → nat_eq y x ≡ b → Denotes top.count s (if b then From (Held 1) else source (known x) (location_at (slice_get hs x))) v
+            test true t = f.by x v (is ∙ ap Some (eqb-true y x t)) e
+            test false t = (operand_means known hs x v ok k e).0
+
+    -- an operand into a register
+    pub brings : (t v : ℕ) (x : Source) → IsTarget t → Denotes top.count s x v → Sets (bring t x) s t v
+    brings t v Zero ok d = set_sets (move_code t 0 ∷ []) s t 0 v ok (sym d) (moves s t 0 h.words)
+    brings t v (Word w) ok d = subst (λ v. Sets (li t w) s t v) d.0 (li_sets s t w ok d.1)
+    brings t v (From (Held r)) ok d = set_sets (move_code t r ∷ []) s t (read 0 s.regs r) v ok d (moves s t r h.words)
+    brings t v (From (InSlot k)) ok d =
+        let lt = d.0 in
+        let at = frame_open (4 * k) (omega arith) (omega (arith, lt)) in
+        set_sets (load_word_at t (4 * k) ∷ []) s t (word_at s (s.regs 29 + 4 * k)) v ok d.1 (loads_word s t (4 * k) at.0 at.1)
+
+    -- a register below 16 is written
+    pub sets_kept : (is : List Plain) (t v : ℕ) → t < 16 → (c : Sets is s t v) → Stands most total gs starts registers g (top ∷ fs) (record s { regs = c.regs })
+    sets_kept is t v lt c = regs_kept registers g (top ∷ fs) is s c.regs c.runs (λ r low high. c.others r (omega (arith, low, lt))) h
+
+    -- an operand, shown by a register
+    pub record Fetched (is : List Plain) (t q v : ℕ) : Type 0 where
+      pub regs : ℕ → ℕ
+      pub runs : RunsTo is s (record s { regs = regs })
+      pub here : read 0 regs q ≡ v
+      pub others : (r : ℕ) → r ≢ t → regs r ≡ s.regs r
+      pub stands : Stands most total gs starts registers g (top ∷ fs) (record s { regs = regs })
+
+    loaded : (is : List Plain) (t v : ℕ) → 0 < t → t < 16 → Sets is s t v → Fetched is t t v
+    loaded is t v low high c = record {
+      regs = c.regs;
+      runs = c.runs;
+      here = read_register c.regs t low ∙ c.here;
+      others = c.others;
+      stands = sets_kept is t v high c;
+    }
+
+    pub fetches : (t v : ℕ) (x : Source) → 0 < t → t < 16 → Denotes top.count s x v → Fetched (fetch t x) t (seat t x) v
+    fetches t v Zero low high d = record { regs = s.regs; runs = runs_none s; here = sym d; others = λ r ne. refl; stands = h }
+    fetches t v (Word w) low high d = loaded (li t w) t v low high (brings t v (Word w) (record { low = low; high = omega (arith, high) }) d)
+    fetches t v (From (Held r)) low high d = record { regs = s.regs; runs = runs_none s; here = d; others = λ r ne. refl; stands = h }
+    fetches t v (From (InSlot k)) low high d = loaded (load_word_at t (4 * k) ∷ []) t v low high
+        (brings t v (From (InSlot k)) (record { low = low; high = omega (arith, high) }) d)
+
+    -- a home register is written
+    pub register_written : (r v : ℕ) (regs : ℕ → ℕ) → 16 ≤ r → r < 24 → v < 2 ^ 32 → regs r ≡ v → ((q : ℕ) → q ≢ r → regs q ≡ s.regs q)
+        → Stands most total gs starts (places_with registers r (Some v)) g (top ∷ fs) (record s { regs = regs })
+    register_written r v regs low high below is others =
+        let pointer : regs 29 ≡ s.regs 29 = (let ne : 29 ≢ r = omega (arith, high) in others 29 ne) in
+        record {
+          words = record { regs = λ q. word q (nat_eq q r) refl; hi = (h.words).hi; lo = (h.words).lo; memory = (h.words).memory };
+          mapped = h.mapped;
+          held = λ q w ql qh at. by q w ql qh (nat_eq q r) refl at;
+          stack = subst (λ at. StackHolds most (word_at s) at (top ∷ fs)) (sym pointer) h.stack;
+          room = subst (λ at. stack_base ≤ at) (sym pointer) h.room;
+          aligned = ap (λ at. at % 4) pointer ∙ h.aligned;
+          elements = h.elements;
+          inside = h.inside;
+          apart = h.apart;
+          even = h.even;
+          few = h.few;
+          linked = λ leaf. (let ne : 31 ≢ r = omega (arith, high) in others 31 ne) ∙ h.linked leaf;
+          gp = (let ne : 28 ≢ r = omega (arith, high) in others 28 ne) ∙ h.gp;
+        }
+      where
+        word : (q : ℕ) (b : Bool) → nat_eq q r ≡ b → regs q < 2 ^ 32
+        word q true e = subst (λ v. v < 2 ^ 32) (sym (ap regs (eqb-true q r e) ∙ is)) below
+        word q false e = subst (λ v. v < 2 ^ 32) (sym (others q (eqb-false q r e))) ((h.words).regs q)
+
+        by : (q w : ℕ) → 16 ≤ q → q < 24 → (b : Bool) → nat_eq q r ≡ b → (if b then Some v else registers q) ≡ Some w → regs q ≡ w
+        by q w ql qh true e at = ap regs (eqb-true q r e) ∙ is ∙ same_Some v w at
+        by q w ql qh false e at = others q (eqb-false q r e) ∙ h.held q w ql qh at
+
+    pub slot_written : (k v : ℕ) → k < top.count → v < 2 ^ 32 → Stands most total gs starts registers g
+        (with_slots top (places_with top.slots k (Some v)) ∷ fs) (set_word s (s.regs 29 + 4 * k) v)
+    slot_written k v lt below =
+        let a = s.regs 29 + 4 * k in
+        let s' = set_word s a v in
+        let low = h.room in
+        let few = h.few in
+        let up = stack_top most (word_at s) (s.regs 29 + size_of top) fs h.stack.1 in
+        let open_at = frame_open (4 * k) (omega arith) (omega (arith, lt)) in
+        record {
+          words = set_at_words widths.Word s a v h.words;
+          mapped = h.mapped;
+          held = h.held;
+          stack = (
+            record {
+              slots = λ j w jl at. by j w jl (nat_eq j k) refl at;
+              aside = λ j r w there at. (let ne : s.regs 29 + 4 * (top.count + j) ≢ s.regs 29 + 4 * k = omega (arith, lt) in
+                  word_other s a v (s.regs 29 + 4 * (top.count + j)) ne) ∙ (h.stack.0).aside j r w there at;
+              link = λ calls. (let ne : s.regs 29 + 4 * (top.count + length top.saved) ≢ s.regs 29 + 4 * k = omega (arith, lt) in
+                  word_other s a v (s.regs 29 + 4 * (top.count + length top.saved)) ne) ∙ (h.stack.0).link calls;
+              fits = (h.stack.0).fits;
+            },
+            stack_same most (word_at s) (word_at s') (s.regs 29 + size_of top) fs
+                (λ b le. let ne : b ≢ s.regs 29 + 4 * k = omega (arith, le, lt) in word_other s a v b ne) h.stack.1,
+          );
+          room = h.room;
+          aligned = h.aligned;
+          elements = λ b i w at.
+              shown_other widths.Word (width_of gs b) s a v (address_of_place (place_in gs starts b i))
+              (stack_apart (width_of gs b) a (place_in gs starts b i) total (omega (arith, low)) (omega (arith, up, lt)) (h.inside b i w at) few)
+              ∙ h.elements b i w at;
+          inside = h.inside;
+          apart = h.apart;
+          even = h.even;
+          few = h.few;
+          linked = h.linked;
+          gp = h.gp;
+        }
+      where
+        by : (j w : ℕ) → j < top.count → (b : Bool) → nat_eq j k ≡ b → (if b then Some v else top.slots j) ≡ Some w
+            → word_at (set_word s (s.regs 29 + 4 * k) v) (s.regs 29 + 4 * j) ≡ w
+        by j w jl true e at =
+            let j_k : j ≡ k = eqb-true j k e in
+            let open_at = frame_open (4 * k) (omega arith) (omega (arith, lt)) in
+            ap (λ j. word_at (set_word s (s.regs 29 + 4 * k) v) (s.regs 29 + 4 * j)) j_k ∙ word_here s (s.regs 29 + 4 * k) v open_at.1 below ∙ same_Some v w at
+        by j w jl false e at =
+            let apart : j ≢ k = eqb-false j k e in
+            let ne : s.regs 29 + 4 * j ≢ s.regs 29 + 4 * k = omega (arith, apart) in
+            word_other s (s.regs 29 + 4 * k) v (s.regs 29 + 4 * j) ne ∙ (h.stack.0).slots j w jl at
+
+  module _ (registers : Places) (g : Arrays) (top : Stored) (fs : List Stored) (s : State) (h : Stands most total gs starts registers g (top ∷ fs) s) where
+    pub ends_stands : (is : List Plain) (s0 : State) (t v : ℕ) → t < 16 → (e : Ends is s0 s t v)
+        → Stands most total gs starts registers g (top ∷ fs) (record s { regs = e.regs })
+    ends_stands is s0 t v lt e = words_kept registers g (top ∷ fs) s e.regs
+        (record { regs = λ q. word q (nat_eq q t) refl; hi = (h.words).hi; lo = (h.words).lo; memory = (h.words).memory })
+        (λ r low high. e.others r (omega (arith, low, lt))) h
+      where
+        word : (q : ℕ) (b : Bool) → nat_eq q t ≡ b → e.regs q < 2 ^ 32
+        word q true is = subst (λ v. v < 2 ^ 32) (sym (ap e.regs (eqb-true q t is) ∙ e.here)) e.below
+        word q false is = subst (λ v. v < 2 ^ 32) (sym (e.others q (eqb-false q t is))) ((h.words).regs q)
+
+    -- what a write to a location leaves
+    abbrev pub Go : (P : Run → Type 0) (go : Places → Places → Run) (is : List Plain) (s0 : State) (known : Places) (x : ℕ) (o : Option ℕ) (hs : List Home)
+        → Type 0
+    Go P go is s0 known x o hs = (registers' slots' : Places) (s' : State) → 1 ≤ length is → RunsTo is s0 s'
+        → Stands most total gs starts registers' g (with_slots top slots' ∷ fs) s' → IsKnown (places_with known x o) hs registers' slots'
+        → ((r : ℕ) → 1 < r → r < 16 → s'.regs r ≡ s.regs r) → P (go registers' slots')
+
+    -- and that a result for a slot is still in register 1
+    abbrev pub GoOn : (P : Run → Type 0) (go : Places → Places → Run) (is : List Plain) (s0 : State) (known : Places) (x : ℕ) (o : Option ℕ) (hs : List Home)
+        (fresh : Option ℕ) → Type 0
+    GoOn P go is s0 known x o hs fresh = (registers' slots' : Places) (s' : State) → 1 ≤ length is → RunsTo is s0 s'
+        → Stands most total gs starts registers' g (with_slots top slots' ∷ fs) s' → IsKnown (places_with known x o) hs registers' slots'
+        → IsFresh fresh hs registers' slots' s' → P (go registers' slots')
+
+    -- a result, computed into the register for its location
+    pub finishes : (P : Run → Type 0) (go : Places → Places → Run) (hs : List Home) (x v : ℕ) (o : Option ℕ) (out : List ℕ) (known : Places)
+        (is : List Plain) (s0 : State) → Ends is s0 s (into 1 (location_at (slice_get hs x))) v → 1 ≤ length is → ((w : ℕ) → o ≡ Some w → w ≡ v)
+        → AreFrameHomes hs top.count → IsKnown known hs registers top.slots → P (Failed out)
+        → GoOn P go (is ++ finish 1 (location_at (slice_get hs x))) s0 known x o hs (in_slot (location_at (slice_get hs x)) x)
+        → P (write_home hs registers top.slots x v out go)
+    finishes P go hs x v o out known is s0 e some said ok k failed f = by (slice_get hs x) refl e f
+      where
+        slot_read : (j : ℕ) → slice_get hs x ≡ Some (Slot j) → read_home hs registers (places_with top.slots j (Some v)) x ≡ Some v
+        slot_read j at = ap (λ p. chain p (in_home registers (places_with top.slots j (Some v)))) at
+            ∙ ap (λ b. if b then Some v else top.slots j) (eq-eqb j j refl)
+
+        by : (p : Option Home) → slice_get hs x ≡ p → Ends is s0 s (into 1 (location_at p)) v
+            → GoOn P go (is ++ finish 1 (location_at p)) s0 known x o hs (in_slot (location_at p) x)
+            → P (with_value p out (λ h. write_at h registers top.slots v go))
+        by None at e f = failed
+        by (Some (Reg r)) at e f =
+            let range = ok.by x (Reg r) at in
+            let low = range.0 in
+            f (places_with registers r (Some v)) top.slots (record s { regs = e.regs }) (longer is [] some)
+            (runs_then e.runs (runs_none (record s { regs = e.regs })))
+            (register_written registers g top fs s h r v e.regs range.0 range.1 e.below e.here e.others)
+            (known_register known hs top.count registers top.slots x r v o ok at said k) (record { by = λ c w is. absurd (none-some c is) })
+        by (Some (Slot j)) at e f =
+            let lt = ok.by x (Slot j) at in
+            let s1 : State = record s { regs = e.regs } in
+            let st = ends_stands is s0 1 v (omega arith) e in
+            let place = frame_open registers g top fs s1 st (4 * j) (omega arith) (omega (arith, lt)) in
+            let store : RunsTo (store_word_at 1 (4 * j) ∷ []) s1 (set_word s1 (s1.regs 29 + 4 * j) v) =
+            subst (λ u. RunsTo (store_word_at 1 (4 * j) ∷ []) s1 (set_word s1 (s1.regs 29 + 4 * j) u)) e.here (stores_word s1 1 (4 * j) place.0 place.1) in
+            f registers (places_with top.slots j (Some v)) (set_word s1 (s1.regs 29 + 4 * j) v) (longer is (store_word_at 1 (4 * j) ∷ []) some)
+            (runs_then e.runs store)
+            (slot_written registers g top fs s1 st j v lt e.below)
+            (known_slot known hs top.count registers top.slots x j v o ok at said k)
+            (record {
+              by = λ c w is there. e.here ∙ same_Some v w (sym (slot_read j at)
+                  ∙ ap (read_home hs registers (places_with top.slots j (Some v))) (same_Some x c is) ∙ there);
+            })
+
+    -- an operand into a location
+    pub puts : (P : Run → Type 0) (go : Places → Places → Run) (hs : List Home) (x v : ℕ) (o : Option ℕ) (out : List ℕ) (known : Places) (y : Source)
+        → Denotes top.count s y v → v < 2 ^ 32 → ((w : ℕ) → o ≡ Some w → w ≡ v) → AreFrameHomes hs top.count → IsKnown known hs registers top.slots
+        → P (Failed out)
+        → Go P go (put_at (location_at (slice_get hs x)) y) s known x o hs
+        → P (write_home hs registers top.slots x v out go)
+    puts P go hs x v o out known y d below said ok k failed f = by (slice_get hs x) refl f
+      where
+        by : (p : Option Home) → slice_get hs x ≡ p → Go P go (put_at (location_at p) y) s known x o hs
+            → P (with_value p out (λ h. write_at h registers top.slots v go))
+        by None at f = failed
+        by (Some (Reg r)) at f =
+            let range = ok.by x (Reg r) at in
+            let low = range.0 in
+            let c = brings registers g top fs s h r v y (record { low = omega (arith, low); high = omega (arith, range.1) }) d in
+            f (places_with registers r (Some v)) top.slots (record s { regs = c.regs }) (bring_some r y) c.runs
+            (register_written registers g top fs s h r v c.regs range.0 range.1 below c.here c.others)
+            (known_register known hs top.count registers top.slots x r v o ok at said k) (λ q ql qh. c.others q (omega (arith, qh, low)))
+        by (Some (Slot j)) at f =
+            let lt = ok.by x (Slot j) at in
+            let c = fetches registers g top fs s h 1 v y (omega arith) (omega arith) d in
+            let s1 : State = record s { regs = c.regs } in
+            let place = frame_open registers g top fs s1 c.stands (4 * j) (omega arith) (omega (arith, lt)) in
+            let store : RunsTo (store_word_at (seat 1 y) (4 * j) ∷ []) s1 (set_word s1 (s1.regs 29 + 4 * j) v) =
+            subst (λ u. RunsTo (store_word_at (seat 1 y) (4 * j) ∷ []) s1 (set_word s1 (s1.regs 29 + 4 * j) u)) c.here
+            (stores_word s1 (seat 1 y) (4 * j) place.0 place.1) in
+            f registers (places_with top.slots j (Some v)) (set_word s1 (s1.regs 29 + 4 * j) v)
+            (longer_behind (fetch 1 y) (store_word_at (seat 1 y) (4 * j) ∷ []) (omega arith)) (runs_then c.runs store)
+            (slot_written registers g top fs s1 c.stands j v lt below)
+            (known_slot known hs top.count registers top.slots x j v o ok at said k) (λ q ql qh. c.others q (omega (arith, ql)))

@@ -1,0 +1,501 @@
+-- Each instruction's code does what the instruction does.
+use Rattle.std.proofs.Common.{◌≡◌, ◌≢◌, ℕ, ℤ, zero, suc, ◌+◌, ◌^◌, ◌<◌, ◌≤◌, Bool, true, false, List, [], ◌∷◌, ◌++◌, take, map}
+use Rattle.std.proofs.Common.{length, Option, Some, None, refl, sym, ap, ap₂, ◌∙◌, subst, arith, nat_eq, ltb-true, ne_eqb, eq-eqb, eqb-true}
+use Rattle.std.proofs.Common.{true≢false}
+use Rattle.std.specs.Prelude.{if◌then◌else◌, slice_get, nat_lt}
+use Rattle.std.proofs.lemmas.Bool.{eqb-false}
+use Rattle.std.proofs.lemmas.Option.{same_Some, none-some}
+use Rattle.words.specs.declared.operator.Operator.TheVariants as operators
+use Rattle.words.specs.declared.width.Width.{Width}
+use Rattle.words.specs.declared.width.Width.TheVariants as widths
+use Rattle.words.specs.Words.{wrap}
+use Rattle.words.specs.Operators.{op_value, slt}
+use Rattle.runs.specs.Stores.{Places, places_with, chain, Arrays, element_at, arrays_with}
+use Rattle.mips_isa.specs.declared.inst.Plain.{Plain}
+use Rattle.mips_isa.specs.declared.inst.LogicOp.TheVariants.{Xori}
+use Rattle.mips_isa.specs.declared.inst.Plain.TheVariants.{Logic}
+use Rattle.mips_isa.specs.States.{State, IsWords, is_open, read}
+use Rattle.mips_isa.specs.Actions.{action_of}
+use Rattle.mblock.specs.declared.limits.TheConstants.{UNIT_BYTES}
+use Rattle.mblock.proofs.StateWords.{run_words}
+use Rattle.rtl.specs.declared.operator.Op.{Op}
+use Rattle.rtl.specs.declared.operator.Op.TheVariants.{Add, Sub, Mul, DivS, DivU, RemS, RemU, And, Or, Xor, Shl, ShrU, ShrS, Eq, Ne, LtS, LtU, LeS, LeU}
+use Rattle.rtl.specs.declared.instruction.RInst.{RInst}
+use Rattle.rtl.specs.declared.instruction.RInst.TheVariants.{Const, Move, Bin, Load, Store}
+use Rattle.rtl.specs.declared.block.RGlobal.{RGlobal}
+use Rattle.rtl.specs.Operators.{op_result}
+use Rattle.rtl.specs.Meaning.{kept_in}
+use Rattle.rtl.proofs.Results.{result-word}
+use Rattle.mips_homes.specs.HomedRun.{in_home, Run, Failed, with_value, read_home, with_inst}
+use Rattle.mips_homes.specs.declared.homed.Home.{Home}
+use Rattle.mips_homes.specs.declared.homed.Home.TheVariants.{Reg, Slot}
+use Rattle.mips_emit.specs.declared.limits.TheConstants.{KEPT_FACTS}
+use Rattle.mips_emit.specs.declared.location.Location.TheVariants.{Held, InSlot}
+use Rattle.mips_emit.specs.declared.location.Source.{Source}
+use Rattle.mips_emit.specs.declared.location.Source.TheVariants.{Zero, Word, From}
+use Rattle.mips_emit.specs.declared.facts.Above.{Above}
+use Rattle.mips_emit.specs.declared.facts.Fact.{Fact}
+use Rattle.mips_emit.specs.Frames.{AreFrameHomes}
+use Rattle.mips_emit.specs.Locations.{Facts, known_in, with_fact, learned, location_at, locations_of, is_signed_less, above_at, above_by, above_of}
+use Rattle.mips_emit.specs.Locations.{last_of, word_source, operand}
+use Rattle.mips_emit.specs.Elements.{width_of, width_bytes, element_place, place_in, address_of_place, data_middle, direct, near, base_code}
+use Rattle.mips_emit.specs.Elements.{base_offset, element_base, element_offset}
+use Rattle.mips_emit.specs.Code.{fetch, seat, into, operation, immediate_of, is_symmetric, turned_immediate_of, turned_less_of, code_by_less, code_by_left}
+use Rattle.mips_emit.specs.Code.{code_by_right, op_code, element_code, element_load, element_store, inst_code}
+use Rattle.mips_emit.proofs.Runs.{RunsTo, runs_none, runs_then}
+use Rattle.mips_emit.proofs.View.{shown_at, word_of_offset, shown_below, set, set_at, put_here, put_other, IsTarget, loads_at, stores_at, near_word, based}
+use Rattle.mips_emit.proofs.Stands.{Stored, with_slots, Stands}
+use Rattle.mips_emit.proofs.Homes.{IsLast, none_last, known_with, known_without, regs_kept, IsKnown, Denotes, IsAway, seat_kept, longer_behind, Ends}
+use Rattle.mips_emit.proofs.Homes.{operand_below, operand_means, fetches, finishes, puts}
+use Rattle.mips_emit.proofs.Globals.{kept_is, data_open, data_written, stored_at}
+use Rattle.mips_emit.proofs.Operations.{Gives, operation_gives, immediate_gives, less_gives, symmetric}
+
+-- ---- facts
+
+-- what fewer facts say, all say
+known_fewer : (n : ℕ) (facts : Facts) (x w : ℕ) → known_in (take n facts) x ≡ Some w → known_in facts x ≡ Some w
+known_fewer zero [] x w e = e
+known_fewer zero (f ∷ facts) x w e = absurd (none-some w e)
+known_fewer (suc n) [] x w e = e
+known_fewer (suc n) (f ∷ facts) x w e = go (nat_eq x f.register) e (λ e. known_fewer n facts x w e)
+  where
+    go : (b : Bool) → (if b then f.word else known_in (take n facts) x) ≡ Some w → (known_in (take n facts) x ≡ Some w → known_in facts x ≡ Some w)
+        → (if b then f.word else known_in facts x) ≡ Some w
+    go true e next = e
+    go false e next = next e
+
+fact_known : (hs : List Home) (registers slots : Places) (facts : Facts) (x : ℕ) (o : Option ℕ) → IsKnown (places_with (known_in facts) x o) hs registers slots
+    → IsKnown (known_in (with_fact x o facts)) hs registers slots
+fact_known hs registers slots facts x o h =
+    record { by = λ y w e. h.by y w (known_fewer KEPT_FACTS ((let f : Fact = record { register = x; word = o } in f) ∷ facts) y w e) }
+
+-- ---- parts of the proof
+
+-- a step that goes wrong where there is no value
+pub value_or_failed : {A : Type 0} (P : Run → Type 0) (o : Option A) (out : List ℕ) (go : A → Run) → P (Failed out) → ((v : A) → o ≡ Some v → P (go v))
+    → P (with_value o out go)
+value_or_failed P None out go failed f = failed
+value_or_failed P (Some v) out go failed f = f v refl
+
+ends_set : (is : List Plain) (s m : State) (d v w : ℕ) → IsTarget d → RunsTo is s (set m d v) → v ≡ w → w < 2 ^ 32 → Ends is s m d w
+ends_set is s m d v w ok run e lt = record {
+  regs = put' m.regs d v;
+  runs = run;
+  here = put_here m.regs d v ok ∙ e;
+  others = λ r ne. put_other m.regs d v r ne;
+  below = lt;
+}
+  where
+    put' : (ℕ → ℕ) → ℕ → ℕ → ℕ → ℕ
+    put' = Rattle.mips_isa.specs.States.put
+
+t1 : IsTarget 1
+t1 = record { low = omega arith; high = omega arith }
+
+into_target : (hs : List Home) (count x : ℕ) → AreFrameHomes hs count → IsTarget (into 1 (location_at (slice_get hs x)))
+into_target hs count x ok = go (slice_get hs x) refl
+  where
+    go : (o : Option Home) → slice_get hs x ≡ o → IsTarget (into 1 (location_at o))
+    go None e = t1
+    go (Some (Reg r)) e = (let range = ok.by x (Reg r) e in record { low = omega (arith, range.0); high = omega (arith, range.1) })
+    go (Some (Slot k)) e = t1
+
+word_means : (count w v : ℕ) (s : State) → w ≡ v → w < 2 ^ 32 → Denotes count s (word_source w) v
+word_means count w v s e lt = go (nat_eq w 0) refl
+  where
+    go : (b : Bool) → nat_eq w 0 ≡ b → Denotes count s (if b then Zero else Word w) v
+    go true t = sym e ∙ eqb-true w 0 t
+    go false t = (e, lt)
+
+base_kept : (o : Option ℕ) (f f' : ℕ → ℕ) → ((r : ℕ) → r ≢ 2 → f' r ≡ f r) → read 0 f' (element_base o) ≡ read 0 f (element_base o)
+base_kept None f f' same = same 1 (λ e. absurd (omega (arith, e)))
+base_kept (Some p) f f' same = same 28 (λ e. absurd (omega (arith, e)))
+
+-- an operand away from the lower registers isn't shown by register 2
+seat_apart : (x : Source) → IsAway x → seat 1 x ≢ 2
+seat_apart Zero away = λ e. absurd (omega (arith, e))
+seat_apart (Word w) away = λ e. absurd (omega (arith, e))
+seat_apart (From (Held r)) away = λ e. absurd (omega (arith, e, away))
+seat_apart (From (InSlot k)) away = λ e. absurd (omega (arith, e))
+
+signed_less : (op : Op) → is_signed_less op ≡ true → op ≡ LtS
+signed_less LtS e = refl
+signed_less Add e = absurd (true≢false (sym e))
+signed_less Sub e = absurd (true≢false (sym e))
+signed_less Mul e = absurd (true≢false (sym e))
+signed_less DivS e = absurd (true≢false (sym e))
+signed_less DivU e = absurd (true≢false (sym e))
+signed_less RemS e = absurd (true≢false (sym e))
+signed_less RemU e = absurd (true≢false (sym e))
+signed_less And e = absurd (true≢false (sym e))
+signed_less Or e = absurd (true≢false (sym e))
+signed_less Xor e = absurd (true≢false (sym e))
+signed_less Shl e = absurd (true≢false (sym e))
+signed_less ShrU e = absurd (true≢false (sym e))
+signed_less ShrS e = absurd (true≢false (sym e))
+signed_less Eq e = absurd (true≢false (sym e))
+signed_less Ne e = absurd (true≢false (sym e))
+signed_less LtU e = absurd (true≢false (sym e))
+signed_less LeS e = absurd (true≢false (sym e))
+signed_less LeU e = absurd (true≢false (sym e))
+
+slt_value : (v w : ℕ) → op_value operators.Slt v w ≡ slt v w
+unfolding op_value
+slt_value v w = refl
+
+module _ (most total : ℕ) (gs : List RGlobal) (starts : ℕ → ℕ) where
+  -- HI and LO change
+  product_kept : (registers : Places) (g : Arrays) (fs : List Stored) (s : State) (hi lo : ℕ) → IsWords (record s { hi = hi; lo = lo })
+      → Stands most total gs starts registers g fs s → Stands most total gs starts registers g fs (record s { hi = hi; lo = lo })
+  product_kept registers g fs s hi lo words h = record {
+    words = words;
+    mapped = h.mapped;
+    held = h.held;
+    stack = h.stack;
+    room = h.room;
+    aligned = h.aligned;
+    elements = h.elements;
+    inside = h.inside;
+    apart = h.apart;
+    even = h.even;
+    few = h.few;
+    linked = h.linked;
+    gp = h.gp;
+  }
+
+  -- a state in which a register and an offset lead to a place of the data
+  pub record AtElement (registers : Places) (g : Arrays) (fs : List Stored) (s : State) (is : List Plain) (w : Width) (b : ℕ) (z : ℤ) (p : ℕ) : Type 0 where
+    pub to : State
+    pub runs : RunsTo is s to
+    pub here : wrap (read 0 to.regs b + word_of_offset z) ≡ address_of_place p
+    pub ok : is_open w to.mapped (address_of_place p) ≡ true
+    pub stands : Stands most total gs starts registers g fs to
+
+  -- an element lies below the greatest place
+  element_few : (registers : Places) (g : Arrays) (fs : List Stored) (s : State) (a i v : ℕ) → element_at g a i ≡ Some v
+      → Stands most total gs starts registers g fs s → place_in gs starts a i < UNIT_BYTES
+  element_few registers g fs s a i v there h = by (width_of gs a) (place_in gs starts a i) (h.inside a i v there) h.few
+    where
+      by : (w : Width) (p : ℕ) → p + width_bytes w ≤ total → total ≤ UNIT_BYTES → p < UNIT_BYTES
+      by widths.Word p le few = omega (arith, le, few)
+      by widths.Byte p le few = omega (arith, le, few)
+
+  points : (registers : Places) (g : Arrays) (fs : List Stored) (s : State) (q a i v : ℕ) → read 0 s.regs q ≡ i → q ≢ 2 → element_at g a i ≡ Some v
+      → Stands most total gs starts registers g fs s
+      → AtElement registers g fs s (base_code (width_of gs a) (starts a) q) (width_of gs a) 1 (base_offset (starts a)) (place_in gs starts a i)
+  points registers g fs s q a i v is apart there h =
+      let c = based (width_of gs a) s q (starts a) i is apart h.gp (element_few registers g fs s a i v there h) in
+      record {
+        to = record s { regs = c.regs };
+        runs = c.runs;
+        here = c.here;
+        ok = data_open most total gs starts registers g fs s a i v there h;
+        stands = regs_kept most total gs starts registers g fs (base_code (width_of gs a) (starts a) q) s c.regs c.runs
+            (λ r low high. c.others r (λ e. absurd (omega (arith, e, low))) (λ e. absurd (omega (arith, e, low)))) h;
+      }
+
+  module _ (registers : Places) (g : Arrays) (top : Stored) (fs : List Stored) (s : State) (h : Stands most total gs starts registers g (top ∷ fs) s) where
+    -- instructions that compute a word in register d
+    pub record Computed (is : List Plain) (d v : ℕ) : Type 0 where
+      pub to : State
+      pub stands : Stands most total gs starts registers g (top ∷ fs) to
+      pub ends : Ends is s to d v
+      pub some : 1 ≤ length is
+
+    -- the last of them from a state that the others have reached
+    computed : (is js : List Plain) (m : State) (d u : ℕ) → Stands most total gs starts registers g (top ∷ fs) m
+        → ((t : State) → RunsTo is m t → RunsTo js s t) → (1 ≤ length is → 1 ≤ length js) → u < 2 ^ 32
+        → Gives is m d u → Computed js d u
+    computed is js m d u st lead some lt c =
+        let all : State = record m { regs = c.regs; hi = c.hi; lo = c.lo } in
+        let words = run_words (map action_of is) m all st.words (c.runs).ends in
+        record {
+          to = record m { hi = c.hi; lo = c.lo };
+          stands = product_kept registers g (top ∷ fs) m c.hi c.lo (record {
+            regs = (st.words).regs;
+            hi = words.hi;
+            lo = words.lo;
+            memory = (st.words).memory;
+          }) st;
+          ends = record { regs = c.regs; runs = lead all c.runs; here = c.here; others = c.others; below = lt };
+          some = some c.some;
+        }
+
+    -- an operand means a word in each state that stands
+    abbrev pub Means : Source → ℕ → Type 0
+    Means x v = (s : State) → Stands most total gs starts registers g (top ∷ fs) s → Denotes top.count s x v
+
+    -- one operand, then instructions that give a word
+    one_operand : (t d v u : ℕ) (x : Source) (is : List Plain) → 0 < t → t < 16 → Means x v → u < 2 ^ 32
+        → ((s : State) → read 0 s.regs (seat t x) ≡ v → Gives is s d u) → Computed (fetch t x ++ is) d u
+    one_operand t d v u x is low high mx lt gives =
+        let a = fetches most total gs starts registers g top fs s h t v x low high (mx s h) in
+        let s1 : State = record s { regs = a.regs } in
+        computed is (fetch t x ++ is) s1 d u a.stands (λ m e. runs_then a.runs e) (λ some. longer_behind (fetch t x) is some) lt (gives s1 a.here)
+
+    -- both operands
+    record Both (x y : Source) (v w : ℕ) : Type 0 where
+      to : State
+      runs : (is : List Plain) (m : State) → RunsTo is to m → RunsTo (fetch 1 x ++ (fetch 2 y ++ is)) s m
+      left : read 0 to.regs (seat 1 x) ≡ v
+      right : read 0 to.regs (seat 2 y) ≡ w
+      stands : Stands most total gs starts registers g (top ∷ fs) to
+
+    both : (x y : Source) (v w : ℕ) → IsAway x → Means x v → Means y w → Both x y v w
+    both x y v w away mx my =
+        let a = fetches most total gs starts registers g top fs s h 1 v x (omega arith) (omega arith) (mx s h) in
+        let s1 : State = record s { regs = a.regs } in
+        let b = fetches most total gs starts registers g top fs s1 a.stands 2 w y (omega arith) (omega arith) (my s1 a.stands) in
+        record {
+          to = record s1 { regs = b.regs };
+          runs = λ is m e. runs_then a.runs (runs_then b.runs e);
+          left = seat_kept x 1 2 a.regs b.regs away (λ e. absurd (omega (arith, e))) (omega arith) b.others ∙ a.here;
+          right = b.here;
+          stands = b.stands;
+        }
+
+    pub computes : (op : Op) (d v w u : ℕ) (k l : Option ℕ) (x y : Source) → IsTarget d → IsAway x → Means x v → Means y w → ((c : ℕ) → k ≡ Some c → c ≡ v)
+        → ((c : ℕ) → l ≡ Some c → c ≡ w) → v < 2 ^ 32 → w < 2 ^ 32 → op_result op v w ≡ Some u
+        → Computed (op_code op d k l x y) d u
+    computes op d v w u k l x y ok away mx my kv lw vb wb e = by_right l lw (immediate_of op d (seat 1 x) l) refl
+      where
+        below : u < 2 ^ 32
+        below = result-word op v w u vb wb e
+
+        plainly : Computed (fetch 1 x ++ (fetch 2 y ++ operation op d (seat 1 x) (seat 2 y))) d u
+        plainly =
+            let c = both x y v w away mx my in
+            let last = operation op d (seat 1 x) (seat 2 y) in
+            computed last (fetch 1 x ++ (fetch 2 y ++ last)) c.to d u c.stands (c.runs last)
+            (λ some. longer_behind (fetch 1 x) (fetch 2 y ++ last) (longer_behind (fetch 2 y) last some)) below
+            (operation_gives op c.to d (seat 1 x) (seat 2 y) v w u ok c.left c.right vb wb e)
+
+        on_left : (i : Plain) → (o : Option ℕ) → ((c : ℕ) → o ≡ Some c → c ≡ v) → is_symmetric op ≡ true → immediate_of op d (seat 2 y) o ≡ Some i
+            → Computed (fetch 2 y ++ i ∷ []) d u
+        on_left i None said turns is = absurd (none-some i is)
+        on_left i (Some c) said turns is =
+            let same : c ≡ v = said c refl in
+            one_operand 2 d w u y (i ∷ []) (omega arith) (omega arith) my below
+            (λ s at. immediate_gives s d (seat 2 y) c w u i ok at wb (omega (arith, same, vb)) op is (ap (op_result op w) same ∙ symmetric op w v turns ∙ e))
+
+        by_less : (o : Option Plain) → turned_less_of op d (seat 2 y) k ≡ o → Computed (code_by_less op d o x y) d u
+        by_less None is = plainly
+        by_less (Some i) is = one_operand 2 d w u y (i ∷ Logic Xori d d 1 ∷ []) (omega arith) (omega arith) my below
+            (λ s at. less_gives op s d (seat 2 y) v w u i k ok at vb wb kv is e)
+
+        by_left : (o : Option Plain) → turned_immediate_of op d (seat 2 y) k ≡ o → Computed (code_by_left op d o (turned_less_of op d (seat 2 y) k) x y) d u
+        by_left None is = by_less (turned_less_of op d (seat 2 y) k) refl
+        by_left (Some i) is = go (is_symmetric op) refl is
+          where
+            go : (b : Bool) → is_symmetric op ≡ b → (if b then immediate_of op d (seat 2 y) k else None) ≡ Some i → Computed (fetch 2 y ++ i ∷ []) d u
+            go true t is = on_left i k kv t is
+            go false t is = absurd (none-some i is)
+
+        by_right : (o : Option ℕ) → ((c : ℕ) → o ≡ Some c → c ≡ w) → (p : Option Plain) → immediate_of op d (seat 1 x) o ≡ p
+            → Computed (code_by_right op d p (turned_immediate_of op d (seat 2 y) k) (turned_less_of op d (seat 2 y) k) x y) d u
+        by_right o said None is = by_left (turned_immediate_of op d (seat 2 y) k) refl
+        by_right None said (Some i) is = absurd (none-some i is)
+        by_right (Some c) said (Some i) is =
+            let same : c ≡ w = said c refl in
+            one_operand 1 d v u x (i ∷ []) (omega arith) (omega arith) mx below
+            (λ s at. immediate_gives s d (seat 1 x) c v u i ok at vb (omega (arith, same, wb)) op is (ap (op_result op v) same ∙ e))
+
+    -- an element of a global
+    pub elements : (known : Option ℕ) (x : Source) (a i v : ℕ) → IsAway x → Means x i → ((w : ℕ) → known ≡ Some w → w ≡ i) → element_at g a i ≡ Some v
+        → AtElement registers g (top ∷ fs) s (element_code (width_of gs a) (starts a) (direct (width_of gs a) (starts a) known) x) (width_of gs a)
+        (element_base (direct (width_of gs a) (starts a) known)) (element_offset (starts a) (direct (width_of gs a) (starts a) known)) (place_in gs starts a i)
+    elements known x a i v away mx said there = by known said
+      where
+        E : Option ℕ → Type 0
+        E o = AtElement registers g (top ∷ fs) s (element_code (width_of gs a) (starts a) o x) (width_of gs a) (element_base o) (element_offset (starts a) o)
+            (place_in gs starts a i)
+
+        far : AtElement registers g (top ∷ fs) s (fetch 1 x ++ base_code (width_of gs a) (starts a) (seat 1 x)) (width_of gs a) 1 (base_offset (starts a))
+            (place_in gs starts a i)
+        far =
+            let c = fetches most total gs starts registers g top fs s h 1 i x (omega arith) (omega arith) (mx s h) in
+            let p = points registers g (top ∷ fs) (record s { regs = c.regs }) (seat 1 x) a i v c.here (seat_apart x away) there c.stands in
+            record { to = p.to; runs = runs_then c.runs p.runs; here = p.here; ok = p.ok; stands = p.stands }
+
+        close : (p : ℕ) → p ≡ place_in gs starts a i → nat_lt p 65536 ≡ true
+            → AtElement registers g (top ∷ fs) s [] (width_of gs a) 28 (near p) (place_in gs starts a i)
+        close p same lt =
+            let below : p < 65536 = ltb-true p 65536 lt in
+            let none : p + 0 ≡ p = omega arith in
+            let from : wrap (0 + data_middle + word_of_offset (near p)) ≡ address_of_place (p + 0) = near_word p 0 below (omega (arith, below)) in
+            record {
+              to = s;
+              runs = runs_none s;
+              here = ap (λ x. wrap (x + word_of_offset (near p))) h.gp ∙ from ∙ ap address_of_place (none ∙ same);
+              ok = data_open most total gs starts registers g (top ∷ fs) s a i v there h;
+              stands = h;
+            }
+
+        by : (o : Option ℕ) → ((w : ℕ) → o ≡ Some w → w ≡ i) → E (direct (width_of gs a) (starts a) o)
+        by None said = far
+        by (Some w) said = go (nat_lt w 65536) (nat_lt (element_place (width_of gs a) (starts a) w) 65536) refl
+          where
+            go : (b c : Bool) → nat_lt (element_place (width_of gs a) (starts a) w) 65536 ≡ c
+                → E (if b then (if c then Some (element_place (width_of gs a) (starts a) w) else None) else None)
+            go false c e = far
+            go true false e = far
+            go true true e = close (element_place (width_of gs a) (starts a) w) (ap (element_place (width_of gs a) (starts a)) (said w refl)) e
+
+  module _ (g : Arrays) (fs : List Stored) (hs : List Home) (P : Run → Type 0) (out : List ℕ) (failed : P (Failed out)) where
+    -- a comparison with zero says whether the other word is above zero
+    above_holds : (facts : Facts) (registers : Places) (top : Stored) (d a b v w u : ℕ) → AreFrameHomes hs top.count
+        → IsKnown (known_in facts) hs registers top.slots → read_home hs registers top.slots a ≡ Some v → op_result LtS v w ≡ Some u
+        → (r' : Places) (top' : Stored) (to : State) → Stands most total gs starts r' g (top' ∷ fs) to
+        → IsKnown (places_with (places_with (known_in facts) b (Some w)) d (Some u)) hs r' top'.slots
+        → (m : Above) (v' : ℕ) → above_by (known_in facts a) (locations_of hs b) d b ≡ Some m → read_home hs r' top'.slots m.result ≡ Some v'
+        → (0 < m.register) × (v' ≡ op_value operators.Slt 0 (to.regs m.register))
+    above_holds facts registers top d a b v w u ok k ev eu r' top' to st kn m v' is there = by_known (known_in facts a) refl is
+      where
+        known : Places
+        known = known_in facts
+
+        Holds : Type 0
+        Holds = (0 < m.register) × (v' ≡ op_value operators.Slt 0 (to.regs m.register))
+
+        found : (q : ℕ) → slice_get hs b ≡ Some (Reg q) → 0 ≡ v → d ≢ b → (let x : Above = record { result = d; register = q } in x) ≡ m → Holds
+        found q home zero_v ne same =
+            let range = ok.by b (Reg q) home in
+            let low = range.0 in
+            let kept : read_home hs r' top'.slots b ≡ Some w = kn.by b w
+            (ap (λ t. if t then Some u else (places_with (known_in facts) b (Some w)) b) (ne_eqb b d (λ e. ne (sym e)))
+            ∙ ap (λ t. if t then Some w else known_in facts b) (eq-eqb b b refl)) in
+            let result : read_home hs r' top'.slots d ≡ Some u = kn.by d u
+            (ap (λ t. if t then Some u else (places_with (known_in facts) b (Some w)) d) (eq-eqb d d refl)) in
+            let shown : to.regs q ≡ w = st.held q w range.0 range.1 (ap (λ o. chain o (in_home r' top'.slots)) (sym home) ∙ kept) in
+            let value : v' ≡ u = same_Some v' u (sym there ∙ ap (λ (x : Above). read_home hs r' top'.slots x.result) (sym same) ∙ result) in
+            let register : q ≡ m.register = ap (λ (x : Above). x.register) same in (
+              subst (λ r. 0 < r) register (omega (arith, low)),
+              value ∙ sym (same_Some (slt v w) u eu) ∙ sym (slt_value v w) ∙ ap₂ (op_value operators.Slt) (sym zero_v) (sym shown)
+                  ∙ ap (λ r. op_value operators.Slt 0 (to.regs r)) register,
+            )
+
+        by_home : (o : Option Home) → slice_get hs b ≡ o → 0 ≡ v → above_at (location_at o) d b ≡ Some m → Holds
+        by_home None home z is = absurd (none-some m is)
+        by_home (Some (Slot j)) home z is = absurd (none-some m is)
+        by_home (Some (Reg q)) home z is = test (nat_eq d b) refl is
+          where
+            test : (t : Bool) → nat_eq d b ≡ t → (if t then None else Some (let x : Above = record { result = d; register = q } in x)) ≡ Some m → Holds
+            test true t is = absurd (none-some m is)
+            test false t is = found q home z (eqb-false d b t) (same_Some (let x : Above = record { result = d; register = q } in x) m is)
+
+        by_known : (o : Option ℕ) → known_in facts a ≡ o → above_by o (locations_of hs b) d b ≡ Some m → Holds
+        by_known None ka is = absurd (none-some m is)
+        by_known (Some c) ka is = test (nat_eq c 0) refl is
+          where
+            test : (t : Bool) → nat_eq c 0 ≡ t → (if t then above_at (locations_of hs b) d b else None) ≡ Some m → Holds
+            test false t is = absurd (none-some m is)
+            test true t is = by_home (slice_get hs b) refl (sym (eqb-true c 0 t) ∙ same_Some c v (sym (k.by a c ka) ∙ ev)) is
+
+    -- only a signed comparison says it
+    above_of_op : (op : Op) (facts : Facts) (registers : Places) (top : Stored) (d a b v w u : ℕ) → AreFrameHomes hs top.count
+        → IsKnown (known_in facts) hs registers top.slots → read_home hs registers top.slots a ≡ Some v → op_result op v w ≡ Some u
+        → (r' : Places) (top' : Stored) (to : State) → Stands most total gs starts r' g (top' ∷ fs) to
+        → IsKnown (places_with (places_with (known_in facts) b (Some w)) d (Some u)) hs r' top'.slots
+        → (m : Above) (v' : ℕ) → above_of (locations_of hs) facts (Bin op d a b) ≡ Some m → read_home hs r' top'.slots m.result ≡ Some v'
+        → (0 < m.register) × (v' ≡ op_value operators.Slt 0 (to.regs m.register))
+    above_of_op op facts registers top d a b v w u ok k ev eu r' top' to st kn m v' is there = go (is_signed_less op) refl is
+      where
+        go : (t : Bool) → is_signed_less op ≡ t → (if t then above_by (known_in facts a) (locations_of hs b) d b else None) ≡ Some m
+            → (0 < m.register) × (v' ≡ op_value operators.Slt 0 (to.regs m.register))
+        go false t is = absurd (none-some m is)
+        go true t is = above_holds facts registers top d a b v w u ok k ev
+            (ap (λ op. op_result op v w) (sym (signed_less op t)) ∙ eu) r' top' to st kn m v' is there
+
+    pub performs : (i : RInst) (facts : Facts) (registers : Places) (top : Stored) (s : State) (go : Places → Places → Arrays → Run)
+        → AreFrameHomes hs top.count → IsKnown (known_in facts) hs registers top.slots → Stands most total gs starts registers g (top ∷ fs) s
+        → ((registers' slots' : Places) (g' : Arrays) (s' : State) → 1 ≤ length (inst_code gs starts (locations_of hs) facts i)
+        → RunsTo (inst_code gs starts (locations_of hs) facts i) s s' → Stands most total gs starts registers' g' (with_slots top slots' ∷ fs) s'
+        → IsKnown (known_in (learned i facts)) hs registers' slots' → IsLast (last_of (locations_of hs) facts i) hs registers' slots' s'
+        → P (go registers' slots' g'))
+        → P (with_inst gs i hs registers top.slots g out go)
+    performs (Const d w) facts registers top s go ok k h f =
+        puts most total gs starts registers g top fs s h P (λ r s. go r s g) hs d (wrap w) (Some (wrap w)) out (known_in facts) (word_source (wrap w))
+        (word_means top.count (wrap w) (wrap w) s refl (omega arith)) (omega arith) (λ u e. sym (same_Some (wrap w) u e)) ok k failed
+        (λ r' s' to some e st kn low. f r' s' g to some e st (fact_known hs r' s' facts d (Some (wrap w)) kn) (none_last hs r' s' to))
+    performs (Move d a) facts registers top s go ok k h f =
+        value_or_failed P (read_home hs registers top.slots a) out _ failed (λ v e.
+        let x = operand_means most total gs starts registers g top fs s h (known_in facts) hs a v ok k e in
+        puts most total gs starts registers g top fs s h P (λ r s. go r s g) hs d v (known_in facts a) out (known_in facts)
+        (operand (locations_of hs) facts a) x.0 (operand_below most total gs starts registers g top fs s h hs a v ok e)
+        (λ u is. same_Some u v (sym (k.by a u is) ∙ e)) ok k failed
+        (λ r' s' to some e st kn low. f r' s' g to some e st (fact_known hs r' s' facts d (known_in facts a) kn) (none_last hs r' s' to)))
+    performs (Bin op d a b) facts registers top s go ok k h f =
+        value_or_failed P (read_home hs registers top.slots a) out _ failed (λ v ev.
+        value_or_failed P (read_home hs registers top.slots b) out _ failed (λ w ew.
+        value_or_failed P (op_result op v w) out _ failed (λ u eu.
+        let known = known_in facts in
+        let z = computes registers g top fs s h op (into 1 (locations_of hs d)) v w u (known_in facts a) (known_in facts b)
+        (operand (locations_of hs) facts a) (operand (locations_of hs) facts b) (into_target hs top.count d ok)
+        (operand_means most total gs starts registers g top fs s h known hs a v ok k ev).1
+        (λ s h. (operand_means most total gs starts registers g top fs s h known hs a v ok k ev).0)
+        (λ s h. (operand_means most total gs starts registers g top fs s h known hs b w ok k ew).0)
+        (λ c is. same_Some c v (sym (k.by a c is) ∙ ev))
+        (λ c is. same_Some c w (sym (k.by b c is) ∙ ew))
+        (operand_below most total gs starts registers g top fs s h hs a v ok ev)
+        (operand_below most total gs starts registers g top fs s h hs b w ok ew) eu in
+        finishes most total gs starts registers g top fs z.to z.stands P (λ r s. go r s g) hs d u (Some u) out (places_with known b (Some w))
+        (op_code op (into 1 (locations_of hs d)) (known_in facts a) (known_in facts b) (operand (locations_of hs) facts a)
+        (operand (locations_of hs) facts b)) s z.ends z.some
+        (λ c is. sym (same_Some u c is)) ok (known_with known hs registers top.slots b w ew k) failed
+        (λ r' s' to some e st kn new. f r' s' g to some e st (fact_known hs r' s' facts d None
+        (known_without known hs r' s' b w d u (λ c is. same_Some c w (sym (k.by b c is) ∙ ew)) kn))
+        (record {
+          fresh = new;
+          above = λ m v' is there. above_of_op op facts registers top d a b v w u ok k ev eu r'
+              (with_slots top s') to st kn m v' is there;
+        })))))
+    performs (Load d a i) facts registers top s go ok k h f =
+        value_or_failed P (read_home hs registers top.slots i) out _ failed (λ v ev.
+        value_or_failed P (element_at g a v) out _ failed (λ w there.
+        let known = known_in facts in
+        let x = operand (locations_of hs) facts i in
+        let width = width_of gs a in
+        let o = direct width (starts a) (known_in facts i) in
+        let p = elements registers g top fs s h (known_in facts i) x a v w (operand_means most total gs starts registers g top fs s h known hs i v ok k ev).1
+        (λ s h. (operand_means most total gs starts registers g top fs s h known hs i v ok k ev).0) (λ u is. same_Some u v (sym (k.by i u is) ∙ ev)) there in
+        let to = p.to in
+        let at = address_of_place (place_in gs starts a v) in
+        let d' = into 1 (locations_of hs d) in
+        let load = loads_at width to d' (element_base o) (element_offset (starts a) o) at p.here p.ok in
+        let value : shown_at width to at ≡ w = (p.stands).elements a v w there in
+        let below : w < 2 ^ 32 = subst (λ w. w < 2 ^ 32) value (shown_below width to at (p.stands).words) in
+        let is = element_code width (starts a) o x ++ element_load width d' (starts a) o ∷ [] in
+        finishes most total gs starts registers g top fs to p.stands P (λ r s. go r s g) hs d w None out known is s
+        (ends_set is s to d' (shown_at width to at) w (into_target hs top.count d ok) (runs_then p.runs load) value below)
+        (longer_behind (element_code width (starts a) o x) _ (omega arith)) (λ w e. absurd (none-some w e)) ok k failed
+        (λ r' s' to some e st kn new. f r' s' g to some e st (fact_known hs r' s' facts d None kn)
+        (record { fresh = new; above = λ m v' is. absurd (none-some m is) }))))
+    performs (Store a i b) facts registers top s go ok k h f =
+        value_or_failed P (read_home hs registers top.slots i) out _ failed (λ v ev.
+        value_or_failed P (read_home hs registers top.slots b) out _ failed (λ w ew.
+        value_or_failed P (kept_in gs a w) out _ failed (λ c ec.
+        value_or_failed P (arrays_with g a v c) out _ failed (λ g' eg.
+        let known = known_in facts in
+        let width = width_of gs a in
+        let at_g = stored_at g a v c g' eg in
+        let x = operand (locations_of hs) facts i in
+        let y = operand (locations_of hs) facts b in
+        let o = direct width (starts a) (known_in facts i) in
+        let p = elements registers g top fs s h (known_in facts i) x a v at_g.old
+        (operand_means most total gs starts registers g top fs s h known hs i v ok k ev).1
+        (λ s h. (operand_means most total gs starts registers g top fs s h known hs i v ok k ev).0) (λ u is. same_Some u v (sym (k.by i u is) ∙ ev)) at_g.was in
+        let m = p.to in
+        let at = address_of_place (place_in gs starts a v) in
+        let z = fetches most total gs starts registers g top fs m p.stands 2 w y (omega arith) (omega arith)
+        (operand_means most total gs starts registers g top fs m p.stands known hs b w ok k ew).0 in
+        let to : State = record m { regs = z.regs } in
+        let here : wrap (read 0 z.regs (element_base o) + word_of_offset (element_offset (starts a) o)) ≡ at =
+        ap (λ r. wrap (r + word_of_offset (element_offset (starts a) o))) (base_kept o m.regs z.regs z.others) ∙ p.here in
+        let last = element_store width (seat 2 y) (starts a) o in
+        let store = stores_at width to (seat 2 y) (element_base o) (element_offset (starts a) o) at here p.ok in
+        let store' : RunsTo (last ∷ []) to (set_at width to at w) = subst (λ w. RunsTo (last ∷ []) to (set_at width to at w)) z.here store in
+        f registers top.slots g' (set_at width to at w) (longer_behind (element_code width (starts a) o x) _
+        (longer_behind (fetch 2 y) (last ∷ []) (omega arith))) (runs_then p.runs (runs_then z.runs store'))
+        (data_written most total gs starts registers g (top ∷ fs) to a v w g' (operand_below most total gs starts registers g top fs s h hs b w ok ew)
+        (ap (arrays_with g a v) (sym (kept_is gs a w c ec)) ∙ eg) z.stands) k
+        (none_last hs registers top.slots (set_at width to at w))))))

@@ -1,0 +1,534 @@
+-- The code of operators leaves their results.
+use Rattle.std.proofs.Common.{◌≡◌, ◌≢◌, ℕ, pos, ◌+◌, ◌-◌, ◌*◌, ◌/◌, ◌%◌, ◌^◌, ◌<◌, ◌≤◌, ◌==◌, Bool, true, false, List, [], ◌∷◌, length}
+use Rattle.std.proofs.Common.{Option, Some, None, refl, sym, ap, ap₂, ◌∙◌, subst, arith, nat_eq, nat_lt, ltb-true, eqb-true, true≢false}
+use Rattle.std.specs.Prelude.{bit_and, if◌then◌else◌, not, int_lt, bit_xor}
+use Rattle.std.proofs.lemmas.Bool.{eqb-false, ltb-false}
+use Rattle.std.proofs.lemmas.Nat.{and_comm, or_comm, xor_comm, and_mask}
+use Rattle.std.proofs.lemmas.Int.{ints}
+use Rattle.std.proofs.lemmas.Option.{same_Some, none-some}
+use Rattle.words.specs.declared.sign.Sign.{Sign}
+use Rattle.words.specs.declared.sign.Sign.TheVariants.{Signed, Unsigned}
+use Rattle.words.specs.declared.operator.Operator.{Operator}
+use Rattle.words.specs.declared.operator.Operator.TheVariants as operators
+use Rattle.words.specs.Words.{wrap, signed}
+use Rattle.words.specs.Operators.{or_zero, value_of, op_value, has_quotient, quotient, remainder}
+use Rattle.words.proofs.OfC.{complement_agrees}
+use Rattle.mips_isa.specs.declared.inst.ShiftOp.{ShiftOp}
+use Rattle.mips_isa.specs.declared.inst.ShiftOp.TheVariants.{Sll, Srl, Sra}
+use Rattle.mips_isa.specs.declared.inst.AluOp.{AluOp}
+use Rattle.mips_isa.specs.declared.inst.AluOp.TheVariants as alu
+use Rattle.mips_isa.specs.declared.inst.ImmOp.{ImmOp}
+use Rattle.mips_isa.specs.declared.inst.ImmOp.TheVariants.{Addiu, Slti, Sltiu}
+use Rattle.mips_isa.specs.declared.inst.LogicOp.{LogicOp}
+use Rattle.mips_isa.specs.declared.inst.LogicOp.TheVariants.{Andi, Ori, Xori}
+use Rattle.mips_isa.specs.declared.inst.HiLo.TheVariants.{Hi, Lo}
+use Rattle.mips_isa.specs.declared.inst.Plain.{Plain}
+use Rattle.mips_isa.specs.declared.inst.Plain.TheVariants.{Shift, ShiftBy, Alu, Imm, Logic, MoveFrom, Divide}
+use Rattle.mips_isa.specs.States.{State, read, put}
+use Rattle.mips_isa.specs.Actions.{shift_operator, alu_operator, imm_operator, logic_operator, quotient_operator, remainder_operator}
+use Rattle.rtl.specs.declared.operator.Op.{Op}
+use Rattle.rtl.specs.declared.operator.Op.TheVariants.{Add, Sub, Mul, DivS, DivU, RemS, RemU, And, Or, Xor, Shl, ShrU, ShrS, Eq, Ne, LtS, LtU, LeS, LeU}
+use Rattle.rtl.specs.Operators.{truth_word, op_result}
+use Rattle.rtl.proofs.Computing.{complement-is}
+use Rattle.mips_emit.specs.Code.{is_small, half, operation, opposite, next_word, exponent, is_power, immediate, is_symmetric, turned_less_of}
+use Rattle.mips_emit.proofs.Runs.{RunsTo, runs_then}
+use Rattle.mips_emit.proofs.View.{set, IsTarget, put_here, put_other, read_register, alu_runs, imm_runs}
+
+-- instructions that write register d, and perhaps HI and LO
+pub record Gives (is : List Plain) (s : State) (d v : ℕ) : Type 0 where
+  pub regs : ℕ → ℕ
+  pub hi : ℕ
+  pub lo : ℕ
+  pub runs : RunsTo is s (record s { regs = regs; hi = hi; lo = lo })
+  pub here : regs d ≡ v
+  pub others : (r : ℕ) → r ≢ d → regs r ≡ s.regs r
+  pub some : 1 ≤ length is
+
+-- one instruction
+one : (i : Plain) (s : State) (d x v : ℕ) → IsTarget d → RunsTo (i ∷ []) s (set s d x) → x ≡ v → Gives (i ∷ []) s d v
+one i s d x v ok run e = record {
+  regs = put s.regs d x;
+  hi = s.hi;
+  lo = s.lo;
+  runs = run;
+  here = put_here s.regs d x ok ∙ e;
+  others = λ r ne. put_other s.regs d x r ne;
+  some = omega arith;
+}
+
+-- two, of which the second reads what the first wrote
+two : (i j : Plain) (s : State) (d x y v : ℕ) → IsTarget d → RunsTo (i ∷ []) s (set s d x)
+    → (read 0 (set s d x).regs d ≡ x → RunsTo (j ∷ []) (set s d x) (set (set s d x) d y)) → y ≡ v
+    → Gives (i ∷ j ∷ []) s d v
+two i j s d x y v ok first second e = record {
+  regs = put (set s d x).regs d y;
+  hi = s.hi;
+  lo = s.lo;
+  runs = runs_then first (second (read_register (set s d x).regs d ok.low ∙ put_here s.regs d x ok));
+  here = put_here (set s d x).regs d y ok ∙ e;
+  others = λ r ne. put_other (set s d x).regs d y r ne ∙ put_other s.regs d x r ne;
+  some = omega arith;
+}
+
+-- ---- operators of the machine
+
+-- the value of an operator that has one
+direct : (op : Operator) (v w u : ℕ) → value_of op v w ≡ Some u → op_value op v w ≡ u
+unfolding op_value
+direct op v w u e = ap or_zero e
+
+alu_gives : (op : AluOp) (s : State) (d a b v w u : ℕ) → IsTarget d → read 0 s.regs a ≡ v → read 0 s.regs b ≡ w → value_of (alu_operator op) v w ≡ Some u
+    → Gives (Alu op d a b ∷ []) s d u
+alu_gives op s d a b v w u ok left right e =
+    one (Alu op d a b) s d (op_value (alu_operator op) (read 0 s.regs a) (read 0 s.regs b)) u ok (alu_runs s op d a b)
+    (ap₂ (op_value (alu_operator op)) left right ∙ direct (alu_operator op) v w u e)
+
+shift_gives : (op : ShiftOp) (s : State) (d a b v w u : ℕ) → IsTarget d → read 0 s.regs a ≡ v → read 0 s.regs b ≡ w → value_of (shift_operator op) v w ≡ Some u
+    → Gives (ShiftBy op d a b ∷ []) s d u
+shift_gives op s d a b v w u ok left right e =
+    one (ShiftBy op d a b) s d (op_value (shift_operator op) (read 0 s.regs a) (read 0 s.regs b)) u ok (record { ends = refl })
+    (ap₂ (op_value (shift_operator op)) left right ∙ direct (shift_operator op) v w u e)
+
+imm_gives : (op : ImmOp) (s : State) (d a v w u : ℕ) → IsTarget d → read 0 s.regs a ≡ v → w < 2 ^ 32 → op_value (imm_operator op) v w ≡ u
+    → Gives (Imm op d a (half w) ∷ []) s d u
+imm_gives op s d a v w u ok left lt e =
+    one (Imm op d a (half w)) s d (op_value (imm_operator op) (read 0 s.regs a) w) u ok (imm_runs s op d a w lt)
+    (ap (λ x. op_value (imm_operator op) x w) left ∙ e)
+
+logic_gives : (op : LogicOp) (s : State) (d a v w u : ℕ) → IsTarget d → read 0 s.regs a ≡ v → w < 65536 → value_of (logic_operator op) v w ≡ Some u
+    → Gives (Logic op d a w ∷ []) s d u
+logic_gives op s d a v w u ok left lt e =
+    let same : wrap w ≡ w = omega (arith, lt) in
+    one (Logic op d a w) s d (op_value (logic_operator op) (read 0 s.regs a) (wrap w)) u ok (record { ends = refl })
+    (ap₂ (op_value (logic_operator op)) left same ∙ direct (logic_operator op) v w u e)
+
+-- ---- products and divisions
+
+product_gives : (s : State) (d a b v w u : ℕ) → IsTarget d → read 0 s.regs a ≡ v → read 0 s.regs b ≡ w → op_result Mul v w ≡ Some u
+    → Gives (operation Mul d a b) s d u
+product_gives s d a b v w u ok left right e =
+    let high = op_value operators.MultuHigh (read 0 s.regs a) (read 0 s.regs b) in
+    let low = op_value operators.MultuLow (read 0 s.regs a) (read 0 s.regs b) in
+    record {
+      regs = put s.regs d low;
+      hi = high;
+      lo = low;
+      runs = record { ends = refl };
+      here = put_here s.regs d low ok ∙ ap₂ (op_value operators.MultuLow) left right ∙ direct operators.MultuLow v w u e;
+      others = λ r ne. put_other s.regs d low r ne;
+      some = omega arith;
+    }
+
+divided : (sign : Sign) (v w x u : ℕ) → (if has_quotient sign v w then Some x else None) ≡ Some u → has_quotient sign v w ≡ true
+divided sign v w x u e = go (has_quotient sign v w) e
+  where
+    go : (b : Bool) → (if b then Some x else None) ≡ Some u → b ≡ true
+    go true e = refl
+    go false e = absurd (none-some u e)
+
+-- the state after a division
+abbrev quotient_in : Sign → State → (a b : ℕ) → ℕ
+quotient_in sign s a b = op_value (quotient_operator sign) (read 0 s.regs a) (read 0 s.regs b)
+
+abbrev remainder_in : Sign → State → (a b : ℕ) → ℕ
+remainder_in sign s a b = op_value (remainder_operator sign) (read 0 s.regs a) (read 0 s.regs b)
+
+division_runs : (sign : Sign) (s : State) (a b v w : ℕ) → read 0 s.regs a ≡ v → read 0 s.regs b ≡ w → has_quotient sign v w ≡ true
+    → RunsTo (Divide sign a b ∷ []) s (record s { hi = remainder_in sign s a b; lo = quotient_in sign s a b })
+division_runs sign s a b v w left right fits =
+    let m : State = record s { hi = remainder_in sign s a b; lo = quotient_in sign s a b } in
+    record { ends = ap (λ b. if b then Some m else None) (ap₂ (has_quotient sign) left right ∙ fits) }
+
+quotient_gives : (sign : Sign) (s : State) (d a b v w u : ℕ) → IsTarget d → read 0 s.regs a ≡ v → read 0 s.regs b ≡ w → has_quotient sign v w ≡ true
+    → op_value (quotient_operator sign) v w ≡ u → Gives (Divide sign a b ∷ MoveFrom Lo d ∷ []) s d u
+quotient_gives sign s d a b v w u ok left right fits e =
+    let m : State = record s { hi = remainder_in sign s a b; lo = quotient_in sign s a b } in
+    let second : RunsTo (MoveFrom Lo d ∷ []) m (set m d (quotient_in sign s a b)) = record { ends = refl } in
+    record {
+      regs = put s.regs d (quotient_in sign s a b);
+      hi = remainder_in sign s a b;
+      lo = quotient_in sign s a b;
+      runs = runs_then (division_runs sign s a b v w left right fits) second;
+      here = put_here s.regs d (quotient_in sign s a b) ok ∙ ap₂ (op_value (quotient_operator sign)) left right ∙ e;
+      others = λ r ne. put_other s.regs d (quotient_in sign s a b) r ne;
+      some = omega arith;
+    }
+
+remainder_gives : (sign : Sign) (s : State) (d a b v w u : ℕ) → IsTarget d → read 0 s.regs a ≡ v → read 0 s.regs b ≡ w → has_quotient sign v w ≡ true
+    → op_value (remainder_operator sign) v w ≡ u → Gives (Divide sign a b ∷ MoveFrom Hi d ∷ []) s d u
+remainder_gives sign s d a b v w u ok left right fits e =
+    let m : State = record s { hi = remainder_in sign s a b; lo = quotient_in sign s a b } in
+    let second : RunsTo (MoveFrom Hi d ∷ []) m (set m d (remainder_in sign s a b)) = record { ends = refl } in
+    record {
+      regs = put s.regs d (remainder_in sign s a b);
+      hi = remainder_in sign s a b;
+      lo = quotient_in sign s a b;
+      runs = runs_then (division_runs sign s a b v w left right fits) second;
+      here = put_here s.regs d (remainder_in sign s a b) ok ∙ ap₂ (op_value (remainder_operator sign)) left right ∙ e;
+      others = λ r ne. put_other s.regs d (remainder_in sign s a b) r ne;
+      some = omega arith;
+    }
+
+-- ---- tests
+
+-- two words are equal exactly where their difference is 0
+equal_word : (v w : ℕ) → v < 2 ^ 32 → w < 2 ^ 32 → op_value operators.Sltu (op_value operators.Subu v w) 1 ≡ truth_word (v == w)
+unfolding op_value
+equal_word v w lv lw = go (nat_lt (wrap (v + (2 ^ 32 - w))) 1) (v == w) refl refl
+  where
+    go : (a b : Bool) → nat_lt (wrap (v + (2 ^ 32 - w))) 1 ≡ a → (v == w) ≡ b → (if a then 1 else 0) ≡ truth_word b
+    go true true ea eb = refl
+    go false false ea eb = refl
+    go true false ea eb =
+        let small : wrap (v + (2 ^ 32 - w)) < 1 = ltb-true (wrap (v + (2 ^ 32 - w))) 1 ea in
+        let ne : v ≢ w = eqb-false v w eb in
+        absurd (omega (arith, small, ne, lv, lw))
+    go false true ea eb =
+        let big : 1 ≤ wrap (v + (2 ^ 32 - w)) = ltb-false (wrap (v + (2 ^ 32 - w))) 1 ea in
+        let same : v ≡ w = eqb-true v w eb in
+        absurd (omega (arith, big, same, lv, lw))
+
+unequal_word : (v w : ℕ) → v < 2 ^ 32 → w < 2 ^ 32 → op_value operators.Sltu 0 (op_value operators.Subu v w) ≡ truth_word (not (v == w))
+unfolding op_value
+unequal_word v w lv lw = go (nat_lt 0 (wrap (v + (2 ^ 32 - w)))) (v == w) refl refl
+  where
+    go : (a b : Bool) → nat_lt 0 (wrap (v + (2 ^ 32 - w))) ≡ a → (v == w) ≡ b → (if a then 1 else 0) ≡ truth_word (not b)
+    go true false ea eb = refl
+    go false true ea eb = refl
+    go true true ea eb =
+        let big : 0 < wrap (v + (2 ^ 32 - w)) = ltb-true 0 (wrap (v + (2 ^ 32 - w))) ea in
+        let same : v ≡ w = eqb-true v w eb in
+        absurd (omega (arith, big, same, lv, lw))
+    go false false ea eb =
+        let small : wrap (v + (2 ^ 32 - w)) ≤ 0 = ltb-false 0 (wrap (v + (2 ^ 32 - w))) ea in
+        let ne : v ≢ w = eqb-false v w eb in
+        absurd (omega (arith, small, ne, lv, lw))
+
+-- the other truth word
+turned_truth : (b : Bool) → bit_xor (truth_word b) 1 ≡ truth_word (not b)
+turned_truth true = refl
+turned_truth false = refl
+
+not_below_signed : (v w : ℕ) → op_value operators.Xor (op_value operators.Slt w v) (wrap 1) ≡ truth_word (not (int_lt (signed w) (signed v)))
+unfolding op_value
+not_below_signed v w = turned_truth (int_lt (signed w) (signed v))
+
+not_below : (v w : ℕ) → op_value operators.Xor (op_value operators.Sltu w v) (wrap 1) ≡ truth_word (not (nat_lt w v))
+unfolding op_value
+not_below v w = turned_truth (nat_lt w v)
+
+-- ---- each operator
+
+-- on two registers
+pub operation_gives : (op : Op) (s : State) (d a b v w u : ℕ) → IsTarget d → read 0 s.regs a ≡ v → read 0 s.regs b ≡ w → v < 2 ^ 32 → w < 2 ^ 32
+    → op_result op v w ≡ Some u
+    → Gives (operation op d a b) s d u
+operation_gives Add s d a b v w u ok left right lv lw e = alu_gives alu.Addu s d a b v w u ok left right e
+operation_gives Sub s d a b v w u ok left right lv lw e = alu_gives alu.Subu s d a b v w u ok left right e
+operation_gives Mul s d a b v w u ok left right lv lw e = product_gives s d a b v w u ok left right e
+operation_gives DivS s d a b v w u ok left right lv lw e =
+    quotient_gives Signed s d a b v w u ok left right (divided Signed v w (quotient Signed v w) u e) (direct operators.DivQuotient v w u e)
+operation_gives DivU s d a b v w u ok left right lv lw e =
+    quotient_gives Unsigned s d a b v w u ok left right (divided Unsigned v w (quotient Unsigned v w) u e) (direct operators.DivuQuotient v w u e)
+operation_gives RemS s d a b v w u ok left right lv lw e =
+    remainder_gives Signed s d a b v w u ok left right (divided Signed v w (remainder Signed v w) u e) (direct operators.DivRemainder v w u e)
+operation_gives RemU s d a b v w u ok left right lv lw e =
+    remainder_gives Unsigned s d a b v w u ok left right (divided Unsigned v w (remainder Unsigned v w) u e) (direct operators.DivuRemainder v w u e)
+operation_gives And s d a b v w u ok left right lv lw e = alu_gives alu.And s d a b v w u ok left right e
+operation_gives Or s d a b v w u ok left right lv lw e = alu_gives alu.Or s d a b v w u ok left right e
+operation_gives Xor s d a b v w u ok left right lv lw e = alu_gives alu.Xor s d a b v w u ok left right e
+operation_gives Shl s d a b v w u ok left right lv lw e = shift_gives Sll s d a b v w u ok left right e
+operation_gives ShrU s d a b v w u ok left right lv lw e = shift_gives Srl s d a b v w u ok left right e
+operation_gives ShrS s d a b v w u ok left right lv lw e = shift_gives Sra s d a b v w u ok left right e
+operation_gives Eq s d a b v w u ok left right lv lw e =
+    let x = op_value operators.Subu (read 0 s.regs a) (read 0 s.regs b) in
+    let y = op_value operators.Sltu x 1 in
+    two (Alu alu.Subu d a b) (Imm Sltiu d d (pos 1)) s d x y u ok (alu_runs s alu.Subu d a b)
+    (λ r. subst (λ x. RunsTo (Imm Sltiu d d (pos 1) ∷ []) (set s d (op_value operators.Subu (read 0 s.regs a) (read 0 s.regs b)))
+    (set (set s d (op_value operators.Subu (read 0 s.regs a) (read 0 s.regs b))) d (op_value operators.Sltu x 1))) r
+    (imm_runs (set s d x) Sltiu d d 1 (omega arith)))
+    (ap₂ (λ x y. op_value operators.Sltu (op_value operators.Subu x y) 1) left right ∙ equal_word v w lv lw ∙ same_Some (truth_word (v == w)) u e)
+operation_gives Ne s d a b v w u ok left right lv lw e =
+    let x = op_value operators.Subu (read 0 s.regs a) (read 0 s.regs b) in
+    let y = op_value operators.Sltu 0 x in
+    two (Alu alu.Subu d a b) (Alu alu.Sltu d 0 d) s d x y u ok (alu_runs s alu.Subu d a b)
+    (λ r. subst (λ x. RunsTo (Alu alu.Sltu d 0 d ∷ []) (set s d (op_value operators.Subu (read 0 s.regs a) (read 0 s.regs b)))
+    (set (set s d (op_value operators.Subu (read 0 s.regs a) (read 0 s.regs b))) d (op_value operators.Sltu 0 x))) r
+    (alu_runs (set s d x) alu.Sltu d 0 d))
+    (ap₂ (λ x y. op_value operators.Sltu 0 (op_value operators.Subu x y)) left right ∙ unequal_word v w lv lw ∙ same_Some (truth_word (not (v == w))) u e)
+operation_gives LtS s d a b v w u ok left right lv lw e = alu_gives alu.Slt s d a b v w u ok left right e
+operation_gives LtU s d a b v w u ok left right lv lw e = alu_gives alu.Sltu s d a b v w u ok left right e
+operation_gives LeS s d a b v w u ok left right lv lw e =
+    let x = op_value operators.Slt (read 0 s.regs b) (read 0 s.regs a) in
+    let y = op_value operators.Xor x (wrap 1) in
+    two (Alu alu.Slt d b a) (Logic Xori d d 1) s d x y u ok (alu_runs s alu.Slt d b a)
+    (λ r. subst (λ x. RunsTo (Logic Xori d d 1 ∷ []) (set s d (op_value operators.Slt (read 0 s.regs b) (read 0 s.regs a)))
+    (set (set s d (op_value operators.Slt (read 0 s.regs b) (read 0 s.regs a))) d (op_value operators.Xor x (wrap 1)))) r
+    (record { ends = refl }))
+    (ap₂ (λ x y. op_value operators.Xor (op_value operators.Slt y x) (wrap 1)) left right ∙ not_below_signed v w
+    ∙ same_Some (truth_word (not (int_lt (signed w) (signed v)))) u e)
+operation_gives LeU s d a b v w u ok left right lv lw e =
+    let x = op_value operators.Sltu (read 0 s.regs b) (read 0 s.regs a) in
+    let y = op_value operators.Xor x (wrap 1) in
+    two (Alu alu.Sltu d b a) (Logic Xori d d 1) s d x y u ok (alu_runs s alu.Sltu d b a)
+    (λ r. subst (λ x. RunsTo (Logic Xori d d 1 ∷ []) (set s d (op_value operators.Sltu (read 0 s.regs b) (read 0 s.regs a)))
+    (set (set s d (op_value operators.Sltu (read 0 s.regs b) (read 0 s.regs a))) d (op_value operators.Xor x (wrap 1)))) r
+    (record { ends = refl }))
+    (ap₂ (λ x y. op_value operators.Xor (op_value operators.Sltu y x) (wrap 1)) left right ∙ not_below v w ∙ same_Some (truth_word (not (nat_lt w v))) u e)
+
+-- operands may be turned
+turned : (v w : ℕ) → (v == w) ≡ (w == v)
+turned v w = go (v == w) (w == v) refl refl
+  where
+    go : (a b : Bool) → (v == w) ≡ a → (w == v) ≡ b → a ≡ b
+    go true true ea eb = refl
+    go false false ea eb = refl
+    go true false ea eb = absurd (eqb-false w v eb (sym (eqb-true v w ea)))
+    go false true ea eb = absurd (eqb-false v w ea (sym (eqb-true w v eb)))
+
+turned_product : (v w : ℕ) → v * w ≡ w * v
+turned_product v w = omega arith
+
+pub symmetric : (op : Op) (v w : ℕ) → is_symmetric op ≡ true → op_result op v w ≡ op_result op w v
+symmetric Add v w e = let turned : wrap (v + w) ≡ wrap (w + v) = omega arith in ap Some turned
+symmetric And v w e = ap Some (and_comm v w)
+symmetric Or v w e = ap Some (or_comm v w)
+symmetric Xor v w e = ap Some (xor_comm v w)
+symmetric Eq v w e = ap (λ b. Some (truth_word b)) (turned v w)
+symmetric Ne v w e = ap (λ b. Some (truth_word (not b))) (turned v w)
+symmetric Sub v w e = absurd (true≢false (sym e))
+symmetric Mul v w e = ap (λ n. Some (wrap n)) (turned_product v w)
+symmetric DivS v w e = absurd (true≢false (sym e))
+symmetric DivU v w e = absurd (true≢false (sym e))
+symmetric RemS v w e = absurd (true≢false (sym e))
+symmetric RemU v w e = absurd (true≢false (sym e))
+symmetric Shl v w e = absurd (true≢false (sym e))
+symmetric ShrU v w e = absurd (true≢false (sym e))
+symmetric ShrS v w e = absurd (true≢false (sym e))
+symmetric LtS v w e = absurd (true≢false (sym e))
+symmetric LtU v w e = absurd (true≢false (sym e))
+symmetric LeS v w e = absurd (true≢false (sym e))
+symmetric LeU v w e = absurd (true≢false (sym e))
+
+-- ---- with a word in the instruction
+
+if_some : (b : Bool) (x i : Plain) → (if b then Some x else None) ≡ Some i → (b ≡ true) × (x ≡ i)
+if_some true x i e = (refl, same_Some x i e)
+if_some false x i e = absurd (none-some i e)
+
+sum_turned : (v c : ℕ) → c < 2 ^ 32 → op_value operators.Addu v (opposite c) ≡ op_value operators.Subu v c
+unfolding op_value
+sum_turned v c lt = omega (arith, lt)
+
+low_bits : (n : ℕ) → wrap (n % 32) % 32 ≡ n % 32
+low_bits n = omega arith
+
+shifted : (op : ShiftOp) (v c : ℕ) → op_value (shift_operator op) v (wrap (c % 32)) ≡ op_value (shift_operator op) v c
+unfolding op_value
+shifted Sll v c = ap (λ k. wrap (v * 2 ^ k)) (low_bits c)
+shifted Srl v c = ap (λ k. v / 2 ^ k) (low_bits c)
+shifted Sra v c = ap (λ k. if nat_lt v (2 ^ 31) then v / 2 ^ k else 2 ^ 32 - 1 - (2 ^ 32 - 1 - v) / 2 ^ k) (low_bits c)
+
+by_gives : (op : ShiftOp) (s : State) (d a v c u : ℕ) → IsTarget d → read 0 s.regs a ≡ v → value_of (shift_operator op) v c ≡ Some u
+    → Gives (Shift op d a (c % 32) ∷ []) s d u
+by_gives op s d a v c u ok left e =
+    one (Shift op d a (c % 32)) s d (op_value (shift_operator op) (read 0 s.regs a) (wrap (c % 32))) u ok (record { ends = refl })
+    (ap (λ x. op_value (shift_operator op) x (wrap (c % 32))) left ∙ shifted op v c ∙ direct (shift_operator op) v c u e)
+
+-- tests against 0
+is_zero : (v : ℕ) → op_value operators.Sltu v 1 ≡ truth_word (v == 0)
+unfolding op_value
+is_zero v = go (nat_lt v 1) (v == 0) refl refl
+  where
+    go : (a b : Bool) → nat_lt v 1 ≡ a → (v == 0) ≡ b → (if a then 1 else 0) ≡ truth_word b
+    go true true ea eb = refl
+    go false false ea eb = refl
+    go true false ea eb = (let small : v < 1 = ltb-true v 1 ea in let ne : v ≢ 0 = eqb-false v 0 eb in absurd (omega (arith, small, ne)))
+    go false true ea eb = (let big : 1 ≤ v = ltb-false v 1 ea in let same : v ≡ 0 = eqb-true v 0 eb in absurd (omega (arith, big, same)))
+
+is_some : (v : ℕ) → op_value operators.Sltu 0 v ≡ truth_word (not (v == 0))
+unfolding op_value
+is_some v = go (nat_lt 0 v) (v == 0) refl refl
+  where
+    go : (a b : Bool) → nat_lt 0 v ≡ a → (v == 0) ≡ b → (if a then 1 else 0) ≡ truth_word (not b)
+    go true false ea eb = refl
+    go false true ea eb = refl
+    go true true ea eb = (let big : 0 < v = ltb-true 0 v ea in let same : v ≡ 0 = eqb-true v 0 eb in absurd (omega (arith, big, same)))
+    go false false ea eb = (let small : v ≤ 0 = ltb-false 0 v ea in let ne : v ≢ 0 = eqb-false v 0 eb in absurd (omega (arith, small, ne)))
+
+complemented : (s : State) (d q c v u : ℕ) → IsTarget d → read 0 s.regs q ≡ v → v < 2 ^ 32 → c ≡ 4294967295 → op_result Xor v c ≡ Some u
+    → Gives (Alu alu.Nor d q 0 ∷ []) s d u
+complemented s d q c v u ok left lv all e =
+    let value : 2 ^ 32 - 1 - v ≡ u = same_Some (2 ^ 32 - 1 - v) u (sym (complement-is v lv) ∙ ap (op_result Xor v) (sym all) ∙ e) in
+    one (Alu alu.Nor d q 0) s d (op_value operators.Nor (read 0 s.regs q) 0) u ok (alu_runs s alu.Nor d q 0)
+    (ap (λ x. op_value operators.Nor x 0) left ∙ sym (complement_agrees v lv) ∙ value)
+
+-- at most c is less than one more
+not_above_signed : (v c : ℕ) → v < 2 ^ 32 → c < 2 ^ 32 → is_small (next_word c) ≡ true
+    → op_value operators.Slt v (next_word c) ≡ truth_word (not (int_lt (signed c) (signed v)))
+unfolding op_value
+not_above_signed v c lv lc small = ap truth_word (turn (int_lt (signed v) (signed (next_word c))) (int_lt (signed c) (signed v)) refl refl)
+  where
+    turn : (a b : Bool) → int_lt (signed v) (signed (next_word c)) ≡ a → int_lt (signed c) (signed v) ≡ b → a ≡ not b
+    turn true false ea eb = refl
+    turn false true ea eb = refl
+    turn true true ea eb = absurd (grind (arith, ints))
+    turn false false ea eb = absurd (grind (arith, ints))
+
+not_above : (v c : ℕ) → c < 2 ^ 32 → c ≢ 4294967295 → op_value operators.Sltu v (next_word c) ≡ truth_word (not (nat_lt c v))
+unfolding op_value
+not_above v c lc ne = ap truth_word (turn (nat_lt v (next_word c)) (nat_lt c v) refl refl)
+  where
+    turn : (a b : Bool) → nat_lt v (next_word c) ≡ a → nat_lt c v ≡ b → a ≡ not b
+    turn true false ea eb = refl
+    turn false true ea eb = refl
+    turn true true ea eb = (let x : v < next_word c = ltb-true v (next_word c) ea in let y : c < v = ltb-true c v eb in absurd (omega (arith, x, y, lc, ne)))
+    turn false false ea eb = (let x : next_word c ≤ v = ltb-false v (next_word c) ea in let y : v ≤ c = ltb-false c v eb in
+        absurd (omega (arith, x, y, lc, ne)))
+
+some_of : (b : Bool) (x u : ℕ) → (if b then Some x else None) ≡ Some u → Some x ≡ Some u
+some_of true x u e = e
+some_of false x u e = absurd (none-some u e)
+
+module _ (s : State) (d q c v u : ℕ) (i : Plain) (ok : IsTarget d) (left : read 0 s.regs q ≡ v) (lv : v < 2 ^ 32) (lc : c < 2 ^ 32) where
+  given : (x : Plain) → x ≡ i → Gives (x ∷ []) s d u → Gives (i ∷ []) s d u
+  given x e g = subst (λ i. Gives (i ∷ []) s d u) e g
+
+  small_gives : (op : ImmOp) → (if is_small c then Some (Imm op d q (half c)) else None) ≡ Some i → value_of (imm_operator op) v c ≡ Some u
+      → Gives (i ∷ []) s d u
+  small_gives op is e =
+      let f = if_some (is_small c) (Imm op d q (half c)) i is in
+      given (Imm op d q (half c)) f.1 (imm_gives op s d q v c u ok left lc (direct (imm_operator op) v c u e))
+
+  half_gives : (op : LogicOp) → (if nat_lt c 65536 then Some (Logic op d q c) else None) ≡ Some i → value_of (logic_operator op) v c ≡ Some u
+      → Gives (i ∷ []) s d u
+  half_gives op is e =
+      let f = if_some (nat_lt c 65536) (Logic op d q c) i is in
+      given (Logic op d q c) f.1 (logic_gives op s d q v c u ok left (ltb-true c 65536 f.0) e)
+
+  xor_gives : (if nat_lt c 65536 then Some (Logic Xori d q c) else if nat_eq c 4294967295 then Some (Alu alu.Nor d q 0) else None) ≡ Some i
+      → op_result Xor v c ≡ Some u → Gives (i ∷ []) s d u
+  xor_gives is e = go (nat_lt c 65536) refl is
+    where
+      go : (b : Bool) → nat_lt c 65536 ≡ b → (if b then Some (Logic Xori d q c) else if nat_eq c 4294967295 then Some (Alu alu.Nor d q 0) else None) ≡ Some i
+          → Gives (i ∷ []) s d u
+      go true eb is = given (Logic Xori d q c) (same_Some (Logic Xori d q c) i is) (logic_gives Xori s d q v c u ok left (ltb-true c 65536 eb) e)
+      go false eb is =
+          let f = if_some (nat_eq c 4294967295) (Alu alu.Nor d q 0) i is in
+          given (Alu alu.Nor d q 0) f.1 (complemented s d q c v u ok left lv (eqb-true c 4294967295 f.0) e)
+
+  pub immediate_gives : (op : Op) → immediate op d q c ≡ Some i → op_result op v c ≡ Some u → Gives (i ∷ []) s d u
+  immediate_gives Add is e = small_gives Addiu is e
+  immediate_gives Sub is e =
+      let f = if_some (is_small (opposite c)) (Imm Addiu d q (half (opposite c))) i is in
+      given (Imm Addiu d q (half (opposite c))) f.1
+      (imm_gives Addiu s d q v (opposite c) u ok left (omega (arith, lc)) (sum_turned v c lc ∙ direct operators.Subu v c u e))
+  immediate_gives And is e = half_gives Andi is e
+  immediate_gives Or is e = half_gives Ori is e
+  immediate_gives Xor is e = xor_gives is e
+  immediate_gives Shl is e = given (Shift Sll d q (c % 32)) (same_Some (Shift Sll d q (c % 32)) i is) (by_gives Sll s d q v c u ok left e)
+  immediate_gives ShrU is e = given (Shift Srl d q (c % 32)) (same_Some (Shift Srl d q (c % 32)) i is) (by_gives Srl s d q v c u ok left e)
+  immediate_gives ShrS is e = given (Shift Sra d q (c % 32)) (same_Some (Shift Sra d q (c % 32)) i is) (by_gives Sra s d q v c u ok left e)
+  immediate_gives Eq is e =
+      let f = if_some (nat_eq c 0) (Imm Sltiu d q (pos 1)) i is in
+      let zero_is : c ≡ 0 = eqb-true c 0 f.0 in
+      given (Imm Sltiu d q (pos 1)) f.1
+      (imm_gives Sltiu s d q v 1 u ok left (omega arith) (is_zero v ∙ ap (λ c. truth_word (v == c)) (sym zero_is) ∙ same_Some (truth_word (v == c)) u e))
+  immediate_gives Ne is e =
+      let f = if_some (nat_eq c 0) (Alu alu.Sltu d 0 q) i is in
+      let zero_is : c ≡ 0 = eqb-true c 0 f.0 in
+      given (Alu alu.Sltu d 0 q) f.1
+      (one (Alu alu.Sltu d 0 q) s d (op_value operators.Sltu 0 (read 0 s.regs q)) u ok (alu_runs s alu.Sltu d 0 q)
+      (ap (op_value operators.Sltu 0) left ∙ is_some v ∙ ap (λ c. truth_word (not (v == c))) (sym zero_is) ∙ same_Some (truth_word (not (v == c))) u e))
+  immediate_gives LtS is e = small_gives Slti is e
+  immediate_gives LtU is e = small_gives Sltiu is e
+  immediate_gives DivS is e = absurd (none-some i is)
+  immediate_gives RemS is e = absurd (none-some i is)
+  immediate_gives LeS is e =
+      let f = if_some (is_small (next_word c)) (Imm Slti d q (half (next_word c))) i is in
+      given (Imm Slti d q (half (next_word c))) f.1
+      (imm_gives Slti s d q v (next_word c) u ok left (omega arith) (not_above_signed v c lv lc f.0
+      ∙ same_Some (truth_word (not (int_lt (signed c) (signed v)))) u e))
+  immediate_gives LeU is e = le_gives (nat_eq c 4294967295) refl is
+    where
+      le_gives : (b : Bool) → nat_eq c 4294967295 ≡ b → (if b then None else if is_small (next_word c) then Some
+          (Imm Sltiu d q (half (next_word c))) else None) ≡ Some i
+          → Gives (i ∷ []) s d u
+      le_gives true eb is = absurd (none-some i is)
+      le_gives false eb is =
+          let f = if_some (is_small (next_word c)) (Imm Sltiu d q (half (next_word c))) i is in
+          given (Imm Sltiu d q (half (next_word c))) f.1
+          (imm_gives Sltiu s d q v (next_word c) u ok left (omega arith)
+          (not_above v c lc (eqb-false c 4294967295 eb) ∙ same_Some (truth_word (not (nat_lt c v))) u e))
+  immediate_gives Mul is e =
+      let f = if_some (is_power c) (Shift Sll d q (exponent c % 32)) i is in
+      let power : 2 ^ (exponent c % 32) ≡ c = eqb-true (2 ^ (exponent c % 32)) c f.0 in
+      given (Shift Sll d q (exponent c % 32)) f.1 (by_gives Sll s d q v (exponent c) u ok left (ap (λ n. Some (wrap (v * n))) power ∙ e))
+  immediate_gives DivU is e =
+      let f = if_some (is_power c) (Shift Srl d q (exponent c % 32)) i is in
+      let power : 2 ^ (exponent c % 32) ≡ c = eqb-true (2 ^ (exponent c % 32)) c f.0 in
+      given (Shift Srl d q (exponent c % 32)) f.1
+      (by_gives Srl s d q v (exponent c) u ok left (ap (λ n. Some (v / n)) power ∙ some_of (has_quotient Unsigned v c) (v / c) u e))
+  immediate_gives RemU is e = rem_gives (is_power c) refl is
+    where
+      rem_gives : (b : Bool) → is_power c ≡ b → (if b then (if nat_lt (c - 1) 65536 then Some (Logic Andi d q (c - 1)) else None) else None) ≡ Some i
+          → Gives (i ∷ []) s d u
+      rem_gives false eb is = absurd (none-some i is)
+      rem_gives true eb is =
+          let f = if_some (nat_lt (c - 1) 65536) (Logic Andi d q (c - 1)) i is in
+          let power : 2 ^ (exponent c % 32) ≡ c = eqb-true (2 ^ (exponent c % 32)) c eb in
+          let low : bit_and v (c - 1) ≡ v % c = ap (λ n. bit_and v (n - 1)) (sym power) ∙ and_mask v (exponent c % 32) ∙ ap (λ n. v % n) power in
+          given (Logic Andi d q (c - 1)) f.1
+          (logic_gives Andi s d q v (c - 1) u ok left (ltb-true (c - 1) 65536 f.0) (ap Some low ∙ some_of (has_quotient Unsigned v c) (v % c) u e))
+
+-- a test that is turned behind
+turned_word : (b : Bool) → op_value operators.Xor (truth_word b) (wrap 1) ≡ truth_word (not b)
+unfolding op_value
+turned_word b = turned_truth b
+
+then_turned : (i : Plain) (s : State) (d u : ℕ) (b : Bool) → IsTarget d → Some (truth_word (not b)) ≡ Some u → Gives (i ∷ []) s d (truth_word b)
+    → Gives (i ∷ Logic Xori d d 1 ∷ []) s d u
+then_turned i s d u b ok e g =
+    let m : State = record s { regs = g.regs; hi = g.hi; lo = g.lo } in
+    let x = op_value operators.Xor (read 0 g.regs d) (wrap 1) in
+    let second : RunsTo (Logic Xori d d 1 ∷ []) m (set m d (op_value operators.Xor (read 0 g.regs d) (wrap 1))) = record { ends = refl } in
+    record {
+      regs = put g.regs d x;
+      hi = g.hi;
+      lo = g.lo;
+      runs = runs_then g.runs second;
+      here = put_here g.regs d x ok ∙ ap (λ y. op_value operators.Xor y (wrap 1)) (read_register g.regs d ok.low ∙ g.here) ∙ turned_word b
+          ∙ same_Some (truth_word (not b)) u e;
+      others = λ r ne. put_other g.regs d x r ne ∙ g.others r ne;
+      some = omega arith;
+    }
+
+pub less_gives : (op : Op) (s : State) (d q v w u : ℕ) (i : Plain) (known : Option ℕ) → IsTarget d → read 0 s.regs q ≡ w → v < 2 ^ 32 → w < 2 ^ 32
+    → ((c : ℕ) → known ≡ Some c → c ≡ v) → turned_less_of op d q known ≡ Some i → op_result op v w ≡ Some u → Gives (i ∷ Logic Xori d d 1 ∷ []) s d u
+less_gives LeS s d q v w u i None ok left lv lw said is e = absurd (none-some i is)
+less_gives LeS s d q v w u i (Some c) ok left lv lw said is e =
+    let same : c ≡ v = said c refl in
+    then_turned i s d u (int_lt (signed w) (signed c)) ok (ap (λ c. Some (truth_word (not (int_lt (signed w) (signed c))))) same ∙ e)
+    (immediate_gives s d q c w (truth_word (int_lt (signed w) (signed c))) i ok left lw (omega (arith, same, lv)) LtS is refl)
+less_gives LeU s d q v w u i None ok left lv lw said is e = absurd (none-some i is)
+less_gives LeU s d q v w u i (Some c) ok left lv lw said is e =
+    let same : c ≡ v = said c refl in
+    then_turned i s d u (nat_lt w c) ok (ap (λ c. Some (truth_word (not (nat_lt w c)))) same ∙ e)
+    (immediate_gives s d q c w (truth_word (nat_lt w c)) i ok left lw (omega (arith, same, lv)) LtU is refl)
+less_gives Add s d q v w u i known ok left lv lw said is e = absurd (none-some i is)
+less_gives Sub s d q v w u i known ok left lv lw said is e = absurd (none-some i is)
+less_gives Mul s d q v w u i known ok left lv lw said is e = absurd (none-some i is)
+less_gives DivS s d q v w u i known ok left lv lw said is e = absurd (none-some i is)
+less_gives DivU s d q v w u i known ok left lv lw said is e = absurd (none-some i is)
+less_gives RemS s d q v w u i known ok left lv lw said is e = absurd (none-some i is)
+less_gives RemU s d q v w u i known ok left lv lw said is e = absurd (none-some i is)
+less_gives And s d q v w u i known ok left lv lw said is e = absurd (none-some i is)
+less_gives Or s d q v w u i known ok left lv lw said is e = absurd (none-some i is)
+less_gives Xor s d q v w u i known ok left lv lw said is e = absurd (none-some i is)
+less_gives Shl s d q v w u i known ok left lv lw said is e = absurd (none-some i is)
+less_gives ShrU s d q v w u i known ok left lv lw said is e = absurd (none-some i is)
+less_gives ShrS s d q v w u i known ok left lv lw said is e = absurd (none-some i is)
+less_gives Eq s d q v w u i known ok left lv lw said is e = absurd (none-some i is)
+less_gives Ne s d q v w u i known ok left lv lw said is e = absurd (none-some i is)
+less_gives LtS s d q v w u i known ok left lv lw said is e = absurd (none-some i is)
+less_gives LtU s d q v w u i known ok left lv lw said is e = absurd (none-some i is)

@@ -1,0 +1,115 @@
+-- How a state of the machine holds homes, frames and globals.
+use Rattle.std.proofs.Common.{◌≡◌, ℕ, ◌+◌, ◌*◌, ◌/◌, ◌%◌, ◌<◌, ◌≤◌, ◌⊎◌, Bool, true, false, ◌&&◌, List, [], ◌∷◌, length, Some, refl, ap, ap₂, ◌∙◌}
+use Rattle.std.proofs.Common.{arith, eq-eqb, lt-ltb, le-leb}
+use Rattle.std.specs.Prelude.{nat_lt, nat_le, ◌||◌, slice_get}
+use Rattle.words.specs.declared.width.Width.{Width}
+use Rattle.words.specs.declared.width.Width.TheVariants.{Word, Byte}
+use Rattle.runs.specs.Stores.{Places, Arrays, element_at}
+use Rattle.mips_isa.specs.States.{State, IsWords, is_aligned, is_open}
+use Rattle.mips_isa.specs.Starting.{data_base, stack_base, stack_end, is_mapped}
+use Rattle.mblock.specs.declared.limits.TheConstants.{UNIT_BYTES}
+use Rattle.rtl.specs.declared.block.RGlobal.{RGlobal}
+use Rattle.mips_emit.specs.Frames.{link_words}
+use Rattle.mips_emit.specs.Elements.{width_of, element_place, place_in, place_behind, address_of_place, data_middle}
+use Rattle.mips_emit.proofs.View.{word_at, shown_at}
+
+-- a frame: the slots, the registers put aside, then the link
+pub record Stored : Type 0 where
+  pub leaf : Bool
+  pub count : ℕ
+  pub saved : List ℕ
+  pub slots : Places
+  pub aside : Places
+  pub link : ℕ
+
+abbrev pub size_of : Stored → ℕ
+size_of f = 4 * (f.count + length f.saved + link_words f.leaf)
+
+abbrev pub with_slots : Stored → Places → Stored
+with_slots f slots = record { leaf = f.leaf; count = f.count; saved = f.saved; slots = slots; aside = f.aside; link = f.link }
+
+pub record FrameHolds (most : ℕ) (m : ℕ → ℕ) (at : ℕ) (f : Stored) : Type 0 where
+  pub slots : (k v : ℕ) → k < f.count → f.slots k ≡ Some v → m (at + 4 * k) ≡ v
+  pub aside : (j r v : ℕ) → slice_get f.saved j ≡ Some r → f.aside r ≡ Some v → m (at + 4 * (f.count + j)) ≡ v
+  pub link : f.leaf ≡ false → m (at + 4 * (f.count + length f.saved)) ≡ f.link
+  pub fits : size_of f ≤ most
+
+-- the frames from an address up to the top of the stack
+abbrev pub StackHolds : ℕ → (ℕ → ℕ) → ℕ → List Stored → Type 0
+StackHolds most m at [] = at ≡ stack_end
+StackHolds most m at (f ∷ fs) = FrameHolds most m at f × StackHolds most m (at + size_of f) fs
+
+frame_same : (most : ℕ) (m m' : ℕ → ℕ) (at : ℕ) (f : Stored) → ((b : ℕ) → at ≤ b → m' b ≡ m b) → FrameHolds most m at f → FrameHolds most m' at f
+frame_same most m m' at f same h = record {
+  slots = λ k v low is. same (at + 4 * k) (omega arith) ∙ h.slots k v low is;
+  aside = λ j r v there is. same (at + 4 * (f.count + j)) (omega arith) ∙ h.aside j r v there is;
+  link = λ calls. same (at + 4 * (f.count + length f.saved)) (omega arith) ∙ h.link calls;
+  fits = h.fits;
+}
+
+pub stack_same : (most : ℕ) (m m' : ℕ → ℕ) (at : ℕ) (fs : List Stored) → ((b : ℕ) → at ≤ b → m' b ≡ m b) → StackHolds most m at fs → StackHolds most m' at fs
+stack_same most m m' at [] same h = h
+stack_same most m m' at (f ∷ fs) same h = (
+  frame_same most m m' at f same h.0,
+  stack_same most m m' (at + size_of f) fs
+      (λ b le. same b (omega (arith, le))) h.1,
+)
+
+pub stack_top : (most : ℕ) (m : ℕ → ℕ) (at : ℕ) (fs : List Stored) → StackHolds most m at fs → at ≤ stack_end
+stack_top most m at [] h = omega (arith, h)
+stack_top most m at (f ∷ fs) h = let up = stack_top most m (at + size_of f) fs h.1 in omega (arith, up)
+
+-- the depth bounds how far the stack goes down
+pub stack_room : (most : ℕ) (m : ℕ → ℕ) (at : ℕ) (fs : List Stored) → StackHolds most m at fs → stack_end ≤ at + length fs * most
+stack_room most m at [] h = omega (arith, h)
+stack_room most m at (f ∷ fs) h =
+    let rest = stack_room most m (at + size_of f) fs h.1 in
+    let fits = (h.0).fits in
+    let e : length (f ∷ fs) * most ≡ most + length fs * most = omega arith in
+    omega (arith, rest, fits, e)
+
+-- in a leaf the link is still in register 31
+abbrev pub Linked : List Stored → ℕ → Type 0
+Linked [] x = Unit {0}
+Linked (f ∷ fs) x = f.leaf ≡ true → x ≡ f.link
+
+-- `total` is how many bytes of data there are
+pub record Stands (most total : ℕ) (gs : List RGlobal) (starts : ℕ → ℕ) (registers : Places) (g : Arrays) (fs : List Stored) (s : State) : Type 0 where
+  pub words : IsWords s
+  pub mapped : s.mapped ≡ is_mapped total
+  pub held : (r v : ℕ) → 16 ≤ r → r < 24 → registers r ≡ Some v → s.regs r ≡ v
+  pub stack : StackHolds most (word_at s) (s.regs 29) fs
+  pub room : stack_base ≤ s.regs 29
+  pub aligned : s.regs 29 % 4 ≡ 0
+  pub elements : (a i v : ℕ) → element_at g a i ≡ Some v → shown_at (width_of gs a) s (address_of_place (place_in gs starts a i)) ≡ v
+  pub inside : (a i v : ℕ) → element_at g a i ≡ Some v → place_behind gs starts a i ≤ total
+  pub apart : (a i b j v w : ℕ) → element_at g a i ≡ Some v → element_at g b j ≡ Some w → (a ≡ b → i ≡ j → ⊥)
+      → (place_behind gs starts a i ≤ place_in gs starts b j) ⊎ (place_behind gs starts b j ≤ place_in gs starts a i)
+  pub even : (a : ℕ) → starts a % 4 ≡ 0
+  pub few : total ≤ UNIT_BYTES
+  pub linked : Linked fs (s.regs 31)
+  pub gp : s.regs 28 ≡ data_middle
+
+-- an address in the stack
+pub open_stack : (total a : ℕ) → a % 4 ≡ 0 → stack_base ≤ a → a < stack_end → is_open Word (is_mapped total) a ≡ true
+open_stack total a aligned low high =
+    ap (λ b. b && is_mapped total a) (eq-eqb (a % 4) 0 aligned)
+    ∙ ap₂ (λ x y. (nat_le data_base a && nat_lt a (data_base + 4 * ((total + 3) / 4))) || (x && y)) (le-leb stack_base a low) (lt-ltb a stack_end high)
+    ∙ two (nat_le data_base a && nat_lt a (data_base + 4 * ((total + 3) / 4)))
+  where
+    two : (b : Bool) → (b || (true && true)) ≡ true
+    two true = refl
+    two false = refl
+
+-- an element of data
+pub element_aligned : (w : Width) (start i : ℕ) → start % 4 ≡ 0 → is_aligned w (address_of_place (element_place w start i)) ≡ true
+element_aligned Word start i even = eq-eqb ((data_base + (start + 4 * i)) % 4) 0 (omega (arith, even))
+element_aligned Byte start i even = refl
+
+pub open_data : (w : Width) (total p : ℕ) → is_aligned w (address_of_place p) ≡ true → p < total → is_open w (is_mapped total) (address_of_place p) ≡ true
+open_data w total p aligned lt =
+    let low : data_base ≤ data_base + p = omega arith in
+    let high : data_base + p < data_base + 4 * ((total + 3) / 4) = omega (arith, lt) in
+    ap (λ b. b && is_mapped total (data_base + p)) aligned
+    ∙ ap₂ (λ x y. (x && y) || (nat_le stack_base (data_base + p) && nat_lt (data_base + p) stack_end)) (le-leb data_base (data_base + p) low)
+    (lt-ltb (data_base + p) (data_base + 4 * ((total + 3) / 4)) high)

@@ -1,0 +1,356 @@
+-- Registers and words of a state, and what single instructions do to them.
+use Rattle.std.proofs.Common.{◌≡◌, ◌≢◌, ℕ, ℤ, pos, negsuc, zero, suc, ◌+◌, ◌-◌, ◌*◌, ◌/◌, ◌%◌, ◌^◌, ◌<◌, ◌≤◌, Bool, true, false, cond, ◌&&◌}
+use Rattle.std.proofs.Common.{List, [], ◌∷◌, Some, None, refl, sym, ap, ap₂, ◌∙◌, arith, eq-eqb, eqb-true, ne_eqb, lt-ltb, ltb-true}
+use Rattle.std.specs.Prelude.{if◌then◌else◌, nat_eq, nat_lt, bit_or}
+use Rattle.std.proofs.lemmas.Bool.{ltb-false}
+use Rattle.std.proofs.lemmas.Nat.{or_shifted}
+use Rattle.words.specs.declared.operator.Operator.TheVariants as operators
+use Rattle.words.specs.declared.width.Width.{Width}
+use Rattle.words.specs.declared.width.Width.TheVariants.{Word, Byte}
+use Rattle.words.specs.Words.{wrap}
+use Rattle.words.specs.Widths.{kept}
+use Rattle.words.specs.Operators.{op_value}
+use Rattle.mips_isa.specs.declared.inst.AluOp.{AluOp}
+use Rattle.mips_isa.specs.declared.inst.AluOp.TheVariants.{Addu}
+use Rattle.mips_isa.specs.declared.inst.ImmOp.{ImmOp}
+use Rattle.mips_isa.specs.declared.inst.ImmOp.TheVariants.{Addiu}
+use Rattle.mips_isa.specs.declared.inst.LogicOp.TheVariants.{Ori}
+use Rattle.mips_isa.specs.declared.inst.Plain.{Plain}
+use Rattle.mips_isa.specs.declared.inst.Plain.TheVariants.{Alu, Imm, Logic, LoadUpper, Load, Store}
+use Rattle.mips_isa.specs.States.{State, IsWords, AreApart, is_register, read, put, is_open, load_at, store_at}
+use Rattle.mips_isa.specs.Actions.{sign_extension, imm_operator, alu_operator, address}
+use Rattle.mips_isa.proofs.Memory.{load_same, load-past-store}
+use Rattle.mips_isa.proofs.StateWords as words
+use Rattle.mips_emit.specs.Elements.{width_bytes, element_place, address_of_place, data_middle, near, page, low, scaled, scaled_seat, base_sum}
+use Rattle.mips_emit.specs.Elements.{base_code, base_offset}
+use Rattle.mips_emit.specs.Code.{is_small, half, constant, li, load_word_at, store_word_at, move_code}
+use Rattle.mips_emit.proofs.Runs.{RunsTo, runs_then, runs_none}
+
+-- ---- memory and registers
+
+-- what a load of a width sees at an address, and a word there
+abbrev pub shown_at : Width → State → ℕ → ℕ
+shown_at w s a = load_at w s.mapped s.memory a
+
+abbrev pub word_at : State → ℕ → ℕ
+word_at s a = shown_at Word s a
+
+-- a register written, and memory
+abbrev pub set : State → ℕ → ℕ → State
+set s t v = record s { regs = put s.regs t v }
+
+abbrev pub set_at : Width → State → ℕ → ℕ → State
+set_at w s a v = record s { memory = store_at w s.mapped s.memory a v }
+
+abbrev pub set_word : State → ℕ → ℕ → State
+set_word s a v = set_at Word s a v
+
+-- the number that an offset adds to an address
+abbrev pub word_of_offset : ℤ → ℕ
+word_of_offset z = wrap (sign_extension z)
+
+-- a register that a write can change
+pub record IsTarget (t : ℕ) : Type 0 where
+  pub low : 0 < t
+  pub high : t < 32
+
+target : (t : ℕ) → IsTarget t → is_register t ≡ true
+target t h = ap₂ (λ x y. x && y) (lt-ltb 0 t h.low) (lt-ltb t 32 h.high)
+
+pub put_here : (f : ℕ → ℕ) (t v : ℕ) → IsTarget t → put f t v t ≡ v
+put_here f t v h = ap₂ (λ x y. cond (x && y) v (f t)) (target t h) (eq-eqb t t refl)
+
+and-false : (a : Bool) → (a && false) ≡ false
+and-false true = refl
+and-false false = refl
+
+pub put_other : (f : ℕ → ℕ) (t v r : ℕ) → r ≢ t → put f t v r ≡ f r
+put_other f t v r ne = ap (λ x. cond (is_register t && x) v (f r)) (ne_eqb r t ne) ∙ ap (λ x. cond x v (f r)) (and-false (is_register t))
+
+pub read_register : (f : ℕ → ℕ) (r : ℕ) → 0 < r → read 0 f r ≡ f r
+read_register f zero lt = absurd (omega (arith, lt))
+read_register f (suc r) lt = refl
+
+pub read_below : (s : State) (r : ℕ) → IsWords s → read 0 s.regs r < 2 ^ 32
+read_below s r w = words.read_below s.regs w.regs r
+
+pub read_other : (f f' : ℕ → ℕ) (r : ℕ) → (0 < r → f' r ≡ f r) → read 0 f' r ≡ read 0 f r
+read_other f f' zero same = refl
+read_other f f' (suc r) same = same (omega arith)
+
+pub shown_below : (w : Width) (s : State) (a : ℕ) → IsWords s → shown_at w s a < 2 ^ 32
+shown_below w s a h = words.load_below w s.mapped s.memory a h.memory
+
+pub word_below : (s : State) (a : ℕ) → IsWords s → word_at s a < 2 ^ 32
+word_below s a h = shown_below Word s a h
+
+pub set_words : (s : State) (t v : ℕ) → IsWords s → v < 2 ^ 32 → IsWords (set s t v)
+set_words s t v h lt = record { regs = words.put_below s.regs t v h.regs lt; hi = h.hi; lo = h.lo; memory = h.memory }
+
+pub set_at_words : (w : Width) (s : State) (a v : ℕ) → IsWords s → IsWords (set_at w s a v)
+set_at_words w s a v h = record { regs = h.regs; hi = h.hi; lo = h.lo; memory = words.store_below w s.mapped s.memory a v h.memory }
+
+pub shown_here : (w : Width) (s : State) (a v : ℕ) → is_open w s.mapped a ≡ true → v < 2 ^ 32 → shown_at w (set_at w s a v) a ≡ kept w v
+shown_here w s a v ok lt = load_same w s.mapped s.memory a v ok lt
+
+pub shown_other : (w u : Width) (s : State) (a v b : ℕ) → AreApart w a u b → shown_at u (set_at w s a v) b ≡ shown_at u s b
+shown_other w u s a v b apart = load-past-store w u s.mapped s.memory a v b apart
+
+pub word_here : (s : State) (a v : ℕ) → is_open Word s.mapped a ≡ true → v < 2 ^ 32 → word_at (set_word s a v) a ≡ v
+word_here s a v ok lt = shown_here Word s a v ok lt
+
+pub word_other : (s : State) (a v b : ℕ) → b ≢ a → word_at (set_word s a v) b ≡ word_at s b
+word_other s a v b ne = shown_other Word Word s a v b (λ e. ne (sym e))
+
+-- ---- instructions on registers
+
+pub sum_value : (a b : ℕ) → op_value operators.Addu a b ≡ wrap (a + b)
+unfolding op_value
+sum_value a b = refl
+
+or_value : (a b : ℕ) → op_value operators.Or a b ≡ bit_or a b
+unfolding op_value
+or_value a b = refl
+
+shift_value : (a b : ℕ) → op_value operators.Sll a b ≡ wrap (a * 2 ^ (b % 32))
+unfolding op_value
+shift_value a b = refl
+
+pub half_word : (w : ℕ) → w < 2 ^ 32 → word_of_offset (half w) ≡ w
+half_word w lt = go (nat_lt w 32768)
+  where
+    go : (b : Bool) → word_of_offset (if b then pos w else negsuc (4294967295 - w)) ≡ w
+    go true = omega (arith, lt)
+    go false = omega (arith, lt)
+
+-- one register into another
+pub moves : (s : State) (t r : ℕ) → IsWords s → RunsTo (move_code t r ∷ []) s (set s t (read 0 s.regs r))
+moves s t r w =
+    let small = read_below s r w in
+    let e : wrap (read 0 s.regs r + 0) ≡ read 0 s.regs r = omega (arith, small) in
+    record { ends = ap (λ v. Some (set s t v)) (sum_value (read 0 s.regs r) 0 ∙ e) }
+
+pub alu_runs : (s : State) (op : AluOp) (t a b : ℕ) → RunsTo (Alu op t a b ∷ []) s (set s t (op_value (alu_operator op) (read 0 s.regs a) (read 0 s.regs b)))
+alu_runs s op t a b = record { ends = refl }
+
+-- with a word that fits 16 bits
+pub imm_runs : (s : State) (op : ImmOp) (t a w : ℕ) → w < 2 ^ 32 → RunsTo (Imm op t a (half w) ∷ []) s
+    (set s t (op_value (imm_operator op) (read 0 s.regs a) w))
+imm_runs s op t a w lt = record { ends = ap (λ v. Some (set s t (op_value (imm_operator op) (read 0 s.regs a) v))) (half_word w lt) }
+
+-- ---- loads and stores
+
+pub address_small : (s : State) (b o : ℕ) → 0 < b → s.regs b + o < 2 ^ 32 → address s b (sign_extension (pos o)) ≡ s.regs b + o
+address_small s b o lt small =
+    let low : wrap (wrap o) ≡ o = omega (arith, small) in
+    let once : wrap o ≡ o = omega (arith, small) in
+    let all : wrap (s.regs b + o) ≡ s.regs b + o = omega (arith, small) in
+    ap₂ (λ x y. op_value operators.Addu x y) (read_register s.regs b lt) once ∙ sum_value (s.regs b) o ∙ all
+
+-- a word of the frame
+pub loads_word : (s : State) (t o : ℕ) → s.regs 29 + o < 2 ^ 32 → is_open Word s.mapped (s.regs 29 + o) ≡ true
+    → RunsTo (load_word_at t o ∷ []) s (set s t (word_at s (s.regs 29 + o)))
+loads_word s t o small ok =
+    record {
+      ends = ap (λ a. if is_open Word s.mapped a then Some (set s t (word_at s a)) else None) (address_small s 29 o (omega arith) small)
+          ∙ ap (λ c. if c then Some (set s t (word_at s (s.regs 29 + o))) else None) ok;
+    }
+
+pub stores_word : (s : State) (t o : ℕ) → s.regs 29 + o < 2 ^ 32 → is_open Word s.mapped (s.regs 29 + o) ≡ true
+    → RunsTo (store_word_at t o ∷ []) s (set_word s (s.regs 29 + o) (read 0 s.regs t))
+stores_word s t o small ok =
+    record {
+      ends = ap (λ a. if is_open Word s.mapped a then Some (set_word s a (read 0 s.regs t)) else None) (address_small s 29 o (omega arith) small)
+          ∙ ap (λ c. if c then Some (set_word s (s.regs 29 + o) (read 0 s.regs t)) else None) ok;
+    }
+
+-- at any offset
+pub loads_at : (w : Width) (s : State) (t b : ℕ) (z : ℤ) (a : ℕ) → wrap (read 0 s.regs b + word_of_offset z) ≡ a → is_open w s.mapped a ≡ true
+    → RunsTo (Load w t b z ∷ []) s (set s t (shown_at w s a))
+loads_at w s t b z a e ok = record {
+  ends = ap (λ a. if is_open w s.mapped a then Some (set s t (shown_at w s a)) else None) (sum_value (read 0 s.regs b) (word_of_offset z) ∙ e)
+      ∙ ap (λ c. if c then Some (set s t (shown_at w s a)) else None) ok;
+}
+
+pub stores_at : (w : Width) (s : State) (t b : ℕ) (z : ℤ) (a : ℕ) → wrap (read 0 s.regs b + word_of_offset z) ≡ a → is_open w s.mapped a ≡ true
+    → RunsTo (Store w t b z ∷ []) s (set_at w s a (read 0 s.regs t))
+stores_at w s t b z a e ok = record {
+  ends = ap (λ a. if is_open w s.mapped a then Some (set_at w s a (read 0 s.regs t)) else None) (sum_value (read 0 s.regs b) (word_of_offset z) ∙ e)
+      ∙ ap (λ c. if c then Some (set_at w s a (read 0 s.regs t)) else None) ok;
+}
+
+-- ---- constants
+
+-- instructions that write register t alone, with word v
+pub record Sets (is : List Plain) (s : State) (t v : ℕ) : Type 0 where
+  pub regs : ℕ → ℕ
+  pub runs : RunsTo is s (record s { regs = regs })
+  pub here : regs t ≡ v
+  pub others : (r : ℕ) → r ≢ t → regs r ≡ s.regs r
+
+-- one register is written
+pub set_sets : (is : List Plain) (s : State) (t v w : ℕ) → IsTarget t → v ≡ w → RunsTo is s (set s t v) → Sets is s t w
+set_sets is s t v w ok e run = record { regs = put s.regs t v; runs = run; here = put_here s.regs t v ok ∙ e; others = λ r ne. put_other s.regs t v r ne }
+
+pub constant_set : (s : State) (t w : ℕ) → IsTarget t → Sets (constant t w) s t (wrap w)
+constant_set s t w ok = record {
+  regs = put (put s.regs t high) t low;
+  runs = record { ends = refl };
+  here = put_here (put s.regs t high) t low ok ∙ value;
+  others = λ r ne. put_other (put s.regs t high) t low r ne ∙ put_other s.regs t high r ne;
+}
+  where
+    high : ℕ
+    high = wrap (w / 65536 % 65536 * 2 ^ 16)
+
+    low : ℕ
+    low = op_value operators.Or (read 0 (put s.regs t high) t) (wrap (w % 65536))
+
+    first : read 0 (put s.regs t (wrap (w / 65536 % 65536 * 2 ^ 16))) t ≡ w / 65536 % 65536 * 2 ^ 16
+    first =
+        let same : wrap (w / 65536 % 65536 * 2 ^ 16) ≡ w / 65536 % 65536 * 2 ^ 16 = omega arith in
+        read_register (put s.regs t (wrap (w / 65536 % 65536 * 2 ^ 16))) t ok.low ∙ put_here s.regs t (wrap (w / 65536 % 65536 * 2 ^ 16)) ok ∙ same
+
+    second : wrap (w % 65536) ≡ w % 65536
+    second = omega arith
+
+    value : op_value operators.Or (read 0 (put s.regs t (wrap (w / 65536 % 65536 * 2 ^ 16))) t) (wrap (w % 65536)) ≡ wrap w
+    value = ap₂ (λ x y. op_value operators.Or x y) first second ∙ or_value (w / 65536 % 65536 * 2 ^ 16) (w % 65536)
+        ∙ or_shifted (w / 65536 % 65536) 16 (w % 65536) (omega arith) ∙ omega arith
+
+pub li_sets : (s : State) (t w : ℕ) → IsTarget t → w < 2 ^ 32 → Sets (li t w) s t w
+li_sets s t w ok lt = go (is_small w) (nat_lt w 65536) (nat_eq (w % 65536) 0) refl refl
+  where
+    short : Sets (Imm Addiu t 0 (half w) ∷ []) s t w
+    short = set_sets (Imm Addiu t 0 (half w) ∷ []) s t (op_value operators.Addu 0 w) w ok (sum_value 0 w ∙ omega (arith, lt)) (imm_runs s Addiu t 0 w lt)
+
+    low : nat_lt w 65536 ≡ true → Sets (Logic Ori t 0 w ∷ []) s t w
+    low e =
+        let few : w < 2 ^ 16 = ltb-true w 65536 e in
+        let same : wrap w ≡ w = omega (arith, lt) in
+        set_sets (Logic Ori t 0 w ∷ []) s t (op_value operators.Or 0 (wrap w)) w ok
+        (ap (op_value operators.Or 0) same ∙ or_value (0 * 2 ^ 16) w ∙ or_shifted 0 16 w few ∙ omega (arith, lt)) (record { ends = refl })
+
+    high : nat_eq (w % 65536) 0 ≡ true → Sets (LoadUpper t (w / 65536 % 65536) ∷ []) s t w
+    high e =
+        let zero_low : w % 65536 ≡ 0 = eqb-true (w % 65536) 0 e in
+        set_sets (LoadUpper t (w / 65536 % 65536) ∷ []) s t (wrap (w / 65536 % 65536 * 2 ^ 16)) w ok (omega (arith, lt, zero_low)) (record { ends = refl })
+
+    both : Sets (constant t w) s t w
+    both =
+        let c = constant_set s t w ok in
+        let same : wrap w ≡ w = omega (arith, lt) in
+        record { regs = c.regs; runs = c.runs; here = c.here ∙ same; others = c.others }
+
+    go : (a b c : Bool) → nat_lt w 65536 ≡ b → nat_eq (w % 65536) 0 ≡ c
+        → Sets (if a then Imm Addiu t 0 (half w) ∷ [] else if b then Logic Ori t 0 w ∷ [] else if c then LoadUpper t
+        (w / 65536 % 65536) ∷ [] else constant t w) s t w
+    go true b c eb ec = short
+    go false true c eb ec = low eb
+    go false false true eb ec = high ec
+    go false false false eb ec = both
+
+-- ---- elements of globals
+
+-- from register 28
+pub near_word : (p k : ℕ) → p < 65536 → p + k < 1048576 → wrap (k + data_middle + word_of_offset (near p)) ≡ address_of_place (p + k)
+near_word p k lt few = go (nat_lt p 32768) refl
+  where
+    go : (b : Bool) → nat_lt p 32768 ≡ b → wrap (k + data_middle + word_of_offset (if b then negsuc (32767 - p) else pos (p - 32768)))
+        ≡ address_of_place (p + k)
+    go true e = (let below : p < 32768 = ltb-true p 32768 e in omega (arith, below, few))
+    go false e = (let above : 32768 ≤ p = ltb-false p 32768 e in omega (arith, above, lt, few))
+
+low_word : (at k : ℕ) → at + k < 2 ^ 31 → wrap (k + page at * 65536 + word_of_offset (low at)) ≡ at + k
+low_word at k few = go (nat_lt (at % 65536) 32768) refl
+  where
+    go : (b : Bool) → nat_lt (at % 65536) 32768 ≡ b → wrap (k + page at * 65536 + word_of_offset
+        (if b then pos (at % 65536) else negsuc (65535 - at % 65536))) ≡ at + k
+    go true e = (let below : at % 65536 < 32768 = ltb-true (at % 65536) 32768 e in omega (arith, below, few))
+    go false e = (let above : 32768 ≤ at % 65536 = ltb-false (at % 65536) 32768 e in omega (arith, above, few))
+
+-- an index times the width of its elements
+record Scaled (is : List Plain) (s : State) (q k : ℕ) : Type 0 where
+  regs : ℕ → ℕ
+  runs : RunsTo is s (record s { regs = regs })
+  here : read 0 regs q ≡ k
+  others : (r : ℕ) → r ≢ 1 → regs r ≡ s.regs r
+  apart : q ≢ 2
+
+t1 : IsTarget 1
+t1 = record { low = omega arith; high = omega arith }
+
+t2 : IsTarget 2
+t2 = record { low = omega arith; high = omega arith }
+
+scales : (w : Width) (s : State) (q i : ℕ) → read 0 s.regs q ≡ i → q ≢ 2 → width_bytes w * i < 2 ^ 31
+    → Scaled (scaled w q) s (scaled_seat w q) (width_bytes w * i)
+scales Word s q i is ne few =
+    let v = op_value operators.Sll (read 0 s.regs q) (wrap 2) in
+    let value : wrap (i * 4) ≡ 4 * i = omega (arith, few) in
+    let four : op_value operators.Sll (read 0 s.regs q) (wrap 2) ≡ 4 * i = shift_value (read 0 s.regs q) 2 ∙ ap (λ x. wrap (x * 4)) is ∙ value in
+    record {
+      regs = put s.regs 1 v;
+      runs = record { ends = refl };
+      here = put_here s.regs 1 v t1 ∙ four;
+      others = λ r other. put_other s.regs 1 v r other;
+      apart = λ e. absurd (omega (arith, e));
+    }
+scales Byte s q i is ne few =
+    let one : i ≡ 1 * i = omega arith in
+    record { regs = s.regs; runs = runs_none s; here = is ∙ one; others = λ r other. refl; apart = ne }
+
+-- from an index to a base for an element, in register 1
+pub record Based (is : List Plain) (s : State) (z : ℤ) (a : ℕ) : Type 0 where
+  pub regs : ℕ → ℕ
+  pub runs : RunsTo is s (record s { regs = regs })
+  pub here : wrap (regs 1 + word_of_offset z) ≡ a
+  pub others : (r : ℕ) → r ≢ 1 → r ≢ 2 → regs r ≡ s.regs r
+
+sums : (s : State) (q start k : ℕ) → read 0 s.regs q ≡ k → q ≢ 2 → s.regs 28 ≡ data_middle → start + k < 1048576
+    → Based (base_sum start q) s (base_offset start) (address_of_place (start + k))
+sums s q start k is apart gp few = go (nat_lt start 65536) refl
+  where
+    high_is : start + k < 1048576 → wrap (page (address_of_place start) * 2 ^ 16) ≡ page (address_of_place start) * 65536
+    high_is few = omega (arith, few)
+
+    go : (b : Bool) → nat_lt start 65536 ≡ b
+        → Based (if b then Alu Addu 1 q 28 ∷ [] else LoadUpper 2 (page (address_of_place start)) ∷ Alu Addu 1 q 2 ∷ []) s
+        (if b then near start else low (address_of_place start)) (address_of_place (start + k))
+    go true e =
+        let all = op_value operators.Addu (read 0 s.regs q) (s.regs 28) in
+        let below : start < 65536 = ltb-true start 65536 e in
+        let total : wrap (k + data_middle) ≡ k + data_middle = omega (arith, few) in
+        let sum : put s.regs 1 (op_value operators.Addu (read 0 s.regs q) (s.regs 28)) 1 ≡ k + data_middle =
+        put_here s.regs 1 all t1 ∙ ap₂ (op_value operators.Addu) is gp ∙ sum_value k data_middle ∙ total in
+        record {
+          regs = put s.regs 1 all;
+          runs = record { ends = refl };
+          here = ap (λ x. wrap (x + word_of_offset (near start))) sum ∙ near_word start k below few;
+          others = λ r n1 n2. put_other s.regs 1 all r n1;
+        }
+    go false e =
+        let v = wrap (page (address_of_place start) * 2 ^ 16) in
+        let s1 = set s 2 v in
+        let all = op_value operators.Addu (read 0 s1.regs q) (s1.regs 2) in
+        let index : read 0 s1.regs q ≡ k = read_other s.regs s1.regs q (λ _. put_other s.regs 2 v q apart) ∙ is in
+        let upper : s1.regs 2 ≡ page (address_of_place start) * 65536 = put_here s.regs 2 v t2 ∙ high_is few in
+        let total : wrap (k + page (address_of_place start) * 65536) ≡ k + page (address_of_place start) * 65536 = omega (arith, few) in
+        let sum : put s1.regs 1 (op_value operators.Addu (read 0 s1.regs q) (s1.regs 2)) 1 ≡ k + page (address_of_place start) * 65536 =
+        put_here s1.regs 1 all t1 ∙ ap₂ (op_value operators.Addu) index upper ∙ sum_value k (page (address_of_place start) * 65536) ∙ total in
+        let place : address_of_place start + k ≡ address_of_place (start + k) = omega arith in
+        record {
+          regs = put s1.regs 1 all;
+          runs = record { ends = refl };
+          here = ap (λ x. wrap (x + word_of_offset (low (address_of_place start)))) sum ∙ low_word (address_of_place start) k (omega (arith, few)) ∙ place;
+          others = λ r n1 n2. put_other s1.regs 1 all r n1 ∙ put_other s.regs 2 v r n2;
+        }
+
+pub based : (w : Width) (s : State) (q start i : ℕ) → read 0 s.regs q ≡ i → q ≢ 2 → s.regs 28 ≡ data_middle → element_place w start i < 1048576
+    → Based (base_code w start q) s (base_offset start) (address_of_place (element_place w start i))
+based w s q start i is apart gp few =
+    let a = scales w s q i is apart (omega (arith, few)) in
+    let s1 : State = record s { regs = a.regs } in
+    let ne : 28 ≢ 1 = λ e. absurd (omega (arith, e)) in
+    let b = sums s1 (scaled_seat w q) start (width_bytes w * i) a.here a.apart (a.others 28 ne ∙ gp) few in
+    record { regs = b.regs; runs = runs_then a.runs b.runs; here = b.here; others = λ r n1 n2. b.others r n1 n2 ∙ a.others r n1 }

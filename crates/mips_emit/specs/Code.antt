@@ -1,0 +1,270 @@
+-- The machine code of each instruction, of arguments, and of a branch's test. Registers 1 and 2 are free between instructions.
+use Rattle.std.specs.Prelude.{ℕ, ℤ, pos, negsuc, suc, ◌-◌, ◌*◌, ◌/◌, ◌%◌, ◌^◌, Bool, true, false, ◌||◌, nat_eq, nat_lt}
+use Rattle.std.specs.Prelude.{◌+◌, if◌then◌else◌, List, [], ◌∷◌, ◌++◌, Option, Some, None, slice_index}
+use Rattle.std.specs.Int.{w32, trailing_zeros}
+use Rattle.words.specs.declared.sign.Sign.TheVariants.{Signed, Unsigned}
+use Rattle.words.specs.declared.width.Width.{Width}
+use Rattle.words.specs.declared.width.Width.TheVariants as widths
+use Rattle.words.specs.Words.{wrap}
+use Rattle.mips_isa.specs.declared.inst.ShiftOp.TheVariants.{Sll, Srl, Sra}
+use Rattle.mips_isa.specs.declared.inst.AluOp.TheVariants as alu
+use Rattle.mips_isa.specs.declared.inst.ImmOp.TheVariants.{Addiu, Slti, Sltiu}
+use Rattle.mips_isa.specs.declared.inst.LogicOp.TheVariants.{Andi, Ori, Xori}
+use Rattle.mips_isa.specs.declared.inst.HiLo.TheVariants.{Hi, Lo}
+use Rattle.mips_isa.specs.declared.inst.Plain.{Plain}
+use Rattle.mips_isa.specs.declared.inst.Plain.TheVariants as plain
+use Rattle.mips_isa.specs.declared.inst.Plain.TheVariants.{Shift, ShiftBy, Alu, Imm, Logic, LoadUpper, MoveFrom, Multiply, Divide}
+use Rattle.mips_isa.specs.declared.inst.PairTest.TheVariants.{Equal}
+use Rattle.mips_isa.specs.declared.inst.ZeroTest.TheVariants.{AtMostZero}
+use Rattle.mblock.specs.declared.exit.Exit.{Exit}
+use Rattle.mblock.specs.declared.exit.Exit.TheVariants.{BranchPair, BranchZero}
+use Rattle.rtl.specs.declared.operator.Op.{Op}
+use Rattle.rtl.specs.declared.operator.Op.TheVariants.{Add, Sub, Mul, DivS, DivU, RemS, RemU, And, Or, Xor, Shl, ShrU, ShrS, Eq, Ne, LtS, LtU, LeS, LeU}
+use Rattle.rtl.specs.declared.instruction.RInst.{RInst}
+use Rattle.rtl.specs.declared.instruction.RInst.TheVariants.{Const, Move, Bin, Load, Store}
+use Rattle.rtl.specs.declared.block.RGlobal.{RGlobal}
+use Rattle.mips_homes.specs.declared.homed.Frame.{Frame}
+use Rattle.mips_emit.specs.declared.location.Location.{Location}
+use Rattle.mips_emit.specs.declared.location.Location.TheVariants.{Held, InSlot}
+use Rattle.mips_emit.specs.declared.location.Source.{Source}
+use Rattle.mips_emit.specs.declared.location.Source.TheVariants.{Zero, Word, From}
+use Rattle.mips_emit.specs.Locations.{Locations, Facts, locations, known_in, learned, operand, word_source}
+use Rattle.mips_emit.specs.Elements.{width_of, direct, base_code, element_base, element_offset}
+
+-- ---- words and frames
+
+-- a word in two instructions
+abbrev pub constant : (t w : ℕ) → List Plain
+constant t w = LoadUpper t (w / 65536 % 65536) ∷ Logic Ori t t (w % 65536) ∷ []
+
+-- a word that fits the 16 bits of an instruction, signed
+abbrev pub is_small : ℕ → Bool
+is_small w = nat_lt w 32768 || nat_lt 4294934527 w
+
+abbrev pub half : ℕ → ℤ
+half w = if nat_lt w 32768 then pos w else negsuc (4294967295 - w)
+
+-- a word into a register, as short as it can be
+abbrev pub li : (t w : ℕ) → List Plain
+li t w =
+    if is_small w then Imm Addiu t 0 (half w) ∷ []
+    else if nat_lt w 65536 then Logic Ori t 0 w ∷ []
+    else if nat_eq (w % 65536) 0 then LoadUpper t (w / 65536 % 65536) ∷ []
+    else constant t w
+
+-- a word of the frame into a register, and back
+abbrev pub load_word_at : (t offset : ℕ) → Plain
+load_word_at t offset = plain.Load widths.Word t 29 (pos offset)
+
+abbrev pub store_word_at : (t offset : ℕ) → Plain
+store_word_at t offset = plain.Store widths.Word t 29 (pos offset)
+
+-- one register into another
+abbrev pub move_code : (t r : ℕ) → Plain
+move_code t r = Alu alu.Addu t r 0
+
+-- ---- operands and results
+
+-- an operand: what stands before, and the register that shows it then
+abbrev pub fetch : ℕ → Source → List Plain
+fetch t Zero = []
+fetch t (Word w) = li t w
+fetch t (From (Held r)) = []
+fetch t (From (InSlot k)) = load_word_at t (4 * k) ∷ []
+
+abbrev pub seat : ℕ → Source → ℕ
+seat t Zero = 0
+seat t (Word w) = t
+seat t (From (Held r)) = r
+seat t (From (InSlot k)) = t
+
+-- an operand into a register of its own
+abbrev pub bring : ℕ → Source → List Plain
+bring t Zero = move_code t 0 ∷ []
+bring t (Word w) = li t w
+bring t (From (Held r)) = move_code t r ∷ []
+bring t (From (InSlot k)) = load_word_at t (4 * k) ∷ []
+
+-- a result: the register into which it is computed, and what stands behind
+abbrev pub into : ℕ → Option Location → ℕ
+into t None = t
+into t (Some (Held r)) = r
+into t (Some (InSlot k)) = t
+
+abbrev pub finish : ℕ → Option Location → List Plain
+finish t None = []
+finish t (Some (Held r)) = []
+finish t (Some (InSlot k)) = store_word_at t (4 * k) ∷ []
+
+-- an operand into a location
+abbrev pub put_at : Option Location → Source → List Plain
+put_at None x = []
+put_at (Some (Held r)) x = bring r x
+put_at (Some (InSlot k)) x = fetch 1 x ++ store_word_at (seat 1 x) (4 * k) ∷ []
+
+-- ---- operators
+
+-- an operator on registers a and b into register d; a test of equality is one of the difference
+abbrev pub operation : Op → (d a b : ℕ) → List Plain
+operation Add d a b = Alu alu.Addu d a b ∷ []
+operation Sub d a b = Alu alu.Subu d a b ∷ []
+operation Mul d a b = Multiply Unsigned a b ∷ MoveFrom Lo d ∷ []
+operation DivS d a b = Divide Signed a b ∷ MoveFrom Lo d ∷ []
+operation DivU d a b = Divide Unsigned a b ∷ MoveFrom Lo d ∷ []
+operation RemS d a b = Divide Signed a b ∷ MoveFrom Hi d ∷ []
+operation RemU d a b = Divide Unsigned a b ∷ MoveFrom Hi d ∷ []
+operation And d a b = Alu alu.And d a b ∷ []
+operation Or d a b = Alu alu.Or d a b ∷ []
+operation Xor d a b = Alu alu.Xor d a b ∷ []
+operation Shl d a b = ShiftBy Sll d a b ∷ []
+operation ShrU d a b = ShiftBy Srl d a b ∷ []
+operation ShrS d a b = ShiftBy Sra d a b ∷ []
+operation Eq d a b = Alu alu.Subu d a b ∷ Imm Sltiu d d (pos 1) ∷ []
+operation Ne d a b = Alu alu.Subu d a b ∷ Alu alu.Sltu d 0 d ∷ []
+operation LtS d a b = Alu alu.Slt d a b ∷ []
+operation LtU d a b = Alu alu.Sltu d a b ∷ []
+operation LeS d a b = Alu alu.Slt d b a ∷ Logic Xori d d 1 ∷ []
+operation LeU d a b = Alu alu.Sltu d b a ∷ Logic Xori d d 1 ∷ []
+
+-- minus a word
+abbrev pub opposite : ℕ → ℕ
+opposite c = wrap (2 ^ 32 - c)
+
+-- one more, modulo 2^32
+abbrev pub next_word : ℕ → ℕ
+next_word c = wrap (c + 1)
+
+-- the exponent of a power of 2
+abbrev pub exponent : ℕ → ℕ
+exponent c = trailing_zeros w32 c
+
+abbrev pub is_power : ℕ → Bool
+is_power c = nat_eq (2 ^ (exponent c % 32)) c
+
+-- an operator on register q and a word in one instruction, where there is one
+abbrev pub immediate : Op → (d q c : ℕ) → Option Plain
+immediate Add d q c = if is_small c then Some (Imm Addiu d q (half c)) else None
+immediate Sub d q c = if is_small (opposite c) then Some (Imm Addiu d q (half (opposite c))) else None
+immediate And d q c = if nat_lt c 65536 then Some (Logic Andi d q c) else None
+immediate Or d q c = if nat_lt c 65536 then Some (Logic Ori d q c) else None
+immediate Xor d q c =
+    if nat_lt c 65536 then Some (Logic Xori d q c) else if nat_eq c 4294967295 then Some (Alu alu.Nor d q 0) else None
+immediate Shl d q c = Some (Shift Sll d q (c % 32))
+immediate ShrU d q c = Some (Shift Srl d q (c % 32))
+immediate ShrS d q c = Some (Shift Sra d q (c % 32))
+immediate Eq d q c = if nat_eq c 0 then Some (Imm Sltiu d q (pos 1)) else None
+immediate Ne d q c = if nat_eq c 0 then Some (Alu alu.Sltu d 0 q) else None
+immediate LtS d q c = if is_small c then Some (Imm Slti d q (half c)) else None
+immediate LtU d q c = if is_small c then Some (Imm Sltiu d q (half c)) else None
+immediate LeS d q c = if is_small (next_word c) then Some (Imm Slti d q (half (next_word c))) else None
+immediate LeU d q c =
+    if nat_eq c 4294967295 then None else if is_small (next_word c) then Some (Imm Sltiu d q (half (next_word c))) else None
+immediate Mul d q c = if is_power c then Some (Shift Sll d q (exponent c % 32)) else None
+immediate DivU d q c = if is_power c then Some (Shift Srl d q (exponent c % 32)) else None
+immediate RemU d q c = if is_power c then (if nat_lt (c - 1) 65536 then Some (Logic Andi d q (c - 1)) else None) else None
+immediate _ d q c = None
+
+abbrev pub immediate_of : Op → (d q : ℕ) → (known : Option ℕ) → Option Plain
+immediate_of op d q None = None
+immediate_of op d q (Some c) = immediate op d q c
+
+-- operators that give the same on turned operands
+abbrev pub is_symmetric : Op → Bool
+is_symmetric Add = true
+is_symmetric And = true
+is_symmetric Or = true
+is_symmetric Xor = true
+is_symmetric Eq = true
+is_symmetric Ne = true
+is_symmetric Mul = true
+is_symmetric _ = false
+
+abbrev pub turned_immediate_of : Op → (d q : ℕ) → (known : Option ℕ) → Option Plain
+turned_immediate_of op d q known = if is_symmetric op then immediate_of op d q known else None
+
+-- a word is at most another where that is not less than the word
+abbrev pub turned_less_of : Op → (d q : ℕ) → (known : Option ℕ) → Option Plain
+turned_less_of LeS d q known = immediate_of LtS d q known
+turned_less_of LeU d q known = immediate_of LtU d q known
+turned_less_of _ d q known = None
+
+-- an operator into register d: with a word on the right, or on the left, or with a word on the left of a test that is then
+-- turned, or on two registers
+abbrev pub code_by_less : Op → ℕ → (less : Option Plain) → Source → Source → List Plain
+code_by_less op d None x y = fetch 1 x ++ (fetch 2 y ++ operation op d (seat 1 x) (seat 2 y))
+code_by_less op d (Some i) x y = fetch 2 y ++ i ∷ Logic Xori d d 1 ∷ []
+
+abbrev pub code_by_left : Op → ℕ → (left less : Option Plain) → Source → Source → List Plain
+code_by_left op d None less x y = code_by_less op d less x y
+code_by_left op d (Some i) less x y = fetch 2 y ++ i ∷ []
+
+abbrev pub code_by_right : Op → ℕ → (right left less : Option Plain) → Source → Source → List Plain
+code_by_right op d None left less x y = code_by_left op d left less x y
+code_by_right op d (Some i) left less x y = fetch 1 x ++ i ∷ []
+
+abbrev pub op_code : Op → ℕ → (left right : Option ℕ) → Source → Source → List Plain
+op_code op d left right x y =
+    code_by_right op d (immediate_of op d (seat 1 x) right) (turned_immediate_of op d (seat 2 y) left) (turned_less_of op d (seat 2 y) left) x y
+
+-- ---- instructions
+
+-- what stands before an element is used, from the operand that is its index
+abbrev pub element_code : Width → (start : ℕ) → Option ℕ → Source → List Plain
+element_code w start None x = fetch 1 x ++ base_code w start (seat 1 x)
+element_code w start (Some p) x = []
+
+abbrev pub bin_code : Locations → Facts → Op → (d a b : ℕ) → List Plain
+bin_code at facts op d a b =
+    op_code op (into 1 (at d)) (known_in facts a) (known_in facts b) (operand at facts a) (operand at facts b) ++ finish 1 (at d)
+
+-- an element into a register, and back
+abbrev pub element_load : Width → ℕ → (start : ℕ) → Option ℕ → Plain
+element_load w t start place = plain.Load w t (element_base place) (element_offset start place)
+
+abbrev pub element_store : Width → ℕ → (start : ℕ) → Option ℕ → Plain
+element_store w t start place = plain.Store w t (element_base place) (element_offset start place)
+
+abbrev pub load_code : Locations → Facts → Width → (start d i : ℕ) → List Plain
+load_code at facts w start d i =
+    (element_code w start (direct w start (known_in facts i)) (operand at facts i)
+    ++ element_load w (into 1 (at d)) start (direct w start (known_in facts i)) ∷ [])
+    ++ finish 1 (at d)
+
+abbrev pub store_code : Locations → Facts → Width → (start i b : ℕ) → List Plain
+store_code at facts w start i b =
+    element_code w start (direct w start (known_in facts i)) (operand at facts i)
+    ++ (fetch 2 (operand at facts b)
+    ++ element_store w (seat 2 (operand at facts b)) start (direct w start (known_in facts i)) ∷ [])
+
+abbrev pub inst_code : List RGlobal → (starts : ℕ → ℕ) → Locations → Facts → RInst → List Plain
+inst_code globals starts at facts (Const d w) = put_at (at d) (word_source (wrap w))
+inst_code globals starts at facts (Move d a) = put_at (at d) (operand at facts a)
+inst_code globals starts at facts (Bin op d a b) = bin_code at facts op d a b
+inst_code globals starts at facts (Load d a i) = load_code at facts (width_of globals a) (starts a) d i
+inst_code globals starts at facts (Store a i b) = store_code at facts (width_of globals a) (starts a) i b
+
+-- the code of several, before other code
+abbrev pub insts_code : List RGlobal → (starts : ℕ → ℕ) → Locations → Facts → List RInst → List Plain → List Plain
+insts_code globals starts at facts [] behind = behind
+insts_code globals starts at facts (i ∷ is) behind =
+    inst_code globals starts at facts i ++ insts_code globals starts at (learned i facts) is behind
+
+-- and before none
+abbrev pub code_of_insts : List RGlobal → (starts : List ℕ) → Frame → Facts → List RInst → List Plain
+code_of_insts globals starts frame facts is = insts_code globals (slice_index starts) (locations frame) facts is []
+
+-- ---- exits
+
+-- arguments into registers from t on
+abbrev pub arguments_code : Locations → Facts → ℕ → List ℕ → List Plain
+arguments_code at facts t [] = []
+arguments_code at facts t (x ∷ xs) = bring t (operand at facts x) ++ arguments_code at facts (suc t) xs
+
+-- a branch: on an operand, or on the word whose comparison with zero it is
+abbrev pub branch_code : (tested : Option ℕ) → Source → List Plain
+branch_code None x = fetch 1 x
+branch_code (Some q) x = []
+
+abbrev pub branch_exit : (tested : Option ℕ) → Source → (t e : ℕ) → Exit
+branch_exit None x t e = BranchPair Equal (seat 1 x) 0 e t
+branch_exit (Some q) x t e = BranchZero AtMostZero q e t

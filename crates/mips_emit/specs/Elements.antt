@@ -1,0 +1,101 @@
+-- Elements of globals in data memory: where they are, and how instructions reach them.
+use Rattle.std.specs.Prelude.{◌≡◌, ℕ, ℤ, pos, negsuc, ◌+◌, ◌-◌, ◌*◌, ◌/◌, ◌%◌, ◌<◌, ◌≤◌, Option, Some, None, List, [], ◌∷◌, ◌++◌, nat_lt, slice_get}
+use Rattle.std.specs.Prelude.{if◌then◌else◌}
+use Rattle.words.specs.declared.width.Width.{Width}
+use Rattle.words.specs.declared.width.Width.TheVariants.{Word, Byte}
+use Rattle.mips_isa.specs.declared.inst.ShiftOp.TheVariants.{Sll}
+use Rattle.mips_isa.specs.declared.inst.AluOp.TheVariants.{Addu}
+use Rattle.mips_isa.specs.declared.inst.Plain.{Plain}
+use Rattle.mips_isa.specs.declared.inst.Plain.TheVariants.{Shift, Alu, LoadUpper}
+use Rattle.mips_isa.specs.Starting.{data_base}
+use Rattle.mblock.specs.declared.limits.TheConstants.{UNIT_BYTES}
+use Rattle.rtl.specs.declared.block.RGlobal.{RGlobal}
+
+-- ---- places in data
+
+abbrev pub width_bytes : Width → ℕ
+width_bytes Word = 4
+width_bytes Byte = 1
+
+abbrev pub width_in : Option RGlobal → Width
+width_in None = Word
+width_in (Some global) = global.width
+
+-- the width of a global's elements
+abbrev pub width_of : List RGlobal → ℕ → Width
+width_of globals a = width_in (slice_get globals a)
+
+-- the first byte of an element among the bytes of data, from that of its global
+abbrev pub element_place : Width → (start i : ℕ) → ℕ
+element_place w start i = start + width_bytes w * i
+
+-- the same of a program with these globals, whose first bytes are at these starts
+abbrev pub place_in : List RGlobal → (starts : ℕ → ℕ) → (a i : ℕ) → ℕ
+place_in globals starts a i = element_place (width_of globals a) (starts a) i
+
+-- first bytes of globals, none of them beyond the data
+abbrev pub AreStarts : List ℕ → Type 0
+AreStarts starts = (a start : ℕ) → slice_get starts a ≡ Some start → start ≤ UNIT_BYTES
+
+-- and behind the element
+abbrev pub place_behind : List RGlobal → (starts : ℕ → ℕ) → (a i : ℕ) → ℕ
+place_behind globals starts a i = place_in globals starts a i + width_bytes (width_of globals a)
+
+-- in memory
+abbrev pub address_of_place : ℕ → ℕ
+address_of_place p = data_base + p
+
+-- ---- how they are reached
+
+-- what register 28 always holds: the middle of the first 65,536 bytes of data
+abbrev pub data_middle : ℕ
+data_middle = 268468224
+
+-- the place of an element whose index is known, where register 28 reaches it
+abbrev pub direct : Width → (start : ℕ) → Option ℕ → Option ℕ
+direct w start None = None
+direct w start (Some i) = if nat_lt i 65536 then (if nat_lt (element_place w start i) 65536 then Some (element_place w start i) else None) else None
+
+abbrev pub IsNear : Option ℕ → Type 0
+IsNear None = Unit {0}
+IsNear (Some p) = p < 65536
+
+-- from register 28 to a place
+abbrev pub near : ℕ → ℤ
+near p = if nat_lt p 32768 then negsuc (32767 - p) else pos (p - 32768)
+
+-- an address in two parts: an upper half, and a signed offset from it
+abbrev pub page : ℕ → ℕ
+page at = (at + 32768) / 65536
+
+abbrev pub low : ℕ → ℤ
+low at = if nat_lt (at % 65536) 32768 then pos (at % 65536) else negsuc (65535 - at % 65536)
+
+-- an index in a register, times the width
+abbrev pub scaled : Width → ℕ → List Plain
+scaled Word q = Shift Sll 1 q 2 ∷ []
+scaled Byte q = []
+
+abbrev pub scaled_seat : Width → ℕ → ℕ
+scaled_seat Word q = 1
+scaled_seat Byte q = q
+
+-- from an index in a register to a base for the element, in register 1, and the offset from it
+abbrev pub base_sum : (start q : ℕ) → List Plain
+base_sum start q =
+    if nat_lt start 65536 then Alu Addu 1 q 28 ∷ [] else LoadUpper 2 (page (address_of_place start)) ∷ Alu Addu 1 q 2 ∷ []
+
+abbrev pub base_code : Width → (start q : ℕ) → List Plain
+base_code w start q = scaled w q ++ base_sum start (scaled_seat w q)
+
+abbrev pub base_offset : ℕ → ℤ
+base_offset start = if nat_lt start 65536 then near start else low (address_of_place start)
+
+-- the base of an element and the offset from it, by its place if register 28 reaches that
+abbrev pub element_base : Option ℕ → ℕ
+element_base None = 1
+element_base (Some p) = 28
+
+abbrev pub element_offset : (start : ℕ) → Option ℕ → ℤ
+element_offset start None = base_offset start
+element_offset start (Some p) = near p

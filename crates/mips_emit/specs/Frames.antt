@@ -1,0 +1,36 @@
+-- Frames that machine code can reach: the homes of a function's pseudo-registers, the registers that it saves, and its slots.
+use Rattle.std.specs.Prelude.{◌≡◌, ℕ, ◌+◌, ◌*◌, ◌<◌, ◌≤◌, Bool, true, false, List, Some, length, slice_get}
+use Rattle.mips_homes.specs.declared.homed.Home.{Home}
+use Rattle.mips_homes.specs.declared.homed.Home.TheVariants.{Reg, Slot}
+use Rattle.mips_homes.specs.declared.homed.Frame.{Frame}
+use Rattle.mips_emit.specs.declared.limits.TheConstants.{FRAME_BYTES}
+
+-- a register 16 to 23, or one of so many slots
+abbrev pub IsHome : (slots : ℕ) → Home → Type 0
+IsHome slots (Reg r) = (16 ≤ r) × (r < 24)
+IsHome slots (Slot k) = k < slots
+
+-- homes in a frame with so many slots, and no two pseudo-registers share one
+pub record AreFrameHomes (homes : List Home) (slots : ℕ) : Type 0 where
+  pub by : (x : ℕ) (h : Home) → slice_get homes x ≡ Some h → IsHome slots h
+  pub apart : (x y : ℕ) (h : Home) → slice_get homes x ≡ Some h → slice_get homes y ≡ Some h → x ≡ y
+
+-- what a frame takes at most: a word for each slot, for each register that is saved, and for the link
+abbrev pub frame_size : Frame → ℕ
+frame_size f = 4 * (f.slots + length f.saved.items + 1)
+
+-- the words that a frame has for the link: none in a leaf, which is a function without calls
+abbrev pub link_words : (leaf : Bool) → ℕ
+link_words true = 0
+link_words false = 1
+
+-- homes are registers 16 to 23 and slots of the frame, the registers that are saved are among these, and the frame has at
+-- most so many bytes
+pub record IsFrame (most : ℕ) (f : Frame) : Type 0 where
+  pub homes : AreFrameHomes f.homes.items f.slots
+  pub saved : (j r : ℕ) → slice_get f.saved.items j ≡ Some r → (16 ≤ r) × (r < 24)
+  pub fits : frame_size f ≤ most
+
+-- within reach of the stack pointer
+abbrev pub IsReachable : Frame → Type 0
+IsReachable f = IsFrame FRAME_BYTES f

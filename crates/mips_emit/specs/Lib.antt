@@ -1,0 +1,4 @@
+pub mod Frames
+pub mod Locations
+pub mod Elements
+pub mod Code

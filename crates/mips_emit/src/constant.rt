@@ -1,0 +1,115 @@
+// Words and words of the frame, into registers.
+
+ghost use Rattle.std.specs.Prelude.{◌≡◌, ◌≤◌, ◌<◌, ◌++◌, ◌∷◌, [], true, OnOk};
+ghost use Rattle.mips_emit.specs.declared.limits.TheConstants.{FRAME_BYTES};
+ghost use Rattle.mips_emit.specs.Code.{constant, is_small, half, li, load_word_at, store_word_at, move_code};
+
+use mips_isa::{AluOp, ImmOp, LogicOp, NonzeroReg, Plain, Reg};
+use std::alloc::AllocError;
+use words::Width;
+
+/// A word of the frame into a register; an Err is refused memory.
+pub fn emit_load_word(code: &mut Vec<Plain>, rt: NonzeroReg, offset: u32) -> Result<(), AllocError>
+    requires { offset ≤ FRAME_BYTES }
+    ensures { OnOk result (code.new.items ≡ code.old.items ++ load_word_at rt offset ∷ []) }
+{
+    code.push(Plain::Load {
+        width: Width::Word,
+        rt,
+        base: Reg::masked(29),
+        offset: offset as i16,
+    })?;
+    Ok(())
+}
+
+/// A register into a word of the frame; an Err is refused memory.
+pub fn emit_store_word(code: &mut Vec<Plain>, rt: Reg, offset: u32) -> Result<(), AllocError>
+    requires { offset ≤ FRAME_BYTES }
+    ensures { OnOk result (code.new.items ≡ code.old.items ++ store_word_at rt offset ∷ []) }
+{
+    code.push(Plain::Store {
+        width: Width::Word,
+        rt,
+        base: Reg::masked(29),
+        offset: offset as i16,
+    })?;
+    Ok(())
+}
+
+// One register into another.
+pub(crate) fn emit_move(code: &mut Vec<Plain>, rd: Reg, rs: Reg) -> Result<(), AllocError>
+    ensures { OnOk result (code.new.items ≡ code.old.items ++ move_code rd rs ∷ []) }
+{
+    code.push(Plain::Alu {
+        op: AluOp::Addu,
+        rd,
+        rs,
+        rt: Reg::ZERO,
+    })?;
+    Ok(())
+}
+
+// Whether a word fits the 16 bits of an instruction, signed.
+pub(crate) fn is_small(word: u32) -> bool
+    ensures { result ≡ is_small word }
+{
+    word < 32_768 || 4_294_934_527 < word
+}
+
+// Such a word as a signed number.
+pub(crate) fn half(word: u32) -> i16
+    requires { is_small word ≡ true }
+    ensures { result ≡ half word }
+{
+    if word < 32_768 {
+        word as i16
+    } else {
+        -1 - (4_294_967_295 - word) as i16
+    }
+}
+
+/// A word into a register, in two instructions; an Err is refused memory.
+pub fn emit_constant(code: &mut Vec<Plain>, rt: Reg, word: u32) -> Result<(), AllocError>
+    ensures { OnOk result (code.new.items ≡ code.old.items ++ constant rt word) }
+{
+    code.push(Plain::LoadUpper {
+        rt,
+        imm: (word / 65_536 % 65_536) as u16,
+    })?;
+    code.push(Plain::Logic {
+        op: LogicOp::Ori,
+        rt,
+        rs: rt,
+        imm: (word % 65_536) as u16,
+    })?;
+    Ok(())
+}
+
+// A word into a register, as short as it can be.
+pub(crate) fn emit_li(code: &mut Vec<Plain>, rt: Reg, word: u32) -> Result<(), AllocError>
+    ensures { OnOk result (code.new.items ≡ code.old.items ++ li rt word) }
+{
+    if is_small(word) {
+        code.push(Plain::Imm {
+            op: ImmOp::Addiu,
+            rt,
+            rs: Reg::ZERO,
+            imm: half(word),
+        })?;
+    } else if word < 65_536 {
+        code.push(Plain::Logic {
+            op: LogicOp::Ori,
+            rt,
+            rs: Reg::ZERO,
+            imm: word as u16,
+        })?;
+    } else if word % 65_536 == 0 {
+        code.push(Plain::LoadUpper {
+            rt,
+            imm: (word / 65_536 % 65_536) as u16,
+        })?;
+    } else {
+        emit_constant(code, rt, word)?;
+    }
+    Ok(())
+}

@@ -1,0 +1,213 @@
+// Elements of globals: how they are reached.
+
+ghost use Rattle.std.specs.Prelude.{◌≡◌, ◌≤◌, ◌<◌, ◌++◌, ◌∷◌, [], OnOk};
+ghost use Rattle.mblock.specs.declared.limits.TheConstants.{UNIT_BYTES};
+ghost use Rattle.mips_emit.specs.Locations.{FitsSource};
+ghost use Rattle.mips_emit.specs.Elements.{width_bytes, element_place, address_of_place, direct, IsNear, near, page, low, scaled, scaled_seat};
+ghost use Rattle.mips_emit.specs.Elements.{base_sum, base_code, base_offset, element_base, element_offset};
+ghost use Rattle.mips_emit.specs.Code.{element_code, element_load, element_store};
+
+use crate::location::{Source, register};
+use crate::transfer::{emit_fetch, seat};
+use mips_isa::{AluOp, Amount, NonzeroReg, Plain, Reg, ShiftOp};
+use std::alloc::AllocError;
+use words::Width;
+
+// How many bytes an element has.
+fn bytes_of(width: Width) -> u32
+    ensures value { result ≡ width_bytes width }
+    ensures few { result ≤ 4 }
+{
+    match width {
+        Width::Word => 4,
+        Width::Byte => 1,
+    }
+}
+
+/// The place of an element whose index is known, where register 28 reaches it.
+pub(crate) fn direct(width: Width, start: u32, known: Option<u32>) -> Option<u32>
+    requires { start ≤ UNIT_BYTES }
+    ensures value { result ≡ direct width start known }
+    ensures near { IsNear result }
+{
+    match known {
+        None => None,
+        Some(index) => {
+            if index < 65_536 {
+                let place = start + bytes_of(width) * index;
+                if place < 65_536 { Some(place) } else { None }
+            } else {
+                None
+            }
+        }
+    }
+}
+
+// From register 28 to a place.
+fn near(place: u32) -> i16
+    requires { place < 65536 }
+    ensures { result ≡ near place }
+{
+    if place < 32_768 {
+        -1 - (32_767 - place) as i16
+    } else {
+        (place - 32_768) as i16
+    }
+}
+
+// The lower part of an address.
+fn low(address: u32) -> i16
+    ensures { result ≡ low address }
+{
+    let half = address % 65_536;
+    if half < 32_768 {
+        half as i16
+    } else {
+        -1 - (65_535 - half) as i16
+    }
+}
+
+// The upper part of the address at which a global begins.
+fn page_of(start: u32) -> u16
+    requires { start ≤ UNIT_BYTES }
+    ensures { result ≡ page (address_of_place start) }
+{
+    ((0x1000_0000 + start + 32_768) / 65_536) as u16
+}
+
+// An index in a register, times the width.
+fn emit_scaled(code: &mut Vec<Plain>, width: Width, index: Reg) -> Result<(), AllocError>
+    ensures { OnOk result (code.new.items ≡ code.old.items ++ scaled width index) }
+{
+    match width {
+        Width::Word => code.push(Plain::Shift {
+            op: ShiftOp::Sll,
+            rd: Reg::masked(1),
+            rt: index,
+            amount: Amount::masked(2),
+        })?,
+        Width::Byte => {}
+    }
+    Ok(())
+}
+
+// The register that shows it then.
+fn scaled_seat(width: Width, index: Reg) -> Reg
+    ensures { result ≡ scaled_seat width index }
+{
+    match width {
+        Width::Word => Reg::masked(1),
+        Width::Byte => index,
+    }
+}
+
+// From a scaled index to a base for the element, in register 1.
+fn emit_sum(code: &mut Vec<Plain>, start: u32, index: Reg) -> Result<(), AllocError>
+    requires { start ≤ UNIT_BYTES }
+    ensures { OnOk result (code.new.items ≡ code.old.items ++ base_sum start index) }
+{
+    let base = Reg::masked(if start < 65_536 { 28 } else { 2 });
+    if start < 65_536 {
+        code.push(Plain::Alu {
+            op: AluOp::Addu,
+            rd: Reg::masked(1),
+            rs: index,
+            rt: base,
+        })?;
+    } else {
+        code.push(Plain::LoadUpper {
+            rt: base,
+            imm: page_of(start),
+        })?;
+        code.push(Plain::Alu {
+            op: AluOp::Addu,
+            rd: Reg::masked(1),
+            rs: index,
+            rt: base,
+        })?;
+    }
+    Ok(())
+}
+
+// The offset from that base.
+fn base_offset(start: u32) -> i16
+    requires { start ≤ UNIT_BYTES }
+    ensures { result ≡ base_offset start }
+{
+    if start < 65_536 {
+        near(start)
+    } else {
+        low(0x1000_0000 + start)
+    }
+}
+
+/// What stands before an element is used; an Err is refused memory.
+pub(crate) fn emit_element(
+    code: &mut Vec<Plain>,
+    width: Width,
+    start: u32,
+    place: Option<u32>,
+    x: &Source,
+) -> Result<(), AllocError>
+    requires few { start ≤ UNIT_BYTES }
+    requires fits { FitsSource x.now }
+    ensures { OnOk result (code.new.items ≡ code.old.items ++ element_code width start place x.now) }
+{
+    if place.is_none() {
+        let index = seat(register(1), x);
+        emit_fetch(code, register(1), x)?;
+        emit_scaled(code, width, index)?;
+        emit_sum(code, start, scaled_seat(width, index))?;
+    }
+    Ok(())
+}
+
+// The register from which an element is reached.
+fn element_base(place: Option<u32>) -> Reg
+    ensures { result ≡ element_base place }
+{
+    match place {
+        None => Reg::masked(1),
+        Some(_) => Reg::masked(28),
+    }
+}
+
+// The offset of an element from that register.
+fn element_offset(start: u32, place: Option<u32>) -> i16
+    requires few { start ≤ UNIT_BYTES }
+    requires near { IsNear place }
+    ensures { result ≡ element_offset start place }
+{
+    match place {
+        None => base_offset(start),
+        Some(p) => near(p),
+    }
+}
+
+/// A load of an element.
+pub(crate) fn element_load(width: Width, rt: NonzeroReg, start: u32, place: Option<u32>) -> Plain
+    requires few { start ≤ UNIT_BYTES }
+    requires near { IsNear place }
+    ensures { result ≡ element_load width rt start place }
+{
+    Plain::Load {
+        width,
+        rt,
+        base: element_base(place),
+        offset: element_offset(start, place),
+    }
+}
+
+/// A store to an element.
+pub(crate) fn element_store(width: Width, rt: Reg, start: u32, place: Option<u32>) -> Plain
+    requires few { start ≤ UNIT_BYTES }
+    requires near { IsNear place }
+    ensures { result ≡ element_store width rt start place }
+{
+    Plain::Store {
+        width,
+        rt,
+        base: element_base(place),
+        offset: element_offset(start, place),
+    }
+}

@@ -1,0 +1,132 @@
+// What stands before an exit, and the exit of a branch.
+
+ghost use Rattle.std.specs.Prelude.{◌≡◌, ◌≤◌, ◌++◌, length, OnOk};
+ghost use Rattle.mips_emit.specs.declared.location.Location.TheVariants.{Held};
+ghost use Rattle.mips_emit.specs.declared.location.Source.TheVariants.{From};
+ghost use Rattle.mips_emit.specs.Frames.{IsReachable};
+ghost use Rattle.mips_emit.specs.Locations.{locations, operand, last_operand, tested};
+ghost use Rattle.mips_emit.specs.Code.{put_at, bring, arguments_code, branch_code, branch_exit};
+
+use crate::facts::{Fact, Last, last_operand, operand, tested};
+use crate::location::{Location, Source, locate, register};
+use crate::transfer::{emit_bring, emit_fetch, emit_put, seat};
+use mblock::{BlockNumber, Exit};
+use mips_homes::Frame;
+use mips_isa::{NonzeroReg, PairTest, Plain, Reg, ZeroTest};
+use rtl::Register;
+use std::alloc::AllocError;
+
+/// A register into a pseudo-register, as a parameter or a result is; an Err is refused memory.
+pub fn emit_arrival(
+    code: &mut Vec<Plain>,
+    frame: &Frame,
+    t: NonzeroReg,
+    x: Register,
+) -> Result<(), AllocError>
+    requires { IsReachable frame.now }
+    ensures { OnOk result (code.new.items ≡ code.old.items ++ put_at (locations frame.now x) (From (Held t))) }
+{
+    emit_put(code, locate(frame, x), &Source::From(Location::Held(t)))?;
+    Ok(())
+}
+
+/// A pseudo-register into a register of its own, behind the last instruction; an Err is refused memory.
+pub fn emit_departure(
+    code: &mut Vec<Plain>,
+    facts: &[Fact],
+    last: Last,
+    frame: &Frame,
+    t: NonzeroReg,
+    x: Register,
+) -> Result<(), AllocError>
+    requires { IsReachable frame.now }
+    ensures { OnOk result (code.new.items ≡ code.old.items ++ bring t (last_operand (locations frame.now) facts.now last.fresh x)) }
+{
+    emit_bring(code, t, &last_operand(facts, last.fresh, frame, x))?;
+    Ok(())
+}
+
+// A pseudo-register into a register of its own.
+fn emit_argument(
+    code: &mut Vec<Plain>,
+    facts: &[Fact],
+    frame: &Frame,
+    t: NonzeroReg,
+    x: Register,
+) -> Result<(), AllocError>
+    requires { IsReachable frame.now }
+    ensures { OnOk result (code.new.items ≡ code.old.items ++ bring t (operand (locations frame.now) facts.now x)) }
+{
+    emit_bring(code, t, &operand(facts, frame, x))?;
+    Ok(())
+}
+
+/// Arguments into registers from 4 on; an Err is refused memory.
+pub fn emit_arguments(
+    code: &mut Vec<Plain>,
+    facts: &[Fact],
+    frame: &Frame,
+    arguments: &[Register],
+) -> Result<(), AllocError>
+    requires frame { IsReachable frame.now }
+    requires few { length arguments.now ≤ 4 }
+    ensures { OnOk result (code.new.items ≡ code.old.items ++ arguments_code (locations frame.now) facts.now 4 arguments.now) }
+{
+    let mut t: u8 = 4;
+    for x in arguments {
+        emit_argument(code, facts, frame, register(t), *x)?;
+        t += 1;
+    }
+    Ok(())
+}
+
+/// What stands before a branch on a pseudo-register; an Err is refused memory.
+pub fn emit_test(
+    code: &mut Vec<Plain>,
+    facts: &[Fact],
+    last: Last,
+    frame: &Frame,
+    c: Register,
+) -> Result<(), AllocError>
+    requires { IsReachable frame.now }
+    ensures { OnOk result (code.new.items ≡ code.old.items ++ branch_code (tested last.above c) (last_operand (locations frame.now) facts.now last.fresh c)) }
+{
+    match tested(last.above, c) {
+        None => emit_fetch(
+            code,
+            register(1),
+            &last_operand(facts, last.fresh, frame, c),
+        )?,
+        Some(_) => {}
+    }
+    Ok(())
+}
+
+/// The branch: to `then` where the pseudo-register isn't 0, else to `other`.
+pub fn branch_exit(
+    facts: &[Fact],
+    last: Last,
+    frame: &Frame,
+    c: Register,
+    then: BlockNumber,
+    other: BlockNumber,
+) -> Exit
+    requires { IsReachable frame.now }
+    ensures { result ≡ branch_exit (tested last.above c) (last_operand (locations frame.now) facts.now last.fresh c) then other }
+{
+    match tested(last.above, c) {
+        None => Exit::BranchPair {
+            test: PairTest::Equal,
+            rs: seat(register(1), &last_operand(facts, last.fresh, frame, c)),
+            rt: Reg::ZERO,
+            then: other,
+            other: then,
+        },
+        Some(register) => Exit::BranchZero {
+            test: ZeroTest::AtMostZero,
+            rs: register.reg(),
+            then: other,
+            other: then,
+        },
+    }
+}

@@ -1,0 +1,194 @@
+// The code of instructions.
+
+ghost use Rattle.std.specs.Prelude.{◌≡◌, ◌<◌, ◌≤◌, ◌++◌, All, length, slice_index, OnOk, IfOk};
+ghost use Rattle.mblock.specs.declared.limits.TheConstants.{UNIT_BYTES};
+ghost use Rattle.words.specs.Words.{wrap};
+ghost use Rattle.rtl.specs.Programs.{IsInst};
+ghost use Rattle.mips_emit.specs.Frames.{IsReachable};
+ghost use Rattle.mips_emit.specs.Locations.{locations, word_source, operand, known_after, last_after, no_last};
+ghost use Rattle.mips_emit.specs.Elements.{AreStarts, width_of};
+ghost use Rattle.mips_emit.specs.Code.{put_at, bin_code, load_code, store_code, inst_code, code_of_insts};
+
+use crate::element::{direct, element_load, element_store, emit_element};
+use crate::facts::{Fact, Last, known_word, last_of, learn, operand};
+use crate::location::{locate, register, word_source};
+use crate::operation::emit_op;
+use crate::transfer::{emit_fetch, emit_finish, emit_put, into_of, seat};
+use mips_homes::Frame;
+use mips_isa::Plain;
+use rtl::{GlobalNumber, Op, RGlobal, RInst, Register};
+use std::alloc::AllocError;
+use words::Width;
+
+// A word into a pseudo-register.
+fn emit_const(
+    code: &mut Vec<Plain>,
+    frame: &Frame,
+    d: Register,
+    word: u32,
+) -> Result<(), AllocError>
+    requires { IsReachable frame.now }
+    ensures { OnOk result (code.new.items ≡ code.old.items ++ put_at (locations frame.now d) (word_source (wrap word))) }
+{
+    emit_put(code, locate(frame, d), &word_source(word))?;
+    Ok(())
+}
+
+// A pseudo-register into another.
+fn emit_move(
+    code: &mut Vec<Plain>,
+    facts: &[Fact],
+    frame: &Frame,
+    d: Register,
+    a: Register,
+) -> Result<(), AllocError>
+    requires { IsReachable frame.now }
+    ensures { OnOk result (code.new.items ≡ code.old.items ++ put_at (locations frame.now d) (operand (locations frame.now) facts.now a)) }
+{
+    emit_put(code, locate(frame, d), &operand(facts, frame, a))?;
+    Ok(())
+}
+
+// An operator on pseudo-registers.
+fn emit_bin(
+    code: &mut Vec<Plain>,
+    facts: &[Fact],
+    frame: &Frame,
+    op: Op,
+    d: Register,
+    a: Register,
+    b: Register,
+) -> Result<(), AllocError>
+    requires { IsReachable frame.now }
+    ensures { OnOk result (code.new.items ≡ code.old.items ++ bin_code (locations frame.now) facts.now op d a b) }
+{
+    let left = known_word(facts, a);
+    let right = known_word(facts, b);
+    let x = operand(facts, frame, a);
+    let y = operand(facts, frame, b);
+    let rd = into_of(register(1), locate(frame, d));
+    emit_op(code, op, rd.reg(), left, right, &x, &y)?;
+    emit_finish(code, register(1), locate(frame, d))?;
+    Ok(())
+}
+
+// An element into a pseudo-register.
+fn emit_load(
+    code: &mut Vec<Plain>,
+    facts: &[Fact],
+    frame: &Frame,
+    width: Width,
+    start: u32,
+    d: Register,
+    i: Register,
+) -> Result<(), AllocError>
+    requires frame { IsReachable frame.now }
+    requires few { start ≤ UNIT_BYTES }
+    ensures { OnOk result (code.new.items ≡ code.old.items ++ load_code (locations frame.now) facts.now width start d i) }
+{
+    let x = operand(facts, frame, i);
+    let place = direct(width, start, known_word(facts, i));
+    let rt = into_of(register(1), locate(frame, d));
+    emit_element(code, width, start, place, &x)?;
+    code.push(element_load(width, rt, start, place))?;
+    emit_finish(code, register(1), locate(frame, d))?;
+    Ok(())
+}
+
+// A pseudo-register into an element.
+fn emit_store(
+    code: &mut Vec<Plain>,
+    facts: &[Fact],
+    frame: &Frame,
+    width: Width,
+    start: u32,
+    i: Register,
+    b: Register,
+) -> Result<(), AllocError>
+    requires frame { IsReachable frame.now }
+    requires few { start ≤ UNIT_BYTES }
+    ensures { OnOk result (code.new.items ≡ code.old.items ++ store_code (locations frame.now) facts.now width start i b) }
+{
+    let x = operand(facts, frame, i);
+    let y = operand(facts, frame, b);
+    let place = direct(width, start, known_word(facts, i));
+    emit_element(code, width, start, place, &x)?;
+    emit_fetch(code, register(2), &y)?;
+    code.push(element_store(width, seat(register(2), &y), start, place))?;
+    Ok(())
+}
+
+// The first byte of a global.
+fn start_of(starts: &[u32], a: GlobalNumber) -> u32
+    requires few { AreStarts starts.now }
+    requires named { a < length starts.now }
+    ensures value { result ≡ slice_index starts.now a }
+    ensures few { result ≤ UNIT_BYTES }
+{
+    starts[a as usize]
+}
+
+// The width of a global's elements.
+fn width_of(globals: &[RGlobal], a: GlobalNumber) -> Width
+    ensures { result ≡ width_of globals.now a }
+{
+    match globals.get(a as usize) {
+        Some(global) => global.width,
+        None => Width::Word,
+    }
+}
+
+// One instruction.
+fn emit_inst(
+    code: &mut Vec<Plain>,
+    globals: &[RGlobal],
+    starts: &[u32],
+    facts: &[Fact],
+    frame: &Frame,
+    inst: &RInst,
+) -> Result<(), AllocError>
+    requires frame { IsReachable frame.now }
+    requires few { AreStarts starts.now }
+    requires named { IsInst (length starts.now) inst.now }
+    ensures { OnOk result (code.new.items ≡ code.old.items ++ inst_code globals.now (slice_index starts.now) (locations frame.now) facts.now inst.now) }
+{
+    match inst {
+        RInst::Const(d, word) => emit_const(code, frame, *d, *word)?,
+        RInst::Move(d, a) => emit_move(code, facts, frame, *d, *a)?,
+        RInst::Bin(op, d, a, b) => emit_bin(code, facts, frame, *op, *d, *a, *b)?,
+        RInst::Load(d, a, i) => {
+            let start = start_of(starts, *a);
+            emit_load(code, facts, frame, width_of(globals, *a), start, *d, *i)?;
+        }
+        RInst::Store(a, i, b) => {
+            let start = start_of(starts, *a);
+            emit_store(code, facts, frame, width_of(globals, *a), start, *i, *b)?;
+        }
+    }
+    Ok(())
+}
+
+/// Several instructions, and what is known after them and left for an exit; an Err is refused memory.
+pub fn emit_insts(
+    code: &mut Vec<Plain>,
+    facts: &mut Vec<Fact>,
+    globals: &[RGlobal],
+    starts: &[u32],
+    frame: &Frame,
+    insts: &[RInst],
+) -> Result<Last, AllocError>
+    requires frame { IsReachable frame.now }
+    requires few { AreStarts starts.now }
+    requires named { All (IsInst (length starts.now)) insts.now }
+    ensures code { OnOk result (code.new.items ≡ code.old.items ++ code_of_insts globals.now starts.now frame.now facts.old.items insts.now) }
+    ensures last { IfOk result (λ l. l ≡ last_after (locations frame.now) facts.old.items insts.now no_last) }
+    ensures known { OnOk result (facts.new.items ≡ known_after insts.now facts.old.items) }
+{
+    let mut last = Last::NONE;
+    for inst in insts {
+        last = last_of(facts.as_slice(), frame, inst);
+        emit_inst(code, globals, starts, facts.as_slice(), frame, inst)?;
+        learn(facts, inst)?;
+    }
+    Ok(last)
+}

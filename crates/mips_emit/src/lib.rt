@@ -1,0 +1,35 @@
+//! Machine code of RTL instructions whose pseudo-registers live in homes: what happens inside a block.
+//!
+//! A pseudo-register is used where it is (`Location`: a register, or a slot of the frame), an operand also as a word that
+//! is known within the block (`Source`, `Fact`); registers 1 and 2 are free between instructions, and register 28 stands in
+//! the middle of the first 65,536 bytes of data. Each instruction has at least one item of code at its own place, so that
+//! a block takes no fewer steps than RTL.
+//!
+//! The code is a pure function, `insts_code` of `specs/Code.antt`, and `emit_insts` emits exactly that; likewise
+//! `emit_arguments`, `emit_test` and `branch_exit` for exits. That the code of an instruction does what the instruction
+//! does over homes is `performs` of `proofs/Insts.antt`: from every state that holds homes, frames and globals (`Stands` of
+//! `proofs/Stands.antt`) it leads to one that holds those after the instruction, unless the instruction goes wrong. It is
+//! carried by the contract of the crate above, which names whole units.
+//!
+//! Definitions, in an order to read: `specs/Frames.antt` (frames within reach), `specs/Locations.antt` (where
+//! pseudo-registers are, what is known, what operands are), `specs/Elements.antt` (elements of globals), `specs/Code.antt`.
+//! What is known is a window of the latest facts, so emitting takes constant time for each instruction.
+#![tactic(auto)]
+
+mod constant;
+mod element;
+mod exit;
+mod facts;
+mod inst;
+mod limits;
+mod location;
+mod operation;
+mod transfer;
+
+pub use constant::{emit_constant, emit_load_word, emit_store_word};
+pub use exit::{branch_exit, emit_arguments, emit_arrival, emit_departure, emit_test};
+pub use facts::{Above, Fact, Last, last_operand, tested};
+pub use inst::emit_insts;
+pub use limits::FRAME_BYTES;
+pub use location::{Location, Source, register};
+pub use transfer::{emit_fetch, seat};

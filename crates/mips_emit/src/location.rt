@@ -1,0 +1,110 @@
+// Where pseudo-registers are, and what operands are.
+
+ghost use Rattle.std.specs.Prelude.{◌≡◌, ◌*◌, ◌≤◌, ◌<◌};
+ghost use Rattle.mips_emit.specs.declared.limits.TheConstants.{FRAME_BYTES};
+ghost use Rattle.mips_emit.specs.Frames.{IsHome, IsReachable};
+ghost use Rattle.mips_emit.specs.Locations.{location_of, locations, known_source, source, word_source, FitsLocation, FitsPlace, FitsSource};
+
+use mips_homes::{Frame, Home};
+use mips_isa::NonzeroReg;
+use rtl::Register;
+
+/// Where a pseudo-register is: in a register, or in a slot of the frame.
+#[derive(Clone, Copy, Debug, PartialEq, Eq)]
+pub enum Location {
+    /// A register that can be written.
+    Held(NonzeroReg),
+    /// A word of the frame, from the stack pointer on.
+    InSlot(u32),
+}
+
+/// What an operand is.
+#[derive(Clone, Copy, Debug, PartialEq, Eq)]
+pub enum Source {
+    /// The word 0.
+    Zero,
+    /// A word that is known.
+    Word(u32),
+    /// What a location holds.
+    From(Location),
+}
+
+/// The register with this number, 1 to 31.
+pub fn register(number: u8) -> NonzeroReg
+    requires nonzero { 0 < number }
+    requires range { number < 32 }
+    ensures { result ≡ number }
+{
+    match NonzeroReg::new(number) {
+        Some(r) => r,
+        None => unreachable!(),
+    }
+}
+
+// A home as a location.
+fn location_of(home: Home, slots: u32) -> Location
+    requires few { 4 * slots ≤ FRAME_BYTES }
+    requires home { IsHome slots home }
+    ensures value { result ≡ location_of home }
+    ensures fits { FitsLocation result }
+{
+    match home {
+        Home::Reg(r) => Location::Held(register(r)),
+        Home::Slot(k) => Location::InSlot(k),
+    }
+}
+
+/// Where a pseudo-register is, if it has a home.
+pub(crate) fn locate(frame: &Frame, x: Register) -> Option<Location>
+    requires { IsReachable frame.now }
+    ensures value { result ≡ locations frame.now x }
+    ensures fits { FitsPlace result }
+{
+    match frame.homes.get(x as usize) {
+        Some(home) => Some(location_of(*home, frame.slots)),
+        None => None,
+    }
+}
+
+// A word that is known, or the register that holds it besides.
+fn known_source(word: u32, place: Option<Location>) -> Source
+    requires { FitsPlace place }
+    ensures value { result ≡ known_source word place }
+    ensures fits { FitsSource result }
+{
+    match place {
+        None => Source::Word(word),
+        Some(location) => match location {
+            Location::Held(_) => Source::From(location),
+            Location::InSlot(_) => Source::Word(word),
+        },
+    }
+}
+
+/// What an operand is, from the word that it is known to hold and where it is.
+pub(crate) fn source_of(known: Option<u32>, place: Option<Location>) -> Source
+    requires { FitsPlace place }
+    ensures value { result ≡ source known place }
+    ensures fits { FitsSource result }
+{
+    match known {
+        None => match place {
+            None => Source::Zero,
+            Some(location) => Source::From(location),
+        },
+        Some(0) => Source::Zero,
+        Some(word) => known_source(word, place),
+    }
+}
+
+/// A word as an operand.
+pub(crate) fn word_source(word: u32) -> Source
+    ensures value { result ≡ word_source word }
+    ensures fits { FitsSource result }
+{
+    if word == 0 {
+        Source::Zero
+    } else {
+        Source::Word(word)
+    }
+}

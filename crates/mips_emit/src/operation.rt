@@ -1,0 +1,332 @@
+// Operators: on two registers, and on a register and a word.
+
+ghost use Rattle.std.specs.Prelude.{◌≡◌, ◌%◌, ◌++◌, ◌∷◌, [], true, nat_lt, if◌then◌else◌, Some, None, OnOk};
+ghost use Rattle.mips_isa.specs.declared.inst.LogicOp.TheVariants.{Xori};
+ghost use Rattle.rtl.specs.declared.operator.Op.TheVariants.{Mul, Xor, Eq, Ne};
+ghost use Rattle.mips_isa.specs.declared.inst.Plain.TheVariants.{Shift, ShiftBy, Alu, Imm, Logic, MoveFrom, Divide};
+ghost use Rattle.mips_emit.specs.Locations.{FitsSource};
+ghost use Rattle.mips_emit.specs.Code.{is_small, half, fetch, operation, opposite, is_power, immediate, immediate_of, is_symmetric, turned_immediate_of};
+ghost use Rattle.mips_emit.specs.Code.{turned_less_of, code_by_less, code_by_left, code_by_right, op_code};
+
+use crate::constant::{half, is_small};
+use crate::location::{Source, register};
+use crate::transfer::{emit_fetch, seat};
+use mips_isa::{AluOp, Amount, HiLo, ImmOp, LogicOp, Plain, Reg, ShiftOp};
+use rtl::Op;
+use std::alloc::AllocError;
+use words::Sign;
+
+// An instruction on two registers.
+fn alu(op: AluOp, rd: Reg, rs: Reg, rt: Reg) -> Plain
+    ensures { result ≡ Alu op rd rs rt }
+{
+    Plain::Alu { op, rd, rs, rt }
+}
+
+// A shift by a register.
+fn shift_by(op: ShiftOp, rd: Reg, rt: Reg, rs: Reg) -> Plain
+    ensures { result ≡ ShiftBy op rd rt rs }
+{
+    Plain::ShiftBy { op, rd, rt, rs }
+}
+
+// A shift by a known amount.
+fn shift(op: ShiftOp, rd: Reg, rt: Reg, word: u32) -> Plain
+    ensures { result ≡ Shift op rd rt (word % 32) }
+{
+    Plain::Shift {
+        op,
+        rd,
+        rt,
+        amount: Amount::masked((word % 32) as u8),
+    }
+}
+
+// An instruction with a word that fits its 16 bits, signed.
+fn imm(op: ImmOp, rt: Reg, rs: Reg, word: u32) -> Plain
+    requires { is_small word ≡ true }
+    ensures { result ≡ Imm op rt rs (half word) }
+{
+    Plain::Imm {
+        op,
+        rt,
+        rs,
+        imm: half(word),
+    }
+}
+
+// The same for a word that is small, else none.
+fn if_small(op: ImmOp, rt: Reg, rs: Reg, word: u32) -> Option<Plain>
+    ensures { result ≡ (if is_small word then Some (Imm op rt rs (half word)) else None) }
+{
+    if is_small(word) {
+        Some(imm(op, rt, rs, word))
+    } else {
+        None
+    }
+}
+
+// An instruction with a word below 2^16, else none.
+fn if_half(op: LogicOp, rt: Reg, rs: Reg, word: u32) -> Option<Plain>
+    ensures { result ≡ (if nat_lt word 65536 then Some (Logic op rt rs word) else None) }
+{
+    if word < 65_536 {
+        Some(Plain::Logic {
+            op,
+            rt,
+            rs,
+            imm: word as u16,
+        })
+    } else {
+        None
+    }
+}
+
+// A product, whose lower half goes to rd.
+fn emit_product(code: &mut Vec<Plain>, rd: Reg, rs: Reg, rt: Reg) -> Result<(), AllocError>
+    ensures { OnOk result (code.new.items ≡ code.old.items ++ operation Mul rd rs rt) }
+{
+    code.push(Plain::Multiply {
+        sign: Sign::Unsigned,
+        rs,
+        rt,
+    })?;
+    code.push(Plain::MoveFrom {
+        place: HiLo::Lo,
+        rd,
+    })?;
+    Ok(())
+}
+
+// A division, whose quotient or remainder goes to rd.
+fn emit_division(
+    code: &mut Vec<Plain>,
+    sign: Sign,
+    place: HiLo,
+    rd: Reg,
+    rs: Reg,
+    rt: Reg,
+) -> Result<(), AllocError>
+    ensures { OnOk result (code.new.items ≡ code.old.items ++ Divide sign rs rt ∷ MoveFrom place rd ∷ []) }
+{
+    code.push(Plain::Divide { sign, rs, rt })?;
+    code.push(Plain::MoveFrom { place, rd })?;
+    Ok(())
+}
+
+// A test of equality: the difference, and then whether it is 0.
+fn emit_equal(code: &mut Vec<Plain>, rd: Reg, rs: Reg, rt: Reg) -> Result<(), AllocError>
+    ensures { OnOk result (code.new.items ≡ code.old.items ++ operation Eq rd rs rt) }
+{
+    code.push(alu(AluOp::Subu, rd, rs, rt))?;
+    code.push(imm(ImmOp::Sltiu, rd, rd, 1))?;
+    Ok(())
+}
+
+// The same turned.
+fn emit_unequal(code: &mut Vec<Plain>, rd: Reg, rs: Reg, rt: Reg) -> Result<(), AllocError>
+    ensures { OnOk result (code.new.items ≡ code.old.items ++ operation Ne rd rs rt) }
+{
+    code.push(alu(AluOp::Subu, rd, rs, rt))?;
+    code.push(alu(AluOp::Sltu, rd, Reg::ZERO, rd))?;
+    Ok(())
+}
+
+// Not above: whether the second isn't less than the first.
+fn emit_not_above(
+    code: &mut Vec<Plain>,
+    less: AluOp,
+    rd: Reg,
+    rs: Reg,
+    rt: Reg,
+) -> Result<(), AllocError>
+    ensures { OnOk result (code.new.items ≡ code.old.items ++ Alu less rd rt rs ∷ Logic Xori rd rd 1 ∷ []) }
+{
+    code.push(alu(less, rd, rt, rs))?;
+    code.push(Plain::Logic {
+        op: LogicOp::Xori,
+        rt: rd,
+        rs: rd,
+        imm: 1,
+    })?;
+    Ok(())
+}
+
+// An operator on two registers.
+fn emit_operation(
+    code: &mut Vec<Plain>,
+    op: Op,
+    rd: Reg,
+    rs: Reg,
+    rt: Reg,
+) -> Result<(), AllocError>
+    ensures { OnOk result (code.new.items ≡ code.old.items ++ operation op rd rs rt) }
+{
+    match op {
+        Op::Add => code.push(alu(AluOp::Addu, rd, rs, rt))?,
+        Op::Sub => code.push(alu(AluOp::Subu, rd, rs, rt))?,
+        Op::Mul => emit_product(code, rd, rs, rt)?,
+        Op::DivS => emit_division(code, Sign::Signed, HiLo::Lo, rd, rs, rt)?,
+        Op::DivU => emit_division(code, Sign::Unsigned, HiLo::Lo, rd, rs, rt)?,
+        Op::RemS => emit_division(code, Sign::Signed, HiLo::Hi, rd, rs, rt)?,
+        Op::RemU => emit_division(code, Sign::Unsigned, HiLo::Hi, rd, rs, rt)?,
+        Op::And => code.push(alu(AluOp::And, rd, rs, rt))?,
+        Op::Or => code.push(alu(AluOp::Or, rd, rs, rt))?,
+        Op::Xor => code.push(alu(AluOp::Xor, rd, rs, rt))?,
+        Op::Shl => code.push(shift_by(ShiftOp::Sll, rd, rs, rt))?,
+        Op::ShrU => code.push(shift_by(ShiftOp::Srl, rd, rs, rt))?,
+        Op::ShrS => code.push(shift_by(ShiftOp::Sra, rd, rs, rt))?,
+        Op::Eq => emit_equal(code, rd, rs, rt)?,
+        Op::Ne => emit_unequal(code, rd, rs, rt)?,
+        Op::LtS => code.push(alu(AluOp::Slt, rd, rs, rt))?,
+        Op::LtU => code.push(alu(AluOp::Sltu, rd, rs, rt))?,
+        Op::LeS => emit_not_above(code, AluOp::Slt, rd, rs, rt)?,
+        Op::LeU => emit_not_above(code, AluOp::Sltu, rd, rs, rt)?,
+    }
+    Ok(())
+}
+
+// An exclusive or with a word, which is a complement where all bits are set.
+fn xor_with(rd: Reg, rs: Reg, word: u32) -> Option<Plain>
+    ensures { result ≡ immediate Xor rd rs word }
+{
+    if word == 4_294_967_295 {
+        Some(alu(AluOp::Nor, rd, rs, Reg::ZERO))
+    } else {
+        if_half(LogicOp::Xori, rd, rs, word)
+    }
+}
+
+// Whether a word is a power of 2.
+fn is_power(word: u32) -> bool
+    ensures { result ≡ is_power word }
+{
+    1 << (word.trailing_zeros() % 32) == word
+}
+
+// An operator on a register and a word in one instruction, where there is one.
+fn immediate(op: Op, rd: Reg, rs: Reg, word: u32) -> Option<Plain>
+    ensures { result ≡ immediate op rd rs word }
+{
+    match op {
+        Op::Add => if_small(ImmOp::Addiu, rd, rs, word),
+        Op::Sub => if_small(ImmOp::Addiu, rd, rs, 0u32.wrapping_sub(word)),
+        Op::And => if_half(LogicOp::Andi, rd, rs, word),
+        Op::Or => if_half(LogicOp::Ori, rd, rs, word),
+        Op::Xor => xor_with(rd, rs, word),
+        Op::Shl => Some(shift(ShiftOp::Sll, rd, rs, word)),
+        Op::ShrU => Some(shift(ShiftOp::Srl, rd, rs, word)),
+        Op::ShrS => Some(shift(ShiftOp::Sra, rd, rs, word)),
+        Op::Eq if word == 0 => Some(imm(ImmOp::Sltiu, rd, rs, 1)),
+        Op::Ne if word == 0 => Some(alu(AluOp::Sltu, rd, Reg::ZERO, rs)),
+        Op::LtS => if_small(ImmOp::Slti, rd, rs, word),
+        Op::LtU => if_small(ImmOp::Sltiu, rd, rs, word),
+        Op::LeS => if_small(ImmOp::Slti, rd, rs, word.wrapping_add(1)),
+        Op::LeU if word != 4_294_967_295 => { if_small(ImmOp::Sltiu, rd, rs, word.wrapping_add(1)) }
+        Op::Mul if is_power(word) => Some(shift(ShiftOp::Sll, rd, rs, word.trailing_zeros())),
+        Op::DivU if is_power(word) => Some(shift(ShiftOp::Srl, rd, rs, word.trailing_zeros())),
+        Op::RemU if is_power(word) => if_half(LogicOp::Andi, rd, rs, word.saturating_sub(1)),
+        _ => None,
+    }
+}
+
+// Whether an operator gives the same on turned operands.
+fn is_symmetric(op: Op) -> bool
+    ensures { result ≡ is_symmetric op }
+{
+    matches!(
+        op,
+        Op::Add | Op::And | Op::Or | Op::Xor | Op::Eq | Op::Ne | Op::Mul
+    )
+}
+
+// An operator on a register and what is known of the other operand.
+fn immediate_of(op: Op, rd: Reg, rs: Reg, known: Option<u32>) -> Option<Plain>
+    ensures { result ≡ immediate_of op rd rs known }
+{
+    match known {
+        Some(word) => immediate(op, rd, rs, word),
+        None => None,
+    }
+}
+
+// The same with the known operand on the left.
+fn turned_immediate_of(op: Op, rd: Reg, rt: Reg, known: Option<u32>) -> Option<Plain>
+    ensures { result ≡ turned_immediate_of op rd rt known }
+{
+    if is_symmetric(op) {
+        immediate_of(op, rd, rt, known)
+    } else {
+        None
+    }
+}
+
+// A word on the left of a test that is then turned.
+fn turned_less_of(op: Op, rd: Reg, rt: Reg, known: Option<u32>) -> Option<Plain>
+    ensures { result ≡ turned_less_of op rd rt known }
+{
+    match op {
+        Op::LeS => immediate_of(Op::LtS, rd, rt, known),
+        Op::LeU => immediate_of(Op::LtU, rd, rt, known),
+        _ => None,
+    }
+}
+
+// An operator whose right operand isn't in the instruction.
+fn emit_by_less(
+    code: &mut Vec<Plain>,
+    op: Op,
+    rd: Reg,
+    less: Option<Plain>,
+    x: &Source,
+    y: &Source,
+) -> Result<(), AllocError>
+    requires left { FitsSource x.now }
+    requires right { FitsSource y.now }
+    ensures { OnOk result (code.new.items ≡ code.old.items ++ code_by_less op rd less x.now y.now) }
+{
+    if let Some(inst) = less {
+        emit_fetch(code, register(2), y)?;
+        code.push(inst)?;
+        code.push(Plain::Logic {
+            op: LogicOp::Xori,
+            rt: rd,
+            rs: rd,
+            imm: 1,
+        })?;
+        return Ok(());
+    }
+    emit_fetch(code, register(1), x)?;
+    emit_fetch(code, register(2), y)?;
+    emit_operation(code, op, rd, seat(register(1), x), seat(register(2), y))?;
+    Ok(())
+}
+
+/// An operator into a register, from operands and what is known of them; an Err is refused memory.
+pub(crate) fn emit_op(
+    code: &mut Vec<Plain>,
+    op: Op,
+    rd: Reg,
+    left: Option<u32>,
+    right: Option<u32>,
+    x: &Source,
+    y: &Source,
+) -> Result<(), AllocError>
+    requires left { FitsSource x.now }
+    requires right { FitsSource y.now }
+    ensures { OnOk result (code.new.items ≡ code.old.items ++ op_code op rd left right x.now y.now) }
+{
+    if let Some(inst) = immediate_of(op, rd, seat(register(1), x), right) {
+        emit_fetch(code, register(1), x)?;
+        code.push(inst)?;
+        return Ok(());
+    }
+    let rt = seat(register(2), y);
+    if let Some(inst) = turned_immediate_of(op, rd, rt, left) {
+        emit_fetch(code, register(2), y)?;
+        code.push(inst)?;
+        return Ok(());
+    }
+    emit_by_less(code, op, rd, turned_less_of(op, rd, rt, left), x, y)?;
+    Ok(())
+}

@@ -1,0 +1,111 @@
+// Operands into registers, and results into locations.
+
+ghost use Rattle.std.specs.Prelude.{◌≡◌, ◌++◌, OnOk};
+ghost use Rattle.mips_emit.specs.Locations.{FitsPlace, FitsSource};
+ghost use Rattle.mips_emit.specs.Code.{fetch, seat, bring, into, finish, put_at};
+
+use crate::constant::{emit_li, emit_load_word, emit_move, emit_store_word};
+use crate::location::{Location, Source, register};
+use mips_isa::{NonzeroReg, Plain, Reg};
+use std::alloc::AllocError;
+
+/// What stands before an operand is used; an Err is refused memory.
+pub fn emit_fetch(code: &mut Vec<Plain>, t: NonzeroReg, x: &Source) -> Result<(), AllocError>
+    requires { FitsSource x.now }
+    ensures { OnOk result (code.new.items ≡ code.old.items ++ fetch t x.now) }
+{
+    match x {
+        Source::Zero => {}
+        Source::Word(word) => emit_li(code, t.reg(), *word)?,
+        Source::From(location) => match location {
+            Location::Held(_) => {}
+            Location::InSlot(k) => emit_load_word(code, t, 4 * *k)?,
+        },
+    }
+    Ok(())
+}
+
+/// The register that shows an operand then.
+pub fn seat(t: NonzeroReg, x: &Source) -> Reg
+    ensures { result ≡ seat t x.now }
+{
+    match x {
+        Source::Zero => Reg::ZERO,
+        Source::Word(_) => t.reg(),
+        Source::From(location) => match location {
+            Location::Held(r) => r.reg(),
+            Location::InSlot(_) => t.reg(),
+        },
+    }
+}
+
+/// An operand into a register of its own; an Err is refused memory.
+pub(crate) fn emit_bring(code: &mut Vec<Plain>, t: NonzeroReg, x: &Source) -> Result<(), AllocError>
+    requires { FitsSource x.now }
+    ensures { OnOk result (code.new.items ≡ code.old.items ++ bring t x.now) }
+{
+    match x {
+        Source::Zero => emit_move(code, t.reg(), Reg::ZERO)?,
+        Source::Word(word) => emit_li(code, t.reg(), *word)?,
+        Source::From(location) => match location {
+            Location::Held(r) => emit_move(code, t.reg(), r.reg())?,
+            Location::InSlot(k) => emit_load_word(code, t, 4 * *k)?,
+        },
+    }
+    Ok(())
+}
+
+// The register into which a result is computed.
+pub(crate) fn into_of(t: NonzeroReg, place: Option<Location>) -> NonzeroReg
+    ensures { result ≡ into t place }
+{
+    match place {
+        None => t,
+        Some(location) => match location {
+            Location::Held(r) => r,
+            Location::InSlot(_) => t,
+        },
+    }
+}
+
+// What stands behind a result.
+pub(crate) fn emit_finish(
+    code: &mut Vec<Plain>,
+    t: NonzeroReg,
+    place: Option<Location>,
+) -> Result<(), AllocError>
+    requires { FitsPlace place }
+    ensures { OnOk result (code.new.items ≡ code.old.items ++ finish t place) }
+{
+    match place {
+        None => {}
+        Some(location) => match location {
+            Location::Held(_) => {}
+            Location::InSlot(k) => emit_store_word(code, t.reg(), 4 * k)?,
+        },
+    }
+    Ok(())
+}
+
+/// An operand into a location; an Err is refused memory.
+pub(crate) fn emit_put(
+    code: &mut Vec<Plain>,
+    place: Option<Location>,
+    x: &Source,
+) -> Result<(), AllocError>
+    requires place { FitsPlace place }
+    requires source { FitsSource x.now }
+    ensures { OnOk result (code.new.items ≡ code.old.items ++ put_at place x.now) }
+{
+    match place {
+        None => {}
+        Some(location) => match location {
+            Location::Held(r) => emit_bring(code, r, x)?,
+            Location::InSlot(k) => {
+                emit_fetch(code, register(1), x)?;
+                emit_store_word(code, seat(register(1), x), 4 * k)?;
+            }
+        },
+    }
+    Ok(())
+}

@@ -1,0 +1,148 @@
+-- Loops over blocks.
+use Rattle.std.proofs.Common.{◌≡◌, ℕ, zero, suc, ◌+◌, ◌<◌, ◌≤◌, Bool, List, [], ◌∷◌, ◌++◌, drop, get_or, length, length-append, refl, sym, ap, ap₂, ◌∙◌, arith}
+use Rattle.std.specs.Prelude.{Some, slice_get, slice_index}
+use Rattle.std.proofs.lemmas.List.{append_assoc, at_drop_more}
+use Rattle.std.proofs.lemmas.Option.{slice_get_read}
+use Rattle.mblock.specs.Parts.{BlockParts}
+use Rattle.rtl.specs.declared.block.RFunc.{RFunc}
+use Rattle.rtl.specs.declared.block.RGlobal.{RGlobal}
+use Rattle.mips_homes.specs.declared.homed.Frame.{Frame}
+use Rattle.rtl.specs.declared.block.RBlock.{RBlock}
+use Rattle.mips_select.specs.declared.heads.Naming.{Naming}
+use Rattle.mips_select.specs.declared.heads.Naming.TheVariants.{Unnamed}
+use Rattle.mips_select.specs.declared.heads.Head.{Head}
+use Rattle.mips_select.specs.Heads.{is_leaf, namings, unnamed, heads_in, heads_of, count, lead_in}
+use Rattle.mips_select.specs.Code.{head_code, own_block}
+use Rattle.mips_select.specs.Whole.{size_of_blocks, numbers, next_of, behind, blocks_from, place_in, lead_blocks, function_blocks, function_size}
+use Rattle.mips_select.specs.Whole.{functions_size, functions_blocks}
+use Rattle.mips_select.proofs.Linked.{function_length}
+
+-- one more block that nothing names
+pub unnamed_more : (blocks : List RBlock) (i : ℕ) (table table' all : List Naming) → i < length blocks → table' ≡ table ++ Unnamed ∷ []
+    → table ++ unnamed (drop i blocks) ≡ all → table' ++ unnamed (drop (i + 1) blocks) ≡ all
+unnamed_more blocks i table table' all within e before =
+    ap (λ l. l ++ unnamed (drop (i + 1) blocks)) e ∙ append_assoc table (Unnamed ∷ []) (unnamed (drop (i + 1) blocks))
+    ∙ ap (λ l. table ++ l) (drops blocks i within) ∙ before
+  where
+    drops : (blocks : List RBlock) (i : ℕ) → i < length blocks → Unnamed ∷ unnamed (drop (i + 1) blocks) ≡ unnamed (drop i blocks)
+    drops [] i lt = absurd (omega (arith, lt))
+    drops (b ∷ bs) zero lt = refl
+    drops (b ∷ bs) (suc i) lt = (let next : suc i + 1 ≡ suc (i + 1) = omega arith in ap (λ n. Unnamed ∷ unnamed (drop n (b ∷ bs))) next)
+        ∙ drops bs i (omega (arith, lt))
+
+pub read_at : {A : Type 0} (xs : List A) (i : ℕ) (x : A) → i < length xs → x ≡ get_or xs i x → slice_get xs i ≡ Some x
+read_at xs i x lt is = slice_get_read xs (length xs) i x refl lt is
+
+-- one more block
+pub block_room : (heads : ℕ → Head) (k i bound : ℕ) (blocks : List RBlock) (b : RBlock) → i < length blocks → b ≡ get_or blocks i b
+    → k + size_of_blocks heads (drop i blocks) ≤ bound → k + count heads b.exit ≤ bound
+block_room heads k i bound blocks b within b_is le =
+    let e = at_drop_more (size_of_blocks heads) blocks i b within in
+    let one = ap (λ (b : RBlock). count heads b.exit) b_is in
+    omega (arith, e, one, le)
+
+pub blocks_step : (globals : List RGlobal) (starts entry place : ℕ → ℕ) (leaf : Bool) (heads : ℕ
+    → Head) (f : Frame) (n k c i bound : ℕ) (blocks : List RBlock) (b : RBlock) (out out' all : List BlockParts) → c ≡ count heads b.exit
+    → i < length blocks → b ≡ get_or blocks i b
+    → out' ≡ out ++ own_block globals starts entry place leaf f (head_code leaf f n (heads i)) (next_of heads place k b.exit) b ∷ behind heads place f b.exit
+    → (k + size_of_blocks heads (drop i blocks) ≤ bound) × (out ++ blocks_from globals starts entry place leaf heads f n k i (drop i blocks) ≡ all)
+    → (k + c + size_of_blocks heads (drop (i + 1) blocks) ≤ bound) × (out' ++ blocks_from globals starts entry place leaf heads f n (k + c) (i + 1)
+    (drop (i + 1) blocks) ≡ all)
+blocks_step globals starts entry place leaf heads f n k c i bound blocks b out out' all c_is within b_is e before =
+    let rest = drop (i + 1) blocks in
+    let next_i : i + 1 ≡ suc i = omega arith in
+    let size = at_drop_more (size_of_blocks heads) blocks i b within in
+    let one = ap (λ (b : RBlock). count heads b.exit) b_is in
+    let room = before.0 in
+    let first = own_block globals starts entry place leaf f (head_code leaf f n (heads i)) (next_of heads place k b.exit) b in (
+      omega (arith, room, size, one, c_is),
+      ap (λ l. l ++ blocks_from globals starts entry place leaf heads f n (k + c) (i + 1) rest) e
+          ∙ append_assoc out (first ∷ behind heads place f b.exit) (blocks_from globals starts entry place leaf heads f n (k + c) (i + 1) rest)
+          ∙ ap (λ c. out ++ first ∷ (behind heads place f b.exit ++ blocks_from globals starts entry place leaf heads f n (k + c) (i + 1) rest)) c_is
+          ∙ ap (λ j. out ++ first ∷ (behind heads place f b.exit ++ blocks_from globals starts entry place leaf heads f n (k + count heads b.exit) j rest))
+          next_i
+          ∙ ap (λ (b : RBlock). out ++ blocks_from globals starts entry place leaf heads f n k i (b ∷ rest)) b_is
+          ∙ sym (at_drop_more (λ bs. out ++ blocks_from globals starts entry place leaf heads f n k i bs) blocks i b within)
+          ∙ before.1,
+    )
+
+-- a function, from the parts of what was made
+pub function_made : (globals : List RGlobal) (starts entry : ℕ → ℕ) (k : ℕ) (func : RFunc) (f : Frame) (leaf : Bool) (blocks : List RBlock)
+    (table table' : List Naming) (places numbers' : List ℕ) (m first : ℕ) (head : Head) (out out1 out2 : List BlockParts)
+    → blocks ≡ func.blocks.items → leaf ≡ is_leaf blocks → table ≡ namings blocks (unnamed blocks) → table' ≡ table → first ≡ lead_in (heads_in table')
+    → numbers' ≡ numbers (heads_in table') (k + first) blocks → places ≡ numbers'
+    → head ≡ heads_in table' 0 → m ≡ slice_index places 0 → out1 ≡ out ++ lead_blocks leaf head f func.parameters m
+    → out2 ≡ out1 ++ blocks_from globals starts entry (λ b. slice_index places b) leaf (heads_in table') f func.parameters (k + first) 0 blocks
+    → out2 ≡ out ++ function_blocks globals starts entry k func f
+function_made globals starts entry k func f leaf blocks table table' places numbers' m first head out out1 out2 is leaf_is t_is t' first_is n_is p_is head_is
+    m_is e1 e2 =
+    let bs = func.blocks.items in
+    let heads : heads_in table' ≡ heads_of func.blocks.items = ap heads_in (t' ∙ t_is) ∙ ap (λ bs. heads_of bs) is in
+    let start : k + first ≡ k + lead_in (heads_of func.blocks.items) = ap (λ n. k + n) (first_is ∙ ap lead_in heads) in
+    let place : (λ b. slice_index places b) ≡ place_in k func.blocks.items = ap (λ (l : List ℕ). λ b. slice_index l b) (p_is ∙ n_is
+    ∙ ap (λ h. numbers h (k + first) blocks) heads ∙ ap (λ n. numbers (heads_of func.blocks.items) n blocks) start
+    ∙ ap (numbers (heads_of func.blocks.items) (k + lead_in (heads_of func.blocks.items))) is) in
+    let n = func.parameters in
+    let L : leaf ≡ is_leaf func.blocks.items = leaf_is ∙ ap is_leaf is in
+    let lead : lead_blocks leaf head f n m ≡ lead_blocks (is_leaf func.blocks.items) (heads_of func.blocks.items 0) f n (place_in k func.blocks.items 0) =
+    ap (λ leaf. lead_blocks leaf head f n m) L ∙ ap₂ (λ x m. lead_blocks (is_leaf func.blocks.items) x f n m) (head_is ∙ ap (λ h. h 0) heads) (m_is
+    ∙ ap (λ (p : ℕ → ℕ). p 0) place) in
+    let body : blocks_from globals starts entry (λ b. slice_index places b) leaf (heads_in table') f n (k + first) 0 blocks
+    ≡ blocks_from globals starts entry (place_in k func.blocks.items) (is_leaf func.blocks.items) (heads_of func.blocks.items) f n
+    (k + lead_in (heads_of func.blocks.items)) 0 func.blocks.items =
+    ap (λ leaf. blocks_from globals starts entry (λ b. slice_index places b) leaf (heads_in table') f n (k + first) 0 blocks) L
+    ∙ ap₂ (λ p h. blocks_from globals starts entry p (is_leaf func.blocks.items) h f n (k + first) 0 blocks) place heads
+    ∙ ap₂ (λ m bs. blocks_from globals starts entry (place_in k' func.blocks.items) (is_leaf func.blocks.items) (heads_of func.blocks.items) f n m 0 bs)
+    start is in
+    e2 ∙ ap₂ (λ a b. a ++ b) (e1 ∙ ap (λ l. out ++ l) lead) body
+    ∙ append_assoc out (lead_blocks (is_leaf func.blocks.items) (heads_of func.blocks.items 0) f n (place_in k func.blocks.items 0))
+    (blocks_from globals starts entry (place_in k func.blocks.items) (is_leaf func.blocks.items) (heads_of func.blocks.items) f n
+    (k + lead_in (heads_of func.blocks.items)) 0 func.blocks.items)
+  where
+    k' : ℕ
+    k' = k
+
+-- room for the blocks of a function, and behind what stands before them
+pub function_room : (k first bound : ℕ) (func : RFunc) (blocks : List RBlock) (table table' : List Naming) → blocks ≡ func.blocks.items
+    → table ≡ namings blocks (unnamed blocks) → table' ≡ table → first ≡ lead_in (heads_in table') → k + function_size func ≤ bound
+    → k + first + size_of_blocks (heads_in table') blocks ≤ bound
+function_room k first bound func blocks table table' is t_is t' first_is le =
+    let heads : heads_in table' ≡ heads_of func.blocks.items = ap heads_in (t' ∙ t_is) ∙ ap (λ bs. heads_of bs) is in
+    let lead = first_is ∙ ap lead_in heads in
+    let size = ap₂ size_of_blocks heads is in
+    omega (arith, lead, size, le)
+
+-- one more function
+pub functions_room : (out i bound : ℕ) (funcs : List RFunc) (func : RFunc) → i < length funcs → func ≡ get_or funcs i func
+    → out + functions_size (drop i funcs) ≡ 2 + functions_size funcs → 2 + functions_size funcs ≤ bound → out + function_size func ≤ bound
+functions_room out i bound funcs func within func_is same le =
+    let e = at_drop_more functions_size funcs i func within in
+    let one = ap (λ (f : RFunc). function_size f) func_is in
+    omega (arith, e, one, same, le)
+
+pub functions_step : (globals : List RGlobal) (starts entry : ℕ → ℕ) (i total : ℕ) (funcs : List RFunc) (fs : List Frame) (func : RFunc) (f : Frame)
+    (out out' all : List BlockParts) (k : ℕ) → i < length funcs → length fs ≡ length funcs → func ≡ get_or funcs i func → f ≡ get_or fs i f → k ≡ length out
+    → out' ≡ out ++ function_blocks globals starts entry k func f
+    → (length out + functions_size (drop i funcs) ≡ total) × (out ++ functions_blocks globals starts entry (length out) (drop i funcs) (drop i fs) ≡ all)
+    → (length out' + functions_size (drop (i + 1) funcs) ≡ total) × (out' ++ functions_blocks globals starts entry (length out') (drop (i + 1) funcs)
+    (drop (i + 1) fs) ≡ all)
+functions_step globals starts entry i total funcs fs func f out out' all k within same func_is f_is k_is e before =
+    let funcs' = drop (i + 1) funcs in
+    let fs' = drop (i + 1) fs in
+    let size = at_drop_more functions_size funcs i func within in
+    let one = ap (λ (f : RFunc). function_size f) func_is in
+    let made : out' ≡ out ++ function_blocks globals starts entry (length out) func f = e
+    ∙ ap (λ k. out ++ function_blocks globals starts entry k func f) k_is in
+    let long : length out' ≡ length out + function_size func = ap length made ∙ length-append out (function_blocks globals starts entry (length out) func f)
+    ∙ ap (λ n. length out + n) (function_length globals starts entry (length out) func f) in
+    let count = before.0 in (
+      omega (arith, long, size, one, count),
+      ap₂ (λ l k. l ++ functions_blocks globals starts entry k funcs' fs') made long
+          ∙ append_assoc out (function_blocks globals starts entry (length out) func f)
+          (functions_blocks globals starts entry (length out + function_size func) funcs' fs')
+          ∙ ap (λ (func : RFunc). out ++ functions_blocks globals starts entry (length out) (func ∷ funcs') (f ∷ fs')) func_is
+          ∙ ap (λ (f : Frame). out ++ functions_blocks globals starts entry (length out) (get_or funcs i func ∷ funcs') (f ∷ fs')) f_is
+          ∙ sym (at_drop_more (λ l. out ++ functions_blocks globals starts entry (length out) l (get_or fs i f ∷ fs')) funcs i func within)
+          ∙ sym (at_drop_more (λ l. out ++ functions_blocks globals starts entry (length out) (drop i funcs) l) fs i f (omega (arith, within, same)))
+          ∙ before.1,
+    )

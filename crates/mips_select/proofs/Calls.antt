@@ -1,0 +1,341 @@
+-- What a prologue and an epilogue do.
+use Rattle.std.proofs.Common.{◌≡◌, ◌≢◌, ℕ, pos, negsuc, zero, suc, ◌+◌, ◌-◌, ◌*◌, ◌%◌, ◌<◌, ◌≤◌, ◌⊎◌, inl, inr, Bool, true, false, List, [], ◌∷◌}
+use Rattle.std.proofs.Common.{◌++◌, map, length, length-append, Option, Some, None, refl, sym, ap, ◌∙◌, subst, arith, nat_eq, true≢false, eqb-true}
+use Rattle.std.proofs.Common.{eq-eqb, ne_eqb, ◌||◌}
+use Rattle.std.specs.Prelude.{if◌then◌else◌, slice_get}
+use Rattle.std.proofs.lemmas.Bool.{eqb-false}
+use Rattle.std.proofs.lemmas.Option.{same_Some, none-some}
+use Rattle.words.specs.declared.operator.Operator.TheVariants.{Addu}
+use Rattle.words.specs.declared.width.Width.TheVariants.{Word}
+use Rattle.words.specs.Operators.{op_value}
+use Rattle.runs.specs.Stores.{Places, unset_places, Arrays}
+use Rattle.mips_isa.specs.declared.inst.ImmOp.TheVariants.{Addiu}
+use Rattle.mips_isa.specs.declared.inst.Plain.{Plain}
+use Rattle.mips_isa.specs.declared.inst.Plain.TheVariants.{Imm}
+use Rattle.mips_isa.specs.States.{State, IsWords, read, put}
+use Rattle.mips_isa.specs.Starting.{stack_base, stack_end}
+use Rattle.mips_isa.specs.Actions.{action_of}
+use Rattle.mblock.proofs.StateWords.{run_words}
+use Rattle.rtl.specs.declared.block.RGlobal.{RGlobal}
+use Rattle.mips_homes.specs.HomedRun.{Activation, is_in, registers_at_entry, registers_at_return}
+use Rattle.mips_homes.specs.declared.homed.Frame.{Frame}
+use Rattle.mips_emit.specs.declared.limits.TheConstants.{FRAME_BYTES}
+use Rattle.mips_emit.specs.Frames.{link_words, IsFrame}
+use Rattle.mips_emit.specs.Elements.{width_of, place_in, address_of_place}
+use Rattle.mips_emit.proofs.Runs.{RunsTo, runs_none, runs_then}
+use Rattle.mips_emit.proofs.View.{word_at, put_here, put_other, IsTarget, sum_value, word_of_offset}
+use Rattle.mips_emit.proofs.Stands.{Stored, StackHolds, stack_same, stack_top, Linked, Stands}
+use Rattle.mips_emit.proofs.Homes.{stack_apart}
+use Rattle.mips_select.specs.Code.{frame_bytes, saves, restores, link_save, link_load, lowers, raises, epilogue}
+use Rattle.mips_select.proofs.Frames.{InStack, AreKept, saves_run, restores_run}
+use Rattle.mips_select.proofs.Emitted.{kept, kept_saves, kept_restores}
+
+abbrev pub stored_frame : Bool → Frame → Places → Places → ℕ → Stored
+stored_frame leaf f slots aside link = record { leaf = leaf; count = f.slots; saved = f.saved.items; slots = slots; aside = aside; link = link }
+
+-- the frames of waiting activations, with their links
+abbrev pub frames_of : List Activation → List ℕ → List Stored
+frames_of [] ls = []
+frames_of (a ∷ rest) [] = []
+frames_of (a ∷ rest) (l ∷ ls) = stored_frame false a.frame a.slots a.aside l ∷ frames_of rest ls
+
+pub linked_frames : (ws : List Activation) (ls : List ℕ) (x : ℕ) → Linked (frames_of ws ls) x
+linked_frames [] ls x = tt
+linked_frames (a ∷ ws) [] x = tt
+linked_frames (a ∷ ws) (l ∷ ls) x = λ leaf. absurd (true≢false (sym leaf))
+
+in_list : (xs : List ℕ) (q : ℕ) → is_in xs q ≡ true → (j : ℕ) × (slice_get xs j ≡ Some q)
+in_list [] q e = absurd (true≢false (sym e))
+in_list (x ∷ xs) q e = go (nat_eq q x) refl e (λ e. in_list xs q e)
+  where
+    go : (b : Bool) → nat_eq q x ≡ b → (b || is_in xs q) ≡ true → (is_in xs q ≡ true → (j : ℕ) × (slice_get xs j ≡ Some q))
+        → (j : ℕ) × (slice_get (x ∷ xs) j ≡ Some q)
+    go true t e rest = (0, ap Some (sym (eqb-true q x t)))
+    go false t e rest = let r = rest e in (suc r.0, r.1)
+
+no_register : (xs : List ℕ) (q : ℕ) → ((j r : ℕ) → slice_get xs j ≡ Some r → r ≢ q) → is_in xs q ≡ false
+no_register xs q ne = go (is_in xs q) refl
+  where
+    go : (b : Bool) → is_in xs q ≡ b → is_in xs q ≡ false
+    go false e = e
+    go true e = let at = in_list xs q e in absurd (ne at.0 q at.1 refl)
+
+-- the last of a list
+last_or : (xs : List ℕ) (x j r : ℕ) → slice_get (xs ++ x ∷ []) j ≡ Some r → (slice_get xs j ≡ Some r) ⊎ ((j ≡ length xs) × (r ≡ x))
+last_or [] x zero r e = inr (refl, sym (same_Some x r e))
+last_or [] x (suc j) r e = absurd (none-some r e)
+last_or (y ∷ xs) x zero r e = inl e
+last_or (y ∷ xs) x (suc j) r e = go (last_or xs x j r e)
+  where
+    go : (slice_get xs j ≡ Some r) ⊎ ((j ≡ length xs) × (r ≡ x)) → (slice_get (y ∷ xs) (suc j) ≡ Some r) ⊎ ((suc j ≡ length (y ∷ xs)) × (r ≡ x))
+    go (inl e) = inl e
+    go (inr e) = inr (ap suc e.0, e.1)
+
+get_last : (xs : List ℕ) (x : ℕ) → slice_get (xs ++ x ∷ []) (length xs) ≡ Some x
+get_last [] x = refl
+get_last (y ∷ xs) x = get_last xs x
+
+get_front : (xs : List ℕ) (x j r : ℕ) → slice_get xs j ≡ Some r → slice_get (xs ++ x ∷ []) j ≡ Some r
+get_front [] x j r e = absurd (none-some r e)
+get_front (y ∷ xs) x zero r e = e
+get_front (y ∷ xs) x (suc j) r e = get_front xs x j r e
+
+front_in : (xs : List ℕ) (x q : ℕ) (b : Bool) → is_in xs q ≡ b → q ≢ x → is_in (xs ++ x ∷ []) q ≡ b
+front_in [] x q b e ne = ap (λ c. c || false) (ne_eqb q x ne) ∙ e
+front_in (y ∷ xs) x q b e ne = go (nat_eq q y) e (λ e. front_in xs x q b e ne)
+  where
+    go : (c : Bool) → (c || is_in xs q) ≡ b → (is_in xs q ≡ b → is_in (xs ++ x ∷ []) q ≡ b) → (c || is_in (xs ++ x ∷ []) q) ≡ b
+    go true e rest = e
+    go false e rest = rest e
+
+last_in : (xs : List ℕ) (x : ℕ) → is_in (xs ++ x ∷ []) x ≡ true
+last_in [] x = ap (λ c. c || false) (eq-eqb x x refl)
+last_in (y ∷ xs) x = go (nat_eq x y) (last_in xs x)
+  where
+    go : (c : Bool) → is_in (xs ++ x ∷ []) x ≡ true → (c || is_in (xs ++ x ∷ []) x) ≡ true
+    go true e = refl
+    go false e = e
+
+module _ (most : ℕ) (f : Frame) (ok : IsFrame most f) where
+  kept_case : (leaf : Bool) (j r : ℕ) → slice_get (kept leaf f) j ≡ Some r → (slice_get f.saved.items j ≡ Some r) ⊎ ((j ≡ length f.saved.items) × (r ≡ 31))
+  kept_case true j r there = inl there
+  kept_case false j r there = last_or f.saved.items 31 j r there
+
+  kept_ok : (leaf : Bool) → AreKept (kept leaf f)
+  kept_ok leaf j r there = go (kept_case leaf j r there)
+    where
+      go : (slice_get f.saved.items j ≡ Some r) ⊎ ((j ≡ length f.saved.items) × (r ≡ 31)) → (0 < r) × (r < 32) × (r ≢ 29)
+      go (inl e) = let range = ok.saved j r e in (omega (arith, range.0), omega (arith, range.1), λ e. absurd (omega (arith, e, range.1)))
+      go (inr e) = let is = e.1 in (omega (arith, is), omega (arith, is), λ e. absurd (omega (arith, e, is)))
+
+  -- registers that no function saves
+  saved_other : (q : ℕ) → (q < 16) ⊎ (24 ≤ q) → is_in f.saved.items q ≡ false
+  saved_other q (inl lt) = no_register f.saved.items q (λ j r there. let range = ok.saved j r there in λ e. absurd (omega (arith, e, range.0, lt)))
+  saved_other q (inr le) = no_register f.saved.items q (λ j r there. let range = ok.saved j r there in λ e. absurd (omega (arith, e, range.1, le)))
+
+  kept_in : (leaf : Bool) (q : ℕ) (b : Bool) → is_in f.saved.items q ≡ b → q ≢ 31 → is_in (kept leaf f) q ≡ b
+  kept_in true q b e ne = e
+  kept_in false q b e ne = front_in f.saved.items 31 q b e ne
+
+  kept_front : (leaf : Bool) (j r : ℕ) → slice_get f.saved.items j ≡ Some r → slice_get (kept leaf f) j ≡ Some r
+  kept_front true j r e = e
+  kept_front false j r e = get_front f.saved.items 31 j r e
+
+  kept_length : (leaf : Bool) → length (kept leaf f) ≡ length f.saved.items + link_words leaf
+  kept_length true = omega arith
+  kept_length false = length-append f.saved.items (31 ∷ [])
+
+  bytes_fit : (leaf : Bool) → frame_bytes leaf f ≤ most
+  bytes_fit true = (let fits = ok.fits in omega (arith, fits))
+  bytes_fit false = ok.fits
+
+cleared_some : (b : Bool) (o : Option ℕ) (v : ℕ) → (if b then None else o) ≡ Some v → o ≡ Some v
+cleared_some true o v e = absurd (none-some v e)
+cleared_some false o v e = e
+
+-- the stack pointer goes down and up
+record Shifted (is : List Plain) (s : State) (p : ℕ) : Type 0 where
+  regs : ℕ → ℕ
+  runs : RunsTo is s (record s { regs = regs })
+  pointer : regs 29 ≡ p
+  others : (q : ℕ) → q ≢ 29 → regs q ≡ s.regs q
+
+t29 : IsTarget 29
+t29 = record { low = omega arith; high = omega arith }
+
+lowered : (s : State) (n : ℕ) → n ≤ FRAME_BYTES → n ≤ s.regs 29 → s.regs 29 ≤ stack_end → Shifted (lowers n) s (s.regs 29 - n)
+lowered s n few le up = go (nat_eq n 0) refl
+  where
+    go : (b : Bool) → nat_eq n 0 ≡ b → Shifted (if b then [] else Imm Addiu 29 29 (negsuc (n - 1)) ∷ []) s (s.regs 29 - n)
+    go true e = (let none = eqb-true n 0 e in record { regs = s.regs; runs = runs_none s; pointer = omega (arith, none); others = λ q ne. refl })
+    go false e =
+        let some : n ≢ 0 = eqb-false n 0 e in
+        let v = op_value Addu (read 0 s.regs 29) (word_of_offset (negsuc (n - 1))) in
+        record {
+          regs = put s.regs 29 v;
+          runs = record { ends = refl };
+          pointer = put_here s.regs 29 v t29 ∙ sum_value (s.regs 29) (word_of_offset (negsuc (n - 1))) ∙ omega (arith, some, few, le, up);
+          others = λ q ne. put_other s.regs 29 v q ne;
+        }
+
+raised : (s : State) (n : ℕ) → n ≤ FRAME_BYTES → s.regs 29 + n ≤ stack_end → Shifted (raises n) s (s.regs 29 + n)
+raised s n few up = go (nat_eq n 0) refl
+  where
+    go : (b : Bool) → nat_eq n 0 ≡ b → Shifted (if b then [] else Imm Addiu 29 29 (pos n) ∷ []) s (s.regs 29 + n)
+    go true e = (let none = eqb-true n 0 e in record { regs = s.regs; runs = runs_none s; pointer = omega (arith, none); others = λ q ne. refl })
+    go false e =
+        let v = op_value Addu (read 0 s.regs 29) (word_of_offset (pos n)) in
+        record {
+          regs = put s.regs 29 v;
+          runs = record { ends = refl };
+          pointer = put_here s.regs 29 v t29 ∙ sum_value (s.regs 29) (word_of_offset (pos n)) ∙ omega (arith, few, up);
+          others = λ q ne. put_other s.regs 29 v q ne;
+        }
+
+module _ (most total : ℕ) (gs : List RGlobal) (starts : ℕ → ℕ) (small : most ≤ FRAME_BYTES) where
+  -- what a prologue leaves, before the parameters go to their homes
+  pub record Entered (r : Places) (g : Arrays) (fs : List Stored) (s : State) (leaf : Bool) (f : Frame) (link : ℕ) : Type 0 where
+    pub to : State
+    pub runs : RunsTo (lowers (frame_bytes leaf f) ++ (saves (4 * f.slots) f.saved.items ++ link_save leaf f)) s to
+    pub same : (q : ℕ) → q < 16 → to.regs q ≡ s.regs q
+    pub stands : Stands most total gs starts (registers_at_entry f.saved.items r) g (stored_frame leaf f unset_places r link ∷ fs) to
+
+  pub enters : (r : Places) (g : Arrays) (fs : List Stored) (s : State) (leaf : Bool) (f : Frame) (link : ℕ) → IsFrame most f → s.regs 31 ≡ link
+      → stack_base + most ≤ s.regs 29 → Stands most total gs starts r g fs s → Entered r g fs s leaf f link
+  enters r g fs s leaf f link ok is_link room h =
+      let up = stack_top most (word_at s) (s.regs 29) fs h.stack in
+      let size = frame_bytes leaf f in
+      let fits = bytes_fit most f ok leaf in
+      let low = lowered s (frame_bytes leaf f) (omega (arith, fits, small)) (omega (arith, fits, room)) up in
+      let s1 : State = record s { regs = low.regs } in
+      let v = low.regs 29 in
+      let v_is = low.pointer in
+      let down : low.regs 29 + frame_bytes leaf f ≡ s.regs 29 = omega (arith, v_is, fits, room) in
+      let a4 = h.aligned in
+      let size4 : frame_bytes leaf f % 4 ≡ 0 = omega arith in
+      let v4 : low.regs 29 % 4 ≡ 0 = omega (arith, down, a4, size4) in
+      let words1 : IsWords s1 = run_words (map action_of (lowers (frame_bytes leaf f))) s s1 h.words (low.runs).ends in
+      let in_stack : InStack total v (frame_bytes leaf f) s1 = record {
+        pointer = refl;
+        mapped = h.mapped;
+        words = words1;
+        aligned = v4;
+        low = omega (arith, down, room, fits);
+        high = omega (arith, down, up);
+      } in
+      let long = kept_length most f ok leaf in
+      let saved = saves_run total v (frame_bytes leaf f) (4 * f.slots) (kept leaf f) s1 (kept_ok most f ok leaf) (omega arith) (omega (arith, long)) in_stack in
+      let to : State = record s1 { memory = saved.memory } in
+      let saves' : RunsTo (saves (4 * f.slots) f.saved.items ++ link_save leaf f) s1 to = subst (λ is. RunsTo is s1 to) (sym (kept_saves leaf f)) saved.runs in
+      record {
+        to = to;
+        runs = runs_then low.runs saves';
+        same = λ q lt. low.others q (omega (arith, lt));
+        stands = record {
+          words = saved.words;
+          mapped = h.mapped;
+          held = λ q w ql qh at. low.others q (omega (arith, qh)) ∙ h.held q w ql qh (cleared_some (is_in f.saved.items q) (r q) w at);
+          stack = (
+            record {
+              slots = λ k w low at. absurd (none-some w at);
+              aside = λ j q w there at.
+                  let range = ok.saved j q there in
+                  let place : low.regs 29 + 4 * (f.slots + j) ≡ low.regs 29 + 4 * f.slots + 4 * j = omega arith in
+                  ap (word_at to) place ∙ saved.here j q (kept_front most f ok leaf j q there) ∙ low.others q (λ e. absurd (omega (arith, e, range.1)))
+                  ∙ h.held q w range.0 range.1 at;
+              link = λ calls.
+                  let place : low.regs 29 + 4 * (f.slots + length f.saved.items) ≡ low.regs 29 + 4 * f.slots + 4 * length f.saved.items = omega arith in
+                  ap (word_at to) place ∙ saved.here (length f.saved.items) 31 (ap (λ leaf. slice_get (kept leaf f) (length f.saved.items)) calls
+                  ∙ get_last f.saved.items 31) ∙ low.others 31 (λ e. absurd (omega (arith, e))) ∙ is_link;
+              fits = fits;
+            },
+            subst (λ p. StackHolds most (word_at to) p fs) (sym down)
+                (stack_same most (word_at s) (word_at to) (s.regs 29) fs (λ b le. saved.others Word b
+                (λ j lt e. absurd (omega (arith, le, e, lt, down, long)))) h.stack),
+          );
+          room = omega (arith, down, room, fits);
+          aligned = v4;
+          elements = λ a i w at.
+              let inside = h.inside a i w at in
+              let few = h.few in
+              saved.others (width_of gs a) (address_of_place (place_in gs starts a i))
+              (λ j lt. stack_apart (width_of gs a) (low.regs 29 + 4 * f.slots + 4 * j) (place_in gs starts a i) total (omega (arith, down, room, fits))
+              (omega (arith, lt, long, down, up)) inside few)
+              ∙ h.elements a i w at;
+          inside = h.inside;
+          apart = h.apart;
+          even = h.even;
+          few = h.few;
+          linked = λ _. low.others 31 (λ e. absurd (omega (arith, e))) ∙ is_link;
+          gp = low.others 28 (λ e. absurd (omega (arith, e))) ∙ h.gp;
+        };
+      }
+
+  -- what an epilogue leaves
+  pub record Left (r : Places) (g : Arrays) (fs : List Stored) (s : State) (leaf : Bool) (f : Frame) (aside : Places) (link : ℕ) : Type 0 where
+    pub to : State
+    pub runs : RunsTo (epilogue leaf f) s to
+    pub same : (q : ℕ) → q < 16 → to.regs q ≡ s.regs q
+    pub link_is : to.regs 31 ≡ link
+    pub stands : Stands most total gs starts (registers_at_return f.saved.items aside r) g fs to
+
+  pub leaves_frame : (r : Places) (g : Arrays) (fs : List Stored) (s : State) (leaf : Bool) (f : Frame) (slots aside : Places) (link : ℕ) → IsFrame most f
+      → ((x : ℕ) → Linked fs x) → Stands most total gs starts r g (stored_frame leaf f slots aside link ∷ fs) s → Left r g fs s leaf f aside link
+  leaves_frame r g fs s leaf f slots aside link ok linked h =
+      let up = stack_top most (word_at s) (s.regs 29 + frame_bytes leaf f) fs h.stack.1 in
+      let fits = bytes_fit most f ok leaf in
+      let low = h.room in
+      let a4 = h.aligned in
+      let long = kept_length most f ok leaf in
+      let in_stack : InStack total (s.regs 29) (frame_bytes leaf f) s = record {
+        pointer = refl;
+        mapped = h.mapped;
+        words = h.words;
+        aligned = h.aligned;
+        low
+            = h.room;
+        high = up;
+      } in
+      let back = restores_run total (s.regs 29) (frame_bytes leaf f) (4 * f.slots) (kept leaf f) s (kept_ok most f ok leaf) (omega arith)
+      (omega (arith, long)) in_stack in
+      let s1 : State = record s { regs = back.regs } in
+      let restores' : RunsTo (restores (4 * f.slots) f.saved.items ++ link_load leaf f) s s1 = subst (λ is. RunsTo is s s1) (sym (kept_restores leaf f))
+      back.runs in
+      let pointer1 : back.regs 29 ≡ s.regs 29 = back.others 29 (kept_in most f ok leaf 29 false (saved_other most f ok 29 (inr (omega arith)))
+      (λ e. absurd (omega (arith, e)))) in
+      let lift = raised s1 (frame_bytes leaf f) (omega (arith, fits, small)) (omega (arith, pointer1, up)) in
+      let to : State = record s1 { regs = lift.regs } in
+      let lift_is = lift.pointer in
+      let pointer : lift.regs 29 ≡ s.regs 29 + frame_bytes leaf f = omega (arith, lift_is, pointer1) in
+      let size4 : frame_bytes leaf f % 4 ≡ 0 = omega arith in
+      record {
+        to = to;
+        runs = runs_then restores' lift.runs;
+        same = λ q lt. lift.others q (omega (arith, lt)) ∙ back.others q (kept_in most f ok leaf q false (saved_other most f ok q (inl lt))
+            (omega (arith, lt)));
+        link_is = lift.others 31 (λ e. absurd (omega (arith, e))) ∙ link_back back.regs back.others back.inside leaf refl;
+        stands = record {
+          words = run_words (map action_of (raises (frame_bytes leaf f))) s1 to back.words (lift.runs).ends;
+          mapped = h.mapped;
+          held = λ q w ql qh at. lift.others q (omega (arith, qh)) ∙ held back.regs back.others back.inside q w ql qh (is_in f.saved.items q) refl at;
+          stack = subst (λ p. StackHolds most (word_at s) p fs) (sym pointer) h.stack.1;
+          room = omega (arith, pointer, low);
+          aligned = omega (arith, pointer, a4, size4);
+          elements = h.elements;
+          inside = h.inside;
+          apart = h.apart;
+          even = h.even;
+          few = h.few;
+          linked = linked (lift.regs 31);
+          gp = lift.others 28 (λ e. absurd (omega (arith, e))) ∙ back.others 28 (kept_in most f ok leaf 28 false
+              (saved_other most f ok 28 (inr (omega arith))) (λ e. absurd (omega (arith, e)))) ∙ h.gp;
+        };
+      }
+    where
+      link_at : leaf ≡ false → (j q : ℕ) → q ≡ 31 → (slice_get f.saved.items j ≡ Some q) ⊎ ((j ≡ length f.saved.items) × (q ≡ 31))
+          → word_at s (s.regs 29 + 4 * f.slots + 4 * j) ≡ link
+      link_at calls j q is31 (inl e) = let range = ok.saved j q e in absurd (omega (arith, range.1, is31))
+      link_at calls j q is31 (inr e) =
+          let is = e.0 in
+          let place : s.regs 29 + 4 * f.slots + 4 * j ≡ s.regs 29 + 4 * (f.slots + length f.saved.items) = omega (arith, is) in
+          ap (word_at s) place ∙ (h.stack.0).link calls
+
+      -- the link comes from the frame, or was in register 31 all the time
+      link_back : (regs : ℕ → ℕ) → ((q : ℕ) → is_in (kept leaf f) q ≡ false → regs q ≡ s.regs q) → ((q v : ℕ) → is_in (kept leaf f) q ≡ true → ((j : ℕ)
+          → slice_get (kept leaf f) j ≡ Some q → word_at s (s.regs 29 + 4 * f.slots + 4 * j) ≡ v) → regs q ≡ v) → (b : Bool) → leaf ≡ b → regs 31 ≡ link
+      link_back regs others inside true is = others 31 (ap (λ leaf. is_in (kept leaf f) 31) is ∙ saved_other most f ok 31 (inr (omega arith))) ∙ h.linked is
+      link_back regs others inside false is = inside 31 link (ap (λ leaf. is_in (kept leaf f) 31) is
+          ∙ last_in f.saved.items 31) (λ j there. link_at is j 31 refl (kept_case most f ok leaf j 31 there))
+
+      held : (regs : ℕ → ℕ) → ((q : ℕ) → is_in (kept leaf f) q ≡ false → regs q ≡ s.regs q) → ((q v : ℕ) → is_in (kept leaf f) q ≡ true → ((j : ℕ)
+          → slice_get (kept leaf f) j ≡ Some q → word_at s (s.regs 29 + 4 * f.slots + 4 * j) ≡ v) → regs q ≡ v) → (q w : ℕ) → 16 ≤ q → q < 24 → (b : Bool)
+          → is_in f.saved.items q ≡ b → (if b then aside q else r q) ≡ Some w → regs q ≡ w
+      held regs others inside q w ql qh false e at = others q (kept_in most f ok leaf q false e (omega (arith, qh))) ∙ h.held q w ql qh at
+      held regs others inside q w ql qh true e at = inside q w (kept_in most f ok leaf q true e (omega (arith, qh)))
+          (λ j there. by j (kept_case most f ok leaf j q there))
+        where
+          by : (j : ℕ) → (slice_get f.saved.items j ≡ Some q) ⊎ ((j ≡ length f.saved.items) × (q ≡ 31)) → word_at s (s.regs 29 + 4 * f.slots + 4 * j) ≡ w
+          by j (inl e) =
+              let place : s.regs 29 + 4 * f.slots + 4 * j ≡ s.regs 29 + 4 * (f.slots + j) = omega arith in
+              ap (word_at s) place ∙ (h.stack.0).aside j q w e at
+          by j (inr e) = let is = e.1 in absurd (omega (arith, is, qh))

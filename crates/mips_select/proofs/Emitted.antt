@@ -1,0 +1,140 @@
+-- Facts about code that is being made.
+use Rattle.std.proofs.Common.{◌≡◌, ℕ, zero, suc, ◌+◌, ◌*◌, ◌<◌, ◌≤◌, Bool, true, false, Some, List, [], ◌∷◌, ◌++◌, length, refl, sym, ap, ap₂, ◌∙◌, arith}
+use Rattle.std.specs.Prelude.{slice_get, slice_index}
+use Rattle.std.proofs.lemmas.List.{append-nil, append_assoc}
+use Rattle.std.proofs.lemmas.Option.{slice_get-get_or}
+use Rattle.mips_isa.specs.declared.inst.Plain.{Plain}
+use Rattle.mblock.specs.declared.exit.Exit.{Exit}
+use Rattle.mblock.specs.Parts.{BlockParts}
+use Rattle.rtl.specs.declared.instruction.RInst.{RInst}
+use Rattle.rtl.specs.declared.block.RBlock.{RBlock}
+use Rattle.rtl.specs.declared.block.RGlobal.{RGlobal}
+use Rattle.mips_homes.specs.declared.homed.Frame.{Frame}
+use Rattle.mips_emit.specs.declared.facts.Fact.{Fact}
+use Rattle.mips_emit.specs.declared.facts.Last.{Last}
+use Rattle.mips_emit.specs.declared.location.Location.TheVariants.{Held}
+use Rattle.mips_emit.specs.declared.location.Source.TheVariants.{From}
+use Rattle.mips_emit.specs.Locations.{Locations, locations, Facts, learned, known_after, last_after, no_last}
+use Rattle.mips_emit.specs.Code.{load_word_at, store_word_at, put_at, inst_code, insts_code}
+use Rattle.mips_select.specs.Code.{frame_bytes, saves, restores, link_save, link_load, lowers, raises, parameters_code, prologue, epilogue, exit_code}
+use Rattle.mips_select.specs.Code.{exit_of, own_block}
+
+-- the code of some instructions stands before what comes behind them
+pub insts_behind : (globals : List RGlobal) (starts : ℕ → ℕ) (at : Locations) (facts : Facts) (is : List RInst) (behind : List Plain)
+    → insts_code globals starts at facts is [] ++ behind ≡ insts_code globals starts at facts is behind
+insts_behind globals starts at facts [] behind = refl
+insts_behind globals starts at facts (i ∷ is) behind = append_assoc (inst_code globals starts at facts i)
+    (insts_code globals starts at (learned i facts) is []) behind ∙ ap (λ l. inst_code globals starts at facts i ++ l)
+    (insts_behind globals starts at (learned i facts) is behind)
+
+-- what a frame keeps: the registers that the function saves, and the link
+abbrev pub kept : Bool → Frame → List ℕ
+kept true f = f.saved.items
+kept false f = f.saved.items ++ 31 ∷ []
+
+-- one more register is saved
+pub saves_more : (at : ℕ) (rs : List ℕ) (r : ℕ) → saves at (rs ++ r ∷ []) ≡ saves at rs ++ store_word_at r (at + 4 * length rs) ∷ []
+saves_more at [] r = (let e : at ≡ at + 4 * 0 = omega arith in ap (λ n. store_word_at r n ∷ []) e)
+saves_more at (q ∷ rs) r =
+    let e : at + 4 + 4 * length rs ≡ at + 4 * length (q ∷ rs) = omega arith in
+    ap (λ l. store_word_at q at ∷ l) (saves_more (at + 4) rs r ∙ ap (λ n. saves (at + 4) rs ++ store_word_at r n ∷ []) e)
+
+pub restores_more : (at : ℕ) (rs : List ℕ) (r : ℕ) → restores at (rs ++ r ∷ []) ≡ restores at rs ++ load_word_at r (at + 4 * length rs) ∷ []
+restores_more at [] r = (let e : at ≡ at + 4 * 0 = omega arith in ap (λ n. load_word_at r n ∷ []) e)
+restores_more at (q ∷ rs) r =
+    let e : at + 4 + 4 * length rs ≡ at + 4 * length (q ∷ rs) = omega arith in
+    ap (λ l. load_word_at q at ∷ l) (restores_more (at + 4) rs r ∙ ap (λ n. restores (at + 4) rs ++ load_word_at r n ∷ []) e)
+
+-- one more parameter
+pub parameters_more : (at : Locations) (t x n : ℕ) → parameters_code at t x (suc n) ≡ parameters_code at t x n ++ put_at (at (x + n)) (From (Held (t + n)))
+parameters_more at t x zero =
+    let et : t ≡ t + 0 = omega arith in
+    let ex : x ≡ x + 0 = omega arith in
+    append-nil (put_at (at x) (From (Held t))) ∙ ap (λ t. put_at (at x) (From (Held t))) et ∙ ap (λ x. put_at (at x) (From (Held (t + 0)))) ex
+parameters_more at t x (suc n) =
+    let et : suc t + n ≡ t + suc n = omega arith in
+    let ex : suc x + n ≡ x + suc n = omega arith in
+    ap (λ l. put_at (at x) (From (Held t)) ++ l) (parameters_more at (suc t) (suc x) n ∙ ap
+    (λ t'. parameters_code at (suc t) (suc x) n ++ put_at (at (suc x + n)) (From (Held t'))) et
+    ∙ ap (λ x'. parameters_code at (suc t) (suc x) n ++ put_at (at x') (From (Held (t + suc n)))) ex)
+    ∙ sym (append_assoc (put_at (at x) (From (Held t))) (parameters_code at (suc t) (suc x) n) (put_at (at (x + suc n)) (From (Held (t + suc n)))))
+
+pub parameters_step : (at : Locations) (x t : ℕ) (code code' start : List Plain) → code ≡ start ++ parameters_code at 4 0 x
+    → code' ≡ code ++ put_at (at x) (From (Held t)) → t ≡ 4 + x → code' ≡ start ++ parameters_code at 4 0 (x + 1)
+parameters_step at x t code code' start e f t_is =
+    let next : suc x ≡ x + 1 = omega arith in
+    let zero_x : 0 + x ≡ x = omega arith in
+    f ∙ ap (λ l. l ++ put_at (at x) (From (Held t))) e ∙ append_assoc start (parameters_code at 4 0 x) (put_at (at x) (From (Held t)))
+    ∙ ap (λ t. start ++ (parameters_code at 4 0 x ++ put_at (at x) (From (Held t)))) t_is
+    ∙ ap (λ y. start ++ (parameters_code at 4 0 x ++ put_at (at y) (From (Held (4 + x))))) (sym zero_x)
+    ∙ ap (λ l. start ++ l) (sym (parameters_more at 4 0 x)) ∙ ap (λ n. start ++ parameters_code at 4 0 n) next
+
+-- the link, behind the registers that are saved
+pub kept_saves : (leaf : Bool) (f : Frame) → saves (4 * f.slots) f.saved.items ++ link_save leaf f ≡ saves (4 * f.slots) (kept leaf f)
+kept_saves true f = append-nil (saves (4 * f.slots) f.saved.items)
+kept_saves false f = sym (saves_more (4 * f.slots) f.saved.items 31)
+
+pub kept_restores : (leaf : Bool) (f : Frame) → restores (4 * f.slots) f.saved.items ++ link_load leaf f ≡ restores (4 * f.slots) (kept leaf f)
+kept_restores true f = append-nil (restores (4 * f.slots) f.saved.items)
+kept_restores false f = sym (restores_more (4 * f.slots) f.saved.items 31)
+
+pub epilogue_made : (leaf : Bool) (f : Frame) (size : ℕ) (saved : List ℕ) (code0 code1 code2 code3 : List Plain) → size ≡ frame_bytes leaf f
+    → saved ≡ f.saved.items
+    → code1 ≡ code0 ++ restores (4 * f.slots) saved → code2 ≡ code1 ++ link_load leaf f → code3 ≡ code2 ++ raises size → code3 ≡ code0 ++ epilogue leaf f
+epilogue_made leaf f size saved code0 code1 code2 code3 size_is saved_is e1 e2 e3 =
+    let rs = restores (4 * f.slots) f.saved.items in
+    e3 ∙ ap (λ n. code2 ++ raises n) size_is
+    ∙ ap (λ l. l ++ raises (frame_bytes leaf f)) (e2 ∙ ap (λ l. l ++ link_load leaf f) (e1 ∙ ap (λ l. code0 ++ restores (4 * f.slots) l) saved_is)
+    ∙ append_assoc code0 rs (link_load leaf f))
+    ∙ append_assoc code0 (rs ++ link_load leaf f) (raises (frame_bytes leaf f))
+
+pub prologue_made : (leaf : Bool) (f : Frame) (n size : ℕ) (saved : List ℕ) (code0 code1 code2 code3 code4 : List Plain) → size ≡ frame_bytes leaf f
+    → saved ≡ f.saved.items
+    → code1 ≡ code0 ++ lowers size → code2 ≡ code1 ++ saves (4 * f.slots) saved → code3 ≡ code2 ++ link_save leaf f
+    → code4 ≡ code3 ++ parameters_code (locations f) 4 0 n → code4 ≡ code0 ++ prologue leaf f n
+prologue_made leaf f n size saved code0 code1 code2 code3 code4 size_is saved_is e1 e2 e3 e4 =
+    let ps = parameters_code (locations f) 4 0 n in
+    let ss = saves (4 * f.slots) f.saved.items in
+    let l3 : code3 ≡ code1 ++ (ss ++ link_save leaf f) = e3 ∙ ap (λ l. l ++ link_save leaf f) (e2 ∙ ap (λ l. code1 ++ saves (4 * f.slots) l) saved_is)
+    ∙ append_assoc code1 ss (link_save leaf f) in
+    e4 ∙ ap (λ l. l ++ ps) (l3 ∙ ap (λ l. l ++ (ss ++ link_save leaf f)) (e1 ∙ ap (λ n. code0 ++ lowers n) size_is))
+    ∙ append_assoc (code0 ++ lowers (frame_bytes leaf f)) (ss ++ link_save leaf f) ps
+    ∙ append_assoc code0 (lowers (frame_bytes leaf f)) ((ss ++ link_save leaf f) ++ ps)
+
+pub all_parameters : (at : Locations) (x n : ℕ) (code start : List Plain) → code ≡ start ++ parameters_code at 4 0 x → x ≤ n → n ≤ x
+    → code ≡ start ++ parameters_code at 4 0 n
+all_parameters at x n code start e up down =
+    let same : x ≡ n = omega (arith, up, down) in
+    e ∙ ap (λ n. start ++ parameters_code at 4 0 n) same
+
+-- registers that are saved can be written
+pub saved_number : (rs : List ℕ) (i : ℕ) → ((j r : ℕ) → slice_get rs j ≡ Some r → (16 ≤ r) × (r < 24)) → i < length rs
+    → (0 < slice_index rs i) × (slice_index rs i < 32)
+saved_number rs i range lt =
+    let here = range i (slice_index rs i) (slice_get-get_or rs i 0 lt) in
+    let low = here.0 in
+    let high = here.1 in
+    (omega (arith, low), omega (arith, high))
+
+-- a block, from the parts of what was made
+pub block_made : (globals : List RGlobal) (starts entry place : ℕ → ℕ) (leaf : Bool) (f : Frame) (head : List Plain) (n : ℕ) (b : RBlock)
+    (insts : List RInst) (last : Last) (facts0 facts1 facts2 : List Fact) (code0 codeh code1 code2 : List Plain) (x : Exit) (made : BlockParts)
+    → code0 ≡ [] → codeh ≡ code0 ++ head → facts0 ≡ [] → insts ≡ b.insts.items → facts2 ≡ facts1 → last ≡ last_after (locations f) facts0 insts no_last
+    → code1 ≡ codeh ++ insts_code globals starts (locations f) facts0 insts [] → facts1 ≡ known_after insts facts0
+    → code2 ≡ code1 ++ exit_code leaf f facts2 last b.exit → x ≡ exit_of entry place f facts2 last n b.exit
+    → made ≡ (let m : BlockParts = record { insts = code2; exit = x } in m) → made ≡ own_block globals starts entry place leaf f head n b
+block_made globals starts entry place leaf f head n b insts last facts0 facts1 facts2 code0 codeh code1 code2 x made e0 eh f0 is f2 new e1 ek e2 ex em =
+    let known : facts2 ≡ known_after b.insts.items [] = f2 ∙ ek ∙ ap (known_after insts) f0 ∙ ap (λ is. known_after is []) is in
+    let last_one = last_after (locations f) [] b.insts.items no_last in
+    let new' : last ≡ last_after (locations f) [] b.insts.items no_last = new ∙ ap (λ (l : List Fact). last_after (locations f) l insts no_last) f0
+    ∙ ap (λ is. last_after (locations f) [] is no_last) is in
+    let exit : x ≡ exit_of entry place f (known_after b.insts.items []) last_one n b.exit = ex
+    ∙ ap₂ (λ (known : List Fact) (last : Last). exit_of entry place f known last n b.exit) known new' in
+    let tail = exit_code leaf f (known_after b.insts.items []) last_one b.exit in
+    let all : code2 ≡ head ++ insts_code globals starts (locations f) [] b.insts.items tail =
+    e2 ∙ ap₂ (λ (known : List Fact) (last : Last). code1 ++ exit_code leaf f known last b.exit) known new'
+    ∙ ap (λ l. l ++ tail) (e1 ∙ ap (λ l. l ++ insts_code globals starts (locations f) facts0 insts []) (eh ∙ ap (λ l. l ++ head) e0)
+    ∙ ap (λ (l : List Fact). head ++ insts_code globals starts (locations f) l insts []) f0)
+    ∙ append_assoc head (insts_code globals starts (locations f) [] insts []) tail
+    ∙ ap (λ l. head ++ l) (insts_behind globals starts (locations f) [] insts tail ∙ ap (λ is. insts_code globals starts (locations f) [] is tail) is) in
+    em ∙ ap₂ (λ (l : List Plain) (x : Exit). let m : BlockParts = record { insts = l; exit = x } in m) all exit

@@ -1,0 +1,174 @@
+-- Frames of chosen homes are no larger than their functions say.
+use Rattle.std.proofs.Common.{◌≡◌, ◌≢◌, ℕ, zero, suc, ◌-◌, ◌*◌, ◌<◌, ◌≤◌, Bool, true, false, List, [], ◌∷◌, length, Option, Some, None, refl}
+use Rattle.std.proofs.Common.{sym, ap, ◌∙◌, subst, arith, nat_eq, eqb-true}
+use Rattle.std.specs.Prelude.{if◌then◌else◌, slice_get, slice_index}
+use Rattle.std.proofs.lemmas.Bool.{eqb-false}
+use Rattle.std.proofs.lemmas.Option.{same_Some, none-some, slice_get_within, slice_get-get_or}
+use Rattle.rtl.specs.declared.block.RFunc.{RFunc}
+use Rattle.rtl.specs.Names.{how_many}
+use Rattle.mips_homes.specs.declared.homed.Home.{Home}
+use Rattle.mips_homes.specs.declared.homed.Home.TheVariants.{Reg, Slot}
+use Rattle.mips_homes.specs.declared.homed.Frame.{Frame}
+use Rattle.mips_homes.specs.declared.homed.Homed.{Homed}
+use Rattle.mips_homes.specs.Choice.{IsChoice, AreChoices}
+use Rattle.mips_emit.specs.declared.limits.TheConstants.{FRAME_BYTES}
+use Rattle.mips_emit.specs.Frames.{IsHome, IsFrame}
+use Rattle.mips_split.proofs.Places.{block_there}
+use Rattle.mips_select.specs.declared.limits.TheConstants.{STACK_BYTES}
+use Rattle.mips_select.specs.Emittable.{AreReachable}
+use Rattle.mips_select.specs.Limits.{frame_bytes_of, largest_frame, largest_by_homes, FramesFit, HaveRoom}
+
+-- n different numbers below m are at most m
+few : (m n : ℕ) (f : ℕ → ℕ) → ((j : ℕ) → j < n → f j < m) → ((i j : ℕ) → i < n → j < n → f i ≡ f j → i ≡ j) → n ≤ m
+few m zero f below apart = omega arith
+few zero (suc n) f below apart = (let no = below 0 (omega arith) in absurd (omega (arith, no)))
+few (suc m) (suc n) f below apart =
+    let rest = few m n g (λ j lt. g_below j lt (nat_eq (f j) m) refl) (λ i j li lj e. g_apart i j li lj (nat_eq (f i) m) (nat_eq (f j) m) refl refl e) in
+    omega (arith, rest)
+  where
+    -- the last one takes the place of m
+    g : ℕ → ℕ
+    g j = if nat_eq (f j) m then f n else f j
+
+    g_below : (j : ℕ) → j < n → (b : Bool) → nat_eq (f j) m ≡ b → (if b then f n else f j) < m
+    g_below j lt true e =
+        let is : f j ≡ m = eqb-true (f j) m e in
+        let low = below n (omega arith) in
+        let other : f n ≢ m = λ same. (let no : j ≡ n = apart j n (omega (arith, lt)) (omega arith) (is ∙ sym same) in absurd (omega (arith, no, lt))) in
+        omega (arith, low, other)
+    g_below j lt false e =
+        let other : f j ≢ m = eqb-false (f j) m e in
+        let low = below j (omega (arith, lt)) in
+        omega (arith, low, other)
+
+    g_apart : (i j : ℕ) → i < n → j < n → (b c : Bool) → nat_eq (f i) m ≡ b → nat_eq (f j) m ≡ c → (if b then f n else f i) ≡ (if c then f n else f j) → i ≡ j
+    g_apart i j li lj true true eb ec e = apart i j (omega (arith, li)) (omega (arith, lj)) (eqb-true (f i) m eb ∙ sym (eqb-true (f j) m ec))
+    g_apart i j li lj true false eb ec e = (let no : n ≡ j = apart n j (omega arith) (omega (arith, lj)) e in absurd (omega (arith, no, lj)))
+    g_apart i j li lj false true eb ec e = (let no : i ≡ n = apart i n (omega (arith, li)) (omega arith) e in absurd (omega (arith, no, li)))
+    g_apart i j li lj false false eb ec e = apart i j (omega (arith, li)) (omega (arith, lj)) e
+
+register_of : Home → ℕ
+register_of (Reg r) = r
+register_of (Slot k) = 0
+
+registers_same : (q r : ℕ) → Reg q ≡ Reg r → q ≡ r
+unfolding register_of
+registers_same q r e = ap register_of e
+
+module _ (func : RFunc) (f : Frame) (ok : IsChoice func f) where
+  saved_at : (j : ℕ) → j < length f.saved.items → slice_get f.saved.items j ≡ Some (slice_index f.saved.items j)
+  saved_at j lt = slice_get-get_or f.saved.items j 0 lt
+
+  saved_range : (j r : ℕ) → slice_get f.saved.items j ≡ Some r → (16 ≤ r) × (r < 24)
+  saved_range j r there = (let home = ok.saved j r there in let range = ok.registers home.0 r home.1 in (range.0, range.1))
+
+  -- at most eight are saved
+  saved_eight : length f.saved.items ≤ 8
+  saved_eight = few 8 (length f.saved.items) (λ j. slice_index f.saved.items j - 16) (λ j lt. below j lt) (λ i j li lj e. apart i j li lj e)
+    where
+      below : (j : ℕ) → j < length f.saved.items → slice_index f.saved.items j - 16 < 8
+      below j lt = (let range = saved_range j (slice_index f.saved.items j) (saved_at j lt) in let low = range.0 in let high = range.1 in
+          omega (arith, low, high))
+
+      apart : (i j : ℕ) → i < length f.saved.items → j < length f.saved.items → slice_index f.saved.items i - 16 ≡ slice_index f.saved.items j - 16 → i ≡ j
+      apart i j li lj e =
+          let low_i = (saved_range i (slice_index f.saved.items i) (saved_at i li)).0 in
+          let low_j = (saved_range j (slice_index f.saved.items j) (saved_at j lj)).0 in
+          let same : slice_index f.saved.items j ≡ slice_index f.saved.items i = omega (arith, e, low_i, low_j) in
+          ok.saved_once i j (slice_index f.saved.items i) (saved_at i li) (saved_at j lj ∙ ap Some same)
+
+  -- a pseudo-register for each that is saved
+  chosen : (j : ℕ) (o : Option ℕ) → slice_get f.saved.items j ≡ o → ℕ
+  chosen j None e = 0
+  chosen j (Some r) e = (ok.saved j r e).0
+
+  chosen_home : (j : ℕ) (o : Option ℕ) (e : slice_get f.saved.items j ≡ o) (r : ℕ) → o ≡ Some r → slice_get f.homes.items (chosen j o e) ≡ Some (Reg r)
+  unfolding chosen
+  chosen_home j None e r is = absurd (none-some r is)
+  chosen_home j (Some q) e r is = (ok.saved j q e).1 ∙ ap (λ r. Some (Reg r)) (same_Some q r is)
+
+  -- no more are saved than there are pseudo-registers
+  saved_few : length f.saved.items ≤ how_many func
+  saved_few = few (how_many func) (length f.saved.items) (λ j. chosen j (slice_get f.saved.items j) refl) (λ j lt. below j lt)
+      (λ i j li lj e. apart i j li lj e)
+    where
+      home : (j : ℕ) → j < length f.saved.items → slice_get f.homes.items (chosen j (slice_get f.saved.items j) refl) ≡ Some (Reg (slice_index f.saved.items j))
+      home j lt = chosen_home j (slice_get f.saved.items j) refl (slice_index f.saved.items j) (saved_at j lt)
+
+      below : (j : ℕ) → j < length f.saved.items → chosen j (slice_get f.saved.items j) refl < how_many func
+      below j lt = subst (λ n. chosen j (slice_get f.saved.items j) refl < n) ok.long
+          (slice_get_within f.homes.items (chosen j (slice_get f.saved.items j) refl) (Reg (slice_index f.saved.items j)) (home j lt))
+
+      apart : (i j : ℕ) → i < length f.saved.items → j < length f.saved.items → chosen i (slice_get f.saved.items i) refl ≡ chosen j
+          (slice_get f.saved.items j) refl → i ≡ j
+      apart i j li lj e =
+          let homes : Reg (slice_index f.saved.items j) ≡ Reg (slice_index f.saved.items i) = same_Some (Reg (slice_index f.saved.items j))
+          (Reg (slice_index f.saved.items i)) (sym (home j lj) ∙ ap (slice_get f.homes.items) (sym e) ∙ home i li) in
+          let same : slice_index f.saved.items j ≡ slice_index f.saved.items i = registers_same (slice_index f.saved.items j) (slice_index f.saved.items i)
+          homes in
+          ok.saved_once i j (slice_index f.saved.items i) (saved_at i li) (saved_at j lj ∙ ap Some same)
+
+  pub is_frame : (most : ℕ) → frame_bytes_of func ≤ most → IsFrame most f
+  is_frame most le = record {
+    homes = record { by = λ x h there. home x h there; apart = ok.apart };
+    saved = saved_range;
+    fits = (let eight = saved_eight in let all = saved_few in let slots = ok.slots in omega (arith, eight, all, slots, le));
+  }
+    where
+      home : (x : ℕ) (h : Home) → slice_get f.homes.items x ≡ Some h → IsHome f.slots h
+      home x (Reg r) there = (let range = ok.registers x r there in (range.0, range.1))
+      home x (Slot k) there = ok.in_slots x k there
+
+-- ---- the largest one
+
+largest_bounds : (funcs : List RFunc) (g : ℕ) (func : RFunc) → slice_get funcs g ≡ Some func → frame_bytes_of func ≤ largest_frame funcs
+largest_bounds [] g func there = absurd (none-some func there)
+largest_bounds (x ∷ funcs) zero func there =
+    subst (λ (func : RFunc). frame_bytes_of func ≤ largest_frame (x ∷ funcs)) (same_Some x func there) (omega arith)
+largest_bounds (x ∷ funcs) (suc g) func there =
+    let rest = largest_bounds funcs g func there in
+    omega (arith, rest)
+
+pub are_frames : (h : Homed) → AreChoices h → (g : ℕ) (f : Frame) → slice_get h.frames.items g ≡ Some f → IsFrame (largest_frame (h.rtl.now).functions) f
+are_frames h ok g f there =
+    let within = slice_get_within h.frames.items g f there in
+    let long = ok.long in
+    let func = block_there (h.rtl.now).functions g (omega (arith, within, long)) in
+    is_frame func.0 f (ok.by g func.0 f func.1 there) (largest_frame (h.rtl.now).functions) (largest_bounds (h.rtl.now).functions g func.0 func.1)
+
+-- homes are as many as pseudo-registers
+homes_many : (funcs : List RFunc) (fs : List Frame) → length fs ≡ length funcs → ((i : ℕ) (func : RFunc) (f : Frame) → slice_get funcs i ≡ Some func
+    → slice_get fs i ≡ Some f → length f.homes.items ≡ how_many func)
+    → largest_by_homes fs ≡ largest_frame funcs
+homes_many [] [] same each = refl
+homes_many [] (f ∷ fs) same each = absurd (omega (arith, same))
+homes_many (func ∷ funcs) [] same each = absurd (omega (arith, same))
+homes_many (func ∷ funcs) (f ∷ fs) same each =
+    let rest = homes_many funcs fs (omega (arith, same)) (λ i func f there f_there. each (suc i) func f there f_there) in
+    let one = each 0 func f refl refl in
+    omega (arith, rest, one)
+
+pub largest_same : (h : Homed) → AreChoices h → largest_by_homes h.frames.items ≡ largest_frame (h.rtl.now).functions
+largest_same h ok = homes_many (h.rtl.now).functions h.frames.items ok.long (λ i func f there f_there. (ok.by i func f there f_there).long)
+
+pub fit_from_room : (h : Homed) (depth : ℕ) → AreChoices h → HaveRoom h.frames.items depth → FramesFit h.rtl.now depth
+fit_from_room h depth ok room =
+    let same = largest_same h ok in
+    record {
+      frames = subst (λ n. n ≤ FRAME_BYTES) same room.frames;
+      stack = subst (λ n. depth * n ≤ STACK_BYTES) same room.stack;
+    }
+
+pub room_from_fit : (h : Homed) (depth : ℕ) → AreChoices h → FramesFit h.rtl.now depth → HaveRoom h.frames.items depth
+room_from_fit h depth ok fit =
+    let same = sym (largest_same h ok) in
+    record {
+      frames = subst (λ n. n ≤ FRAME_BYTES) same fit.frames;
+      stack = subst (λ n. depth * n ≤ STACK_BYTES) same fit.stack;
+    }
+
+pub reachable : (h : Homed) (depth : ℕ) → AreChoices h → HaveRoom h.frames.items depth → AreReachable h.frames.items
+reachable h depth ok room = record {
+  by = λ g f there. (let frame = are_frames h ok g f there in let fits = frame.fits in
+      let small = (fit_from_room h depth ok room).frames in record { homes = frame.homes; saved = frame.saved; fits = omega (arith, fits, small) });
+}

@@ -1,0 +1,249 @@
+-- Registers are saved in a frame and come back; arguments and parameters.
+use Rattle.std.proofs.Common.{◌≡◌, ◌≢◌, ℕ, zero, suc, ◌+◌, ◌*◌, ◌%◌, ◌^◌, ◌<◌, ◌≤◌, Bool, true, false, List, [], ◌∷◌, length, Option, Some, None}
+use Rattle.std.proofs.Common.{refl, sym, ap, ap₂, ◌∙◌, subst, arith, nat_eq, eqb-true, true≢false}
+use Rattle.std.specs.Prelude.{slice_get, ◌||◌}
+use Rattle.std.proofs.lemmas.Bool.{eqb-false}
+use Rattle.std.proofs.lemmas.Option.{same_Some, none-some, slice_get_within}
+use Rattle.words.specs.declared.width.Width.{Width}
+use Rattle.words.specs.declared.width.Width.TheVariants.{Word}
+use Rattle.runs.specs.Stores.{Places, unset_places, Arrays, chain}
+use Rattle.mips_isa.specs.States.{State, IsWords, AreApart, is_open}
+use Rattle.mips_isa.specs.Starting.{stack_base, stack_end, is_mapped}
+use Rattle.rtl.specs.declared.block.RGlobal.{RGlobal}
+use Rattle.mips_homes.specs.HomedRun.{Run, Failed, read_home, read_homes, write_homes, is_in}
+use Rattle.mips_homes.specs.declared.homed.Home.{Home}
+use Rattle.mips_emit.specs.declared.location.Location.TheVariants.{Held}
+use Rattle.mips_emit.specs.declared.location.Source.TheVariants.{From}
+use Rattle.mips_emit.specs.Frames.{AreFrameHomes}
+use Rattle.mips_emit.specs.Locations.{locations_of, Facts, known_in, operand}
+use Rattle.mips_emit.specs.Code.{store_word_at, bring, arguments_code}
+use Rattle.mips_emit.proofs.Runs.{RunsTo, runs_none, runs_then}
+use Rattle.mips_emit.proofs.View.{shown_at, word_at, set, set_word, shown_other, word_here, set_words, set_at_words, word_below, put_here, put_other}
+use Rattle.mips_emit.proofs.View.{read_register, loads_word, stores_word}
+use Rattle.mips_emit.proofs.Stands.{Stored, with_slots, Stands, open_stack}
+use Rattle.mips_emit.proofs.Homes.{IsKnown, nothing_known, brings, operand_means, sets_kept, puts}
+use Rattle.mips_select.specs.Code.{saves, restores, parameters_code}
+
+-- a part of the stack from p on
+pub record InStack (total : ℕ) (p n : ℕ) (s : State) : Type 0 where
+  pub pointer : s.regs 29 ≡ p
+  pub mapped : s.mapped ≡ is_mapped total
+  pub words : IsWords s
+  pub aligned : p % 4 ≡ 0
+  pub low : stack_base ≤ p
+  pub high : p + n ≤ stack_end
+
+-- registers that are saved
+abbrev pub AreKept : List ℕ → Type 0
+AreKept rs = (j r : ℕ) → slice_get rs j ≡ Some r → (0 < r) × (r < 32) × (r ≢ 29)
+
+pub record Saved (p at : ℕ) (rs : List ℕ) (s : State) : Type 0 where
+  pub memory : ℕ → ℕ
+  pub runs : RunsTo (saves at rs) s (record s { memory = memory })
+  pub words : IsWords (record s { memory = memory })
+  pub here : (j r : ℕ) → slice_get rs j ≡ Some r → word_at (record s { memory = memory }) (p + at + 4 * j) ≡ s.regs r
+  pub others : (u : Width) (b : ℕ) → ((j : ℕ) → j < length rs → AreApart Word (p + at + 4 * j) u b)
+      → shown_at u (record s { memory = memory }) b ≡ shown_at u s b
+
+stack_open : (total p n o : ℕ) (s : State) → InStack total p n s → o % 4 ≡ 0 → o < n → (s.regs 29 + o < 2 ^ 32) × (is_open Word s.mapped (s.regs 29 + o) ≡ true)
+stack_open total p n o s h a4 lt =
+    let e = h.pointer in
+    let low = h.low in
+    let high = h.high in
+    let p4 = h.aligned in (
+      omega (arith, e, high, lt),
+      ap (λ m. is_open Word m (s.regs 29 + o)) h.mapped ∙ open_stack total (s.regs 29 + o) (omega (arith, e, p4, a4))
+          (omega (arith, e, low)) (omega (arith, e, high, lt)),
+    )
+
+pub saves_run : (total p n at : ℕ) (rs : List ℕ) (s : State) → AreKept rs → at % 4 ≡ 0 → at + 4 * length rs ≤ n → InStack total p n s → Saved p at rs s
+saves_run total p n at [] s kept a4 le h = record {
+  memory = s.memory;
+  runs = runs_none s;
+  words = h.words;
+  here = λ j r there. absurd (none-some r there);
+  others = λ u b apart. refl;
+}
+saves_run total p n at (r ∷ rs) s kept a4 le h =
+    let a = s.regs 29 + at in
+    let ok = stack_open total p n at s h a4 (omega (arith, le)) in
+    let s1 = set_word s a (s.regs r) in
+    let h1 : InStack total p n s1 = record {
+      pointer = h.pointer;
+      mapped = h.mapped;
+      words = set_at_words Word s a (s.regs r) h.words;
+      aligned = h.aligned;
+      low = h.low;
+      high = h.high;
+    } in
+    let rest = saves_run total p n (at + 4) rs s1 (λ j q there. kept (suc j) q there) (omega (arith, a4)) (omega (arith, le)) h1 in
+    let s2 : State = record s { memory = rest.memory } in
+    let a_is : s.regs 29 + at ≡ p + at = ap (λ x. x + at) h.pointer in
+    record {
+      memory = rest.memory;
+      runs = runs_then (subst (λ v. RunsTo (store_word_at r at ∷ []) s (set_word s (s.regs 29 + at) v)) (read_register s.regs r (kept 0 r refl).0)
+          (stores_word s r at ok.0 ok.1)) rest.runs;
+      words = rest.words;
+      here = λ j q there. here s2 rest ok.1 a_is j q there;
+      others = λ u b apart. rest.others u b (λ j lt. subst (λ q. AreApart Word q u b) (next j) (apart (suc j) (omega (arith, lt))))
+          ∙ shown_other Word u s a (s.regs r) b (subst (λ q. AreApart Word q u b) (here_at a_is) (apart 0 (omega arith)));
+    }
+  where
+    next : (j : ℕ) → p + at + 4 * suc j ≡ p + (at + 4) + 4 * j
+    next j = omega arith
+
+    here_at : s.regs 29 + at ≡ p + at → p + at + 4 * 0 ≡ s.regs 29 + at
+    here_at e = omega (arith, e)
+
+    here : (s2 : State) (rest : Saved p (at + 4) rs (set_word s (s.regs 29 + at) (s.regs r))) → is_open Word s.mapped (s.regs 29 + at) ≡ true
+        → s.regs 29 + at ≡ p + at → (j q : ℕ) → slice_get (r ∷ rs) j ≡ Some q → word_at (record s { memory = rest.memory }) (p + at + 4 * j) ≡ s.regs q
+    here s2 rest ok a_is zero q there =
+        let place : p + at + 4 * 0 ≡ s.regs 29 + at = omega (arith, a_is) in
+        ap (word_at (record s { memory = rest.memory })) place
+        ∙ rest.others Word (s.regs 29 + at) (λ j lt e. absurd (omega (arith, e, a_is)))
+        ∙ word_here s (s.regs 29 + at) (s.regs r) ok ((h.words).regs r) ∙ ap s.regs (same_Some r q there)
+    here s2 rest ok a_is (suc j) q there =
+        let place : p + at + 4 * suc j ≡ p + (at + 4) + 4 * j = omega arith in
+        ap (word_at (record s { memory = rest.memory })) place ∙ rest.here j q there
+
+pub record Restored (p at : ℕ) (rs : List ℕ) (s : State) : Type 0 where
+  pub regs : ℕ → ℕ
+  pub runs : RunsTo (restores at rs) s (record s { regs = regs })
+  pub words : IsWords (record s { regs = regs })
+  pub others : (q : ℕ) → is_in rs q ≡ false → regs q ≡ s.regs q
+  pub inside : (q v : ℕ) → is_in rs q ≡ true → ((j : ℕ) → slice_get rs j ≡ Some q → word_at s (p + at + 4 * j) ≡ v) → regs q ≡ v
+
+or_false : (a b : Bool) → (a || b) ≡ false → (a ≡ false) × (b ≡ false)
+or_false true b e = absurd (true≢false e)
+or_false false b e = (refl, e)
+
+pub restores_run : (total p n at : ℕ) (rs : List ℕ) (s : State) → AreKept rs → at % 4 ≡ 0 → at + 4 * length rs ≤ n → InStack total p n s → Restored p at rs s
+restores_run total p n at [] s kept a4 le h = record {
+  regs = s.regs;
+  runs = runs_none s;
+  words = h.words;
+  others = λ q e. refl;
+  inside = λ q v e. absurd
+      (true≢false (sym e));
+}
+restores_run total p n at (r ∷ rs) s kept a4 le h =
+    let ok = stack_open total p n at s h a4 (omega (arith, le)) in
+    let v = word_at s (s.regs 29 + at) in
+    let s1 = set s r v in
+    let is_kept = kept 0 r refl in
+    let pointer : s1.regs 29 ≡ s.regs 29 = put_other s.regs r v 29 (λ e. is_kept.2 (sym e)) in
+    let h1 : InStack total p n s1 = record {
+      pointer = pointer ∙ h.pointer;
+      mapped = h.mapped;
+      words = set_words s r v h.words
+          (word_below s (s.regs 29 + at) h.words);
+      aligned = h.aligned;
+      low = h.low;
+      high = h.high;
+    } in
+    let rest = restores_run total p n (at + 4) rs s1 (λ j q there. kept (suc j) q there) (omega (arith, a4)) (omega (arith, le)) h1 in
+    record {
+      regs = rest.regs;
+      runs = runs_then (loads_word s r at ok.0 ok.1) rest.runs;
+      words = rest.words;
+      others = λ q e. let both = or_false (nat_eq q r) (is_in rs q) e in rest.others q both.1 ∙ put_other s.regs r v q (eqb-false q r both.0);
+      inside = λ q w e f. inside rest q w (nat_eq q r) (is_in rs q) refl refl e f;
+    }
+  where
+    inside : (rest : Restored p (at + 4) rs (set s r (word_at s (s.regs 29 + at)))) → (q w : ℕ) → (b c : Bool) → nat_eq q r ≡ b → is_in rs q ≡ c
+        → (nat_eq q r || is_in rs q) ≡ true → ((j : ℕ) → slice_get (r ∷ rs) j ≡ Some q → word_at s (p + at + 4 * j) ≡ w) → rest.regs q ≡ w
+    inside rest q w b true eb ec e f = rest.inside q w ec (λ j there. (let place : p + (at + 4) + 4 * j ≡ p + at + 4 * suc j = omega arith in
+        ap (word_at s) place) ∙ f (suc j) there)
+    inside rest q w true false eb ec e f =
+        let q_r : q ≡ r = eqb-true q r eb in
+        let is_kept = kept 0 r refl in
+        let v = word_at s (s.regs 29 + at) in
+        let pointer = h.pointer in
+        let place : s.regs 29 + at ≡ p + at + 4 * 0 = omega (arith, pointer) in
+        rest.others q ec ∙ ap (set s r v).regs q_r ∙ put_here s.regs r v (record { low = is_kept.0; high = is_kept.1 }) ∙ ap (word_at s) place
+        ∙ f 0 (ap Some (sym q_r))
+    inside rest q w false false eb ec e f = absurd (true≢false (sym e ∙ ap₂ (λ x y. x || y) eb ec))
+
+module _ (most total : ℕ) (gs : List RGlobal) (starts : ℕ → ℕ) where
+  pub record Arguments (registers : Places) (g : Arrays) (fs : List Stored) (s : State) (hs : List Home) (facts : Facts) (t : ℕ) (xs vs : List ℕ) : Type 0 where
+    pub regs : ℕ → ℕ
+    pub runs : RunsTo (arguments_code (locations_of hs) facts t xs) s (record s { regs = regs })
+    pub here : (j v : ℕ) → slice_get vs j ≡ Some v → regs (t + j) ≡ v
+    pub others : (r : ℕ) → r < t → regs r ≡ s.regs r
+    pub as_many : length vs ≡ length xs
+    pub stands : Stands most total gs starts registers g fs (record s { regs = regs })
+
+  pub arguments : (registers : Places) (g : Arrays) (top : Stored) (fs : List Stored) (s : State) (hs : List Home) (facts : Facts) (t : ℕ) (xs vs : List ℕ)
+      → AreFrameHomes hs top.count → IsKnown (known_in facts) hs registers top.slots → 0 < t → t + length xs ≤ 16
+      → read_homes hs registers top.slots xs ≡ Some vs → Stands most total gs starts registers g (top ∷ fs) s
+      → Arguments registers g (top ∷ fs) s hs facts t xs vs
+  arguments registers g top fs s hs facts t [] vs ok k low high e h =
+      let none : [] ≡ vs = same_Some [] vs e in
+      record {
+        regs = s.regs;
+        runs = runs_none s;
+        here = λ j v there. absurd (none-some v (ap (λ l. slice_get l j) none
+            ∙ there));
+        others = λ r lt. refl;
+        as_many = sym (ap length none);
+        stands = h;
+      }
+  arguments registers g top fs s hs facts t (x ∷ xs) vs ok k low high e h =
+      first (λ f ws rest st. arguments registers g top fs (record s { regs = f }) hs facts (suc t) xs ws ok k (omega arith) (omega (arith, high)) rest st)
+      (read_home hs registers top.slots x) refl e
+    where
+      Again : Type 0
+      Again = (f : ℕ → ℕ) (ws : List ℕ) → read_homes hs registers top.slots xs ≡ Some ws
+          → Stands most total gs starts registers g (top ∷ fs) (record s { regs = f }) → Arguments registers g (top ∷ fs) (record s { regs = f }) hs facts
+          (suc t) xs ws
+
+      first : Again → (o : Option ℕ) → read_home hs registers top.slots x ≡ o → chain o
+          (λ v. chain (read_homes hs registers top.slots xs) (λ vs. Some (v ∷ vs))) ≡ Some vs → Arguments registers g (top ∷ fs) s hs facts t (x ∷ xs) vs
+      first again None there e = absurd (none-some vs e)
+      first again (Some v) there e = second (read_homes hs registers top.slots xs) refl e
+        where
+          second : (o : Option (List ℕ)) → read_homes hs registers top.slots xs ≡ o → chain o (λ vs. Some (v ∷ vs)) ≡ Some vs
+              → Arguments registers g (top ∷ fs) s hs facts t (x ∷ xs) vs
+          second None rest e = absurd (none-some vs e)
+          second (Some ws) rest e =
+              let means = operand_means most total gs starts registers g top fs s h (known_in facts) hs x v ok k there in
+              let one = brings most total gs starts registers g top fs s h t v (operand (locations_of hs) facts x)
+              (record { low = low; high = omega (arith, high) }) means.0 in
+              let st = sets_kept most total gs starts registers g top fs s h (bring t (operand (locations_of hs) facts x)) t v (omega (arith, high)) one in
+              let more = again one.regs ws rest st in
+              subst (λ vs. Arguments registers g (top ∷ fs) s hs facts t (x ∷ xs) vs) (same_Some (v ∷ ws) vs e) (record {
+                regs = more.regs;
+                runs = runs_then one.runs more.runs;
+                here = λ j w at. by one.regs one.here more j w at;
+                others = λ r lt. more.others r (omega (arith, lt)) ∙ one.others r (omega (arith, lt));
+                as_many = ap suc more.as_many;
+                stands = more.stands;
+              })
+            where
+              by : (f : ℕ → ℕ) → f t ≡ v → (more : Arguments registers g (top ∷ fs) (record s { regs = f }) hs facts (suc t) xs ws) → (j w : ℕ)
+                  → slice_get (v ∷ ws) j ≡ Some w → more.regs (t + j) ≡ w
+              by f here more zero w at =
+                  let place : t + 0 ≡ t = omega arith in
+                  ap more.regs place ∙ more.others t (omega arith) ∙ here ∙ same_Some v w at
+              by f here more (suc j) w at =
+                  let place : t + suc j ≡ suc t + j = omega arith in
+                  ap more.regs place ∙ more.here j w at
+
+  module _ (g : Arrays) (fs : List Stored) (hs : List Home) (P : Run → Type 0) (out : List ℕ) (failed : P (Failed out)) where
+    pub parameters : (vs : List ℕ) (t x : ℕ) (registers : Places) (top : Stored) (s : State) (go : Places → Places → Run) → AreFrameHomes hs top.count
+        → 1 < t → t + length vs ≤ 16 → ((j v : ℕ) → slice_get vs j ≡ Some v → s.regs (t + j) ≡ v) → Stands most total gs starts registers g (top ∷ fs) s
+        → ((registers' slots' : Places) (s' : State) → RunsTo (parameters_code (locations_of hs) t x (length vs)) s s'
+        → Stands most total gs starts registers' g (with_slots top slots' ∷ fs) s' → P (go registers' slots'))
+        → P (write_homes hs registers top.slots x vs out go)
+    parameters [] t x registers top s go ok low high here h f = f registers top.slots s (runs_none s) h
+    parameters (v ∷ vs) t x registers top s go ok low high here h f =
+        let place : t + 0 ≡ t = omega arith in
+        let is : s.regs t ≡ v = ap s.regs (sym place) ∙ here 0 v refl in
+        puts most total gs starts registers g top fs s h P (λ r s. write_homes hs r s (suc x) vs out go) hs x v None out unset_places (From (Held t))
+        (read_register s.regs t (omega (arith, low)) ∙ is) (subst (λ v. v < 2 ^ 32) is ((h.words).regs t)) (λ w e. absurd (none-some w e)) ok
+        (nothing_known hs registers top.slots) failed
+        (λ r1 slots1 s1 some e1 h1 kn same.
+        parameters vs (suc t) (suc x) r1 (with_slots top slots1) s1 go ok (omega (arith, low)) (omega (arith, high))
+        (λ j w there. (let next : suc t + j ≡ t + suc j = omega arith in let within = slice_get_within vs j w there in
+        same (suc t + j) (omega (arith, low)) (omega (arith, high, within)) ∙ ap s.regs next) ∙ here (suc j) w there) h1
+        (λ r2 slots2 s2 e2 h2. f r2 slots2 s2 (runs_then e1 e2) h2))

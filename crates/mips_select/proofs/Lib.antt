@@ -1,0 +1,17 @@
+mod Named
+mod Blocks
+mod Returns
+mod DataPlaces
+mod DataEnds
+mod Linked
+mod Frames
+mod Emitted
+mod Calls
+mod Comparisons
+mod Simulation
+mod Theorem
+mod Lists
+mod Placed
+mod FrameSizes
+mod Correct
+mod Selecting

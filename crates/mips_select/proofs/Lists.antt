@@ -1,0 +1,16 @@
+-- Elements of lists.
+use Rattle.std.proofs.Common.{◌≡◌, ℕ, zero, suc, ◌+◌, List, [], ◌∷◌, ◌++◌, length, Some, ap, subst, ◌∙◌, arith}
+use Rattle.std.specs.Prelude.{All, slice_get}
+use Rattle.std.proofs.lemmas.Option.{none-some, slice_get_within, get_or_from_slice_get}
+
+pub all_at : {A : Type 0} (P : A → Type 0) (xs : List A) (i : ℕ) (x : A) → All P xs → slice_get xs i ≡ Some x → P x
+all_at P xs i x all there = subst P (get_or_from_slice_get xs i x x there) (all i x (slice_get_within xs i x there))
+
+pub get_behind : {A : Type 0} (a b : List A) (i : ℕ) → slice_get (a ++ b) (length a + i) ≡ slice_get b i
+get_behind [] b i = (let zero_i : 0 + i ≡ i = omega arith in ap (slice_get b) zero_i)
+get_behind (x ∷ a) b i = (let next : length (x ∷ a) + i ≡ suc (length a + i) = omega arith in ap (slice_get (x ∷ a ++ b)) next) ∙ get_behind a b i
+
+pub get_before : {A : Type 0} (a b : List A) (i : ℕ) (x : A) → slice_get a i ≡ Some x → slice_get (a ++ b) i ≡ Some x
+get_before [] b i x e = absurd (none-some x e)
+get_before (y ∷ a) b zero x e = e
+get_before (y ∷ a) b (suc i) x e = get_before a b i x e

@@ -1,0 +1,183 @@
+-- The parts of a program's unit, put together.
+use Rattle.std.proofs.Common.{◌≡◌, ℕ, zero, suc, ◌+◌, ◌<◌, ◌≤◌, Bool, true, false, true≢false, List, [], ◌∷◌, ◌++◌, length, length-append, Some, sym, ap}
+use Rattle.std.proofs.Common.{ap₂, ◌∙◌, subst, arith}
+use Rattle.std.specs.Prelude.{All, IsTrue, slice_get, slice_index, sum_by}
+use Rattle.std.proofs.lemmas.List.Sums.{sum_by-cons}
+use Rattle.std.proofs.lemmas.Option.{same_Some, none-some}
+use Rattle.mips_isa.specs.Starting.{start_state}
+use Rattle.mblock.specs.declared.limits.TheConstants.{UNIT_BLOCKS, UNIT_BYTES, BLOCK_INSTS}
+use Rattle.mblock.specs.Parts.{BlockParts}
+use Rattle.mblock.specs.UnitRuns.{ComesTo}
+use Rattle.mblock.specs.Units.{UnitParts, unit_parts, AreLinked, AreOwners}
+use Rattle.rtl.specs.declared.instruction.RExit.{RExit}
+use Rattle.rtl.specs.declared.instruction.RExit.TheVariants.{Goto, Branch, Call, Return, Out}
+use Rattle.rtl.specs.declared.block.RFunc.{RFunc}
+use Rattle.rtl.specs.declared.block.RGlobal.{RGlobal}
+use Rattle.rtl.specs.declared.limits.TheConstants.{MAX_BLOCKS}
+use Rattle.rtl.specs.Meaning.{rtl_run}
+use Rattle.rtl.specs.Programs.{Program, IsExit, IsBlock, IsFunction, IsProgram, block_count}
+use Rattle.mips_homes.specs.declared.homed.Frame.{Frame}
+use Rattle.mips_homes.specs.declared.homed.Homed.{Homed}
+use Rattle.mips_homes.specs.Choice.{AreChoices}
+use Rattle.mips_split.specs.Split.{split_blocks, split_owners, place_of}
+use Rattle.mips_split.proofs.Counts.{total_above, length-split_from}
+use Rattle.mips_select.specs.Data.{zeros, data_bytes, starts_from, start_of}
+use Rattle.mips_select.specs.Code.{start_block, end_block}
+use Rattle.mips_select.specs.Emittable.{HasFewArguments, IsEmittable, AreFunctionsEmittable}
+use Rattle.mips_select.specs.Limits.{FramesFit, HaveRoom}
+use Rattle.mips_select.specs.Whole.{functions_size, entries_from, entry_of, owners_for, functions_blocks, program_blocks, unit_for}
+use Rattle.mips_select.specs.Laws.{KeepsRuns, IsBeyond}
+use Rattle.mips_select.proofs.Lists.{all_at}
+use Rattle.mips_select.proofs.DataPlaces.{have_values, data_fits}
+use Rattle.mips_select.proofs.DataEnds.{data_ends, zeros_length}
+use Rattle.mips_select.proofs.Linked.{program_length, program_well}
+use Rattle.mips_select.proofs.FrameSizes.{room_from_fit, fit_from_room}
+use Rattle.mips_select.proofs.Correct.{each_unit}
+
+-- ---- what a program's blocks are
+
+few_arguments : (functions : List RFunc) (globals blocks : ℕ) (x : RExit) → All (IsFunction functions globals) functions → IsExit functions blocks x
+    → HasFewArguments x
+few_arguments functions globals blocks (Call g xs d next) all ok =
+    let callee = ok.0 in
+    let few = (all_at (IsFunction functions globals) functions g callee.callee all callee.there).parameters in
+    let takes = callee.takes in
+    omega (arith, few, takes)
+few_arguments functions globals blocks (Goto b) all ok = tt
+few_arguments functions globals blocks (Branch c t e) all ok = tt
+few_arguments functions globals blocks (Return o) all ok = tt
+few_arguments functions globals blocks (Out x next) all ok = tt
+
+few_blocks : (functions : List RFunc) (g : ℕ) (func : RFunc) → slice_get functions g ≡ Some func → length func.blocks.items ≤ sum_by block_count functions
+few_blocks [] g func there = absurd (none-some func there)
+few_blocks (x ∷ functions) zero func there =
+    let same = ap (λ (f : RFunc). length f.blocks.items) (same_Some x func there) in
+    let sum = sum_by-cons block_count x functions in
+    omega (arith, same, sum)
+few_blocks (x ∷ functions) (suc g) func there =
+    let rest = few_blocks functions g func there in
+    let sum = sum_by-cons block_count x functions in
+    omega (arith, rest, sum)
+
+pub function_blocks_few : (p : Program) (functions : List RFunc) → IsProgram p → functions ≡ p.functions → (g : ℕ) (func : RFunc)
+    → slice_get functions g ≡ Some func → length func.blocks.items ≤ MAX_BLOCKS
+function_blocks_few p functions ok is g func there =
+    let few = few_blocks p.functions g func (ap (λ (l : List RFunc). slice_get l g) (sym is) ∙ there) in
+    let fits = ok.blocks_fit in
+    omega (arith, few, fits)
+
+pub functions_emittable : (p : Program) (functions : List RFunc) (n : ℕ) → IsProgram p → functions ≡ p.functions → n ≡ length p.globals
+    → AreFunctionsEmittable n functions
+functions_emittable p functions n ok is n_is = record {
+  by = λ g func there.
+      let there' = ap (λ (l : List RFunc). slice_get l g) (sym is) ∙ there in
+      let function = all_at (IsFunction p.functions (length p.globals)) p.functions g func ok.functions there' in
+      record {
+        parameters = function.parameters;
+        few = function_blocks_few p functions ok is g func there;
+        blocks = record {
+          by = λ b block at.
+              let x = all_at (IsBlock p.functions (length p.globals) (length func.blocks.items)) func.blocks.items b block function.blocks at in
+              subst (λ n. IsEmittable n block) (sym n_is) (record {
+                insts = x.insts;
+                exit = few_arguments p.functions (length p.globals)
+                    (length func.blocks.items) block.exit ok.functions x.exit;
+              });
+        };
+      };
+}
+
+-- ---- all blocks
+
+pub program_made : (h : Homed) (starts es : List ℕ) (funcs : List RFunc) (globals : List RGlobal) (frames : List Frame) (main n : ℕ)
+    (first second : BlockParts) (out0 out1 out2 out3 : List BlockParts)
+    → es ≡ entries_from 2 (h.rtl.now).functions → starts ≡ starts_from 0 globals → globals ≡ (h.rtl.now).globals → funcs ≡ (h.rtl.now).functions
+    → frames ≡ h.frames.items → main ≡ (h.rtl.now).main → n ≡ slice_index es main
+    → first ≡ start_block n → second ≡ end_block → out0 ≡ [] → out1 ≡ out0 ++ first ∷ [] → out2 ≡ out1 ++ second ∷ []
+    → out3 ≡ out2 ++ functions_blocks globals (λ a. slice_index starts a) (λ g. slice_index es g) 2 funcs frames → out3 ≡ program_blocks h
+program_made h starts es funcs globals frames main n first second out0 out1 out2 out3 es_is s_is g_is f_is fr_is main_is n_is first_is second_is o0 o1 o2 o3 =
+    let head : n ≡ entry_of (h.rtl.now).functions (h.rtl.now).main = n_is ∙ ap₂ (λ (l : List ℕ) m. slice_index l m) es_is main_is in
+    let one : out1 ≡ start_block (entry_of (h.rtl.now).functions (h.rtl.now).main) ∷ [] = o1 ∙ ap (λ l. l ++ first ∷ []) o0
+    ∙ ap (λ (b : BlockParts). b ∷ []) (first_is ∙ ap start_block head) in
+    let two : out2 ≡ start_block (entry_of (h.rtl.now).functions (h.rtl.now).main) ∷ end_block ∷ [] = o2
+    ∙ ap₂ (λ l (b : BlockParts). l ++ b ∷ []) one second_is in
+    let rest : functions_blocks globals (λ a. slice_index starts a) (λ g. slice_index es g) 2 funcs frames ≡ functions_blocks (h.rtl.now).globals
+    (start_of (h.rtl.now).globals) (entry_of (h.rtl.now).functions) 2 (h.rtl.now).functions h.frames.items =
+    ap₂ (λ (l m : List ℕ). functions_blocks globals (λ a. slice_index l a) (λ g. slice_index m g) 2 funcs frames) (s_is ∙ ap (starts_from 0) g_is) es_is
+    ∙ ap (λ gs. functions_blocks gs (start_of (h.rtl.now).globals) (entry_of (h.rtl.now).functions) 2 funcs frames) g_is
+    ∙ ap₂ (functions_blocks (h.rtl.now).globals (start_of (h.rtl.now).globals) (entry_of (h.rtl.now).functions) 2) f_is fr_is in
+    o3 ∙ ap₂ (λ l m. l ++ m) two rest
+
+-- ---- the unit
+
+-- a unit of so many blocks has as many pieces at least
+pub many_pieces : (h : Homed) → AreChoices h → 2 + functions_size (h.rtl.now).functions ≤ length (unit_for h).blocks
+many_pieces h ok =
+    let long = program_length h ok.long in
+    let total = total_above BLOCK_INSTS (program_blocks h) in
+    let pieces = length-split_from BLOCK_INSTS (place_of BLOCK_INSTS (program_blocks h)) 0 (program_blocks h) in
+    omega (arith, long, total, pieces)
+
+pub beyond : (h : Homed) (p : Program) (funcs : List RFunc) → h.rtl.now ≡ p → AreChoices h → funcs ≡ p.functions → UNIT_BLOCKS < 2 + functions_size funcs
+    → IsBeyond p
+beyond h p funcs lent ok f_is many = (let pieces = many_pieces h ok in let same = ap functions_size f_is
+    ∙ ap (λ (p : Program). functions_size p.functions) (sym lent) in record { homed = h; lent = lent; choices = ok; many = omega (arith, pieces, same, many) })
+
+pub beyond_pieces : (h : Homed) (p : Program) (blocks blocks' : List BlockParts) → h.rtl.now ≡ p → AreChoices h → blocks ≡ program_blocks h
+    → blocks' ≡ blocks → UNIT_BLOCKS < length (split_blocks blocks') → IsBeyond p
+beyond_pieces h p blocks blocks' lent ok is is' many = record {
+  homed = h;
+  lent = lent;
+  choices = ok;
+  many = subst
+      (λ bs. UNIT_BLOCKS < length (split_blocks bs)) (is' ∙ is) many;
+}
+
+pub blocks_well : (h : Homed) (p : Program) (blocks blocks' : List BlockParts) (owners owners' : List ℕ) (funcs : List RFunc) → h.rtl.now ≡ p → IsProgram p
+    → AreChoices h → blocks ≡ program_blocks h → blocks' ≡ blocks → funcs ≡ p.functions → owners ≡ owners_for funcs → owners' ≡ owners
+    → AreLinked blocks' × AreOwners blocks' owners'
+blocks_well h p blocks blocks' owners owners' funcs lent program ok is is' f_is o_is o_is' =
+    let well = program_well h (subst IsProgram (sym lent) program) ok.long in
+    let os : owners' ≡ owners_for (h.rtl.now).functions = o_is' ∙ o_is ∙ ap owners_for f_is ∙ ap (λ (p : Program). owners_for p.functions) (sym lent) in
+    subst (λ bs. AreLinked bs × AreOwners bs owners') (sym (is' ∙ is)) (subst (λ os. AreLinked (program_blocks h) × AreOwners (program_blocks h) os) (sym os)
+    well)
+
+pub unit_keeps : (h : Homed) (p : Program) (depth : ℕ) (u : UnitParts) (blocks blocks' : List BlockParts) (owners bytes : List ℕ) (globals : List RGlobal)
+    → h.rtl.now ≡ p → IsProgram p → AreChoices h → FramesFit p depth → blocks ≡ program_blocks h → blocks' ≡ blocks
+    → globals ≡ p.globals → bytes ≡ data_bytes globals → u ≡ unit_parts (split_blocks blocks') (split_owners blocks' owners) bytes → KeepsRuns p depth u
+unit_keeps h p depth u blocks blocks' owners bytes globals lent program ok fit is is' g_is b_is u_is =
+    let same : split_blocks blocks' ≡ (unit_for h).blocks = ap split_blocks (is' ∙ is) in
+    let bytes_are : bytes ≡ data_bytes (h.rtl.now).globals = b_is ∙ ap data_bytes g_is ∙ ap (λ (p : Program). data_bytes p.globals) (sym lent) in
+    let keeps : KeepsRuns p depth (unit_for h) = subst (λ (p : Program). KeepsRuns p depth (unit_for h)) lent
+    (each_unit h depth (subst IsProgram (sym lent) program) ok (subst (λ (p : Program). FramesFit p depth) (sym lent) fit)) in
+    λ r right.
+    subst (λ (u : UnitParts). ComesTo u.blocks (start_state u.globals) r (rtl_run p depth r)) (sym u_is)
+    (subst (λ (bytes : List ℕ). ComesTo (split_blocks blocks') (start_state bytes) r (rtl_run p depth r)) (sym bytes_are)
+    (subst (λ (bs : List BlockParts). ComesTo bs (start_state (data_bytes (h.rtl.now).globals)) r (rtl_run p depth r)) (sym same) (keeps r right)))
+
+pub bytes_fit : (p : Program) (bytes : List ℕ) (globals : List RGlobal) → IsProgram p → globals ≡ p.globals → bytes ≡ data_bytes globals
+    → length bytes ≤ UNIT_BYTES
+bytes_fit p bytes globals ok g_is is =
+    let values = have_values p.globals ok.globals in
+    let padded = data_fits p.globals values ok.words_fit in
+    let ends = data_ends p.globals in
+    let sum = ap length ends.2 ∙ length-append (data_bytes p.globals) (zeros ends.0) in
+    let same = ap length (is ∙ ap data_bytes g_is) in
+    omega (arith, padded, same, sum)
+
+-- ---- the test of frames
+
+pub room_told : (h : Homed) (frames : List Frame) (depth : ℕ) (b : Bool) → (IsTrue b → HaveRoom frames depth) → b ≡ true → frames ≡ h.frames.items
+    → HaveRoom h.frames.items depth
+room_told h frames depth b says e is = subst (λ fs. HaveRoom fs depth) is (says e)
+
+pub fit_told : (h : Homed) (p : Program) (frames : List Frame) (depth : ℕ) (b : Bool) → (IsTrue b → HaveRoom frames depth) → b ≡ true
+    → frames ≡ h.frames.items → h.rtl.now ≡ p → AreChoices h → FramesFit p depth
+fit_told h p frames depth b says e is lent ok = subst (λ (p : Program). FramesFit p depth) lent
+    (fit_from_room h depth ok (room_told h frames depth b says e is))
+
+pub no_room : (h : Homed) (p : Program) (frames : List Frame) (depth : ℕ) (b : Bool) → (HaveRoom frames depth → IsTrue b) → b ≡ false
+    → frames ≡ h.frames.items → h.rtl.now ≡ p → AreChoices h → FramesFit p depth → IsBeyond p
+no_room h p frames depth b says e is lent ok fit =
+    absurd (true≢false (sym (says (subst (λ fs. HaveRoom fs depth) (sym is) (room_from_fit h depth ok
+    (subst (λ (p : Program). FramesFit p depth) (sym lent) fit)))) ∙ e))

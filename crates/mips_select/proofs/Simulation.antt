@@ -1,0 +1,706 @@
+-- Each step over homes is one or more items of the unit.
+use Rattle.std.proofs.Common.{◌≡◌, ℕ, zero, suc, ◌+◌, ◌*◌, ◌^◌, ◌<◌, ◌≤◌, ◌==◌, ◌⊎◌, inl, inr, Bool, true, false, eqb-true, ◌||◌, ◌&&◌, List, []}
+use Rattle.std.proofs.Common.{◌∷◌, ◌++◌, length, Option, Some, None, refl, sym, ap, ◌∙◌, subst, arith, nat_eq, nat_lt, true≢false, ltb-true}
+use Rattle.std.specs.Prelude.{if◌then◌else◌, not, slice_get}
+use Rattle.std.proofs.lemmas.List.{append-nil, append_assoc}
+use Rattle.std.proofs.lemmas.Option.{same_Some, none-some, slice_get_within}
+use Rattle.std.proofs.Math.Nat.{mul-le-mul_right}
+use Rattle.words.specs.declared.operator.Operator.TheVariants.{Slt}
+use Rattle.words.specs.Operators.{op_value}
+use Rattle.runs.specs.declared.ran.End.TheVariants.{Done}
+use Rattle.runs.specs.Runs.{Outcome}
+use Rattle.runs.specs.Stores.{Places, unset_places, Arrays, chain}
+use Rattle.mips_isa.specs.declared.inst.PairTest.TheVariants.{Equal}
+use Rattle.mips_isa.specs.declared.inst.ZeroTest.TheVariants.{AtMostZero}
+use Rattle.mips_isa.specs.declared.inst.Plain.{Plain}
+use Rattle.mips_isa.specs.States.{State, read}
+use Rattle.mips_isa.specs.Starting.{stack_base, stack_end}
+use Rattle.mblock.specs.declared.exit.Exit.{Exit}
+use Rattle.mblock.specs.declared.exit.Exit.TheVariants as E
+use Rattle.mblock.specs.Parts.{BlockParts}
+use Rattle.mblock.specs.BlockMeaning.{exit_effect}
+use Rattle.mblock.specs.UnitRuns.{items, outcome_at_block, outcome_at_return, outcome_of_departure, return_block_of, TellsApart}
+use Rattle.rtl.specs.declared.instruction.RInst.{RInst}
+use Rattle.rtl.specs.declared.instruction.RExit.{RExit}
+use Rattle.rtl.specs.declared.instruction.RExit.TheVariants.{Goto, Branch, Call, Return, Out}
+use Rattle.rtl.specs.declared.block.RBlock.{RBlock}
+use Rattle.rtl.specs.declared.block.RFunc.{RFunc}
+use Rattle.rtl.specs.declared.block.RGlobal.{RGlobal}
+use Rattle.rtl.specs.Meaning.{Code, code_of}
+use Rattle.mips_homes.specs.HomedRun.{Activation, new_activation, at_code, Run, Running, Ended, Failed, read_home, read_homes, write_home}
+use Rattle.mips_homes.specs.HomedRun.{write_homes, registers_at_entry, registers_at_return, state_at_block, with_result, state_after_return}
+use Rattle.mips_homes.specs.HomedRun.{state_after_exit, step_at, homed_step, homed_steps}
+use Rattle.mips_homes.specs.declared.homed.Frame.{Frame}
+use Rattle.mips_homes.specs.declared.homed.Home.{Home}
+use Rattle.mips_homes.specs.declared.homed.Homed.{Homed}
+use Rattle.mips_emit.specs.declared.location.Location.TheVariants.{Held}
+use Rattle.mips_emit.specs.declared.location.Source.TheVariants.{From}
+use Rattle.mips_emit.specs.declared.facts.Above.{Above}
+use Rattle.mips_emit.specs.declared.facts.Last.{Last}
+use Rattle.mips_emit.specs.declared.location.Source.{Source}
+use Rattle.mips_emit.specs.Locations.{Facts, known_in, locations, learned, known_after, last_of, last_after, no_last, tested, last_operand}
+use Rattle.mips_emit.specs.Code.{move_code, branch_code, branch_exit, inst_code, insts_code, fetch, seat, bring}
+use Rattle.mips_emit.specs.Frames.{IsFrame}
+use Rattle.mips_emit.proofs.Runs.{RunsTo, runs_none, runs_then, Point, At, Stopped, from, Leads, leads_nowhere, leads_then, leads_run, leads_exit}
+use Rattle.mips_emit.proofs.View.{read_register, word_at, set, set_words, put_here, put_other, moves}
+use Rattle.mips_emit.proofs.Stands.{Stored, stack_room, Stands}
+use Rattle.mips_emit.proofs.Homes.{IsLast, none_last, frame_homes, words_kept, call_kept, IsKnown, nothing_known, last_means, fetches, brings, sets_kept, puts}
+use Rattle.mips_emit.proofs.Insts.{value_or_failed, performs}
+use Rattle.mips_select.specs.declared.limits.TheConstants.{STACK_BYTES}
+use Rattle.mips_select.specs.Data.{padded_bytes, start_of}
+use Rattle.mips_select.specs.Code.{saves, frame_bytes, link_save, lowers, parameters_code, prologue, epilogue, exit_code, exit_of, code_insts}
+use Rattle.mips_select.specs.Code.{own_block, result_code, after_block, prologue_block, end_block}
+use Rattle.mips_select.specs.Selected.{GoesOn, StandsAt, IsPlaced, IsFunction, IsSelected}
+use Rattle.mips_select.proofs.Frames.{arguments, parameters}
+use Rattle.mips_select.proofs.Returns.{return_found}
+use Rattle.mips_select.proofs.Calls.{stored_frame, frames_of, linked_frames, enters, leaves_frame}
+use Rattle.mips_select.proofs.Comparisons.{at_most_zero}
+
+abbrev halted : ℕ → List ℕ → Outcome
+halted w out = record { end = Done w; output = out }
+
+-- as many words as are read
+read_length : (homes : List Home) (r slots : Places) (xs vs : List ℕ) → read_homes homes r slots xs ≡ Some vs → length vs ≡ length xs
+read_length homes r slots [] vs e = sym (ap length (same_Some [] vs e))
+read_length homes r slots (x ∷ xs) vs e = first (λ ws e. read_length homes r slots xs ws e) (read_home homes r slots x) e
+  where
+    Again : Type 0
+    Again = (ws : List ℕ) → read_homes homes r slots xs ≡ Some ws → length ws ≡ length xs
+
+    second : Again → (v : ℕ) (o : Option (List ℕ)) → read_homes homes r slots xs ≡ o → chain o (λ vs. Some (v ∷ vs)) ≡ Some vs → length vs ≡ suc (length xs)
+    second again v None is e = absurd (none-some vs e)
+    second again v (Some ws) is e = sym (ap length (same_Some (v ∷ ws) vs e)) ∙ ap suc (again ws is)
+
+    first : Again → (o : Option ℕ) → chain o (λ v. chain (read_homes homes r slots xs) (λ vs. Some (v ∷ vs))) ≡ Some vs → length vs ≡ suc (length xs)
+    first again None e = absurd (none-some vs e)
+    first again (Some v) e = second again v (read_homes homes r slots xs) refl e
+
+module _ (h : Homed) (depth : ℕ) (blocks : List BlockParts) (ok : IsSelected h depth blocks) (links : ℕ → ℕ) (tells : TellsApart links blocks) where
+  abbrev pub gs : List RGlobal
+  gs = (h.rtl.now).globals
+
+  abbrev pub starts : ℕ → ℕ
+  starts = start_of (h.rtl.now).globals
+
+  abbrev pub total : ℕ
+  total = length (padded_bytes (h.rtl.now).globals)
+
+  abbrev pub Stand : Places → Arrays → List Stored → State → Type 0
+  Stand r g fs s = Stands ok.most total gs starts r g fs s
+
+  abbrev pub Placed : Bool → Frame → (ℕ → ℕ) → (ℕ → List Plain) → List RBlock → Type 0
+  Placed leaf f place head bs = IsPlaced blocks gs starts ok.entry leaf f place head bs
+
+  abbrev pub Stood : Bool → Frame → (ℕ → ℕ) → (ℕ → List Plain) → ℕ → List Plain → RBlock → Type 0
+  Stood leaf f place head k first b = StandsAt blocks gs starts ok.entry leaf f place head k first b
+
+  abbrev pub Lead : ℕ → Point → Point → Type 0
+  Lead d p q = Leads blocks links d p q
+
+  -- the block of a unit that stands for what is left of a block
+  pub record CodeAt (leaf : Bool) (f : Frame) (place : ℕ → ℕ) (head : ℕ → List Plain) (facts : Facts) (last : Last) (k : ℕ) (x : RExit) : Type 0 where
+    pub form : BlockParts
+    pub next : ℕ
+    pub there : slice_get blocks k ≡ Some form
+    pub exit : form.exit ≡ exit_of ok.entry place f facts last next x
+    pub leads_on : GoesOn blocks gs starts ok.entry leaf f place head next x
+
+  code_at : (leaf : Bool) (f : Frame) (place : ℕ → ℕ) (head : ℕ → List Plain) (k : ℕ) (first : List Plain) (b : RBlock) → Stood leaf f place head k first b
+      → CodeAt leaf f place head (known_after b.insts.items []) (last_after (locations f) [] b.insts.items no_last) k b.exit
+  code_at leaf f place head k first b at = record {
+    form = own_block gs starts ok.entry place leaf f first at.next b;
+    next = at.next;
+    there = at.there;
+    exit
+        = refl;
+    leads_on = at.leads_on;
+  }
+
+  -- where the call with a link goes on, for an activation that waits
+  pub record Resumes (link : ℕ) (d : Option ℕ) (w : Activation) : Type 0 where
+    pub place : ℕ → ℕ
+    pub head : ℕ → List Plain
+    pub placed : Placed false w.frame place head w.blocks
+    pub frame : IsFrame ok.most w.frame
+    pub number : ℕ
+    pub found : return_block_of links link 0 blocks ≡ Some number
+    pub next : ℕ
+    pub first : List Plain
+    pub after : ((slice_get blocks number ≡ Some (after_block w.frame d next)) × (first ≡ [])) ⊎ ((number ≡ next) × (first ≡ result_code (locations w.frame) d))
+    pub block : RBlock
+    pub code : w.code ≡ code_of block
+    pub at : Stood false w.frame place head next first block
+
+  abbrev pub Waits : ℕ → Option ℕ → List Activation → List ℕ → Type 0
+  Waits link d [] ls = return_block_of links link 0 blocks ≡ Some 1
+  Waits link d (w ∷ ws) [] = ⊥
+  Waits link d (w ∷ ws) (l ∷ ls) = Resumes link d w × Waits l w.result_to ws ls
+
+  as_deep : (link : ℕ) (d : Option ℕ) (ws : List Activation) (ls : List ℕ) → Waits link d ws ls → length (frames_of ws ls) ≡ length ws
+  as_deep link d [] ls w = refl
+  as_deep link d (a ∷ ws) [] w = absurd w
+  as_deep link d (a ∷ ws) (l ∷ ls) w = ap suc (as_deep l a.result_to ws ls w.1)
+
+  -- the state of a run over homes, and a point of the unit's run
+  pub record Match (r : Places) (a : Activation) (ws : List Activation) (g : Arrays) (out : List ℕ) (p : Point) : Type 0 where
+    pub state : State
+    pub number : ℕ
+    pub link : ℕ
+    pub below : List ℕ
+    pub leaf : Bool
+    pub place : ℕ → ℕ
+    pub head : ℕ → List Plain
+    pub facts : Facts
+    pub last : Last
+    pub point : p ≡ At number (code_insts gs starts leaf a.frame facts last a.code) state out
+    pub code : CodeAt leaf a.frame place head (known_after a.code.insts facts) (last_after (locations a.frame) facts a.code.insts last) number a.code.exit
+    pub is_known : IsKnown (known_in facts) a.frame.homes.items r a.slots
+    pub is_last : IsLast last a.frame.homes.items r a.slots state
+    pub placed : Placed leaf a.frame place head a.blocks
+    pub frame : IsFrame ok.most a.frame
+    pub stands : Stand r g (stored_frame leaf a.frame a.slots a.aside link ∷ frames_of ws below) state
+    pub waits : Waits link a.result_to ws below
+
+  abbrev pub MatchRun : Run → Point → Type 0
+  MatchRun (Running r [] g out) p = ⊥
+  MatchRun (Running r (a ∷ ws) g out) p = Match r a ws g out p
+  MatchRun (Ended v out) p = p ≡ Stopped v out
+  MatchRun (Failed out) p = Unit {0}
+
+  pub record Reached (n : ℕ) (p : Point) (run : Run) : Type 0 where
+    pub to : Point
+    pub count : ℕ
+    pub enough : n ≤ count
+    pub leads : Lead count p to
+    pub match : MatchRun run to
+
+  -- so many items, at least, lead to a point that matches, unless the run went wrong
+  abbrev pub Reach : ℕ → Point → Run → Type 0
+  Reach n p (Running r ws g out) = Reached n p (Running r ws g out)
+  Reach n p (Ended v out) = Reached n p (Ended v out)
+  Reach n p (Failed out) = Unit {0}
+
+  reached_after : (m n d : ℕ) (p q : Point) (run : Run) → m ≤ d + n → Lead d p q → Reached n q run → Reached m p run
+  reached_after m n d p q run le lead r = record {
+    to = r.to;
+    count = d + r.count;
+    enough = (let enough = r.enough in omega (arith, le, enough));
+    leads = leads_then blocks links d r.count p q r.to lead r.leads;
+    match = r.match;
+  }
+
+  pub reach_after : (m n d : ℕ) (p q : Point) (run : Run) → m ≤ d + n → Lead d p q → Reach n q run → Reach m p run
+  reach_after m n d p q (Running r ws g out) le lead x = reached_after m n d p q (Running r ws g out) le lead x
+  reach_after m n d p q (Ended v out) le lead x = reached_after m n d p q (Ended v out) le lead x
+  reach_after m n d p q (Failed out) le lead x = tt
+
+  -- instructions up to the exit
+  pub code_leads : (k : ℕ) (is : List Plain) (s t : State) (out : List ℕ) → RunsTo is s t → Lead (length is) (At k is s out) (At k [] t out)
+  code_leads k is s t out e = subst (λ l. Lead (length is) (At k l s out) (At k [] t out)) (append-nil is) (leads_run blocks links k is [] s t out e)
+
+  pub departs : (k : ℕ) (form : BlockParts) (x : Exit) (s : State) (out : List ℕ) (q : Point) → slice_get blocks k ≡ Some form → form.exit ≡ x → ((n : ℕ)
+      → outcome_of_departure blocks links (exit_effect x s (links k)).goes (items blocks links n) (exit_effect x s (links k)).state out ≡ from blocks links n
+      q) → Lead 1 (At k [] s out) q
+  departs k form x s out q there is e = leads_exit blocks links k form s out q there
+      (λ n. ap (λ x. outcome_of_departure blocks links (exit_effect x s (links k)).goes (items blocks links n) (exit_effect x s (links k)).state out) is ∙ e n)
+
+  jump : (k : ℕ) (form : BlockParts) (t : ℕ) (target : BlockParts) (s : State) (out : List ℕ) → slice_get blocks k ≡ Some form → form.exit ≡ E.Goto t
+      → slice_get blocks t ≡ Some target → Lead 1 (At k [] s out) (At t target.insts s out)
+  jump k form t target s out there is at = departs k form (E.Goto t) s out (At t target.insts s out) there is
+      (λ n. ap (λ o. outcome_at_block t o (items blocks links n) s out) at)
+
+  -- a block without head
+  no_head : (d : ℕ) (p : Point) (k : ℕ) (first code : List Plain) (s : State) (out : List ℕ) → first ≡ [] → Lead d p (At k (first ++ code) s out)
+      → Lead d p (At k code s out)
+  no_head d p k first code s out none lead = subst (λ first. Lead d p (At k (first ++ code) s out)) none lead
+
+  -- a jump over homes
+  jumps : (leaf : Bool) (p : Point) (d : ℕ) (a : Activation) (link : ℕ) (below : List ℕ) (place : ℕ → ℕ) (head : ℕ → List Plain) (ws : List Activation)
+      → Placed leaf a.frame place head a.blocks → IsFrame ok.most a.frame → Waits link a.result_to ws below
+      → (b : ℕ) (r slots : Places) (g : Arrays) (out : List ℕ) (s : State) → Stand r g (stored_frame leaf a.frame slots a.aside link ∷ frames_of ws below) s
+      → 1 ≤ d
+      → ((block : RBlock) → Stood leaf a.frame place head (place b) (head b) block → Lead d p
+      (At (place b) (code_insts gs starts leaf a.frame [] no_last (code_of block)) s out))
+      → Reach 1 p (state_at_block b a r slots ws g out)
+  jumps leaf p d a link below place head ws placed frame waits b r slots g out s st some f =
+      value_or_failed (λ run. Reach 1 p run) (slice_get a.blocks b) out (λ block. Running r (at_code a slots (code_of block) ∷ ws) g out) tt (λ block there.
+      let at = placed.by b block there in
+      record {
+        to = At (place b) (code_insts gs starts leaf a.frame [] no_last (code_of block)) s out;
+        count = d;
+        enough = some;
+        leads = f block at;
+        match = record {
+          state = s;
+          number = place b;
+          link = link;
+          below = below;
+          leaf = leaf;
+          place = place;
+          head = head;
+          facts = [];
+          last = no_last;
+          point
+              = refl;
+          code = code_at leaf a.frame place head (place b) (head b) block at;
+          is_known = nothing_known a.frame.homes.items r slots;
+          is_last =
+              none_last a.frame.homes.items r slots s;
+          placed = placed;
+          frame = frame;
+          stands = st;
+          waits = waits;
+        };
+      })
+
+  regrouped : (a b c : List Plain) (s t : State) → RunsTo ((a ++ b) ++ c) s t → RunsTo (a ++ (b ++ c)) s t
+  regrouped a b c s t e = subst (λ is. RunsTo is s t) (append_assoc a b c) e
+
+  -- a function is entered, from a point that leads to its first block
+  pub entered : (p : Point) (f : ℕ) (func : RFunc) (frame : Frame) → IsFunction blocks gs starts ok.entry ok.most f func frame
+      → (r : Places) (arrays : Arrays) (ws : List Activation) (link : ℕ) (result_to : Option ℕ) (below : List ℕ) (vs : List ℕ) (s : State) (out : List ℕ)
+      → ((form : BlockParts) → slice_get blocks (ok.entry f) ≡ Some form → Lead 1 p (At (ok.entry f) form.insts s out))
+      → Stand r arrays (frames_of ws below) s → s.regs 31 ≡ link → ((j v : ℕ) → slice_get vs j ≡ Some v → s.regs (4 + j) ≡ v) → length vs ≡ func.parameters
+      → suc (length ws) * ok.most ≤ STACK_BYTES → Waits link result_to ws below
+      → Reach 1 p (write_homes frame.homes.items (registers_at_entry frame.saved.items r) unset_places 0 vs out (λ r' s'.
+      state_at_block 0 (new_activation func.blocks.items frame s' r result_to) r' s' ws arrays out))
+  entered p f func frame is r arrays ws link result_to below vs s out enter st is_link here count deep waits =
+      let few = is.parameters in
+      let room : stack_base + ok.most ≤ s.regs 29 = enough_room (s.regs 29) (length ws)
+      (stack_room ok.most (word_at s) (s.regs 29) (frames_of ws below) st.stack) (as_deep link result_to ws below waits) in
+      let e = enters ok.most total gs starts ok.small r arrays (frames_of ws below) s is.leaf frame link is.frame is_link room st in
+      parameters ok.most total gs starts arrays (frames_of ws below) frame.homes.items (λ run. Reach 1 p run) out tt vs 4 0
+      (registers_at_entry frame.saved.items r) (stored_frame is.leaf frame unset_places r link) e.to
+      (λ r' s'. state_at_block 0 (new_activation func.blocks.items frame s' r result_to) r' s' ws arrays out)
+      (frame_homes ok.most frame is.frame) (omega arith) (omega (arith, count, few))
+      (λ j v at. (let low = slice_get_within vs j v at in e.same (4 + j) (omega (arith, low, count, few))) ∙ here j v at) e.stands
+      (λ r' s' s2 e2 st2. begins r' s' s2 (subst (λ n. RunsTo (prologue is.leaf frame n) s s2) count
+      (regrouped (lowers (frame_bytes is.leaf frame)) (saves (4 * frame.slots) frame.saved.items ++ link_save is.leaf frame)
+      (parameters_code (locations frame) 4 0 (length vs)) s s2 (runs_then e.runs e2))) st2 is.first)
+    where
+      callee : Places → Activation
+      callee slots = new_activation func.blocks.items frame slots r result_to
+
+      code : List Plain
+      code = prologue is.leaf frame func.parameters
+
+      begins : (r' slots' : Places) (s2 : State) → RunsTo (prologue is.leaf frame func.parameters) s s2
+          → Stand r' arrays (stored_frame is.leaf frame slots' r link ∷ frames_of ws below) s2
+          → ((slice_get blocks (ok.entry f) ≡ Some (prologue_block is.leaf frame func.parameters (is.place 0))) × (is.head 0 ≡ [])) ⊎
+          ((ok.entry f ≡ is.place 0) × (is.head 0 ≡ prologue is.leaf frame func.parameters))
+          → Reach 1 p (state_at_block 0 (callee slots') r' slots' ws arrays out)
+      begins r' slots' s2 body st2 (inl at) =
+          jumps is.leaf p (1 + (length code + 1)) (callee slots') link below is.place is.head ws is.placed is.frame waits 0 r' slots' arrays out s2 st2
+          (omega arith)
+          (λ block stood.
+          let target = own_block gs starts ok.entry is.place is.leaf frame (is.head 0) stood.next block in
+          let l1 = enter (prologue_block is.leaf frame func.parameters (is.place 0)) at.0 in
+          let l2 = code_leads (ok.entry f) code s s2 out body in
+          let l3 = no_head 1 (At (ok.entry f) [] s2 out) (is.place 0) (is.head 0) (code_insts gs starts is.leaf frame [] no_last (code_of block)) s2 out at.1
+          (jump (ok.entry f) (prologue_block is.leaf frame func.parameters (is.place 0)) (is.place 0) target s2 out at.0 refl stood.there) in
+          let to = At (is.place 0) (code_insts gs starts is.leaf frame [] no_last (code_of block)) s2 out in
+          leads_then blocks links 1 (length code + 1) p (At (ok.entry f) code s out) to l1
+          (leads_then blocks links (length code) 1 (At (ok.entry f) code s out) (At (ok.entry f) [] s2 out) to l2 l3))
+      begins r' slots' s2 body st2 (inr at) =
+          jumps is.leaf p (1 + length code) (callee slots') link below is.place is.head ws is.placed is.frame waits 0 r' slots' arrays out s2 st2 (omega arith)
+          (λ block stood.
+          let rest = code_insts gs starts is.leaf frame [] no_last (code_of block) in
+          let target = own_block gs starts ok.entry is.place is.leaf frame (is.head 0) stood.next block in
+          let l1 : Lead 1 p (At (ok.entry f) (is.head 0 ++ rest) s out) = enter target (ap (slice_get blocks) at.0 ∙ stood.there) in
+          let l2 : Lead 1 p (At (ok.entry f) (code ++ rest) s out) = subst (λ first. Lead 1 p (At (ok.entry f) (first ++ rest) s out)) at.1 l1 in
+          let l3 = leads_run blocks links (ok.entry f) code rest s s2 out body in
+          let all = leads_then blocks links 1 (length code) p (At (ok.entry f) (code ++ rest) s out) (At (ok.entry f) rest s2 out) l2 l3 in
+          subst (λ k. Lead (1 + length code) p (At k rest s2 out)) at.0 all)
+
+      enough_room : (p n : ℕ) → stack_end ≤ p + length (frames_of ws below) * ok.most → length (frames_of ws below) ≡ length ws → stack_base + ok.most ≤ p
+      enough_room p n low same =
+          let one : suc (length ws) * ok.most ≡ ok.most + length ws * ok.most = omega arith in
+          let low' : stack_end ≤ p + length ws * ok.most = subst (λ n. stack_end ≤ p + n * ok.most) same low in
+          omega (arith, one, deep, low')
+
+  -- so many frames fit the stack
+  room_for : (n : ℕ) → n < depth → suc n * ok.most ≤ STACK_BYTES
+  room_for n lt =
+      let some : suc n * ok.most ≤ depth * ok.most = mul-le-mul_right ok.most lt in
+      let all = ok.room in
+      omega (arith, some, all)
+
+  -- the link leads back to a block
+  back : (k : ℕ) (form : BlockParts) (s : State) (out : List ℕ) (link n : ℕ) (target : BlockParts) → slice_get blocks k ≡ Some form → form.exit ≡ E.Return
+      → s.regs 31 ≡ link → return_block_of links link 0 blocks ≡ Some n → slice_get blocks n ≡ Some target → Lead 1 (At k [] s out) (At n target.insts s out)
+  back k form s out link n target there is at found next = departs k form E.Return s out (At n target.insts s out) there is (λ i.
+      ap (λ w. outcome_at_return blocks (return_block_of links w 0 blocks) (items blocks links i) s out) at
+      ∙ ap (λ o. outcome_at_return blocks o (items blocks links i) s out) found
+      ∙ ap (λ o. outcome_at_block n o (items blocks links i) s out) next)
+
+  -- a return, from a state in which the frame is gone
+  returns : (p : Point) (d k : ℕ) (form : BlockParts) (a : Activation) (ws : List Activation) (link : ℕ) (below : List ℕ) (o : Option ℕ) (r : Places)
+      (g : Arrays) (out : List ℕ) (s : State)
+      → slice_get blocks k ≡ Some form → form.exit ≡ E.Return → s.regs 31 ≡ link → ((v : ℕ) → o ≡ Some v → s.regs 2 ≡ v)
+      → Stand (registers_at_return a.frame.saved.items a.aside r) g (frames_of ws below) s → Waits link a.result_to ws below → Lead d p (At k [] s out)
+      → Reach 1 p (state_after_return o a r ws g out)
+  returns p d k form a [] link below o r g out s there is at result st found lead =
+      value_or_failed (λ run. Reach 1 p run) o out (λ v. Ended v out) tt (λ v o_v.
+      let s1 = set s 4 (s.regs 2) in
+      let q = At 1 (move_code 4 2 ∷ []) s out in
+      let l1 = back k form s out link 1 end_block there is at found ok.end in
+      let l2 = code_leads 1 (move_code 4 2 ∷ []) s s1 out (moves s 4 2 st.words) in
+      let value : s1.regs 4 ≡ v = put_here s.regs 4 (s.regs 2) (record { low = omega arith; high = omega arith }) ∙ result v o_v in
+      let l3 : Lead 1 (At 1 [] s1 out) (Stopped v out) = departs 1 end_block E.Halt s1 out (Stopped v out) ok.end refl (λ n. ap (λ w. halted w out) value) in
+      record {
+        to = Stopped v out;
+        count = d + (1 + (1 + 1));
+        enough = omega arith;
+        leads = leads_then blocks links d (1 + (1 + 1)) p (At k [] s out) (Stopped v out) lead
+            (leads_then blocks links 1 (1 + 1) (At k [] s out) q (Stopped v out) l1 (leads_then blocks links 1 1 q (At 1 [] s1 out) (Stopped v out) l2 l3));
+        match = refl;
+      })
+  returns p d k form a (w ∷ ws) link [] o r g out s there is at result st waits lead = absurd waits
+  returns p d k form a (w ∷ ws) link (l ∷ ls) o r g out s there is at result st waits lead = put a.result_to
+      (λ r' slots' s' e st'. resumed r' slots' s' e st' (waits.0).after)
+    where
+      m : Resumes link a.result_to w
+      m = waits.0
+
+      again : Places → Places → Run
+      again r' s' = Running r' (at_code w s' w.code ∷ ws) g out
+
+      reached : (r' slots' : Places) (s' : State) (e : ℕ) → Stand r' g (stored_frame false w.frame slots' w.aside l ∷ frames_of ws ls) s'
+          → Lead (d + suc e) p (At m.next (code_insts gs starts false w.frame [] no_last (code_of m.block)) s' out) → Reach 1 p (again r' slots')
+      reached r' slots' s' e st' lead' = record {
+        to = At m.next (code_insts gs starts false w.frame [] no_last (code_of m.block)) s' out;
+        count = d + suc e;
+        enough = omega arith;
+        leads = lead';
+        match = record {
+          state = s';
+          number = m.next;
+          link = l;
+          below = ls;
+          leaf = false;
+          place = m.place;
+          head = m.head;
+          facts = [];
+          last = no_last;
+          point = ap (λ c. At m.next (code_insts gs starts false w.frame [] no_last c) s' out) (sym m.code);
+          code = subst (λ (c : Code). CodeAt false w.frame m.place m.head (known_after c.insts []) (last_after (locations w.frame) [] c.insts no_last) m.next
+              c.exit) (sym m.code) (code_at false w.frame m.place m.head m.next m.first m.block m.at);
+          is_known = nothing_known w.frame.homes.items r' slots';
+          is_last = none_last w.frame.homes.items r' slots' s';
+          placed = m.placed;
+          frame = m.frame;
+          stands = st';
+          waits = waits.1;
+        };
+      }
+
+      one_more : (n : ℕ) → 1 + n ≡ suc n
+      one_more n = omega arith
+
+      -- the result is arrays_with at the head of the block, or in a block of its own
+      resumed : (r' slots' : Places) (s' : State) → RunsTo (result_code (locations w.frame) a.result_to) s s'
+          → Stand r' g (stored_frame false w.frame slots' w.aside l ∷ frames_of ws ls) s'
+          → ((slice_get blocks m.number ≡ Some (after_block w.frame a.result_to m.next)) × (m.first ≡ [])) ⊎
+          ((m.number ≡ m.next) × (m.first ≡ result_code (locations w.frame) a.result_to)) → Reach 1 p (again r' slots')
+      resumed r' slots' s' e st' (inl after) =
+          let code = result_code (locations w.frame) a.result_to in
+          let rest = code_insts gs starts false w.frame [] no_last (code_of m.block) in
+          let to = At m.next rest s' out in
+          let target = own_block gs starts ok.entry m.place false w.frame m.first (m.at).next m.block in
+          let l1 = back k form s out link m.number (after_block w.frame a.result_to m.next) there is at m.found after.0 in
+          let l2 = code_leads m.number code s s' out e in
+          let l3 = no_head 1 (At m.number [] s' out) m.next m.first rest s' out after.1
+          (jump m.number (after_block w.frame a.result_to m.next) m.next target s' out after.0 refl (m.at).there) in
+          let all : Lead (1 + (length code + 1)) (At k [] s out) to = leads_then blocks links 1 (length code + 1) (At k [] s out) (At m.number code s out) to
+          l1 (leads_then blocks links (length code) 1 (At m.number code s out) (At m.number [] s' out) to l2 l3) in
+          reached r' slots' s' (length code + 1) st' (leads_then blocks links d (suc (length code + 1)) p (At k [] s out) to lead
+          (subst (λ n. Lead n (At k [] s out) to) (one_more (length code + 1)) all))
+      resumed r' slots' s' e st' (inr after) =
+          let code = result_code (locations w.frame) a.result_to in
+          let rest = code_insts gs starts false w.frame [] no_last (code_of m.block) in
+          let to = At m.next rest s' out in
+          let target = own_block gs starts ok.entry m.place false w.frame m.first (m.at).next m.block in
+          let l1 : Lead 1 (At k [] s out) (At m.number (m.first ++ rest) s out) = back k form s out link m.number target there is at m.found
+          (ap (slice_get blocks) after.0 ∙ (m.at).there) in
+          let l2 : Lead 1 (At k [] s out) (At m.number (code ++ rest) s out) = subst (λ first. Lead 1 (At k [] s out) (At m.number (first ++ rest) s out))
+          after.1 l1 in
+          let l3 = leads_run blocks links m.number code rest s s' out e in
+          let all = leads_then blocks links 1 (length code) (At k [] s out) (At m.number (code ++ rest) s out) (At m.number rest s' out) l2 l3 in
+          let all' : Lead (1 + length code) (At k [] s out) to = subst (λ n. Lead (1 + length code) (At k [] s out) (At n rest s' out)) after.0 all in
+          reached r' slots' s' (length code) st' (leads_then blocks links d (suc (length code)) p (At k [] s out) to lead
+          (subst (λ n. Lead n (At k [] s out) to) (one_more (length code)) all'))
+
+      put : (result_to : Option ℕ) → ((r' slots' : Places) (s' : State) → RunsTo (result_code (locations w.frame) result_to) s s'
+          → Stand r' g (stored_frame false w.frame slots' w.aside l ∷ frames_of ws ls) s' → Reach 1 p (again r' slots'))
+          → Reach 1 p (with_result result_to o w.frame.homes.items (registers_at_return a.frame.saved.items a.aside r) w.slots out again)
+      put None f = f (registers_at_return a.frame.saved.items a.aside r) w.slots s (runs_none s) st
+      put (Some x) f =
+          value_or_failed (λ run. Reach 1 p run) o out (λ v. write_home w.frame.homes.items (registers_at_return a.frame.saved.items a.aside r) w.slots x v
+          out again) tt (λ v o_v.
+          let two = result v o_v in
+          puts ok.most total gs starts (registers_at_return a.frame.saved.items a.aside r) g (stored_frame false w.frame w.slots w.aside l) (frames_of ws ls)
+          s st (λ run. Reach 1 p run) again w.frame.homes.items x v None out unset_places (From (Held 2)) two
+          (subst (λ v. v < 2 ^ 32) two ((st.words).regs 2)) (λ w e. absurd (none-some w e)) (frame_homes ok.most w.frame m.frame)
+          (nothing_known w.frame.homes.items (registers_at_return a.frame.saved.items a.aside r) w.slots) tt
+          (λ r' slots' s' some e st' kn low. f r' slots' s' e st'))
+
+  branch_words : (place : ℕ → ℕ) (x y v : ℕ) (b : Bool) → (if b then place x else place y) ≡ place (if b then x else y)
+  branch_words place x y v true = refl
+  branch_words place x y v false = refl
+
+  either : (head : ℕ → List Plain) (x y : ℕ) (b : Bool) → (head y ≡ []) × (head x ≡ []) → head (if b then x else y) ≡ []
+  either head x y true e = e.1
+  either head x y false e = e.0
+
+  -- an exit
+  exits : (leaf : Bool) (x : RExit) (facts : Facts) (last : Last) (a : Activation) (k : ℕ) (link : ℕ) (below : List ℕ) (place : ℕ → ℕ) (head : ℕ
+      → List Plain) (ws : List Activation) (r : Places) (g : Arrays) (out : List ℕ) (s : State)
+      → CodeAt leaf a.frame place head facts last k x → IsKnown (known_in facts) a.frame.homes.items r a.slots
+      → IsLast last a.frame.homes.items r a.slots s → Placed leaf a.frame place head a.blocks → IsFrame ok.most a.frame
+      → Waits link a.result_to ws below → Stand r g (stored_frame leaf a.frame a.slots a.aside link ∷ frames_of ws below) s
+      → Reach 1 (At k (exit_code leaf a.frame facts last x) s out) (state_after_exit h depth x a r ws g out)
+  exits leaf (Goto b) facts last a k link below place head ws r g out s c kn new placed frame waits st =
+      jumps leaf (At k [] s out) 1 a link below place head ws placed frame waits b r a.slots g out s st (omega arith)
+      (λ block stood. no_head 1 (At k [] s out) (place b) (head b) (code_insts gs starts leaf a.frame [] no_last (code_of block)) s out c.leads_on
+      (jump k c.form (place b) (own_block gs starts ok.entry place leaf a.frame (head b) stood.next block) s out c.there c.exit stood.there))
+  exits leaf (Branch x y z) facts last a k link below place head ws r g out s c kn new placed frame waits st =
+      value_or_failed (λ run. Reach 1 (At k (exit_code leaf a.frame facts last (Branch x y z)) s out) run) (read_home a.frame.homes.items r a.slots x) out
+      (λ v. state_at_block (if nat_eq v 0 then z else y) a r a.slots ws g out) tt (λ v e. branch v e (tested last.above x) refl c.exit)
+    where
+      o : Source
+      o = last_operand (locations a.frame) facts last.fresh x
+
+      -- the word of a register, whose comparison with zero is the operand
+      found : (v q : ℕ) → read_home a.frame.homes.items r a.slots x ≡ Some v → (p : Option Above) → last.above ≡ p → tested p x ≡ Some q
+          → (0 < q) × (v ≡ op_value Slt 0 (s.regs q))
+      found v q e None is t = absurd (none-some q t)
+      found v q e (Some m) is t = go (nat_eq m.result x) refl t
+        where
+          go : (b : Bool) → nat_eq m.result x ≡ b → (if b then Some m.register else None) ≡ Some q → (0 < q) × (v ≡ op_value Slt 0 (s.regs q))
+          go false eb t = absurd (none-some q t)
+          go true eb t = subst (λ q. (0 < q) × (v ≡ op_value Slt 0 (s.regs q))) (same_Some m.register q t)
+              (new.above m v is (ap (read_home a.frame.homes.items r a.slots) (eqb-true m.result x eb) ∙ e))
+
+      branch : (v : ℕ) → read_home a.frame.homes.items r a.slots x ≡ Some v → (t : Option ℕ) → tested last.above x ≡ t
+          → (c.form).exit ≡ branch_exit t (last_operand (locations a.frame) facts last.fresh x) (place y) (place z)
+          → Reach 1 (At k (branch_code t (last_operand (locations a.frame) facts last.fresh x)) s out)
+          (state_at_block (if nat_eq v 0 then z else y) a r a.slots ws g out)
+      branch v e None is_test is_exit =
+          let code = fetch 1 (last_operand (locations a.frame) facts last.fresh x) in
+          let means = last_means ok.most total gs starts r g (stored_frame leaf a.frame a.slots a.aside link) (frames_of ws below) s st (known_in facts)
+          last.fresh a.frame.homes.items x v (frame_homes ok.most a.frame frame) kn new.fresh e in
+          let one = fetches ok.most total gs starts r g (stored_frame leaf a.frame a.slots a.aside link) (frames_of ws below) s st 1 v
+          (last_operand (locations a.frame) facts last.fresh x) (omega arith) (omega arith) means in
+          let s1 : State = record s { regs = one.regs } in
+          let b = if nat_eq v 0 then z else y in
+          let l1 = code_leads k code s s1 out one.runs in
+          jumps leaf (At k code s out) (length code + 1) a link below place head ws placed frame waits b r a.slots g out s1 one.stands (omega arith)
+          (λ block stood.
+          let rest = code_insts gs starts leaf a.frame [] no_last (code_of block) in
+          let q = At (place b) (head b ++ rest) s1 out in
+          let l2 = departs k c.form (E.BranchPair Equal (seat 1 (last_operand (locations a.frame) facts last.fresh x)) 0 (place z) (place y)) s1 out q
+          c.there is_exit (λ n.
+          ap (λ w. outcome_at_block (if (w == 0) then place z else place y) (slice_get blocks (if (w == 0) then place z else place y)) (items blocks links n)
+          s1 out) one.here
+          ∙ ap (λ t. outcome_at_block t (slice_get blocks t) (items blocks links n) s1 out) (branch_words place z y v (nat_eq v 0))
+          ∙ ap (λ o. outcome_at_block (place b) o (items blocks links n) s1 out) stood.there) in
+          leads_then blocks links (length code) 1 (At k code s out) (At k [] s1 out) (At (place b) rest s1 out) l1
+          (no_head 1 (At k [] s1 out) (place b) (head b) rest s1 out (either head z y (nat_eq v 0) c.leads_on) l2))
+      branch v e (Some q) is_test is_exit =
+          let at = found v q e last.above refl is_test in
+          let b = if nat_eq v 0 then z else y in
+          let word : read 0 s.regs q ≡ s.regs q = read_register s.regs q at.0 in
+          let same : ((read 0 s.regs q == 0) || not (nat_lt (read 0 s.regs q) (2 ^ 31))) ≡ nat_eq v 0 = ap (λ w. (w == 0) || not (nat_lt w (2 ^ 31))) word
+          ∙ at_most_zero (s.regs q) ((st.words).regs q) ∙ ap (λ v. nat_eq v 0) (sym at.1) in
+          jumps leaf (At k [] s out) 1 a link below place head ws placed frame waits b r a.slots g out s st (omega arith)
+          (λ block stood.
+          let rest = code_insts gs starts leaf a.frame [] no_last (code_of block) in
+          let to = At (place b) (head b ++ rest) s out in
+          let l2 = departs k c.form (E.BranchZero AtMostZero q (place z) (place y)) s out to c.there is_exit (λ n.
+          ap (λ t. outcome_at_block (if t then place z else place y) (slice_get blocks (if t then place z else place y)) (items blocks links n) s out) same
+          ∙ ap (λ t. outcome_at_block t (slice_get blocks t) (items blocks links n) s out) (branch_words place z y v (nat_eq v 0))
+          ∙ ap (λ o. outcome_at_block (place b) o (items blocks links n) s out) stood.there) in
+          no_head 1 (At k [] s out) (place b) (head b) rest s out (either head z y (nat_eq v 0) c.leads_on) l2)
+  exits leaf (Out x next) facts last a k link below place head ws r g out s c kn new placed frame waits st =
+      value_or_failed (λ run. Reach 1 (At k (exit_code leaf a.frame facts last (Out x next)) s out) run) (read_home a.frame.homes.items r a.slots x) out
+      (λ v. state_at_block next a r a.slots ws g (out ++ v ∷ [])) tt (λ v e.
+      let o = last_operand (locations a.frame) facts last.fresh x in
+      let code = bring 4 o in
+      let means = last_means ok.most total gs starts r g (stored_frame leaf a.frame a.slots a.aside link) (frames_of ws below) s st (known_in facts)
+      last.fresh a.frame.homes.items x v (frame_homes ok.most a.frame frame) kn new.fresh e in
+      let one = brings ok.most total gs starts r g (stored_frame leaf a.frame a.slots a.aside link) (frames_of ws below) s st 4 v o
+      (record { low = omega arith; high = omega arith }) means in
+      let st1 = sets_kept ok.most total gs starts r g (stored_frame leaf a.frame a.slots a.aside link) (frames_of ws below) s st code 4 v (omega arith) one in
+      let s1 : State = record s { regs = one.regs } in
+      let s2 = set s1 2 1 in
+      let st2 = words_kept ok.most total gs starts r g (stored_frame leaf a.frame a.slots a.aside link ∷ frames_of ws below) s1 s2.regs
+      (set_words s1 2 1 st1.words (omega arith)) (λ q low high. put_other s1.regs 2 1 q (omega (arith, low))) st1 in
+      let l1 = code_leads k code s s1 out one.runs in
+      jumps leaf (At k code s out) (length code + 1) a link below place head ws placed frame waits next r a.slots g (out ++ v ∷ []) s2 st2 (omega arith)
+      (λ block stood.
+      let rest = code_insts gs starts leaf a.frame [] no_last (code_of block) in
+      let q = At (place next) (head next ++ rest) s2 (out ++ v ∷ []) in
+      let l2 = departs k c.form (E.Out (place next)) s1 out q c.there c.exit (λ n.
+      ap (λ w. outcome_at_block (place next) (slice_get blocks (place next)) (items blocks links n) s2 (out ++ w ∷ [])) one.here
+      ∙ ap (λ o. outcome_at_block (place next) o (items blocks links n) s2 (out ++ v ∷ [])) stood.there) in
+      leads_then blocks links (length code) 1 (At k code s out) (At k [] s1 out) (At (place next) rest s2 (out ++ v ∷ [])) l1
+      (no_head 1 (At k [] s1 out) (place next) (head next) rest s2 (out ++ v ∷ []) c.leads_on l2)))
+  exits leaf (Return None) facts last a k link below place head ws r g out s c kn new placed frame waits st =
+      let e = leaves_frame ok.most total gs starts ok.small r g (frames_of ws below) s leaf a.frame a.slots a.aside link frame (linked_frames ws below) st in
+      returns (At k (epilogue leaf a.frame) s out) (length (epilogue leaf a.frame)) k c.form a ws link below None r g out e.to c.there c.exit e.link_is
+      (λ v none. absurd (none-some v none)) e.stands waits (code_leads k (epilogue leaf a.frame) s e.to out e.runs)
+  exits leaf (Return (Some x)) facts last a k link below place head ws r g out s c kn new placed frame waits st =
+      value_or_failed (λ run. Reach 1 (At k (exit_code leaf a.frame facts last (Return (Some x))) s out) run) (read_home a.frame.homes.items r a.slots x) out
+      (λ v. state_after_return (Some v) a r ws g out) tt (λ v read_v.
+      let o = last_operand (locations a.frame) facts last.fresh x in
+      let means = last_means ok.most total gs starts r g (stored_frame leaf a.frame a.slots a.aside link) (frames_of ws below) s st (known_in facts)
+      last.fresh a.frame.homes.items x v (frame_homes ok.most a.frame frame) kn new.fresh read_v in
+      let one = brings ok.most total gs starts r g (stored_frame leaf a.frame a.slots a.aside link) (frames_of ws below) s st 2 v o
+      (record { low = omega arith; high = omega arith }) means in
+      let st1 = sets_kept ok.most total gs starts r g (stored_frame leaf a.frame a.slots a.aside link) (frames_of ws below) s st (bring 2 o) 2 v
+      (omega arith) one in
+      let s1 : State = record s { regs = one.regs } in
+      let e = leaves_frame ok.most total gs starts ok.small r g (frames_of ws below) s1 leaf a.frame a.slots a.aside link frame (linked_frames ws below) st1 in
+      let code = bring 2 o ++ epilogue leaf a.frame in
+      returns (At k code s out) (length code) k c.form a ws link below (Some v) r g out e.to c.there c.exit e.link_is (λ w is. e.same 2 (omega arith)
+      ∙ one.here ∙ same_Some v w is) e.stands waits (code_leads k code s e.to out (runs_then one.runs e.runs)))
+  exits true (Call f xs result_to next) facts last a k link below place head ws r g out s c kn new placed frame waits st = absurd (true≢false (c.leads_on).0)
+  exits false (Call f xs result_to next) facts last a k link below place head ws r g out s c kn new placed frame waits st =
+      value_or_failed (λ run. Reach 1 start run) (read_homes a.frame.homes.items r a.slots xs.items) out _ tt (λ vs read_vs.
+      value_or_failed (λ run. Reach 1 start run) (slice_get a.blocks next) out _ tt (λ block next_there.
+      value_or_failed (λ run. Reach 1 start run) (slice_get (h.rtl.now).functions f) out _ tt (λ func func_there.
+      value_or_failed (λ run. Reach 1 start run) (slice_get h.frames.items f) out _ tt (λ callee frame_there.
+      deep_enough (nat_lt (length (waiting block ∷ ws)) depth) (length vs == func.parameters) _ (λ deep as_many.
+      let is = ok.functions f func callee func_there frame_there in
+      let few = is.parameters in
+      let asked = read_length a.frame.homes.items r a.slots xs.items vs read_vs in
+      let count : length vs ≡ func.parameters = eqb-true (length vs) func.parameters as_many in
+      let args = arguments ok.most total gs starts r g (stored_frame false a.frame a.slots a.aside link) (frames_of ws below) s a.frame.homes.items facts 4
+      xs.items vs (frame_homes ok.most a.frame frame) kn (omega arith) (omega (arith, asked, count, few)) read_vs st in
+      let s1 : State = record s { regs = args.regs } in
+      let s2 = set s1 31 (links k) in
+      let st2 = call_kept ok.most total gs starts r g (stored_frame false a.frame a.slots a.aside link ∷ frames_of ws below) s1 s2.regs
+      (set_words s1 31 (links k) (args.stands).words (tells.words k)) (λ leaf. absurd (true≢false (sym leaf)))
+      (λ q low high. put_other s1.regs 31 (links k) q (omega (arith, high))) args.stands in
+      let found = return_found links blocks k (ok.entry f) c.next c.form tells c.there c.exit in
+      let at = placed.by next block next_there in
+      let resumes : Resumes (links k) result_to (waiting block) = record {
+        place = place;
+        head = head;
+        placed = placed;
+        frame = frame;
+        number = c.next;
+        found
+            = found;
+        next = place next;
+        first = head next;
+        after = (c.leads_on).1;
+        block = block;
+        code = refl;
+        at = at;
+      } in
+      let d = length (exit_code false a.frame facts last (Call f xs result_to next)) in
+      reach_after 1 1 d start (At k [] s1 out) _ (omega arith) (code_leads k (exit_code false a.frame facts last (Call f xs result_to next)) s s1 out args.runs)
+      (entered (At k [] s1 out) f func callee is r g (waiting block ∷ ws) (links k) result_to (link ∷ below) vs s2 out
+      (λ form there. departs k c.form (E.Call (ok.entry f) c.next) s1 out (At (ok.entry f) form.insts s2 out) c.there c.exit
+      (λ n. ap (λ o. outcome_at_block (ok.entry f) o (items blocks links n) s2 out) there)) st2
+      (put_here s1.regs 31 (links k) (record { low = omega arith; high = omega arith }))
+      (λ j v there. (let low = slice_get_within vs j v there in put_other s1.regs 31 (links k) (4 + j) (omega (arith, low, count, few))) ∙ args.here j v there)
+      count (room_for (suc (length ws)) (ltb-true (length (waiting block ∷ ws)) depth deep)) (resumes, waits)))))))
+    where
+      start : Point
+      start = At k (exit_code false a.frame facts last (Call f xs result_to next)) s out
+
+      waiting : RBlock → Activation
+      waiting block = at_code a a.slots (code_of block)
+
+      deep_enough : (b c : Bool) (run : Run) → (b ≡ true → c ≡ true → Reach 1 start run) → Reach 1 start (if b && c then run else Failed out)
+      deep_enough true true run f = f refl refl
+      deep_enough true false run f = tt
+      deep_enough false c run f = tt
+
+  -- a step
+  advances : (run : Run) (p : Point) → MatchRun run p → Reach 1 p (homed_step h depth run)
+  advances (Failed out) p m = tt
+  advances (Ended v out) p m = record {
+    to = Stopped v out;
+    count = 1;
+    enough = omega arith;
+    leads = subst (λ p. Lead 1 p (Stopped v out)) (sym m)
+        (λ n. refl);
+    match = refl;
+  }
+  advances (Running r [] g out) p m = absurd m
+  advances (Running r (a ∷ ws) g out) p m =
+      subst (λ p. Reach 1 p (step_at h depth a.code.insts a.code.exit a r ws g out)) (sym m.point) (step a.code.insts m.code)
+    where
+      at : List RInst → Facts → Last → State → Point
+      at is facts last s = At m.number (insts_code gs starts (locations a.frame) facts is
+          (exit_code m.leaf a.frame (known_after is facts) (last_after (locations a.frame) facts is last) a.code.exit)) s out
+
+      step : (is : List RInst) → CodeAt m.leaf a.frame m.place m.head (known_after is m.facts) (last_after (locations a.frame) m.facts is m.last) m.number
+          a.code.exit → Reach 1 (at is m.facts m.last m.state) (step_at h depth is a.code.exit a r ws g out)
+      step [] c = exits m.leaf a.code.exit m.facts m.last a m.number m.link m.below m.place m.head ws r g out m.state c m.is_known m.is_last m.placed m.frame
+          m.waits m.stands
+      step (i ∷ is) c =
+          performs ok.most total gs starts g (frames_of ws m.below) a.frame.homes.items (λ run. Reach 1 (at (i ∷ is) m.facts m.last m.state) run) out tt i
+          m.facts r (stored_frame m.leaf a.frame a.slots a.aside m.link) m.state
+          (λ r' s' g'. Running r' (at_code a s' (record { insts = is; exit = a.code.exit }) ∷ ws) g' out) (frame_homes ok.most a.frame m.frame) m.is_known
+          m.stands
+          (λ r' slots' g' s' some e st kn new. record {
+            to = at is (learned i m.facts) (last_of (locations a.frame) m.facts i) s';
+            count = length (inst_code gs starts (locations a.frame) m.facts i);
+            enough = some;
+            leads = leads_run blocks links m.number (inst_code gs starts (locations a.frame) m.facts i)
+                (insts_code gs starts (locations a.frame) (learned i m.facts) is
+                (exit_code m.leaf a.frame (known_after is (learned i m.facts)) (last_after (locations a.frame) (learned i m.facts) is
+                (last_of (locations a.frame) m.facts i)) a.code.exit)) m.state s' out e;
+            match = record {
+              state = s';
+              number = m.number;
+              link = m.link;
+              below = m.below;
+              leaf = m.leaf;
+              place = m.place;
+              head = m.head;
+              facts = learned i
+                  m.facts;
+              last = last_of (locations a.frame) m.facts i;
+              point = refl;
+              code = c;
+              is_known = kn;
+              is_last = new;
+              placed = m.placed;
+              frame =
+                  m.frame;
+              stands = st;
+              waits = m.waits;
+            };
+          })
+
+  failed_steps : (n : ℕ) (out : List ℕ) → homed_steps h depth n (Failed out) ≡ Failed out
+  failed_steps zero out = refl
+  failed_steps (suc n) out = failed_steps n out
+
+  stays : (run : Run) (p : Point) → MatchRun run p → Reach 0 p run
+  stays (Running r [] g out) p m = absurd m
+  stays (Running r (a ∷ ws) g out) p m = record { to = p; count = 0; enough = omega arith; leads = leads_nowhere blocks links p; match = m }
+  stays (Ended v out) p m = record { to = p; count = 0; enough = omega arith; leads = leads_nowhere blocks links p; match = m }
+  stays (Failed out) p m = tt
+
+  -- one step, and then more
+  after_one : (n : ℕ) (p : Point) (run : Run) → Reach 1 p run → ((run : Run) (q : Point) → MatchRun run q → Reach n q (homed_steps h depth n run))
+      → Reach (suc n) p (homed_steps h depth n run)
+  after_one n p (Failed out) a f = subst (λ run. Reach (suc n) p run) (sym (failed_steps n out)) tt
+  after_one n p (Running r ws g out) a f = (let enough = a.enough in reach_after (suc n) n a.count p a.to _ (omega (arith, enough)) a.leads
+      (f (Running r ws g out) a.to a.match))
+  after_one n p (Ended v out) a f = (let enough = a.enough in reach_after (suc n) n a.count p a.to _ (omega (arith, enough)) a.leads
+      (f (Ended v out) a.to a.match))
+
+  -- as many items as steps, at least
+  runs : (n : ℕ) (run : Run) (p : Point) → MatchRun run p → Reach n p (homed_steps h depth n run)
+  runs zero run p m = stays run p m
+  runs (suc n) run p m = after_one n p (homed_step h depth run) (advances run p m) (λ run q m. runs n run q m)
+
+  pub then_runs : (n : ℕ) (p : Point) (run : Run) → Reach 1 p run → Reach n p (homed_steps h depth n run)
+  then_runs n p run a = reach_after n (suc n) 0 p p _ (omega arith) (leads_nowhere blocks links p) (after_one n p run a (λ run q m. runs n run q m))

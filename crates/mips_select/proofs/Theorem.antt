@@ -1,0 +1,191 @@
+-- The blocks that stand for a program keep its runs.
+use Rattle.std.proofs.Common.{◌≡◌, ◌≢◌, ℕ, ◌+◌, ◌-◌, ◌*◌, ◌/◌, ◌%◌, ◌^◌, ◌<◌, ◌≤◌, Bool, true, false, cond, List, [], ◌∷◌, map}
+use Rattle.std.proofs.Common.{length, Some, None, refl, sym, ap, ap₂, ◌∙◌, subst, arith, le-leb}
+use Rattle.std.specs.Prelude.{if◌then◌else◌, slice_get, slice_index, nat_le}
+use Rattle.std.proofs.lemmas.Bool.{lt-leb}
+use Rattle.std.proofs.lemmas.Option.{same_Some, none-some, slice_get_within, get_or_from_slice_get}
+use mathlib.Core.Path.{fun_ext}
+use Rattle.words.specs.declared.width.Width.{Width}
+use Rattle.words.specs.declared.width.Width.TheVariants.{Word, Byte}
+use Rattle.runs.specs.declared.ran.End.TheVariants.{Wrong}
+use Rattle.runs.specs.Runs.{Outcome}
+use Rattle.runs.specs.Stores.{unset_places}
+use Rattle.mips_isa.specs.States.{State, IsWords, byte_of, load_word, load_byte}
+use Rattle.mips_isa.specs.Starting.{data_base, stack_base, stack_end, first_bytes, start_state}
+use Rattle.mips_isa.specs.Actions.{action_of}
+use Rattle.mips_isa.proofs.StateWords.{start_words}
+use Rattle.mblock.specs.declared.exit.Exit.TheVariants as E
+use Rattle.mblock.specs.declared.limits.TheConstants.{UNIT_BYTES}
+use Rattle.mblock.specs.Parts.{BlockParts}
+use Rattle.mblock.specs.UnitRuns.{items, outcome_at_block, unit_run, TellsApart}
+use Rattle.mblock.proofs.StateWords.{run_words}
+use Rattle.rtl.specs.declared.block.RFunc.{RFunc}
+use Rattle.rtl.specs.declared.block.RGlobal.{RGlobal}
+use Rattle.rtl.specs.Meaning.{first_values}
+use Rattle.mips_homes.specs.HomedRun.{Run, Running, Ended, Failed, new_activation, is_in, registers_at_entry, state_at_block, homed_steps}
+use Rattle.mips_homes.specs.HomedRun.{homed_start, outcome}
+use Rattle.mips_homes.specs.declared.homed.Homed.{Homed}
+use Rattle.mips_emit.specs.Elements.{width_of, element_place, address_of_place, data_middle}
+use Rattle.mips_emit.specs.Code.{constant}
+use Rattle.mips_emit.proofs.Runs.{Point, At, from}
+use Rattle.mips_emit.proofs.View.{shown_at, set, set_words, put_here, put_other, constant_set}
+use Rattle.mips_emit.proofs.Stands.{Stands, element_aligned, open_data}
+use Rattle.mips_emit.proofs.Homes.{call_kept}
+use Rattle.mips_emit.proofs.Insts.{value_or_failed}
+use Rattle.mips_select.specs.Data.{element_bytes, padded_bytes, start_of}
+use Rattle.mips_select.specs.Code.{start_block}
+use Rattle.mips_select.specs.Selected.{IsSelected, KeepHomedRuns}
+use Rattle.mips_select.proofs.DataPlaces.{HaveValues, have_values, data_fits, element_within, element_byte, start_even, elements_apart, data_below}
+use Rattle.mips_select.proofs.DataPlaces.{values_below}
+use Rattle.mips_select.proofs.Returns.{return_found}
+use Rattle.mips_select.proofs.Simulation.{total, Lead, Reach, code_leads, departs, reach_after, entered, then_runs}
+
+-- what a function saves is unset at the start as it is
+entry_unset : (saved : List ℕ) → registers_at_entry saved unset_places ≡ unset_places
+entry_unset saved = fun_ext (λ r. by r (is_in saved r))
+  where
+    by : (r : ℕ) (b : Bool) → (if b then None else unset_places r) ≡ unset_places r
+    by r true = refl
+    by r false = refl
+
+-- a byte of data at the start
+data_byte : (data_list : List ℕ) (p b : ℕ) → length data_list ≤ UNIT_BYTES → slice_get data_list p ≡ Some b → first_bytes data_list (data_base + p) ≡ b
+data_byte l p b few there =
+    let within = slice_get_within l p b there in
+    let below : data_base + p < stack_base = omega (arith, within, few) in
+    let low : data_base ≤ data_base + p = omega arith in
+    let place : data_base + p - data_base ≡ p = omega arith in
+    ap (λ t. if t then 0 else (if nat_le data_base (data_base + p) then slice_index l (data_base + p - data_base) else 0))
+    (lt-leb stack_base (data_base + p) below)
+    ∙ ap (λ t. if t then slice_index l (data_base + p - data_base) else 0) (le-leb data_base (data_base + p) low)
+    ∙ ap (slice_index l) place
+    ∙ get_or_from_slice_get l p b 0 there
+
+-- the bytes of a word
+four_bytes : (v : ℕ) → v < 2 ^ 32 → v / 2 ^ 24 % 256 * 2 ^ 24 + v / 2 ^ 16 % 256 * 2 ^ 16 + v / 2 ^ 8 % 256 * 2 ^ 8 + v % 256 ≡ v
+four_bytes v lt = omega arith
+
+module _ (l : List ℕ) (few : length l ≤ UNIT_BYTES) where
+  -- what a load sees where the bytes of an element stand
+  element_shown : (w : Width) (start i v : ℕ) → v < 2 ^ 32 → start % 4 ≡ 0 → ((k b : ℕ) → slice_get (element_bytes w v) k ≡ Some b
+      → slice_get l (element_place w start i + k) ≡ Some b) → shown_at w (start_state l) (address_of_place (element_place w start i)) ≡ v
+  unfolding load_word load_byte
+  element_shown Byte start i v lt even there =
+      let p = element_place Byte start i in
+      let zero_k : p + 0 ≡ p = omega arith in
+      let here : slice_get l p ≡ Some v = ap (slice_get l) (sym zero_k) ∙ there 0 v refl in
+      let ok = open_data Byte (length l) p (element_aligned Byte start i even) (slice_get_within l p v here) in
+      ap (λ x. cond x ((start_state l).memory (data_base + p)) 0) ok ∙ data_byte l p v few here
+  element_shown Word start i v lt even there =
+      let p = element_place Word start i in
+      let s = start_state l in
+      let a = data_base + p in
+      let zero_k : p + 0 ≡ p = omega arith in
+      let here : slice_get l p ≡ Some (byte_of v 0) = ap (slice_get l) (sym zero_k) ∙ there 0 (byte_of v 0) refl in
+      let ok = open_data Word (length l) p (element_aligned Word start i even) (slice_get_within l p (byte_of v 0) here) in
+      let b0 : s.memory a ≡ byte_of v 0 = data_byte l p (byte_of v 0) few here in
+      let b1 : s.memory (a + 1) ≡ byte_of v 1 = next 1 (byte_of v 1) (there 1 (byte_of v 1) refl) in
+      let b2 : s.memory (a + 2) ≡ byte_of v 2 = next 2 (byte_of v 2) (there 2 (byte_of v 2) refl) in
+      let b3 : s.memory (a + 3) ≡ byte_of v 3 = next 3 (byte_of v 3) (there 3 (byte_of v 3) refl) in
+      ap (λ x. cond x (s.memory a * 2 ^ 24 + s.memory (a + 1) * 2 ^ 16 + s.memory (a + 2) * 2 ^ 8 + s.memory (a + 3)) 0) ok
+      ∙ ap₂ (λ x y. x + y) (ap₂ (λ x y. x + y) (ap₂ (λ x y. x * 2 ^ 24 + y * 2 ^ 16) b0 b1) (ap (λ x. x * 2 ^ 8) b2)) b3
+      ∙ four_bytes v lt
+    where
+      next : (k b : ℕ) → slice_get l (element_place Word start i + k) ≡ Some b → (start_state l).memory (data_base + element_place Word start i + k) ≡ b
+      next k b at =
+          let place : data_base + element_place Word start i + k ≡ data_base + (element_place Word start i + k) = omega arith in
+          ap (start_state l).memory place ∙ data_byte l (element_place Word start i + k) b few at
+
+-- the state at the start holds the globals
+module _ (globals : List RGlobal) (ok : HaveValues globals) (few : length (padded_bytes globals) ≤ UNIT_BYTES) (most : ℕ) where
+  pub start_holds : (f : ℕ → ℕ) → IsWords (record (start_state (padded_bytes globals)) { regs = f }) → f 29 ≡ stack_end → f 28 ≡ data_middle
+      → Stands most (length (padded_bytes globals)) globals (start_of globals) unset_places (map first_values globals) []
+      (record (start_state (padded_bytes globals)) { regs = f })
+  start_holds f words top gp = record {
+    words = words;
+    mapped = refl;
+    held = λ r v low high at. absurd (none-some v at);
+    stack = top;
+    room = omega (arith, top);
+    aligned = ap (λ p. p % 4) top;
+    elements = λ a i v at. element_shown (padded_bytes globals) few (width_of globals a) (start_of globals a) i v (values_below globals a i v at)
+        (start_even 0 globals (omega arith) a)
+        (λ k b byte. element_byte 0 globals ok a i v k b (element_place (width_of globals a) (start_of globals a) i + k) at byte (omega arith));
+    inside = λ a i v at. (let within = (element_within 0 globals ok a i v at).1 in omega (arith, within));
+    apart = λ a i b j v w e f ne. elements_apart 0 globals ok a i b j v w e f ne;
+    even = start_even 0 globals (omega arith);
+    few = few;
+    linked = tt;
+    gp = gp;
+  }
+
+module _ (h : Homed) (depth : ℕ) (blocks : List BlockParts) (ok : IsSelected h depth blocks) (links : ℕ → ℕ) (tells : TellsApart links blocks) where
+  starts_reach : Reach h depth blocks ok links tells 1 (At 0 (constant 28 data_middle) (start_state (padded_bytes (h.rtl.now).globals)) []) (homed_start h)
+  starts_reach =
+      value_or_failed P (slice_get (h.rtl.now).functions (h.rtl.now).main) [] _ tt (λ func func_there.
+      value_or_failed P (slice_get h.frames.items (h.rtl.now).main) [] _ tt (λ frame frame_there.
+      let is = ok.functions (h.rtl.now).main func frame func_there frame_there in
+      let main = (ok.program).main in
+      let none : func.parameters ≡ 0 = ap (λ (f : RFunc). f.parameters) (same_Some func main.callee (sym func_there ∙ main.there)) ∙ main.takes in
+      let s : State = start_state (padded_bytes (h.rtl.now).globals) in
+      let arrays = map first_values (h.rtl.now).globals in
+      let c = constant_set s 28 data_middle (record { low = omega arith; high = omega arith }) in
+      let s0 : State = record s { regs = c.regs } in
+      let values = have_values (h.rtl.now).globals (ok.program).globals in
+      let few = data_fits (h.rtl.now).globals values (ok.program).words_fit in
+      let st0 = start_holds (h.rtl.now).globals values few ok.most c.regs (run_words (map action_of (constant 28 data_middle)) s s0
+      (start_words (padded_bytes (h.rtl.now).globals) (data_below (h.rtl.now).globals)) (c.runs).ends) (c.others 29 (λ e. absurd (omega (arith, e))))
+      c.here in
+      let s1 = set s0 31 (links 0) in
+      let st1 = call_kept ok.most (total h depth blocks ok links tells) (h.rtl.now).globals (start_of (h.rtl.now).globals) unset_places arrays [] s0 s1.regs
+      (set_words s0 31 (links 0) st0.words (tells.words 0)) tt (λ q low high. put_other s0.regs 31 (links 0) q (omega (arith, high))) st0 in
+      let found = return_found links blocks 0 (ok.entry (h.rtl.now).main) 1 (start_block (ok.entry (h.rtl.now).main)) tells ok.start refl in
+      let first = code_leads h depth blocks ok links tells 0 (constant 28 data_middle) s s0 [] c.runs in
+      let small = ok.small in
+      reach_after h depth blocks ok links tells 1 1 2 (At 0 (constant 28 data_middle) s []) (At 0 [] s0 []) _ (omega arith) first
+      (subst (λ registers. Reach h depth blocks ok links tells 1 (At 0 [] s0 [])
+      (state_at_block 0 (new_activation func.blocks.items frame unset_places unset_places None) registers unset_places [] arrays []))
+      (entry_unset frame.saved.items)
+      (entered h depth blocks ok links tells (At 0 [] s0 []) (h.rtl.now).main func frame is unset_places arrays [] (links 0) None [] [] s1 []
+      (λ form there. departs h depth blocks ok links tells 0 (start_block (ok.entry (h.rtl.now).main)) (E.Call (ok.entry (h.rtl.now).main) 1) s0 []
+      (At (ok.entry (h.rtl.now).main) form.insts s1 []) ok.start refl (λ n. ap
+      (λ o. outcome_at_block (ok.entry (h.rtl.now).main) o (items blocks links n) s1 []) there)) st1
+      (put_here s0.regs 31 (links 0) (record { low = omega arith; high = omega arith })) (λ j v at. absurd (none-some v at)) (sym none)
+      (omega (arith, small)) found))))
+    where
+      P : Run → Type 0
+      P run = Reach h depth blocks ok links tells 1 (At 0 (constant 28 data_middle) (start_state (padded_bytes (h.rtl.now).globals)) []) run
+
+  same_end : (n : ℕ) (run : Run) → Reach h depth blocks ok links tells n (At 0 (constant 28 data_middle) (start_state (padded_bytes (h.rtl.now).globals)) [])
+      run → (outcome run).end ≢ Wrong → (i : ℕ) × (n ≤ i) × (unit_run blocks links (start_state (padded_bytes (h.rtl.now).globals)) i ≡ outcome run)
+  same_end n run r ne = go run r ne
+    where
+      s : State
+      s = start_state (padded_bytes (h.rtl.now).globals)
+
+      entry : (i : ℕ) → unit_run blocks links s i ≡ from blocks links i (At 0 (constant 28 data_middle) s [])
+      entry i = ap (λ o. outcome_at_block 0 o (items blocks links i) s []) ok.start
+
+      at : (count : ℕ) (to : Point) (u : Outcome) → Lead h depth blocks ok links tells count (At 0 (constant 28 data_middle) s []) to
+          → from blocks links 0 to ≡ u → unit_run blocks links s count ≡ u
+      at count to u lead e =
+          let none : count ≡ count + 0 = omega arith in
+          entry count ∙ ap (λ n. from blocks links n (At 0 (constant 28 data_middle) s [])) none ∙ lead 0 ∙ e
+
+      go : (run : Run) → Reach h depth blocks ok links tells n (At 0 (constant 28 data_middle) s []) run → (outcome run).end ≢ Wrong
+          → (i : ℕ) × (n ≤ i) × (unit_run blocks links s i ≡ outcome run)
+      go (Running r [] g out) x ne = absurd x.match
+      go (Running r (a ∷ ws) g out) x ne = (
+        x.count,
+        x.enough,
+        at x.count x.to (outcome (Running r (a ∷ ws) g out)) x.leads
+            (ap (from blocks links 0) (x.match).point),
+      )
+      go (Ended v out) x ne = (x.count, x.enough, at x.count x.to (outcome (Ended v out)) x.leads (ap (from blocks links 0) x.match))
+      go (Failed out) x ne = absurd (ne refl)
+
+pub keep_homed_runs : (h : Homed) (depth : ℕ) (blocks : List BlockParts) → IsSelected h depth blocks → KeepHomedRuns h depth blocks
+keep_homed_runs h depth blocks ok n ne links tells =
+    same_end h depth blocks ok links tells n (homed_steps h depth n (homed_start h))
+    (then_runs h depth blocks ok links tells n (At 0 (constant 28 data_middle) (start_state (padded_bytes (h.rtl.now).globals)) []) (homed_start h)
+    (starts_reach h depth blocks ok links tells)) ne

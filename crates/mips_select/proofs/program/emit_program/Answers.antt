@@ -1,0 +1,23 @@
+use Rattle.std.proofs.Common.{◌∙◌, length, ap}
+use Rattle.mips_select.specs.Data.{starts_from}
+use Rattle.mips_select.proofs.DataPlaces.{starts_inside, starts_length}
+use Rattle.mips_select.proofs.Selecting.{functions_emittable, program_made}
+use Rattle.mips_select.proofs.program.emit_program.Goals as goal
+
+pub emit_functions-requires-clause-inside : goal.emit_functions-requires-clause-inside
+emit_functions-requires-clause-inside c =
+    starts_inside _ _ (c.as_slice-starts.ensures.value ∙ c.in_ok-table.ensures ∙ ap (starts_from 0) c.globals-globals.ensures.value)
+    (c.globals-globals.ensures.sound).words_fit
+
+pub emit_functions-requires-clause-functions : goal.emit_functions-requires-clause-functions
+emit_functions-requires-clause-functions c =
+    functions_emittable _ _ _ c.functions-functions.ensures.sound c.functions-functions.ensures.value
+    (ap length (c.as_slice-starts.ensures.value ∙ c.in_ok-table.ensures) ∙ starts_length 0 c.globals-globals.result.now
+    ∙ ap length c.globals-globals.ensures.value)
+
+pub returns : goal.returns
+returns c =
+    program_made c.args.homed.now _ _ _ _ _ _ _ _ _ _ _ _ _ c.requires.entries (c.as_slice-starts.ensures.value
+    ∙ c.in_ok-table.ensures) c.globals-globals.ensures.value c.functions-functions.ensures.value c.as_slice-frames.ensures.value
+    c.main.ensures.value c.number_at.ensures c.in_ok-first.ensures c.in_ok-second.ensures c.new-out.ensures.items c.in_ok-push_block.ensures
+    c.in_ok-push_block-2.ensures c.in_ok-emit_functions.ensures

@@ -1,0 +1,131 @@
+-- The machine code of functions: what stands before and behind the code of their instructions, and how blocks are left.
+use Rattle.std.specs.Prelude.{ℕ, pos, negsuc, zero, suc, ◌+◌, ◌-◌, ◌*◌, Bool, true, false, nat_eq, if◌then◌else◌, List, [], ◌∷◌, ◌++◌, Option, Some}
+use Rattle.std.specs.Prelude.{None, length}
+use Rattle.mips_isa.specs.declared.inst.ImmOp.TheVariants.{Addiu}
+use Rattle.mips_isa.specs.declared.inst.Plain.{Plain}
+use Rattle.mips_isa.specs.declared.inst.Plain.TheVariants.{Imm}
+use Rattle.mblock.specs.declared.exit.Exit.{Exit}
+use Rattle.mblock.specs.declared.exit.Exit.TheVariants as exits
+use Rattle.mblock.specs.Parts.{BlockParts}
+use Rattle.rtl.specs.declared.instruction.RExit.{RExit}
+use Rattle.rtl.specs.declared.instruction.RExit.TheVariants.{Goto, Branch, Call, Return, Out}
+use Rattle.rtl.specs.declared.block.RBlock.{RBlock}
+use Rattle.rtl.specs.declared.block.RGlobal.{RGlobal}
+use Rattle.rtl.specs.Meaning.{Code, code_of}
+use Rattle.mips_homes.specs.declared.homed.Frame.{Frame}
+use Rattle.mips_emit.specs.declared.facts.Last.{Last}
+use Rattle.mips_emit.specs.declared.location.Location.TheVariants.{Held}
+use Rattle.mips_emit.specs.declared.location.Source.TheVariants.{From}
+use Rattle.mips_emit.specs.Frames.{link_words}
+use Rattle.mips_emit.specs.Elements.{data_middle}
+use Rattle.mips_emit.specs.Locations.{Locations, locations, Facts, known_after, last_after, no_last, tested, last_operand}
+use Rattle.mips_emit.specs.Code.{constant, load_word_at, store_word_at, move_code, bring, put_at, insts_code, arguments_code, branch_code, branch_exit}
+use Rattle.mips_select.specs.declared.heads.Head.{Head}
+use Rattle.mips_select.specs.declared.heads.Head.TheVariants.{Bare, Enters, Takes}
+
+-- ---- frames
+
+-- registers into the frame from an offset on, and back
+abbrev pub saves : ℕ → List ℕ → List Plain
+saves at [] = []
+saves at (r ∷ rs) = store_word_at r at ∷ saves (at + 4) rs
+
+abbrev pub restores : ℕ → List ℕ → List Plain
+restores at [] = []
+restores at (r ∷ rs) = load_word_at r at ∷ restores (at + 4) rs
+
+-- the bytes that a frame takes
+abbrev pub frame_bytes : Bool → Frame → ℕ
+frame_bytes leaf f = 4 * (f.slots + length f.saved.items + link_words leaf)
+
+-- the link stands behind the registers that are saved
+abbrev pub link_offset : Frame → ℕ
+link_offset f = 4 * f.slots + 4 * length f.saved.items
+
+abbrev pub link_save : Bool → Frame → List Plain
+link_save true f = []
+link_save false f = store_word_at 31 (link_offset f) ∷ []
+
+abbrev pub link_load : Bool → Frame → List Plain
+link_load true f = []
+link_load false f = load_word_at 31 (link_offset f) ∷ []
+
+-- the stack pointer goes down and up
+abbrev pub lowers : ℕ → List Plain
+lowers n = if nat_eq n 0 then [] else Imm Addiu 29 29 (negsuc (n - 1)) ∷ []
+
+abbrev pub raises : ℕ → List Plain
+raises n = if nat_eq n 0 then [] else Imm Addiu 29 29 (pos n) ∷ []
+
+-- n parameters from registers from t on, into the homes of the pseudo-registers from x on
+abbrev pub parameters_code : Locations → (t x n : ℕ) → List Plain
+parameters_code at t x zero = []
+parameters_code at t x (suc n) = put_at (at x) (From (Held t)) ++ parameters_code at (suc t) (suc x) n
+
+-- what a function begins with and ends with
+abbrev pub prologue : Bool → Frame → (parameters : ℕ) → List Plain
+prologue leaf f n =
+    lowers (frame_bytes leaf f) ++ ((saves (4 * f.slots) f.saved.items ++ link_save leaf f) ++ parameters_code (locations f) 4 0 n)
+
+abbrev pub epilogue : Bool → Frame → List Plain
+epilogue leaf f = (restores (4 * f.slots) f.saved.items ++ link_load leaf f) ++ raises (frame_bytes leaf f)
+
+-- ---- exits
+
+-- what stands before an exit
+abbrev pub exit_code : Bool → Frame → Facts → Last → RExit → List Plain
+exit_code leaf f facts last (Goto b) = []
+exit_code leaf f facts last (Branch c t e) = branch_code (tested last.above c) (last_operand (locations f) facts last.fresh c)
+exit_code leaf f facts last (Call g xs d next) = arguments_code (locations f) facts 4 xs.items
+exit_code leaf f facts last (Return None) = epilogue leaf f
+exit_code leaf f facts last (Return (Some x)) = bring 2 (last_operand (locations f) facts last.fresh x) ++ epilogue leaf f
+exit_code leaf f facts last (Out x next) = bring 4 (last_operand (locations f) facts last.fresh x)
+
+-- an exit, where functions begin at `entry` and blocks stand at `place`; a call goes on at block n
+abbrev pub exit_of : (entry place : ℕ → ℕ) → Frame → Facts → Last → ℕ → RExit → Exit
+exit_of entry place f facts last n (Goto b) = exits.Goto (place b)
+exit_of entry place f facts last n (Branch c t e) =
+    branch_exit (tested last.above c) (last_operand (locations f) facts last.fresh c) (place t) (place e)
+exit_of entry place f facts last n (Call g xs d next) = exits.Call (entry g) n
+exit_of entry place f facts last n (Return o) = exits.Return
+exit_of entry place f facts last n (Out x next) = exits.Out (place next)
+
+-- ---- blocks
+
+-- what is left of a block's code
+abbrev pub code_insts : List RGlobal → (starts : ℕ → ℕ) → Bool → Frame → Facts → Last → Code → List Plain
+code_insts globals starts leaf f facts last c =
+    insts_code globals starts (locations f) facts c.insts
+    (exit_code leaf f (known_after c.insts facts) (last_after (locations f) facts c.insts last) c.exit)
+
+-- the block for a block, with what stands before its own code
+abbrev pub own_block : List RGlobal → (starts entry place : ℕ → ℕ) → Bool → Frame → (head : List Plain) → ℕ → RBlock → BlockParts
+own_block globals starts entry place leaf f head n b = record {
+  insts = head ++ code_insts globals starts leaf f [] no_last (code_of b);
+  exit = exit_of entry place f (known_after b.insts.items []) (last_after (locations f) [] b.insts.items no_last) n b.exit;
+}
+
+-- the result of a call into its location
+abbrev pub result_code : Locations → Option ℕ → List Plain
+result_code at None = []
+result_code at (Some d) = put_at (at d) (From (Held 2))
+
+-- what stands before a block's own code
+abbrev pub head_code : Bool → Frame → (parameters : ℕ) → Head → List Plain
+head_code leaf f n Bare = []
+head_code leaf f n Enters = prologue leaf f n
+head_code leaf f n (Takes d) = result_code (locations f) (Some d)
+
+-- where a call goes on, if that is no block of the function itself
+abbrev pub after_block : Frame → Option ℕ → (next : ℕ) → BlockParts
+after_block f d next = record { insts = result_code (locations f) d; exit = exits.Goto next }
+
+abbrev pub prologue_block : Bool → Frame → (parameters first : ℕ) → BlockParts
+prologue_block leaf f n first = record { insts = prologue leaf f n; exit = exits.Goto first }
+
+-- block 0 sets register 28 and calls the main function, block 1 ends with its result
+abbrev pub start_block : (main : ℕ) → BlockParts
+start_block main = record { insts = constant 28 data_middle; exit = exits.Call main 1 }
+
+abbrev pub end_block : BlockParts
+end_block = record { insts = move_code 4 2 ∷ []; exit = exits.Halt }

@@ -1,0 +1,82 @@
+-- What blocks begin with, from how the exits of their function name them.
+use Rattle.std.specs.Prelude.{ℕ, Bool, true, false, List, [], ◌∷◌, Option, Some, None, nat_eq, if◌then◌else◌, slice_get, slice_set}
+use Rattle.rtl.specs.declared.instruction.RExit.{RExit}
+use Rattle.rtl.specs.declared.instruction.RExit.TheVariants.{Goto, Branch, Call, Return, Out}
+use Rattle.rtl.specs.declared.block.RBlock.{RBlock}
+use Rattle.mips_select.specs.declared.heads.Naming.{Naming}
+use Rattle.mips_select.specs.declared.heads.Naming.TheVariants.{Unnamed, Called, Jumped}
+use Rattle.mips_select.specs.declared.heads.Head.{Head}
+use Rattle.mips_select.specs.declared.heads.Head.TheVariants.{Bare, Enters, Takes}
+
+abbrev pub called : Option ℕ → Option Naming → Naming
+called d None = Jumped
+called d (Some Unnamed) = Called d
+called d (Some (Called e)) = Jumped
+called d (Some Jumped) = Jumped
+
+-- an exit names blocks
+abbrev pub note : RExit → List Naming → List Naming
+note (Goto b) l = slice_set l b Jumped
+note (Branch c t e) l = slice_set (slice_set l t Jumped) e Jumped
+note (Out x next) l = slice_set l next Jumped
+note (Call g xs d next) l = slice_set l next (called d (slice_get l next))
+note (Return o) l = l
+
+abbrev pub namings : List RBlock → List Naming → List Naming
+namings [] l = l
+namings (b ∷ bs) l = namings bs (note b.exit l)
+
+abbrev pub unnamed : List RBlock → List Naming
+unnamed [] = []
+unnamed (b ∷ bs) = Unnamed ∷ unnamed bs
+
+-- block 0 begins with the prologue if nothing names it, and a block that one call alone names with the store of its result
+abbrev pub head_at : ℕ → Option Naming → Head
+head_at b None = Bare
+head_at b (Some Unnamed) = if nat_eq b 0 then Enters else Bare
+head_at b (Some (Called None)) = Bare
+head_at b (Some (Called (Some d))) = if nat_eq b 0 then Bare else Takes d
+head_at b (Some Jumped) = Bare
+
+abbrev pub heads_in : List Naming → ℕ → Head
+heads_in l b = head_at b (slice_get l b)
+
+abbrev pub heads_of : List RBlock → ℕ → Head
+heads_of bs = heads_in (namings bs (unnamed bs))
+
+-- a call goes on at the block itself
+abbrev pub resumes : Option ℕ → Head → Bool
+resumes None Bare = true
+resumes (Some d) Bare = false
+resumes d Enters = false
+resumes None (Takes e) = false
+resumes (Some d) (Takes e) = true
+
+-- how many blocks stand for a block that is left so
+abbrev pub count : (ℕ → Head) → RExit → ℕ
+count heads (Call g xs d next) = if resumes d (heads next) then 1 else 2
+count heads (Goto b) = 1
+count heads (Branch c t e) = 1
+count heads (Return o) = 1
+count heads (Out x next) = 1
+
+abbrev pub lead_of : Head → ℕ
+lead_of Bare = 1
+lead_of Enters = 0
+lead_of (Takes d) = 1
+
+-- how many blocks stand before those of the blocks of a function
+abbrev pub lead_in : (ℕ → Head) → ℕ
+lead_in heads = lead_of (heads 0)
+
+-- a function without calls
+abbrev pub calls_none : RExit → Bool
+calls_none (Call g xs d next) = false
+calls_none (Goto b) = true
+calls_none (Branch c t e) = true
+calls_none (Return o) = true
+calls_none (Out x next) = true
+
+abbrev pub is_leaf : List RBlock → Bool
+is_leaf [] = true
+is_leaf (b ∷ bs) = if calls_none b.exit then is_leaf bs else false

@@ -1,0 +1,29 @@
+-- The theorem of selection.
+use Rattle.std.specs.Prelude.{◌≡◌, ◌≢◌, ◌<◌, ℕ, length}
+use Rattle.runs.specs.declared.ran.End.TheVariants.{Wrong}
+use Rattle.mips_isa.specs.Starting.{start_state}
+use Rattle.mblock.specs.declared.limits.TheConstants.{UNIT_BLOCKS}
+use Rattle.mblock.specs.UnitRuns.{ComesTo}
+use Rattle.mblock.specs.Units.{UnitParts}
+use Rattle.rtl.specs.Programs.{Program, IsProgram}
+use Rattle.rtl.specs.Meaning.{rtl_run}
+use Rattle.mips_homes.specs.declared.homed.Homed.{Homed}
+use Rattle.mips_homes.specs.Choice.{AreChoices}
+use Rattle.mips_select.specs.Limits.{FramesFit}
+use Rattle.mips_select.specs.Whole.{unit_for}
+
+-- at every bound after which the program isn't wrong, the unit comes to the same end and output in as many items or more
+abbrev pub KeepsRuns : Program → (depth : ℕ) → UnitParts → Type 0
+KeepsRuns p depth u =
+    (r : ℕ) → (rtl_run p depth r).end ≢ Wrong → ComesTo u.blocks (start_state u.globals) r (rtl_run p depth r)
+
+-- the unit of every program whose frames fit keeps its runs
+abbrev pub EachUnitKeepsRuns : Type 0
+EachUnitKeepsRuns = (h : Homed) (depth : ℕ) → IsProgram h.rtl.now → AreChoices h → FramesFit h.rtl.now depth → KeepsRuns h.rtl.now depth (unit_for h)
+
+-- the unit of a program over its homes would have too many blocks
+pub record IsBeyond (p : Program) : Type 0 where
+  pub homed : Homed
+  pub lent : homed.rtl.now ≡ p
+  pub choices : AreChoices homed
+  pub many : UNIT_BLOCKS < length (unit_for homed).blocks

@@ -1,0 +1,72 @@
+-- Which blocks stand for a program over homes, whatever their numbers.
+use Rattle.std.specs.Prelude.{◌≡◌, ◌≢◌, ◌⊎◌, ℕ, ◌*◌, ◌≤◌, Bool, false, List, [], Some, slice_get}
+use Rattle.runs.specs.declared.ran.End.TheVariants.{Wrong}
+use Rattle.mips_isa.specs.declared.inst.Plain.{Plain}
+use Rattle.mips_isa.specs.Starting.{start_state}
+use Rattle.mblock.specs.Parts.{BlockParts}
+use Rattle.mblock.specs.UnitRuns.{ComesTo}
+use Rattle.rtl.specs.declared.instruction.RExit.{RExit}
+use Rattle.rtl.specs.declared.instruction.RExit.TheVariants.{Goto, Branch, Call, Return, Out}
+use Rattle.rtl.specs.declared.block.RBlock.{RBlock}
+use Rattle.rtl.specs.declared.block.RFunc.{RFunc}
+use Rattle.rtl.specs.declared.block.RGlobal.{RGlobal}
+use Rattle.rtl.specs.declared.limits.TheConstants.{MAX_PARAMETERS}
+use Rattle.rtl.specs.Programs.{IsProgram}
+use Rattle.mips_homes.specs.declared.homed.Frame.{Frame}
+use Rattle.mips_homes.specs.declared.homed.Homed.{Homed}
+use Rattle.mips_homes.specs.HomedRun.{homed_run}
+use Rattle.mips_emit.specs.declared.limits.TheConstants.{FRAME_BYTES}
+use Rattle.mips_emit.specs.Locations.{locations}
+use Rattle.mips_emit.specs.Frames.{IsFrame}
+use Rattle.mips_select.specs.declared.limits.TheConstants.{STACK_BYTES}
+use Rattle.mips_select.specs.Data.{padded_bytes, start_of}
+use Rattle.mips_select.specs.Code.{result_code, prologue, own_block, after_block, prologue_block, start_block, end_block}
+
+-- wherever the program isn't wrong after r steps, the blocks come to the same after r items or more
+abbrev pub KeepHomedRuns : Homed → (depth : ℕ) → List BlockParts → Type 0
+KeepHomedRuns h depth blocks =
+    (r : ℕ) → (homed_run h depth r).end ≢ Wrong → ComesTo blocks (start_state (padded_bytes (h.rtl.now).globals)) r (homed_run h depth r)
+
+module _ (blocks : List BlockParts) (globals : List RGlobal) (starts entry : ℕ → ℕ) where
+  -- what an exit needs: a leaf has no calls; a block to which it goes has no head, but that a call may go on at a block that
+  -- begins with the store of its result
+  abbrev pub GoesOn : Bool → Frame → (place : ℕ → ℕ) → (head : ℕ → List Plain) → ℕ → RExit → Type 0
+  GoesOn leaf f place head n (Call g xs d next) =
+      (leaf ≡ false)
+      × (((slice_get blocks n ≡ Some (after_block f d (place next))) × (head next ≡ []))
+      ⊎ ((n ≡ place next) × (head next ≡ result_code (locations f) d)))
+  GoesOn leaf f place head n (Goto b) = head b ≡ []
+  GoesOn leaf f place head n (Branch c t e) = (head t ≡ []) × (head e ≡ [])
+  GoesOn leaf f place head n (Return o) = Unit {0}
+  GoesOn leaf f place head n (Out x next) = head next ≡ []
+
+  -- block k stands for a block of a function, which begins with `first`
+  pub record StandsAt (leaf : Bool) (f : Frame) (place : ℕ → ℕ) (head : ℕ → List Plain) (k : ℕ) (first : List Plain) (b : RBlock) : Type 0 where
+    pub next : ℕ
+    pub there : slice_get blocks k ≡ Some (own_block globals starts entry place leaf f first next b)
+    pub leads_on : GoesOn leaf f place head next b.exit
+
+  pub record IsPlaced (leaf : Bool) (f : Frame) (place : ℕ → ℕ) (head : ℕ → List Plain) (bs : List RBlock) : Type 0 where
+    pub by : (b : ℕ) (block : RBlock) → slice_get bs b ≡ Some block → StandsAt leaf f place head (place b) (head b) block
+
+  -- a function begins with its prologue: in a block of its own, or at the head of block 0
+  pub record IsFunction (most : ℕ) (g : ℕ) (func : RFunc) (f : Frame) : Type 0 where
+    pub leaf : Bool
+    pub place : ℕ → ℕ
+    pub head : ℕ → List Plain
+    pub first : ((slice_get blocks (entry g) ≡ Some (prologue_block leaf f func.parameters (place 0))) × (head 0 ≡ []))
+        ⊎ ((entry g ≡ place 0) × (head 0 ≡ prologue leaf f func.parameters))
+    pub placed : IsPlaced leaf f place head func.blocks.items
+    pub frame : IsFrame most f
+    pub parameters : func.parameters ≤ MAX_PARAMETERS
+
+pub record IsSelected (h : Homed) (depth : ℕ) (blocks : List BlockParts) : Type 0 where
+  pub entry : ℕ → ℕ
+  pub most : ℕ
+  pub program : IsProgram h.rtl.now
+  pub start : slice_get blocks 0 ≡ Some (start_block (entry (h.rtl.now).main))
+  pub end : slice_get blocks 1 ≡ Some end_block
+  pub functions : (g : ℕ) (func : RFunc) (f : Frame) → slice_get (h.rtl.now).functions g ≡ Some func → slice_get h.frames.items g ≡ Some f
+      → IsFunction blocks (h.rtl.now).globals (start_of (h.rtl.now).globals) entry most g func f
+  pub small : most ≤ FRAME_BYTES
+  pub room : depth * most ≤ STACK_BYTES

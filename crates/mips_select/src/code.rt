@@ -1,0 +1,185 @@
+// The blocks for the blocks of a function.
+
+ghost use Rattle.std.specs.Prelude.{◌≡◌, ◌+◌, ◌≤◌, ◌++◌, ◌∷◌, [], length, IfOk, OnOk, slice_index};
+ghost use Rattle.mblock.specs.declared.limits.TheConstants.{UNIT_BLOCKS, UNIT_BYTES};
+ghost use Rattle.mips_emit.specs.Frames.{IsReachable};
+ghost use Rattle.mips_emit.specs.Locations.{locations};
+ghost use Rattle.mips_select.specs.Heads.{heads_in, count};
+ghost use Rattle.mips_select.specs.Code.{result_code, head_code, own_block, after_block};
+ghost use Rattle.mips_select.specs.Emittable.{IsEmittable, AreInside};
+ghost use Rattle.mips_select.specs.Whole.{next_of, behind};
+
+use crate::exits::{emit_exit, next_at};
+use crate::heads::{Head, Naming, head_at, resumes};
+use crate::numbers::number_at;
+use crate::prologue::emit_prologue;
+use mblock::{BlockNumber, Exit};
+use mips_emit::{Above, Last, emit_arrival, emit_insts, register};
+use mips_homes::Frame;
+use mips_isa::Plain;
+use mips_split::LongBlock;
+use rtl::{RBlock, RExit, RGlobal, Register};
+use std::alloc::{AllocError, Global};
+
+// The result of a call into its location, if it is wanted.
+fn emit_result(code: &mut Vec<Plain>, frame: &Frame, to: Option<Register>) -> Result<(), AllocError>
+    requires { IsReachable frame.now }
+    ensures { OnOk result (code.new.items ≡ code.old.items ++ result_code (locations frame.now) to) }
+{
+    match to {
+        Some(d) => emit_arrival(code, frame, register(2), d)?,
+        None => {}
+    }
+    Ok(())
+}
+
+// What stands before a block's own code.
+fn emit_head(
+    code: &mut Vec<Plain>,
+    frame: &Frame,
+    leaf: bool,
+    parameters: u32,
+    head: Head,
+) -> Result<(), AllocError>
+    requires frame { IsReachable frame.now }
+    requires parameters { parameters ≤ 4 }
+    ensures { OnOk result (code.new.items ≡ code.old.items ++ head_code leaf frame.now parameters head) }
+{
+    match head {
+        Head::Bare => {}
+        Head::Enters => emit_prologue(code, frame, leaf, parameters)?,
+        Head::Takes(d) => emit_result(code, frame, Some(d))?,
+    }
+    Ok(())
+}
+
+// The block for a block.
+fn block_for(
+    alloc: Global,
+    globals: &[RGlobal],
+    starts: &[u32],
+    entries: &[BlockNumber],
+    places: &[BlockNumber],
+    frame: &Frame,
+    leaf: bool,
+    parameters: u32,
+    head: Head,
+    next: BlockNumber,
+    block: &RBlock,
+) -> Result<LongBlock, AllocError>
+    requires frame { IsReachable frame.now }
+    requires parameters { parameters ≤ 4 }
+    requires inside { AreInside starts.now UNIT_BYTES }
+    requires block { IsEmittable (length starts.now) block.now }
+    ensures { IfOk result (λ b. b ≡ own_block globals.now (λ a. slice_index starts.now a) (λ g. slice_index entries.now g) (λ b. slice_index places.now b)
+        leaf frame.now (head_code leaf frame.now parameters head) next block.now) }
+{
+    let body = block.insts.as_slice();
+    let mut insts = Vec::new(alloc);
+    let mut facts = Vec::new(alloc);
+    emit_head(&mut insts, frame, leaf, parameters, head)?;
+    let last = emit_insts(&mut insts, &mut facts, globals, starts, frame, body)?;
+    let known = facts.as_slice();
+    let fresh = last.fresh;
+    let above: Option<Above> = last.above;
+    let exit = emit_exit(
+        &mut insts,
+        known,
+        Last { fresh, above },
+        entries,
+        places,
+        frame,
+        leaf,
+        next,
+        &block.exit,
+    )?;
+    Ok(LongBlock::new(insts, exit))
+}
+
+// The block at which a call goes on.
+fn block_after(
+    alloc: Global,
+    places: &[BlockNumber],
+    frame: &Frame,
+    to: Option<Register>,
+    next: u32,
+) -> Result<LongBlock, AllocError>
+    requires { IsReachable frame.now }
+    ensures { IfOk result (λ b. b ≡ after_block frame.now to (slice_index places.now next)) }
+{
+    let mut insts = Vec::new(alloc);
+    emit_result(&mut insts, frame, to)?;
+    let exit = Exit::Goto(number_at(places, next));
+    Ok(LongBlock::new(insts, exit))
+}
+
+// One more block.
+pub(crate) fn push_block(out: &mut Vec<LongBlock>, block: LongBlock) -> Result<(), AllocError>
+    ensures { OnOk result (out.new.items ≡ out.old.items ++ block ∷ []) }
+{
+    out.push(block)?;
+    Ok(())
+}
+
+// The block behind a call, where there is one.
+fn emit_behind(
+    alloc: Global,
+    out: &mut Vec<LongBlock>,
+    places: &[BlockNumber],
+    table: &[Naming],
+    frame: &Frame,
+    exit: &RExit,
+) -> Result<(), AllocError>
+    requires { IsReachable frame.now }
+    ensures { OnOk result (out.new.items ≡ out.old.items ++ behind (heads_in table.now) (λ b. slice_index places.now b) frame.now exit.now) }
+{
+    match exit {
+        RExit::Call(_, _, to, next) => {
+            if !resumes(*to, head_at(table, *next as usize)) {
+                let second = block_after(alloc, places, frame, *to, *next)?;
+                push_block(out, second)?;
+            }
+        }
+        RExit::Goto(_) => {}
+        RExit::Branch(_, _, _) => {}
+        RExit::Return(_) => {}
+        RExit::Out(_, _) => {}
+    }
+    Ok(())
+}
+
+// The blocks for block j, the first of which has the number k.
+pub(crate) fn emit_block(
+    alloc: Global,
+    out: &mut Vec<LongBlock>,
+    globals: &[RGlobal],
+    starts: &[u32],
+    entries: &[BlockNumber],
+    places: &[BlockNumber],
+    table: &[Naming],
+    frame: &Frame,
+    leaf: bool,
+    parameters: u32,
+    k: usize,
+    j: usize,
+    block: &RBlock,
+) -> Result<(), AllocError>
+    requires number { k + count (heads_in table.now) block.now.exit ≤ UNIT_BLOCKS }
+    requires frame { IsReachable frame.now }
+    requires parameters { parameters ≤ 4 }
+    requires inside { AreInside starts.now UNIT_BYTES }
+    requires block { IsEmittable (length starts.now) block.now }
+    ensures { OnOk result (out.new.items ≡ out.old.items ++ own_block globals.now (λ a. slice_index starts.now a) (λ g. slice_index entries.now g)
+        (λ b. slice_index places.now b) leaf frame.now (head_code leaf frame.now parameters (heads_in table.now j))
+        (next_of (heads_in table.now) (λ b. slice_index places.now b) k block.now.exit) block.now ∷ behind (heads_in table.now)
+        (λ b. slice_index places.now b) frame.now block.now.exit) }
+{
+    let head = head_at(table, j);
+    let next = next_at(table, places, k, &block.exit);
+    let first = block_for(
+        alloc, globals, starts, entries, places, frame, leaf, parameters, head, next, block,
+    )?;
+    push_block(out, first)?;
+    emit_behind(alloc, out, places, table, frame, &block.exit)?;
+    Ok(())
+}

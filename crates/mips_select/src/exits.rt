@@ -1,0 +1,133 @@
+// How blocks are left.
+
+ghost use Rattle.std.specs.Prelude.{◌≡◌, ◌+◌, ◌≤◌, ◌++◌, IfOk, OnOk, slice_index};
+ghost use Rattle.mblock.specs.declared.limits.TheConstants.{UNIT_BLOCKS};
+ghost use Rattle.mips_emit.specs.Frames.{IsReachable};
+ghost use Rattle.mips_emit.specs.Locations.{locations, tested, last_operand};
+ghost use Rattle.mips_emit.specs.Code.{branch_code, branch_exit};
+ghost use Rattle.mips_select.specs.Heads.{heads_in, count};
+ghost use Rattle.mips_select.specs.Code.{exit_code, exit_of};
+ghost use Rattle.mips_select.specs.Emittable.{HasFewArguments};
+ghost use Rattle.mips_select.specs.Whole.{next_of};
+
+use crate::heads::{Naming, head_at, resumes};
+use crate::numbers::{number, number_at};
+use crate::prologue::emit_epilogue;
+use mblock::{BlockNumber, Exit};
+use mips_emit::{
+    Fact, Last, emit_arguments, emit_departure, emit_fetch, last_operand, register, seat, tested,
+};
+use mips_homes::Frame;
+use mips_isa::{PairTest, Plain, Reg, ZeroTest};
+use rtl::{RExit, Register};
+use std::alloc::AllocError;
+
+// Where the call at the end of block k goes on.
+pub(crate) fn next_at(
+    table: &[Naming],
+    places: &[BlockNumber],
+    k: usize,
+    exit: &RExit,
+) -> BlockNumber
+    requires { k + count (heads_in table.now) exit.now ≤ UNIT_BLOCKS }
+    ensures { result ≡ next_of (heads_in table.now) (λ b. slice_index places.now b) k exit.now }
+{
+    match exit {
+        RExit::Call(_, _, d, next) => {
+            if resumes(*d, head_at(table, *next as usize)) {
+                number_at(places, *next)
+            } else {
+                number(k + 1)
+            }
+        }
+        RExit::Goto(_) => number(0),
+        RExit::Branch(_, _, _) => number(0),
+        RExit::Return(_) => number(0),
+        RExit::Out(_, _) => number(0),
+    }
+}
+
+// A branch to `then` where a pseudo-register isn't 0, else to `other`: what stands before it, and the exit.
+fn emit_branch(
+    code: &mut Vec<Plain>,
+    facts: &[Fact],
+    last: Last,
+    frame: &Frame,
+    c: Register,
+    then: BlockNumber,
+    other: BlockNumber,
+) -> Result<Exit, AllocError>
+    requires { IsReachable frame.now }
+    ensures code { OnOk result (code.new.items ≡ code.old.items ++ branch_code (tested last.above c)
+        (last_operand (locations frame.now) facts.now last.fresh c)) }
+    ensures exit { IfOk result (λ x. x ≡ branch_exit (tested last.above c) (last_operand (locations frame.now) facts.now last.fresh c) then other) }
+{
+    let operand = last_operand(facts, last.fresh, frame, c);
+    match tested(last.above, c) {
+        None => {
+            emit_fetch(code, register(1), &operand)?;
+            Ok(Exit::BranchPair {
+                test: PairTest::Equal,
+                rs: seat(register(1), &operand),
+                rt: Reg::ZERO,
+                then: other,
+                other: then,
+            })
+        }
+        Some(q) => Ok(Exit::BranchZero {
+            test: ZeroTest::AtMostZero,
+            rs: q.reg(),
+            then: other,
+            other: then,
+        }),
+    }
+}
+
+// How a block is left, where functions begin at `entries` and blocks stand at `places`, and a call goes on at `next`: what
+// stands before the exit, and the exit.
+pub(crate) fn emit_exit(
+    code: &mut Vec<Plain>,
+    facts: &[Fact],
+    last: Last,
+    entries: &[BlockNumber],
+    places: &[BlockNumber],
+    frame: &Frame,
+    leaf: bool,
+    next: BlockNumber,
+    exit: &RExit,
+) -> Result<Exit, AllocError>
+    requires frame { IsReachable frame.now }
+    requires few { HasFewArguments exit.now }
+    ensures code { OnOk result (code.new.items ≡ code.old.items ++ exit_code leaf frame.now facts.now last exit.now) }
+    ensures exit { IfOk result (λ x. x ≡ exit_of (λ g. slice_index entries.now g) (λ b. slice_index places.now b) frame.now facts.now last next exit.now) }
+{
+    match exit {
+        RExit::Goto(b) => Ok(Exit::Goto(number_at(places, *b))),
+        RExit::Branch(c, then, other) => {
+            let then = number_at(places, *then);
+            let other = number_at(places, *other);
+            let branch = emit_branch(code, facts, last, frame, *c, then, other)?;
+            Ok(branch)
+        }
+        RExit::Call(g, xs, _, _) => {
+            emit_arguments(code, facts, frame, xs.as_slice())?;
+            Ok(Exit::Call {
+                function: number_at(entries, *g),
+                next,
+            })
+        }
+        RExit::Return(None) => {
+            emit_epilogue(code, frame, leaf)?;
+            Ok(Exit::Return)
+        }
+        RExit::Return(Some(x)) => {
+            emit_departure(code, facts, last, frame, register(2), *x)?;
+            emit_epilogue(code, frame, leaf)?;
+            Ok(Exit::Return)
+        }
+        RExit::Out(x, next) => {
+            emit_departure(code, facts, last, frame, register(4), *x)?;
+            Ok(Exit::Out(number_at(places, *next)))
+        }
+    }
+}

@@ -1,0 +1,202 @@
+// The blocks for whole functions, one function behind another.
+
+ghost use Rattle.std.specs.Prelude.{◌≡◌, ◌+◌, ◌≤◌, ◌++◌, ◌∷◌, [], length, IfOk, OnOk, slice_index};
+ghost use Rattle.mblock.specs.declared.limits.TheConstants.{UNIT_BLOCKS, UNIT_BYTES};
+ghost use Rattle.mips_emit.specs.Frames.{IsReachable};
+ghost use Rattle.mips_select.specs.Heads.{heads_in};
+ghost use Rattle.mips_select.specs.Code.{prologue_block, start_block, end_block};
+ghost use Rattle.mips_select.specs.Emittable.{AreEmittable, AreInside, AreReachable, IsFunctionEmittable, AreFunctionsEmittable};
+ghost use Rattle.mips_select.specs.Whole.{size_of_blocks, blocks_from, lead_blocks, function_size, functions_size, function_blocks, functions_blocks};
+
+use crate::code::{emit_block, push_block};
+use crate::heads::{Head, Naming, all_namings, count_of, head_at, is_leaf, lead_in};
+use crate::numbers::{number, number_at, number_blocks};
+use crate::prologue::emit_prologue;
+use mblock::{BlockNumber, Exit};
+use mips_emit::emit_constant;
+use mips_homes::Frame;
+use mips_isa::{AluOp, Plain, Reg};
+use mips_split::LongBlock;
+use rtl::{RBlock, RFunc, RGlobal};
+use std::alloc::{AllocError, Global};
+
+// What register 28 always holds: the middle of the first 65,536 bytes of data.
+const DATA_MIDDLE: u32 = 0x1000_8000;
+
+// The blocks for some blocks, the first of which has the number `first`.
+fn emit_blocks(
+    alloc: Global,
+    out: &mut Vec<LongBlock>,
+    globals: &[RGlobal],
+    starts: &[u32],
+    entries: &[BlockNumber],
+    places: &[BlockNumber],
+    table: &[Naming],
+    frame: &Frame,
+    leaf: bool,
+    parameters: u32,
+    first: usize,
+    blocks: &[RBlock],
+) -> Result<(), AllocError>
+    requires number { first + size_of_blocks (heads_in table.now) blocks.now ≤ UNIT_BLOCKS }
+    requires frame { IsReachable frame.now }
+    requires parameters { parameters ≤ 4 }
+    requires inside { AreInside starts.now UNIT_BYTES }
+    requires blocks { AreEmittable (length starts.now) blocks.now }
+    ensures { OnOk result (out.new.items ≡ out.old.items ++ blocks_from globals.now (λ a. slice_index starts.now a) (λ g. slice_index entries.now g)
+        (λ b. slice_index places.now b) leaf (heads_in table.now) frame.now parameters first 0 blocks.now) }
+{
+    let mut k = first;
+    for j in 0..blocks.len() {
+        let block = &blocks[j];
+        emit_block(
+            alloc, out, globals, starts, entries, places, table, frame, leaf, parameters, k, j,
+            block,
+        )?;
+        k += count_of(table, &block.exit);
+    }
+    Ok(())
+}
+
+// A block of the prologue.
+fn emit_prologue_block(
+    alloc: Global,
+    out: &mut Vec<LongBlock>,
+    frame: &Frame,
+    leaf: bool,
+    parameters: u32,
+    first: BlockNumber,
+) -> Result<(), AllocError>
+    requires frame { IsReachable frame.now }
+    requires parameters { parameters ≤ 4 }
+    ensures { OnOk result (out.new.items ≡ out.old.items ++ prologue_block leaf frame.now parameters first ∷ []) }
+{
+    let mut insts = Vec::new(alloc);
+    emit_prologue(&mut insts, frame, leaf, parameters)?;
+    push_block(out, LongBlock::new(insts, Exit::Goto(first)))?;
+    Ok(())
+}
+
+// The prologue's block, where block 0 doesn't begin with it.
+fn emit_lead(
+    alloc: Global,
+    out: &mut Vec<LongBlock>,
+    frame: &Frame,
+    leaf: bool,
+    parameters: u32,
+    head: Head,
+    first: BlockNumber,
+) -> Result<(), AllocError>
+    requires frame { IsReachable frame.now }
+    requires parameters { parameters ≤ 4 }
+    ensures { OnOk result (out.new.items ≡ out.old.items ++ lead_blocks leaf head frame.now parameters first) }
+{
+    match head {
+        Head::Enters => {}
+        Head::Bare => emit_prologue_block(alloc, out, frame, leaf, parameters, first)?,
+        Head::Takes(_) => emit_prologue_block(alloc, out, frame, leaf, parameters, first)?,
+    }
+    Ok(())
+}
+
+// The blocks for a function, the first of which has the number k.
+fn emit_function(
+    alloc: Global,
+    out: &mut Vec<LongBlock>,
+    globals: &[RGlobal],
+    starts: &[u32],
+    entries: &[BlockNumber],
+    frame: &Frame,
+    k: usize,
+    func: &RFunc,
+) -> Result<(), AllocError>
+    requires number { k + function_size func.now ≤ UNIT_BLOCKS }
+    requires frame { IsReachable frame.now }
+    requires inside { AreInside starts.now UNIT_BYTES }
+    requires function { IsFunctionEmittable (length starts.now) func.now }
+    ensures { OnOk result (out.new.items ≡ out.old.items ++ function_blocks globals.now (λ a. slice_index starts.now a) (λ g. slice_index entries.now g) k
+        func.now frame.now) }
+{
+    let blocks = func.blocks.as_slice();
+    let n = func.parameters;
+    let leaf = is_leaf(blocks);
+    let namings = all_namings(alloc, blocks)?;
+    let table = namings.as_slice();
+    let first = k + lead_in(table);
+    let numbers = number_blocks(alloc, table, first, blocks)?;
+    let places = numbers.as_slice();
+    let start = number_at(places, 0);
+    emit_lead(alloc, out, frame, leaf, n, head_at(table, 0), start)?;
+    emit_blocks(
+        alloc, out, globals, starts, entries, places, table, frame, leaf, n, first, blocks,
+    )?;
+    Ok(())
+}
+
+// The blocks for all functions, behind the two for start and end.
+pub(crate) fn emit_functions(
+    alloc: Global,
+    out: &mut Vec<LongBlock>,
+    globals: &[RGlobal],
+    starts: &[u32],
+    entries: &[BlockNumber],
+    functions: &[RFunc],
+    frames: &[Frame],
+) -> Result<(), AllocError>
+    requires behind { length out.now.items ≡ 2 }
+    requires number { 2 + functions_size functions.now ≤ UNIT_BLOCKS }
+    requires lengths { length frames.now ≡ length functions.now }
+    requires frames { AreReachable frames.now }
+    requires inside { AreInside starts.now UNIT_BYTES }
+    requires functions { AreFunctionsEmittable (length starts.now) functions.now }
+    ensures { OnOk result (out.new.items ≡ out.old.items ++ functions_blocks globals.now (λ a. slice_index starts.now a) (λ g. slice_index entries.now g) 2
+        functions.now frames.now) }
+{
+    for i in 0..functions.len() {
+        let func = &functions[i];
+        let frame = &frames[i];
+        let k = out.len();
+        emit_function(alloc, out, globals, starts, entries, frame, k, func)?;
+    }
+    Ok(())
+}
+
+// One more instruction.
+fn push_inst(insts: &mut Vec<Plain>, inst: Plain) -> Result<(), AllocError>
+    ensures { OnOk result (insts.new.items ≡ insts.old.items ++ inst ∷ []) }
+{
+    insts.push(inst)?;
+    Ok(())
+}
+
+// Block 0, which sets register 28 and calls the main function.
+pub(crate) fn start_block(alloc: Global, main: BlockNumber) -> Result<LongBlock, AllocError>
+    ensures { IfOk result (λ b. b ≡ start_block main) }
+{
+    let mut insts = Vec::new(alloc);
+    emit_constant(&mut insts, Reg::masked(28), DATA_MIDDLE)?;
+    Ok(LongBlock::new(
+        insts,
+        Exit::Call {
+            function: main,
+            next: number(1),
+        },
+    ))
+}
+
+// Block 1, which ends with the main function's result.
+pub(crate) fn end_block(alloc: Global) -> Result<LongBlock, AllocError>
+    ensures { IfOk result (λ b. b ≡ end_block) }
+{
+    let mut insts = Vec::new(alloc);
+    push_inst(
+        &mut insts,
+        Plain::Alu {
+            op: AluOp::Addu,
+            rd: Reg::ARGUMENT,
+            rs: Reg::RESULT,
+            rt: Reg::ZERO,
+        },
+    )?;
+    Ok(LongBlock::new(insts, Exit::Halt))
+}

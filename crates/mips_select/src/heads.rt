@@ -1,0 +1,189 @@
+// What blocks begin with, from how the exits of their function name them.
+
+ghost use Rattle.std.specs.Prelude.{◌≡◌, ◌≤◌, IfOk, slice_set, slice_get};
+ghost use Rattle.mips_select.specs.Heads.{called, note, namings, unnamed, head_at, heads_in, resumes, count, lead_in, calls_none, is_leaf};
+
+use rtl::{RBlock, RExit, Register};
+use std::alloc::{AllocError, Global};
+
+// How exits name a block.
+#[derive(Clone, Copy)]
+pub(crate) enum Naming {
+    /// None does.
+    Unnamed,
+    /// One call goes on here, with its result for a pseudo-register, if it is wanted.
+    Called(Option<Register>),
+    /// More than one does, or another exit.
+    Jumped,
+}
+
+// What a block begins with.
+#[derive(Clone, Copy)]
+pub(crate) enum Head {
+    /// Its own code.
+    Bare,
+    /// The function's prologue.
+    Enters,
+    /// The result of the one call that goes on here, for a pseudo-register.
+    Takes(Register),
+}
+
+// One more call goes on at a block.
+fn called(d: Option<Register>, before: Option<Naming>) -> Naming
+    ensures { result ≡ called d before }
+{
+    match before {
+        Some(Naming::Unnamed) => Naming::Called(d),
+        Some(Naming::Called(_)) => Naming::Jumped,
+        Some(Naming::Jumped) => Naming::Jumped,
+        None => Naming::Jumped,
+    }
+}
+
+// How a block was named.
+fn naming_at(table: &[Naming], b: usize) -> Option<Naming>
+    ensures { result ≡ slice_get table.now b }
+{
+    match table.get(b) {
+        Some(s) => Some(*s),
+        None => None,
+    }
+}
+
+// A mark in the table, if there is such a block.
+fn mark(table: &mut Vec<Naming>, b: u32, s: Naming)
+    ensures { table.new.items ≡ slice_set table.old.items b s }
+{
+    if (b as usize) < table.len() {
+        table[b as usize] = s;
+    }
+}
+
+// What an exit names.
+fn note_exit(table: &mut Vec<Naming>, exit: &RExit)
+    ensures { table.new.items ≡ note exit.now table.old.items }
+{
+    match exit {
+        RExit::Goto(b) => mark(table, *b, Naming::Jumped),
+        RExit::Branch(_, t, e) => {
+            mark(table, *t, Naming::Jumped);
+            mark(table, *e, Naming::Jumped);
+        }
+        RExit::Out(_, next) => mark(table, *next, Naming::Jumped),
+        RExit::Call(_, _, d, next) => {
+            let s = called(*d, naming_at(table.as_slice(), *next as usize));
+            mark(table, *next, s);
+        }
+        RExit::Return(_) => {}
+    }
+}
+
+// A table in which no block is named.
+fn none_named(alloc: Global, blocks: &[RBlock]) -> Result<Vec<Naming>, AllocError>
+    ensures { IfOk result (λ t. t.items ≡ unnamed blocks.now) }
+{
+    let mut table = Vec::new(alloc);
+    for _b in blocks {
+        table.push(Naming::Unnamed)?;
+    }
+    Ok(table)
+}
+
+// How the exits of a function name its blocks.
+pub(crate) fn all_namings(alloc: Global, blocks: &[RBlock]) -> Result<Vec<Naming>, AllocError>
+    ensures { IfOk result (λ t. t.items ≡ namings blocks.now (unnamed blocks.now)) }
+{
+    let mut table = none_named(alloc, blocks)?;
+    for b in blocks {
+        note_exit(&mut table, &b.exit);
+    }
+    Ok(table)
+}
+
+// What a block begins with.
+pub(crate) fn head_at(table: &[Naming], b: usize) -> Head
+    ensures { result ≡ heads_in table.now b }
+{
+    match naming_at(table, b) {
+        Some(Naming::Unnamed) => { if b == 0 { Head::Enters } else { Head::Bare } }
+        Some(Naming::Called(Some(d))) => { if b == 0 { Head::Bare } else { Head::Takes(d) } }
+        Some(Naming::Called(None)) => Head::Bare,
+        Some(Naming::Jumped) => Head::Bare,
+        None => Head::Bare,
+    }
+}
+
+// Whether a call goes on at a block itself.
+pub(crate) fn resumes(d: Option<Register>, head: Head) -> bool
+    ensures { result ≡ resumes d head }
+{
+    match head {
+        Head::Bare => match d {
+            None => true,
+            Some(_) => false,
+        },
+        Head::Enters => false,
+        Head::Takes(_) => match d {
+            None => false,
+            Some(_) => true,
+        },
+    }
+}
+
+// How many blocks stand for a block that is left so.
+pub(crate) fn count_of(table: &[Naming], exit: &RExit) -> usize
+    ensures value { result ≡ count (heads_in table.now) exit.now }
+    ensures some { 1 ≤ result }
+    ensures few { result ≤ 2 }
+{
+    match exit {
+        RExit::Call(_, _, d, next) => {
+            if resumes(*d, head_at(table, *next as usize)) {
+                1
+            } else {
+                2
+            }
+        }
+        RExit::Goto(_) => 1,
+        RExit::Branch(_, _, _) => 1,
+        RExit::Return(_) => 1,
+        RExit::Out(_, _) => 1,
+    }
+}
+
+// How many blocks stand before those of the blocks of a function.
+pub(crate) fn lead_in(table: &[Naming]) -> usize
+    ensures value { result ≡ lead_in (heads_in table.now) }
+    ensures few { result ≤ 1 }
+{
+    match head_at(table, 0) {
+        Head::Bare => 1,
+        Head::Enters => 0,
+        Head::Takes(_) => 1,
+    }
+}
+
+// Whether a function calls none.
+pub(crate) fn is_leaf(blocks: &[RBlock]) -> bool
+    ensures { result ≡ is_leaf blocks.now }
+{
+    for b in blocks {
+        if !calls_none(&b.exit) {
+            return false;
+        }
+    }
+    true
+}
+
+// Whether an exit is no call.
+fn calls_none(exit: &RExit) -> bool
+    ensures { result ≡ calls_none exit.now }
+{
+    match exit {
+        RExit::Call(_, _, _, _) => false,
+        RExit::Goto(_) => true,
+        RExit::Branch(_, _, _) => true,
+        RExit::Return(_) => true,
+        RExit::Out(_, _) => true,
+    }
+}

@@ -1,0 +1,36 @@
+//! Selection of machine code: an RTL program becomes a unit of blocks.
+//!
+//! For the layer above there is one contract, that of `select` (`specs/Laws.antt`): wherever the program isn't wrong after
+//! so many steps, its unit comes to the same end and output after as many items or more, whatever words the calls' links
+//! are (`KeepsRuns`). There is a unit exactly within the limits: each frame has at most 32,000 bytes, `depth` of the largest
+//! ones at most 16 MiB (`FramesFit`, from the program alone), and there are at most 1,048,576 blocks.
+//!
+//! The unit is a pure function of the program and its homes, `unit_for` of `specs/Whole.antt`: block 0 sets register 28 and
+//! calls the main function, block 1 ends with its result, and then come the blocks of each function, one function behind
+//! another. A function begins with its prologue, at the head of its block 0 if nothing goes back there, else in a block of
+//! its own. A call goes on at the next block itself where that begins with the store of the result, or wants none, else in a
+//! block of its own that stores it. A function without calls doesn't save its link, and has no frame if it needs none.
+//! Blocks may have any length, until `mips_split` cuts them.
+//!
+//! Definitions, in an order to read: `specs/Limits.antt` (frames and stack), `specs/Data.antt` (bytes of globals),
+//! `specs/Heads.antt` (what blocks begin with), `specs/Code.antt` (prologues, epilogues, exits, blocks), `specs/Whole.antt`
+//! (all blocks), `specs/Selected.antt` (when blocks stand for a program, whatever their numbers), `specs/Laws.antt`. That an
+//! instruction's code does what the instruction does is proved in `mips_emit`; here each step over homes is one or more
+//! items of the unit (`proofs/Simulation.antt`). All passes are linear in the program.
+#![tactic(auto)]
+
+mod code;
+mod exits;
+mod functions;
+mod globals;
+mod heads;
+mod laws;
+mod limits;
+mod numbers;
+mod program;
+mod prologue;
+
+pub use laws::each_unit_keeps_runs;
+pub use limits::STACK_BYTES;
+pub use mips_split::SelectFault;
+pub use program::select;

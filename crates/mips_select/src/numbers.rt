@@ -1,0 +1,139 @@
+// Numbers of blocks.
+
+ghost use Rattle.std.specs.Prelude.{◌≡◌, ℕ, ◌+◌, ◌<◌, ◌≤◌, ◌++◌, ◌∷◌, [], length, IfOk, OnOk, IfErr, Some, slice_get, slice_index, replicate};
+ghost use Rattle.mblock.specs.declared.limits.TheConstants.{UNIT_BLOCKS};
+ghost use Rattle.rtl.specs.declared.block.RFunc.{RFunc};
+ghost use Rattle.rtl.specs.declared.limits.TheConstants.{MAX_BLOCKS};
+ghost use Rattle.mips_select.specs.Heads.{heads_in};
+ghost use Rattle.mips_select.specs.Whole.{size_of_blocks, numbers, function_size, functions_size, entries_from, owners_for};
+
+use crate::heads::{Naming, all_namings, count_of, lead_in};
+use mblock::{BlockNumber, UNIT_BLOCKS};
+use mips_split::SelectFault;
+use rtl::{RBlock, RFunc};
+use std::alloc::{AllocError, Global};
+
+// The number of a block.
+pub(crate) fn number(n: usize) -> BlockNumber
+    requires { n < UNIT_BLOCKS }
+    ensures { result ≡ n }
+{
+    match BlockNumber::new(n as u32) {
+        Some(number) => number,
+        None => unreachable!(),
+    }
+}
+
+// A number of a table, 0 behind its end.
+pub(crate) fn number_at(table: &[BlockNumber], i: u32) -> BlockNumber
+    ensures { result ≡ slice_index table.now i }
+{
+    if (i as usize) < table.len() {
+        table[i as usize]
+    } else {
+        number(0)
+    }
+}
+
+// One more number.
+fn push_number(table: &mut Vec<BlockNumber>, n: BlockNumber) -> Result<(), AllocError>
+    ensures { OnOk result (table.new.items ≡ table.old.items ++ n ∷ []) }
+{
+    table.push(n)?;
+    Ok(())
+}
+
+// One number, several times.
+fn push_copies(table: &mut Vec<BlockNumber>, n: BlockNumber, count: usize) -> Result<(), AllocError>
+    ensures { OnOk result (table.new.items ≡ table.old.items ++ replicate count n) }
+{
+    for _ in 0..count {
+        push_number(table, n)?;
+    }
+    Ok(())
+}
+
+// The first of the blocks that stand for each block, the first of all having the number `first`.
+pub(crate) fn number_blocks(
+    alloc: Global,
+    table: &[Naming],
+    first: usize,
+    blocks: &[RBlock],
+) -> Result<Vec<BlockNumber>, AllocError>
+    requires { first + size_of_blocks (heads_in table.now) blocks.now ≤ UNIT_BLOCKS }
+    ensures { IfOk result (λ ns. ns.items ≡ numbers (heads_in table.now) first blocks.now) }
+{
+    let mut ns = Vec::new(alloc);
+    let mut k = first;
+    for block in blocks {
+        push_number(&mut ns, number(k))?;
+        k += count_of(table, &block.exit);
+    }
+    Ok(ns)
+}
+
+// How many blocks stand for some.
+fn count_blocks(table: &[Naming], blocks: &[RBlock]) -> usize
+    requires { length blocks.now ≤ MAX_BLOCKS }
+    ensures value { result ≡ size_of_blocks (heads_in table.now) blocks.now }
+    ensures small { result ≤ MAX_BLOCKS + MAX_BLOCKS }
+{
+    let mut n: usize = 0;
+    for block in blocks {
+        n += count_of(table, &block.exit);
+    }
+    n
+}
+
+// How many blocks stand for a function.
+fn count_function(alloc: Global, func: &RFunc) -> Result<usize, AllocError>
+    requires { length func.now.blocks.items ≤ MAX_BLOCKS }
+    ensures { IfOk result (λ n. n ≡ function_size func.now) }
+{
+    let blocks = func.blocks.as_slice();
+    let namings = all_namings(alloc, blocks)?;
+    let table = namings.as_slice();
+    let size = count_blocks(table, blocks);
+    Ok(lead_in(table) + size)
+}
+
+// Where functions begin, and the first block of each block's function.
+#[derive(Drop)]
+pub(crate) struct Numbers {
+    pub(crate) entries: Vec<BlockNumber>,
+    pub(crate) owners: Vec<BlockNumber>,
+}
+
+// The owners of the two blocks for start and end.
+fn first_owners(alloc: Global) -> Result<Vec<BlockNumber>, AllocError>
+    ensures { IfOk result (λ os. os.items ≡ 0 ∷ 0 ∷ []) }
+{
+    let mut owners = Vec::new(alloc);
+    push_number(&mut owners, number(0))?;
+    push_number(&mut owners, number(0))?;
+    Ok(owners)
+}
+
+// The numbers of functions, from 2 on.
+pub(crate) fn number_functions(alloc: Global, functions: &[RFunc]) -> Result<Numbers, SelectFault>
+    requires { (g : ℕ) (func : RFunc) → slice_get functions.now g ≡ Some func → length func.blocks.items ≤ MAX_BLOCKS }
+    ensures entries { IfOk result (λ n. n.entries.items ≡ entries_from 2 functions.now) }
+    ensures owners { IfOk result (λ n. n.owners.items ≡ owners_for functions.now) }
+    ensures few { IfOk result (λ _. 2 + functions_size functions.now ≤ UNIT_BLOCKS) }
+    ensures limit { IfErr result (λ e. e ≡ SelectFault.Limit → UNIT_BLOCKS < 2 + functions_size functions.now) }
+{
+    let mut entries = Vec::new(alloc);
+    let mut owners = first_owners(alloc)?;
+    let mut k: usize = 2;
+    for func in functions {
+        let size = count_function(alloc, func)?;
+        if size > UNIT_BLOCKS - k {
+            return Err(SelectFault::Limit);
+        }
+        let entry = number(k);
+        push_number(&mut entries, entry)?;
+        push_copies(&mut owners, entry, size)?;
+        k += size;
+    }
+    Ok(Numbers { entries, owners })
+}

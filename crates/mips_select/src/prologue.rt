@@ -1,0 +1,165 @@
+// What functions begin and end with.
+
+ghost use Rattle.std.specs.Prelude.{◌≡◌, ◌-◌, negsuc, pos, ℕ, ◌+◌, ◌*◌, ◌<◌, ◌≤◌, ◌++◌, ◌∷◌, [], length, OnOk, Some, slice_get};
+ghost use Rattle.mips_isa.specs.declared.inst.ImmOp.TheVariants.{Addiu};
+ghost use Rattle.mips_isa.specs.declared.inst.Plain.TheVariants.{Imm};
+ghost use Rattle.mips_emit.specs.declared.limits.TheConstants.{FRAME_BYTES};
+ghost use Rattle.mips_emit.specs.Frames.{IsReachable};
+ghost use Rattle.mips_emit.specs.Locations.{locations};
+ghost use Rattle.mips_select.specs.Code.{saves, restores, frame_bytes, link_save, link_load, lowers, raises, parameters_code, prologue, epilogue};
+
+use mips_emit::{emit_arrival, emit_load_word, emit_store_word, register};
+use mips_homes::Frame;
+use mips_isa::{ImmOp, Plain, Reg};
+use std::alloc::AllocError;
+
+// The stack pointer.
+fn stack_pointer() -> Reg
+    ensures { result ≡ 29 }
+{
+    Reg::masked(29)
+}
+
+// Registers into the frame, from an offset on.
+fn emit_saves(code: &mut Vec<Plain>, at: u32, registers: &[u8]) -> Result<(), AllocError>
+    requires fits { at + 4 * length registers.now ≤ FRAME_BYTES }
+    requires registers { (j r : ℕ) → slice_get registers.now j ≡ Some r → (16 ≤ r) × (r < 24) }
+    ensures { OnOk result (code.new.items ≡ code.old.items ++ saves at registers.now) }
+{
+    let mut place = at;
+    for r in registers {
+        emit_store_word(code, register(*r).reg(), place)?;
+        place += 4;
+    }
+    Ok(())
+}
+
+// Registers out of the frame.
+fn emit_restores(code: &mut Vec<Plain>, at: u32, registers: &[u8]) -> Result<(), AllocError>
+    requires fits { at + 4 * length registers.now ≤ FRAME_BYTES }
+    requires registers { (j r : ℕ) → slice_get registers.now j ≡ Some r → (16 ≤ r) × (r < 24) }
+    ensures { OnOk result (code.new.items ≡ code.old.items ++ restores at registers.now) }
+{
+    let mut place = at;
+    for r in registers {
+        emit_load_word(code, register(*r), place)?;
+        place += 4;
+    }
+    Ok(())
+}
+
+// How many bytes a frame takes.
+fn size_of_frame(frame: &Frame, leaf: bool) -> u32
+    requires { IsReachable frame.now }
+    ensures size { result ≡ frame_bytes leaf frame.now }
+    ensures small { result ≤ FRAME_BYTES }
+{
+    if leaf {
+        4 * (frame.slots + frame.saved.len() as u32)
+    } else {
+        4 * (frame.slots + frame.saved.len() as u32 + 1)
+    }
+}
+
+// The stack pointer goes down, if the frame takes anything.
+fn emit_lowers(code: &mut Vec<Plain>, size: u32) -> Result<(), AllocError>
+    requires { size ≤ FRAME_BYTES }
+    ensures { OnOk result (code.new.items ≡ code.old.items ++ lowers size) }
+{
+    if size != 0 {
+        code.push(Plain::Imm {
+            op: ImmOp::Addiu,
+            rt: stack_pointer(),
+            rs: stack_pointer(),
+            imm: -1 - (size - 1) as i16,
+        })?;
+    }
+    Ok(())
+}
+
+// The stack pointer goes up again.
+fn emit_raises(code: &mut Vec<Plain>, size: u32) -> Result<(), AllocError>
+    requires { size ≤ FRAME_BYTES }
+    ensures { OnOk result (code.new.items ≡ code.old.items ++ raises size) }
+{
+    if size != 0 {
+        code.push(Plain::Imm {
+            op: ImmOp::Addiu,
+            rt: stack_pointer(),
+            rs: stack_pointer(),
+            imm: size as i16,
+        })?;
+    }
+    Ok(())
+}
+
+// The link into the frame, but in a leaf.
+fn emit_link_save(code: &mut Vec<Plain>, frame: &Frame, leaf: bool) -> Result<(), AllocError>
+    requires { IsReachable frame.now }
+    ensures { OnOk result (code.new.items ≡ code.old.items ++ link_save leaf frame.now) }
+{
+    if !leaf {
+        let place = 4 * frame.slots + 4 * frame.saved.len() as u32;
+        emit_store_word(code, Reg::LINK, place)?;
+    }
+    Ok(())
+}
+
+// The link out of the frame.
+fn emit_link_load(code: &mut Vec<Plain>, frame: &Frame, leaf: bool) -> Result<(), AllocError>
+    requires { IsReachable frame.now }
+    ensures { OnOk result (code.new.items ≡ code.old.items ++ link_load leaf frame.now) }
+{
+    if !leaf {
+        let place = 4 * frame.slots + 4 * frame.saved.len() as u32;
+        emit_load_word(code, register(31), place)?;
+    }
+    Ok(())
+}
+
+// Parameters into their locations.
+fn emit_parameters(code: &mut Vec<Plain>, frame: &Frame, n: u32) -> Result<(), AllocError>
+    requires frame { IsReachable frame.now }
+    requires few { n ≤ 4 }
+    ensures { OnOk result (code.new.items ≡ code.old.items ++ parameters_code (locations frame.now) 4 0 n) }
+{
+    for x in 0..n {
+        emit_arrival(code, frame, register(4 + x as u8), x)?;
+    }
+    Ok(())
+}
+
+// What a function begins with: its frame, what it saves, and its parameters in their locations.
+pub(crate) fn emit_prologue(
+    code: &mut Vec<Plain>,
+    frame: &Frame,
+    leaf: bool,
+    parameters: u32,
+) -> Result<(), AllocError>
+    requires frame { IsReachable frame.now }
+    requires few { parameters ≤ 4 }
+    ensures { OnOk result (code.new.items ≡ code.old.items ++ prologue leaf frame.now parameters) }
+{
+    let size = size_of_frame(frame, leaf);
+    emit_lowers(code, size)?;
+    emit_saves(code, 4 * frame.slots, frame.saved.as_slice())?;
+    emit_link_save(code, frame, leaf)?;
+    emit_parameters(code, frame, parameters)?;
+    Ok(())
+}
+
+// What a function ends with: what it saved comes back, and its frame goes.
+pub(crate) fn emit_epilogue(
+    code: &mut Vec<Plain>,
+    frame: &Frame,
+    leaf: bool,
+) -> Result<(), AllocError>
+    requires { IsReachable frame.now }
+    ensures { OnOk result (code.new.items ≡ code.old.items ++ epilogue leaf frame.now) }
+{
+    let size = size_of_frame(frame, leaf);
+    emit_restores(code, 4 * frame.slots, frame.saved.as_slice())?;
+    emit_link_load(code, frame, leaf)?;
+    emit_raises(code, size)?;
+    Ok(())
+}
