@@ -1,0 +1,22 @@
+//! Orders of blocks, as schedulers propose them. Nothing here is trusted: who takes an order checks it against its block.
+//!
+//! A scheduler is a `Reorder`. It has to be total, and nothing else: whatever order it answers, the validator decides what
+//! becomes of it. Its relation `proposes` says which orders it may answer for a block; for the schedulers here that is any.
+//!
+//! `ListOrder` is a list scheduler (Gibbons and Muchnick, Efficient Instruction Scheduling for a Pipelined Architecture,
+//! 1986): it leaves out what the block doesn't need (`needs.rt`), makes the graph of what has to stay before what and by how
+//! many words (`graph.rt`), and takes the instructions by the longest way to the end (`list.rt`). It is a function of the
+//! block alone, and takes at most quadratic time in the block's length. `Resources` are what instructions read and write.
+#![tactic(auto)]
+
+mod access;
+mod graph;
+mod list;
+mod needs;
+mod reorder;
+mod resources;
+
+pub use access::{Access, access_of};
+pub use list::ListOrder;
+pub use reorder::Reorder;
+pub use resources::Resources;

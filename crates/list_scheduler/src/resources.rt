@@ -1,0 +1,134 @@
+//! What instructions read and write.
+use mblock::Exit;
+use mips_isa::{Action, NonzeroReg, Operand, Plain, Reg};
+
+/// A set of registers, HI and LO. Register 0 is in none: it reads as 0 and keeps nothing.
+#[derive(Clone, Copy, Debug, PartialEq, Eq)]
+pub struct Resources {
+    // One bit for each register by its number, then HI and LO.
+    bits: u64,
+}
+
+impl Resources {
+    /// No register.
+    pub const NONE: Resources = Resources { bits: 0 };
+
+    /// All registers, HI and LO.
+    pub const ALL: Resources = Resources {
+        bits: 0x3_ffff_fffe,
+    };
+
+    const HIGH: Resources = Resources {
+        bits: 0x1_0000_0000,
+    };
+
+    const LOW: Resources = Resources {
+        bits: 0x2_0000_0000,
+    };
+
+    /// A register alone; none for register 0.
+    pub fn of(r: Reg) -> Resources {
+        Resources {
+            bits: 1 << r.index(),
+        }
+        .difference(Resources { bits: 1 })
+    }
+
+    fn of_nonzero(r: NonzeroReg) -> Resources {
+        Resources::of(r.reg())
+    }
+
+    /// Those of either.
+    pub fn union(self, other: Resources) -> Resources {
+        Resources {
+            bits: self.bits | other.bits,
+        }
+    }
+
+    /// Those that aren't in the other.
+    pub fn difference(self, other: Resources) -> Resources {
+        Resources {
+            bits: self.bits & !other.bits,
+        }
+    }
+
+    /// Those in both.
+    pub fn intersection(self, other: Resources) -> Resources {
+        Resources {
+            bits: self.bits & other.bits,
+        }
+    }
+
+    /// Whether there are none.
+    pub fn is_empty(self) -> bool {
+        self.bits == 0
+    }
+
+    /// Whether one is in both.
+    pub fn meets(self, other: Resources) -> bool {
+        !self.intersection(other).is_empty()
+    }
+
+    fn of_operand(operand: Operand) -> Resources {
+        match operand {
+            Operand::Held(r) => Resources::of(r),
+            Operand::Fixed(_) => Resources::NONE,
+        }
+    }
+
+    /// What an instruction reads.
+    pub fn read_by(inst: &Plain) -> Resources {
+        match inst.action() {
+            Action::Computes { a, b, .. } => Resources::of(a).union(Resources::of_operand(b)),
+            Action::Sets { .. } => Resources::NONE,
+            Action::Loads { base, .. } => Resources::of(base),
+            Action::Stores { r, base, .. } => Resources::of(r).union(Resources::of(base)),
+            Action::Multiplies { a, b, .. } => Resources::of(a).union(Resources::of(b)),
+            Action::Divides { a, b, .. } => Resources::of(a).union(Resources::of(b)),
+            Action::MovesHigh { .. } => Resources::HIGH,
+            Action::MovesLow { .. } => Resources::LOW,
+        }
+    }
+
+    /// What an instruction writes.
+    pub fn written_by(inst: &Plain) -> Resources {
+        match inst.action() {
+            Action::Computes { d, .. } => Resources::of(d),
+            Action::Sets { d, .. } => Resources::of(d),
+            Action::Loads { d, .. } => Resources::of_nonzero(d),
+            Action::Stores { .. } => Resources::NONE,
+            Action::Multiplies { .. } => Resources::HIGH.union(Resources::LOW),
+            Action::Divides { .. } => Resources::HIGH.union(Resources::LOW),
+            Action::MovesHigh { d } => Resources::of(d),
+            Action::MovesLow { d } => Resources::of(d),
+        }
+    }
+
+    /// What an exit reads before its slot runs.
+    pub fn read_by_exit(exit: &Exit) -> Resources {
+        match exit {
+            Exit::Goto(_) => Resources::NONE,
+            Exit::BranchPair { rs, rt, .. } => Resources::of(*rs).union(Resources::of(*rt)),
+            Exit::BranchZero { rs, .. } => Resources::of(*rs),
+            Exit::Call { .. } => Resources::NONE,
+            Exit::Return => Resources::of(Reg::LINK),
+            Exit::Out(_) => Resources::of(Reg::ARGUMENT),
+            Exit::Halt => Resources::of(Reg::ARGUMENT),
+        }
+    }
+
+    /// What the first word of an exit writes.
+    pub fn written_by_exit(exit: &Exit) -> Resources {
+        match exit {
+            Exit::Call { .. } => Resources::of(Reg::LINK),
+            Exit::Out(_) => Resources::of(Reg::RESULT),
+            Exit::Halt => Resources::of(Reg::RESULT),
+            _ => Resources::NONE,
+        }
+    }
+
+    /// What an exit reads before its slot runs, and what its first word writes.
+    pub fn touched_by_exit(exit: &Exit) -> Resources {
+        Resources::read_by_exit(exit).union(Resources::written_by_exit(exit))
+    }
+}

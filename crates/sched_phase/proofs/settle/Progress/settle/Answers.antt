@@ -1,0 +1,25 @@
+use Rattle.std.proofs.Common.{rules, ◌≡◌, List, [], ◌∷◌, ◌++◌, length, ℕ, ◌+◌, length-append, sym, ap, subst, ◌∙◌, arith}
+use Rattle.mblock.specs.Parts.{OrderParts}
+use Rattle.image.specs.Views.{counts_of}
+use Rattle.sched_phase.specs.Phases.{AreSettled}
+use Rattle.sched_phase.proofs.Settled.{ServeAll, settled_more, serve_more}
+use Rattle.sched_phase.proofs.settle.Progress.settle.Goals as goal
+
+pub returns-clause-done : goal.returns-clause-done
+returns-clause-done g c =
+    let proposes = g.R.Reorder.proposes c.args.reorder.now in
+    let blocks = c.args.unit.now.blocks in
+    let b = c.args.block.now in
+    let orders = c.args.self.now.orders.items in
+    let o : OrderParts = c.in_ok-order.order in
+    let is : c.push.new.self.items ≡ orders ++ o ∷ [] = search rules in
+    let was = c.requires.done in
+    let new = counts_of c.settled.new.report in
+    let old = counts_of c.args.self.now.report in
+    let suits = c.in_ok-order.ensures.suits in
+    record {
+      settled = subst (λ l. AreSettled proposes blocks l new) (sym is)
+          (settled_more proposes blocks orders old new b suits.0 o c.requires.next was.settled suits.1 suits.2);
+      serve = subst (ServeAll blocks) (sym is) (serve_more blocks orders b o c.requires.next c.in_ok-order.ensures.serves was.serve);
+      sum = c.in_ok-order.ensures.sum ∙ ap (λ n. n + 1) was.sum ∙ sym (length-append orders (o ∷ [])) ∙ ap length (sym is);
+    }

@@ -1,0 +1,34 @@
+-- One more block and its order.
+use Rattle.std.specs.Prelude.{◌≡◌, ℕ, ◌+◌, ◌≤◌, List, Some, length, slice_get}
+use Rattle.mblock.specs.declared.limits.TheConstants.{BLOCK_INSTS}
+use Rattle.mblock.specs.Parts.{BlockParts, OrderParts}
+use Rattle.mblock.specs.Clean.{FitsSlot}
+use Rattle.mblock.specs.BlockMeaning.{exit_shape}
+use Rattle.mblock.specs.Orders.{Means}
+use Rattle.image.specs.Images.{CountsOf}
+use Rattle.image.specs.Images.{total}
+use Rattle.image.specs.Views.{counts_of}
+use Rattle.sched_phase.specs.Phases.{Kind, Proposals, AreSettled, count_of}
+use Rattle.sched_phase.specs.declared.settle.Progress.{Progress}
+
+-- one block more is counted, under this kind
+pub record AddsOne (k : Kind) (old new : CountsOf) : Type 0 where
+  pub same : new.same ≡ old.same + (count_of k).same
+  pub unclean : new.unclean ≡ old.unclean + (count_of k).unclean
+  pub differs : new.differs ≡ old.differs + (count_of k).differs
+  pub full : new.full ≡ old.full + (count_of k).full
+  pub no_memory : new.no_memory ≡ old.no_memory + (count_of k).no_memory
+  pub missed : new.missed ≡ old.missed + (count_of k).missed
+
+-- what is asked of each order of a unit
+pub record Serves (b : BlockParts) (o : OrderParts) : Type 0 where
+  pub short : length b.insts ≤ BLOCK_INSTS
+  pub fits : FitsSlot o
+  pub exit : exit_shape b.exit ≡ exit_shape o.exit
+  pub means : Means b o
+
+-- the first blocks have their orders, which serve them, and are counted
+pub record AreDone (proposes : Proposals) (blocks : List BlockParts) (p : Progress) : Type 0 where
+  pub settled : AreSettled proposes blocks p.orders.items (counts_of p.report)
+  pub serve : (i : ℕ) (b : BlockParts) (o : OrderParts) → slice_get blocks i ≡ Some b → slice_get p.orders.items i ≡ Some o → Serves b o
+  pub sum : total (counts_of p.report) ≡ length p.orders.items

@@ -1,0 +1,23 @@
+//! One order for each block of a unit, and what the blocks came to.
+//!
+//! A `Scheduled` lends its unit; its orders mean the unit's blocks and are left as these are (`IsScheduled` of
+//! `specs/Schedules.antt`), which every way of making one has to show. `schedule_plain` takes the plain orders.
+//!
+//! `schedule_all` takes what a scheduler proposes, where the validator finds that it means its block, by workers that share
+//! one table of terms; `schedule_one` does so without threads. Neither trusts the scheduler. What they promise is `IsPhase`
+//! of `specs/Phases.antt`: each block has an order that the scheduler may propose and that means it, or the plain one, and
+//! is counted once.
+#![tactic(auto)]
+
+mod options;
+mod phase;
+mod plain;
+mod scheduled;
+mod settle;
+mod work;
+
+pub use image::Counts;
+pub use options::PhaseOpts;
+pub use phase::{schedule_all, schedule_one};
+pub use plain::schedule_plain;
+pub use scheduled::Scheduled;

@@ -1,0 +1,74 @@
+ghost use Rattle.std.specs.Option.{SomeIff};
+ghost use Rattle.std.specs.Prelude.{◌≡◌};
+ghost use Rattle.term_table.specs.Passes.{InRange};
+
+use std::marker::Model;
+
+/// How many workers a phase has, and the table that they share: nodes for each worker, and chains.
+#[derive(Clone, Copy, Debug, PartialEq, Eq)]
+pub struct PhaseOpts {
+    workers: u64,
+    nodes: u64,
+    heads: u64,
+}
+
+impl Model for PhaseOpts {
+    ghost use Rattle.sched_phase.specs.Options.{OptionsOf};
+    ghost use Rattle.term_table.specs.Passes.{InRange};
+
+    ghost Value = { OptionsOf };
+
+    ghost view = { λ o. record { workers = o.workers; nodes = o.nodes; heads = o.heads } };
+
+    ghost invariant = { λ o. InRange o.workers o.nodes o.heads };
+
+    ghost inverse = { λ o. record { workers = o.workers; nodes = o.nodes; heads = o.heads } };
+}
+
+impl PhaseOpts {
+    /// These options, where a table can be opened by them: 1 to 64 workers, 1 to 1,048,576 nodes for each, 1 to 65,536
+    /// chains.
+    pub fn new(workers: u64, nodes: u64, heads: u64) -> Option<PhaseOpts>
+        ensures { SomeIff result (InRange workers nodes heads) (record { workers = workers; nodes = nodes; heads = heads }) }
+    {
+        let is_in_range = workers >= 1
+            && workers <= 64
+            && nodes >= 1
+            && nodes <= 1_048_576
+            && heads >= 1
+            && heads <= 65_536;
+        if is_in_range {
+            Some(PhaseOpts {
+                workers,
+                nodes,
+                heads,
+            })
+        } else {
+            None
+        }
+    }
+
+    /// How many workers.
+    pub fn workers(self) -> u64
+        ensures value { result ≡ self.workers }
+        ensures range { InRange self.workers self.nodes self.heads }
+    {
+        self.workers
+    }
+
+    /// How many terms each worker may link.
+    pub fn nodes(self) -> u64
+        ensures value { result ≡ self.nodes }
+        ensures range { InRange self.workers self.nodes self.heads }
+    {
+        self.nodes
+    }
+
+    /// How many chains the table has.
+    pub fn heads(self) -> u64
+        ensures value { result ≡ self.heads }
+        ensures range { InRange self.workers self.nodes self.heads }
+    {
+        self.heads
+    }
+}

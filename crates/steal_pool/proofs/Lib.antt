@@ -1,0 +1,6 @@
+pub mod Steps
+pub mod Turns
+pub mod Shares
+pub mod Pairing
+pub mod Rounds
+pub mod Places

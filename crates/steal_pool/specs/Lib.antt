@@ -1,0 +1,9 @@
+-- to believe
+pub mod Rule
+pub mod Shares
+pub mod Victims
+pub mod Members
+pub mod Starts
+pub mod Rounds
+pub mod Places
+pub mod Laws

@@ -1,0 +1,25 @@
+-- The turn of a member: each deque of the pool, its own first.
+use Rattle.std.specs.Prelude.{◌≡◌, ℕ, ◌+◌, ◌%◌, ◌<◌, List, Some, length, slice_get}
+use Rattle.std.specs.List.{sum_by}
+use Rattle.std.specs.declared.alloc.Global.{Global}
+use Rattle.atomic_blocks.specs.Lent.{RowsId}
+use Rattle.steal_pool.specs.declared.view.View.{View}
+use Rattle.steal_pool.specs.declared.member.Member.{Member}
+use Rattle.steal_pool.specs.Rule.{times}
+use Rattle.steal_pool.specs.Members.{deques_of, views_of}
+
+-- how often the passes with these views took x
+abbrev pub times_taken : ℕ → List View → ℕ
+times_taken x views = sum_by (λ (v : View). times x v.taken) views
+
+module _ {K : Type 0} where
+  -- the member takes from all of these deques and no others, first from the one at place w
+  pub record GoesRound (deques : List (RowsId × Global)) (w : ℕ) (m : Member K) : Type 0 where
+    pub place : w < length deques
+    pub all : length (deques_of m) ≡ length deques
+    pub turn : (k : ℕ) → k < length deques → slice_get (deques_of m) k ≡ slice_get deques ((w + k) % length deques)
+
+  -- of the deque of each place, the member at place w has a view of its own of which it is noted that the deque was empty
+  abbrev pub FoundEmpty : (View → Type 0) → List (RowsId × Global) → ℕ → Member K → Type 0
+  FoundEmpty empty deques w m =
+      (j : ℕ) (q : RowsId × Global) → slice_get deques j ≡ Some q → (k : ℕ) × (v : View) × ((w + k) % length deques ≡ j) × (slice_get (deques_of m) k ≡ Some q) × (slice_get (views_of m) k ≡ Some v) × empty v

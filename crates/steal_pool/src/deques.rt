@@ -1,0 +1,86 @@
+//! The deques at the start.
+ghost use Rattle.std.specs.Prelude.{◌≡◌, ◌<◌, ◌≤◌, [], ◌∷◌, All, IfOk, OnOk, true, map, length};
+ghost use Rattle.crossbeam_deque.specs.Handles.{view, worker_view, worker_flavor, worker_deque, stealer_deque};
+ghost use Rattle.steal_pool.specs.Rule.{maker, guest, after_putting, KeptByPutting, KeptByGuests};
+ghost use Rattle.steal_pool.specs.Victims.{IsVictim};
+ghost use Rattle.steal_pool.specs.Shares.{Begins};
+ghost use Rattle.steal_pool.specs.Starts.{AreVictims};
+
+use crate::rule::{Fact, Puts, Shared};
+use crate::victim::Victim;
+use crate::view::View;
+use crossbeam_deque::Worker;
+use std::alloc::{AllocError, Global};
+
+// A deque with the tasks below n whose number leaves w.
+pub(crate) fn filled<K: Fact>(
+    alloc: Global,
+    w: usize,
+    count: usize,
+    n: usize,
+) -> Result<Worker<usize, Global, View, Shared<K>>, AllocError>
+    requires some { 0 < count }
+    requires begins { K.real [] (maker ∷ []) }
+    requires puts { KeptByPutting K.real }
+    ensures fifo { IfOk result (λ d. worker_flavor d ≡ 0) }
+    ensures tasks { IfOk result (λ d. Begins w count n (worker_view d)) }
+{
+    let mut own = Worker::<usize, Global, View, Shared<K>>::fifo_as(
+        alloc,
+        (n / count).saturating_add(1),
+    )?;
+    for i in 0..n {
+        if i % count == w {
+            put(&mut own, i)?;
+        }
+    }
+    Ok(own)
+}
+
+fn put<K: Fact>(
+    own: &mut Worker<usize, Global, View, Shared<K>>,
+    i: usize,
+) -> Result<(), AllocError>
+    requires may { (worker_view own.old).puts ≡ true }
+    requires puts { KeptByPutting K.real }
+    ensures fifo { worker_flavor own.new ≡ worker_flavor own.old }
+    ensures tasks { OnOk result (worker_view own.new ≡ after_putting (worker_view own.old) (i ∷ [])) }
+{
+    match own.push_as::<Puts>(i) {
+        Ok(()) => Ok(()),
+        Err(_) => Err(AllocError),
+    }
+}
+
+// The ways of member w to the others, the next one first.
+pub(crate) fn victims_of<K: Fact>(
+    alloc: Global,
+    workers: &[Worker<usize, Global, View, Shared<K>>],
+    w: usize,
+) -> Result<Vec<Victim<K>>, AllocError>
+    requires count { (w < length workers.now) × (length workers.now ≤ 64) }
+    requires fifo { All (λ d. worker_flavor d ≡ 0) workers.now }
+    requires guests { KeptByGuests K.real }
+    ensures ways { IfOk result (λ v. AreVictims (map (λ d. worker_deque d) workers.now) w v.items) }
+{
+    let mut victims = Vec::new(alloc);
+    for step in 1..workers.len() {
+        let at = (w + step) % workers.len();
+        let victim = victim_to(&workers[at])?;
+        victims.push(victim)?;
+    }
+    Ok(victims)
+}
+
+fn victim_to<K: Fact>(
+    worker: &Worker<usize, Global, View, Shared<K>>,
+) -> Result<Victim<K>, AllocError>
+    requires fifo { worker_flavor worker.now ≡ 0 }
+    requires guests { KeptByGuests K.real }
+    ensures victim { IfOk result (λ l. IsVictim l × (view l.pass ≡ guest)) }
+    ensures deque { IfOk result (λ l. stealer_deque l.stealer ≡ worker_deque worker.now) }
+{
+    let stealer = worker.stealer()?;
+    let pass = stealer.pass();
+    Ok(Victim { stealer, pass })
+}

@@ -1,0 +1,44 @@
+//! The members of a pool at the start.
+ghost use Rattle.std.specs.Prelude.{◌≡◌, ℕ, ◌<◌, ◌≤◌, [], ◌∷◌, All, IfOk, Some, slice_get};
+ghost use Rattle.steal_pool.specs.declared.member.Member.{Member};
+ghost use Rattle.steal_pool.specs.Rule.{maker, KeptByPutting, KeptByGuests};
+ghost use Rattle.steal_pool.specs.Members.{IsMember};
+ghost use Rattle.steal_pool.specs.Rounds.{GoesRound};
+ghost use Rattle.steal_pool.specs.Starts.{Start, own_deques};
+
+use crate::deques::{filled, victims_of};
+use crate::member::Member;
+use crate::rule::Fact;
+use std::alloc::{AllocError, Global};
+
+/// The members of a pool, each with a deque of its own and a way to all others. Task i below n lies on the deque of the
+/// member i % count; an Err is refused memory.
+pub fn members<K: Fact>(alloc: Global, count: usize, n: usize) -> Result<Vec<Member<K>>, AllocError>
+    requires count { (0 < count) × (count ≤ 64) }
+    requires begins { K.real [] (maker ∷ []) }
+    requires puts { KeptByPutting K.real }
+    requires guests { KeptByGuests K.real }
+    ensures start { IfOk result (λ ms. Start count n ms.items) }
+    ensures round { IfOk result (λ ms. (w : ℕ) (m : Member K) → slice_get ms.items w ≡ Some m → GoesRound (own_deques ms.items) w m) }
+    ensures each { IfOk result (λ ms. All IsMember ms.items) }
+{
+    let mut workers = Vec::new(alloc);
+    for w in 0..count {
+        let own = filled::<K>(alloc, w, count, n)?;
+        workers.push(own)?;
+    }
+    // The first member's ways stand last.
+    let mut ways = Vec::new(alloc);
+    for w in (0..count).rev() {
+        let victims = victims_of::<K>(alloc, workers.as_slice(), w)?;
+        ways.push(victims)?;
+    }
+    let mut members = Vec::new(alloc);
+    for own in workers {
+        let Some(others) = ways.pop() else {
+            return Err(AllocError);
+        };
+        members.push(Member { own, others })?;
+    }
+    Ok(members)
+}
