@@ -123,7 +123,7 @@ const WORDS: [u32; 24] = [
 ];
 
 // The program with these bytes of data.
-fn program(alloc: Global, bytes: &[u8]) -> Result<Option<Unit>, AllocError> {
+pub fn program(alloc: Global, bytes: &[u8]) -> Result<Option<Unit>, AllocError> {
     let mut owner = Vec::new(alloc);
     for first in [0, 0, 0, 3, 3, 3] {
         owner.push(number(first))?;

@@ -13,4 +13,6 @@ mod listing;
 #[cfg(test)]
 mod pieces;
 #[cfg(test)]
+mod scheduled;
+#[cfg(test)]
 mod units;

@@ -1,5 +1,5 @@
-//! Worked examples of RTL: operators, runs, what is no program, and the homes of pseudo-registers. The expected values are
-//! worked by hand from the rules of the language.
+//! Worked examples of RTL: operators, runs, what is no program, the homes of pseudo-registers, and units selected, assembled
+//! and run. The expected values are worked by hand from the rules of the language.
 #![tactic(auto)]
 
 #[cfg(test)]
@@ -16,5 +16,7 @@ mod programs;
 mod refusals;
 #[cfg(test)]
 mod runs_of_blocks;
+#[cfg(test)]
+mod selected;
 #[cfg(test)]
 mod sizes;

@@ -2,7 +2,7 @@
 
 ghost use Rattle.std.specs.Prelude.{◌≡◌, ℕ, IfOk, OnOk, IfErr, slice_index};
 ghost use Rattle.mblock.specs.Orders.{AreOrders};
-ghost use Rattle.image.specs.Images.{IsImage, FitsVersion};
+ghost use Rattle.image.specs.Images.{IsImage, FitsVersion, Second};
 ghost use Rattle.image.specs.Views.{version_of};
 ghost use Rattle.mips_asm.specs.Emitted.{IsWithin};
 ghost use Rattle.mips_asm.specs.Assembled.{EachAssembledImageRuns, IsAssembled, RunsAsUnit};
@@ -11,6 +11,7 @@ use crate::emit::code_of;
 use crate::fault::AsmFault;
 use image::{Counts, Image};
 use mblock::{Order, Unit};
+use sched_phase::Scheduled;
 use std::alloc::Global;
 
 /// Where the code begins, with block 0.
@@ -36,6 +37,21 @@ pub fn image_of(
     let code = code_of(alloc, unit.owner(), orders)?;
     let bytes = Vec::from_slice(alloc, unit.globals())?;
     Ok(Image::of(counts, ENTRY, code, bytes))
+}
+
+/// The image of version 2 of a unit whose blocks are scheduled, with its counts. It runs as the unit. `Limit` exactly where a
+/// function has more than 32,000 words, or the code more than 1,048,576.
+pub fn assemble(alloc: Global, scheduled: &Scheduled<'_>) -> Result<Image, AsmFault>
+    ensures assembled { IfOk result (IsAssembled scheduled.now.unit scheduled.now.orders) }
+    ensures version { IfOk result (λ i. i.version ≡ Second scheduled.now.report) }
+    ensures fits { IfOk result IsImage }
+    ensures runs { IfOk result (RunsAsUnit scheduled.now.unit scheduled.now.orders) }
+    ensures within { OnOk result (IsWithin (slice_index scheduled.now.unit.owner) scheduled.now.orders) }
+    ensures limit { IfErr result (λ e. e ≡ AsmFault.Limit → IsWithin (slice_index scheduled.now.unit.owner) scheduled.now.orders → ⊥) }
+{
+    let unit = scheduled.unit();
+    let report = scheduled.report();
+    image_of(alloc, unit, scheduled.orders(), Some(report))
 }
 
 /// An image that has the words of a unit's orders runs as the unit.

@@ -4,7 +4,7 @@ use Rattle.image.specs.Images.{ImageParts, IsImage}
 use Rattle.image.specs.Views.{version_of}
 use Rattle.mips_asm.specs.Emitted.{AreUnits}
 use Rattle.mips_asm.proofs.Units.{unit_orders, image_made, each_assembled_image_runs}
-use Rattle.mips_asm.proofs.assemble.image_of.Goals as goal
+use Rattle.mips_asm.proofs.assembly.image_of.Goals as goal
 
 pub code_of-requires-clause-unit : goal.code_of-requires-clause-unit
 code_of-requires-clause-unit c =

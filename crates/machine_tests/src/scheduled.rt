@@ -1,0 +1,131 @@
+// Scheduled units become images of version 2, with their counts.
+
+use crate::assembled::program;
+use crate::pieces::number;
+use image::{Counts, read_image, write_image};
+use mblock::{Block, Exit, Unit};
+use mips_asm::{assemble, list};
+use mips_isa::{ImmOp, Plain, Reg};
+use mips_machine::run;
+use mips_steps::Ending;
+use sched_phase::schedule_plain;
+use std::alloc::{AllocError, Global};
+use std::test::Fail;
+
+const NO_COUNTS: Counts = Counts {
+    same: 0,
+    unclean: 0,
+    differs: 0,
+    full: 0,
+    no_memory: 0,
+    missed: 0,
+};
+
+// One block, which ends with 7.
+fn seven(alloc: Global) -> Result<Option<Unit>, AllocError> {
+    let mut insts = Vec::new(alloc);
+    insts.push(Plain::Imm {
+        op: ImmOp::Addiu,
+        rt: Reg::ARGUMENT,
+        rs: Reg::ZERO,
+        imm: 7,
+    })?;
+    let mut blocks = Vec::new(alloc);
+    if let Some(block) = Block::new(insts, Exit::Halt) {
+        blocks.push(block)?;
+    }
+    let mut owner = Vec::new(alloc);
+    owner.push(number(0))?;
+    Ok(Unit::new(blocks, owner, Vec::new(alloc)))
+}
+
+const SEVEN: [u32; 14] = [
+    0x4d43_4349,
+    2,
+    3,
+    0x0040_0000,
+    0,
+    0,
+    0,
+    0,
+    0,
+    0,
+    0,
+    0x2404_0007,
+    0x2402_000a,
+    0x0000_000c,
+];
+
+fn bytes_of(alloc: Global, words: &[u32]) -> Result<Vec<u8>, AllocError> {
+    let mut bytes = Vec::new(alloc);
+    for word in words {
+        bytes.extend_from_slice(&word.to_be_bytes())?;
+    }
+    Ok(bytes)
+}
+
+#[test]
+fn a_scheduled_unit_becomes_an_image(rt: HostRuntime) -> Result<(), Fail> {
+    let alloc = rt.alloc();
+    let Some(unit) = seven(alloc)? else {
+        return Ok(());
+    };
+    let scheduled = schedule_plain(alloc, &unit)?;
+    assert_eq!(rt; scheduled.count(), 1);
+    assert_eq!(rt; scheduled.report(), NO_COUNTS);
+    let image = assemble(alloc, &scheduled)?;
+    let bytes = write_image(alloc, &image)?;
+    let expected = bytes_of(alloc, SEVEN.as_slice())?;
+    assert_eq!(rt; bytes.as_slice(), expected.as_slice());
+    let again = read_image(alloc, bytes.as_slice());
+    assert!(rt; again.is_ok());
+    assert!(rt; run(alloc, &image, 3)?.end == Ending::Halt(7));
+    assert!(rt; run(alloc, &image, 2)?.end == Ending::More);
+    Ok(())
+}
+
+const LISTING: &str = "\
+00400000  3c081000  lui $8,4096
+00400004  8d040004  lw $4,4($8)
+00400008  00000000  nop
+0040000c  0c10000e  jal 0x00400038
+00400010  00000000  nop
+00400014  08100007  j 0x0040001c
+00400018  00000000  nop
+0040001c  24020001  addiu $2,$0,1
+00400020  0000000c  syscall
+00400024  0810000b  j 0x0040002c
+00400028  00000000  nop
+0040002c  24040003  addiu $4,$0,3
+00400030  2402000a  addiu $2,$0,10
+00400034  0000000c  syscall
+00400038  24840001  addiu $4,$4,1
+0040003c  1c800003  bgtz $4,0x0040004c
+00400040  00000000  nop
+00400044  08100016  j 0x00400058
+00400048  00000000  nop
+0040004c  00042040  sll $4,$4,1
+00400050  03e00008  jr $31
+00400054  00000000  nop
+00400058  03e00008  jr $31
+0040005c  00000000  nop
+10000000  00000007  .word
+10000004  00000014  .word
+10000008  09  .byte
+report same 0 unclean 0 differs 0 full 0 nomemory 0 missed 0
+";
+
+// The texts are those of GNU objdump, with registers by number.
+#[test]
+fn a_scheduled_unit_is_listed(rt: HostRuntime) -> Result<(), Fail> {
+    let alloc = rt.alloc();
+    let data = [0, 0, 0, 7, 0, 0, 0, 20, 9];
+    let Some(unit) = program(alloc, data.as_slice())? else {
+        return Ok(());
+    };
+    let scheduled = schedule_plain(alloc, &unit)?;
+    let image = assemble(alloc, &scheduled)?;
+    let text = list(alloc, &image)?;
+    assert_eq!(rt; text.as_str(), LISTING);
+    Ok(())
+}

@@ -1,0 +1,234 @@
+// Images as a reader sees them, line by line.
+
+ghost use Rattle.std.specs.Prelude.{◌≡◌, ℕ, ◌+◌, ◌*◌, ◌^◌, ◌<◌, ◌≤◌, ◌++◌, length, OnOk, IfOk, Some, codes};
+ghost use Rattle.std.specs.String.{string_bytes};
+ghost use Rattle.mips_isa.specs.Starting.{data_base};
+ghost use Rattle.mips_isa.specs.Texts.{half_text};
+ghost use Rattle.mips_code.specs.Decoding.{instruction_of};
+ghost use Rattle.image.specs.Images.{code_base, word_at_byte, words_of};
+ghost use Rattle.image.specs.Views.{version_of};
+ghost use Rattle.image.specs.declared.limits.TheConstants as image_limits;
+ghost use Rattle.mips_asm.specs.Listing.{byte_line, byte_text, code_line, data_lines, decoded_text, lines_at, listing, report_line, word_line, word_text};
+
+use image::{Counts, Image};
+use mips_code::decode;
+use mips_isa::{Inst, ListedControl};
+use std::alloc::{AllocError, Global};
+use std::fmt;
+
+const CODE_BASE: u32 = 0x0040_0000;
+
+const DATA_BASE: u32 = 0x1000_0000;
+
+// 16 bits in four hexadecimal digits.
+#[derive(Clone, Copy)]
+struct HalfDigits(u16);
+
+impl fmt::Display for HalfDigits {
+    ghost output = { λ h. Some (half_text h.0) };
+
+    fn fmt<W: fmt::Write>(&self, f: &mut fmt::Formatter<W>) -> fmt::Result {
+        let first = self.0 / 0x1000 % 16;
+        let second = self.0 / 0x100 % 16;
+        let third = self.0 / 0x10 % 16;
+        let last = self.0 % 16;
+        write!(f, "{first:x}{second:x}{third:x}{last:x}")
+    }
+}
+
+// A word in eight.
+#[derive(Clone, Copy)]
+struct WordDigits(u32);
+
+impl fmt::Display for WordDigits {
+    ghost output = { λ w. Some (word_text w.0) };
+
+    fn fmt<W: fmt::Write>(&self, f: &mut fmt::Formatter<W>) -> fmt::Result {
+        let high = HalfDigits((self.0 / 0x1_0000) as u16);
+        let low = HalfDigits((self.0 % 0x1_0000) as u16);
+        write!(f, "{high}{low}")
+    }
+}
+
+// A byte in two.
+#[derive(Clone, Copy)]
+struct ByteDigits(u8);
+
+impl fmt::Display for ByteDigits {
+    ghost output = { λ b. Some (byte_text b.0) };
+
+    fn fmt<W: fmt::Write>(&self, f: &mut fmt::Formatter<W>) -> fmt::Result {
+        let first = self.0 / 16 % 16;
+        let last = self.0 % 16;
+        write!(f, "{first:x}{last:x}")
+    }
+}
+
+// What a word of code says.
+#[derive(Clone, Copy)]
+struct Decoded {
+    address: u32,
+    word: u32,
+}
+
+impl fmt::Display for Decoded {
+    ghost output = { λ d. Some (decoded_text (instruction_of d.word) d.address) };
+
+    fn fmt<W: fmt::Write>(&self, f: &mut fmt::Formatter<W>) -> fmt::Result {
+        match decode(self.word) {
+            None => f.write_str(".word"),
+            Some(Inst::Plain(plain)) => write!(f, "{plain}"),
+            Some(Inst::Control(control)) => {
+                let address = self.address;
+                let listed = ListedControl { control, address };
+                write!(f, "{listed}")
+            }
+        }
+    }
+}
+
+// A word of code at its address.
+#[derive(Clone, Copy)]
+struct CodeLine {
+    address: u32,
+    word: u32,
+}
+
+impl fmt::Display for CodeLine {
+    ghost output = { λ l. Some (code_line l.address l.word) };
+
+    fn fmt<W: fmt::Write>(&self, f: &mut fmt::Formatter<W>) -> fmt::Result {
+        let (address, word) = (self.address, self.word);
+        let place = WordDigits(address);
+        let digits = WordDigits(word);
+        let decoded = Decoded { address, word };
+        write!(f, "{place}  {digits}  {decoded}")
+    }
+}
+
+// A word of data at its address.
+#[derive(Clone, Copy)]
+struct WordLine {
+    address: u32,
+    word: u32,
+}
+
+impl fmt::Display for WordLine {
+    ghost output = { λ l. Some (word_line l.address l.word) };
+
+    fn fmt<W: fmt::Write>(&self, f: &mut fmt::Formatter<W>) -> fmt::Result {
+        let place = WordDigits(self.address);
+        let digits = WordDigits(self.word);
+        write!(f, "{place}  {digits}  .word")
+    }
+}
+
+// A byte of data at its address.
+#[derive(Clone, Copy)]
+struct ByteLine {
+    address: u32,
+    byte: u8,
+}
+
+impl fmt::Display for ByteLine {
+    ghost output = { λ l. Some (byte_line l.address l.byte) };
+
+    fn fmt<W: fmt::Write>(&self, f: &mut fmt::Formatter<W>) -> fmt::Result {
+        let place = WordDigits(self.address);
+        let digits = ByteDigits(self.byte);
+        write!(f, "{place}  {digits}  .byte")
+    }
+}
+
+fn put_code(out: &mut String, code: &[u32]) -> Result<(), AllocError>
+    requires { length code.now ≤ image_limits.CODE_WORDS }
+    ensures { OnOk result (string_bytes out.new ≡ string_bytes out.old ++ lines_at code_line 4 code_base code.now) }
+{
+    let mut address = CODE_BASE;
+    for word in code {
+        let line = CodeLine {
+            address,
+            word: *word,
+        };
+        writeln!(out, "{line}")?;
+        address += 4;
+    }
+    Ok(())
+}
+
+fn word_at_byte(bytes: &[u8]) -> u32
+    requires { 4 ≤ length bytes.now }
+    ensures { result ≡ word_at_byte bytes.now 0 }
+{
+    (u32::from(bytes[0]) << 24)
+        + (u32::from(bytes[1]) << 16)
+        + (u32::from(bytes[2]) << 8)
+        + u32::from(bytes[3])
+}
+
+// So many words, the first one at the first byte.
+fn put_words(out: &mut String, count: usize, bytes: &[u8]) -> Result<(), AllocError>
+    requires room { 4 * count ≤ length bytes.now }
+    requires few { length bytes.now ≤ image_limits.DATA_BYTES }
+    ensures { OnOk result (string_bytes out.new ≡ string_bytes out.old ++ lines_at word_line 4 data_base (words_of count bytes.now)) }
+{
+    let mut address = DATA_BASE;
+    let mut rest = bytes;
+    for _ in 0..count {
+        let (_, behind) = rest.split_at(4);
+        let line = WordLine {
+            address,
+            word: word_at_byte(rest),
+        };
+        writeln!(out, "{line}")?;
+        address += 4;
+        rest = behind;
+    }
+    Ok(())
+}
+
+fn put_bytes(out: &mut String, first: u32, bytes: &[u8]) -> Result<(), AllocError>
+    requires { first + length bytes.now < 2 ^ 32 }
+    ensures { OnOk result (string_bytes out.new ≡ string_bytes out.old ++ lines_at byte_line 1 first bytes.now) }
+{
+    let mut address = first;
+    for byte in bytes {
+        let line = ByteLine {
+            address,
+            byte: *byte,
+        };
+        writeln!(out, "{line}")?;
+        address += 1;
+    }
+    Ok(())
+}
+
+fn put_data(out: &mut String, bytes: &[u8]) -> Result<(), AllocError>
+    requires { length bytes.now ≤ image_limits.DATA_BYTES }
+    ensures { OnOk result (string_bytes out.new ≡ string_bytes out.old ++ data_lines bytes.now) }
+{
+    let count = bytes.len() / 4;
+    let (_, odd) = bytes.split_at(4 * count);
+    put_words(out, count, bytes)?;
+    put_bytes(out, DATA_BASE + 4 * count as u32, odd)
+}
+
+fn put_report(out: &mut String, counts: Option<Counts>) -> Result<(), AllocError>
+    ensures { OnOk result (string_bytes out.new ≡ string_bytes out.old ++ report_line (version_of counts)) }
+{
+    match counts {
+        None => Ok(()),
+        Some(counts) => writeln!(out, "report {counts}"),
+    }
+}
+
+/// The listing of an image: exactly `listing` of `specs/Listing.antt`. `Err` only where memory is refused.
+pub fn list(alloc: Global, image: &Image) -> Result<String, AllocError>
+    ensures { IfOk result (λ text. string_bytes text ≡ listing image.now) }
+{
+    let mut out = String::new(alloc);
+    put_code(&mut out, image.code())?;
+    put_data(&mut out, image.bytes())?;
+    put_report(&mut out, image.counts())?;
+    Ok(out)
+}
