@@ -1,7 +1,8 @@
--- An error along equations.
-use Rattle.std.proofs.Common.{◌≡◌, Result, Ok, Err, IfErr, IsErrAnd, List, true, subst, sym}
+-- An error and a subcommand along equations.
+use Rattle.std.proofs.Common.{◌≡◌, ◌∙◌, Option, Some, Result, Ok, Err, IfErr, IsErrAnd, List, true, subst, sym}
 use Rattle.clap.specs.declared.error.Error.{Error}
-use Rattle.clap.specs.Words.{App, Text, takes}
+use Rattle.clap.specs.Words.{App, HasMatchesOf, Row, Text, is_simple, subcommand_of, subcommand_rows_of, takes}
+use Rattle.clap.specs.declared.parser.matches.ArgMatches.{ArgMatches}
 use Rattle.clap.specs.declared.error.ErrorKind.{ErrorKind}
 use Rattle.clap.specs.declared.error.ErrorKind.TheVariants.{OutOfMemory}
 
@@ -13,3 +14,9 @@ refused_moves a b ws k e h t = h (subst (λ (x : App). takes x ws ≡ true) (sym
 pub err_of : {T : Type 0} (r : Result T Error) (x : Error) (q : Error → Type 0) → IsErrAnd r (λ e. e ≡ x) → q x → IfErr r q
 err_of (Ok v) x q h holds = absurd h
 err_of (Err e) x q h holds = subst q (sym h) holds
+
+-- the subcommand that was found is the one that the words ask for
+pub subcommand_moves : (a b : App) (ws : List Text) (m : ArgMatches) (r : Option (Text × List Row)) → a ≡ b → is_simple b ≡ true
+    → HasMatchesOf a ws m → subcommand_rows_of m ≡ r → subcommand_of b ws ≡ r
+subcommand_moves a b ws m r e simple has found =
+    sym ((subst (λ (x : App). HasMatchesOf x ws m) e has) simple).1 ∙ found

@@ -1,11 +1,11 @@
 -- The command line of `mcc`, and what its words ask for.
-use Rattle.std.specs.Prelude.{◌≡◌, ◌<◌, ◌≤◌, ◌^◌, ℕ, List, Option, Some, None, true, codes}
+use Rattle.std.specs.Prelude.{◌≡◌, ◌<◌, ◌≤◌, ◌^◌, ℕ, List, Option, Some, None, Bool, true, false, codes}
 use Rattle.std.specs.Str.Parse.{IsNumeral, digits_value, without_leading_plus}
 use Rattle.clap.specs.Words.{App, Row, Rule, Text, first_of, one_of, new_app, new_rule, subcommand_of, with_rule, with_subcommand}
-use Rattle.clap.specs.declared.builder.ArgAction.TheVariants.{Set}
+use Rattle.clap.specs.declared.builder.ArgAction.TheVariants.{Set, SetTrue}
 use Rattle.clap.specs.declared.builder.value_parser.ValueParser.TheVariants as parsers
 use Rattle.command_line.specs.declared.command.Command.{Command}
-use Rattle.command_line.specs.declared.command.Command.TheVariants.{Check, Interp}
+use Rattle.command_line.specs.declared.command.Command.TheVariants.{Check, Interp, Build, Run, List as Listing}
 
 -- an argument by its place, which must be there
 abbrev pub required_rule : Text → Rule
@@ -14,6 +14,10 @@ required_rule id = record (new_rule id) { required = true; action = Some Set }
 -- `--id N` with N from low to high
 abbrev pub number_rule : Text → ℕ → ℕ → Rule
 number_rule id low high = record (new_rule id) { long = Some id; action = Some Set; parser = Some (parsers.Unsigned low high) }
+
+-- `--id`, which is there or not
+abbrev pub flag_rule : Text → Rule
+flag_rule id = record (new_rule id) { long = Some id; action = Some SetTrue }
 
 -- a command that is nothing without a subcommand
 abbrev pub with_required_subcommand : App → App
@@ -29,17 +33,48 @@ source_app = with_rule (new_app (codes "interp")) (required_rule (codes "SOURCE"
 abbrev pub interp_app : App
 interp_app = with_rule (with_rule source_app (number_rule (codes "depth") 1 4096)) (number_rule (codes "steps") 0 4294967295)
 
--- `mcc` before its second command
+-- `build` before its options
+abbrev pub files_app : App
+files_app = with_rule (with_rule (new_app (codes "build")) (required_rule (codes "SOURCE"))) (required_rule (codes "IMAGE"))
+
+-- `build` before the options of its phase
+abbrev pub plain_app : App
+plain_app = with_rule (with_rule files_app (flag_rule (codes "plain"))) (number_rule (codes "depth") 1 4096)
+
+abbrev pub build_app : App
+build_app = with_rule (with_rule (with_rule plain_app (number_rule (codes "workers") 1 64)) (number_rule (codes "nodes") 1 1048576))
+    (number_rule (codes "heads") 1 65536)
+
+abbrev pub run_app : App
+run_app = with_rule (with_rule (new_app (codes "run")) (required_rule (codes "IMAGE"))) (number_rule (codes "steps") 0 4294967295)
+
+abbrev pub list_app : App
+list_app = with_rule (new_app (codes "list")) (required_rule (codes "IMAGE"))
+
+-- `mcc` with its first command, with two, with three, with four
 abbrev pub checking_app : App
 checking_app = with_subcommand (with_required_subcommand (new_app (codes "mcc"))) check_app.top
 
+abbrev pub interpreting_app : App
+interpreting_app = with_subcommand checking_app interp_app.top
+
+abbrev pub building_app : App
+building_app = with_subcommand interpreting_app build_app.top
+
+abbrev pub running_app : App
+running_app = with_subcommand building_app run_app.top
+
 abbrev pub mcc_app : App
-mcc_app = with_subcommand checking_app interp_app.top
+mcc_app = with_subcommand running_app list_app.top
 
 -- the number that the text gives, or the default where there is no text
 abbrev pub IsNumber : Option Text → ℕ → ℕ → Type 0
 IsNumber None default n = n ≡ default
 IsNumber (Some text) default n = IsNumeral 10 (without_leading_plus text) × (digits_value 10 (without_leading_plus text) ≡ n)
+
+-- a flag that the text gives, or that isn't there
+abbrev pub IsFlag : Option Text → Bool → Type 0
+IsFlag given b = (given ≡ None → b ≡ false) × (given ≡ Some (codes "true") → b ≡ true) × (given ≡ Some (codes "false") → b ≡ false)
 
 -- the command's name, and the values that its arguments have
 abbrev pub HasValues : Text → List Row → Command → Type 0
@@ -48,6 +83,17 @@ HasValues name rows (Interp source depth steps) =
     (name ≡ codes "interp") × (first_of (codes "SOURCE") rows ≡ Some source.now)
     × IsNumber (one_of (codes "depth") rows) 256 depth × (1 ≤ depth) × (depth ≤ 4096)
     × IsNumber (one_of (codes "steps") rows) 1000000 steps × (steps < 2 ^ 32)
+HasValues name rows (Build source image plain depth workers nodes heads) =
+    (name ≡ codes "build") × (first_of (codes "SOURCE") rows ≡ Some source.now) × (first_of (codes "IMAGE") rows ≡ Some image.now)
+    × IsFlag (one_of (codes "plain") rows) plain
+    × IsNumber (one_of (codes "depth") rows) 256 depth × (1 ≤ depth) × (depth ≤ 4096)
+    × IsNumber (one_of (codes "workers") rows) 4 workers × (1 ≤ workers) × (workers ≤ 64)
+    × IsNumber (one_of (codes "nodes") rows) 65536 nodes × (1 ≤ nodes) × (nodes ≤ 1048576)
+    × IsNumber (one_of (codes "heads") rows) 1024 heads × (1 ≤ heads) × (heads ≤ 65536)
+HasValues name rows (Run image steps) =
+    (name ≡ codes "run") × (first_of (codes "IMAGE") rows ≡ Some image.now)
+    × IsNumber (one_of (codes "steps") rows) 1000000 steps × (steps < 2 ^ 32)
+HasValues name rows (Listing image) = (name ≡ codes "list") × (first_of (codes "IMAGE") rows ≡ Some image.now)
 
 -- the subcommand and its values are clap's matches of the words
 abbrev pub IsCommand : List Text → Command → Type 0

@@ -11,4 +11,25 @@ pub enum Command<'a> {
         depth: u32,
         steps: u64,
     },
+    /// The image of the C program of a file, made for `depth` active calls at most (1 to 4096). `plain` leaves every block in
+    /// its own order; else `workers` (1 to 64) put the blocks in order, over a table with `nodes` terms for each (1 to
+    /// 1,048,576) and `heads` chains (1 to 65,536).
+    Build {
+        source: &'a str,
+        image: &'a str,
+        plain: bool,
+        depth: u32,
+        workers: u32,
+        nodes: u32,
+        heads: u32,
+    },
+    /// A run of the image of a file, for `steps` words at most (below 2^32).
+    Run {
+        image: &'a str,
+        steps: u64,
+    },
+    /// The listing of the image of a file.
+    List {
+        image: &'a str,
+    },
 }

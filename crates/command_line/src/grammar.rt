@@ -3,7 +3,8 @@
 ghost use Rattle.std.specs.Prelude.{◌≡◌, false, IfOk};
 ghost use Rattle.clap.specs.declared.builder.command.Command.TheViews.{out-Command};
 ghost use Rattle.clap.specs.Words.{app_of, rule_of};
-ghost use Rattle.command_line.specs.Commands.{check_app, checking_app, interp_app, mcc_app, number_rule, required_rule, source_app};
+ghost use Rattle.command_line.specs.Commands.{build_app, building_app, check_app, checking_app, files_app, flag_rule, interp_app, interpreting_app, list_app, mcc_app, plain_app};
+ghost use Rattle.command_line.specs.Commands.{number_rule, required_rule, run_app, running_app, source_app};
 
 use clap::builder::ValueParser;
 use clap::{Arg, ArgAction, Command as CommandLine};
@@ -41,16 +42,65 @@ overflow or an index outside its array, or called too deep), `more` (it would go
 a test, a call, a return and an output are one step each.
 `mcc interp --steps 100 /dev/stdin` reads standard input, and stops after 100 steps.";
 
+const BUILD_HELP: &str = "\
+SOURCE is a program in the subset of C that `mcc help interp` shows. IMAGE becomes its program for MIPS I,
+which `mcc run IMAGE` runs and `mcc list IMAGE` prints:
+
+    mcc build squares.c squares.image
+    mcc run squares.image
+
+Wherever `mcc interp squares.c` isn't `wrong`, the image has the same output, and ends with the same
+status. The instructions of each block are put in order, so that few words wait, and each order is checked;
+a block whose order isn't accepted keeps its own. Standard output gets
+`blocks B same S unclean U differs D full F nomemory N missed X`: of B blocks, S have a checked order, and
+the others keep their own, as the order broke a delay rule (U), had other terms (D), filled the table (F),
+or memory (N) or a worker (X) was refused. With --plain every block keeps its own order, and the line is
+`blocks B plain`. IMAGE isn't touched where the build fails.";
+
+const PLAIN_HELP: &str = "Leave the instructions of every block in their own order";
+
+const WORKERS_HELP: &str = "Workers that check orders at once: 1 to 64, or 4 if left out";
+
+const NODES_HELP: &str =
+    "Terms that each worker may add to the table: 1 to 1048576, or 65536 if left out";
+
+const HEADS_HELP: &str = "Chains of the table: 1 to 65536, or 1024 if left out";
+
+const RUN_HELP: &str = "\
+IMAGE is a program for MIPS I: code words and data behind a head (docs/FORMATS.md). These 32 bytes put 7
+into register 4 (addiu $4,$0,7), 10 into register 2 (addiu $2,$0,10) and halt (syscall):
+
+    printf 'MCCI\\0\\0\\0\\1\\0\\0\\0\\3\\0\\100\\0\\0\\0\\0\\0\\0' > seven.image
+    printf '\\44\\4\\0\\7\\44\\2\\0\\12\\0\\0\\0\\14' >> seven.image
+
+`mcc run seven.image` prints `done 7`. A program's output comes before, each word on a line in unsigned
+decimal. Other ends: `stuck M1` (to M9, the least rule that the next word breaks: M1 a register that is
+just being loaded, M2 a product or division too soon behind mfhi or mflo, M3 a branch in a delay slot,
+M4 a division by 0 or one that overflows, M5 an address that is no multiple of 4, M6 one that isn't
+mapped, M7 no code word, M8 a word that is no instruction, M9 a syscall other than 1 and 10), `more`
+(it would go on).";
+
+const LIST_HELP: &str = "\
+Each code word has a line with its address, the word and its instruction:
+
+    00400000  24040007  addiu $4,$0,7
+
+A word that is no instruction, and each word of data, has `.word` there, and a byte behind the last whole
+word of data `.byte`. An image of version 2 tells in the last line what its blocks came to.";
+
 const DEPTH_HELP: &str = "Calls active at once, main counted: 1 to 4096, or 256 if left out";
 
 const STEPS_HELP: &str = "Steps until the run stops: 0 to 4294967295, or 1000000 if left out";
 
+const WORDS_HELP: &str = "Words until the run stops: 0 to 4294967295, or 1000000 if left out";
+
 const STATUS_HELP: &str = "\
-Exit status: 0 for `same`, `done` and help, 1 for a fault (`fault N NAME` on standard error), 2 for
+Exit status: 0 for `same`, `done`, a build, a listing and help, 1 for a fault (`fault N NAME` on standard error), 2 for
 wrong words, 4 for `more`, 3 for any other answer.
 
 Examples: mcc check crates/example_files/data/slot-filled.check
-          mcc interp crates/example_files/data/squares.c";
+          mcc interp crates/example_files/data/squares.c
+          mcc build crates/example_files/data/squares.c squares.image --plain";
 
 /// An argument by its place, which must be there.
 fn required<'a>(alloc: Global, id: &'a str, about: &'a str) -> Arg<'a>
@@ -104,22 +154,108 @@ fn interp_command<'a>(alloc: Global) -> Result<CommandLine<'a>, AllocError>
     command.arg(number(alloc, "steps", 0, 4294967295, STEPS_HELP))
 }
 
-/// `mcc` before its second command.
+/// The option `--id`.
+fn flag<'a>(alloc: Global, id: &'a str, about: &'a str) -> Arg<'a>
+    ensures rule { rule_of result ≡ flag_rule id.entry.now }
+    ensures local { result.global ≡ false }
+{
+    Arg::new(alloc, id)
+        .long(id)
+        .action(ArgAction::SetTrue)
+        .help(about)
+}
+
+fn files_command<'a>(alloc: Global) -> Result<CommandLine<'a>, AllocError>
+    ensures app { IfOk result (λ c. app_of c ≡ files_app) }
+    ensures local { IfOk result (λ c. (out-Command c).has_globals ≡ false) }
+{
+    let command = CommandLine::new(alloc, "build")
+        .about("Compiles a C program to an image for MIPS I")
+        .after_help(BUILD_HELP)
+        .arg(required(alloc, "SOURCE", "The C program"))?;
+    command.arg(required(alloc, "IMAGE", "The image, which is written"))
+}
+
+fn plain_command<'a>(alloc: Global) -> Result<CommandLine<'a>, AllocError>
+    ensures app { IfOk result (λ c. app_of c ≡ plain_app) }
+    ensures local { IfOk result (λ c. (out-Command c).has_globals ≡ false) }
+{
+    let command = files_command(alloc)?;
+    let command = command.arg(flag(alloc, "plain", PLAIN_HELP))?;
+    command.arg(number(alloc, "depth", 1, 4096, DEPTH_HELP))
+}
+
+fn build_command<'a>(alloc: Global) -> Result<CommandLine<'a>, AllocError>
+    ensures app { IfOk result (λ c. app_of c ≡ build_app) }
+    ensures local { IfOk result (λ c. (out-Command c).has_globals ≡ false) }
+{
+    let command = plain_command(alloc)?;
+    let command = command.arg(number(alloc, "workers", 1, 64, WORKERS_HELP))?;
+    let command = command.arg(number(alloc, "nodes", 1, 1048576, NODES_HELP))?;
+    command.arg(number(alloc, "heads", 1, 65536, HEADS_HELP))
+}
+
+fn run_command<'a>(alloc: Global) -> Result<CommandLine<'a>, AllocError>
+    ensures app { IfOk result (λ c. app_of c ≡ run_app) }
+    ensures local { IfOk result (λ c. (out-Command c).has_globals ≡ false) }
+{
+    let command = CommandLine::new(alloc, "run")
+        .about("Runs an image on the machine")
+        .after_help(RUN_HELP)
+        .arg(required(alloc, "IMAGE", "The image"))?;
+    command.arg(number(alloc, "steps", 0, 4294967295, WORDS_HELP))
+}
+
+fn list_command<'a>(alloc: Global) -> Result<CommandLine<'a>, AllocError>
+    ensures app { IfOk result (λ c. app_of c ≡ list_app) }
+    ensures local { IfOk result (λ c. (out-Command c).has_globals ≡ false) }
+{
+    CommandLine::new(alloc, "list")
+        .about("Prints the listing of an image")
+        .after_help(LIST_HELP)
+        .arg(required(alloc, "IMAGE", "The image"))
+}
+
+/// `mcc` with its first command.
 fn checking_command<'a>(alloc: Global) -> Result<CommandLine<'a>, AllocError>
     ensures { IfOk result (λ c. app_of c ≡ checking_app) }
 {
     let check = check_command(alloc)?;
     CommandLine::new(alloc, "mcc")
-        .about("A checked scheduler for MIPS I, and a C interpreter")
+        .about("A C compiler for MIPS I, its checks, a C interpreter and a machine")
         .after_help(STATUS_HELP)
         .subcommand_required(true)
         .subcommand(check)
+}
+
+/// `mcc` with two commands.
+fn interpreting_command<'a>(alloc: Global) -> Result<CommandLine<'a>, AllocError>
+    ensures { IfOk result (λ c. app_of c ≡ interpreting_app) }
+{
+    let command = checking_command(alloc)?;
+    command.subcommand(interp_command(alloc)?)
+}
+
+/// `mcc` with three.
+fn building_command<'a>(alloc: Global) -> Result<CommandLine<'a>, AllocError>
+    ensures { IfOk result (λ c. app_of c ≡ building_app) }
+{
+    let command = interpreting_command(alloc)?;
+    command.subcommand(build_command(alloc)?)
+}
+
+/// `mcc` with four.
+fn running_command<'a>(alloc: Global) -> Result<CommandLine<'a>, AllocError>
+    ensures { IfOk result (λ c. app_of c ≡ running_app) }
+{
+    let command = building_command(alloc)?;
+    command.subcommand(run_command(alloc)?)
 }
 
 /// The command line of `mcc`.
 pub fn grammar<'a>(alloc: Global) -> Result<CommandLine<'a>, AllocError>
     ensures { IfOk result (λ c. app_of c ≡ mcc_app) }
 {
-    let command = checking_command(alloc)?;
-    command.subcommand(interp_command(alloc)?)
+    let command = running_command(alloc)?;
+    command.subcommand(list_command(alloc)?)
 }

@@ -1,9 +1,9 @@
 // The values of a command, out of the matches of its words.
 
-ghost use Rattle.std.specs.Prelude.{◌≡◌, ℕ, true, Some, IfOk, IfErr, IfSome, map, codes};
+ghost use Rattle.std.specs.Prelude.{◌≡◌, ℕ, ◌≤◌, true, Some, IfOk, IfErr, IfSome, map, codes};
 ghost use Rattle.clap.specs.declared.error.ErrorKind.TheVariants.{OutOfMemory};
 ghost use Rattle.clap.specs.Words.{found_of, kind_of, one_of, rows_of, subcommand_rows_of, takes};
-ghost use Rattle.command_line.specs.Commands.{mcc_app, HasValues, IsCommand, IsNumber};
+ghost use Rattle.command_line.specs.Commands.{mcc_app, HasValues, IsCommand, IsFlag, IsNumber};
 
 use crate::command::Command;
 use crate::grammar::grammar;
@@ -28,20 +28,74 @@ fn number_or(values: &ArgMatches<'_>, id: &str, default: u32) -> Option<u32>
     }
 }
 
+/// The value of an option from low to high, or its default.
+fn bounded(values: &ArgMatches<'_>, id: &str, default: u32, low: u32, high: u32) -> Option<u32>
+    ensures number { IfSome result (IsNumber (one_of id.now (rows_of (found_of values.now))) default) }
+    ensures range { IfSome result (λ n. (low ≤ n) × (n ≤ high)) }
+{
+    let n = number_or(values, id, default)?;
+    if n < low || n > high {
+        return None;
+    }
+    Some(n)
+}
+
 fn entered_interp<'a>(values: &ArgMatches<'a>) -> Option<Command<'a>>
     ensures { IfSome result (HasValues (codes "interp") (rows_of (found_of values.now))) }
 {
     let source = values.get_str("SOURCE")?;
-    let depth = number_or(values, "depth", 256)?;
+    let depth = bounded(values, "depth", 256, 1, 4096)?;
     let steps = number_or(values, "steps", 1000000)?;
-    if depth < 1 || depth > 4096 {
-        return None;
-    }
     Some(Command::Interp {
         source,
         depth,
         steps: steps as u64,
     })
+}
+
+fn flag(values: &ArgMatches<'_>, id: &str) -> bool
+    ensures { IsFlag (one_of id.now (rows_of (found_of values.now))) result }
+{
+    values.get_flag(id)
+}
+
+fn entered_build<'a>(values: &ArgMatches<'a>) -> Option<Command<'a>>
+    ensures { IfSome result (HasValues (codes "build") (rows_of (found_of values.now))) }
+{
+    let source = values.get_str("SOURCE")?;
+    let image = values.get_str("IMAGE")?;
+    let plain = flag(values, "plain");
+    let depth = bounded(values, "depth", 256, 1, 4096)?;
+    let workers = bounded(values, "workers", 4, 1, 64)?;
+    let nodes = bounded(values, "nodes", 65536, 1, 1048576)?;
+    let heads = bounded(values, "heads", 1024, 1, 65536)?;
+    Some(Command::Build {
+        source,
+        image,
+        plain,
+        depth,
+        workers,
+        nodes,
+        heads,
+    })
+}
+
+fn entered_run<'a>(values: &ArgMatches<'a>) -> Option<Command<'a>>
+    ensures { IfSome result (HasValues (codes "run") (rows_of (found_of values.now))) }
+{
+    let image = values.get_str("IMAGE")?;
+    let steps = number_or(values, "steps", 1000000)?;
+    Some(Command::Run {
+        image,
+        steps: steps as u64,
+    })
+}
+
+fn entered_list<'a>(values: &ArgMatches<'a>) -> Option<Command<'a>>
+    ensures { IfSome result (HasValues (codes "list") (rows_of (found_of values.now))) }
+{
+    let image = values.get_str("IMAGE")?;
+    Some(Command::List { image })
 }
 
 fn entered<'a>(matches: &ArgMatches<'a>) -> Option<Command<'a>>
@@ -52,6 +106,12 @@ fn entered<'a>(matches: &ArgMatches<'a>) -> Option<Command<'a>>
         entered_check(values)
     } else if name == "interp" {
         entered_interp(values)
+    } else if name == "build" {
+        entered_build(values)
+    } else if name == "run" {
+        entered_run(values)
+    } else if name == "list" {
+        entered_list(values)
     } else {
         None
     }

@@ -2,6 +2,7 @@
 // of the text around the place with a caret.
 
 use std::alloc::{AllocError, Global};
+use std::io::Write;
 
 /// The most bytes that are shown of a line of the text; a longer one is cut, with three dots for what is left out.
 const WIDTH: usize = 160;
@@ -118,4 +119,22 @@ pub(crate) fn place_lines(alloc: Global, text: &[u8], at: usize) -> Result<Vec<u
     line.extend_from_slice(mark.as_slice())?;
     line.extend_from_slice(b"^\n")?;
     Ok(line)
+}
+
+/// Below a fault's line: where it lies, as editors read it, and the line of the text with a caret under the place. At the
+/// text's end there is no such line.
+pub(crate) fn show_place<E: Write>(
+    alloc: Global,
+    err: &mut E,
+    source: &str,
+    text: &[u8],
+    at: usize,
+) {
+    let Spot { line, column } = spot_of(text, at);
+    let _ = writeln!(err, "{source}:{line}:{column}:");
+    if at < text.len() {
+        if let Ok(lines) = place_lines(alloc, text, at) {
+            let _ = err.write_all(lines.as_slice());
+        }
+    }
 }

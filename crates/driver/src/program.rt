@@ -1,73 +1,29 @@
-ghost use Rattle.std.specs.Prelude.{◌≡◌, ◌≢◌, ◌≤◌, IfOk, Some, map, true};
+ghost use Rattle.std.specs.Prelude.{◌≡◌, ◌≢◌, ◌≤◌, IfOk, map, true};
 ghost use Rattle.clap.specs.declared.error.ErrorKind.TheVariants.{OutOfMemory};
 ghost use Rattle.clap.specs.Words.{kind_of, takes};
 ghost use Rattle.command_line.specs.Commands.{mcc_app};
-ghost use Rattle.driver.specs.Texts.{end_status, exit_status, fault_text};
+ghost use Rattle.driver.specs.Texts.{end_status, exit_status};
+ghost use Rattle.term_table.specs.Passes.{InRange};
 ghost use Rattle.driver.specs.declared.verdicts.CheckAnswer.{CheckAnswer};
 
-use crate::place::{Spot, line_offset, place_lines, spot_of};
-use crate::source_runs::{InterpFault, interp};
-use crate::texts::EndLine;
+use crate::build_commands::{Asked, build_file};
+use crate::fault::{Fault, tell, tell_placed};
+use crate::files::{Files, read_file};
+use crate::image_commands::{list_file, run_file};
+use crate::place::{line_offset, show_place};
+use crate::scheduled_builds::BuildOpts;
+use crate::source_runs::interp;
+use crate::texts::{EndLine, print_run};
 use crate::verdicts::{CheckAnswer, CheckFault, check};
-use c_front::FrontFaultKind;
-use c_statements::TypeFaultKind;
 use clap::Error;
 use clap::error::ErrorKind;
 use command_line::{Command, words};
-use runs::{End, Ran};
+use runs::End;
+use sched_phase::PhaseOpts;
 use std::alloc::Global;
-use std::fmt;
 use std::io::{self, Write};
-
-/// Why a file could not be read or written.
-#[derive(Clone, Copy, Debug, PartialEq, Eq)]
-pub enum FileFault {
-    /// The system refused.
-    Failed,
-    /// Memory was refused.
-    NoMemory,
-}
-
-/// The files that the program may reach.
-pub trait Files {
-    /// The bytes of the file of this name.
-    fn read(&mut self, alloc: Global, name: &str) -> Result<Vec<u8>, FileFault>;
-
-    /// Makes these bytes the file of this name; after a fault nothing is said of the file.
-    fn write(&mut self, name: &str, bytes: &[u8]) -> Result<(), FileFault>;
-}
-
-/// What keeps a command from its answer.
-#[derive(Clone, Copy, Debug, PartialEq, Eq)]
-enum Fault {
-    Check(CheckFault),
-    Interp(InterpFault),
-    CannotRead,
-    CannotWrite,
-    NoMemory,
-}
-
-impl fmt::Display for Fault {
-    ghost output = { λ e. Some (fault_text e) };
-
-    fn fmt<W: fmt::Write>(&self, f: &mut fmt::Formatter<W>) -> fmt::Result {
-        match self {
-            Fault::Check(fault) => write!(f, "{fault}"),
-            Fault::Interp(fault) => write!(f, "{fault}"),
-            Fault::CannotRead => f.write_str("fault 60 CannotRead"),
-            Fault::CannotWrite => f.write_str("fault 61 CannotWrite"),
-            Fault::NoMemory => f.write_str("fault 30 NoMemory"),
-        }
-    }
-}
-
-// The fault's line, which standard error may lose; the status stays.
-fn tell<E: Write>(err: &mut E, fault: Fault) -> u8
-    ensures { result ≡ 1 }
-{
-    let _ = writeln!(err, "{fault}");
-    1
-}
+use std::sync::Wait;
+use std::thread::Threads;
 
 fn print<W: Write>(out: &mut W, line: &CheckAnswer) -> io::Result<()> {
     writeln!(out, "{line}")?;
@@ -84,14 +40,6 @@ fn status_of(answer: &CheckAnswer) -> u8
     }
 }
 
-fn read_file<F: Files>(alloc: Global, name: &str, files: &mut F) -> Result<Vec<u8>, Fault> {
-    match files.read(alloc, name) {
-        Ok(text) => Ok(text),
-        Err(FileFault::Failed) => Err(Fault::CannotRead),
-        Err(FileFault::NoMemory) => Err(Fault::NoMemory),
-    }
-}
-
 /// The verdict on a text, printed.
 fn check_text<W: Write>(alloc: Global, text: &[u8], out: &mut W) -> Result<u8, Fault>
     ensures status { IfOk result (λ s. (a : CheckAnswer) × (s ≡ exit_status a)) }
@@ -101,18 +49,6 @@ fn check_text<W: Write>(alloc: Global, text: &[u8], out: &mut W) -> Result<u8, F
     match print(out, &answer) {
         Ok(()) => Ok(status_of(&answer)),
         Err(_) => Err(Fault::CannotWrite),
-    }
-}
-
-/// Below a fault's line: where it lies, as editors read it, and the line of the text with a caret under the place. At the
-/// text's end there is no such line.
-fn show_place<E: Write>(alloc: Global, err: &mut E, source: &str, text: &[u8], at: usize) {
-    let Spot { line, column } = spot_of(text, at);
-    let _ = writeln!(err, "{source}:{line}:{column}:");
-    if at < text.len() {
-        if let Ok(lines) = place_lines(alloc, text, at) {
-            let _ = err.write_all(lines.as_slice());
-        }
     }
 }
 
@@ -143,16 +79,6 @@ fn check_file<F: Files, W: Write, E: Write>(
     }
 }
 
-// Each word of output in unsigned decimal, and how the run ended, each on a line.
-fn print_run<W: Write>(out: &mut W, ran: &Ran) -> io::Result<()> {
-    for word in ran.output.as_slice() {
-        writeln!(out, "{word}")?;
-    }
-    let end = EndLine(ran.end);
-    writeln!(out, "{end}")?;
-    out.flush()
-}
-
 fn end_status(end: End) -> u8
     ensures status { result ≡ end_status end }
     ensures not_wrong_words { result ≢ 2 }
@@ -162,32 +88,6 @@ fn end_status(end: End) -> u8
         End::Wrong => 3,
         End::More => 4,
     }
-}
-
-/// Where a fault lies in its text; none where memory was refused.
-fn offset_of(fault: InterpFault) -> Option<usize> {
-    match fault {
-        InterpFault::Front(fault) if fault.kind != FrontFaultKind::NoMemory => Some(fault.at),
-        InterpFault::Types(fault) if fault.kind != TypeFaultKind::NoMemory => Some(fault.at),
-        _ => None,
-    }
-}
-
-/// The fault's line, and below it where it lies.
-fn tell_place<E: Write>(
-    alloc: Global,
-    err: &mut E,
-    source: &str,
-    text: &[u8],
-    fault: InterpFault,
-) -> u8
-    ensures { result ≡ 1 }
-{
-    let status = tell(err, Fault::Interp(fault));
-    if let Some(at) = offset_of(fault) {
-        show_place(alloc, err, source, text, at);
-    }
-    status
 }
 
 /// How far a program runs.
@@ -213,11 +113,11 @@ fn interp_file<F: Files, W: Write, E: Write>(
         Err(fault) => return tell(err, fault),
     };
     match interp(alloc, text.as_slice(), bounds.depth, bounds.steps) {
-        Ok(ran) => match print_run(out, &ran) {
+        Ok(ran) => match print_run(out, ran.output.as_slice(), &EndLine(ran.end)) {
             Ok(()) => end_status(ran.end),
             Err(_) => tell(err, Fault::CannotWrite),
         },
-        Err(fault) => tell_place(alloc, err, source, text.as_slice(), fault),
+        Err(fault) => tell_placed(alloc, err, source, text.as_slice(), Fault::Interp(fault)),
     }
 }
 
@@ -240,10 +140,20 @@ fn tell_words<W: Write, E: Write>(error: &Error, out: &mut W, err: &mut E) -> u8
     0
 }
 
-/// The whole program over its words (the first is its name), its files and two writers. The answer is
-/// the exit status: 0 for `same`, `done` and help, 1 for a fault, 2 for wrong words, 4 for `more`, 3
+fn phase_of(workers: u32, nodes: u32, heads: u32) -> PhaseOpts
+    requires { InRange workers nodes heads }
+{
+    match PhaseOpts::new(workers as u64, nodes as u64, heads as u64) {
+        Some(phase) => phase,
+        None => unreachable!(),
+    }
+}
+
+/// The whole program over its words (the first is its name), its files and two writers; a build starts threads. The answer is
+/// the exit status: 0 for `same`, `done`, a build, a listing and help, 1 for a fault, 2 for wrong words, 4 for `more`, 3
 /// for any other answer.
-pub fn mcc<F: Files, W: Write, E: Write>(
+pub fn mcc<T: Threads + Wait + Sync, F: Files, W: Write, E: Write>(
+    rt: &T,
     alloc: Global,
     args: &[&str],
     files: &mut F,
@@ -262,6 +172,28 @@ pub fn mcc<F: Files, W: Write, E: Write>(
                 steps,
             },
         ) => interp_file(alloc, source, Bounds { depth, steps }, files, out, err),
+        Ok(
+            Command::Build {
+                source,
+                image,
+                plain,
+                depth,
+                workers,
+                nodes,
+                heads,
+            },
+        ) => {
+            let phase = phase_of(workers, nodes, heads);
+            let asked = Asked {
+                source,
+                image,
+                plain,
+                options: BuildOpts { depth, phase },
+            };
+            build_file(rt, alloc, &asked, files, out, err)
+        }
+        Ok(Command::Run { image, steps }) => run_file(alloc, image, steps, files, out, err),
+        Ok(Command::List { image }) => list_file(alloc, image, files, out, err),
         Err(error) => tell_words(&error, out, err),
     }
 }

@@ -2,14 +2,17 @@
 
 ghost use Rattle.std.specs.Prelude.{Some};
 ghost use Rattle.std.specs.Fmt.{DisplaysOnOk};
-ghost use Rattle.driver.specs.Texts.{answer_text, check_fault_text, end_text, interp_fault_text, place_text};
+ghost use Rattle.driver.specs.Texts.{answer_text, build_fault_text, check_fault_text, end_text, ending_text, interp_fault_text, place_text};
 
+use crate::builds::BuildFault;
 use crate::source_runs::InterpFault;
 use crate::verdicts::{CheckAnswer, CheckFault};
 use block_validator::Place;
 use check_text::PairFault;
+use mips_steps::Ending;
 use runs::End;
 use std::fmt;
+use std::io::{self, Write};
 
 fn write_place<W: fmt::Write>(place: &Place, f: &mut fmt::Formatter<W>) -> fmt::Result
     ensures { DisplaysOnOk W.write_str_gives f.old result (Some (place_text place.now)) f.new }
@@ -70,7 +73,20 @@ impl fmt::Display for InterpFault {
     }
 }
 
-/// The last line of a run.
+impl fmt::Display for BuildFault {
+    ghost output = { λ e. Some (build_fault_text e) };
+
+    fn fmt<W: fmt::Write>(&self, f: &mut fmt::Formatter<W>) -> fmt::Result {
+        match self {
+            BuildFault::Front(fault) => write!(f, "{fault}"),
+            BuildFault::Types(fault) => write!(f, "{fault}"),
+            BuildFault::Limit(_) => f.write_str("fault 20 Limit"),
+            BuildFault::NoMemory => f.write_str("fault 30 NoMemory"),
+        }
+    }
+}
+
+/// The last line of a program's run.
 #[derive(Clone, Copy, Debug)]
 pub(crate) struct EndLine(pub End);
 
@@ -84,4 +100,33 @@ impl fmt::Display for EndLine {
             End::More => f.write_str("more"),
         }
     }
+}
+
+/// The last line of a machine's run.
+#[derive(Clone, Copy, Debug)]
+pub(crate) struct EndingLine(pub Ending);
+
+impl fmt::Display for EndingLine {
+    ghost output = { λ e. Some (ending_text e.0) };
+
+    fn fmt<W: fmt::Write>(&self, f: &mut fmt::Formatter<W>) -> fmt::Result {
+        match self.0 {
+            Ending::Halt(word) => write!(f, "done {word}"),
+            Ending::Stuck(rule) => write!(f, "stuck {rule}"),
+            Ending::More => f.write_str("more"),
+        }
+    }
+}
+
+/// Each word of output in unsigned decimal, and how the run ended, each on a line.
+pub(crate) fn print_run<W: Write, L: fmt::Display>(
+    out: &mut W,
+    output: &[u32],
+    end: &L,
+) -> io::Result<()> {
+    for word in output {
+        writeln!(out, "{word}")?;
+    }
+    writeln!(out, "{end}")?;
+    out.flush()
 }

@@ -62,15 +62,15 @@ fn tell<E: Write>(err: &mut E, e: &io::Error) -> ExitCode {
     ExitCode::from(2)
 }
 
-fn work<R: HostFiles + AllocGlobal + Input, W: Write + Drop, E: Write + Drop>(
-    rt: &R,
-    words: &[&str],
-    out: W,
-    mut err: E,
-) -> u8 {
+fn work<
+    T: Threads + Wait + Sync,
+    R: HostFiles + AllocGlobal + Input,
+    W: Write + Drop,
+    E: Write + Drop,
+>(threads: &T, rt: &R, words: &[&str], out: W, mut err: E) -> u8 {
     let mut disk = Disk { rt };
     match BufWriter::new(rt.alloc(), out) {
-        Ok(mut out) => mcc(rt.alloc(), words, &mut disk, &mut out, &mut err),
+        Ok(mut out) => mcc(threads, rt.alloc(), words, &mut disk, &mut out, &mut err),
         Err(_) => {
             let _ = err.write_all(b"fault 30 NoMemory\n");
             1
@@ -79,11 +79,16 @@ fn work<R: HostFiles + AllocGlobal + Input, W: Write + Drop, E: Write + Drop>(
 }
 
 /// The work on a thread with a large stack; None where no such thread can be had.
-fn work_apart(threads: &(impl Threads + Wait), rt: &HostRuntime, words: &[&str]) -> Option<u8> {
+fn work_apart(
+    threads: &(impl Threads + Wait + Sync),
+    rt: &HostRuntime,
+    words: &[&str],
+) -> Option<u8> {
     thread::scope(thread::scope_env(), threads, |scope| {
-        let started = Builder::new()
-            .stack_size(STACK)
-            .spawn_scoped(scope, move || work(rt, words, rt.stdout(), rt.stderr()));
+        let started = Builder::new().stack_size(STACK).spawn_scoped(
+            scope,
+            move || work(threads, rt, words, rt.stdout(), rt.stderr()),
+        );
         match started {
             Ok(worker) => Some(worker.join(threads)),
             Err(_) => None,
@@ -108,6 +113,6 @@ fn main(rt: HostRuntime) -> ExitCode {
     let words = words.as_slice();
     match work_apart(&rt, &rt, words) {
         Some(status) => ExitCode::from(status),
-        None => ExitCode::from(work(&rt, words, rt.stdout(), rt.stderr())),
+        None => ExitCode::from(work(&rt, &rt, words, rt.stdout(), rt.stderr())),
     }
 }

@@ -43,7 +43,14 @@ fn verdicts_and_faults_have_their_line_and_status(rt: HostRuntime) -> Result<(),
         let mut out = Vec::new(rt.alloc());
         let mut err = Vec::new(rt.alloc());
         let args = ["mcc", "check", "x"];
-        let got = mcc(rt.alloc(), args.as_slice(), &mut files, &mut out, &mut err);
+        let got = mcc(
+            &rt,
+            rt.alloc(),
+            args.as_slice(),
+            &mut files,
+            &mut out,
+            &mut err,
+        );
         assert_eq!(rt; got, status, "at {line}{shown}");
         assert_eq!(rt; out.as_slice(), line.as_bytes());
         assert_eq!(rt; err.as_slice(), shown.as_bytes());
@@ -63,7 +70,7 @@ fn standard_output_that_takes_nothing_is_a_fault(rt: HostRuntime) -> Result<(), 
         };
         let mut out = Shut;
         let mut err = Vec::new(rt.alloc());
-        let got = mcc(rt.alloc(), args, &mut files, &mut out, &mut err);
+        let got = mcc(&rt, rt.alloc(), args, &mut files, &mut out, &mut err);
         assert_eq!(rt; got, 1);
         assert_eq!(rt; err.as_slice(), b"fault 61 CannotWrite\n".as_slice());
     }
@@ -82,7 +89,7 @@ fn standard_error_that_takes_nothing_keeps_the_status(rt: HostRuntime) -> Result
         };
         let mut out = Vec::new(rt.alloc());
         let mut err = Shut;
-        let got = mcc(rt.alloc(), args, &mut files, &mut out, &mut err);
+        let got = mcc(&rt, rt.alloc(), args, &mut files, &mut out, &mut err);
         assert_eq!(rt; got, status);
         assert!(rt; out.is_empty());
     }
@@ -98,7 +105,7 @@ fn wrong_words_are_told_on_standard_error(rt: HostRuntime) -> Result<(), Fail> {
         ["mcc", "check", "x", "y"].as_slice(),
         ["mcc", "check", "--frob", "x"].as_slice(),
     ] {
-        let got = told(rt.alloc(), SAME, args);
+        let got = told(&rt, rt.alloc(), SAME, args);
         assert_eq!(rt; got.status, 2);
         assert!(rt; got.out.is_empty());
         assert!(rt; !got.err.is_empty());
@@ -117,7 +124,7 @@ fn help_is_on_standard_output(rt: HostRuntime) -> Result<(), Fail> {
         (["mcc", "check", "--help"].as_slice(), "`same`"),
         (["mcc", "help", "check"].as_slice(), "unclean U1"),
     ] {
-        let got = told(rt.alloc(), SAME, args);
+        let got = told(&rt, rt.alloc(), SAME, args);
         assert_eq!(rt; got.status, 0);
         assert!(rt; tells(got.out.as_slice(), taught));
         assert!(rt; got.err.is_empty());

@@ -96,7 +96,7 @@ fn mcc_tells_refused_memory_alone(rt: HostRuntime) -> Result<(), Fail> {
         };
         out.clear();
         err.clear();
-        let status = mcc(alloc, args.as_slice(), &mut files, &mut out, &mut err);
+        let status = mcc(&rt, alloc, args.as_slice(), &mut files, &mut out, &mut err);
         if status == 0 {
             break;
         }

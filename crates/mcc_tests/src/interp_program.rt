@@ -13,7 +13,7 @@ const DEEP: &str =
 const TOO_DEEP: &str =
     "int f(int n){int r;if(n==1)return 1;r=f(n-1);return r+1;}int main(void){int r=f(256);out(r);}";
 
-const PROGRAMS: [(&str, &str, u8); 10] = [
+pub const PROGRAMS: [(&str, &str, u8); 10] = [
     ("int main(void){}", "done 0\n", 0),
     (
         "int main(void){out(0x80000000);}",
@@ -49,7 +49,7 @@ const PROGRAMS: [(&str, &str, u8); 10] = [
 #[test]
 fn programs_print_their_output_and_end(rt: HostRuntime) -> Result<(), Fail> {
     for (text, printed, status) in PROGRAMS {
-        let got = told(rt.alloc(), text, ["mcc", "interp", "x"].as_slice());
+        let got = told(&rt, rt.alloc(), text, ["mcc", "interp", "x"].as_slice());
         assert_eq!(rt; got.status, status, "at {text}");
         assert_eq!(rt; got.out.as_slice(), printed.as_bytes(), "at {text}");
         assert!(rt; got.err.is_empty(), "at {text}");
@@ -74,6 +74,7 @@ fn options_bound_the_run(rt: HostRuntime) -> Result<(), Fail> {
         ("int main(void){}", "--depth", "1", "done 0\n", 0),
     ] {
         let got = told(
+            &rt,
             rt.alloc(),
             text,
             ["mcc", "interp", "x", option, bound].as_slice(),
@@ -139,7 +140,7 @@ const FAULTS: [(&str, &str); 14] = [
 #[test]
 fn faults_tell_their_place(rt: HostRuntime) -> Result<(), Fail> {
     for (text, shown) in FAULTS {
-        let got = told(rt.alloc(), text, ["mcc", "interp", "x"].as_slice());
+        let got = told(&rt, rt.alloc(), text, ["mcc", "interp", "x"].as_slice());
         assert_eq!(rt; got.status, 1, "at {text}");
         assert!(rt; got.out.is_empty(), "at {text}");
         assert_eq!(rt; got.err.as_slice(), shown.as_bytes(), "at {text}");
@@ -156,7 +157,14 @@ fn output_that_is_not_taken_is_a_fault(rt: HostRuntime) -> Result<(), Fail> {
     let mut out = Shut;
     let mut err = Vec::new(rt.alloc());
     let args = ["mcc", "interp", "x"];
-    let got = mcc(rt.alloc(), args.as_slice(), &mut files, &mut out, &mut err);
+    let got = mcc(
+        &rt,
+        rt.alloc(),
+        args.as_slice(),
+        &mut files,
+        &mut out,
+        &mut err,
+    );
     assert_eq!(rt; got, 1);
     assert_eq!(rt; err.as_slice(), b"fault 61 CannotWrite\n".as_slice());
     Ok(())
@@ -172,7 +180,7 @@ fn wrong_numbers_are_wrong_words(rt: HostRuntime) -> Result<(), Fail> {
         ("--steps", "-1", "-1"),
     ] {
         let words = ["mcc", "interp", option, number, "x"];
-        let got = told(rt.alloc(), "int main(void){}", words.as_slice());
+        let got = told(&rt, rt.alloc(), "int main(void){}", words.as_slice());
         assert_eq!(rt; got.status, 2, "at {option} {number}");
         assert!(rt; got.out.is_empty());
         assert!(rt; tells(got.err.as_slice(), range), "at {option} {number}");

@@ -36,7 +36,7 @@ fn what_fits_runs(rt: HostRuntime) -> Result<(), Fail> {
         let middle = part.repeat(rt.alloc(), times)?;
         let end = close.repeat(rt.alloc(), times)?;
         let text = format!(in rt.alloc(); "{before}{middle}{after}{end}")?;
-        let got = told(rt.alloc(), text.as_str(), INTERP.as_slice());
+        let got = told(&rt, rt.alloc(), text.as_str(), INTERP.as_slice());
         assert_eq!(rt; got.status, 0, "{times} times {part}");
         assert_eq!(rt; got.out.as_slice(), printed.as_bytes());
         assert!(rt; got.err.is_empty());
@@ -96,7 +96,7 @@ fn the_first_that_does_not_fit_is_told(rt: HostRuntime) -> Result<(), Fail> {
     ] {
         let middle = part.repeat(rt.alloc(), times)?;
         let text = format!(in rt.alloc(); "{before}{middle}{after}")?;
-        let got = told(rt.alloc(), text.as_str(), INTERP.as_slice());
+        let got = told(&rt, rt.alloc(), text.as_str(), INTERP.as_slice());
         assert_eq!(rt; got.status, 1, "{times} times {part}");
         assert!(rt; got.out.is_empty());
         assert_eq!(rt; got.err.as_slice(), fault.as_bytes());
@@ -122,7 +122,7 @@ fn a_long_line_is_shown_around_its_place(rt: HostRuntime) -> Result<(), Fail> {
         let a = "a".repeat(rt.alloc(), before)?;
         let b = "b".repeat(rt.alloc(), behind)?;
         let text = format!(in rt.alloc(); "\n{a}\u{1}{b}\n")?;
-        let got = told(rt.alloc(), text.as_str(), INTERP.as_slice());
+        let got = told(&rt, rt.alloc(), text.as_str(), INTERP.as_slice());
         let shown_a = "a".repeat(rt.alloc(), shown_before)?;
         let shown_b = "b".repeat(rt.alloc(), shown_behind)?;
         let blanks = " ".repeat(rt.alloc(), shown_before)?;

@@ -3,7 +3,9 @@
 use crate::stand_ins::{tells, told};
 use std::alloc::AllocError;
 use std::process::Abort;
+use std::sync::Wait;
 use std::test::Fail;
+use std::thread::Threads;
 
 const INTERP: [&str; 3] = ["mcc", "interp", "x"];
 
@@ -45,7 +47,7 @@ const RUNS: [(&str, &str, &str, &str, u8); 7] = [
 fn worked_texts_run(rt: HostRuntime) -> Result<(), Fail> {
     for (text, option, bound, printed, status) in RUNS {
         let words = ["mcc", "interp", "x", option, bound];
-        let got = told(rt.alloc(), text, words.as_slice());
+        let got = told(&rt, rt.alloc(), text, words.as_slice());
         assert_eq!(rt; got.status, status, "{text} with {option} {bound}");
         assert_eq!(rt;
             got.out.as_slice(),
@@ -58,8 +60,12 @@ fn worked_texts_run(rt: HostRuntime) -> Result<(), Fail> {
 }
 
 // The text has this fault, and nothing is printed.
-fn refused(rt: &(impl Abort + AllocGlobal), text: &str, fault: &str) -> Result<(), AllocError> {
-    let got = told(rt.alloc(), text, INTERP.as_slice());
+fn refused(
+    rt: &(impl Abort + AllocGlobal + Threads + Wait + Sync),
+    text: &str,
+    fault: &str,
+) -> Result<(), AllocError> {
+    let got = told(rt, rt.alloc(), text, INTERP.as_slice());
     let line = format!(in rt.alloc(); "fault {fault}\n")?;
     assert_eq!(rt; got.status, 1);
     assert!(rt; got.out.is_empty());
@@ -89,7 +95,7 @@ fn worked_texts_are_refused(rt: HostRuntime) -> Result<(), Fail> {
 fn a_sum_of_511_ones_runs(rt: HostRuntime) -> Result<(), Fail> {
     let ones = "+1".repeat(rt.alloc(), 510)?;
     let sum = format!(in rt.alloc(); "int main(void){{out(1{ones});}}")?;
-    let got = told(rt.alloc(), sum.as_str(), INTERP.as_slice());
+    let got = told(&rt, rt.alloc(), sum.as_str(), INTERP.as_slice());
     assert_eq!(rt; got.out.as_slice(), b"511\ndone 0\n".as_slice());
     assert_eq!(rt; got.status, 0);
     Ok(())

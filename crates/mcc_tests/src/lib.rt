@@ -6,11 +6,15 @@
 #![tactic(auto)]
 
 #[cfg(test)]
+mod build_program;
+#[cfg(test)]
 mod check_program;
 #[cfg(test)]
 mod check_texts;
 #[cfg(test)]
 mod check_verdicts;
+#[cfg(test)]
+mod image_program;
 #[cfg(test)]
 mod instruction_texts;
 #[cfg(test)]

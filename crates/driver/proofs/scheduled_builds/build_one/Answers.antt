@@ -1,0 +1,11 @@
+use Rattle.std.proofs.Common.{◌+◌}
+use Rattle.mblock.specs.declared.limits.TheConstants.{BLOCK_INSTS}
+use Rattle.sched_phase.specs.Phases.{IsWholePhase}
+use Rattle.driver.proofs.Halves.{built}
+use Rattle.driver.proofs.scheduled_builds.build_one.Goals as goal
+
+pub returns-in-Ok-written-clause-built : goal.returns-in-Ok-written-clause-built
+returns-in-Ok-written-clause-built g c =
+    let made = c.in-Ok-written.ensures in
+    built c.args.text.now c.args.options.now.depth (BLOCK_INSTS + 1) (IsWholePhase (g.R.Reorder.proposes c.args.reorder.now)) c.in_ok-unit.unit c.in-Ok.scheduled
+    c.in-Ok-written.built c.in_ok-unit.ensures.unit c.in-Ok.ensures.unit made made.runs.runs (record { phase = c.in-Ok.ensures.phase; none_missed = c.in-Ok.ensures.asked })

@@ -1,0 +1,70 @@
+-- What a build makes of a text.
+use Rattle.std.specs.Prelude.{◌≡◌, ◌≢◌, ℕ, List, length}
+use Rattle.runs.specs.declared.ran.End.TheVariants.{Wrong}
+use Rattle.c_front.specs.Tree.{Declaration}
+use Rattle.c_front.specs.Texts.{SpellsText, IsTextFault}
+use Rattle.c_typed.specs.Trees.{TypedProgram}
+use Rattle.c_typed.specs.Meaning.{source_run}
+use Rattle.c_statements.specs.Faults.{IsTypeFault}
+use Rattle.c_types.specs.Programs.{FaultyProgram}
+use Rattle.c_types.specs.Typed.{SpellsTyped}
+use Rattle.mips_isa.specs.Starting.{start_state}
+use Rattle.mblock.specs.Units.{UnitParts}
+use Rattle.mblock.specs.UnitRuns.{ComesTo}
+use Rattle.image.specs.Images.{ImageParts, Second, IsImage, image_bytes}
+use Rattle.image.specs.Views.{counts_of}
+use Rattle.sched_phase.specs.Schedules.{ScheduledParts, IsScheduled, ArePlain, no_counts}
+use Rattle.mips_asm.specs.Assembled.{IsAssembled, RunsAsUnit}
+use Rattle.driver.specs.Follows.{Follows}
+use Rattle.driver.specs.declared.builds.Built.{Built}
+use Rattle.driver.specs.declared.builds.BuildFault.{BuildFault}
+use Rattle.driver.specs.declared.builds.BuildFault.TheVariants as faults
+
+-- the build of a text that spells a program without faults: the bytes are those of an image that follows the program, and image,
+-- report and number of blocks are those of one scheduled unit, which is as asked
+pub record IsBuilt (text : List ℕ) (depth factor : ℕ) (Suits : ScheduledParts → Type 0) (b : Built) : Type 0 where
+  pub program : TypedProgram
+  pub spelled : SpellsTyped text program
+  pub image : ImageParts
+  pub fits : IsImage image
+  pub bytes : b.image.items ≡ image_bytes image
+  pub follows : Follows image program depth factor
+  pub scheduled : ScheduledParts
+  pub orders : IsScheduled scheduled
+  pub suits : Suits scheduled
+  pub assembled : IsAssembled scheduled.unit scheduled.orders image
+  pub counted : image.version ≡ Second scheduled.report
+  pub report : counts_of b.report ≡ scheduled.report
+  pub blocks : b.blocks ≡ length scheduled.unit.blocks
+
+-- every block in its plain order, and none counted
+pub record IsPlain (s : ScheduledParts) : Type 0 where
+  pub orders : ArePlain s
+  pub report : s.report ≡ no_counts
+
+-- the text's own fault, or one of the program that it spells; a limit is told only of a program without faults
+abbrev pub IsBuildFault : List ℕ → BuildFault → Type 0
+IsBuildFault text (faults.Front f) = IsTextFault text f.kind f.at
+IsBuildFault text (faults.Types f) = (all : List Declaration) × SpellsText text all × IsTypeFault text (FaultyProgram text all) f
+IsBuildFault text (faults.Limit limit) = (program : TypedProgram) × SpellsTyped text program
+IsBuildFault text faults.NoMemory = Unit {0}
+
+-- ---- halfway
+
+-- a unit of the program that the text spells: wherever the source isn't wrong it comes to the same in as many items or more
+pub record IsUnitOf (text : List ℕ) (depth : ℕ) (u : UnitParts) : Type 0 where
+  pub program : TypedProgram
+  pub spelled : SpellsTyped text program
+  pub runs : (n : ℕ) → (source_run program depth n).end ≢ Wrong → ComesTo u.blocks (start_state u.globals) n (source_run program depth n)
+
+-- the bytes of a scheduled unit's image, which runs as the unit
+pub record IsWritten (s : ScheduledParts) (b : Built) : Type 0 where
+  pub orders : IsScheduled s
+  pub image : ImageParts
+  pub fits : IsImage image
+  pub bytes : b.image.items ≡ image_bytes image
+  pub assembled : IsAssembled s.unit s.orders image
+  pub counted : image.version ≡ Second s.report
+  pub runs : RunsAsUnit s.unit s.orders image
+  pub report : counts_of b.report ≡ s.report
+  pub blocks : b.blocks ≡ length s.unit.blocks

@@ -1,0 +1,16 @@
+-- An image follows a program: at every bound at which the source isn't wrong, it comes to the same.
+use Rattle.std.specs.Prelude.{◌≢◌, ℕ, ◌+◌, ◌*◌, ◌<◌}
+use Rattle.runs.specs.declared.ran.End.TheVariants.{Wrong}
+use Rattle.c_typed.specs.Trees.{TypedProgram}
+use Rattle.c_typed.specs.Meaning.{source_run}
+use Rattle.image.specs.Images.{ImageParts}
+use Rattle.mips_steps.specs.Agreement.{Agrees}
+use Rattle.mips_machine.specs.ImageRuns.{image_run}
+
+-- for every number of steps after which the source isn't wrong there is a number of words after which the machine has the same
+-- output, is not stuck, and has halted with a word exactly where the source is done with it; and it grows with the steps, of
+-- which a word stands for so many at most
+abbrev pub Follows : ImageParts → TypedProgram → (depth factor : ℕ) → Type 0
+Follows image program depth factor =
+    (n : ℕ) → (source_run program depth n).end ≢ Wrong
+    → (m : ℕ) × (n < factor * (m + 1)) × Agrees (source_run program depth n) (image_run image m)

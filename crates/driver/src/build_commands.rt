@@ -1,0 +1,113 @@
+// The command that makes an image.
+
+ghost use Rattle.std.specs.Prelude.{◌≤◌};
+
+use crate::builds::{BuildFault, Built, Limit, build_plain};
+use crate::fault::{Fault, tell, tell_placed};
+use crate::files::{Files, read_file, write_file};
+use crate::scheduled_builds::{BuildOpts, build};
+use delay_filler::FilledOrder;
+use list_scheduler::ListOrder;
+use std::alloc::Global;
+use std::io::{self, Write};
+use std::sync::Wait;
+use std::thread::Threads;
+use steal_pool::Open;
+
+/// What a limit is about, for the line below its fault.
+fn limit_text(limit: Limit) -> &'static str {
+    match limit {
+        Limit::Lowering => {
+            "a function has more than 8000 values, or the program more than 1048575 branches and calls"
+        }
+        Limit::Selection => {
+            "a call takes more than 32000 bytes of stack, all calls of --depth more than 16777216, or the program has more than 1048576 blocks"
+        }
+        Limit::Assembly => {
+            "a function has more than 32000 words of code, or the program more than 1048576"
+        }
+    }
+}
+
+fn tell_build<E: Write>(
+    alloc: Global,
+    err: &mut E,
+    source: &str,
+    text: &[u8],
+    fault: BuildFault,
+) -> u8
+    ensures { result ≤ 1 }
+{
+    let status = tell_placed(alloc, err, source, text, Fault::Build(fault));
+    if let BuildFault::Limit(limit) = fault {
+        let about = limit_text(limit);
+        let _ = writeln!(err, "{about}");
+    }
+    status
+}
+
+fn print_built<W: Write>(out: &mut W, plain: bool, built: &Built) -> io::Result<()> {
+    let blocks = built.blocks;
+    if plain {
+        writeln!(out, "blocks {blocks} plain")?;
+    } else {
+        let report = built.report;
+        writeln!(out, "blocks {blocks} {report}")?;
+    }
+    out.flush()
+}
+
+/// What is asked of a build.
+#[derive(Clone, Copy, Debug)]
+pub(crate) struct Asked<'a> {
+    pub(crate) source: &'a str,
+    pub(crate) image: &'a str,
+    pub(crate) plain: bool,
+    pub(crate) options: BuildOpts,
+}
+
+fn built_as_asked<T: Threads + Wait + Sync>(
+    rt: &T,
+    alloc: Global,
+    text: &[u8],
+    asked: &Asked<'_>,
+) -> Result<Built, BuildFault>
+    requires { 1 ≤ asked.now.options.depth }
+{
+    if asked.plain {
+        build_plain(alloc, text, asked.options.depth)
+    } else {
+        let scheduler = FilledOrder(ListOrder);
+        build(rt, alloc, text, &asked.options, &scheduler, &Open)
+    }
+}
+
+/// Builds the C program of a file. The image's file is written before anything is printed, and isn't touched where the
+/// build fails.
+pub(crate) fn build_file<T: Threads + Wait + Sync, F: Files, W: Write, E: Write>(
+    rt: &T,
+    alloc: Global,
+    asked: &Asked<'_>,
+    files: &mut F,
+    out: &mut W,
+    err: &mut E,
+) -> u8
+    requires { 1 ≤ asked.now.options.depth }
+    ensures { result ≤ 1 }
+{
+    let text = match read_file(alloc, asked.source, files) {
+        Ok(text) => text,
+        Err(fault) => return tell(err, fault),
+    };
+    let built = match built_as_asked(rt, alloc, text.as_slice(), asked) {
+        Ok(built) => built,
+        Err(fault) => return tell_build(alloc, err, asked.source, text.as_slice(), fault),
+    };
+    if let Err(fault) = write_file(asked.image, built.image.as_slice(), files) {
+        return tell(err, fault);
+    }
+    match print_built(out, asked.plain, &built) {
+        Ok(()) => 0,
+        Err(_) => tell(err, Fault::CannotWrite),
+    }
+}

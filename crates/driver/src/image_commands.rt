@@ -1,0 +1,76 @@
+// The commands on images.
+
+ghost use Rattle.std.specs.Prelude.{◌≡◌, ◌≢◌, ◌≤◌};
+ghost use Rattle.driver.specs.Texts.{ending_status};
+
+use crate::fault::{Fault, tell};
+use crate::files::{Files, read_file};
+use crate::image_runs::{list_image, run_image};
+use crate::texts::{EndingLine, print_run};
+use mips_steps::Ending;
+use std::alloc::Global;
+use std::io::{self, Write};
+
+fn ending_status(end: Ending) -> u8
+    ensures status { result ≡ ending_status end }
+    ensures not_wrong_words { result ≢ 2 }
+{
+    match end {
+        Ending::Halt(_) => 0,
+        Ending::Stuck(_) => 3,
+        Ending::More => 4,
+    }
+}
+
+/// Runs the image of a file.
+pub(crate) fn run_file<F: Files, W: Write, E: Write>(
+    alloc: Global,
+    image: &str,
+    steps: u64,
+    files: &mut F,
+    out: &mut W,
+    err: &mut E,
+) -> u8
+    ensures most { result ≤ 4 }
+    ensures not_wrong_words { result ≢ 2 }
+{
+    let bytes = match read_file(alloc, image, files) {
+        Ok(bytes) => bytes,
+        Err(fault) => return tell(err, fault),
+    };
+    match run_image(alloc, bytes.as_slice(), steps) {
+        Ok(ran) => match print_run(out, ran.output.as_slice(), &EndingLine(ran.end)) {
+            Ok(()) => ending_status(ran.end),
+            Err(_) => tell(err, Fault::CannotWrite),
+        },
+        Err(fault) => tell(err, Fault::Image(fault)),
+    }
+}
+
+fn print_listing<W: Write>(out: &mut W, text: &str) -> io::Result<()> {
+    out.write_all(text.as_bytes())?;
+    out.flush()
+}
+
+/// Prints the listing of the image of a file.
+pub(crate) fn list_file<F: Files, W: Write, E: Write>(
+    alloc: Global,
+    image: &str,
+    files: &mut F,
+    out: &mut W,
+    err: &mut E,
+) -> u8
+    ensures { result ≤ 1 }
+{
+    let bytes = match read_file(alloc, image, files) {
+        Ok(bytes) => bytes,
+        Err(fault) => return tell(err, fault),
+    };
+    match list_image(alloc, bytes.as_slice()) {
+        Ok(text) => match print_listing(out, text.as_str()) {
+            Ok(()) => 0,
+            Err(_) => tell(err, Fault::CannotWrite),
+        },
+        Err(fault) => tell(err, Fault::Image(fault)),
+    }
+}

@@ -1,0 +1,30 @@
+ghost use Rattle.std.specs.Prelude.{IfOk, IfErr};
+ghost use Rattle.std.specs.String.{string_bytes};
+ghost use Rattle.image.specs.Images.{IsImageFault};
+ghost use Rattle.mips_machine.specs.Views.{outcome_of};
+ghost use Rattle.driver.specs.ImageRuns.{IsImageRun, IsListing};
+
+use image::{ImageFault, read_image};
+use mips_asm::list;
+use mips_machine::{MachineRan, run};
+use std::alloc::Global;
+
+/// What the image of these bytes does within so many words.
+pub fn run_image(alloc: Global, bytes: &[u8], steps: u64) -> Result<MachineRan, ImageFault>
+    ensures ran { IfOk result (λ r. IsImageRun bytes.now steps (outcome_of r)) }
+    ensures fault { IfErr result (IsImageFault bytes.now) }
+{
+    let image = read_image(alloc, bytes)?;
+    let ran = run(alloc, &image, steps)?;
+    Ok(ran)
+}
+
+/// The listing of the image of these bytes.
+pub fn list_image(alloc: Global, bytes: &[u8]) -> Result<String, ImageFault>
+    ensures listed { IfOk result (λ text. IsListing bytes.now (string_bytes text)) }
+    ensures fault { IfErr result (IsImageFault bytes.now) }
+{
+    let image = read_image(alloc, bytes)?;
+    let text = list(alloc, &image)?;
+    Ok(text)
+}

@@ -1,0 +1,69 @@
+//! Builds whose blocks are put in order by a scheduler that nobody trusts.
+ghost use Rattle.std.specs.Prelude.{◌≡◌, ◌+◌, ◌≤◌, IfOk, IfErr};
+ghost use Rattle.mblock.specs.declared.limits.TheConstants.{BLOCK_INSTS};
+ghost use Rattle.sched_phase.specs.Phases.{IsPhase, IsWholePhase};
+ghost use Rattle.driver.specs.Builds.{IsBuildFault, IsBuilt};
+
+use crate::builds::{BuildFault, Built, Limit, unit_of, written};
+use list_scheduler::Reorder;
+use mips_asm::AsmFault;
+use sched_phase::{PhaseOpts, schedule_all, schedule_one};
+use std::alloc::Global;
+use std::sync::Wait;
+use std::thread::Threads;
+use steal_pool::Gate;
+
+/// How a program is built: how many of its calls may be active at once, main counted, and how its blocks are put in order.
+#[derive(Clone, Copy, Debug)]
+pub struct BuildOpts {
+    pub depth: u32,
+    pub phase: PhaseOpts,
+}
+
+/// The image of the program that the text spells: each block has the order that the scheduler proposes, where it means the
+/// block, else its own. The phase's workers do the blocks at once, over one table, in whatever schedule of threads; the gate
+/// is told of each block before its work. Descends into the text as `build_plain` does.
+pub fn build<T: Threads + Wait + Sync, R: Reorder + Sync, G: Gate + Sync>(
+    rt: &T,
+    alloc: Global,
+    text: &[u8],
+    options: &BuildOpts,
+    reorder: &R,
+    gate: &G,
+) -> Result<Built, BuildFault>
+    requires { 1 ≤ options.now.depth }
+    ensures built { IfOk result (IsBuilt text.now options.now.depth (BLOCK_INSTS + 1) (IsPhase (R.proposes reorder.now))) }
+    ensures fault { IfErr result (IsBuildFault text.now) }
+{
+    let unit = unit_of(alloc, text, options.depth)?;
+    let Ok(scheduled) = schedule_all(rt, alloc, &unit, options.phase, reorder, gate) else {
+        return Err(BuildFault::NoMemory);
+    };
+    match written(alloc, &scheduled) {
+        Ok(built) => Ok(built),
+        Err(AsmFault::Limit) => Err(BuildFault::Limit(Limit::Assembly)),
+        Err(AsmFault::NoMemory) => Err(BuildFault::NoMemory),
+    }
+}
+
+/// The same by one worker without threads; no block is missed.
+pub fn build_one<R: Reorder>(
+    alloc: Global,
+    text: &[u8],
+    options: &BuildOpts,
+    reorder: &R,
+) -> Result<Built, BuildFault>
+    requires { 1 ≤ options.now.depth }
+    ensures built { IfOk result (IsBuilt text.now options.now.depth (BLOCK_INSTS + 1) (IsWholePhase (R.proposes reorder.now))) }
+    ensures fault { IfErr result (IsBuildFault text.now) }
+{
+    let unit = unit_of(alloc, text, options.depth)?;
+    let Ok(scheduled) = schedule_one(alloc, &unit, options.phase, reorder) else {
+        return Err(BuildFault::NoMemory);
+    };
+    match written(alloc, &scheduled) {
+        Ok(built) => Ok(built),
+        Err(AsmFault::Limit) => Err(BuildFault::Limit(Limit::Assembly)),
+        Err(AsmFault::NoMemory) => Err(BuildFault::NoMemory),
+    }
+}
