@@ -72,8 +72,8 @@ pub fn sealed(blocks: &mut Vec<RBlock>, after: Continuation) -> Result<BlockNumb
     }
 }
 
-/// The code as a block of its own; a Limit as for `sealed`.
-pub fn seal(blocks: &mut Vec<RBlock>, code: OpenBlock) -> Result<BlockNumber, LowerFault>
+// The code as a block of its own; a Limit as for `sealed`.
+pub(crate) fn seal(blocks: &mut Vec<RBlock>, code: OpenBlock) -> Result<BlockNumber, LowerFault>
     ensures grows { OnOk result (Grows blocks.old.items blocks.new.items) }
     ensures at { IfOk result (λ b. (bs : List RBlock) → Has bs blocks.old.items blocks.new.items → At bs b (open_code code)) }
 {

@@ -42,11 +42,11 @@ fn is_logical(e: &TypedExpression) -> bool {
     }
 }
 
-/// Two blocks that put 1 or 0 into a register and go on.
+// Two blocks that put 1 or 0 into a register and go on.
 #[derive(Clone, Copy)]
-pub struct Truth {
-    pub yes: BlockNumber,
-    pub no: BlockNumber,
+pub(crate) struct Truth {
+    pub(crate) yes: BlockNumber,
+    pub(crate) no: BlockNumber,
 }
 
 fn truth_blocks(

@@ -6,38 +6,38 @@ use c_front::BinaryOp;
 use c_tokens::IntegerType;
 use rtl::{Op, RInst, Register};
 
-/// An operator of RTL at two words, or at the same words turned round.
+// An operator of RTL at two words, or at the same words turned round.
 #[derive(Clone, Copy)]
-pub struct Operation {
-    pub op: Op,
-    pub turned: bool,
+pub(crate) struct Operation {
+    pub(crate) op: Op,
+    pub(crate) turned: bool,
 }
 
-/// How a binary operator of C is computed: `&&` and `||` by branches, any other by one operation.
+// How a binary operator of C is computed: `&&` and `||` by branches, any other by one operation.
 #[derive(Clone, Copy)]
-pub enum Form {
+pub(crate) enum Form {
     LogicalAnd,
     LogicalOr,
     Plain(Operation),
 }
 
-/// The operator at the words as they stand.
-pub fn straight(op: Op) -> Operation
+// The operator at the words as they stand.
+pub(crate) fn straight(op: Op) -> Operation
     ensures { result ≡ record { op = op; turned = false } }
 {
     Operation { op, turned: false }
 }
 
-/// The operator at the words turned round.
-pub fn turned(op: Op) -> Operation
+// The operator at the words turned round.
+pub(crate) fn turned(op: Op) -> Operation
     ensures { result ≡ record { op = op; turned = true } }
 {
     Operation { op, turned: true }
 }
 
 impl Operation {
-    /// The instruction that puts the result at two registers into a third.
-    pub fn instruction(self, to: Register, left: Register, right: Register) -> RInst
+    // The instruction that puts the result at two registers into a third.
+    pub(crate) fn instruction(self, to: Register, left: Register, right: Register) -> RInst
         ensures { result ≡ inst_of self to left right }
     {
         if self.turned {
@@ -58,8 +58,8 @@ fn by_type(integer_type: IntegerType, signed: Op, unsigned: Op) -> Op
     }
 }
 
-/// How an operator that computes in a type is computed.
-pub fn form_of(operator: BinaryOp, integer_type: IntegerType) -> Form
+// How an operator that computes in a type is computed.
+pub(crate) fn form_of(operator: BinaryOp, integer_type: IntegerType) -> Form
     ensures { IsForm operator (sign_of integer_type) result }
 {
     match operator {
@@ -84,8 +84,8 @@ pub fn form_of(operator: BinaryOp, integer_type: IntegerType) -> Form
     }
 }
 
-/// The operation that computes the contrary of a comparison; None for other operators.
-pub fn contrary_of(operator: BinaryOp, integer_type: IntegerType) -> Option<Operation>
+// The operation that computes the contrary of a comparison; None for other operators.
+pub(crate) fn contrary_of(operator: BinaryOp, integer_type: IntegerType) -> Option<Operation>
     ensures { IfSome result (λ op. ComputesContrary operator (sign_of integer_type) op) }
 {
     match operator {

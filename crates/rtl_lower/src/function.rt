@@ -9,7 +9,7 @@ use rtl_emit::{Continuation, LowerFault, fill, leaving, opened, register_of, res
 use std::alloc::Global;
 
 /// The blocks of a function.
-pub fn function(alloc: Global, f: &Function) -> Result<RFunc, LowerFault>
+pub(crate) fn function(alloc: Global, f: &Function) -> Result<RFunc, LowerFault>
     ensures { IfOk result (λ r. IsCodeOf (function_of f.now) r) }
 {
     let free = register_of(f.locals)?;
@@ -23,7 +23,7 @@ pub fn function(alloc: Global, f: &Function) -> Result<RFunc, LowerFault>
 }
 
 /// A global of the same width, with as many first values, and the same ones.
-pub fn global(alloc: Global, g: TypedGlobal) -> Result<RGlobal, LowerFault>
+pub(crate) fn global(alloc: Global, g: TypedGlobal) -> Result<RGlobal, LowerFault>
     ensures { IfOk result (λ r. IsGlobalOf g r) }
 {
     if g.length > u32::MAX as usize {

@@ -113,9 +113,9 @@ fn written(
 
 /// Where a call's result goes, and the block where its caller goes on.
 #[derive(Clone, Copy)]
-pub struct Receiver {
-    pub to: Option<Register>,
-    pub block: BlockNumber,
+pub(crate) struct Receiver {
+    pub(crate) to: Option<Register>,
+    pub(crate) block: BlockNumber,
 }
 
 // The result of a call that goes nowhere, to a local, or by way of a free register to a global variable.
@@ -240,9 +240,9 @@ fn stays(s: &TypedStatement) -> bool {
 
 /// The end of a turn of a loop: where its body goes on, and where `continue` leads.
 #[derive(Drop)]
-pub struct Turn {
-    pub next: Option<BlockNumber>,
-    pub after: Continuation,
+pub(crate) struct Turn {
+    pub(crate) next: Option<BlockNumber>,
+    pub(crate) after: Continuation,
 }
 
 // The last part as a block of its own, only if there is a `continue`.
@@ -267,7 +267,7 @@ fn turn_to(blocks: &mut Vec<RBlock>, many: bool, last: Continuation) -> Result<T
 /// The code of a statement in a function with so many locals, before what comes behind it. `break` leads to the block
 /// `leave`, `continue` to `next`.
 #[cycle(statements)]
-pub fn statement(
+pub(crate) fn statement(
     alloc: Global,
     blocks: &mut Vec<RBlock>,
     s: &TypedStatement,
@@ -371,7 +371,7 @@ pub fn statement(
 
 /// The same of a list of statements.
 #[cycle(statements)]
-pub fn statements(
+pub(crate) fn statements(
     alloc: Global,
     blocks: &mut Vec<RBlock>,
     all: &[TypedStatement],

@@ -11,7 +11,7 @@ use Rattle.term_core.specs.declared.Call.{Call}
 use Rattle.term_core.specs.declared.Call.TheVariants.{Find, Read}
 use Rattle.term_core.specs.declared.Walker.{Walker}
 use Rattle.term_core.specs.Terms.{StartsWith}
-use Rattle.term_core.specs.World.{Shape, begins, begun, begun_at, turn, Turn, goes, ends, follows, may_begin, first_stage, answer_of}
+use Rattle.term_core.specs.World.{Shape, begins, step_start, step_start_at, turn, Turn, goes, ends, follows, may_begin, first_stage, answer_of}
 use Rattle.term_core.specs.Law.{Sees}
 use Rattle.term_table.specs.declared.view.View.{View}
 use Rattle.term_table.specs.declared.view.View.TheVariants.{Walking}
@@ -43,8 +43,8 @@ module _ (s : Shape) (l : Label) (ks : List ℕ) (v : Walker) (told : List Entry
   }
 
 -- a pass that begins a call
-starts_as : (s : Shape) (c : Call) (v : Walker) → (v.stage ≡ Idle) × (may_begin v.seen c ≡ true) → begun s (begins c) v ≡ inside v (first_stage s c) 0
-starts_as s c v may = ap (begun_at s (begins c) v) may.0 ∙ ap (λ (b : Bool). cond b (inside v (first_stage s c) 0) v) may.1
+starts_as : (s : Shape) (c : Call) (v : Walker) → (v.stage ≡ Idle) × (may_begin v.seen c ≡ true) → step_start s (begins c) v ≡ inside v (first_stage s c) 0
+starts_as s c v may = ap (step_start_at s (begins c) v) may.0 ∙ ap (λ (b : Bool). cond b (inside v (first_stage s c) 0) v) may.1
 
 pub first_sought : {S : Type 0} (s : Shape) (c : Call) (v : Walker) (told : List Entry) (a n : ℕ) (me : Me S View) (u : View) → (l : Label)
     × (ks : List ℕ) × (c ≡ Find l ks) × (a ≡ s.chain (label_word l) ks) → (v.stage ≡ Idle) × (may_begin v.seen c ≡ true) → me ≡ (Walking v told, [])
@@ -55,7 +55,7 @@ first_sought {S} s c v told a n me u call may is m =
     let P : Walker → Type 0 = λ b. (u ≡ Walking (turn s d.history n b).walker told)
     × Sees s (d.history ++ (turn s d.history n b).said) (turn s d.history n b).walker in
     let Q : Call → Type 0 = λ k. Sought s v told k n 1 u in
-    let goes_on : begun s (begins c) v ≡ inside v (AtLink (Find l ks) false (s.chain (label_word l) ks)) 0 = starts_as s c v may
+    let goes_on : step_start s (begins c) v ≡ inside v (AtLink (Find l ks) false (s.chain (label_word l) ks)) 0 = starts_as s c v may
     ∙ ap (λ (k : Call). inside v (first_stage s k) 0) call.2 in
     let r = subst P goes_on (d.view, d.sees) in
     subst Q (sym call.2) (sought_follows s l ks v told 0 (s.chain (label_word l) ks) d.history n u d.begins r.0 r.1)
@@ -76,7 +76,7 @@ pub first_read : {S : Type 0} (s : Shape) (c : Call) (v : Walker) (told : List E
     → MovedFrom s (begins c) me.0 n me'.0 → me'.1 ≡ me.1 → me' ≡ at v told (Reading t (n ∷ [])) 0
 first_read {S} s c v told t n me me' call may is m rest =
     let d : Moved s (begins c) v told n me'.0 = subst (λ (x : Me S View). MovedFrom s (begins c) x.0 n me'.0) is m in
-    let goes_on : begun s (begins c) v ≡ inside v (Reading t []) 0 = starts_as s c v may ∙ ap (λ (k : Call). inside v (first_stage s k) 0) call in
+    let goes_on : step_start s (begins c) v ≡ inside v (Reading t []) 0 = starts_as s c v may ∙ ap (λ (k : Call). inside v (first_stage s k) 0) call in
     paired me' _ [] (d.view ∙ ap (λ (b : Walker). Walking (turn s d.history n b).walker told) goes_on) (rest ∙ ap (λ (x : Me S View). x.1) is)
 
 module _ {S : Type 0} (s : Shape) (c : Call) (v : Walker) (told : List Entry) (t n : ℕ) (row : List ℕ) (me me' : Me S View)

@@ -10,14 +10,14 @@ use Rattle.term_core.specs.declared.Answer.TheVariants.{Full}
 use Rattle.term_core.specs.declared.Stage.TheVariants.{Idle, AtLink, AtContent, Writing, Linking}
 use Rattle.term_core.specs.declared.Call.{Call}
 use Rattle.term_core.specs.declared.Walker.{Walker}
-use Rattle.term_core.specs.World.{Shape, begins, begun, begun_at, turn, Turn, goes, ends, content, hit, link_of}
+use Rattle.term_core.specs.World.{Shape, begins, step_start, step_start_at, turn, Turn, goes, ends, content, hit, link_of}
 use Rattle.term_core.specs.Law.{Sees}
 use Rattle.term_table.specs.declared.view.View.{View}
 use Rattle.term_table.specs.declared.view.View.TheVariants.{Walking}
 use Rattle.term_table.specs.Rule.{Moved, MovedFrom}
 use Rattle.term_table.specs.Calls.{Ready, inside, at, Ended, Arrived}
 use Rattle.term_core.specs.declared.Call.TheVariants.{Intern}
-use Rattle.term_core.specs.World.{follows, found_none, may_begin, first_stage}
+use Rattle.term_core.specs.World.{follows, turn_without_node, may_begin, first_stage}
 
 abbrev stays : {S : Type 0} → View → List (ℕ × S) → Me S View → Type 0
 stays u l me = me ≡ (u, l)
@@ -129,7 +129,7 @@ module _ (s : Shape) (l : Label) (ks : List ℕ) (v : Walker) (told : List Entry
   after_follows h zero u front view sees = record {
     full = λ z r.
         let R : Turn → Type 0 = λ t. (u ≡ Walking t.walker told) × Sees s (h ++ t.said) t.walker in
-        let e : found_none h x c wr a ≡ ends h x c Full =
+        let e : turn_without_node h x c wr a ≡ ends h x c Full =
         ap (λ (b : Bool). cond b (ends h x c Full) (goes x (cond wr (Linking c a) (Writing c a 0)))) (eq-eqb v.room 0 r) in
         let q = subst R e (view, sees) in
         ended s v x told h c Full u refl refl refl front q.0 q.1;
@@ -172,9 +172,9 @@ first_arrived {S} s c v told a n me u call may is m =
     let P : Walker → Type 0 = λ b. (u ≡ Walking (turn s d.history n b).walker told)
     × Sees s (d.history ++ (turn s d.history n b).said) (turn s d.history n b).walker in
     let Q : Call → ℕ → Type 0 = λ k y. Arrived s v told k false y n 1 u in
-    let starts : begun s (begins c) v ≡ inside v (first_stage s c) 0 = ap (begun_at s (begins c) v) may.0
+    let starts : step_start s (begins c) v ≡ inside v (first_stage s c) 0 = ap (step_start_at s (begins c) v) may.0
     ∙ ap (λ (b : Bool). cond b (inside v (first_stage s c) 0) v) may.1 in
-    let goes_on : begun s (begins c) v ≡ inside v (AtLink (Intern l ks) false (s.chain (label_word l) ks)) 0 = starts
+    let goes_on : step_start s (begins c) v ≡ inside v (AtLink (Intern l ks) false (s.chain (label_word l) ks)) 0 = starts
     ∙ ap (λ (k : Call). inside v (first_stage s k) 0) call.2 in
     let r = subst P goes_on (d.view, d.sees) in
     subst (λ (k : Call). Q k a) (sym call.2)
