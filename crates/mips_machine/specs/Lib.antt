@@ -1,3 +1,5 @@
+pub mod Decoding
 pub mod ImageRuns
 pub mod Places
+pub mod Rules
 pub mod Views

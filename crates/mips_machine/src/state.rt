@@ -1,9 +1,9 @@
-ghost use Rattle.std.specs.Prelude.{◌≡◌, ℕ, not, Option, Some, None, true, slice_index, if◌then◌else◌};
-ghost use Rattle.mips_isa.specs.declared.rule.Rule.TheVariants.{M4, M5, M6};
+ghost use Rattle.std.specs.Prelude.{◌≡◌, ℕ, None, true, slice_index, IfOk, IfErr};
 ghost use Rattle.words.specs.Operators.{op_value, has_quotient};
-ghost use Rattle.mips_isa.specs.States.{read, put, is_aligned, is_open};
-ghost use Rattle.mips_isa.specs.Actions.{operand, address, is_safe, divides_badly, on_address};
+ghost use Rattle.mips_isa.specs.States.{read, put, is_aligned, is_open, load_at, store_at};
+ghost use Rattle.mips_isa.specs.Actions.{operand, address};
 ghost use Rattle.mips_isa.specs.Flows.{shown_state, pending_of, state_with_pending};
+ghost use Rattle.mips_machine.specs.Rules.{address_rule_of, place_rule_of, rule_told};
 ghost use Rattle.mips_machine.specs.Views.{state_of, pending_in};
 
 use crate::memory::Memory;
@@ -86,10 +86,54 @@ impl Registers {
         self.read(base).wrapping_add(offset)
     }
 
-    /// What an action does, without what it loads.
-    pub fn perform(&mut self, action: Action)
-        requires { is_safe action (state_of self.old) ≡ true }
-        ensures { state_of self.new ≡ shown_state action (state_of self.old) }
+    // The rule that forbids to read or write at an address.
+    fn address_broken(&self, width: Width, a: u32) -> Option<Rule>
+        ensures rule { result ≡ address_rule_of width a (state_of self.now) }
+        ensures open { result ≡ None → is_open width (state_of self.now).mapped a ≡ true }
+    {
+        if !is_aligned(width, a) {
+            return Some(Rule::M5);
+        }
+        if !self.memory.is_mapped(a) {
+            return Some(Rule::M6);
+        }
+        None
+    }
+
+    // The word or the byte at an address.
+    fn load(&self, width: Width, a: u32) -> Result<u32, Rule>
+        ensures rule { address_rule_of width a (state_of self.now) ≡ rule_told result }
+        ensures word { IfOk result (λ w. w ≡ load_at width (state_of self.now).mapped (state_of self.now).memory a) }
+    {
+        match self.address_broken(width, a) {
+            Some(rule) => Err(rule),
+            None => Ok(self.memory.load(width, a)),
+        }
+    }
+
+    // Writes the word or its low byte at an address.
+    fn store(&mut self, width: Width, a: u32, word: u32) -> Result<(), Rule>
+        ensures rule { address_rule_of width a (state_of self.old) ≡ rule_told result }
+        ensures state { IfOk result (λ u. state_of self.new
+            ≡ record (state_of self.old) { memory = store_at width (state_of self.old).mapped (state_of self.old).memory a word }) }
+        ensures err { IfErr result (λ r. state_of self.new ≡ state_of self.old) }
+    {
+        match self.address_broken(width, a) {
+            Some(rule) => Err(rule),
+            None => {
+                self.memory.store(width, a, word);
+                Ok(())
+            }
+        }
+    }
+
+    /// Does an action, and gives what it loads. Where it breaks one of the rules on divisions and addresses, it isn't done and
+    /// the least such rule is told.
+    pub fn perform(&mut self, action: Action) -> Result<Load, Rule>
+        ensures rule { place_rule_of action (state_of self.old) ≡ rule_told result }
+        ensures state { IfOk result (λ load. state_of self.new ≡ shown_state action (state_of self.old)) }
+        ensures load { IfOk result (λ load. pending_in load ≡ pending_of action (state_of self.old)) }
+        ensures err { IfErr result (λ r. state_of self.new ≡ state_of self.old) }
     {
         match action {
             Action::Computes { d, op, a, b } => {
@@ -97,7 +141,15 @@ impl Registers {
                 self.put(d, word);
             }
             Action::Sets { d, word } => self.put(d, word),
-            Action::Loads { .. } => {}
+            Action::Loads {
+                width,
+                d: register,
+                base,
+                offset,
+            } => {
+                let word = self.load(width, self.address(base, offset))?;
+                return Ok(Load::Loaded { register, word });
+            }
             Action::Stores {
                 width,
                 r,
@@ -106,7 +158,7 @@ impl Registers {
             } => {
                 let at = self.address(base, offset);
                 let word = self.read(r);
-                self.memory.store(width, at, word);
+                self.store(width, at, word)?;
             }
             Action::Multiplies { sign, a, b } => {
                 let (a, b) = (self.read(a), self.read(b));
@@ -115,31 +167,16 @@ impl Registers {
             }
             Action::Divides { sign, a, b } => {
                 let (a, b) = (self.read(a), self.read(b));
+                if !sign.has_quotient(a, b) {
+                    return Err(Rule::M4);
+                }
                 self.hi = value(remainder_operator(sign), a, b);
                 self.lo = value(quotient_operator(sign), a, b);
             }
             Action::MovesHigh { d } => self.put(d, self.hi),
             Action::MovesLow { d } => self.put(d, self.lo),
         }
-    }
-
-    /// What an action loads.
-    pub fn loaded(&self, action: Action) -> Load
-        requires { is_safe action (state_of self.now) ≡ true }
-        ensures { pending_in result ≡ pending_of action (state_of self.now) }
-    {
-        match action {
-            Action::Loads {
-                width,
-                d,
-                base,
-                offset,
-            } => Load::Loaded {
-                register: d,
-                word: self.memory.load(width, self.address(base, offset)),
-            },
-            _ => Load::Nothing,
-        }
+        Ok(Load::Nothing)
     }
 
     /// What was loaded shows.
@@ -150,51 +187,6 @@ impl Registers {
             Load::Nothing => {}
             Load::Loaded { register, word } => self.put(register.reg(), word),
         }
-    }
-
-    /// The least of the rules on divisions and addresses that an action breaks.
-    pub fn broken(&self, action: Action) -> Option<Rule>
-        ensures rule { let s = state_of self.now in result ≡ (
-            if divides_badly action s then Some M4
-            else (if on_address (λ w x. not (is_aligned w x)) action s then Some M5
-            else (if on_address (λ w x. not (s.mapped x)) action s then Some M6 else None))) }
-        ensures safe { result ≡ None → is_safe action (state_of self.now) ≡ true }
-    {
-        match action {
-            Action::Divides { sign, a, b } => {
-                if sign.has_quotient(self.read(a), self.read(b)) {
-                    None
-                } else {
-                    Some(Rule::M4)
-                }
-            }
-            Action::Loads {
-                width,
-                d: _,
-                base,
-                offset,
-            } => self.address_broken(width, self.address(base, offset)),
-            Action::Stores {
-                width,
-                r: _,
-                base,
-                offset,
-            } => self.address_broken(width, self.address(base, offset)),
-            _ => None,
-        }
-    }
-
-    fn address_broken(&self, width: Width, a: u32) -> Option<Rule>
-        ensures rule { result ≡ (if not (is_aligned width a) then Some M5 else (if not ((state_of self.now).mapped a) then Some M6 else None)) }
-        ensures open { result ≡ None → is_open width (state_of self.now).mapped a ≡ true }
-    {
-        if !is_aligned(width, a) {
-            return Some(Rule::M5);
-        }
-        if !self.memory.is_mapped(a) {
-            return Some(Rule::M6);
-        }
-        None
     }
 }
 
