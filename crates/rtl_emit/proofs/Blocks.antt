@@ -1,10 +1,13 @@
 -- A list of blocks that grows.
-use Rattle.std.proofs.Common.{◌≡◌, ◌≢◌, ℕ, zero, suc, ◌+◌, ◌<◌, List, [], ◌∷◌, ◌++◌, Some, refl, ◌∙◌, ap, arith, length, length-append}
+use Rattle.std.proofs.Common.{◌≡◌, ◌≢◌, ℕ, zero, suc, ◌+◌, ◌<◌, ◌≤◌, List, [], ◌∷◌, ◌++◌, Some, refl, ◌∙◌, ap, arith, length, length-append}
 use Rattle.std.specs.Prelude.{slice_get, slice_set}
 use Rattle.std.proofs.Math.ListN.{length-set}
 use Rattle.rtl.specs.Meaning.{Code, code_of}
 use Rattle.rtl_emit.specs.Blocks.{Grows, Has, At, Fills}
 use Rattle.rtl.specs.declared.block.RBlock.{RBlock}
+
+pub within : {a b : List RBlock} {n : ℕ} → Grows a b → length b ≤ n → length a ≤ n
+within g le = let l = g.longer in omega (arith, l, le)
 
 pub grows_then : (a b c : List RBlock) → Grows a b → Grows b c → Grows a c
 grows_then a b c f h = record { longer = omega (arith, f.longer, h.longer); kept = λ i lt. h.kept i (omega (arith, f.longer)) ∙ f.kept i lt }
@@ -18,6 +21,22 @@ has_back bs a b c g h = record { by = λ i le lt. h.by i (omega (arith, g.longer
 seam : (a : List RBlock) (b : RBlock) → slice_get (a ++ b ∷ []) (length a) ≡ Some b
 seam [] b = refl
 seam (x ∷ a) b = seam a b
+
+before_seam : (a : List RBlock) (b : RBlock) (i : ℕ) → i < length a → slice_get (a ++ b ∷ []) i ≡ slice_get a i
+before_seam [] b i lt = absurd (omega arith)
+before_seam (x ∷ a) b zero lt = refl
+before_seam (x ∷ a) b (suc i) lt = before_seam a b i (omega arith)
+
+pub one_longer : (old new : List RBlock) (b : RBlock) → new ≡ old ++ b ∷ [] → length new ≡ length old + 1
+one_longer old new b e = omega (arith, ap length e, length-append old (b ∷ []))
+
+pub grows_push : (old new : List RBlock) (b : RBlock) → new ≡ old ++ b ∷ [] → Grows old new
+grows_push old new b e =
+    let one : length (old ++ b ∷ []) ≡ length old + 1 = omega (arith, length-append old (b ∷ [])) in
+    record {
+      longer = omega (arith, ap length e, one);
+      kept = λ i lt. ap (λ l. slice_get l i) e ∙ before_seam old b i lt;
+    }
 
 pub at_seam : (bs old new : List RBlock) (b : RBlock) (c : Code) → new ≡ old ++ b ∷ [] → code_of b ≡ c → Has bs old new → At bs (length old) c
 at_seam bs old new b c e is h =

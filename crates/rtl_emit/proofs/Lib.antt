@@ -4,3 +4,4 @@ pub mod Operations
 pub mod Values
 pub mod Conditions
 pub mod Emitted
+pub mod Sound

@@ -3,3 +3,5 @@ pub mod Operations
 pub mod Blocks
 pub mod Runs
 pub mod Expressions
+pub mod Sizes
+pub mod Sound

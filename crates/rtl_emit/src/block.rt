@@ -1,4 +1,7 @@
-ghost use Rattle.std.specs.Prelude.{◌≡◌, ◌++◌, ◌∷◌, ◌<◌, [], List, length, IfOk, OnOk};
+ghost use Rattle.std.specs.Prelude.{◌≡◌, ◌++◌, ◌∷◌, ◌+◌, ◌<◌, ◌≤◌, [], List, length, IfOk, IfErr, OnOk};
+ghost use Rattle.rtl.specs.declared.limits.TheConstants.{MAX_BLOCKS};
+ghost use Rattle.rtl_emit.specs.Sizes.{joint};
+ghost use Rattle.rtl_emit.specs.Sound.{IsSound, IsSoundSpot, AreSound, KeepsSound, Scope};
 ghost use Rattle.rtl_emit.specs.Blocks.{open_code, exit_code, first, spot, line_of, Grows, Has, At, Lands, Reserves, Fills};
 ghost use Rattle.rtl.specs.declared.block.RBlock.{RBlock};
 
@@ -61,6 +64,9 @@ pub fn put_before(alloc: Global, inst: RInst, after: Continuation) -> Result<Ope
 /// A block that begins there: no new one for a block that is there. A function with more than 1,048,575 blocks is a Limit.
 pub fn sealed(blocks: &mut Vec<RBlock>, after: Continuation) -> Result<BlockNumber, LowerFault>
     ensures grows { OnOk result (Grows blocks.old.items blocks.new.items) }
+    ensures count { OnOk result (length blocks.new.items ≡ length blocks.old.items + joint (spot after)) }
+    ensures limit { IfErr result (λ f. f ≡ LowerFault.Limit → MAX_BLOCKS < length blocks.old.items + joint (spot after)) }
+    ensures sound { IfOk result (λ b. KeepsSound blocks.old.items blocks.new.items (λ s. IsSoundSpot s (spot after)) (λ s. b < s.blocks)) }
     ensures lands { IfOk result (λ b. (bs : List RBlock) → Has bs blocks.old.items blocks.new.items → Lands bs b (spot after)) }
 {
     match after {
@@ -75,6 +81,9 @@ pub fn sealed(blocks: &mut Vec<RBlock>, after: Continuation) -> Result<BlockNumb
 // The code as a block of its own; a Limit as for `sealed`.
 pub(crate) fn seal(blocks: &mut Vec<RBlock>, code: OpenBlock) -> Result<BlockNumber, LowerFault>
     ensures grows { OnOk result (Grows blocks.old.items blocks.new.items) }
+    ensures count { OnOk result (length blocks.new.items ≡ length blocks.old.items + 1) }
+    ensures limit { IfErr result (λ f. f ≡ LowerFault.Limit → MAX_BLOCKS < length blocks.old.items + 1) }
+    ensures sound { IfOk result (λ b. KeepsSound blocks.old.items blocks.new.items (λ s. IsSound s (open_code code)) (λ s. b < s.blocks)) }
     ensures at { IfOk result (λ b. (bs : List RBlock) → Has bs blocks.old.items blocks.new.items → At bs b (open_code code)) }
 {
     let number = blocks.len();
@@ -97,7 +106,9 @@ fn put_block(blocks: &mut Vec<RBlock>, block: RBlock) -> Result<(), AllocError>
 
 /// A block that is filled later, and its number; a Limit as for `sealed`.
 pub fn reserve(alloc: Global, blocks: &mut Vec<RBlock>) -> Result<BlockNumber, LowerFault>
-    ensures { IfOk result (λ b. Reserves blocks.old.items blocks.new.items b) }
+    ensures limit { IfErr result (λ f. f ≡ LowerFault.Limit → MAX_BLOCKS < length blocks.old.items + 1) }
+    ensures sound { OnOk result ((s : Scope) → AreSound s blocks.old.items → AreSound s blocks.new.items) }
+    ensures reserves { IfOk result (λ b. Reserves blocks.old.items blocks.new.items b) }
 {
     let number = blocks.len();
     if number >= MAX_BLOCKS {
@@ -114,7 +125,8 @@ pub fn reserve(alloc: Global, blocks: &mut Vec<RBlock>) -> Result<BlockNumber, L
 /// The code as the block of a number that was reserved.
 pub fn fill(blocks: &mut Vec<RBlock>, number: BlockNumber, code: OpenBlock)
     requires { number < length blocks.old.items }
-    ensures { Fills blocks.old.items blocks.new.items number (open_code code) }
+    ensures sound { (s : Scope) → AreSound s blocks.old.items → IsSound s (open_code code) → AreSound s blocks.new.items }
+    ensures fills { Fills blocks.old.items blocks.new.items number (open_code code) }
 {
     let OpenBlock { mut insts, exit } = code;
     insts.reverse();

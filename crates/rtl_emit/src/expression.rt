@@ -1,8 +1,12 @@
-ghost use Rattle.std.specs.Prelude.{◌≡◌, List, IfOk, OnOk};
+ghost use Rattle.std.specs.Prelude.{◌≡◌, ◌+◌, ◌<◌, ◌≤◌, ◌^◌, max, length, List, IfOk, IfErr, OnOk};
+ghost use Rattle.rtl.specs.declared.limits.TheConstants.{MAX_REGISTERS, MAX_BLOCKS};
+ghost use Rattle.rtl_emit.specs.Sizes.{joint, by_branches, value_blocks, condition_blocks, value_registers, condition_registers, combined_registers};
+ghost use Rattle.rtl_emit.specs.Sizes.{place_registers, next_free, test_registers, globals_named, globals_named_in, arguments_blocks, values_registers, Beyond};
 ghost use Rattle.words.specs.Words.{wrap};
 ghost use Rattle.c_typed.specs.Shape.{typed_expression_of, typed_expressions_of};
 ghost use Rattle.rtl_emit.specs.Blocks.{open_code, spot, line_of, Grows, Has};
-ghost use Rattle.rtl_emit.specs.Expressions.{IsTruth, FetchAll, Evaluates, Fetches, Combines, Decides};
+ghost use Rattle.rtl_emit.specs.Sound.{IsSound, IsSoundSpot, KeepsSound};
+ghost use Rattle.rtl_emit.specs.Expressions.{IsTruth, ArePlaces, FetchAll, Evaluates, Fetches, Combines, Decides};
 ghost use Rattle.rtl.specs.declared.block.RBlock.{RBlock};
 
 use crate::block::{Continuation, OpenBlock, leaving, opened, put_before, put_first, seal, sealed};
@@ -23,7 +27,8 @@ fn constant(value: u32) -> u32
 
 // The number of a global in RTL; a Limit where it has none.
 fn global_of(global: usize) -> Result<GlobalNumber, LowerFault>
-    ensures { IfOk result (λ g. g ≡ global) }
+    ensures is { IfOk result (λ g. g ≡ global) }
+    ensures limit { IfErr result (λ f. f ≡ LowerFault.Limit → 2 ^ 32 < global + 1) }
 {
     if global > u32::MAX as usize {
         return Err(LowerFault::Limit);
@@ -32,7 +37,9 @@ fn global_of(global: usize) -> Result<GlobalNumber, LowerFault>
 }
 
 // Whether an expression is `&&`, `||` or `!`, whose value its branches tell.
-fn is_logical(e: &TypedExpression) -> bool {
+fn is_logical(e: &TypedExpression) -> bool
+    ensures { result ≡ by_branches (typed_expression_of e.now) }
+{
     match e {
         TypedExpression::Unary(operator, _, _) => *operator == UnaryOp::Not,
         TypedExpression::Binary(operator, _, _, _) => {
@@ -56,6 +63,10 @@ fn truth_blocks(
     after: Continuation,
 ) -> Result<Truth, LowerFault>
     ensures grows { OnOk result (Grows blocks.old.items blocks.new.items) }
+    ensures count { OnOk result (length blocks.new.items ≡ length blocks.old.items + (joint (spot after) + 2)) }
+    ensures limit { IfErr result (λ f. f ≡ LowerFault.Limit → MAX_BLOCKS < length blocks.old.items + (joint (spot after) + 2)) }
+    ensures sound { IfOk result (λ t. KeepsSound blocks.old.items blocks.new.items (λ s. (to < MAX_REGISTERS) × IsSoundSpot s (spot after))
+        (λ s. (t.yes < s.blocks) × (t.no < s.blocks))) }
     ensures truth { IfOk result (λ t. (bs : List RBlock) → Has bs blocks.old.items blocks.new.items → IsTruth bs to t.yes t.no (spot after)) }
 {
     let join = sealed(blocks, after)?;
@@ -77,6 +88,15 @@ pub fn value_into(
     after: Continuation,
 ) -> Result<OpenBlock, LowerFault>
     ensures grows { OnOk result (Grows blocks.old.items blocks.new.items) }
+    ensures count { OnOk result (length blocks.new.items ≡ length blocks.old.items + (value_blocks (typed_expression_of e.now) (joint (spot after)))) }
+    ensures room { OnOk result (value_registers (typed_expression_of e.now) free ≤ MAX_REGISTERS) }
+    ensures limit { IfErr result (λ f. f ≡ LowerFault.Limit
+        → Beyond (value_registers (typed_expression_of e.now) free)
+        (length blocks.old.items + (value_blocks (typed_expression_of e.now) (joint (spot after))))
+        (globals_named (typed_expression_of e.now))) }
+    ensures sound { IfOk result (λ from. KeepsSound blocks.old.items blocks.new.items
+        (λ s. (to < MAX_REGISTERS) × ((globals_named (typed_expression_of e.now) ≤ s.globals) × IsSoundSpot s (spot after)))
+        (λ s. IsSound s (open_code from))) }
     ensures value { IfOk result (λ from. (bs : List RBlock) → Has bs blocks.old.items blocks.new.items
         → Evaluates bs (typed_expression_of e.now) free to (open_code from) (line_of (spot after))) }
 {
@@ -218,7 +238,16 @@ pub fn operand_into(
     free: Register,
     after: OpenBlock,
 ) -> Result<OpenBlock, LowerFault>
+    requires within { register < MAX_REGISTERS }
     ensures grows { OnOk result (Grows blocks.old.items blocks.new.items) }
+    ensures count { OnOk result (length blocks.new.items ≡ length blocks.old.items + (value_blocks (typed_expression_of e.now) 1)) }
+    ensures room { OnOk result (value_registers (typed_expression_of e.now) free ≤ MAX_REGISTERS) }
+    ensures limit { IfErr result (λ f. f ≡ LowerFault.Limit
+        → Beyond (value_registers (typed_expression_of e.now) free)
+        (length blocks.old.items + (value_blocks (typed_expression_of e.now) 1))
+        (globals_named (typed_expression_of e.now))) }
+    ensures sound { IfOk result (λ from. KeepsSound blocks.old.items blocks.new.items
+        (λ s. (globals_named (typed_expression_of e.now) ≤ s.globals) × IsSound s (open_code after)) (λ s. IsSound s (open_code from))) }
     ensures value { IfOk result (λ from. (bs : List RBlock) → Has bs blocks.old.items blocks.new.items
         → Fetches bs (typed_expression_of e.now) free register (open_code from) (open_code after)) }
 {
@@ -244,6 +273,17 @@ fn combined_into(
     after: OpenBlock,
 ) -> Result<OpenBlock, LowerFault>
     ensures grows { OnOk result (Grows blocks.old.items blocks.new.items) }
+    ensures count { OnOk result (length blocks.new.items ≡ length blocks.old.items + (value_blocks (typed_expression_of e.now) 1)) }
+    ensures room { OnOk result (combined_registers (place_registers (typed_expression_of e.now) free) (next_free (typed_expression_of e.now) free)
+        (value_registers (typed_expression_of e.now) free) ≤ MAX_REGISTERS) }
+    ensures limit { IfErr result (λ f. f ≡ LowerFault.Limit
+        → Beyond (combined_registers (place_registers (typed_expression_of e.now) free) (next_free (typed_expression_of e.now) free)
+        (value_registers (typed_expression_of e.now) free))
+        (length blocks.old.items + (value_blocks (typed_expression_of e.now) 1))
+        (globals_named (typed_expression_of e.now))) }
+    ensures sound { IfOk result (λ from. KeepsSound blocks.old.items blocks.new.items
+        (λ s. (to < MAX_REGISTERS) × ((globals_named (typed_expression_of e.now) ≤ s.globals) × IsSound s (open_code after)))
+        (λ s. IsSound s (open_code from))) }
     ensures value { IfOk result (λ from. (bs : List RBlock) → Has bs blocks.old.items blocks.new.items
         → Combines bs operation (typed_expression_of e.now) word free to (open_code from) (open_code after)) }
 {
@@ -267,6 +307,16 @@ fn test(
     free: Register,
 ) -> Result<OpenBlock, LowerFault>
     ensures grows { OnOk result (Grows blocks.old.items blocks.new.items) }
+    ensures count { OnOk result (length blocks.new.items ≡ length blocks.old.items + (value_blocks (typed_expression_of e.now) 1)) }
+    ensures room { OnOk result (test_registers likely free (place_registers (typed_expression_of e.now) free) (next_free (typed_expression_of e.now) free)
+        (value_registers (typed_expression_of e.now) free) ≤ MAX_REGISTERS) }
+    ensures limit { IfErr result (λ f. f ≡ LowerFault.Limit
+        → Beyond (test_registers likely free (place_registers (typed_expression_of e.now) free) (next_free (typed_expression_of e.now) free)
+        (value_registers (typed_expression_of e.now) free))
+        (length blocks.old.items + (value_blocks (typed_expression_of e.now) 1))
+        (globals_named (typed_expression_of e.now))) }
+    ensures sound { IfOk result (λ from. KeepsSound blocks.old.items blocks.new.items
+        (λ s. (globals_named (typed_expression_of e.now) ≤ s.globals) × ((yes < s.blocks) × (no < s.blocks))) (λ s. IsSound s (open_code from))) }
     ensures way { IfOk result (λ from. (bs : List RBlock) → Has bs blocks.old.items blocks.new.items
         → Decides bs (typed_expression_of e.now) free yes no (open_code from)) }
 {
@@ -296,6 +346,14 @@ pub fn condition(
     free: Register,
 ) -> Result<OpenBlock, LowerFault>
     ensures grows { OnOk result (Grows blocks.old.items blocks.new.items) }
+    ensures count { OnOk result (length blocks.new.items ≡ length blocks.old.items + (condition_blocks (typed_expression_of e.now))) }
+    ensures room { OnOk result (condition_registers (typed_expression_of e.now) likely free ≤ MAX_REGISTERS) }
+    ensures limit { IfErr result (λ f. f ≡ LowerFault.Limit
+        → Beyond (condition_registers (typed_expression_of e.now) likely free)
+        (length blocks.old.items + (condition_blocks (typed_expression_of e.now)))
+        (globals_named (typed_expression_of e.now))) }
+    ensures sound { IfOk result (λ from. KeepsSound blocks.old.items blocks.new.items
+        (λ s. (globals_named (typed_expression_of e.now) ≤ s.globals) × ((yes < s.blocks) × (no < s.blocks))) (λ s. IsSound s (open_code from))) }
     ensures way { IfOk result (λ from. (bs : List RBlock) → Has bs blocks.old.items blocks.new.items
         → Decides bs (typed_expression_of e.now) free yes no (open_code from)) }
 {
@@ -396,7 +454,16 @@ pub fn operands_into(
     free: Register,
     after: OpenBlock,
 ) -> Result<OpenBlock, LowerFault>
+    requires places { ArePlaces (typed_expressions_of es.now) free places.now }
     ensures grows { OnOk result (Grows blocks.old.items blocks.new.items) }
+    ensures count { OnOk result (length blocks.new.items ≡ length blocks.old.items + arguments_blocks (typed_expressions_of es.now)) }
+    ensures room { OnOk result (values_registers (typed_expressions_of es.now) free ≤ MAX_REGISTERS) }
+    ensures limit { IfErr result (λ f. f ≡ LowerFault.Limit
+        → Beyond (values_registers (typed_expressions_of es.now) free)
+        (length blocks.old.items + arguments_blocks (typed_expressions_of es.now))
+        (globals_named_in (typed_expressions_of es.now))) }
+    ensures sound { IfOk result (λ from. KeepsSound blocks.old.items blocks.new.items
+        (λ s. (globals_named_in (typed_expressions_of es.now) ≤ s.globals) × IsSound s (open_code after)) (λ s. IsSound s (open_code from))) }
     ensures values { IfOk result (λ from. (bs : List RBlock) → Has bs blocks.old.items blocks.new.items
         → FetchAll bs (typed_expressions_of es.now) free places.now (open_code from) (open_code after)) }
 {

@@ -1,3 +1,5 @@
+ghost use Rattle.std.specs.Prelude.{◌≡◌};
+
 use std::alloc::AllocError;
 use thiserror::Error;
 
@@ -13,6 +15,10 @@ pub enum LowerFault {
 }
 
 impl From<AllocError> for LowerFault {
+    ghost use Rattle.rtl_emit.specs.declared.fault.LowerFault.TheVariants.{NoMemory};
+
+    ghost from_gives = { λ _ r. r ≡ NoMemory };
+
     fn from(_error: AllocError) -> LowerFault {
         LowerFault::NoMemory
     }

@@ -13,6 +13,9 @@
 //! A contract speaks of every list of blocks that has those which the call has added: `specs/Expressions.antt` says what
 //! the code does there (`Evaluates`, `Fetches`, `Decides`, `FetchAll`), by the meaning of RTL (`rtl_run`) and that of
 //! typed expressions (`value_of`), wherever the locals are in their registers and locals and globals hold words.
+//! `specs/Sizes.antt` counts the blocks and the pseudo-registers that the code takes: so many blocks are added, the registers
+//! are below the limit, and a Limit comes only where a count is beyond one.
+//! `specs/Sound.antt` says when code names only what is there, and each call keeps that of code and blocks (`KeepsSound`).
 //! `specs/Blocks.antt` has the words on code and blocks, `specs/Runs.antt` those on steps, `specs/Operations.antt` which
 //! operator of RTL computes which of C.
 #![tactic(auto)]

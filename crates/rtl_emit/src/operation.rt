@@ -1,4 +1,5 @@
-ghost use Rattle.std.specs.Prelude.{◌≡◌, true, false, IfSome};
+ghost use Rattle.std.specs.Prelude.{◌≡◌, true, false, is_some, IfSome};
+ghost use Rattle.rtl_emit.specs.Sizes.{has_contrary, is_logical, is_by_branches};
 ghost use Rattle.c_typed.specs.Values.{sign_of};
 ghost use Rattle.rtl_emit.specs.Operations.{by_sign, inst_of, IsForm, ComputesContrary};
 
@@ -60,7 +61,8 @@ fn by_type(integer_type: IntegerType, signed: Op, unsigned: Op) -> Op
 
 // How an operator that computes in a type is computed.
 pub(crate) fn form_of(operator: BinaryOp, integer_type: IntegerType) -> Form
-    ensures { IsForm operator (sign_of integer_type) result }
+    ensures form { IsForm operator (sign_of integer_type) result }
+    ensures branches { is_logical operator ≡ is_by_branches result }
 {
     match operator {
         BinaryOp::Multiply => Form::Plain(straight(Op::Mul)),
@@ -86,7 +88,8 @@ pub(crate) fn form_of(operator: BinaryOp, integer_type: IntegerType) -> Form
 
 // The operation that computes the contrary of a comparison; None for other operators.
 pub(crate) fn contrary_of(operator: BinaryOp, integer_type: IntegerType) -> Option<Operation>
-    ensures { IfSome result (λ op. ComputesContrary operator (sign_of integer_type) op) }
+    ensures is { is_some result ≡ has_contrary operator }
+    ensures computes { IfSome result (λ op. ComputesContrary operator (sign_of integer_type) op) }
 {
     match operator {
         BinaryOp::Less => Some(turned(by_type(integer_type, Op::LeS, Op::LeU))),

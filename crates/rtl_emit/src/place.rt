@@ -1,7 +1,8 @@
-ghost use Rattle.std.specs.Prelude.{◌≡◌, ◌++◌, ◌∷◌, [], ◌<◌, map, IfOk, OnOk};
+ghost use Rattle.std.specs.Prelude.{◌≡◌, ◌++◌, ◌∷◌, ◌+◌, [], ◌<◌, ◌≤◌, map, IfOk, IfErr, OnOk};
 ghost use Rattle.c_typed.specs.Shape.{typed_expression_of, typed_expressions_of};
 ghost use Rattle.rtl.specs.declared.limits.TheConstants.{MAX_REGISTERS};
 ghost use Rattle.rtl_emit.specs.Expressions.{IsPlace, AddPlaces};
+ghost use Rattle.rtl_emit.specs.Sizes.{place_registers, places_registers};
 
 use crate::fault::LowerFault;
 use c_typed::TypedExpression;
@@ -17,7 +18,9 @@ pub struct Place {
 
 /// The register of a local; a Limit above the last register.
 pub fn register_of(local: usize) -> Result<Register, LowerFault>
-    ensures { IfOk result (λ r. r ≡ local) }
+    ensures is { IfOk result (λ r. r ≡ local) }
+    ensures within { IfOk result (λ r. r < MAX_REGISTERS) }
+    ensures limit { IfErr result (λ f. f ≡ LowerFault.Limit → MAX_REGISTERS < local + 1) }
 {
     if local >= MAX_REGISTERS as usize {
         return Err(LowerFault::Limit);
@@ -29,6 +32,7 @@ pub fn register_of(local: usize) -> Result<Register, LowerFault>
 pub(crate) fn spare(free: Register) -> Result<Register, LowerFault>
     ensures is { IfOk result (λ r. r ≡ free) }
     ensures within { IfOk result (λ r. r < MAX_REGISTERS) }
+    ensures limit { IfErr result (λ f. f ≡ LowerFault.Limit → MAX_REGISTERS < free + 1) }
 {
     if free >= MAX_REGISTERS {
         return Err(LowerFault::Limit);
@@ -38,7 +42,9 @@ pub(crate) fn spare(free: Register) -> Result<Register, LowerFault>
 
 /// Where the value of an operand is found: a local in its own register, others in a free one. A Limit where there is none.
 pub fn place_of(e: &TypedExpression, free: Register) -> Result<Place, LowerFault>
-    ensures { IfOk result (λ p. IsPlace (typed_expression_of e.now) free p.register p.free) }
+    ensures place { IfOk result (λ p. IsPlace (typed_expression_of e.now) free p.register p.free) }
+    ensures room { OnOk result (place_registers (typed_expression_of e.now) free ≤ MAX_REGISTERS) }
+    ensures limit { IfErr result (λ f. f ≡ LowerFault.Limit → MAX_REGISTERS < place_registers (typed_expression_of e.now) free) }
 {
     if let TypedExpression::Local(number, _) = e {
         let register = register_of(*number)?;
@@ -57,7 +63,9 @@ pub fn places_of(
     free: Register,
     places: &mut Vec<Place>,
 ) -> Result<(), LowerFault>
-    ensures { OnOk result (AddPlaces (typed_expressions_of es.now) free places.old.items places.new.items) }
+    ensures places { OnOk result (AddPlaces (typed_expressions_of es.now) free places.old.items places.new.items) }
+    ensures room { OnOk result (places_registers (typed_expressions_of es.now) free ≤ MAX_REGISTERS) }
+    ensures limit { IfErr result (λ f. f ≡ LowerFault.Limit → MAX_REGISTERS < places_registers (typed_expressions_of es.now) free) }
 {
     let Some((e, rest)) = es.split_first() else {
         return Ok(());

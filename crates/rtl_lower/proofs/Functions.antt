@@ -2,6 +2,7 @@
 use Rattle.std.proofs.Common.{◌≡◌, ◌≢◌, ℕ, zero, suc, ◌+◌, ◌-◌, ◌<◌, ◌≤◌, List, [], ◌∷◌, ◌++◌, Some, None, refl, sym, ◌∙◌, ap, subst, arith, length}
 use Rattle.std.proofs.Common.{get_or, take, drop}
 use Rattle.std.specs.Prelude.{slice_get, map, replicate}
+use Rattle.std.proofs.lemmas.List.{length-replicate}
 use Rattle.std.proofs.Math.Seq.{take-suc, drop-cons}
 use Rattle.words.specs.Words.{wrap}
 use Rattle.words.specs.Widths.{kept}
@@ -12,7 +13,7 @@ use Rattle.c_typed.specs.declared.tree.TypedStatement.{TypedStatement}
 use Rattle.c_typed.specs.Shape.{function_of, functions_of, statement_of, statements_of}
 use Rattle.c_typed.specs.Trees.{TypedFunction, TypedProgram, TypedStatements}
 use Rattle.c_typed.specs.Meaning.{first_words}
-use Rattle.c_typed.specs.WellFormed.{IsWellFormed}
+use Rattle.c_typed.specs.WellFormed.{IsWellFormed, FitsFunction}
 use Rattle.c_types.specs.Shape.{TypedParts, program_of}
 use Rattle.rtl.specs.Programs as Programs
 use Rattle.rtl.specs.Programs.{Program}
@@ -21,6 +22,8 @@ use Rattle.rtl.specs.declared.block.RBlock.{RBlock}
 use Rattle.rtl.specs.declared.block.RFunc.{RFunc}
 use Rattle.rtl.specs.declared.block.RGlobal.{RGlobal}
 use Rattle.rtl_emit.specs.Blocks.{Spot, Line, line_of, At, Grows, Reserves, Fills}
+use Rattle.rtl_emit.specs.Sound.{Scope, AreSound}
+use Rattle.rtl_lower.specs.Sound.{Suits}
 use Rattle.rtl_lower.specs.Correct.{KeepsRuns}
 use Rattle.rtl_lower.specs.Coded.{IsCodeOf, IsGlobalOf, AreCodesOf, AreGlobalsOf, CodedAll}
 use Rattle.rtl_lower.proofs.Statements.{Makes, MakesAll, more_code}
@@ -60,8 +63,9 @@ all_done b0 b1 free all done leave next from after past m bs h =
 
 pub function_code : (f : TypedFunction) (r : RFunc) (b0 b1 b2 : List RBlock) (free entry : ℕ) (all : TypedStatements) (filled end : Code) (from : Spot)
     → free ≡ f.locals → r.parameters ≡ f.parameters → all ≡ f.body → b0 ≡ [] → Reserves b0 b1 entry → MakesAll b1 b2 free all 0 None from (Line end)
-    → filled ≡ line_of from → Fills b2 r.blocks.items entry filled → IsCodeOf f r
-function_code f r b0 b1 b2 free entry all filled end from il ip ib e0 res makes fe f' =
+    → filled ≡ line_of from → Fills b2 r.blocks.items entry filled
+    → ((p : TypedProgram) (s : Scope) → Suits p s → FitsFunction p f → length r.blocks.items ≤ s.blocks → AreSound s r.blocks.items) → IsCodeOf f r
+function_code f r b0 b1 b2 free entry all filled end from il ip ib e0 res makes fe f' sound =
     let zero_entry : entry ≡ 0 = res.number ∙ ap length e0 in
     let one : length b1 ≡ 1 = omega (arith, res.longer, ap length e0) in
     let here = makes r.blocks.items (record { by = λ i low high. let ne : i ≢ entry = omega arith in f'.others i ne }) in
@@ -72,6 +76,7 @@ function_code f r b0 b1 b2 free entry all filled end from il ip ib e0 res makes 
       after = end;
       body = subst (λ n. CodedAll r.blocks.items n f.body 0 None from (Line end)) il
           (subst (λ b. CodedAll r.blocks.items free b 0 None from (Line end)) ib here);
+      sound = sound;
     }
 
 -- globals
@@ -80,8 +85,10 @@ same_values : (w : Width) (n v : ℕ) → map (λ v. kept w (wrap v)) (replicate
 same_values w zero v = refl
 same_values w (suc n) v = ap (λ xs. kept w (wrap v) ∷ xs) (same_values w n v)
 
-pub global_code : (g : Global) (r : RGlobal) → r.width ≡ g.width → r.first.items ≡ replicate g.length g.first → IsGlobalOf g r
-global_code g r iw is = record {
+pub global_code : (g : Global) (r : RGlobal) → r.width ≡ g.width → r.length ≡ g.length → r.first.items ≡ replicate g.length g.first → IsGlobalOf g r
+global_code g r iw il is = record {
+  elements = il;
+  values = ap length is ∙ length-replicate g.length g.first;
   width = iw;
   first = ap (λ (w : Width). map (λ v. kept w (wrap v)) r.first.items) iw ∙ ap (map (λ v. kept g.width (wrap v))) is ∙ same_values g.width g.length g.first;
 }
@@ -123,7 +130,7 @@ one_global all rs rs' i g d r e lt is c m =
     let cut : take (i + 1) all ≡ take i all ++ g ∷ [] = ap (λ n. take n all) n ∙ take-suc all i d lt ∙ ap (λ x. take i all ++ x ∷ []) (sym is) in
     subst (λ gs. AreGlobalsOf gs rs') (sym cut) (subst (λ rs. AreGlobalsOf (take i all ++ g ∷ []) rs) (sym e) (globals_push (take i all) rs g r m c))
 
-codes_at : (fs : List TypedFunction) (rs : List RFunc) → AreCodesOf fs rs → (i : ℕ) (f : TypedFunction) → slice_get fs i ≡ Some f
+pub codes_at : (fs : List TypedFunction) (rs : List RFunc) → AreCodesOf fs rs → (i : ℕ) (f : TypedFunction) → slice_get fs i ≡ Some f
     → (r : RFunc) × (slice_get rs i ≡ Some r) × IsCodeOf f r
 codes_at [] rs m i f e = cc
 codes_at (x ∷ fs) (y ∷ rs) m zero f e = let is : x ≡ f = cc in (y, refl, subst (λ f. IsCodeOf f y) is m.0)

@@ -1,6 +1,6 @@
 -- Which code stands for a statement, a function and a program. `free` is the number of the function's locals, and so the
 -- first register that is free.
-use Rattle.std.specs.Prelude.{◌≡◌, ℕ, ◌<◌, ◌≤◌, ◌⊎◌, List, [], ◌∷◌, Option, Some, None, slice_get, map}
+use Rattle.std.specs.Prelude.{◌≡◌, ℕ, ◌<◌, ◌≤◌, ◌⊎◌, List, [], ◌∷◌, Option, Some, None, length, slice_get, map}
 use Rattle.runs.specs.Stores.{Places, Arrays}
 use Rattle.runs.specs.Runs.{with_value}
 use Rattle.c_typed.specs.declared.tree.Destination.{Destination}
@@ -8,6 +8,7 @@ use Rattle.c_typed.specs.declared.tree.Destination.TheVariants.{Local, Global as
 use Rattle.c_typed.specs.declared.tree.Global.{Global}
 use Rattle.c_typed.specs.Trees.{TypedExpression, TypedStatement, TypedStatements, TypedFunction, TypedProgram, empty, block, unset, assign, store, call}
 use Rattle.c_typed.specs.Trees.{output, if_else, loop, break_loop, continue_loop, return_with, no_statements, more_statements}
+use Rattle.c_typed.specs.WellFormed.{FitsFunction}
 use Rattle.c_typed.specs.Meaning.{first_words}
 use Rattle.rtl.specs.Programs.{Program}
 use Rattle.rtl.specs.Meaning.{Code, Frame, code_of, words_in, state_after_call, state_after_exit, first_values}
@@ -20,7 +21,9 @@ use Rattle.rtl.specs.declared.block.RGlobal.{RGlobal}
 use Rattle.rtl_emit.specs.Blocks.{goto, exit_code, first, Spot, Block, Line, line_of, Lands, At}
 use Rattle.rtl_emit.specs.Runs.{at_code, Goes}
 use Rattle.rtl_emit.specs.Expressions.{IsPlace, Evaluates, Fetches, Decides, ArePlaces, FetchAll}
+use Rattle.rtl_emit.specs.Sound.{Scope, AreSound}
 use Rattle.rtl_emit.specs.declared.place.Place.{Place}
+use Rattle.rtl_lower.specs.Sound.{Suits}
 
 -- code that is at a spot, or that has jumped there already
 abbrev pub Sits : List RBlock → Spot → Code → Type 0
@@ -188,9 +191,12 @@ pub record IsCodeOf (f : TypedFunction) (r : RFunc) : Type 0 where
   pub entry_at : At r.blocks.items 0 (line_of entry)
   pub after : Code
   pub body : CodedAll r.blocks.items f.locals f.body 0 None entry (Line after)
+  pub sound : (p : TypedProgram) (s : Scope) → Suits p s → FitsFunction p f → length r.blocks.items ≤ s.blocks → AreSound s r.blocks.items
 
--- a global of the same width, with as many first values, and the same ones
+-- a global of the same width and length, with as many first values, and the same ones
 pub record IsGlobalOf (g : Global) (r : RGlobal) : Type 0 where
+  pub elements : r.length ≡ g.length
+  pub values : length r.first.items ≡ g.length
   pub width : r.width ≡ g.width
   pub first : first_values r ≡ first_words g
 

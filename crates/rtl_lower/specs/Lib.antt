@@ -1,4 +1,6 @@
 -- to believe
 pub mod Correct
+pub mod Sizes
 -- words of private functions
+pub mod Sound
 pub mod Coded

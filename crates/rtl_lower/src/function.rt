@@ -1,6 +1,9 @@
-ghost use Rattle.std.specs.Prelude.{◌≡◌, IfOk};
+ghost use Rattle.std.specs.Prelude.{◌≡◌, ◌≤◌, ◌<◌, ◌+◌, ◌^◌, length, IfOk, IfErr, OnOk};
 ghost use Rattle.c_typed.specs.Shape.{function_of};
+ghost use Rattle.rtl.specs.declared.limits.TheConstants.{MAX_REGISTERS};
+ghost use Rattle.rtl_emit.specs.Sizes.{Beyond};
 ghost use Rattle.rtl_lower.specs.Coded.{IsCodeOf, IsGlobalOf};
+ghost use Rattle.rtl_lower.specs.Sizes.{function_blocks, function_registers, IsPlain};
 
 use crate::statement::statements;
 use c_typed::{Function, Global as TypedGlobal};
@@ -10,7 +13,11 @@ use std::alloc::Global;
 
 /// The blocks of a function.
 pub(crate) fn function(alloc: Global, f: &Function) -> Result<RFunc, LowerFault>
-    ensures { IfOk result (λ r. IsCodeOf (function_of f.now) r) }
+    requires plain { IsPlain (function_of f.now) }
+    ensures code { IfOk result (λ r. IsCodeOf (function_of f.now) r) }
+    ensures count { IfOk result (λ r. length r.blocks.items ≡ function_blocks (function_of f.now)) }
+    ensures room { OnOk result (function_registers (function_of f.now) ≤ MAX_REGISTERS) }
+    ensures limit { IfErr result (λ e. e ≡ LowerFault.Limit → Beyond (function_registers (function_of f.now)) (function_blocks (function_of f.now)) 0) }
 {
     let free = register_of(f.locals)?;
     let parameters = register_of(f.parameters)?;
@@ -24,7 +31,8 @@ pub(crate) fn function(alloc: Global, f: &Function) -> Result<RFunc, LowerFault>
 
 /// A global of the same width, with as many first values, and the same ones.
 pub(crate) fn global(alloc: Global, g: TypedGlobal) -> Result<RGlobal, LowerFault>
-    ensures { IfOk result (λ r. IsGlobalOf g r) }
+    ensures is { IfOk result (λ r. IsGlobalOf g r) }
+    ensures limit { IfErr result (λ e. e ≡ LowerFault.Limit → 2 ^ 32 < g.length + 1) }
 {
     if g.length > u32::MAX as usize {
         return Err(LowerFault::Limit);

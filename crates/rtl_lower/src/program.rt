@@ -1,8 +1,13 @@
-ghost use Rattle.std.specs.Prelude.{◌≡◌, ◌++◌, ◌∷◌, [], IfOk, OnOk};
+ghost use Rattle.std.specs.Prelude.{◌≡◌, ◌++◌, ◌∷◌, ◌≤◌, [], All, sum_by, IfOk, IfErr, OnOk};
 ghost use Rattle.c_types.specs.Shape.{program_of};
 ghost use Rattle.c_typed.specs.Shape.{functions_of};
+ghost use Rattle.c_typed.specs.WellFormed.{words_in};
+ghost use Rattle.c_typed.specs.declared.limits.TheConstants.{MAX_GLOBAL_WORDS};
 ghost use Rattle.rtl_lower.specs.Coded.{AreCodesOf, AreGlobalsOf};
+ghost use Rattle.rtl.specs.Programs.{block_count};
+ghost use Rattle.rtl.specs.declared.limits.TheConstants.{MAX_REGISTERS};
 ghost use Rattle.rtl_lower.specs.Correct.{KeepsRuns};
+ghost use Rattle.rtl_lower.specs.Sizes.{function_blocks, function_registers, IsPlain, HaveRoom};
 
 use crate::function::{function, global};
 use c_typed::{Function, Global as TypedGlobal};
@@ -13,7 +18,11 @@ use std::alloc::{AllocError, Global};
 
 // The blocks of each function.
 fn functions(alloc: Global, all: &[Function]) -> Result<Vec<RFunc>, LowerFault>
-    ensures { IfOk result (λ rs. AreCodesOf (functions_of all.now) rs.items) }
+    requires plain { All IsPlain (functions_of all.now) }
+    ensures codes { IfOk result (λ rs. AreCodesOf (functions_of all.now) rs.items) }
+    ensures count { IfOk result (λ rs. sum_by block_count rs.items ≡ sum_by function_blocks (functions_of all.now)) }
+    ensures room { OnOk result (All (λ f. function_registers f ≤ MAX_REGISTERS) (functions_of all.now)) }
+    ensures limit { IfErr result (λ e. e ≡ LowerFault.Limit → HaveRoom (functions_of all.now) → ⊥) }
 {
     let mut lowered = Vec::with_capacity(alloc, all.len())?;
     for f in all {
@@ -33,7 +42,8 @@ fn put_function(functions: &mut Vec<RFunc>, next: RFunc) -> Result<(), AllocErro
 
 // Each global.
 fn globals(alloc: Global, all: &[TypedGlobal]) -> Result<Vec<RGlobal>, LowerFault>
-    ensures { IfOk result (λ rs. AreGlobalsOf all.now rs.items) }
+    ensures are { IfOk result (λ rs. AreGlobalsOf all.now rs.items) }
+    ensures limit { IfErr result (λ e. e ≡ LowerFault.Limit → words_in all.now ≤ MAX_GLOBAL_WORDS → ⊥) }
 {
     let mut lowered = Vec::with_capacity(alloc, all.len())?;
     for g in all {
@@ -52,10 +62,12 @@ fn put_global(globals: &mut Vec<RGlobal>, next: RGlobal) -> Result<(), AllocErro
 }
 
 /// The program of RTL that does what the source does: wherever the source isn't wrong, it comes to the same end and output.
-/// A Limit where a function would have more than 8,000 pseudo-registers or the program more than 1,048,575 blocks;
+/// A Limit only where a function would have more than 8,000 pseudo-registers or the program more than 1,048,575 blocks;
 /// NoMemory where memory is refused.
 pub fn lower(alloc: Global, program: &Typed) -> Result<Rtl, LowerFault>
-    ensures { IfOk result (λ r. KeepsRuns (program_of program.now) r) }
+    ensures runs { IfOk result (λ r. KeepsRuns (program_of program.now) r) }
+    ensures within { OnOk result (HaveRoom (functions_of program.now.functions)) }
+    ensures limit { IfErr result (λ e. e ≡ LowerFault.Limit → HaveRoom (functions_of program.now.functions) → ⊥) }
 {
     let functions = functions(alloc, program.functions())?;
     let globals = globals(alloc, program.globals())?;

@@ -1,7 +1,18 @@
-ghost use Rattle.std.specs.Prelude.{◌≡◌, ℕ, List, Option, Some, None, IfOk, OnOk, drop, length};
+ghost use Rattle.std.specs.Prelude.{◌≡◌, ◌+◌, ◌<◌, ◌≤◌, ◌^◌, ℕ, true, List, Option, Some, None, IfOk, IfErr, IfSome, OnOk, length, is_some, if◌then◌else◌};
+ghost use Rattle.rtl.specs.declared.limits.TheConstants.{MAX_REGISTERS, MAX_BLOCKS};
+ghost use Rattle.rtl_emit.specs.Sizes.{joint, Beyond};
+ghost use Rattle.rtl_lower.specs.Sizes.{continues, receiver_blocks, receiver_registers, target_number, statement_joint, statements_joint};
+ghost use Rattle.rtl_lower.specs.Sizes.{statement_blocks, statements_blocks, statement_registers, statements_registers, numbers_named, numbers_named_in};
+ghost use Rattle.rtl_lower.specs.Sizes as Sizes;
+ghost use Rattle.rtl_lower.specs.Sizes.{any_continues};
 ghost use Rattle.c_typed.specs.Shape.{typed_expression_of, typed_expressions_of, maybe_typed_expression_of, statement_of, statements_of};
 ghost use Rattle.c_typed.specs.Trees.{assign, store, call, output, return_with};
 ghost use Rattle.rtl_emit.specs.Blocks.{Spot, Line, open_code, spot, Grows, Has};
+ghost use Rattle.rtl_emit.specs.Sound.{IsSound, IsSoundSpot, KeepsSound};
+ghost use Rattle.rtl.specs.Programs.{IsMaybeRegister};
+ghost use Rattle.c_typed.specs.WellFormed.{FitsMaybe, FitsTarget};
+ghost use Rattle.c_typed.specs.Trees.{TypedProgram};
+ghost use Rattle.rtl_lower.specs.Sound.{Suits, KeepsFit, KeepsFitAll};
 ghost use Rattle.rtl_lower.specs.Coded.{Receives, IsTurn, Coded, CodedAll};
 ghost use Rattle.rtl.specs.declared.block.RBlock.{RBlock};
 
@@ -16,7 +27,9 @@ use std::alloc::Global;
 
 // A register that is free; a Limit above the last one.
 fn spare(free: Register) -> Result<Register, LowerFault>
-    ensures { IfOk result (λ r. r ≡ free) }
+    ensures is { IfOk result (λ r. r ≡ free) }
+    ensures within { IfOk result (λ r. r < MAX_REGISTERS) }
+    ensures limit { IfErr result (λ f. f ≡ LowerFault.Limit → MAX_REGISTERS < free + 1) }
 {
     if free >= MAX_REGISTERS {
         return Err(LowerFault::Limit);
@@ -26,7 +39,8 @@ fn spare(free: Register) -> Result<Register, LowerFault>
 
 // A number of RTL; a Limit where it has none.
 fn number(n: usize) -> Result<u32, LowerFault>
-    ensures { IfOk result (λ r. r ≡ n) }
+    ensures is { IfOk result (λ r. r ≡ n) }
+    ensures limit { IfErr result (λ f. f ≡ LowerFault.Limit → 2 ^ 32 < n + 1) }
 {
     if n > u32::MAX as usize {
         return Err(LowerFault::Limit);
@@ -44,6 +58,15 @@ fn assignment(
     after: Continuation,
 ) -> Result<OpenBlock, LowerFault>
     ensures grows { OnOk result (Grows blocks.old.items blocks.new.items) }
+    ensures count { OnOk result (length blocks.new.items
+        ≡ length blocks.old.items + statement_blocks (assign to (typed_expression_of e.now)) (joint (spot after))) }
+    ensures room { OnOk result (statement_registers (assign to (typed_expression_of e.now)) free ≤ MAX_REGISTERS) }
+    ensures limit { IfErr result (λ f. f ≡ LowerFault.Limit
+        → Beyond (statement_registers (assign to (typed_expression_of e.now)) free)
+        (length blocks.old.items + statement_blocks (assign to (typed_expression_of e.now)) (joint (spot after)))
+        (numbers_named (assign to (typed_expression_of e.now)))) }
+    ensures sound { IfOk result (λ from. KeepsFit (assign to (typed_expression_of e.now))
+        blocks.old.items blocks.new.items (λ s. IsSoundSpot s (spot after)) (λ s. IsSound s (open_code from))) }
     ensures coded { IfOk result (λ from. (leave : ℕ) (next : Option ℕ) (bs : List RBlock) → Has bs blocks.old.items blocks.new.items
         → Coded bs free (assign to (typed_expression_of e.now)) leave next (Line (open_code from)) (spot after)) }
 {
@@ -76,6 +99,15 @@ fn element_store(
     after: Continuation,
 ) -> Result<OpenBlock, LowerFault>
     ensures grows { OnOk result (Grows blocks.old.items blocks.new.items) }
+    ensures count { OnOk result (length blocks.new.items
+        ≡ length blocks.old.items + statement_blocks (store array (typed_expression_of index.now) (typed_expression_of e.now)) (joint (spot after))) }
+    ensures room { OnOk result (statement_registers (store array (typed_expression_of index.now) (typed_expression_of e.now)) free ≤ MAX_REGISTERS) }
+    ensures limit { IfErr result (λ f. f ≡ LowerFault.Limit
+        → Beyond (statement_registers (store array (typed_expression_of index.now) (typed_expression_of e.now)) free)
+        (length blocks.old.items + statement_blocks (store array (typed_expression_of index.now) (typed_expression_of e.now)) (joint (spot after)))
+        (numbers_named (store array (typed_expression_of index.now) (typed_expression_of e.now)))) }
+    ensures sound { IfOk result (λ from. KeepsFit (store array (typed_expression_of index.now) (typed_expression_of e.now))
+        blocks.old.items blocks.new.items (λ s. IsSoundSpot s (spot after)) (λ s. IsSound s (open_code from))) }
     ensures coded { IfOk result (λ from. (leave : ℕ) (next : Option ℕ) (bs : List RBlock) → Has bs blocks.old.items blocks.new.items
         → Coded bs free (store array (typed_expression_of index.now) (typed_expression_of e.now)) leave next (Line (open_code from)) (spot after)) }
 {
@@ -101,6 +133,15 @@ fn written(
     after: Continuation,
 ) -> Result<OpenBlock, LowerFault>
     ensures grows { OnOk result (Grows blocks.old.items blocks.new.items) }
+    ensures count { OnOk result (length blocks.new.items
+        ≡ length blocks.old.items + statement_blocks (output (typed_expression_of e.now)) (joint (spot after))) }
+    ensures room { OnOk result (statement_registers (output (typed_expression_of e.now)) free ≤ MAX_REGISTERS) }
+    ensures limit { IfErr result (λ f. f ≡ LowerFault.Limit
+        → Beyond (statement_registers (output (typed_expression_of e.now)) free)
+        (length blocks.old.items + statement_blocks (output (typed_expression_of e.now)) (joint (spot after)))
+        (numbers_named (output (typed_expression_of e.now)))) }
+    ensures sound { IfOk result (λ from. KeepsFit (output (typed_expression_of e.now))
+        blocks.old.items blocks.new.items (λ s. IsSoundSpot s (spot after)) (λ s. IsSound s (open_code from))) }
     ensures coded { IfOk result (λ from. (leave : ℕ) (next : Option ℕ) (bs : List RBlock) → Has bs blocks.old.items blocks.new.items
         → Coded bs free (output (typed_expression_of e.now)) leave next (Line (open_code from)) (spot after)) }
 {
@@ -127,6 +168,12 @@ fn receiver_of(
     after: Continuation,
 ) -> Result<Receiver, LowerFault>
     ensures grows { OnOk result (Grows blocks.old.items blocks.new.items) }
+    ensures count { OnOk result (length blocks.new.items ≡ length blocks.old.items + receiver_blocks to (joint (spot after))) }
+    ensures room { OnOk result (receiver_registers to free ≤ MAX_REGISTERS) }
+    ensures limit { IfErr result (λ f. f ≡ LowerFault.Limit
+        → Beyond (receiver_registers to free) (length blocks.old.items + receiver_blocks to (joint (spot after))) (target_number to)) }
+    ensures sound { IfOk result (λ r. (p : TypedProgram) (n : ℕ) → FitsTarget p n to
+        → KeepsSound blocks.old.items blocks.new.items (λ s. Suits p s × IsSoundSpot s (spot after)) (λ s. IsMaybeRegister r.to × (r.block < s.blocks))) }
     ensures receives { IfOk result (λ r. (bs : List RBlock) → Has bs blocks.old.items blocks.new.items → Receives bs free to r.to r.block (spot after)) }
 {
     match to {
@@ -171,6 +218,15 @@ fn called(
     after: Continuation,
 ) -> Result<OpenBlock, LowerFault>
     ensures grows { OnOk result (Grows blocks.old.items blocks.new.items) }
+    ensures count { OnOk result (length blocks.new.items
+        ≡ length blocks.old.items + statement_blocks (call to function (typed_expressions_of arguments.now)) (joint (spot after))) }
+    ensures room { OnOk result (statement_registers (call to function (typed_expressions_of arguments.now)) free ≤ MAX_REGISTERS) }
+    ensures limit { IfErr result (λ f. f ≡ LowerFault.Limit
+        → Beyond (statement_registers (call to function (typed_expressions_of arguments.now)) free)
+        (length blocks.old.items + statement_blocks (call to function (typed_expressions_of arguments.now)) (joint (spot after)))
+        (numbers_named (call to function (typed_expressions_of arguments.now)))) }
+    ensures sound { IfOk result (λ from. KeepsFit (call to function (typed_expressions_of arguments.now))
+        blocks.old.items blocks.new.items (λ s. IsSoundSpot s (spot after)) (λ s. IsSound s (open_code from))) }
     ensures coded { IfOk result (λ from. (leave : ℕ) (next : Option ℕ) (bs : List RBlock) → Has bs blocks.old.items blocks.new.items
         → Coded bs free (call to function (typed_expressions_of arguments.now)) leave next (Line (open_code from)) (spot after)) }
 {
@@ -195,6 +251,14 @@ fn returned(
     free: Register,
 ) -> Result<OpenBlock, LowerFault>
     ensures grows { OnOk result (Grows blocks.old.items blocks.new.items) }
+    ensures count { OnOk result (length blocks.new.items ≡ length blocks.old.items + statement_blocks (return_with (maybe_typed_expression_of given.now)) 0) }
+    ensures room { OnOk result (statement_registers (return_with (maybe_typed_expression_of given.now)) free ≤ MAX_REGISTERS) }
+    ensures limit { IfErr result (λ f. f ≡ LowerFault.Limit
+        → Beyond (statement_registers (return_with (maybe_typed_expression_of given.now)) free)
+        (length blocks.old.items + statement_blocks (return_with (maybe_typed_expression_of given.now)) 0)
+        (numbers_named (return_with (maybe_typed_expression_of given.now)))) }
+    ensures sound { IfOk result (λ from. (p : TypedProgram) (n : ℕ) → FitsMaybe p n (maybe_typed_expression_of given.now)
+        → KeepsSound blocks.old.items blocks.new.items (λ s. Suits p s) (λ s. IsSound s (open_code from))) }
     ensures coded { IfOk result (λ from. (leave : ℕ) (next : Option ℕ) (after : Spot) (bs : List RBlock) → Has bs blocks.old.items blocks.new.items
         → Coded bs free (return_with (maybe_typed_expression_of given.now)) leave next (Line (open_code from)) after) }
 {
@@ -210,7 +274,9 @@ fn returned(
 }
 
 // Whether a `continue` of this loop may stand in a statement.
-fn may_continue(s: &TypedStatement) -> bool {
+fn may_continue(s: &TypedStatement) -> bool
+    ensures { result ≡ continues (statement_of s.now) }
+{
     match s {
         TypedStatement::Block(all) => {
             for one in all {
@@ -221,13 +287,16 @@ fn may_continue(s: &TypedStatement) -> bool {
             false
         }
         TypedStatement::If(_, a, b) => may_continue(a) || may_continue(b),
+        TypedStatement::Loop(_, last, _) => may_continue(last),
         TypedStatement::Continue => true,
         _ => false,
     }
 }
 
 // Whether code goes on behind a statement: the likely side of a condition.
-fn stays(s: &TypedStatement) -> bool {
+fn stays(s: &TypedStatement) -> bool
+    ensures { result ≡ Sizes.stays (statement_of s.now) }
+{
     match s {
         TypedStatement::Break | TypedStatement::Continue | TypedStatement::Return(_) => false,
         TypedStatement::Block(all) => match all.as_slice().last() {
@@ -248,6 +317,12 @@ pub(crate) struct Turn {
 // The last part as a block of its own, only if there is a `continue`.
 fn turn_to(blocks: &mut Vec<RBlock>, many: bool, last: Continuation) -> Result<Turn, LowerFault>
     ensures grows { OnOk result (Grows blocks.old.items blocks.new.items) }
+    ensures count { OnOk result (length blocks.new.items ≡ length blocks.old.items + (if many then joint (spot last) else 0)) }
+    ensures limit { IfErr result (λ f. f ≡ LowerFault.Limit → MAX_BLOCKS < length blocks.old.items + (if many then joint (spot last) else 0)) }
+    ensures next { IfOk result (λ t. is_some t.next ≡ many) }
+    ensures joint { IfOk result (λ t. joint (spot t.after) ≡ (if many then 0 else joint (spot last))) }
+    ensures sound { IfOk result (λ t. KeepsSound blocks.old.items blocks.new.items (λ s. IsSoundSpot s (spot last))
+        (λ s. IfSome t.next (λ b. b < s.blocks) × IsSoundSpot s (spot t.after))) }
     ensures turn { IfOk result (λ t. (bs : List RBlock) → Has bs blocks.old.items blocks.new.items → IsTurn bs t.next (spot t.after) (spot last)) }
 {
     if many {
@@ -276,7 +351,17 @@ pub(crate) fn statement(
     next: Option<BlockNumber>,
     after: Continuation,
 ) -> Result<Continuation, LowerFault>
+    requires next { continues (statement_of s.now) ≡ true → is_some next ≡ true }
     ensures grows { OnOk result (Grows blocks.old.items blocks.new.items) }
+    ensures count { OnOk result (length blocks.new.items ≡ length blocks.old.items + statement_blocks (statement_of s.now) (joint (spot after))) }
+    ensures room { OnOk result (statement_registers (statement_of s.now) free ≤ MAX_REGISTERS) }
+    ensures limit { IfErr result (λ f. f ≡ LowerFault.Limit
+        → Beyond (statement_registers (statement_of s.now) free)
+        (length blocks.old.items + statement_blocks (statement_of s.now) (joint (spot after)))
+        (numbers_named (statement_of s.now))) }
+    ensures joint { IfOk result (λ from. joint (spot from) ≡ statement_joint (statement_of s.now) (joint (spot after))) }
+    ensures sound { IfOk result (λ from. KeepsFit (statement_of s.now) blocks.old.items blocks.new.items
+        (λ s. (leave < s.blocks) × (IfSome next (λ b. b < s.blocks) × IsSoundSpot s (spot after))) (λ s. IsSoundSpot s (spot from))) }
     ensures coded { IfOk result (λ from. (bs : List RBlock) → Has bs blocks.old.items blocks.new.items
         → Coded bs free (statement_of s.now) leave next (spot from) (spot after)) }
 {
@@ -380,7 +465,17 @@ pub(crate) fn statements(
     next: Option<BlockNumber>,
     after: Continuation,
 ) -> Result<Continuation, LowerFault>
+    requires next { any_continues (statements_of all.now) ≡ true → is_some next ≡ true }
     ensures grows { OnOk result (Grows blocks.old.items blocks.new.items) }
+    ensures count { OnOk result (length blocks.new.items ≡ length blocks.old.items + statements_blocks (statements_of all.now) (joint (spot after))) }
+    ensures room { OnOk result (statements_registers (statements_of all.now) free ≤ MAX_REGISTERS) }
+    ensures limit { IfErr result (λ f. f ≡ LowerFault.Limit
+        → Beyond (statements_registers (statements_of all.now) free)
+        (length blocks.old.items + statements_blocks (statements_of all.now) (joint (spot after)))
+        (numbers_named_in (statements_of all.now))) }
+    ensures joint { IfOk result (λ from. joint (spot from) ≡ statements_joint (statements_of all.now) (joint (spot after))) }
+    ensures sound { IfOk result (λ from. KeepsFitAll (statements_of all.now) blocks.old.items blocks.new.items
+        (λ s. (leave < s.blocks) × (IfSome next (λ b. b < s.blocks) × IsSoundSpot s (spot after))) (λ s. IsSoundSpot s (spot from))) }
     ensures coded { IfOk result (λ from. (bs : List RBlock) → Has bs blocks.old.items blocks.new.items
         → CodedAll bs free (statements_of all.now) leave next (spot from) (spot after)) }
 {

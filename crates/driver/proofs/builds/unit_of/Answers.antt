@@ -6,5 +6,5 @@ pub returns-in-Ok-select-clause-unit : goal.returns-in-Ok-select-clause-unit
 returns-in-Ok-select-clause-unit c = record {
   program = program_of c.in_ok-typed.typed;
   spelled = c.in_ok-typed.ensures.typed;
-  runs = selected (program_of c.in_ok-typed.typed) c.in-Ok.rtl c.in-Ok-select.unit c.args.depth c.requires c.in-Ok.ensures c.in-Ok-select.ensures.runs;
+  runs = selected (program_of c.in_ok-typed.typed) c.in-Ok.rtl c.in-Ok-select.unit c.args.depth c.requires c.in-Ok.ensures.runs c.in-Ok-select.ensures.runs;
 }

@@ -3,9 +3,15 @@ use Rattle.rtl.specs.Meaning.{Code}
 use Rattle.rtl.specs.declared.instruction.RInst.{RInst}
 use Rattle.rtl_emit.specs.Blocks.{open_code}
 use Rattle.rtl_emit.proofs.Blocks.{fills_set}
+use Rattle.rtl_emit.proofs.Sound.{sound_set}
 use Rattle.rtl_emit.proofs.block.fill.Goals as goal
 
-pub returns : goal.returns
-returns c =
+pub returns-clause-fills : goal.returns-clause-fills
+returns-clause-fills c =
     let is = ap (λ (l : List RInst). let r : Code = record { insts = l; exit = c.args.code.exit } in r) c.reverse.ensures.items in
     fills_set _ _ _ (open_code c.args.code) c.requires is
+
+pub returns-clause-sound : goal.returns-clause-sound
+returns-clause-sound c = λ s g h.
+    let is = ap (λ (l : List RInst). let r : Code = record { insts = l; exit = c.args.code.exit } in r) c.reverse.ensures.items in
+    sound_set s _ _ _ (open_code c.args.code) is g h

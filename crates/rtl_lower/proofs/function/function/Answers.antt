@@ -1,10 +1,28 @@
-use Rattle.std.proofs.Common.{ap}
+use Rattle.std.proofs.Common.{ap, subst, sym}
+use Rattle.std.specs.Prelude.{false, is_some, None}
 use Rattle.c_typed.specs.Shape.{statements_of}
+use Rattle.c_typed.specs.Trees.{TypedStatements}
+use Rattle.c_typed.specs.WellFormed.{FitsStatements}
+use Rattle.rtl.specs.declared.instruction.RExit.TheVariants as X
+use Rattle.rtl_emit.specs.Sound.{AreSound}
+use Rattle.rtl_emit.proofs.Sound.{sound_along, sound_exit, sound_line}
+use Rattle.rtl_emit.proofs.Blocks.{within}
+use Rattle.rtl_lower.proofs.Sound.{some_within, within_filled}
 use Rattle.rtl_lower.proofs.Functions.{function_code}
 use Rattle.rtl_lower.proofs.function.function.Goals as goal
 
-pub returns : goal.returns
-returns c =
-    function_code _ _ _ _ _ _ _ _ _ _ _ c.in_ok-free.ensures c.in_ok-parameters.ensures (ap statements_of c.as_slice.ensures.value)
+pub returns-clause-code : goal.returns-clause-code
+returns-clause-code c =
+    function_code _ _ _ _ _ _ _ _ _ _ _ c.in_ok-free.ensures.is c.in_ok-parameters.ensures.is (ap statements_of c.as_slice.ensures.value)
     c.new-blocks.ensures.items
-    c.in_ok-entry.ensures c.in_ok-code.ensures.coded c.opened.ensures c.fill.ensures
+    c.in_ok-entry.ensures.reserves c.in_ok-code.ensures.coded c.opened.ensures c.fill.ensures.fills
+    (λ p s su fits le.
+    let n = within_filled c.fill.ensures.fills le in
+    let some = some_within c.in_ok-entry.ensures.reserves (within c.in_ok-code.ensures.grows n) in
+    let g = c.in_ok-entry.ensures.sound s (subst (λ l. AreSound s l) (sym c.new-blocks.ensures.items) tt) in
+    let body = subst (λ (b : TypedStatements). FitsStatements p c.args.f.now.locals (is_some c.args.f.now.result) false b)
+    (sym (ap statements_of c.as_slice.ensures.value))
+    fits.body in
+    let m = c.in_ok-code.ensures.sound p c.args.f.now.locals (is_some c.args.f.now.result) false body s n g
+    (su, (some, (tt, sound_exit (X.Return None) c.leaving.ensures tt))) in
+    c.fill.ensures.sound s m.0 (sound_along c.opened.ensures (sound_line _ m.1)))

@@ -1,7 +1,41 @@
+use Rattle.std.proofs.Common.{◌≡◌, sym, subst, rules}
+use Rattle.c_typed.specs.Shape.{function_of, functions_of}
+use Rattle.rtl_emit.specs.declared.fault.LowerFault.TheVariants.{Limit}
+use Rattle.rtl_lower.specs.Coded.{AreCodesOf}
+use Rattle.rtl_lower.specs.Sizes.{IsPlain, HaveRoom}
 use Rattle.rtl_lower.proofs.Functions.{one_function}
+use Rattle.rtl_lower.proofs.Fitted.{Fitted, all_taken, each_at, one_fitted, too_large}
 use Rattle.rtl_lower.proofs.program.functions.Goals as goal
 
 pub loop-f-preserved : goal.loop-f-preserved
-loop-f-preserved c =
-    one_function c.args.all.now c.loop-f.lowered.items c.put_function.new.functions.items c.loop-f.f-index c.f-item.result c.in_ok-next.next
-    c.in_ok-put_function.ensures c.loop-f-test.true c.f-item.is c.in_ok-next.ensures c.loop-f.invariant
+loop-f-preserved c = (
+  one_function c.args.all.now c.loop-f.lowered.items c.put_function.new.functions.items c.loop-f.f-index c.f-item.result c.in_ok-next.next
+      c.in_ok-put_function.ensures c.loop-f-test.true c.f-item.is c.in_ok-next.ensures.code c.loop-f.invariant.0,
+  one_fitted c.args.all.now c.loop-f.lowered.items c.put_function.new.functions.items c.loop-f.f-index c.f-item.result c.in_ok-next.next
+      c.in_ok-put_function.ensures c.loop-f-test.true c.f-item.is c.in_ok-next.ensures.count c.in_ok-next.ensures.room c.loop-f.invariant.1,
+)
+
+pub function-requires : goal.function-requires
+function-requires c =
+    record {
+      plain = subst (λ f. IsPlain (function_of f)) (sym c.f-item.is)
+          (each_at IsPlain c.args.all.now c.loop-f.f-index c.f-item.result c.loop-f-test.true c.requires.plain);
+    }
+
+pub returns-in_err-next-clause-limit : goal.returns-in_err-next-clause-limit
+returns-in_err-next-clause-limit c =
+    let beyond : c.in_err-next.field-0.0 ≡ Limit → HaveRoom (functions_of c.args.all.now) → ⊥ =
+    λ e room. too_large c.args.all.now c.loop-f.f-index c.f-item.result c.loop-f-test.true c.f-item.is (c.in_err-next.ensures.limit e) room in
+    search rules
+
+pub returns-clause-codes : goal.returns-clause-codes
+returns-clause-codes c =
+    subst (λ l. AreCodesOf (functions_of l) c.loop-f.lowered.items) (all_taken c.args.all.now c.loop-f.f-index c.loop-f-test.false) c.loop-f.invariant.0
+
+pub returns-clause-count : goal.returns-clause-count
+returns-clause-count c =
+    (subst (λ l. Fitted (functions_of l) c.loop-f.lowered.items) (all_taken c.args.all.now c.loop-f.f-index c.loop-f-test.false) c.loop-f.invariant.1).blocks
+
+pub returns-clause-room : goal.returns-clause-room
+returns-clause-room c =
+    (subst (λ l. Fitted (functions_of l) c.loop-f.lowered.items) (all_taken c.args.all.now c.loop-f.f-index c.loop-f-test.false) c.loop-f.invariant.1).registers

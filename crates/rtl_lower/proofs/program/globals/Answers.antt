@@ -1,8 +1,19 @@
-use Rattle.std.proofs.Common.{refl}
+use Rattle.std.proofs.Common.{◌≡◌, refl, rules}
+use Rattle.rtl_emit.specs.declared.fault.LowerFault.TheVariants.{Limit}
+use Rattle.c_typed.specs.WellFormed.{words_in}
+use Rattle.c_typed.specs.declared.limits.TheConstants.{MAX_GLOBAL_WORDS}
+use Rattle.std.specs.Prelude.{◌≤◌}
 use Rattle.rtl_lower.proofs.Functions.{one_global}
+use Rattle.rtl_lower.proofs.Sound.{too_long_at}
 use Rattle.rtl_lower.proofs.program.globals.Goals as goal
 
 pub loop-g-preserved : goal.loop-g-preserved
 loop-g-preserved c =
     one_global c.args.all.now c.loop-g.lowered.items c.put_global.new.globals.items c.loop-g.g-index _ _ c.in_ok-next.next
-    c.in_ok-put_global.ensures c.loop-g-test.true refl c.in_ok-next.ensures c.loop-g.invariant
+    c.in_ok-put_global.ensures c.loop-g-test.true refl c.in_ok-next.ensures.is c.loop-g.invariant
+
+pub returns-in_err-next-clause-limit : goal.returns-in_err-next-clause-limit
+returns-in_err-next-clause-limit c =
+    let beyond : c.in_err-next.field-0.0 ≡ Limit → words_in c.args.all.now ≤ MAX_GLOBAL_WORDS → ⊥ =
+    λ e le. too_long_at c.args.all.now c.loop-g.g-index _ c.loop-g-test.true (c.in_err-next.ensures.limit e) le in
+    search rules

@@ -1,9 +1,36 @@
-use Rattle.std.proofs.Common.{◌∙◌}
+use Rattle.std.proofs.Common.{◌∙◌, refl, sym, subst}
+use Rattle.std.specs.Prelude.{All}
+use Rattle.c_types.specs.Shape.{program_of}
+use Rattle.c_typed.specs.Shape.{functions_of}
+use Rattle.rtl.specs.Programs as Programs
+use Rattle.rtl.specs.Programs.{IsProgram, Program}
+use Rattle.rtl_lower.specs.Sizes.{IsPlain, HaveRoom}
 use Rattle.rtl_lower.proofs.Functions.{program_made}
+use Rattle.rtl_lower.proofs.Fitted.{have_room, plain_functions}
+use Rattle.rtl_lower.proofs.Sound.{parts_program}
 use Rattle.rtl_lower.proofs.program.lower.Goals as goal
 
-pub returns : goal.returns
-returns c =
+pub returns-clause-runs : goal.returns-clause-runs
+returns-clause-runs c =
     program_made c.args.program.now c.functions.result.now c.globals.result.now c.in_ok-functions.functions.items c.in_ok-globals.globals.items
-    c.in_ok-main.main c.in-Some.lowered c.in-Some.ensures.1 (c.in_ok-main.ensures ∙ c.main.ensures.value) c.functions.ensures.value c.globals.ensures
-    c.in_ok-functions.ensures c.in_ok-globals.ensures c.functions.ensures.fits
+    c.in_ok-main.main c.in-Some.lowered c.in-Some.ensures.1 (c.in_ok-main.ensures.is ∙ c.main.ensures.value) c.functions.ensures.value c.globals.ensures
+    c.in_ok-functions.ensures.codes c.in_ok-globals.ensures.are c.functions.ensures.fits
+
+pub returns-clause-within : goal.returns-clause-within
+returns-clause-within c =
+    subst (λ l. HaveRoom (functions_of l)) c.functions.ensures.value
+    (have_room (Programs.program_of c.in_ok-functions.functions.items c.in_ok-globals.globals.items c.in_ok-main.main) (functions_of c.functions.result.now)
+    c.in_ok-functions.functions.items c.in-Some.ensures.0 refl c.in_ok-functions.ensures.count c.in_ok-functions.ensures.room)
+
+pub functions-requires-2 : goal.functions-requires-2
+functions-requires-2 c =
+    record {
+      plain = subst (λ l. All IsPlain (functions_of l)) (sym c.functions.ensures.value)
+          (plain_functions (program_of c.args.program.now) c.functions.ensures.fits);
+    }
+
+pub returns-in_default-clause-limit : goal.returns-in_default-clause-limit
+returns-in_default-clause-limit c = λ e room.
+    c.in_default.ensures (parts_program c.args.program.now c.functions.result.now c.globals.result.now c.in_ok-functions.functions.items
+    c.in_ok-globals.globals.items c.in_ok-main.main (c.in_ok-main.ensures.is ∙ c.main.ensures.value) c.functions.ensures.value c.globals.ensures
+    c.in_ok-functions.ensures.codes c.in_ok-globals.ensures.are c.in_ok-functions.ensures.count c.functions.ensures.fits room)

@@ -1,0 +1,92 @@
+-- Sound code of sound parts.
+use Rattle.std.proofs.Common.{◌≡◌, ℕ, zero, suc, ◌+◌, ◌<◌, ◌≤◌, max, Bool, true, false, List, [], ◌∷◌, ◌++◌, refl, sym, ap, subst, arith, length}
+use Rattle.std.specs.Prelude.{if◌then◌else◌, slice_set}
+use Rattle.std.proofs.lemmas.List.Elements.{All-nil, All-cons}
+use Rattle.c_tokens.specs.declared.token.IntegerType.{IntegerType}
+use Rattle.c_front.specs.declared.tree.BinaryOp.{BinaryOp}
+use Rattle.c_front.specs.declared.tree.UnaryOp.{UnaryOp}
+use Rattle.c_typed.specs.Trees.{TypedExpression, global, element, unary, binary, conditional}
+use Rattle.rtl.specs.Programs.{IsRegister, IsInst, IsExit}
+use Rattle.rtl.specs.Meaning.{Code, code_of}
+use Rattle.rtl.specs.declared.instruction.RInst.{RInst}
+use Rattle.rtl.specs.declared.instruction.RInst.TheVariants.{Bin}
+use Rattle.rtl.specs.declared.instruction.RExit.{RExit}
+use Rattle.rtl.specs.declared.operator.Op.{Op}
+use Rattle.rtl.specs.declared.block.RBlock.{RBlock}
+use Rattle.rtl_emit.specs.Blocks.{exit_code, first, Spot, Block, Line, line_of}
+use Rattle.rtl_emit.specs.Operations.{inst_of}
+use Rattle.rtl_emit.specs.Sizes.{globals_named, globals_named_in}
+use Rattle.rtl_emit.specs.Sound.{Scope, IsSound, IsSoundSpot, AreSound}
+use Rattle.rtl_emit.specs.declared.operation.Operation.{Operation}
+
+-- code
+
+pub sound_along : {s : Scope} {c c' : Code} → c ≡ c' → IsSound s c' → IsSound s c
+sound_along {s} e h = subst (λ c. IsSound s c) (sym e) h
+
+pub sound_first : {s : Scope} {c c' : Code} (i : RInst) → c ≡ first i c' → IsInst s.globals i → IsSound s c' → IsSound s c
+sound_first {s} {c} {c'} i e hi h =
+    sound_along e (record { insts = All-cons (IsInst s.globals) i c'.insts hi h.insts; exit = h.exit })
+
+pub sound_exit : {s : Scope} {c : Code} (x : RExit) → c ≡ exit_code x → IsExit s.functions s.blocks x → IsSound s c
+sound_exit {s} x e h = sound_along e (record { insts = All-nil (IsInst s.globals); exit = h })
+
+pub sound_line : {s : Scope} (at : Spot) → IsSoundSpot s at → IsSound s (line_of at)
+sound_line {s} (Block b) h = record { insts = All-nil (IsInst s.globals); exit = h }
+sound_line {s} (Line c) h = h
+
+pub sound_operation : (g : ℕ) (inst : RInst) (op : Operation) (d p q : ℕ) → inst ≡ inst_of op d p q → IsRegister d → IsRegister p → IsRegister q
+    → IsInst g inst
+sound_operation g inst op d p q e hd hp hq = subst (λ i. IsInst g i) (sym e) (by op.turned)
+  where
+    by : (b : Bool) → IsInst g (if b then Bin op.op d q p else Bin op.op d p q)
+    by true = (hd, (hq, hp))
+    by false = (hd, (hp, hq))
+
+-- blocks
+
+pub sound_push : (s : Scope) (old new : List RBlock) (b : RBlock) (c : Code) → new ≡ old ++ b ∷ [] → code_of b ≡ c → AreSound s old → IsSound s c
+    → AreSound s new
+sound_push s old new b c e is g h = subst (λ l. AreSound s l) (sym e) (pushed old g)
+  where
+    pushed : (l : List RBlock) → AreSound s l → AreSound s (l ++ b ∷ [])
+    pushed [] g = (sound_along is h, tt)
+    pushed (x ∷ l) g = (g.0, pushed l g.1)
+
+pub sound_set : (s : Scope) (old : List RBlock) (n : ℕ) (b : RBlock) (c : Code) → code_of b ≡ c → AreSound s old → IsSound s c
+    → AreSound s (slice_set old n b)
+sound_set s [] n b c is g h = g
+sound_set s (x ∷ l) zero b c is g h = (sound_along is h, g.1)
+sound_set s (x ∷ l) (suc n) b c is g h = (g.0, sound_set s l n b c is g.1 h)
+
+-- the globals that the parts of an expression name
+
+pub named_global : (e : TypedExpression) (a a' : ℕ) (k : IntegerType) (g : ℕ) → e ≡ global a k → a' ≡ a → globals_named e ≤ g → a' < g
+named_global e a a' k g is ia h = let n = ap globals_named is in omega (arith, n, ia, h)
+
+pub named_element : (e : TypedExpression) (a a' : ℕ) (k : IntegerType) (i i' : TypedExpression) (g : ℕ) → e ≡ element a k i → a' ≡ a → i' ≡ i
+    → globals_named e ≤ g
+    → (a' < g) × (globals_named i' ≤ g)
+named_element e a a' k i i' g is ia ii h =
+    let n = ap globals_named is in let m = ap globals_named ii in (omega (arith, n, ia, h), omega (arith, n, m, h))
+
+pub named_unary : (e : TypedExpression) (o : UnaryOp) (k : IntegerType) (a a' : TypedExpression) (g : ℕ) → e ≡ unary o k a → a' ≡ a → globals_named e ≤ g
+    → globals_named a' ≤ g
+named_unary e o k a a' g is ia h = let n = ap globals_named is in let m = ap globals_named ia in omega (arith, n, m, h)
+
+pub named_binary : (e : TypedExpression) (o : BinaryOp) (k : IntegerType) (a b a' b' : TypedExpression) (g : ℕ) → e ≡ binary o k a b → a' ≡ a → b' ≡ b
+    → globals_named e ≤ g
+    → (globals_named a' ≤ g) × (globals_named b' ≤ g)
+named_binary e o k a b a' b' g is ia ib h =
+    let n = ap globals_named is in let m = ap globals_named ia in let l = ap globals_named ib in (omega (arith, n, m, h), omega (arith, n, l, h))
+
+pub named_conditional : (e : TypedExpression) (k : IntegerType) (c a b c' a' b' : TypedExpression) (g : ℕ) → e ≡ conditional k c a b → c' ≡ c → a' ≡ a
+    → b' ≡ b → globals_named e ≤ g
+    → (globals_named c' ≤ g) × ((globals_named a' ≤ g) × (globals_named b' ≤ g))
+named_conditional e k c a b c' a' b' g is ic ia ib h =
+    let n = ap globals_named is in let j = ap globals_named ic in let m = ap globals_named ia in let l = ap globals_named ib in
+    (omega (arith, n, j, h), (omega (arith, n, m, h), omega (arith, n, l, h)))
+
+pub named_list : (all : List TypedExpression) (e : TypedExpression) (es : List TypedExpression) (g : ℕ) → all ≡ e ∷ es → globals_named_in all ≤ g
+    → (globals_named e ≤ g) × (globals_named_in es ≤ g)
+named_list all e es g is h = let n = ap globals_named_in is in (omega (arith, n, h), omega (arith, n, h))

@@ -1,0 +1,199 @@
+-- The sizes of lists of statements, taken from the last one on.
+use Rattle.std.proofs.Common.{◌≡◌, ℕ, zero, suc, ◌+◌, ◌-◌, ◌<◌, ◌≤◌, max, Bool, true, false, List, [], ◌∷◌, ◌++◌, Some, None, refl, sym, ◌∙◌, ap, subst}
+use Rattle.std.proofs.Common.{arith, length, get_or, take, drop}
+use Rattle.std.specs.Prelude.{◌||◌, slice_get}
+use Rattle.std.proofs.lemmas.Option.{none-some}
+use Rattle.std.proofs.Math.Seq.{take-suc, drop-cons}
+use Rattle.std.specs.declared.vec.Vec.{Vec}
+use Rattle.std.specs.declared.alloc.Global.{Global}
+use Rattle.c_typed.specs.declared.tree.TypedStatement.{TypedStatement, Block}
+use Rattle.c_typed.proofs.Shapes.{block-is}
+use Rattle.c_typed.specs.Shape.{statement_of, statements_of}
+use Rattle.c_typed.specs.Trees as Trees
+use Rattle.c_typed.specs.Trees.{TypedStatements, no_statements, more_statements}
+use Rattle.rtl.specs.declared.limits.TheConstants.{MAX_REGISTERS}
+use Rattle.rtl_emit.specs.Sizes.{Beyond}
+use Rattle.rtl_lower.specs.Sizes.{continues, any_continues, stays, last_stays, statement_joint, statements_joint, statement_blocks, statements_blocks}
+use Rattle.rtl_lower.specs.Sizes.{statement_registers, statements_registers, numbers_named, numbers_named_in}
+
+-- a measure of statements
+abbrev mutual
+  pub weight : Trees.TypedStatement → ℕ
+  weight (Trees.block all) = weight_all all + 1
+  weight (Trees.if_else e a b) = weight a + weight b + 1
+  weight (Trees.loop e last body) = weight last + weight body + 1
+  weight _ = 1
+
+  pub weight_all : TypedStatements → ℕ
+  weight_all no_statements = 0
+  weight_all (more_statements s rest) = weight s + weight_all rest + 1
+
+pub weight_within : (all : List TypedStatement) (k : ℕ) (d : TypedStatement) → k < length all
+    → weight (statement_of (get_or all k d)) < weight_all (statements_of all)
+weight_within [] k d lt = absurd (omega arith)
+weight_within (s ∷ all) zero d lt = omega arith
+weight_within (s ∷ all) (suc k) d lt = let r = weight_within all k d (omega arith) in omega (arith, r)
+
+or_true : (a b : Bool) → b ≡ true → (a || b) ≡ true
+or_true true b e = refl
+or_true false b e = e
+
+or_first : (a b : Bool) → a ≡ true → (a || b) ≡ true
+or_first true b e = refl
+or_first false b e = cc
+
+or_left : (a b : Bool) → (a || b) ≡ false → a ≡ false
+or_left true b e = e
+or_left false b e = refl
+
+or_right : (a b : Bool) → (a || b) ≡ false → b ≡ false
+or_right true b e = cc
+or_right false b e = e
+
+or_none : (a b : Bool) → a ≡ false → b ≡ false → (a || b) ≡ false
+or_none true b e f = e
+or_none false b e f = f
+
+-- one of them, and none of them
+pub any_at : (all : List TypedStatement) (k : ℕ) (d : TypedStatement) → k < length all → continues (statement_of (get_or all k d)) ≡ true
+    → any_continues (statements_of all) ≡ true
+any_at [] k d lt e = absurd (omega arith)
+any_at (s ∷ all) zero d lt e = or_first (continues (statement_of s)) (any_continues (statements_of all)) e
+any_at (s ∷ all) (suc k) d lt e = or_true (continues (statement_of s)) (any_continues (statements_of all)) (any_at all k d (omega arith) e)
+
+-- the same as the prover finds it
+pub any_of : (all : List TypedStatement) (k : ℕ) (s : TypedStatement) → k < length all → s ≡ get_or all k s → continues (statement_of s) ≡ true
+    → any_continues (statements_of all) ≡ true
+any_of all k s lt is e = any_at all k s lt (ap (λ s. continues (statement_of s)) (sym is) ∙ e)
+
+pub continues_block : (v : Vec TypedStatement Global) (all : List TypedStatement) → all ≡ v.items → any_continues (statements_of all) ≡ true
+    → continues (statement_of (Block v)) ≡ true
+continues_block v all is e = ap continues (block-is v) ∙ ap (λ l. any_continues (statements_of l)) (sym is) ∙ e
+
+none_append : (xs : List TypedStatement) (s : TypedStatement) → any_continues (statements_of xs) ≡ false → continues (statement_of s) ≡ false
+    → any_continues (statements_of (xs ++ s ∷ [])) ≡ false
+none_append [] s e f = or_none (continues (statement_of s)) false f refl
+none_append (x ∷ xs) s e f =
+    let a = continues (statement_of x) in
+    let b = any_continues (statements_of xs) in
+    or_none a (any_continues (statements_of (xs ++ s ∷ []))) (or_left a b e) (none_append xs s (or_right a b e) f)
+
+pub none_more : (all : List TypedStatement) (i j : ℕ) (s : TypedStatement) → i < length all → s ≡ get_or all i s → j ≡ i + 1
+    → continues (statement_of s) ≡ false → any_continues (statements_of (take i all)) ≡ false → any_continues (statements_of (take j all)) ≡ false
+none_more all i j s lt is ij f e =
+    let n : j ≡ suc i = omega arith in
+    let cut : take j all ≡ take i all ++ s ∷ [] = ap (λ n. take n all) n ∙ take-suc all i s lt ∙ ap (λ x. take i all ++ x ∷ []) (sym is) in
+    subst (λ l. any_continues (statements_of l) ≡ false) (sym cut) (none_append (take i all) s e f)
+
+take_all : (xs : List TypedStatement) (n : ℕ) → length xs ≤ n → take n xs ≡ xs
+take_all [] zero le = refl
+take_all [] (suc n) le = refl
+take_all (x ∷ xs) zero le = absurd (omega arith)
+take_all (x ∷ xs) (suc n) le = ap (λ l. x ∷ l) (take_all xs n (omega arith))
+
+pub none_all : (all : List TypedStatement) (i : ℕ) → length all ≤ i → any_continues (statements_of (take i all)) ≡ false
+    → any_continues (statements_of all) ≡ false
+none_all all i le e = subst (λ l. any_continues (statements_of l) ≡ false) (take_all all i le) e
+
+-- statements of a list that are done, the last ones
+drop_end : (xs : List TypedStatement) (n : ℕ) → n ≡ length xs → drop n xs ≡ []
+drop_end [] zero e = refl
+drop_end [] (suc n) e = refl
+drop_end (x ∷ xs) zero e = absurd (omega arith)
+drop_end (x ∷ xs) (suc n) e = drop_end xs n (omega arith)
+
+pub none_left : (all : List TypedStatement) (n : ℕ) → n ≡ length all → statements_of (drop n all) ≡ no_statements
+none_left all n e = ap statements_of (drop_end all n e)
+
+pub one_left : (all : List TypedStatement) (s : TypedStatement) (k k' j : ℕ) → k < length all → k' ≡ k → s ≡ get_or all k' s → j ≡ suc k
+    → statements_of (drop k all) ≡ more_statements (statement_of s) (statements_of (drop j all))
+one_left all s k k' j lt ik is ij =
+    let cut : drop k all ≡ s ∷ drop j all = drop-cons all k s lt ∙ ap (λ x. x ∷ drop (suc k) all) (sym (is ∙ ap (λ n. get_or all n s) ik))
+    ∙ ap (λ n. s ∷ drop n all) (sym ij) in
+    ap statements_of cut
+
+-- the sizes of a rest that is emitted: blocks from b0 to b, and n for what comes before
+pub record Measured (b0 b : ℕ) (rest : TypedStatements) (free n0 n : ℕ) : Type 0 where
+  pub blocks : b ≡ b0 + statements_blocks rest n0
+  pub joint : n ≡ statements_joint rest n0
+  pub room : statements_registers rest free ≤ MAX_REGISTERS
+
+pub measured_none : (b0 : ℕ) (rest : TypedStatements) (free n0 : ℕ) → rest ≡ no_statements → Measured b0 b0 rest free n0 n0
+measured_none b0 rest free n0 e = subst (λ r. Measured b0 b0 r free n0 n0) (sym e) (record { blocks = omega arith; joint = refl; room = omega arith })
+
+pub measured_more : (b0 b1 b2 : ℕ) (rest' : TypedStatements) (s : Trees.TypedStatement) (rest : TypedStatements) (free n0 n1 n2 : ℕ)
+    → rest' ≡ more_statements s rest → Measured b0 b1 rest free n0 n1 → b2 ≡ b1 + statement_blocks s n1 → n2 ≡ statement_joint s n1
+    → statement_registers s free ≤ MAX_REGISTERS → Measured b0 b2 rest' free n0 n2
+measured_more b0 b1 b2 rest' s rest free n0 n1 n2 e m eb ej r =
+    let same : statement_blocks s n1 ≡ statement_blocks s (statements_joint rest n0) = ap (statement_blocks s) m.joint in
+    subst (λ r. Measured b0 b2 r free n0 n2) (sym e) (record {
+      blocks = omega (arith, m.blocks, eb, same);
+      joint = ej ∙ ap (statement_joint s) m.joint;
+      room = omega (arith, m.room, r);
+    })
+
+pub measured_all : (b0 b : ℕ) (all : List TypedStatement) (k free n0 n : ℕ) → k ≡ 0 → Measured b0 b (statements_of (drop k all)) free n0 n
+    → Measured b0 b (statements_of all) free n0 n
+measured_all b0 b all k free n0 n e m = subst (λ k. Measured b0 b (statements_of (drop k all)) free n0 n) e m
+
+-- a rest takes no more than the whole
+rest_blocks : (k : ℕ) (all : List TypedStatement) (n : ℕ) → statements_blocks (statements_of (drop k all)) n ≤ statements_blocks (statements_of all) n
+rest_blocks zero all n = omega arith
+rest_blocks (suc k) [] n = omega arith
+rest_blocks (suc k) (s ∷ all) n = let r = rest_blocks k all n in omega (arith, r)
+
+rest_registers : (k : ℕ) (all : List TypedStatement) (free : ℕ)
+    → statements_registers (statements_of (drop k all)) free ≤ statements_registers (statements_of all) free
+rest_registers zero all free = omega arith
+rest_registers (suc k) [] free = omega arith
+rest_registers (suc k) (s ∷ all) free = let r = rest_registers k all free in omega (arith, r)
+
+rest_numbers : (k : ℕ) (all : List TypedStatement) → numbers_named_in (statements_of (drop k all)) ≤ numbers_named_in (statements_of all)
+rest_numbers zero all = omega arith
+rest_numbers (suc k) [] = omega arith
+rest_numbers (suc k) (s ∷ all) = let r = rest_numbers k all in omega (arith, r)
+
+pub beyond_one : (b0 b1 : ℕ) (all : List TypedStatement) (k : ℕ) (s : Trees.TypedStatement) (rest : TypedStatements) (free n0 n1 : ℕ)
+    → statements_of (drop k all) ≡ more_statements s rest → Measured b0 b1 rest free n0 n1
+    → Beyond (statement_registers s free) (b1 + statement_blocks s n1) (numbers_named s)
+    → Beyond (statements_registers (statements_of all) free) (b0 + statements_blocks (statements_of all) n0) (numbers_named_in (statements_of all))
+beyond_one b0 b1 all k s rest free n0 n1 e m b =
+    let same : statement_blocks s n1 ≡ statement_blocks s (statements_joint rest n0) = ap (statement_blocks s) m.joint in
+    let eb : statements_blocks (statements_of (drop k all)) n0 ≡ statements_blocks rest n0 + statement_blocks s (statements_joint rest n0) =
+    ap (λ l. statements_blocks l n0) e in
+    let er : statements_registers (statements_of (drop k all)) free ≡ max (statement_registers s free) (statements_registers rest free) =
+    ap (λ l. statements_registers l free) e in
+    let en : numbers_named_in (statements_of (drop k all)) ≡ max (numbers_named s) (numbers_named_in rest) = ap numbers_named_in e in
+    let lb = rest_blocks k all n0 in
+    let lr = rest_registers k all free in
+    let ln = rest_numbers k all in
+    omega (arith, b, m.blocks, same, eb, er, en, lb, lr, ln)
+
+-- the last statement of a list
+last_below : (all : List TypedStatement) (x s : TypedStatement) → slice_get (x ∷ all) (length all) ≡ Some s
+    → last_stays (statements_of all) (stays (statement_of x)) ≡ stays (statement_of s)
+last_below [] x s e = let is : x ≡ s = cc in ap (λ s. stays (statement_of s)) is
+last_below (y ∷ all) x s e = last_below all y s e
+
+pub last_of : (v w : List TypedStatement) (s : TypedStatement) → v ≡ w → Some s ≡ slice_get v (length v - 1)
+    → last_stays (statements_of w) true ≡ stays (statement_of s)
+last_of v w s iv e = here w (sym (e ∙ ap (λ l. slice_get l (length l - 1)) iv))
+  where
+    here : (w : List TypedStatement) → slice_get w (length w - 1) ≡ Some s → last_stays (statements_of w) true ≡ stays (statement_of s)
+    here [] e = cc
+    here (x ∷ w) e =
+        let n : length w ≡ length (x ∷ w) - 1 = omega arith in
+        last_below w x s (ap (λ n. slice_get (x ∷ w) n) n ∙ e)
+
+none_last : (all : List TypedStatement) (x : TypedStatement) → slice_get (x ∷ all) (length all) ≡ None → ⊥
+none_last [] x e = none-some x (sym e)
+none_last (y ∷ all) x e = none_last all y e
+
+pub last_none : (v w : List TypedStatement) → v ≡ w → None ≡ slice_get v (length v - 1) → last_stays (statements_of w) true ≡ true
+last_none v w iv e = here w (sym (e ∙ ap (λ l. slice_get l (length l - 1)) iv))
+  where
+    here : (w : List TypedStatement) → slice_get w (length w - 1) ≡ None → last_stays (statements_of w) true ≡ true
+    here [] e = refl
+    here (x ∷ w) e =
+        let n : length w ≡ length (x ∷ w) - 1 = omega arith in
+        absurd (none_last w x (ap (λ n. slice_get (x ∷ w) n) n ∙ e))
