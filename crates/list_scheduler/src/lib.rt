@@ -7,16 +7,20 @@
 //! 1986): it leaves out what the block doesn't need (`needs.rt`), makes the graph of what has to stay before what and by how
 //! many words (`graph.rt`), and takes the instructions by the longest way to the end (`list.rt`). It is a function of the
 //! block alone, and takes at most quadratic time in the block's length. `Resources` are what instructions read and write.
+//!
+//! `Hostile` proposes wrong orders, for those who test a validator.
 #![tactic(auto)]
 
 mod access;
 mod graph;
+mod hostile;
 mod list;
 mod needs;
 mod reorder;
 mod resources;
 
 pub use access::{Access, access_of};
+pub use hostile::Hostile;
 pub use list::ListOrder;
 pub use reorder::Reorder;
 pub use resources::Resources;

@@ -2,6 +2,8 @@
 #![tactic(auto)]
 
 #[cfg(test)]
+mod hostile_orders;
+#[cfg(test)]
 mod orders;
 #[cfg(test)]
 mod phases;

@@ -8,12 +8,18 @@ use std::alloc::Global;
 use std::test::Fail;
 use term_table::TermTable;
 
-fn text_of(alloc: Global, text: &str) -> Option<Text> {
+/// The block and the order of a text.
+pub fn text_of(alloc: Global, text: &str) -> Option<Text> {
     let bytes = text.as_bytes();
     if bytes.len() > 1048576 {
         return None;
     }
     read(alloc, bytes).ok()
+}
+
+/// Whether two orders are equal.
+pub fn is_equal(left: &Order, right: &Order) -> bool {
+    left.insts() == right.insts() && left.exit() == right.exit() && left.slot() == right.slot()
 }
 
 // Whether the order has the block's terms.
@@ -38,8 +44,7 @@ fn proposes<R: Reorder>(alloc: Global, scheduler: &R, text: &str) -> bool {
     let Ok(order) = scheduler.reorder(alloc, &pair.block) else {
         return false;
     };
-    let is_as_told = order.insts() == pair.order.insts() && order.slot() == pair.order.slot();
-    is_as_told && is_accepted(alloc, &pair.block, order)
+    is_equal(&order, &pair.order) && is_accepted(alloc, &pair.block, order)
 }
 
 const LISTED: [&str; 7] = [
