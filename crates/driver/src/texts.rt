@@ -11,6 +11,7 @@ use block_validator::Place;
 use check_text::PairFault;
 use mips_steps::Ending;
 use runs::End;
+use std::error::Error;
 use std::fmt;
 use std::io::{self, Write};
 
@@ -61,6 +62,8 @@ impl fmt::Display for CheckFault {
     }
 }
 
+impl Error for CheckFault {}
+
 impl fmt::Display for InterpFault {
     ghost output = { λ e. Some (interp_fault_text e) };
 
@@ -72,6 +75,8 @@ impl fmt::Display for InterpFault {
         }
     }
 }
+
+impl Error for InterpFault {}
 
 impl fmt::Display for BuildFault {
     ghost output = { λ e. Some (build_fault_text e) };
@@ -85,6 +90,8 @@ impl fmt::Display for BuildFault {
         }
     }
 }
+
+impl Error for BuildFault {}
 
 /// The last line of a program's run.
 #[derive(Clone, Copy, Debug)]

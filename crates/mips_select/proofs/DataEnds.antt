@@ -1,5 +1,5 @@
 -- Data without the gap behind the last global start a program as data with it.
-use Rattle.std.proofs.Common.{◌≡◌, ℕ, zero, suc, ◌+◌, ◌-◌, ◌*◌, ◌/◌, ◌%◌, ◌<◌, ◌≤◌, Bool, List, [], ◌∷◌, ◌++◌, length, length-append, append_assoc, append-nil, take}
+use Rattle.std.proofs.Common.{◌≡◌, ℕ, zero, suc, ◌+◌, ◌-◌, ◌*◌, ◌/◌, ◌<◌, ◌≤◌, Bool, List, [], ◌∷◌, ◌++◌, length, length-append, append_assoc, append-nil, take}
 use Rattle.std.proofs.Common.{drop, refl, sym, ap, ap₂, ◌∙◌, arith}
 use Rattle.std.specs.Prelude.{nat_le, if◌then◌else◌, slice_index}
 use Rattle.std.proofs.lemmas.List.{take-append-drop, length-drop}
@@ -7,9 +7,8 @@ use mathlib.Core.Path.{fun_ext}
 use Rattle.words.specs.declared.width.Width.{Width}
 use Rattle.words.specs.declared.width.Width.TheVariants.{Word, Byte}
 use Rattle.mips_isa.specs.States.{State, put}
-use Rattle.mips_isa.specs.Starting.{data_base, stack_base, stack_end, first_bytes, is_mapped, words_mapped, start_state}
+use Rattle.mips_isa.specs.Starting.{data_base, stack_base, stack_end, first_bytes, words_mapped, start_state}
 use Rattle.rtl.specs.declared.block.RGlobal.{RGlobal}
-use Rattle.rtl.specs.Programs.{word_count}
 use Rattle.rtl.specs.Meaning.{first_values}
 use Rattle.mips_select.specs.Data.{elements_bytes, gap_behind, zeros, global_bytes, padded_bytes, bare_bytes, data_bytes}
 use Rattle.mips_select.proofs.DataPlaces.{HaveValues, data_length}

@@ -29,7 +29,7 @@ use Rattle.mips_select.specs.Whole.{functions_size, entries_from, entry_of, owne
 use Rattle.mips_select.specs.Laws.{KeepsRuns, IsBeyond}
 use Rattle.mips_select.proofs.Lists.{all_at}
 use Rattle.mips_select.proofs.DataPlaces.{have_values, data_fits}
-use Rattle.mips_select.proofs.DataEnds.{data_ends, zeros_length}
+use Rattle.mips_select.proofs.DataEnds.{data_ends}
 use Rattle.mips_select.proofs.Linked.{program_length, program_well}
 use Rattle.mips_select.proofs.FrameSizes.{room_from_fit, fit_from_room}
 use Rattle.mips_select.proofs.Correct.{each_unit}

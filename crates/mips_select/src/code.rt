@@ -10,15 +10,16 @@ ghost use Rattle.mips_select.specs.Emittable.{IsEmittable, AreInside};
 ghost use Rattle.mips_select.specs.Whole.{next_of, behind};
 
 use crate::exits::{emit_exit, next_at};
-use crate::heads::{Head, Naming, head_at, resumes};
+use crate::heads::{Head, head_at, resumes};
 use crate::numbers::number_at;
+use crate::plan::{Linkage, Plan};
 use crate::prologue::emit_prologue;
 use mblock::{BlockNumber, Exit};
 use mips_emit::{Above, Last, emit_arrival, emit_insts, register};
 use mips_homes::Frame;
 use mips_isa::Plain;
 use mips_split::LongBlock;
-use rtl::{RBlock, RExit, RGlobal, Register};
+use rtl::{RBlock, RExit, Register};
 use std::alloc::{AllocError, Global};
 
 // The result of a call into its location, if it is wanted.
@@ -56,29 +57,33 @@ fn emit_head(
 // The block for a block.
 fn block_for(
     alloc: Global,
-    globals: &[RGlobal],
-    starts: &[u32],
-    entries: &[BlockNumber],
-    places: &[BlockNumber],
-    frame: &Frame,
-    leaf: bool,
-    parameters: u32,
+    linkage: &Linkage<'_>,
+    plan: &Plan<'_>,
     head: Head,
     next: BlockNumber,
     block: &RBlock,
 ) -> Result<LongBlock, AllocError>
-    requires frame { IsReachable frame.now }
-    requires parameters { parameters ≤ 4 }
-    requires inside { AreInside starts.now UNIT_BYTES }
-    requires block { IsEmittable (length starts.now) block.now }
-    ensures { IfOk result (λ b. b ≡ own_block globals.now (λ a. slice_index starts.now a) (λ g. slice_index entries.now g) (λ b. slice_index places.now b)
-        leaf frame.now (head_code leaf frame.now parameters head) next block.now) }
+    requires frame { IsReachable plan.now.frame.now }
+    requires parameters { plan.now.parameters ≤ 4 }
+    requires inside { AreInside linkage.now.starts.now UNIT_BYTES }
+    requires block { IsEmittable (length linkage.now.starts.now) block.now }
+    ensures { IfOk result (λ b. b ≡ own_block linkage.now.globals.now (slice_index linkage.now.starts.now)
+        (slice_index linkage.now.entries.now) (slice_index plan.now.places.now)
+        plan.now.leaf plan.now.frame.now (head_code plan.now.leaf plan.now.frame.now plan.now.parameters head) next block.now) }
 {
     let body = block.insts.as_slice();
     let mut insts = Vec::new(alloc);
     let mut facts = Vec::new(alloc);
-    emit_head(&mut insts, frame, leaf, parameters, head)?;
-    let last = emit_insts(&mut insts, &mut facts, globals, starts, frame, body)?;
+    let frame = plan.frame;
+    emit_head(&mut insts, frame, plan.leaf, plan.parameters, head)?;
+    let last = emit_insts(
+        &mut insts,
+        &mut facts,
+        linkage.globals,
+        linkage.starts,
+        frame,
+        body,
+    )?;
     let known = facts.as_slice();
     let fresh = last.fresh;
     let above: Option<Above> = last.above;
@@ -86,10 +91,10 @@ fn block_for(
         &mut insts,
         known,
         Last { fresh, above },
-        entries,
-        places,
+        linkage.entries,
+        plan.places,
         frame,
-        leaf,
+        plan.leaf,
         next,
         &block.exit,
     )?;
@@ -125,18 +130,17 @@ pub(crate) fn push_block(out: &mut Vec<LongBlock>, block: LongBlock) -> Result<(
 fn emit_behind(
     alloc: Global,
     out: &mut Vec<LongBlock>,
-    places: &[BlockNumber],
-    table: &[Naming],
-    frame: &Frame,
+    plan: &Plan<'_>,
     exit: &RExit,
 ) -> Result<(), AllocError>
-    requires { IsReachable frame.now }
-    ensures { OnOk result (out.new.items ≡ out.old.items ++ behind (heads_in table.now) (λ b. slice_index places.now b) frame.now exit.now) }
+    requires { IsReachable plan.now.frame.now }
+    ensures { OnOk result (out.new.items ≡ out.old.items ++ behind (heads_in plan.now.table.now)
+        (slice_index plan.now.places.now) plan.now.frame.now exit.now) }
 {
     match exit {
         RExit::Call(_, _, to, next) => {
-            if !resumes(*to, head_at(table, *next as usize)) {
-                let second = block_after(alloc, places, frame, *to, *next)?;
+            if !resumes(*to, head_at(plan.table, *next as usize)) {
+                let second = block_after(alloc, plan.places, plan.frame, *to, *next)?;
                 push_block(out, second)?;
             }
         }
@@ -152,34 +156,28 @@ fn emit_behind(
 pub(crate) fn emit_block(
     alloc: Global,
     out: &mut Vec<LongBlock>,
-    globals: &[RGlobal],
-    starts: &[u32],
-    entries: &[BlockNumber],
-    places: &[BlockNumber],
-    table: &[Naming],
-    frame: &Frame,
-    leaf: bool,
-    parameters: u32,
+    linkage: &Linkage<'_>,
+    plan: &Plan<'_>,
     k: usize,
     j: usize,
     block: &RBlock,
 ) -> Result<(), AllocError>
-    requires number { k + count (heads_in table.now) block.now.exit ≤ UNIT_BLOCKS }
-    requires frame { IsReachable frame.now }
-    requires parameters { parameters ≤ 4 }
-    requires inside { AreInside starts.now UNIT_BYTES }
-    requires block { IsEmittable (length starts.now) block.now }
-    ensures { OnOk result (out.new.items ≡ out.old.items ++ own_block globals.now (λ a. slice_index starts.now a) (λ g. slice_index entries.now g)
-        (λ b. slice_index places.now b) leaf frame.now (head_code leaf frame.now parameters (heads_in table.now j))
-        (next_of (heads_in table.now) (λ b. slice_index places.now b) k block.now.exit) block.now ∷ behind (heads_in table.now)
-        (λ b. slice_index places.now b) frame.now block.now.exit) }
+    requires number { k + count (heads_in plan.now.table.now) block.now.exit ≤ UNIT_BLOCKS }
+    requires frame { IsReachable plan.now.frame.now }
+    requires parameters { plan.now.parameters ≤ 4 }
+    requires inside { AreInside linkage.now.starts.now UNIT_BYTES }
+    requires block { IsEmittable (length linkage.now.starts.now) block.now }
+    ensures { OnOk result (out.new.items ≡ out.old.items ++ own_block linkage.now.globals.now (slice_index linkage.now.starts.now)
+        (slice_index linkage.now.entries.now)
+        (slice_index plan.now.places.now) plan.now.leaf plan.now.frame.now (head_code plan.now.leaf plan.now.frame.now plan.now.parameters (heads_in
+        plan.now.table.now j))
+        (next_of (heads_in plan.now.table.now) (slice_index plan.now.places.now) k block.now.exit) block.now ∷ behind (heads_in plan.now.table.now)
+        (slice_index plan.now.places.now) plan.now.frame.now block.now.exit) }
 {
-    let head = head_at(table, j);
-    let next = next_at(table, places, k, &block.exit);
-    let first = block_for(
-        alloc, globals, starts, entries, places, frame, leaf, parameters, head, next, block,
-    )?;
+    let head = head_at(plan.table, j);
+    let next = next_at(plan.table, plan.places, k, &block.exit);
+    let first = block_for(alloc, linkage, plan, head, next, block)?;
     push_block(out, first)?;
-    emit_behind(alloc, out, places, table, frame, &block.exit)?;
+    emit_behind(alloc, out, plan, &block.exit)?;
     Ok(())
 }

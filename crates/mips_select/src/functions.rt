@@ -9,15 +9,16 @@ ghost use Rattle.mips_select.specs.Emittable.{AreEmittable, AreInside, AreReacha
 ghost use Rattle.mips_select.specs.Whole.{size_of_blocks, blocks_from, lead_blocks, function_size, functions_size, function_blocks, functions_blocks};
 
 use crate::code::{emit_block, push_block};
-use crate::heads::{Head, Naming, all_namings, count_of, head_at, is_leaf, lead_in};
+use crate::heads::{Head, all_namings, count_of, head_at, is_leaf, lead_in};
 use crate::numbers::{number, number_at, number_blocks};
+use crate::plan::{Linkage, Plan};
 use crate::prologue::emit_prologue;
 use mblock::{BlockNumber, Exit};
 use mips_emit::emit_constant;
 use mips_homes::Frame;
 use mips_isa::{AluOp, Plain, Reg};
 use mips_split::LongBlock;
-use rtl::{RBlock, RFunc, RGlobal};
+use rtl::{RBlock, RFunc};
 use std::alloc::{AllocError, Global};
 
 // What register 28 always holds: the middle of the first 65,536 bytes of data.
@@ -27,33 +28,25 @@ const DATA_MIDDLE: u32 = 0x1000_8000;
 fn emit_blocks(
     alloc: Global,
     out: &mut Vec<LongBlock>,
-    globals: &[RGlobal],
-    starts: &[u32],
-    entries: &[BlockNumber],
-    places: &[BlockNumber],
-    table: &[Naming],
-    frame: &Frame,
-    leaf: bool,
-    parameters: u32,
+    linkage: &Linkage<'_>,
+    plan: &Plan<'_>,
     first: usize,
     blocks: &[RBlock],
 ) -> Result<(), AllocError>
-    requires number { first + size_of_blocks (heads_in table.now) blocks.now ≤ UNIT_BLOCKS }
-    requires frame { IsReachable frame.now }
-    requires parameters { parameters ≤ 4 }
-    requires inside { AreInside starts.now UNIT_BYTES }
-    requires blocks { AreEmittable (length starts.now) blocks.now }
-    ensures { OnOk result (out.new.items ≡ out.old.items ++ blocks_from globals.now (λ a. slice_index starts.now a) (λ g. slice_index entries.now g)
-        (λ b. slice_index places.now b) leaf (heads_in table.now) frame.now parameters first 0 blocks.now) }
+    requires number { first + size_of_blocks (heads_in plan.now.table.now) blocks.now ≤ UNIT_BLOCKS }
+    requires frame { IsReachable plan.now.frame.now }
+    requires parameters { plan.now.parameters ≤ 4 }
+    requires inside { AreInside linkage.now.starts.now UNIT_BYTES }
+    requires blocks { AreEmittable (length linkage.now.starts.now) blocks.now }
+    ensures { OnOk result (out.new.items ≡ out.old.items ++ blocks_from linkage.now.globals.now (slice_index linkage.now.starts.now)
+        (slice_index linkage.now.entries.now)
+        (slice_index plan.now.places.now) plan.now.leaf (heads_in plan.now.table.now) plan.now.frame.now plan.now.parameters first 0 blocks.now) }
 {
     let mut k = first;
     for j in 0..blocks.len() {
         let block = &blocks[j];
-        emit_block(
-            alloc, out, globals, starts, entries, places, table, frame, leaf, parameters, k, j,
-            block,
-        )?;
-        k += count_of(table, &block.exit);
+        emit_block(alloc, out, linkage, plan, k, j, block)?;
+        k += count_of(plan.table, &block.exit);
     }
     Ok(())
 }
@@ -103,18 +96,17 @@ fn emit_lead(
 fn emit_function(
     alloc: Global,
     out: &mut Vec<LongBlock>,
-    globals: &[RGlobal],
-    starts: &[u32],
-    entries: &[BlockNumber],
+    linkage: &Linkage<'_>,
     frame: &Frame,
     k: usize,
     func: &RFunc,
 ) -> Result<(), AllocError>
     requires number { k + function_size func.now ≤ UNIT_BLOCKS }
     requires frame { IsReachable frame.now }
-    requires inside { AreInside starts.now UNIT_BYTES }
-    requires function { IsFunctionEmittable (length starts.now) func.now }
-    ensures { OnOk result (out.new.items ≡ out.old.items ++ function_blocks globals.now (λ a. slice_index starts.now a) (λ g. slice_index entries.now g) k
+    requires inside { AreInside linkage.now.starts.now UNIT_BYTES }
+    requires function { IsFunctionEmittable (length linkage.now.starts.now) func.now }
+    ensures { OnOk result (out.new.items ≡ out.old.items ++ function_blocks linkage.now.globals.now (slice_index linkage.now.starts.now)
+        (slice_index linkage.now.entries.now) k
         func.now frame.now) }
 {
     let blocks = func.blocks.as_slice();
@@ -127,9 +119,14 @@ fn emit_function(
     let places = numbers.as_slice();
     let start = number_at(places, 0);
     emit_lead(alloc, out, frame, leaf, n, head_at(table, 0), start)?;
-    emit_blocks(
-        alloc, out, globals, starts, entries, places, table, frame, leaf, n, first, blocks,
-    )?;
+    let plan = Plan {
+        frame,
+        leaf,
+        parameters: n,
+        table,
+        places,
+    };
+    emit_blocks(alloc, out, linkage, &plan, first, blocks)?;
     Ok(())
 }
 
@@ -137,9 +134,7 @@ fn emit_function(
 pub(crate) fn emit_functions(
     alloc: Global,
     out: &mut Vec<LongBlock>,
-    globals: &[RGlobal],
-    starts: &[u32],
-    entries: &[BlockNumber],
+    linkage: &Linkage<'_>,
     functions: &[RFunc],
     frames: &[Frame],
 ) -> Result<(), AllocError>
@@ -147,16 +142,17 @@ pub(crate) fn emit_functions(
     requires number { 2 + functions_size functions.now ≤ UNIT_BLOCKS }
     requires lengths { length frames.now ≡ length functions.now }
     requires frames { AreReachable frames.now }
-    requires inside { AreInside starts.now UNIT_BYTES }
-    requires functions { AreFunctionsEmittable (length starts.now) functions.now }
-    ensures { OnOk result (out.new.items ≡ out.old.items ++ functions_blocks globals.now (λ a. slice_index starts.now a) (λ g. slice_index entries.now g) 2
+    requires inside { AreInside linkage.now.starts.now UNIT_BYTES }
+    requires functions { AreFunctionsEmittable (length linkage.now.starts.now) functions.now }
+    ensures { OnOk result (out.new.items ≡ out.old.items ++ functions_blocks linkage.now.globals.now (slice_index linkage.now.starts.now)
+        (slice_index linkage.now.entries.now) 2
         functions.now frames.now) }
 {
     for i in 0..functions.len() {
         let func = &functions[i];
         let frame = &frames[i];
         let k = out.len();
-        emit_function(alloc, out, globals, starts, entries, frame, k, func)?;
+        emit_function(alloc, out, linkage, frame, k, func)?;
     }
     Ok(())
 }

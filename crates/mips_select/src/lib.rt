@@ -27,6 +27,7 @@ mod heads;
 mod laws;
 mod limits;
 mod numbers;
+mod plan;
 mod program;
 mod prologue;
 

@@ -13,6 +13,7 @@ use crate::functions::{emit_functions, end_block, start_block};
 use crate::globals::{globals_bytes, globals_starts};
 use crate::limits::have_room;
 use crate::numbers::{number_at, number_functions};
+use crate::plan::Linkage;
 use mblock::{BlockNumber, Unit};
 use mips_homes::{Homed, homes};
 use mips_split::{LongBlock, SelectFault, split_unit};
@@ -36,12 +37,17 @@ fn emit_program(
     let frames = homed.frames.as_slice();
     let table = globals_starts(alloc, globals)?;
     let starts = table.as_slice();
+    let linkage = Linkage {
+        globals,
+        starts,
+        entries,
+    };
     let first = start_block(alloc, number_at(entries, homed.rtl.main()))?;
     let second = end_block(alloc)?;
     let mut out = Vec::new(alloc);
     push_block(&mut out, first)?;
     push_block(&mut out, second)?;
-    emit_functions(alloc, &mut out, globals, starts, entries, functions, frames)?;
+    emit_functions(alloc, &mut out, &linkage, functions, frames)?;
     Ok(out)
 }
 

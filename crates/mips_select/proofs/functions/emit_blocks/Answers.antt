@@ -9,5 +9,5 @@ pub emit_block-requires-clause-block : goal.emit_block-requires-clause-block
 emit_block-requires-clause-block c = (c.requires.blocks).by c.loop-j.j c.index-blocks-j.result (read_at _ c.loop-j.j _ c.loop-j-test.true c.index-blocks-j.is)
 
 pub loop-j-preserved : goal.loop-j-preserved
-loop-j-preserved c = blocks_step _ _ _ _ c.args.leaf _ c.args.frame.now c.args.parameters c.loop-j.k c.count_of-k.result c.loop-j.j _ c.args.blocks.now
+loop-j-preserved c = blocks_step _ _ _ _ c.args.plan.now.leaf _ c.args.plan.now.frame.now c.args.plan.now.parameters c.loop-j.k c.count_of-k.result c.loop-j.j _ c.args.blocks.now
     c.index-blocks-j.result _ _ _ c.count_of-k.ensures.value c.loop-j-test.true c.index-blocks-j.is c.in_ok-emit_block.ensures c.loop-j.invariant

@@ -6,6 +6,8 @@ use Rattle.mips_select.proofs.functions.emit_functions.Given as goal
 abbrev pub invariant-loop-i : goal.invariant-loop-i
 invariant-loop-i l =
     (length l.out.items + functions_size (drop l.i l.functions) ≡ 2 + functions_size l.functions)
-    × (l.out.items ++ functions_blocks l.globals (λ a. slice_index l.starts a) (λ g. slice_index l.entries g) (length l.out.items) (drop l.i l.functions)
+    × (l.out.items ++ functions_blocks l.linkage.globals.now (slice_index l.linkage.starts.now)
+    (slice_index l.linkage.entries.now) (length l.out.items) (drop l.i l.functions)
     (drop l.i l.frames)
-    ≡ l.fn.out.items ++ functions_blocks l.globals (λ a. slice_index l.starts a) (λ g. slice_index l.entries g) 2 l.functions l.frames)
+    ≡ l.fn.out.items ++ functions_blocks l.linkage.globals.now (slice_index l.linkage.starts.now)
+    (slice_index l.linkage.entries.now) 2 l.functions l.frames)
