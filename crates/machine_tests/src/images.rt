@@ -182,6 +182,39 @@ fn a_long_run_goes_on(rt: HostRuntime) -> Result<(), Fail> {
     Ok(())
 }
 
+// A count from 3,333,331 down to 0, of three words a turn, between two words that set it and five behind it.
+const TEN_MILLION: [u32; 10] = [
+    // lui $8,50; ori $8,$8,56531
+    0x3c08_0032,
+    0x3508_dcd3,
+    // addiu $8,$8,-1; bgtz $8 to the word before; nop
+    0x2508_ffff,
+    0x1d00_fffe,
+    0,
+    // two times nop; addiu $4,$0,5; addiu $2,$0,10; syscall
+    0,
+    0,
+    0x2404_0005,
+    0x2402_000a,
+    0x0000_000c,
+];
+
+#[test]
+fn ten_million_words_run_and_no_more(rt: HostRuntime) -> Result<(), Fail> {
+    let words = TEN_MILLION.as_slice();
+    for (steps, end) in [
+        (9_999_999, Ending::More),
+        (10_000_000, Ending::Halt(5)),
+        (10_000_001, Ending::Halt(5)),
+    ] {
+        assert!(rt;
+            comes_to(rt.alloc(), words, &[0; 0], steps, end, &[0; 0])?,
+            "at {steps}"
+        );
+    }
+    Ok(())
+}
+
 // The fault of bytes that are changed at a place.
 fn fault_at(alloc: Global, at: usize, byte: u8) -> Result<Option<ImageFault>, AllocError> {
     let mut bytes = bytes_of(alloc, &[0x0000_000c], &[7])?;

@@ -1,9 +1,11 @@
-//! Worked examples of the machine half: images that are read, written and run, listings, splitting, units, and units that
-//! become images.
+//! Worked examples of the machine half: images that are read, written, changed and run, listings, splitting, units, units
+//! that become images, and memory that is refused to these calls.
 #![tactic(auto)]
 
 #[cfg(test)]
 mod assembled;
+#[cfg(test)]
+mod changes;
 #[cfg(test)]
 mod images;
 #[cfg(test)]
@@ -12,6 +14,8 @@ mod limits;
 mod listing;
 #[cfg(test)]
 mod pieces;
+#[cfg(test)]
+mod refused_memory;
 #[cfg(test)]
 mod scheduled;
 #[cfg(test)]

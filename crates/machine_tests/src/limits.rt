@@ -41,8 +41,8 @@ fn push_last(alloc: Global, blocks: &mut Vec<Block>, words: usize) -> Result<(),
     Ok(())
 }
 
-// Functions of so many words each.
-fn unit_of(alloc: Global, functions: &[usize]) -> Result<Option<Unit>, AllocError> {
+/// Functions of so many words each.
+pub fn unit_of(alloc: Global, functions: &[usize]) -> Result<Option<Unit>, AllocError> {
     let mut blocks = Vec::new(alloc);
     let mut owner = Vec::new(alloc);
     for words in functions {
