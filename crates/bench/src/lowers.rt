@@ -1,7 +1,9 @@
-// How long a text of 1 MiB takes to be lowered against one of 64 KiB, and what programs are lowered to.
+// How long a text of 1 MiB takes to be lowered, and its code to be selected, against one of 64 KiB, and what programs become.
 
+use crate::builds::DEPTH;
 use c_front::read;
 use c_types::check;
+use mips_select::select;
 use rtl::{RBlock, RExit, RInst, Rtl};
 use rtl_lower::lower;
 use std::alloc::{AllocError, Global};
@@ -17,7 +19,7 @@ const FUNCTIONS: usize = 50;
 const AROUND: usize = 50;
 
 /// A program of functions with loops, of at most so many bytes and not many less.
-fn program_text(alloc: Global, length: usize) -> Result<String, AllocError> {
+pub(crate) fn program_text(alloc: Global, length: usize) -> Result<String, AllocError> {
     let turns = (length / FUNCTIONS).saturating_sub(AROUND) / TURN.len();
     let mut text = String::from_str(alloc, "int a[64];int f(int n,unsigned m){return n+1;}\n")?;
     for number in 0..FUNCTIONS {
@@ -86,7 +88,7 @@ fn measured(program: &Rtl) -> Sizes {
     all
 }
 
-/// Lowers a text and says what came of it, with figures how long reading with types and lowering took.
+/// Lowers a text, selects its code and says what came of it, with figures how long it took.
 fn show_text(rt: &HostRuntime, name: &str, text: &[u8], figures: bool) -> anyhow::Result<()> {
     let alloc = rt.alloc();
     let start = Instant::now(rt)?;
@@ -101,11 +103,16 @@ fn show_text(rt: &HostRuntime, name: &str, text: &[u8], figures: bool) -> anyhow
         registers,
     } = measured(&lowered);
     println!(rt; "{name}: {blocks} blocks, {insts} instructions, {registers} pseudo-registers")?;
+    let then = Instant::now(rt)?;
+    let unit = select(alloc, &lowered, DEPTH)?;
+    let selected = then.elapsed(rt)?;
+    println!(rt; "  {} blocks of instructions", unit.blocks().len())?;
     if figures {
         println!(rt;
-            "  read and typed in {} microseconds, lowered in {}",
+            "  read and typed in {} microseconds, lowered in {}, selected in {}",
             front.as_micros(),
-            took.as_micros()
+            took.as_micros(),
+            selected.as_micros()
         )?;
     }
     Ok(())

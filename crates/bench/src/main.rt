@@ -4,15 +4,23 @@
 //! - `check`: the longest check text against one of an eighth of it
 //! - `front`: the reader on 1 MiB of C against 64 KiB; `front ifs N` and `front parens N` read N nested statements or
 //!   parentheses, to see what stack they take
-//! - `lower`: lowering 1 MiB of C against 64 KiB; `lower FILE..` says what each file is lowered to
+//! - `lower`: lowering and selection of 1 MiB of C against 64 KiB; `lower FILE..` says what becomes of each file
 //! - `run`: C programs of some million steps, by the interpreter and lowered
+//! - `build`: 1 MiB of C built plainly, and scheduled by 1, 2 and 4 workers; `build FILE..` says how large the image of
+//!   each file is
+//! - `phase`: blocks of 16 to 512 instructions checked by 1, 2 and 4 workers
+//! - `image`: eight C programs: the words that their images run, plain and scheduled
 //! - `table`: interns a second by 1, 2 and 4 threads
 #![tactic(auto)]
 
+mod builds;
 mod checks;
 mod fronts;
+mod images;
 mod lowers;
+mod phases;
 mod programs;
+mod statements;
 mod tables;
 mod worker;
 
@@ -26,6 +34,9 @@ fn main(rt: HostRuntime) -> anyhow::Result<()> {
         fronts::show(&rt, false)?;
         lowers::show(&rt, false)?;
         programs::show(&rt, false)?;
+        builds::show(&rt, false)?;
+        phases::show(&rt, false)?;
+        images::show(&rt, false)?;
         return tables::show(&rt, false);
     };
     match figure.as_str() {
@@ -40,7 +51,14 @@ fn main(rt: HostRuntime) -> anyhow::Result<()> {
             [] => Ok(()),
         },
         "run" => programs::show(&rt, true),
+        "build" => match words.as_slice() {
+            [_] => builds::show(&rt, true),
+            [_, names @ ..] => builds::files(&rt, names),
+            [] => Ok(()),
+        },
+        "phase" => phases::show(&rt, true),
+        "image" => images::show(&rt, true),
         "table" => tables::show(&rt, true),
-        _ => bail!("the words are check, front, lower, run and table"),
+        _ => bail!("the words are check, front, lower, run, build, phase, image and table"),
     }
 }

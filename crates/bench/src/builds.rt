@@ -1,0 +1,107 @@
+// How long a text of 1 MiB takes to be built: plainly, and scheduled by 1, 2 and 4 workers over one table; and how large
+// the images of files are.
+
+ghost use Rattle.std.specs.Prelude.{◌≡◌, IfOk};
+
+use crate::lowers::program_text;
+use crate::statements::in_program;
+use anyhow::bail;
+use c_front::read;
+use delay_filler::FilledOrder;
+use driver::{BuildOpts, Built, build, build_one, build_plain};
+use image::read_image;
+use list_scheduler::ListOrder;
+use sched_phase::PhaseOpts;
+use std::fs;
+use std::sync::Wait;
+use std::thread::Threads;
+use std::time::{Clock, Instant};
+use steal_pool::Open;
+
+/// For so many active calls at most.
+pub(crate) const DEPTH: u32 = 256;
+
+/// As `mcc build` builds by default, with so many workers.
+pub(crate) fn options(workers: u64) -> anyhow::Result<BuildOpts>
+    ensures { IfOk result (λ o. o.depth ≡ 256) }
+{
+    match PhaseOpts::new(workers, 65_536, 1_024) {
+        Some(phase) => Ok(BuildOpts {
+            depth: DEPTH,
+            phase,
+        }),
+        None => bail!("{workers} workers are out of range"),
+    }
+}
+
+/// How a text is built.
+#[derive(Clone, Copy)]
+enum Way {
+    Plain,
+    Scheduled { workers: u64 },
+}
+
+const WAYS: [Way; 4] = [
+    Way::Plain,
+    Way::Scheduled { workers: 1 },
+    Way::Scheduled { workers: 2 },
+    Way::Scheduled { workers: 4 },
+];
+
+fn built<R: Threads + Wait + Sync + AllocGlobal>(
+    rt: &R,
+    text: &[u8],
+    way: Way,
+) -> anyhow::Result<Built> {
+    let alloc = rt.alloc();
+    match way {
+        Way::Plain => Ok(build_plain(alloc, text, DEPTH)?),
+        Way::Scheduled { workers } => {
+            let scheduler = FilledOrder(ListOrder);
+            Ok(build(rt, alloc, text, &options(workers)?, &scheduler, &Open)?)
+        }
+    }
+}
+
+/// What each way of building comes to, and with figures how long it took.
+pub(crate) fn show<R: Threads + Wait + Sync + Clock + Print + AllocGlobal>(
+    rt: &R,
+    figures: bool,
+) -> anyhow::Result<()> {
+    let length = if figures { 1_048_576 } else { 16_384 };
+    let text = program_text(rt.alloc(), length)?;
+    for way in WAYS {
+        let start = Instant::now(rt)?;
+        let built = built(rt, text.as_bytes(), way)?;
+        let took = start.elapsed(rt)?;
+        let (blocks, bytes, report) = (built.blocks, built.image.len(), built.report);
+        match way {
+            Way::Plain => println!(rt; "plain: {blocks} blocks, {bytes} bytes")?,
+            Way::Scheduled { workers } => {
+                println!(rt; "{workers} workers: {blocks} blocks, {bytes} bytes, {report}")?;
+            }
+        }
+        if figures {
+            println!(rt; "  {} microseconds", took.as_micros())?;
+        }
+    }
+    Ok(())
+}
+
+/// How many words of code each file of C becomes, plain and scheduled, and how many statements it has.
+pub(crate) fn files(rt: &HostRuntime, names: &[String]) -> anyhow::Result<()> {
+    let alloc = rt.alloc();
+    for name in names {
+        let bytes = fs::read(rt, name.as_str())?;
+        let text = bytes.as_slice();
+        let statements = in_program(&read(alloc, text)?);
+        let plain = build_plain(alloc, text, DEPTH)?;
+        let scheduled = build_one(alloc, text, &options(1)?, &FilledOrder(ListOrder))?;
+        let before = read_image(alloc, plain.image.as_slice())?.code().len();
+        let after = read_image(alloc, scheduled.image.as_slice())?.code().len();
+        println!(rt;
+            "{name}: {statements} statements, {before} words of code plain, {after} scheduled"
+        )?;
+    }
+    Ok(())
+}

@@ -1,0 +1,110 @@
+// How fast blocks are checked: units of blocks of 16 to 512 instructions, whose scheduler proposes each block's plain order,
+// by 1, 2 and 4 workers over one table of one size. Each block begins with a number of its own, so that most of its terms are its own.
+
+ghost use Rattle.std.specs.Prelude.{⊤};
+
+use anyhow::bail;
+use image::Counts;
+use list_scheduler::Reorder;
+use mblock::{Block, BlockNumber, Order, Unit, plain};
+use sched_phase::{PhaseOpts, schedule_all, schedule_plain};
+use std::alloc::{AllocError, Global};
+use std::fmt::Write;
+use std::sync::Wait;
+use std::thread::Threads;
+use std::time::{Clock, Instant};
+use steal_pool::Open;
+
+/// Proposes plain orders.
+struct Own;
+
+impl Reorder for Own {
+    ghost proposes = { λ scheduler block order. ⊤ };
+
+    fn reorder(&self, alloc: Global, block: &Block) -> Result<Order, AllocError> {
+        plain(alloc, block)
+    }
+}
+
+/// A block that adds words of the stack to its number and stores each sum, four instructions a turn.
+fn summing(alloc: Global, number: u32, turns: u32) -> anyhow::Result<Block> {
+    let mut text = String::from_str(alloc, "block\n")?;
+    let start = number % 32_768;
+    for turn in 0..turns {
+        let offset = turn % 128 * 4;
+        writeln!(text, "lw $8,{offset}($29)")?;
+        writeln!(text, "addiu $10,$9,{start}")?;
+        writeln!(text, "addu $9,$10,$8")?;
+        writeln!(text, "sw $9,{offset}($29)")?;
+    }
+    text.push_str("return\norder\nreturn\nslot nop\n")?;
+    let bytes = text.as_bytes();
+    if bytes.len() > 1_048_576 {
+        bail!("a long text");
+    }
+    match check_text::read(alloc, bytes) {
+        Ok(read) => Ok(read.block),
+        Err(_) => bail!("no block"),
+    }
+}
+
+/// So many functions of one such block.
+fn unit_of(alloc: Global, blocks: u32, turns: u32) -> anyhow::Result<Unit> {
+    let mut all = Vec::new(alloc);
+    let mut owner = Vec::new(alloc);
+    for number in 0..blocks {
+        let Some(first) = BlockNumber::new(number) else {
+            bail!("too many blocks");
+        };
+        all.push(summing(alloc, number, turns)?)?;
+        owner.push(first)?;
+    }
+    match Unit::new(all, owner, Vec::new(alloc)) {
+        Some(unit) => Ok(unit),
+        None => bail!("no unit"),
+    }
+}
+
+/// What a phase over the unit counts, and how many microseconds the fastest of so many took.
+fn fastest<R: Threads + Wait + Sync + Clock + AllocGlobal>(
+    rt: &R,
+    unit: &Unit,
+    options: PhaseOpts,
+    rounds: u32,
+) -> anyhow::Result<(Counts, u128)> {
+    let mut least = u128::MAX;
+    let mut counts = schedule_plain(rt.alloc(), unit)?.report();
+    for _ in 0..rounds {
+        let start = Instant::now(rt)?;
+        let scheduled = schedule_all(rt, rt.alloc(), unit, options, &Own, &Open)?;
+        least = least.min(start.elapsed(rt)?.as_micros());
+        counts = scheduled.report();
+    }
+    Ok((counts, least))
+}
+
+/// What the checks of units of blocks of each length come to, and with figures how long the fastest of seven took.
+pub(crate) fn show<R: Threads + Wait + Sync + Clock + Print + AllocGlobal>(
+    rt: &R,
+    figures: bool,
+) -> anyhow::Result<()> {
+    let (all, nodes, rounds) = if figures {
+        (262_144, 1_048_576, 7)
+    } else {
+        (2_048, 16_384, 1)
+    };
+    for length in [16, 64, 256, 512] {
+        let unit = unit_of(rt.alloc(), all / length, length / 4)?;
+        for (workers, share) in [(1, nodes), (2, nodes / 2), (4, nodes / 4)] {
+            let Some(options) = PhaseOpts::new(workers, share, 65_536) else {
+                bail!("{workers} workers are out of range");
+            };
+            let (counts, microseconds) = fastest(rt, &unit, options, rounds)?;
+            println!(rt; "blocks of {length} instructions, {workers} workers: {counts}")?;
+            if figures {
+                println!(rt; "  {microseconds} microseconds")?;
+            }
+        }
+    }
+    Ok(())
+}
