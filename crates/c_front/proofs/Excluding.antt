@@ -28,7 +28,7 @@ excluded (bad_syntax a b l w) p n s =
     let same = lexes-once s.lexes _ _ l in
     let P : List Token → Type 0 = λ x. Spells x p in
     w.none p (subst P same.0 s.spells)
-excluded no_memory p n s = n refl
+excluded (no_memory _ _) p n s = n refl
 
 one-byte : (text : List ℕ) (k j : ℕ) → IsBadByte text k → IsBadByte text j → k ≡ j
 one-byte text k j p q = by-order k j (λ lt. true-false (q.2 k lt) p.1) (λ lt. true-false (p.2 j lt) q.1)
@@ -46,25 +46,25 @@ one-syntax text ts us ks js k j l m p q =
 -- other than want of memory a text has one fault at most, at one place
 pub one-fault : {text : List ℕ} {k : FrontFaultKind} {at : ℕ} → IsTextFault text k at → (j : FrontFaultKind) (n : ℕ) → IsTextFault text j n → (k ≡ NoMemory → ⊥)
     → (j ≡ NoMemory → ⊥) → (k ≡ j) × (at ≡ n)
-one-fault no_memory j n g a b = absurd (a refl)
+one-fault (no_memory _ _) j n g a b = absurd (a refl)
 one-fault (too_long h) _ _ (too_long i) a b = (refl, refl)
 one-fault (too_long h) _ _ (bad_byte s w) a b = absurd (omega (arith, h, s))
 one-fault (too_long h) _ _ (bad_token s c w) a b = absurd (omega (arith, h, s))
 one-fault (too_long h) _ _ (bad_syntax s c l w) a b = absurd (omega (arith, h, s))
-one-fault (too_long h) _ _ no_memory a b = absurd (b refl)
+one-fault (too_long h) _ _ (no_memory _ _) a b = absurd (b refl)
 one-fault (bad_byte s w) _ _ (too_long i) a b = absurd (omega (arith, i, s))
 one-fault {text = text} (bad_byte {k = k} s w) _ _ (bad_byte {k = j} t x) a b = (refl, one-byte text k j w x)
 one-fault (bad_byte {k = k} s w) _ _ (bad_token t c x) a b = absurd (true-false (c k w.0) w.1)
 one-fault (bad_byte {k = k} s w) _ _ (bad_syntax t c l x) a b = absurd (true-false (c k w.0) w.1)
-one-fault (bad_byte s w) _ _ no_memory a b = absurd (b refl)
+one-fault (bad_byte s w) _ _ (no_memory _ _) a b = absurd (b refl)
 one-fault (bad_token s c w) _ _ (too_long i) a b = absurd (omega (arith, i, s))
 one-fault (bad_token s c w) _ _ (bad_byte {k = j} t x) a b = absurd (true-false (c j x.0) x.1)
 one-fault (bad_token s c w) _ _ (bad_token {r = q} {k = j} t d x) a b = let same = stops-once w q j x in (ap refusal_kind same.0, same.1)
 one-fault (bad_token s c w) _ _ (bad_syntax {tokens = ts} {places = ks} t d l x) a b = absurd (never-lexes w ts ks l)
-one-fault (bad_token s c w) _ _ no_memory a b = absurd (b refl)
+one-fault (bad_token s c w) _ _ (no_memory _ _) a b = absurd (b refl)
 one-fault (bad_syntax s c l w) _ _ (too_long i) a b = absurd (omega (arith, i, s))
 one-fault (bad_syntax s c l w) _ _ (bad_byte {k = j} t x) a b = absurd (true-false (c j x.0) x.1)
 one-fault (bad_syntax {tokens = ts} {places = ks} s c l w) _ _ (bad_token t d x) a b = absurd (never-lexes x ts ks l)
 one-fault {text = text} (bad_syntax {tokens = ts} {places = ks} {k = k} s c l w) _ _ (bad_syntax {tokens = us} {places = js} {k = j} t d m x) a b =
     (refl, one-syntax text ts us ks js k j l m w x)
-one-fault (bad_syntax s c l w) _ _ no_memory a b = absurd (b refl)
+one-fault (bad_syntax s c l w) _ _ (no_memory _ _) a b = absurd (b refl)

@@ -15,7 +15,7 @@ use Rattle.c_front.specs.Faults.{lexical_fault, syntactic_fault}
 lexical : (text : List ℕ) (f : LexFault) → length text ≤ MAX_TEXT → AllText text → IsLexFault text f
     → IsTextFault text (lexical_fault (length text) f).kind (lexical_fault (length text) f).at
 lexical text (Refused r k) a b h = bad_token a b h
-lexical text NoMemory a b h = no_memory
+lexical text NoMemory a b h = no_memory a b
 
 pub lexical-is : (text : List ℕ) (f : LexFault) (r : FrontFault) → length text ≤ MAX_TEXT → AllText text → IsLexFault text f → r ≡ lexical_fault (length text) f
     → IsTextFault text r.kind r.at
@@ -25,7 +25,7 @@ syntactic : (text : List ℕ) (tokens : List Token) (places : List ℕ) (f : Syn
     → IsFault tokens f →
     IsTextFault text (syntactic_fault (length text) places f).kind (syntactic_fault (length text) places f).at
 syntactic text tokens places (Wrong k) a b l h = bad_syntax a b l h
-syntactic text tokens places OutOfMemory a b l h = no_memory
+syntactic text tokens places OutOfMemory a b l h = no_memory a b
 
 pub syntactic-is : (text : List ℕ) (tokens ts : List Token) (places ks : List ℕ) (f : SyntaxFault) (r : FrontFault) → length text ≤ MAX_TEXT → AllText text
     → Lexes 0 text [] tokens places →

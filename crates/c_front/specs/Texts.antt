@@ -40,14 +40,15 @@ refusal_kind BadToken = TokenFault
 refusal_kind BadConstant = Constant
 refusal_kind BadSize = Size
 
--- why a text is refused, and where, in the order of the tests; want of memory is told at the text's length
+-- why a text is refused, and where, in the order of the tests; want of memory is told at the text's length, and not before
+-- length and bytes are tested
 pub data IsTextFault (text : List ℕ) : FrontFaultKind → ℕ → Type 0 where
   too_long : MAX_TEXT < length text → IsTextFault text Size MAX_TEXT
   bad_byte : {k : ℕ} → length text ≤ MAX_TEXT → IsBadByte text k → IsTextFault text Byte k
   bad_token : {r : Refusal} {k : ℕ} → length text ≤ MAX_TEXT → AllText text → LexStops 0 text [] r k → IsTextFault text (refusal_kind r) k
   bad_syntax : {tokens : List Token} {places : List ℕ} {k : ℕ} → length text ≤ MAX_TEXT → AllText text → Lexes 0 text [] tokens places → IsFirstWrong tokens k →
       IsTextFault text Syntax (place_or (length text) places k)
-  no_memory : IsTextFault text NoMemory (length text)
+  no_memory : length text ≤ MAX_TEXT → AllText text → IsTextFault text NoMemory (length text)
 
 -- the spelling of a name: its bytes in the text
 abbrev pub spelling_of : List ℕ → ℕ → ℕ → List ℕ

@@ -132,9 +132,9 @@ image_fault bytes =
     else (if word_at_byte bytes 4 == 2 then second_version_fault bytes
     else Some OtherVersion)))
 
--- bytes are refused for their first fault, or for want of memory
+-- bytes are refused for their first fault, or those of an image for want of memory
 abbrev pub IsImageFault : List ℕ → ImageFault → Type 0
-IsImageFault bytes NoMemory = Unit {0}
+IsImageFault bytes NoMemory = image_fault bytes ≡ None
 IsImageFault bytes f = image_fault bytes ≡ Some f
 
 abbrev pub EachImageHasItsBytes : Type 0

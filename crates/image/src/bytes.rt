@@ -222,6 +222,7 @@ pub fn read_image(alloc: Global, bytes: &[u8]) -> Result<Image, ImageFault>
     ensures read { IfOk result (λ i. IsImage i × (image_bytes i ≡ bytes.now)) }
     ensures each { (i : ImageParts) → IsImage i → image_bytes i ≡ bytes.now
         → MatchResult result (λ r. r ≡ i) (λ e. e ≡ Fault.NoMemory) }
+    ensures passed { IfOk result (λ _. image_fault bytes.now ≡ None) }
     ensures fault { IfErr result (IsImageFault bytes.now) }
 {
     if let Some(fault) = image_fault(bytes) {

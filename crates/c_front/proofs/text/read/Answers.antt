@@ -12,7 +12,7 @@ pub returns-in-Err-clause-err : goal.returns-in-Err-clause-err
 returns-in-Err-clause-err c = lexical-is _ _ _ c.if-text-gt-MAX_TEXT.false c.in_default.ensures.none c.in-Err.ensures.err c.lexical.ensures
 
 pub returns-in-Ok-parse-clause-err : goal.returns-in-Ok-parse-clause-err
-returns-in-Ok-parse-clause-err c = no_memory
+returns-in-Ok-parse-clause-err c = no_memory c.if-text-gt-MAX_TEXT.false c.in_default.ensures.none
 
 pub returns-clause-err : goal.returns-clause-err
 returns-clause-err c = syntactic-is _ _ _ _ _ _ _ c.if-text-gt-MAX_TEXT.false c.in_default.ensures.none c.in-Ok.ensures.ok c.deref.ensures.value
