@@ -17,7 +17,7 @@ use std::mem;
 use std::sync::Wait;
 use std::thread::Threads;
 use steal_pool::{Gate, run};
-use term_table::{Pass, TermTable};
+use term_table::{OpenFault, Pass, TermTable};
 
 // A table by the options, for so many workers.
 fn opened(
@@ -31,13 +31,15 @@ fn opened(
 {
     match TermTable::open(alloc, workers, options.nodes(), options.heads()) {
         Ok(opened) => Ok(opened),
-        Err(_) => Err(AllocError),
+        Err(OpenFault::NoMemory) => Err(AllocError),
+        Err(OpenFault::Range) => unreachable!(),
     }
 }
 
 /// An order for each block of a unit: the one that the scheduler proposes, where the validator finds that it means its
 /// block, else the plain one. The options' workers do so at once, over one table; the gate is told of each block's number
-/// just before its work begins. A block whose worker or memory was refused is counted as missed. An Err is refused memory.
+/// just before its work begins. A block whose scheduler or validator was refused memory is counted as that, one that no worker
+/// came to as missed. An Err is refused memory.
 pub fn schedule_all<'a, T: Threads + Wait + Sync, R: Reorder + Sync, G: Gate + Sync>(
     rt: &T,
     alloc: Global,
@@ -116,7 +118,7 @@ pub fn schedule_one<'a, R: Reorder>(
 {
     let (table, mut passes) = opened(alloc, 1, options)?;
     let Some(mut pass) = passes.pop() else {
-        return Err(AllocError);
+        unreachable!()
     };
     one_by_one(alloc, unit, &table, &mut pass, reorder)
 }

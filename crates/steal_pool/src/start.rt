@@ -36,7 +36,7 @@ pub fn members<K: Fact>(alloc: Global, count: usize, n: usize) -> Result<Vec<Mem
     let mut members = Vec::new(alloc);
     for own in workers {
         let Some(others) = ways.pop() else {
-            return Err(AllocError);
+            unreachable!()
         };
         members.push(Member { own, others })?;
     }
