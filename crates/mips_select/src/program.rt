@@ -3,6 +3,7 @@
 ghost use Rattle.std.specs.Prelude.{◌≡◌, ◌+◌, ◌≤◌, IfOk, IfErr};
 ghost use Rattle.mblock.specs.declared.limits.TheConstants.{UNIT_BLOCKS};
 ghost use Rattle.mips_homes.specs.Choice.{AreChoices};
+ghost use Rattle.mips_select.specs.Data.{data_bytes};
 ghost use Rattle.mips_select.specs.Emittable.{AreReachable};
 ghost use Rattle.mips_select.specs.Limits.{FramesFit};
 ghost use Rattle.mips_select.specs.Whole.{functions_size, entries_from, program_blocks};
@@ -52,10 +53,11 @@ fn emit_program(
 }
 
 /// The unit of a program, whose stack holds `depth` activations: wherever the program isn't wrong, the unit comes to the same
-/// end and output. Limit where a frame would have more than 32,000 bytes, `depth` of the largest frames more than 16 MiB, or
+/// end and output. Its data are the globals' bytes, each global at a multiple of 4. Limit where a frame would have more than 32,000 bytes, `depth` of the largest frames more than 16 MiB, or
 /// the unit more than 1,048,576 blocks.
 pub fn select(alloc: Global, rtl: &Rtl, depth: u32) -> Result<Unit, SelectFault>
     ensures runs { IfOk result (λ u. KeepsRuns rtl.now depth u) }
+    ensures data { IfOk result (λ u. u.globals ≡ data_bytes rtl.now.globals) }
     ensures within { IfOk result (λ _. FramesFit rtl.now depth) }
     ensures limit { IfErr result (λ e. e ≡ SelectFault.Limit → (FramesFit rtl.now depth → IsBeyond rtl.now)) }
 {
