@@ -1,7 +1,7 @@
 -- An error and a subcommand along equations.
-use Rattle.std.proofs.Common.{◌≡◌, ◌∙◌, Option, Some, Result, Ok, Err, IfErr, IsErrAnd, List, true, subst, sym}
+use Rattle.std.proofs.Common.{◌≡◌, ◌∙◌, Option, Result, Ok, Err, IfErr, List, true, subst, sym}
 use Rattle.clap.specs.declared.error.Error.{Error}
-use Rattle.clap.specs.Words.{App, HasMatchesOf, Row, Text, is_simple, subcommand_of, subcommand_rows_of, takes}
+use Rattle.clap.specs.Words.{App, HasMatchesOf, Row, Text, is_simple, kind_of, subcommand_of, subcommand_rows_of, takes}
 use Rattle.clap.specs.declared.parser.matches.ArgMatches.{ArgMatches}
 use Rattle.clap.specs.declared.error.ErrorKind.{ErrorKind}
 use Rattle.clap.specs.declared.error.ErrorKind.TheVariants.{OutOfMemory}
@@ -10,10 +10,11 @@ use Rattle.clap.specs.declared.error.ErrorKind.TheVariants.{OutOfMemory}
 pub refused_moves : (a b : App) (ws : List Text) (k : ErrorKind) → a ≡ b → (takes a ws ≡ true → k ≡ OutOfMemory) → takes b ws ≡ true → k ≡ OutOfMemory
 refused_moves a b ws k e h t = h (subst (λ (x : App). takes x ws ≡ true) (sym e) t)
 
--- what holds of an error holds of the result that is this error
-pub err_of : {T : Type 0} (r : Result T Error) (x : Error) (q : Error → Type 0) → IsErrAnd r (λ e. e ≡ x) → q x → IfErr r q
-err_of (Ok v) x q h holds = absurd h
-err_of (Err e) x q h holds = subst q (sym h) holds
+-- the same of a result
+pub refused_of : {T : Type 0} (a b : App) (ws : List Text) (r : Result T Error) → a ≡ b
+    → IfErr r (λ e. takes a ws ≡ true → kind_of e ≡ OutOfMemory) → IfErr r (λ e. takes b ws ≡ true → kind_of e ≡ OutOfMemory)
+refused_of a b ws (Ok v) same h = h
+refused_of a b ws (Err e) same h = refused_moves a b ws (kind_of e) same h
 
 -- the subcommand that was found is the one that the words ask for
 pub subcommand_moves : (a b : App) (ws : List Text) (m : ArgMatches) (r : Option (Text × List Row)) → a ≡ b → is_simple b ≡ true

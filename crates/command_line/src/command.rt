@@ -1,5 +1,5 @@
 /// A command of the program with its values.
-#[derive(Clone, Copy, Debug)]
+#[derive(Clone, Copy)]
 pub enum Command<'a> {
     /// The verdict on the check text of a file.
     Check {

@@ -1,13 +1,12 @@
 // The grammar of the command line, with its help.
 
 ghost use Rattle.std.specs.Prelude.{◌≡◌, false, IfOk};
-ghost use Rattle.clap.specs.declared.builder.command.Command.TheViews.{out-Command};
-ghost use Rattle.clap.specs.Words.{app_of, rule_of};
-ghost use Rattle.command_line.specs.Commands.{build_app, building_app, check_app, checking_app, files_app, flag_rule, interp_app, interpreting_app, list_app, mcc_app, plain_app};
-ghost use Rattle.command_line.specs.Commands.{number_rule, required_rule, run_app, running_app, source_app};
+ghost use Rattle.clap.specs.Words.{app_of};
+ghost use Rattle.command_line.specs.Commands.{build_app, building_app, check_app, checking_app, files_app, interp_app, interpreting_app, list_app, mcc_app, plain_app};
+ghost use Rattle.command_line.specs.Commands.{run_app, running_app, source_app};
 
-use clap::builder::ValueParser;
-use clap::{Arg, ArgAction, Command as CommandLine};
+use crate::parts::CommandBuilder;
+use clap::Command as CommandLine;
 use std::alloc::{AllocError, Global};
 
 const CHECK_HELP: &str = "\
@@ -102,160 +101,139 @@ Examples: mcc check crates/example_files/data/slot-filled.check
           mcc interp crates/example_files/data/squares.c
           mcc build crates/example_files/data/squares.c squares.image --plain";
 
-/// An argument by its place, which must be there.
-fn required<'a>(alloc: Global, id: &'a str, about: &'a str) -> Arg<'a>
-    ensures rule { rule_of result ≡ required_rule id.entry.now }
-    ensures local { result.global ≡ false }
+fn check_command<'a, C: CommandBuilder<'a>>(alloc: Global) -> Result<C, AllocError>
+    ensures app { IfOk result (λ c. C.app c ≡ check_app) }
+    ensures local { IfOk result (λ c. C.has_globals c ≡ false) }
 {
-    Arg::new(alloc, id)
-        .required(true)
-        .action(ArgAction::Set)
-        .help(about)
+    let command = C::named(
+        alloc,
+        "check",
+        "Says whether an order may stand for a block",
+        CHECK_HELP,
+    );
+    command.required(alloc, "FILE", "The check text")
 }
 
-fn check_command<'a>(alloc: Global) -> Result<CommandLine<'a>, AllocError>
-    ensures app { IfOk result (λ c. app_of c ≡ check_app) }
-    ensures local { IfOk result (λ c. (out-Command c).has_globals ≡ false) }
+fn source_command<'a, C: CommandBuilder<'a>>(alloc: Global) -> Result<C, AllocError>
+    ensures app { IfOk result (λ c. C.app c ≡ source_app) }
+    ensures local { IfOk result (λ c. C.has_globals c ≡ false) }
 {
-    CommandLine::new(alloc, "check")
-        .about("Says whether an order may stand for a block")
-        .after_help(CHECK_HELP)
-        .arg(required(alloc, "FILE", "The check text"))
+    let command = C::named(
+        alloc,
+        "interp",
+        "Runs a C program by its meaning",
+        INTERP_HELP,
+    );
+    command.required(alloc, "SOURCE", "The C program")
 }
 
-/// The option `--id N` with N from low to high.
-fn number<'a>(alloc: Global, id: &'a str, low: u64, high: u64, about: &'a str) -> Arg<'a>
-    ensures rule { rule_of result ≡ number_rule id.entry.now low high }
-    ensures local { result.global ≡ false }
+fn interp_command<'a, C: CommandBuilder<'a>>(alloc: Global) -> Result<C, AllocError>
+    ensures app { IfOk result (λ c. C.app c ≡ interp_app) }
+    ensures local { IfOk result (λ c. C.has_globals c ≡ false) }
 {
-    Arg::new(alloc, id)
-        .long(id)
-        .action(ArgAction::Set)
-        .value_parser(ValueParser::unsigned(low, high))
-        .help(about)
+    let command: C = source_command(alloc)?;
+    let command = command.number(alloc, "depth", 1, 4096, DEPTH_HELP)?;
+    command.number(alloc, "steps", 0, 4294967295, STEPS_HELP)
 }
 
-fn source_command<'a>(alloc: Global) -> Result<CommandLine<'a>, AllocError>
-    ensures app { IfOk result (λ c. app_of c ≡ source_app) }
-    ensures local { IfOk result (λ c. (out-Command c).has_globals ≡ false) }
+fn files_command<'a, C: CommandBuilder<'a>>(alloc: Global) -> Result<C, AllocError>
+    ensures app { IfOk result (λ c. C.app c ≡ files_app) }
+    ensures local { IfOk result (λ c. C.has_globals c ≡ false) }
 {
-    CommandLine::new(alloc, "interp")
-        .about("Runs a C program by its meaning")
-        .after_help(INTERP_HELP)
-        .arg(required(alloc, "SOURCE", "The C program"))
+    let command = C::named(
+        alloc,
+        "build",
+        "Compiles a C program to an image for MIPS I",
+        BUILD_HELP,
+    );
+    let command = command.required(alloc, "SOURCE", "The C program")?;
+    command.required(alloc, "IMAGE", "The image, which is written")
 }
 
-fn interp_command<'a>(alloc: Global) -> Result<CommandLine<'a>, AllocError>
-    ensures app { IfOk result (λ c. app_of c ≡ interp_app) }
-    ensures local { IfOk result (λ c. (out-Command c).has_globals ≡ false) }
+fn plain_command<'a, C: CommandBuilder<'a>>(alloc: Global) -> Result<C, AllocError>
+    ensures app { IfOk result (λ c. C.app c ≡ plain_app) }
+    ensures local { IfOk result (λ c. C.has_globals c ≡ false) }
 {
-    let command = source_command(alloc)?;
-    let command = command.arg(number(alloc, "depth", 1, 4096, DEPTH_HELP))?;
-    command.arg(number(alloc, "steps", 0, 4294967295, STEPS_HELP))
+    let command: C = files_command(alloc)?;
+    let command = command.flag(alloc, "plain", PLAIN_HELP)?;
+    command.number(alloc, "depth", 1, 4096, DEPTH_HELP)
 }
 
-/// The option `--id`.
-fn flag<'a>(alloc: Global, id: &'a str, about: &'a str) -> Arg<'a>
-    ensures rule { rule_of result ≡ flag_rule id.entry.now }
-    ensures local { result.global ≡ false }
+fn build_command<'a, C: CommandBuilder<'a>>(alloc: Global) -> Result<C, AllocError>
+    ensures app { IfOk result (λ c. C.app c ≡ build_app) }
+    ensures local { IfOk result (λ c. C.has_globals c ≡ false) }
 {
-    Arg::new(alloc, id)
-        .long(id)
-        .action(ArgAction::SetTrue)
-        .help(about)
+    let command: C = plain_command(alloc)?;
+    let command = command.number(alloc, "workers", 1, 64, WORKERS_HELP)?;
+    let command = command.number(alloc, "nodes", 1, 1048576, NODES_HELP)?;
+    command.number(alloc, "heads", 1, 65536, HEADS_HELP)
 }
 
-fn files_command<'a>(alloc: Global) -> Result<CommandLine<'a>, AllocError>
-    ensures app { IfOk result (λ c. app_of c ≡ files_app) }
-    ensures local { IfOk result (λ c. (out-Command c).has_globals ≡ false) }
+fn run_command<'a, C: CommandBuilder<'a>>(alloc: Global) -> Result<C, AllocError>
+    ensures app { IfOk result (λ c. C.app c ≡ run_app) }
+    ensures local { IfOk result (λ c. C.has_globals c ≡ false) }
 {
-    let command = CommandLine::new(alloc, "build")
-        .about("Compiles a C program to an image for MIPS I")
-        .after_help(BUILD_HELP)
-        .arg(required(alloc, "SOURCE", "The C program"))?;
-    command.arg(required(alloc, "IMAGE", "The image, which is written"))
+    let command = C::named(alloc, "run", "Runs an image on the machine", RUN_HELP);
+    let command = command.required(alloc, "IMAGE", "The image")?;
+    command.number(alloc, "steps", 0, 4294967295, WORDS_HELP)
 }
 
-fn plain_command<'a>(alloc: Global) -> Result<CommandLine<'a>, AllocError>
-    ensures app { IfOk result (λ c. app_of c ≡ plain_app) }
-    ensures local { IfOk result (λ c. (out-Command c).has_globals ≡ false) }
+fn list_command<'a, C: CommandBuilder<'a>>(alloc: Global) -> Result<C, AllocError>
+    ensures app { IfOk result (λ c. C.app c ≡ list_app) }
+    ensures local { IfOk result (λ c. C.has_globals c ≡ false) }
 {
-    let command = files_command(alloc)?;
-    let command = command.arg(flag(alloc, "plain", PLAIN_HELP))?;
-    command.arg(number(alloc, "depth", 1, 4096, DEPTH_HELP))
-}
-
-fn build_command<'a>(alloc: Global) -> Result<CommandLine<'a>, AllocError>
-    ensures app { IfOk result (λ c. app_of c ≡ build_app) }
-    ensures local { IfOk result (λ c. (out-Command c).has_globals ≡ false) }
-{
-    let command = plain_command(alloc)?;
-    let command = command.arg(number(alloc, "workers", 1, 64, WORKERS_HELP))?;
-    let command = command.arg(number(alloc, "nodes", 1, 1048576, NODES_HELP))?;
-    command.arg(number(alloc, "heads", 1, 65536, HEADS_HELP))
-}
-
-fn run_command<'a>(alloc: Global) -> Result<CommandLine<'a>, AllocError>
-    ensures app { IfOk result (λ c. app_of c ≡ run_app) }
-    ensures local { IfOk result (λ c. (out-Command c).has_globals ≡ false) }
-{
-    let command = CommandLine::new(alloc, "run")
-        .about("Runs an image on the machine")
-        .after_help(RUN_HELP)
-        .arg(required(alloc, "IMAGE", "The image"))?;
-    command.arg(number(alloc, "steps", 0, 4294967295, WORDS_HELP))
-}
-
-fn list_command<'a>(alloc: Global) -> Result<CommandLine<'a>, AllocError>
-    ensures app { IfOk result (λ c. app_of c ≡ list_app) }
-    ensures local { IfOk result (λ c. (out-Command c).has_globals ≡ false) }
-{
-    CommandLine::new(alloc, "list")
-        .about("Prints the listing of an image")
-        .after_help(LIST_HELP)
-        .arg(required(alloc, "IMAGE", "The image"))
+    let command = C::named(alloc, "list", "Prints the listing of an image", LIST_HELP);
+    command.required(alloc, "IMAGE", "The image")
 }
 
 /// `mcc` with its first command.
-fn checking_command<'a>(alloc: Global) -> Result<CommandLine<'a>, AllocError>
-    ensures { IfOk result (λ c. app_of c ≡ checking_app) }
+fn checking_command<'a, C: CommandBuilder<'a>>(alloc: Global) -> Result<C, AllocError>
+    ensures { IfOk result (λ c. C.app c ≡ checking_app) }
 {
-    let check = check_command(alloc)?;
-    CommandLine::new(alloc, "mcc")
-        .about("A C compiler for MIPS I, its checks, a C interpreter and a machine")
-        .after_help(STATUS_HELP)
-        .subcommand_required(true)
-        .subcommand(check)
+    let command = C::named(
+        alloc,
+        "mcc",
+        "A C compiler for MIPS I, its checks, a C interpreter and a machine",
+        STATUS_HELP,
+    );
+    command.asking().over(check_command(alloc)?)
 }
 
 /// `mcc` with two commands.
-fn interpreting_command<'a>(alloc: Global) -> Result<CommandLine<'a>, AllocError>
-    ensures { IfOk result (λ c. app_of c ≡ interpreting_app) }
+fn interpreting_command<'a, C: CommandBuilder<'a>>(alloc: Global) -> Result<C, AllocError>
+    ensures { IfOk result (λ c. C.app c ≡ interpreting_app) }
 {
-    let command = checking_command(alloc)?;
-    command.subcommand(interp_command(alloc)?)
+    let command: C = checking_command(alloc)?;
+    command.over(interp_command(alloc)?)
 }
 
 /// `mcc` with three.
-fn building_command<'a>(alloc: Global) -> Result<CommandLine<'a>, AllocError>
-    ensures { IfOk result (λ c. app_of c ≡ building_app) }
+fn building_command<'a, C: CommandBuilder<'a>>(alloc: Global) -> Result<C, AllocError>
+    ensures { IfOk result (λ c. C.app c ≡ building_app) }
 {
-    let command = interpreting_command(alloc)?;
-    command.subcommand(build_command(alloc)?)
+    let command: C = interpreting_command(alloc)?;
+    command.over(build_command(alloc)?)
 }
 
 /// `mcc` with four.
-fn running_command<'a>(alloc: Global) -> Result<CommandLine<'a>, AllocError>
-    ensures { IfOk result (λ c. app_of c ≡ running_app) }
+fn running_command<'a, C: CommandBuilder<'a>>(alloc: Global) -> Result<C, AllocError>
+    ensures { IfOk result (λ c. C.app c ≡ running_app) }
 {
-    let command = building_command(alloc)?;
-    command.subcommand(run_command(alloc)?)
+    let command: C = building_command(alloc)?;
+    command.over(run_command(alloc)?)
+}
+
+/// `mcc` with all five.
+fn whole_command<'a, C: CommandBuilder<'a>>(alloc: Global) -> Result<C, AllocError>
+    ensures { IfOk result (λ c. C.app c ≡ mcc_app) }
+{
+    let command: C = running_command(alloc)?;
+    command.over(list_command(alloc)?)
 }
 
 /// The command line of `mcc`.
 pub fn grammar<'a>(alloc: Global) -> Result<CommandLine<'a>, AllocError>
     ensures { IfOk result (λ c. app_of c ≡ mcc_app) }
 {
-    let command = running_command(alloc)?;
-    command.subcommand(list_command(alloc)?)
+    whole_command(alloc)
 }

@@ -7,6 +7,7 @@
 
 mod command;
 mod grammar;
+mod parts;
 mod values;
 
 pub use command::Command;

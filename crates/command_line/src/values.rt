@@ -2,7 +2,7 @@
 
 ghost use Rattle.std.specs.Prelude.{◌≡◌, ℕ, ◌≤◌, true, Some, IfOk, IfErr, IfSome, map, codes};
 ghost use Rattle.clap.specs.declared.error.ErrorKind.TheVariants.{OutOfMemory};
-ghost use Rattle.clap.specs.Words.{found_of, kind_of, one_of, rows_of, subcommand_rows_of, takes};
+ghost use Rattle.clap.specs.Words.{HasMatchesOf, found_of, kind_of, one_of, rows_of, subcommand_rows_of, takes};
 ghost use Rattle.command_line.specs.Commands.{mcc_app, HasValues, IsCommand, IsFlag, IsNumber};
 
 use crate::command::Command;
@@ -98,10 +98,10 @@ fn entered_list<'a>(values: &ArgMatches<'a>) -> Option<Command<'a>>
     Some(Command::List { image })
 }
 
-fn entered<'a>(matches: &ArgMatches<'a>) -> Option<Command<'a>>
-    ensures { IfSome result (λ w. (name : _) × (rows : _) × (subcommand_rows_of matches.now ≡ Some (name, rows)) × HasValues name rows w) }
+/// The command of this name, with its values.
+fn named<'a>(name: &str, values: &ArgMatches<'a>) -> Option<Command<'a>>
+    ensures { IfSome result (HasValues name.now (rows_of (found_of values.now))) }
 {
-    let (name, values) = matches.subcommand()?;
     if name == "check" {
         entered_check(values)
     } else if name == "interp" {
@@ -117,16 +117,28 @@ fn entered<'a>(matches: &ArgMatches<'a>) -> Option<Command<'a>>
     }
 }
 
+fn entered<'a>(matches: &ArgMatches<'a>) -> Option<Command<'a>>
+    ensures { IfSome result (λ w. (name : _) × (rows : _) × (subcommand_rows_of matches.now ≡ Some (name, rows)) × HasValues name rows w) }
+{
+    let (name, values) = matches.subcommand()?;
+    named(name, values)
+}
+
+/// clap's matches of the words.
+fn matched<'a>(alloc: Global, words: &'a [&'a str]) -> Result<ArgMatches<'a>, Error>
+    ensures matches { IfOk result (HasMatchesOf mcc_app (map (λ s. s.now) words.entry.now)) }
+    ensures refused { IfErr result (λ e. takes mcc_app (map (λ s. s.now) words.entry.now) ≡ true → kind_of e ≡ OutOfMemory) }
+{
+    let command = grammar(alloc)?;
+    command.try_get_matches_from(words)
+}
+
 /// What the words ask for; the first is the program's name. An error is clap's: help, wrong words, or
 /// out of memory, which is all that it can be where clap takes the words.
 pub fn words<'a>(alloc: Global, words: &'a [&'a str]) -> Result<Command<'a>, Error>
     ensures command { IfOk result (IsCommand (map (λ s. s.now) words.entry.now)) }
     ensures refused { IfErr result (λ e. takes mcc_app (map (λ s. s.now) words.entry.now) ≡ true → kind_of e ≡ OutOfMemory) }
 {
-    let command = grammar(alloc)?;
-    let matches = command.try_get_matches_from(words)?;
-    match entered(&matches) {
-        Some(asked) => Ok(asked),
-        None => Err(Error::from(AllocError)),
-    }
+    let matches = matched(alloc, words)?;
+    entered(&matches).ok_or(Error::from(AllocError))
 }

@@ -1,0 +1,125 @@
+// The parts of a command line, as the grammar puts them together.
+
+ghost use Rattle.std.specs.Prelude.{◌≡◌, Bool, false, IfOk};
+ghost use Rattle.clap.specs.declared.builder.command.Command.TheViews.{out-Command};
+ghost use Rattle.clap.specs.Words.{App, app_of, new_app, rule_of, with_rule, with_subcommand};
+ghost use Rattle.command_line.specs.Commands.{flag_rule, number_rule, required_rule, with_required_subcommand};
+
+use clap::builder::ValueParser;
+use clap::{Arg, ArgAction, Command as CommandLine};
+use std::alloc::{AllocError, Global};
+
+/// A command line that is built part by part. The grammar is written over any such type, so that clap's, which has some fifty
+/// fields, is one place for the borrow checker there.
+pub trait CommandBuilder<'a>: Sized + Drop {
+    ghost app: { Self → App };
+
+    ghost has_globals: { Self → Bool };
+
+    /// A command with no argument yet.
+    fn named(alloc: Global, name: &'a str, about: &'a str, help: &'a str) -> Self
+        ensures app { app result ≡ new_app name.entry.now }
+        ensures local { has_globals result ≡ false };
+
+    /// With an argument by its place, which must be there.
+    fn required(self, alloc: Global, id: &'a str, about: &'a str) -> Result<Self, AllocError>
+        ensures app { IfOk result (λ c. app c ≡ with_rule (app self) (required_rule id.entry.now)) }
+        ensures local { has_globals self ≡ false → IfOk result (λ c. has_globals c ≡ false) };
+
+    /// With the option `--id N` with N from low to high.
+    fn number(
+        self,
+        alloc: Global,
+        id: &'a str,
+        low: u64,
+        high: u64,
+        about: &'a str,
+    ) -> Result<Self, AllocError>
+        ensures app { IfOk result (λ c. app c ≡ with_rule (app self) (number_rule id.entry.now low high)) }
+        ensures local { has_globals self ≡ false → IfOk result (λ c. has_globals c ≡ false) };
+
+    /// With the option `--id`.
+    fn flag(self, alloc: Global, id: &'a str, about: &'a str) -> Result<Self, AllocError>
+        ensures app { IfOk result (λ c. app c ≡ with_rule (app self) (flag_rule id.entry.now)) }
+        ensures local { has_globals self ≡ false → IfOk result (λ c. has_globals c ≡ false) };
+
+    /// The command, which is nothing without a subcommand.
+    fn asking(self) -> Self
+        ensures { app result ≡ with_required_subcommand (app self) };
+
+    /// With a subcommand.
+    fn over(self, command: Self) -> Result<Self, AllocError>
+        requires { has_globals command ≡ false }
+        ensures { IfOk result (λ c. app c ≡ with_subcommand (app self) (app command).top) };
+}
+
+impl<'a> CommandBuilder<'a> for CommandLine<'a> {
+    ghost app = { app_of };
+
+    ghost has_globals = { λ c. (out-Command c).has_globals };
+
+    fn named(alloc: Global, name: &'a str, about: &'a str, help: &'a str) -> Self {
+        CommandLine::new(alloc, name).about(about).after_help(help)
+    }
+
+    fn required(self, alloc: Global, id: &'a str, about: &'a str) -> Result<Self, AllocError> {
+        self.arg(required(alloc, id, about))
+    }
+
+    fn number(
+        self,
+        alloc: Global,
+        id: &'a str,
+        low: u64,
+        high: u64,
+        about: &'a str,
+    ) -> Result<Self, AllocError> {
+        self.arg(number(alloc, id, low, high, about))
+    }
+
+    fn flag(self, alloc: Global, id: &'a str, about: &'a str) -> Result<Self, AllocError> {
+        self.arg(flag(alloc, id, about))
+    }
+
+    fn asking(self) -> Self {
+        self.subcommand_required(true)
+    }
+
+    fn over(self, command: Self) -> Result<Self, AllocError> {
+        self.subcommand(command)
+    }
+}
+
+/// An argument by its place, which must be there.
+fn required<'a>(alloc: Global, id: &'a str, about: &'a str) -> Arg<'a>
+    ensures rule { rule_of result ≡ required_rule id.entry.now }
+    ensures local { result.global ≡ false }
+{
+    Arg::new(alloc, id)
+        .required(true)
+        .action(ArgAction::Set)
+        .help(about)
+}
+
+/// The option `--id N` with N from low to high.
+fn number<'a>(alloc: Global, id: &'a str, low: u64, high: u64, about: &'a str) -> Arg<'a>
+    ensures rule { rule_of result ≡ number_rule id.entry.now low high }
+    ensures local { result.global ≡ false }
+{
+    Arg::new(alloc, id)
+        .long(id)
+        .action(ArgAction::Set)
+        .value_parser(ValueParser::unsigned(low, high))
+        .help(about)
+}
+
+/// The option `--id`.
+fn flag<'a>(alloc: Global, id: &'a str, about: &'a str) -> Arg<'a>
+    ensures rule { rule_of result ≡ flag_rule id.entry.now }
+    ensures local { result.global ≡ false }
+{
+    Arg::new(alloc, id)
+        .long(id)
+        .action(ArgAction::SetTrue)
+        .help(about)
+}
