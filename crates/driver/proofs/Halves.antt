@@ -8,7 +8,11 @@ use Rattle.mblock.specs.UnitRuns.{ComesTo}
 use Rattle.mips_layout.specs.LayoutRuns.{RunsAs}
 use Rattle.sched_phase.specs.Schedules.{ScheduledParts}
 use Rattle.driver.specs.declared.builds.Built.{Built}
+use Rattle.driver.specs.declared.builds.BuildFault.{BuildFault}
+use Rattle.driver.specs.declared.builds.BuildFault.TheVariants as faults
+use Rattle.driver.specs.declared.builds.Limit.TheVariants as limits
 use Rattle.driver.specs.Builds.{IsBuilt, IsUnitOf, IsWritten}
+use Rattle.driver.specs.BuildFaults.{IsBuildFault, IsUnwritten}
 use Rattle.driver.proofs.Composed.{followed}
 
 pub built : (text : List ℕ) (depth factor : ℕ) (Suits : ScheduledParts → Type 0) (u : UnitParts) (s : ScheduledParts) (b : Built)
@@ -33,3 +37,18 @@ built text depth factor Suits u s b of same w runs suits =
       report = w.report;
       blocks = w.blocks;
     }
+
+-- a unit of the text's program that has no image
+pub unwritten : (text : List ℕ) (depth : ℕ) (u : UnitParts) (s : ScheduledParts) (e : BuildFault) → IsUnitOf text depth u → s.unit ≡ u → IsUnwritten s e
+    → IsBuildFault text depth e
+unwritten text depth u s (faults.Front f) of same h = absurd h
+unwritten text depth u s (faults.Types f) of same h = absurd h
+unwritten text depth u s (faults.Limit limits.Lowering) of same h = absurd h
+unwritten text depth u s (faults.Limit limits.Selection) of same h = absurd h
+unwritten text depth u s (faults.Limit limits.Assembly) of same h = record {
+  scheduled = s;
+  orders = h.0;
+  unit = subst (IsUnitOf text depth) (sym same) of;
+  beyond = h.1;
+}
+unwritten text depth u s faults.NoMemory of same h = (of.program, of.spelled)

@@ -1,12 +1,8 @@
 -- What a build makes of a text.
 use Rattle.std.specs.Prelude.{◌≡◌, ◌≢◌, ℕ, List, length}
 use Rattle.runs.specs.declared.ran.End.TheVariants.{Wrong}
-use Rattle.c_front.specs.Tree.{Declaration}
-use Rattle.c_front.specs.Texts.{SpellsText, IsTextFault}
 use Rattle.c_typed.specs.Trees.{TypedProgram}
 use Rattle.c_typed.specs.Meaning.{source_run}
-use Rattle.c_statements.specs.Faults.{IsTypeFault}
-use Rattle.c_types.specs.Programs.{FaultyProgram}
 use Rattle.c_types.specs.Typed.{SpellsTyped}
 use Rattle.mips_isa.specs.Starting.{start_state}
 use Rattle.mblock.specs.Units.{UnitParts}
@@ -17,8 +13,6 @@ use Rattle.sched_phase.specs.Schedules.{ScheduledParts, IsScheduled, ArePlain, n
 use Rattle.mips_asm.specs.Assembled.{IsAssembled, RunsAsUnit}
 use Rattle.driver.specs.Follows.{Follows}
 use Rattle.driver.specs.declared.builds.Built.{Built}
-use Rattle.driver.specs.declared.builds.BuildFault.{BuildFault}
-use Rattle.driver.specs.declared.builds.BuildFault.TheVariants as faults
 
 -- the build of a text that spells a program without faults: the bytes are those of an image that follows the program, and image,
 -- report and number of blocks are those of one scheduled unit, which is as asked
@@ -41,13 +35,6 @@ pub record IsBuilt (text : List ℕ) (depth factor : ℕ) (Suits : ScheduledPart
 pub record IsPlain (s : ScheduledParts) : Type 0 where
   pub orders : ArePlain s
   pub report : s.report ≡ no_counts
-
--- the text's own fault, or one of the program that it spells; a limit is told only of a program without faults
-abbrev pub IsBuildFault : List ℕ → BuildFault → Type 0
-IsBuildFault text (faults.Front f) = IsTextFault text f.kind f.at
-IsBuildFault text (faults.Types f) = (all : List Declaration) × SpellsText text all × IsTypeFault text (FaultyProgram text all) f
-IsBuildFault text (faults.Limit limit) = (program : TypedProgram) × SpellsTyped text program
-IsBuildFault text faults.NoMemory = Unit {0}
 
 -- ---- halfway
 

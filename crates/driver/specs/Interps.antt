@@ -17,8 +17,8 @@ pub record IsRun (text : List ℕ) (depth steps : ℕ) (o : Outcome) : Type 0 wh
   pub spelled : SpellsTyped text program
   pub run : o ≡ source_run program depth steps
 
--- the text's own fault, or one of the program that it spells
+-- the text's own fault, or one of the program that it spells; want of memory comes only where that has none
 abbrev pub IsInterpFault : List ℕ → InterpFault → Type 0
 IsInterpFault text (faults.Front f) = IsTextFault text f.kind f.at
 IsInterpFault text (faults.Types f) = (all : List Declaration) × SpellsText text all × IsTypeFault text (FaultyProgram text all) f
-IsInterpFault text faults.NoMemory = Unit {0}
+IsInterpFault text faults.NoMemory = (program : TypedProgram) × SpellsTyped text program

@@ -1,6 +1,6 @@
-pub mod Checks
 pub mod Interps
 pub mod Texts
 pub mod ImageRuns
 pub mod Follows
 pub mod Builds
+pub mod BuildFaults

@@ -3,9 +3,9 @@
 ghost use Rattle.std.specs.Prelude.{◌≤◌};
 
 use crate::builds::{BuildFault, Built, Limit, build_plain};
-use crate::fault::{Fault, tell, tell_placed};
-use crate::files::{Files, read_file, write_file};
+use crate::offsets::build_offset;
 use crate::scheduled_builds::{BuildOpts, build};
+use commands::{Files, HostFault, read_file, tell, tell_placed, write_file};
 use delay_filler::FilledOrder;
 use list_scheduler::ListOrder;
 use std::alloc::Global;
@@ -38,7 +38,7 @@ fn tell_build<E: Write>(
 ) -> u8
     ensures { result ≤ 1 }
 {
-    let status = tell_placed(alloc, err, source, text, Fault::Build(fault));
+    let status = tell_placed(alloc, err, source, text, &fault, build_offset(fault));
     if let BuildFault::Limit(limit) = fault {
         let about = limit_text(limit);
         let _ = writeln!(err, "{about}");
@@ -97,17 +97,17 @@ pub(crate) fn build_file<T: Threads + Wait + Sync, F: Files, W: Write, E: Write>
 {
     let text = match read_file(alloc, asked.source, files) {
         Ok(text) => text,
-        Err(fault) => return tell(err, fault),
+        Err(fault) => return tell(err, &fault),
     };
     let built = match built_as_asked(rt, alloc, text.as_slice(), asked) {
         Ok(built) => built,
         Err(fault) => return tell_build(alloc, err, asked.source, text.as_slice(), fault),
     };
     if let Err(fault) = write_file(asked.image, built.image.as_slice(), files) {
-        return tell(err, fault);
+        return tell(err, &fault);
     }
     match print_built(out, asked.plain, &built) {
         Ok(()) => 0,
-        Err(_) => tell(err, Fault::CannotWrite),
+        Err(_) => tell(err, &HostFault::CannotWrite),
     }
 }

@@ -1,7 +1,8 @@
-ghost use Rattle.std.specs.Prelude.{◌≡◌, ◌≤◌, IfOk, IfErr};
+ghost use Rattle.std.specs.Prelude.{◌≤◌, ℕ, IfOk, IfErr};
 ghost use Rattle.c_types.specs.Shape.{program_of};
 ghost use Rattle.c_types.specs.Typed.{SpellsTyped};
-ghost use Rattle.driver.specs.Builds.{IsBuildFault, IsBuilt, IsPlain, IsUnitOf, IsWritten};
+ghost use Rattle.driver.specs.Builds.{IsBuilt, IsPlain, IsUnitOf, IsWritten};
+ghost use Rattle.driver.specs.BuildFaults.{IsBuildFault, IsUnwritten};
 
 use c_front::{FrontFault, read};
 use c_statements::TypeFault;
@@ -50,7 +51,7 @@ pub struct Built {
 /// The typed program that the text spells.
 fn typed_of(alloc: Global, text: &[u8]) -> Result<Typed, BuildFault>
     ensures typed { IfOk result (λ t. SpellsTyped text.now (program_of t)) }
-    ensures fault { IfErr result (IsBuildFault text.now) }
+    ensures fault { IfErr result (λ e. (depth : ℕ) → IsBuildFault text.now depth e) }
 {
     let program = match read(alloc, text) {
         Ok(program) => program,
@@ -66,7 +67,7 @@ fn typed_of(alloc: Global, text: &[u8]) -> Result<Typed, BuildFault>
 pub(crate) fn unit_of(alloc: Global, text: &[u8], depth: u32) -> Result<Unit, BuildFault>
     requires { 1 ≤ depth }
     ensures unit { IfOk result (IsUnitOf text.now depth) }
-    ensures fault { IfErr result (IsBuildFault text.now) }
+    ensures fault { IfErr result (IsBuildFault text.now depth) }
 {
     let typed = typed_of(alloc, text)?;
     let rtl = match lower(alloc, &typed) {
@@ -82,14 +83,22 @@ pub(crate) fn unit_of(alloc: Global, text: &[u8], depth: u32) -> Result<Unit, Bu
 }
 
 /// The bytes of a scheduled unit's image, with its counts.
-pub(crate) fn written(alloc: Global, scheduled: &Scheduled<'_>) -> Result<Built, AsmFault>
-    ensures { IfOk result (IsWritten scheduled.now) }
+pub(crate) fn written(alloc: Global, scheduled: &Scheduled<'_>) -> Result<Built, BuildFault>
+    ensures written { IfOk result (IsWritten scheduled.now) }
+    ensures fault { IfErr result (IsUnwritten scheduled.now) }
 {
-    let image = assemble(alloc, scheduled)?;
-    let bytes = write_image(alloc, &image)?;
+    let report = scheduled.report();
+    let image = match assemble(alloc, scheduled) {
+        Ok(image) => image,
+        Err(AsmFault::Limit) => return Err(BuildFault::Limit(Limit::Assembly)),
+        Err(AsmFault::NoMemory) => return Err(BuildFault::NoMemory),
+    };
+    let Ok(bytes) = write_image(alloc, &image) else {
+        return Err(BuildFault::NoMemory);
+    };
     Ok(Built {
         image: bytes,
-        report: scheduled.report(),
+        report,
         blocks: scheduled.count(),
     })
 }
@@ -99,7 +108,7 @@ pub(crate) fn written(alloc: Global, scheduled: &Scheduled<'_>) -> Result<Built,
 pub fn build_plain(alloc: Global, text: &[u8], depth: u32) -> Result<Built, BuildFault>
     requires { 1 ≤ depth }
     ensures built { IfOk result (IsBuilt text.now depth 1 IsPlain) }
-    ensures fault { IfErr result (IsBuildFault text.now) }
+    ensures fault { IfErr result (IsBuildFault text.now depth) }
 {
     let unit = unit_of(alloc, text, depth)?;
     let Ok(scheduled) = schedule_plain(alloc, &unit) else {
@@ -107,7 +116,6 @@ pub fn build_plain(alloc: Global, text: &[u8], depth: u32) -> Result<Built, Buil
     };
     match written(alloc, &scheduled) {
         Ok(built) => Ok(built),
-        Err(AsmFault::Limit) => Err(BuildFault::Limit(Limit::Assembly)),
-        Err(AsmFault::NoMemory) => Err(BuildFault::NoMemory),
+        Err(fault) => Err(fault),
     }
 }

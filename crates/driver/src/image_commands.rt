@@ -3,10 +3,9 @@
 ghost use Rattle.std.specs.Prelude.{◌≡◌, ◌≢◌, ◌≤◌};
 ghost use Rattle.driver.specs.Texts.{ending_status};
 
-use crate::fault::{Fault, tell};
-use crate::files::{Files, read_file};
 use crate::image_runs::{list_image, run_image};
 use crate::texts::{EndingLine, print_run};
+use commands::{Files, HostFault, read_file, tell};
 use mips_steps::Ending;
 use std::alloc::Global;
 use std::io::{self, Write};
@@ -36,14 +35,14 @@ pub(crate) fn run_file<F: Files, W: Write, E: Write>(
 {
     let bytes = match read_file(alloc, image, files) {
         Ok(bytes) => bytes,
-        Err(fault) => return tell(err, fault),
+        Err(fault) => return tell(err, &fault),
     };
     match run_image(alloc, bytes.as_slice(), steps) {
         Ok(ran) => match print_run(out, ran.output.as_slice(), &EndingLine(ran.end)) {
             Ok(()) => ending_status(ran.end),
-            Err(_) => tell(err, Fault::CannotWrite),
+            Err(_) => tell(err, &HostFault::CannotWrite),
         },
-        Err(fault) => tell(err, Fault::Image(fault)),
+        Err(fault) => tell(err, &fault),
     }
 }
 
@@ -64,13 +63,13 @@ pub(crate) fn list_file<F: Files, W: Write, E: Write>(
 {
     let bytes = match read_file(alloc, image, files) {
         Ok(bytes) => bytes,
-        Err(fault) => return tell(err, fault),
+        Err(fault) => return tell(err, &fault),
     };
     match list_image(alloc, bytes.as_slice()) {
         Ok(text) => match print_listing(out, text.as_str()) {
             Ok(()) => 0,
-            Err(_) => tell(err, Fault::CannotWrite),
+            Err(_) => tell(err, &HostFault::CannotWrite),
         },
-        Err(fault) => tell(err, Fault::Image(fault)),
+        Err(fault) => tell(err, &fault),
     }
 }

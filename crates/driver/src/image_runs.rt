@@ -15,8 +15,10 @@ pub fn run_image(alloc: Global, bytes: &[u8], steps: u64) -> Result<MachineRan, 
     ensures fault { IfErr result (IsImageFault bytes.now) }
 {
     let image = read_image(alloc, bytes)?;
-    let ran = run(alloc, &image, steps)?;
-    Ok(ran)
+    match run(alloc, &image, steps) {
+        Ok(ran) => Ok(ran),
+        Err(_) => Err(ImageFault::NoMemory),
+    }
 }
 
 /// The listing of the image of these bytes.
@@ -25,6 +27,8 @@ pub fn list_image(alloc: Global, bytes: &[u8]) -> Result<String, ImageFault>
     ensures fault { IfErr result (IsImageFault bytes.now) }
 {
     let image = read_image(alloc, bytes)?;
-    let text = list(alloc, &image)?;
-    Ok(text)
+    match list(alloc, &image) {
+        Ok(text) => Ok(text),
+        Err(_) => Err(ImageFault::NoMemory),
+    }
 }

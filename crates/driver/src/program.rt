@@ -1,83 +1,24 @@
-ghost use Rattle.std.specs.Prelude.{◌≡◌, ◌≢◌, ◌≤◌, IfOk, map, true};
-ghost use Rattle.clap.specs.declared.error.ErrorKind.TheVariants.{OutOfMemory};
-ghost use Rattle.clap.specs.Words.{kind_of, takes};
+ghost use Rattle.std.specs.Prelude.{◌≡◌, ◌≢◌, ◌≤◌, map, true};
+ghost use Rattle.clap.specs.Words.{takes};
 ghost use Rattle.command_line.specs.Commands.{mcc_app};
-ghost use Rattle.driver.specs.Texts.{end_status, exit_status};
+ghost use Rattle.driver.specs.Texts.{end_status};
 ghost use Rattle.term_table.specs.Passes.{InRange};
-ghost use Rattle.driver.specs.declared.verdicts.CheckAnswer.{CheckAnswer};
 
 use crate::build_commands::{Asked, build_file};
-use crate::fault::{Fault, tell, tell_placed};
-use crate::files::{Files, read_file};
 use crate::image_commands::{list_file, run_file};
-use crate::place::{line_offset, show_place};
+use crate::offsets::interp_offset;
 use crate::scheduled_builds::BuildOpts;
 use crate::source_runs::interp;
 use crate::texts::{EndLine, print_run};
-use crate::verdicts::{CheckAnswer, CheckFault, check};
-use clap::Error;
-use clap::error::ErrorKind;
+use check_command::check_file;
 use command_line::{Command, words};
+use commands::{Files, HostFault, read_file, tell, tell_placed, tell_words};
 use runs::End;
 use sched_phase::PhaseOpts;
 use std::alloc::Global;
-use std::io::{self, Write};
+use std::io::Write;
 use std::sync::Wait;
 use std::thread::Threads;
-
-fn print<W: Write>(out: &mut W, line: &CheckAnswer) -> io::Result<()> {
-    writeln!(out, "{line}")?;
-    out.flush()
-}
-
-fn status_of(answer: &CheckAnswer) -> u8
-    ensures status { result ≡ exit_status answer.now }
-    ensures not_wrong_words { result ≢ 2 }
-{
-    match answer {
-        CheckAnswer::Same => 0,
-        _ => 3,
-    }
-}
-
-/// The verdict on a text, printed.
-fn check_text<W: Write>(alloc: Global, text: &[u8], out: &mut W) -> Result<u8, Fault>
-    ensures status { IfOk result (λ s. (a : CheckAnswer) × (s ≡ exit_status a)) }
-    ensures not_wrong_words { IfOk result (λ s. s ≢ 2) }
-{
-    let answer = check(alloc, text).map_err(Fault::Check)?;
-    match print(out, &answer) {
-        Ok(()) => Ok(status_of(&answer)),
-        Err(_) => Err(Fault::CannotWrite),
-    }
-}
-
-fn check_file<F: Files, W: Write, E: Write>(
-    alloc: Global,
-    file: &str,
-    files: &mut F,
-    out: &mut W,
-    err: &mut E,
-) -> u8
-    ensures most { result ≤ 4 }
-    ensures not_wrong_words { result ≢ 2 }
-{
-    let text = match read_file(alloc, file, files) {
-        Ok(text) => text,
-        Err(fault) => return tell(err, fault),
-    };
-    match check_text(alloc, text.as_slice(), out) {
-        Ok(status) => status,
-        Err(fault) => {
-            let status = tell(err, fault);
-            if let Fault::Check(CheckFault::Line(line)) = fault {
-                let at = line_offset(text.as_slice(), line);
-                show_place(alloc, err, file, text.as_slice(), at);
-            }
-            status
-        }
-    }
-}
 
 fn end_status(end: End) -> u8
     ensures status { result ≡ end_status end }
@@ -110,34 +51,18 @@ fn interp_file<F: Files, W: Write, E: Write>(
 {
     let text = match read_file(alloc, source, files) {
         Ok(text) => text,
-        Err(fault) => return tell(err, fault),
+        Err(fault) => return tell(err, &fault),
     };
     match interp(alloc, text.as_slice(), bounds.depth, bounds.steps) {
         Ok(ran) => match print_run(out, ran.output.as_slice(), &EndLine(ran.end)) {
             Ok(()) => end_status(ran.end),
-            Err(_) => tell(err, Fault::CannotWrite),
+            Err(_) => tell(err, &HostFault::CannotWrite),
         },
-        Err(fault) => tell_placed(alloc, err, source, text.as_slice(), Fault::Interp(fault)),
+        Err(fault) => {
+            let at = interp_offset(fault);
+            tell_placed(alloc, err, source, text.as_slice(), &fault, at)
+        }
     }
-}
-
-// clap's text: help on standard output, wrong words on standard error.
-fn tell_words<W: Write, E: Write>(error: &Error, out: &mut W, err: &mut E) -> u8
-    ensures most { result ≤ 2 }
-    ensures refused { kind_of error.now ≡ OutOfMemory → result ≢ 2 }
-{
-    if error.kind() == ErrorKind::OutOfMemory {
-        return tell(err, Fault::NoMemory);
-    }
-    if error.use_stderr() {
-        let _ = write!(err, "{error}");
-        return 2;
-    }
-    let written = write!(out, "{error}");
-    if written.is_err() || out.flush().is_err() {
-        return tell(err, Fault::CannotWrite);
-    }
-    0
 }
 
 fn phase_of(workers: u32, nodes: u32, heads: u32) -> PhaseOpts

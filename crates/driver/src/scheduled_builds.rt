@@ -2,11 +2,11 @@
 ghost use Rattle.std.specs.Prelude.{◌≡◌, ◌+◌, ◌≤◌, IfOk, IfErr};
 ghost use Rattle.mblock.specs.declared.limits.TheConstants.{BLOCK_INSTS};
 ghost use Rattle.sched_phase.specs.Phases.{IsPhase, IsWholePhase};
-ghost use Rattle.driver.specs.Builds.{IsBuildFault, IsBuilt};
+ghost use Rattle.driver.specs.Builds.{IsBuilt};
+ghost use Rattle.driver.specs.BuildFaults.{IsBuildFault};
 
-use crate::builds::{BuildFault, Built, Limit, unit_of, written};
+use crate::builds::{BuildFault, Built, unit_of, written};
 use list_scheduler::Reorder;
-use mips_asm::AsmFault;
 use sched_phase::{PhaseOpts, schedule_all, schedule_one};
 use std::alloc::Global;
 use std::sync::Wait;
@@ -33,7 +33,7 @@ pub fn build<T: Threads + Wait + Sync, R: Reorder + Sync, G: Gate + Sync>(
 ) -> Result<Built, BuildFault>
     requires { 1 ≤ options.now.depth }
     ensures built { IfOk result (IsBuilt text.now options.now.depth (BLOCK_INSTS + 1) (IsPhase (R.proposes reorder.now))) }
-    ensures fault { IfErr result (IsBuildFault text.now) }
+    ensures fault { IfErr result (IsBuildFault text.now options.now.depth) }
 {
     let unit = unit_of(alloc, text, options.depth)?;
     let Ok(scheduled) = schedule_all(rt, alloc, &unit, options.phase, reorder, gate) else {
@@ -41,8 +41,7 @@ pub fn build<T: Threads + Wait + Sync, R: Reorder + Sync, G: Gate + Sync>(
     };
     match written(alloc, &scheduled) {
         Ok(built) => Ok(built),
-        Err(AsmFault::Limit) => Err(BuildFault::Limit(Limit::Assembly)),
-        Err(AsmFault::NoMemory) => Err(BuildFault::NoMemory),
+        Err(fault) => Err(fault),
     }
 }
 
@@ -55,7 +54,7 @@ pub fn build_one<R: Reorder>(
 ) -> Result<Built, BuildFault>
     requires { 1 ≤ options.now.depth }
     ensures built { IfOk result (IsBuilt text.now options.now.depth (BLOCK_INSTS + 1) (IsWholePhase (R.proposes reorder.now))) }
-    ensures fault { IfErr result (IsBuildFault text.now) }
+    ensures fault { IfErr result (IsBuildFault text.now options.now.depth) }
 {
     let unit = unit_of(alloc, text, options.depth)?;
     let Ok(scheduled) = schedule_one(alloc, &unit, options.phase, reorder) else {
@@ -63,7 +62,6 @@ pub fn build_one<R: Reorder>(
     };
     match written(alloc, &scheduled) {
         Ok(built) => Ok(built),
-        Err(AsmFault::Limit) => Err(BuildFault::Limit(Limit::Assembly)),
-        Err(AsmFault::NoMemory) => Err(BuildFault::NoMemory),
+        Err(fault) => Err(fault),
     }
 }

@@ -1,3 +1,4 @@
+use Rattle.std.proofs.lemmas.Result.{err_from_is_err_and}
 use Rattle.c_types.specs.Shape.{program_of}
 use Rattle.driver.proofs.Composed.{selected}
 use Rattle.driver.proofs.builds.unit_of.Goals as goal
@@ -7,4 +8,18 @@ returns-in-Ok-select-clause-unit c = record {
   program = program_of c.in_ok-typed.typed;
   spelled = c.in_ok-typed.ensures.typed;
   runs = selected (program_of c.in_ok-typed.typed) c.in-Ok.rtl c.in-Ok-select.unit c.args.depth c.requires c.in-Ok.ensures.runs c.in-Ok-select.ensures.runs;
+}
+
+pub returns-in_err-typed-clause-fault : goal.returns-in_err-typed-clause-fault
+returns-in_err-typed-clause-fault c =
+    let p = err_from_is_err_and c.from_residual.result c.from_residual.ensures.1 in
+    rw (p.1, p.2) (c.in_err-typed.ensures.fault c.args.depth)
+
+pub returns-in-Err-Limit-select-clause-fault : goal.returns-in-Err-Limit-select-clause-fault
+returns-in-Err-Limit-select-clause-fault c = record {
+  program = program_of c.in_ok-typed.typed;
+  spelled = c.in_ok-typed.ensures.typed;
+  rtl = c.in-Ok.rtl;
+  lowered = c.in-Ok.ensures.runs;
+  beyond = c.in-Err-Limit-select.ensures.limit c.in-Err-Limit-select.field-0-is;
 }

@@ -5,10 +5,10 @@ use Rattle.check_text.specs.Lines.{lines_of}
 use Rattle.check_text.specs.Whole.{FailsAt}
 use Rattle.mblock.specs.Clean.{IsClean}
 use Rattle.block_validator.specs.Verdicts.{Decides, same, unclean, differs}
-use Rattle.driver.specs.declared.verdicts.CheckAnswer.{CheckAnswer}
-use Rattle.driver.specs.declared.verdicts.CheckAnswer.TheVariants as answers
-use Rattle.driver.specs.declared.verdicts.CheckFault.{CheckFault}
-use Rattle.driver.specs.declared.verdicts.CheckFault.TheVariants as faults
+use Rattle.check_command.specs.declared.verdicts.CheckAnswer.{CheckAnswer}
+use Rattle.check_command.specs.declared.verdicts.CheckAnswer.TheVariants as answers
+use Rattle.check_command.specs.declared.verdicts.CheckFault.{CheckFault}
+use Rattle.check_command.specs.declared.verdicts.CheckFault.TheVariants as faults
 
 -- what is decided of the order; a full table is no verdict, and comes only on a clean order
 abbrev pub IsAnswer : BlockParts → OrderParts → CheckAnswer → Type 0

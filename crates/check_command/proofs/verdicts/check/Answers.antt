@@ -1,6 +1,6 @@
-use Rattle.driver.specs.declared.verdicts.CheckAnswer.TheVariants as answers
-use Rattle.driver.proofs.Moves.{answer_moves}
-use Rattle.driver.proofs.verdicts.check.Goals as goal
+use Rattle.check_command.specs.declared.verdicts.CheckAnswer.TheVariants as answers
+use Rattle.check_command.proofs.Moves.{answer_moves}
+use Rattle.check_command.proofs.verdicts.check.Goals as goal
 
 pub returns-in-Err-Line-clause-answer : goal.returns-in-Err-Line-clause-answer
 returns-in-Err-Line-clause-answer c = λ n b o s. absurd (let no = (rw c.in-Err-Line.field-0-is at c.in-Err-Line.ensures.only) b o s in cc)

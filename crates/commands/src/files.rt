@@ -1,4 +1,7 @@
-use crate::fault::Fault;
+ghost use Rattle.std.specs.Prelude.{◌≢◌, IfErr};
+ghost use Rattle.commands.specs.declared.fault.HostFault.TheVariants.{CannotRead, CannotWrite};
+
+use crate::fault::HostFault;
 use std::alloc::Global;
 
 /// Why a file could not be read or written.
@@ -20,23 +23,23 @@ pub trait Files {
 }
 
 /// The bytes of a file.
-pub(crate) fn read_file<F: Files>(
-    alloc: Global,
-    name: &str,
-    files: &mut F,
-) -> Result<Vec<u8>, Fault> {
+pub fn read_file<F: Files>(alloc: Global, name: &str, files: &mut F) -> Result<Vec<u8>, HostFault>
+    ensures { IfErr result (λ e. e ≢ CannotWrite) }
+{
     match files.read(alloc, name) {
         Ok(bytes) => Ok(bytes),
-        Err(FileFault::Failed) => Err(Fault::CannotRead),
-        Err(FileFault::NoMemory) => Err(Fault::NoMemory),
+        Err(FileFault::Failed) => Err(HostFault::CannotRead),
+        Err(FileFault::NoMemory) => Err(HostFault::NoMemory),
     }
 }
 
 /// Makes these bytes the file of this name.
-pub(crate) fn write_file<F: Files>(name: &str, bytes: &[u8], files: &mut F) -> Result<(), Fault> {
+pub fn write_file<F: Files>(name: &str, bytes: &[u8], files: &mut F) -> Result<(), HostFault>
+    ensures { IfErr result (λ e. e ≢ CannotRead) }
+{
     match files.write(name, bytes) {
         Ok(()) => Ok(()),
-        Err(FileFault::Failed) => Err(Fault::CannotWrite),
-        Err(FileFault::NoMemory) => Err(Fault::NoMemory),
+        Err(FileFault::Failed) => Err(HostFault::CannotWrite),
+        Err(FileFault::NoMemory) => Err(HostFault::NoMemory),
     }
 }

@@ -1,6 +1,8 @@
 // Where a fault lies in its file, as editors and readers want it: the line `FILE:LINE:COLUMN:`, and below it the line
 // of the text around the place with a caret.
 
+ghost use Rattle.std.specs.Prelude.{◌≤◌, length};
+
 use std::alloc::{AllocError, Global};
 use std::io::Write;
 
@@ -55,7 +57,9 @@ pub(crate) fn spot_of(text: &[u8], at: usize) -> Spot {
 }
 
 /// Where a line of the text begins, counted from 1; the text's length where it has no such line.
-pub(crate) fn line_offset(text: &[u8], line: u32) -> usize {
+pub fn line_offset(text: &[u8], line: u32) -> usize
+    ensures { result ≤ length text.now }
+{
     let mut ends = 1u32;
     for (k, byte) in text.iter().enumerate() {
         if line <= ends {

@@ -3,7 +3,7 @@ ghost use Rattle.mblock.specs.Parts.{BlockParts, OrderParts};
 ghost use Rattle.check_text.specs.Lines.{lines_of};
 ghost use Rattle.check_text.specs.Whole.{SpellsPair};
 ghost use Rattle.term_table.specs.Passes.{IsOf};
-ghost use Rattle.driver.specs.Checks.{IsAnswer, IsCheckFault};
+ghost use Rattle.check_command.specs.Checks.{IsAnswer, IsCheckFault};
 
 use block_validator::{Place, Verdict, validate};
 use check_text::{PairFault, Text, read};

@@ -1,0 +1,72 @@
+// The command over files and streams.
+
+ghost use Rattle.std.specs.Prelude.{◌≡◌, ◌≢◌, ◌≤◌, IfOk, IfErr};
+ghost use Rattle.check_command.specs.Texts.{exit_status};
+ghost use Rattle.commands.specs.declared.fault.HostFault.TheVariants.{CannotWrite};
+
+use crate::verdicts::{CheckAnswer, CheckFault, check};
+use commands::{Files, HostFault, line_offset, read_file, tell, tell_placed};
+use std::alloc::Global;
+use std::io::{self, Write};
+
+fn print<W: Write>(out: &mut W, line: &CheckAnswer) -> io::Result<()> {
+    writeln!(out, "{line}")?;
+    out.flush()
+}
+
+fn status_of(answer: &CheckAnswer) -> u8
+    ensures status { result ≡ exit_status answer.now }
+    ensures not_wrong_words { result ≢ 2 }
+{
+    match answer {
+        CheckAnswer::Same => 0,
+        _ => 3,
+    }
+}
+
+/// The answer, printed; its status.
+fn print_answer<W: Write>(out: &mut W, answer: &CheckAnswer) -> Result<u8, HostFault>
+    ensures status { IfOk result (λ s. s ≡ exit_status answer.now) }
+    ensures not_wrong_words { IfOk result (λ s. s ≢ 2) }
+    ensures fault { IfErr result (λ e. e ≡ CannotWrite) }
+{
+    match print(out, answer) {
+        Ok(()) => Ok(status_of(answer)),
+        Err(_) => Err(HostFault::CannotWrite),
+    }
+}
+
+/// Where a fault of a check text lies: at a line, if anywhere.
+fn offset_of(text: &[u8], fault: CheckFault) -> Option<usize> {
+    match fault {
+        CheckFault::Line(line) => Some(line_offset(text, line)),
+        CheckFault::Size | CheckFault::NoMemory => None,
+    }
+}
+
+/// The verdict on the text of a file, printed; the answer is the exit status.
+pub fn check_file<F: Files, W: Write, E: Write>(
+    alloc: Global,
+    file: &str,
+    files: &mut F,
+    out: &mut W,
+    err: &mut E,
+) -> u8
+    ensures most { result ≤ 3 }
+    ensures not_wrong_words { result ≢ 2 }
+{
+    let text = match read_file(alloc, file, files) {
+        Ok(text) => text,
+        Err(fault) => return tell(err, &fault),
+    };
+    match check(alloc, text.as_slice()) {
+        Ok(answer) => match print_answer(out, &answer) {
+            Ok(status) => status,
+            Err(fault) => tell(err, &fault),
+        },
+        Err(fault) => {
+            let at = offset_of(text.as_slice(), fault);
+            tell_placed(alloc, err, file, text.as_slice(), &fault, at)
+        }
+    }
+}
