@@ -1,28 +1,14 @@
 // The deepest nests that the sizes allow, each run on a thread with a large stack.
 
+use crate::syntax::around;
 use c_front::read;
 use c_run::run;
-use c_types::check;
+use c_types::{Typed, check};
 use rtl_lower::lower;
 use runs::End;
 use std::alloc::{AllocError, Global};
 use std::test::Fail;
 use std::thread::Builder;
-
-fn around(
-    alloc: Global,
-    before: &[u8],
-    part: &[u8],
-    times: usize,
-    after: &[u8],
-) -> Result<Vec<u8>, AllocError> {
-    let mut text = Vec::from_slice(alloc, before)?;
-    for _ in 0..times {
-        text.extend_from_slice(part)?;
-    }
-    text.extend_from_slice(after)?;
-    Ok(text)
-}
 
 // A run of tokens holds 255 times `if(1)`; each `for(;0;)` and each brace begins a new run.
 fn nest(alloc: Global, statement: &[u8], loops: usize) -> Result<Vec<u8>, AllocError> {
@@ -34,28 +20,22 @@ fn nest(alloc: Global, statement: &[u8], loops: usize) -> Result<Vec<u8>, AllocE
     around(alloc, full.as_slice(), b"}", 128, b"")
 }
 
-// The end of a text's program, which is that of what it is lowered to; More where the text has a fault.
-fn end(alloc: Global, text: &[u8]) -> End {
-    let Ok(program) = read(alloc, text) else {
-        return End::More;
-    };
-    let Ok(typed) = check(alloc, program) else {
-        return End::More;
-    };
-    let Ok(lowered) = lower(alloc, &typed) else {
-        return End::More;
-    };
-    match (
-        run(alloc, &typed, 1, 1_000_000),
-        rtl::run(alloc, &lowered, 1, 16_000_000),
-    ) {
-        (Ok(source), Ok(ran)) => if source.end == ran.end {
-            ran.end
-        } else {
-            End::Wrong
-        },
-        _ => End::More,
-    }
+fn typed(alloc: Global, text: &[u8]) -> Option<Typed> {
+    let program = read(alloc, text).ok()?;
+    check(alloc, program).ok()
+}
+
+// The end of a program, where that is the end of what it is lowered to.
+fn common_end(alloc: Global, typed: &Typed) -> Option<End> {
+    let source = run(alloc, typed, 1, 1_000_000).ok()?.end;
+    let lowered = lower(alloc, typed).ok()?;
+    let ran = rtl::run(alloc, &lowered, 1, 16_000_000).ok()?.end;
+    (source == ran).then_some(ran)
+}
+
+// The same of a text; None also where it has a fault.
+fn end(alloc: Global, text: &[u8]) -> Option<End> {
+    common_end(alloc, &typed(alloc, text)?)
 }
 
 #[test]
@@ -66,27 +46,27 @@ fn statements(rt: HostRuntime) -> Result<(), Fail> {
         let runner = Builder::new()
             .stack_size(0x4000_0000)
             .spawn(&rt, move || end(alloc, &text))?;
-        assert_eq!(rt; runner.join(&rt), End::Done(0), "with {loops} loops");
+        assert_eq!(rt; runner.join(&rt), Some(End::Done(0)), "with {loops} loops");
     }
     Ok(())
 }
 
+// In each row the text has the part so many times, what stands within, and so many parentheses.
+const EXPRESSIONS: [(&[u8], usize, &[u8], usize); 4] = [
+    (b"(", 505, b"0", 505),
+    (b"~", 1_010, b"0", 0),
+    (b"0+", 505, b"0", 0),
+    (b"0?1:", 250, b"0", 0),
+];
+
 #[test]
 fn expressions(rt: HostRuntime) -> Result<(), Fail> {
     let alloc = rt.alloc();
-    for (part, times, after, closing) in [
-        (b"(".as_slice(), 505, b"0".as_slice(), 505),
-        (b"~", 1_010, b"0", 0),
-        (b"0+", 505, b"0", 0),
-        (b"0?1:", 250, b"0", 0),
-    ] {
+    for (part, times, after, closing) in EXPRESSIONS {
         let opened = around(alloc, b"int main(void){return ", part, times, after)?;
         let closed = around(alloc, opened.as_slice(), b")", closing, b";}")?;
-        assert_eq!(rt;
-            end(alloc, closed.as_slice()),
-            End::Done(0),
-            "{times} times"
-        );
+        let end = end(alloc, closed.as_slice());
+        assert_eq!(rt; end, Some(End::Done(0)), "{times} times");
     }
     Ok(())
 }

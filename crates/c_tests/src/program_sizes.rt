@@ -22,40 +22,49 @@ fn numbered(
     Ok(text)
 }
 
+// The fault of a text with so many such declarations, and the text's length.
+fn fault_of(
+    alloc: Global,
+    before: &str,
+    part: &str,
+    times: usize,
+    after: &str,
+    end: &str,
+) -> Result<((u8, usize), usize), AllocError> {
+    let text = numbered(alloc, before, part, times, after, end)?;
+    Ok((fault(alloc, text.as_bytes()), text.len()))
+}
+
 #[test]
 fn functions_up_to_256(rt: HostRuntime) -> Result<(), Fail> {
-    let alloc = rt.alloc();
-    let most = numbered(alloc, "", "void f", 255, "(void){}", "int main(void){}")?;
-    assert_eq!(rt; fault(alloc, most.as_bytes()), (0, 0));
-    let more = numbered(alloc, "", "void f", 256, "(void){}", "int main(void){}")?;
-    assert_eq!(rt;
-        fault(alloc, more.as_bytes()),
-        (20, more.len().saturating_sub(12))
-    );
+    let main = "int main(void){}";
+    let (most, _) = fault_of(rt.alloc(), "", "void f", 255, "(void){}", main)?;
+    assert_eq!(rt; most, (0, 0));
+    let (more, length) = fault_of(rt.alloc(), "", "void f", 256, "(void){}", main)?;
+    assert_eq!(rt; more, (20, length.saturating_sub(12)));
     Ok(())
 }
 
 #[test]
 fn locals_up_to_128(rt: HostRuntime) -> Result<(), Fail> {
-    let alloc = rt.alloc();
-    let most = numbered(alloc, "int main(void){", "int v", 128, ";", "}")?;
-    assert_eq!(rt; fault(alloc, most.as_bytes()), (0, 0));
-    let more = numbered(alloc, "int main(void){", "{int v", 129, ";}", "}")?;
-    assert_eq!(rt;
-        fault(alloc, more.as_bytes()),
-        (20, more.len().saturating_sub(7))
-    );
+    let main = "int main(void){";
+    let (most, _) = fault_of(rt.alloc(), main, "int v", 128, ";", "}")?;
+    assert_eq!(rt; most, (0, 0));
+    let (more, length) = fault_of(rt.alloc(), main, "{int v", 129, ";}", "}")?;
+    assert_eq!(rt; more, (20, length.saturating_sub(7)));
     Ok(())
 }
 
+const WORDS: [(&[u8], u8, usize); 3] = [
+    (b"int a[262143];int b;int main(void){}", 0, 0),
+    (b"int a[262143];int b;int c;int d;int main(void){}", 20, 24),
+    (b"int a[262145];int main(void){}", 20, 4),
+];
+
 #[test]
 fn words_up_to_262144(rt: HostRuntime) -> Result<(), Fail> {
-    let alloc = rt.alloc();
-    let full = b"int a[262143];int b;int main(void){}";
-    assert_eq!(rt; fault(alloc, full), (0, 0));
-    let more = b"int a[262143];int b;int c;int d;int main(void){}";
-    assert_eq!(rt; fault(alloc, more), (20, 24));
-    let much = b"int a[262145];int main(void){}";
-    assert_eq!(rt; fault(alloc, much), (20, 4));
+    for (text, number, at) in WORDS {
+        assert_eq!(rt; fault(rt.alloc(), text), (number, at), "{number} at {at}");
+    }
     Ok(())
 }

@@ -1,44 +1,35 @@
 // Memory that is really refused: each test is a process of its own, and this one takes all that it can get.
 
 use crate::syntax::{answer, around};
-use std::alloc::{AllocError, Global};
+use scarce_memory::AllMemory;
+use std::alloc::Global;
 use std::test::Fail;
 
-// All the memory that can be had, in blocks of halving size down to 512 bytes. Nothing is written to them.
-fn all_memory(alloc: Global) -> Result<Vec<Vec<u8>>, AllocError> {
-    let mut blocks = Vec::with_capacity(alloc, 200_000)?;
-    let mut size: usize = 0x4000_0000_0000;
-    for _ in 0..38 {
-        for _ in 0..200_000 {
-            let Ok(block) = Vec::with_capacity(alloc, size) else {
-                break;
-            };
-            blocks.push(block)?;
+// How often a text is refused memory before it's read; None where another fault is told.
+fn refusals(alloc: Global, text: &[u8], memory: &mut AllMemory) -> Option<u32> {
+    let mut count: u32 = 0;
+    for _ in 0..1000 {
+        let told = answer(alloc, text);
+        if told.0 == 0 {
+            return Some(count);
         }
-        size /= 2;
+        if told != (30, text.len()) {
+            return None;
+        }
+        count = count.wrapping_add(1);
+        memory.give_back();
     }
-    Ok(blocks)
+    None
 }
 
 #[test]
 fn refused_memory(rt: HostRuntime) -> Result<(), Fail> {
     let alloc = rt.alloc();
     let text = around(alloc, b"", b"int f(int n){return n*2+1;}\n", 200, b"")?;
-    let length = text.len();
-    let mut blocks = all_memory(alloc)?;
-    let mut refusals = 0;
-    // With each block that is given back the reader comes further.
-    for k in 0..blocks.len() {
-        let (number, at) = answer(alloc, &text);
-        if number == 0 {
-            break;
-        }
-        assert_eq!(rt; (number, at), (30, length), "after {k} blocks");
-        refusals = k + 1;
-        drop(blocks.pop());
-    }
-    drop(blocks);
-    assert!(rt; refusals > 0);
-    assert_eq!(rt; answer(alloc, &text), (0, length));
+    let mut memory = AllMemory::take(alloc, 1000, 4096)?;
+    let count = refusals(alloc, &text, &mut memory);
+    drop(memory);
+    assert!(rt; count.is_some_and(|n| n > 0));
+    assert_eq!(rt; answer(alloc, &text), (0, text.len()));
     Ok(())
 }

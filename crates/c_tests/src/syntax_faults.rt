@@ -1,4 +1,5 @@
 use crate::syntax::{answer, around};
+use std::alloc::{AllocError, Global};
 use std::test::Fail;
 
 const ROWS: [(&[u8], u8, usize); 71] = [
@@ -144,30 +145,30 @@ fn accepted(rt: HostRuntime) -> Result<(), Fail> {
     Ok(())
 }
 
+// The fault of a text with one word between these.
+fn answer_with(
+    alloc: Global,
+    before: &[u8],
+    word: &[u8],
+    after: &[u8],
+) -> Result<(u8, usize), AllocError> {
+    let text = around(alloc, before, word, 1, after)?;
+    Ok(answer(alloc, &text))
+}
+
 #[test]
 fn refused_words(rt: HostRuntime) -> Result<(), Fail> {
-    let alloc = rt.alloc();
     for word in REFUSED_WORDS {
-        assert_eq!(rt;
-            answer(alloc, &around(alloc, b"int ", word, 1, b";")?),
-            (2, 4)
-        );
-        assert_eq!(rt;
-            answer(alloc, &around(alloc, b"int ", word, 1, b"_;")?).0,
-            0
-        );
+        assert_eq!(rt; answer_with(rt.alloc(), b"int ", word, b";")?, (2, 4));
+        assert_eq!(rt; answer_with(rt.alloc(), b"int ", word, b"_;")?.0, 0);
     }
     Ok(())
 }
 
 #[test]
 fn refused_signs(rt: HostRuntime) -> Result<(), Fail> {
-    let alloc = rt.alloc();
     for sign in REFUSED_SIGNS {
-        assert_eq!(rt;
-            answer(alloc, &around(alloc, b"int x ", sign, 1, b" y;")?),
-            (2, 6)
-        );
+        assert_eq!(rt; answer_with(rt.alloc(), b"int x ", sign, b" y;")?, (2, 6));
     }
     Ok(())
 }
@@ -182,11 +183,8 @@ fn prefixes(rt: HostRuntime) -> Result<(), Fail> {
             10 | 11 | 12 => (3, 9),
             _ => (3, k),
         };
-        assert_eq!(rt;
-            answer(rt.alloc(), &text[..k]),
-            wanted,
-            "the first {k} bytes"
-        );
+        let told = answer(rt.alloc(), &text[..k]);
+        assert_eq!(rt; told, wanted, "the first {k} bytes");
     }
     Ok(())
 }

@@ -1,146 +1,117 @@
-use crate::syntax::{answer, around};
+// Texts at the limits of their sizes.
+
+use crate::syntax::{Sized, judge};
 use std::test::Fail;
+
+const LENGTHS: [Sized; 3] = [
+    (&[(b" ", 1_048_576)], 0, 1_048_576),
+    (&[(b" ", 1_048_577)], 5, 1_048_576),
+    (&[(b"\x00", 1), (b" ", 1_048_576)], 5, 1_048_576),
+];
 
 #[test]
 fn lengths(rt: HostRuntime) -> Result<(), Fail> {
-    let alloc = rt.alloc();
-    assert_eq!(rt;
-        answer(alloc, &around(alloc, b"", b" ", 1_048_576, b"")?),
-        (0, 1_048_576)
-    );
-    assert_eq!(rt;
-        answer(alloc, &around(alloc, b"", b" ", 1_048_577, b"")?),
-        (5, 1_048_576)
-    );
-    assert_eq!(rt;
-        answer(alloc, &around(alloc, b"\x00", b" ", 1_048_576, b"")?),
-        (5, 1_048_576)
-    );
+    judge(&rt, rt.alloc(), LENGTHS.as_slice())?;
     Ok(())
 }
+
+const BRACES: [Sized; 2] = [
+    (&[(b"int main(void)", 1), (b"{", 128), (b"}", 128)], 0, 270),
+    (&[(b"int main(void)", 1), (b"{", 129), (b"}", 129)], 5, 142),
+];
 
 #[test]
 fn braces(rt: HostRuntime) -> Result<(), Fail> {
-    let alloc = rt.alloc();
-    let open = around(alloc, b"int main(void)", b"{", 128, b"")?;
-    assert_eq!(rt;
-        answer(alloc, &around(alloc, &open, b"}", 128, b"")?),
-        (0, 270)
-    );
-    let more = around(alloc, b"int main(void)", b"{", 129, b"")?;
-    assert_eq!(rt;
-        answer(alloc, &around(alloc, &more, b"}", 129, b"")?),
-        (5, 142)
-    );
+    judge(&rt, rt.alloc(), BRACES.as_slice())?;
     Ok(())
 }
+
+const RUNS: [Sized; 5] = [
+    (
+        &[(b"int main(void){out(1", 1), (b"+1", 510), (b");}", 1)],
+        0,
+        1043,
+    ),
+    (
+        &[(b"int main(void){out(1", 1), (b"+1", 511), (b");}", 1)],
+        5,
+        1041,
+    ),
+    (&[(b"x ", 1024)], 3, 0),
+    (&[(b"x ", 1025)], 5, 2048),
+    (&[(b"x ", 1024), (b";", 1)], 3, 0),
+];
 
 #[test]
 fn runs(rt: HostRuntime) -> Result<(), Fail> {
-    let alloc = rt.alloc();
-    assert_eq!(rt;
-        answer(
-            alloc,
-            &around(alloc, b"int main(void){out(1", b"+1", 510, b");}")?
-        ),
-        (0, 1043)
-    );
-    assert_eq!(rt;
-        answer(
-            alloc,
-            &around(alloc, b"int main(void){out(1", b"+1", 511, b");}")?
-        ),
-        (5, 1041)
-    );
-    assert_eq!(rt;
-        answer(alloc, &around(alloc, b"", b"x ", 1024, b"")?),
-        (3, 0)
-    );
-    assert_eq!(rt;
-        answer(alloc, &around(alloc, b"", b"x ", 1025, b"")?),
-        (5, 2048)
-    );
-    assert_eq!(rt;
-        answer(alloc, &around(alloc, b"", b"x ", 1024, b";")?),
-        (3, 0)
-    );
+    judge(&rt, rt.alloc(), RUNS.as_slice())?;
     Ok(())
 }
+
+const ELSES: [Sized; 5] = [
+    (
+        &[
+            (b"int main(void){", 1),
+            (b"if(1);else ", 512),
+            (b";}int f(void){", 1),
+            (b"if(1);else ", 512),
+            (b";}", 1),
+        ],
+        0,
+        11295,
+    ),
+    (
+        &[(b"int main(void){", 1), (b"if(1);else ", 513), (b";}", 1)],
+        5,
+        15 + 512 * 11 + 6,
+    ),
+    (
+        &[(b"int main(void){", 1), (b"for(;;)", 512), (b";}", 1)],
+        0,
+        3601,
+    ),
+    (
+        &[(b"int main(void){", 1), (b"for(;;)", 513), (b";}", 1)],
+        5,
+        15 + 512 * 7,
+    ),
+    (&[(b"for ", 600)], 3, 0),
+];
 
 #[test]
 fn elses(rt: HostRuntime) -> Result<(), Fail> {
-    let alloc = rt.alloc();
-    let most = around(
-        alloc,
-        b"int main(void){",
-        b"if(1);else ",
-        512,
-        b";}int f(void){",
-    )?;
-    assert_eq!(rt;
-        answer(alloc, &around(alloc, &most, b"if(1);else ", 512, b";}")?).0,
-        0
-    );
-    assert_eq!(rt;
-        answer(
-            alloc,
-            &around(alloc, b"int main(void){", b"if(1);else ", 513, b";}")?
-        ),
-        (5, 15 + 512 * 11 + 6)
-    );
-    assert_eq!(rt;
-        answer(
-            alloc,
-            &around(alloc, b"int main(void){", b"for(;;)", 512, b";}")?
-        )
-        .0,
-        0
-    );
-    assert_eq!(rt;
-        answer(
-            alloc,
-            &around(alloc, b"int main(void){", b"for(;;)", 513, b";}")?
-        ),
-        (5, 15 + 512 * 7)
-    );
-    assert_eq!(rt;
-        answer(alloc, &around(alloc, b"", b"for ", 600, b"")?),
-        (3, 0)
-    );
+    judge(&rt, rt.alloc(), ELSES.as_slice())?;
     Ok(())
 }
 
-/// Expressions as deep as a run of 1,024 tokens allows.
+// As deep as a run of 1,024 tokens allows, and an expression that has no end.
+const EXPRESSIONS: [Sized; 4] = [
+    (
+        &[
+            (b"int main(void){x=", 1),
+            (b"(", 510),
+            (b"1", 1),
+            (b")", 510),
+            (b";}", 1),
+        ],
+        0,
+        1040,
+    ),
+    (
+        &[(b"int main(void){x=", 1), (b"-~", 510), (b"1;}", 1)],
+        0,
+        1040,
+    ),
+    (
+        &[(b"int main(void){x=1", 1), (b"?1:1", 255), (b";}", 1)],
+        0,
+        1040,
+    ),
+    (&[(b"int main(void){x=", 1), (b"(", 1022)], 3, 1039),
+];
+
 #[test]
 fn deep_expressions(rt: HostRuntime) -> Result<(), Fail> {
-    let alloc = rt.alloc();
-    let parens = around(alloc, b"int main(void){x=", b"(", 510, b"1")?;
-    assert_eq!(rt;
-        answer(alloc, &around(alloc, &parens, b")", 510, b";}")?).0,
-        0
-    );
-    assert_eq!(rt;
-        answer(
-            alloc,
-            &around(alloc, b"int main(void){x=", b"-~", 510, b"1;}")?
-        )
-        .0,
-        0
-    );
-    assert_eq!(rt;
-        answer(
-            alloc,
-            &around(alloc, b"int main(void){x=1", b"?1:1", 255, b";}")?
-        )
-        .0,
-        0
-    );
-    assert_eq!(rt;
-        answer(
-            alloc,
-            &around(alloc, b"int main(void){x=", b"(", 1022, b"")?
-        ),
-        (3, 1039)
-    );
+    judge(&rt, rt.alloc(), EXPRESSIONS.as_slice())?;
     Ok(())
 }

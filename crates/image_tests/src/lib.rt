@@ -1,7 +1,11 @@
-//! Builds and their images over `driver`: texts at the limits of their sizes, images by `mcc run` and `mcc list`, and memory
-//! that is refused.
+//! Worked examples of `mcc build`, `mcc run` and `mcc list`: builds and their images, texts at the limits of their sizes, and
+//! memory that is refused.
 #![tactic(auto)]
 
+#[cfg(test)]
+mod build_program;
+#[cfg(test)]
+mod image_program;
 #[cfg(test)]
 mod refused_memory;
 #[cfg(test)]

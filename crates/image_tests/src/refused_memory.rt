@@ -2,61 +2,21 @@
 // get. With each block that it gives back the program comes further.
 
 use delay_filler::FilledOrder;
-use driver::{
-    BuildFault, BuildOpts, Built, FileFault, Files, build_one, build_plain, mcc, run_image,
-};
+use driver::{BuildFault, BuildOpts, Built, build_one, build_plain, run_image};
 use list_scheduler::ListOrder;
 use mips_steps::Ending;
+use scarce_memory::AllMemory;
 use sched_phase::PhaseOpts;
+use stand_ins::{COUNTS, Desk};
 use std::alloc::{AllocError, Global};
 use std::sync::Wait;
 use std::test::Fail;
 use std::thread::Threads;
 
-// Counts while it's below 3 and the array has something there.
-const COUNTS: &str =
-    "int a[3];int main(void){int i=0;a[0]=5;a[1]=6;a[2]=7;while(i<3&&a[i])i=i+1;out(i);}";
+// What is given back: blocks of 4 KB, and last one of 64 MB.
+const BLOCKS: usize = 1000;
 
-// So many blocks to be given back one by one, of 4 KB each but the first, of 64 MB, which is given back last; and all other
-// memory that can be had, in blocks of halving size. Nothing is written to them.
-fn all_memory(alloc: Global, count: usize) -> Result<(Vec<Vec<u8>>, Vec<Vec<u8>>), AllocError> {
-    let mut others = Vec::with_capacity(alloc, 200_000)?;
-    let mut blocks = Vec::with_capacity(alloc, count)?;
-    for k in 0..count {
-        let size = if k == 0 { 0x400_0000 } else { 4096 };
-        blocks.push(Vec::with_capacity(alloc, size)?)?;
-    }
-    let mut size: usize = 0x4000_0000_0000;
-    for _ in 0..40 {
-        for _ in 0..200_000 {
-            let Ok(block) = Vec::with_capacity(alloc, size) else {
-                break;
-            };
-            others.push(block)?;
-        }
-        size /= 2;
-    }
-    Ok((blocks, others))
-}
-
-// One row of bytes for every name; what is written goes into room that is there already.
-#[derive(Drop)]
-struct Room<'a> {
-    bytes: &'a [u8],
-    written: Vec<u8>,
-}
-
-impl<'a> Files for Room<'a> {
-    fn read(&mut self, alloc: Global, _name: &str) -> Result<Vec<u8>, FileFault> {
-        Vec::from_slice(alloc, self.bytes).map_err(|_e| FileFault::NoMemory)
-    }
-
-    fn write(&mut self, _name: &str, bytes: &[u8]) -> Result<(), FileFault> {
-        self.written
-            .extend_from_slice(bytes)
-            .map_err(|_e| FileFault::NoMemory)
-    }
-}
+const LAST: usize = 0x400_0000;
 
 fn is_refusal(fault: BuildFault) -> bool {
     match fault {
@@ -75,29 +35,30 @@ fn prints_three(alloc: Global, image: &[u8]) -> bool {
     }
 }
 
+// How often a plain build is refused memory before it makes this image; None where it makes another or tells another fault.
+fn plain_refusals(alloc: Global, ample: &[u8], memory: &mut AllMemory) -> Option<u32> {
+    let mut count: u32 = 0;
+    for _ in 1..BLOCKS {
+        match build_plain(alloc, COUNTS.as_bytes(), 1) {
+            Ok(built) => return (built.image.as_slice() == ample).then_some(count),
+            Err(fault) if is_refusal(fault) => {}
+            Err(_) => return None,
+        }
+        count = count.wrapping_add(1);
+        memory.give_back();
+    }
+    None
+}
+
 #[test]
 fn plain_builds_tell_refused_memory_alone(rt: HostRuntime) -> Result<(), Fail> {
     let alloc = rt.alloc();
-    let Ok(ample) = build_plain(alloc, COUNTS.as_bytes(), 1) else {
-        panic!(rt; "no image")
-    };
-    assert!(rt; prints_three(alloc, ample.image.as_slice()));
-    let (mut blocks, others) = all_memory(alloc, 1000)?;
-    let mut refusals: u32 = 0;
-    for _ in 0..blocks.len() {
-        match build_plain(alloc, COUNTS.as_bytes(), 1) {
-            Ok(built) => {
-                assert!(rt; built.image.as_slice() == ample.image.as_slice());
-                break;
-            }
-            Err(fault) => assert!(rt; is_refusal(fault)),
-        }
-        refusals = refusals.wrapping_add(1);
-        drop(blocks.pop());
-    }
-    assert!(rt; refusals > 0);
-    assert!(rt; blocks.len() > 1);
-    drop(others);
+    let ample = build_plain(alloc, COUNTS.as_bytes(), 1)?.image;
+    assert!(rt; prints_three(alloc, ample.as_slice()));
+    let mut memory = AllMemory::take(alloc, BLOCKS, LAST)?;
+    let refusals = plain_refusals(alloc, ample.as_slice(), &mut memory);
+    drop(memory);
+    assert!(rt; refusals.is_some_and(|count| count > 0));
     Ok(())
 }
 
@@ -116,67 +77,58 @@ fn has_each_block(built: &Built) -> bool {
     report.full == 0 && report.missed == 0 && counted == built.blocks as u64
 }
 
+// What builds by the scheduler of `mcc build` make as memory is given back.
+#[derive(Drop)]
+struct Scarce {
+    refusals: u32,
+    images: Vec<Vec<u8>>,
+}
+
+// The builds until one has no block that was refused memory; None where a build tells another fault, counts a block twice or
+// not at all, or no build is without refusals.
+fn scarce_builds(
+    alloc: Global,
+    phase: PhaseOpts,
+    memory: &mut AllMemory,
+    mut images: Vec<Vec<u8>>,
+) -> Result<Option<Scarce>, AllocError> {
+    let options = BuildOpts { depth: 1, phase };
+    let mut refusals: u32 = 0;
+    for _ in 1..BLOCKS {
+        match build_one(alloc, COUNTS.as_bytes(), &options, &FilledOrder(ListOrder)) {
+            Ok(built) => {
+                let is_whole = built.report.no_memory == 0;
+                if !has_each_block(&built) {
+                    return Ok(None);
+                }
+                images.push(built.image)?;
+                if is_whole {
+                    return Ok(Some(Scarce { refusals, images }));
+                }
+            }
+            Err(fault) if is_refusal(fault) => refusals = refusals.wrapping_add(1),
+            Err(_) => return Ok(None),
+        }
+        memory.give_back();
+    }
+    Ok(None)
+}
+
 // A block whose order or verdict is refused memory has its own order, and the image still does what the text says.
 #[test]
 fn scheduled_builds_tell_refused_memory_or_run(rt: HostRuntime) -> Result<(), Fail> {
     let alloc = rt.alloc();
-    let Some(phase) = PhaseOpts::new(1, 2000, 16) else {
-        panic!(rt; "no options")
-    };
-    let options = BuildOpts { depth: 1, phase };
-    let scheduler = FilledOrder(ListOrder);
-    let mut images = Vec::with_capacity(alloc, 1000)?;
-    let (mut blocks, others) = all_memory(alloc, 1000)?;
-    let mut refusals: u32 = 0;
-    for _ in 0..blocks.len() {
-        match build_one(alloc, COUNTS.as_bytes(), &options, &scheduler) {
-            Ok(built) => {
-                assert!(rt; has_each_block(&built));
-                let is_whole = built.report.no_memory == 0;
-                images.push(built.image)?;
-                if is_whole {
-                    break;
-                }
-            }
-            Err(fault) => {
-                assert!(rt; is_refusal(fault));
-                refusals = refusals.wrapping_add(1);
-            }
-        }
-        drop(blocks.pop());
-    }
-    assert!(rt; refusals > 0);
-    assert!(rt; blocks.len() > 1);
-    drop(blocks);
-    drop(others);
-    assert!(rt; !images.is_empty());
-    for image in images.as_slice() {
+    let phase = PhaseOpts::new(1, 2000, 16).expect(&rt, "options");
+    let images = Vec::with_capacity(alloc, BLOCKS)?;
+    let mut memory = AllMemory::take(alloc, BLOCKS, LAST)?;
+    let scarce = scarce_builds(alloc, phase, &mut memory, images)?;
+    drop(memory);
+    let scarce = scarce.expect(&rt, "builds");
+    assert!(rt; scarce.refusals > 0 && !scarce.images.is_empty());
+    for image in scarce.images.as_slice() {
         assert!(rt; prints_three(alloc, image.as_slice()));
     }
     Ok(())
-}
-
-// A file, and what `mcc` prints and tells, in room that is there already.
-#[derive(Drop)]
-struct Desk<'a> {
-    files: Room<'a>,
-    out: Vec<u8>,
-    err: Vec<u8>,
-}
-
-fn desk_of(alloc: Global, bytes: &[u8]) -> Result<Desk<'_>, AllocError> {
-    let written = Vec::with_capacity(alloc, 4096)?;
-    let out = Vec::with_capacity(alloc, 4096)?;
-    let err = Vec::with_capacity(alloc, 256)?;
-    let files = Room { bytes, written };
-    Ok(Desk { files, out, err })
-}
-
-// Whether refused memory is told, with its place or without, and nothing was written.
-fn tells_refusal(desk: &Desk<'_>, placed: &str) -> bool {
-    let err = desk.err.as_slice();
-    let is_told = err == b"fault 30 NoMemory\n".as_slice() || err == placed.as_bytes();
-    is_told && desk.out.is_empty() && desk.files.written.is_empty()
 }
 
 // How often `mcc` is refused memory before it has status 0; None where it tells another thing first.
@@ -186,27 +138,21 @@ fn refusals<T: Threads + Wait + Sync>(
     words: &[&str],
     desk: &mut Desk<'_>,
     placed: &str,
-    blocks: &mut Vec<Vec<u8>>,
+    memory: &mut AllMemory,
 ) -> Option<u32> {
     let mut count: u32 = 0;
-    for _ in 0..=blocks.len() {
-        let status = mcc(
-            threads,
-            alloc,
-            words,
-            &mut desk.files,
-            &mut desk.out,
-            &mut desk.err,
-        );
+    for _ in 0..=BLOCKS {
+        desk.err.clear();
+        let status = desk.status(threads, alloc, words);
         if status == 0 {
             return Some(count);
         }
-        if status != 1 || !tells_refusal(desk, placed) {
+        let is_told = desk.is_refused("fault 30 NoMemory\n") || desk.is_refused(placed);
+        if status != 1 || !is_told {
             return None;
         }
-        desk.err.clear();
         count = count.wrapping_add(1);
-        drop(blocks.pop());
+        memory.give_back();
     }
     None
 }
@@ -220,35 +166,29 @@ fn told_at_last<'a, T: Threads + Wait + Sync>(
     words: &[&str],
 ) -> Result<Option<Desk<'a>>, AllocError> {
     let placed = format!(in alloc; "fault 30 NoMemory at {}\n", bytes.len())?;
-    let mut desk = desk_of(alloc, bytes)?;
-    let (mut blocks, others) = all_memory(alloc, 1000)?;
+    let mut desk = Desk::of(alloc, bytes)?;
+    let mut memory = AllMemory::take(alloc, BLOCKS, LAST)?;
     let count = refusals(
         threads,
         alloc,
         words,
         &mut desk,
         placed.as_str(),
-        &mut blocks,
+        &mut memory,
     );
-    drop(others);
-    Ok(if count.is_some_and(|n| n > 0) && desk.err.is_empty() {
-        Some(desk)
-    } else {
-        None
-    })
+    drop(memory);
+    let is_told = count.is_some_and(|n| n > 0) && desk.err.is_empty();
+    Ok(is_told.then_some(desk))
 }
 
 #[test]
 fn mcc_builds_or_leaves_the_image(rt: HostRuntime) -> Result<(), Fail> {
     let alloc = rt.alloc();
-    let Ok(ample) = build_plain(alloc, COUNTS.as_bytes(), 256) else {
-        panic!(rt; "no image")
-    };
+    let ample = build_plain(alloc, COUNTS.as_bytes(), 256)?;
     let printed = format!(in alloc; "blocks {} plain\n", ample.blocks)?;
     let words = ["mcc", "build", "x", "y", "--plain"];
-    let Some(desk) = told_at_last(&rt, alloc, COUNTS.as_bytes(), words.as_slice())? else {
-        panic!(rt; "another answer")
-    };
+    let told = told_at_last(&rt, alloc, COUNTS.as_bytes(), words.as_slice())?;
+    let desk = told.expect(&rt, "a refusal and then an image");
     assert!(rt; desk.out.as_slice() == printed.as_bytes());
     assert!(rt; desk.files.written.as_slice() == ample.image.as_slice());
     Ok(())

@@ -7,6 +7,7 @@ use list_scheduler::ListOrder;
 use mips_isa::Rule;
 use mips_steps::Ending;
 use sched_phase::PhaseOpts;
+use stand_ins::COUNTS;
 use std::alloc::{AllocError, Global};
 use std::test::Fail;
 
@@ -38,21 +39,22 @@ fn with_word(alloc: Global, number: usize, other: u32) -> Result<Vec<u8>, AllocE
     Ok(bytes)
 }
 
+const CHANGES: [(usize, u32, Result<Ending, ImageFault>); 8] = [
+    (2, 3, Ok(Ending::Halt(7))),
+    (5, 0x0010_0000, Ok(Ending::Halt(7))),
+    (5, 0x0010_0001, Err(ImageFault::Counts)),
+    (10, 1, Ok(Ending::Halt(7))),
+    (11, 0xffff_ffff, Ok(Ending::Stuck(Rule::M8))),
+    (3, 0x0040_0008, Ok(Ending::Stuck(Rule::M9))),
+    (3, 0x0040_000c, Err(ImageFault::Entry)),
+    (1, 3, Err(ImageFault::Version)),
+];
+
 #[test]
 fn a_changed_word_is_refused_or_run(rt: HostRuntime) -> Result<(), Fail> {
-    let alloc = rt.alloc();
-    for (number, other, expected) in [
-        (2, 3, Ok(Ending::Halt(7))),
-        (5, 0x0010_0000, Ok(Ending::Halt(7))),
-        (5, 0x0010_0001, Err(ImageFault::Counts)),
-        (10, 1, Ok(Ending::Halt(7))),
-        (11, 0xffff_ffff, Ok(Ending::Stuck(Rule::M8))),
-        (3, 0x0040_0008, Ok(Ending::Stuck(Rule::M9))),
-        (3, 0x0040_000c, Err(ImageFault::Entry)),
-        (1, 3, Err(ImageFault::Version)),
-    ] {
-        let bytes = with_word(alloc, number, other)?;
-        let end = run_image(alloc, bytes.as_slice(), 1000).map(|ran| ran.end);
+    for (number, other, expected) in CHANGES {
+        let bytes = with_word(rt.alloc(), number, other)?;
+        let end = run_image(rt.alloc(), bytes.as_slice(), 1000).map(|ran| ran.end);
         assert!(rt; end == expected, "at {number}");
     }
     Ok(())
@@ -69,31 +71,20 @@ report same 0 unclean 0 differs 0 full 0 nomemory 0 missed 1
 fn counts_are_listed(rt: HostRuntime) -> Result<(), Fail> {
     let alloc = rt.alloc();
     let bytes = with_word(alloc, 10, 1)?;
-    let Ok(text) = list_image(alloc, bytes.as_slice()) else {
-        panic!(rt; "no listing")
-    };
+    let text = list_image(alloc, bytes.as_slice())?;
     assert_eq!(rt; text.as_str(), LISTING);
     Ok(())
 }
-
-const COUNTS: &str =
-    "int a[3];int main(void){int i=0;a[0]=5;a[1]=6;a[2]=7;while(i<3&&a[i])i=i+1;out(i);}";
 
 // The counts of a build stand at the end of its image's listing: here all blocks are the same.
 #[test]
 fn a_build_s_counts_are_listed(rt: HostRuntime) -> Result<(), Fail> {
     let alloc = rt.alloc();
-    let Some(phase) = PhaseOpts::new(1, 2000, 16) else {
-        panic!(rt; "no options")
-    };
+    let phase = PhaseOpts::new(1, 2000, 16).expect(&rt, "options");
     let options = BuildOpts { depth: 1, phase };
     let scheduler = FilledOrder(ListOrder);
-    let Ok(built) = build_one(alloc, COUNTS.as_bytes(), &options, &scheduler) else {
-        panic!(rt; "no image")
-    };
-    let Ok(text) = list_image(alloc, built.image.as_slice()) else {
-        panic!(rt; "no listing")
-    };
+    let built = build_one(alloc, COUNTS.as_bytes(), &options, &scheduler)?;
+    let text = list_image(alloc, built.image.as_slice())?;
     let blocks = built.blocks;
     let last = format!(in alloc;
         "\nreport same {blocks} unclean 0 differs 0 full 0 nomemory 0 missed 0\n"

@@ -44,54 +44,56 @@ fn push_block(
     Ok(())
 }
 
-// Loads the second word of data, adds 1 and, if that is above 0, doubles it in a call, prints it, and ends with 3.
-fn blocks(alloc: Global) -> Result<Vec<Block>, AllocError> {
-    let base = Reg::masked(8);
-    let mut blocks = Vec::new(alloc);
-    let load = [
-        Plain::LoadUpper {
-            rt: base,
-            imm: 4096,
-        },
-        Plain::Load {
-            width: Width::Word,
-            rt: argument(),
-            base,
-            offset: 4,
-        },
-    ];
+// Register 8 at the data.
+fn to_data() -> Plain {
+    Plain::LoadUpper {
+        rt: Reg::masked(8),
+        imm: 4096,
+    }
+}
+
+// Doubles register 4.
+fn double() -> Plain {
+    Plain::Shift {
+        op: ShiftOp::Sll,
+        rd: Reg::ARGUMENT,
+        rt: Reg::ARGUMENT,
+        amount: Amount::masked(1),
+    }
+}
+
+// Loads the second word of data, and calls, prints what register 4 then has, and ends with 3.
+fn main_blocks(alloc: Global, blocks: &mut Vec<Block>) -> Result<(), AllocError> {
     let call = Exit::Call {
         function: number(3),
         next: number(1),
     };
-    push_block(alloc, &mut blocks, load.as_slice(), call)?;
-    push_block(alloc, &mut blocks, &[], Exit::Out(number(2)))?;
-    push_block(
-        alloc,
-        &mut blocks,
-        [add(Reg::ZERO, 3)].as_slice(),
-        Exit::Halt,
-    )?;
+    let first = [to_data(), load(Width::Word, 4)];
+    push_block(alloc, blocks, first.as_slice(), call)?;
+    push_block(alloc, blocks, &[], Exit::Out(number(2)))?;
+    let last = [add(Reg::ZERO, 3)];
+    push_block(alloc, blocks, last.as_slice(), Exit::Halt)
+}
+
+// Adds 1 to register 4 and, if that is above 0, doubles it.
+fn called_blocks(alloc: Global, blocks: &mut Vec<Block>) -> Result<(), AllocError> {
     let branch = Exit::BranchZero {
         test: ZeroTest::AboveZero,
         rs: Reg::ARGUMENT,
         then: number(4),
         other: number(5),
     };
-    push_block(
-        alloc,
-        &mut blocks,
-        [add(Reg::ARGUMENT, 1)].as_slice(),
-        branch,
-    )?;
-    let double = Plain::Shift {
-        op: ShiftOp::Sll,
-        rd: Reg::ARGUMENT,
-        rt: Reg::ARGUMENT,
-        amount: Amount::masked(1),
-    };
-    push_block(alloc, &mut blocks, [double].as_slice(), Exit::Return)?;
-    push_block(alloc, &mut blocks, &[], Exit::Return)?;
+    let first = [add(Reg::ARGUMENT, 1)];
+    push_block(alloc, blocks, first.as_slice(), branch)?;
+    push_block(alloc, blocks, [double()].as_slice(), Exit::Return)?;
+    push_block(alloc, blocks, &[], Exit::Return)
+}
+
+// Of a program that prints 42 and ends with 3 where the second word of data is 20.
+fn blocks(alloc: Global) -> Result<Vec<Block>, AllocError> {
+    let mut blocks = Vec::new(alloc);
+    main_blocks(alloc, &mut blocks)?;
+    called_blocks(alloc, &mut blocks)?;
     Ok(blocks)
 }
 
@@ -169,15 +171,17 @@ fn bytes_of(alloc: Global, head: &[u32], bytes: &[u8]) -> Result<Vec<u8>, AllocE
     Ok(out)
 }
 
-// Whether the image is written as these bytes, is read back from them, and prints 42 and ends with 3.
-fn runs_from(alloc: Global, image: &Image, bytes: &[u8]) -> Result<bool, AllocError> {
+// Whether the image is written as this head, the code words and the data, is read back from them, and prints 42 and ends
+// with 3.
+fn runs_from(alloc: Global, image: &Image, head: &[u32], data: &[u8]) -> Result<bool, AllocError> {
+    let bytes = bytes_of(alloc, head, data)?;
     let written = write_image(alloc, image)?;
     let Ok(again) = read_image(alloc, written.as_slice()) else {
         return Ok(false);
     };
     let ran = run(alloc, &again, 1000)?;
     Ok(
-        written.as_slice() == bytes
+        written.as_slice() == bytes.as_slice()
             && ran.end == Ending::Halt(3)
             && ran.output.as_slice() == [42].as_slice(),
     )
@@ -186,71 +190,55 @@ fn runs_from(alloc: Global, image: &Image, bytes: &[u8]) -> Result<bool, AllocEr
 #[test]
 fn a_unit_becomes_an_image_of_the_first_version(rt: HostRuntime) -> Result<(), Fail> {
     let data = [0, 0, 0, 7, 0, 0, 0, 20];
-    let unit = program(rt.alloc(), data.as_slice())?;
-    assert!(rt; unit.is_some());
-    if let Some(unit) = unit {
-        let image = first_version(rt.alloc(), &unit)?;
-        let head = [1, 24, 0x0040_0000, 2];
-        let bytes = bytes_of(rt.alloc(), head.as_slice(), data.as_slice())?;
-        assert!(rt; image.is_some());
-        if let Some(image) = image {
-            assert_eq!(rt; image.code(), WORDS.as_slice());
-            assert!(rt; runs_from(rt.alloc(), &image, bytes.as_slice())?);
-        }
-    }
+    let unit = program(rt.alloc(), data.as_slice())?.expect(&rt, "a unit");
+    let image = first_version(rt.alloc(), &unit)?.expect(&rt, "an image");
+    assert_eq!(rt; image.code(), WORDS.as_slice());
+    let head = [1, 24, 0x0040_0000, 2];
+    assert!(rt; runs_from(rt.alloc(), &image, head.as_slice(), data.as_slice())?);
     Ok(())
 }
 
 #[test]
 fn a_unit_becomes_an_image_of_the_second_version(rt: HostRuntime) -> Result<(), Fail> {
     let data = [0, 0, 0, 7, 0, 0, 0, 20, 9];
-    let unit = program(rt.alloc(), data.as_slice())?;
-    assert!(rt; unit.is_some());
-    if let Some(unit) = unit {
-        let image = second_version(rt.alloc(), &unit)?;
-        let head = [2, 24, 0x0040_0000, 9, 6, 5, 4, 3, 2, 1];
-        let bytes = bytes_of(rt.alloc(), head.as_slice(), data.as_slice())?;
-        assert!(rt; runs_from(rt.alloc(), &image, bytes.as_slice())?);
-    }
+    let unit = program(rt.alloc(), data.as_slice())?.expect(&rt, "a unit");
+    let image = second_version(rt.alloc(), &unit)?;
+    let head = [2, 24, 0x0040_0000, 9, 6, 5, 4, 3, 2, 1];
+    assert!(rt; runs_from(rt.alloc(), &image, head.as_slice(), data.as_slice())?);
     Ok(())
 }
 
 #[test]
 fn data_of_half_a_word_has_no_first_version(rt: HostRuntime) -> Result<(), Fail> {
-    if let Some(unit) = program(rt.alloc(), [1, 2].as_slice())? {
-        assert!(rt; first_version(rt.alloc(), &unit)?.is_none());
-    }
+    let unit = program(rt.alloc(), [1, 2].as_slice())?.expect(&rt, "a unit");
+    assert!(rt; first_version(rt.alloc(), &unit)?.is_none());
     Ok(())
+}
+
+// Into register 4, from this offset behind register 8.
+fn load(width: Width, offset: i16) -> Plain {
+    Plain::Load {
+        width,
+        rt: argument(),
+        base: Reg::masked(8),
+        offset,
+    }
 }
 
 // Adds 1 to a byte of data, writes it before another, and ends with the word that it then stands in.
 fn byte_block(alloc: Global) -> Result<Vec<Block>, AllocError> {
-    let base = Reg::masked(8);
-    let insts = [
-        Plain::LoadUpper {
-            rt: base,
-            imm: 4096,
-        },
-        Plain::Load {
-            width: Width::Byte,
-            rt: argument(),
-            base,
-            offset: 5,
-        },
-        add(Reg::ARGUMENT, 1),
-        Plain::Store {
-            width: Width::Byte,
-            rt: Reg::ARGUMENT,
-            base,
-            offset: 2,
-        },
-        Plain::Load {
-            width: Width::Word,
-            rt: argument(),
-            base,
-            offset: 0,
-        },
-    ];
+    let store = Plain::Store {
+        width: Width::Byte,
+        rt: Reg::ARGUMENT,
+        base: Reg::masked(8),
+        offset: 2,
+    };
+    let mut insts = Vec::new(alloc);
+    insts.push(to_data())?;
+    insts.push(load(Width::Byte, 5))?;
+    insts.push(add(Reg::ARGUMENT, 1))?;
+    insts.push(store)?;
+    insts.push(load(Width::Word, 0))?;
     let mut blocks = Vec::new(alloc);
     push_block(alloc, &mut blocks, insts.as_slice(), Exit::Halt)?;
     Ok(blocks)
@@ -268,22 +256,21 @@ const BYTE_WORDS: [u32; 9] = [
     0x0000_000c,
 ];
 
+// The unit of one block over eight bytes.
+fn byte_unit(alloc: Global) -> Result<Option<Unit>, AllocError> {
+    let mut owner = Vec::new(alloc);
+    owner.push(number(0))?;
+    let data = Vec::from_slice(alloc, [1, 2, 3, 4, 5, 255, 7, 8].as_slice())?;
+    Ok(Unit::new(byte_block(alloc)?, owner, data))
+}
+
 // A loaded byte is waited for as a loaded word is.
 #[test]
 fn bytes_become_an_image(rt: HostRuntime) -> Result<(), Fail> {
-    let mut owner = Vec::new(rt.alloc());
-    owner.push(number(0))?;
-    let data = Vec::from_slice(rt.alloc(), [1, 2, 3, 4, 5, 255, 7, 8].as_slice())?;
-    let unit = Unit::new(byte_block(rt.alloc())?, owner, data);
-    assert!(rt; unit.is_some());
-    if let Some(unit) = unit {
-        let image = first_version(rt.alloc(), &unit)?;
-        assert!(rt; image.is_some());
-        if let Some(image) = image {
-            assert_eq!(rt; image.code(), BYTE_WORDS.as_slice());
-            let ran = run(rt.alloc(), &image, 1000)?;
-            assert!(rt; ran.end == Ending::Halt(0x0102_0004));
-        }
-    }
+    let unit = byte_unit(rt.alloc())?.expect(&rt, "a unit");
+    let image = first_version(rt.alloc(), &unit)?.expect(&rt, "an image");
+    assert_eq!(rt; image.code(), BYTE_WORDS.as_slice());
+    let ran = run(rt.alloc(), &image, 1000)?;
+    assert!(rt; ran.end == Ending::Halt(0x0102_0004));
     Ok(())
 }

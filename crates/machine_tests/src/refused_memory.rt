@@ -5,30 +5,15 @@ use crate::limits::unit_of;
 use image::{Image, ImageFault, read_image, write_image};
 use mips_asm::{AsmFault, assemble, list};
 use mips_machine::{Machine, load};
-use sched_phase::schedule_plain;
+use scarce_memory::AllMemory;
+use sched_phase::{Scheduled, schedule_plain};
 use std::alloc::{AllocError, Global};
 use std::test::Fail;
 
-// A thousand blocks of 4 KB, to be given back one by one, and all other memory that can be had, in blocks of halving size.
-// Nothing is written to them.
-fn all_memory(alloc: Global) -> Result<(Vec<Vec<u8>>, Vec<Vec<u8>>), AllocError> {
-    let mut others = Vec::with_capacity(alloc, 200_000)?;
-    let mut pages = Vec::with_capacity(alloc, 1000)?;
-    for _ in 0..1000 {
-        pages.push(Vec::with_capacity(alloc, 4096)?)?;
-    }
-    let mut size: usize = 0x4000_0000_0000;
-    for _ in 0..40 {
-        for _ in 0..200_000 {
-            let Ok(block) = Vec::with_capacity(alloc, size) else {
-                break;
-            };
-            others.push(block)?;
-        }
-        size /= 2;
-    }
-    Ok((pages, others))
-}
+// So many blocks of 4 KB are given back one by one.
+const BLOCKS: usize = 1000;
+
+const LAST: usize = 4096;
 
 // An image of version 1 with so many words of code, each `addiu $4,$0,7`, and one word of data.
 fn long_image(alloc: Global, count: u32) -> Result<Vec<u8>, AllocError> {
@@ -43,58 +28,61 @@ fn long_image(alloc: Global, count: u32) -> Result<Vec<u8>, AllocError> {
     Ok(bytes)
 }
 
-fn image_of_words(alloc: Global, count: u32) -> Result<Option<Image>, AllocError> {
-    let bytes = long_image(alloc, count)?;
-    match read_image(alloc, bytes.as_slice()) {
-        Ok(image) => Ok(Some(image)),
-        Err(_) => Ok(None),
+// How often reading is refused memory before there is an image; None where another fault is told.
+fn reading_refusals(alloc: Global, bytes: &[u8], memory: &mut AllMemory) -> Option<u32> {
+    let mut refusals: u32 = 0;
+    for _ in 0..BLOCKS {
+        match read_image(alloc, bytes) {
+            Ok(_) => return Some(refusals),
+            Err(ImageFault::NoMemory) => {}
+            Err(_) => return None,
+        }
+        refusals = refusals.wrapping_add(1);
+        memory.give_back();
     }
+    Some(refusals)
 }
 
 #[test]
 fn reading_tells_refused_memory_alone(rt: HostRuntime) -> Result<(), Fail> {
     let alloc = rt.alloc();
     let bytes = long_image(alloc, 10_000)?;
-    let (mut blocks, others) = all_memory(alloc)?;
-    let mut refusals: u32 = 0;
-    for _ in 0..blocks.len() {
-        match read_image(alloc, bytes.as_slice()) {
-            Ok(_) => break,
-            Err(fault) => assert!(rt; fault == ImageFault::NoMemory),
-        }
-        refusals = refusals.wrapping_add(1);
-        drop(blocks.pop());
-    }
-    drop(blocks);
-    drop(others);
-    assert!(rt; refusals > 0);
-    let Ok(image) = read_image(alloc, bytes.as_slice()) else {
-        panic!(rt; "no image")
-    };
+    let mut memory = AllMemory::take(alloc, BLOCKS, LAST)?;
+    let refusals = reading_refusals(alloc, bytes.as_slice(), &mut memory);
+    drop(memory);
+    assert!(rt; refusals.is_some_and(|count| count > 0));
+    let image = read_image(alloc, bytes.as_slice())?;
     assert_eq!(rt; write_image(alloc, &image)?.as_slice(), bytes.as_slice());
     Ok(())
+}
+
+// How often writing is refused memory before it gives these bytes; None where it never does.
+fn writing_refusals(
+    alloc: Global,
+    image: &Image,
+    bytes: &[u8],
+    memory: &mut AllMemory,
+) -> Option<u32> {
+    let mut refusals: u32 = 0;
+    for _ in 0..BLOCKS {
+        if let Ok(written) = write_image(alloc, image) {
+            return (written.as_slice() == bytes).then_some(refusals);
+        }
+        refusals = refusals.wrapping_add(1);
+        memory.give_back();
+    }
+    None
 }
 
 #[test]
 fn writing_tells_refused_memory_alone(rt: HostRuntime) -> Result<(), Fail> {
     let alloc = rt.alloc();
     let bytes = long_image(alloc, 10_000)?;
-    let Some(image) = image_of_words(alloc, 10_000)? else {
-        panic!(rt; "no image")
-    };
-    let (mut blocks, others) = all_memory(alloc)?;
-    let mut refusals: u32 = 0;
-    for _ in 0..blocks.len() {
-        if let Ok(written) = write_image(alloc, &image) {
-            assert!(rt; written.as_slice() == bytes.as_slice());
-            break;
-        }
-        refusals = refusals.wrapping_add(1);
-        drop(blocks.pop());
-    }
-    assert!(rt; refusals > 0);
-    assert!(rt; !blocks.is_empty());
-    drop(others);
+    let image = read_image(alloc, bytes.as_slice())?;
+    let mut memory = AllMemory::take(alloc, BLOCKS, LAST)?;
+    let refusals = writing_refusals(alloc, &image, bytes.as_slice(), &mut memory);
+    drop(memory);
+    assert!(rt; refusals.is_some_and(|count| count > 0));
     Ok(())
 }
 
@@ -103,15 +91,15 @@ fn listing_refusals(
     alloc: Global,
     image: &Image,
     ample: &str,
-    blocks: &mut Vec<Vec<u8>>,
+    memory: &mut AllMemory,
 ) -> Option<u32> {
     let mut refusals: u32 = 0;
-    for _ in 0..blocks.len() {
+    for _ in 0..BLOCKS {
         if let Ok(text) = list(alloc, image) {
             return (text.as_str() == ample).then_some(refusals);
         }
         refusals = refusals.wrapping_add(1);
-        drop(blocks.pop());
+        memory.give_back();
     }
     None
 }
@@ -119,44 +107,46 @@ fn listing_refusals(
 #[test]
 fn listing_tells_refused_memory_alone(rt: HostRuntime) -> Result<(), Fail> {
     let alloc = rt.alloc();
-    let Some(image) = image_of_words(alloc, 10_000)? else {
-        panic!(rt; "no image")
-    };
+    let bytes = long_image(alloc, 10_000)?;
+    let image = read_image(alloc, bytes.as_slice())?;
     let ample = list(alloc, &image)?;
     // 10,000 lines of code with 33 bytes each and their ends, and one of data
     assert_eq!(rt; ample.len(), 340_026);
-    let (mut blocks, others) = all_memory(alloc)?;
-    let refusals = listing_refusals(alloc, &image, ample.as_str(), &mut blocks);
-    drop(others);
+    let mut memory = AllMemory::take(alloc, BLOCKS, LAST)?;
+    let refusals = listing_refusals(alloc, &image, ample.as_str(), &mut memory);
+    drop(memory);
     assert!(rt; refusals.is_some_and(|count| count > 0));
     Ok(())
+}
+
+// How often a unit is refused memory before it has an image, and that image's words; None where another fault is told.
+fn assembling_refusals(
+    alloc: Global,
+    scheduled: &Scheduled,
+    memory: &mut AllMemory,
+) -> Option<(u32, usize)> {
+    let mut refusals: u32 = 0;
+    for _ in 0..BLOCKS {
+        match assemble(alloc, scheduled) {
+            Ok(image) => return Some((refusals, image.code().len())),
+            Err(AsmFault::NoMemory) => {}
+            Err(_) => return None,
+        }
+        refusals = refusals.wrapping_add(1);
+        memory.give_back();
+    }
+    None
 }
 
 #[test]
 fn assembling_tells_refused_memory_alone(rt: HostRuntime) -> Result<(), Fail> {
     let alloc = rt.alloc();
-    let Some(unit) = unit_of(alloc, [32_000].as_slice())? else {
-        panic!(rt; "no unit")
-    };
+    let unit = unit_of(alloc, [32_000].as_slice())?.expect(&rt, "a unit");
     let scheduled = schedule_plain(alloc, &unit)?;
-    let (mut blocks, others) = all_memory(alloc)?;
-    let mut refusals: u32 = 0;
-    let mut words: usize = 0;
-    for _ in 0..blocks.len() {
-        match assemble(alloc, &scheduled) {
-            Ok(image) => {
-                words = image.code().len();
-                break;
-            }
-            Err(fault) => assert!(rt; fault == AsmFault::NoMemory),
-        }
-        refusals = refusals.wrapping_add(1);
-        drop(blocks.pop());
-    }
-    assert!(rt; refusals > 0);
-    assert_eq!(rt; words, 32_000);
-    drop(blocks);
-    drop(others);
+    let mut memory = AllMemory::take(alloc, BLOCKS, LAST)?;
+    let told = assembling_refusals(alloc, &scheduled, &mut memory);
+    drop(memory);
+    assert!(rt; told.is_some_and(|(refusals, words)| refusals > 0 && words == 32_000));
     Ok(())
 }
 
@@ -176,7 +166,7 @@ const SEVENS: [u32; 10] = [
 
 // Takes so many steps, and gives a block back at each refusal; how many refusals there were, or None where the machine
 // ended or took fewer steps.
-fn step_refusals(machine: &mut Machine<'_>, steps: u32, blocks: &mut Vec<Vec<u8>>) -> Option<u32> {
+fn step_refusals(machine: &mut Machine<'_>, steps: u32, memory: &mut AllMemory) -> Option<u32> {
     let mut taken: u32 = 0;
     let mut refusals: u32 = 0;
     for _ in 0..steps.wrapping_add(1000) {
@@ -188,33 +178,39 @@ fn step_refusals(machine: &mut Machine<'_>, steps: u32, blocks: &mut Vec<Vec<u8>
             Ok(Some(_)) => return None,
             Err(_) => {
                 refusals = refusals.wrapping_add(1);
-                drop(blocks.pop());
+                memory.give_back();
             }
         }
     }
     None
 }
 
-fn sevens(alloc: Global) -> Result<Option<Image>, AllocError> {
+fn sevens(alloc: Global) -> Result<Vec<u8>, AllocError> {
     let mut bytes = Vec::new(alloc);
     for word in SEVENS {
         bytes.extend_from_slice(&word.to_be_bytes())?;
     }
-    Ok(read_image(alloc, bytes.as_slice()).ok())
+    Ok(bytes)
+}
+
+// Whether the machine takes 500,000 steps, some of which are refused memory and taken again, and prints 7 in each fifth.
+fn goes_on(machine: &mut Machine<'_>, memory: &mut AllMemory) -> bool {
+    let refusals = step_refusals(machine, 500_000, memory);
+    let output = machine.output();
+    refusals.is_some_and(|count| count > 0)
+        && output.len() == 100_000
+        && output.iter().all(|word| *word == 7)
 }
 
 #[test]
 fn a_refused_step_can_be_taken_again(rt: HostRuntime) -> Result<(), Fail> {
     let alloc = rt.alloc();
-    let Some(image) = sevens(alloc)? else {
-        panic!(rt; "no image")
-    };
+    let bytes = sevens(alloc)?;
+    let image = read_image(alloc, bytes.as_slice())?;
     let mut machine = load(alloc, &image)?;
-    let (mut blocks, others) = all_memory(alloc)?;
-    let refusals = step_refusals(&mut machine, 500_000, &mut blocks);
-    drop(others);
-    assert!(rt; refusals.is_some_and(|count| count > 0));
-    assert_eq!(rt; machine.output().len(), 100_000);
-    assert!(rt; machine.output().iter().all(|word| *word == 7));
+    let mut memory = AllMemory::take(alloc, BLOCKS, LAST)?;
+    let goes_on = goes_on(&mut machine, &mut memory);
+    drop(memory);
+    assert!(rt; goes_on);
     Ok(())
 }

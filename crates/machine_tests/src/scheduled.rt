@@ -2,9 +2,9 @@
 
 use crate::assembled::program;
 use crate::pieces::number;
-use image::{Counts, read_image, write_image};
+use image::{Counts, Image, read_image, write_image};
 use mblock::{Block, Exit, Unit};
-use mips_asm::{assemble, list};
+use mips_asm::{AsmFault, assemble, list};
 use mips_isa::{ImmOp, Plain, Reg};
 use mips_machine::run;
 use mips_steps::Ending;
@@ -64,23 +64,25 @@ fn bytes_of(alloc: Global, words: &[u32]) -> Result<Vec<u8>, AllocError> {
     Ok(bytes)
 }
 
+// Whether the image is written as these words, is read back from them, and ends with 7 at the third word and no earlier.
+fn ends_with_7(alloc: Global, image: &Image, words: &[u32]) -> Result<bool, AllocError> {
+    let bytes = write_image(alloc, image)?;
+    let expected = bytes_of(alloc, words)?;
+    let early = run(alloc, image, 2)?.end;
+    let end = run(alloc, image, 3)?.end;
+    let is_read = read_image(alloc, bytes.as_slice()).is_ok();
+    let ends = early == Ending::More && end == Ending::Halt(7);
+    Ok(is_read && ends && bytes.as_slice() == expected.as_slice())
+}
+
 #[test]
 fn a_scheduled_unit_becomes_an_image(rt: HostRuntime) -> Result<(), Fail> {
-    let alloc = rt.alloc();
-    let Some(unit) = seven(alloc)? else {
-        return Ok(());
-    };
-    let scheduled = schedule_plain(alloc, &unit)?;
+    let unit = seven(rt.alloc())?.expect(&rt, "a unit");
+    let scheduled = schedule_plain(rt.alloc(), &unit)?;
     assert_eq!(rt; scheduled.count(), 1);
     assert_eq!(rt; scheduled.report(), NO_COUNTS);
-    let image = assemble(alloc, &scheduled)?;
-    let bytes = write_image(alloc, &image)?;
-    let expected = bytes_of(alloc, SEVEN.as_slice())?;
-    assert_eq!(rt; bytes.as_slice(), expected.as_slice());
-    let again = read_image(alloc, bytes.as_slice());
-    assert!(rt; again.is_ok());
-    assert!(rt; run(alloc, &image, 3)?.end == Ending::Halt(7));
-    assert!(rt; run(alloc, &image, 2)?.end == Ending::More);
+    let image = assemble(rt.alloc(), &scheduled)?;
+    assert!(rt; ends_with_7(rt.alloc(), &image, SEVEN.as_slice())?);
     Ok(())
 }
 
@@ -115,17 +117,19 @@ const LISTING: &str = "\
 report same 0 unclean 0 differs 0 full 0 nomemory 0 missed 0
 ";
 
+// The listing of a unit's plain orders.
+fn listing(alloc: Global, unit: &Unit) -> Result<String, AsmFault> {
+    let scheduled = schedule_plain(alloc, unit)?;
+    let image = assemble(alloc, &scheduled)?;
+    Ok(list(alloc, &image)?)
+}
+
 // The texts are those of GNU objdump, with registers by number.
 #[test]
 fn a_scheduled_unit_is_listed(rt: HostRuntime) -> Result<(), Fail> {
-    let alloc = rt.alloc();
     let data = [0, 0, 0, 7, 0, 0, 0, 20, 9];
-    let Some(unit) = program(alloc, data.as_slice())? else {
-        return Ok(());
-    };
-    let scheduled = schedule_plain(alloc, &unit)?;
-    let image = assemble(alloc, &scheduled)?;
-    let text = list(alloc, &image)?;
+    let unit = program(rt.alloc(), data.as_slice())?.expect(&rt, "a unit");
+    let text = listing(rt.alloc(), &unit)?;
     assert_eq!(rt; text.as_str(), LISTING);
     Ok(())
 }

@@ -36,58 +36,63 @@ fn line_count(text: &[u8]) -> u32 {
     count.saturating_add(u32::from(inside))
 }
 
+const WRONG: [(&str, u32); 28] = [
+    ("", 1),
+    ("block", 2),
+    ("block\n", 2),
+    ("\nblock\n", 1),
+    ("block\nreturn\norder\nreturn\n", 5),
+    ("block\nreturn\norder\nreturn\nslot nop\n\n", 6),
+    ("block\nreturn\norder\nhalt\nslot nop\n", 5),
+    (
+        "block\naddiu $4,$0,7\nout 1\norder\naddiu $4,$0,7\nout 1\nslot nop\n",
+        7,
+    ),
+    ("block\r\nreturn\norder\nreturn\nslot nop\n", 1),
+    ("block\naddu $1,$2, $3\n", 2),
+    ("block\naddu $1,$2\n", 2),
+    ("block\naddu $1,$2,$32\n", 2),
+    ("block\naddu $01,$2,$3\n", 2),
+    ("block\nlw $0,0($29)\n", 2),
+    ("block\nlbu $0,0($29)\n", 2),
+    ("block\nlbu $8,0 ($29)\n", 2),
+    ("block\nlb $8,0($29)\n", 2),
+    ("block\nsb $8,32768($29)\n", 2),
+    ("block\naddiu $1,$2,32768\n", 2),
+    ("block\naddiu $1,$2,-0\n", 2),
+    ("block\naddiu $1,$2,+1\n", 2),
+    ("block\nandi $1,$2,65536\n", 2),
+    ("block\nandi $1,$2,-1\n", 2),
+    ("block\nsll $1,$2,32\n", 2),
+    ("block\njr $31\n", 2),
+    ("block\nsyscall\n", 2),
+    ("block\ngoto 1048576\n", 2),
+    ("block\nreturn\nreturn\n", 3),
+];
+
 #[test]
 fn short_and_wrong_texts_name_their_line(rt: HostRuntime) -> Result<(), Fail> {
-    for (text, want) in [
-        ("", 1),
-        ("block", 2),
-        ("block\n", 2),
-        ("\nblock\n", 1),
-        ("block\nreturn\norder\nreturn\n", 5),
-        ("block\nreturn\norder\nreturn\nslot nop\n\n", 6),
-        ("block\nreturn\norder\nhalt\nslot nop\n", 5),
-        (
-            "block\naddiu $4,$0,7\nout 1\norder\naddiu $4,$0,7\nout 1\nslot nop\n",
-            7,
-        ),
-        ("block\r\nreturn\norder\nreturn\nslot nop\n", 1),
-        ("block\naddu $1,$2, $3\n", 2),
-        ("block\naddu $1,$2\n", 2),
-        ("block\naddu $1,$2,$32\n", 2),
-        ("block\naddu $01,$2,$3\n", 2),
-        ("block\nlw $0,0($29)\n", 2),
-        ("block\nlbu $0,0($29)\n", 2),
-        ("block\nlbu $8,0 ($29)\n", 2),
-        ("block\nlb $8,0($29)\n", 2),
-        ("block\nsb $8,32768($29)\n", 2),
-        ("block\naddiu $1,$2,32768\n", 2),
-        ("block\naddiu $1,$2,-0\n", 2),
-        ("block\naddiu $1,$2,+1\n", 2),
-        ("block\nandi $1,$2,65536\n", 2),
-        ("block\nandi $1,$2,-1\n", 2),
-        ("block\nsll $1,$2,32\n", 2),
-        ("block\njr $31\n", 2),
-        ("block\nsyscall\n", 2),
-        ("block\ngoto 1048576\n", 2),
-        ("block\nreturn\nreturn\n", 3),
-    ] {
+    for (text, want) in WRONG {
         assert_eq!(rt; fault_line(rt.alloc(), text.as_bytes()), want, "at {text}");
     }
     Ok(())
 }
 
+/// Whether the text cut here has a verdict, or a fault in a line that it has or the next; and behind a line feed in the next.
+fn is_judged(alloc: Global, cut: &[u8]) -> bool {
+    let line = fault_line(alloc, cut);
+    let next = line_count(cut).saturating_add(1);
+    match cut.last() {
+        None | Some(b'\n') => line == next,
+        Some(_) => line <= next,
+    }
+}
+
 #[test]
 fn each_cut_has_a_verdict_or_a_line(rt: HostRuntime) -> Result<(), Fail> {
     for whole in [WHOLE.as_bytes(), BYTES.as_bytes()] {
-        let mut lines = 0u32;
         for end in 0..whole.len() {
-            let text = &whole[..end];
-            let line = fault_line(rt.alloc(), text);
-            assert!(rt; line <= line_count(text).saturating_add(1), "at {end}");
-            if end == 0 || whole[end - 1] == b'\n' {
-                lines = lines.saturating_add(1);
-                assert_eq!(rt; line, lines, "at {end}");
-            }
+            assert!(rt; is_judged(rt.alloc(), &whole[..end]), "at {end}");
         }
         assert!(rt; read(rt.alloc(), whole).is_ok());
     }
@@ -117,11 +122,8 @@ fn each_wrong_line_is_told(rt: HostRuntime) -> Result<(), Fail> {
     for wrong in ["\n", "nop \n", "addu $1,$2,$x\n", "\u{e9}\n", "slot\n"] {
         for number in 1..10u32 {
             let text = with_line(rt.alloc(), WHOLE.as_bytes(), number, wrong.as_bytes())?;
-            assert_eq!(rt;
-                fault_line(rt.alloc(), text.as_slice()),
-                number,
-                "{wrong} at {number}"
-            );
+            let told = fault_line(rt.alloc(), text.as_slice());
+            assert_eq!(rt; told, number, "{wrong} at {number}");
         }
     }
     Ok(())
@@ -141,21 +143,25 @@ fn long_text(alloc: Global, insts: usize, ordered: usize) -> Result<Vec<u8>, All
     Ok(text)
 }
 
+const SIZES: [(usize, usize, u32); 4] = [
+    (0, 0, 0),
+    (512, 2048, 0),
+    (513, 2048, 514),
+    (512, 2049, 2564),
+];
+
 #[test]
 fn sizes_are_limited(rt: HostRuntime) -> Result<(), Fail> {
-    for (insts, ordered, want) in [
-        (0usize, 0usize, 0u32),
-        (512, 2048, 0),
-        (513, 2048, 514),
-        (512, 2049, 2564),
-    ] {
+    for (insts, ordered, want) in SIZES {
         let text = long_text(rt.alloc(), insts, ordered)?;
-        assert_eq!(rt;
-            fault_line(rt.alloc(), text.as_slice()),
-            want,
-            "at {insts}, {ordered}"
-        );
+        let told = fault_line(rt.alloc(), text.as_slice());
+        assert_eq!(rt; told, want, "at {insts}, {ordered}");
     }
+    Ok(())
+}
+
+#[test]
+fn a_text_has_at_most_a_mebibyte(rt: HostRuntime) -> Result<(), Fail> {
     let mut text = Vec::new(rt.alloc());
     text.resize(1_048_576, b'\n')?;
     assert_eq!(rt; fault_line(rt.alloc(), text.as_slice()), 1);
@@ -164,25 +170,21 @@ fn sizes_are_limited(rt: HostRuntime) -> Result<(), Fail> {
     Ok(())
 }
 
+/// Whether so many `nop` are the instructions of a block.
+fn is_block(alloc: Global, count: usize) -> Result<bool, AllocError> {
+    let nop = Plain::Shift {
+        op: ShiftOp::Sll,
+        rd: Reg::ZERO,
+        rt: Reg::ZERO,
+        amount: Amount::masked(0),
+    };
+    let insts = vec![in alloc; nop; count]?;
+    Ok(Block::new(insts, Exit::Return).is_some())
+}
+
 #[test]
 fn a_block_has_at_most_512_instructions(rt: HostRuntime) -> Result<(), Fail> {
-    let zero = Reg::ZERO;
-    let amount = Amount::masked(0);
-    for (count, legal) in [(512usize, true), (513, false)] {
-        let mut insts = Vec::new(rt.alloc());
-        for _ in 0..count {
-            insts.push(Plain::Shift {
-                op: ShiftOp::Sll,
-                rd: zero,
-                rt: zero,
-                amount,
-            })?;
-        }
-        assert_eq!(rt;
-            Block::new(insts, Exit::Return).is_some(),
-            legal,
-            "at {count}"
-        );
-    }
+    assert!(rt; is_block(rt.alloc(), 512)?);
+    assert!(rt; !is_block(rt.alloc(), 513)?);
     Ok(())
 }

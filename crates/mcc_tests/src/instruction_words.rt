@@ -5,6 +5,7 @@ use mips_isa::{
     AluOp, Amount, Control, Inst, JumpOp, JumpTarget, NonzeroReg, PairTest, Plain, Reg, ShiftOp,
     ZeroTest,
 };
+use std::process::Abort;
 use std::test::Fail;
 use words::{Operator, Width};
 
@@ -95,91 +96,94 @@ fn has_word(inst: &Inst, word: u32) -> bool {
     encode(*inst) == word && decode(word) == Some(*inst)
 }
 
+fn addu(rd: u8, rs: u8, rt: u8) -> Plain {
+    Plain::Alu {
+        op: AluOp::Addu,
+        rd: Reg::masked(rd),
+        rs: Reg::masked(rs),
+        rt: Reg::masked(rt),
+    }
+}
+
+// Into register 8.
+fn load(rt: &impl Abort, width: Width, base: u8, offset: i16) -> Plain {
+    Plain::Load {
+        width,
+        rt: NonzeroReg::new(8).expect(rt, "8 is a register"),
+        base: Reg::masked(base),
+        offset,
+    }
+}
+
+fn store_byte(rt: u8, base: u8, offset: i16) -> Plain {
+    Plain::Store {
+        width: Width::Byte,
+        rt: Reg::masked(rt),
+        base: Reg::masked(base),
+        offset,
+    }
+}
+
+fn nop() -> Plain {
+    Plain::Shift {
+        op: ShiftOp::Sll,
+        rd: Reg::ZERO,
+        rt: Reg::ZERO,
+        amount: Amount::masked(0),
+    }
+}
+
 #[test]
 fn plain_instructions_have_their_words(rt: HostRuntime) -> Result<(), Fail> {
-    let reg = Reg::masked;
-    let loaded = NonzeroReg::new(8).expect(&rt, "8 is a register");
     for (inst, word) in [
-        (
-            Plain::Alu {
-                op: AluOp::Addu,
-                rd: reg(8),
-                rs: reg(9),
-                rt: reg(10),
-            },
-            0x012a_4021u32,
-        ),
-        (
-            Plain::Load {
-                width: Width::Word,
-                rt: loaded,
-                base: reg(29),
-                offset: 4,
-            },
-            0x8fa8_0004,
-        ),
-        (
-            Plain::Load {
-                width: Width::Byte,
-                rt: loaded,
-                base: reg(4),
-                offset: 3,
-            },
-            0x9088_0003,
-        ),
-        (
-            Plain::Store {
-                width: Width::Byte,
-                rt: reg(9),
-                base: reg(4),
-                offset: -1,
-            },
-            0xa089_ffff,
-        ),
-        (
-            Plain::Shift {
-                op: ShiftOp::Sll,
-                rd: reg(0),
-                rt: reg(0),
-                amount: Amount::masked(0),
-            },
-            0,
-        ),
+        (addu(8, 9, 10), 0x012a_4021u32),
+        (load(&rt, Width::Word, 29, 4), 0x8fa8_0004),
+        (load(&rt, Width::Byte, 4, 3), 0x9088_0003),
+        (store_byte(9, 4, -1), 0xa089_ffff),
+        (nop(), 0),
     ] {
         assert!(rt; has_word(&Inst::Plain(inst), word), "at {word}");
     }
     Ok(())
 }
 
+fn jump_register(rs: u8) -> Control {
+    Control::JumpRegister {
+        rs: Reg::masked(rs),
+    }
+}
+
+fn branch_not_equal(rs: u8, rt: u8, offset: i16) -> Control {
+    Control::BranchPair {
+        test: PairTest::NotEqual,
+        rs: Reg::masked(rs),
+        rt: Reg::masked(rt),
+        offset,
+    }
+}
+
+fn branch_at_least_zero(rs: u8, offset: i16) -> Control {
+    Control::BranchZero {
+        test: ZeroTest::AtLeastZero,
+        rs: Reg::masked(rs),
+        offset,
+    }
+}
+
+fn jump_and_link(target: u32) -> Control {
+    Control::JumpTo {
+        op: JumpOp::JumpAndLink,
+        target: JumpTarget::masked(target),
+    }
+}
+
 #[test]
 fn jumps_and_branches_have_their_words(rt: HostRuntime) -> Result<(), Fail> {
-    let reg = Reg::masked;
     for (control, word) in [
-        (Control::JumpRegister { rs: reg(31) }, 0x03e0_0008u32),
-        (
-            Control::BranchPair {
-                test: PairTest::NotEqual,
-                rs: reg(8),
-                rt: reg(9),
-                offset: -1,
-            },
-            0x1509_ffff,
-        ),
-        (
-            Control::BranchZero {
-                test: ZeroTest::AtLeastZero,
-                rs: reg(8),
-                offset: 2,
-            },
-            0x0501_0002,
-        ),
-        (
-            Control::JumpTo {
-                op: JumpOp::JumpAndLink,
-                target: JumpTarget::masked(0x0010_0000),
-            },
-            0x0c10_0000,
-        ),
+        (jump_register(31), 0x03e0_0008u32),
+        (branch_not_equal(8, 9, -1), 0x1509_ffff),
+        (branch_at_least_zero(8, 2), 0x0501_0002),
+        (jump_and_link(0x0010_0000), 0x0c10_0000),
         (Control::SystemCall, 0x0000_000c),
     ] {
         assert!(rt; has_word(&Inst::Control(control), word), "at {word}");
@@ -187,18 +191,20 @@ fn jumps_and_branches_have_their_words(rt: HostRuntime) -> Result<(), Fail> {
     Ok(())
 }
 
+// An unused field that isn't 0, loads of register 0, a sign test with rt 2, an op not in use.
+const NO_INSTRUCTIONS: [u32; 7] = [
+    0x012a_4061,
+    0x03e0_0048,
+    0x8fa0_0004,
+    0x93a0_0004,
+    0x0502_0002,
+    0xfc00_0000,
+    0x3c20_0001,
+];
+
 #[test]
 fn words_of_no_instruction(rt: HostRuntime) -> Result<(), Fail> {
-    // An unused field that isn't 0, loads of register 0, a sign test with rt 2, an op not in use.
-    for word in [
-        0x012a_4061u32,
-        0x03e0_0048,
-        0x8fa0_0004,
-        0x93a0_0004,
-        0x0502_0002,
-        0xfc00_0000,
-        0x3c20_0001,
-    ] {
+    for word in NO_INSTRUCTIONS {
         assert!(rt; decode(word).is_none(), "at {word}");
     }
     Ok(())

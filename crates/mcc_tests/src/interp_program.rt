@@ -1,87 +1,42 @@
 // `mcc interp` over a text in memory: its output, its faults and its statuses.
 
-use crate::stand_ins::{OneText, Shut, tells, told};
-use driver::{Command, mcc, words};
+use driver::{Command, words};
+use stand_ins::{DEEP, OneFile, PROGRAMS, TOO_DEEP, told, told_with_shut_out};
+use std::alloc::Global;
 use std::test::Fail;
 
-const COUNTS: &str =
-    "int a[3];int main(void){int i=0;a[0]=5;a[1]=6;a[2]=7;while(i<3&&a[i])i=i+1;out(i);}";
-
-const DEEP: &str =
-    "int f(int n){int r;if(n==1)return 1;r=f(n-1);return r+1;}int main(void){int r=f(255);out(r);}";
-
-const TOO_DEEP: &str =
-    "int f(int n){int r;if(n==1)return 1;r=f(n-1);return r+1;}int main(void){int r=f(256);out(r);}";
-
-pub const PROGRAMS: [(&str, &str, u8); 10] = [
-    ("int main(void){}", "done 0\n", 0),
-    (
-        "int main(void){out(0x80000000);}",
-        "2147483648\ndone 0\n",
-        0,
-    ),
-    (
-        "int main(void){out(4294967295u);}",
-        "4294967295\ndone 0\n",
-        0,
-    ),
-    (
-        "int main(void){int a=-7;out(a/2);out(a%2);}",
-        "4294967293\n4294967295\ndone 0\n",
-        0,
-    ),
-    (
-        "int main(void){int a=-1;unsigned b=1;out(a<b);}",
-        "0\ndone 0\n",
-        0,
-    ),
-    ("int main(void){return -1;}", "done 4294967295\n", 0),
-    (COUNTS, "3\ndone 0\n", 0),
-    (
-        "int main(void){int a=2147483647;out(1);a=a+1;}",
-        "1\nwrong\n",
-        3,
-    ),
-    (DEEP, "255\ndone 0\n", 0),
-    (TOO_DEEP, "wrong\n", 3),
-];
+const INTERP: [&str; 3] = ["mcc", "interp", "x"];
 
 #[test]
 fn programs_print_their_output_and_end(rt: HostRuntime) -> Result<(), Fail> {
     for (text, printed, status) in PROGRAMS {
-        let got = told(&rt, rt.alloc(), text, ["mcc", "interp", "x"].as_slice());
-        assert_eq!(rt; got.status, status, "at {text}");
-        assert_eq!(rt; got.out.as_slice(), printed.as_bytes(), "at {text}");
-        assert!(rt; got.err.is_empty(), "at {text}");
+        let got = told(&rt, rt.alloc(), text, INTERP.as_slice());
+        assert!(rt; got.is(status, printed, ""), "{got} at {text}");
     }
     Ok(())
 }
 
+const BOUNDED: [(&str, &str, &str, &str, u8); 6] = [
+    ("int main(void){}", "--steps", "0", "more\n", 4),
+    ("int main(void){}", "--steps", "1", "done 0\n", 0),
+    (
+        "int main(void){while(1)out(7);}",
+        "--steps",
+        "7",
+        "7\n7\n7\nmore\n",
+        4,
+    ),
+    (TOO_DEEP, "--depth", "257", "256\ndone 0\n", 0),
+    (DEEP, "--depth", "255", "wrong\n", 3),
+    ("int main(void){}", "--depth", "1", "done 0\n", 0),
+];
+
 #[test]
 fn options_bound_the_run(rt: HostRuntime) -> Result<(), Fail> {
-    for (text, option, bound, printed, status) in [
-        ("int main(void){}", "--steps", "0", "more\n", 4u8),
-        ("int main(void){}", "--steps", "1", "done 0\n", 0),
-        (
-            "int main(void){while(1)out(7);}",
-            "--steps",
-            "7",
-            "7\n7\n7\nmore\n",
-            4,
-        ),
-        (TOO_DEEP, "--depth", "257", "256\ndone 0\n", 0),
-        (DEEP, "--depth", "255", "wrong\n", 3),
-        ("int main(void){}", "--depth", "1", "done 0\n", 0),
-    ] {
-        let got = told(
-            &rt,
-            rt.alloc(),
-            text,
-            ["mcc", "interp", "x", option, bound].as_slice(),
-        );
-        assert_eq!(rt; got.status, status, "at {text}");
-        assert_eq!(rt; got.out.as_slice(), printed.as_bytes(), "at {text}");
-        assert!(rt; got.err.is_empty(), "at {text}");
+    for (text, option, bound, printed, status) in BOUNDED {
+        let words = ["mcc", "interp", "x", option, bound];
+        let got = told(&rt, rt.alloc(), text, words.as_slice());
+        assert!(rt; got.is(status, printed, ""), "{got} at {text}");
     }
     Ok(())
 }
@@ -140,83 +95,72 @@ const FAULTS: [(&str, &str); 14] = [
 #[test]
 fn faults_tell_their_place(rt: HostRuntime) -> Result<(), Fail> {
     for (text, shown) in FAULTS {
-        let got = told(&rt, rt.alloc(), text, ["mcc", "interp", "x"].as_slice());
-        assert_eq!(rt; got.status, 1, "at {text}");
-        assert!(rt; got.out.is_empty(), "at {text}");
-        assert_eq!(rt; got.err.as_slice(), shown.as_bytes(), "at {text}");
+        let got = told(&rt, rt.alloc(), text, INTERP.as_slice());
+        assert!(rt; got.is(1, "", shown), "{got} at {text}");
     }
     Ok(())
 }
 
 #[test]
 fn output_that_is_not_taken_is_a_fault(rt: HostRuntime) -> Result<(), Fail> {
-    let mut files = OneText {
-        text: "int main(void){out(1);}",
-        fault: None,
-    };
-    let mut out = Shut;
-    let mut err = Vec::new(rt.alloc());
-    let args = ["mcc", "interp", "x"];
-    let got = mcc(
-        &rt,
-        rt.alloc(),
-        args.as_slice(),
-        &mut files,
-        &mut out,
-        &mut err,
-    );
-    assert_eq!(rt; got, 1);
-    assert_eq!(rt; err.as_slice(), b"fault 61 CannotWrite\n".as_slice());
+    let mut files = OneFile::of(rt.alloc(), b"int main(void){out(1);}");
+    let got = told_with_shut_out(&rt, rt.alloc(), &mut files, INTERP.as_slice());
+    assert!(rt; got.is(1, "", "fault 61 CannotWrite\n"), "{got}");
     Ok(())
 }
 
+const RANGES: [(&str, &str, &str); 5] = [
+    ("--depth", "0", "1..=4096"),
+    ("--depth", "4097", "1..=4096"),
+    ("--depth", "many", "--depth"),
+    ("--steps", "4294967296", "0..=4294967295"),
+    ("--steps", "-1", "-1"),
+];
+
 #[test]
 fn wrong_numbers_are_wrong_words(rt: HostRuntime) -> Result<(), Fail> {
-    for (option, number, range) in [
-        ("--depth", "0", "1..=4096"),
-        ("--depth", "4097", "1..=4096"),
-        ("--depth", "many", "--depth"),
-        ("--steps", "4294967296", "0..=4294967295"),
-        ("--steps", "-1", "-1"),
-    ] {
+    for (option, number, range) in RANGES {
         let words = ["mcc", "interp", option, number, "x"];
         let got = told(&rt, rt.alloc(), "int main(void){}", words.as_slice());
-        assert_eq!(rt; got.status, 2, "at {option} {number}");
-        assert!(rt; got.out.is_empty());
-        assert!(rt; tells(got.err.as_slice(), range), "at {option} {number}");
+        assert!(rt; got.complains(2, range), "{got} at {option} {number}");
     }
     Ok(())
 }
 
+const BOUNDS: [(&[&str], (u32, u64)); 2] = [
+    (
+        &[
+            "mcc",
+            "interp",
+            "--steps",
+            "4294967295",
+            "a.c",
+            "--depth",
+            "4096",
+        ],
+        (4096, 4294967295),
+    ),
+    (&["mcc", "interp", "a.c"], (256, 1000000)),
+];
+
+// The depth and the steps that words ask for a run of `a.c`.
+fn bounds(alloc: Global, line: &[&str]) -> Option<(u32, u64)> {
+    match words(alloc, line) {
+        Ok(
+            Command::Interp {
+                source: "a.c",
+                depth,
+                steps,
+            },
+        ) => Some((depth, steps)),
+        _ => None,
+    }
+}
+
 #[test]
 fn words_give_the_bounds(rt: HostRuntime) -> Result<(), Fail> {
-    let given = [
-        "mcc",
-        "interp",
-        "--steps",
-        "4294967295",
-        "a.c",
-        "--depth",
-        "4096",
-    ];
-    let Ok(
-        Command::Interp {
-            source,
-            depth,
-            steps,
-        },
-    ) = words(rt.alloc(), given.as_slice())
-    else {
-        panic!(rt; "no command")
-    };
-    assert_eq!(rt; source, "a.c");
-    assert_eq!(rt; depth, 4096);
-    assert_eq!(rt; steps, 4294967295);
-    let left_out = ["mcc", "interp", "a.c"];
-    let Ok(Command::Interp { depth, steps, .. }) = words(rt.alloc(), left_out.as_slice()) else {
-        panic!(rt; "no command")
-    };
-    assert_eq!(rt; depth, 256);
-    assert_eq!(rt; steps, 1000000);
+    for (line, want) in BOUNDS {
+        assert_eq!(rt; bounds(rt.alloc(), line), Some(want));
+    }
     Ok(())
 }

@@ -1,7 +1,7 @@
 // `mcc interp` on worked texts, and on a text that is cut at each byte.
 
-use crate::stand_ins::{tells, told};
-use std::alloc::AllocError;
+use stand_ins::told;
+use std::alloc::{AllocError, Global};
 use std::process::Abort;
 use std::sync::Wait;
 use std::test::Fail;
@@ -48,13 +48,10 @@ fn worked_texts_run(rt: HostRuntime) -> Result<(), Fail> {
     for (text, option, bound, printed, status) in RUNS {
         let words = ["mcc", "interp", "x", option, bound];
         let got = told(&rt, rt.alloc(), text, words.as_slice());
-        assert_eq!(rt; got.status, status, "{text} with {option} {bound}");
-        assert_eq!(rt;
-            got.out.as_slice(),
-            printed.as_bytes(),
-            "{text} with {option} {bound}"
+        assert!(rt;
+            got.is(status, printed, ""),
+            "{got}: {text} with {option} {bound}"
         );
-        assert!(rt; got.err.is_empty());
     }
     Ok(())
 }
@@ -67,37 +64,54 @@ fn refused(
 ) -> Result<(), AllocError> {
     let got = told(rt, rt.alloc(), text, INTERP.as_slice());
     let line = format!(in rt.alloc(); "fault {fault}\n")?;
-    assert_eq!(rt; got.status, 1);
-    assert!(rt; got.out.is_empty());
-    assert!(rt; tells(got.err.as_slice(), line.as_str()), "not {line}");
+    assert!(rt; got.complains(1, line.as_str()), "{got}, not {line}");
     Ok(())
+}
+
+// In each row the text is the first part, the second so many times, the third so many times, and the fourth.
+const REFUSED: [(&str, &str, &str, usize, &str, &str); 6] = [
+    ("int f(void){return f;}", "", "", 0, "", "12 Kind at 19"),
+    ("int main(void){break;}", "", "", 0, "", "17 Outside at 15"),
+    ("", " ", "", 1_048_576, "", "15 NoMain at 1048576"),
+    ("", " ", "", 1_048_577, "", "5 Size at 1048576"),
+    ("int main(void)", "{", "}", 129, "", "5 Size at 142"),
+    (
+        "int main(void){out(1",
+        "+1",
+        "",
+        511,
+        ");}",
+        "5 Size at 1041",
+    ),
+];
+
+fn text_of(
+    alloc: Global,
+    before: &str,
+    open: &str,
+    close: &str,
+    times: usize,
+    end: &str,
+) -> Result<String, AllocError> {
+    let opened = open.repeat(alloc, times)?;
+    let closed = close.repeat(alloc, times)?;
+    format!(in alloc; "{before}{opened}{closed}{end}")
 }
 
 #[test]
 fn worked_texts_are_refused(rt: HostRuntime) -> Result<(), Fail> {
-    refused(&rt, "int f(void){return f;}", "12 Kind at 19")?;
-    refused(&rt, "int main(void){break;}", "17 Outside at 15")?;
-    let spaces = " ".repeat(rt.alloc(), 1_048_576)?;
-    refused(&rt, spaces.as_str(), "15 NoMain at 1048576")?;
-    let more = " ".repeat(rt.alloc(), 1_048_577)?;
-    refused(&rt, more.as_str(), "5 Size at 1048576")?;
-    let open = "{".repeat(rt.alloc(), 129)?;
-    let close = "}".repeat(rt.alloc(), 129)?;
-    let braces = format!(in rt.alloc(); "int main(void){open}{close}")?;
-    refused(&rt, braces.as_str(), "5 Size at 142")?;
-    let ones = "+1".repeat(rt.alloc(), 511)?;
-    let sum = format!(in rt.alloc(); "int main(void){{out(1{ones});}}")?;
-    refused(&rt, sum.as_str(), "5 Size at 1041")?;
+    for (before, open, close, times, end, fault) in REFUSED {
+        let text = text_of(rt.alloc(), before, open, close, times, end)?;
+        refused(&rt, text.as_str(), fault)?;
+    }
     Ok(())
 }
 
 #[test]
 fn a_sum_of_511_ones_runs(rt: HostRuntime) -> Result<(), Fail> {
-    let ones = "+1".repeat(rt.alloc(), 510)?;
-    let sum = format!(in rt.alloc(); "int main(void){{out(1{ones});}}")?;
+    let sum = text_of(rt.alloc(), "int main(void){out(1", "+1", "", 510, ");}")?;
     let got = told(&rt, rt.alloc(), sum.as_str(), INTERP.as_slice());
-    assert_eq!(rt; got.out.as_slice(), b"511\ndone 0\n".as_slice());
-    assert_eq!(rt; got.status, 0);
+    assert!(rt; got.is(0, "511\ndone 0\n", ""), "{got}");
     Ok(())
 }
 

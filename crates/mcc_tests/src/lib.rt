@@ -1,4 +1,5 @@
-//! Worked examples of the whole product: tests that cross crates, with values from outside the program.
+//! Worked examples of `mcc check` and `mcc interp`, and of the words and texts of instructions, with values from outside the
+//! program.
 //!
 //! It has no code of its own and stands on top of everything, so that the layers below, which a crate
 //! with tests would have proved twice, keep few. The texts of crates/example_files aren't here again: that
@@ -6,15 +7,11 @@
 #![tactic(auto)]
 
 #[cfg(test)]
-mod build_program;
-#[cfg(test)]
 mod check_program;
 #[cfg(test)]
 mod check_texts;
 #[cfg(test)]
 mod check_verdicts;
-#[cfg(test)]
-mod image_program;
 #[cfg(test)]
 mod instruction_texts;
 #[cfg(test)]
@@ -29,5 +26,3 @@ mod interp_sizes;
 mod interp_texts;
 #[cfg(test)]
 mod normal_forms;
-#[cfg(test)]
-mod stand_ins;

@@ -1,9 +1,9 @@
 // The homes of pseudo-registers.
 
-use crate::programs::{block, one_block, program_of};
-use crate::runs_of_blocks::writes_a_sum;
+use crate::programs::{Ends, Function, function, program};
+use crate::runs_of_blocks::WRITES_A_SUM;
 use mips_homes::{Frame, Home, each_homed_run_is_the_run, frame_of, homes};
-use rtl::{Op, RExit, RFunc, RInst};
+use rtl::{Op, RInst};
 use std::process::Abort;
 use std::test::Fail;
 
@@ -23,7 +23,7 @@ fn has_homes(rt: &impl Abort, frame: &Frame, wants: &[Home], saved: &[u8], slots
 #[test]
 fn more_mentions_come_first_and_then_lower_numbers(rt: HostRuntime) -> Result<(), Fail> {
     // 0 is mentioned twice, 1 three times, 2 twice
-    let sum = program_of(&rt, rt.alloc(), writes_a_sum(rt.alloc())?)?;
+    let sum = program(&rt, rt.alloc(), [WRITES_A_SUM].as_slice())?;
     let homed = homes(rt.alloc(), &sum)?;
     assert_eq!(&rt; homed.frames.len(), 1);
     let wants = [Home::Reg(17), Home::Reg(16), Home::Reg(18)];
@@ -34,19 +34,23 @@ fn more_mentions_come_first_and_then_lower_numbers(rt: HostRuntime) -> Result<()
     Ok(())
 }
 
+// 0 is a parameter that isn't mentioned, 9 is mentioned three times, 1 to 8 once.
+const TEN: Function = (
+    1,
+    &[(
+        &[
+            RInst::Bin(Op::Add, 9, 9, 9),
+            RInst::Bin(Op::Sub, 1, 2, 3),
+            RInst::Bin(Op::Sub, 4, 5, 6),
+            RInst::Move(7, 8),
+        ],
+        Ends::Return(None),
+    )],
+);
+
 #[test]
 fn all_but_eight_live_in_slots(rt: HostRuntime) -> Result<(), Fail> {
-    // 0 is a parameter that isn't mentioned, 9 is mentioned three times, 1 to 8 once
-    let insts = [
-        RInst::Bin(Op::Add, 9, 9, 9),
-        RInst::Bin(Op::Sub, 1, 2, 3),
-        RInst::Bin(Op::Sub, 4, 5, 6),
-        RInst::Move(7, 8),
-    ];
-    let function = RFunc {
-        parameters: 1,
-        blocks: vec![in rt.alloc(); block(rt.alloc(), insts.as_slice(), RExit::Return(None))?]?,
-    };
+    let function = function(rt.alloc(), TEN)?;
     let frame = frame_of(rt.alloc(), &function)?;
     let wants = [
         Home::Slot(0),
@@ -65,11 +69,12 @@ fn all_but_eight_live_in_slots(rt: HostRuntime) -> Result<(), Fail> {
     Ok(())
 }
 
+// 3 is mentioned twice, 2 once, and 0 and 1 are below the greatest.
+const CALLS: Function = (0, &[(&[], Ends::Call(0, &[3, 3], Some(2), 0))]);
+
 #[test]
 fn exits_mention_registers_too(rt: HostRuntime) -> Result<(), Fail> {
-    // 3 is mentioned twice, 2 once, and 0 and 1 are below the greatest
-    let exit = RExit::Call(0, vec![in rt.alloc(); 3, 3]?, Some(2), 0);
-    let function = one_block(rt.alloc(), &[], exit)?;
+    let function = function(rt.alloc(), CALLS)?;
     let frame = frame_of(rt.alloc(), &function)?;
     let wants = [Home::Reg(18), Home::Reg(19), Home::Reg(17), Home::Reg(16)];
     let saved = [16u8, 17, 18, 19];

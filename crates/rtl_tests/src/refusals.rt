@@ -1,177 +1,203 @@
 // What is no program.
 
-use crate::programs::{block, one_block};
-use rtl::{Op, RExit, RFunc, RGlobal, RInst, Rtl};
+use crate::programs::{Block, Ends, Function, function, global, one_block, program_over};
+use rtl::{Op, RFunc, RInst, Rtl};
 use std::alloc::{AllocError, Global};
+use std::process::Abort;
 use std::test::Fail;
 use words::Width;
 
-// A global of so many words whose first values are these.
-fn words(alloc: Global, length: u32, first: &[u32]) -> Result<RGlobal, AllocError> {
-    Ok(RGlobal {
-        width: Width::Word,
-        length,
-        first: Vec::from_slice(alloc, first)?,
-    })
+// Whether these functions and globals of words make a program with this `main`.
+fn are_program(
+    alloc: Global,
+    functions: Vec<RFunc>,
+    globals: &[(u32, &[u32])],
+    main: u32,
+) -> Result<bool, AllocError> {
+    let mut all = Vec::new(alloc);
+    for (length, first) in globals {
+        all.push(global(alloc, Width::Word, *length, first)?)?;
+    }
+    Ok(Rtl::new(functions, all, main).is_some())
 }
 
 // Whether `main` of this block makes a program, beside a function of one parameter and a global.
-fn is_program(alloc: Global, insts: &[RInst], exit: RExit) -> Result<bool, AllocError> {
-    let mut other = one_block(alloc, &[], RExit::Return(None))?;
-    other.parameters = 1;
-    let main = one_block(alloc, insts, exit)?;
-    let functions = vec![in alloc; main, other]?;
-    let globals = vec![in alloc; words(alloc, 1, [0].as_slice())?]?;
-    Ok(Rtl::new(functions, globals, 0).is_some())
+fn is_program(alloc: Global, insts: &[RInst], ends: Ends) -> Result<bool, AllocError> {
+    let mut functions = Vec::new(alloc);
+    functions.push(one_block(alloc, insts, ends)?)?;
+    functions.push(function(alloc, TAKES_ONE)?)?;
+    are_program(alloc, functions, [(1, [0].as_slice())].as_slice(), 0)
 }
 
-fn call(alloc: Global, function: u32, arguments: &[u32]) -> Result<RExit, AllocError> {
-    Ok(RExit::Call(function, Vec::from_slice(alloc, arguments)?, None, 0))
-}
+const NOTHING: Block = (&[], Ends::Return(None));
+
+const TAKES_NONE: Function = (0, &[NOTHING]);
+
+const TAKES_ONE: Function = (1, &[NOTHING]);
 
 #[test]
 fn a_program_has_its_parts(rt: HostRuntime) -> Result<(), Fail> {
-    let functions = vec![in rt.alloc(); one_block(rt.alloc(), &[], RExit::Return(None))?]?;
-    let globals = vec![in rt.alloc(); words(rt.alloc(), 2, [5, 6].as_slice())?]?;
-    let Some(program) = Rtl::new(functions, globals, 0) else {
-        panic!(&rt; "no program");
-    };
+    let main = function(rt.alloc(), TAKES_NONE)?;
+    let mut globals = Vec::new(rt.alloc());
+    globals.push(global(rt.alloc(), Width::Word, 2, [5, 6].as_slice())?)?;
+    let program = program_over(&rt, rt.alloc(), main, globals)?;
     assert_eq!(&rt; program.functions().len(), 1);
     assert_eq!(&rt; program.globals().len(), 1);
     assert_eq!(&rt; program.main(), 0);
     Ok(())
 }
 
-#[test]
-fn blocks_that_are_named_exist(rt: HostRuntime) -> Result<(), Fail> {
-    for (exit, want) in [
-        (RExit::Goto(0), true),
-        (RExit::Goto(1), false),
-        (RExit::Branch(0, 0, 0), true),
-        (RExit::Branch(0, 1, 0), false),
-        (RExit::Branch(0, 0, 1), false),
-        (RExit::Out(0, 0), true),
-        (RExit::Out(0, 1), false),
-        (RExit::Call(1, vec![in rt.alloc(); 0]?, None, 0), true),
-        (RExit::Call(1, vec![in rt.alloc(); 0]?, None, 1), false),
-    ] {
-        assert_eq!(rt; is_program(rt.alloc(), &[], exit)?, want);
+// Each exit makes a program of an empty block, or none.
+fn judge(rt: &impl Abort, alloc: Global, rows: &[(Ends, bool)]) -> Result<(), AllocError> {
+    for (k, (ends, want)) in rows.iter().enumerate() {
+        assert_eq!(rt; is_program(alloc, &[], *ends)?, *want, "row {k}");
     }
     Ok(())
 }
 
+const TARGETS: [(Ends, bool); 9] = [
+    (Ends::Goto(0), true),
+    (Ends::Goto(1), false),
+    (Ends::Branch(0, 0, 0), true),
+    (Ends::Branch(0, 1, 0), false),
+    (Ends::Branch(0, 0, 1), false),
+    (Ends::Out(0, 0), true),
+    (Ends::Out(0, 1), false),
+    (Ends::Call(1, &[0], None, 0), true),
+    (Ends::Call(1, &[0], None, 1), false),
+];
+
+#[test]
+fn blocks_that_are_named_exist(rt: HostRuntime) -> Result<(), Fail> {
+    judge(&rt, rt.alloc(), TARGETS.as_slice())?;
+    Ok(())
+}
+
+const CALLS: [(Ends, bool); 6] = [
+    (Ends::Call(1, &[3], None, 0), true),
+    (Ends::Call(2, &[3], None, 0), false),
+    (Ends::Call(1, &[], None, 0), false),
+    (Ends::Call(1, &[3, 3], None, 0), false),
+    (Ends::Call(0, &[], None, 0), true),
+    (Ends::Call(0, &[3], None, 0), false),
+];
+
 #[test]
 fn functions_that_are_called_exist_and_take_the_arguments(rt: HostRuntime) -> Result<(), Fail> {
-    for (function, arguments, want) in [
-        (1, [3].as_slice(), true),
-        (2, [3].as_slice(), false),
-        (1, [].as_slice(), false),
-        (1, [3, 3].as_slice(), false),
-        (0, [].as_slice(), true),
-        (0, [3].as_slice(), false),
-    ] {
-        let exit = call(rt.alloc(), function, arguments)?;
-        assert_eq!(rt; is_program(rt.alloc(), &[], exit)?, want);
-    }
+    judge(&rt, rt.alloc(), CALLS.as_slice())?;
     Ok(())
+}
+
+const ACCESSES: [(RInst, bool); 4] = [
+    (RInst::Load(0, 0, 0), true),
+    (RInst::Load(0, 1, 0), false),
+    (RInst::Store(0, 0, 0), true),
+    (RInst::Store(1, 0, 0), false),
+];
+
+// Whether a block of this instruction makes a program.
+fn is_instruction(alloc: Global, inst: RInst) -> Result<bool, AllocError> {
+    is_program(alloc, [inst].as_slice(), Ends::Return(None))
 }
 
 #[test]
 fn globals_that_are_named_exist(rt: HostRuntime) -> Result<(), Fail> {
-    for (inst, want) in [
-        (RInst::Load(0, 0, 0), true),
-        (RInst::Load(0, 1, 0), false),
-        (RInst::Store(0, 0, 0), true),
-        (RInst::Store(1, 0, 0), false),
-    ] {
-        let insts = [inst];
-        let got = is_program(rt.alloc(), insts.as_slice(), RExit::Return(None))?;
-        assert_eq!(rt; got, want);
+    for (inst, want) in ACCESSES {
+        assert_eq!(rt; is_instruction(rt.alloc(), inst)?, want, "{inst:?}");
     }
     Ok(())
 }
+
+const REGISTERS: [(RInst, bool); 13] = [
+    (RInst::Const(7999, 0), true),
+    (RInst::Const(8000, 0), false),
+    (RInst::Move(7999, 7999), true),
+    (RInst::Move(8000, 0), false),
+    (RInst::Move(0, 8000), false),
+    (RInst::Bin(Op::Add, 7999, 7999, 7999), true),
+    (RInst::Bin(Op::Add, 8000, 0, 0), false),
+    (RInst::Bin(Op::Add, 0, 8000, 0), false),
+    (RInst::Bin(Op::Add, 0, 0, 8000), false),
+    (RInst::Load(8000, 0, 0), false),
+    (RInst::Load(0, 0, 8000), false),
+    (RInst::Store(0, 8000, 0), false),
+    (RInst::Store(0, 0, 8000), false),
+];
 
 #[test]
 fn instructions_name_registers_below_8000(rt: HostRuntime) -> Result<(), Fail> {
-    for (inst, want) in [
-        (RInst::Const(7999, 0), true),
-        (RInst::Const(8000, 0), false),
-        (RInst::Move(7999, 7999), true),
-        (RInst::Move(8000, 0), false),
-        (RInst::Move(0, 8000), false),
-        (RInst::Bin(Op::Add, 7999, 7999, 7999), true),
-        (RInst::Bin(Op::Add, 8000, 0, 0), false),
-        (RInst::Bin(Op::Add, 0, 8000, 0), false),
-        (RInst::Bin(Op::Add, 0, 0, 8000), false),
-        (RInst::Load(8000, 0, 0), false),
-        (RInst::Load(0, 0, 8000), false),
-        (RInst::Store(0, 8000, 0), false),
-        (RInst::Store(0, 0, 8000), false),
-    ] {
-        let insts = [inst];
-        let got = is_program(rt.alloc(), insts.as_slice(), RExit::Return(None))?;
-        assert_eq!(rt; got, want);
+    for (inst, want) in REGISTERS {
+        assert_eq!(rt; is_instruction(rt.alloc(), inst)?, want, "{inst:?}");
     }
     Ok(())
 }
+
+const EXITS: [(Ends, bool); 7] = [
+    (Ends::Return(Some(7999)), true),
+    (Ends::Return(Some(8000)), false),
+    (Ends::Branch(8000, 0, 0), false),
+    (Ends::Out(8000, 0), false),
+    (Ends::Call(1, &[8000], None, 0), false),
+    (Ends::Call(1, &[0], Some(7999), 0), true),
+    (Ends::Call(1, &[0], Some(8000), 0), false),
+];
 
 #[test]
 fn exits_name_registers_below_8000(rt: HostRuntime) -> Result<(), Fail> {
-    for (exit, want) in [
-        (RExit::Return(Some(7999)), true),
-        (RExit::Return(Some(8000)), false),
-        (RExit::Branch(8000, 0, 0), false),
-        (RExit::Out(8000, 0), false),
-        (RExit::Call(1, vec![in rt.alloc(); 8000]?, None, 0), false),
-        (RExit::Call(1, vec![in rt.alloc(); 0]?, Some(7999), 0), true),
-        (
-            RExit::Call(1, vec![in rt.alloc(); 0]?, Some(8000), 0),
-            false,
-        ),
-    ] {
-        assert_eq!(rt; is_program(rt.alloc(), &[], exit)?, want);
-    }
+    judge(&rt, rt.alloc(), EXITS.as_slice())?;
     Ok(())
 }
+
+const MAINS: [(u32, Function, bool); 3] = [
+    (0, TAKES_NONE, true),
+    (1, TAKES_NONE, false),
+    (0, TAKES_ONE, false),
+];
 
 #[test]
 fn main_exists_and_takes_no_arguments(rt: HostRuntime) -> Result<(), Fail> {
-    for (main, parameters, want) in [(0, 0, true), (1, 0, false), (0, 1, false)] {
-        let blocks = vec![in rt.alloc(); block(rt.alloc(), &[], RExit::Return(None))?]?;
-        let functions = vec![in rt.alloc(); RFunc { parameters, blocks }]?;
-        let got = Rtl::new(functions, Vec::new(rt.alloc()), main);
-        assert_eq!(rt; got.is_some(), want);
+    for (main, parts, want) in MAINS {
+        let mut functions = Vec::new(rt.alloc());
+        functions.push(function(rt.alloc(), parts)?)?;
+        assert_eq!(rt; are_program(rt.alloc(), functions, &[], main)?, want);
     }
     Ok(())
 }
+
+const SHAPES: [(Function, bool); 3] = [
+    ((4, &[NOTHING]), true),
+    ((5, &[NOTHING]), false),
+    ((0, &[]), false),
+];
 
 #[test]
 fn a_function_has_a_block_and_at_most_four_parameters(rt: HostRuntime) -> Result<(), Fail> {
-    for (parameters, count, want) in [(4, 1, true), (5, 1, false), (0, 0, false)] {
-        let mut blocks = Vec::new(rt.alloc());
-        for _ in 0..count {
-            blocks.push(block(rt.alloc(), &[], RExit::Return(None))?)?;
-        }
-        let main = one_block(rt.alloc(), &[], RExit::Return(None))?;
-        let functions = vec![in rt.alloc(); main, RFunc { parameters, blocks }]?;
-        let got = Rtl::new(functions, Vec::new(rt.alloc()), 0);
-        assert_eq!(rt; got.is_some(), want);
+    for (shape, want) in SHAPES {
+        let mut functions = Vec::new(rt.alloc());
+        functions.push(function(rt.alloc(), TAKES_NONE)?)?;
+        functions.push(function(rt.alloc(), shape)?)?;
+        assert_eq!(rt; are_program(rt.alloc(), functions, &[], 0)?, want);
     }
     Ok(())
 }
 
+const GLOBALS: [(u32, &[u32], bool); 4] = [
+    (1, &[7], true),
+    (0, &[], false),
+    (2, &[7], false),
+    (1, &[7, 7], false),
+];
+
 #[test]
 fn a_global_has_its_first_values(rt: HostRuntime) -> Result<(), Fail> {
-    for (length, first, want) in [
-        (1, [7].as_slice(), true),
-        (0, [].as_slice(), false),
-        (2, [7].as_slice(), false),
-        (1, [7, 7].as_slice(), false),
-    ] {
-        let main = one_block(rt.alloc(), &[], RExit::Return(None))?;
-        let globals = vec![in rt.alloc(); words(rt.alloc(), length, first)?]?;
-        let got = Rtl::new(vec![in rt.alloc(); main]?, globals, 0);
-        assert_eq!(rt; got.is_some(), want);
+    for (length, first, want) in GLOBALS {
+        let mut functions = Vec::new(rt.alloc());
+        functions.push(function(rt.alloc(), TAKES_NONE)?)?;
+        let globals = [(length, first)];
+        assert_eq!(rt;
+            are_program(rt.alloc(), functions, globals.as_slice(), 0)?,
+            want
+        );
     }
     Ok(())
 }

@@ -1,13 +1,15 @@
 // Units of programs: selected, assembled in plain order and run.
 
-use crate::programs::{block, comes_to, one_block, program, program_of};
+use crate::programs::{
+    Ends, Function, block, comes_to, function, global, one_block, program, program_of, program_over,
+};
 use image::{Counts, Image};
 use mblock::plain_orders;
 use mips_asm::{AsmFault, image_of};
 use mips_machine::run;
 use mips_select::select;
 use mips_steps::Ending;
-use rtl::{Op, RBlock, RExit, RFunc, RGlobal, RInst, Rtl};
+use rtl::{Op, RBlock, RFunc, RGlobal, RInst, Rtl};
 use runs::End;
 use std::alloc::{AllocError, Global};
 use std::process::Abort;
@@ -26,11 +28,15 @@ const NONE: Counts = Counts {
 
 // The image of a program's unit, its blocks in plain order.
 fn image_for(rt: &impl Abort, alloc: Global, program: &Rtl, depth: u32) -> Result<Image, AsmFault> {
-    let Ok(unit) = select(alloc, program, depth) else {
-        panic!(rt; "no unit");
-    };
+    let unit = select(alloc, program, depth).expect(rt, "a unit");
     let orders = plain_orders(alloc, &unit)?;
     image_of(alloc, &unit, orders.as_slice(), Some(NONE))
+}
+
+// Whether an image has this output and ends with this word.
+fn prints(alloc: Global, image: &Image, word: u32, output: &[u32]) -> Result<bool, AllocError> {
+    let ran = run(alloc, image, 100_000)?;
+    Ok(ran.end == Ending::Halt(word) && ran.output.as_slice() == output)
 }
 
 // The program ends with this word and this output, and so does the image of its unit.
@@ -44,9 +50,10 @@ fn both_end_with(
 ) -> Result<(), AsmFault> {
     comes_to(rt, alloc, program, depth, 10_000, End::Done(word), output)?;
     let image = image_for(rt, alloc, program, depth)?;
-    let ran = run(alloc, &image, 100_000)?;
-    assert!(rt; ran.end == Ending::Halt(word), "another word");
-    assert!(rt; ran.output.as_slice() == output, "another output");
+    assert!(rt;
+        prints(alloc, &image, word, output)?,
+        "another word or output"
+    );
     Ok(())
 }
 
@@ -60,20 +67,20 @@ fn sum_of_many(alloc: Global, count: u32) -> Result<RFunc, AllocError> {
     for i in 0..count {
         insts.push(RInst::Bin(Op::Add, count, count, i))?;
     }
-    let first = RBlock {
-        insts,
-        exit: RExit::Out(count, 1),
-    };
-    let last = block(alloc, &[], RExit::Return(Some(count)))?;
+    let mut blocks = Vec::new(alloc);
+    blocks.push(block(alloc, insts.as_slice(), Ends::Out(count, 1))?)?;
+    blocks.push(block(alloc, &[], Ends::Return(Some(count)))?)?;
     Ok(RFunc {
         parameters: 0,
-        blocks: vec![in alloc; first, last]?,
+        blocks,
     })
 }
 
+const SUMS: [(u32, u32); 5] = [(7, 28), (8, 36), (9, 45), (12, 78), (40, 820)];
+
 #[test]
 fn more_variables_than_registers(rt: HostRuntime) -> Result<(), Fail> {
-    for (count, sum) in [(7, 28), (8, 36), (9, 45), (12, 78), (40, 820)] {
+    for (count, sum) in SUMS {
         let many = program_of(&rt, rt.alloc(), sum_of_many(rt.alloc(), count)?)?;
         both_end_with(&rt, rt.alloc(), &many, 1, sum, [sum].as_slice())?;
     }
@@ -88,7 +95,7 @@ fn counts_up(alloc: Global, count: u32) -> Result<RFunc, AllocError> {
     for _i in 0..count {
         insts.push(RInst::Bin(Op::Add, 0, 0, 1))?;
     }
-    one_block(alloc, insts.as_slice(), RExit::Return(Some(0)))
+    one_block(alloc, insts.as_slice(), Ends::Return(Some(0)))
 }
 
 #[test]
@@ -101,91 +108,75 @@ fn long_blocks_are_cut(rt: HostRuntime) -> Result<(), Fail> {
 }
 
 // The sum of the numbers up to its argument, by calls of itself: its argument lives across them.
-fn sum_up_to(alloc: Global) -> Result<RFunc, AllocError> {
-    let less = [RInst::Const(1, 1), RInst::Bin(Op::Sub, 2, 0, 1)];
-    let sum = [RInst::Bin(Op::Add, 3, 3, 0)];
-    let arguments = [2];
-    let again = RExit::Call(1, Vec::from_slice(alloc, arguments.as_slice())?, Some(3), 2);
-    Ok(RFunc {
-        parameters: 1,
-        blocks: vec![in alloc;
-            block(alloc, &[], RExit::Branch(0, 1, 3))?,
-            block(alloc, less.as_slice(), again)?,
-            block(alloc, sum.as_slice(), RExit::Return(Some(3)))?,
-            block(alloc, &[], RExit::Return(Some(0)))?,
-        ]?,
-    })
-}
+const SUM_UP_TO: Function = (
+    1,
+    &[
+        (&[], Ends::Branch(0, 1, 3)),
+        (
+            &[RInst::Const(1, 1), RInst::Bin(Op::Sub, 2, 0, 1)],
+            Ends::Call(1, &[2], Some(3), 2),
+        ),
+        (&[RInst::Bin(Op::Add, 3, 3, 0)], Ends::Return(Some(3))),
+        (&[], Ends::Return(Some(0))),
+    ],
+);
 
 // Calls function 1 with 10 and adds a register that it has set before.
-fn caller(alloc: Global) -> Result<RFunc, AllocError> {
-    let first = [RInst::Const(0, 10), RInst::Const(4, 1_000_000)];
-    let last = [RInst::Bin(Op::Add, 5, 5, 4)];
-    let arguments = [0];
-    let call = RExit::Call(1, Vec::from_slice(alloc, arguments.as_slice())?, Some(5), 1);
-    Ok(RFunc {
-        parameters: 0,
-        blocks: vec![in alloc;
-            block(alloc, first.as_slice(), call)?,
-            block(alloc, &[], RExit::Out(5, 2))?,
-            block(alloc, last.as_slice(), RExit::Return(Some(5)))?,
-        ]?,
-    })
-}
+const CALLER: Function = (
+    0,
+    &[
+        (
+            &[RInst::Const(0, 10), RInst::Const(4, 1_000_000)],
+            Ends::Call(1, &[0], Some(5), 1),
+        ),
+        (&[], Ends::Out(5, 2)),
+        (&[RInst::Bin(Op::Add, 5, 5, 4)], Ends::Return(Some(5))),
+    ],
+);
 
 #[test]
 fn recursion_keeps_registers(rt: HostRuntime) -> Result<(), Fail> {
-    let functions = vec![in rt.alloc(); caller(rt.alloc())?, sum_up_to(rt.alloc())?]?;
-    let deep = program(&rt, functions, Vec::new(rt.alloc()), 0);
+    let deep = program(&rt, rt.alloc(), [CALLER, SUM_UP_TO].as_slice())?;
     both_end_with(&rt, rt.alloc(), &deep, 12, 1_000_055, [55].as_slice())?;
     Ok(())
 }
 
-fn global(alloc: Global, width: Width, length: u32, values: &[u32]) -> Result<RGlobal, AllocError> {
-    Ok(RGlobal {
-        width,
-        length,
-        first: Vec::from_slice(alloc, values)?,
-    })
-}
+// Adds a byte and a word, keeps the low eight bits, and reads the neighbours.
+const ACROSS: Function = (
+    0,
+    &[
+        (
+            &[
+                RInst::Const(0, 2),
+                RInst::Load(1, 0, 0),
+                RInst::Const(2, 1),
+                RInst::Load(3, 1, 2),
+                RInst::Bin(Op::Add, 4, 1, 3),
+                RInst::Store(0, 2, 4),
+                RInst::Store(1, 2, 4),
+                RInst::Load(5, 0, 2),
+            ],
+            Ends::Out(5, 1),
+        ),
+        (&[RInst::Load(6, 1, 2)], Ends::Out(6, 2)),
+        (&[RInst::Const(7, 0), RInst::Load(7, 2, 7)], Ends::Out(7, 3)),
+        (&[], Ends::Return(Some(4))),
+    ],
+);
 
-// Bytes stand beside words: adds one of each, keeps the low eight bits, and reads the neighbours.
-fn across_globals(alloc: Global) -> Result<Rtl, AllocError> {
-    let sum = [
-        RInst::Const(0, 2),
-        RInst::Load(1, 0, 0),
-        RInst::Const(2, 1),
-        RInst::Load(3, 1, 2),
-        RInst::Bin(Op::Add, 4, 1, 3),
-        RInst::Store(0, 2, 4),
-        RInst::Store(1, 2, 4),
-        RInst::Load(5, 0, 2),
-    ];
-    let word = [RInst::Load(6, 1, 2)];
-    let next = [RInst::Const(7, 0), RInst::Load(7, 2, 7)];
-    let main = RFunc {
-        parameters: 0,
-        blocks: vec![in alloc;
-            block(alloc, sum.as_slice(), RExit::Out(5, 1))?,
-            block(alloc, word.as_slice(), RExit::Out(6, 2))?,
-            block(alloc, next.as_slice(), RExit::Out(7, 3))?,
-            block(alloc, &[], RExit::Return(Some(4)))?,
-        ]?,
-    };
-    let globals = vec![in alloc;
-        global(alloc, Width::Byte, 3, [1, 2, 250].as_slice())?,
-        global(alloc, Width::Word, 2, [10, 0x0102_0304].as_slice())?,
-        global(alloc, Width::Byte, 1, [7].as_slice())?,
-    ]?;
-    match Rtl::new(vec![in alloc; main]?, globals, 0) {
-        Some(program) => Ok(program),
-        None => Err(AllocError),
-    }
+// Bytes stand beside words.
+fn neighbours(alloc: Global) -> Result<Vec<RGlobal>, AllocError> {
+    let mut globals = Vec::new(alloc);
+    globals.push(global(alloc, Width::Byte, 3, [1, 2, 250].as_slice())?)?;
+    globals.push(global(alloc, Width::Word, 2, [10, 0x0102_0304].as_slice())?)?;
+    globals.push(global(alloc, Width::Byte, 1, [7].as_slice())?)?;
+    Ok(globals)
 }
 
 #[test]
 fn bytes_beside_words(rt: HostRuntime) -> Result<(), Fail> {
-    let across = across_globals(rt.alloc())?;
+    let main = function(rt.alloc(), ACROSS)?;
+    let across = program_over(&rt, rt.alloc(), main, neighbours(rt.alloc())?)?;
     // 0x01020304 + 250
     let sum = 0x0102_03fe;
     both_end_with(&rt, rt.alloc(), &across, 1, sum, [0xfe, sum, 7].as_slice())?;
@@ -215,10 +206,7 @@ fn operates(
     insts.extend_from_slice(operand(0, MINUS_TEN, 0, left).as_slice())?;
     insts.extend_from_slice(operand(1, 3, 1, right).as_slice())?;
     insts.push(RInst::Bin(op, 2, 0, 1))?;
-    Ok(RBlock {
-        insts,
-        exit: RExit::Out(2, next),
-    })
+    block(alloc, insts.as_slice(), Ends::Out(2, next))
 }
 
 const RESULTS: [(Op, u32); 19] = [
@@ -244,32 +232,36 @@ const RESULTS: [(Op, u32); 19] = [
 ];
 
 // Each operator, one after another.
-fn each_operates(alloc: Global, left: bool, right: bool) -> Result<Option<Rtl>, AllocError> {
+fn each_operates(alloc: Global, left: bool, right: bool) -> Result<RFunc, AllocError> {
     let mut blocks = Vec::new(alloc);
     let mut next: u32 = 1;
     for (op, _) in RESULTS {
         blocks.push(operates(alloc, op, left, right, next)?)?;
         next = next.wrapping_add(1);
     }
-    blocks.push(block(alloc, &[], RExit::Return(Some(2)))?)?;
-    let main = RFunc {
+    blocks.push(block(alloc, &[], Ends::Return(Some(2)))?)?;
+    Ok(RFunc {
         parameters: 0,
         blocks,
-    };
-    let words = global(alloc, Width::Word, 2, [MINUS_TEN, 3].as_slice())?;
-    Ok(Rtl::new(vec![in alloc; main]?, vec![in alloc; words]?, 0))
+    })
+}
+
+fn results(alloc: Global) -> Result<Vec<u32>, AllocError> {
+    let mut words = Vec::new(alloc);
+    for (_, word) in RESULTS {
+        words.push(word)?;
+    }
+    Ok(words)
 }
 
 #[test]
 fn operators_on_known_and_unknown_words(rt: HostRuntime) -> Result<(), Fail> {
-    let mut words = Vec::new(rt.alloc());
-    for (_, word) in RESULTS {
-        words.push(word)?;
-    }
+    let words = results(rt.alloc())?;
     for (left, right) in [(false, false), (false, true), (true, false), (true, true)] {
-        let Some(all) = each_operates(rt.alloc(), left, right)? else {
-            panic!(&rt; "no program");
-        };
+        let mut globals = Vec::new(rt.alloc());
+        globals.push(global(rt.alloc(), Width::Word, 2, [MINUS_TEN, 3].as_slice())?)?;
+        let main = each_operates(rt.alloc(), left, right)?;
+        let all = program_over(&rt, rt.alloc(), main, globals)?;
         both_end_with(&rt, rt.alloc(), &all, 1, 0, words.as_slice())?;
     }
     Ok(())
@@ -279,25 +271,27 @@ fn operators_on_known_and_unknown_words(rt: HostRuntime) -> Result<(), Fail> {
 fn has_unit(rt: &impl Abort, alloc: Global, count: u32, depth: u32) -> Result<bool, AllocError> {
     let last = count.wrapping_sub(1);
     let insts = [RInst::Const(last, 3)];
-    let main = one_block(alloc, insts.as_slice(), RExit::Return(Some(last)))?;
+    let main = one_block(alloc, insts.as_slice(), Ends::Return(Some(last)))?;
     let wide = program_of(rt, alloc, main)?;
     Ok(select(alloc, &wide, depth).is_ok())
 }
 
 // A frame has four bytes for each pseudo-register and four for the link: at most 32,000, and at most 16 MiB all together.
+const FRAMES: [(u32, u32, bool); 9] = [
+    (7_999, 1, true),
+    (8_000, 1, false),
+    (7_999, 524, true),
+    (7_999, 525, false),
+    (3, 1_048_576, true),
+    (3, 1_048_577, false),
+    (1, 2_097_152, true),
+    (1, 2_097_153, false),
+    (3, 0, true),
+];
+
 #[test]
 fn frames_and_the_stack_have_limits(rt: HostRuntime) -> Result<(), Fail> {
-    for (count, depth, want) in [
-        (7_999, 1, true),
-        (8_000, 1, false),
-        (7_999, 524, true),
-        (7_999, 525, false),
-        (3, 1_048_576, true),
-        (3, 1_048_577, false),
-        (1, 2_097_152, true),
-        (1, 2_097_153, false),
-        (3, 0, true),
-    ] {
+    for (count, depth, want) in FRAMES {
         let got = has_unit(&rt, rt.alloc(), count, depth)?;
         assert_eq!(rt; got, want, "{count} pseudo-registers at depth {depth}");
     }

@@ -2,18 +2,18 @@
 //! of the registers, HI, LO and the memory at its start.
 ghost use Rattle.term_table.specs.Passes.{IsOf};
 
-use crate::callers::take;
+use crate::opened::alone;
 use block_validator::{Verdict, validate};
 use mblock::{Block, Exit, Order};
 use mips_isa::{Amount, ImmOp, Plain, Reg, ShiftOp};
-use std::alloc::Global;
+use std::alloc::{AllocError, Global};
 use std::process::Abort;
 use std::test::Fail;
 use sym_exec::{RunRoom, run_block};
 use term_table::{Pass, TermTable};
 
 // `addiu $8,$0,n` for each n from 1 to `count`: each has two terms of its own.
-fn constants(alloc: Global, count: i16) -> Option<Vec<Plain>> {
+fn constants(alloc: Global, count: i16) -> Result<Vec<Plain>, AllocError> {
     let mut insts = Vec::new(alloc);
     for n in 0..count {
         let inst = Plain::Imm {
@@ -22,21 +22,14 @@ fn constants(alloc: Global, count: i16) -> Option<Vec<Plain>> {
             rs: Reg::ZERO,
             imm: n.saturating_add(1),
         };
-        if insts.push(inst).is_err() {
-            return None;
-        }
+        insts.push(inst)?;
     }
-    Some(insts)
+    Ok(insts)
 }
 
 fn block_of(rt: &impl Abort, alloc: Global, count: i16) -> Block {
-    match constants(alloc, count) {
-        Some(insts) => match Block::new(insts, Exit::Return) {
-            Some(block) => block,
-            None => panic!(rt; "not a block"),
-        },
-        None => panic!(rt; "no memory"),
-    }
+    let insts = constants(alloc, count).expect(rt, "memory");
+    Block::new(insts, Exit::Return).expect(rt, "a block")
 }
 
 fn order_of(rt: &impl Abort, alloc: Global, count: i16) -> Order {
@@ -46,13 +39,8 @@ fn order_of(rt: &impl Abort, alloc: Global, count: i16) -> Order {
         rt: Reg::ZERO,
         amount: Amount::masked(0),
     };
-    match constants(alloc, count) {
-        Some(insts) => match Order::new(insts, Exit::Return, Some(nop)) {
-            Some(order) => order,
-            None => panic!(rt; "not an order"),
-        },
-        None => panic!(rt; "no memory"),
-    }
+    let insts = constants(alloc, count).expect(rt, "memory");
+    Order::new(insts, Exit::Return, Some(nop)).expect(rt, "an order")
 }
 
 // Whether the block's terms were all linked: else the pass is full, the only error that there is.
@@ -61,41 +49,28 @@ fn has_room(rt: &impl Abort, alloc: Global, table: &TermTable, pass: &mut Pass, 
     ensures { IsOf table.now pass.new }
 {
     let block = block_of(rt, alloc, count);
-    let Ok(room) = RunRoom::new(alloc) else {
-        panic!(rt; "no memory")
-    };
+    let room = RunRoom::new(alloc).expect(rt, "memory");
     run_block(table, pass, &block, room).is_ok()
 }
 
 #[test]
 fn a_block_of_too_many_terms_is_full(rt: HostRuntime) -> Result<(), Fail> {
-    let Ok((table, mut passes)) = TermTable::open(rt.alloc(), 1, 40, 1) else {
-        panic!(rt; "not opened")
-    };
-    let Some(mut pass) = take(&table, &mut passes) else {
-        panic!(rt; "no pass")
-    };
+    let (table, mut pass) = alone(&rt, rt.alloc(), 40, 1);
     assert!(rt; !has_room(&rt, rt.alloc(), &table, &mut pass, 5));
     assert_eq!(rt; pass.linked(), 40);
     let block = block_of(&rt, rt.alloc(), 5);
     let order = order_of(&rt, rt.alloc(), 5);
-    match validate(rt.alloc(), &table, &mut pass, &block, order) {
-        Verdict::Full => {}
-        _ => panic!(rt; "another verdict"),
-    }
+    let verdict = validate(rt.alloc(), &table, &mut pass, &block, order);
+    assert!(rt; matches!(verdict, Verdict::Full), "another verdict");
     Ok(())
 }
 
 #[test]
 fn a_full_pass_still_runs_what_it_knows(rt: HostRuntime) -> Result<(), Fail> {
-    let Ok((table, mut passes)) = TermTable::open(rt.alloc(), 1, 35, 1) else {
-        panic!(rt; "not opened")
-    };
-    let Some(mut pass) = take(&table, &mut passes) else {
-        panic!(rt; "no pass")
-    };
+    let (table, mut pass) = alone(&rt, rt.alloc(), 35, 1);
     assert!(rt; has_room(&rt, rt.alloc(), &table, &mut pass, 0));
     assert_eq!(rt; pass.linked(), 35);
+    assert_eq!(rt; pass.room(), 0);
     assert!(rt; !has_room(&rt, rt.alloc(), &table, &mut pass, 1));
     assert_eq!(rt; pass.linked(), 35);
     assert!(rt; has_room(&rt, rt.alloc(), &table, &mut pass, 0));

@@ -5,6 +5,8 @@ mod callers;
 #[cfg(test)]
 mod full_tests;
 #[cfg(test)]
+mod opened;
+#[cfg(test)]
 mod tests;
 
 pub use callers::{

@@ -1,12 +1,12 @@
 //! What one pass and several threads do with a table.
-ghost use Rattle.std.specs.Prelude.{◌+◌, ◌^◌, ◌<◌};
+ghost use Rattle.std.specs.Prelude.{◌+◌, ◌^◌, ◌<◌, All};
 ghost use Rattle.term_table.specs.Passes.{IsOf};
 
 use crate::callers::{
     constants_probes, find_constants, intern_constants, intern_leaf, intern_over, meet_and_read,
     pairs_probes, take,
 };
-use mips_isa::NonzeroReg;
+use crate::opened::{alone, init, interned, pair};
 use std::alloc::Global;
 use std::process::Abort;
 use std::test::Fail;
@@ -16,82 +16,46 @@ use sym_terms::{Label, Origin, label_of, word_of};
 use term_table::{OpenFault, Pass, TermTable};
 use words::{Operator, Width};
 
-fn init(index: u8) -> Option<Label> {
-    let register = NonzeroReg::new(index)?;
-    Some(Label::Init(Origin::Register(register)))
-}
-
 #[test]
 fn one_pass_interns_and_finds(rt: HostRuntime) -> Result<(), Fail> {
-    let (Some(one), Some(two), Some(three)) = (init(1), init(2), init(3)) else {
-        panic!(rt; "no register")
-    };
-    let Ok((table, mut passes)) = TermTable::open(rt.alloc(), 1, 4, 1) else {
-        panic!(rt; "not opened")
-    };
-    let Some(mut pass) = take(&table, &mut passes) else {
-        panic!(rt; "no pass")
-    };
-    let Ok(first) = intern_leaf(&table, &mut pass, one) else {
-        panic!(rt; "full")
-    };
-    let Ok(again) = intern_leaf(&table, &mut pass, one) else {
-        panic!(rt; "full")
-    };
+    let (one, two, three) = (init(&rt, 1), init(&rt, 2), init(&rt, 3));
+    let (table, mut pass) = alone(&rt, rt.alloc(), 4, 1);
+    let first = interned(&rt, &table, &mut pass, one);
+    let again = interned(&rt, &table, &mut pass, one);
     assert_eq!(rt; first.ticket, again.ticket);
     assert!(rt; pass.linked() == 1 && pass.room() == 3);
-    let Ok(other) = intern_leaf(&table, &mut pass, two) else {
-        panic!(rt; "full")
-    };
+    let other = interned(&rt, &table, &mut pass, two);
     assert!(rt; other.ticket != first.ticket && other.probes == 2);
     let found = table.find(&mut pass, three, &[]);
     assert!(rt; found.ticket.is_none() && found.probes == 3);
     Ok(())
 }
 
+// The second pass of a table finds the term of the first under its ticket.
+fn meet_and_find(rt: &impl Abort, alloc: Global, heads: u64) {
+    let one = init(rt, 1);
+    let (table, mut first, mut second) = pair(rt, alloc, 4, heads);
+    let made = interned(rt, &table, &mut first, one);
+    table.meet(&mut first, &mut second);
+    let found = table.find(&mut second, one, &[]);
+    assert!(rt; found.ticket == Some(made.ticket) && second.linked() == 0);
+}
+
 #[test]
 fn passes_that_met_find_each_others_terms(rt: HostRuntime) -> Result<(), Fail> {
     for heads in [1, 16] {
-        let Some(one) = init(1) else {
-            panic!(rt; "no register")
-        };
-        let Ok((table, mut passes)) = TermTable::open(rt.alloc(), 2, 4, heads) else {
-            panic!(rt; "not opened")
-        };
-        let (Some(mut second), Some(mut first)) = (
-            take(&table, &mut passes),
-            take(&table, &mut passes),
-        ) else {
-            panic!(rt; "no pass")
-        };
-        let Ok(made) = intern_leaf(&table, &mut first, one) else {
-            panic!(rt; "full")
-        };
-        table.meet(&mut first, &mut second);
-        let found = table.find(&mut second, one, &[]);
-        assert!(rt; found.ticket == Some(made.ticket) && second.linked() == 0);
+        meet_and_find(&rt, rt.alloc(), heads);
     }
     Ok(())
 }
 
 #[test]
 fn a_full_pass_still_answers(rt: HostRuntime) -> Result<(), Fail> {
-    let (Some(one), Some(two)) = (init(1), init(2)) else {
-        panic!(rt; "no register")
-    };
-    let Ok((table, mut passes)) = TermTable::open(rt.alloc(), 1, 1, 1) else {
-        panic!(rt; "not opened")
-    };
-    let Some(mut pass) = take(&table, &mut passes) else {
-        panic!(rt; "no pass")
-    };
-    let Ok(first) = intern_leaf(&table, &mut pass, one) else {
-        panic!(rt; "full")
-    };
+    let (one, two) = (init(&rt, 1), init(&rt, 2));
+    let (table, mut pass) = alone(&rt, rt.alloc(), 1, 1);
+    let first = interned(&rt, &table, &mut pass, one);
     assert!(rt; intern_leaf(&table, &mut pass, two).is_err() && pass.room() == 0);
-    let Ok(again) = intern_leaf(&table, &mut pass, one) else {
-        panic!(rt; "full")
-    };
+    let again = interned(&rt, &table, &mut pass, one);
     assert_eq!(rt; first.ticket, again.ticket);
     Ok(())
 }
@@ -128,50 +92,35 @@ fn the_largest_table_is_opened_or_memory_is_refused(rt: HostRuntime) -> Result<(
 
 #[test]
 fn a_pass_of_a_table_of_other_sizes_is_told_apart(rt: HostRuntime) -> Result<(), Fail> {
-    let (Ok((one, mut passes)), Ok((other, _))) = (
-        TermTable::open(rt.alloc(), 1, 4, 1),
-        TermTable::open(rt.alloc(), 1, 5, 1),
-    ) else {
-        panic!(rt; "not opened")
-    };
-    let Some(pass) = take(&one, &mut passes) else {
-        panic!(rt; "no pass")
-    };
+    let (one, pass) = alone(&rt, rt.alloc(), 4, 1);
+    let (other, _) = alone(&rt, rt.alloc(), 5, 1);
     assert!(rt; one.owns(&pass) && !other.owns(&pass));
     Ok(())
 }
 
+// The second pass reads a term of the first, and finds it when it interns it.
+fn read_of_another(rt: &impl Abort, table: &TermTable, first: &mut Pass, second: &mut Pass)
+    requires first { IsOf table.now first.old }
+    requires second { IsOf table.now second.old }
+{
+    let over = Label::Op(Operator::Addu);
+    let (a, b) = intern_over(table, first, init(rt, 1), over).expect(rt, "room");
+    let (node, again) = meet_and_read(table, first, second, over, a, b);
+    assert!(rt; node.label == over && node.children.as_slice() == [a, a].as_slice());
+    let again = again.expect(rt, "room");
+    assert!(rt; again.ticket == b && second.linked() == 0);
+}
+
 #[test]
 fn a_term_of_another_pass_is_read(rt: HostRuntime) -> Result<(), Fail> {
-    let Some(leaf) = init(1) else {
-        panic!(rt; "no register")
-    };
-    let over = Label::Op(Operator::Addu);
-    let Ok((table, mut passes)) = TermTable::open(rt.alloc(), 2, 8, 1) else {
-        panic!(rt; "not opened")
-    };
-    let (Some(mut second), Some(mut first)) = (take(&table, &mut passes), take(&table, &mut passes))
-    else {
-        panic!(rt; "no pass")
-    };
-    let Ok((a, b)) = intern_over(&table, &mut first, leaf, over) else {
-        panic!(rt; "full")
-    };
-    let (node, again) = meet_and_read(&table, &mut first, &mut second, over, a, b);
-    assert!(rt; node.label == over && node.children.as_slice() == [a, a].as_slice());
-    let Ok(again) = again else { panic!(rt; "full") };
-    assert!(rt; again.ticket == b && second.linked() == 0);
+    let (table, mut first, mut second) = pair(&rt, rt.alloc(), 8, 1);
+    read_of_another(&rt, &table, &mut first, &mut second);
     Ok(())
 }
 
 // Two threads intern the constants below 1,000, one of them downward.
 fn two_share(rt: &(impl Abort + Threads), alloc: Global, heads: u64) {
-    let Ok((table, mut passes)) = TermTable::open(alloc, 2, 1000, heads) else {
-        panic!(rt; "not opened")
-    };
-    let (Some(second), Some(first)) = (take(&table, &mut passes), take(&table, &mut passes)) else {
-        panic!(rt; "no pass")
-    };
+    let (table, first, second) = pair(rt, alloc, 1000, heads);
     let shared = &table;
     let ((mut first, up), (mut second, down)) = thread::join(
         rt,
@@ -213,36 +162,61 @@ fn two_halves(
     (first, second)
 }
 
-// Four threads intern 500 constants each, which overlap: 1,250 in all.
-fn four_share(rt: &(impl Abort + Threads + Sync), alloc: Global, heads: u64) {
-    let Ok((table, mut passes)) = TermTable::open(alloc, 4, 500, heads) else {
-        panic!(rt; "not opened")
-    };
-    let (Some(a), Some(b)) = (take(&table, &mut passes), take(&table, &mut passes)) else {
-        panic!(rt; "no pass")
-    };
-    let (Some(c), Some(d)) = (take(&table, &mut passes), take(&table, &mut passes)) else {
-        panic!(rt; "no pass")
-    };
-    let shared = &table;
-    let ((mut a, mut b), (mut c, mut d)) = thread::join(
+// Four threads intern 500 constants each, which overlap.
+fn four_intern(
+    rt: &(impl Threads + Sync),
+    table: &TermTable,
+    front: (Pass, Pass),
+    back: (Pass, Pass),
+) -> ((Pass, Pass), (Pass, Pass))
+    requires front { IsOf table.now front.0 × IsOf table.now front.1 }
+    requires back { IsOf table.now back.0 × IsOf table.now back.1 }
+    ensures front { IsOf table.now result.0.0 × IsOf table.now result.0.1 }
+    ensures back { IsOf table.now result.1.0 × IsOf table.now result.1.1 }
+{
+    let (a, b) = front;
+    let (c, d) = back;
+    thread::join(
         rt,
-        move || two_halves(rt, shared, a, b, 0),
-        move || two_halves(rt, shared, c, d, 500),
-    );
-    table.meet(&mut a, &mut b);
-    table.meet(&mut c, &mut d);
-    table.meet(&mut a, &mut c);
-    table.meet(&mut a, &mut b);
-    table.meet(&mut c, &mut d);
-    assert!(rt; find_constants(&table, &mut a, &mut b, 1250));
-    assert!(rt; find_constants(&table, &mut c, &mut d, 1250));
-    let linked = [a.linked(), b.linked(), c.linked(), d.linked()];
+        move || two_halves(rt, table, a, b, 0),
+        move || two_halves(rt, table, c, d, 500),
+    )
+}
+
+// Whether each of four passes, which meet, finds the 1,250 constants, and each was linked once.
+fn four_find(table: &TermTable, a: &mut Pass, b: &mut Pass, c: &mut Pass, d: &mut Pass) -> bool
+    requires front { IsOf table.now a.old × IsOf table.now b.old }
+    requires back { IsOf table.now c.old × IsOf table.now d.old }
+{
+    table.meet(a, b);
+    table.meet(c, d);
+    table.meet(a, c);
+    table.meet(a, b);
+    table.meet(c, d);
     let mut sum = 0u64;
-    for n in linked {
+    for n in [a.linked(), b.linked(), c.linked(), d.linked()] {
         sum = sum.saturating_add(n);
     }
-    assert_eq!(rt; sum, 1250);
+    find_constants(table, a, b, 1250) && find_constants(table, c, d, 1250) && sum == 1250
+}
+
+// The last two passes that are left.
+fn last_two(rt: &impl Abort, table: &TermTable, passes: &mut Vec<Pass>) -> (Pass, Pass)
+    requires { All (IsOf table.now) passes.old.items }
+    ensures rest { All (IsOf table.now) passes.new.items }
+    ensures passes { IsOf table.now result.0 × IsOf table.now result.1 }
+{
+    let first = take(table, passes).expect(rt, "a pass");
+    let second = take(table, passes).expect(rt, "a pass");
+    (first, second)
+}
+
+fn four_share(rt: &(impl Abort + Threads + Sync), alloc: Global, heads: u64) {
+    let (table, mut passes) = TermTable::open(alloc, 4, 500, heads).expect(rt, "a table");
+    let front = last_two(rt, &table, &mut passes);
+    let back = last_two(rt, &table, &mut passes);
+    let ((mut a, mut b), (mut c, mut d)) = four_intern(rt, &table, front, back);
+    assert!(rt; four_find(&table, &mut a, &mut b, &mut c, &mut d));
 }
 
 #[test]
@@ -256,12 +230,7 @@ fn four_threads_intern_overlapping_constants(rt: HostRuntime) -> Result<(), Fail
 fn constants_in(rt: &impl Abort, alloc: Global, heads: u64, shift: u32) -> u64
     requires { shift < 32 }
 {
-    let Ok((table, mut passes)) = TermTable::open(alloc, 1, 4096, heads) else {
-        panic!(rt; "not opened")
-    };
-    let Some(mut pass) = take(&table, &mut passes) else {
-        panic!(rt; "no pass")
-    };
+    let (table, mut pass) = alone(rt, alloc, 4096, heads);
     constants_probes(&table, &mut pass, 4096, shift)
 }
 
@@ -276,17 +245,9 @@ fn chains_of_constants_are_short(rt: HostRuntime) -> Result<(), Fail> {
 
 // The sums of all pairs of the constants below 256.
 fn sums_in(rt: &impl Abort, alloc: Global) -> u64 {
-    let Ok((table, mut passes)) = TermTable::open(alloc, 1, 66000, 65536) else {
-        panic!(rt; "not opened")
-    };
-    let Some(mut pass) = take(&table, &mut passes) else {
-        panic!(rt; "no pass")
-    };
+    let (table, mut pass) = alone(rt, alloc, 66000, 65536);
     constants_probes(&table, &mut pass, 256, 0);
-    let Ok(probes) = pairs_probes(&table, &mut pass, 256) else {
-        panic!(rt; "full")
-    };
-    probes
+    pairs_probes(&table, &mut pass, 256).expect(rt, "room")
 }
 
 #[test]
@@ -304,40 +265,43 @@ fn sixty_four_passes_are_opened(rt: HostRuntime) -> Result<(), Fail> {
     Ok(())
 }
 
+const LABELS: [(Label, u64); 10] = [
+    (Label::Init(Origin::Hi), 0x1_0000_0020),
+    (Label::Init(Origin::Link), 0x1_0000_0022),
+    (Label::Mem0, 0x2_0000_0000),
+    (Label::Const(0xffff_ffff), 0x3_ffff_ffff),
+    (Label::Op(Operator::Addu), 0x4_0000_0000),
+    (Label::Op(Operator::DivuRemainder), 0x4_0000_0012),
+    (Label::Load(Width::Word), 0x5_0000_0000),
+    (Label::Load(Width::Byte), 0x5_0000_0001),
+    (Label::Store(Width::Word), 0x6_0000_0000),
+    (Label::Store(Width::Byte), 0x6_0000_0001),
+];
+
+// Words that no label has.
+const NO_LABELS: [u64; 7] = [
+    0,
+    0x1_0000_0000,
+    0x1_0000_0023,
+    0x2_0000_0001,
+    0x4_0000_0013,
+    0x5_0000_0002,
+    0x7_0000_0000,
+];
+
+fn has_word(rt: &impl Abort, label: Label, word: u64) {
+    assert_eq!(rt; word_of(label), word);
+    assert!(rt; label_of(word).is_some());
+}
+
 #[test]
 fn labels_have_their_words(rt: HostRuntime) -> Result<(), Fail> {
-    let Some(first) = init(1) else {
-        panic!(rt; "no register")
-    };
-    let Some(last) = init(31) else {
-        panic!(rt; "no register")
-    };
-    for (label, word) in [
-        (first, 0x1_0000_0001),
-        (last, 0x1_0000_001f),
-        (Label::Init(Origin::Hi), 0x1_0000_0020),
-        (Label::Init(Origin::Link), 0x1_0000_0022),
-        (Label::Mem0, 0x2_0000_0000),
-        (Label::Const(0xffff_ffff), 0x3_ffff_ffff),
-        (Label::Op(Operator::Addu), 0x4_0000_0000),
-        (Label::Op(Operator::DivuRemainder), 0x4_0000_0012),
-        (Label::Load(Width::Word), 0x5_0000_0000),
-        (Label::Load(Width::Byte), 0x5_0000_0001),
-        (Label::Store(Width::Word), 0x6_0000_0000),
-        (Label::Store(Width::Byte), 0x6_0000_0001),
-    ] {
-        assert_eq!(rt; word_of(label), word);
-        assert!(rt; label_of(word).is_some());
+    has_word(&rt, init(&rt, 1), 0x1_0000_0001);
+    has_word(&rt, init(&rt, 31), 0x1_0000_001f);
+    for (label, word) in LABELS {
+        has_word(&rt, label, word);
     }
-    for word in [
-        0,
-        0x1_0000_0000,
-        0x1_0000_0023,
-        0x2_0000_0001,
-        0x4_0000_0013,
-        0x5_0000_0002,
-        0x7_0000_0000,
-    ] {
+    for word in NO_LABELS {
         assert!(rt; label_of(word).is_none());
     }
     Ok(())

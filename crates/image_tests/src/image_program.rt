@@ -1,7 +1,7 @@
 // `mcc run` and `mcc list` over an image in memory.
 
-use crate::stand_ins::{OneFile, Shut, told_by};
-use driver::{Command, FileFault, mcc, words};
+use driver::{Command, FileFault, words};
+use stand_ins::{OneFile, Written, told_by, told_with_shut_out};
 use std::alloc::{AllocError, Global};
 use std::process::Abort;
 use std::sync::Wait;
@@ -29,6 +29,16 @@ fn image(alloc: Global, head: &[u32], code: &[u32], data: &[u8]) -> Result<Vec<u
     Ok(bytes)
 }
 
+// What `mcc` does with these words over an image.
+fn told_of<T: Threads + Wait + Sync>(
+    threads: &T,
+    alloc: Global,
+    image: &[u8],
+    words: &[&str],
+) -> Written {
+    told_by(threads, alloc, &mut OneFile::of(alloc, image), words)
+}
+
 // An image of version 1 without data, entered at its first word.
 fn first_version(alloc: Global, code: &[u32]) -> Result<Vec<u8>, AllocError> {
     let head = [1, (code.len() % 100) as u32, 0x0040_0000, 0];
@@ -51,12 +61,9 @@ const RUNS: [(&[u32], &str, &str, u8); 9] = [
 fn images_run(rt: HostRuntime) -> Result<(), Fail> {
     for (code, steps, printed, status) in RUNS {
         let bytes = first_version(rt.alloc(), code)?;
-        let mut files = OneFile::of(rt.alloc(), bytes.as_slice());
         let words = ["mcc", "run", "x", "--steps", steps];
-        let got = told_by(&rt, rt.alloc(), &mut files, words.as_slice());
-        assert_eq!(rt; got.status, status, "at {printed}");
-        assert_eq!(rt; got.out.as_slice(), printed.as_bytes(), "at {printed}");
-        assert!(rt; got.err.is_empty(), "at {printed}");
+        let got = told_of(&rt, rt.alloc(), bytes.as_slice(), words.as_slice());
+        assert!(rt; got.is(status, printed, ""), "{got}, not {printed}");
     }
     Ok(())
 }
@@ -66,50 +73,45 @@ fn images_run(rt: HostRuntime) -> Result<(), Fail> {
 fn output_comes_before_the_end(rt: HostRuntime) -> Result<(), Fail> {
     let code = [0x2404_0007, 0x2402_0001, 0x0000_000c, 0x0810_0000, 0];
     let bytes = first_version(rt.alloc(), code.as_slice())?;
-    let mut files = OneFile::of(rt.alloc(), bytes.as_slice());
     let words = ["mcc", "run", "--steps", "8", "x"];
-    let got = told_by(&rt, rt.alloc(), &mut files, words.as_slice());
-    assert_eq!(rt; got.out.as_slice(), b"7\n7\nmore\n".as_slice());
-    assert_eq!(rt; got.status, 4);
+    let got = told_of(&rt, rt.alloc(), bytes.as_slice(), words.as_slice());
+    assert!(rt; got.is(4, "7\n7\nmore\n", ""), "{got}");
     Ok(())
 }
 
 // Both commands refuse the bytes with this line.
-fn refused(
-    rt: &(impl Abort + AllocGlobal + Threads + Wait + Sync),
-    bytes: &[u8],
-    line: &str,
-) -> Result<(), AllocError> {
+fn refused(rt: &(impl Abort + AllocGlobal + Threads + Wait + Sync), bytes: &[u8], line: &str) {
     for words in [RUN, LIST] {
-        let mut files = OneFile::of(rt.alloc(), bytes);
-        let got = told_by(rt, rt.alloc(), &mut files, words.as_slice());
-        assert_eq!(rt; got.status, 1, "at {line}");
-        assert!(rt; got.out.is_empty(), "at {line}");
-        assert_eq!(rt; got.err.as_slice(), line.as_bytes(), "at {line}");
+        let got = told_of(rt, rt.alloc(), bytes, words.as_slice());
+        assert!(rt; got.is(1, "", line), "{got}, not {line}");
     }
-    Ok(())
 }
 
 const LENGTH: &str = "fault 42 Length\n";
 
+// An image that is cut at any byte is refused, and one with a byte more.
+fn refused_cut(
+    rt: &(impl Abort + AllocGlobal + Threads + Wait + Sync),
+    bytes: &[u8],
+) -> Result<(), AllocError> {
+    for k in 0..bytes.len() {
+        refused(rt, &bytes[..k], LENGTH);
+    }
+    let mut longer = Vec::from_slice(rt.alloc(), bytes)?;
+    longer.push(0)?;
+    refused(rt, longer.as_slice(), LENGTH);
+    Ok(())
+}
+
 #[test]
 fn images_that_are_cut_are_refused(rt: HostRuntime) -> Result<(), Fail> {
     let first = first_version(rt.alloc(), SEVEN.as_slice())?;
+    assert_eq!(rt; first.len(), 32);
+    refused_cut(&rt, first.as_slice())?;
     let head = [2, 3, 0x0040_0000, 1, 0, 0, 0, 0, 0, 0];
     let second = image(rt.alloc(), head.as_slice(), SEVEN.as_slice(), &[9])?;
-    assert_eq!(rt; first.len(), 32);
     assert_eq!(rt; second.len(), 57);
-    for bytes in [first.as_slice(), second.as_slice()] {
-        for (k, _) in bytes.iter().enumerate() {
-            let Some(part) = bytes.get(..k) else {
-                panic!(rt; "no byte {k}")
-            };
-            refused(&rt, part, LENGTH)?;
-        }
-        let mut longer = Vec::from_slice(rt.alloc(), bytes)?;
-        longer.push(0)?;
-        refused(&rt, longer.as_slice(), LENGTH)?;
-    }
+    refused_cut(&rt, second.as_slice())?;
     Ok(())
 }
 
@@ -134,7 +136,7 @@ fn changed_images_are_refused(rt: HostRuntime) -> Result<(), Fail> {
         if at < bytes.len() {
             bytes[at] = byte;
         }
-        refused(&rt, bytes.as_slice(), line)?;
+        refused(&rt, bytes.as_slice(), line);
     }
     Ok(())
 }
@@ -161,75 +163,63 @@ const SECOND_LISTING: &str = "\
 report same 1 unclean 22 differs 333 full 4 nomemory 5 missed 1048211
 ";
 
-// The texts of branches and jumps are those of GNU objdump, with registers by number.
+const FIRST_CODE: [u32; 7] = [
+    0x0c10_0004,
+    0,
+    0x3c08_1000,
+    0x8d04_fffc,
+    0x1480_fffd,
+    0xffff_ffff,
+    0x0000_000c,
+];
+
+// In each row head, code, data and listing. The texts of branches and jumps are those of GNU objdump, with registers by
+// number.
+const LISTINGS: [(&[u32], &[u32], &[u8], &str); 2] = [
+    (
+        &[1, 7, 0x0040_0000, 2],
+        &FIRST_CODE,
+        &[0, 0, 0, 0x2a, 0xfe, 0xdc, 0xba, 0x98],
+        FIRST_LISTING,
+    ),
+    (
+        &[2, 3, 0x0040_0000, 6, 1, 22, 333, 4, 5, 1_048_211],
+        &SEVEN,
+        &[0, 1, 2, 3, 10, 255],
+        SECOND_LISTING,
+    ),
+];
+
 #[test]
 fn images_are_listed(rt: HostRuntime) -> Result<(), Fail> {
-    let code = [
-        0x0c10_0004,
-        0,
-        0x3c08_1000,
-        0x8d04_fffc,
-        0x1480_fffd,
-        0xffff_ffff,
-        0x0000_000c,
-    ];
-    let head = [1, 7, 0x0040_0000, 2];
-    let data = [0, 0, 0, 0x2a, 0xfe, 0xdc, 0xba, 0x98];
-    let first = image(
-        rt.alloc(),
-        head.as_slice(),
-        code.as_slice(),
-        data.as_slice(),
-    )?;
-    let head = [2, 3, 0x0040_0000, 6, 1, 22, 333, 4, 5, 1_048_211];
-    let data = [0, 1, 2, 3, 10, 255];
-    let second = image(
-        rt.alloc(),
-        head.as_slice(),
-        SEVEN.as_slice(),
-        data.as_slice(),
-    )?;
-    for (bytes, listing) in [
-        (first.as_slice(), FIRST_LISTING),
-        (second.as_slice(), SECOND_LISTING),
-    ] {
-        let mut files = OneFile::of(rt.alloc(), bytes);
-        let got = told_by(&rt, rt.alloc(), &mut files, LIST.as_slice());
-        assert_eq!(rt; got.status, 0);
-        assert_eq!(rt; got.out.as_slice(), listing.as_bytes());
-        assert!(rt; got.err.is_empty());
+    for (head, code, data, listing) in LISTINGS {
+        let bytes = image(rt.alloc(), head, code, data)?;
+        let got = told_of(&rt, rt.alloc(), bytes.as_slice(), LIST.as_slice());
+        assert!(rt; got.is(0, listing, ""), "{got}, not {listing}");
     }
     Ok(())
 }
 
+const FAULTS: [([&str; 3], FileFault, &str); 4] = [
+    (RUN, FileFault::Failed, "fault 60 CannotRead\n"),
+    (RUN, FileFault::NoMemory, "fault 30 NoMemory\n"),
+    (LIST, FileFault::Failed, "fault 60 CannotRead\n"),
+    (LIST, FileFault::NoMemory, "fault 30 NoMemory\n"),
+];
+
 #[test]
 fn files_and_output_that_fail_are_faults(rt: HostRuntime) -> Result<(), Fail> {
     let bytes = first_version(rt.alloc(), SEVEN.as_slice())?;
-    for words in [RUN, LIST] {
-        for (fault, line) in [
-            (FileFault::Failed, "fault 60 CannotRead\n"),
-            (FileFault::NoMemory, "fault 30 NoMemory\n"),
-        ] {
-            let mut files = OneFile::of(rt.alloc(), bytes.as_slice());
-            files.read_fault = Some(fault);
-            let got = told_by(&rt, rt.alloc(), &mut files, words.as_slice());
-            assert_eq!(rt; got.status, 1);
-            assert!(rt; got.out.is_empty());
-            assert_eq!(rt; got.err.as_slice(), line.as_bytes());
-        }
+    for (words, fault, line) in FAULTS {
         let mut files = OneFile::of(rt.alloc(), bytes.as_slice());
-        let mut out = Shut;
-        let mut err = Vec::new(rt.alloc());
-        let got = mcc(
-            &rt,
-            rt.alloc(),
-            words.as_slice(),
-            &mut files,
-            &mut out,
-            &mut err,
-        );
-        assert_eq!(rt; got, 1);
-        assert_eq!(rt; err.as_slice(), b"fault 61 CannotWrite\n".as_slice());
+        files.read_fault = Some(fault);
+        let got = told_by(&rt, rt.alloc(), &mut files, words.as_slice());
+        assert!(rt; got.is(1, "", line), "{got}, not {line}");
+    }
+    for words in [RUN, LIST] {
+        let mut files = OneFile::of(rt.alloc(), bytes.as_slice());
+        let got = told_with_shut_out(&rt, rt.alloc(), &mut files, words.as_slice());
+        assert!(rt; got.is(1, "", "fault 61 CannotWrite\n"), "{got}");
     }
     Ok(())
 }
@@ -245,15 +235,20 @@ fn words_name_the_image(rt: HostRuntime) -> Result<(), Fail> {
         panic!(rt; "no command")
     };
     assert_eq!(rt; image, "x");
-    for (line, command) in [
-        (["mcc", "run", "--steps=4294967296", "x"], "run"),
-        (["mcc", "list", "--steps=1", "x"], "list"),
-        (["mcc", "list", "x", "y"], "list"),
-    ] {
-        let mut files = OneFile::of(rt.alloc(), &[]);
-        let got = told_by(&rt, rt.alloc(), &mut files, line.as_slice());
-        assert_eq!(rt; got.status, 2, "at {command}");
-        assert!(rt; got.out.is_empty(), "at {command}");
+    Ok(())
+}
+
+const WRONG: [&[&str]; 3] = [
+    &["mcc", "run", "--steps=4294967296", "x"],
+    &["mcc", "list", "--steps=1", "x"],
+    &["mcc", "list", "x", "y"],
+];
+
+#[test]
+fn wrong_words_name_no_image(rt: HostRuntime) -> Result<(), Fail> {
+    for line in WRONG {
+        let got = told_of(&rt, rt.alloc(), &[], line);
+        assert!(rt; got.complains(2, ""), "{got}");
     }
     Ok(())
 }
