@@ -1,4 +1,5 @@
-//! Tests of schedulers, of the pool of workers, and of phases over both.
+//! Tests of plain orders, of schedulers, of verdicts that are refused memory, of the pool of workers, and of phases over
+//! them.
 #![tactic(auto)]
 
 #[cfg(test)]
@@ -8,4 +9,8 @@ mod orders;
 #[cfg(test)]
 mod phases;
 #[cfg(test)]
+mod plain_orders;
+#[cfg(test)]
 mod pool;
+#[cfg(test)]
+mod refused_memory;

@@ -111,6 +111,16 @@ fn answers<G: Gate + Sync, R: Threads + Wait + Sync + Abort>(
     run(rt, alloc, n, passes, &Twice { table }, gate)
 }
 
+// Of two tasks that wait for each other, one has to be done beside the other.
+#[test]
+fn two_tasks_are_done_at_once(rt: HostRuntime) -> Result<(), Fail> {
+    let gate = Meeting::between(0, 1);
+    let all = answers(&rt, rt.alloc(), 2, 2, &gate);
+    assert!(rt; !gate.is_late());
+    assert_eq!(rt; all.as_slice(), [Some(0), Some(2)].as_slice());
+    Ok(())
+}
+
 #[test]
 fn a_task_is_stolen_from_a_worker_that_waits(rt: HostRuntime) -> Result<(), Fail> {
     let gate = Meeting::between(0, 2);

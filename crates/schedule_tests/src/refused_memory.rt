@@ -1,0 +1,51 @@
+//! A verdict that is refused memory: the test is a process of its own, and takes all that it can get.
+ghost use Rattle.std.specs.Prelude.{IfSome};
+ghost use Rattle.term_table.specs.Passes.{IsOf};
+
+use crate::orders::text_of;
+use block_validator::{Verdict, validate};
+use check_text::Text;
+use scarce_memory::AllMemory;
+use std::alloc::Global;
+use std::test::Fail;
+use term_table::{Pass, TermTable};
+
+const PAIR: &str = "block\nlw $8,0($29)\naddu $9,$8,$8\naddiu $10,$10,1\nreturn\n\
+                    order\nlw $8,0($29)\naddiu $10,$10,1\naddu $9,$8,$8\nreturn\nslot nop\n";
+
+// A table and its pass.
+fn opened(alloc: Global) -> Option<(TermTable, Pass)>
+    ensures { IfSome result (λ t. IsOf t.0 t.1) }
+{
+    let Ok((table, mut passes)) = TermTable::open(alloc, 1, 256, 16) else {
+        return None;
+    };
+    let Some(pass) = passes.pop() else {
+        return None;
+    };
+    Some((table, pass))
+}
+
+#[test]
+fn a_pass_whose_verdict_was_refused_memory_can_go_on(rt: HostRuntime) -> Result<(), Fail> {
+    let alloc = rt.alloc();
+    let (Some((table, mut pass)), Some(refused), Some(given)) = (
+        opened(alloc),
+        text_of(alloc, PAIR),
+        text_of(alloc, PAIR),
+    ) else {
+        panic!(rt; "no table or no text")
+    };
+    let Text { block, order } = refused;
+    let memory = AllMemory::take(alloc, 0, 0)?;
+    let first = matches!(
+        validate(alloc, &table, &mut pass, &block, order),
+        Verdict::NoMemory
+    );
+    drop(memory);
+    assert!(rt; first);
+    assert_eq!(rt; pass.linked(), 0);
+    let second = validate(alloc, &table, &mut pass, &block, given.order);
+    assert!(rt; matches!(second, Verdict::Same(_)));
+    Ok(())
+}
