@@ -14,6 +14,9 @@ use words::Operator;
 /// How many leaves there are; each pair of leaves makes a term.
 pub const LEAVES: u32 = 448;
 
+/// How long a thread is busy before a round begins, in nanoseconds.
+const WARM_UP: u128 = 20_000_000;
+
 /// In which order a worker goes through the terms.
 #[derive(Clone, Copy)]
 pub enum Order {
@@ -48,6 +51,17 @@ impl Start {
                 return;
             }
             yield_now();
+        }
+    }
+
+    // Keeps the processor busy for a while, since one that slept comes to speed slowly, and the system spreads busy threads
+    // alone over processors.
+    fn warm_up(&self, clock: &impl Clock) {
+        let began = self.nanoseconds(clock);
+        for _ in 0..10_000_000u32 {
+            if self.nanoseconds(clock).saturating_sub(began) >= WARM_UP {
+                return;
+            }
         }
     }
 
@@ -121,6 +135,7 @@ impl Worker {
         requires { IsReady table.now self.old }
         ensures { IsReady table.now self.new }
     {
+        start.warm_up(clock);
         start.wait();
         self.began = start.nanoseconds(clock);
         self.intern_terms(table);
