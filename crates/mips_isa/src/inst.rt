@@ -47,7 +47,7 @@ pub enum HiLo {
 
 /// What computes, loads or stores (Kane, MIPS RISC Architecture, appendix A), by form. `rd` and `rt`
 /// are written, except that a store reads `rt`; offsets are in bytes.
-#[derive(Clone, Copy, Debug, PartialEq, Eq)]
+#[derive(Clone, Copy, PartialEq, Eq)]
 pub enum Plain {
     /// `sll $rd,$rt,amount`
     Shift {

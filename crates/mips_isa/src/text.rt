@@ -15,7 +15,7 @@ use std::fmt;
 use words::{Sign, Width};
 
 /// The name of an instruction that computes, loads or stores, without its operands.
-#[derive(Clone, Copy, Debug)]
+#[derive(Clone, Copy)]
 pub enum Mnemonic {
     Shift(ShiftOp),
     ShiftBy(ShiftOp),
@@ -68,6 +68,15 @@ impl Mnemonic {
             Mnemonic::Store(Width::Word) => "sw",
             Mnemonic::Store(Width::Byte) => "sb",
         }
+    }
+}
+
+/// As in a text.
+impl fmt::Debug for Mnemonic {
+    ghost debug_output = { λ m. Some (mnemonic_text m) };
+
+    fn fmt<W: fmt::Write>(&self, f: &mut fmt::Formatter<W>) -> fmt::Result {
+        f.write_str(self.name())
     }
 }
 
@@ -186,6 +195,12 @@ fn write_moved<W: fmt::Write>(
     write!(f, "{r},{offset}({base})")
 }
 
+fn write_upper<W: fmt::Write>(a: Reg, number: u16, f: &mut fmt::Formatter<W>) -> fmt::Result
+    ensures { DisplaysOnOk W.write_str_gives f.old result (Some (register_text a ++ (codes "," ++ decimal number))) f.new }
+{
+    write!(f, "{a},{number}")
+}
+
 fn write_operands<W: fmt::Write>(inst: &Plain, f: &mut fmt::Formatter<W>) -> fmt::Result
     ensures { DisplaysOnOk W.write_str_gives f.old result (Some (operands_text inst.now)) f.new }
 {
@@ -195,8 +210,8 @@ fn write_operands<W: fmt::Write>(inst: &Plain, f: &mut fmt::Formatter<W>) -> fmt
         Plain::Alu { rd, rs, rt, .. } => write_triple(rd, rs, rt, f),
         Plain::Imm { rt, rs, imm, .. } => write_signed(rt, rs, imm, f),
         Plain::Logic { rt, rs, imm, .. } => write_unsigned(rt, rs, imm, f),
-        Plain::LoadUpper { rt, imm } => write!(f, "{rt},{imm}"),
-        Plain::MoveFrom { rd, .. } => write!(f, "{rd}"),
+        Plain::LoadUpper { rt, imm } => write_upper(rt, imm, f),
+        Plain::MoveFrom { rd, .. } => fmt::Display::fmt(&rd, f),
         Plain::Multiply { rs, rt, .. } => write_pair(rs, rt, f),
         Plain::Divide { rs, rt, .. } => write_pair(rs, rt, f),
         Plain::Load {
@@ -225,6 +240,15 @@ impl fmt::Display for Plain {
         f.write_str(self.mnemonic().name())?;
         f.write_str(" ")?;
         write_operands(self, f)
+    }
+}
+
+/// As in a text.
+impl fmt::Debug for Plain {
+    ghost debug_output = { λ i. Some (instruction_text i) };
+
+    fn fmt<W: fmt::Write>(&self, f: &mut fmt::Formatter<W>) -> fmt::Result {
+        fmt::Display::fmt(self, f)
     }
 }
 
@@ -289,6 +313,33 @@ impl fmt::Display for Target {
     }
 }
 
+fn write_compared<W: fmt::Write>(
+    a: Reg,
+    b: Reg,
+    target: u32,
+    f: &mut fmt::Formatter<W>,
+) -> fmt::Result
+    ensures { DisplaysOnOk W.write_str_gives f.old result
+        (Some (codes " " ++ (register_text a ++ (codes "," ++ (register_text b ++ (codes "," ++ target_text target)))))) f.new }
+{
+    let target = Target(target);
+    write!(f, " {a},{b},{target}")
+}
+
+fn write_tested<W: fmt::Write>(r: Reg, target: u32, f: &mut fmt::Formatter<W>) -> fmt::Result
+    ensures { DisplaysOnOk W.write_str_gives f.old result (Some (codes " " ++ (register_text r ++ (codes "," ++ target_text target)))) f.new }
+{
+    let target = Target(target);
+    write!(f, " {r},{target}")
+}
+
+fn write_target<W: fmt::Write>(target: u32, f: &mut fmt::Formatter<W>) -> fmt::Result
+    ensures { DisplaysOnOk W.write_str_gives f.old result (Some (codes " " ++ target_text target)) f.new }
+{
+    let target = Target(target);
+    write!(f, " {target}")
+}
+
 fn write_control_operands<W: fmt::Write>(
     control: &Control,
     slot: u32,
@@ -296,19 +347,14 @@ fn write_control_operands<W: fmt::Write>(
 ) -> fmt::Result
     ensures { DisplaysOnOk W.write_str_gives f.old result (Some (control_operands control.now slot)) f.new }
 {
-    match control {
+    match *control {
         Control::BranchPair { rs, rt, offset, .. } => {
-            let target = Target(branch_target(slot, *offset));
-            write!(f, " {rs},{rt},{target}")
+            write_compared(rs, rt, branch_target(slot, offset), f)
         }
         Control::BranchZero { rs, offset, .. } => {
-            let target = Target(branch_target(slot, *offset));
-            write!(f, " {rs},{target}")
+            write_tested(rs, branch_target(slot, offset), f)
         }
-        Control::JumpTo { target, .. } => {
-            let target = Target(jump_target(slot, *target));
-            write!(f, " {target}")
-        }
+        Control::JumpTo { target, .. } => write_target(jump_target(slot, target), f),
         Control::JumpRegister { rs } => write!(f, " {rs}"),
         Control::SystemCall => Ok(()),
     }
