@@ -1,5 +1,5 @@
--- Which orders serve a block, and what verdicts tell.
-use Rattle.std.proofs.Common.{◌≡◌, ◌≤◌, length, sym, Option, Some, IfSome, refl, subst}
+-- Which orders serve a block.
+use Rattle.std.proofs.Common.{◌≡◌, ◌≤◌, length, sym, refl, subst}
 use Rattle.mblock.specs.declared.limits.TheConstants.{BLOCK_INSTS}
 use Rattle.mblock.specs.Parts.{BlockParts, OrderParts}
 use Rattle.mblock.specs.Clean.{FitsSlot}
@@ -8,11 +8,6 @@ use Rattle.mblock.specs.Orders.{Means}
 use Rattle.mblock.specs.PlainOrders.{plain_order_of}
 use Rattle.mblock.specs.Slots.{is_slotted}
 use Rattle.mblock.proofs.PlainMeans.{slot_fits, plain_means}
-use Rattle.block_validator.specs.Verdicts as decisions
-use Rattle.block_validator.specs.declared.place.Place.{Place}
-use Rattle.block_validator.specs.declared.verdict.Verdict.{Verdict}
-use Rattle.block_validator.specs.declared.verdict.Verdict.TheVariants as verdicts
-use Rattle.sched_phase.specs.Phases.{Proposals, MayCome, Fits}
 use Rattle.sched_phase.specs.Settling.{Serves}
 
 pub plain_serves : (b : BlockParts) → length b.insts ≤ BLOCK_INSTS → Serves b (plain_order_of b)
@@ -22,10 +17,3 @@ pub serves_same : (b c : BlockParts) (o : OrderParts) → c ≡ b → length b.i
 serves_same b c o e few fits exit means =
     let short : length c.insts ≤ BLOCK_INSTS = subst (λ (b : BlockParts). length b.insts ≤ BLOCK_INSTS) (sym e) few in
     subst (λ b. Serves b o) e (record { short = short; fits = fits; exit = exit; means = means })
-
--- what a verdict of that kind tells
-pub may_differ : (proposes : Proposals) (b : BlockParts) (v : Option Verdict) (w : Verdict) (place : Place) → v ≡ Some w → w ≡ verdicts.Differs place
-    → IfSome v (Fits proposes b) → MayCome proposes b (decisions.differs place)
-may_differ proposes b v w place e f h =
-    let fits : Fits proposes b w = subst (λ v. IfSome v (Fits proposes b)) e h in
-    subst (Fits proposes b) f fits

@@ -1,5 +1,5 @@
 -- One more block and its order.
-use Rattle.std.specs.Prelude.{◌≡◌, ℕ, ◌+◌, ◌≤◌, List, Some, length, slice_get}
+use Rattle.std.specs.Prelude.{◌≡◌, ℕ, ◌+◌, ◌≤◌, List, Option, Some, None, length, slice_get}
 use Rattle.mblock.specs.declared.limits.TheConstants.{BLOCK_INSTS}
 use Rattle.mblock.specs.Parts.{BlockParts, OrderParts}
 use Rattle.mblock.specs.Clean.{FitsSlot}
@@ -8,8 +8,19 @@ use Rattle.mblock.specs.Orders.{Means}
 use Rattle.image.specs.Images.{CountsOf}
 use Rattle.image.specs.Images.{total}
 use Rattle.image.specs.Views.{counts_of}
-use Rattle.sched_phase.specs.Phases.{Kind, Proposals, AreSettled, count_of}
+use Rattle.block_validator.specs.declared.verdict.Verdict.{Verdict}
+use Rattle.block_validator.specs.declared.verdict.Verdict.TheVariants as verdicts
+use Rattle.sched_phase.specs.Phases.{Kind, same, unclean, differs, full, no_memory, missed, Proposals, AreSettled, count_of}
 use Rattle.sched_phase.specs.declared.settle.Progress.{Progress}
+
+-- what the block is counted under that has this verdict, or none
+abbrev pub kind_of : Option Verdict → Kind
+kind_of None = missed
+kind_of (Some (verdicts.Same _)) = same
+kind_of (Some (verdicts.Unclean _)) = unclean
+kind_of (Some (verdicts.Differs _)) = differs
+kind_of (Some verdicts.Full) = full
+kind_of (Some verdicts.NoMemory) = no_memory
 
 -- one block more is counted, under this kind
 pub record AddsOne (k : Kind) (old new : CountsOf) : Type 0 where

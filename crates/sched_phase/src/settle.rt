@@ -3,8 +3,8 @@ ghost use Rattle.std.specs.Prelude.{◌≡◌, ℕ, ◌+◌, ◌<◌, Some, IfOk
 ghost use Rattle.mblock.specs.declared.limits.TheConstants.{UNIT_BLOCKS};
 ghost use Rattle.image.specs.Images.{total};
 ghost use Rattle.image.specs.Views.{counts_of};
-ghost use Rattle.sched_phase.specs.Phases.{Kind, Fits, IsPhase, Suits};
-ghost use Rattle.sched_phase.specs.Settling.{AddsOne, AreDone, Serves};
+ghost use Rattle.sched_phase.specs.Phases.{Fits, IsPhase, Suits};
+ghost use Rattle.sched_phase.specs.Settling.{AddsOne, AreDone, Serves, kind_of};
 ghost use Rattle.mblock.specs.PlainOrders.{plain_order_of};
 
 use crate::scheduled::Scheduled;
@@ -45,7 +45,8 @@ fn settled<'a, R: Reorder>(
 ) -> Result<Order, AllocError>
     requires room { total (counts_of report.old) < UNIT_BLOCKS }
     requires fits { IfSome verdict (Fits (R.proposes reorder.now) block.now) }
-    ensures suits { IfOk result (λ o. (k : Kind) × Suits (R.proposes reorder.now) block.now o k × AddsOne k (counts_of report.old) (counts_of report.new)) }
+    ensures suits { IfOk result (λ o. Suits (R.proposes reorder.now) block.now o (kind_of verdict.entry)) }
+    ensures counted { OnOk result (AddsOne (kind_of verdict.entry) (counts_of report.old) (counts_of report.new)) }
     ensures serves { IfOk result (Serves block.now) }
     ensures sum { OnOk result (total (counts_of report.new) ≡ total (counts_of report.old) + 1) }
     ensures asked { OnOk result (is_some verdict.entry ≡ true → report.new.missed ≡ report.old.missed) }

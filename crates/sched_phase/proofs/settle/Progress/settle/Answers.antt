@@ -2,6 +2,7 @@ use Rattle.std.proofs.Common.{rules, ◌≡◌, List, [], ◌∷◌, ◌++◌, l
 use Rattle.mblock.specs.Parts.{OrderParts}
 use Rattle.image.specs.Views.{counts_of}
 use Rattle.sched_phase.specs.Phases.{AreSettled}
+use Rattle.sched_phase.specs.Settling.{kind_of}
 use Rattle.sched_phase.proofs.Settled.{ServeAll, settled_more, serve_more}
 use Rattle.sched_phase.proofs.settle.Progress.settle.Goals as goal
 
@@ -16,10 +17,11 @@ returns-clause-done g c =
     let was = c.requires.done in
     let new = counts_of c.settled.new.report in
     let old = counts_of c.args.self.now.report in
-    let suits = c.in_ok-order.ensures.suits in
+    let kind = kind_of c.args.verdict in
+    let given = c.in_ok-order.ensures in
     record {
       settled = subst (λ l. AreSettled proposes blocks l new) (sym is)
-          (settled_more proposes blocks orders old new b suits.0 o c.requires.next was.settled suits.1 suits.2);
-      serve = subst (ServeAll blocks) (sym is) (serve_more blocks orders b o c.requires.next c.in_ok-order.ensures.serves was.serve);
-      sum = c.in_ok-order.ensures.sum ∙ ap (λ n. n + 1) was.sum ∙ sym (length-append orders (o ∷ [])) ∙ ap length (sym is);
+          (settled_more proposes blocks orders old new b kind o c.requires.next was.settled given.suits given.counted);
+      serve = subst (ServeAll blocks) (sym is) (serve_more blocks orders b o c.requires.next given.serves was.serve);
+      sum = given.sum ∙ ap (λ n. n + 1) was.sum ∙ sym (length-append orders (o ∷ [])) ∙ ap length (sym is);
     }
