@@ -41,7 +41,7 @@ enum Way {
     Scheduled { workers: u64 },
 }
 
-const WAYS: [Way; 4] = [
+const WAYS: &[Way] = &[
     Way::Plain,
     Way::Scheduled { workers: 1 },
     Way::Scheduled { workers: 2 },
@@ -70,7 +70,7 @@ pub(crate) fn show<R: Threads + Wait + Sync + Clock + Print + AllocGlobal>(
 ) -> anyhow::Result<()> {
     let length = if figures { 1_048_576 } else { 16_384 };
     let text = program_text(rt.alloc(), length)?;
-    for way in WAYS {
+    for &way in WAYS {
         let start = Instant::now(rt)?;
         let built = built(rt, text.as_bytes(), way)?;
         let took = start.elapsed(rt)?;

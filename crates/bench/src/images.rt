@@ -61,8 +61,8 @@ pub(crate) fn show(rt: &HostRuntime, figures: bool) -> anyhow::Result<()> {
         let scheduled = build_one(alloc, text, &options(1)?, &FilledOrder(ListOrder))?;
         let (blocks, same) = (scheduled.blocks, scheduled.report.same);
         println!(rt; "{}: {same} of {blocks} blocks accepted", program.name)?;
-        let before = show_run(rt, &program, "plain", &plain, figures)?;
-        let after = show_run(rt, &program, "scheduled", &scheduled, figures)?;
+        let before = show_run(rt, program, "plain", &plain, figures)?;
+        let after = show_run(rt, program, "scheduled", &scheduled, figures)?;
         let percent = after.saturating_mul(100) / before.max(1);
         println!(rt; "  {percent} percent of the words")?;
     }

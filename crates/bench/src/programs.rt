@@ -13,7 +13,7 @@ const SUM: &str = "s = s * 3 + i;";
 
 /// The programs by their functions and words beside `main`, and the statement of a turn: sums, the same beside many
 /// functions and words, stores, calls.
-const PROGRAMS: [(usize, usize, &str); 4] = [
+const PROGRAMS: &[(usize, usize, &str)] = &[
     (0, 1, SUM),
     (255, 100_000, SUM),
     (0, 1, "a[i % 64] = a[s % 64] + 1;"),
@@ -58,7 +58,7 @@ fn show_lowered(rt: &HostRuntime, typed: &Typed, figures: bool) -> anyhow::Resul
 pub(crate) fn show(rt: &HostRuntime, figures: bool) -> anyhow::Result<()> {
     let alloc = rt.alloc();
     let turns = if figures { 2_000_000 } else { 20_000 };
-    for (number, (functions, words, statement)) in PROGRAMS.into_iter().enumerate() {
+    for (number, &(functions, words, statement)) in PROGRAMS.iter().enumerate() {
         let text = program_text(alloc, functions, words, statement, turns)?;
         let typed = check(alloc, read(alloc, text.as_bytes())?)?;
         let start = Instant::now(rt)?;

@@ -27,7 +27,7 @@ pub const CALLS: Program = Program {
 /// Both, and the eight programs.
 pub fn programs(alloc: Global) -> Result<Vec<Program>, AllocError> {
     let mut all = vec![in alloc; LOOP, CALLS]?;
-    all.extend_from_slice(PROGRAMS.as_slice())?;
+    all.extend_from_slice(PROGRAMS)?;
     Ok(all)
 }
 

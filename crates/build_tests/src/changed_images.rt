@@ -7,7 +7,7 @@ use std::alloc::{AllocError, Global};
 use std::test::Fail;
 
 // `addiu $4,$0,7`, `addiu $2,$0,10`, `syscall`.
-const FIRST: [u32; 8] = [
+const FIRST: &[u32] = &[
     0x4d43_4349,
     1,
     3,
@@ -18,7 +18,7 @@ const FIRST: [u32; 8] = [
     0x0000_000c,
 ];
 
-const SECOND: [u32; 14] = [
+const SECOND: &[u32] = &[
     0x4d43_4349,
     2,
     3,
@@ -51,7 +51,7 @@ fn end_of(alloc: Global, bytes: &[u8]) -> Result<Ending, ImageFault> {
 
 #[test]
 fn images_that_are_cut_are_refused(rt: HostRuntime) -> Result<(), Fail> {
-    for words in [FIRST.as_slice(), SECOND.as_slice()] {
+    for words in [FIRST, SECOND] {
         let mut bytes = bytes_of(rt.alloc(), words)?;
         assert_eq!(rt; end_of(rt.alloc(), bytes.as_slice()), Ok(Ending::Halt(7)));
         for count in 0..bytes.len() {
@@ -67,7 +67,7 @@ fn images_that_are_cut_are_refused(rt: HostRuntime) -> Result<(), Fail> {
 
 #[test]
 fn changed_bytes_are_refused_in_order(rt: HostRuntime) -> Result<(), Fail> {
-    for words in [FIRST.as_slice(), SECOND.as_slice()] {
+    for words in [FIRST, SECOND] {
         for (at, byte, fault) in [
             (3, 0x4a, ImageFault::Magic),
             (7, 3, ImageFault::Version),
@@ -87,7 +87,7 @@ fn changed_bytes_are_refused_in_order(rt: HostRuntime) -> Result<(), Fail> {
 
 #[test]
 fn a_word_that_is_no_instruction_is_stuck(rt: HostRuntime) -> Result<(), Fail> {
-    for (words, first) in [(FIRST.as_slice(), 5), (SECOND.as_slice(), 11)] {
+    for (words, first) in [(FIRST, 5), (SECOND, 11)] {
         let mut changed = Vec::from_slice(rt.alloc(), words)?;
         if first < changed.len() {
             changed[first] = 0xffff_ffff;

@@ -8,9 +8,9 @@ use std::sync::Wait;
 use std::test::Fail;
 use std::thread::Threads;
 
-const BUILD: [&str; 4] = ["mcc", "build", "x", "y"];
+const BUILD: &[&str] = &["mcc", "build", "x", "y"];
 
-const PLAIN: [&str; 5] = ["mcc", "build", "x", "y", "--plain"];
+const PLAIN: &[&str] = &["mcc", "build", "x", "y", "--plain"];
 
 // How many blocks the program has.
 fn blocks_of(alloc: Global, text: &str) -> usize {
@@ -53,7 +53,7 @@ fn a_full_table_leaves_each_block_its_own_order(rt: HostRuntime) -> Result<(), F
 
 #[test]
 fn by_default_each_block_has_its_checked_order(rt: HostRuntime) -> Result<(), Fail> {
-    let (built, ran, listed) = built(&rt, rt.alloc(), COUNTS, BUILD.as_slice());
+    let (built, ran, listed) = built(&rt, rt.alloc(), COUNTS, BUILD);
     let blocks = blocks_of(rt.alloc(), COUNTS);
     let counts = format!(in rt.alloc();
         "same {blocks} unclean 0 differs 0 full 0 nomemory 0 missed 0\n"
@@ -83,7 +83,7 @@ fn plain_builds_have_no_phase(rt: HostRuntime) -> Result<(), Fail> {
         "--heads",
         "1",
     ];
-    let one = told_by(&rt, rt.alloc(), &mut first, PLAIN.as_slice());
+    let one = told_by(&rt, rt.alloc(), &mut first, PLAIN);
     let other = told_by(&rt, rt.alloc(), &mut second, few.as_slice());
     let line = format!(in rt.alloc(); "blocks {} plain\n", blocks_of(rt.alloc(), COUNTS))?;
     assert!(rt; one.is(0, line.as_str(), ""), "{one}");
@@ -108,7 +108,7 @@ fn arrays_of_bytes_are_built_as_they_are_run(rt: HostRuntime) -> Result<(), Fail
     for (text, printed) in BYTES {
         let interp = told(&rt, rt.alloc(), text, ["mcc", "interp", "x"].as_slice());
         assert!(rt; interp.is(0, printed, ""), "{interp} of {text}");
-        let (_, ran, _) = built(&rt, rt.alloc(), text, BUILD.as_slice());
+        let (_, ran, _) = built(&rt, rt.alloc(), text, BUILD);
         assert!(rt; ran.is(0, printed, ""), "{ran} of {text}");
     }
     Ok(())
@@ -117,7 +117,7 @@ fn arrays_of_bytes_are_built_as_they_are_run(rt: HostRuntime) -> Result<(), Fail
 #[test]
 fn a_program_that_goes_wrong_is_built(rt: HostRuntime) -> Result<(), Fail> {
     let text = "int main(void){int a=2147483647;out(1);a=a+1;}";
-    let (built, _, _) = built(&rt, rt.alloc(), text, BUILD.as_slice());
+    let (built, _, _) = built(&rt, rt.alloc(), text, BUILD);
     assert_eq!(rt; built.status, 0, "{built}");
     Ok(())
 }
@@ -126,16 +126,16 @@ fn a_program_that_goes_wrong_is_built(rt: HostRuntime) -> Result<(), Fail> {
 fn files_that_fail_are_told(rt: HostRuntime) -> Result<(), Fail> {
     let mut unread = OneFile::of(rt.alloc(), COUNTS.as_bytes());
     unread.read_fault = Some(FileFault::Failed);
-    for words in [BUILD.as_slice(), ["mcc", "interp", "x"].as_slice()] {
+    for words in [BUILD, ["mcc", "interp", "x"].as_slice()] {
         let got = told_by(&rt, rt.alloc(), &mut unread, words);
         assert!(rt; got.is(1, "", "fault 60 CannotRead\n"), "{got}");
     }
     let mut unwritten = OneFile::of(rt.alloc(), COUNTS.as_bytes());
     unwritten.write_fault = Some(FileFault::Failed);
-    let got = told_by(&rt, rt.alloc(), &mut unwritten, BUILD.as_slice());
+    let got = told_by(&rt, rt.alloc(), &mut unwritten, BUILD);
     assert!(rt; got.is(1, "", "fault 61 CannotWrite\n"), "{got}");
     let mut file = OneFile::of(rt.alloc(), COUNTS.as_bytes());
-    let got = told_with_shut_out(&rt, rt.alloc(), &mut file, BUILD.as_slice());
+    let got = told_with_shut_out(&rt, rt.alloc(), &mut file, BUILD);
     assert!(rt; got.is(1, "", "fault 61 CannotWrite\n"), "{got}");
     assert_eq!(rt; file.writes, 1);
     Ok(())
@@ -191,12 +191,12 @@ const CHECK: &str = "block\naddiu $10,$10,1\nreturn\norder\nreturn\nslot addiu $
 
 const THREE: &str = "int main(void){out(10);out(200);out(3000);}";
 
-const INTERP: [&str; 3] = ["mcc", "interp", "x"];
+const INTERP: &[&str] = &["mcc", "interp", "x"];
 
 #[test]
 fn output_that_breaks_off_is_told(rt: HostRuntime) -> Result<(), Fail> {
     let mut file = OneFile::of(rt.alloc(), THREE.as_bytes());
-    let built = told_by(&rt, rt.alloc(), &mut file, PLAIN.as_slice());
+    let built = told_by(&rt, rt.alloc(), &mut file, PLAIN);
     let line = format!(in rt.alloc(); "blocks {} plain\n", blocks_of(rt.alloc(), THREE))?;
     assert!(rt; built.is(0, line.as_str(), ""), "{built}");
     let image = file.written.as_slice();
@@ -204,13 +204,9 @@ fn output_that_breaks_off_is_told(rt: HostRuntime) -> Result<(), Fail> {
     let check = ["mcc", "check", "x"];
     for (bytes, words, printed) in [
         (CHECK.as_bytes(), check.as_slice(), "same\n"),
-        (
-            THREE.as_bytes(),
-            INTERP.as_slice(),
-            "10\n200\n3000\ndone 0\n",
-        ),
+        (THREE.as_bytes(), INTERP, "10\n200\n3000\ndone 0\n"),
         (image, run.as_slice(), "10\n200\n3000\ndone 0\n"),
-        (THREE.as_bytes(), PLAIN.as_slice(), line.as_str()),
+        (THREE.as_bytes(), PLAIN, line.as_str()),
     ] {
         for room in 0..=printed.len() {
             let is_told = breaks_off(&rt, rt.alloc(), bytes, words, printed, room)?;
@@ -229,7 +225,7 @@ fn the_deepest_braces_run(rt: HostRuntime) -> Result<(), Fail> {
             text.push_str(brace)?;
         }
     }
-    let got = told(&rt, rt.alloc(), text.as_str(), INTERP.as_slice());
+    let got = told(&rt, rt.alloc(), text.as_str(), INTERP);
     assert!(rt; got.is(0, "done 0\n", ""), "{got}");
     Ok(())
 }

@@ -3,7 +3,7 @@ use crate::builds::{LOOP, NODES, built, built_by_one, counted, prints, programs}
 use list_scheduler::Hostile;
 use std::test::Fail;
 
-const KINDS: [Hostile; 8] = [
+const KINDS: &[Hostile] = &[
     Hostile::Drop,
     Hostile::Double,
     Hostile::Swap,
@@ -16,7 +16,7 @@ const KINDS: [Hostile; 8] = [
 
 #[test]
 fn images_by_one_worker_run_as_their_source(rt: HostRuntime) -> Result<(), Fail> {
-    for kind in KINDS {
+    for &kind in KINDS {
         let Some(built) = built_by_one(rt.alloc(), LOOP.text, &kind) else {
             panic!(rt; "no image with {kind:?}")
         };
@@ -29,7 +29,7 @@ fn images_by_one_worker_run_as_their_source(rt: HostRuntime) -> Result<(), Fail>
 
 #[test]
 fn images_by_two_workers_run_as_their_source(rt: HostRuntime) -> Result<(), Fail> {
-    for kind in KINDS {
+    for &kind in KINDS {
         for program in programs(rt.alloc())? {
             let name = program.name;
             let Some(built) = built(&rt, rt.alloc(), program.text, 2, NODES, &kind) else {

@@ -2,7 +2,7 @@ use crate::sources::{comes_to, fault};
 use runs::End;
 use std::test::Fail;
 
-const FAULTS: [(&[u8], u8, usize); 23] = [
+const FAULTS: &[(&[u8], u8, usize)] = &[
     (b"unsigned char s[1];int main(void){}", 0, 0),
     (b"unsigned char s;", 3, 15),
     (b"unsigned char s=1;", 3, 15),
@@ -28,7 +28,7 @@ const FAULTS: [(&[u8], u8, usize); 23] = [
     (b"unsigned chars[1];int main(void){}", 0, 0),
 ];
 
-const SIZES: [(&[u8], u8, usize); 8] = [
+const SIZES: &[(&[u8], u8, usize)] = &[
     (b"unsigned char s[1048576];int main(void){}", 0, 0),
     (b"unsigned char s[1048577];int main(void){}", 20, 14),
     (b"unsigned char s[4294967295u];int main(void){}", 20, 14),
@@ -47,7 +47,7 @@ const SIZES: [(&[u8], u8, usize); 8] = [
     (b"unsigned char s[1048573];int a;int main(void){}", 20, 29),
 ];
 
-const RUNS: [(&[u8], End, &[u32]); 7] = [
+const RUNS: &[(&[u8], End, &[u32])] = &[
     (
         b"unsigned char s[3];int main(void){s[0]=511;s[1]=s[0]+1;out(s[0]);out(s[1]);out(s[2]);}",
         End::Done(0),
@@ -87,7 +87,7 @@ const RUNS: [(&[u8], End, &[u32]); 7] = [
 
 #[test]
 fn bytes_at_file_scope_alone(rt: HostRuntime) -> Result<(), Fail> {
-    for (text, number, at) in FAULTS {
+    for &(text, number, at) in FAULTS {
         assert_eq!(rt; fault(rt.alloc(), text), (number, at), "{number} at {at}");
     }
     Ok(())
@@ -95,7 +95,7 @@ fn bytes_at_file_scope_alone(rt: HostRuntime) -> Result<(), Fail> {
 
 #[test]
 fn four_bytes_count_as_a_word(rt: HostRuntime) -> Result<(), Fail> {
-    for (text, number, at) in SIZES {
+    for &(text, number, at) in SIZES {
         assert_eq!(rt; fault(rt.alloc(), text), (number, at), "{number} at {at}");
     }
     Ok(())
@@ -103,7 +103,7 @@ fn four_bytes_count_as_a_word(rt: HostRuntime) -> Result<(), Fail> {
 
 #[test]
 fn elements_from_0_to_255(rt: HostRuntime) -> Result<(), Fail> {
-    for (text, end, output) in RUNS {
+    for &(text, end, output) in RUNS {
         comes_to(&rt, rt.alloc(), text, 256, 1000000, end, output)?;
     }
     Ok(())

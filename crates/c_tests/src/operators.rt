@@ -15,7 +15,7 @@ const LEAST: u32 = 0x8000_0000;
 
 const MOST: u32 = 0x7fff_ffff;
 
-const BINARY: [(&str, Sign, u32, u32, Option<u32>); 83] = [
+const BINARY: &[(&str, Sign, u32, u32, Option<u32>)] = &[
     ("+", S, MOST, 1, None),
     ("+", S, LEAST, 0xffff_ffff, None),
     ("+", S, 0x7fff_fffe, 1, Some(MOST)),
@@ -101,7 +101,7 @@ const BINARY: [(&str, Sign, u32, u32, Option<u32>); 83] = [
     ("||", S, 0, 0, Some(0)),
 ];
 
-const UNARY: [(&str, Sign, u32, Option<u32>); 11] = [
+const UNARY: &[(&str, Sign, u32, Option<u32>)] = &[
     ("-", S, LEAST, None),
     ("-", S, MOST, Some(0x8000_0001)),
     ("-", S, 1, Some(0xffff_ffff)),
@@ -137,7 +137,7 @@ fn gives(rt: &impl Abort, alloc: Global, e: &str, want: Option<u32>) -> Result<(
 #[test]
 fn between_operands(rt: HostRuntime) -> Result<(), Fail> {
     let alloc = rt.alloc();
-    for (operator, sign, x, y, want) in BINARY {
+    for &(operator, sign, x, y, want) in BINARY {
         let left = spelled(alloc, sign, x)?;
         let right = spelled(alloc, sign, y)?;
         let e = format!(in alloc; "{left} {operator} {right}")?;
@@ -149,7 +149,7 @@ fn between_operands(rt: HostRuntime) -> Result<(), Fail> {
 #[test]
 fn before_an_operand(rt: HostRuntime) -> Result<(), Fail> {
     let alloc = rt.alloc();
-    for (operator, sign, x, want) in UNARY {
+    for &(operator, sign, x, want) in UNARY {
         let operand = spelled(alloc, sign, x)?;
         let e = format!(in alloc; "{operator}{operand}")?;
         gives(&rt, alloc, &e, want)?;

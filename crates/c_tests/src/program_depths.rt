@@ -52,7 +52,7 @@ fn statements(rt: HostRuntime) -> Result<(), Fail> {
 }
 
 // In each row the text has the part so many times, what stands within, and so many parentheses.
-const EXPRESSIONS: [(&[u8], usize, &[u8], usize); 4] = [
+const EXPRESSIONS: &[(&[u8], usize, &[u8], usize)] = &[
     (b"(", 505, b"0", 505),
     (b"~", 1_010, b"0", 0),
     (b"0+", 505, b"0", 0),
@@ -62,7 +62,7 @@ const EXPRESSIONS: [(&[u8], usize, &[u8], usize); 4] = [
 #[test]
 fn expressions(rt: HostRuntime) -> Result<(), Fail> {
     let alloc = rt.alloc();
-    for (part, times, after, closing) in EXPRESSIONS {
+    for &(part, times, after, closing) in EXPRESSIONS {
         let opened = around(alloc, b"int main(void){return ", part, times, after)?;
         let closed = around(alloc, opened.as_slice(), b")", closing, b";}")?;
         let end = end(alloc, closed.as_slice());

@@ -1,7 +1,7 @@
 use crate::sources::fault;
 use std::test::Fail;
 
-const ROWS: [(&[u8], u8, usize); 87] = [
+const ROWS: &[(&[u8], u8, usize)] = &[
     (b"", 15, 0),
     (b"int x;", 15, 6),
     (b"int f(void){return 1;}", 15, 22),
@@ -109,7 +109,7 @@ const ROWS: [(&[u8], u8, usize); 87] = [
 
 #[test]
 fn faults_at_their_places(rt: HostRuntime) -> Result<(), Fail> {
-    for (text, number, at) in ROWS {
+    for &(text, number, at) in ROWS {
         assert_eq!(rt; fault(rt.alloc(), text), (number, at), "{number} at {at}");
     }
     Ok(())

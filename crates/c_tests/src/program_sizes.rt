@@ -55,7 +55,7 @@ fn locals_up_to_128(rt: HostRuntime) -> Result<(), Fail> {
     Ok(())
 }
 
-const WORDS: [(&[u8], u8, usize); 3] = [
+const WORDS: &[(&[u8], u8, usize)] = &[
     (b"int a[262143];int b;int main(void){}", 0, 0),
     (b"int a[262143];int b;int c;int d;int main(void){}", 20, 24),
     (b"int a[262145];int main(void){}", 20, 4),
@@ -63,7 +63,7 @@ const WORDS: [(&[u8], u8, usize); 3] = [
 
 #[test]
 fn words_up_to_262144(rt: HostRuntime) -> Result<(), Fail> {
-    for (text, number, at) in WORDS {
+    for &(text, number, at) in WORDS {
         assert_eq!(rt; fault(rt.alloc(), text), (number, at), "{number} at {at}");
     }
     Ok(())

@@ -2,7 +2,7 @@ use crate::sources::comes_to;
 use runs::End;
 use std::test::Fail;
 
-const ROWS: [(&[u8], u32, u64, End, &[u32]); 30] = [
+const ROWS: &[(&[u8], u32, u64, End, &[u32])] = &[
     (b"int main(void){}", 256, 1000000, End::Done(0), &[]),
     (b"int main(void){}", 256, 0, End::More, &[]),
     (
@@ -193,7 +193,7 @@ const ROWS: [(&[u8], u32, u64, End, &[u32]); 30] = [
 
 #[test]
 fn runs_to_their_ends(rt: HostRuntime) -> Result<(), Fail> {
-    for (text, depth, steps, end, output) in ROWS {
+    for &(text, depth, steps, end, output) in ROWS {
         comes_to(&rt, rt.alloc(), text, depth, steps, end, output)?;
     }
     Ok(())

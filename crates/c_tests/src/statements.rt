@@ -16,7 +16,7 @@ const EVER: &str = "int main(void) { for (;;) out(1); }";
 // A row has a text, the depth and the steps of its run, and what it comes to.
 type Row = (&'static str, u32, u64, End, &'static [u32]);
 
-const LOOPS: [Row; 12] = [
+const LOOPS: &[Row] = &[
     (TURNS, 1, 0, End::More, &[]),
     (TURNS, 1, 4, End::More, &[]),
     (TURNS, 1, 5, End::More, &[0]),
@@ -40,7 +40,7 @@ fn judge(rt: &impl Abort, alloc: Global, rows: &[Row]) -> Result<(), AllocError>
 
 #[test]
 fn loops(rt: HostRuntime) -> Result<(), Fail> {
-    judge(&rt, rt.alloc(), LOOPS.as_slice())?;
+    judge(&rt, rt.alloc(), LOOPS)?;
     Ok(())
 }
 
@@ -54,7 +54,7 @@ const FALLS: &str = "int f(void) {} int main(void) { f(); return 0; }";
 // A return without a word.
 const QUIET: &str = "void f(void) { return; } int main(void) { f(); return 0; }";
 
-const CALLS: [Row; 9] = [
+const CALLS: &[Row] = &[
     (NESTED, 5, 1000, End::Done(5), &[7, 3]),
     (NESTED, 4, 1000, End::Wrong, &[7]),
     // out, four calls, four tests, four returns, out, return
@@ -69,7 +69,7 @@ const CALLS: [Row; 9] = [
 
 #[test]
 fn calls(rt: HostRuntime) -> Result<(), Fail> {
-    judge(&rt, rt.alloc(), CALLS.as_slice())?;
+    judge(&rt, rt.alloc(), CALLS)?;
     Ok(())
 }
 
@@ -99,7 +99,7 @@ fn locals_that_are_not_set(rt: HostRuntime) -> Result<(), Fail> {
     Ok(())
 }
 
-const ELEMENTS: [(&str, End, &[u32]); 4] = [
+const ELEMENTS: &[(&str, End, &[u32])] = &[
     ("0", End::Done(0), &[42, 8]),
     ("3", End::Done(0), &[42, 8]),
     ("4", End::Wrong, &[42]),
@@ -108,7 +108,7 @@ const ELEMENTS: [(&str, End, &[u32]); 4] = [
 
 #[test]
 fn globals(rt: HostRuntime) -> Result<(), Fail> {
-    for (index, end, output) in ELEMENTS {
+    for &(index, end, output) in ELEMENTS {
         let text = format!(in rt.alloc();
             "int g = 42; int a[4]; \
             int main(void) {{ out(g); a[{index}] = 8; out(a[{index}]); return 0; }}"

@@ -2,7 +2,7 @@ use crate::syntax::{answer, around};
 use std::alloc::{AllocError, Global};
 use std::test::Fail;
 
-const ROWS: [(&[u8], u8, usize); 71] = [
+const ROWS: &[(&[u8], u8, usize)] = &[
     // constants
     (b"int main(void){out(2147483648);}", 4, 19),
     (b"int main(void){out(0x1e+2);}", 4, 19),
@@ -80,7 +80,7 @@ const ROWS: [(&[u8], u8, usize); 71] = [
     (b"int a[-1];", 3, 6),
 ];
 
-const ACCEPTED: [&[u8]; 12] = [
+const ACCEPTED: &[&[u8]] = &[
     b"",
     b"int x;unsigned y;unsigned int z;int a[3];int b=-7;unsigned c=0x10u;",
     b"void f(void){}int g(int a,unsigned b,unsigned int c){return a;}",
@@ -95,7 +95,7 @@ const ACCEPTED: [&[u8]; 12] = [
     b"int main(void){a=b?c:d?e:f;}",
 ];
 
-const REFUSED_WORDS: [&[u8]; 26] = [
+const REFUSED_WORDS: &[&[u8]] = &[
     b"auto",
     b"case",
     b"const",
@@ -124,14 +124,14 @@ const REFUSED_WORDS: [&[u8]; 26] = [
     b"_Imaginary",
 ];
 
-const REFUSED_SIGNS: [&[u8]; 18] = [
+const REFUSED_SIGNS: &[&[u8]] = &[
     b"++", b"--", b"+=", b"-=", b"*=", b"/=", b"%=", b"<<=", b">>=", b"&=", b"|=", b"^=", b"->",
     b".", b"...", b"#", b"##", b"??",
 ];
 
 #[test]
 fn faults(rt: HostRuntime) -> Result<(), Fail> {
-    for (text, number, at) in ROWS {
+    for &(text, number, at) in ROWS {
         assert_eq!(rt; answer(rt.alloc(), text), (number, at), "{number} at {at}");
     }
     Ok(())
@@ -139,7 +139,7 @@ fn faults(rt: HostRuntime) -> Result<(), Fail> {
 
 #[test]
 fn accepted(rt: HostRuntime) -> Result<(), Fail> {
-    for text in ACCEPTED {
+    for &text in ACCEPTED {
         assert_eq!(rt; answer(rt.alloc(), text), (0, text.len()));
     }
     Ok(())
@@ -158,7 +158,7 @@ fn answer_with(
 
 #[test]
 fn refused_words(rt: HostRuntime) -> Result<(), Fail> {
-    for word in REFUSED_WORDS {
+    for &word in REFUSED_WORDS {
         assert_eq!(rt; answer_with(rt.alloc(), b"int ", word, b";")?, (2, 4));
         assert_eq!(rt; answer_with(rt.alloc(), b"int ", word, b"_;")?.0, 0);
     }
@@ -167,7 +167,7 @@ fn refused_words(rt: HostRuntime) -> Result<(), Fail> {
 
 #[test]
 fn refused_signs(rt: HostRuntime) -> Result<(), Fail> {
-    for sign in REFUSED_SIGNS {
+    for &sign in REFUSED_SIGNS {
         assert_eq!(rt; answer_with(rt.alloc(), b"int x ", sign, b" y;")?, (2, 6));
     }
     Ok(())

@@ -3,7 +3,7 @@
 use crate::syntax::{Sized, judge};
 use std::test::Fail;
 
-const LENGTHS: [Sized; 3] = [
+const LENGTHS: &[Sized] = &[
     (&[(b" ", 1_048_576)], 0, 1_048_576),
     (&[(b" ", 1_048_577)], 5, 1_048_576),
     (&[(b"\x00", 1), (b" ", 1_048_576)], 5, 1_048_576),
@@ -11,7 +11,7 @@ const LENGTHS: [Sized; 3] = [
 
 #[test]
 fn lengths(rt: HostRuntime) -> Result<(), Fail> {
-    judge(&rt, rt.alloc(), LENGTHS.as_slice())?;
+    judge(&rt, rt.alloc(), LENGTHS)?;
     Ok(())
 }
 
@@ -26,7 +26,7 @@ fn braces(rt: HostRuntime) -> Result<(), Fail> {
     Ok(())
 }
 
-const RUNS: [Sized; 5] = [
+const RUNS: &[Sized] = &[
     (
         &[(b"int main(void){out(1", 1), (b"+1", 510), (b");}", 1)],
         0,
@@ -44,11 +44,11 @@ const RUNS: [Sized; 5] = [
 
 #[test]
 fn runs(rt: HostRuntime) -> Result<(), Fail> {
-    judge(&rt, rt.alloc(), RUNS.as_slice())?;
+    judge(&rt, rt.alloc(), RUNS)?;
     Ok(())
 }
 
-const ELSES: [Sized; 5] = [
+const ELSES: &[Sized] = &[
     (
         &[
             (b"int main(void){", 1),
@@ -80,12 +80,12 @@ const ELSES: [Sized; 5] = [
 
 #[test]
 fn elses(rt: HostRuntime) -> Result<(), Fail> {
-    judge(&rt, rt.alloc(), ELSES.as_slice())?;
+    judge(&rt, rt.alloc(), ELSES)?;
     Ok(())
 }
 
 // As deep as a run of 1,024 tokens allows, and an expression that has no end.
-const EXPRESSIONS: [Sized; 4] = [
+const EXPRESSIONS: &[Sized] = &[
     (
         &[
             (b"int main(void){x=", 1),
@@ -112,6 +112,6 @@ const EXPRESSIONS: [Sized; 4] = [
 
 #[test]
 fn deep_expressions(rt: HostRuntime) -> Result<(), Fail> {
-    judge(&rt, rt.alloc(), EXPRESSIONS.as_slice())?;
+    judge(&rt, rt.alloc(), EXPRESSIONS)?;
     Ok(())
 }

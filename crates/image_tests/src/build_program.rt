@@ -7,12 +7,12 @@ use std::sync::Wait;
 use std::test::Fail;
 use std::thread::Threads;
 
-const BUILD: [&str; 5] = ["mcc", "build", "x", "y", "--plain"];
+const BUILD: &[&str] = &["mcc", "build", "x", "y", "--plain"];
 
 // What the build of a text tells, and the image.
 fn built<T: Threads + Wait + Sync>(threads: &T, alloc: Global, text: &str) -> (Written, Vec<u8>) {
     let mut files = OneFile::of(alloc, text.as_bytes());
-    let build = told_by(threads, alloc, &mut files, BUILD.as_slice());
+    let build = told_by(threads, alloc, &mut files, BUILD);
     (build, files.written)
 }
 
@@ -44,7 +44,7 @@ const NO_COUNTS: &str = "\nreport same 0 unclean 0 differs 0 full 0 nomemory 0 m
 // Wherever the source isn't wrong, the image prints what the interpreter prints.
 #[test]
 fn programs_are_built_and_run(rt: HostRuntime) -> Result<(), Fail> {
-    for (text, printed, status) in PROGRAMS {
+    for &(text, printed, status) in PROGRAMS {
         let (build, image) = built(&rt, rt.alloc(), text);
         assert!(rt; is_plain(&build), "{build} at {text}");
         let list = told_of_image(&rt, rt.alloc(), image.as_slice(), "list");
@@ -70,7 +70,7 @@ fn programs_over_bytes_are_built_and_run(rt: HostRuntime) -> Result<(), Fail> {
     Ok(())
 }
 
-const FAULTS: [(&str, &str); 4] = [
+const FAULTS: &[(&str, &str)] = &[
     ("", "fault 15 NoMain at 0\nx:1:1:\n"),
     (
         "int main(void){out(1--1);}",
@@ -89,9 +89,9 @@ const FAULTS: [(&str, &str); 4] = [
 // The image's file isn't touched.
 #[test]
 fn faults_leave_the_image(rt: HostRuntime) -> Result<(), Fail> {
-    for (text, shown) in FAULTS {
+    for &(text, shown) in FAULTS {
         let mut files = OneFile::of(rt.alloc(), text.as_bytes());
-        let got = told_by(&rt, rt.alloc(), &mut files, BUILD.as_slice());
+        let got = told_by(&rt, rt.alloc(), &mut files, BUILD);
         assert!(rt; got.is(1, "", shown), "{got} at {text}");
         assert_eq!(rt; files.writes, 0, "at {text}");
     }
@@ -101,7 +101,7 @@ fn faults_leave_the_image(rt: HostRuntime) -> Result<(), Fail> {
 const TEXT: &str = "int main(void){}";
 
 // What each fault of reading the text and of writing the image tells.
-const FILE_FAULTS: [(Option<FileFault>, Option<FileFault>, &str); 4] = [
+const FILE_FAULTS: &[(Option<FileFault>, Option<FileFault>, &str)] = &[
     (Some(FileFault::Failed), None, "fault 60 CannotRead\n"),
     (Some(FileFault::NoMemory), None, "fault 30 NoMemory\n"),
     (None, Some(FileFault::Failed), "fault 61 CannotWrite\n"),
@@ -110,23 +110,23 @@ const FILE_FAULTS: [(Option<FileFault>, Option<FileFault>, &str); 4] = [
 
 #[test]
 fn files_and_output_that_fail_are_faults(rt: HostRuntime) -> Result<(), Fail> {
-    for (read, written, line) in FILE_FAULTS {
+    for &(read, written, line) in FILE_FAULTS {
         let mut files = OneFile::of(rt.alloc(), TEXT.as_bytes());
         files.read_fault = read;
         files.write_fault = written;
-        let got = told_by(&rt, rt.alloc(), &mut files, BUILD.as_slice());
+        let got = told_by(&rt, rt.alloc(), &mut files, BUILD);
         assert!(rt; got.is(1, "", line), "{got}, not {line}");
         assert_eq!(rt; files.writes, 0);
     }
     let mut files = OneFile::of(rt.alloc(), TEXT.as_bytes());
-    let got = told_with_shut_out(&rt, rt.alloc(), &mut files, BUILD.as_slice());
+    let got = told_with_shut_out(&rt, rt.alloc(), &mut files, BUILD);
     assert!(rt; got.is(1, "", "fault 61 CannotWrite\n"), "{got}");
     assert_eq!(rt; files.writes, 1);
     Ok(())
 }
 
 // In each row whether the build is plain, and depth, workers, nodes and heads.
-const WORDS: [(&[&str], bool, [u32; 4]); 3] = [
+const WORDS: &[(&[&str], bool, [u32; 4])] = &[
     (
         &["mcc", "build", "a", "b", "--plain"],
         true,
@@ -144,7 +144,7 @@ const WORDS: [(&[&str], bool, [u32; 4]); 3] = [
     ),
 ];
 
-const WRONG: [&[&str]; 6] = [
+const WRONG: &[&[&str]] = &[
     &["mcc", "build", "a", "--plain"],
     &["mcc", "build", "a", "b", "--depth=0"],
     &["mcc", "build", "a", "b", "--depth=4097"],
@@ -173,10 +173,10 @@ fn asked(alloc: Global, line: &[&str]) -> Option<(bool, [u32; 4])> {
 
 #[test]
 fn words_name_the_files(rt: HostRuntime) -> Result<(), Fail> {
-    for (line, plain, numbers) in WORDS {
+    for &(line, plain, numbers) in WORDS {
         assert_eq!(rt; asked(rt.alloc(), line), Some((plain, numbers)));
     }
-    for line in WRONG {
+    for &line in WRONG {
         assert!(rt; words(rt.alloc(), line).is_err());
     }
     Ok(())

@@ -8,12 +8,12 @@ use std::sync::Wait;
 use std::test::Fail;
 use std::thread::Threads;
 
-const RUN: [&str; 3] = ["mcc", "run", "x"];
+const RUN: &[&str] = &["mcc", "run", "x"];
 
-const LIST: [&str; 3] = ["mcc", "list", "x"];
+const LIST: &[&str] = &["mcc", "list", "x"];
 
 // `addiu $4,$0,7`, `addiu $2,$0,10`, `syscall`
-const SEVEN: [u32; 3] = [0x2404_0007, 0x2402_000a, 0x0000_000c];
+const SEVEN: &[u32] = &[0x2404_0007, 0x2402_000a, 0x0000_000c];
 
 // The bytes of an image with this head behind `MCCI`, these code words and this data.
 fn image(alloc: Global, head: &[u32], code: &[u32], data: &[u8]) -> Result<Vec<u8>, AllocError> {
@@ -45,10 +45,10 @@ fn first_version(alloc: Global, code: &[u32]) -> Result<Vec<u8>, AllocError> {
     image(alloc, head.as_slice(), code, &[])
 }
 
-const RUNS: [(&[u32], &str, &str, u8); 9] = [
-    (&SEVEN, "1000000", "done 7\n", 0),
-    (&SEVEN, "3", "done 7\n", 0),
-    (&SEVEN, "2", "more\n", 4),
+const RUNS: &[(&[u32], &str, &str, u8)] = &[
+    (SEVEN, "1000000", "done 7\n", 0),
+    (SEVEN, "3", "done 7\n", 0),
+    (SEVEN, "2", "more\n", 4),
     (&[0x8c08_0000], "9", "stuck M6\n", 3),
     (&[0x8fa8_fffc, 0x0108_4821], "9", "stuck M1\n", 3),
     (&[0x0810_0000, 0x0810_0000], "9", "stuck M3\n", 3),
@@ -59,7 +59,7 @@ const RUNS: [(&[u32], &str, &str, u8); 9] = [
 
 #[test]
 fn images_run(rt: HostRuntime) -> Result<(), Fail> {
-    for (code, steps, printed, status) in RUNS {
+    for &(code, steps, printed, status) in RUNS {
         let bytes = first_version(rt.alloc(), code)?;
         let words = ["mcc", "run", "x", "--steps", steps];
         let got = told_of(&rt, rt.alloc(), bytes.as_slice(), words.as_slice());
@@ -82,7 +82,7 @@ fn output_comes_before_the_end(rt: HostRuntime) -> Result<(), Fail> {
 // Both commands refuse the bytes with this line.
 fn refused(rt: &(impl Abort + AllocGlobal + Threads + Wait + Sync), bytes: &[u8], line: &str) {
     for words in [RUN, LIST] {
-        let got = told_of(rt, rt.alloc(), bytes, words.as_slice());
+        let got = told_of(rt, rt.alloc(), bytes, words);
         assert!(rt; got.is(1, "", line), "{got}, not {line}");
     }
 }
@@ -105,17 +105,17 @@ fn refused_cut(
 
 #[test]
 fn images_that_are_cut_are_refused(rt: HostRuntime) -> Result<(), Fail> {
-    let first = first_version(rt.alloc(), SEVEN.as_slice())?;
+    let first = first_version(rt.alloc(), SEVEN)?;
     assert_eq!(rt; first.len(), 32);
     refused_cut(&rt, first.as_slice())?;
     let head = [2, 3, 0x0040_0000, 1, 0, 0, 0, 0, 0, 0];
-    let second = image(rt.alloc(), head.as_slice(), SEVEN.as_slice(), &[9])?;
+    let second = image(rt.alloc(), head.as_slice(), SEVEN, &[9])?;
     assert_eq!(rt; second.len(), 57);
     refused_cut(&rt, second.as_slice())?;
     Ok(())
 }
 
-const CHANGES: [(usize, u8, &str); 9] = [
+const CHANGES: &[(usize, u8, &str)] = &[
     (3, 0x4a, "fault 40 Magic\n"),
     (7, 3, "fault 41 Version\n"),
     (7, 1, "fault 42 Length\n"),
@@ -131,8 +131,8 @@ const CHANGES: [(usize, u8, &str); 9] = [
 #[test]
 fn changed_images_are_refused(rt: HostRuntime) -> Result<(), Fail> {
     let head = [2, 3, 0x0040_0000, 0, 0, 0, 0, 0, 0, 0];
-    for (at, byte, line) in CHANGES {
-        let mut bytes = image(rt.alloc(), head.as_slice(), SEVEN.as_slice(), &[])?;
+    for &(at, byte, line) in CHANGES {
+        let mut bytes = image(rt.alloc(), head.as_slice(), SEVEN, &[])?;
         if at < bytes.len() {
             bytes[at] = byte;
         }
@@ -163,7 +163,7 @@ const SECOND_LISTING: &str = "\
 report same 1 unclean 22 differs 333 full 4 nomemory 5 missed 1048211
 ";
 
-const FIRST_CODE: [u32; 7] = [
+const FIRST_CODE: &[u32] = &[
     0x0c10_0004,
     0,
     0x3c08_1000,
@@ -178,13 +178,13 @@ const FIRST_CODE: [u32; 7] = [
 const LISTINGS: [(&[u32], &[u32], &[u8], &str); 2] = [
     (
         &[1, 7, 0x0040_0000, 2],
-        &FIRST_CODE,
+        FIRST_CODE,
         &[0, 0, 0, 0x2a, 0xfe, 0xdc, 0xba, 0x98],
         FIRST_LISTING,
     ),
     (
         &[2, 3, 0x0040_0000, 6, 1, 22, 333, 4, 5, 1_048_211],
-        &SEVEN,
+        SEVEN,
         &[0, 1, 2, 3, 10, 255],
         SECOND_LISTING,
     ),
@@ -194,13 +194,13 @@ const LISTINGS: [(&[u32], &[u32], &[u8], &str); 2] = [
 fn images_are_listed(rt: HostRuntime) -> Result<(), Fail> {
     for (head, code, data, listing) in LISTINGS {
         let bytes = image(rt.alloc(), head, code, data)?;
-        let got = told_of(&rt, rt.alloc(), bytes.as_slice(), LIST.as_slice());
+        let got = told_of(&rt, rt.alloc(), bytes.as_slice(), LIST);
         assert!(rt; got.is(0, listing, ""), "{got}, not {listing}");
     }
     Ok(())
 }
 
-const FAULTS: [([&str; 3], FileFault, &str); 4] = [
+const FAULTS: &[(&[&str], FileFault, &str)] = &[
     (RUN, FileFault::Failed, "fault 60 CannotRead\n"),
     (RUN, FileFault::NoMemory, "fault 30 NoMemory\n"),
     (LIST, FileFault::Failed, "fault 60 CannotRead\n"),
@@ -209,16 +209,16 @@ const FAULTS: [([&str; 3], FileFault, &str); 4] = [
 
 #[test]
 fn files_and_output_that_fail_are_faults(rt: HostRuntime) -> Result<(), Fail> {
-    let bytes = first_version(rt.alloc(), SEVEN.as_slice())?;
-    for (words, fault, line) in FAULTS {
+    let bytes = first_version(rt.alloc(), SEVEN)?;
+    for &(words, fault, line) in FAULTS {
         let mut files = OneFile::of(rt.alloc(), bytes.as_slice());
         files.read_fault = Some(fault);
-        let got = told_by(&rt, rt.alloc(), &mut files, words.as_slice());
+        let got = told_by(&rt, rt.alloc(), &mut files, words);
         assert!(rt; got.is(1, "", line), "{got}, not {line}");
     }
     for words in [RUN, LIST] {
         let mut files = OneFile::of(rt.alloc(), bytes.as_slice());
-        let got = told_with_shut_out(&rt, rt.alloc(), &mut files, words.as_slice());
+        let got = told_with_shut_out(&rt, rt.alloc(), &mut files, words);
         assert!(rt; got.is(1, "", "fault 61 CannotWrite\n"), "{got}");
     }
     Ok(())
@@ -226,19 +226,19 @@ fn files_and_output_that_fail_are_faults(rt: HostRuntime) -> Result<(), Fail> {
 
 #[test]
 fn words_name_the_image(rt: HostRuntime) -> Result<(), Fail> {
-    let Ok(Command::Run { image, steps }) = words(rt.alloc(), RUN.as_slice()) else {
+    let Ok(Command::Run { image, steps }) = words(rt.alloc(), RUN) else {
         panic!(rt; "no command")
     };
     assert_eq!(rt; image, "x");
     assert_eq!(rt; steps, 1_000_000);
-    let Ok(Command::List { image }) = words(rt.alloc(), LIST.as_slice()) else {
+    let Ok(Command::List { image }) = words(rt.alloc(), LIST) else {
         panic!(rt; "no command")
     };
     assert_eq!(rt; image, "x");
     Ok(())
 }
 
-const WRONG: [&[&str]; 3] = [
+const WRONG: &[&[&str]] = &[
     &["mcc", "run", "--steps=4294967296", "x"],
     &["mcc", "list", "--steps=1", "x"],
     &["mcc", "list", "x", "y"],
@@ -246,7 +246,7 @@ const WRONG: [&[&str]; 3] = [
 
 #[test]
 fn wrong_words_name_no_image(rt: HostRuntime) -> Result<(), Fail> {
-    for line in WRONG {
+    for &line in WRONG {
         let got = told_of(&rt, rt.alloc(), &[], line);
         assert!(rt; got.complains(2, ""), "{got}");
     }

@@ -195,7 +195,7 @@ fn mcc_builds_or_leaves_the_image(rt: HostRuntime) -> Result<(), Fail> {
 }
 
 // `addiu $4,$0,7`, `addiu $2,$0,10`, `syscall`, in version 1.
-const SEVEN: [u32; 8] = [
+const SEVEN: &[u32] = &[
     0x4d43_4349,
     1,
     3,
@@ -220,7 +220,7 @@ fn is_told<T: Threads + Wait + Sync>(
     printed: &str,
 ) -> Result<bool, AllocError> {
     let mut bytes = Vec::new(alloc);
-    for word in SEVEN {
+    for &word in SEVEN {
         bytes.extend_from_slice(&word.to_be_bytes())?;
     }
     match told_at_last(threads, alloc, bytes.as_slice(), words)? {

@@ -12,7 +12,7 @@ use std::alloc::{AllocError, Global};
 use std::test::Fail;
 
 // `addiu $4,$0,7`, `addiu $2,$0,10`, `syscall`, behind the head of version 2.
-const SEVEN: [u32; 14] = [
+const SEVEN: &[u32] = &[
     0x4d43_4349,
     2,
     3,
@@ -32,14 +32,14 @@ const SEVEN: [u32; 14] = [
 // Its bytes, where the word with this number is another.
 fn with_word(alloc: Global, number: usize, other: u32) -> Result<Vec<u8>, AllocError> {
     let mut bytes = Vec::new(alloc);
-    for (k, word) in SEVEN.into_iter().enumerate() {
+    for (k, &word) in SEVEN.iter().enumerate() {
         let word = if k == number { other } else { word };
         bytes.extend_from_slice(&word.to_be_bytes())?;
     }
     Ok(bytes)
 }
 
-const CHANGES: [(usize, u32, Result<Ending, ImageFault>); 8] = [
+const CHANGES: &[(usize, u32, Result<Ending, ImageFault>)] = &[
     (2, 3, Ok(Ending::Halt(7))),
     (5, 0x0010_0000, Ok(Ending::Halt(7))),
     (5, 0x0010_0001, Err(ImageFault::Counts)),
@@ -52,7 +52,7 @@ const CHANGES: [(usize, u32, Result<Ending, ImageFault>); 8] = [
 
 #[test]
 fn a_changed_word_is_refused_or_run(rt: HostRuntime) -> Result<(), Fail> {
-    for (number, other, expected) in CHANGES {
+    for &(number, other, expected) in CHANGES {
         let bytes = with_word(rt.alloc(), number, other)?;
         let end = run_image(rt.alloc(), bytes.as_slice(), 1000).map(|ran| ran.end);
         assert!(rt; end == expected, "at {number}");

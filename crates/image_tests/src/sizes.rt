@@ -105,7 +105,7 @@ fn the_deepest_statements_exceed_a_limit(rt: HostRuntime) -> Result<(), Fail> {
 }
 
 // In each row the text has the part so many times, and closes it as often.
-const EXPRESSIONS: [(&str, usize, &str, &str, u32); 7] = [
+const EXPRESSIONS: &[(&str, usize, &str, &str, u32)] = &[
     ("(", 505, "6", ")", 6),
     ("~", 1_010, "6", "", 6),
     ("-~", 505, "6", "", 511),
@@ -118,7 +118,7 @@ const EXPRESSIONS: [(&str, usize, &str, &str, u32); 7] = [
 #[test]
 fn the_deepest_expressions_are_built(rt: HostRuntime) -> Result<(), Fail> {
     let alloc = rt.alloc();
-    for (part, times, within, close, word) in EXPRESSIONS {
+    for &(part, times, within, close, word) in EXPRESSIONS {
         let opened = around(
             alloc,
             b"int main(void){out(",

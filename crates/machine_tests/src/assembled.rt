@@ -97,7 +97,7 @@ fn blocks(alloc: Global) -> Result<Vec<Block>, AllocError> {
     Ok(blocks)
 }
 
-const WORDS: [u32; 24] = [
+const WORDS: &[u32] = &[
     0x3c08_1000,
     0x8d04_0004,
     0,
@@ -164,7 +164,7 @@ fn bytes_of(alloc: Global, head: &[u32], bytes: &[u8]) -> Result<Vec<u8>, AllocE
     for word in head {
         out.extend_from_slice(&word.to_be_bytes())?;
     }
-    for word in WORDS {
+    for &word in WORDS {
         out.extend_from_slice(&word.to_be_bytes())?;
     }
     out.extend_from_slice(bytes)?;
@@ -192,7 +192,7 @@ fn a_unit_becomes_an_image_of_the_first_version(rt: HostRuntime) -> Result<(), F
     let data = [0, 0, 0, 7, 0, 0, 0, 20];
     let unit = program(rt.alloc(), data.as_slice())?.expect(&rt, "a unit");
     let image = first_version(rt.alloc(), &unit)?.expect(&rt, "an image");
-    assert_eq!(rt; image.code(), WORDS.as_slice());
+    assert_eq!(rt; image.code(), WORDS);
     let head = [1, 24, 0x0040_0000, 2];
     assert!(rt; runs_from(rt.alloc(), &image, head.as_slice(), data.as_slice())?);
     Ok(())
@@ -244,7 +244,7 @@ fn byte_block(alloc: Global) -> Result<Vec<Block>, AllocError> {
     Ok(blocks)
 }
 
-const BYTE_WORDS: [u32; 9] = [
+const BYTE_WORDS: &[u32] = &[
     0x3c08_1000,
     0x9104_0005,
     0,
@@ -269,7 +269,7 @@ fn byte_unit(alloc: Global) -> Result<Option<Unit>, AllocError> {
 fn bytes_become_an_image(rt: HostRuntime) -> Result<(), Fail> {
     let unit = byte_unit(rt.alloc())?.expect(&rt, "a unit");
     let image = first_version(rt.alloc(), &unit)?.expect(&rt, "an image");
-    assert_eq!(rt; image.code(), BYTE_WORDS.as_slice());
+    assert_eq!(rt; image.code(), BYTE_WORDS);
     let ran = run(rt.alloc(), &image, 1000)?;
     assert!(rt; ran.end == Ending::Halt(0x0102_0004));
     Ok(())

@@ -5,7 +5,7 @@ use std::alloc::{AllocError, Global};
 use std::test::Fail;
 
 // `addiu $4,$0,7`, `addiu $2,$0,10`, `syscall`, and two words of data.
-const FIRST: [u32; 10] = [
+const FIRST: &[u32] = &[
     0x4d43_4349,
     1,
     3,
@@ -19,7 +19,7 @@ const FIRST: [u32; 10] = [
 ];
 
 // The same code in version 2 with four bytes of data, and what was counted of its blocks.
-const SECOND: [u32; 15] = [
+const SECOND: &[u32] = &[
     0x4d43_4349,
     2,
     3,
@@ -92,12 +92,9 @@ fn read_with_changes(alloc: Global, words: &[u32]) -> Result<(u32, u32), AllocEr
 #[test]
 fn changed_bytes_are_refused_or_written_again(rt: HostRuntime) -> Result<(), Fail> {
     let alloc = rt.alloc();
+    assert_eq!(rt; read_with_changes(alloc, FIRST)?, (20 * 9 + 2, 0));
     assert_eq!(rt;
-        read_with_changes(alloc, FIRST.as_slice())?,
-        (20 * 9 + 2, 0)
-    );
-    assert_eq!(rt;
-        read_with_changes(alloc, SECOND.as_slice())?,
+        read_with_changes(alloc, SECOND)?,
         (16 * 9 + 1 + 6 * (9 + 9 + 4), 0)
     );
     Ok(())

@@ -183,7 +183,7 @@ fn a_long_run_goes_on(rt: HostRuntime) -> Result<(), Fail> {
 }
 
 // A count from 3,333,331 down to 0, of three words a turn, between two words that set it and five behind it.
-const TEN_MILLION: [u32; 10] = [
+const TEN_MILLION: &[u32] = &[
     // lui $8,50; ori $8,$8,56531
     0x3c08_0032,
     0x3508_dcd3,
@@ -201,7 +201,7 @@ const TEN_MILLION: [u32; 10] = [
 
 #[test]
 fn ten_million_words_run_and_no_more(rt: HostRuntime) -> Result<(), Fail> {
-    let words = TEN_MILLION.as_slice();
+    let words = TEN_MILLION;
     for (steps, end) in [
         (9_999_999, Ending::More),
         (10_000_000, Ending::Halt(5)),

@@ -11,7 +11,7 @@ fn is_listed(alloc: Global, address: u32, control: Control, text: &str) -> bool 
     }
 }
 
-const JUMPS: [(JumpOp, u32, &str); 3] = [
+const JUMPS: &[(JumpOp, u32, &str)] = &[
     (JumpOp::Jump, 0x0010_0007, "j 0x0040001c"),
     (JumpOp::JumpAndLink, 0x0010_000e, "jal 0x00400038"),
     (JumpOp::Jump, 0x03ab_cdef, "j 0x0eaf37bc"),
@@ -26,7 +26,7 @@ fn jump(op: JumpOp, field: u32) -> Control {
 
 #[test]
 fn jumps(rt: HostRuntime) -> Result<(), Fail> {
-    for (op, field, text) in JUMPS {
+    for &(op, field, text) in JUMPS {
         assert!(rt;
             is_listed(rt.alloc(), 0x0040_000c, jump(op, field), text),
             "at {text}"
@@ -43,7 +43,7 @@ const PAIR_TESTS: [(PairTest, i16, &str); 2] = [
     (PairTest::NotEqual, -1, "bne $4,$9,0x0040003c"),
 ];
 
-const ZERO_TESTS: [(ZeroTest, i16, &str); 4] = [
+const ZERO_TESTS: &[(ZeroTest, i16, &str)] = &[
     (ZeroTest::AtMostZero, 0, "blez $4,0x00400040"),
     (ZeroTest::AboveZero, 3, "bgtz $4,0x0040004c"),
     (ZeroTest::BelowZero, -32768, "bltz $4,0x003e0040"),
@@ -78,7 +78,7 @@ fn branches(rt: HostRuntime) -> Result<(), Fail> {
             "at {text}"
         );
     }
-    for (test, offset, text) in ZERO_TESTS {
+    for &(test, offset, text) in ZERO_TESTS {
         let branch = branch_zero(test, offset);
         assert!(rt;
             is_listed(rt.alloc(), 0x0040_003c, branch, text),

@@ -57,7 +57,7 @@ fn lengths(alloc: Global, count: i16) -> Result<Vec<usize>, SelectFault> {
     Ok(lengths_of(alloc, pieces.as_slice())?)
 }
 
-const LENGTHS: [(i16, &[usize]); 6] = [
+const LENGTHS: &[(i16, &[usize])] = &[
     (0, &[0]),
     (1, &[1]),
     (512, &[512]),
@@ -68,7 +68,7 @@ const LENGTHS: [(i16, &[usize]); 6] = [
 
 #[test]
 fn a_block_of_each_length_has_its_pieces(rt: HostRuntime) -> Result<(), Fail> {
-    for (count, wants) in LENGTHS {
+    for &(count, wants) in LENGTHS {
         let got = lengths(rt.alloc(), count)?;
         assert_eq!(rt; got.as_slice(), wants, "of {count} instructions");
     }

@@ -151,7 +151,7 @@ fn assembling_tells_refused_memory_alone(rt: HostRuntime) -> Result<(), Fail> {
 }
 
 // Prints 7 for ever, five words a turn.
-const SEVENS: [u32; 10] = [
+const SEVENS: &[u32] = &[
     0x4d43_4349,
     1,
     5,
@@ -187,7 +187,7 @@ fn step_refusals(machine: &mut Machine<'_>, steps: u32, memory: &mut AllMemory) 
 
 fn sevens(alloc: Global) -> Result<Vec<u8>, AllocError> {
     let mut bytes = Vec::new(alloc);
-    for word in SEVENS {
+    for &word in SEVENS {
         bytes.extend_from_slice(&word.to_be_bytes())?;
     }
     Ok(bytes)

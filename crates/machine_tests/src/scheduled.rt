@@ -39,7 +39,7 @@ fn seven(alloc: Global) -> Result<Option<Unit>, AllocError> {
     Ok(Unit::new(blocks, owner, Vec::new(alloc)))
 }
 
-const SEVEN: [u32; 14] = [
+const SEVEN: &[u32] = &[
     0x4d43_4349,
     2,
     3,
@@ -82,7 +82,7 @@ fn a_scheduled_unit_becomes_an_image(rt: HostRuntime) -> Result<(), Fail> {
     assert_eq!(rt; scheduled.count(), 1);
     assert_eq!(rt; scheduled.report(), NO_COUNTS);
     let image = assemble(rt.alloc(), &scheduled)?;
-    assert!(rt; ends_with_7(rt.alloc(), &image, SEVEN.as_slice())?);
+    assert!(rt; ends_with_7(rt.alloc(), &image, SEVEN)?);
     Ok(())
 }
 

@@ -48,7 +48,7 @@ fn are_unit(alloc: Global, ways: &[Way], owners: &[u32]) -> Result<bool, AllocEr
     Ok(Unit::new(blocks, owner, Vec::new(alloc)).is_some())
 }
 
-const UNITS: [(&[Way], &[u32], bool); 9] = [
+const UNITS: &[(&[Way], &[u32], bool)] = &[
     (&[], &[], false),
     (&[Way::On], &[0], false),
     (&[Way::Again], &[0], true),
@@ -62,7 +62,7 @@ const UNITS: [(&[Way], &[u32], bool); 9] = [
 
 #[test]
 fn units_are_refused_for_each_reason(rt: HostRuntime) -> Result<(), Fail> {
-    for (ways, owners, want) in UNITS {
+    for &(ways, owners, want) in UNITS {
         assert_eq!(rt; are_unit(rt.alloc(), ways, owners)?, want);
     }
     Ok(())

@@ -10,9 +10,9 @@ const UNCLEAN: &str = "block\nmflo $8\nreturn\norder\nreturn\nslot mflo $8\n";
 
 const DIFFERS: &str = "block\naddiu $31,$31,4\nreturn\norder\nreturn\nslot addiu $31,$31,4\n";
 
-const CHECK: [&str; 3] = ["mcc", "check", "x"];
+const CHECK: &[&str] = &["mcc", "check", "x"];
 
-const VERDICTS: [(&str, Option<FileFault>, &str, &str, u8); 7] = [
+const VERDICTS: &[(&str, Option<FileFault>, &str, &str, u8)] = &[
     (SAME, None, "same\n", "", 0),
     (UNCLEAN, None, "unclean U3\n", "", 3),
     (DIFFERS, None, "differs exit\n", "", 3),
@@ -42,10 +42,10 @@ const VERDICTS: [(&str, Option<FileFault>, &str, &str, u8); 7] = [
 
 #[test]
 fn verdicts_and_faults_have_their_line_and_status(rt: HostRuntime) -> Result<(), Fail> {
-    for (text, fault, line, shown, status) in VERDICTS {
+    for &(text, fault, line, shown, status) in VERDICTS {
         let mut files = OneFile::of(rt.alloc(), text.as_bytes());
         files.read_fault = fault;
-        let got = told_by(&rt, rt.alloc(), &mut files, CHECK.as_slice());
+        let got = told_by(&rt, rt.alloc(), &mut files, CHECK);
         assert!(rt; got.is(status, line, shown), "{got} at {line}{shown}");
     }
     Ok(())
@@ -75,7 +75,7 @@ fn standard_error_that_takes_nothing_keeps_the_status(rt: HostRuntime) -> Result
     Ok(())
 }
 
-const WRONG: [&[&str]; 5] = [
+const WRONG: &[&[&str]] = &[
     &["mcc"],
     &["mcc", "frob"],
     &["mcc", "check"],
@@ -85,14 +85,14 @@ const WRONG: [&[&str]; 5] = [
 
 #[test]
 fn wrong_words_are_told_on_standard_error(rt: HostRuntime) -> Result<(), Fail> {
-    for args in WRONG {
+    for &args in WRONG {
         let got = told(&rt, rt.alloc(), SAME, args);
         assert!(rt; got.complains(2, "") && !got.err.is_empty(), "{got}");
     }
     Ok(())
 }
 
-const HELP: [(&[&str], &str); 4] = [
+const HELP: &[(&[&str], &str)] = &[
     (&["mcc", "--help"], "Exit status: 0"),
     (&["mcc", "help"], "mcc check crates/example_files/data/"),
     (&["mcc", "check", "--help"], "`same`"),
@@ -101,7 +101,7 @@ const HELP: [(&[&str], &str); 4] = [
 
 #[test]
 fn help_is_on_standard_output(rt: HostRuntime) -> Result<(), Fail> {
-    for (args, taught) in HELP {
+    for &(args, taught) in HELP {
         let got = told(&rt, rt.alloc(), SAME, args);
         assert!(rt; got.shows(taught), "{got}");
     }

@@ -36,7 +36,7 @@ fn line_count(text: &[u8]) -> u32 {
     count.saturating_add(u32::from(inside))
 }
 
-const WRONG: [(&str, u32); 28] = [
+const WRONG: &[(&str, u32)] = &[
     ("", 1),
     ("block", 2),
     ("block\n", 2),
@@ -72,7 +72,7 @@ const WRONG: [(&str, u32); 28] = [
 
 #[test]
 fn short_and_wrong_texts_name_their_line(rt: HostRuntime) -> Result<(), Fail> {
-    for (text, want) in WRONG {
+    for &(text, want) in WRONG {
         assert_eq!(rt; fault_line(rt.alloc(), text.as_bytes()), want, "at {text}");
     }
     Ok(())
@@ -143,7 +143,7 @@ fn long_text(alloc: Global, insts: usize, ordered: usize) -> Result<Vec<u8>, All
     Ok(text)
 }
 
-const SIZES: [(usize, usize, u32); 4] = [
+const SIZES: &[(usize, usize, u32)] = &[
     (0, 0, 0),
     (512, 2048, 0),
     (513, 2048, 514),
@@ -152,7 +152,7 @@ const SIZES: [(usize, usize, u32); 4] = [
 
 #[test]
 fn sizes_are_limited(rt: HostRuntime) -> Result<(), Fail> {
-    for (insts, ordered, want) in SIZES {
+    for &(insts, ordered, want) in SIZES {
         let text = long_text(rt.alloc(), insts, ordered)?;
         let told = fault_line(rt.alloc(), text.as_slice());
         assert_eq!(rt; told, want, "at {insts}, {ordered}");

@@ -11,7 +11,7 @@ fn printed(alloc: Global, text: &str) -> Result<String, AllocError> {
     }
 }
 
-const DELAYS: [(&str, &str); 8] = [
+const DELAYS: &[(&str, &str)] = &[
     (
         "block\nmflo $8\nmultu $9,$10\nreturn\norder\nmflo $8\nmultu $9,$10\nreturn\nslot nop\n",
         "unclean U2",
@@ -49,14 +49,14 @@ const DELAYS: [(&str, &str); 8] = [
 
 #[test]
 fn delays_are_kept_or_the_least_broken_rule_is_told(rt: HostRuntime) -> Result<(), Fail> {
-    for (text, want) in DELAYS {
+    for &(text, want) in DELAYS {
         let line = printed(rt.alloc(), text)?;
         assert_eq!(rt; line.as_str(), want, "at {text}");
     }
     Ok(())
 }
 
-const DIFFERENCES: [(&str, &str); 5] = [
+const DIFFERENCES: &[(&str, &str)] = &[
     (
         "block\naddiu $8,$0,1\naddu $9,$8,$8\nreturn\n\
          order\naddu $9,$8,$8\naddiu $8,$0,1\nreturn\nslot nop\n",
@@ -80,7 +80,7 @@ const DIFFERENCES: [(&str, &str); 5] = [
     ),
 ];
 
-const BYTES: [(&str, &str); 6] = [
+const BYTES: &[(&str, &str)] = &[
     (
         "block\nsb $8,0($4)\nsb $9,1($4)\nreturn\n\
          order\nsb $9,1($4)\nsb $8,0($4)\nreturn\nslot nop\n",
@@ -115,7 +115,7 @@ const BYTES: [(&str, &str); 6] = [
 
 #[test]
 fn bytes_are_told_from_words(rt: HostRuntime) -> Result<(), Fail> {
-    for (text, want) in BYTES {
+    for &(text, want) in BYTES {
         let line = printed(rt.alloc(), text)?;
         assert_eq!(rt; line.as_str(), want, "at {text}");
     }
@@ -124,7 +124,7 @@ fn bytes_are_told_from_words(rt: HostRuntime) -> Result<(), Fail> {
 
 #[test]
 fn the_first_place_that_differs_is_told(rt: HostRuntime) -> Result<(), Fail> {
-    for (text, want) in DIFFERENCES {
+    for &(text, want) in DIFFERENCES {
         let line = printed(rt.alloc(), text)?;
         assert_eq!(rt; line.as_str(), want, "at {text}");
     }

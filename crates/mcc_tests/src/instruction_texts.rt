@@ -17,7 +17,7 @@ fn is_text(alloc: Global, inst: Plain, text: &str) -> bool {
     }
 }
 
-const SHIFTS: [(ShiftOp, &str, &str); 3] = [
+const SHIFTS: &[(ShiftOp, &str, &str)] = &[
     (ShiftOp::Sll, "sll $8,$31,31", "sllv $8,$31,$9"),
     (ShiftOp::Srl, "srl $8,$31,31", "srlv $8,$31,$9"),
     (ShiftOp::Sra, "sra $8,$31,31", "srav $8,$31,$9"),
@@ -45,7 +45,7 @@ fn shift_by(op: ShiftOp) -> Plain {
 
 #[test]
 fn shifts(rt: HostRuntime) -> Result<(), Fail> {
-    for (op, by_constant, by_register) in SHIFTS {
+    for &(op, by_constant, by_register) in SHIFTS {
         assert!(rt;
             is_text(rt.alloc(), shift(op), by_constant),
             "at {by_constant}"
@@ -58,7 +58,7 @@ fn shifts(rt: HostRuntime) -> Result<(), Fail> {
     Ok(())
 }
 
-const REGISTERS: [(AluOp, &str); 8] = [
+const REGISTERS: &[(AluOp, &str)] = &[
     (AluOp::Addu, "addu $8,$9,$31"),
     (AluOp::Subu, "subu $8,$9,$31"),
     (AluOp::And, "and $8,$9,$31"),
@@ -81,19 +81,19 @@ fn alu(op: AluOp) -> Plain {
 
 #[test]
 fn registers(rt: HostRuntime) -> Result<(), Fail> {
-    for (op, text) in REGISTERS {
+    for &(op, text) in REGISTERS {
         assert!(rt; is_text(rt.alloc(), alu(op), text), "at {text}");
     }
     Ok(())
 }
 
-const SIGNED: [(ImmOp, i16, &str); 3] = [
+const SIGNED: &[(ImmOp, i16, &str)] = &[
     (ImmOp::Addiu, -32768, "addiu $8,$0,-32768"),
     (ImmOp::Slti, 32767, "slti $8,$0,32767"),
     (ImmOp::Sltiu, 0, "sltiu $8,$0,0"),
 ];
 
-const UNSIGNED: [(LogicOp, u16, &str); 3] = [
+const UNSIGNED: &[(LogicOp, u16, &str)] = &[
     (LogicOp::Andi, 0, "andi $8,$0,0"),
     (LogicOp::Ori, 32768, "ori $8,$0,32768"),
     (LogicOp::Xori, 65535, "xori $8,$0,65535"),
@@ -120,13 +120,13 @@ fn with_unsigned(op: LogicOp, imm: u16) -> Plain {
 
 #[test]
 fn constants(rt: HostRuntime) -> Result<(), Fail> {
-    for (op, imm, text) in SIGNED {
+    for &(op, imm, text) in SIGNED {
         assert!(rt;
             is_text(rt.alloc(), with_signed(op, imm), text),
             "at {text}"
         );
     }
-    for (op, imm, text) in UNSIGNED {
+    for &(op, imm, text) in UNSIGNED {
         assert!(rt;
             is_text(rt.alloc(), with_unsigned(op, imm), text),
             "at {text}"
@@ -249,7 +249,7 @@ const PAIR_TESTS: [(PairTest, &str); 2] = [
     (PairTest::NotEqual, "bne $8,$9,1048575,0"),
 ];
 
-const ZERO_TESTS: [(ZeroTest, &str); 4] = [
+const ZERO_TESTS: &[(ZeroTest, &str)] = &[
     (ZeroTest::AtMostZero, "blez $8,1048575,0"),
     (ZeroTest::AboveZero, "bgtz $8,1048575,0"),
     (ZeroTest::BelowZero, "bltz $8,1048575,0"),
@@ -285,7 +285,7 @@ fn branches(rt: HostRuntime) -> Result<(), Fail> {
         let exit = branch_pair(test, then, other);
         assert!(rt; exit_of(text.as_bytes()) == Some(exit), "at {text}");
     }
-    for (test, text) in ZERO_TESTS {
+    for &(test, text) in ZERO_TESTS {
         let exit = branch_zero(test, then, other);
         assert!(rt; exit_of(text.as_bytes()) == Some(exit), "at {text}");
     }

@@ -9,7 +9,7 @@ use std::process::Abort;
 use std::test::Fail;
 use words::{Operator, Width};
 
-const OPERATORS: [(Operator, u32, u32, Option<u32>); 61] = [
+const OPERATORS: &[(Operator, u32, u32, Option<u32>)] = &[
     (Operator::Addu, 0xffffffff, 0x1, Some(0x0)),
     (Operator::Addu, 0x80000000, 0x21, Some(0x80000021)),
     (Operator::Addu, 0x7fffffff, 0xffffffff, Some(0x7ffffffe)),
@@ -85,7 +85,7 @@ const OPERATORS: [(Operator, u32, u32, Option<u32>); 61] = [
 
 #[test]
 fn operators_have_their_values(rt: HostRuntime) -> Result<(), Fail> {
-    for (op, a, b, want) in OPERATORS {
+    for &(op, a, b, want) in OPERATORS {
         assert_eq!(rt; op.value(a, b), want, "at {op:?} {a} {b}");
     }
     Ok(())
@@ -192,7 +192,7 @@ fn jumps_and_branches_have_their_words(rt: HostRuntime) -> Result<(), Fail> {
 }
 
 // An unused field that isn't 0, loads of register 0, a sign test with rt 2, an op not in use.
-const NO_INSTRUCTIONS: [u32; 7] = [
+const NO_INSTRUCTIONS: &[u32] = &[
     0x012a_4061,
     0x03e0_0048,
     0x8fa0_0004,
@@ -204,7 +204,7 @@ const NO_INSTRUCTIONS: [u32; 7] = [
 
 #[test]
 fn words_of_no_instruction(rt: HostRuntime) -> Result<(), Fail> {
-    for word in NO_INSTRUCTIONS {
+    for &word in NO_INSTRUCTIONS {
         assert!(rt; decode(word).is_none(), "at {word}");
     }
     Ok(())

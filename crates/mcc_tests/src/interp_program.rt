@@ -5,18 +5,18 @@ use stand_ins::{DEEP, OneFile, PROGRAMS, TOO_DEEP, told, told_with_shut_out};
 use std::alloc::Global;
 use std::test::Fail;
 
-const INTERP: [&str; 3] = ["mcc", "interp", "x"];
+const INTERP: &[&str] = &["mcc", "interp", "x"];
 
 #[test]
 fn programs_print_their_output_and_end(rt: HostRuntime) -> Result<(), Fail> {
-    for (text, printed, status) in PROGRAMS {
-        let got = told(&rt, rt.alloc(), text, INTERP.as_slice());
+    for &(text, printed, status) in PROGRAMS {
+        let got = told(&rt, rt.alloc(), text, INTERP);
         assert!(rt; got.is(status, printed, ""), "{got} at {text}");
     }
     Ok(())
 }
 
-const BOUNDED: [(&str, &str, &str, &str, u8); 6] = [
+const BOUNDED: &[(&str, &str, &str, &str, u8)] = &[
     ("int main(void){}", "--steps", "0", "more\n", 4),
     ("int main(void){}", "--steps", "1", "done 0\n", 0),
     (
@@ -33,7 +33,7 @@ const BOUNDED: [(&str, &str, &str, &str, u8); 6] = [
 
 #[test]
 fn options_bound_the_run(rt: HostRuntime) -> Result<(), Fail> {
-    for (text, option, bound, printed, status) in BOUNDED {
+    for &(text, option, bound, printed, status) in BOUNDED {
         let words = ["mcc", "interp", "x", option, bound];
         let got = told(&rt, rt.alloc(), text, words.as_slice());
         assert!(rt; got.is(status, printed, ""), "{got} at {text}");
@@ -41,7 +41,7 @@ fn options_bound_the_run(rt: HostRuntime) -> Result<(), Fail> {
     Ok(())
 }
 
-const FAULTS: [(&str, &str); 14] = [
+const FAULTS: &[(&str, &str)] = &[
     (
         "int main(void){\n\tout(\u{1});\n}\n",
         "fault 1 Byte at 21\nx:2:6:\n\tout(?);\n\t    ^\n",
@@ -94,8 +94,8 @@ const FAULTS: [(&str, &str); 14] = [
 // The fault's line, then the line of the text in which it lies, and a caret under its place.
 #[test]
 fn faults_tell_their_place(rt: HostRuntime) -> Result<(), Fail> {
-    for (text, shown) in FAULTS {
-        let got = told(&rt, rt.alloc(), text, INTERP.as_slice());
+    for &(text, shown) in FAULTS {
+        let got = told(&rt, rt.alloc(), text, INTERP);
         assert!(rt; got.is(1, "", shown), "{got} at {text}");
     }
     Ok(())
@@ -104,12 +104,12 @@ fn faults_tell_their_place(rt: HostRuntime) -> Result<(), Fail> {
 #[test]
 fn output_that_is_not_taken_is_a_fault(rt: HostRuntime) -> Result<(), Fail> {
     let mut files = OneFile::of(rt.alloc(), b"int main(void){out(1);}");
-    let got = told_with_shut_out(&rt, rt.alloc(), &mut files, INTERP.as_slice());
+    let got = told_with_shut_out(&rt, rt.alloc(), &mut files, INTERP);
     assert!(rt; got.is(1, "", "fault 61 CannotWrite\n"), "{got}");
     Ok(())
 }
 
-const RANGES: [(&str, &str, &str); 5] = [
+const RANGES: &[(&str, &str, &str)] = &[
     ("--depth", "0", "1..=4096"),
     ("--depth", "4097", "1..=4096"),
     ("--depth", "many", "--depth"),
@@ -119,7 +119,7 @@ const RANGES: [(&str, &str, &str); 5] = [
 
 #[test]
 fn wrong_numbers_are_wrong_words(rt: HostRuntime) -> Result<(), Fail> {
-    for (option, number, range) in RANGES {
+    for &(option, number, range) in RANGES {
         let words = ["mcc", "interp", option, number, "x"];
         let got = told(&rt, rt.alloc(), "int main(void){}", words.as_slice());
         assert!(rt; got.complains(2, range), "{got} at {option} {number}");

@@ -4,10 +4,10 @@ use stand_ins::told;
 use std::alloc::{AllocError, Global};
 use std::test::Fail;
 
-const INTERP: [&str; 3] = ["mcc", "interp", "x"];
+const INTERP: &[&str] = &["mcc", "interp", "x"];
 
 // In each row the text is the first part, the second so many times, the third, and the fourth so many times.
-const FITTING: [(&str, &str, usize, &str, &str, &str); 5] = [
+const FITTING: &[(&str, &str, usize, &str, &str, &str)] = &[
     // 1,048,576 bytes
     ("int main(void){}", "\n", 1_048_560, "", "", "done 0\n"),
     // 1,024 tokens: `out`, `(`, the operators, `1` and `)`
@@ -49,15 +49,15 @@ fn text_of(
 
 #[test]
 fn what_fits_runs(rt: HostRuntime) -> Result<(), Fail> {
-    for (before, part, times, after, close, printed) in FITTING {
+    for &(before, part, times, after, close, printed) in FITTING {
         let text = text_of(rt.alloc(), before, part, times, after, close)?;
-        let got = told(&rt, rt.alloc(), text.as_str(), INTERP.as_slice());
+        let got = told(&rt, rt.alloc(), text.as_str(), INTERP);
         assert!(rt; got.is(0, printed, ""), "{got}: {times} times {part}");
     }
     Ok(())
 }
 
-const TOO_LARGE: [(&str, &str, usize, &str, &str); 6] = [
+const TOO_LARGE: &[(&str, &str, usize, &str, &str)] = &[
     (
         "int main(void){}",
         "\n",
@@ -108,9 +108,9 @@ const TOO_LARGE: [(&str, &str, usize, &str, &str); 6] = [
 
 #[test]
 fn the_first_that_does_not_fit_is_told(rt: HostRuntime) -> Result<(), Fail> {
-    for (before, part, times, after, fault) in TOO_LARGE {
+    for &(before, part, times, after, fault) in TOO_LARGE {
         let text = text_of(rt.alloc(), before, part, times, after, "")?;
-        let got = told(&rt, rt.alloc(), text.as_str(), INTERP.as_slice());
+        let got = told(&rt, rt.alloc(), text.as_str(), INTERP);
         assert!(rt; got.is(1, "", fault), "{got}: {times} times {part}");
     }
     Ok(())
@@ -120,7 +120,7 @@ fn the_first_that_does_not_fit_is_told(rt: HostRuntime) -> Result<(), Fail> {
 // more than 160 bytes 154 are shown, with dots for what is left out before and behind.
 type LongLine = (usize, usize, &'static str, usize, usize, &'static str);
 
-const LONG_LINES: [LongLine; 9] = [
+const LONG_LINES: &[LongLine] = &[
     (0, 0, "", 0, 0, ""),
     (80, 79, "", 80, 79, ""),
     (0, 160, "", 0, 153, "..."),
@@ -155,9 +155,9 @@ fn long_line(alloc: Global, before: usize, behind: usize) -> Result<String, Allo
 
 #[test]
 fn a_long_line_is_shown_around_its_place(rt: HostRuntime) -> Result<(), Fail> {
-    for (before, behind, left, shown_before, shown_behind, right) in LONG_LINES {
+    for &(before, behind, left, shown_before, shown_behind, right) in LONG_LINES {
         let text = long_line(rt.alloc(), before, behind)?;
-        let got = told(&rt, rt.alloc(), text.as_str(), INTERP.as_slice());
+        let got = told(&rt, rt.alloc(), text.as_str(), INTERP);
         let at = before + 1;
         let shown = shown_around(rt.alloc(), at, left, shown_before, shown_behind, right)?;
         assert!(rt;

@@ -7,9 +7,9 @@ use std::sync::Wait;
 use std::test::Fail;
 use std::thread::Threads;
 
-const INTERP: [&str; 3] = ["mcc", "interp", "x"];
+const INTERP: &[&str] = &["mcc", "interp", "x"];
 
-const RUNS: [(&str, &str, &str, &str, u8); 7] = [
+const RUNS: &[(&str, &str, &str, &str, u8)] = &[
     (
         "int main(void){int a;out(a);}",
         "--depth",
@@ -45,7 +45,7 @@ const RUNS: [(&str, &str, &str, &str, u8); 7] = [
 
 #[test]
 fn worked_texts_run(rt: HostRuntime) -> Result<(), Fail> {
-    for (text, option, bound, printed, status) in RUNS {
+    for &(text, option, bound, printed, status) in RUNS {
         let words = ["mcc", "interp", "x", option, bound];
         let got = told(&rt, rt.alloc(), text, words.as_slice());
         assert!(rt;
@@ -62,14 +62,14 @@ fn refused(
     text: &str,
     fault: &str,
 ) -> Result<(), AllocError> {
-    let got = told(rt, rt.alloc(), text, INTERP.as_slice());
+    let got = told(rt, rt.alloc(), text, INTERP);
     let line = format!(in rt.alloc(); "fault {fault}\n")?;
     assert!(rt; got.complains(1, line.as_str()), "{got}, not {line}");
     Ok(())
 }
 
 // In each row the text is the first part, the second so many times, the third so many times, and the fourth.
-const REFUSED: [(&str, &str, &str, usize, &str, &str); 6] = [
+const REFUSED: &[(&str, &str, &str, usize, &str, &str)] = &[
     ("int f(void){return f;}", "", "", 0, "", "12 Kind at 19"),
     ("int main(void){break;}", "", "", 0, "", "17 Outside at 15"),
     ("", " ", "", 1_048_576, "", "15 NoMain at 1048576"),
@@ -100,7 +100,7 @@ fn text_of(
 
 #[test]
 fn worked_texts_are_refused(rt: HostRuntime) -> Result<(), Fail> {
-    for (before, open, close, times, end, fault) in REFUSED {
+    for &(before, open, close, times, end, fault) in REFUSED {
         let text = text_of(rt.alloc(), before, open, close, times, end)?;
         refused(&rt, text.as_str(), fault)?;
     }
@@ -110,7 +110,7 @@ fn worked_texts_are_refused(rt: HostRuntime) -> Result<(), Fail> {
 #[test]
 fn a_sum_of_511_ones_runs(rt: HostRuntime) -> Result<(), Fail> {
     let sum = text_of(rt.alloc(), "int main(void){out(1", "+1", "", 510, ");}")?;
-    let got = told(&rt, rt.alloc(), sum.as_str(), INTERP.as_slice());
+    let got = told(&rt, rt.alloc(), sum.as_str(), INTERP);
     assert!(rt; got.is(0, "511\ndone 0\n", ""), "{got}");
     Ok(())
 }

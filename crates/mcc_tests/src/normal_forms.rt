@@ -17,7 +17,7 @@ fn printed(alloc: Global, block: &str, order: &str) -> Result<String, AllocError
     }
 }
 
-const ROWS: [(&str, &str, &str); 10] = [
+const ROWS: &[(&str, &str, &str)] = &[
     (
         "sw $8,0($29)\nsw $9,4($29)\n",
         "sw $9,4($29)\nsw $8,0($29)\n",
@@ -66,7 +66,7 @@ const ROWS: [(&str, &str, &str); 10] = [
 
 #[test]
 fn normal_forms_are_compared(rt: HostRuntime) -> Result<(), Fail> {
-    for (block, order, want) in ROWS {
+    for &(block, order, want) in ROWS {
         let line = printed(rt.alloc(), block, order)?;
         assert_eq!(rt; line.as_str(), want, "at {block}");
     }

@@ -162,7 +162,7 @@ const NOTHING: Function = (0, &[(&[], Ends::Return(None))]);
 
 const UNSET: Function = (0, &[(&[], Ends::Return(Some(4)))]);
 
-const RESULTS: [Row; 3] = [
+const RESULTS: &[Row] = &[
     (&[CALLER_OF_NONE, NOTHING], &[(2, 3, End::Wrong, &[])]),
     // wanted by none: the next step reads register 1, which isn't set
     (
@@ -175,6 +175,6 @@ const RESULTS: [Row; 3] = [
 
 #[test]
 fn a_result_that_is_wanted_is_returned(rt: HostRuntime) -> Result<(), Fail> {
-    judge(&rt, rt.alloc(), RESULTS.as_slice())?;
+    judge(&rt, rt.alloc(), RESULTS)?;
     Ok(())
 }

@@ -74,11 +74,11 @@ fn a_word_keeps_all_its_bits(rt: HostRuntime) -> Result<(), Fail> {
 }
 
 // The same, and what is kept of the word.
-const BYTES: [(u32, u32, u32, u32); 3] = [(0, 2, 511, 255), (2, 255, 256, 0), (3, 255, 7, 7)];
+const BYTES: &[(u32, u32, u32, u32)] = &[(0, 2, 511, 255), (2, 255, 256, 0), (3, 255, 7, 7)];
 
 #[test]
 fn a_byte_keeps_the_low_eight_bits(rt: HostRuntime) -> Result<(), Fail> {
-    for (index, first, word, kept) in BYTES {
+    for &(index, first, word, kept) in BYTES {
         let bytes = writes_element(&rt, rt.alloc(), 1, index, word)?;
         let output = [first, kept];
         comes_to(

@@ -9,7 +9,7 @@ const MINUS_ONE: u32 = 0xffff_ffff;
 
 const MINUS_SEVEN: u32 = 0xffff_fff9;
 
-const SUMS: [(Op, u32, u32, u32); 7] = [
+const SUMS: &[(Op, u32, u32, u32)] = &[
     (Op::Add, MINUS_ONE, 1, 0),
     (Op::Add, 3, 4, 7),
     (Op::Sub, 0, 1, MINUS_ONE),
@@ -21,13 +21,13 @@ const SUMS: [(Op, u32, u32, u32); 7] = [
 
 #[test]
 fn sums_and_products_wrap(rt: HostRuntime) {
-    for (op, x, y, want) in SUMS {
+    for &(op, x, y, want) in SUMS {
         assert_eq!(rt; op.result(x, y), Some(want));
     }
     operators_compute_as_c();
 }
 
-const DIVISIONS: [(Op, u32, u32, Option<u32>); 14] = [
+const DIVISIONS: &[(Op, u32, u32, Option<u32>)] = &[
     (Op::DivS, MINUS_SEVEN, 2, Some(0xffff_fffd)),
     (Op::DivS, 7, MINUS_SEVEN, Some(MINUS_ONE)),
     (Op::RemS, MINUS_SEVEN, 2, Some(MINUS_ONE)),
@@ -46,12 +46,12 @@ const DIVISIONS: [(Op, u32, u32, Option<u32>); 14] = [
 
 #[test]
 fn divisions_go_toward_zero_or_have_no_value(rt: HostRuntime) {
-    for (op, x, y, want) in DIVISIONS {
+    for &(op, x, y, want) in DIVISIONS {
         assert_eq!(rt; op.result(x, y), want);
     }
 }
 
-const SHIFTS: [(Op, u32, u32, u32); 11] = [
+const SHIFTS: &[(Op, u32, u32, u32)] = &[
     (Op::And, 12, 10, 8),
     (Op::Or, 12, 10, 14),
     (Op::Xor, 12, 10, 6),
@@ -67,12 +67,12 @@ const SHIFTS: [(Op, u32, u32, u32); 11] = [
 
 #[test]
 fn shifts_go_by_the_low_five_bits(rt: HostRuntime) {
-    for (op, x, y, want) in SHIFTS {
+    for &(op, x, y, want) in SHIFTS {
         assert_eq!(rt; op.result(x, y), Some(want));
     }
 }
 
-const TESTS: [(Op, u32, u32, u32); 16] = [
+const TESTS: &[(Op, u32, u32, u32)] = &[
     (Op::Eq, 5, 5, 1),
     (Op::Eq, 5, 6, 0),
     (Op::Ne, 5, 5, 0),
@@ -93,7 +93,7 @@ const TESTS: [(Op, u32, u32, u32); 16] = [
 
 #[test]
 fn tests_give_0_or_1(rt: HostRuntime) {
-    for (op, x, y, want) in TESTS {
+    for &(op, x, y, want) in TESTS {
         assert_eq!(rt; op.result(x, y), Some(want));
     }
 }

@@ -55,7 +55,7 @@ fn judge(rt: &impl Abort, alloc: Global, rows: &[(Ends, bool)]) -> Result<(), Al
     Ok(())
 }
 
-const TARGETS: [(Ends, bool); 9] = [
+const TARGETS: &[(Ends, bool)] = &[
     (Ends::Goto(0), true),
     (Ends::Goto(1), false),
     (Ends::Branch(0, 0, 0), true),
@@ -69,11 +69,11 @@ const TARGETS: [(Ends, bool); 9] = [
 
 #[test]
 fn blocks_that_are_named_exist(rt: HostRuntime) -> Result<(), Fail> {
-    judge(&rt, rt.alloc(), TARGETS.as_slice())?;
+    judge(&rt, rt.alloc(), TARGETS)?;
     Ok(())
 }
 
-const CALLS: [(Ends, bool); 6] = [
+const CALLS: &[(Ends, bool)] = &[
     (Ends::Call(1, &[3], None, 0), true),
     (Ends::Call(2, &[3], None, 0), false),
     (Ends::Call(1, &[], None, 0), false),
@@ -84,11 +84,11 @@ const CALLS: [(Ends, bool); 6] = [
 
 #[test]
 fn functions_that_are_called_exist_and_take_the_arguments(rt: HostRuntime) -> Result<(), Fail> {
-    judge(&rt, rt.alloc(), CALLS.as_slice())?;
+    judge(&rt, rt.alloc(), CALLS)?;
     Ok(())
 }
 
-const ACCESSES: [(RInst, bool); 4] = [
+const ACCESSES: &[(RInst, bool)] = &[
     (RInst::Load(0, 0, 0), true),
     (RInst::Load(0, 1, 0), false),
     (RInst::Store(0, 0, 0), true),
@@ -102,13 +102,13 @@ fn is_instruction(alloc: Global, inst: RInst) -> Result<bool, AllocError> {
 
 #[test]
 fn globals_that_are_named_exist(rt: HostRuntime) -> Result<(), Fail> {
-    for (inst, want) in ACCESSES {
+    for &(inst, want) in ACCESSES {
         assert_eq!(rt; is_instruction(rt.alloc(), inst)?, want, "{inst:?}");
     }
     Ok(())
 }
 
-const REGISTERS: [(RInst, bool); 13] = [
+const REGISTERS: &[(RInst, bool)] = &[
     (RInst::Const(7999, 0), true),
     (RInst::Const(8000, 0), false),
     (RInst::Move(7999, 7999), true),
@@ -126,13 +126,13 @@ const REGISTERS: [(RInst, bool); 13] = [
 
 #[test]
 fn instructions_name_registers_below_8000(rt: HostRuntime) -> Result<(), Fail> {
-    for (inst, want) in REGISTERS {
+    for &(inst, want) in REGISTERS {
         assert_eq!(rt; is_instruction(rt.alloc(), inst)?, want, "{inst:?}");
     }
     Ok(())
 }
 
-const EXITS: [(Ends, bool); 7] = [
+const EXITS: &[(Ends, bool)] = &[
     (Ends::Return(Some(7999)), true),
     (Ends::Return(Some(8000)), false),
     (Ends::Branch(8000, 0, 0), false),
@@ -144,11 +144,11 @@ const EXITS: [(Ends, bool); 7] = [
 
 #[test]
 fn exits_name_registers_below_8000(rt: HostRuntime) -> Result<(), Fail> {
-    judge(&rt, rt.alloc(), EXITS.as_slice())?;
+    judge(&rt, rt.alloc(), EXITS)?;
     Ok(())
 }
 
-const MAINS: [(u32, Function, bool); 3] = [
+const MAINS: &[(u32, Function, bool)] = &[
     (0, TAKES_NONE, true),
     (1, TAKES_NONE, false),
     (0, TAKES_ONE, false),
@@ -156,7 +156,7 @@ const MAINS: [(u32, Function, bool); 3] = [
 
 #[test]
 fn main_exists_and_takes_no_arguments(rt: HostRuntime) -> Result<(), Fail> {
-    for (main, parts, want) in MAINS {
+    for &(main, parts, want) in MAINS {
         let mut functions = Vec::new(rt.alloc());
         functions.push(function(rt.alloc(), parts)?)?;
         assert_eq!(rt; are_program(rt.alloc(), functions, &[], main)?, want);
@@ -164,7 +164,7 @@ fn main_exists_and_takes_no_arguments(rt: HostRuntime) -> Result<(), Fail> {
     Ok(())
 }
 
-const SHAPES: [(Function, bool); 3] = [
+const SHAPES: &[(Function, bool)] = &[
     ((4, &[NOTHING]), true),
     ((5, &[NOTHING]), false),
     ((0, &[]), false),
@@ -172,7 +172,7 @@ const SHAPES: [(Function, bool); 3] = [
 
 #[test]
 fn a_function_has_a_block_and_at_most_four_parameters(rt: HostRuntime) -> Result<(), Fail> {
-    for (shape, want) in SHAPES {
+    for &(shape, want) in SHAPES {
         let mut functions = Vec::new(rt.alloc());
         functions.push(function(rt.alloc(), TAKES_NONE)?)?;
         functions.push(function(rt.alloc(), shape)?)?;
@@ -181,7 +181,7 @@ fn a_function_has_a_block_and_at_most_four_parameters(rt: HostRuntime) -> Result
     Ok(())
 }
 
-const GLOBALS: [(u32, &[u32], bool); 4] = [
+const GLOBALS: &[(u32, &[u32], bool)] = &[
     (1, &[7], true),
     (0, &[], false),
     (2, &[7], false),
@@ -190,7 +190,7 @@ const GLOBALS: [(u32, &[u32], bool); 4] = [
 
 #[test]
 fn a_global_has_its_first_values(rt: HostRuntime) -> Result<(), Fail> {
-    for (length, first, want) in GLOBALS {
+    for &(length, first, want) in GLOBALS {
         let mut functions = Vec::new(rt.alloc());
         functions.push(function(rt.alloc(), TAKES_NONE)?)?;
         let globals = [(length, first)];

@@ -110,14 +110,14 @@ fn a_loop_goes_on(rt: HostRuntime) -> Result<(), Fail> {
     Ok(())
 }
 
-const READING: [RInst; 4] = [
+const READING: &[RInst] = &[
     RInst::Move(1, 0),
     RInst::Move(1, 7999),
     RInst::Bin(Op::Add, 1, 2, 0),
     RInst::Bin(Op::Add, 1, 0, 2),
 ];
 
-const EXITS: [Ends; 4] = [
+const EXITS: &[Ends] = &[
     Ends::Branch(0, 0, 0),
     Ends::Out(0, 0),
     Ends::Return(Some(0)),
@@ -126,14 +126,14 @@ const EXITS: [Ends; 4] = [
 
 #[test]
 fn a_register_that_is_not_set_is_wrong(rt: HostRuntime) -> Result<(), Fail> {
-    for inst in READING {
+    for &inst in READING {
         let insts = [RInst::Const(2, 8), inst];
         let main = one_block(rt.alloc(), insts.as_slice(), Ends::Return(Some(2)))?;
         let unset = program_of(&rt, rt.alloc(), main)?;
         comes_to(&rt, rt.alloc(), &unset, 1, 1, End::More, &[])?;
         comes_to(&rt, rt.alloc(), &unset, 1, 2, End::Wrong, &[])?;
     }
-    for ends in EXITS {
+    for &ends in EXITS {
         let main = one_block(rt.alloc(), &[], ends)?;
         let unset = program_of(&rt, rt.alloc(), main)?;
         comes_to(&rt, rt.alloc(), &unset, 1, 1, End::Wrong, &[])?;

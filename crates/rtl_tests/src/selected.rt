@@ -76,11 +76,11 @@ fn sum_of_many(alloc: Global, count: u32) -> Result<RFunc, AllocError> {
     })
 }
 
-const SUMS: [(u32, u32); 5] = [(7, 28), (8, 36), (9, 45), (12, 78), (40, 820)];
+const SUMS: &[(u32, u32)] = &[(7, 28), (8, 36), (9, 45), (12, 78), (40, 820)];
 
 #[test]
 fn more_variables_than_registers(rt: HostRuntime) -> Result<(), Fail> {
-    for (count, sum) in SUMS {
+    for &(count, sum) in SUMS {
         let many = program_of(&rt, rt.alloc(), sum_of_many(rt.alloc(), count)?)?;
         both_end_with(&rt, rt.alloc(), &many, 1, sum, [sum].as_slice())?;
     }
@@ -209,7 +209,7 @@ fn operates(
     block(alloc, insts.as_slice(), Ends::Out(2, next))
 }
 
-const RESULTS: [(Op, u32); 19] = [
+const RESULTS: &[(Op, u32)] = &[
     (Op::Add, 0xffff_fff9),
     (Op::Sub, 0xffff_fff3),
     (Op::Mul, 0xffff_ffe2),
@@ -235,7 +235,7 @@ const RESULTS: [(Op, u32); 19] = [
 fn each_operates(alloc: Global, left: bool, right: bool) -> Result<RFunc, AllocError> {
     let mut blocks = Vec::new(alloc);
     let mut next: u32 = 1;
-    for (op, _) in RESULTS {
+    for &(op, _) in RESULTS {
         blocks.push(operates(alloc, op, left, right, next)?)?;
         next = next.wrapping_add(1);
     }
@@ -248,7 +248,7 @@ fn each_operates(alloc: Global, left: bool, right: bool) -> Result<RFunc, AllocE
 
 fn results(alloc: Global) -> Result<Vec<u32>, AllocError> {
     let mut words = Vec::new(alloc);
-    for (_, word) in RESULTS {
+    for &(_, word) in RESULTS {
         words.push(word)?;
     }
     Ok(words)
@@ -277,7 +277,7 @@ fn has_unit(rt: &impl Abort, alloc: Global, count: u32, depth: u32) -> Result<bo
 }
 
 // A frame has four bytes for each pseudo-register and four for the link: at most 32,000, and at most 16 MiB all together.
-const FRAMES: [(u32, u32, bool); 9] = [
+const FRAMES: &[(u32, u32, bool)] = &[
     (7_999, 1, true),
     (8_000, 1, false),
     (7_999, 524, true),
@@ -291,7 +291,7 @@ const FRAMES: [(u32, u32, bool); 9] = [
 
 #[test]
 fn frames_and_the_stack_have_limits(rt: HostRuntime) -> Result<(), Fail> {
-    for (count, depth, want) in FRAMES {
+    for &(count, depth, want) in FRAMES {
         let got = has_unit(&rt, rt.alloc(), count, depth)?;
         assert_eq!(rt; got, want, "{count} pseudo-registers at depth {depth}");
     }

@@ -18,7 +18,7 @@ fn long(alloc: Global, count: usize) -> Result<RFunc, AllocError> {
     })
 }
 
-const BLOCKS: [(usize, usize, bool); 3] = [
+const BLOCKS: &[(usize, usize, bool)] = &[
     (1_048_574, 1, true),
     (1_048_574, 2, false),
     (1, 1_048_575, false),
@@ -26,7 +26,7 @@ const BLOCKS: [(usize, usize, bool); 3] = [
 
 #[test]
 fn a_program_has_at_most_1048575_blocks(rt: HostRuntime) -> Result<(), Fail> {
-    for (first, second, want) in BLOCKS {
+    for &(first, second, want) in BLOCKS {
         let mut functions = Vec::new(rt.alloc());
         functions.push(long(rt.alloc(), first)?)?;
         functions.push(long(rt.alloc(), second)?)?;
@@ -37,7 +37,7 @@ fn a_program_has_at_most_1048575_blocks(rt: HostRuntime) -> Result<(), Fail> {
 }
 
 // In each row an array of words and one of bytes.
-const ARRAYS: [(u32, u32, bool); 8] = [
+const ARRAYS: &[(u32, u32, bool)] = &[
     (262_143, 1, true),
     (262_143, 4, true),
     (262_143, 5, false),
@@ -66,7 +66,7 @@ fn are_globals(alloc: Global, words: u32, bytes: u32) -> Result<bool, AllocError
 
 #[test]
 fn four_bytes_or_less_are_a_word(rt: HostRuntime) -> Result<(), Fail> {
-    for (words, bytes, want) in ARRAYS {
+    for &(words, bytes, want) in ARRAYS {
         assert_eq!(rt; are_globals(rt.alloc(), words, bytes)?, want);
     }
     Ok(())

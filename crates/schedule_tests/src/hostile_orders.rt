@@ -108,7 +108,7 @@ fn each_wrong_order_has_its_verdict(rt: HostRuntime) -> Result<(), Fail> {
     Ok(())
 }
 
-const OTHERS: [(Hostile, &str); 9] = [
+const OTHERS: &[(Hostile, &str)] = &[
     // The Nop behind the load stays.
     (
         Hostile::Drop,
@@ -150,7 +150,7 @@ const OTHERS: [(Hostile, &str); 9] = [
 
 #[test]
 fn orders_are_as_their_kind_says(rt: HostRuntime) -> Result<(), Fail> {
-    for (kind, text) in OTHERS {
+    for &(kind, text) in OTHERS {
         assert!(rt; proposed(rt.alloc(), kind, text).is_some(), "at {text}");
     }
     Ok(())

@@ -47,7 +47,7 @@ fn proposes<R: Reorder>(alloc: Global, scheduler: &R, text: &str) -> bool {
     is_equal(&order, &pair.order) && is_accepted(alloc, &pair.block, order)
 }
 
-const LISTED: [&str; 7] = [
+const LISTED: &[&str] = &[
     // Something stands behind the load.
     "block\nlw $8,0($29)\naddu $9,$8,$8\naddiu $10,$10,1\nreturn\n\
      order\nlw $8,0($29)\naddiu $10,$10,1\naddu $9,$8,$8\nreturn\nslot nop\n",
@@ -72,13 +72,13 @@ const LISTED: [&str; 7] = [
 
 #[test]
 fn lists_have_nops_where_a_rule_needs_them(rt: HostRuntime) -> Result<(), Fail> {
-    for text in LISTED {
+    for &text in LISTED {
         assert!(rt; proposes(rt.alloc(), &ListOrder, text), "at {text}");
     }
     Ok(())
 }
 
-const FILLED: [&str; 5] = [
+const FILLED: &[&str] = &[
     "block\naddiu $10,$10,1\nreturn\norder\nreturn\nslot addiu $10,$10,1\n",
     // The last that nothing depends on.
     "block\naddiu $10,$10,1\nslt $8,$9,$11\nbne $8,$0,1,2\n\
@@ -94,7 +94,7 @@ const FILLED: [&str; 5] = [
 
 #[test]
 fn slots_are_filled_where_they_can_be(rt: HostRuntime) -> Result<(), Fail> {
-    for text in FILLED {
+    for &text in FILLED {
         assert!(rt;
             proposes(rt.alloc(), &FilledOrder(ListOrder), text),
             "at {text}"

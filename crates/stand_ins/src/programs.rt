@@ -13,7 +13,7 @@ pub const TOO_DEEP: &str =
     "int f(int n){int r;if(n==1)return 1;r=f(n-1);return r+1;}int main(void){int r=f(256);out(r);}";
 
 /// Programs, what `mcc interp` prints of each, and its status.
-pub const PROGRAMS: [(&str, &str, u8); 10] = [
+pub const PROGRAMS: &[(&str, &str, u8)] = &[
     ("int main(void){}", "done 0\n", 0),
     (
         "int main(void){out(0x80000000);}",
