@@ -1,7 +1,7 @@
 // How many statements a program has that do something: assignments and first values, tests of `if` and of loops, calls and
 // returns.
 
-use c_front::{Declaration, Item, Program, Statement};
+use c_tree::{Declaration, Item, Program, Statement};
 
 #[cycle(counts)]
 fn in_items(items: &[Item]) -> u64 {

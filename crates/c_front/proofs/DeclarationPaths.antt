@@ -22,14 +22,14 @@ use Rattle.c_front.specs.Choosing.{one_choice, chosen_rule, Peeks, EndsParameter
 use Rattle.c_tokens.specs.declared.token.Literal.{Literal}
 use Rattle.c_front.specs.declared.cursor.ParseStop.{ParseStop}
 use Rattle.c_front.specs.declared.cursor.ParseStop.TheVariants.{Syntax, NoMemory}
-use Rattle.c_front.specs.Tree.{Items, Declaration, variable, array, function}
+use Rattle.c_tree.specs.Tree.{Items, Declaration, variable, array, function}
 use Rattle.c_front.specs.Parsing.{StartsWith, StartsWithout, IsRead, AreStuck, IsStuck, IsMissing, StartsWithName, IsNameMissing, HasNoType, StartsWithConstant}
 use Rattle.c_front.specs.Parsing.{IsConstantMissing, IsEndedRead, IsEndedStuck, IsParameterRead, IsParameterStuck, IsTailRead, IsProgramStuck}
 use Rattle.c_front.specs.Parsing.{length_symbols, IsLengthRead, IsLengthStuck, IsBytesRead, IsBytesStuck, StartsBytes, StartsNoBytes}
-use Rattle.c_front.specs.declared.tree.Parameter.{Parameter}
-use Rattle.c_front.specs.declared.tree.Initial.{Initial}
-use Rattle.c_front.specs.declared.tree.Declaration as Rust
-use Rattle.c_front.specs.Shape.{declaration_of, declarations_of}
+use Rattle.c_tree.specs.declared.tree.Parameter.{Parameter}
+use Rattle.c_tree.specs.declared.tree.Initial.{Initial}
+use Rattle.c_tree.specs.declared.tree.Declaration as Rust
+use Rattle.c_tree.specs.Shape.{declaration_of, declarations_of}
 use Rattle.c_front.proofs.Reading.{stuck_after, stuck-within, type-takes, derived}
 use Rattle.c_front.proofs.Paths.{followed, whole}
 use Rattle.c_front.proofs.Steps.{missing-first, name-missing-first, constant-missing-first, past-mark, past-name, past-constant, past-phrase}

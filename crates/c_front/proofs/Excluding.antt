@@ -4,7 +4,7 @@ use Rattle.c_tokens.specs.declared.token.Token.{Token}
 use Rattle.c_tokens.proofs.Once.{lexes-once, never-lexes, stops-once}
 use Rattle.c_front.specs.declared.fault.FrontFaultKind.{FrontFaultKind}
 use Rattle.c_front.specs.declared.fault.FrontFaultKind.TheVariants.{NoMemory}
-use Rattle.c_front.specs.Tree.{Declaration}
+use Rattle.c_tree.specs.Tree.{Declaration}
 use Rattle.c_front.specs.Grammar.{Spells}
 use Rattle.c_front.specs.Texts.{SpellsText, IsTextFault, IsBadByte, place_or, refusal_kind, too_long, bad_byte, bad_token, bad_syntax, no_memory}
 use Rattle.c_front.proofs.Theorems.{one-program, one-wrong}

@@ -7,8 +7,8 @@ use Rattle.c_tokens.specs.declared.token.Mark.{Mark}
 use Rattle.c_tokens.specs.declared.token.Mark.TheVariants.{LeftParen, RightParen, LeftBracket, RightBracket, Question, Colon, Plus, Minus, Star, Slash, Percent}
 use Rattle.c_tokens.specs.declared.token.Mark.TheVariants.{Bang, Tilde, BarBar, AndAnd, Bar, Caret, Ampersand, EqualEqual, BangEqual, LessSign, GreaterSign}
 use Rattle.c_tokens.specs.declared.token.Mark.TheVariants.{LessEqual, GreaterEqual, LessLess, GreaterGreater}
-use Rattle.c_front.specs.declared.tree.UnaryOp.{UnaryOp}
-use Rattle.c_front.specs.declared.tree.BinaryOp.{BinaryOp}
+use Rattle.c_tree.specs.declared.tree.UnaryOp.{UnaryOp}
+use Rattle.c_tree.specs.declared.tree.BinaryOp.{BinaryOp}
 use Rattle.c_front.specs.Grammar.{a_name, the, Level, unary_expressions, above, ors, Nonterminal, an_expression, choice, operands, more_operands, Symbol, T, N}
 use Rattle.c_front.specs.Grammar.{PhraseTree, SortTree, PhraseTrees, Operator, multiply, divide, remainder, add, subtract, shift_left, shift_right, less}
 use Rattle.c_front.specs.Grammar.{greater, less_or_equal, greater_or_equal, equal, not_equal, bit_and, bit_xor, bit_or, logical_and, logical_or, Prefix, negate}
@@ -20,7 +20,7 @@ use Rattle.c_front.specs.Choosing.{Choice, operator_at, more_choice, chosen_rule
 use Rattle.c_tokens.specs.declared.token.Literal.{Literal}
 use Rattle.c_front.specs.declared.cursor.ParseStop.{ParseStop}
 use Rattle.c_front.specs.declared.cursor.ParseStop.TheVariants.{Syntax, NoMemory}
-use Rattle.c_front.specs.Tree.{Expression, constant, name, index, unary, binary, conditional}
+use Rattle.c_tree.specs.Tree.{Expression, constant, name, index, unary, binary, conditional}
 use Rattle.c_front.specs.Parsing.{level_of, EndsUpTo, EndsBelow, StartsWith, StartsWithout, IsRead, IsStuck, StartsWithOperator, IsChoiceRead}
 use Rattle.c_front.specs.Parsing.{IsChoiceStuck, IsClosedRead, IsClosedStuck}
 use Rattle.c_front.proofs.Reading.{stuck_after, stuck-within}

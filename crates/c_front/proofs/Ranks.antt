@@ -6,7 +6,7 @@ use Rattle.c_tokens.specs.declared.token.Mark.{Mark}
 use Rattle.c_tokens.specs.declared.token.Mark.TheVariants.{LeftParen, LeftBracket, Question, Plus, Minus, Star, Slash, Percent, BarBar, AndAnd, Bar, Caret}
 use Rattle.c_tokens.specs.declared.token.Mark.TheVariants.{Ampersand, EqualEqual, BangEqual, LessSign, GreaterSign, LessEqual, GreaterEqual, LessLess}
 use Rattle.c_tokens.specs.declared.token.Mark.TheVariants.{GreaterGreater}
-use Rattle.c_front.specs.declared.tree.BinaryOp.{BinaryOp}
+use Rattle.c_tree.specs.declared.tree.BinaryOp.{BinaryOp}
 use Rattle.c_front.specs.Grammar.{the, Level, unary_expressions, above, operands, more_operands, T, N, Operator, multiply, divide, remainder, add, subtract}
 use Rattle.c_front.specs.Grammar.{shift_left, shift_right, less, greater, less_or_equal, greater_or_equal, equal, not_equal, bit_and, bit_xor, bit_or}
 use Rattle.c_front.specs.Grammar.{logical_and, logical_or, operands_end, operands_more}

@@ -12,10 +12,10 @@ use Rattle.c_front.specs.Reading.{Reads, read_nothing, read_token, read_phrase, 
 use Rattle.c_front.specs.Choosing.{Choice, one_choice, chosen_rule, Peeks, EndsArguments}
 use Rattle.c_front.specs.declared.cursor.ParseStop.{ParseStop}
 use Rattle.c_front.specs.declared.cursor.ParseStop.TheVariants.{Syntax, NoMemory}
-use Rattle.c_front.specs.declared.tree.Expression.{Expression}
-use Rattle.c_front.specs.Tree as Tree
-use Rattle.c_front.specs.Tree.{call, Value, plain, called, assign, assign_at, call_statement}
-use Rattle.c_front.specs.Shape.{expression_of, expressions_of}
+use Rattle.c_tree.specs.declared.tree.Expression.{Expression}
+use Rattle.c_tree.specs.Tree as Tree
+use Rattle.c_tree.specs.Tree.{call, Value, plain, called, assign, assign_at, call_statement}
+use Rattle.c_tree.specs.Shape.{expression_of, expressions_of}
 use Rattle.c_front.specs.Parsing.{StartsWith, StartsWithout, IsRead, AreStuck, IsStuck, IsMissing, StartsWithName, IsNameMissing, IsClosedRead, IsClosedStuck}
 use Rattle.c_front.specs.Parsing.{IsArgumentsRead, IsArgumentsStuck, IsAssignedRead, IsAssignedStuck, StartsCall, StartsNoCall}
 use Rattle.c_front.proofs.Reading.{stuck_after, stuck-within, Before, before_here, before_past, StuckAt, stuck_at, dead}

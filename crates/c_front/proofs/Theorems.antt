@@ -5,7 +5,7 @@ use Rattle.std.proofs.Common.{add-one, length-append, ◌-◌}
 use Rattle.c_tokens.specs.declared.token.Token.{Token}
 use Rattle.c_front.specs.Grammar.{a_program, N, first, Spells}
 use Rattle.c_front.specs.Reading.{Reads, Stuck, CanRead, can_read}
-use Rattle.c_front.specs.Tree.{Declaration}
+use Rattle.c_tree.specs.Tree.{Declaration}
 use Rattle.c_front.specs.Syntax.{Begins, IsFirstWrong}
 use Rattle.c_front.proofs.Reading.{Before, before_here, before_past, StuckAt, stuck_at, derived, unique, dead, Reading}
 use Rattle.c_front.proofs.Completing.{complete}

@@ -9,7 +9,7 @@ use Rattle.c_tokens.specs.declared.token.Mark.TheVariants.{RightBrace, LeftParen
 use Rattle.c_tokens.specs.declared.token.Mark.TheVariants.{Percent, Bang, Tilde, BarBar}
 use Rattle.c_tokens.specs.declared.token.Mark.TheVariants.{AndAnd, Bar, Caret, Ampersand, EqualEqual, BangEqual, LessSign, GreaterSign, LessEqual, GreaterEqual}
 use Rattle.c_tokens.specs.declared.token.Mark.TheVariants.{LessLess, GreaterGreater}
-use Rattle.c_front.specs.declared.tree.BinaryOp.{BinaryOp}
+use Rattle.c_tree.specs.declared.tree.BinaryOp.{BinaryOp}
 use Rattle.c_front.specs.Grammar.{the, Level, unary_expressions, above, Nonterminal, a_program, declarations, a_declaration, a_type, maybe_int, after_global}
 use Rattle.c_front.specs.Grammar.{initial, function_rest, parameters, more_parameters, items, an_item, declared, a_statement, else_part, maybe_simple}
 use Rattle.c_front.specs.Grammar.{maybe_expression, simple, value, a_call, arguments, more_arguments, an_expression, choice, operands, more_operands, Symbol, T}

@@ -13,18 +13,18 @@ use Rattle.c_tokens.specs.declared.token.Mark.TheVariants.{RightBrace, LeftParen
 use Rattle.c_tokens.specs.declared.token.Mark.TheVariants.{Plus, Minus, Star, Slash, Percent}
 use Rattle.c_tokens.specs.declared.token.Mark.TheVariants.{Bang, Tilde, BarBar, AndAnd, Bar, Caret, Ampersand, EqualEqual, BangEqual, LessSign, GreaterSign}
 use Rattle.c_tokens.specs.declared.token.Mark.TheVariants.{LessEqual, GreaterEqual, LessLess, GreaterGreater}
-use Rattle.c_front.specs.declared.tree.UnaryOp.{UnaryOp}
-use Rattle.c_front.specs.declared.tree.UnaryOp.TheVariants.{Negate, Identity, Complement, Not}
-use Rattle.c_front.specs.declared.tree.BinaryOp.{BinaryOp}
-use Rattle.c_front.specs.declared.tree.BinaryOp.TheVariants.{Multiply, Divide, Remainder, Add, Subtract, ShiftLeft, ShiftRight, Less, Greater, LessOrEqual}
-use Rattle.c_front.specs.declared.tree.BinaryOp.TheVariants.{GreaterOrEqual, Equal, NotEqual, BitAnd, BitXor, BitOr, LogicalAnd, LogicalOr}
+use Rattle.c_tree.specs.declared.tree.UnaryOp.{UnaryOp}
+use Rattle.c_tree.specs.declared.tree.UnaryOp.TheVariants.{Negate, Identity, Complement, Not}
+use Rattle.c_tree.specs.declared.tree.BinaryOp.{BinaryOp}
+use Rattle.c_tree.specs.declared.tree.BinaryOp.TheVariants.{Multiply, Divide, Remainder, Add, Subtract, ShiftLeft, ShiftRight, Less, Greater, LessOrEqual}
+use Rattle.c_tree.specs.declared.tree.BinaryOp.TheVariants.{GreaterOrEqual, Equal, NotEqual, BitAnd, BitXor, BitOr, LogicalAnd, LogicalOr}
 use Rattle.c_tokens.specs.declared.token.Literal.{Literal}
 use Rattle.words.specs.declared.width.Width.TheVariants.{Word, Byte}
-use Rattle.c_front.specs.declared.tree.Initial.{Initial}
-use Rattle.c_front.specs.declared.tree.Parameter.{Parameter}
-use Rattle.c_front.specs.Tree.{Expression, constant, name, index, unary, binary, conditional, Call, call, Value, plain, called, Simple, assign, assign_at}
-use Rattle.c_front.specs.Tree.{call_statement, Statement, empty, block, if_then, if_then_else, while_loop, for_loop, break_at, continue_at, return_at, simply}
-use Rattle.c_front.specs.Tree.{Item, declare, statement, Items, no_items, more_items, Declaration, variable, array, function}
+use Rattle.c_tree.specs.declared.tree.Initial.{Initial}
+use Rattle.c_tree.specs.declared.tree.Parameter.{Parameter}
+use Rattle.c_tree.specs.Tree.{Expression, constant, name, index, unary, binary, conditional, Call, call, Value, plain, called, Simple, assign, assign_at}
+use Rattle.c_tree.specs.Tree.{call_statement, Statement, empty, block, if_then, if_then_else, while_loop, for_loop, break_at, continue_at, return_at, simply}
+use Rattle.c_tree.specs.Tree.{Item, declare, statement, Items, no_items, more_items, Declaration, variable, array, function}
 
 -- what a rule may ask of one token: any name, any constant, one of the keywords that leave a place, or a mark
 pub data Sort : Type 0 where

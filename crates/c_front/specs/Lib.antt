@@ -1,6 +1,4 @@
-pub mod Tree
 pub mod Grammar
-pub mod Shape
 pub mod Choosing
 pub mod Reading
 pub mod Parsing

@@ -1,5 +1,6 @@
 -- What faults print: their numbers, names and places.
-use Rattle.std.specs.Prelude.{ℕ, List, ◌++◌, codes, decimal}
+use Rattle.std.specs.Prelude.{ℕ, List, codes}
+use Rattle.c_tree.specs.Texts.{placed_fault_text}
 use Rattle.c_front.specs.declared.fault.FrontFault.{FrontFault}
 use Rattle.c_front.specs.declared.fault.FrontFaultKind.{FrontFaultKind}
 use Rattle.c_front.specs.declared.fault.FrontFaultKind.TheVariants.{Byte, Token, Syntax, Constant, Size, NoMemory}
@@ -19,10 +20,6 @@ kind_name Syntax = codes "Syntax"
 kind_name Constant = codes "Constant"
 kind_name Size = codes "Size"
 kind_name NoMemory = codes "NoMemory"
-
--- what a fault with a place prints: its number, its name and its offset
-abbrev pub placed_fault_text : (number : ℕ) → (name : List ℕ) → (at : ℕ) → List ℕ
-placed_fault_text number name at = codes "fault " ++ decimal number ++ codes " " ++ name ++ codes " at " ++ decimal at
 
 abbrev pub fault_text : FrontFault → List ℕ
 fault_text fault = placed_fault_text (number_of fault.kind) (kind_name fault.kind) fault.at

@@ -10,7 +10,7 @@ use Rattle.c_tokens.specs.declared.token.Mark.TheVariants.{Assign, Colon}
 use Rattle.c_tokens.specs.declared.token.Mark.TheVariants.{Plus, Minus, Bang, Tilde}
 use Rattle.c_tokens.specs.declared.token.IntegerType.TheVariants.{SignedInt}
 use Rattle.words.specs.declared.width.Width.TheVariants.{Byte}
-use Rattle.c_front.specs.declared.tree.BinaryOp.{BinaryOp}
+use Rattle.c_tree.specs.declared.tree.BinaryOp.{BinaryOp}
 use Rattle.c_front.specs.Grammar.{a_name, a_constant, the, Level, unary_expressions, above, Nonterminal, a_program, a_type, after_global, a_statement}
 use Rattle.c_front.specs.Grammar.{else_part}
 use Rattle.c_front.specs.Grammar.{maybe_simple, maybe_expression, value, arguments, an_expression, Symbol, T, N, Tail, PhraseTree, Operator, if_of}
@@ -18,9 +18,9 @@ use Rattle.c_front.specs.Grammar.{typed_declaration}
 use Rattle.c_front.specs.Grammar.{first, second}
 use Rattle.c_front.specs.declared.cursor.ParseStop.{ParseStop}
 use Rattle.c_front.specs.declared.cursor.ParseStop.TheVariants.{Syntax, NoMemory}
-use Rattle.c_front.specs.Tree.{Expression, Value, Simple, Statement, Declaration, array}
+use Rattle.c_tree.specs.Tree.{Expression, Value, Simple, Statement, Declaration, array}
 use Rattle.c_tokens.specs.declared.token.Literal.{Literal}
-use Rattle.c_front.specs.declared.tree.Parameter.{Parameter}
+use Rattle.c_tree.specs.declared.tree.Parameter.{Parameter}
 use Rattle.c_front.specs.Reading.{Reads, Stuck}
 use Rattle.c_front.specs.Choosing.{EndsOperands}
 

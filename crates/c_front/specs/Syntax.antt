@@ -3,7 +3,7 @@ use Rattle.std.specs.Prelude.{◌+◌, ◌<◌, ◌≤◌, ℕ, List, ◌++◌, 
 use Rattle.c_tokens.specs.declared.token.Token.{Token}
 use Rattle.c_front.specs.declared.declaration.SyntaxFault.{SyntaxFault}
 use Rattle.c_front.specs.declared.declaration.SyntaxFault.TheVariants.{Wrong, OutOfMemory}
-use Rattle.c_front.specs.Tree.{Declaration}
+use Rattle.c_tree.specs.Tree.{Declaration}
 use Rattle.c_front.specs.Grammar.{Spells}
 
 -- the tokens are the beginning of a program

@@ -1,5 +1,5 @@
 -- Which program a text spells, and why it is refused.
-use Rattle.std.specs.Prelude.{◌≡◌, ◌<◌, ◌≤◌, ℕ, List, [], length, Bool, true, false, nat_eq, nat_le, nat_lt, ◌&&◌, ◌||◌, if◌then◌else◌, slice_index, take, drop}
+use Rattle.std.specs.Prelude.{◌≡◌, ◌<◌, ◌≤◌, ℕ, List, [], length, Bool, true, false, nat_eq, nat_le, nat_lt, ◌&&◌, ◌||◌, if◌then◌else◌, slice_index}
 use Rattle.c_tokens.specs.declared.sizes.TheConstants.{MAX_TEXT}
 use Rattle.c_tokens.specs.declared.token.Token.{Token}
 use Rattle.c_tokens.specs.declared.fault.Refusal.{Refusal}
@@ -7,7 +7,7 @@ use Rattle.c_tokens.specs.declared.fault.Refusal.TheVariants.{BadToken, BadConst
 use Rattle.c_tokens.specs.Texts.{Lexes, LexStops}
 use Rattle.c_front.specs.declared.fault.FrontFaultKind.{FrontFaultKind}
 use Rattle.c_front.specs.declared.fault.FrontFaultKind.TheVariants.{Byte, Token as TokenFault, Syntax, Constant, Size, NoMemory}
-use Rattle.c_front.specs.Tree.{Declaration}
+use Rattle.c_tree.specs.Tree.{Declaration}
 use Rattle.c_front.specs.Grammar.{Spells}
 use Rattle.c_front.specs.Syntax.{IsFirstWrong}
 
@@ -49,7 +49,3 @@ pub data IsTextFault (text : List ℕ) : FrontFaultKind → ℕ → Type 0 where
   bad_syntax : {tokens : List Token} {places : List ℕ} {k : ℕ} → length text ≤ MAX_TEXT → AllText text → Lexes 0 text [] tokens places → IsFirstWrong tokens k →
       IsTextFault text Syntax (place_or (length text) places k)
   no_memory : length text ≤ MAX_TEXT → AllText text → IsTextFault text NoMemory (length text)
-
--- the spelling of a name: its bytes in the text
-abbrev pub spelling_of : List ℕ → ℕ → ℕ → List ℕ
-spelling_of text at n = take n (drop at text)

@@ -1,17 +1,17 @@
 ghost use Rattle.std.specs.Prelude.{◌≡◌, ◌<◌, length, IfOk, IfErr, List};
 ghost use Rattle.c_front.specs.Grammar.{Spells, initial, parameters, function_rest, after_global, a_declaration};
-ghost use Rattle.c_front.specs.Shape.{items_of, declaration_of, declarations_of};
+ghost use Rattle.c_tree.specs.Shape.{items_of, declaration_of, declarations_of};
 ghost use Rattle.c_front.specs.Parsing.{IsRead, IsStuck, IsParameterRead, IsParameterStuck, IsTailRead, IsProgramStuck, IsLengthRead, IsLengthStuck};
 ghost use Rattle.c_front.specs.Parsing.{IsBytesRead, IsBytesStuck};
 ghost use Rattle.c_front.specs.Syntax.{IsFault};
 ghost use Rattle.c_tokens.specs.declared.token.Token.{Token};
-ghost use Rattle.c_front.specs.Tree as Tree;
+ghost use Rattle.c_tree.specs.Tree as Tree;
 
 use crate::cursor::{ParseStop, Parsed, expect, literal, name, split, starts, starts_bytes};
 use crate::part::{ended, pushed};
 use crate::statement::{integer_type, items};
-use crate::tree::{Declaration, FunctionDefinition, Initial, Item, Parameter};
 use c_tokens::{Identifier, IntegerType, Literal, Mark, Token};
+use c_tree::{Declaration, FunctionDefinition, Initial, Item, Parameter};
 use std::alloc::{AllocError, AllocFailed, Global};
 use words::Width;
 

@@ -1,15 +1,15 @@
 ghost use Rattle.std.specs.Prelude.{◌≡◌, ◌<◌, length, IfOk, IfErr, IfSome, IfNone, Some};
 ghost use Rattle.c_front.specs.Grammar.{an_expression, operands, unary_expressions, above, Level, Operator, Prefix, first, value, arguments};
 ghost use Rattle.c_front.specs.Choosing.{EndsOperands};
-ghost use Rattle.c_front.specs.Shape.{expression_of, expressions_of, value_tree};
+ghost use Rattle.c_tree.specs.Shape.{expression_of, expressions_of, value_tree};
 ghost use Rattle.c_front.specs.Parsing.{IsRead, IsStuck, level_of, StartsWithOperator, EndsUpTo, EndsBelow, IsChoiceRead, IsChoiceStuck, IsNoPrefix};
 ghost use Rattle.c_front.specs.Parsing.{IsClosedRead, IsClosedStuck, IsArgumentsRead, IsArgumentsStuck, StartsCall, StartsNoCall};
 ghost use Rattle.c_tokens.specs.declared.token.Token.TheVariants.{The};
 
 use crate::cursor::{ParseStop, Parsed, expect, split, starts};
 use crate::part::{boxed, ended, pushed};
-use crate::tree::{BinaryOp, Call, Expression, UnaryOp, Value};
 use c_tokens::{Identifier, Mark, Token};
+use c_tree::{BinaryOp, Call, Expression, UnaryOp, Value};
 use std::alloc::{AllocError, AllocFailed, Global};
 
 /// The operator that a token is, and the level of its operands.

@@ -3,10 +3,9 @@
 //! For the layer above there is one contract: `read` is `Ok(p)` exactly where the text spells `p` and breaks no
 //! size (memory aside), and else tells the fault that comes first in the order of the tests. `specs/Texts.antt` says
 //! what a text spells and which fault it has, `specs/Messages.antt` what a fault prints, `specs/Grammar.antt` is the
-//! grammar as a table of rules, `specs/Tree.antt` has the trees and `specs/Shape.antt` the tree that a Rust value
-//! stands for. The tokens are those of `c_tokens`. `specs/Choosing.antt`, `specs/Reading.antt`, `specs/Parsing.antt` and
-//! `specs/Ends.antt` are words of the private functions: the rule that the next two tokens choose, where a derivation
-//! gets stuck, and the mark that follows a part.
+//! grammar as a table of rules. The tokens are those of `c_tokens`, the trees those of `c_tree`. `specs/Choosing.antt`,
+//! `specs/Reading.antt`, `specs/Parsing.antt` and `specs/Ends.antt` are words of the private functions: the rule that the
+//! next two tokens choose, where a derivation gets stuck, and the mark that follows a part.
 #![tactic(auto)]
 
 mod cursor;
@@ -16,12 +15,7 @@ mod fault;
 mod part;
 mod statement;
 mod text;
-mod tree;
 
 pub use declaration::one_program;
 pub use fault::{FrontFault, FrontFaultKind};
 pub use text::{one_reading, read};
-pub use tree::{
-    BinaryOp, Call, Declaration, Expression, ForParts, FunctionDefinition, Initial, Item,
-    Parameter, Program, Simple, Statement, UnaryOp, Value,
-};

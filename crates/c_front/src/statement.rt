@@ -1,8 +1,8 @@
 ghost use Rattle.std.specs.Prelude.{◌≡◌, ◌∷◌, ◌<◌, ◌≤◌, ◌↔◌, length, IfOk, IfErr, IfSome, IfNone, IsTrue};
 ghost use Rattle.c_front.specs.Grammar.{first, a_statement, an_item, items, simple, a_type, declared, maybe_simple, maybe_expression};
 ghost use Rattle.c_front.specs.Choosing.{EndsItems};
-ghost use Rattle.c_front.specs.Shape.{expression_of, value_tree, maybe_value_tree, simple_of, maybe_simple_of, maybe_expression_of, statement_of};
-ghost use Rattle.c_front.specs.Shape.{item_of, items_of};
+ghost use Rattle.c_tree.specs.Shape.{expression_of, value_tree, maybe_value_tree, simple_of, maybe_simple_of, maybe_expression_of, statement_of};
+ghost use Rattle.c_tree.specs.Shape.{item_of, items_of};
 ghost use Rattle.c_front.specs.Parsing.{IsRead, IsStuck, IsConditionRead, IsConditionStuck, IsAssignedRead, IsAssignedStuck, IsBranchRead};
 ghost use Rattle.c_front.specs.Parsing.{IsBranchStuck, IsEndedRead, IsEndedStuck, IsHeadRead, IsHeadStuck, HasNoType};
 ghost use Rattle.c_tokens.specs.declared.token.Token.TheVariants.{The, Jump};
@@ -11,8 +11,8 @@ ghost use Rattle.c_tokens.specs.declared.token.Mark.TheVariants.{While, For, Sem
 use crate::cursor::{ParseStop, Parsed, expect, first_name, name, split, starts};
 use crate::expression::{arguments, closed, expression, value};
 use crate::part::{boxed, ended, pushed};
-use crate::tree::{Call, Expression, ForParts, Item, Simple, Statement, Value};
 use c_tokens::{IntegerType, JumpWord, Mark, Token};
+use c_tree::{Call, Expression, ForParts, Item, Simple, Statement, Value};
 use std::alloc::{AllocError, AllocFailed, Global};
 
 /// The value after an equals sign.

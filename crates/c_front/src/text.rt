@@ -1,15 +1,15 @@
 ghost use Rattle.std.specs.Prelude.{◌≡◌, ◌≢◌, ℕ, List, length, IfOk, IfErr, IfSome, IfNone};
-ghost use Rattle.c_front.specs.Shape.{declarations_of};
-ghost use Rattle.c_front.specs.Texts.{SpellsText, IsTextFault, is_text, IsBadByte, AllText, place_or, refusal_kind, spelling_of};
-ghost use Rattle.c_front.specs.Tree.{Declaration};
+ghost use Rattle.c_tree.specs.Shape.{declarations_of};
+ghost use Rattle.c_front.specs.Texts.{SpellsText, IsTextFault, is_text, IsBadByte, AllText, place_or, refusal_kind};
+ghost use Rattle.c_tree.specs.Tree.{Declaration};
 ghost use Rattle.c_front.specs.declared.fault.FrontFaultKind.{FrontFaultKind};
 ghost use Rattle.c_front.specs.declared.fault.FrontFaultKind.TheVariants.{NoMemory};
 ghost use Rattle.c_front.specs.Faults.{lexical_fault, syntactic_fault};
 
 use crate::declaration::{SyntaxFault, parse};
 use crate::fault::{FrontFault, FrontFaultKind};
-use crate::tree::Program;
-use c_tokens::{Identifier, LexFault, MAX_TEXT, Refusal, lex};
+use c_tokens::{LexFault, MAX_TEXT, Refusal, lex};
+use c_tree::Program;
 use std::alloc::{AllocError, AllocFailed, Global};
 
 fn is_text(byte: u8) -> bool
@@ -75,25 +75,6 @@ fn syntactic(fault: SyntaxFault, length: usize, places: &[usize]) -> FrontFault
             kind: FrontFaultKind::NoMemory,
             at: length,
         },
-    }
-}
-
-impl Program {
-    /// The bytes of a name in the program's text.
-    pub fn spelling(&self, name: Identifier) -> &[u8]
-        ensures { result.now ≡ spelling_of self.now.text.items name.at name.length }
-    {
-        let text = self.text.as_slice();
-        let after = if name.at < text.len() {
-            &text[name.at..]
-        } else {
-            &text[text.len()..]
-        };
-        if name.length < after.len() {
-            &after[..name.length]
-        } else {
-            after
-        }
     }
 }
 

@@ -6,8 +6,8 @@ ghost use Rattle.runs.specs.Stores.{element_at};
 ghost use Rattle.c_typed.specs.Values.{sign_of, truth, unary_of, binary_of, value_of, values_of};
 ghost use Rattle.c_run.specs.Interpreter.{places, arrays};
 
-use c_front::{BinaryOp, UnaryOp};
 use c_tokens::IntegerType;
+use c_tree::{BinaryOp, UnaryOp};
 use c_typed::TypedExpression;
 use std::alloc::{AllocError, Global};
 use words::Sign;

@@ -3,9 +3,9 @@ use Rattle.std.proofs.Common.{◌≡◌, ◌⊎◌, ◌+◌, ◌<◌, ℕ, List,
 use Rattle.std.proofs.lemmas.List.{take_more}
 use Rattle.std.specs.declared.vec.Vec.{Vec}
 use Rattle.std.specs.declared.alloc.Global.{Global}
-use Rattle.c_front.specs.declared.tree.Expression.{Expression}
-use Rattle.c_front.specs.Shape.{expression_of, expressions_of}
-use Rattle.c_front.specs.Tree as Tree
+use Rattle.c_tree.specs.declared.tree.Expression.{Expression}
+use Rattle.c_tree.specs.Shape.{expression_of, expressions_of}
+use Rattle.c_tree.specs.Tree as Tree
 use Rattle.c_typed.specs.declared.tree.TypedExpression.{TypedExpression}
 use Rattle.c_statements.specs.declared.fault.TypeFaultKind.{TypeFaultKind}
 use Rattle.c_statements.specs.declared.fault.TypeStop.{TypeStop}

@@ -4,10 +4,10 @@ use Rattle.std.proofs.Common.{refl, sym, subst, ap, ◌∙◌, arith}
 use Rattle.std.proofs.lemmas.List.{take_more}
 use Rattle.std.specs.declared.vec.Vec.{Vec}
 use Rattle.std.specs.declared.alloc.Global.{Global}
-use Rattle.c_front.specs.declared.tree.Item.{Item}
-use Rattle.c_front.specs.Shape.{item_of, items_of}
-use Rattle.c_front.specs.Tree as Tree
-use Rattle.c_front.specs.Tree.{Items, no_items, more_items, declare, statement}
+use Rattle.c_tree.specs.declared.tree.Item.{Item}
+use Rattle.c_tree.specs.Shape.{item_of, items_of}
+use Rattle.c_tree.specs.Tree as Tree
+use Rattle.c_tree.specs.Tree.{Items, no_items, more_items, declare, statement}
 use Rattle.c_typed.specs.declared.tree.TypedStatement.{TypedStatement}
 use Rattle.c_statements.specs.declared.fault.TypeFaultKind.{TypeFaultKind}
 use Rattle.c_statements.specs.declared.fault.TypeStop.{TypeStop}

@@ -4,9 +4,9 @@ use Rattle.std.proofs.Common.{refl, sym, subst, ap, ◌∙◌, arith}
 use Rattle.std.specs.declared.vec.Vec.{Vec}
 use Rattle.std.specs.declared.alloc.Global.{Global}
 use Rattle.c_tokens.specs.declared.token.Identifier.{Identifier}
-use Rattle.c_front.specs.declared.tree.Expression.{Expression}
-use Rattle.c_front.specs.Shape.{expressions_of}
-use Rattle.c_front.specs.Tree as Tree
+use Rattle.c_tree.specs.declared.tree.Expression.{Expression}
+use Rattle.c_tree.specs.Shape.{expressions_of}
+use Rattle.c_tree.specs.Tree as Tree
 use Rattle.c_statements.specs.declared.call.Target.{Target}
 use Rattle.c_statements.specs.declared.call.Target.TheVariants.{Function as ToFunction, Out as ToOut}
 use Rattle.c_statements.specs.declared.fault.TypeFaultKind.{TypeFaultKind}

@@ -1,6 +1,6 @@
 -- An expression has at most one typed tree.
 use Rattle.std.proofs.Common.{◌≡◌, Option, Some, refl, ap}
-use Rattle.c_front.specs.Tree as Tree
+use Rattle.c_tree.specs.Tree as Tree
 use Rattle.c_statements.specs.declared.names.Named.{Named}
 use Rattle.c_statements.specs.Names.{Environment}
 use Rattle.c_typed.specs.Trees.{TypedExpression, unary, type_of, prefix_type}

@@ -1,9 +1,9 @@
 -- How much there is to read in a statement: each call of the walk has less than its caller.
 use Rattle.std.proofs.Common.{◌≡◌, ◌≤◌, ◌<◌, ◌+◌, ℕ, suc, zero, List, [], ◌∷◌, length, get_or, ap, arith}
-use Rattle.c_front.specs.declared.tree.Item.{Item}
-use Rattle.c_front.specs.Shape.{item_of, items_of}
-use Rattle.c_front.specs.Tree.{Statement, Item as ItemTree, Items, empty, block, if_then, if_then_else, while_loop, for_loop, break_at}
-use Rattle.c_front.specs.Tree.{continue_at, return_at, simply, declare, statement, no_items, more_items}
+use Rattle.c_tree.specs.declared.tree.Item.{Item}
+use Rattle.c_tree.specs.Shape.{item_of, items_of}
+use Rattle.c_tree.specs.Tree.{Statement, Item as ItemTree, Items, empty, block, if_then, if_then_else, while_loop, for_loop, break_at}
+use Rattle.c_tree.specs.Tree.{continue_at, return_at, simply, declare, statement, no_items, more_items}
 
 abbrev mutual
   pub weight : Statement → ℕ

@@ -2,10 +2,10 @@
 use Rattle.std.proofs.Common.{◌≡◌, ◌⊎◌, ℕ, Result, Ok, Err, IfOk, IfErr, inl, inr, sym, subst}
 use Rattle.c_tokens.specs.declared.token.Identifier.{Identifier}
 use Rattle.c_tokens.specs.declared.token.IntegerType.{IntegerType}
-use Rattle.c_front.specs.declared.tree.UnaryOp.{UnaryOp}
-use Rattle.c_front.specs.declared.tree.BinaryOp.{BinaryOp}
-use Rattle.c_front.specs.Tree as Tree
-use Rattle.c_front.specs.Tree.{Expression}
+use Rattle.c_tree.specs.declared.tree.UnaryOp.{UnaryOp}
+use Rattle.c_tree.specs.declared.tree.BinaryOp.{BinaryOp}
+use Rattle.c_tree.specs.Tree as Tree
+use Rattle.c_tree.specs.Tree.{Expression}
 use Rattle.c_typed.specs.declared.tree.TypedExpression.{TypedExpression}
 use Rattle.c_typed.specs.Shape.{typed_expression_of}
 use Rattle.c_statements.specs.declared.fault.TypeStop.{TypeStop}

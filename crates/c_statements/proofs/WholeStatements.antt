@@ -1,7 +1,7 @@
 -- What typing the parts of a compound statement answered, and what typing the whole then answers.
 use Rattle.std.proofs.Common.{◌≡◌, ℕ, List, Option, Bool, Result, Ok, Err, IfOk, refl, sym, subst, ap, ◌∙◌}
-use Rattle.c_front.specs.Tree as Tree
-use Rattle.c_front.specs.Tree.{Expression, Simple}
+use Rattle.c_tree.specs.Tree as Tree
+use Rattle.c_tree.specs.Tree.{Expression, Simple}
 use Rattle.c_typed.specs.declared.tree.TypedExpression.{TypedExpression}
 use Rattle.c_typed.specs.declared.tree.TypedStatement.{TypedStatement, Empty}
 use Rattle.c_typed.specs.Shape.{typed_expression_of, statement_of}

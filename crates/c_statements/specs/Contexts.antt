@@ -1,6 +1,6 @@
 -- What is told of a statement in its context.
 use Rattle.std.specs.Prelude.{◌≡◌, ℕ, List, Result, Err}
-use Rattle.c_front.specs.Tree.{Statement}
+use Rattle.c_tree.specs.Tree.{Statement}
 use Rattle.c_typed.specs.declared.tree.TypedStatement.{TypedStatement}
 use Rattle.c_typed.specs.Shape.{statement_of}
 use Rattle.c_statements.specs.declared.fault.TypeStop.{TypeStop}

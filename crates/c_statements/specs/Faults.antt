@@ -1,7 +1,7 @@
 -- Faults: their numbers, names and text, and which of them is the first.
 use Rattle.std.specs.Prelude.{◌≡◌, ◌<◌, ◌≤◌, ◌⊎◌, ℕ, Bool, nat_lt, nat_eq, ◌&&◌, ◌||◌, if◌then◌else◌, Result, Ok, Err, IfOk, IfErr, List}
 use Rattle.std.specs.Prelude.{length, codes}
-use Rattle.c_front.specs.Messages.{placed_fault_text}
+use Rattle.c_tree.specs.Texts.{placed_fault_text}
 use Rattle.c_statements.specs.declared.fault.TypeFaultKind.{TypeFaultKind}
 use Rattle.c_statements.specs.declared.fault.TypeFaultKind.TheVariants.{Undeclared, Redeclared, Kind, Count, NoMain, Outside, Limit, NoMemory as WantOfMemory}
 use Rattle.c_statements.specs.declared.fault.TypeFault.{TypeFault}

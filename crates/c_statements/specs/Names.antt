@@ -2,9 +2,9 @@
 use Rattle.std.specs.Prelude.{ℕ, suc, ◌+◌, List, [], ◌∷◌, Option, Some, None, if◌then◌else◌, bytes_eq}
 use Rattle.c_tokens.specs.declared.token.Identifier.{Identifier}
 use Rattle.c_tokens.specs.declared.token.IntegerType.{IntegerType}
-use Rattle.c_front.specs.Texts.{spelling_of}
-use Rattle.c_front.specs.Tree.{Statement, empty, block, if_then, if_then_else, while_loop, for_loop, break_at, continue_at, return_at}
-use Rattle.c_front.specs.Tree.{simply, Item, declare, statement, Items, no_items, more_items}
+use Rattle.c_tree.specs.Texts.{spelling_of}
+use Rattle.c_tree.specs.Tree.{Statement, empty, block, if_then, if_then_else, while_loop, for_loop, break_at, continue_at, return_at}
+use Rattle.c_tree.specs.Tree.{simply, Item, declare, statement, Items, no_items, more_items}
 use Rattle.c_statements.specs.declared.names.Named.{Named}
 use Rattle.c_statements.specs.declared.names.Named.TheVariants.{Local}
 

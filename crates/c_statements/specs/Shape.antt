@@ -2,7 +2,7 @@
 use Rattle.std.specs.Prelude.{ℕ, List, map, reverse, length, bytes_eq}
 use Rattle.std.specs.Borrow.{Bor}
 use Rattle.std.specs.HashMap.{HashMap, get_by}
-use Rattle.c_front.specs.declared.tree.Program.{Program}
+use Rattle.c_tree.specs.declared.tree.Program.{Program}
 use Rattle.c_statements.specs.declared.names.Named.{Named}
 use Rattle.c_statements.specs.declared.symbol_table.Scopes.{Scopes}
 use Rattle.c_statements.specs.Names as Names

@@ -2,10 +2,10 @@
 use Rattle.std.specs.Prelude.{◌≡◌, ◌≢◌, ◌⊎◌, ℕ, List, [], ◌∷◌, Option, Some, None, Bool, true, false, length}
 use Rattle.c_tokens.specs.declared.token.Identifier.{Identifier}
 use Rattle.c_tokens.specs.declared.token.IntegerType.{IntegerType}
-use Rattle.c_front.specs.Tree as Tree
-use Rattle.c_front.specs.Tree.{Expression, Statement, Items, empty, block, if_then, if_then_else, while_loop, for_loop, break_at}
-use Rattle.c_front.specs.Tree.{continue_at, return_at, simply, declare, statement, no_items, more_items, call, plain, called, assign}
-use Rattle.c_front.specs.Tree.{assign_at, call_statement}
+use Rattle.c_tree.specs.Tree as Tree
+use Rattle.c_tree.specs.Tree.{Expression, Statement, Items, empty, block, if_then, if_then_else, while_loop, for_loop, break_at}
+use Rattle.c_tree.specs.Tree.{continue_at, return_at, simply, declare, statement, no_items, more_items, call, plain, called, assign}
+use Rattle.c_tree.specs.Tree.{assign_at, call_statement}
 use Rattle.c_statements.specs.declared.fault.TypeFaultKind.{TypeFaultKind}
 use Rattle.c_statements.specs.declared.fault.TypeFaultKind.TheVariants.{Redeclared, Kind as KindFault, Outside, Limit}
 use Rattle.c_typed.specs.declared.limits.TheConstants.{MAX_LOCALS}

@@ -3,10 +3,10 @@ use Rattle.std.specs.Prelude.{◌≡◌, ℕ, List, [], ◌∷◌, Option, Some,
 use Rattle.c_tokens.specs.declared.token.Identifier.{Identifier}
 use Rattle.c_tokens.specs.declared.token.IntegerType.{IntegerType}
 use Rattle.c_tokens.specs.declared.token.Literal.{Literal}
-use Rattle.c_front.specs.declared.tree.UnaryOp.{UnaryOp}
-use Rattle.c_front.specs.declared.tree.BinaryOp.{BinaryOp}
-use Rattle.c_front.specs.Tree as Tree
-use Rattle.c_front.specs.Tree.{Expression}
+use Rattle.c_tree.specs.declared.tree.UnaryOp.{UnaryOp}
+use Rattle.c_tree.specs.declared.tree.BinaryOp.{BinaryOp}
+use Rattle.c_tree.specs.Tree as Tree
+use Rattle.c_tree.specs.Tree.{Expression}
 use Rattle.c_statements.specs.declared.names.Named.TheVariants.{Local, Global, Array}
 use Rattle.c_statements.specs.declared.names.Named.TheVariants as Named
 use Rattle.c_typed.specs.declared.tree.Destination.{Destination}

@@ -2,7 +2,7 @@
 use Rattle.std.specs.Prelude.{◌≡◌, ◌≢◌, ◌⊎◌, ℕ, Option, Some, None, Bool, true, false}
 use Rattle.c_tokens.specs.declared.token.Identifier.{Identifier}
 use Rattle.c_tokens.specs.declared.token.IntegerType.{IntegerType}
-use Rattle.c_front.specs.Tree.{Expression, constant, name, index, unary, binary, conditional}
+use Rattle.c_tree.specs.Tree.{Expression, constant, name, index, unary, binary, conditional}
 use Rattle.c_statements.specs.declared.names.Named.{Named}
 use Rattle.c_statements.specs.declared.names.Named.TheVariants.{Local, Global, Array, Function, Out}
 use Rattle.c_statements.specs.declared.fault.TypeFaultKind.{TypeFaultKind}

@@ -8,8 +8,8 @@ use crate::expression::misuse;
 use crate::fault::{TypeFaultKind, TypeStop};
 use crate::names::Named;
 use crate::symbol_table::Scopes;
-use c_front::Program;
 use c_tokens::Identifier;
+use c_tree::Program;
 
 /// What a call goes to: a function of the program, by its number, or `out`.
 #[derive(Clone, Copy, PartialEq, Eq)]

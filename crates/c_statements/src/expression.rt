@@ -1,8 +1,8 @@
 ghost use Rattle.std.specs.Prelude.{◌≡◌, IfOk, IfErr, Some};
 ghost use Rattle.c_statements.specs.declared.names.Named.TheVariants.{Array};
 ghost use Rattle.c_statements.specs.declared.fault.TypeStop.TheVariants.{Fault};
-ghost use Rattle.c_front.specs.Shape.{expression_of};
-ghost use Rattle.c_front.specs.Tree as Tree;
+ghost use Rattle.c_tree.specs.Shape.{expression_of};
+ghost use Rattle.c_tree.specs.Tree as Tree;
 ghost use Rattle.c_statements.specs.Faults.{Answers};
 ghost use Rattle.c_statements.specs.Shape.{environment_of};
 ghost use Rattle.c_statements.specs.Names.{Environment};
@@ -15,8 +15,8 @@ use crate::fault::{TypeFault, TypeFaultKind, TypeStop};
 use crate::names::Named;
 use crate::operation::{binary, conditional, element, unary};
 use crate::symbol_table::Scopes;
-use c_front::{Expression, Program};
 use c_tokens::{Identifier, IntegerType};
+use c_tree::{Expression, Program};
 use c_typed::TypedExpression;
 use std::alloc::Global;
 

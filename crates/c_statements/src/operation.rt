@@ -7,8 +7,8 @@ ghost use Rattle.c_statements.specs.Made.{IsBinary, IsConditional, IsElement, Is
 ghost use Rattle.c_typed.specs.Trees.{common_type, operation_type, prefix_type};
 
 use crate::fault::{TypeStop, both};
-use c_front::{BinaryOp, UnaryOp};
 use c_tokens::IntegerType;
+use c_tree::{BinaryOp, UnaryOp};
 use c_typed::TypedExpression;
 use std::alloc::{AllocError, AllocFailed, Global};
 

@@ -1,5 +1,5 @@
 ghost use Rattle.std.specs.Prelude.{◌≡◌, ◌++◌, ◌∷◌, [], ◌⊎◌, IfOk, IfErr, Ok, is_some};
-ghost use Rattle.c_front.specs.Shape.{expressions_of, maybe_expression_of, call_of, value_tree, maybe_value_tree, simple_of, maybe_simple_of};
+ghost use Rattle.c_tree.specs.Shape.{expressions_of, maybe_expression_of, call_of, value_tree, maybe_value_tree, simple_of, maybe_simple_of};
 ghost use Rattle.c_statements.specs.declared.fault.TypeStop.TheVariants.{NoMemory};
 ghost use Rattle.c_statements.specs.Faults.{Answers, StopsBoth};
 ghost use Rattle.c_statements.specs.Shape.{environment_of};
@@ -13,8 +13,8 @@ use crate::expression::{array, expression, misuse};
 use crate::fault::{TypeFaultKind, TypeStop, both};
 use crate::names::Named;
 use crate::symbol_table::Scopes;
-use c_front::{Call, Expression, Program, Simple, Value};
 use c_tokens::{Identifier, IntegerType, Literal};
+use c_tree::{Call, Expression, Program, Simple, Value};
 use c_typed::{Destination, TypedExpression, TypedStatement};
 use std::alloc::{AllocError, AllocFailed, Global};
 

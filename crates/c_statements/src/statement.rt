@@ -1,7 +1,7 @@
 ghost use Rattle.std.specs.Prelude.{◌≡◌, ℕ, List, IfOk, IfErr, Err, false};
-ghost use Rattle.c_front.specs.Shape.{expression_of, maybe_expression_of, maybe_simple_of, maybe_value_tree, statement_of, item_of, items_of};
-ghost use Rattle.c_front.specs.Tree as Tree;
-ghost use Rattle.c_front.specs.Tree.{block, if_then, if_then_else, while_loop, for_loop, return_at, more_items, no_items};
+ghost use Rattle.c_tree.specs.Shape.{expression_of, maybe_expression_of, maybe_simple_of, maybe_value_tree, statement_of, item_of, items_of};
+ghost use Rattle.c_tree.specs.Tree as Tree;
+ghost use Rattle.c_tree.specs.Tree.{block, if_then, if_then_else, while_loop, for_loop, return_at, more_items, no_items};
 ghost use Rattle.c_statements.specs.declared.fault.TypeStop.TheVariants.{NoMemory};
 ghost use Rattle.c_statements.specs.Faults.{Answers, HasNone, StopsAtFirst};
 ghost use Rattle.c_statements.specs.Shape.{environment_of, scopes_of};
@@ -19,8 +19,8 @@ use crate::expression::{expression, misuse};
 use crate::fault::{TypeFault, TypeFaultKind, TypeStop, both, lasting};
 use crate::simple::{first_value, part, simple, test, with_one};
 use crate::symbol_table::Scopes;
-use c_front::{Expression, ForParts, Item, Program, Statement, Value};
 use c_tokens::{Identifier, IntegerType};
+use c_tree::{Expression, ForParts, Item, Program, Statement, Value};
 use c_typed::{MAX_LOCALS, TypedExpression, TypedStatement};
 use std::alloc::{AllocError, AllocFailed, Global};
 

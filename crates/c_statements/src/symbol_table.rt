@@ -4,8 +4,8 @@ ghost use Rattle.c_statements.specs.Names.{Scopes, named_in, environment_in, wit
 ghost use Rattle.c_statements.specs.Names.{outside, with_declared, with_local, without_locals, spelling_in};
 
 use crate::names::Named;
-use c_front::Program;
 use c_tokens::{Identifier, IntegerType};
+use c_tree::Program;
 use std::alloc::{AllocError, AllocFailed, Global};
 use std::collections::HashMap;
 use std::mem::replace;

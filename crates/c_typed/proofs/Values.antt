@@ -14,11 +14,11 @@ use Rattle.words.proofs.OfC.{sum_agrees, difference_agrees, product_agrees, quot
 use Rattle.words.proofs.OfC.{right_shift_agrees}
 use Rattle.runs.specs.Stores.{Places, Arrays, chain, element_at, IsWord, PlacesHoldWords, ArraysHoldWords}
 use Rattle.runs.proofs.Words.{chain-some, element-at}
-use Rattle.c_front.specs.declared.tree.UnaryOp.{UnaryOp}
-use Rattle.c_front.specs.declared.tree.UnaryOp.TheVariants.{Negate, Identity, Complement, Not}
-use Rattle.c_front.specs.declared.tree.BinaryOp.{BinaryOp}
-use Rattle.c_front.specs.declared.tree.BinaryOp.TheVariants.{Multiply, Divide, Remainder, Add, Subtract, ShiftLeft, ShiftRight, Less, Greater, LessOrEqual}
-use Rattle.c_front.specs.declared.tree.BinaryOp.TheVariants.{GreaterOrEqual, Equal, NotEqual, BitAnd, BitXor, BitOr, LogicalAnd, LogicalOr}
+use Rattle.c_tree.specs.declared.tree.UnaryOp.{UnaryOp}
+use Rattle.c_tree.specs.declared.tree.UnaryOp.TheVariants.{Negate, Identity, Complement, Not}
+use Rattle.c_tree.specs.declared.tree.BinaryOp.{BinaryOp}
+use Rattle.c_tree.specs.declared.tree.BinaryOp.TheVariants.{Multiply, Divide, Remainder, Add, Subtract, ShiftLeft, ShiftRight, Less, Greater, LessOrEqual}
+use Rattle.c_tree.specs.declared.tree.BinaryOp.TheVariants.{GreaterOrEqual, Equal, NotEqual, BitAnd, BitXor, BitOr, LogicalAnd, LogicalOr}
 use Rattle.c_typed.specs.Trees.{TypedExpression, constant, local, global, element, unary, binary, conditional}
 use Rattle.c_typed.specs.Values.{sign_of, truth, unary_of, binary_of, binary_value, value_of, values_of}
 

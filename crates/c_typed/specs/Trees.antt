@@ -3,11 +3,11 @@ use Rattle.std.specs.Prelude.{ℕ, List, Option}
 use Rattle.c_tokens.specs.declared.token.IntegerType.{IntegerType}
 use Rattle.c_tokens.specs.declared.token.IntegerType.TheVariants.{SignedInt, UnsignedInt}
 use Rattle.c_tokens.specs.declared.token.Literal.{Literal}
-use Rattle.c_front.specs.declared.tree.UnaryOp.{UnaryOp}
-use Rattle.c_front.specs.declared.tree.UnaryOp.TheVariants.{Not}
-use Rattle.c_front.specs.declared.tree.BinaryOp.{BinaryOp}
-use Rattle.c_front.specs.declared.tree.BinaryOp.TheVariants.{ShiftLeft, ShiftRight, Less, Greater, LessOrEqual, GreaterOrEqual, Equal, NotEqual, LogicalAnd}
-use Rattle.c_front.specs.declared.tree.BinaryOp.TheVariants.{LogicalOr}
+use Rattle.c_tree.specs.declared.tree.UnaryOp.{UnaryOp}
+use Rattle.c_tree.specs.declared.tree.UnaryOp.TheVariants.{Not}
+use Rattle.c_tree.specs.declared.tree.BinaryOp.{BinaryOp}
+use Rattle.c_tree.specs.declared.tree.BinaryOp.TheVariants.{ShiftLeft, ShiftRight, Less, Greater, LessOrEqual, GreaterOrEqual, Equal, NotEqual, LogicalAnd}
+use Rattle.c_tree.specs.declared.tree.BinaryOp.TheVariants.{LogicalOr}
 use Rattle.c_typed.specs.declared.tree.Destination.{Destination}
 use Rattle.c_typed.specs.declared.tree.Global.{Global}
 

@@ -2,8 +2,8 @@ ghost use Rattle.std.specs.Prelude.{◌≡◌};
 ghost use Rattle.c_typed.specs.Shape.{typed_expression_of};
 ghost use Rattle.c_typed.specs.Trees.{type_of};
 
-use c_front::{BinaryOp, UnaryOp};
 use c_tokens::{IntegerType, Literal};
+use c_tree::{BinaryOp, UnaryOp};
 use words::Width;
 
 /// A typed expression. A local, a global variable and an array stand as their numbers. An operator keeps the type that

@@ -2,10 +2,10 @@
 use Rattle.std.proofs.Common.{◌≡◌, ◌⊎◌, ◌+◌, ◌<◌, ◌≤◌, arith, ℕ, List, [], ◌∷◌, ◌++◌, length, get_or, take, Result, Ok, Err, IfOk, IfErr}
 use Rattle.std.proofs.Common.{inl, inr, refl, sym, subst, ap, ◌∙◌, Option}
 use Rattle.std.proofs.lemmas.List.{take_more}
-use Rattle.c_front.specs.declared.tree.Declaration.{Declaration}
-use Rattle.c_front.specs.declared.tree.Parameter.{Parameter}
-use Rattle.c_front.specs.Shape.{declaration_of, declarations_of}
-use Rattle.c_front.specs.Tree as Tree
+use Rattle.c_tree.specs.declared.tree.Declaration.{Declaration}
+use Rattle.c_tree.specs.declared.tree.Parameter.{Parameter}
+use Rattle.c_tree.specs.Shape.{declaration_of, declarations_of}
+use Rattle.c_tree.specs.Tree as Tree
 use Rattle.c_tokens.specs.declared.token.Identifier.{Identifier}
 use Rattle.c_tokens.specs.declared.token.IntegerType.{IntegerType}
 use Rattle.c_statements.specs.declared.fault.TypeFaultKind.{TypeFaultKind}

@@ -3,7 +3,7 @@ use Rattle.std.proofs.Common.{◌≡◌, ◌≢◌, ◌≤◌, ℕ, List, Option
 use Rattle.std.proofs.lemmas.Option.{none-some}
 use Rattle.std.specs.Prelude.{is_some}
 use Rattle.c_tokens.specs.declared.token.Identifier.{Identifier}
-use Rattle.c_front.specs.Tree.{Declaration, variable, array, function}
+use Rattle.c_tree.specs.Tree.{Declaration, variable, array, function}
 use Rattle.c_statements.specs.declared.fault.TypeFaultKind.{TypeFaultKind}
 use Rattle.c_statements.specs.declared.fault.TypeFaultKind.TheVariants.{Redeclared, Kind as KindFault, Limit}
 use Rattle.c_statements.specs.declared.fault.TypeStop.{TypeStop}

@@ -5,8 +5,8 @@ use Rattle.std.specs.Prelude.{is_some, slice_get, bytes_eq}
 use Rattle.std.proofs.lemmas.Option.{same_Some}
 use Rattle.c_tokens.specs.declared.token.Identifier.{Identifier}
 use Rattle.c_tokens.specs.declared.token.IntegerType.{IntegerType}
-use Rattle.c_front.specs.Tree as Tree
-use Rattle.c_front.specs.Tree.{Expression}
+use Rattle.c_tree.specs.Tree as Tree
+use Rattle.c_tree.specs.Tree.{Expression}
 use Rattle.c_statements.specs.declared.fault.TypeFaultKind.{TypeFaultKind}
 use Rattle.c_statements.specs.declared.fault.TypeFaultKind.TheVariants.{Kind as KindFault, Count, Outside, Limit}
 use Rattle.c_statements.specs.declared.names.Named.{Named}

@@ -1,8 +1,8 @@
 -- The scopes and the faults of a function.
 use Rattle.std.proofs.Common.{◌≡◌, ℕ, List, [], ◌∷◌, refl, sym, ap, ◌∙◌, subst, Result, IfOk, IfErr, Option, Bool, false}
 use Rattle.std.specs.Prelude.{is_some}
-use Rattle.c_front.specs.declared.tree.Parameter.{Parameter}
-use Rattle.c_front.specs.Tree.{Items, function}
+use Rattle.c_tree.specs.declared.tree.Parameter.{Parameter}
+use Rattle.c_tree.specs.Tree.{Items, function}
 use Rattle.c_tokens.specs.declared.token.Identifier.{Identifier}
 use Rattle.c_tokens.specs.declared.token.IntegerType.{IntegerType}
 use Rattle.c_statements.specs.declared.fault.TypeStop.{TypeStop}

@@ -3,7 +3,7 @@ use Rattle.std.proofs.Common.{◌≡◌, ◌≢◌, ◌⊎◌, ℕ, List, [], �
 use Rattle.std.proofs.Common.{ap, ◌∙◌, arith, Result, Ok, IfOk, IfErr}
 use Rattle.std.specs.Prelude.{bytes_eq, if◌then◌else◌}
 use Rattle.std.proofs.lemmas.Option.{none-some}
-use Rattle.c_front.specs.Tree as Tree
+use Rattle.c_tree.specs.Tree as Tree
 use Rattle.c_tokens.specs.declared.token.IntegerType.TheVariants.{SignedInt, UnsignedInt}
 use Rattle.c_statements.specs.declared.fault.TypeFaultKind.TheVariants.{NoMain}
 use Rattle.c_statements.specs.declared.names.Named.{Named}

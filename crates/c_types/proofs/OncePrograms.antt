@@ -1,6 +1,6 @@
 -- A program has at most one typed program.
 use Rattle.std.proofs.Common.{◌≡◌, ℕ, List, Option, Some, refl, sym, ap, subst, ◌∙◌}
-use Rattle.c_front.specs.Tree as Tree
+use Rattle.c_tree.specs.Tree as Tree
 use Rattle.c_statements.specs.declared.names.Named.{Named}
 use Rattle.c_statements.specs.declared.names.Named.TheVariants.{Function}
 use Rattle.c_typed.specs.declared.tree.Global.{Global}

@@ -6,7 +6,7 @@ use Rattle.c_statements.specs.declared.fault.TypeFaultKind.{TypeFaultKind}
 use Rattle.c_statements.specs.declared.fault.TypeFaultKind.TheVariants.{Redeclared, Count, Limit}
 use Rattle.c_statements.specs.declared.fault.TypeStop.{TypeStop}
 use Rattle.c_statements.specs.declared.fault.TypeStop.TheVariants.{Fault}
-use Rattle.c_front.specs.declared.tree.Parameter.{Parameter}
+use Rattle.c_tree.specs.declared.tree.Parameter.{Parameter}
 use Rattle.c_statements.specs.Faults.{number_of, Faults, HasNone, StopsAtFirst, StopsBoth}
 use Rattle.c_statements.specs.Names.{Scopes, spelling_in, with_local}
 use Rattle.c_statements.specs.Statements.{declared_before, local_too_many}

@@ -1,12 +1,12 @@
 -- What the walk over the declarations keeps.
 use Rattle.std.specs.Prelude.{length, [], ◌∷◌, ◌++◌, Result, Ok, ◌≡◌, ◌+◌, ◌<◌, ◌≤◌, ◌⊎◌, ℕ, List, Option, Bool, true, false, nat_eq, bytes_eq}
-use Rattle.c_front.specs.Tree.{Declaration, Items, variable, array, function}
+use Rattle.c_tree.specs.Tree.{Declaration, Items, variable, array, function}
 use Rattle.words.specs.Widths.{words_of_elements}
 use Rattle.c_typed.specs.declared.limits.TheConstants.{MAX_FUNCTIONS, MAX_GLOBAL_WORDS}
 use Rattle.c_statements.specs.declared.symbol_table.Scopes.{Scopes}
 use Rattle.c_statements.specs.Shape.{scopes_of}
 use Rattle.c_types.specs.declared.declaration.Tally.{Tally}
-use Rattle.c_front.specs.declared.tree.Parameter.{Parameter}
+use Rattle.c_tree.specs.declared.tree.Parameter.{Parameter}
 use Rattle.c_tokens.specs.declared.token.Identifier.{Identifier}
 use Rattle.c_tokens.specs.declared.token.IntegerType.{IntegerType}
 use Rattle.c_statements.specs.Names as Names

@@ -8,9 +8,9 @@ use Rattle.c_tokens.specs.declared.token.Literal.{Literal}
 use Rattle.words.specs.declared.width.Width.{Width}
 use Rattle.words.specs.declared.width.Width.TheVariants.{Word}
 use Rattle.words.specs.Widths.{words_of_elements}
-use Rattle.c_front.specs.declared.tree.Initial.{Initial}
-use Rattle.c_front.specs.declared.tree.Parameter.{Parameter}
-use Rattle.c_front.specs.Tree.{Declaration, variable, array, function, Items}
+use Rattle.c_tree.specs.declared.tree.Initial.{Initial}
+use Rattle.c_tree.specs.declared.tree.Parameter.{Parameter}
+use Rattle.c_tree.specs.Tree.{Declaration, variable, array, function, Items}
 use Rattle.c_typed.specs.declared.limits.TheConstants.{MAX_FUNCTIONS, MAX_GLOBAL_WORDS, MAX_PARAMETERS}
 use Rattle.c_statements.specs.declared.fault.TypeFaultKind.{TypeFaultKind}
 use Rattle.c_statements.specs.declared.fault.TypeFaultKind.TheVariants.{Redeclared, Kind as KindFault, Count, NoMain, Limit}

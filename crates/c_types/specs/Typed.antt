@@ -1,7 +1,7 @@
 -- Which typed program a text has, and where typed programs come from.
 use Rattle.std.specs.Prelude.{ℕ, List}
 use Rattle.c_front.specs.Texts.{SpellsText}
-use Rattle.c_front.specs.Tree.{Declaration}
+use Rattle.c_tree.specs.Tree.{Declaration}
 use Rattle.c_statements.specs.Faults.{HasNone}
 use Rattle.c_types.specs.Programs.{FaultyProgram, TypesProgram}
 use Rattle.c_typed.specs.Trees.{TypedProgram}

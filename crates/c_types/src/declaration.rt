@@ -1,5 +1,5 @@
 ghost use Rattle.std.specs.Prelude.{◌≡◌, ◌<◌, ◌≤◌, ◌+◌, ◌^◌, IfOk, IfErr, true, false, bytes_eq};
-ghost use Rattle.c_front.specs.Shape.{declaration_of};
+ghost use Rattle.c_tree.specs.Shape.{declaration_of};
 ghost use Rattle.c_statements.specs.Faults.{HasNone, StopsAtFirst};
 ghost use Rattle.c_statements.specs.Shape.{scopes_of};
 ghost use Rattle.c_statements.specs.Names.{spelling_in};
@@ -7,9 +7,9 @@ ghost use Rattle.c_types.specs.Files.{counts_of, file_of, Exceeds, IsOtherKind, 
 ghost use Rattle.c_types.specs.Programs.{FaultyName, FaultyParameter, FaultyParameters, behind_parameters, IsNotMain, first_word};
 ghost use Rattle.c_types.specs.Programs.{main_name, name_of, named_by, counts_after, words_of};
 
-use c_front::{Declaration, Initial, Parameter, Program};
 use c_statements::{Named, Scopes, TypeFaultKind, TypeStop, either, misuse};
 use c_tokens::{Identifier, IntegerType};
+use c_tree::{Declaration, Initial, Parameter, Program};
 use c_typed::{MAX_FUNCTIONS, MAX_GLOBAL_WORDS, MAX_LOCALS, MAX_PARAMETERS};
 use std::alloc::AllocError;
 

@@ -1,6 +1,6 @@
 ghost use Rattle.std.specs.Prelude.{◌≡◌, ◌⊎◌, ℕ, List, Some, true, IfOk, IfErr, OnOk, Err};
-ghost use Rattle.c_front.specs.Shape.{declaration_of, declarations_of, items_of};
-ghost use Rattle.c_front.specs.Tree.{function, Declaration as DeclarationTree};
+ghost use Rattle.c_tree.specs.Shape.{declaration_of, declarations_of, items_of};
+ghost use Rattle.c_tree.specs.Tree.{function, Declaration as DeclarationTree};
 ghost use Rattle.c_statements.specs.declared.fault.TypeStop.TheVariants.{NoMemory};
 ghost use Rattle.c_statements.specs.declared.names.Named.TheVariants.{Function as NamedFunction};
 ghost use Rattle.c_statements.specs.Faults.{Answers, HasNone, IsTypeFault, StopsAtFirst, StopsBoth};
@@ -15,11 +15,11 @@ ghost use Rattle.c_types.specs.Typed.{EachTypedProgramIsWellFormed, SpellsTyped}
 
 use crate::declaration::{Tally, declared_name, first, is_main, name_fault, parameters};
 use crate::typed_program::Typed;
-use c_front::{Declaration, FunctionDefinition, Program};
 use c_statements::{
     Context, Named, Scopes, TypeFault, TypeFaultKind, TypeStop, both, items, lasting,
 };
 use c_tokens::{IntegerType, Literal};
+use c_tree::{Declaration, FunctionDefinition, Program};
 use c_typed::{Function, Global as Variable, TypedExpression, TypedStatement};
 use std::alloc::{AllocError, AllocFailed, Global};
 use words::Width;

@@ -1,6 +1,6 @@
 -- Why a text has no image.
 use Rattle.std.specs.Prelude.{ℕ, List, slice_index}
-use Rattle.c_front.specs.Tree.{Declaration}
+use Rattle.c_tree.specs.Tree.{Declaration}
 use Rattle.c_front.specs.Texts.{SpellsText, IsTextFault}
 use Rattle.c_typed.specs.Trees.{TypedProgram}
 use Rattle.c_statements.specs.Faults.{IsTypeFault}

@@ -1,7 +1,7 @@
 -- The run of a program's text, or why it has none.
 use Rattle.std.specs.Prelude.{◌≡◌, ℕ, List}
 use Rattle.runs.specs.Runs.{Outcome}
-use Rattle.c_front.specs.Tree.{Declaration}
+use Rattle.c_tree.specs.Tree.{Declaration}
 use Rattle.c_front.specs.Texts.{SpellsText, IsTextFault}
 use Rattle.c_typed.specs.Trees.{TypedProgram}
 use Rattle.c_statements.specs.Faults.{IsTypeFault}

@@ -5,9 +5,9 @@ use Rattle.words.specs.Words.{wrap}
 use Rattle.runs.specs.Stores.{Places, Arrays, places_with, chain}
 use Rattle.c_tokens.specs.declared.token.IntegerType.{IntegerType}
 use Rattle.c_tokens.specs.declared.token.Literal.{Literal}
-use Rattle.c_front.specs.declared.tree.BinaryOp.{BinaryOp}
-use Rattle.c_front.specs.declared.tree.BinaryOp.TheVariants as B
-use Rattle.c_front.specs.declared.tree.UnaryOp.TheVariants as U
+use Rattle.c_tree.specs.declared.tree.BinaryOp.{BinaryOp}
+use Rattle.c_tree.specs.declared.tree.BinaryOp.TheVariants as B
+use Rattle.c_tree.specs.declared.tree.UnaryOp.TheVariants as U
 use Rattle.c_typed.specs.Trees.{TypedExpression, constant, unary, binary, conditional}
 use Rattle.c_typed.specs.Values.{sign_of, truth, binary_of, value_of}
 use Rattle.rtl.specs.declared.operator.Op.TheVariants as O

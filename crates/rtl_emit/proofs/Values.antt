@@ -8,9 +8,9 @@ use Rattle.runs.specs.Stores.{Places, places_with, chain, element_at, IsWord}
 use Rattle.runs.specs.Runs.{with_value}
 use Rattle.c_tokens.specs.declared.token.IntegerType.{IntegerType}
 use Rattle.c_tokens.specs.declared.token.Literal.{Literal}
-use Rattle.c_front.specs.declared.tree.BinaryOp.{BinaryOp}
-use Rattle.c_front.specs.declared.tree.UnaryOp.{UnaryOp}
-use Rattle.c_front.specs.declared.tree.UnaryOp.TheVariants as U
+use Rattle.c_tree.specs.declared.tree.BinaryOp.{BinaryOp}
+use Rattle.c_tree.specs.declared.tree.UnaryOp.{UnaryOp}
+use Rattle.c_tree.specs.declared.tree.UnaryOp.TheVariants as U
 use Rattle.c_typed.specs.Trees.{TypedExpression, constant, local, global, element, unary, binary}
 use Rattle.c_typed.specs.Values.{sign_of, unary_of, binary_of, value_of, values_of}
 use Rattle.c_typed.proofs.Values.{value-word}

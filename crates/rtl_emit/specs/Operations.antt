@@ -1,7 +1,7 @@
 -- Which operator of RTL computes an operator of C (C99 6.5.5 to 6.5.14), and which one computes the contrary of a test.
 use Rattle.std.specs.Prelude.{◌≡◌, ℕ, Bool, not, Option, Some, if◌then◌else◌}
-use Rattle.c_front.specs.declared.tree.BinaryOp.{BinaryOp}
-use Rattle.c_front.specs.declared.tree.BinaryOp.TheVariants as B
+use Rattle.c_tree.specs.declared.tree.BinaryOp.{BinaryOp}
+use Rattle.c_tree.specs.declared.tree.BinaryOp.TheVariants as B
 use Rattle.words.specs.declared.sign.Sign.{Sign}
 use Rattle.words.specs.declared.sign.Sign.TheVariants.{Signed, Unsigned}
 use Rattle.runs.specs.Stores.{IsWord, chain}

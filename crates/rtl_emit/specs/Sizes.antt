@@ -1,9 +1,9 @@
 -- How many blocks the code of an expression takes, and how many pseudo-registers: one more than the greatest number that it
 -- takes, 0 where it takes none. A local is the register of its number; `free` is the first register that is free.
 use Rattle.std.specs.Prelude.{ℕ, ◌+◌, ◌-◌, ◌^◌, ◌<◌, max, Bool, true, false, not, List, [], ◌∷◌, if◌then◌else◌}
-use Rattle.c_front.specs.declared.tree.BinaryOp.{BinaryOp}
-use Rattle.c_front.specs.declared.tree.BinaryOp.TheVariants as B
-use Rattle.c_front.specs.declared.tree.UnaryOp.TheVariants as U
+use Rattle.c_tree.specs.declared.tree.BinaryOp.{BinaryOp}
+use Rattle.c_tree.specs.declared.tree.BinaryOp.TheVariants as B
+use Rattle.c_tree.specs.declared.tree.UnaryOp.TheVariants as U
 use Rattle.c_typed.specs.Trees.{TypedExpression, constant, local, global, element, unary, binary, conditional}
 use Rattle.rtl.specs.declared.limits.TheConstants.{MAX_REGISTERS, MAX_BLOCKS}
 use Rattle.rtl_emit.specs.Blocks.{Spot, Block, Line}

@@ -13,7 +13,7 @@ use crate::block::{Continuation, OpenBlock, leaving, opened, put_before, put_fir
 use crate::fault::LowerFault;
 use crate::operation::{Form, Operation, contrary_of, form_of, straight, turned};
 use crate::place::{Place, place_of, register_of, spare};
-use c_front::{BinaryOp, UnaryOp};
+use c_tree::{BinaryOp, UnaryOp};
 use c_typed::TypedExpression;
 use rtl::{BlockNumber, GlobalNumber, Op, RBlock, RExit, RInst, Register};
 use std::alloc::Global;

@@ -3,8 +3,8 @@ ghost use Rattle.rtl_emit.specs.Sizes.{has_contrary, is_logical, is_by_branches}
 ghost use Rattle.c_typed.specs.Values.{sign_of};
 ghost use Rattle.rtl_emit.specs.Operations.{by_sign, inst_of, IsForm, ComputesContrary};
 
-use c_front::BinaryOp;
 use c_tokens::IntegerType;
+use c_tree::BinaryOp;
 use rtl::{Op, RInst, Register};
 
 // An operator of RTL at two words, or at the same words turned round.

@@ -1,5 +1,5 @@
 use Rattle.std.proofs.Common.{length}
-use Rattle.c_front.specs.Shape.{declarations_of}
+use Rattle.c_tree.specs.Shape.{declarations_of}
 use Rattle.c_front.proofs.DeclarationPaths.{GoesOnDeclarations}
 use Rattle.c_front.proofs.declaration.declarations.Given as goal
 

@@ -1,7 +1,7 @@
 use Rattle.std.proofs.Common.{rules}
 use Rattle.c_tokens.specs.declared.token.Mark.TheVariants.{RightParen, RightBrace}
 use Rattle.c_front.specs.Parsing.{IsStuck, IsEndedStuck}
-use Rattle.c_front.specs.Shape.{items_of}
+use Rattle.c_tree.specs.Shape.{items_of}
 use Rattle.c_front.proofs.Ends.{ended-read, ended-stuck}
 use Rattle.c_front.specs.Grammar.{function_rest, items, parameters}
 use Rattle.c_front.proofs.DeclarationPaths.{function-open-stuck, function-parameters-stuck, function-brace-stuck, function-body-stuck}

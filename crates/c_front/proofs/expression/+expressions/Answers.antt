@@ -4,7 +4,7 @@ use Rattle.c_tokens.specs.declared.token.Token.TheVariants.{The}
 use Rattle.c_tokens.specs.declared.token.Mark.TheVariants.{LeftParen}
 use Rattle.c_front.specs.Grammar.{operands, above, unary_expressions, an_expression}
 use Rattle.c_front.specs.Parsing.{IsRead, IsStuck, IsChoiceStuck, level_of}
-use Rattle.c_front.specs.Shape.{expression_of}
+use Rattle.c_tree.specs.Shape.{expression_of}
 use Rattle.std.proofs.lemmas.Result.{IfOk-at_ok, IfOk-weaker, IfErr-weaker}
 use Rattle.c_front.proofs.Ends.{stops, ended-read, ended-shorter, ended-stuck}
 use Rattle.c_front.proofs.Paths.{one-less, climbs-first, climbs-more, climbs-end, further-out, climbs-first-stuck, climbs-more-stuck, choice-first-stuck}

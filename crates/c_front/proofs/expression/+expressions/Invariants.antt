@@ -1,5 +1,5 @@
 use Rattle.std.proofs.Common.{◌+◌, ◌*◌, length}
-use Rattle.c_front.specs.Shape.{expression_of}
+use Rattle.c_tree.specs.Shape.{expression_of}
 use Rattle.c_front.proofs.Paths.{Climbs}
 use Rattle.c_front.proofs.expression.+expressions.Given as goal
 

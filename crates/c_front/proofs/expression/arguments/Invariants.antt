@@ -1,5 +1,5 @@
 use Rattle.std.proofs.Common.{length}
-use Rattle.c_front.specs.Shape.{expressions_of}
+use Rattle.c_tree.specs.Shape.{expressions_of}
 use Rattle.c_front.proofs.Simply.{GoesOnArguments}
 use Rattle.c_front.proofs.expression.arguments.Given as goal
 

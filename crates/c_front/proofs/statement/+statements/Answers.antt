@@ -5,11 +5,12 @@ use Rattle.c_tokens.specs.declared.token.Mark.TheVariants.{LeftBrace, RightBrace
 use Rattle.c_front.specs.Grammar.{a_statement, an_item, declared, items, simple, first}
 use Rattle.c_front.specs.Choosing.{EndsItems}
 use Rattle.c_front.specs.Parsing.{IsStuck, IsBranchStuck, IsEndedStuck}
-use Rattle.c_front.specs.Shape.{items_of, maybe_value_tree, simple_of}
+use Rattle.c_tree.specs.Shape.{items_of, maybe_value_tree, simple_of}
 use Rattle.std.proofs.lemmas.Result.{IfOk-at_ok, IfOk-weaker, IfErr-weaker}
 use Rattle.c_front.proofs.Ends.{stops, ended-read, ended-stuck}
 use Rattle.c_front.proofs.Paths.{nothing-stuck}
-use Rattle.c_front.proofs.Shapes.{block-is, items_of-append}
+use Rattle.c_tree.proofs.Shapes.{block-is}
+use Rattle.c_front.proofs.Shapes.{items_of-append}
 use Rattle.c_front.proofs.StatementPaths.{empty-read, block-read, block-stuck, if-read, if-stuck, simply-read, simply-stuck}
 use Rattle.c_front.proofs.StatementPaths.{no-statement, no-mark, if_then-first-stuck, if_then-second-stuck}
 use Rattle.c_front.proofs.StatementPaths.{if_then-alone-read, if_then-else-read, declare-read, declare-name-stuck, declare-value-stuck, item-statement-read}

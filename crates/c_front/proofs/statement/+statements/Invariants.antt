@@ -1,5 +1,5 @@
 use Rattle.std.proofs.Common.{◌+◌, ◌*◌, length}
-use Rattle.c_front.specs.Shape.{items_of}
+use Rattle.c_tree.specs.Shape.{items_of}
 use Rattle.c_front.proofs.StatementPaths.{GoesOnItems}
 use Rattle.c_front.proofs.statement.+statements.Given as goal
 

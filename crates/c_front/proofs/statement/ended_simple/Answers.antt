@@ -2,7 +2,7 @@ use Rattle.std.proofs.Common.{rules}
 use Rattle.c_front.specs.Parsing.{IsEndedStuck}
 use Rattle.c_front.specs.Grammar.{maybe_simple, simple}
 use Rattle.c_front.proofs.StatementPaths.{ended-none-read, ended-none-stuck, ended-some-read, ended-some-stuck}
-use Rattle.c_front.specs.Shape.{simple_of}
+use Rattle.c_tree.specs.Shape.{simple_of}
 use Rattle.c_front.proofs.Ends.{ended-read, ended-stuck}
 use Rattle.c_front.proofs.statement.ended_simple.Goals as goal
 

@@ -1,5 +1,5 @@
 use Rattle.std.proofs.Common.{rules, sym}
-use Rattle.c_front.specs.Shape.{expression_of}
+use Rattle.c_tree.specs.Shape.{expression_of}
 use Rattle.c_statements.specs.Names.{environment_in}
 use Rattle.c_statements.specs.Shape.{scopes_of}
 use Rattle.c_statements.specs.Types.{constant_typed}

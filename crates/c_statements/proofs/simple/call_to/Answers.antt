@@ -1,5 +1,5 @@
 use Rattle.std.proofs.Common.{◌≡◌, length, rules, is_some, sym, arith}
-use Rattle.c_front.specs.Shape.{call_of}
+use Rattle.c_tree.specs.Shape.{call_of}
 use Rattle.c_statements.specs.Faults.{StopsAtFirst}
 use Rattle.c_statements.specs.Shape.{scopes_of}
 use Rattle.c_statements.specs.Names.{environment_in}

@@ -4,7 +4,7 @@ use Rattle.c_statements.specs.declared.fault.TypeStop.{TypeStop}
 use Rattle.c_typed.specs.declared.tree.Destination.{Destination}
 use Rattle.c_typed.specs.declared.tree.Destination.TheVariants.{Local}
 use Rattle.c_typed.specs.Shape.{statement_of}
-use Rattle.c_front.specs.Shape.{expression_of, value_tree, simple_of}
+use Rattle.c_tree.specs.Shape.{expression_of, value_tree, simple_of}
 use Rattle.c_statements.specs.Faults.{StopsAtFirst}
 use Rattle.c_statements.specs.Shape.{scopes_of}
 use Rattle.c_statements.specs.Names.{environment_in}

@@ -1,8 +1,8 @@
 use Rattle.std.proofs.Common.{◌≡◌, ◌+◌, List, true, Result, Ok, Err, rules, refl, sym, subst, ap, arith, ◌∙◌}
-use Rattle.c_front.specs.declared.tree.Item.{Item}
-use Rattle.c_front.specs.Shape.{expression_of, maybe_expression_of, maybe_value_tree, maybe_simple_of, statement_of, item_of, items_of}
-use Rattle.c_front.specs.Tree.{block, statement, declare, more_items, no_items}
-use Rattle.c_front.proofs.Shapes.{block-is as read-block-is}
+use Rattle.c_tree.specs.declared.tree.Item.{Item}
+use Rattle.c_tree.specs.Shape.{expression_of, maybe_expression_of, maybe_value_tree, maybe_simple_of, statement_of, item_of, items_of}
+use Rattle.c_tree.specs.Tree.{block, statement, declare, more_items, no_items}
+use Rattle.c_tree.proofs.Shapes.{block-is as read-block-is}
 use Rattle.c_typed.specs.declared.tree.TypedStatement.{TypedStatement as Typed, Empty}
 use Rattle.c_statements.specs.declared.fault.TypeStop.{TypeStop}
 use Rattle.c_statements.specs.declared.fault.TypeStop.TheVariants.{NoMemory}

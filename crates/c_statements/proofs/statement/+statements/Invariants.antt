@@ -1,5 +1,5 @@
 use Rattle.std.proofs.Common.{◌≡◌, ◌+◌, take}
-use Rattle.c_front.specs.Shape.{statement_of, item_of, items_of}
+use Rattle.c_tree.specs.Shape.{statement_of, item_of, items_of}
 use Rattle.c_statements.specs.Shape.{scopes_of}
 use Rattle.c_statements.specs.Names.{behind_items}
 use Rattle.c_statements.proofs.BlockItems.{ItemsSoFar}

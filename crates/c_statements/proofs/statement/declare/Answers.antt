@@ -1,5 +1,5 @@
 use Rattle.std.proofs.Common.{rules, subst}
-use Rattle.c_front.specs.Shape.{maybe_value_tree}
+use Rattle.c_tree.specs.Shape.{maybe_value_tree}
 use Rattle.c_statements.specs.Faults.{StopsAtFirst}
 use Rattle.c_statements.specs.Shape.{scopes_of}
 use Rattle.c_statements.specs.Names.{Scopes, environment_in, with_local}

@@ -1,6 +1,6 @@
 use Rattle.std.proofs.Common.{false, rules}
-use Rattle.c_front.specs.Shape.{maybe_expression_of}
-use Rattle.c_front.specs.Tree.{return_at}
+use Rattle.c_tree.specs.Shape.{maybe_expression_of}
+use Rattle.c_tree.specs.Tree.{return_at}
 use Rattle.c_statements.specs.Faults.{StopsAtFirst}
 use Rattle.c_statements.specs.Shape.{scopes_of}
 use Rattle.c_statements.specs.Names.{environment_in}

@@ -1,4 +1,4 @@
-use Rattle.c_front.specs.Shape.{declaration_of}
+use Rattle.c_tree.specs.Shape.{declaration_of}
 use Rattle.c_types.specs.Files.{file_of}
 use Rattle.c_types.proofs.Declared.{again-stops, kind-stops, limit-stops, no-stop}
 use Rattle.c_types.proofs.declaration.name_fault.Goals as goal

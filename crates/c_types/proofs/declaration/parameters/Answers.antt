@@ -1,6 +1,6 @@
 use Rattle.std.proofs.Common.{◌∙◌, sym, ap, take, get_or}
 use Rattle.std.proofs.lemmas.List.{take_all, take_more}
-use Rattle.c_front.specs.declared.tree.Parameter.{Parameter}
+use Rattle.c_tree.specs.declared.tree.Parameter.{Parameter}
 use Rattle.c_tokens.specs.declared.token.IntegerType.TheVariants.{SignedInt}
 use Rattle.c_statements.specs.Shape.{scopes_of}
 use Rattle.c_statements.specs.Names.{Scopes, with_local}

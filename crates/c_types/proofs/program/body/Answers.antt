@@ -1,5 +1,5 @@
 use Rattle.std.proofs.Common.{rules}
-use Rattle.c_front.specs.Shape.{items_of}
+use Rattle.c_tree.specs.Shape.{items_of}
 use Rattle.c_statements.specs.Shape.{scopes_of}
 use Rattle.c_typed.specs.Shape.{function_of}
 use Rattle.c_types.specs.Programs.{variable_typed, array_typed}

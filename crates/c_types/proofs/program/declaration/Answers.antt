@@ -1,5 +1,5 @@
 use Rattle.std.proofs.Common.{rules, refl, subst, Result}
-use Rattle.c_front.specs.Shape.{declaration_of}
+use Rattle.c_tree.specs.Shape.{declaration_of}
 use Rattle.c_statements.specs.declared.fault.TypeStop.{TypeStop}
 use Rattle.c_statements.specs.Faults.{StopsAtFirst, StopsBoth}
 use Rattle.c_statements.specs.Shape.{scopes_of}

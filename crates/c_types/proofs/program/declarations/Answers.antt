@@ -1,7 +1,7 @@
 use Rattle.std.proofs.Common.{◌≡◌, sym, ap, ◌∙◌, subst, take, arith, Result}
 use Rattle.std.proofs.lemmas.List.{take_all}
-use Rattle.c_front.specs.Shape.{declaration_of, declarations_of}
-use Rattle.c_front.specs.Tree as Tree
+use Rattle.c_tree.specs.Shape.{declaration_of, declarations_of}
+use Rattle.c_tree.specs.Tree as Tree
 use Rattle.c_statements.specs.Faults.{Answers}
 use Rattle.c_statements.specs.declared.fault.TypeStop.{TypeStop}
 use Rattle.c_statements.specs.Shape.{scopes_of}

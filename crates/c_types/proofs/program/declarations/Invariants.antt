@@ -1,5 +1,5 @@
 use Rattle.std.proofs.Common.{◌≡◌, ◌*◌, ◌^◌, ◌≤◌, take}
-use Rattle.c_front.specs.Shape.{declarations_of}
+use Rattle.c_tree.specs.Shape.{declarations_of}
 use Rattle.c_statements.specs.Shape.{scopes_of}
 use Rattle.c_types.specs.Files.{file_of, file_scopes}
 use Rattle.c_types.specs.Programs.{after_all, no_declarations}

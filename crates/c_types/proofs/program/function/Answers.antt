@@ -1,6 +1,6 @@
 use Rattle.std.proofs.Common.{rules, sym, subst, Result}
-use Rattle.c_front.specs.Shape.{items_of}
-use Rattle.c_front.specs.Tree.{function}
+use Rattle.c_tree.specs.Shape.{items_of}
+use Rattle.c_tree.specs.Tree.{function}
 use Rattle.c_statements.specs.declared.fault.TypeStop.{TypeStop}
 use Rattle.c_statements.specs.Faults.{StopsAtFirst, StopsBoth}
 use Rattle.c_statements.specs.Shape.{scopes_of}

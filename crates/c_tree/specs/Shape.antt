@@ -1,20 +1,20 @@
 -- The tree that a value of the program stands for.
 use Rattle.std.specs.Prelude.{List, [], ◌∷◌, Option, Some, None}
-use Rattle.c_front.specs.declared.tree.Expression.{Expression, Constant, Name, Index', Unary', Binary', Conditional'}
-use Rattle.c_front.specs.declared.tree.Statement.{Statement, Empty, Block', If', IfElse', While', For', Break, Continue, Return, Simply, Row_of-Item}
-use Rattle.c_front.specs.declared.tree.Statement.{end_of-Item, more_of-Item}
-use Rattle.c_front.specs.declared.tree.Item.{Item, Declare, Statement as InnerStatement}
-use Rattle.c_front.specs.declared.tree.Call.{Call}
-use Rattle.c_front.specs.declared.tree.Value.{Value}
-use Rattle.c_front.specs.declared.tree.Value.TheVariants.{Plain, Called}
-use Rattle.c_front.specs.declared.tree.Simple.{Simple}
-use Rattle.c_front.specs.declared.tree.Simple.TheVariants.{Assign, AssignAt, CallStatement}
-use Rattle.c_front.specs.declared.tree.Declaration.{Declaration}
-use Rattle.c_front.specs.declared.tree.Declaration.TheVariants.{Variable, Array, Function}
-use Rattle.c_front.specs.Tree as Tree
-use Rattle.c_front.specs.Tree.{Items, constant, name, index, unary, binary, conditional, call, plain, called, assign, assign_at, call_statement, empty, block}
-use Rattle.c_front.specs.Tree.{if_then, if_then_else, while_loop, for_loop, break_at, continue_at, return_at, simply, declare, statement, no_items, more_items}
-use Rattle.c_front.specs.Tree.{variable, array, function}
+use Rattle.c_tree.specs.declared.tree.Expression.{Expression, Constant, Name, Index', Unary', Binary', Conditional'}
+use Rattle.c_tree.specs.declared.tree.Statement.{Statement, Empty, Block', If', IfElse', While', For', Break, Continue, Return, Simply, Row_of-Item}
+use Rattle.c_tree.specs.declared.tree.Statement.{end_of-Item, more_of-Item}
+use Rattle.c_tree.specs.declared.tree.Item.{Item, Declare, Statement as InnerStatement}
+use Rattle.c_tree.specs.declared.tree.Call.{Call}
+use Rattle.c_tree.specs.declared.tree.Value.{Value}
+use Rattle.c_tree.specs.declared.tree.Value.TheVariants.{Plain, Called}
+use Rattle.c_tree.specs.declared.tree.Simple.{Simple}
+use Rattle.c_tree.specs.declared.tree.Simple.TheVariants.{Assign, AssignAt, CallStatement}
+use Rattle.c_tree.specs.declared.tree.Declaration.{Declaration}
+use Rattle.c_tree.specs.declared.tree.Declaration.TheVariants.{Variable, Array, Function}
+use Rattle.c_tree.specs.Tree as Tree
+use Rattle.c_tree.specs.Tree.{Items, constant, name, index, unary, binary, conditional, call, plain, called, assign, assign_at, call_statement, empty, block}
+use Rattle.c_tree.specs.Tree.{if_then, if_then_else, while_loop, for_loop, break_at, continue_at, return_at, simply, declare, statement, no_items, more_items}
+use Rattle.c_tree.specs.Tree.{variable, array, function}
 
 abbrev pub expression_of : Expression → Tree.Expression
 expression_of (Constant k) = constant k

@@ -4,10 +4,10 @@ use Rattle.c_tokens.specs.declared.token.Identifier.{Identifier}
 use Rattle.c_tokens.specs.declared.token.IntegerType.{IntegerType}
 use Rattle.c_tokens.specs.declared.token.Literal.{Literal}
 use Rattle.words.specs.declared.width.Width.{Width}
-use Rattle.c_front.specs.declared.tree.UnaryOp.{UnaryOp}
-use Rattle.c_front.specs.declared.tree.BinaryOp.{BinaryOp}
-use Rattle.c_front.specs.declared.tree.Initial.{Initial}
-use Rattle.c_front.specs.declared.tree.Parameter.{Parameter}
+use Rattle.c_tree.specs.declared.tree.UnaryOp.{UnaryOp}
+use Rattle.c_tree.specs.declared.tree.BinaryOp.{BinaryOp}
+use Rattle.c_tree.specs.declared.tree.Initial.{Initial}
+use Rattle.c_tree.specs.declared.tree.Parameter.{Parameter}
 
 pub data Expression : Type 0 where
   constant : Literal → Expression

@@ -1,3 +1,8 @@
+// The syntax tree of a program, as C99 6.5 to 6.9 name its parts.
+
+ghost use Rattle.std.specs.Prelude.{◌≡◌};
+ghost use Rattle.c_tree.specs.Texts.{spelling_of};
+
 use c_tokens::{Identifier, IntegerType, Literal};
 use words::Width;
 
@@ -135,4 +140,23 @@ pub enum Declaration {
 pub struct Program {
     pub declarations: Vec<Declaration>,
     pub text: Vec<u8>,
+}
+
+impl Program {
+    /// The bytes of a name in the program's text.
+    pub fn spelling(&self, name: Identifier) -> &[u8]
+        ensures { result.now ≡ spelling_of self.now.text.items name.at name.length }
+    {
+        let text = self.text.as_slice();
+        let after = if name.at < text.len() {
+            &text[name.at..]
+        } else {
+            &text[text.len()..]
+        };
+        if name.length < after.len() {
+            &after[..name.length]
+        } else {
+            after
+        }
+    }
 }
