@@ -1,7 +1,7 @@
-// What any part of a program is read with: the mark after it, a box for it, and its place in a list.
+// What any part of a program is read with: the mark after it, a box for it, the part before it, and its place in a list.
 
-ghost use Rattle.std.specs.Prelude.{◌≡◌, IfOk, IfErr, Ok};
-ghost use Rattle.c_front.specs.Ends.{IsEnded, IsPushed, IsUnended, StopsAs};
+ghost use Rattle.std.specs.Prelude.{◌≡◌, IfOk, IfErr, Ok, Err};
+ghost use Rattle.c_front.specs.Ends.{IsEnded, IsJoined, IsPushed, IsUnended, StopsAs};
 
 use crate::cursor::{ParseStop, Parsed, expect};
 use c_tokens::{Mark, Token};
@@ -24,6 +24,15 @@ pub fn boxed<'a, T: Drop>(alloc: Global, parsed: Parsed<'a, T>) -> Parsed<'a, Bo
 {
     let (part, end) = parsed?;
     Ok((Box::new(alloc, part)?, end))
+}
+
+/// The part, with the one before it.
+pub fn joined<'a, S: Drop, T: Drop>(before: S, parsed: Parsed<'a, T>) -> Parsed<'a, (S, T)>
+    ensures ok { IfOk result (IsJoined before parsed.entry) }
+    ensures err { IfErr result (λ s. parsed.entry ≡ Err s) }
+{
+    let (part, end) = parsed?;
+    Ok(((before, part), end))
 }
 
 /// The part at the end of a list, and the tokens after it.

@@ -10,7 +10,7 @@ ghost use Rattle.c_tokens.specs.declared.token.Mark.TheVariants.{While, For, Sem
 
 use crate::cursor::{ParseStop, Parsed, expect, first_name, name, split, starts};
 use crate::expression::{arguments, closed, expression, value};
-use crate::part::{boxed, ended, pushed};
+use crate::part::{boxed, ended, joined, pushed};
 use c_tokens::{IntegerType, JumpWord, Mark, Token};
 use c_tree::{Call, Expression, ForParts, Item, Simple, Statement, Value};
 use std::alloc::{AllocError, AllocFailed, Global};
@@ -110,8 +110,9 @@ fn for_parts<'a>(alloc: Global, tokens: &'a [Token]) -> Parsed<'a, ForParts>
 {
     let open = expect(tokens, Mark::LeftParen)?;
     let (first, second) = ended_simple(alloc, open, Mark::Semicolon)?;
-    let (test, third) = ended_expression(alloc, second)?;
-    let (last, end) = ended_simple(alloc, third, Mark::RightParen)?;
+    let (parts, third) = joined(first, ended_expression(alloc, second))?;
+    let (parts, end) = joined(parts, ended_simple(alloc, third, Mark::RightParen))?;
+    let ((first, test), last) = parts;
     Ok((ForParts { first, test, last }, end))
 }
 
