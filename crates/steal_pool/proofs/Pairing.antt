@@ -1,5 +1,5 @@
 -- Deques and ways are paired, a member a step. The ways of the first place stand last.
-use Rattle.std.proofs.Common.{◌≡◌, ◌≢◌, ℕ, zero, suc, ◌+◌, ◌%◌, ◌<◌, List, [], ◌∷◌, ◌++◌, All, Some, Vec, length, length-append, map, slice_get, sym, ap, refl, ◌∙◌, subst, append_assoc, append-nil, mod-eq_of_lt, arith}
+use Rattle.std.proofs.Common.{◌≡◌, ◌≢◌, ℕ, zero, suc, ◌+◌, ◌%◌, ◌<◌, ◌≤◌, List, [], ◌∷◌, ◌++◌, All, Some, Vec, length, length-append, map, slice_get, sym, ap, refl, ◌∙◌, subst, append_assoc, append-nil, mod-eq_of_lt, arith}
 use Rattle.std.proofs.lemmas.Bool.Decides.{nat_tests}
 use Rattle.std.proofs.lemmas.List.{map-append}
 use Rattle.std.proofs.lemmas.Option.{slice_get_within, slice_get-get_or}
@@ -50,7 +50,7 @@ module _ {K : Type 0} where
     pub len : length ms + length rest ≡ count
     pub left : length ways ≡ length rest
     pub filled : (k : ℕ) (d : Own K) → slice_get rest k ≡ Some d → IsFilled count n (length ms + k) d
-    pub to : (k w : ℕ) (v : Vec (Victim K) Global) → slice_get ways k ≡ Some v → k + w + 1 ≡ count → AreVictims (all_deques ms rest) w v.items
+    pub to : (k w : ℕ) (v : Vec (Victim K) Global) → slice_get ways k ≡ Some v → k + w + 1 ≡ count → AreVictims n (all_deques ms rest) w v.items
     pub each : (w : ℕ) (m : Member K) → slice_get ms w ≡ Some m → StartsAt count n (all_deques ms rest) w m
 
   pub paired : (count n : ℕ) (ms : List (Member K)) (d : Own K) (rest : List (Own K)) (ways : List (Vec (Victim K) Global)) (v : Vec (Victim K) Global)
@@ -64,19 +64,19 @@ module _ {K : Type 0} where
       let longer : length (ways ++ v ∷ []) ≡ length ways + 1 = length-append ways (v ∷ []) in
       let here = was.filled zero d refl in
       let at : length ways + length ms + 1 ≡ count = omega (arith, was.len, was.left, longer) in
-      let way : AreVictims ds (length ms) v.items = was.to (length ways) (length ms) v (slice_last ways v) at in
-      let mine : StartsAt count n ds (length ms) new = record { member = (here.0, way.victims); share = subst (λ w. Begins w count n (worker_view d)) (omega arith) here.1; ways = way } in
+      let way : AreVictims n ds (length ms) v.items = was.to (length ways) (length ms) v (slice_last ways v) at in
+      let mine : StartsAt count n ds (length ms) new = record { member = (here.0, way.victims, refl); share = subst (λ w. Begins w count n (worker_view d)) (omega arith) here.1; ways = way } in
       record {
         len = omega (arith, was.len, long);
         left = omega (arith, was.left, longer);
         filled = λ k e at. subst (λ w. IsFilled count n w e) (omega (arith, long)) (was.filled (suc k) e at);
-        to = λ k w u at is. subst (λ l. AreVictims l w u.items) (sym same) (was.to k w u (slice_left ways (v ∷ []) k u at) is);
+        to = λ k w u at is. subst (λ l. AreVictims n l w u.items) (sym same) (was.to k w u (slice_left ways (v ∷ []) k u at) is);
         each = λ w m at. subst (λ l. StartsAt count n l w m) (sym same) (each_more (StartsAt count n ds) ms new was.each mine w m at);
       }
 
   pub begun : (count n : ℕ) (rest : List (Own K)) (ways : List (Vec (Victim K) Global)) → length rest ≡ count → length ways ≡ count
       → ((k : ℕ) (d : Own K) → slice_get rest k ≡ Some d → IsFilled count n k d)
-      → ((k w : ℕ) (v : Vec (Victim K) Global) → slice_get ways k ≡ Some v → k + w + 1 ≡ count → AreVictims (map (λ d. worker_deque d) rest) w v.items)
+      → ((k w : ℕ) (v : Vec (Victim K) Global) → slice_get ways k ≡ Some v → k + w + 1 ≡ count → AreVictims n (map (λ d. worker_deque d) rest) w v.items)
       → Pairs count n [] rest ways
   begun count n rest ways len left filled to = record {
     len = omega (arith, len);
@@ -86,14 +86,14 @@ module _ {K : Type 0} where
     each = λ w m at. absurd (cc at);
   }
 
-  pub done : (count n : ℕ) (ms : List (Member K)) (ways : List (Vec (Victim K) Global)) → Pairs count n ms [] ways → Start count n ms
-  done count n ms ways was =
+  pub done : (count n : ℕ) (ms : List (Member K)) (ways : List (Vec (Victim K) Global)) → count ≤ n → Pairs count n ms [] ways → Start count n ms
+  done count n ms ways few was =
       let same : all_deques ms [] ≡ own_deques ms = append-nil (own_deques ms) in
       let len : length ms ≡ count = omega (arith, was.len) in
       record {
         len = len;
         each = λ w m at. subst (λ l. StartsAt count n l w m) same (was.each w m at);
-        apart = λ i j a b at at' other more.
+        apart = λ i j a b at at' other.
             let below : i < count = subst (λ c. i < c) len (slice_get_within ms i a at) in
-            shares_apart count n i j (worker_view a.own) (worker_view b.own) below more other (was.each i a at).share (was.each j b at').share;
+            shares_apart count n i j (worker_view a.own) (worker_view b.own) below (omega (arith, below, few)) other (was.each i a at).share (was.each j b at').share;
       }

@@ -1,12 +1,12 @@
 -- A share as the tasks are gone through.
-use Rattle.std.proofs.Common.{◌≡◌, ◌≢◌, ℕ, zero, suc, ◌+◌, ◌%◌, ◌<◌, cond, eqb, List, [], ◌∷◌, ◌++◌, refl, sym, ap, ◌∙◌, subst, Some, slice_get, length, arith, inl, inr, ⊎_elim, ◌⊎◌}
+use Rattle.std.proofs.Common.{◌≡◌, ◌≢◌, ℕ, zero, suc, ◌+◌, ◌%◌, ◌<◌, ◌≤◌, cond, eqb, List, [], ◌∷◌, ◌++◌, refl, sym, ap, ◌∙◌, subst, Some, slice_get, length, set, mod-eq_of_lt, arith, inl, inr, ⊎_elim, ◌⊎◌}
 use Rattle.std.proofs.lemmas.Option.{slice_get_within}
 use Rattle.std.proofs.lemmas.Bool.Decides.{nat_tests}
 use Rattle.std.proofs.lemmas.List.Sums.{sum_by-append}
 use Rattle.steal_pool.specs.Rule.{times}
 use Rattle.steal_pool.specs.declared.view.View.{View}
-use Rattle.steal_pool.specs.Rule.{after_putting}
-use Rattle.steal_pool.specs.Shares.{IsShare, IsAscending, Begins}
+use Rattle.steal_pool.specs.Rule.{after_putting, shared}
+use Rattle.steal_pool.specs.Shares.{IsShare, IsAscending, Begins, Visits}
 
 pub share_more : (w count n : ℕ) (xs : List ℕ) → n % count ≡ w → IsShare w count n xs → IsShare w count (n + 1) (xs ++ n ∷ [])
 share_more w count n xs is h x =
@@ -65,3 +65,39 @@ begins_more w count n v u e is h =
 pub begins_same : (w count n : ℕ) (v : View) → n % count ≢ w → Filling w count n v → Filling w count (n + 1) v
 begins_same w count n v not h =
     let was = h.0 in ((was.0, share_same w count n v.put not was.1, was.2, was.3), λ k x at. let low = h.1 k x at in omega (arith, low))
+
+-- the pass that is made of another knows its share
+pub visits : (w count n : ℕ) (v : View) → Begins w count n v → Visits w count n (shared v)
+visits w count n v h = (refl, h.1, refl, h.3)
+
+-- two places have no share in common
+pub shares_differ : (count n i j : ℕ) (xs ys : List ℕ) → i < count → count ≤ n → i ≢ j → IsShare i count n xs → IsShare j count n ys → xs ≢ ys
+shares_differ count n i j xs ys below few other a b same =
+    let same_times : times i xs ≡ times i ys = ap (times i) same in
+    let mine = a i in
+    let theirs = b i in
+    let low : i < n = omega (arith, below, few) in
+    let is : i % count ≡ i = mod-eq_of_lt below in
+    grind (arith, nat_tests)
+
+-- what holds of what was put, at each place, holds after a pass took something
+pub put_kept : (P : ℕ → List ℕ → Type 0) (views : List View) (k : ℕ) (v w : View) → slice_get views k ≡ Some v → w.put ≡ v.put
+    → ((j : ℕ) (u : View) → slice_get views j ≡ Some u → P j u.put) → (j : ℕ) (u : View) → slice_get (set views k w) j ≡ Some u → P j u.put
+put_kept P [] k v w at same before j u e = before j u e
+put_kept P (x ∷ xs) zero v w at same before zero u e =
+    let new : w ≡ u = cc e in
+    let old : x ≡ v = cc at in
+    let is : x.put ≡ u.put = ap (λ (y : View). y.put) old ∙ (sym same ∙ ap (λ (y : View). y.put) new) in
+    subst (P zero) is (before zero x refl)
+put_kept P (x ∷ xs) zero v w at same before (suc j) u e = before (suc j) u e
+put_kept P (x ∷ xs) (suc k) v w at same before zero u e = before zero u e
+put_kept P (x ∷ xs) (suc k) v w at same before (suc j) u e = put_kept (λ i. P (suc i)) xs k v w at same (λ i y f. before (suc i) y f) j u e
+
+-- what holds of each element and its place holds after one changed
+pub each_set : {X : Type 0} (R : ℕ → X → Type 0) (xs : List X) (k : ℕ) (y : X) → R k y → ((j : ℕ) (x : X) → slice_get xs j ≡ Some x → R j x)
+    → (j : ℕ) (x : X) → slice_get (set xs k y) j ≡ Some x → R j x
+each_set R [] k y mine before j x e = before j x e
+each_set R (z ∷ zs) zero y mine before zero x e = let new : y ≡ x = cc e in subst (R zero) new mine
+each_set R (z ∷ zs) zero y mine before (suc j) x e = before (suc j) x e
+each_set R (z ∷ zs) (suc k) y mine before zero x e = before zero x e
+each_set R (z ∷ zs) (suc k) y mine before (suc j) x e = each_set (λ i. R (suc i)) zs k y mine (λ i u f. before (suc i) u f) j x e

@@ -1,13 +1,13 @@
 -- Each step keeps the rule of a deque of tasks.
-use Rattle.std.proofs.Common.{◌≡◌, ◌≢◌, ℕ, zero, suc, ◌+◌, true, List, [], ◌∷◌, ◌++◌, set, sym, refl, ap, ◌∙◌, subst, ⊎_elim, arith}
+use Rattle.std.proofs.Common.{◌≡◌, ◌≢◌, ℕ, zero, suc, ◌+◌, true, List, [], ◌∷◌, ◌++◌, set, sym, refl, ap, ◌∙◌, subst, ⊎_elim, append-nil, append_assoc, arith}
 use Rattle.std.specs.List.{sum_by}
 use Rattle.std.proofs.lemmas.List.Sums.{sum_by-cons, sum_by-append, sum_by_push}
 use mathlib.Core.Option.{some, some-ne-none}
 use lib.ListN.{get_elem?}
-use Rattle.crossbeam_deque.specs.Tasks.{Pushes, Takes, Admits, Finds, FindsFew}
-use Rattle.crossbeam_deque.proofs.Lists.{at_set, at_snoc}
+use Rattle.crossbeam_deque.specs.Tasks.{Pushes, Takes, Forks, Finds, FindsFew}
+use Rattle.crossbeam_deque.proofs.Lists.{at_set, at_snoc, set_again}
 use Rattle.steal_pool.specs.declared.view.View.{View}
-use Rattle.steal_pool.specs.Rule.{times, maker, guest, after_putting, after_taking, Dealt, KeptByPutting, KeptByTaking, KeptByGuests, Notes, all_taken}
+use Rattle.steal_pool.specs.Rule.{times, maker, shared, after_putting, after_taking, Dealt, KeptByPutting, KeptByTaking, KeptBySharing, Notes, all_taken}
 
 -- the sum over the passes after a change of one
 pub sum_set : (f : View → ℕ) (views : List View) (port : ℕ) (v w : View) → get_elem? views port ≡ some v → sum_by f (set views port w) + f v ≡ sum_by f views + f w
@@ -31,6 +31,10 @@ at_end l a b j not at = ⊎_elim (λ x. absurd (not x)) (λ (is : a ≡ b). is) 
 abbrev pub Knows : List ℕ → ℕ → View → Type 0
 Knows put port v = v.puts ≡ true → (port ≡ 0) × (v.put ≡ put)
 
+-- each pass knows what was put first
+abbrev pub Start : List ℕ → List ℕ → Type 0
+Start put xs = (rest : List ℕ) × (xs ++ rest ≡ put)
+
 pub begins : Dealt [] (maker ∷ [])
 begins = (
   [],
@@ -40,6 +44,11 @@ begins = (
         | zero ↦ (λ is may. let e : maker ≡ v = cc is in (refl, ap (λ (u : View). u.put) (sym e)))
         | suc p ↦ (λ is may. absurd (some-ne-none v (sym is)))
       ] at,
+  λ port v at.
+      elim port as (λ p. get_elem? (maker ∷ []) p ≡ some v → Start [] v.put) [
+        | zero ↦ (λ is. let e : maker ≡ v = cc is in ([], ap (λ (u : View). u.put ++ []) (sym e)))
+        | suc p ↦ (λ is. absurd (some-ne-none v (sym is)))
+      ] at,
 )
 
 known_set : (put put' : List ℕ) (views : List View) (port : ℕ) (w : View) → Knows put' port w → ((j : ℕ) (u : View) → j ≢ port → get_elem? views j ≡ some u → Knows put' j u)
@@ -47,6 +56,15 @@ known_set : (put put' : List ℕ) (views : List View) (port : ℕ) (w : View) �
 known_set put put' views port w mine others j u e =
     ⊎_elim (λ (x : (j ≡ port) × (w ≡ u)). subst (λ (y : ℕ × View). Knows put' y.0 y.1) (λ i. (sym x.0 i, x.1 i)) mine)
     (λ (x : (j ≢ port) × (get_elem? views j ≡ some u)). others j u x.0 x.1) (at_set views port j w u e)
+
+-- of each view after a change of one
+seen_set : (P : View → Type 0) (views : List View) (port : ℕ) (w : View) → P w → ((j : ℕ) (u : View) → get_elem? views j ≡ some u → P u)
+    → (j : ℕ) (u : View) → get_elem? (set views port w) j ≡ some u → P u
+seen_set P views port w mine others j u e =
+    ⊎_elim (λ (x : (j ≡ port) × (w ≡ u)). subst P x.1 mine) (λ (x : (j ≢ port) × (get_elem? views j ≡ some u)). others j u x.1) (at_set views port j w u e)
+
+longer : (put xs : List ℕ) (more : List ℕ) → Start put xs → Start (put ++ more) xs
+longer put xs more (rest, is) = (rest ++ more, sym (append_assoc xs rest more) ∙ ap (λ l. l ++ more) is)
 
 pub dealt_takes : KeptByTaking Dealt
 dealt_takes xs items views port v h at =
@@ -60,6 +78,7 @@ dealt_takes xs items views port v h at =
           let d = h.1 x in
           omega arith),
       known_set put put views port w (h.2 port v at) (λ j u other e. h.2 j u e),
+      seen_set (λ u. Start put u.put) views port w (h.3 port v at) h.3,
     )
 
 pub dealt_puts : KeptByPutting Dealt
@@ -75,10 +94,11 @@ dealt_puts xs items views port v h at may =
           let d = h.1 x in
           omega arith),
       known_set h.0 put views port w (λ _. (mine.0, ap (λ l. l ++ xs) mine.1)) (λ j u other e p. absurd (other ((h.2 j u e p).0 ∙ sym mine.0))),
+      seen_set (λ u. Start put u.put) views port w ([], append-nil (v.put ++ xs) ∙ ap (λ l. l ++ xs) mine.1) (λ j u e. longer h.0 u.put xs (h.3 j u e)),
     )
 
-pub dealt_guests : KeptByGuests Dealt
-dealt_guests items views h = (
+pub dealt_shares : KeptBySharing Dealt
+dealt_shares items views port v h at = let guest = shared v in (
   h.0,
   (λ x.
       let f : View → ℕ = λ u. times x u.taken in
@@ -86,6 +106,7 @@ dealt_guests items views h = (
       let d = h.1 x in
       omega arith),
   λ j u e p. ⊎_elim (λ x. h.2 j u x p) (λ (is : guest ≡ u). absurd (cc (p, ap (λ (y : View). y.puts) is))) (at_snoc views guest u j e),
+  λ j u e. ⊎_elim (λ x. h.3 j u x) (λ (is : guest ≡ u). subst (λ (y : View). Start h.0 y.put) is (h.3 port v at)) (at_snoc views guest u j e),
 )
 
 pub dealt_notes : Notes Dealt all_taken
@@ -109,8 +130,9 @@ module _ (real : List ℕ → List View → Type 0) where
   pub puts : KeptByPutting real → (port : ℕ) (v : View) (xs : List ℕ) → v.puts ≡ true → Pushes Holds port v xs (λ w. w ≡ after_putting v xs)
   puts keeps port v xs may items views h at = (after_putting v xs, (dealt_puts xs items views port v h.0 at may, keeps xs items views port v h.1 at may), refl)
 
-  pub admits : KeptByGuests real → Admits Holds guest
-  admits keeps items views h = (dealt_guests items views h.0, keeps items views h.1)
+  pub forks : KeptBySharing real → (port : ℕ) (v : View) → Forks Holds port v v (shared v)
+  forks keeps port v items views h at =
+      subst (λ l. Holds items (l ++ shared v ∷ [])) (sym (set_again views port v at)) (dealt_shares items views port v h.0 at, keeps items views port v h.1 at)
 
   pub finds : (empty : View → Type 0) → Notes real empty → (port : ℕ) (v : View) → Finds Holds port v (empty v)
   finds empty notes port v views h at = notes views port v h.1 at

@@ -8,8 +8,9 @@ use Rattle.atomic_blocks.specs.Lent.{RowsId}
 use Rattle.steal_pool.specs.Victims.{IsVictim}
 
 module _ {K : Type 0} where
+  -- each way is one of a deque that is first in, first out, and the member has no other part
   abbrev pub IsMember : Member K → Type 0
-  IsMember m = (worker_flavor m.own ≡ 0) × All IsVictim m.others.items
+  IsMember m = (worker_flavor m.own ≡ 0) × All IsVictim m.others.items × (m ≡ record { own = m.own; others = m.others })
 
   abbrev pub views_of : Member K → List View
   views_of m = worker_view m.own ∷ map (λ l. view l.pass) m.others.items

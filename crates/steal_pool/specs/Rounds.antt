@@ -1,11 +1,12 @@
 -- The turn of a member: each deque of the pool, its own first.
-use Rattle.std.specs.Prelude.{◌≡◌, ℕ, ◌+◌, ◌%◌, ◌<◌, List, Some, length, slice_get}
+use Rattle.std.specs.Prelude.{◌≡◌, ℕ, ◌+◌, ◌%◌, ◌<◌, ◌≤◌, List, Some, length, slice_get}
 use Rattle.std.specs.List.{sum_by}
 use Rattle.std.specs.declared.alloc.Global.{Global}
 use Rattle.atomic_blocks.specs.Lent.{RowsId}
 use Rattle.steal_pool.specs.declared.view.View.{View}
 use Rattle.steal_pool.specs.declared.member.Member.{Member}
 use Rattle.steal_pool.specs.Rule.{times}
+use Rattle.steal_pool.specs.Shares.{IsShare}
 use Rattle.steal_pool.specs.Members.{deques_of, views_of}
 
 -- how often the passes with these views took x
@@ -13,13 +14,17 @@ abbrev pub times_taken : ℕ → List View → ℕ
 times_taken x views = sum_by (λ (v : View). times x v.taken) views
 
 module _ {K : Type 0} where
-  -- the member takes from all of these deques and no others, first from the one at place w
-  pub record GoesRound (deques : List (RowsId × Global)) (w : ℕ) (m : Member K) : Type 0 where
+  -- The member takes from all of these deques and no others, first from the one at place w. Each of its passes knows that
+  -- the share of its place was put there; each place has a share of its own, so no two passes know the same
+  pub record GoesRound (n : ℕ) (deques : List (RowsId × Global)) (w : ℕ) (m : Member K) : Type 0 where
     pub place : w < length deques
+    pub tasks : length deques ≤ n
     pub all : length (deques_of m) ≡ length deques
     pub turn : (k : ℕ) → k < length deques → slice_get (deques_of m) k ≡ slice_get deques ((w + k) % length deques)
+    pub shares : (k : ℕ) (v : View) → slice_get (views_of m) k ≡ Some v → IsShare ((w + k) % length deques) (length deques) n v.put
 
-  -- of the deque of each place, the member at place w has a view of its own of which it is noted that the deque was empty
-  abbrev pub FoundEmpty : (View → Type 0) → List (RowsId × Global) → ℕ → Member K → Type 0
-  FoundEmpty empty deques w m =
-      (j : ℕ) (q : RowsId × Global) → slice_get deques j ≡ Some q → (k : ℕ) × (v : View) × ((w + k) % length deques ≡ j) × (slice_get (deques_of m) k ≡ Some q) × (slice_get (views_of m) k ≡ Some v) × empty v
+  -- of the deque of each place, the member at place w has a view, which knows the share of that place, and of which it is
+  -- noted that the deque was empty
+  abbrev pub FoundEmpty : (View → Type 0) → ℕ → List (RowsId × Global) → ℕ → Member K → Type 0
+  FoundEmpty empty n deques w m =
+      (j : ℕ) (q : RowsId × Global) → slice_get deques j ≡ Some q → (k : ℕ) × (v : View) × ((w + k) % length deques ≡ j) × (slice_get (deques_of m) k ≡ Some q) × (slice_get (views_of m) k ≡ Some v) × IsShare j (length deques) n v.put × empty v

@@ -10,10 +10,10 @@ use Rattle.steal_pool.specs.declared.view.View.{View}
 use Rattle.steal_pool.specs.declared.rule.Shared.{Shared}
 use Rattle.steal_pool.specs.declared.victim.Victim.{Victim}
 use Rattle.steal_pool.specs.declared.member.Member.{Member}
-use Rattle.steal_pool.specs.Rule.{guest, Dealt}
+use Rattle.steal_pool.specs.Rule.{Dealt}
 use Rattle.steal_pool.specs.Victims.{IsVictim}
 use Rattle.steal_pool.specs.Members.{IsMember}
-use Rattle.steal_pool.specs.Shares.{Begins}
+use Rattle.steal_pool.specs.Shares.{Begins, Visits}
 
 -- no deque has both of these views
 abbrev pub Apart : View → View → Type 0
@@ -24,13 +24,16 @@ module _ {K : Type 0} where
   abbrev pub IsFilled : ℕ → ℕ → ℕ → Worker ℕ Global View (Shared K) → Type 0
   IsFilled count n w d = (worker_flavor d ≡ 0) × Begins w count n (worker_view d)
 
+  abbrev pub AreFilled : ℕ → ℕ → List (Worker ℕ Global View (Shared K)) → Type 0
+  AreFilled count n ds = (k : ℕ) (d : Worker ℕ Global View (Shared K)) → slice_get ds k ≡ Some d → IsFilled count n k d
+
   abbrev pub own_deques : List (Member K) → List (RowsId × Global)
   own_deques ms = map (λ m. worker_deque m.own) ms
 
-  -- ways from place w to the deques of all other places, the next place first
-  pub record AreVictims (deques : List (RowsId × Global)) (w : ℕ) (ways : List (Victim K)) : Type 0 where
+  -- ways from place w to the deques of all other places, the next place first. Each knows the share of its deque's place
+  pub record AreVictims (n : ℕ) (deques : List (RowsId × Global)) (w : ℕ) (ways : List (Victim K)) : Type 0 where
     pub victims : All IsVictim ways
-    pub guests : All (λ l. view l.pass ≡ guest) ways
+    pub visits : (k : ℕ) (l : Victim K) → slice_get ways k ≡ Some l → Visits ((w + 1 + k) % length deques) (length deques) n (view l.pass)
     pub others : length ways + 1 ≡ length deques
     pub turn : (k : ℕ) (l : Victim K) → slice_get ways k ≡ Some l → slice_get deques ((w + 1 + k) % length deques) ≡ Some (stealer_deque l.stealer)
 
@@ -38,10 +41,10 @@ module _ {K : Type 0} where
   pub record StartsAt (count n : ℕ) (deques : List (RowsId × Global)) (w : ℕ) (m : Member K) : Type 0 where
     pub member : IsMember m
     pub share : Begins w count n (worker_view m.own)
-    pub ways : AreVictims deques w m.others.items
+    pub ways : AreVictims n deques w m.others.items
 
   pub record Start (count n : ℕ) (ms : List (Member K)) : Type 0 where
     pub len : length ms ≡ count
     pub each : (w : ℕ) (m : Member K) → slice_get ms w ≡ Some m → StartsAt count n (own_deques ms) w m
-    -- two of the deques are never one, unless no task was put on either
-    pub apart : (i j : ℕ) (a b : Member K) → slice_get ms i ≡ Some a → slice_get ms j ≡ Some b → i ≢ j → i < n → Apart (worker_view a.own) (worker_view b.own)
+    -- two of the deques are never one
+    pub apart : (i j : ℕ) (a b : Member K) → slice_get ms i ≡ Some a → slice_get ms j ≡ Some b → i ≢ j → Apart (worker_view a.own) (worker_view b.own)

@@ -1,12 +1,12 @@
 //! The deques at the start.
-ghost use Rattle.std.specs.Prelude.{◌≡◌, ◌<◌, ◌≤◌, [], ◌∷◌, All, IfOk, OnOk, true, map, length};
+ghost use Rattle.std.specs.Prelude.{◌≡◌, ◌<◌, ◌≤◌, [], ◌∷◌, All, IfOk, OnOk, true, map, length, ℕ, Some, slice_get, vec_len};
 ghost use Rattle.crossbeam_deque.specs.Handles.{view, worker_view, worker_flavor, worker_deque, stealer_deque};
-ghost use Rattle.steal_pool.specs.Rule.{maker, guest, after_putting, KeptByPutting, KeptByGuests};
+ghost use Rattle.steal_pool.specs.Rule.{maker, shared, after_putting, KeptByPutting, KeptBySharing};
 ghost use Rattle.steal_pool.specs.Victims.{IsVictim};
 ghost use Rattle.steal_pool.specs.Shares.{Begins};
-ghost use Rattle.steal_pool.specs.Starts.{AreVictims};
+ghost use Rattle.steal_pool.specs.Starts.{AreVictims, AreFilled};
 
-use crate::rule::{Fact, Puts, Shared};
+use crate::rule::{Fact, Puts, Shared, Shares};
 use crate::victim::Victim;
 use crate::view::View;
 use crossbeam_deque::Worker;
@@ -55,32 +55,36 @@ fn put<K: Fact>(
 // The ways of member w to the others, the next one first.
 pub(crate) fn victims_of<K: Fact>(
     alloc: Global,
-    workers: &[Worker<usize, Global, View, Shared<K>>],
+    workers: &mut Vec<Worker<usize, Global, View, Shared<K>>>,
     w: usize,
+    n: usize,
 ) -> Result<Vec<Victim<K>>, AllocError>
-    requires count { (w < length workers.now) × (length workers.now ≤ 64) }
-    requires fifo { All (λ d. worker_flavor d ≡ 0) workers.now }
-    requires guests { KeptByGuests K.real }
-    ensures ways { IfOk result (λ v. AreVictims (map (λ d. worker_deque d) workers.now) w v.items) }
+    requires count { (w < vec_len workers.old) × (vec_len workers.old ≤ 64) }
+    requires filled { AreFilled (vec_len workers.old) n workers.old.items }
+    requires shares { KeptBySharing K.real }
+    ensures same { OnOk result ((vec_len workers.new ≡ vec_len workers.old) × (map (λ d. worker_deque d) workers.new.items ≡ map (λ d. worker_deque d) workers.old.items)) }
+    ensures filled { OnOk result (AreFilled (vec_len workers.old) n workers.new.items) }
+    ensures ways { IfOk result (λ v. AreVictims n (map (λ d. worker_deque d) workers.old.items) w v.items) }
 {
     let mut victims = Vec::new(alloc);
     for step in 1..workers.len() {
         let at = (w + step) % workers.len();
-        let victim = victim_to(&workers[at])?;
+        let victim = victim_to(&mut workers[at])?;
         victims.push(victim)?;
     }
     Ok(victims)
 }
 
 fn victim_to<K: Fact>(
-    worker: &Worker<usize, Global, View, Shared<K>>,
+    worker: &mut Worker<usize, Global, View, Shared<K>>,
 ) -> Result<Victim<K>, AllocError>
-    requires fifo { worker_flavor worker.now ≡ 0 }
-    requires guests { KeptByGuests K.real }
-    ensures victim { IfOk result (λ l. IsVictim l × (view l.pass ≡ guest)) }
-    ensures deque { IfOk result (λ l. stealer_deque l.stealer ≡ worker_deque worker.now) }
+    requires fifo { worker_flavor worker.old ≡ 0 }
+    requires shares { KeptBySharing K.real }
+    ensures same { (worker_deque worker.new ≡ worker_deque worker.old) × (worker_flavor worker.new ≡ worker_flavor worker.old) × (worker_view worker.new ≡ worker_view worker.old) }
+    ensures victim { IfOk result (λ l. IsVictim l × (view l.pass ≡ shared (worker_view worker.old))) }
+    ensures deque { IfOk result (λ l. stealer_deque l.stealer ≡ worker_deque worker.old) }
 {
     let stealer = worker.stealer()?;
-    let pass = stealer.pass();
+    let pass = worker.another::<Shares>();
     Ok(Victim { stealer, pass })
 }

@@ -1,7 +1,12 @@
-ghost use Rattle.steal_pool.specs.Laws.{EachDequeKeepsItsTasks};
+ghost use Rattle.steal_pool.specs.Laws.{EachDequeKeepsItsTasks, ViewsTellPlaces};
 
 /// The rule of a deque is itself a fact that its steps carry on, and of a deque that was found empty it tells that each
 /// task was taken. A law: it computes nothing.
 pub fn each_deque_keeps_its_tasks()
     ensures { EachDequeKeepsItsTasks }
+{}
+
+/// What is noted of the view of one place's pass says nothing of another's: the two views differ. A law: it computes nothing.
+pub fn views_tell_places()
+    ensures { ViewsTellPlaces }
 {}

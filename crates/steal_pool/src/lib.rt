@@ -6,7 +6,8 @@
 //!
 //! Beneath it are `members` and `Member::take`. `members` puts each task below n on one deque, once (`Start` of
 //! `specs/Starts.antt`). `take` gives a task of its own deque, or steals one from the others in turn, and its None says
-//! that each deque was found empty (`FoundEmpty` of `specs/Rounds.antt`). The rule of a deque (`Dealt` of
+//! that each deque was found empty (`FoundEmpty` of `specs/Rounds.antt`). Each pass knows the tasks that were put on its
+//! deque, so what is noted of one says nothing of another (`ViewsTellPlaces` of `specs/Laws.antt`). The rule of a deque (`Dealt` of
 //! `specs/Rule.antt`): what is left on it and what the members took of it is together what `members` put there. The idea
 //! of the deques is Blumofe and Leiserson's (Scheduling Multithreaded Computations by Work Stealing, 1999).
 #![tactic(auto)]
@@ -24,7 +25,7 @@ mod victim;
 mod view;
 
 pub use job::{Gate, Job, Open};
-pub use laws::each_deque_keeps_its_tasks;
+pub use laws::{each_deque_keeps_its_tasks, views_tell_places};
 pub use member::Member;
 pub use pool::run;
 pub use rule::{Fact, Note};

@@ -33,7 +33,7 @@ impl<K: Fact> Member<K> {
         ensures member { IsMember self.new }
         ensures same { deques_of self.new ≡ deques_of self.old }
         ensures taken { MatchOption result ((views_of self.new ≡ views_of self.old) × All N.empty (views_of self.old)) (λ i. TookOne i (views_of self.old) (views_of self.new)) }
-        ensures round { (deques : List (RowsId × Global)) (w : ℕ) → GoesRound deques w self.old → GoesRound deques w self.new × MatchOption result (FoundEmpty N.empty deques w self.old) (λ _. ⊤) }
+        ensures round { (n : ℕ) (deques : List (RowsId × Global)) (w : ℕ) → GoesRound n deques w self.old → GoesRound n deques w self.new × MatchOption result (FoundEmpty N.empty n deques w self.old) (λ _. ⊤) }
     {
         if let Some(i) = self.own.pop_as::<Takes<N>>() {
             return Some(i);

@@ -22,9 +22,10 @@ pub(crate) struct Station<O> {
     pub(crate) done: Vec<(usize, O)>,
 }
 
-/// The answers of the tasks below n, each at the place of its task, with a worker for each pass. A place without one is a
-/// task that was missed: memory or a worker's start was refused. There are fewer places than n only where memory for
-/// them was refused. The gate is told of each task just before it begins, by the worker that does it.
+/// The answers of the tasks below n, each at the place of its task, with a worker for each pass, but no more workers than
+/// tasks. A place without an answer is a task that was missed: memory or a worker's start was refused. There are fewer
+/// places than n only where memory for them was refused. The gate is told of each task just before it begins, by the worker
+/// that does it.
 pub fn run<R: Threads + Wait + Sync, J: Job + Sync, G: Gate + Sync>(
     rt: &R,
     alloc: Global,
@@ -38,8 +39,11 @@ pub fn run<R: Threads + Wait + Sync, J: Job + Sync, G: Gate + Sync>(
     ensures len { vec_len result ≤ n }
     ensures right { EachPlace (J.right job.now) result.items }
 {
-    let count = passes.len();
     let mut all = nones(alloc, n);
+    let count = passes.len().min(all.len());
+    if count == 0 {
+        return all;
+    }
     let Ok(members) = members::<Unmarked>(alloc, count, all.len()) else {
         return all;
     };
@@ -51,7 +55,7 @@ pub fn run<R: Threads + Wait + Sync, J: Job + Sync, G: Gate + Sync>(
     all
 }
 
-// A station for each pass. Where memory ran out there are fewer.
+// A station for each pass that has a member. Where memory ran out there are fewer.
 fn stations<J: Job>(
     alloc: Global,
     passes: Vec<Pass>,

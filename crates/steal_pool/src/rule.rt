@@ -1,10 +1,10 @@
 //! The rule of a deque of tasks, and what a step on it tells.
 ghost use Rattle.std.specs.Prelude.{List, ℕ, ◌≡◌};
 ghost use Rattle.steal_pool.specs.declared.view.View.{View};
-ghost use Rattle.steal_pool.specs.Rule.{Dealt, after_taking, after_putting, maker, guest};
+ghost use Rattle.steal_pool.specs.Rule.{Dealt, after_taking, after_putting, maker, shared};
 
 use crate::view::View;
-use crossbeam_deque::protocol::{Outcome, Protocol};
+use crossbeam_deque::protocol::{Outcome, Protocol, Split};
 use std::marker::PhantomData;
 
 /// A fact of one deque that its steps carry on: of the tasks that lie there, and of what its passes know. It is known of no
@@ -26,7 +26,17 @@ impl<K: Fact> Protocol<usize, View> for Shared<K> {
 
     ghost first = { maker };
 
-    ghost guest = { guest };
+    // No pass comes with it: the rule doesn't let one.
+    ghost guest = { maker };
+}
+
+// Of a new pass for another member.
+pub(crate) struct Shares;
+
+impl Split<View> for Shares {
+    ghost left = { λ v. v };
+
+    ghost right = { shared };
 }
 
 // Of a step that puts tasks.

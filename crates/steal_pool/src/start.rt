@@ -1,7 +1,7 @@
 //! The members of a pool at the start.
 ghost use Rattle.std.specs.Prelude.{◌≡◌, ℕ, ◌<◌, ◌≤◌, [], ◌∷◌, All, IfOk, Some, slice_get};
 ghost use Rattle.steal_pool.specs.declared.member.Member.{Member};
-ghost use Rattle.steal_pool.specs.Rule.{maker, KeptByPutting, KeptByGuests};
+ghost use Rattle.steal_pool.specs.Rule.{maker, KeptByPutting, KeptBySharing};
 ghost use Rattle.steal_pool.specs.Members.{IsMember};
 ghost use Rattle.steal_pool.specs.Rounds.{GoesRound};
 ghost use Rattle.steal_pool.specs.Starts.{Start, own_deques};
@@ -12,14 +12,14 @@ use crate::rule::Fact;
 use std::alloc::{AllocError, Global};
 
 /// The members of a pool, each with a deque of its own and a way to all others. Task i below n lies on the deque of the
-/// member i % count; an Err is refused memory.
+/// member i % count; an Err is refused memory. Each deque begins with a task.
 pub fn members<K: Fact>(alloc: Global, count: usize, n: usize) -> Result<Vec<Member<K>>, AllocError>
-    requires count { (0 < count) × (count ≤ 64) }
+    requires count { (0 < count) × (count ≤ 64) × (count ≤ n) }
     requires begins { K.real [] (maker ∷ []) }
     requires puts { KeptByPutting K.real }
-    requires guests { KeptByGuests K.real }
+    requires shares { KeptBySharing K.real }
     ensures start { IfOk result (λ ms. Start count n ms.items) }
-    ensures round { IfOk result (λ ms. (w : ℕ) (m : Member K) → slice_get ms.items w ≡ Some m → GoesRound (own_deques ms.items) w m) }
+    ensures round { IfOk result (λ ms. (w : ℕ) (m : Member K) → slice_get ms.items w ≡ Some m → GoesRound n (own_deques ms.items) w m) }
     ensures each { IfOk result (λ ms. All IsMember ms.items) }
 {
     let mut workers = Vec::new(alloc);
@@ -30,7 +30,7 @@ pub fn members<K: Fact>(alloc: Global, count: usize, n: usize) -> Result<Vec<Mem
     // The first member's ways stand last.
     let mut ways = Vec::new(alloc);
     for w in (0..count).rev() {
-        let victims = victims_of::<K>(alloc, workers.as_slice(), w)?;
+        let victims = victims_of::<K>(alloc, &mut workers, w, n)?;
         ways.push(victims)?;
     }
     let mut members = Vec::new(alloc);

@@ -6,7 +6,7 @@ use Rattle.steal_pool.specs.declared.victim.Victim.{Victim}
 use Rattle.steal_pool.specs.declared.member.Member.{Member}
 use Rattle.steal_pool.specs.Shares.{Begins}
 use Rattle.steal_pool.specs.Members.{IsMember}
-use Rattle.steal_pool.specs.Starts.{IsFilled, AreVictims, Start}
+use Rattle.steal_pool.specs.Starts.{IsFilled, AreFilled, AreVictims, Start}
 use Rattle.steal_pool.proofs.Shares.{each_more}
 use Rattle.steal_pool.proofs.Pairing.{Own, Pairs, all_at, paired, begun, done}
 use Rattle.steal_pool.proofs.Rounds.{start_round}
@@ -23,41 +23,45 @@ loop-w-preserved g c =
     let Q : List X → Type 0 = λ l. (k : ℕ) (d : X) → slice_get l k ≡ Some d → R k d in
     (ap length is ∙ (length-append xs (new ∷ []) ∙ ap (λ n. n + 1) was.0), subst Q (sym is) (each_more R xs new was.1 fresh))
 
-pub victims_of-requires-clause-fifo : goal.victims_of-requires-clause-fifo
-victims_of-requires-clause-fifo g c =
-    let X = Own g.row.K.Denot in
-    let F : X → Type 0 = λ d. worker_flavor d ≡ 0 in
-    let P : List X → Type 0 = λ l. All F l in
-    subst P (sym c.as_slice.ensures.value) (all_at F c.loop-w.workers.items (λ k d at. (c.loop-w.invariant.1 k d at).0))
-
 pub loop-w-2-preserved : goal.loop-w-2-preserved
 loop-w-2-preserved g c =
     let X = Own g.row.K.Denot in
     let V = Vec (Victim g.row.K.Denot) Global in
-    let ds = map (λ (d : X). worker_deque d) c.loop-w.workers.items in
-    let R : ℕ → V → Type 0 = λ k v. (w : ℕ) → k + w + 1 ≡ c.args.count → AreVictims ds w v.items in
+    let n = c.args.n in let count = c.args.count in
+    let deque : X → _ = λ d. worker_deque d in
+    let ds = map deque c.loop-w-2.workers.items in
+    let ds' = map deque c.victims_of.new.workers.items in
+    let R : ℕ → V → Type 0 = λ k v. (w : ℕ) → k + w + 1 ≡ count → AreVictims n ds w v.items in
     let xs = c.loop-w-2.ways.items in let new : V = c.in_ok-victims.victims in
     let is : c.push-in-loop-w-2.new.self.items ≡ xs ++ new ∷ [] = search rules in
     let was = c.loop-w-2.invariant in
+    let told = c.in_ok-victims.ensures in
     let left = c.loop-w-2-test.true in
     let long : length (xs ++ new ∷ []) ≡ length xs + 1 = length-append xs (new ∷ []) in
     let all : length c.push-in-loop-w-2.new.self.items ≡ length xs + 1 = ap length is ∙ long in
-    let ways : AreVictims ds (c.loop-w-2.w - 1) new.items =
-    subst (λ (l : List X). AreVictims (map (λ (d : X). worker_deque d) l) (c.loop-w-2.w - 1) new.items) c.as_slice.ensures.value c.in_ok-victims.ensures.ways in
-    let fresh : R (length xs) new = λ w at. subst (λ p. AreVictims ds p new.items) (omega (arith, at, was.1, left)) ways in
+    let ways : AreVictims n ds (c.loop-w-2.w - 1) new.items = told.ways in
+    let fresh : R (length xs) new = λ w at. subst (λ p. AreVictims n ds p new.items) (omega (arith, at, was.2, left)) ways in
     let Q : List V → Type 0 = λ l. (k : ℕ) (v : V) → slice_get l k ≡ Some v → R k v in
-    let more : Q (xs ++ new ∷ []) = each_more R xs new (λ k v at w e. was.2 k w v at e) fresh in
+    let more : Q (xs ++ new ∷ []) = each_more R xs new (λ k v at w e. was.3 k w v at e) fresh in
     let now : Q c.push-in-loop-w-2.new.self.items = subst Q (sym is) more in
-    (was.0, omega (arith, all, was.1, left), λ k w v at e. now k v at w e)
+    let same : ds' ≡ ds = told.same.1 in
+    let items : length c.victims_of.new.workers.items ≡ count = search rules in
+    let is-count : c.loop-w-2.workers.len ≡ count = search rules in
+    let filled : AreFilled c.loop-w-2.workers.len n c.victims_of.new.workers.items = told.filled in (
+      items,
+      subst (λ m. AreFilled m n c.victims_of.new.workers.items) is-count filled,
+      omega (arith, all, was.2, left),
+      λ k w v at e. subst (λ l. AreVictims n l w v.items) (sym same) (now k v at w e),
+    )
 
 pub loop-own-init : goal.loop-own-init
 loop-own-init g c =
-    let rest : into_iter_items c.into_iter-own-iterator.result ≡ c.loop-w.workers.items = search rules in
+    let rest : into_iter_items c.into_iter-own-iterator.result ≡ c.loop-w-2.workers.items = search rules in
     let none : c.new-members.result.items ≡ [] = search rules in
     let was = c.loop-w-2.invariant in
     let ended : length c.loop-w-2.ways.items ≡ c.args.count = search rules in
     let P = Pairs {K = g.row.K.Denot} c.args.count c.args.n in
-    rw (rest, none) (begun c.args.count c.args.n c.loop-w.workers.items c.loop-w-2.ways.items was.0 ended c.loop-w.invariant.1 was.2)
+    rw (rest, none) (begun c.args.count c.args.n c.loop-w-2.workers.items c.loop-w-2.ways.items was.0 ended was.1 was.3)
 
 pub loop-own-preserved : goal.loop-own-preserved
 loop-own-preserved g c =
@@ -82,9 +86,9 @@ returns g c =
     let P = Pairs {K = g.row.K.Denot} c.args.count c.args.n in
     let last : P c.loop-own.members.items [] c.loop-own.ways.items = subst (λ (l : List X). P c.loop-own.members.items l c.loop-own.ways.items) none c.loop-own.invariant in
     let ms = c.loop-own.members.items in
-    let start : Start c.args.count c.args.n ms = done c.args.count c.args.n ms c.loop-own.ways.items last in
+    let start : Start c.args.count c.args.n ms = done c.args.count c.args.n ms c.loop-own.ways.items c.requires.count.2 last in
     record {
       start = start;
-      round = start_round c.args.count c.args.n ms start;
+      round = start_round c.args.count c.args.n ms c.requires.count.2 start;
       each = all_at IsMember ms (λ w m at. (start.each w m at).member);
     }
