@@ -2,7 +2,7 @@
 use Rattle.std.specs.Prelude.{◌≡◌, ◌<◌, ◌≤◌, ◌^◌, ℕ, ◌+◌, List, length}
 use Rattle.mblock.specs.Parts.{BlockParts, OrderParts}
 use Rattle.check_text.specs.Lines.{lines_of}
-use Rattle.check_text.specs.Whole.{FailsAt}
+use Rattle.check_text.specs.Whole.{FailsAt, SpellsPair}
 use Rattle.mblock.specs.Clean.{IsClean}
 use Rattle.block_validator.specs.Verdicts.{Decides, same, unclean, differs}
 use Rattle.check_command.specs.declared.verdicts.CheckAnswer.{CheckAnswer}
@@ -22,3 +22,11 @@ abbrev pub IsCheckFault : List ℕ → CheckFault → Type 0
 IsCheckFault text faults.Size = 2 ^ 20 < length text
 IsCheckFault text (faults.Line n) = (length text ≤ 2 ^ 20) × ((k : ℕ) × (n ≡ k + 1) × FailsAt (lines_of text) k)
 IsCheckFault text faults.NoMemory = length text ≤ 2 ^ 20
+
+-- the answer to a text: it spells a block and an order, on which this is the verdict
+pub record IsAnswerTo (text : List ℕ) (answer : CheckAnswer) : Type 0 where
+  pub small : length text ≤ 2 ^ 20
+  pub block : BlockParts
+  pub order : OrderParts
+  pub spelled : SpellsPair (lines_of text) block order
+  pub decided : IsAnswer block order answer

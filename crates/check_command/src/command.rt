@@ -1,15 +1,20 @@
 // The command over files and streams.
 
-ghost use Rattle.std.specs.Prelude.{◌≡◌, ◌≢◌, ◌≤◌, IfOk, IfErr};
-ghost use Rattle.check_command.specs.Texts.{exit_status};
+ghost use Rattle.std.specs.Prelude.{◌≡◌, ◌≢◌, ◌≤◌, [], ◌∷◌, ◌++◌, IfOk, IfErr, OnOk};
+ghost use Rattle.std.specs.Io.KnownBytes.{Appends};
+ghost use Rattle.check_command.specs.Command.{Checks, StopsCheck};
+ghost use Rattle.check_command.specs.Texts.{answer_text, exit_status};
+ghost use Rattle.commands.specs.Requests.{Asks, Does};
 ghost use Rattle.commands.specs.declared.fault.HostFault.TheVariants.{CannotWrite};
 
 use crate::verdicts::{CheckAnswer, CheckFault, check};
-use commands::{Files, HostFault, line_offset, read_file, tell, tell_placed};
+use commands::{Complaints, Files, HostFault, line_offset, read_file, tell, tell_placed};
 use std::alloc::Global;
 use std::io::{self, Write};
 
-fn print<W: Write>(out: &mut W, line: &CheckAnswer) -> io::Result<()> {
+fn print<W: Write>(out: &mut W, line: &CheckAnswer) -> io::Result<()>
+    ensures { OnOk result (Appends (W.contents out.old) (W.contents out.new) (answer_text line.now ++ 10 ∷ [])) }
+{
     writeln!(out, "{line}")?;
     out.flush()
 }
@@ -26,6 +31,7 @@ fn status_of(answer: &CheckAnswer) -> u8
 
 /// The answer, printed; its status.
 fn print_answer<W: Write>(out: &mut W, answer: &CheckAnswer) -> Result<u8, HostFault>
+    ensures line { OnOk result (Appends (W.contents out.old) (W.contents out.new) (answer_text answer.now ++ 10 ∷ [])) }
     ensures status { IfOk result (λ s. s ≡ exit_status answer.now) }
     ensures not_wrong_words { IfOk result (λ s. s ≢ 2) }
     ensures fault { IfErr result (λ e. e ≡ CannotWrite) }
@@ -45,7 +51,7 @@ fn offset_of(text: &[u8], fault: CheckFault) -> Option<usize> {
 }
 
 /// The verdict on the text of a file, printed; the answer is the exit status.
-pub fn check_file<F: Files, W: Write, E: Write>(
+pub fn check_file<F: Files, W: Write, E: Complaints>(
     alloc: Global,
     file: &str,
     files: &mut F,
@@ -54,6 +60,10 @@ pub fn check_file<F: Files, W: Write, E: Write>(
 ) -> u8
     ensures most { result ≤ 3 }
     ensures not_wrong_words { result ≢ 2 }
+    ensures answered { result ≢ 1
+        → Does F.answers files.old files.new (W.contents out.old) (W.contents out.new) (Checks file.now result) }
+    ensures quiet { result ≢ 1 → err.new ≡ err.old }
+    ensures stopped { result ≡ 1 → Asks F.answers files.old files.new E.tells err.old err.new (StopsCheck file.now) }
 {
     let text = match read_file(alloc, file, files) {
         Ok(text) => text,

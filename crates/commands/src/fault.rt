@@ -1,4 +1,5 @@
-ghost use Rattle.std.specs.Prelude.{◌≡◌, Some};
+ghost use Rattle.std.specs.Prelude.{◌≡◌, ℕ, List, [], ◌∷◌, ◌++◌, Some, IfSome, ⊤};
+ghost use Rattle.commands.specs.Requests.{TellsLine};
 ghost use Rattle.commands.specs.Texts.{host_fault_text};
 
 use crate::place::show_place;
@@ -29,16 +30,50 @@ impl fmt::Display for HostFault {
 
 impl Error for HostFault {}
 
+/// Where faults are told. It may lose what it is told; `tells` is its own, so that a contract over any such place says all that it
+/// was told, in order.
+pub trait Complaints {
+    ghost tells: { Self → List ℕ → Self → Type 0 };
+
+    /// The text, and a line feed.
+    fn line<F: fmt::Display>(&mut self, text: &F)
+        ensures { IfSome (F.output text.now) (λ bytes. tells self.old (bytes ++ 10 ∷ []) self.new) };
+
+    /// The text alone.
+    fn text<F: fmt::Display>(&mut self, text: &F)
+        ensures { IfSome (F.output text.now) (λ bytes. tells self.old bytes self.new) };
+
+    fn bytes(&mut self, bytes: &[u8])
+        ensures { tells self.old bytes.now self.new };
+}
+
+impl<W: Write> Complaints for W {
+    ghost tells = { λ old bytes new. ⊤ };
+
+    fn line<F: fmt::Display>(&mut self, text: &F) {
+        let _ = writeln!(self, "{text}");
+    }
+
+    fn text<F: fmt::Display>(&mut self, text: &F) {
+        let _ = write!(self, "{text}");
+    }
+
+    fn bytes(&mut self, bytes: &[u8]) {
+        let _ = self.write_all(bytes);
+    }
+}
+
 /// The fault's line, which standard error may lose; the status stays.
-pub fn tell<E: Write, F: fmt::Display>(err: &mut E, fault: &F) -> u8
-    ensures { result ≡ 1 }
+pub fn tell<E: Complaints, F: fmt::Display>(err: &mut E, fault: &F) -> u8
+    ensures status { result ≡ 1 }
+    ensures told { IfSome (F.output fault.now) (λ text. TellsLine E.tells err.old text err.new) }
 {
-    let _ = writeln!(err, "{fault}");
+    err.line(fault);
     1
 }
 
 /// The line of a fault of a text, and below it where it lies, if it has a place.
-pub fn tell_placed<E: Write, F: fmt::Display>(
+pub fn tell_placed<E: Complaints, F: fmt::Display>(
     alloc: Global,
     err: &mut E,
     source: &str,
@@ -46,7 +81,8 @@ pub fn tell_placed<E: Write, F: fmt::Display>(
     fault: &F,
     at: Option<usize>,
 ) -> u8
-    ensures { result ≡ 1 }
+    ensures status { result ≡ 1 }
+    ensures told { IfSome (F.output fault.now) (λ text. TellsLine E.tells err.old text err.new) }
 {
     let status = tell(err, fault);
     if let Some(at) = at {

@@ -1,4 +1,6 @@
-ghost use Rattle.std.specs.Prelude.{◌≢◌, IfErr};
+ghost use Rattle.std.specs.Prelude.{◌≢◌, IfErr, MatchResult};
+ghost use Rattle.commands.specs.Requests.{Request};
+ghost use Rattle.commands.specs.Requests.Request.{NotRead, NotWritten, Read, Written};
 ghost use Rattle.commands.specs.declared.fault.HostFault.TheVariants.{CannotRead, CannotWrite};
 
 use crate::fault::HostFault;
@@ -13,18 +15,27 @@ pub enum FileFault {
     NoMemory,
 }
 
-/// The files that the program may reach.
+/// The files that the program may reach. What a request does to them is their own: `answers` relates the files before a request
+/// and after it, so that a contract over any such files says all that was asked of them, in order.
 pub trait Files {
+    ghost answers: { Self → Request → Self → Type 0 };
+
     /// The bytes of the file of this name.
-    fn read(&mut self, alloc: Global, name: &str) -> Result<Vec<u8>, FileFault>;
+    fn read(&mut self, alloc: Global, name: &str) -> Result<Vec<u8>, FileFault>
+        ensures { MatchResult result (λ bytes. answers self.old (Read name.now bytes.items) self.new)
+            (λ _. answers self.old (NotRead name.now) self.new) };
 
     /// Makes these bytes the file of this name; after a fault nothing is said of the file.
-    fn write(&mut self, name: &str, bytes: &[u8]) -> Result<(), FileFault>;
+    fn write(&mut self, name: &str, bytes: &[u8]) -> Result<(), FileFault>
+        ensures { MatchResult result (λ _. answers self.old (Written name.now bytes.now) self.new)
+            (λ _. answers self.old (NotWritten name.now bytes.now) self.new) };
 }
 
 /// The bytes of a file.
 pub fn read_file<F: Files>(alloc: Global, name: &str, files: &mut F) -> Result<Vec<u8>, HostFault>
-    ensures { IfErr result (λ e. e ≢ CannotWrite) }
+    ensures asked { MatchResult result (λ bytes. F.answers files.old (Read name.now bytes.items) files.new)
+        (λ _. F.answers files.old (NotRead name.now) files.new) }
+    ensures fault { IfErr result (λ e. e ≢ CannotWrite) }
 {
     match files.read(alloc, name) {
         Ok(bytes) => Ok(bytes),
@@ -35,7 +46,9 @@ pub fn read_file<F: Files>(alloc: Global, name: &str, files: &mut F) -> Result<V
 
 /// Makes these bytes the file of this name.
 pub fn write_file<F: Files>(name: &str, bytes: &[u8], files: &mut F) -> Result<(), HostFault>
-    ensures { IfErr result (λ e. e ≢ CannotRead) }
+    ensures asked { MatchResult result (λ _. F.answers files.old (Written name.now bytes.now) files.new)
+        (λ _. F.answers files.old (NotWritten name.now bytes.now) files.new) }
+    ensures fault { IfErr result (λ e. e ≢ CannotRead) }
 {
     match files.write(name, bytes) {
         Ok(()) => Ok(()),

@@ -1,8 +1,9 @@
 //! What the commands of the program share: files, faults, and where a fault lies.
 //!
 //! A command reads its files by `read_file`, over whatever has files (`Files`), and tells a fault by `tell` or
-//! `tell_placed`, whose status is 1. What a fault of files and memory prints stands in `specs/Texts.antt`. `tell_words` tells
-//! clap's error, help included; its status is 2 only where the words are wrong.
+//! `tell_placed`, to whatever takes faults (`Complaints`); the status is 1. All that a command asked and printed is one fact
+//! (`Does` and `Asks` of `specs/Requests.antt`). What a fault of files and memory prints stands in `specs/Texts.antt`.
+//! `tell_words` tells clap's error, help included; its status is 2 only where the words are wrong.
 #![tactic(auto)]
 
 mod fault;
@@ -10,7 +11,7 @@ mod files;
 mod place;
 mod wrong_words;
 
-pub use fault::{HostFault, tell, tell_placed};
+pub use fault::{Complaints, HostFault, tell, tell_placed};
 pub use files::{FileFault, Files, read_file, write_file};
 pub use place::line_offset;
 pub use wrong_words::tell_words;

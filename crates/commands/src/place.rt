@@ -1,10 +1,12 @@
 // Where a fault lies in its file, as editors and readers want it: the line `FILE:LINE:COLUMN:`, and below it the line
 // of the text around the place with a caret.
 
-ghost use Rattle.std.specs.Prelude.{◌≤◌, length};
+ghost use Rattle.std.specs.Prelude.{◌≤◌, length, ◌++◌, Some, codes, decimal};
+ghost use Rattle.commands.specs.Requests.{TellsOn};
 
+use crate::fault::Complaints;
 use std::alloc::{AllocError, Global};
-use std::io::Write;
+use std::fmt;
 
 /// The most bytes that are shown of a line of the text; a longer one is cut, with three dots for what is left out.
 const WIDTH: usize = 160;
@@ -127,18 +129,41 @@ pub(crate) fn place_lines(alloc: Global, text: &[u8], at: usize) -> Result<Vec<u
 
 /// Below a fault's line: where it lies, as editors read it, and the line of the text with a caret under the place. At the
 /// text's end there is no such line.
-pub(crate) fn show_place<E: Write>(
+pub(crate) fn show_place<E: Complaints>(
     alloc: Global,
     err: &mut E,
     source: &str,
     text: &[u8],
     at: usize,
-) {
+)
+    ensures { TellsOn E.tells err.old err.new }
+{
     let Spot { line, column } = spot_of(text, at);
-    let _ = writeln!(err, "{source}:{line}:{column}:");
+    err.line(&Site {
+        source,
+        line,
+        column,
+    });
     if at < text.len() {
         if let Ok(lines) = place_lines(alloc, text, at) {
-            let _ = err.write_all(lines.as_slice());
+            err.bytes(lines.as_slice());
         }
+    }
+}
+
+/// As editors read a place.
+#[derive(Drop)]
+struct Site<'a> {
+    source: &'a str,
+    line: usize,
+    column: usize,
+}
+
+impl<'a> fmt::Display for Site<'a> {
+    ghost output = { λ s. Some (s.source.now ++ (codes ":" ++ (decimal s.line ++ (codes ":" ++ (decimal s.column ++ codes ":"))))) };
+
+    fn fmt<W: fmt::Write>(&self, f: &mut fmt::Formatter<W>) -> fmt::Result {
+        let (source, line, column) = (self.source, self.line, self.column);
+        write!(f, "{source}:{line}:{column}:")
     }
 }

@@ -1,22 +1,26 @@
-ghost use Rattle.std.specs.Prelude.{◌≡◌, ◌≢◌, ◌≤◌};
+ghost use Rattle.std.specs.Prelude.{◌≡◌, ◌≤◌};
 ghost use Rattle.clap.specs.declared.error.ErrorKind.TheVariants.{OutOfMemory};
 ghost use Rattle.clap.specs.Words.{kind_of};
+ghost use Rattle.commands.specs.declared.fault.HostFault.{HostFault};
+ghost use Rattle.commands.specs.Requests.{TellsLine};
+ghost use Rattle.commands.specs.Texts.{host_fault_text};
 
-use crate::fault::{HostFault, tell};
+use crate::fault::{Complaints, HostFault, tell};
 use clap::Error;
 use clap::error::ErrorKind;
 use std::io::Write;
 
 /// clap's text: help on standard output, wrong words on standard error.
-pub fn tell_words<W: Write, E: Write>(error: &Error, out: &mut W, err: &mut E) -> u8
+pub fn tell_words<W: Write, E: Complaints>(error: &Error, out: &mut W, err: &mut E) -> u8
     ensures most { result ≤ 2 }
-    ensures refused { kind_of error.now ≡ OutOfMemory → result ≢ 2 }
+    ensures refused { kind_of error.now ≡ OutOfMemory → result ≡ 1 }
+    ensures told { result ≡ 1 → (fault : HostFault) × TellsLine E.tells err.old (host_fault_text fault) err.new }
 {
     if error.kind() == ErrorKind::OutOfMemory {
         return tell(err, &HostFault::NoMemory);
     }
     if error.use_stderr() {
-        let _ = write!(err, "{error}");
+        err.text(error);
         return 2;
     }
     let written = write!(out, "{error}");

@@ -2,7 +2,7 @@
 //! the host gives; that a fault tells refused memory from all else is all that the layer above uses.
 #![tactic(auto)]
 
-ghost use Rattle.std.specs.Prelude.{◌≡◌, ◌≤◌};
+ghost use Rattle.std.specs.Prelude.{◌≡◌, ◌≤◌, ⊤};
 
 use commands::{FileFault, Files, HostFault, tell};
 use std::alloc::Global;
@@ -19,6 +19,9 @@ pub struct Disk<'a, R: HostFiles + AllocGlobal + Input> {
 }
 
 impl<'a, R: HostFiles + AllocGlobal + Input> Files for Disk<'a, R> {
+    // nothing is known of the host's files; what is asked of them is said over any files
+    ghost answers = { λ old request new. ⊤ };
+
     fn read(&mut self, alloc: Global, name: &str) -> Result<Vec<u8>, FileFault> {
         if name == "/dev/stdin" {
             let mut text = Vec::new(alloc);

@@ -4,3 +4,4 @@ pub mod ImageRuns
 pub mod Follows
 pub mod Builds
 pub mod BuildFaults
+pub mod Program

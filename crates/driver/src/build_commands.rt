@@ -1,11 +1,16 @@
 // The command that makes an image.
 
-ghost use Rattle.std.specs.Prelude.{◌≤◌};
+ghost use Rattle.std.specs.Prelude.{◌≡◌, ◌≢◌, ◌≤◌, IfErr, IfOk, OnOk};
+ghost use Rattle.std.specs.Io.KnownBytes.{Appends};
+ghost use Rattle.commands.specs.Requests.{Asks, Does, TellsLine};
+ghost use Rattle.driver.specs.Texts.{build_fault_text};
+ghost use Rattle.driver.specs.BuildFaults.{IsBuildFault};
+ghost use Rattle.driver.specs.Program.{Builds, IsBuiltAs, StopsBuild, built_text};
 
 use crate::builds::{BuildFault, Built, Limit, build_plain};
 use crate::offsets::build_offset;
 use crate::scheduled_builds::{BuildOpts, build};
-use commands::{Files, HostFault, read_file, tell, tell_placed, write_file};
+use commands::{Complaints, Files, HostFault, read_file, tell, tell_placed, write_file};
 use delay_filler::FilledOrder;
 use list_scheduler::ListOrder;
 use std::alloc::Global;
@@ -29,24 +34,27 @@ fn limit_text(limit: Limit) -> &'static str {
     }
 }
 
-fn tell_build<E: Write>(
+fn tell_build<E: Complaints>(
     alloc: Global,
     err: &mut E,
     source: &str,
     text: &[u8],
     fault: BuildFault,
 ) -> u8
-    ensures { result ≤ 1 }
+    ensures status { result ≡ 1 }
+    ensures told { TellsLine E.tells err.old (build_fault_text fault) err.new }
 {
     let status = tell_placed(alloc, err, source, text, &fault, build_offset(fault));
     if let BuildFault::Limit(limit) = fault {
         let about = limit_text(limit);
-        let _ = writeln!(err, "{about}");
+        err.line(&about);
     }
     status
 }
 
-fn print_built<W: Write>(out: &mut W, plain: bool, built: &Built) -> io::Result<()> {
+fn print_built<W: Write>(out: &mut W, plain: bool, built: &Built) -> io::Result<()>
+    ensures { OnOk result (Appends (W.contents out.old) (W.contents out.new) (built_text plain built.now)) }
+{
     let blocks = built.blocks;
     if plain {
         writeln!(out, "blocks {blocks} plain")?;
@@ -73,6 +81,8 @@ fn built_as_asked<T: Threads + Wait + Sync>(
     asked: &Asked<'_>,
 ) -> Result<Built, BuildFault>
     requires { 1 ≤ asked.now.options.depth }
+    ensures built { IfOk result (IsBuiltAs text.now asked.now.options.depth asked.now.plain) }
+    ensures fault { IfErr result (IsBuildFault text.now asked.now.options.depth) }
 {
     if asked.plain {
         build_plain(alloc, text, asked.options.depth)
@@ -84,7 +94,7 @@ fn built_as_asked<T: Threads + Wait + Sync>(
 
 /// Builds the C program of a file. The image's file is written before anything is printed, and isn't touched where the
 /// build fails.
-pub(crate) fn build_file<T: Threads + Wait + Sync, F: Files, W: Write, E: Write>(
+pub(crate) fn build_file<T: Threads + Wait + Sync, F: Files, W: Write, E: Complaints>(
     rt: &T,
     alloc: Global,
     asked: &Asked<'_>,
@@ -93,7 +103,12 @@ pub(crate) fn build_file<T: Threads + Wait + Sync, F: Files, W: Write, E: Write>
     err: &mut E,
 ) -> u8
     requires { 1 ≤ asked.now.options.depth }
-    ensures { result ≤ 1 }
+    ensures most { result ≤ 1 }
+    ensures answered { result ≢ 1 → Does F.answers files.old files.new (W.contents out.old) (W.contents out.new)
+        (Builds asked.now.source.now asked.now.image.now asked.now.options.depth asked.now.plain result) }
+    ensures quiet { result ≢ 1 → err.new ≡ err.old }
+    ensures stopped { result ≡ 1 → Asks F.answers files.old files.new E.tells err.old err.new
+        (StopsBuild asked.now.source.now asked.now.image.now asked.now.options.depth asked.now.plain) }
 {
     let text = match read_file(alloc, asked.source, files) {
         Ok(text) => text,

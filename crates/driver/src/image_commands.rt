@@ -1,11 +1,14 @@
 // The commands on images.
 
-ghost use Rattle.std.specs.Prelude.{◌≡◌, ◌≢◌, ◌≤◌};
+ghost use Rattle.std.specs.Prelude.{◌≡◌, ◌≢◌, ◌≤◌, OnOk};
+ghost use Rattle.std.specs.Io.KnownBytes.{Appends};
+ghost use Rattle.commands.specs.Requests.{Asks, Does};
+ghost use Rattle.driver.specs.Program.{Lists, Runs, StopsImage};
 ghost use Rattle.driver.specs.Texts.{ending_status};
 
 use crate::image_runs::{list_image, run_image};
 use crate::texts::{EndingLine, print_run};
-use commands::{Files, HostFault, read_file, tell};
+use commands::{Complaints, Files, HostFault, read_file, tell};
 use mips_steps::Ending;
 use std::alloc::Global;
 use std::io::{self, Write};
@@ -22,7 +25,7 @@ fn ending_status(end: Ending) -> u8
 }
 
 /// Runs the image of a file.
-pub(crate) fn run_file<F: Files, W: Write, E: Write>(
+pub(crate) fn run_file<F: Files, W: Write, E: Complaints>(
     alloc: Global,
     image: &str,
     steps: u64,
@@ -32,6 +35,10 @@ pub(crate) fn run_file<F: Files, W: Write, E: Write>(
 ) -> u8
     ensures most { result ≤ 4 }
     ensures not_wrong_words { result ≢ 2 }
+    ensures answered { result ≢ 1
+        → Does F.answers files.old files.new (W.contents out.old) (W.contents out.new) (Runs image.now steps result) }
+    ensures quiet { result ≢ 1 → err.new ≡ err.old }
+    ensures stopped { result ≡ 1 → Asks F.answers files.old files.new E.tells err.old err.new (StopsImage image.now) }
 {
     let bytes = match read_file(alloc, image, files) {
         Ok(bytes) => bytes,
@@ -46,20 +53,26 @@ pub(crate) fn run_file<F: Files, W: Write, E: Write>(
     }
 }
 
-fn print_listing<W: Write>(out: &mut W, text: &str) -> io::Result<()> {
+fn print_listing<W: Write>(out: &mut W, text: &str) -> io::Result<()>
+    ensures { OnOk result (Appends (W.contents out.old) (W.contents out.new) text.now) }
+{
     out.write_all(text.as_bytes())?;
     out.flush()
 }
 
 /// Prints the listing of the image of a file.
-pub(crate) fn list_file<F: Files, W: Write, E: Write>(
+pub(crate) fn list_file<F: Files, W: Write, E: Complaints>(
     alloc: Global,
     image: &str,
     files: &mut F,
     out: &mut W,
     err: &mut E,
 ) -> u8
-    ensures { result ≤ 1 }
+    ensures most { result ≤ 1 }
+    ensures answered { result ≢ 1
+        → Does F.answers files.old files.new (W.contents out.old) (W.contents out.new) (Lists image.now result) }
+    ensures quiet { result ≢ 1 → err.new ≡ err.old }
+    ensures stopped { result ≡ 1 → Asks F.answers files.old files.new E.tells err.old err.new (StopsImage image.now) }
 {
     let bytes = match read_file(alloc, image, files) {
         Ok(bytes) => bytes,

@@ -1,7 +1,9 @@
 // How answers and faults print.
 
-ghost use Rattle.std.specs.Prelude.{Some};
+ghost use Rattle.std.specs.Prelude.{Some, [], ◌∷◌, ◌++◌, IfSome, OnOk};
+ghost use Rattle.std.specs.Io.KnownBytes.{Appends};
 ghost use Rattle.driver.specs.Texts.{build_fault_text, end_text, ending_text, interp_fault_text};
+ghost use Rattle.driver.specs.Program.{words_text};
 
 use crate::builds::BuildFault;
 use crate::source_runs::InterpFault;
@@ -77,7 +79,10 @@ pub(crate) fn print_run<W: Write, L: fmt::Display>(
     out: &mut W,
     output: &[u32],
     end: &L,
-) -> io::Result<()> {
+) -> io::Result<()>
+    ensures { OnOk result (IfSome (L.output end.now)
+        (λ last. Appends (W.contents out.old) (W.contents out.new) (words_text output.now ++ (last ++ 10 ∷ [])))) }
+{
     for word in output {
         writeln!(out, "{word}")?;
     }

@@ -4,6 +4,8 @@
 //! stdout has what C99 and docs/FORMATS.md say of each.
 #![tactic(auto)]
 
+ghost use Rattle.std.specs.Prelude.{⊤};
+
 use driver::{FileFault, Files, mcc};
 use std::alloc::Global;
 use std::env::Env;
@@ -24,6 +26,8 @@ struct Folder<'a, R: HostFiles + AllocGlobal> {
 const IMAGE: &str = "image";
 
 impl<'a, R: HostFiles + AllocGlobal> Files for Folder<'a, R> {
+    ghost answers = { λ old request new. ⊤ };
+
     fn read(&mut self, alloc: Global, name: &str) -> Result<Vec<u8>, FileFault> {
         if name == IMAGE {
             return Vec::from_slice(alloc, self.image.as_slice()).map_err(|_e| FileFault::NoMemory);

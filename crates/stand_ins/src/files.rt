@@ -1,5 +1,7 @@
 // A file in memory, and a writer that fails.
 
+ghost use Rattle.stand_ins.specs.Files.{Answers};
+
 use driver::{FileFault, Files};
 use std::alloc::Global;
 use std::io::{self, Write};
@@ -29,6 +31,8 @@ impl<'a> OneFile<'a> {
 }
 
 impl<'a> Files for OneFile<'a> {
+    ghost answers = { Answers };
+
     fn read(&mut self, alloc: Global, _name: &str) -> Result<Vec<u8>, FileFault> {
         match self.read_fault {
             Some(fault) => Err(fault),

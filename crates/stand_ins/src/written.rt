@@ -1,5 +1,10 @@
 // What `mcc` writes to its two streams.
-ghost use Rattle.std.specs.Prelude.{◌≤◌};
+ghost use Rattle.std.specs.Prelude.{◌≡◌, ◌≢◌, ◌≤◌, [], Some, map, true};
+ghost use Rattle.clap.specs.Words.{takes};
+ghost use Rattle.command_line.specs.Commands.{mcc_app};
+ghost use Rattle.commands.specs.Requests.{Does};
+ghost use Rattle.driver.specs.Program.{IsAnswered};
+ghost use Rattle.stand_ins.specs.Files.{Answers};
 
 use crate::files::{OneFile, Shut};
 use driver::mcc;
@@ -53,7 +58,9 @@ pub fn told_by<T: Threads + Wait + Sync>(
     files: &mut OneFile<'_>,
     words: &[&str],
 ) -> Written
-    ensures { result.status ≤ 4 }
+    ensures most { result.status ≤ 4 }
+    ensures answered { takes mcc_app (map (λ s. s.now) words.entry.now) ≡ true → result.status ≢ 1
+        → Does Answers files.old files.new (Some []) (Some result.out.items) (IsAnswered (map (λ s. s.now) words.entry.now) result.status) }
 {
     let mut out = Vec::new(alloc);
     let mut err = Vec::new(alloc);

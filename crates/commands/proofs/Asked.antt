@@ -1,0 +1,22 @@
+-- What was asked, along equations of the bytes.
+use Rattle.std.proofs.Common.{◌≡◌, ℕ, List, [], ◌∷◌, refl, sym, subst}
+use Rattle.std.specs.List.{FoldsTo}
+use Rattle.commands.specs.Requests.{Request}
+use Rattle.commands.specs.Requests.Request.{Read, NotRead, Written, NotWritten}
+
+module _ {F : Type 0} (answers : F → Request → F → Type 0) where
+  pub asked_once : (old new : F) (r : Request) → answers old r new → FoldsTo answers old (r ∷ []) new
+  asked_once old new r h = (new, h, refl)
+
+  pub asked_twice : (old mid new : F) (r s : Request) → answers old r mid → answers mid s new → FoldsTo answers old (r ∷ (s ∷ [])) new
+  asked_twice old mid new r s h k = (mid, h, (new, k, refl))
+
+  pub read_as : (old new : F) (name items bytes : List ℕ) → bytes ≡ items → answers old (Read name items) new → answers old (Read name bytes) new
+  read_as old new name items bytes e h = subst (λ (t : List ℕ). answers old (Read name t) new) (sym e) h
+
+  pub written_as : (old new : F) (name bytes items : List ℕ) → bytes ≡ items → answers old (Written name bytes) new → answers old (Written name items) new
+  written_as old new name bytes items e h = subst (λ (t : List ℕ). answers old (Written name t) new) e h
+
+  pub not_written_as : (old new : F) (name bytes items : List ℕ) → bytes ≡ items → answers old (NotWritten name bytes) new
+      → answers old (NotWritten name items) new
+  not_written_as old new name bytes items e h = subst (λ (t : List ℕ). answers old (NotWritten name t) new) e h

@@ -1,0 +1,38 @@
+-- What a program asks of its files and its streams.
+use Rattle.std.specs.Prelude.{ℕ, List, [], ◌∷◌, ◌++◌, Option}
+use Rattle.std.specs.List.{FoldsTo}
+use Rattle.std.specs.Io.KnownBytes.{Appends}
+
+-- one request with its answer: the bytes that were read, or that were written; or that it was refused
+pub data Request : Type 0 where
+  Read : (name bytes : List ℕ) → Request
+  NotRead : (name : List ℕ) → Request
+  Written : (name bytes : List ℕ) → Request
+  NotWritten : (name bytes : List ℕ) → Request
+
+-- what a command did: all that it asked of its files, in order, and the bytes that its standard output took, which are as Means
+-- says
+pub record Does {F : Type 0} (answers : F → Request → F → Type 0) (old new : F) (out_old out_new : Option (List ℕ))
+    (Means : List Request → List ℕ → Type 0) : Type 0 where
+  pub requests : List Request
+  pub printed : List ℕ
+  pub asked : FoldsTo answers old requests new
+  pub took : Appends out_old out_new printed
+  pub means : Means requests printed
+
+-- a line was told, and maybe more behind it
+abbrev pub TellsLine : {E : Type 0} → (E → List ℕ → E → Type 0) → E → List ℕ → E → Type 0
+TellsLine tells old text new = (more : List (List ℕ)) × FoldsTo tells old ((text ++ 10 ∷ []) ∷ more) new
+
+-- something was told, or nothing
+abbrev pub TellsOn : {E : Type 0} → (E → List ℕ → E → Type 0) → E → E → Type 0
+TellsOn tells old new = (more : List (List ℕ)) × FoldsTo tells old more new
+
+-- what a command did that ended by a fault: all that it asked of its files, and the line that it told
+pub record Asks {F E : Type 0} (answers : F → Request → F → Type 0) (old new : F) (tells : E → List ℕ → E → Type 0) (err_old err_new : E)
+    (Means : List Request → List ℕ → Type 0) : Type 0 where
+  pub requests : List Request
+  pub text : List ℕ
+  pub asked : FoldsTo answers old requests new
+  pub told : TellsLine tells err_old text err_new
+  pub means : Means requests text

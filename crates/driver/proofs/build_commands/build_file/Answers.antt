@@ -1,0 +1,82 @@
+use Rattle.std.proofs.Common.{[], ◌∷◌, refl}
+use Rattle.commands.specs.Requests.Request.{Read, NotRead, Written, NotWritten}
+use Rattle.commands.specs.Texts.{host_fault_text}
+use Rattle.commands.specs.declared.fault.HostFault.TheVariants.{CannotWrite}
+use Rattle.commands.proofs.Asked.{asked_once, asked_twice, not_written_as, read_as, written_as}
+use Rattle.driver.specs.Texts.{build_fault_text}
+use Rattle.driver.specs.Program.{built_text}
+use Rattle.driver.specs.Program.StopsBuild.{unread, faulty, unwritten, untold}
+use Rattle.driver.proofs.build_commands.build_file.Goals as goal
+
+pub returns-in-Err-clause-stopped : goal.returns-in-Err-clause-stopped
+returns-in-Err-clause-stopped g c = λ one. record {
+  requests = _;
+  asked = asked_once g.F.Files.answers _ _ (NotRead c.args.asked.now.source.now) c.in-Err.ensures.asked;
+  text = host_fault_text c.in-Err.fault;
+  told = c.tell.ensures.told;
+  means = unread c.in-Err.fault;
+}
+
+pub returns-in-Err-built_as_asked-clause-stopped : goal.returns-in-Err-built_as_asked-clause-stopped
+returns-in-Err-built_as_asked-clause-stopped g c = λ one.
+    let answers = g.F.Files.answers in
+    let text = c.as_slice.result.now in
+    record {
+      requests = _;
+      asked = asked_once answers _ _ (Read c.args.asked.now.source.now text) (read_as answers _ _ _ _ text c.as_slice.ensures.value c.in-Ok.ensures.asked);
+      text = build_fault_text c.in-Err-built_as_asked.fault;
+      told = c.tell_build.ensures.told;
+      means = faulty text c.in-Err-built_as_asked.fault c.in-Err-built_as_asked.ensures.fault;
+    }
+
+pub returns-in-Err-write_file-clause-stopped : goal.returns-in-Err-write_file-clause-stopped
+returns-in-Err-write_file-clause-stopped g c = λ one.
+    let answers = g.F.Files.answers in
+    let text = c.as_slice.result.now in
+    let built = c.in-Ok-built_as_asked.built in
+    record {
+      requests = _;
+      asked = asked_twice answers _ c.read_file.new.files _ (Read c.args.asked.now.source.now text) (NotWritten c.args.asked.now.image.now built.image.items)
+          (read_as answers _ _ _ _ text c.as_slice.ensures.value c.in-Ok.ensures.asked)
+          (not_written_as answers _ _ _ _ built.image.items c.as_slice-2.ensures.value c.in-Err-write_file.ensures.asked);
+      text = host_fault_text c.in-Err-write_file.fault;
+      told = c.tell-in-Err-write_file.ensures.told;
+      means = unwritten text built c.in-Ok-built_as_asked.ensures.built c.in-Err-write_file.fault;
+    }
+
+pub returns-in-Ok-print_built-clause-answered : goal.returns-in-Ok-print_built-clause-answered
+returns-in-Ok-print_built-clause-answered g c = λ other.
+    let answers = g.F.Files.answers in
+    let text = c.as_slice.result.now in
+    let built = c.in-Ok-built_as_asked.built in
+    record {
+      requests = Read c.args.asked.now.source.now text ∷ (Written c.args.asked.now.image.now built.image.items ∷ []);
+      printed = built_text c.args.asked.now.plain built;
+      asked = asked_twice answers _ c.read_file.new.files _ (Read c.args.asked.now.source.now text) (Written c.args.asked.now.image.now built.image.items)
+          (read_as answers _ _ _ _ text c.as_slice.ensures.value c.in-Ok.ensures.asked)
+          (written_as answers _ _ _ _ built.image.items c.as_slice-2.ensures.value c.in_default.ensures.asked);
+      took = c.in-Ok-print_built.ensures;
+      means = record {
+        text = text;
+        built = built;
+        asked = refl;
+        follows = c.in-Ok-built_as_asked.ensures.built;
+        line = refl;
+        ends = refl;
+      };
+    }
+
+pub returns-clause-stopped : goal.returns-clause-stopped
+returns-clause-stopped g c = λ one.
+    let answers = g.F.Files.answers in
+    let text = c.as_slice.result.now in
+    let built = c.in-Ok-built_as_asked.built in
+    record {
+      requests = _;
+      asked = asked_twice answers _ c.read_file.new.files _ (Read c.args.asked.now.source.now text) (Written c.args.asked.now.image.now built.image.items)
+          (read_as answers _ _ _ _ text c.as_slice.ensures.value c.in-Ok.ensures.asked)
+          (written_as answers _ _ _ _ built.image.items c.as_slice-2.ensures.value c.in_default.ensures.asked);
+      text = host_fault_text CannotWrite;
+      told = c.tell-in-Err-print_built.ensures.told;
+      means = untold text built c.in-Ok-built_as_asked.ensures.built;
+    }

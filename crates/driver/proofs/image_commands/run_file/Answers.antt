@@ -1,0 +1,65 @@
+use Rattle.std.proofs.Common.{ℕ, List, [], ◌∷◌, ◌++◌, refl, ap}
+use Rattle.commands.specs.Requests.Request.{Read, NotRead}
+use Rattle.commands.specs.Texts.{host_fault_text}
+use Rattle.commands.specs.declared.fault.HostFault.TheVariants.{CannotWrite}
+use Rattle.commands.proofs.Asked.{asked_once, read_as}
+use Rattle.mips_machine.specs.Views.{outcome_of}
+use Rattle.driver.specs.Texts.{ending_text}
+use Rattle.driver.specs.Program.{words_text}
+use Rattle.image.specs.Texts.{image_fault_text}
+use Rattle.driver.specs.Program.StopsImage.{unread, faulty, untold}
+use Rattle.driver.proofs.image_commands.run_file.Goals as goal
+
+pub returns-in-Err-clause-stopped : goal.returns-in-Err-clause-stopped
+returns-in-Err-clause-stopped g c = λ one. record {
+  requests = _;
+  asked = asked_once g.F.Files.answers _ _ (NotRead c.args.image.now) c.in-Err.ensures.asked;
+  text = host_fault_text c.in-Err.fault;
+  told = c.tell.ensures.told;
+  means = unread c.in-Err.fault;
+}
+
+pub returns-in-Ok-print_run-clause-answered : goal.returns-in-Ok-print_run-clause-answered
+returns-in-Ok-print_run-clause-answered g c = λ other.
+    let answers = g.F.Files.answers in
+    let bytes = c.as_slice.result.now in
+    let ran = c.in-Ok-run_image.ran in
+    record {
+      requests = _;
+      printed = _;
+      asked = asked_once answers _ _ (Read c.args.image.now bytes) (read_as answers _ _ _ _ bytes c.as_slice.ensures.value c.in-Ok.ensures.asked);
+      took = c.in-Ok-print_run.ensures;
+      means = record {
+        bytes = bytes;
+        asked = refl;
+        outcome = outcome_of ran;
+        run = c.in-Ok-run_image.ensures.ran;
+        lines = ap (λ (t : List ℕ). words_text t ++ (ending_text ran.end ++ 10 ∷ [])) c.as_slice-in-Ok-run_image.ensures.value;
+        ends = c.ending_status.ensures.status;
+      };
+    }
+
+pub returns-in-Ok-run_image-clause-stopped : goal.returns-in-Ok-run_image-clause-stopped
+returns-in-Ok-run_image-clause-stopped g c = λ one.
+    let answers = g.F.Files.answers in
+    let bytes = c.as_slice.result.now in
+    let ran = c.in-Ok-run_image.ensures.ran in
+    record {
+      requests = _;
+      asked = asked_once answers _ _ (Read c.args.image.now bytes) (read_as answers _ _ _ _ bytes c.as_slice.ensures.value c.in-Ok.ensures.asked);
+      text = host_fault_text CannotWrite;
+      told = c.tell-in-Err-print_run.ensures.told;
+      means = untold bytes ran.image ran.fits ran.written;
+    }
+
+pub returns-clause-stopped : goal.returns-clause-stopped
+returns-clause-stopped g c = λ one.
+    let answers = g.F.Files.answers in
+    let bytes = c.as_slice.result.now in
+    record {
+      requests = _;
+      asked = asked_once answers _ _ (Read c.args.image.now bytes) (read_as answers _ _ _ _ bytes c.as_slice.ensures.value c.in-Ok.ensures.asked);
+      text = image_fault_text c.in-Err-run_image.fault;
+      told = c.tell-in-Err-run_image.ensures.told;
+      means = faulty bytes c.in-Err-run_image.fault c.in-Err-run_image.ensures.fault;
+    }
