@@ -11,14 +11,14 @@ use Rattle.driver.specs.declared.builds.Built.{Built}
 use Rattle.driver.specs.declared.builds.BuildFault.{BuildFault}
 use Rattle.driver.specs.declared.builds.BuildFault.TheVariants as faults
 use Rattle.driver.specs.declared.builds.Limit.TheVariants as limits
-use Rattle.driver.specs.Builds.{IsBuilt, IsUnitOf, IsWritten}
+use Rattle.driver.specs.Builds.{IsScheduledBuild, IsUnitOf, IsWritten}
+use Rattle.driver.specs.Follows.{FollowsText}
 use Rattle.driver.specs.BuildFaults.{IsBuildFault, IsUnwritten}
 use Rattle.driver.proofs.Composed.{followed}
 
-pub built : (text : List ℕ) (depth factor : ℕ) (Suits : ScheduledParts → Type 0) (u : UnitParts) (s : ScheduledParts) (b : Built)
-    → IsUnitOf text depth u → s.unit ≡ u → (w : IsWritten s b) → RunsAs factor s.unit.blocks s.orders w.image.code → Suits s
-    → IsBuilt text depth factor Suits b
-built text depth factor Suits u s b of same w runs suits =
+pub followed_text : (text : List ℕ) (depth factor : ℕ) (u : UnitParts) (s : ScheduledParts) (b : Built)
+    → IsUnitOf text depth u → s.unit ≡ u → (w : IsWritten s b) → RunsAs factor s.unit.blocks s.orders w.image.code → FollowsText text depth factor b.image.items
+followed_text text depth factor u s b of same w runs =
     let Comes : UnitParts → Type 0 =
     λ v. (n : ℕ) → (source_run of.program depth n).end ≢ Wrong → ComesTo v.blocks (start_state v.globals) n (source_run of.program depth n) in
     record {
@@ -26,17 +26,24 @@ built text depth factor Suits u s b of same w runs suits =
       spelled = of.spelled;
       image = w.image;
       fits = w.fits;
-      bytes = w.bytes;
+      is = w.bytes;
       follows = followed of.program s.unit s.orders w.image depth factor (subst Comes (sym same) of.runs) w.orders.unit.data_bytes
           w.assembled w.runs.apart runs;
-      scheduled = s;
-      orders = w.orders;
-      suits = suits;
-      assembled = w.assembled;
-      counted = w.counted;
-      report = w.report;
-      blocks = w.blocks;
     }
+
+pub scheduled_build : (Suits : ScheduledParts → Type 0) (s : ScheduledParts) (b : Built) → IsWritten s b → Suits s → IsScheduledBuild Suits b
+scheduled_build Suits s b w suits = record {
+  image = w.image;
+  fits = w.fits;
+  bytes = w.bytes;
+  scheduled = s;
+  orders = w.orders;
+  suits = suits;
+  assembled = w.assembled;
+  counted = w.counted;
+  report = w.report;
+  blocks = w.blocks;
+}
 
 -- a unit of the text's program that has no image
 pub unwritten : (text : List ℕ) (depth : ℕ) (u : UnitParts) (s : ScheduledParts) (e : BuildFault) → IsUnitOf text depth u → s.unit ≡ u → IsUnwritten s e

@@ -1,4 +1,4 @@
--- What a build makes of a text.
+-- What a build makes of a scheduled unit, and its halves.
 use Rattle.std.specs.Prelude.{◌≡◌, ◌≢◌, ℕ, List, length}
 use Rattle.runs.specs.declared.ran.End.TheVariants.{Wrong}
 use Rattle.c_typed.specs.Trees.{TypedProgram}
@@ -11,18 +11,14 @@ use Rattle.image.specs.Images.{ImageParts, Second, IsImage, image_bytes}
 use Rattle.image.specs.Views.{counts_of}
 use Rattle.sched_phase.specs.Schedules.{ScheduledParts, IsScheduled, ArePlain, no_counts}
 use Rattle.mips_asm.specs.Assembled.{IsAssembled, RunsAsUnit}
-use Rattle.driver.specs.Follows.{Follows}
 use Rattle.driver.specs.declared.builds.Built.{Built}
 
--- the build of a text that spells a program without faults: the bytes are those of an image that follows the program, and image,
--- report and number of blocks are those of one scheduled unit, which is as asked
-pub record IsBuilt (text : List ℕ) (depth factor : ℕ) (Suits : ScheduledParts → Type 0) (b : Built) : Type 0 where
-  pub program : TypedProgram
-  pub spelled : SpellsTyped text program
+-- image, report and number of blocks are those of one scheduled unit, which is as asked. Bytes are those of one image at most
+-- (`one_image`), so this is the image that follows the program
+pub record IsScheduledBuild (Suits : ScheduledParts → Type 0) (b : Built) : Type 0 where
   pub image : ImageParts
   pub fits : IsImage image
   pub bytes : b.image.items ≡ image_bytes image
-  pub follows : Follows image program depth factor
   pub scheduled : ScheduledParts
   pub orders : IsScheduled scheduled
   pub suits : Suits scheduled

@@ -1,9 +1,10 @@
 -- An image follows a program: at every bound at which the source isn't wrong, it comes to the same.
-use Rattle.std.specs.Prelude.{◌≢◌, ℕ, ◌+◌, ◌*◌, ◌<◌}
+use Rattle.std.specs.Prelude.{◌≡◌, ◌≢◌, ℕ, ◌+◌, ◌*◌, ◌<◌, List}
 use Rattle.runs.specs.declared.ran.End.TheVariants.{Wrong}
 use Rattle.c_typed.specs.Trees.{TypedProgram}
 use Rattle.c_typed.specs.Meaning.{source_run}
-use Rattle.image.specs.Images.{ImageParts}
+use Rattle.c_types.specs.Typed.{SpellsTyped}
+use Rattle.image.specs.Images.{ImageParts, IsImage, image_bytes}
 use Rattle.mips_steps.specs.Agreement.{Agrees}
 use Rattle.mips_machine.specs.ImageRuns.{image_run}
 
@@ -14,3 +15,12 @@ abbrev pub Follows : ImageParts → TypedProgram → (depth factor : ℕ) → Ty
 Follows image program depth factor =
     (n : ℕ) → (source_run program depth n).end ≢ Wrong
     → (m : ℕ) × (n < factor * (m + 1)) × Agrees (source_run program depth n) (image_run image m)
+
+-- the headline: the text spells a program without faults, and the bytes are those of an image that follows it
+pub record FollowsText (text : List ℕ) (depth factor : ℕ) (bytes : List ℕ) : Type 0 where
+  pub program : TypedProgram
+  pub spelled : SpellsTyped text program
+  pub image : ImageParts
+  pub fits : IsImage image
+  pub is : bytes ≡ image_bytes image
+  pub follows : Follows image program depth factor

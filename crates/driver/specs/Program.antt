@@ -22,7 +22,8 @@ use Rattle.command_line.specs.declared.command.Command.TheVariants.{Check, Inter
 use Rattle.driver.specs.Texts.{build_fault_text, end_text, end_status, ending_text, ending_status, interp_fault_text}
 use Rattle.driver.specs.Interps.{IsRun, IsInterpFault}
 use Rattle.driver.specs.ImageRuns.{IsImageRun, IsListing}
-use Rattle.driver.specs.Builds.{IsBuilt, IsPlain}
+use Rattle.driver.specs.Builds.{IsScheduledBuild, IsPlain}
+use Rattle.driver.specs.Follows.{FollowsText}
 use Rattle.driver.specs.BuildFaults.{IsBuildFault}
 use Rattle.driver.specs.declared.builds.Built.{Built}
 use Rattle.driver.specs.declared.source_runs.InterpFault.{InterpFault}
@@ -32,10 +33,18 @@ use Rattle.driver.specs.declared.builds.BuildFault.{BuildFault}
 abbrev pub AnyOrder : BlockParts → OrderParts → Type 0
 AnyOrder b o = ⊤
 
--- the image of the text: with --plain each block in its own order, and a word for each item; else with checked orders
+-- how many items a word of the image stands for at most: one with --plain
+abbrev pub factor_of : Bool → ℕ
+factor_of true = 1
+factor_of false = BLOCK_INSTS + 1
+
+-- with --plain each block in its own order, else checked orders
+abbrev pub IsScheduledAs : Bool → Built → Type 0
+IsScheduledAs true b = IsScheduledBuild IsPlain b
+IsScheduledAs false b = IsScheduledBuild (IsPhase AnyOrder) b
+
 abbrev pub IsBuiltAs : List ℕ → ℕ → Bool → Built → Type 0
-IsBuiltAs text depth true b = IsBuilt text depth 1 IsPlain b
-IsBuiltAs text depth false b = IsBuilt text depth (BLOCK_INSTS + 1) (IsPhase AnyOrder) b
+IsBuiltAs text depth plain b = FollowsText text depth (factor_of plain) b.image.items × IsScheduledAs plain b
 
 -- the line of a build
 abbrev pub built_text : Bool → Built → List ℕ
@@ -47,7 +56,7 @@ pub record Builds (source image : List ℕ) (depth : ℕ) (plain : Bool) (status
   pub text : List ℕ
   pub built : Built
   pub asked : requests ≡ Read source text ∷ (Written image built.image.items ∷ [])
-  pub follows : IsBuiltAs text depth plain built
+  pub promised : IsBuiltAs text depth plain built
   pub line : printed ≡ built_text plain built
   pub ends : status ≡ 0
 

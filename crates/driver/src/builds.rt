@@ -1,7 +1,8 @@
 ghost use Rattle.std.specs.Prelude.{◌≤◌, ℕ, IfOk, IfErr};
 ghost use Rattle.c_types.specs.Shape.{program_of};
 ghost use Rattle.c_types.specs.Typed.{SpellsTyped};
-ghost use Rattle.driver.specs.Builds.{IsBuilt, IsPlain, IsUnitOf, IsWritten};
+ghost use Rattle.driver.specs.Builds.{IsPlain, IsScheduledBuild, IsUnitOf, IsWritten};
+ghost use Rattle.driver.specs.Follows.{FollowsText};
 ghost use Rattle.driver.specs.BuildFaults.{IsBuildFault, IsUnwritten};
 
 use c_front::{FrontFault, read};
@@ -107,7 +108,8 @@ pub(crate) fn written(alloc: Global, scheduled: &Scheduled<'_>) -> Result<Built,
 /// thread with a large stack where the text may be hostile.
 pub fn build_plain(alloc: Global, text: &[u8], depth: u32) -> Result<Built, BuildFault>
     requires { 1 ≤ depth }
-    ensures built { IfOk result (IsBuilt text.now depth 1 IsPlain) }
+    ensures follows { IfOk result (λ b. FollowsText text.now depth 1 b.image.items) }
+    ensures scheduled { IfOk result (IsScheduledBuild IsPlain) }
     ensures fault { IfErr result (IsBuildFault text.now depth) }
 {
     let unit = unit_of(alloc, text, depth)?;

@@ -1,12 +1,12 @@
 //! The program's commands over bytes, files and writers.
 //!
 //! `interp` is the whole path of `mcc interp`: the run of the program that the text spells, or its first fault
-//! (`specs/Interps.antt`). `build_plain` is that of `mcc build`: the bytes of an image that follows the program
-//! (`specs/Builds.antt`, `specs/Follows.antt`). `run_image` and `list_image` are those of `mcc run` and `mcc list`
-//! (`specs/ImageRuns.antt`). `mcc check` is the crate check_command, and what commands share is the crate commands. `mcc` is
-//! the whole program, which `main` calls with the real files and streams: all that it asks of them, prints and ends by
-//! (`specs/Program.antt`). It takes the words of the command line by the crate command_line. How answers and faults print
-//! stands in `specs/Texts.antt`.
+//! (`specs/Interps.antt`). `build` is that of `mcc build`, and `build_plain` with `--plain`: the bytes of an image that
+//! follows the program (`specs/Follows.antt`), and the report of its scheduled unit (`specs/Builds.antt`). `run_image`
+//! and `list_image` are those of `mcc run` and `mcc list` (`specs/ImageRuns.antt`). `mcc check` is the crate
+//! check_command, and what commands share is the crate commands. `mcc` is the whole program, which `main` calls with the
+//! real files and streams: all that it asks of them, prints and ends by (`specs/Program.antt`). It takes the words of the
+//! command line by the crate command_line. How answers and faults print stands in `specs/Texts.antt`.
 #![tactic(auto)]
 
 mod build_commands;

@@ -2,7 +2,8 @@
 ghost use Rattle.std.specs.Prelude.{◌≡◌, ◌+◌, ◌≤◌, IfOk, IfErr};
 ghost use Rattle.mblock.specs.declared.limits.TheConstants.{BLOCK_INSTS};
 ghost use Rattle.sched_phase.specs.Phases.{IsPhase, IsWholePhase};
-ghost use Rattle.driver.specs.Builds.{IsBuilt};
+ghost use Rattle.driver.specs.Builds.{IsScheduledBuild};
+ghost use Rattle.driver.specs.Follows.{FollowsText};
 ghost use Rattle.driver.specs.BuildFaults.{IsBuildFault};
 
 use crate::builds::{BuildFault, Built, unit_of, written};
@@ -32,7 +33,8 @@ pub fn build<T: Threads + Wait + Sync, R: Reorder + Sync, G: Gate + Sync>(
     gate: &G,
 ) -> Result<Built, BuildFault>
     requires { 1 ≤ options.now.depth }
-    ensures built { IfOk result (IsBuilt text.now options.now.depth (BLOCK_INSTS + 1) (IsPhase (R.proposes reorder.now))) }
+    ensures follows { IfOk result (λ b. FollowsText text.now options.now.depth (BLOCK_INSTS + 1) b.image.items) }
+    ensures scheduled { IfOk result (IsScheduledBuild (IsPhase (R.proposes reorder.now))) }
     ensures fault { IfErr result (IsBuildFault text.now options.now.depth) }
 {
     let unit = unit_of(alloc, text, options.depth)?;
@@ -53,7 +55,8 @@ pub fn build_one<R: Reorder>(
     reorder: &R,
 ) -> Result<Built, BuildFault>
     requires { 1 ≤ options.now.depth }
-    ensures built { IfOk result (IsBuilt text.now options.now.depth (BLOCK_INSTS + 1) (IsWholePhase (R.proposes reorder.now))) }
+    ensures follows { IfOk result (λ b. FollowsText text.now options.now.depth (BLOCK_INSTS + 1) b.image.items) }
+    ensures scheduled { IfOk result (IsScheduledBuild (IsWholePhase (R.proposes reorder.now))) }
     ensures fault { IfErr result (IsBuildFault text.now options.now.depth) }
 {
     let unit = unit_of(alloc, text, options.depth)?;

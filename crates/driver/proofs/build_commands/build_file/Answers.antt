@@ -60,7 +60,7 @@ returns-in-Ok-print_built-clause-answered g c = λ other.
         text = text;
         built = built;
         asked = refl;
-        follows = c.in-Ok-built_as_asked.ensures.built;
+        promised = c.in-Ok-built_as_asked.ensures.built;
         line = refl;
         ends = refl;
       };
