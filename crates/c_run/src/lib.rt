@@ -9,6 +9,12 @@
 //! `specs/Interpreter.antt` says which state of the meaning the interpreter's parts stand for, `specs/Turns.antt` what
 //! `break` and `continue` skip, and `specs/Sizes.antt` why taking lists apart ends. `value` calls itself on the parts of
 //! an expression, by 64 bytes of stack for each level as LLVM builds it.
+//!
+//! What is promised:
+//! - `c_run::run(alloc, &typed, depth, steps)` is exactly what so many steps of the program come to, with at most
+//!   `depth` calls active at once (`source_run`); an Err comes from refused memory alone, which no contract can say.
+//! - Only tested: that the definitions are C's, by each operator at its edges, what isn't evaluated, and steps of
+//!   loops, calls and returns counted by hand.
 #![tactic(auto)]
 
 mod interpreter;

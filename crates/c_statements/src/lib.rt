@@ -14,6 +14,11 @@
 //! `specs/Calls.antt` and `specs/Made.antt` are words of functions that only this layer calls.
 //!
 //! `statement` and `expression` call themselves on the parts of a tree, so the stack grows with its depth.
+//!
+//! What is promised:
+//! - `c_statements::items` gives the typed trees of a body exactly where it has no fault, memory aside, and these are
+//!   its only ones (`one_typing_of_statements`); else the first fault of the body. The scopes behind it are those that
+//!   the definitions give, unless memory was refused.
 #![tactic(auto)]
 
 mod call;

@@ -7,3 +7,4 @@ pub mod Texts
 pub mod Spellings
 pub mod Keywords
 pub mod Messages
+pub mod Numbers

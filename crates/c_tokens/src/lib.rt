@@ -5,6 +5,11 @@
 //! `specs/Pieces.antt`, with the constants of `specs/Constants.antt` and the tables of operators and keywords of
 //! `specs/Lexing.antt`. `specs/Fronts.antt` and `specs/Digits.antt` are words of the private functions that find the
 //! longest piece and the value of a constant; `specs/Messages.antt` is what a refusal prints.
+//!
+//! What is promised:
+//! - `c_tokens::lex`: the tokens of the longest pieces with their offsets, or the first refusal; a text has one list of
+//!   tokens at most (`one_lexing`).
+//! - Each limit is the number that `specs/Numbers.antt` tells (`limits_are_these_numbers`).
 #![tactic(auto)]
 
 mod constants;
@@ -18,5 +23,5 @@ mod token;
 
 pub use fault::{LexFault, Refusal};
 pub use lexer::{lex, one_lexing};
-pub use sizes::MAX_TEXT;
+pub use sizes::{MAX_TEXT, limits_are_these_numbers};
 pub use token::{Identifier, IntegerType, JumpWord, Literal, Mark, Token};

@@ -1,3 +1,4 @@
+ghost use Rattle.c_tokens.specs.Numbers.{LimitsAreTheseNumbers};
 ghost use Rattle.std.specs.Prelude.{◌≡◌, ◌+◌, ◌-◌, ◌≤◌, suc, IfSome, IfNone, if◌then◌else◌};
 ghost use Rattle.c_tokens.specs.declared.sizes.TheConstants.{MAX_RUN, MAX_OPEN, MAX_NESTED};
 ghost use Rattle.c_tokens.specs.Texts.{Within, Counted, Oversize, ends_run, opens, closes, nests};
@@ -75,3 +76,8 @@ pub fn count(sizes: Sizes, token: &Token) -> Option<Sizes>
     }
     Some(new)
 }
+
+/// Each limit is the number that specs/Numbers.antt tells, so a change of one is a change there. A law: it computes nothing.
+pub fn limits_are_these_numbers()
+    ensures { LimitsAreTheseNumbers }
+{}

@@ -4,6 +4,9 @@
 //! above there is one contract: `Program::spelling` is the bytes of a name in the program's text (`specs/Texts.antt`).
 //! `specs/Tree.antt` has the trees without the places where a program keeps them, and `specs/Shape.antt` the tree that a
 //! Rust value stands for.
+//!
+//! What is promised:
+//! - `c_tree` has the trees; `Program::spelling` is the bytes of a name in the program's text.
 #![tactic(auto)]
 
 mod tree;

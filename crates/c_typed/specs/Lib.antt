@@ -4,3 +4,4 @@ pub mod WellFormed
 pub mod Values
 pub mod Meaning
 pub mod Laws
+pub mod Numbers

@@ -1,4 +1,5 @@
 ghost use Rattle.c_typed.specs.Laws.{ElementsFitTheirWidths, RunsGoOnFromWhereTheyAre, ValuesAreWords};
+ghost use Rattle.c_typed.specs.Numbers.{LimitsAreTheseNumbers};
 
 /// Constants mean words, so all that a typed program computes and keeps is words. A law: it computes nothing.
 pub fn values_are_words()
@@ -14,4 +15,9 @@ pub fn elements_fit_their_widths()
 /// Runs compose, and one that ended or failed stays so. A law: it computes nothing.
 pub fn runs_go_on_from_where_they_are()
     ensures { RunsGoOnFromWhereTheyAre }
+{}
+
+/// Each limit is the number that specs/Numbers.antt tells, so a change of one is a change there. A law: it computes nothing.
+pub fn limits_are_these_numbers()
+    ensures { LimitsAreTheseNumbers }
 {}

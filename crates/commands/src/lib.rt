@@ -4,6 +4,11 @@
 //! `tell_placed`, to whatever takes faults (`Complaints`); the status is 1. All that a command asked and printed is one fact
 //! (`Does` and `Asks` of `specs/Requests.antt`). What a fault of files and memory prints stands in `specs/Texts.antt`.
 //! `tell_words` tells clap's error, help included; its status is 2 only where the words are wrong.
+//!
+//! What is promised:
+//! - `commands::read_file` and `write_file` tell no fault of the other; a fault that is told ends by 1 (`tell`,
+//!   `tell_placed`), also where standard error loses its line; refused memory is never told as wrong words
+//!   (`tell_words`).
 #![tactic(auto)]
 
 mod fault;

@@ -10,3 +10,4 @@ pub mod PlainOrders
 pub mod Orders
 pub mod UnitRuns
 pub mod Units
+pub mod Numbers

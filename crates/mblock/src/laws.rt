@@ -1,6 +1,7 @@
 // Laws of blocks and orders.
 
 ghost use Rattle.mblock.specs.Orders.{EachBlockKeepsWords, EachPlainOrderIsClean, EachPlainOrderMeansItsBlock, EachPlainUnitHasItsOrders};
+ghost use Rattle.mblock.specs.Numbers.{LimitsAreTheseNumbers};
 
 /// A plain order breaks no delay rule.
 pub fn each_plain_order_is_clean()
@@ -20,4 +21,9 @@ pub fn each_plain_unit_has_its_orders()
 /// What a block leaves are words and bytes, if that is what it began with.
 pub fn each_block_keeps_words()
     ensures { EachBlockKeepsWords }
+{}
+
+/// Each limit is the number that specs/Numbers.antt tells, so a change of one is a change there. A law: it computes nothing.
+pub fn limits_are_these_numbers()
+    ensures { LimitsAreTheseNumbers }
 {}

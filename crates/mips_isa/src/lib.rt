@@ -8,6 +8,18 @@
 //! `specs/Starting.antt` (the state in which a program starts),
 //! `specs/Flows.antt` (the machine between two words), `specs/Controls.antt` (branches, jumps and calls
 //! to the system), `specs/Rules.antt` (the rules M1 to M9 that make it stuck), `specs/Steps.antt` (one word).
+//!
+//! What is promised:
+//! - `Plain::action` is exactly `action_of`, the table of the instruction set in eight kinds of action. `Display` and
+//!   `Debug` write exactly `instruction_text`, and `Display` of a branch or jump at an address (`ListedControl`)
+//!   exactly `control_text`. `reads` and `writes` are exact.
+//! - `Reg::new`, `NonzeroReg::new`, `Amount::new` and `JumpTarget::new` are Some exactly within their range.
+//! - The rules M1 to M9 are one table (`action_breaks`, `control_breaks` of `specs/Rules.antt`); laws: an action is
+//!   stuck exactly where it breaks a rule (`safe_actions_keep_their_rules`, `stuck_actions_break_a_rule`), the rule
+//!   that is told is the least (`each_broken_rule_is_least`), what an action reads and writes is what it touches
+//!   (`reads_and_writes_are_touched`).
+//! - Memory is bytes, which `lw`, `sw`, `lbu` and `sb` reach. Where two accesses, of words or bytes, share no byte, a
+//!   load doesn't see the store (`loads_pass_stores`) and two stores may be exchanged (`stores_commute`).
 #![tactic(auto)]
 
 mod action;

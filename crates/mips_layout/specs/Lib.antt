@@ -2,3 +2,4 @@ pub mod Layout
 pub mod Functions
 pub mod Fetching
 pub mod LayoutRuns
+pub mod Numbers

@@ -1,6 +1,7 @@
 ghost use Rattle.mips_layout.specs.Fetching.{WordsRunAsInstructions};
 ghost use Rattle.mips_layout.specs.Functions.{EachLayoutFits};
 ghost use Rattle.mips_layout.specs.LayoutRuns.{EachLayoutRuns, EachLayoutTellsCallsApart, EachPlainLayoutRuns};
+ghost use Rattle.mips_layout.specs.Numbers.{LimitsAreTheseNumbers};
 
 /// Where each instruction's fields are in their ranges, the words of instructions run as the instructions.
 pub fn words_run_as_instructions()
@@ -25,4 +26,9 @@ pub fn each_plain_layout_runs()
 /// The links of a layout are words, and no two calls have one.
 pub fn each_layout_tells_calls_apart()
     ensures { EachLayoutTellsCallsApart }
+{}
+
+/// Each limit is the number that specs/Numbers.antt tells, so a change of one is a change there. A law: it computes nothing.
+pub fn limits_are_these_numbers()
+    ensures { LimitsAreTheseNumbers }
 {}

@@ -3,6 +3,10 @@
 //!
 //! `split_unit` makes exactly the unit that `specs/Split.antt` says, and whatever the long blocks come to, that unit comes to
 //! (`EachSplitUnitComesTo` of `specs/Laws.antt`).
+//!
+//! What is promised:
+//! - `mips_split::split_unit` cuts blocks at 512 instructions exactly as `specs/Split.antt` says, Limit only above
+//!   1,048,576 pieces; whatever the long blocks come to, the unit comes to (`each_split_unit_comes_to`).
 #![tactic(auto)]
 
 mod fault;

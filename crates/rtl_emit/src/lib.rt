@@ -18,6 +18,11 @@
 //! `specs/Sound.antt` says when code names only what is there, and each call keeps that of code and blocks (`KeepsSound`).
 //! `specs/Blocks.antt` has the words on code and blocks, `specs/Runs.antt` those on steps, `specs/Operations.antt` which
 //! operator of RTL computes which of C.
+//!
+//! What is promised:
+//! - The code of an expression leaves its value in the register that is asked for (`value_into`, `Evaluates`) or in the
+//!   operand's own (`operand_into`, `Fetches`), that of a condition comes to one of two blocks (`condition`,
+//!   `Decides`), and the registers of the locals stay: whatever other blocks there are.
 #![tactic(auto)]
 
 mod block;
