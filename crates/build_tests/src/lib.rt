@@ -3,6 +3,8 @@
 #![tactic(auto)]
 
 #[cfg(test)]
+mod accepted_orders;
+#[cfg(test)]
 mod builds;
 #[cfg(test)]
 mod changed_images;
@@ -10,6 +12,8 @@ mod changed_images;
 mod command_lines;
 #[cfg(test)]
 mod hostile_builds;
+#[cfg(test)]
+mod live_locals;
 #[cfg(test)]
 mod program_builds;
 #[cfg(test)]

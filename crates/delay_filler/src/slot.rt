@@ -1,5 +1,5 @@
 //! One slot is filled.
-use list_scheduler::{Resources, access_of};
+use list_scheduler::{Access, Resources, access_of};
 use mblock::{Block, Order, clean};
 use mips_isa::Plain;
 use std::alloc::{AllocError, Global};
@@ -9,16 +9,19 @@ use std::alloc::{AllocError, Global};
 struct Passed {
     reads: Resources,
     writes: Resources,
-    accesses: bool,
+    accesses: Vec<Access>,
+    // Whether a load is among them that has to keep its place among the stores.
+    has_fixed_load: bool,
 }
 
 impl Passed {
-    fn exit_of(order: &Order) -> Passed {
+    fn exit_of(alloc: Global, order: &Order) -> Passed {
         let exit = order.exit();
         Passed {
             reads: Resources::read_by_exit(&exit),
             writes: Resources::written_by_exit(&exit),
-            accesses: false,
+            accesses: Vec::new(alloc),
+            has_fixed_load: false,
         }
     }
 
@@ -29,34 +32,48 @@ impl Passed {
         let touched = Resources::read_by(inst).union(Resources::written_by(inst));
         let is_apart = !touched.meets(self.writes)
             && !Resources::written_by(inst).meets(self.reads);
-        may_fill && is_apart && !(self.accesses && access_of(inst).is_some())
+        may_fill && is_apart && self.lets_access(inst)
     }
 
-    // The same with one more instruction.
-    fn before(self, inst: &Plain) -> Passed {
-        Passed {
-            reads: self.reads.union(Resources::read_by(inst)),
-            writes: self.writes.union(Resources::written_by(inst)),
-            accesses: self.accesses || access_of(inst).is_some(),
+    // The same for the sake of memory alone: a store passes what is over its base, which none of these writes, with other
+    // bytes.
+    fn lets_access(&self, inst: &Plain) -> bool {
+        let Some(store) = access_of(inst) else {
+            return true;
+        };
+        for access in &self.accesses {
+            if !store.passes(access) {
+                return false;
+            }
         }
+        !self.has_fixed_load
+    }
+
+    // One more instruction, and those before it.
+    fn take(&mut self, inst: &Plain, before: &[Plain]) -> Result<(), AllocError> {
+        self.reads = self.reads.union(Resources::read_by(inst));
+        self.writes = self.writes.union(Resources::written_by(inst));
+        if let Some(access) = access_of(inst) {
+            self.has_fixed_load = self.has_fixed_load || meets_store(&access, before);
+            self.accesses.push(access)?;
+        }
+        Ok(())
     }
 }
 
-// The last instruction that may go into the slot.
-fn last_movable(order: &Order) -> Option<usize> {
-    let mut passed = Passed::exit_of(order);
-    let mut k = order.insts().len();
-    for inst in order.insts().iter().rev() {
-        k = k.saturating_sub(1);
-        if passed.lets(inst) {
-            return Some(k);
+// Whether it loads what a store over the same register may have stored.
+fn meets_store(load: &Access, before: &[Plain]) -> bool {
+    for inst in before {
+        if let Some(store) = access_of(inst) {
+            if store.stores && !load.stores && store.base == load.base && !store.passes(load) {
+                return true;
+            }
         }
-        passed = passed.before(inst);
     }
-    None
+    false
 }
 
-// The order with its instruction k in the slot, if that makes an order.
+// The order with its instruction k in the slot, if that makes an order that breaks no delay rule.
 fn moved(alloc: Global, order: &Order, k: usize) -> Result<Option<Order>, AllocError> {
     let mut insts = Vec::with_capacity(alloc, order.insts().len())?;
     let mut slot = None;
@@ -67,11 +84,20 @@ fn moved(alloc: Global, order: &Order, k: usize) -> Result<Option<Order>, AllocE
             insts.push(*inst)?;
         }
     }
-    Ok(Order::new(insts, order.exit(), slot))
+    Ok(match Order::new(insts, order.exit(), slot) {
+        Some(filled) => {
+            if clean(&filled).is_ok() {
+                Some(filled)
+            } else {
+                None
+            }
+        }
+        None => None,
+    })
 }
 
-/// The order with an instruction in its slot in place of a Nop: the last one that nothing behind it depends on. The order as
-/// it was, where it has no such instruction, or where the delay rules are broken without it in its place. An Err is refused
+/// The order with an instruction in its slot in place of a Nop: the last one that nothing behind it depends on, and without
+/// which in its place no delay rule is broken. The order as it was, where it has no such instruction. An Err is refused
 /// memory.
 pub fn fill(alloc: Global, _block: &Block, order: Order) -> Result<Order, AllocError> {
     let is_free = match order.slot() {
@@ -81,17 +107,17 @@ pub fn fill(alloc: Global, _block: &Block, order: Order) -> Result<Order, AllocE
     if !is_free {
         return Ok(order);
     }
-    let Some(k) = last_movable(&order) else {
-        return Ok(order);
-    };
-    match moved(alloc, &order, k)? {
-        Some(filled) => {
-            if clean(&filled).is_ok() {
-                Ok(filled)
-            } else {
-                Ok(order)
+    let mut passed = Passed::exit_of(alloc, &order);
+    for k in (0..order.insts().len()).rev() {
+        let Some(inst) = order.insts().get(k) else {
+            return Ok(order);
+        };
+        if passed.lets(inst) {
+            if let Some(filled) = moved(alloc, &order, k)? {
+                return Ok(filled);
             }
         }
-        None => Ok(order),
+        passed.take(inst, order.insts().get(..k).unwrap_or_default())?;
     }
+    Ok(order)
 }

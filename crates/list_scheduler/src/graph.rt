@@ -22,6 +22,8 @@ pub struct Node {
     reads: Resources,
     writes: Resources,
     access: Option<Access>,
+    // Whether it loads what an earlier store of the block, over the same base, stores in part.
+    meets: bool,
     /// Those that have to stand behind it.
     pub edges: Vec<Edge>,
     /// How many that are not in their places yet have to stand before it.
@@ -47,6 +49,7 @@ fn node_of(alloc: Global, inst: Plain) -> Node {
         reads: Resources::read_by(&inst),
         writes: Resources::written_by(&inst),
         access: access_of(&inst),
+        meets: false,
         edges: Vec::new(alloc),
         waits_for: 0,
         earliest: 0,
@@ -76,12 +79,35 @@ fn words_between(first: &Node, second: &Node, open: Resources) -> u32 {
     behind_result.max(behind_reader)
 }
 
+// Whether it loads what an earlier store may have stored, over the same base. Its value is a load from all that was stored
+// before, so it keeps its place among the stores.
+fn meets_store(nodes: &[Node], last: &Node) -> bool {
+    let mut between = Resources::NONE;
+    for first in nodes.iter().rev() {
+        if let (Some(earlier), Some(later)) = (first.access, last.access) {
+            let is_one_base = !between.union(first.writes).meets(Resources::of(later.base));
+            if earlier.stores
+                && !later.stores
+                && is_one_base
+                && earlier.base == later.base
+                && !earlier.passes(&later)
+            {
+                return true;
+            }
+        }
+        between = between.union(first.writes);
+    }
+    false
+}
+
 // Whether two accesses have to stay in their order. Where the base was written between them nothing is known of it.
 fn must_stay(first: &Node, second: &Node, between: Resources) -> bool {
     match (first.access, second.access) {
         (Some(earlier), Some(later)) => {
             let is_one_base = !between.union(first.writes).meets(Resources::of(later.base));
-            if earlier.stores || later.stores {
+            if (second.meets && earlier.stores) || (first.meets && later.stores) {
+                true
+            } else if earlier.stores || later.stores {
                 !(is_one_base && earlier.passes(&later))
             } else {
                 false
@@ -97,6 +123,7 @@ fn link_last(nodes: &mut Vec<Node>) -> Result<(), AllocError> {
         return Ok(());
     };
     let to = nodes.len();
+    last.meets = meets_store(nodes.as_slice(), &last);
     let mut between = Resources::NONE;
     for first in nodes.iter_mut().rev() {
         let open = Resources::ALL.difference(between);
@@ -121,7 +148,7 @@ fn set_heights(nodes: &mut [Node], exit: &Exit) {
         let mut height = NEXT;
         if let Some(node) = nodes.get(k) {
             if node.inst.action().is_load() && node.writes.meets(touched) {
-                height = AFTER_LOAD;
+                height = AFTER_LOAD + NEXT;
             }
             for edge in &node.edges {
                 if let Some(behind) = nodes.get(edge.to) {

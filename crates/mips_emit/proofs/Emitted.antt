@@ -13,8 +13,8 @@ pub insts_behind : (gs : List RGlobal) (starts : ℕ → ℕ) (at : Locations) (
     → insts_code gs starts at facts is [] ++ behind ≡ insts_code gs starts at facts is behind
 insts_behind gs starts at facts [] behind = refl
 insts_behind gs starts at facts (i ∷ is) behind =
-    append_assoc (inst_code gs starts at facts i) (insts_code gs starts at (learned i facts) is []) behind
-    ∙ ap (λ l. inst_code gs starts at facts i ++ l) (insts_behind gs starts at (learned i facts) is behind)
+    append_assoc (inst_code gs starts at facts i) (insts_code gs starts at (learned at i facts) is []) behind
+    ∙ ap (λ l. inst_code gs starts at facts i ++ l) (insts_behind gs starts at (learned at i facts) is behind)
 
 -- what stands at a place doesn't depend on what is given for no place
 get_same : {A : Type 0} (xs : List A) (i : ℕ) (d e : A) → i < length xs → get_or xs i d ≡ get_or xs i e
@@ -26,10 +26,10 @@ get_same (x ∷ xs) (suc i) d e lt = get_same xs i d e (omega (arith, lt))
 pub insts_step : (gs : List RGlobal) (starts : ℕ → ℕ) (at : Locations) (i : ℕ) (insts : List RInst) (d : RInst)
     (facts facts1 facts2 facts' all_facts : Facts) (last last' all_last : Last) (code code' all : List Plain)
     → i < length insts → facts1 ≡ facts → facts2 ≡ facts → code' ≡ code ++ inst_code gs starts at facts1 (get_or insts i d)
-    → facts' ≡ learned (get_or insts i d) facts → last' ≡ last_of at facts2 (get_or insts i d)
-    → (code ++ insts_code gs starts at facts (drop i insts) [] ≡ all) × (known_after (drop i insts) facts ≡ all_facts)
+    → facts' ≡ learned at (get_or insts i d) facts → last' ≡ last_of at facts2 (get_or insts i d)
+    → (code ++ insts_code gs starts at facts (drop i insts) [] ≡ all) × (known_after at (drop i insts) facts ≡ all_facts)
     × (last_after at facts (drop i insts) last ≡ all_last)
-    → (code' ++ insts_code gs starts at facts' (drop (i + 1) insts) [] ≡ all) × (known_after (drop (i + 1) insts) facts' ≡ all_facts)
+    → (code' ++ insts_code gs starts at facts' (drop (i + 1) insts) [] ≡ all) × (known_after at (drop (i + 1) insts) facts' ≡ all_facts)
     × (last_after at facts' (drop (i + 1) insts) last' ≡ all_last)
 insts_step gs starts at i insts d facts facts1 facts2 facts' all_facts last last' all_last code code' all within same same2 e k l before =
     let inst = get_or insts i d in
@@ -41,8 +41,8 @@ insts_step gs starts at i insts d facts facts1 facts2 facts' all_facts last last
           ∙ ap (λ (inst : RInst). code ++ insts_code gs starts at facts (inst ∷ rest) []) is
           ∙ sym (at_drop_more (λ is. code ++ insts_code gs starts at facts is []) insts i inst within)
           ∙ before.0,
-      ap (known_after rest) k ∙ ap (λ (inst : RInst). known_after (inst ∷ rest) facts) is
-          ∙ sym (at_drop_more (λ is. known_after is facts) insts i inst within) ∙ before.1,
+      ap (known_after at rest) k ∙ ap (λ (inst : RInst). known_after at (inst ∷ rest) facts) is
+          ∙ sym (at_drop_more (λ is. known_after at is facts) insts i inst within) ∙ before.1,
       ap₂ (λ facts' (l : Last). last_after at facts' rest l) k (l ∙ ap (λ f. last_of at f inst) same2)
           ∙ ap (λ (inst : RInst). last_after at facts (inst ∷ rest) last) is
           ∙ sym (at_drop_more (λ is. last_after at facts is last) insts i inst within) ∙ before.2,

@@ -19,7 +19,7 @@ use Rattle.mips_isa.specs.Actions.{action_of}
 use Rattle.mblock.specs.declared.limits.TheConstants.{UNIT_BYTES}
 use Rattle.mblock.proofs.StateWords.{run_words}
 use Rattle.rtl.specs.declared.block.RGlobal.{RGlobal}
-use Rattle.mips_homes.specs.HomedRun.{Run, Failed, with_value, in_home, read_home, write_at, write_home}
+use Rattle.mips_homes.specs.HomedRun.{is_lasting, Run, Failed, with_value, in_home, read_home, write_at, write_home}
 use Rattle.mips_homes.specs.declared.homed.Home.{Home}
 use Rattle.mips_homes.specs.declared.homed.Home.TheVariants.{Reg, Slot}
 use Rattle.mips_homes.specs.declared.homed.Frame.{Frame}
@@ -29,9 +29,11 @@ use Rattle.mips_emit.specs.declared.location.Source.TheVariants.{Zero, Word, Fro
 use Rattle.mips_emit.specs.declared.facts.Above.{Above}
 use Rattle.mips_emit.specs.declared.facts.Last.{Last}
 use Rattle.mips_emit.specs.Frames.{IsHome, AreFrameHomes, IsFrame}
-use Rattle.mips_emit.specs.Locations.{known_in, no_last, location_of, location_at, in_slot, fresh_source, known_source, source}
+use Rattle.mips_emit.specs.Locations.{known_in, no_facts, no_last, location_at, in_slot, fresh_source, source}
+use Rattle.mips_emit.specs.declared.location.Location.{Location}
+use Rattle.mips_emit.specs.Locations.{lazy_const, lazy_none, lazy_at, lazy_source, word_source}
 use Rattle.mips_emit.specs.Elements.{width_of, width_bytes, place_in, address_of_place}
-use Rattle.mips_emit.specs.Code.{is_small, half, constant, li, load_word_at, store_word_at, move_code, fetch, seat, bring, into, finish, put_at}
+use Rattle.mips_emit.specs.Code.{nop, const_code, is_small, half, constant, li, load_word_at, store_word_at, move_code, fetch, seat, bring, into, finish, put_at}
 use Rattle.mips_emit.proofs.Runs.{RunsTo, runs_none, runs_then}
 use Rattle.mips_emit.proofs.View.{word_at, set_word, shown_other, word_here, word_other, word_below, set_at_words, IsTarget, read_register}
 use Rattle.mips_emit.proofs.View.{read_other, moves, loads_word, stores_word, Sets, set_sets, li_sets}
@@ -41,11 +43,87 @@ use Rattle.mips_emit.proofs.Stands.{Stored, size_of, with_slots, StackHolds, sta
 pub record IsKnown (known : Places) (hs : List Home) (registers slots : Places) : Type 0 where
   pub by : (x w : ℕ) → known x ≡ Some w → read_home hs registers slots x ≡ Some w
 
-pub nothing_known : (hs : List Home) (registers slots : Places) → IsKnown (known_in []) hs registers slots
+pub nothing_known : (hs : List Home) (registers slots : Places) → IsKnown (known_in no_facts) hs registers slots
 nothing_known hs registers slots = record { by = λ x w e. absurd (none-some w e) }
 
+-- ---- words that are yet to be put into registers
+
+-- a register that has a word to come isn't shown
+abbrev pub hidden : Option ℕ → Option ℕ → Option ℕ
+hidden None o = o
+hidden (Some w) o = None
+
+abbrev pub hide : (lazy registers : Places) → Places
+hide lazy registers = λ q. hidden (lazy q) (registers q)
+
+-- they are what the registers of the run over homes hold, and none outlives a block
+pub record IsLazy (lazy registers : Places) : Type 0 where
+  pub passes : (q w : ℕ) → lazy q ≡ Some w → is_lasting q ≡ false
+  pub holds : (q w : ℕ) → lazy q ≡ Some w → registers q ≡ Some w
+  pub below : (q w : ℕ) → lazy q ≡ Some w → w < 2 ^ 32
+
+pub lazy_written : (lazy registers : Places) (r : ℕ) (o : Option ℕ) → IsLazy lazy registers → IsLazy (places_with lazy r None) (places_with registers r o)
+lazy_written lazy registers r o is = record {
+  passes = λ q w e. is.passes q w (before q w (nat_eq q r) e);
+  holds = λ q w e. holds q w (nat_eq q r) e;
+  below = λ q w e. is.below q w (before q w (nat_eq q r) e);
+}
+  where
+    before : (q w : ℕ) (b : Bool) → (if b then None else lazy q) ≡ Some w → lazy q ≡ Some w
+    before q w true e = absurd (none-some w e)
+    before q w false e = e
+
+    holds : (q w : ℕ) (b : Bool) → (if b then None else lazy q) ≡ Some w → (if b then o else registers q) ≡ Some w
+    holds q w true e = absurd (none-some w e)
+    holds q w false e = is.holds q w e
+
+pub lazy_told : (lazy registers : Places) (r v : ℕ) → is_lasting r ≡ false → v < 2 ^ 32 → IsLazy lazy registers
+    → IsLazy (places_with lazy r (Some v)) (places_with registers r (Some v))
+lazy_told lazy registers r v passes lt is = record {
+  passes = λ q w e. told q w (nat_eq q r) refl e;
+  holds = λ q w e. holds q w (nat_eq q r) e;
+  below = λ q w e. below q w (nat_eq q r) e;
+}
+  where
+    told : (q w : ℕ) (b : Bool) → nat_eq q r ≡ b → (if b then Some v else lazy q) ≡ Some w → is_lasting q ≡ false
+    told q w true t e = ap is_lasting (eqb-true q r t) ∙ passes
+    told q w false t e = is.passes q w e
+
+    holds : (q w : ℕ) (b : Bool) → (if b then Some v else lazy q) ≡ Some w → (if b then Some v else registers q) ≡ Some w
+    holds q w true e = e
+    holds q w false e = is.holds q w e
+
+    below : (q w : ℕ) (b : Bool) → (if b then Some v else lazy q) ≡ Some w → w < 2 ^ 32
+    below q w true e = subst (λ w. w < 2 ^ 32) (same_Some v w e) lt
+    below q w false e = is.below q w e
+
+pub none_lazy : (registers : Places) → IsLazy (λ q. None) registers
+none_lazy registers = record {
+  passes = λ q w e. absurd (none-some w e);
+  holds = λ q w e. absurd (none-some w e);
+  below = λ q w e. absurd (none-some w e);
+}
+
+-- what is shown after a write
+pub shown_written : (lazy registers : Places) (r v q w : ℕ) → hide (places_with lazy r None) (places_with registers r (Some v)) q ≡ Some w
+    → places_with (hide lazy registers) r (Some v) q ≡ Some w
+shown_written lazy registers r v q w e = by (nat_eq q r) e
+  where
+    by : (b : Bool) → hidden (if b then None else lazy q) (if b then Some v else registers q) ≡ Some w
+        → (if b then Some v else hidden (lazy q) (registers q)) ≡ Some w
+    by true e = e
+    by false e = e
+
+pub shown_told : (lazy registers : Places) (r v q w : ℕ) → hide (places_with lazy r (Some v)) (places_with registers r (Some v)) q ≡ Some w
+    → hide lazy registers q ≡ Some w
+shown_told lazy registers r v q w e = by (nat_eq q r) e
+  where
+    by : (b : Bool) → hidden (if b then Some v else lazy q) (if b then Some v else registers q) ≡ Some w → hidden (lazy q) (registers q) ≡ Some w
+    by true e = absurd (none-some w e)
+    by false e = e
+
 -- a pseudo-register is written
-known_register : (known : Places) (hs : List Home) (count : ℕ) (registers slots : Places) (x r v : ℕ) (o : Option ℕ) → AreFrameHomes hs count
+pub known_register : (known : Places) (hs : List Home) (count : ℕ) (registers slots : Places) (x r v : ℕ) (o : Option ℕ) → AreFrameHomes hs count
     → slice_get hs x ≡ Some (Reg r) → ((w : ℕ) → o ≡ Some w → w ≡ v) → IsKnown known hs registers slots
     → IsKnown (places_with known x o) hs (places_with registers r (Some v)) slots
 known_register known hs count registers slots x r v o ok there is h = record { by = λ y w e. by y w (nat_eq y x) refl e }
@@ -139,14 +217,14 @@ Denotes count s (Word w) v = (w ≡ v) × (w < 2 ^ 32)
 Denotes count s (From (Held r)) v = read 0 s.regs r ≡ v
 Denotes count s (From (InSlot k)) v = (k < count) × (word_at s (s.regs 29 + 4 * k) ≡ v)
 
--- an operand that isn't in a register below 16
+-- an operand that isn't in a register below 8
 abbrev pub IsAway : Source → Type 0
-IsAway (From (Held r)) = 16 ≤ r
+IsAway (From (Held r)) = 8 ≤ r
 IsAway (From (InSlot k)) = Unit {0}
 IsAway Zero = Unit {0}
 IsAway (Word w) = Unit {0}
 
-pub seat_kept : (x : Source) (t u : ℕ) (f f' : ℕ → ℕ) → IsAway x → t ≢ u → u < 16 → ((r : ℕ) → r ≢ u → f' r ≡ f r) → read 0 f' (seat t x) ≡ read 0 f (seat t x)
+pub seat_kept : (x : Source) (t u : ℕ) (f f' : ℕ → ℕ) → IsAway x → t ≢ u → u < 8 → ((r : ℕ) → r ≢ u → f' r ≡ f r) → read 0 f' (seat t x) ≡ read 0 f (seat t x)
 seat_kept Zero t u f f' away ne low same = refl
 seat_kept (Word w) t u f f' away ne low same = read_other f f' t (λ _. same t ne)
 seat_kept (From (Held r)) t u f f' away ne low same = read_other f f' r (λ _. same r (omega (arith, away, low)))
@@ -185,13 +263,37 @@ pub record Ends (is : List Plain) (s m : State) (d v : ℕ) : Type 0 where
   pub others : (r : ℕ) → r ≢ d → regs r ≡ m.regs r
   pub below : v < 2 ^ 32
 
+-- a nop
+pub runs_nop : (s : State) → RunsTo (nop ∷ []) s s
+runs_nop s = record { ends = refl }
+
 pub frame_homes : (most : ℕ) (f : Frame) → IsFrame most f → AreFrameHomes f.homes.items f.slots
 frame_homes most f ok = ok.homes
 
 module _ (most total : ℕ) (gs : List RGlobal) (starts : ℕ → ℕ) where
+  -- fewer registers are known
+  pub fewer_stand : (registers registers' : Places) (g : Arrays) (fs : List Stored) (s : State)
+      → ((q v : ℕ) → registers' q ≡ Some v → registers q ≡ Some v) → Stands most total gs starts registers g fs s
+      → Stands most total gs starts registers' g fs s
+  fewer_stand registers registers' g fs s some h = record {
+    words = h.words;
+    mapped = h.mapped;
+    held = λ r v low high is. h.held r v low high (some r v is);
+    stack = h.stack;
+    room = h.room;
+    aligned = h.aligned;
+    elements = h.elements;
+    inside = h.inside;
+    apart = h.apart;
+    even = h.even;
+    few = h.few;
+    linked = h.linked;
+    gp = h.gp;
+  }
+
   -- registers that are no homes change
   pub call_kept : (registers : Places) (g : Arrays) (fs : List Stored) (s : State) (f : ℕ → ℕ) → IsWords (record s { regs = f }) → Linked fs (f 31)
-      → ((r : ℕ) → 16 ≤ r → r < 30 → f r ≡ s.regs r) → Stands most total gs starts registers g fs s
+      → ((r : ℕ) → 8 ≤ r → r < 30 → f r ≡ s.regs r) → Stands most total gs starts registers g fs s
       → Stands most total gs starts registers g fs (record s { regs = f })
   call_kept registers g fs s f words linked same h =
       let pointer : f 29 ≡ s.regs 29 = same 29 (omega arith) (omega arith) in
@@ -212,13 +314,13 @@ module _ (most total : ℕ) (gs : List RGlobal) (starts : ℕ → ℕ) where
       }
 
   pub words_kept : (registers : Places) (g : Arrays) (fs : List Stored) (s : State) (f : ℕ → ℕ) → IsWords (record s { regs = f })
-      → ((r : ℕ) → 16 ≤ r → r < 32 → f r ≡ s.regs r) → Stands most total gs starts registers g fs s
+      → ((r : ℕ) → 8 ≤ r → r < 32 → f r ≡ s.regs r) → Stands most total gs starts registers g fs s
       → Stands most total gs starts registers g fs (record s { regs = f })
   words_kept registers g fs s f words same h = call_kept registers g fs s f words (subst (Linked fs) (sym (same 31 (omega arith) (omega arith))) h.linked)
       (λ r low high. same r low (omega (arith, high))) h
 
   pub regs_kept : (registers : Places) (g : Arrays) (fs : List Stored) (is : List Plain) (s : State) (f : ℕ → ℕ) → RunsTo is s (record s { regs = f })
-      → ((r : ℕ) → 16 ≤ r → r < 32 → f r ≡ s.regs r) → Stands most total gs starts registers g fs s
+      → ((r : ℕ) → 8 ≤ r → r < 32 → f r ≡ s.regs r) → Stands most total gs starts registers g fs s
       → Stands most total gs starts registers g fs (record s { regs = f })
   regs_kept registers g fs is s f e same h =
       words_kept registers g fs s f (run_words (map action_of is) s (record s { regs = f }) h.words e.ends) same h
@@ -235,59 +337,6 @@ module _ (most total : ℕ) (gs : List RGlobal) (starts : ℕ → ℕ) where
               ∙ open_stack total (s.regs 29 + o) (omega (arith, a4, aligned)) (omega (arith, low)) (omega (arith, up, lt)),
         )
 
-    pub home_below : (home : Home) (v : ℕ) → IsHome top.count home → in_home registers top.slots home ≡ Some v → v < 2 ^ 32
-    home_below (Reg r) v ok is = subst (λ v. v < 2 ^ 32) (h.held r v ok.0 ok.1 is) ((h.words).regs r)
-    home_below (Slot k) v ok is = subst (λ v. v < 2 ^ 32) ((h.stack.0).slots k v ok is) (word_below s (s.regs 29 + 4 * k) h.words)
-
-    pub operand_below : (hs : List Home) (x v : ℕ) → AreFrameHomes hs top.count → read_home hs registers top.slots x ≡ Some v → v < 2 ^ 32
-    operand_below hs x v ok e = go (slice_get hs x) refl e
-      where
-        go : (o : Option Home) → slice_get hs x ≡ o → chain o (in_home registers top.slots) ≡ Some v → v < 2 ^ 32
-        go None is e = absurd (none-some v e)
-        go (Some home) is e = home_below home v (ok.by x home is) e
-
-    -- an operand is what the pseudo-register holds
-    pub operand_means : (known : Places) (hs : List Home) (x v : ℕ) → AreFrameHomes hs top.count → IsKnown known hs registers top.slots
-        → read_home hs registers top.slots x ≡ Some v
-        → Denotes top.count s (source (known x) (location_at (slice_get hs x))) v × IsAway (source (known x) (location_at (slice_get hs x)))
-    operand_means known hs x v ok k e = go (slice_get hs x) (known x) refl refl e
-      where
-        home_means : (home : Home) → IsHome top.count home → in_home registers top.slots home ≡ Some v
-            → Denotes top.count s (From (location_of home)) v × IsAway (From (location_of home))
-        home_means (Reg r) ok is = (let low = ok.0 in read_register s.regs r (omega (arith, low)) ∙ h.held r v ok.0 ok.1 is, ok.0)
-        home_means (Slot q) ok is = ((ok, (h.stack.0).slots q v ok is), tt)
-
-        word_means : (w : ℕ) (o : Option Home) → slice_get hs x ≡ o → w ≡ v → w < 2 ^ 32 → chain o (in_home registers top.slots) ≡ Some v → (b : Bool)
-            → nat_eq w 0 ≡ b
-            → Denotes top.count s (if b then Zero else known_source w (location_at o)) v × IsAway (if b then Zero else known_source w (location_at o))
-        word_means w o is w_v below e true t = (sym w_v ∙ eqb-true w 0 t, tt)
-        word_means w None is w_v below e false t = ((w_v, below), tt)
-        word_means w (Some (Reg r)) is w_v below e false t = home_means (Reg r) (ok.by x (Reg r) is) e
-        word_means w (Some (Slot q)) is w_v below e false t = ((w_v, below), tt)
-
-        go : (o : Option Home) (p : Option ℕ) → slice_get hs x ≡ o → known x ≡ p → chain o (in_home registers top.slots) ≡ Some v
-            → Denotes top.count s (source p (location_at o)) v × IsAway (source p (location_at o))
-        go None p is kp e = absurd (none-some v e)
-        go (Some home) None is kp e = home_means home (ok.by x home is) e
-        go (Some home) (Some w) is kp e =
-            let same : w ≡ v = same_Some w v (sym (k.by x w kp) ∙ ap (λ o. chain o (in_home registers top.slots)) is ∙ e) in
-            let below : v < 2 ^ 32 = home_below home v (ok.by x home is) e in
-            word_means w (Some home) is same (omega (arith, same, below)) e (nat_eq w 0) refl
-
-    -- an operand of an exit
-    pub last_means : (known : Places) (fresh : Option ℕ) (hs : List Home) (x v : ℕ) → AreFrameHomes hs top.count → IsKnown known hs registers top.slots
-        → IsFresh fresh hs registers top.slots s → read_home hs registers top.slots x ≡ Some v
-        → Denotes top.count s (fresh_source fresh x (source (known x) (location_at (slice_get hs x)))) v
-    last_means known fresh hs x v ok k f e = go fresh refl
-      where
-        go : (o : Option ℕ) → fresh ≡ o → Denotes top.count s (fresh_source o x (source (known x) (location_at (slice_get hs x)))) v
-        go None is = (operand_means known hs x v ok k e).0
-        go (Some y) is = test (nat_eq y x) refl
-          where
-            test : (b : Bool) → nat_eq y x ≡ b → Denotes top.count s (if b then From (Held 1) else source (known x) (location_at (slice_get hs x))) v
-            test true t = f.by x v (is ∙ ap Some (eqb-true y x t)) e
-            test false t = (operand_means known hs x v ok k e).0
-
     -- an operand into a register
     pub brings : (t v : ℕ) (x : Source) → IsTarget t → Denotes top.count s x v → Sets (bring t x) s t v
     brings t v Zero ok d = set_sets (move_code t 0 ∷ []) s t 0 v ok (sym d) (moves s t 0 h.words)
@@ -298,8 +347,8 @@ module _ (most total : ℕ) (gs : List RGlobal) (starts : ℕ → ℕ) where
         let at = frame_open (4 * k) (omega arith) (omega (arith, lt)) in
         set_sets (load_word_at t (4 * k) ∷ []) s t (word_at s (s.regs 29 + 4 * k)) v ok d.1 (loads_word s t (4 * k) at.0 at.1)
 
-    -- a register below 16 is written
-    pub sets_kept : (is : List Plain) (t v : ℕ) → t < 16 → (c : Sets is s t v) → Stands most total gs starts registers g (top ∷ fs) (record s { regs = c.regs })
+    -- a register below 8 is written
+    pub sets_kept : (is : List Plain) (t v : ℕ) → t < 8 → (c : Sets is s t v) → Stands most total gs starts registers g (top ∷ fs) (record s { regs = c.regs })
     sets_kept is t v lt c = regs_kept registers g (top ∷ fs) is s c.regs c.runs (λ r low high. c.others r (omega (arith, low, lt))) h
 
     -- an operand, shown by a register
@@ -310,7 +359,7 @@ module _ (most total : ℕ) (gs : List RGlobal) (starts : ℕ → ℕ) where
       pub others : (r : ℕ) → r ≢ t → regs r ≡ s.regs r
       pub stands : Stands most total gs starts registers g (top ∷ fs) (record s { regs = regs })
 
-    loaded : (is : List Plain) (t v : ℕ) → 0 < t → t < 16 → Sets is s t v → Fetched is t t v
+    loaded : (is : List Plain) (t v : ℕ) → 0 < t → t < 8 → Sets is s t v → Fetched is t t v
     loaded is t v low high c = record {
       regs = c.regs;
       runs = c.runs;
@@ -319,7 +368,7 @@ module _ (most total : ℕ) (gs : List RGlobal) (starts : ℕ → ℕ) where
       stands = sets_kept is t v high c;
     }
 
-    pub fetches : (t v : ℕ) (x : Source) → 0 < t → t < 16 → Denotes top.count s x v → Fetched (fetch t x) t (seat t x) v
+    pub fetches : (t v : ℕ) (x : Source) → 0 < t → t < 8 → Denotes top.count s x v → Fetched (fetch t x) t (seat t x) v
     fetches t v Zero low high d = record { regs = s.regs; runs = runs_none s; here = sym d; others = λ r ne. refl; stands = h }
     fetches t v (Word w) low high d = loaded (li t w) t v low high (brings t v (Word w) (record { low = low; high = omega (arith, high) }) d)
     fetches t v (From (Held r)) low high d = record { regs = s.regs; runs = runs_none s; here = d; others = λ r ne. refl; stands = h }
@@ -327,7 +376,7 @@ module _ (most total : ℕ) (gs : List RGlobal) (starts : ℕ → ℕ) where
         (brings t v (From (InSlot k)) (record { low = low; high = omega (arith, high) }) d)
 
     -- a home register is written
-    pub register_written : (r v : ℕ) (regs : ℕ → ℕ) → 16 ≤ r → r < 24 → v < 2 ^ 32 → regs r ≡ v → ((q : ℕ) → q ≢ r → regs q ≡ s.regs q)
+    pub register_written : (r v : ℕ) (regs : ℕ → ℕ) → 8 ≤ r → r < 28 → v < 2 ^ 32 → regs r ≡ v → ((q : ℕ) → q ≢ r → regs q ≡ s.regs q)
         → Stands most total gs starts (places_with registers r (Some v)) g (top ∷ fs) (record s { regs = regs })
     register_written r v regs low high below is others =
         let pointer : regs 29 ≡ s.regs 29 = (let ne : 29 ≢ r = omega (arith, high) in others 29 ne) in
@@ -351,7 +400,7 @@ module _ (most total : ℕ) (gs : List RGlobal) (starts : ℕ → ℕ) where
         word q true e = subst (λ v. v < 2 ^ 32) (sym (ap regs (eqb-true q r e) ∙ is)) below
         word q false e = subst (λ v. v < 2 ^ 32) (sym (others q (eqb-false q r e))) ((h.words).regs q)
 
-        by : (q w : ℕ) → 16 ≤ q → q < 24 → (b : Bool) → nat_eq q r ≡ b → (if b then Some v else registers q) ≡ Some w → regs q ≡ w
+        by : (q w : ℕ) → 8 ≤ q → q < 28 → (b : Bool) → nat_eq q r ≡ b → (if b then Some v else registers q) ≡ Some w → regs q ≡ w
         by q w ql qh true e at = ap regs (eqb-true q r e) ∙ is ∙ same_Some v w at
         by q w ql qh false e at = others q (eqb-false q r e) ∙ h.held q w ql qh at
 
@@ -405,8 +454,88 @@ module _ (most total : ℕ) (gs : List RGlobal) (starts : ℕ → ℕ) where
             let ne : s.regs 29 + 4 * j ≢ s.regs 29 + 4 * k = omega (arith, apart) in
             word_other s (s.regs 29 + 4 * k) v (s.regs 29 + 4 * j) ne ∙ (h.stack.0).slots j w jl at
 
+  module _ (lazy registers : Places) (g : Arrays) (top : Stored) (fs : List Stored) (s : State)
+      (h : Stands most total gs starts (hide lazy registers) g (top ∷ fs) s) (is_lazy : IsLazy lazy registers) where
+    shown : (r v : ℕ) → lazy r ≡ None → registers r ≡ Some v → hide lazy registers r ≡ Some v
+    shown r v none is = ap (λ o. hidden o (registers r)) none ∙ is
+
+    pub home_below : (home : Home) (v : ℕ) → IsHome top.count home → in_home registers top.slots home ≡ Some v → v < 2 ^ 32
+    home_below (Reg r) v ok is = by (lazy r) refl
+      where
+        by : (o : Option ℕ) → lazy r ≡ o → v < 2 ^ 32
+        by None e = subst (λ v. v < 2 ^ 32) (h.held r v ok.0 ok.1 (shown r v e is)) ((h.words).regs r)
+        by (Some w) e = subst (λ v. v < 2 ^ 32) (same_Some w v (sym (is_lazy.holds r w e) ∙ is)) (is_lazy.below r w e)
+    home_below (Slot k) v ok is = subst (λ v. v < 2 ^ 32) ((h.stack.0).slots k v ok is) (word_below s (s.regs 29 + 4 * k) h.words)
+
+    pub operand_below : (hs : List Home) (x v : ℕ) → AreFrameHomes hs top.count → read_home hs registers top.slots x ≡ Some v → v < 2 ^ 32
+    operand_below hs x v ok e = go (slice_get hs x) refl e
+      where
+        go : (o : Option Home) → slice_get hs x ≡ o → chain o (in_home registers top.slots) ≡ Some v → v < 2 ^ 32
+        go None is e = absurd (none-some v e)
+        go (Some home) is e = home_below home v (ok.by x home is) e
+
+    abbrev pub Means : Source → ℕ → Type 0
+    Means x v = Denotes top.count s x v × IsAway x
+
+    -- an operand is what the pseudo-register holds
+    pub operand_means : (known : Places) (hs : List Home) (x v : ℕ) → AreFrameHomes hs top.count → IsKnown known hs registers top.slots
+        → read_home hs registers top.slots x ≡ Some v
+        → Denotes top.count s (lazy_source (lazy_at lazy (location_at (slice_get hs x))) (source (known x) (location_at (slice_get hs x)))) v
+        × IsAway (lazy_source (lazy_at lazy (location_at (slice_get hs x))) (source (known x) (location_at (slice_get hs x))))
+    operand_means known hs x v ok k e = go (slice_get hs x) (known x) refl refl e
+      where
+        word_means : (w : ℕ) → w ≡ v → w < 2 ^ 32 → (b : Bool) → nat_eq w 0 ≡ b → Means (if b then Zero else Word w) v
+        word_means w w_v below true t = (sym w_v ∙ eqb-true w 0 t, tt)
+        word_means w w_v below false t = ((w_v, below), tt)
+
+        held_means : (r : ℕ) → IsHome top.count (Reg r) → lazy r ≡ None → registers r ≡ Some v → Means (From (Held r)) v
+        held_means r ok none is = (let low = ok.0 in read_register s.regs r (omega (arith, low)) ∙ h.held r v ok.0 ok.1 (shown r v none is), ok.0)
+
+        either : (r w : ℕ) → w ≡ v → (b : Bool) → nat_eq w 0 ≡ b → Means (From (Held r)) v → Means (if b then Zero else From (Held r)) v
+        either r w w_v true t m = (sym w_v ∙ eqb-true w 0 t, tt)
+        either r w w_v false t m = m
+
+        reg : (r : ℕ) → slice_get hs x ≡ Some (Reg r) → registers r ≡ Some v → (z p : Option ℕ) → lazy r ≡ z → known x ≡ p
+            → Means (lazy_source z (source p (Some (Held r)))) v
+        reg r is e (Some w) p lz kp = word_means w (same_Some w v (sym (is_lazy.holds r w lz) ∙ e)) (is_lazy.below r w lz) (nat_eq w 0) refl
+        reg r is e None None lz kp = held_means r (ok.by x (Reg r) is) lz e
+        reg r is e None (Some w) lz kp =
+            let same : w ≡ v = same_Some w v (sym (k.by x w kp) ∙ ap (λ o. chain o (in_home registers top.slots)) is ∙ e) in
+            either r w same (nat_eq w 0) refl (held_means r (ok.by x (Reg r) is) lz e)
+
+        slot : (q : ℕ) → slice_get hs x ≡ Some (Slot q) → top.slots q ≡ Some v → (p : Option ℕ) → known x ≡ p → Means (source p (Some (InSlot q))) v
+        slot q is e None kp = (let lt = ok.by x (Slot q) is in ((lt, (h.stack.0).slots q v lt e), tt))
+        slot q is e (Some w) kp =
+            let same : w ≡ v = same_Some w v (sym (k.by x w kp) ∙ ap (λ o. chain o (in_home registers top.slots)) is ∙ e) in
+            let below : v < 2 ^ 32 = home_below (Slot q) v (ok.by x (Slot q) is) e in
+            word_means w same (omega (arith, same, below)) (nat_eq w 0) refl
+
+        go : (o : Option Home) (p : Option ℕ) → slice_get hs x ≡ o → known x ≡ p → chain o (in_home registers top.slots) ≡ Some v
+            → Means (lazy_source (lazy_at lazy (location_at o)) (source p (location_at o))) v
+        go None p is kp e = absurd (none-some v e)
+        go (Some (Reg r)) p is kp e = reg r is e (lazy r) p refl kp
+        go (Some (Slot q)) p is kp e = slot q is e p kp
+
+    -- an operand of an exit
+    pub last_means : (known : Places) (fresh : Option ℕ) (hs : List Home) (x v : ℕ) → AreFrameHomes hs top.count → IsKnown known hs registers top.slots
+        → IsFresh fresh hs registers top.slots s → read_home hs registers top.slots x ≡ Some v
+        → Denotes top.count s (fresh_source fresh x (lazy_source (lazy_at lazy (location_at (slice_get hs x)))
+        (source (known x) (location_at (slice_get hs x))))) v
+    last_means known fresh hs x v ok k f e = go fresh refl
+      where
+        other : Source
+        other = lazy_source (lazy_at lazy (location_at (slice_get hs x))) (source (known x) (location_at (slice_get hs x)))
+
+        go : (o : Option ℕ) → fresh ≡ o → Denotes top.count s (fresh_source o x other) v
+        go None is = (operand_means known hs x v ok k e).0
+        go (Some y) is = test (nat_eq y x) refl
+          where
+            test : (b : Bool) → nat_eq y x ≡ b → Denotes top.count s (if b then From (Held 1) else other) v
+            test true t = f.by x v (is ∙ ap Some (eqb-true y x t)) e
+            test false t = (operand_means known hs x v ok k e).0
+
   module _ (registers : Places) (g : Arrays) (top : Stored) (fs : List Stored) (s : State) (h : Stands most total gs starts registers g (top ∷ fs) s) where
-    pub ends_stands : (is : List Plain) (s0 : State) (t v : ℕ) → t < 16 → (e : Ends is s0 s t v)
+    pub ends_stands : (is : List Plain) (s0 : State) (t v : ℕ) → t < 8 → (e : Ends is s0 s t v)
         → Stands most total gs starts registers g (top ∷ fs) (record s { regs = e.regs })
     ends_stands is s0 t v lt e = words_kept registers g (top ∷ fs) s e.regs
         (record { regs = λ q. word q (nat_eq q t) refl; hi = (h.words).hi; lo = (h.words).lo; memory = (h.words).memory })
@@ -416,25 +545,34 @@ module _ (most total : ℕ) (gs : List RGlobal) (starts : ℕ → ℕ) where
         word q true is = subst (λ v. v < 2 ^ 32) (sym (ap e.regs (eqb-true q t is) ∙ e.here)) e.below
         word q false is = subst (λ v. v < 2 ^ 32) (sym (e.others q (eqb-false q t is))) ((h.words).regs q)
 
+  module _ (lazy registers : Places) (g : Arrays) (top : Stored) (fs : List Stored) (s : State)
+      (h : Stands most total gs starts (hide lazy registers) g (top ∷ fs) s) (is_lazy : IsLazy lazy registers) where
+    written : (r v : ℕ) (s' : State) → Stands most total gs starts (places_with (hide lazy registers) r (Some v)) g (top ∷ fs) s'
+        → Stands most total gs starts (hide (places_with lazy r None) (places_with registers r (Some v))) g (top ∷ fs) s'
+    written r v s' st = fewer_stand (places_with (hide lazy registers) r (Some v)) (hide (places_with lazy r None) (places_with registers r (Some v))) g
+        (top ∷ fs) s' (λ q w e. shown_written lazy registers r v q w e) st
+
     -- what a write to a location leaves
     abbrev pub Go : (P : Run → Type 0) (go : Places → Places → Run) (is : List Plain) (s0 : State) (known : Places) (x : ℕ) (o : Option ℕ) (hs : List Home)
-        → Type 0
-    Go P go is s0 known x o hs = (registers' slots' : Places) (s' : State) → 1 ≤ length is → RunsTo is s0 s'
-        → Stands most total gs starts registers' g (with_slots top slots' ∷ fs) s' → IsKnown (places_with known x o) hs registers' slots'
-        → ((r : ℕ) → 1 < r → r < 16 → s'.regs r ≡ s.regs r) → P (go registers' slots')
+        (l : Option Location) → Type 0
+    Go P go is s0 known x o hs l = (registers' slots' : Places) (s' : State) → 1 ≤ length is → RunsTo is s0 s'
+        → Stands most total gs starts (hide (lazy_none l lazy) registers') g (with_slots top slots' ∷ fs) s'
+        → IsLazy (lazy_none l lazy) registers' → IsKnown (places_with known x o) hs registers' slots'
+        → ((r : ℕ) → 1 < r → r < 8 → s'.regs r ≡ s.regs r) → P (go registers' slots')
 
     -- and that a result for a slot is still in register 1
     abbrev pub GoOn : (P : Run → Type 0) (go : Places → Places → Run) (is : List Plain) (s0 : State) (known : Places) (x : ℕ) (o : Option ℕ) (hs : List Home)
-        (fresh : Option ℕ) → Type 0
-    GoOn P go is s0 known x o hs fresh = (registers' slots' : Places) (s' : State) → 1 ≤ length is → RunsTo is s0 s'
-        → Stands most total gs starts registers' g (with_slots top slots' ∷ fs) s' → IsKnown (places_with known x o) hs registers' slots'
+        (l : Option Location) (fresh : Option ℕ) → Type 0
+    GoOn P go is s0 known x o hs l fresh = (registers' slots' : Places) (s' : State) → 1 ≤ length is → RunsTo is s0 s'
+        → Stands most total gs starts (hide (lazy_none l lazy) registers') g (with_slots top slots' ∷ fs) s'
+        → IsLazy (lazy_none l lazy) registers' → IsKnown (places_with known x o) hs registers' slots'
         → IsFresh fresh hs registers' slots' s' → P (go registers' slots')
 
     -- a result, computed into the register for its location
     pub finishes : (P : Run → Type 0) (go : Places → Places → Run) (hs : List Home) (x v : ℕ) (o : Option ℕ) (out : List ℕ) (known : Places)
         (is : List Plain) (s0 : State) → Ends is s0 s (into 1 (location_at (slice_get hs x))) v → 1 ≤ length is → ((w : ℕ) → o ≡ Some w → w ≡ v)
         → AreFrameHomes hs top.count → IsKnown known hs registers top.slots → P (Failed out)
-        → GoOn P go (is ++ finish 1 (location_at (slice_get hs x))) s0 known x o hs (in_slot (location_at (slice_get hs x)) x)
+        → GoOn P go (is ++ finish 1 (location_at (slice_get hs x))) s0 known x o hs (location_at (slice_get hs x)) (in_slot (location_at (slice_get hs x)) x)
         → P (write_home hs registers top.slots x v out go)
     finishes P go hs x v o out known is s0 e some said ok k failed f = by (slice_get hs x) refl e f
       where
@@ -443,7 +581,7 @@ module _ (most total : ℕ) (gs : List RGlobal) (starts : ℕ → ℕ) where
             ∙ ap (λ b. if b then Some v else top.slots j) (eq-eqb j j refl)
 
         by : (p : Option Home) → slice_get hs x ≡ p → Ends is s0 s (into 1 (location_at p)) v
-            → GoOn P go (is ++ finish 1 (location_at p)) s0 known x o hs (in_slot (location_at p) x)
+            → GoOn P go (is ++ finish 1 (location_at p)) s0 known x o hs (location_at p) (in_slot (location_at p) x)
             → P (with_value p out (λ h. write_at h registers top.slots v go))
         by None at e f = failed
         by (Some (Reg r)) at e f =
@@ -451,18 +589,19 @@ module _ (most total : ℕ) (gs : List RGlobal) (starts : ℕ → ℕ) where
             let low = range.0 in
             f (places_with registers r (Some v)) top.slots (record s { regs = e.regs }) (longer is [] some)
             (runs_then e.runs (runs_none (record s { regs = e.regs })))
-            (register_written registers g top fs s h r v e.regs range.0 range.1 e.below e.here e.others)
+            (written r v (record s { regs = e.regs }) (register_written (hide lazy registers) g top fs s h r v e.regs range.0 range.1 e.below e.here e.others))
+            (lazy_written lazy registers r (Some v) is_lazy)
             (known_register known hs top.count registers top.slots x r v o ok at said k) (record { by = λ c w is. absurd (none-some c is) })
         by (Some (Slot j)) at e f =
             let lt = ok.by x (Slot j) at in
             let s1 : State = record s { regs = e.regs } in
-            let st = ends_stands is s0 1 v (omega arith) e in
-            let place = frame_open registers g top fs s1 st (4 * j) (omega arith) (omega (arith, lt)) in
+            let st = ends_stands (hide lazy registers) g top fs s h is s0 1 v (omega arith) e in
+            let place = frame_open (hide lazy registers) g top fs s1 st (4 * j) (omega arith) (omega (arith, lt)) in
             let store : RunsTo (store_word_at 1 (4 * j) ∷ []) s1 (set_word s1 (s1.regs 29 + 4 * j) v) =
             subst (λ u. RunsTo (store_word_at 1 (4 * j) ∷ []) s1 (set_word s1 (s1.regs 29 + 4 * j) u)) e.here (stores_word s1 1 (4 * j) place.0 place.1) in
             f registers (places_with top.slots j (Some v)) (set_word s1 (s1.regs 29 + 4 * j) v) (longer is (store_word_at 1 (4 * j) ∷ []) some)
             (runs_then e.runs store)
-            (slot_written registers g top fs s1 st j v lt e.below)
+            (slot_written (hide lazy registers) g top fs s1 st j v lt e.below) is_lazy
             (known_slot known hs top.count registers top.slots x j v o ok at said k)
             (record {
               by = λ c w is there. e.here ∙ same_Some v w (sym (slot_read j at)
@@ -473,29 +612,93 @@ module _ (most total : ℕ) (gs : List RGlobal) (starts : ℕ → ℕ) where
     pub puts : (P : Run → Type 0) (go : Places → Places → Run) (hs : List Home) (x v : ℕ) (o : Option ℕ) (out : List ℕ) (known : Places) (y : Source)
         → Denotes top.count s y v → v < 2 ^ 32 → ((w : ℕ) → o ≡ Some w → w ≡ v) → AreFrameHomes hs top.count → IsKnown known hs registers top.slots
         → P (Failed out)
-        → Go P go (put_at (location_at (slice_get hs x)) y) s known x o hs
+        → Go P go (put_at (location_at (slice_get hs x)) y) s known x o hs (location_at (slice_get hs x))
         → P (write_home hs registers top.slots x v out go)
     puts P go hs x v o out known y d below said ok k failed f = by (slice_get hs x) refl f
       where
-        by : (p : Option Home) → slice_get hs x ≡ p → Go P go (put_at (location_at p) y) s known x o hs
+        by : (p : Option Home) → slice_get hs x ≡ p → Go P go (put_at (location_at p) y) s known x o hs (location_at p)
             → P (with_value p out (λ h. write_at h registers top.slots v go))
         by None at f = failed
         by (Some (Reg r)) at f =
             let range = ok.by x (Reg r) at in
             let low = range.0 in
-            let c = brings registers g top fs s h r v y (record { low = omega (arith, low); high = omega (arith, range.1) }) d in
+            let c = brings (hide lazy registers) g top fs s h r v y (record { low = omega (arith, low); high = omega (arith, range.1) }) d in
             f (places_with registers r (Some v)) top.slots (record s { regs = c.regs }) (bring_some r y) c.runs
-            (register_written registers g top fs s h r v c.regs range.0 range.1 below c.here c.others)
+            (written r v (record s { regs = c.regs }) (register_written (hide lazy registers) g top fs s h r v c.regs range.0 range.1 below c.here c.others))
+            (lazy_written lazy registers r (Some v) is_lazy)
             (known_register known hs top.count registers top.slots x r v o ok at said k) (λ q ql qh. c.others q (omega (arith, qh, low)))
         by (Some (Slot j)) at f =
             let lt = ok.by x (Slot j) at in
-            let c = fetches registers g top fs s h 1 v y (omega arith) (omega arith) d in
+            let c = fetches (hide lazy registers) g top fs s h 1 v y (omega arith) (omega arith) d in
             let s1 : State = record s { regs = c.regs } in
-            let place = frame_open registers g top fs s1 c.stands (4 * j) (omega arith) (omega (arith, lt)) in
+            let place = frame_open (hide lazy registers) g top fs s1 c.stands (4 * j) (omega arith) (omega (arith, lt)) in
             let store : RunsTo (store_word_at (seat 1 y) (4 * j) ∷ []) s1 (set_word s1 (s1.regs 29 + 4 * j) v) =
             subst (λ u. RunsTo (store_word_at (seat 1 y) (4 * j) ∷ []) s1 (set_word s1 (s1.regs 29 + 4 * j) u)) c.here
             (stores_word s1 (seat 1 y) (4 * j) place.0 place.1) in
             f registers (places_with top.slots j (Some v)) (set_word s1 (s1.regs 29 + 4 * j) v)
             (longer_behind (fetch 1 y) (store_word_at (seat 1 y) (4 * j) ∷ []) (omega arith)) (runs_then c.runs store)
-            (slot_written registers g top fs s1 c.stands j v lt below)
+            (slot_written (hide lazy registers) g top fs s1 c.stands j v lt below) is_lazy
             (known_slot known hs top.count registers top.slots x j v o ok at said k) (λ q ql qh. c.others q (omega (arith, ql)))
+
+    -- a constant, which needn't be put into a passing register yet
+    pub tells : (P : Run → Type 0) (go : Places → Places → Run) (hs : List Home) (x v : ℕ) (out : List ℕ) (known : Places)
+        → v < 2 ^ 32 → AreFrameHomes hs top.count → IsKnown known hs registers top.slots → P (Failed out)
+        → ((registers' slots' : Places) (s' : State) → 1 ≤ length (const_code (location_at (slice_get hs x)) v)
+        → RunsTo (const_code (location_at (slice_get hs x)) v) s s'
+        → Stands most total gs starts (hide (lazy_const (location_at (slice_get hs x)) v lazy) registers') g (with_slots top slots' ∷ fs) s'
+        → IsLazy (lazy_const (location_at (slice_get hs x)) v lazy) registers' → IsKnown (places_with known x (Some v)) hs registers' slots'
+        → P (go registers' slots'))
+        → P (write_home hs registers top.slots x v out go)
+    tells P go hs x v out known below ok k failed f = by (slice_get hs x) refl f
+      where
+        Told : Option Location → Type 0
+        Told l = (registers' slots' : Places) (s' : State) → 1 ≤ length (const_code l v) → RunsTo (const_code l v) s s'
+            → Stands most total gs starts (hide (lazy_const l v lazy) registers') g (with_slots top slots' ∷ fs) s'
+            → IsLazy (lazy_const l v lazy) registers' → IsKnown (places_with known x (Some v)) hs registers' slots' → P (go registers' slots')
+
+        word : (b : Bool) → nat_eq v 0 ≡ b → Denotes top.count s (if b then Zero else Word v) v
+        word true t = eqb-true v 0 t
+        word false t = (refl, below)
+
+        said : (w : ℕ) → Some v ≡ Some w → w ≡ v
+        said w e = sym (same_Some v w e)
+
+        reg : (r : ℕ) → slice_get hs x ≡ Some (Reg r) → (b : Bool) → is_lasting r ≡ b
+            → ((registers' slots' : Places) (s' : State) → 1 ≤ length (if b then bring r (word_source v) else nop ∷ [])
+            → RunsTo (if b then bring r (word_source v) else nop ∷ []) s s'
+            → Stands most total gs starts (hide (places_with lazy r (if b then None else Some v)) registers') g (with_slots top slots' ∷ fs) s'
+            → IsLazy (places_with lazy r (if b then None else Some v)) registers' → IsKnown (places_with known x (Some v)) hs registers' slots'
+            → P (go registers' slots'))
+            → P (go (places_with registers r (Some v)) top.slots)
+        reg r at true lasts f =
+            let range = ok.by x (Reg r) at in
+            let low = range.0 in
+            let c = brings (hide lazy registers) g top fs s h r v (word_source v) (record { low = omega (arith, low); high = omega (arith, range.1) })
+            (word (nat_eq v 0) refl) in
+            f (places_with registers r (Some v)) top.slots (record s { regs = c.regs }) (bring_some r (word_source v)) c.runs
+            (written r v (record s { regs = c.regs }) (register_written (hide lazy registers) g top fs s h r v c.regs range.0 range.1 below c.here c.others))
+            (lazy_written lazy registers r (Some v) is_lazy)
+            (known_register known hs top.count registers top.slots x r v (Some v) ok at said k)
+        reg r at false passes f =
+            f (places_with registers r (Some v)) top.slots s (omega arith) (runs_nop s)
+            (fewer_stand (hide lazy registers) (hide (places_with lazy r (Some v)) (places_with registers r (Some v))) g (top ∷ fs) s
+            (λ q w e. shown_told lazy registers r v q w e) h)
+            (lazy_told lazy registers r v passes below is_lazy)
+            (known_register known hs top.count registers top.slots x r v (Some v) ok at said k)
+
+        by : (p : Option Home) → slice_get hs x ≡ p → Told (location_at p) → P (with_value p out (λ h. write_at h registers top.slots v go))
+        by None at f = failed
+        by (Some (Reg r)) at f = reg r at (is_lasting r) refl f
+        by (Some (Slot j)) at f =
+            let lt = ok.by x (Slot j) at in
+            let y = word_source v in
+            let c = fetches (hide lazy registers) g top fs s h 1 v y (omega arith) (omega arith) (word (nat_eq v 0) refl) in
+            let s1 : State = record s { regs = c.regs } in
+            let place = frame_open (hide lazy registers) g top fs s1 c.stands (4 * j) (omega arith) (omega (arith, lt)) in
+            let store : RunsTo (store_word_at (seat 1 y) (4 * j) ∷ []) s1 (set_word s1 (s1.regs 29 + 4 * j) v) =
+            subst (λ u. RunsTo (store_word_at (seat 1 y) (4 * j) ∷ []) s1 (set_word s1 (s1.regs 29 + 4 * j) u)) c.here
+            (stores_word s1 (seat 1 y) (4 * j) place.0 place.1) in
+            f registers (places_with top.slots j (Some v)) (set_word s1 (s1.regs 29 + 4 * j) v)
+            (longer_behind (fetch 1 y) (store_word_at (seat 1 y) (4 * j) ∷ []) (omega arith)) (runs_then c.runs store)
+            (slot_written (hide lazy registers) g top fs s1 c.stands j v lt below) is_lazy
+            (known_slot known hs top.count registers top.slots x j v (Some v) ok at said k)

@@ -30,13 +30,14 @@ use Rattle.mips_homes.specs.HomedRun.{in_home, Run, Failed, with_value, read_hom
 use Rattle.mips_homes.specs.declared.homed.Home.{Home}
 use Rattle.mips_homes.specs.declared.homed.Home.TheVariants.{Reg, Slot}
 use Rattle.mips_emit.specs.declared.limits.TheConstants.{KEPT_FACTS}
+use Rattle.mips_emit.specs.declared.location.Location.{Location}
 use Rattle.mips_emit.specs.declared.location.Location.TheVariants.{Held, InSlot}
 use Rattle.mips_emit.specs.declared.location.Source.{Source}
 use Rattle.mips_emit.specs.declared.location.Source.TheVariants.{Zero, Word, From}
 use Rattle.mips_emit.specs.declared.facts.Above.{Above}
 use Rattle.mips_emit.specs.declared.facts.Fact.{Fact}
 use Rattle.mips_emit.specs.Frames.{AreFrameHomes}
-use Rattle.mips_emit.specs.Locations.{Facts, known_in, with_fact, learned, location_at, locations_of, is_signed_less, above_at, above_by, above_of}
+use Rattle.mips_emit.specs.Locations.{Facts, known_of, known_in, lazy_none, above_held, with_fact, learned, location_at, locations_of, is_signed_less, above_at, above_by, above_of}
 use Rattle.mips_emit.specs.Locations.{last_of, word_source, operand}
 use Rattle.mips_emit.specs.Elements.{width_of, width_bytes, element_place, place_in, address_of_place, data_middle, direct, near, base_code}
 use Rattle.mips_emit.specs.Elements.{base_offset, element_base, element_offset}
@@ -45,7 +46,7 @@ use Rattle.mips_emit.specs.Code.{code_by_right, op_code, element_code, element_l
 use Rattle.mips_emit.proofs.Runs.{RunsTo, runs_none, runs_then}
 use Rattle.mips_emit.proofs.View.{shown_at, word_of_offset, shown_below, set, set_at, put_here, put_other, IsTarget, loads_at, stores_at, near_word, based}
 use Rattle.mips_emit.proofs.Stands.{Stored, with_slots, Stands}
-use Rattle.mips_emit.proofs.Homes.{IsLast, none_last, known_with, known_without, regs_kept, IsKnown, Denotes, IsAway, seat_kept, longer_behind, Ends}
+use Rattle.mips_emit.proofs.Homes.{IsLast, none_last, known_with, known_without, regs_kept, IsKnown, Denotes, IsAway, seat_kept, longer_behind, Ends, hidden, hide, IsLazy, tells}
 use Rattle.mips_emit.proofs.Homes.{operand_below, operand_means, fetches, finishes, puts}
 use Rattle.mips_emit.proofs.Globals.{kept_is, data_open, data_written, stored_at}
 use Rattle.mips_emit.proofs.Operations.{Gives, operation_gives, immediate_gives, less_gives, symmetric}
@@ -53,21 +54,30 @@ use Rattle.mips_emit.proofs.Operations.{Gives, operation_gives, immediate_gives,
 -- ---- facts
 
 -- what fewer facts say, all say
-known_fewer : (n : ℕ) (facts : Facts) (x w : ℕ) → known_in (take n facts) x ≡ Some w → known_in facts x ≡ Some w
+known_fewer : (n : ℕ) (facts : List Fact) (x w : ℕ) → known_of (take n facts) x ≡ Some w → known_of facts x ≡ Some w
 known_fewer zero [] x w e = e
 known_fewer zero (f ∷ facts) x w e = absurd (none-some w e)
 known_fewer (suc n) [] x w e = e
 known_fewer (suc n) (f ∷ facts) x w e = go (nat_eq x f.register) e (λ e. known_fewer n facts x w e)
   where
-    go : (b : Bool) → (if b then f.word else known_in (take n facts) x) ≡ Some w → (known_in (take n facts) x ≡ Some w → known_in facts x ≡ Some w)
-        → (if b then f.word else known_in facts x) ≡ Some w
+    go : (b : Bool) → (if b then f.word else known_of (take n facts) x) ≡ Some w → (known_of (take n facts) x ≡ Some w → known_of facts x ≡ Some w)
+        → (if b then f.word else known_of facts x) ≡ Some w
     go true e next = e
     go false e next = next e
 
 fact_known : (hs : List Home) (registers slots : Places) (facts : Facts) (x : ℕ) (o : Option ℕ) → IsKnown (places_with (known_in facts) x o) hs registers slots
-    → IsKnown (known_in (with_fact x o facts)) hs registers slots
+    → IsKnown (known_of (with_fact x o facts.known)) hs registers slots
 fact_known hs registers slots facts x o h =
-    record { by = λ y w e. h.by y w (known_fewer KEPT_FACTS ((let f : Fact = record { register = x; word = o } in f) ∷ facts) y w e) }
+    record { by = λ y w e. h.by y w (known_fewer KEPT_FACTS ((let f : Fact = record { register = x; word = o } in f) ∷ facts.known) y w e) }
+
+still_none : (l : Option Location) (lazy : Places) (q : ℕ) → lazy q ≡ None → lazy_none l lazy q ≡ None
+still_none None lazy q e = e
+still_none (Some (InSlot k)) lazy q e = e
+still_none (Some (Held r)) lazy q e = by (nat_eq q r)
+  where
+    by : (b : Bool) → (if b then None else lazy q) ≡ None
+    by true = refl
+    by false = e
 
 -- ---- parts of the proof
 
@@ -226,7 +236,7 @@ module _ (most total : ℕ) (gs : List RGlobal) (starts : ℕ → ℕ) where
     Means x v = (s : State) → Stands most total gs starts registers g (top ∷ fs) s → Denotes top.count s x v
 
     -- one operand, then instructions that give a word
-    one_operand : (t d v u : ℕ) (x : Source) (is : List Plain) → 0 < t → t < 16 → Means x v → u < 2 ^ 32
+    one_operand : (t d v u : ℕ) (x : Source) (is : List Plain) → 0 < t → t < 8 → Means x v → u < 2 ^ 32
         → ((s : State) → read 0 s.regs (seat t x) ≡ v → Gives is s d u) → Computed (fetch t x ++ is) d u
     one_operand t d v u x is low high mx lt gives =
         let a = fetches most total gs starts registers g top fs s h t v x low high (mx s h) in
@@ -345,11 +355,12 @@ module _ (most total : ℕ) (gs : List RGlobal) (starts : ℕ → ℕ) where
     -- a comparison with zero says whether the other word is above zero
     above_holds : (facts : Facts) (registers : Places) (top : Stored) (d a b v w u : ℕ) → AreFrameHomes hs top.count
         → IsKnown (known_in facts) hs registers top.slots → read_home hs registers top.slots a ≡ Some v → op_result LtS v w ≡ Some u
-        → (r' : Places) (top' : Stored) (to : State) → Stands most total gs starts r' g (top' ∷ fs) to
+        → (r' lazy' : Places) (top' : Stored) (to : State) → ((q : ℕ) → facts.lazy q ≡ None → lazy' q ≡ None)
+        → Stands most total gs starts (hide lazy' r') g (top' ∷ fs) to
         → IsKnown (places_with (places_with (known_in facts) b (Some w)) d (Some u)) hs r' top'.slots
-        → (m : Above) (v' : ℕ) → above_by (known_in facts a) (locations_of hs b) d b ≡ Some m → read_home hs r' top'.slots m.result ≡ Some v'
+        → (m : Above) (v' : ℕ) → above_by (known_in facts a) facts.lazy (locations_of hs b) d b ≡ Some m → read_home hs r' top'.slots m.result ≡ Some v'
         → (0 < m.register) × (v' ≡ op_value operators.Slt 0 (to.regs m.register))
-    above_holds facts registers top d a b v w u ok k ev eu r' top' to st kn m v' is there = by_known (known_in facts a) refl is
+    above_holds facts registers top d a b v w u ok k ev eu r' lazy' top' to none st kn m v' is there = by_known (known_in facts a) refl is
       where
         known : Places
         known = known_in facts
@@ -357,8 +368,8 @@ module _ (most total : ℕ) (gs : List RGlobal) (starts : ℕ → ℕ) where
         Holds : Type 0
         Holds = (0 < m.register) × (v' ≡ op_value operators.Slt 0 (to.regs m.register))
 
-        found : (q : ℕ) → slice_get hs b ≡ Some (Reg q) → 0 ≡ v → d ≢ b → (let x : Above = record { result = d; register = q } in x) ≡ m → Holds
-        found q home zero_v ne same =
+        found : (q : ℕ) → slice_get hs b ≡ Some (Reg q) → facts.lazy q ≡ None → 0 ≡ v → d ≢ b → (let x : Above = record { result = d; register = q } in x) ≡ m → Holds
+        found q home shows zero_v ne same =
             let range = ok.by b (Reg q) home in
             let low = range.0 in
             let kept : read_home hs r' top'.slots b ≡ Some w = kn.by b w
@@ -366,7 +377,8 @@ module _ (most total : ℕ) (gs : List RGlobal) (starts : ℕ → ℕ) where
             ∙ ap (λ t. if t then Some w else known_in facts b) (eq-eqb b b refl)) in
             let result : read_home hs r' top'.slots d ≡ Some u = kn.by d u
             (ap (λ t. if t then Some u else (places_with (known_in facts) b (Some w)) d) (eq-eqb d d refl)) in
-            let shown : to.regs q ≡ w = st.held q w range.0 range.1 (ap (λ o. chain o (in_home r' top'.slots)) (sym home) ∙ kept) in
+            let shown : to.regs q ≡ w = st.held q w range.0 range.1 (ap (λ o. hidden o (r' q)) (none q shows)
+            ∙ ap (λ o. chain o (in_home r' top'.slots)) (sym home) ∙ kept) in
             let value : v' ≡ u = same_Some v' u (sym there ∙ ap (λ (x : Above). read_home hs r' top'.slots x.result) (sym same) ∙ result) in
             let register : q ≡ m.register = ap (λ (x : Above). x.register) same in (
               subst (λ r. 0 < r) register (omega (arith, low)),
@@ -374,90 +386,96 @@ module _ (most total : ℕ) (gs : List RGlobal) (starts : ℕ → ℕ) where
                   ∙ ap (λ r. op_value operators.Slt 0 (to.regs r)) register,
             )
 
-        by_home : (o : Option Home) → slice_get hs b ≡ o → 0 ≡ v → above_at (location_at o) d b ≡ Some m → Holds
+        by_home : (o : Option Home) → slice_get hs b ≡ o → 0 ≡ v → above_at facts.lazy (location_at o) d b ≡ Some m → Holds
         by_home None home z is = absurd (none-some m is)
         by_home (Some (Slot j)) home z is = absurd (none-some m is)
-        by_home (Some (Reg q)) home z is = test (nat_eq d b) refl is
+        by_home (Some (Reg q)) home z is = held (facts.lazy q) refl is
           where
-            test : (t : Bool) → nat_eq d b ≡ t → (if t then None else Some (let x : Above = record { result = d; register = q } in x)) ≡ Some m → Holds
-            test true t is = absurd (none-some m is)
-            test false t is = found q home z (eqb-false d b t) (same_Some (let x : Above = record { result = d; register = q } in x) m is)
+            test : facts.lazy q ≡ None → (t : Bool) → nat_eq d b ≡ t
+                → (if t then None else Some (let x : Above = record { result = d; register = q } in x)) ≡ Some m → Holds
+            test shows true t is = absurd (none-some m is)
+            test shows false t is = found q home shows z (eqb-false d b t) (same_Some (let x : Above = record { result = d; register = q } in x) m is)
 
-        by_known : (o : Option ℕ) → known_in facts a ≡ o → above_by o (locations_of hs b) d b ≡ Some m → Holds
+            held : (o : Option ℕ) → facts.lazy q ≡ o → above_held o q d b ≡ Some m → Holds
+            held (Some c) e is = absurd (none-some m is)
+            held None e is = test e (nat_eq d b) refl is
+
+        by_known : (o : Option ℕ) → known_in facts a ≡ o → above_by o facts.lazy (locations_of hs b) d b ≡ Some m → Holds
         by_known None ka is = absurd (none-some m is)
         by_known (Some c) ka is = test (nat_eq c 0) refl is
           where
-            test : (t : Bool) → nat_eq c 0 ≡ t → (if t then above_at (locations_of hs b) d b else None) ≡ Some m → Holds
+            test : (t : Bool) → nat_eq c 0 ≡ t → (if t then above_at facts.lazy (locations_of hs b) d b else None) ≡ Some m → Holds
             test false t is = absurd (none-some m is)
             test true t is = by_home (slice_get hs b) refl (sym (eqb-true c 0 t) ∙ same_Some c v (sym (k.by a c ka) ∙ ev)) is
 
     -- only a signed comparison says it
     above_of_op : (op : Op) (facts : Facts) (registers : Places) (top : Stored) (d a b v w u : ℕ) → AreFrameHomes hs top.count
         → IsKnown (known_in facts) hs registers top.slots → read_home hs registers top.slots a ≡ Some v → op_result op v w ≡ Some u
-        → (r' : Places) (top' : Stored) (to : State) → Stands most total gs starts r' g (top' ∷ fs) to
+        → (r' lazy' : Places) (top' : Stored) (to : State) → ((q : ℕ) → facts.lazy q ≡ None → lazy' q ≡ None)
+        → Stands most total gs starts (hide lazy' r') g (top' ∷ fs) to
         → IsKnown (places_with (places_with (known_in facts) b (Some w)) d (Some u)) hs r' top'.slots
         → (m : Above) (v' : ℕ) → above_of (locations_of hs) facts (Bin op d a b) ≡ Some m → read_home hs r' top'.slots m.result ≡ Some v'
         → (0 < m.register) × (v' ≡ op_value operators.Slt 0 (to.regs m.register))
-    above_of_op op facts registers top d a b v w u ok k ev eu r' top' to st kn m v' is there = go (is_signed_less op) refl is
+    above_of_op op facts registers top d a b v w u ok k ev eu r' lazy' top' to none st kn m v' is there = go (is_signed_less op) refl is
       where
-        go : (t : Bool) → is_signed_less op ≡ t → (if t then above_by (known_in facts a) (locations_of hs b) d b else None) ≡ Some m
+        go : (t : Bool) → is_signed_less op ≡ t → (if t then above_by (known_in facts a) facts.lazy (locations_of hs b) d b else None) ≡ Some m
             → (0 < m.register) × (v' ≡ op_value operators.Slt 0 (to.regs m.register))
         go false t is = absurd (none-some m is)
         go true t is = above_holds facts registers top d a b v w u ok k ev
-            (ap (λ op. op_result op v w) (sym (signed_less op t)) ∙ eu) r' top' to st kn m v' is there
+            (ap (λ op. op_result op v w) (sym (signed_less op t)) ∙ eu) r' lazy' top' to none st kn m v' is there
 
     pub performs : (i : RInst) (facts : Facts) (registers : Places) (top : Stored) (s : State) (go : Places → Places → Arrays → Run)
-        → AreFrameHomes hs top.count → IsKnown (known_in facts) hs registers top.slots → Stands most total gs starts registers g (top ∷ fs) s
+        → AreFrameHomes hs top.count → IsKnown (known_in facts) hs registers top.slots → IsLazy facts.lazy registers
+        → Stands most total gs starts (hide facts.lazy registers) g (top ∷ fs) s
         → ((registers' slots' : Places) (g' : Arrays) (s' : State) → 1 ≤ length (inst_code gs starts (locations_of hs) facts i)
-        → RunsTo (inst_code gs starts (locations_of hs) facts i) s s' → Stands most total gs starts registers' g' (with_slots top slots' ∷ fs) s'
-        → IsKnown (known_in (learned i facts)) hs registers' slots' → IsLast (last_of (locations_of hs) facts i) hs registers' slots' s'
+        → RunsTo (inst_code gs starts (locations_of hs) facts i) s s' → Stands most total gs starts (hide (learned (locations_of hs) i facts).lazy registers') g' (with_slots top slots' ∷ fs) s'
+        → IsLazy (learned (locations_of hs) i facts).lazy registers' → IsKnown (known_in (learned (locations_of hs) i facts)) hs registers' slots' → IsLast (last_of (locations_of hs) facts i) hs registers' slots' s'
         → P (go registers' slots' g'))
         → P (with_inst gs i hs registers top.slots g out go)
-    performs (Const d w) facts registers top s go ok k h f =
-        puts most total gs starts registers g top fs s h P (λ r s. go r s g) hs d (wrap w) (Some (wrap w)) out (known_in facts) (word_source (wrap w))
-        (word_means top.count (wrap w) (wrap w) s refl (omega arith)) (omega arith) (λ u e. sym (same_Some (wrap w) u e)) ok k failed
-        (λ r' s' to some e st kn low. f r' s' g to some e st (fact_known hs r' s' facts d (Some (wrap w)) kn) (none_last hs r' s' to))
-    performs (Move d a) facts registers top s go ok k h f =
+    performs (Const d w) facts registers top s go ok k lz h f =
+        tells most total gs starts facts.lazy registers g top fs s h lz P (λ r s. go r s g) hs d (wrap w) out (known_in facts) (omega arith) ok k failed
+        (λ r' s' to some e st lz' kn. f r' s' g to some e st lz' (fact_known hs r' s' facts d (Some (wrap w)) kn) (none_last hs r' s' to))
+    performs (Move d a) facts registers top s go ok k lz h f =
         value_or_failed P (read_home hs registers top.slots a) out _ failed (λ v e.
-        let x = operand_means most total gs starts registers g top fs s h (known_in facts) hs a v ok k e in
-        puts most total gs starts registers g top fs s h P (λ r s. go r s g) hs d v (known_in facts a) out (known_in facts)
-        (operand (locations_of hs) facts a) x.0 (operand_below most total gs starts registers g top fs s h hs a v ok e)
+        let x = operand_means most total gs starts facts.lazy registers g top fs s h lz (known_in facts) hs a v ok k e in
+        puts most total gs starts facts.lazy registers g top fs s h lz P (λ r s. go r s g) hs d v (known_in facts a) out (known_in facts)
+        (operand (locations_of hs) facts a) x.0 (operand_below most total gs starts facts.lazy registers g top fs s h lz hs a v ok e)
         (λ u is. same_Some u v (sym (k.by a u is) ∙ e)) ok k failed
-        (λ r' s' to some e st kn low. f r' s' g to some e st (fact_known hs r' s' facts d (known_in facts a) kn) (none_last hs r' s' to)))
-    performs (Bin op d a b) facts registers top s go ok k h f =
+        (λ r' s' to some e st lz' kn low. f r' s' g to some e st lz' (fact_known hs r' s' facts d (known_in facts a) kn) (none_last hs r' s' to)))
+    performs (Bin op d a b) facts registers top s go ok k lz h f =
         value_or_failed P (read_home hs registers top.slots a) out _ failed (λ v ev.
         value_or_failed P (read_home hs registers top.slots b) out _ failed (λ w ew.
         value_or_failed P (op_result op v w) out _ failed (λ u eu.
         let known = known_in facts in
-        let z = computes registers g top fs s h op (into 1 (locations_of hs d)) v w u (known_in facts a) (known_in facts b)
+        let z = computes (hide facts.lazy registers) g top fs s h op (into 1 (locations_of hs d)) v w u (known_in facts a) (known_in facts b)
         (operand (locations_of hs) facts a) (operand (locations_of hs) facts b) (into_target hs top.count d ok)
-        (operand_means most total gs starts registers g top fs s h known hs a v ok k ev).1
-        (λ s h. (operand_means most total gs starts registers g top fs s h known hs a v ok k ev).0)
-        (λ s h. (operand_means most total gs starts registers g top fs s h known hs b w ok k ew).0)
+        (operand_means most total gs starts facts.lazy registers g top fs s h lz known hs a v ok k ev).1
+        (λ s h. (operand_means most total gs starts facts.lazy registers g top fs s h lz known hs a v ok k ev).0)
+        (λ s h. (operand_means most total gs starts facts.lazy registers g top fs s h lz known hs b w ok k ew).0)
         (λ c is. same_Some c v (sym (k.by a c is) ∙ ev))
         (λ c is. same_Some c w (sym (k.by b c is) ∙ ew))
-        (operand_below most total gs starts registers g top fs s h hs a v ok ev)
-        (operand_below most total gs starts registers g top fs s h hs b w ok ew) eu in
-        finishes most total gs starts registers g top fs z.to z.stands P (λ r s. go r s g) hs d u (Some u) out (places_with known b (Some w))
+        (operand_below most total gs starts facts.lazy registers g top fs s h lz hs a v ok ev)
+        (operand_below most total gs starts facts.lazy registers g top fs s h lz hs b w ok ew) eu in
+        finishes most total gs starts facts.lazy registers g top fs z.to z.stands lz P (λ r s. go r s g) hs d u (Some u) out (places_with known b (Some w))
         (op_code op (into 1 (locations_of hs d)) (known_in facts a) (known_in facts b) (operand (locations_of hs) facts a)
         (operand (locations_of hs) facts b)) s z.ends z.some
         (λ c is. sym (same_Some u c is)) ok (known_with known hs registers top.slots b w ew k) failed
-        (λ r' s' to some e st kn new. f r' s' g to some e st (fact_known hs r' s' facts d None
+        (λ r' s' to some e st lz' kn new. f r' s' g to some e st lz' (fact_known hs r' s' facts d None
         (known_without known hs r' s' b w d u (λ c is. same_Some c w (sym (k.by b c is) ∙ ew)) kn))
         (record {
           fresh = new;
-          above = λ m v' is there. above_of_op op facts registers top d a b v w u ok k ev eu r'
-              (with_slots top s') to st kn m v' is there;
+          above = λ m v' is there. above_of_op op facts registers top d a b v w u ok k ev eu r' (lazy_none (locations_of hs d) facts.lazy)
+              (with_slots top s') to (λ q e. still_none (locations_of hs d) facts.lazy q e) st kn m v' is there;
         })))))
-    performs (Load d a i) facts registers top s go ok k h f =
+    performs (Load d a i) facts registers top s go ok k lz h f =
         value_or_failed P (read_home hs registers top.slots i) out _ failed (λ v ev.
         value_or_failed P (element_at g a v) out _ failed (λ w there.
         let known = known_in facts in
         let x = operand (locations_of hs) facts i in
         let width = width_of gs a in
         let o = direct width (starts a) (known_in facts i) in
-        let p = elements registers g top fs s h (known_in facts i) x a v w (operand_means most total gs starts registers g top fs s h known hs i v ok k ev).1
-        (λ s h. (operand_means most total gs starts registers g top fs s h known hs i v ok k ev).0) (λ u is. same_Some u v (sym (k.by i u is) ∙ ev)) there in
+        let p = elements (hide facts.lazy registers) g top fs s h (known_in facts i) x a v w (operand_means most total gs starts facts.lazy registers g top fs s h lz known hs i v ok k ev).1
+        (λ s h. (operand_means most total gs starts facts.lazy registers g top fs s h lz known hs i v ok k ev).0) (λ u is. same_Some u v (sym (k.by i u is) ∙ ev)) there in
         let to = p.to in
         let at = address_of_place (place_in gs starts a v) in
         let d' = into 1 (locations_of hs d) in
@@ -465,12 +483,12 @@ module _ (most total : ℕ) (gs : List RGlobal) (starts : ℕ → ℕ) where
         let value : shown_at width to at ≡ w = (p.stands).elements a v w there in
         let below : w < 2 ^ 32 = subst (λ w. w < 2 ^ 32) value (shown_below width to at (p.stands).words) in
         let is = element_code width (starts a) o x ++ element_load width d' (starts a) o ∷ [] in
-        finishes most total gs starts registers g top fs to p.stands P (λ r s. go r s g) hs d w None out known is s
+        finishes most total gs starts facts.lazy registers g top fs to p.stands lz P (λ r s. go r s g) hs d w None out known is s
         (ends_set is s to d' (shown_at width to at) w (into_target hs top.count d ok) (runs_then p.runs load) value below)
         (longer_behind (element_code width (starts a) o x) _ (omega arith)) (λ w e. absurd (none-some w e)) ok k failed
-        (λ r' s' to some e st kn new. f r' s' g to some e st (fact_known hs r' s' facts d None kn)
+        (λ r' s' to some e st lz' kn new. f r' s' g to some e st lz' (fact_known hs r' s' facts d None kn)
         (record { fresh = new; above = λ m v' is. absurd (none-some m is) }))))
-    performs (Store a i b) facts registers top s go ok k h f =
+    performs (Store a i b) facts registers top s go ok k lz h f =
         value_or_failed P (read_home hs registers top.slots i) out _ failed (λ v ev.
         value_or_failed P (read_home hs registers top.slots b) out _ failed (λ w ew.
         value_or_failed P (kept_in gs a w) out _ failed (λ c ec.
@@ -481,13 +499,13 @@ module _ (most total : ℕ) (gs : List RGlobal) (starts : ℕ → ℕ) where
         let x = operand (locations_of hs) facts i in
         let y = operand (locations_of hs) facts b in
         let o = direct width (starts a) (known_in facts i) in
-        let p = elements registers g top fs s h (known_in facts i) x a v at_g.old
-        (operand_means most total gs starts registers g top fs s h known hs i v ok k ev).1
-        (λ s h. (operand_means most total gs starts registers g top fs s h known hs i v ok k ev).0) (λ u is. same_Some u v (sym (k.by i u is) ∙ ev)) at_g.was in
+        let p = elements (hide facts.lazy registers) g top fs s h (known_in facts i) x a v at_g.old
+        (operand_means most total gs starts facts.lazy registers g top fs s h lz known hs i v ok k ev).1
+        (λ s h. (operand_means most total gs starts facts.lazy registers g top fs s h lz known hs i v ok k ev).0) (λ u is. same_Some u v (sym (k.by i u is) ∙ ev)) at_g.was in
         let m = p.to in
         let at = address_of_place (place_in gs starts a v) in
-        let z = fetches most total gs starts registers g top fs m p.stands 2 w y (omega arith) (omega arith)
-        (operand_means most total gs starts registers g top fs m p.stands known hs b w ok k ew).0 in
+        let z = fetches most total gs starts (hide facts.lazy registers) g top fs m p.stands 2 w y (omega arith) (omega arith)
+        (operand_means most total gs starts facts.lazy registers g top fs m p.stands lz known hs b w ok k ew).0 in
         let to : State = record m { regs = z.regs } in
         let here : wrap (read 0 z.regs (element_base o) + word_of_offset (element_offset (starts a) o)) ≡ at =
         ap (λ r. wrap (r + word_of_offset (element_offset (starts a) o))) (base_kept o m.regs z.regs z.others) ∙ p.here in
@@ -496,6 +514,6 @@ module _ (most total : ℕ) (gs : List RGlobal) (starts : ℕ → ℕ) where
         let store' : RunsTo (last ∷ []) to (set_at width to at w) = subst (λ w. RunsTo (last ∷ []) to (set_at width to at w)) z.here store in
         f registers top.slots g' (set_at width to at w) (longer_behind (element_code width (starts a) o x) _
         (longer_behind (fetch 2 y) (last ∷ []) (omega arith))) (runs_then p.runs (runs_then z.runs store'))
-        (data_written most total gs starts registers g (top ∷ fs) to a v w g' (operand_below most total gs starts registers g top fs s h hs b w ok ew)
-        (ap (arrays_with g a v) (sym (kept_is gs a w c ec)) ∙ eg) z.stands) k
+        (data_written most total gs starts (hide facts.lazy registers) g (top ∷ fs) to a v w g' (operand_below most total gs starts facts.lazy registers g top fs s h lz hs b w ok ew)
+        (ap (arrays_with g a v) (sym (kept_is gs a w c ec)) ∙ eg) z.stands) lz k
         (none_last hs registers top.slots (set_at width to at w))))))

@@ -5,4 +5,5 @@ pub mod Homes
 pub mod Globals
 pub mod Operations
 pub mod Insts
+pub mod Tables
 pub mod Emitted

@@ -14,8 +14,8 @@ use Rattle.mips_isa.specs.declared.inst.HiLo.TheVariants.{Hi, Lo}
 use Rattle.mips_isa.specs.declared.inst.Plain.{Plain}
 use Rattle.mips_isa.specs.declared.inst.Plain.TheVariants as plain
 use Rattle.mips_isa.specs.declared.inst.Plain.TheVariants.{Shift, ShiftBy, Alu, Imm, Logic, LoadUpper, MoveFrom, Multiply, Divide}
-use Rattle.mips_isa.specs.declared.inst.PairTest.TheVariants.{Equal}
-use Rattle.mips_isa.specs.declared.inst.ZeroTest.TheVariants.{AtMostZero}
+use Rattle.mips_isa.specs.declared.inst.PairTest.TheVariants.{NotEqual}
+use Rattle.mips_isa.specs.declared.inst.ZeroTest.TheVariants.{AboveZero}
 use Rattle.mblock.specs.declared.exit.Exit.{Exit}
 use Rattle.mblock.specs.declared.exit.Exit.TheVariants.{BranchPair, BranchZero}
 use Rattle.rtl.specs.declared.operator.Op.{Op}
@@ -23,6 +23,7 @@ use Rattle.rtl.specs.declared.operator.Op.TheVariants.{Add, Sub, Mul, DivS, DivU
 use Rattle.rtl.specs.declared.instruction.RInst.{RInst}
 use Rattle.rtl.specs.declared.instruction.RInst.TheVariants.{Const, Move, Bin, Load, Store}
 use Rattle.rtl.specs.declared.block.RGlobal.{RGlobal}
+use Rattle.mips_homes.specs.HomedRun.{is_lasting}
 use Rattle.mips_homes.specs.declared.homed.Frame.{Frame}
 use Rattle.mips_emit.specs.declared.location.Location.{Location}
 use Rattle.mips_emit.specs.declared.location.Location.TheVariants.{Held, InSlot}
@@ -236,8 +237,18 @@ store_code at facts w start i b =
     ++ (fetch 2 (operand at facts b)
     ++ element_store w (seat 2 (operand at facts b)) start (direct w start (known_in facts i)) ∷ [])
 
+-- nothing is done
+abbrev pub nop : Plain
+nop = Shift Sll 0 0 0
+
+-- a constant: nothing yet for a passing register
+abbrev pub const_code : Option Location → ℕ → List Plain
+const_code None w = []
+const_code (Some (Held r)) w = if is_lasting r then bring r (word_source w) else nop ∷ []
+const_code (Some (InSlot k)) w = put_at (Some (InSlot k)) (word_source w)
+
 abbrev pub inst_code : List RGlobal → (starts : ℕ → ℕ) → Locations → Facts → RInst → List Plain
-inst_code globals starts at facts (Const d w) = put_at (at d) (word_source (wrap w))
+inst_code globals starts at facts (Const d w) = const_code (at d) (wrap w)
 inst_code globals starts at facts (Move d a) = put_at (at d) (operand at facts a)
 inst_code globals starts at facts (Bin op d a b) = bin_code at facts op d a b
 inst_code globals starts at facts (Load d a i) = load_code at facts (width_of globals a) (starts a) d i
@@ -247,7 +258,7 @@ inst_code globals starts at facts (Store a i b) = store_code at facts (width_of 
 abbrev pub insts_code : List RGlobal → (starts : ℕ → ℕ) → Locations → Facts → List RInst → List Plain → List Plain
 insts_code globals starts at facts [] behind = behind
 insts_code globals starts at facts (i ∷ is) behind =
-    inst_code globals starts at facts i ++ insts_code globals starts at (learned i facts) is behind
+    inst_code globals starts at facts i ++ insts_code globals starts at (learned at i facts) is behind
 
 -- and before none
 abbrev pub code_of_insts : List RGlobal → (starts : List ℕ) → Frame → Facts → List RInst → List Plain
@@ -266,5 +277,5 @@ branch_code None x = fetch 1 x
 branch_code (Some q) x = []
 
 abbrev pub branch_exit : (tested : Option ℕ) → Source → (t e : ℕ) → Exit
-branch_exit None x t e = BranchPair Equal (seat 1 x) 0 e t
-branch_exit (Some q) x t e = BranchZero AtMostZero q e t
+branch_exit None x t e = BranchPair NotEqual (seat 1 x) 0 t e
+branch_exit (Some q) x t e = BranchZero AboveZero q t e

@@ -1,11 +1,12 @@
 -- Where pseudo-registers are, and which words they are known to hold.
-use Rattle.std.specs.Prelude.{ℕ, ◌*◌, ◌≤◌, Bool, true, false, Option, Some, None, List, [], ◌∷◌, take, nat_eq, if◌then◌else◌, slice_get}
+use Rattle.std.specs.Prelude.{◌≡◌, length, ℕ, ◌*◌, ◌≤◌, Bool, true, false, Option, Some, None, List, [], ◌∷◌, take, nat_eq, if◌then◌else◌, slice_get}
 use Rattle.words.specs.Words.{wrap}
-use Rattle.runs.specs.Stores.{Places, chain}
+use Rattle.runs.specs.Stores.{Places, places_with, chain}
 use Rattle.rtl.specs.declared.operator.Op.{Op}
 use Rattle.rtl.specs.declared.operator.Op.TheVariants.{LtS}
 use Rattle.rtl.specs.declared.instruction.RInst.{RInst}
 use Rattle.rtl.specs.declared.instruction.RInst.TheVariants.{Const, Move, Bin, Load, Store}
+use Rattle.mips_homes.specs.HomedRun.{is_lasting}
 use Rattle.mips_homes.specs.declared.homed.Home.{Home}
 use Rattle.mips_homes.specs.declared.homed.Home.TheVariants.{Reg, Slot}
 use Rattle.mips_homes.specs.declared.homed.Frame.{Frame}
@@ -15,6 +16,7 @@ use Rattle.mips_emit.specs.declared.location.Location.TheVariants.{Held, InSlot}
 use Rattle.mips_emit.specs.declared.location.Source.{Source}
 use Rattle.mips_emit.specs.declared.location.Source.TheVariants.{Zero, Word, From}
 use Rattle.mips_emit.specs.declared.facts.Fact.{Fact}
+use Rattle.mips_emit.specs.declared.facts.Knowledge.{Knowledge}
 use Rattle.mips_emit.specs.declared.facts.Above.{Above}
 use Rattle.mips_emit.specs.declared.facts.Last.{Last}
 
@@ -40,31 +42,67 @@ locations f = locations_of f.homes.items
 
 -- ---- words that are known
 
--- the newest fact first
-abbrev pub Facts : Type 0
-Facts = List Fact
+-- facts, the newest first, and the words that passing registers should hold but don't yet
+pub record Facts : Type 0 where
+  pub known : List Fact
+  pub lazy : Places
 
 -- the word that a pseudo-register is known to hold
+abbrev pub known_of : List Fact → Places
+known_of [] x = None
+known_of (f ∷ facts) x = if nat_eq x f.register then f.word else known_of facts x
+
 abbrev pub known_in : Facts → Places
-known_in [] x = None
-known_in (f ∷ facts) x = if nat_eq x f.register then f.word else known_in facts x
+known_in facts = known_of facts.known
 
 -- one more fact, and the oldest ones forgotten
-abbrev pub with_fact : ℕ → Option ℕ → Facts → Facts
+abbrev pub with_fact : ℕ → Option ℕ → List Fact → List Fact
 with_fact x word facts = take KEPT_FACTS ((let f : Fact = record { register = x; word = word } in f) ∷ facts)
 
+-- a constant isn't put into a passing register; what is put anywhere else is there
+abbrev pub lazy_const : Option Location → ℕ → Places → Places
+lazy_const None w lazy = lazy
+lazy_const (Some (Held r)) w lazy = places_with lazy r (if is_lasting r then None else Some w)
+lazy_const (Some (InSlot k)) w lazy = lazy
+
+abbrev pub lazy_none : Option Location → Places → Places
+lazy_none None lazy = lazy
+lazy_none (Some (Held r)) lazy = places_with lazy r None
+lazy_none (Some (InSlot k)) lazy = lazy
+
 -- what is known after an instruction
-abbrev pub learned : RInst → Facts → Facts
-learned (Const d w) facts = with_fact d (Some (wrap w)) facts
-learned (Move d a) facts = with_fact d (known_in facts a) facts
-learned (Bin op d a b) facts = with_fact d None facts
-learned (Load d a i) facts = with_fact d None facts
-learned (Store a i b) facts = facts
+abbrev pub learned : Locations → RInst → Facts → Facts
+learned at (Const d w) facts = record { known = with_fact d (Some (wrap w)) facts.known; lazy = lazy_const (at d) (wrap w) facts.lazy }
+learned at (Move d a) facts = record { known = with_fact d (known_in facts a) facts.known; lazy = lazy_none (at d) facts.lazy }
+learned at (Bin op d a b) facts = record { known = with_fact d None facts.known; lazy = lazy_none (at d) facts.lazy }
+learned at (Load d a i) facts = record { known = with_fact d None facts.known; lazy = lazy_none (at d) facts.lazy }
+learned at (Store a i b) facts = facts
 
 -- and after several
-abbrev pub known_after : List RInst → Facts → Facts
-known_after [] facts = facts
-known_after (i ∷ is) facts = known_after is (learned i facts)
+abbrev pub known_after : Locations → List RInst → Facts → Facts
+known_after at [] facts = facts
+known_after at (i ∷ is) facts = known_after at is (learned at i facts)
+
+-- the words of a table, by their places
+abbrev pub told : Option (Option ℕ) → Option ℕ
+told None = None
+told (Some o) = o
+
+abbrev pub word_in : List (Option ℕ) → Places
+word_in table q = told (slice_get table q)
+
+-- a table of so many places with no word
+pub record IsEmpty (n : ℕ) (table : List (Option ℕ)) : Type 0 where
+  pub long : length table ≡ n
+  pub none : (q : ℕ) → word_in table q ≡ None
+
+-- the same as the code has it
+abbrev pub facts_of : Knowledge → Facts
+facts_of k = record { known = k.known.items; lazy = word_in k.lazy.items }
+
+-- at the head of a block
+abbrev pub no_facts : Facts
+no_facts = record { known = []; lazy = λ q. None }
 
 -- ---- what an exit can use of the last instruction
 
@@ -82,14 +120,18 @@ fresh_of at (Load d a i) = in_slot (at d) d
 fresh_of at (Store a i b) = None
 
 -- a comparison 0 < b whose result isn't b itself, where b is in a register
-abbrev pub above_at : Option Location → ℕ → ℕ → Option Above
-above_at None d b = None
-above_at (Some (InSlot k)) d b = None
-above_at (Some (Held q)) d b = if nat_eq d b then None else Some (record { result = d; register = q })
+abbrev pub above_held : (lazy : Option ℕ) → ℕ → ℕ → ℕ → Option Above
+above_held (Some w) q d b = None
+above_held None q d b = if nat_eq d b then None else Some (record { result = d; register = q })
 
-abbrev pub above_by : (known : Option ℕ) → Option Location → ℕ → ℕ → Option Above
-above_by None l d b = None
-above_by (Some w) l d b = if nat_eq w 0 then above_at l d b else None
+abbrev pub above_at : Places → Option Location → ℕ → ℕ → Option Above
+above_at lazy None d b = None
+above_at lazy (Some (InSlot k)) d b = None
+above_at lazy (Some (Held q)) d b = above_held (lazy q) q d b
+
+abbrev pub above_by : (known : Option ℕ) → Places → Option Location → ℕ → ℕ → Option Above
+above_by None lazy l d b = None
+above_by (Some w) lazy l d b = if nat_eq w 0 then above_at lazy l d b else None
 
 abbrev pub is_signed_less : Op → Bool
 is_signed_less LtS = true
@@ -98,7 +140,7 @@ is_signed_less _ = false
 abbrev pub above_of : Locations → Facts → RInst → Option Above
 above_of at facts (Const d w) = None
 above_of at facts (Move d a) = None
-above_of at facts (Bin op d a b) = if is_signed_less op then above_by (known_in facts a) (at b) d b else None
+above_of at facts (Bin op d a b) = if is_signed_less op then above_by (known_in facts a) facts.lazy (at b) d b else None
 above_of at facts (Load d a i) = None
 above_of at facts (Store a i b) = None
 
@@ -110,7 +152,7 @@ no_last = record { fresh = None; above = None }
 
 abbrev pub last_after : Locations → Facts → List RInst → Last → Last
 last_after at facts [] last = last
-last_after at facts (i ∷ is) last = last_after at (learned i facts) is (last_of at facts i)
+last_after at facts (i ∷ is) last = last_after at (learned at i facts) is (last_of at facts i)
 
 -- the register whose word is above zero exactly where the pseudo-register isn't 0
 abbrev pub tested : Option Above → ℕ → Option ℕ
@@ -131,12 +173,22 @@ source None None = Zero
 source None (Some l) = From l
 source (Some w) o = if nat_eq w 0 then Zero else known_source w o
 
-abbrev pub operand : Locations → Facts → ℕ → Source
-operand at facts x = source (known_in facts x) (at x)
-
 -- a word as an operand
 abbrev pub word_source : ℕ → Source
 word_source w = if nat_eq w 0 then Zero else Word w
+
+-- what a location should hold but doesn't yet
+abbrev pub lazy_at : Places → Option Location → Option ℕ
+lazy_at lazy None = None
+lazy_at lazy (Some (Held r)) = lazy r
+lazy_at lazy (Some (InSlot k)) = None
+
+abbrev pub lazy_source : Option ℕ → Source → Source
+lazy_source None x = x
+lazy_source (Some w) x = word_source w
+
+abbrev pub operand : Locations → Facts → ℕ → Source
+operand at facts x = lazy_source (lazy_at facts.lazy (at x)) (source (known_in facts x) (at x))
 
 -- an operand of an exit: what the last instruction left in register 1, or any other
 abbrev pub fresh_source : Option ℕ → ℕ → Source → Source

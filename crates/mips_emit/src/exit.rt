@@ -4,10 +4,10 @@ ghost use Rattle.std.specs.Prelude.{◌≡◌, ◌≤◌, ◌++◌, length, OnOk
 ghost use Rattle.mips_emit.specs.declared.location.Location.TheVariants.{Held};
 ghost use Rattle.mips_emit.specs.declared.location.Source.TheVariants.{From};
 ghost use Rattle.mips_emit.specs.Frames.{IsReachable};
-ghost use Rattle.mips_emit.specs.Locations.{locations, operand, last_operand, tested};
+ghost use Rattle.mips_emit.specs.Locations.{facts_of, locations, operand, last_operand, tested};
 ghost use Rattle.mips_emit.specs.Code.{put_at, bring, arguments_code, branch_code, branch_exit};
 
-use crate::facts::{Fact, Last, last_operand, operand, tested};
+use crate::facts::{Knowledge, Last, last_operand, operand, tested};
 use crate::location::{Location, Source, locate, register};
 use crate::transfer::{emit_bring, emit_fetch, emit_put, seat};
 use mblock::{BlockNumber, Exit};
@@ -33,14 +33,14 @@ pub fn emit_arrival(
 /// A pseudo-register into a register of its own, behind the last instruction; an Err is refused memory.
 pub fn emit_departure(
     code: &mut Vec<Plain>,
-    facts: &[Fact],
+    facts: &Knowledge,
     last: Last,
     frame: &Frame,
     t: NonzeroReg,
     x: Register,
 ) -> Result<(), AllocError>
     requires { IsReachable frame.now }
-    ensures { OnOk result (code.new.items ≡ code.old.items ++ bring t (last_operand (locations frame.now) facts.now last.fresh x)) }
+    ensures { OnOk result (code.new.items ≡ code.old.items ++ bring t (last_operand (locations frame.now) (facts_of facts.now) last.fresh x)) }
 {
     emit_bring(code, t, &last_operand(facts, last.fresh, frame, x))?;
     Ok(())
@@ -49,13 +49,13 @@ pub fn emit_departure(
 // A pseudo-register into a register of its own.
 fn emit_argument(
     code: &mut Vec<Plain>,
-    facts: &[Fact],
+    facts: &Knowledge,
     frame: &Frame,
     t: NonzeroReg,
     x: Register,
 ) -> Result<(), AllocError>
     requires { IsReachable frame.now }
-    ensures { OnOk result (code.new.items ≡ code.old.items ++ bring t (operand (locations frame.now) facts.now x)) }
+    ensures { OnOk result (code.new.items ≡ code.old.items ++ bring t (operand (locations frame.now) (facts_of facts.now) x)) }
 {
     emit_bring(code, t, &operand(facts, frame, x))?;
     Ok(())
@@ -64,13 +64,13 @@ fn emit_argument(
 /// Arguments into registers from 4 on; an Err is refused memory.
 pub fn emit_arguments(
     code: &mut Vec<Plain>,
-    facts: &[Fact],
+    facts: &Knowledge,
     frame: &Frame,
     arguments: &[Register],
 ) -> Result<(), AllocError>
     requires frame { IsReachable frame.now }
     requires few { length arguments.now ≤ 4 }
-    ensures { OnOk result (code.new.items ≡ code.old.items ++ arguments_code (locations frame.now) facts.now 4 arguments.now) }
+    ensures { OnOk result (code.new.items ≡ code.old.items ++ arguments_code (locations frame.now) (facts_of facts.now) 4 arguments.now) }
 {
     let mut t: u8 = 4;
     for x in arguments {
@@ -83,13 +83,13 @@ pub fn emit_arguments(
 /// What stands before a branch on a pseudo-register; an Err is refused memory.
 pub fn emit_test(
     code: &mut Vec<Plain>,
-    facts: &[Fact],
+    facts: &Knowledge,
     last: Last,
     frame: &Frame,
     c: Register,
 ) -> Result<(), AllocError>
     requires { IsReachable frame.now }
-    ensures { OnOk result (code.new.items ≡ code.old.items ++ branch_code (tested last.above c) (last_operand (locations frame.now) facts.now last.fresh c)) }
+    ensures { OnOk result (code.new.items ≡ code.old.items ++ branch_code (tested last.above c) (last_operand (locations frame.now) (facts_of facts.now) last.fresh c)) }
 {
     match tested(last.above, c) {
         None => emit_fetch(
@@ -104,7 +104,7 @@ pub fn emit_test(
 
 /// The branch: to `then` where the pseudo-register isn't 0, else to `other`.
 pub fn branch_exit(
-    facts: &[Fact],
+    facts: &Knowledge,
     last: Last,
     frame: &Frame,
     c: Register,
@@ -112,21 +112,21 @@ pub fn branch_exit(
     other: BlockNumber,
 ) -> Exit
     requires { IsReachable frame.now }
-    ensures { result ≡ branch_exit (tested last.above c) (last_operand (locations frame.now) facts.now last.fresh c) then other }
+    ensures { result ≡ branch_exit (tested last.above c) (last_operand (locations frame.now) (facts_of facts.now) last.fresh c) then other }
 {
     match tested(last.above, c) {
         None => Exit::BranchPair {
-            test: PairTest::Equal,
+            test: PairTest::NotEqual,
             rs: seat(register(1), &last_operand(facts, last.fresh, frame, c)),
             rt: Reg::ZERO,
-            then: other,
-            other: then,
+            then,
+            other,
         },
         Some(register) => Exit::BranchZero {
-            test: ZeroTest::AtMostZero,
+            test: ZeroTest::AboveZero,
             rs: register.reg(),
-            then: other,
-            other: then,
+            then,
+            other,
         },
     }
 }

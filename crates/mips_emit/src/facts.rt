@@ -1,16 +1,18 @@
 // Words that pseudo-registers are known to hold, and what the last instruction leaves for an exit.
 
-ghost use Rattle.std.specs.Prelude.{◌≡◌, OnOk, Some};
+ghost use Rattle.std.specs.Prelude.{◌≡◌, ◌++◌, ◌∷◌, [], None, OnOk, IfOk, Some, length};
 ghost use Rattle.mips_emit.specs.Frames.{IsReachable};
-ghost use Rattle.mips_emit.specs.Locations.{known_in, with_fact, learned, in_slot, fresh_of, above_at, above_by, above_of, last_of, tested};
-ghost use Rattle.mips_emit.specs.Locations.{locations, operand, last_operand, FitsPlace, FitsSource};
+ghost use Rattle.runs.specs.Stores.{places_with};
+ghost use Rattle.mips_homes.specs.HomedRun.{is_lasting};
+ghost use Rattle.mips_emit.specs.Locations.{known_of, known_in, facts_of, no_facts, word_in, IsEmpty, lazy_at, lazy_const, lazy_none, above_held, with_fact, learned, in_slot, fresh_of, above_at, above_by, above_of, last_of, tested};
+ghost use Rattle.mips_emit.specs.Locations.{locations, operand, last_operand, FitsSource};
 
 use crate::limits::KEPT_FACTS;
-use crate::location::{Location, Source, locate, register, source_of};
+use crate::location::{Location, Source, locate, register, source_of, word_source};
 use mips_homes::Frame;
 use mips_isa::NonzeroReg;
 use rtl::{Op, RInst, Register};
-use std::alloc::AllocError;
+use std::alloc::{AllocError, Global};
 
 /// A write of a pseudo-register, and the word that it is known to hold since, if any.
 #[derive(Clone, Copy, Debug, PartialEq, Eq)]
@@ -34,6 +36,48 @@ pub struct Last {
     pub above: Option<Above>,
 }
 
+/// What is known within a block: words of pseudo-registers, the newest first, and by the numbers of registers the words that
+/// these should hold but don't yet.
+#[derive(Drop)]
+pub struct Knowledge {
+    pub known: Vec<Fact>,
+    pub lazy: Vec<Option<u32>>,
+}
+
+// One more place with no word.
+fn push_none(table: &mut Vec<Option<u32>>) -> Result<(), AllocError>
+    ensures { OnOk result (table.new.items ≡ table.old.items ++ None ∷ []) }
+{
+    let none: Option<u32> = None;
+    table.push(none)?;
+    Ok(())
+}
+
+// A table of 32 places with no word.
+fn empty_table(alloc: Global) -> Result<Vec<Option<u32>>, AllocError>
+    ensures { IfOk result (λ t. IsEmpty 32 t.items) }
+{
+    let mut table = Vec::new(alloc);
+    for i in 0..32usize {
+        push_none(&mut table)?;
+    }
+    Ok(table)
+}
+
+impl Knowledge {
+    /// Nothing is known.
+    pub fn none(alloc: Global) -> Result<Knowledge, AllocError>
+        ensures long { IfOk result (λ k. length k.lazy.items ≡ 32) }
+        ensures is { IfOk result (λ k. facts_of k ≡ no_facts) }
+    {
+        let lazy = empty_table(alloc)?;
+        Ok(Knowledge {
+            known: Vec::new(alloc),
+            lazy,
+        })
+    }
+}
+
 impl Last {
     /// Nothing that can be used.
     pub const NONE: Last = Last {
@@ -42,9 +86,9 @@ impl Last {
     };
 }
 
-/// The word that a pseudo-register is known to hold.
-pub(crate) fn known_word(facts: &[Fact], x: Register) -> Option<u32>
-    ensures { result ≡ known_in facts.now x }
+// The word that a pseudo-register is known to hold, by these facts.
+fn known_of(facts: &[Fact], x: Register) -> Option<u32>
+    ensures { result ≡ known_of facts.now x }
 {
     for fact in facts {
         if x == fact.register {
@@ -52,6 +96,85 @@ pub(crate) fn known_word(facts: &[Fact], x: Register) -> Option<u32>
         }
     }
     None
+}
+
+/// The word that a pseudo-register is known to hold.
+pub(crate) fn known_word(facts: &Knowledge, x: Register) -> Option<u32>
+    ensures { result ≡ known_in (facts_of facts.now) x }
+{
+    known_of(facts.known.as_slice(), x)
+}
+
+// The word that a register should hold but doesn't yet.
+fn lazy_in(table: &[Option<u32>], r: NonzeroReg) -> Option<u32>
+    ensures { result ≡ word_in table.now r }
+{
+    match table.get(r.index() as usize) {
+        None => None,
+        Some(o) => *o,
+    }
+}
+
+// The same of a location.
+fn lazy_at(table: &[Option<u32>], place: Option<Location>) -> Option<u32>
+    ensures { result ≡ lazy_at (word_in table.now) place }
+{
+    match place {
+        None => None,
+        Some(location) => match location {
+            Location::Held(r) => lazy_in(table, r),
+            Location::InSlot(_) => None,
+        },
+    }
+}
+
+// Whether a register outlives a block.
+pub(crate) fn is_lasting(r: NonzeroReg) -> bool
+    ensures { result ≡ is_lasting r }
+{
+    15 < r.index() && r.index() < 24
+}
+
+// What a register should hold but doesn't yet.
+fn put_lazy(table: &mut Vec<Option<u32>>, r: NonzeroReg, word: Option<u32>)
+    requires { length table.old.items ≡ 32 }
+    ensures long { length table.new.items ≡ 32 }
+    ensures is { word_in table.new.items ≡ places_with (word_in table.old.items) r word }
+{
+    table[r.index() as usize] = word;
+}
+
+// A constant isn't put into a passing register.
+fn tell_lazy(table: &mut Vec<Option<u32>>, place: Option<Location>, word: u32)
+    requires { length table.old.items ≡ 32 }
+    ensures long { length table.new.items ≡ 32 }
+    ensures is { word_in table.new.items ≡ lazy_const place word (word_in table.old.items) }
+{
+    match place {
+        None => {}
+        Some(location) => match location {
+            Location::Held(r) => {
+                let told = if is_lasting(r) { None } else { Some(word) };
+                put_lazy(table, r, told);
+            }
+            Location::InSlot(_) => {}
+        },
+    }
+}
+
+// What is put anywhere else is there.
+fn clear_lazy(table: &mut Vec<Option<u32>>, place: Option<Location>)
+    requires { length table.old.items ≡ 32 }
+    ensures long { length table.new.items ≡ 32 }
+    ensures is { word_in table.new.items ≡ lazy_none place (word_in table.old.items) }
+{
+    match place {
+        None => {}
+        Some(location) => match location {
+            Location::Held(r) => put_lazy(table, r, None),
+            Location::InSlot(_) => {}
+        },
+    }
 }
 
 // One more fact, the newest first; the oldest are forgotten.
@@ -64,28 +187,41 @@ fn put_fact(facts: &mut Vec<Fact>, register: Register, word: Option<u32>) -> Res
 }
 
 /// What is known after an instruction.
-pub(crate) fn learn(facts: &mut Vec<Fact>, inst: &RInst) -> Result<(), AllocError>
-    ensures { OnOk result (facts.new.items ≡ learned inst.now facts.old.items) }
+pub(crate) fn learn(facts: &mut Knowledge, frame: &Frame, inst: &RInst) -> Result<(), AllocError>
+    requires frame { IsReachable frame.now }
+    requires long { length facts.old.lazy.items ≡ 32 }
+    ensures long { OnOk result (length facts.new.lazy.items ≡ 32) }
+    ensures is { OnOk result (facts_of facts.new ≡ learned (locations frame.now) inst.now (facts_of facts.old)) }
 {
     match inst {
-        RInst::Const(d, word) => put_fact(facts, *d, Some(*word))?,
-        RInst::Move(d, a) => {
-            let word = known_word(facts.as_slice(), *a);
-            put_fact(facts, *d, word)?;
+        RInst::Const(d, word) => {
+            tell_lazy(&mut facts.lazy, locate(frame, *d), *word);
+            put_fact(&mut facts.known, *d, Some(*word))?;
         }
-        RInst::Bin(_, d, _, _) | RInst::Load(d, _, _) => put_fact(facts, *d, None)?,
+        RInst::Move(d, a) => {
+            let word = known_word(facts, *a);
+            clear_lazy(&mut facts.lazy, locate(frame, *d));
+            put_fact(&mut facts.known, *d, word)?;
+        }
+        RInst::Bin(_, d, _, _) | RInst::Load(d, _, _) => {
+            clear_lazy(&mut facts.lazy, locate(frame, *d));
+            put_fact(&mut facts.known, *d, None)?;
+        }
         RInst::Store(_, _, _) => {}
     }
     Ok(())
 }
 
 /// A pseudo-register as an operand.
-pub(crate) fn operand(facts: &[Fact], frame: &Frame, x: Register) -> Source
+pub(crate) fn operand(facts: &Knowledge, frame: &Frame, x: Register) -> Source
     requires { IsReachable frame.now }
-    ensures value { result ≡ operand (locations frame.now) facts.now x }
+    ensures value { result ≡ operand (locations frame.now) (facts_of facts.now) x }
     ensures fits { FitsSource result }
 {
-    source_of(known_word(facts, x), locate(frame, x))
+    match lazy_at(facts.lazy.as_slice(), locate(frame, x)) {
+        Some(word) => word_source(word),
+        None => source_of(known_word(facts, x), locate(frame, x)),
+    }
 }
 
 // A pseudo-register, if it is in a slot.
@@ -110,22 +246,27 @@ fn fresh_of(frame: &Frame, inst: &RInst) -> Option<Register>
 }
 
 // A comparison 0 < b whose result isn't b itself, where b is in a register.
-fn above_at(place: Option<Location>, d: Register, b: Register) -> Option<Above>
-    ensures { result ≡ above_at place d b }
+fn above_at(
+    table: &[Option<u32>],
+    place: Option<Location>,
+    d: Register,
+    b: Register,
+) -> Option<Above>
+    ensures { result ≡ above_at (word_in table.now) place d b }
 {
     match place {
         None => None,
-        Some(location) => above_in(location, d, b),
+        Some(location) => above_in(table, location, d, b),
     }
 }
 
-// The same at a location.
-fn above_in(location: Location, d: Register, b: Register) -> Option<Above>
-    ensures { result ≡ above_at (Some location) d b }
+// The same in a register that holds its word.
+fn above_held(lazy: Option<u32>, register: NonzeroReg, d: Register, b: Register) -> Option<Above>
+    ensures { result ≡ above_held lazy register d b }
 {
-    match location {
-        Location::InSlot(_) => None,
-        Location::Held(register) => {
+    match lazy {
+        Some(_) => None,
+        None => {
             if d == b {
                 None
             } else {
@@ -138,31 +279,53 @@ fn above_in(location: Location, d: Register, b: Register) -> Option<Above>
     }
 }
 
+// The same at a location.
+fn above_in(table: &[Option<u32>], location: Location, d: Register, b: Register) -> Option<Above>
+    ensures { result ≡ above_at (word_in table.now) (Some location) d b }
+{
+    match location {
+        Location::InSlot(_) => None,
+        Location::Held(register) => above_held(lazy_in(table, register), register, d, b),
+    }
+}
+
 // The same where the other word is known.
-fn above_by(known: Option<u32>, place: Option<Location>, d: Register, b: Register) -> Option<Above>
-    ensures { result ≡ above_by known place d b }
+fn above_by(
+    known: Option<u32>,
+    table: &[Option<u32>],
+    place: Option<Location>,
+    d: Register,
+    b: Register,
+) -> Option<Above>
+    ensures { result ≡ above_by known (word_in table.now) place d b }
 {
     match known {
-        Some(0) => above_at(place, d, b),
+        Some(0) => above_at(table, place, d, b),
         _ => None,
     }
 }
 
 // What an instruction's result is, if it compares with zero.
-fn above_of(facts: &[Fact], frame: &Frame, inst: &RInst) -> Option<Above>
+fn above_of(facts: &Knowledge, frame: &Frame, inst: &RInst) -> Option<Above>
     requires { IsReachable frame.now }
-    ensures { result ≡ above_of (locations frame.now) facts.now inst.now }
+    ensures { result ≡ above_of (locations frame.now) (facts_of facts.now) inst.now }
 {
     match inst {
-        RInst::Bin(Op::LtS, d, a, b) => above_by(known_word(facts, *a), locate(frame, *b), *d, *b),
+        RInst::Bin(Op::LtS, d, a, b) => above_by(
+            known_word(facts, *a),
+            facts.lazy.as_slice(),
+            locate(frame, *b),
+            *d,
+            *b,
+        ),
         _ => None,
     }
 }
 
 /// What an exit can use of an instruction, from what is known before it.
-pub(crate) fn last_of(facts: &[Fact], frame: &Frame, inst: &RInst) -> Last
+pub(crate) fn last_of(facts: &Knowledge, frame: &Frame, inst: &RInst) -> Last
     requires { IsReachable frame.now }
-    ensures { result ≡ last_of (locations frame.now) facts.now inst.now }
+    ensures { result ≡ last_of (locations frame.now) (facts_of facts.now) inst.now }
 {
     Last {
         fresh: fresh_of(frame, inst),
@@ -187,9 +350,14 @@ pub fn tested(above: Option<Above>, c: Register) -> Option<NonzeroReg>
 }
 
 /// A pseudo-register as an operand of an exit.
-pub fn last_operand(facts: &[Fact], fresh: Option<Register>, frame: &Frame, x: Register) -> Source
+pub fn last_operand(
+    facts: &Knowledge,
+    fresh: Option<Register>,
+    frame: &Frame,
+    x: Register,
+) -> Source
     requires { IsReachable frame.now }
-    ensures value { result ≡ last_operand (locations frame.now) facts.now fresh x }
+    ensures value { result ≡ last_operand (locations frame.now) (facts_of facts.now) fresh x }
     ensures fits { FitsSource result }
 {
     match fresh {

@@ -1,24 +1,37 @@
 // The code of instructions.
 
-ghost use Rattle.std.specs.Prelude.{◌≡◌, ◌<◌, ◌≤◌, ◌++◌, All, length, slice_index, OnOk, IfOk};
+ghost use Rattle.std.specs.Prelude.{◌≡◌, ◌<◌, ◌≤◌, ◌++◌, All, length, slice_index, OnOk, IfOk, Some};
 ghost use Rattle.mblock.specs.declared.limits.TheConstants.{UNIT_BYTES};
 ghost use Rattle.words.specs.Words.{wrap};
 ghost use Rattle.rtl.specs.Programs.{IsInst};
+ghost use Rattle.mips_emit.specs.declared.location.Location.TheVariants.{Held};
 ghost use Rattle.mips_emit.specs.Frames.{IsReachable};
-ghost use Rattle.mips_emit.specs.Locations.{locations, word_source, operand, known_after, last_after, no_last};
+ghost use Rattle.mips_emit.specs.Locations.{facts_of, locations, word_source, operand, known_after, last_after, no_last};
 ghost use Rattle.mips_emit.specs.Elements.{AreStarts, width_of};
-ghost use Rattle.mips_emit.specs.Code.{put_at, bin_code, load_code, store_code, inst_code, code_of_insts};
+ghost use Rattle.mips_emit.specs.Code.{const_code, put_at, bin_code, load_code, store_code, inst_code, code_of_insts};
 
 use crate::element::{direct, element_load, element_store, emit_element};
-use crate::facts::{Fact, Last, known_word, last_of, learn, operand};
-use crate::location::{locate, register, word_source};
+use crate::facts::{Knowledge, Last, is_lasting, known_word, last_of, learn, operand};
+use crate::location::{Location, locate, register, word_source};
 use crate::operation::emit_op;
-use crate::transfer::{emit_fetch, emit_finish, emit_put, into_of, seat};
+use crate::transfer::{emit_bring, emit_fetch, emit_finish, emit_put, into_of, seat};
 use mips_homes::Frame;
-use mips_isa::Plain;
+use mips_isa::{NonzeroReg, Plain};
 use rtl::{GlobalNumber, Op, RGlobal, RInst, Register};
 use std::alloc::AllocError;
 use words::Width;
+
+// A word into a register, or nothing yet.
+fn emit_held(code: &mut Vec<Plain>, r: NonzeroReg, word: u32) -> Result<(), AllocError>
+    ensures { OnOk result (code.new.items ≡ code.old.items ++ const_code (Some (Held r)) word) }
+{
+    if is_lasting(r) {
+        emit_bring(code, r, &word_source(word))?;
+    } else {
+        code.push(Plain::nop())?;
+    }
+    Ok(())
+}
 
 // A word into a pseudo-register.
 fn emit_const(
@@ -28,22 +41,28 @@ fn emit_const(
     word: u32,
 ) -> Result<(), AllocError>
     requires { IsReachable frame.now }
-    ensures { OnOk result (code.new.items ≡ code.old.items ++ put_at (locations frame.now d) (word_source (wrap word))) }
+    ensures { OnOk result (code.new.items ≡ code.old.items ++ const_code (locations frame.now d) (wrap word)) }
 {
-    emit_put(code, locate(frame, d), &word_source(word))?;
+    match locate(frame, d) {
+        None => {}
+        Some(location) => match location {
+            Location::Held(r) => emit_held(code, r, word)?,
+            Location::InSlot(_) => emit_put(code, Some(location), &word_source(word))?,
+        },
+    }
     Ok(())
 }
 
 // A pseudo-register into another.
 fn emit_move(
     code: &mut Vec<Plain>,
-    facts: &[Fact],
+    facts: &Knowledge,
     frame: &Frame,
     d: Register,
     a: Register,
 ) -> Result<(), AllocError>
     requires { IsReachable frame.now }
-    ensures { OnOk result (code.new.items ≡ code.old.items ++ put_at (locations frame.now d) (operand (locations frame.now) facts.now a)) }
+    ensures { OnOk result (code.new.items ≡ code.old.items ++ put_at (locations frame.now d) (operand (locations frame.now) (facts_of facts.now) a)) }
 {
     emit_put(code, locate(frame, d), &operand(facts, frame, a))?;
     Ok(())
@@ -52,7 +71,7 @@ fn emit_move(
 // An operator on pseudo-registers.
 fn emit_bin(
     code: &mut Vec<Plain>,
-    facts: &[Fact],
+    facts: &Knowledge,
     frame: &Frame,
     op: Op,
     d: Register,
@@ -60,7 +79,7 @@ fn emit_bin(
     b: Register,
 ) -> Result<(), AllocError>
     requires { IsReachable frame.now }
-    ensures { OnOk result (code.new.items ≡ code.old.items ++ bin_code (locations frame.now) facts.now op d a b) }
+    ensures { OnOk result (code.new.items ≡ code.old.items ++ bin_code (locations frame.now) (facts_of facts.now) op d a b) }
 {
     let left = known_word(facts, a);
     let right = known_word(facts, b);
@@ -75,7 +94,7 @@ fn emit_bin(
 // An element into a pseudo-register.
 fn emit_load(
     code: &mut Vec<Plain>,
-    facts: &[Fact],
+    facts: &Knowledge,
     frame: &Frame,
     width: Width,
     start: u32,
@@ -84,7 +103,7 @@ fn emit_load(
 ) -> Result<(), AllocError>
     requires frame { IsReachable frame.now }
     requires few { start ≤ UNIT_BYTES }
-    ensures { OnOk result (code.new.items ≡ code.old.items ++ load_code (locations frame.now) facts.now width start d i) }
+    ensures { OnOk result (code.new.items ≡ code.old.items ++ load_code (locations frame.now) (facts_of facts.now) width start d i) }
 {
     let x = operand(facts, frame, i);
     let place = direct(width, start, known_word(facts, i));
@@ -98,7 +117,7 @@ fn emit_load(
 // A pseudo-register into an element.
 fn emit_store(
     code: &mut Vec<Plain>,
-    facts: &[Fact],
+    facts: &Knowledge,
     frame: &Frame,
     width: Width,
     start: u32,
@@ -107,7 +126,7 @@ fn emit_store(
 ) -> Result<(), AllocError>
     requires frame { IsReachable frame.now }
     requires few { start ≤ UNIT_BYTES }
-    ensures { OnOk result (code.new.items ≡ code.old.items ++ store_code (locations frame.now) facts.now width start i b) }
+    ensures { OnOk result (code.new.items ≡ code.old.items ++ store_code (locations frame.now) (facts_of facts.now) width start i b) }
 {
     let x = operand(facts, frame, i);
     let y = operand(facts, frame, b);
@@ -143,14 +162,14 @@ fn emit_inst(
     code: &mut Vec<Plain>,
     globals: &[RGlobal],
     starts: &[u32],
-    facts: &[Fact],
+    facts: &Knowledge,
     frame: &Frame,
     inst: &RInst,
 ) -> Result<(), AllocError>
     requires frame { IsReachable frame.now }
     requires few { AreStarts starts.now }
     requires named { IsInst (length starts.now) inst.now }
-    ensures { OnOk result (code.new.items ≡ code.old.items ++ inst_code globals.now (slice_index starts.now) (locations frame.now) facts.now inst.now) }
+    ensures { OnOk result (code.new.items ≡ code.old.items ++ inst_code globals.now (slice_index starts.now) (locations frame.now) (facts_of facts.now) inst.now) }
 {
     match inst {
         RInst::Const(d, word) => emit_const(code, frame, *d, *word)?,
@@ -171,24 +190,25 @@ fn emit_inst(
 /// Several instructions, and what is known after them and left for an exit; an Err is refused memory.
 pub fn emit_insts(
     code: &mut Vec<Plain>,
-    facts: &mut Vec<Fact>,
+    facts: &mut Knowledge,
     globals: &[RGlobal],
     starts: &[u32],
     frame: &Frame,
     insts: &[RInst],
 ) -> Result<Last, AllocError>
     requires frame { IsReachable frame.now }
+    requires long { length facts.old.lazy.items ≡ 32 }
     requires few { AreStarts starts.now }
     requires named { All (IsInst (length starts.now)) insts.now }
-    ensures code { OnOk result (code.new.items ≡ code.old.items ++ code_of_insts globals.now starts.now frame.now facts.old.items insts.now) }
-    ensures last { IfOk result (λ l. l ≡ last_after (locations frame.now) facts.old.items insts.now no_last) }
-    ensures known { OnOk result (facts.new.items ≡ known_after insts.now facts.old.items) }
+    ensures code { OnOk result (code.new.items ≡ code.old.items ++ code_of_insts globals.now starts.now frame.now (facts_of facts.old) insts.now) }
+    ensures last { IfOk result (λ l. l ≡ last_after (locations frame.now) (facts_of facts.old) insts.now no_last) }
+    ensures known { OnOk result (facts_of facts.new ≡ known_after (locations frame.now) insts.now (facts_of facts.old)) }
 {
     let mut last = Last::NONE;
     for inst in insts {
-        last = last_of(facts.as_slice(), frame, inst);
-        emit_inst(code, globals, starts, facts.as_slice(), frame, inst)?;
-        learn(facts, inst)?;
+        last = last_of(facts, frame, inst);
+        emit_inst(code, globals, starts, facts, frame, inst)?;
+        learn(facts, frame, inst)?;
     }
     Ok(last)
 }

@@ -28,7 +28,7 @@ mod transfer;
 
 pub use constant::{emit_constant, emit_load_word, emit_store_word};
 pub use exit::{branch_exit, emit_arguments, emit_arrival, emit_departure, emit_test};
-pub use facts::{Above, Fact, Last, last_operand, tested};
+pub use facts::{Above, Fact, Knowledge, Last, last_operand, tested};
 pub use inst::emit_insts;
 pub use limits::FRAME_BYTES;
 pub use location::{Location, Source, register};

@@ -1,13 +1,13 @@
 -- The homes that are made are the choice, and the choice serves its function.
 use Rattle.std.proofs.Common.{◌≡◌, ℕ, zero, suc, ◌+◌, ◌-◌, ◌^◌, ◌<◌, ◌≤◌, ◌⊎◌, inl, inr, ⊎_elim, Bool, true, false, ◌||◌, List, [], ◌∷◌}
-use Rattle.std.proofs.Common.{◌++◌, Some, refl, sym, ap, ◌∙◌, subst, arith, length, nat_eq, nat_lt, true≢false, eqb-true, ne_eqb, lt-ltb}
+use Rattle.std.proofs.Common.{◌++◌, ◌&&◌, Some, refl, sym, ap, ap₂, ◌∙◌, subst, arith, length, nat_eq, nat_lt, true≢false, eqb-true, ne_eqb, lt-ltb}
 use Rattle.std.proofs.Common.{ltb-true, get_or}
 use mathlib.Core.Path.{fun_ext}
 use Rattle.std.specs.Prelude.{if◌then◌else◌, slice_get}
 use Rattle.std.proofs.lemmas.Bool.{cases_lt, ltb-false}
 use Rattle.std.proofs.lemmas.Option.{slice_get_within, slice_get_read, same_Some}
 use Rattle.rtl.specs.Names.{bound, blocks_names, how_many, uses_of}
-use Rattle.mips_homes.specs.HomedRun.{is_in}
+use Rattle.mips_homes.specs.HomedRun.{is_in, is_lasting}
 use Rattle.mips_homes.specs.Homes.{HasHome, HaveHomes, Serves, AreAllHomes}
 use Rattle.mips_homes.specs.Correct.{KeepsRtlRuns}
 use Rattle.mips_homes.specs.Choice.{count_below, rank, is_register_home, IsChoice, AreChoices}
@@ -56,7 +56,7 @@ slot_below best x (suc y) lt out = by (is_in best y) refl (cases_lt x y) (λ low
         let count : count_below (is_in best) x ≡ count_below (is_in best) y = ap (count_below (is_in best)) same in
         omega (arith, none, same, count)
 
-home_at : (homes : List Home) (x : ℕ) → x < length homes → HasHome homes x
+pub home_at : (homes : List Home) (x : ℕ) → x < length homes → HasHome homes x
 home_at homes x lt = (let there = at_index homes x lt in record { home = there.0; is = there.1 })
 
 -- each stands at one place
@@ -193,16 +193,19 @@ bound_one n x = by (nat_lt x n) refl
     by true e = (omega arith, ltb-true x n e)
     by false e = (let ge = ltb-false x n e in (omega (arith, ge), omega arith))
 
-bound_least : (n : ℕ) (xs : List ℕ) → n ≤ bound n xs
+pub bound_least : (n : ℕ) (xs : List ℕ) → n ≤ bound n xs
 bound_least n [] = omega arith
 bound_least n (x ∷ xs) = (let one = (bound_one n x).0 in let rest = bound_least (if nat_lt x n then n else suc x) xs in omega (arith, one, rest))
 
-named_below : (homes : List Home) (n : ℕ) (xs : List ℕ) → bound n xs ≤ length homes → HaveHomes homes xs
+pub named_below : (homes : List Home) (n : ℕ) (xs : List ℕ) → bound n xs ≤ length homes → HaveHomes homes xs
 named_below homes n [] le = tt
 named_below homes n (x ∷ xs) le =
     let one = (bound_one n x).1 in
     let rest = bound_least (if nat_lt x n then n else suc x) xs in
     (home_at homes x (omega (arith, one, rest, le)), named_below homes (if nat_lt x n then n else suc x) xs le)
+
+pub home_lasts : (r : ℕ) → 16 ≤ r → r < 24 → is_lasting r ≡ true
+home_lasts r low high = ap₂ (λ a b. a && b) (lt-ltb 15 r (omega (arith, low))) (lt-ltb r 24 high)
 
 -- the choice serves
 pub serves : (func : RFunc) (frame : Frame) → IsChoice func frame → Serves frame func
@@ -211,7 +214,8 @@ serves func frame is =
     record {
       homes = record {
         apart = is.apart;
-        kept = λ x r got. (is.registers x r got).2;
+        kept = λ x r got lasts. (is.registers x r got).2;
+        local = λ x r got passes. absurd (true≢false (sym (home_lasts r (is.registers x r got).0 (is.registers x r got).1) ∙ passes));
         named =
             named_below frame.homes.items func.parameters (blocks_names func.blocks.items) (omega (arith, long));
       };

@@ -2,17 +2,18 @@
 use Rattle.std.proofs.Common.{◌≡◌, ◌≢◌, ℕ, zero, suc, ◌+◌, ◌<◌, Bool, true, false, ◌&&◌, List, [], ◌∷◌, ◌++◌, Option, Some, None, refl, sym}
 use Rattle.std.proofs.Common.{◌∙◌, ap, ap₂, subst, arith, length, nat_eq, nat_lt, eqb-true, eq-eqb, ne_eqb, true≢false}
 use mathlib.Core.Path.{fun_ext}
-use Rattle.std.specs.Prelude.{slice_get, if◌then◌else◌, ◌==◌, map}
+use Rattle.std.proofs.lemmas.Option.{same_Some}
+use Rattle.std.specs.Prelude.{◌||◌, slice_get, if◌then◌else◌, ◌==◌, map}
 use Rattle.words.specs.Words.{wrap}
 use Rattle.runs.specs.Stores.{Places, unset_places, places_with, Arrays, chain, element_at, arrays_with}
 use Rattle.runs.specs.Runs as Runs
-use Rattle.runs.specs.Runs.{steps}
 use Rattle.rtl.specs.declared.block.RGlobal.{RGlobal}
 use Rattle.rtl.specs.Operators.{op_result}
 use Rattle.rtl.specs.Names.{inst_names, optional, exit_names, insts_names, blocks_names}
 use Rattle.rtl.specs.Meaning as Meaning
 use Rattle.rtl.specs.Meaning.{Code, code_of, words_in, argument_registers, kept_in, first_values, rtl_step, rtl_steps, rtl_start}
-use Rattle.mips_homes.specs.HomedRun.{Activation, Run, Running, Ended, Failed, with_value, in_home, read_home, read_homes, write_at}
+use Rattle.mips_homes.specs.Locals.{inst_reads, inst_writes, exit_reads, reads_first, block_reads_first, goes_to, some_go_to}
+use Rattle.mips_homes.specs.HomedRun.{is_lasting, lasting, Activation, Run, Running, Ended, Failed, with_value, in_home, read_home, read_homes, write_at}
 use Rattle.mips_homes.specs.HomedRun.{write_home, write_homes, is_in, registers_at_entry, registers_at_return, with_inst, at_code}
 use Rattle.mips_homes.specs.HomedRun.{state_at_block, with_result, state_after_return, state_after_call, state_after_exit, step_at}
 use Rattle.mips_homes.specs.HomedRun.{homed_step, homed_steps, homed_start, outcome}
@@ -29,10 +30,11 @@ use Rattle.rtl.specs.declared.instruction.RExit.TheVariants.{Goto, Branch, Call,
 use Rattle.rtl.specs.declared.block.RBlock.{RBlock}
 use Rattle.rtl.specs.declared.block.RFunc.{RFunc}
 
--- what is left of a block names unset_places without a home
-pub record CodeHasHomes (hs : List Home) (c : Code) : Type 0 where
+-- what is left of a block names none without a home, and goes only where exits of the function go
+pub record CodeHasHomes (hs : List Home) (blocks : List RBlock) (c : Code) : Type 0 where
   pub insts : HaveHomes hs (insts_names c.insts)
   pub exit : HaveHomes hs (exit_names c.exit)
+  pub goes : (t : ℕ) → is_in (goes_to c.exit) t ≡ true → some_go_to blocks t ≡ true
 
 named_front : (hs : List Home) (xs ys : List ℕ) → HaveHomes hs (xs ++ ys) → HaveHomes hs xs
 named_front hs [] ys n = tt
@@ -42,10 +44,14 @@ named_back : (hs : List Home) (xs ys : List ℕ) → HaveHomes hs (xs ++ ys) →
 named_back hs [] ys n = n
 named_back hs (x ∷ xs) ys n = named_back hs xs ys n.1
 
-named_block : (hs : List Home) (bs : List RBlock) (b : ℕ) (block : RBlock) → HaveHomes hs (blocks_names bs) → slice_get bs b ≡ Some block
-    → CodeHasHomes hs (code_of block)
-named_block hs [] b block n e = absurd cc
-named_block hs (k ∷ bs) zero block n e =
+pub record NamesHomes (hs : List Home) (c : Code) : Type 0 where
+  pub insts : HaveHomes hs (insts_names c.insts)
+  pub exit : HaveHomes hs (exit_names c.exit)
+
+named_homes : (hs : List Home) (bs : List RBlock) (b : ℕ) (block : RBlock) → HaveHomes hs (blocks_names bs) → slice_get bs b ≡ Some block
+    → NamesHomes hs (code_of block)
+named_homes hs [] b block n e = absurd cc
+named_homes hs (k ∷ bs) zero block n e =
     let rest = named_back hs (insts_names k.insts.items) (exit_names k.exit ++ blocks_names bs) n in
     subst (λ o. (match_named o)) e
     (record {
@@ -56,19 +62,57 @@ named_block hs (k ∷ bs) zero block n e =
   where
     match_named : Option RBlock → Type 0
     match_named None = Unit {0}
-    match_named (Some k) = CodeHasHomes hs (code_of k)
-named_block hs (k ∷ bs) (suc b) block n e =
-    named_block hs bs b block
+    match_named (Some k) = NamesHomes hs (code_of k)
+named_homes hs (k ∷ bs) (suc b) block n e =
+    named_homes hs bs b block
     (named_back hs (exit_names k.exit) (blocks_names bs) (named_back hs (insts_names k.insts.items) (exit_names k.exit ++ blocks_names bs) n)) e
 
--- the homes hold what the pseudo-registers hold; what has no home is unset
-pub record Agrees (hs : List Home) (registers slots regs : Places) : Type 0 where
-  pub by : (x : ℕ) → read_home hs registers slots x ≡ regs x
+goes_block : (bs : List RBlock) (b : ℕ) (block : RBlock) → slice_get bs b ≡ Some block → (t : ℕ) → is_in (goes_to block.exit) t ≡ true
+    → some_go_to bs t ≡ true
+goes_block [] b block e t go = absurd cc
+goes_block (k ∷ bs) zero block e t go =
+    ap (λ c. if c then true else some_go_to bs t) (ap (λ (x : RBlock). is_in (goes_to x.exit) t) (same_Some k block e) ∙ go)
+goes_block (k ∷ bs) (suc b) block e t go = either (is_in (goes_to k.exit) t) (goes_block bs b block e t go)
+  where
+    either : (c : Bool) → some_go_to bs t ≡ true → (if c then true else some_go_to bs t) ≡ true
+    either true h = refl
+    either false h = h
+
+named_block : (hs : List Home) (bs : List RBlock) (b : ℕ) (block : RBlock) → HaveHomes hs (blocks_names bs) → slice_get bs b ≡ Some block
+    → CodeHasHomes hs bs (code_of block)
+named_block hs bs b block n e =
+    let homes = named_homes hs bs b block n e in
+    record { insts = homes.insts; exit = homes.exit; goes = goes_block bs b block e }
+
+-- a home that doesn't outlive a block
+abbrev pub is_passing : Option Home → Bool
+is_passing None = false
+is_passing (Some (Reg r)) = if is_lasting r then false else true
+is_passing (Some (Slot k)) = false
+
+-- what is in such a home matters if it is wanted
+abbrev pub matters : List Home → (ℕ → Bool) → ℕ → Bool
+matters hs wanted x = if is_passing (slice_get hs x) then wanted x else true
+
+matters_if : (hs : List Home) (wanted : ℕ → Bool) (x : ℕ) → wanted x ≡ true → matters hs wanted x ≡ true
+matters_if hs wanted x e = by (is_passing (slice_get hs x))
+  where
+    by : (c : Bool) → (if c then wanted x else true) ≡ true
+    by true = e
+    by false = refl
+
+-- the homes hold what the pseudo-registers hold, where it matters; what has no home is unset
+pub record Agrees (hs : List Home) (registers slots regs : Places) (wanted : ℕ → Bool) : Type 0 where
+  pub by : (x : ℕ) → matters hs wanted x ≡ true → read_home hs registers slots x ≡ regs x
+
+-- the registers of the activation below, once this one has returned
+abbrev pub below : (saved : List ℕ) (aside registers : Places) → Places
+below saved aside registers = registers_at_return saved aside (lasting registers)
 
 pub record Good (a : Activation) (registers regs : Places) : Type 0 where
   pub homes : AreHomes a.frame.homes.items a.frame.saved.items a.blocks
-  pub agrees : Agrees a.frame.homes.items registers a.slots regs
-  pub code : CodeHasHomes a.frame.homes.items a.code
+  pub agrees : Agrees a.frame.homes.items registers a.slots regs (reads_first a.code.insts a.code.exit)
+  pub code : CodeHasHomes a.frame.homes.items a.blocks a.code
 
 abbrev pub ResultHasHome : Option ℕ → List Activation → Type 0
 ResultHasHome d [] = Unit {0}
@@ -77,7 +121,7 @@ ResultHasHome d (a ∷ ws) = HaveHomes a.frame.homes.items (optional d)
 -- the registers of each activation, as they are once those above have state_after_return
 abbrev pub Stack : Places → List Activation → List Places → Type 0
 Stack registers [] [] = Unit {0}
-Stack registers (a ∷ ws) (r ∷ rs) = Good a registers r × ResultHasHome a.result_to ws × Stack (registers_at_return a.frame.saved.items a.aside registers) ws rs
+Stack registers (a ∷ ws) (r ∷ rs) = Good a registers r × ResultHasHome a.result_to ws × Stack (below a.frame.saved.items a.aside registers) ws rs
 Stack registers [] (r ∷ rs) = ⊥
 Stack registers (a ∷ ws) [] = ⊥
 
@@ -116,49 +160,71 @@ same_place : (p : Places) (x : ℕ) (v : Option ℕ) → places_with p x v x ≡
 same_place p x v = ap (λ c. if c then v else p x) (eq-eqb x x refl)
 
 -- what a write changes comes back when the activation returns
-restored_write : (saved : List ℕ) (aside registers : Places) (r : ℕ) (v : Option ℕ) → is_in saved r ≡ true
-    → registers_at_return saved aside (places_with registers r v) ≡ registers_at_return saved aside registers
-restored_write saved aside registers r v kept = fun_ext (λ q. by q (nat_eq q r) refl)
+restored_write : (saved : List ℕ) (aside registers : Places) (r : ℕ) (v : Option ℕ) → (is_lasting r ≡ true → is_in saved r ≡ true)
+    → below saved aside (places_with registers r v) ≡ below saved aside registers
+restored_write saved aside registers r v kept = fun_ext (λ q. by q (nat_eq q r) refl (is_lasting q) refl)
   where
-    by : (q : ℕ) (b : Bool) → nat_eq q r ≡ b → registers_at_return saved aside (places_with registers r v) q ≡ registers_at_return saved aside registers q
-    by q true e =
+    at : ℕ → Bool → Option ℕ → Option ℕ
+    at q c w = if is_in saved q then aside q else (if c then w else None)
+
+    by : (q : ℕ) (b : Bool) → nat_eq q r ≡ b → (c : Bool) → is_lasting q ≡ c → below saved aside (places_with registers r v) q ≡ below saved aside registers q
+    by q true e true l =
         let q_r : q ≡ r = eqb-true q r e in
-        let yes_saved : is_in saved q ≡ true = ap (is_in saved) q_r ∙ kept in
-        ap (λ c. if c then aside q else places_with registers r v q) yes_saved ∙ sym (ap (λ c. if c then aside q else registers q) yes_saved)
-    by q false e = ap (λ w. if is_in saved q then aside q else w) (ap (λ c. if c then v else registers q) e)
+        let yes_saved : is_in saved q ≡ true = ap (is_in saved) q_r ∙ kept (sym (ap is_lasting q_r) ∙ l) in
+        ap (λ c. if c then aside q else lasting (places_with registers r v) q) yes_saved ∙ sym (ap (λ c. if c then aside q else lasting registers q) yes_saved)
+    by q true e false l = ap (λ c. at q c (places_with registers r v q)) l ∙ sym (ap (λ c. at q c (registers q)) l)
+    by q false e c l = ap (at q (is_lasting q)) (ap (λ c. if c then v else registers q) e)
+
+pub lasting_twice : (registers : Places) → lasting (lasting registers) ≡ lasting registers
+lasting_twice registers = fun_ext (λ q. by q (is_lasting q))
+  where
+    by : (q : ℕ) (c : Bool) → (if c then (if c then registers q else None) else None) ≡ (if c then registers q else None)
+    by q true = refl
+    by q false = refl
 
 -- what a call puts aside comes back
-restored_cleared : (saved : List ℕ) (registers : Places) → registers_at_return saved registers (registers_at_entry saved registers) ≡ registers
-restored_cleared saved registers = fun_ext (λ q. by q (is_in saved q) refl)
+restored_cleared : (saved : List ℕ) (registers : Places)
+    → below saved (lasting registers) (registers_at_entry saved (lasting registers)) ≡ lasting registers
+restored_cleared saved registers = fun_ext (λ q. by q (is_in saved q) (is_lasting q))
   where
-    by : (q : ℕ) (b : Bool) → is_in saved q ≡ b → registers_at_return saved registers (registers_at_entry saved registers) q ≡ registers q
-    by q true e = ap (λ c. if c then registers q else registers_at_entry saved registers q) e
-    by q false e = ap (λ c. if c then registers q else registers_at_entry saved registers q) e ∙ ap (λ c. if c then None else registers q) e
+    by : (q : ℕ) (b c : Bool) → (if b then (if c then registers q else None) else (if c then (if b then None else (if c then registers q else None)) else None))
+        ≡ (if c then registers q else None)
+    by q true c = refl
+    by q false true = refl
+    by q false false = refl
 
 -- a write to a home
 writes : (hs : List Home) (saved : List ℕ) (blocks : List RBlock) (aside registers slots regs : Places) (d v : ℕ) (out : List ℕ)
-    (go : Places → Places → Run) (t : Meaning.Run)
-    → AreHomes hs saved blocks → Agrees hs registers slots regs → HasHome hs d
-    → ((registers' slots' : Places) → Agrees hs registers' slots' (places_with regs d (Some v))
-    → registers_at_return saved aside registers' ≡ registers_at_return saved aside registers → Alike (go registers' slots') t)
+    (go : Places → Places → Run) (t : Meaning.Run) (wanted wanted' : ℕ → Bool)
+    → AreHomes hs saved blocks → Agrees hs registers slots regs wanted → HasHome hs d
+    → ((y : ℕ) → nat_eq y d ≡ false → wanted' y ≡ true → wanted y ≡ true)
+    → ((registers' slots' : Places) → Agrees hs registers' slots' (places_with regs d (Some v)) wanted'
+    → below saved aside registers' ≡ below saved aside registers → Alike (go registers' slots') t)
     → Alike (write_home hs registers slots d v out go) t
-writes hs saved blocks aside registers slots regs d v out go t ok ag has f =
+writes hs saved blocks aside registers slots regs d v out go t wanted wanted' ok ag has lift f =
     subst (λ o. Alike (with_value o out (λ h. write_at h registers slots v go)) t) (sym has.is) (at has.home has.is)
   where
     -- another pseudo-register
     elsewhere : (h : Home) → slice_get hs d ≡ Some h → (registers' slots' : Places) → in_home registers' slots' h ≡ Some v
-        → ((k : Home) → k ≢ h → in_home registers' slots' k ≡ in_home registers slots k) → (x : ℕ) → (b : Bool) → nat_eq x d ≡ b
+        → ((k : Home) → k ≢ h → in_home registers' slots' k ≡ in_home registers slots k) → (x : ℕ) → matters hs wanted' x ≡ true → (b : Bool) → nat_eq x d ≡ b
         → read_home hs registers' slots' x ≡ (if b then Some v else regs x)
-    elsewhere h is registers' slots' here there x true e =
+    elsewhere h is registers' slots' here there x m true e =
         let x_d : x ≡ d = eqb-true x d e in
         ap (λ o. chain o (in_home registers' slots')) (ap (slice_get hs) x_d ∙ is) ∙ here
-    elsewhere h is registers' slots' here there x false e = by (slice_get hs x) refl
+    elsewhere h is registers' slots' here there x m false e = by (slice_get hs x) refl
       where
+        before : (c : Bool) → (if c then wanted' x else true) ≡ true → (if c then wanted x else true) ≡ true
+        before true m = lift x e m
+        before false m = refl
+
+        same : read_home hs registers slots x ≡ regs x
+        same = ag.by x (before (is_passing (slice_get hs x)) m)
+
         by : (o : Option Home) → slice_get hs x ≡ o → read_home hs registers' slots' x ≡ regs x
-        by None none = ap (λ o. chain o (in_home registers' slots')) none ∙ sym (ap (λ o. chain o (in_home registers slots)) none) ∙ ag.by x
+        by None none = ap (λ o. chain o (in_home registers' slots')) none ∙ sym (ap (λ o. chain o (in_home registers slots)) none) ∙ same
         by (Some k) some =
             let ne : k ≢ h = λ k_h. let x_d : x ≡ d = ok.apart x d h (some ∙ ap Some k_h) is in let yes_eq = eq-eqb x d x_d in cc in
-            ap (λ o. chain o (in_home registers' slots')) some ∙ there k ne ∙ sym (ap (λ o. chain o (in_home registers slots)) some) ∙ ag.by x
+            ap (λ o. chain o (in_home registers' slots')) some ∙ there k ne ∙ sym (ap (λ o. chain o (in_home registers slots)) some) ∙ same
 
     reg_other : (r : ℕ) (k : Home) → k ≢ Reg r → in_home (places_with registers r (Some v)) slots k ≡ in_home registers slots k
     reg_other r (Reg q) ne = other registers r (Some v) q (λ e. ne (ap Reg e))
@@ -170,10 +236,10 @@ writes hs saved blocks aside registers slots regs d v out go t ok ag has f =
 
     at : (h : Home) → slice_get hs d ≡ Some h → Alike (write_at h registers slots v go) t
     at (Reg r) is = f (places_with registers r (Some v)) slots
-        (record { by = λ x. elsewhere (Reg r) is (places_with registers r (Some v)) slots (same_place registers r (Some v)) (reg_other r) x (nat_eq x d) refl })
+        (record { by = λ x m. elsewhere (Reg r) is (places_with registers r (Some v)) slots (same_place registers r (Some v)) (reg_other r) x m (nat_eq x d) refl })
         (restored_write saved aside registers r (Some v) (ok.kept d r is))
     at (Slot s) is = f registers (places_with slots s (Some v))
-        (record { by = λ x. elsewhere (Slot s) is registers (places_with slots s (Some v)) (same_place slots s (Some v)) (slot_other s) x (nat_eq x d) refl })
+        (record { by = λ x m. elsewhere (Slot s) is registers (places_with slots s (Some v)) (same_place slots s (Some v)) (slot_other s) x m (nat_eq x d) refl })
         refl
 
 -- words for the pseudo-registers from x on
@@ -203,85 +269,159 @@ arguments_written vs =
 
 -- words into the homes of the pseudo-registers from x on
 writes_all : (hs : List Home) (saved : List ℕ) (blocks : List RBlock) (aside registers slots regs : Places) (x : ℕ) (vs : List ℕ)
-    (out : List ℕ) (go : Places → Places → Run) (t : Meaning.Run)
-    → AreHomes hs saved blocks → Agrees hs registers slots regs → ((y : ℕ) → y < x + length vs → HasHome hs y)
-    → ((registers' slots' : Places) → Agrees hs registers' slots' (written_all regs x vs)
-    → registers_at_return saved aside registers' ≡ registers_at_return saved aside registers → Alike (go registers' slots') t)
+    (out : List ℕ) (go : Places → Places → Run) (t : Meaning.Run) (wanted : ℕ → Bool)
+    → AreHomes hs saved blocks → Agrees hs registers slots regs wanted → ((y : ℕ) → y < x + length vs → HasHome hs y)
+    → ((registers' slots' : Places) → Agrees hs registers' slots' (written_all regs x vs) wanted
+    → below saved aside registers' ≡ below saved aside registers → Alike (go registers' slots') t)
     → Alike (write_homes hs registers slots x vs out go) t
-writes_all hs saved blocks aside registers slots regs x [] out go t ok ag has f = f registers slots ag refl
-writes_all hs saved blocks aside registers slots regs x (v ∷ vs) out go t ok ag has f =
-    writes hs saved blocks aside registers slots regs x v out _ t ok ag (has x (omega arith)) (λ r1 s1 ag1 e1.
-    writes_all hs saved blocks aside r1 s1 (places_with regs x (Some v)) (suc x) vs out go t ok ag1 (λ y lt. has y (omega (arith, lt))) (λ r2 s2 ag2 e2.
+writes_all hs saved blocks aside registers slots regs x [] out go t wanted ok ag has f = f registers slots ag refl
+writes_all hs saved blocks aside registers slots regs x (v ∷ vs) out go t wanted ok ag has f =
+    writes hs saved blocks aside registers slots regs x v out _ t wanted wanted ok ag (has x (omega arith)) (λ y _ m. m) (λ r1 s1 ag1 e1.
+    writes_all hs saved blocks aside r1 s1 (places_with regs x (Some v)) (suc x) vs out go t wanted ok ag1 (λ y lt. has y (omega (arith, lt))) (λ r2 s2 ag2 e2.
     f r2 s2 ag2 (e2 ∙ e1)))
 
-reads_all : (hs : List Home) (registers slots regs : Places) (xs : List ℕ) → Agrees hs registers slots regs
-    → read_homes hs registers slots xs ≡ words_in regs xs
-reads_all hs registers slots regs [] ag = refl
-reads_all hs registers slots regs (x ∷ xs) ag =
-    ap₂ (λ (a : Option ℕ) (b : Option (List ℕ)). chain a (λ v. chain b (λ vs. Some (v ∷ vs)))) (ag.by x) (reads_all hs registers slots regs xs ag)
+is_in_first : (x : ℕ) (xs : List ℕ) → is_in (x ∷ xs) x ≡ true
+is_in_first x xs = ap (λ c. c || is_in xs x) (eq-eqb x x refl)
+
+is_in_later : (x y : ℕ) (xs : List ℕ) → is_in xs x ≡ true → is_in (y ∷ xs) x ≡ true
+is_in_later x y xs e = by (nat_eq x y)
+  where
+    by : (c : Bool) → (c || is_in xs x) ≡ true
+    by true = refl
+    by false = e
+
+reads_all : (hs : List Home) (registers slots regs : Places) (wanted : ℕ → Bool) (xs : List ℕ) → Agrees hs registers slots regs wanted
+    → ((x : ℕ) → is_in xs x ≡ true → wanted x ≡ true) → read_homes hs registers slots xs ≡ words_in regs xs
+reads_all hs registers slots regs wanted [] ag all = refl
+reads_all hs registers slots regs wanted (x ∷ xs) ag all =
+    ap₂ (λ (a : Option ℕ) (b : Option (List ℕ)). chain a (λ v. chain b (λ vs. Some (v ∷ vs)))) (ag.by x (matters_if hs wanted x (all x (is_in_first x xs))))
+    (reads_all hs registers slots regs wanted xs ag (λ y e. all y (is_in_later y x xs e)))
+
+-- what an instruction reads matters before it
+read_by : (i : RInst) (is : List RInst) (e : RExit) (x : ℕ) → is_in (inst_reads i) x ≡ true → reads_first (i ∷ is) e x ≡ true
+read_by i is e x t = ap (λ c. if c then true else if is_in (inst_writes i) x then false else reads_first is e x) t
+
+-- and what matters behind it, unless it writes it
+kept_by : (i : RInst) (is : List RInst) (e : RExit) (x : ℕ) → is_in (inst_writes i) x ≡ false → reads_first is e x ≡ true → reads_first (i ∷ is) e x ≡ true
+kept_by i is e x out t = by (is_in (inst_reads i) x)
+  where
+    by : (c : Bool) → (if c then true else if is_in (inst_writes i) x then false else reads_first is e x) ≡ true
+    by true = refl
+    by false = ap (λ c. if c then false else reads_first is e x) out ∙ t
+
+written_alone : (d x : ℕ) → nat_eq x d ≡ false → is_in (d ∷ []) x ≡ false
+written_alone d x e = ap (λ c. c || false) e
 
 -- one instruction
-performs : (globals : List RGlobal) (i : RInst) (hs : List Home) (saved : List ℕ) (blocks : List RBlock)
+performs : (globals : List RGlobal) (i : RInst) (is : List RInst) (e : RExit) (hs : List Home) (saved : List ℕ) (blocks : List RBlock)
     (aside registers slots regs : Places) (g : Arrays) (out : List ℕ) (go : Places → Places → Arrays → Run) (go' : Places → Arrays → Meaning.Run)
-    → AreHomes hs saved blocks → Agrees hs registers slots regs → HaveHomes hs (inst_names i)
-    → ((registers' slots' regs' : Places) (g' : Arrays) → Agrees hs registers' slots' regs'
-    → registers_at_return saved aside registers' ≡ registers_at_return saved aside registers → Alike (go registers' slots' g') (go' regs' g'))
+    → AreHomes hs saved blocks → Agrees hs registers slots regs (reads_first (i ∷ is) e) → HaveHomes hs (inst_names i)
+    → ((registers' slots' regs' : Places) (g' : Arrays) → Agrees hs registers' slots' regs' (reads_first is e)
+    → below saved aside registers' ≡ below saved aside registers → Alike (go registers' slots' g') (go' regs' g'))
     → Alike (with_inst globals i hs registers slots g out go) (Meaning.with_inst globals i regs g out go')
-performs globals (Const d w) hs saved blocks aside r s regs g out go go' ok ag n f =
-    writes hs saved blocks aside r s regs d (wrap w) out _ _ ok ag n.0 (λ r' s' ag' e. f r' s' _ g ag' e)
-performs globals (Move d a) hs saved blocks aside r s regs g out go go' ok ag n f =
-    both_value _ _ out _ _ (ag.by a) (λ v. writes hs saved blocks aside r s regs d v out _ _ ok ag n.0 (λ r' s' ag' e. f r' s' _ g ag' e))
-performs globals (Bin op d a b) hs saved blocks aside r s regs g out go go' ok ag n f =
-    both_value _ _ out _ _ (ag.by a) (λ x. both_value _ _ out _ _ (ag.by b) (λ y. both_value (op_result op x y) _ out _ _ refl (λ v.
-    writes hs saved blocks aside r s regs d v out _ _ ok ag n.0 (λ r' s' ag' e. f r' s' _ g ag' e))))
-performs globals (Load d a i) hs saved blocks aside r s regs g out go go' ok ag n f =
-    both_value _ _ out _ _ (ag.by i) (λ x. both_value (element_at g a x) _ out _ _ refl (λ v.
-    writes hs saved blocks aside r s regs d v out _ _ ok ag n.0 (λ r' s' ag' e. f r' s' _ g ag' e)))
-performs globals (Store a i b) hs saved blocks aside r s regs g out go go' ok ag n f =
-    both_value _ _ out _ _ (ag.by i)
-    (λ x. both_value _ _ out _ _ (ag.by b)
-    (λ v. both_value (kept_in globals a v) _ out _ _ refl (λ w. both_value (arrays_with g a x w) _ out _ _ refl (λ g'. f r s regs g' ag refl))))
+performs globals i is e hs saved blocks aside r s regs g out go go' ok ag n f = at i ag n
+  where
+    After : RInst → Type 0
+    After i = (y : ℕ) → reads_first is e y ≡ true → is_in (inst_writes i) y ≡ false → reads_first (i ∷ is) e y ≡ true
+
+    reads : (i : RInst) (x : ℕ) → Agrees hs r s regs (reads_first (i ∷ is) e) → is_in (inst_reads i) x ≡ true → read_home hs r s x ≡ regs x
+    reads i x ag t = ag.by x (matters_if hs (reads_first (i ∷ is) e) x (read_by i is e x t))
+
+    puts : (i : RInst) (d v : ℕ) → Agrees hs r s regs (reads_first (i ∷ is) e) → HasHome hs d → ((y : ℕ) → is_in (inst_writes i) y ≡ is_in (d ∷ []) y)
+        → Alike (write_home hs r s d v out (λ r' s'. go r' s' g)) (go' (places_with regs d (Some v)) g)
+    puts i d v ag has same = writes hs saved blocks aside r s regs d v out _ _ (reads_first (i ∷ is) e) (reads_first is e) ok ag has
+        (λ y ne t. kept_by i is e y (same y ∙ written_alone d y ne) t) (λ r' s' ag' e'. f r' s' _ g ag' e')
+
+    at : (i : RInst) → Agrees hs r s regs (reads_first (i ∷ is) e) → HaveHomes hs (inst_names i)
+        → Alike (with_inst globals i hs r s g out go) (Meaning.with_inst globals i regs g out go')
+    at (Const d w) ag n = puts (Const d w) d (wrap w) ag n.0 (λ y. refl)
+    at (Move d a) ag n = both_value _ _ out _ _ (reads (Move d a) a ag (is_in_first a [])) (λ v. puts (Move d a) d v ag n.0 (λ y. refl))
+    at (Bin op d a b) ag n =
+        both_value _ _ out _ _ (reads (Bin op d a b) a ag (is_in_first a (b ∷ []))) (λ x.
+        both_value _ _ out _ _ (reads (Bin op d a b) b ag (is_in_later b a (b ∷ []) (is_in_first b []))) (λ y. both_value (op_result op x y) _ out _ _ refl (λ v.
+        puts (Bin op d a b) d v ag n.0 (λ y. refl))))
+    at (Load d a i) ag n =
+        both_value _ _ out _ _ (reads (Load d a i) i ag (is_in_first i [])) (λ x. both_value (element_at g a x) _ out _ _ refl (λ v.
+        puts (Load d a i) d v ag n.0 (λ y. refl)))
+    at (Store a i b) ag n =
+        both_value _ _ out _ _ (reads (Store a i b) i ag (is_in_first i (b ∷ [])))
+        (λ x. both_value _ _ out _ _ (reads (Store a i b) b ag (is_in_later b i (b ∷ []) (is_in_first b [])))
+        (λ v. both_value (kept_in globals a v) _ out _ _ refl (λ w. both_value (arrays_with g a x w) _ out _ _ refl (λ g'.
+        f r s regs g' (record { by = λ y m. ag.by y (later y (is_passing (slice_get hs y)) m) }) refl))))
+      where
+        later : (y : ℕ) (c : Bool) → (if c then reads_first is e y else true) ≡ true → (if c then reads_first (Store a i b ∷ is) e y else true) ≡ true
+        later y true t = kept_by (Store a i b) is e y refl t
+        later y false t = refl
 
 -- the state of an activation, with what stands below it
 alike_top : (a : Activation) (registers regs : Places) (ws : List Activation) (rs : List Places) (g : Arrays) (out : List ℕ)
-    → AreHomes a.frame.homes.items a.frame.saved.items a.blocks → Agrees a.frame.homes.items registers a.slots regs
-    → CodeHasHomes a.frame.homes.items a.code → ResultHasHome a.result_to ws → Stack (registers_at_return a.frame.saved.items a.aside registers) ws rs
+    → AreHomes a.frame.homes.items a.frame.saved.items a.blocks
+    → Agrees a.frame.homes.items registers a.slots regs (reads_first a.code.insts a.code.exit)
+    → CodeHasHomes a.frame.homes.items a.blocks a.code → ResultHasHome a.result_to ws → Stack (below a.frame.saved.items a.aside registers) ws rs
     → Alike (Running registers (a ∷ ws) g out)
     (Runs.Running (record { blocks = a.blocks; registers = regs; code = a.code; result_to = a.result_to } ∷ plain ws rs) g out)
 alike_top a registers regs ws rs g out ok ag code dest st = (regs ∷ rs, refl, (record { homes = ok; agrees = ag; code = code }, dest, st))
 
+-- at the end of a block only lasting registers matter
+settles : (hs : List Home) (saved : List ℕ) (blocks : List RBlock) (registers slots regs : Places) (wanted : ℕ → Bool) → AreHomes hs saved blocks
+    → Agrees hs registers slots regs wanted → (b : ℕ) → some_go_to blocks b ≡ true → (block : RBlock) → slice_get blocks b ≡ Some block
+    → Agrees hs (lasting registers) slots regs (block_reads_first block)
+settles hs saved blocks registers slots regs wanted ok ag b goes block there = record { by = λ x m. by x (slice_get hs x) refl m }
+  where
+    Same : ℕ → Option Home → Type 0
+    Same x o = (if is_passing o then block_reads_first block x else true) ≡ true → chain o (in_home (lasting registers) slots) ≡ regs x
+
+    as_was : (x : ℕ) (o : Option Home) → slice_get hs x ≡ o → is_passing o ≡ false → chain o (in_home registers slots) ≡ regs x
+    as_was x o e out = sym (ap (λ o. chain o (in_home registers slots)) e)
+        ∙ ag.by x (ap (λ o. if is_passing o then wanted x else true) e ∙ ap (λ c. if c then wanted x else true) out)
+
+    reg : (x r : ℕ) → slice_get hs x ≡ Some (Reg r) → (l : Bool) → is_lasting r ≡ l → Same x (Some (Reg r))
+    reg x r e true l m =
+        ap (λ c. if c then registers r else None) l ∙ as_was x (Some (Reg r)) e (ap (λ c. if c then false else true) l)
+    reg x r e false l m =
+        absurd (true≢false (sym (sym (ap (λ c. if (if c then false else true) then block_reads_first block x else true) l) ∙ m)
+        ∙ ok.local x r e l b block there goes))
+
+    by : (x : ℕ) (o : Option Home) → slice_get hs x ≡ o → matters hs (block_reads_first block) x ≡ true → read_home hs (lasting registers) slots x ≡ regs x
+    by x None e m = ap (λ o. chain o (in_home (lasting registers) slots)) e ∙ as_was x None e refl
+    by x (Some (Slot k)) e m = ap (λ o. chain o (in_home (lasting registers) slots)) e ∙ as_was x (Some (Slot k)) e refl
+    by x (Some (Reg r)) e m = ap (λ o. chain o (in_home (lasting registers) slots)) e
+        ∙ reg x r e (is_lasting r) refl (sym (ap (λ o. if is_passing o then block_reads_first block x else true) e) ∙ m)
+
 jumps : (b : ℕ) (a : Activation) (registers slots regs : Places) (ws : List Activation) (rs : List Places) (g : Arrays) (out : List ℕ)
-    → AreHomes a.frame.homes.items a.frame.saved.items a.blocks → Agrees a.frame.homes.items registers slots regs → ResultHasHome a.result_to ws
-    → Stack (registers_at_return a.frame.saved.items a.aside registers) ws rs
+    → AreHomes a.frame.homes.items a.frame.saved.items a.blocks
+    → ((block : RBlock) → slice_get a.blocks b ≡ Some block → Agrees a.frame.homes.items registers slots regs (block_reads_first block))
+    → ResultHasHome a.result_to ws → Stack (below a.frame.saved.items a.aside registers) ws rs
     → Alike (state_at_block b a registers slots ws g out) (Meaning.state_at_block a.blocks b regs a.result_to (plain ws rs) g out)
 jumps b a registers slots regs ws rs g out ok ag dest st =
     both_value_is (slice_get a.blocks b) out _ _ (λ block e.
-    alike_top (at_code a slots (code_of block)) registers regs ws rs g out ok ag (named_block a.frame.homes.items a.blocks b block ok.named e) dest st)
+    alike_top (at_code a slots (code_of block)) registers regs ws rs g out ok (ag block e) (named_block a.frame.homes.items a.blocks b block ok.named e) dest st)
 
 as_deep : (registers : Places) (ws : List Activation) (rs : List Places) → Stack registers ws rs → length (plain ws rs) ≡ length ws
 as_deep registers [] [] s = refl
-as_deep registers (a ∷ ws) (r ∷ rs) s = ap suc (as_deep (registers_at_return a.frame.saved.items a.aside registers) ws rs s.2)
+as_deep registers (a ∷ ws) (r ∷ rs) s = ap suc (as_deep (below a.frame.saved.items a.aside registers) ws rs s.2)
 as_deep registers [] (r ∷ rs) s = absurd s
 as_deep registers (a ∷ ws) [] s = absurd s
 
 -- a result
 returns : (o : Option ℕ) (a : Activation) (registers : Places) (ws : List Activation) (rs : List Places) (g : Arrays) (out : List ℕ)
-    → ResultHasHome a.result_to ws → Stack (registers_at_return a.frame.saved.items a.aside registers) ws rs
-    → Alike (state_after_return o a registers ws g out) (Meaning.state_after_return o a.result_to (plain ws rs) g out)
+    → ResultHasHome a.result_to ws → Stack (below a.frame.saved.items a.aside registers) ws rs
+    → Alike (state_after_return o a (lasting registers) ws g out) (Meaning.state_after_return o a.result_to (plain ws rs) g out)
 returns o a registers [] [] g out dest st = both_value o o out _ _ refl (λ v. refl)
 returns o a registers (w ∷ ws) (r ∷ rs) g out dest st = to a.result_to dest
   where
-    below : Places
-    below = registers_at_return a.frame.saved.items a.aside registers
+    under : Places
+    under = below a.frame.saved.items a.aside registers
 
     to : (d : Option ℕ) → HaveHomes w.frame.homes.items (optional d)
-        → Alike (with_result d o w.frame.homes.items below w.slots out (λ r' s'. Running r' (at_code w s' w.code ∷ ws) g out))
+        → Alike (with_result d o w.frame.homes.items under w.slots out (λ r' s'. Running r' (at_code w s' w.code ∷ ws) g out))
         (Meaning.with_result d o r out
         (λ r'. Runs.Running (record { blocks = w.blocks; registers = r'; code = w.code; result_to = w.result_to } ∷ plain ws rs) g out))
-    to None n = alike_top (at_code w w.slots w.code) below r ws rs g out (st.0).homes (st.0).agrees (st.0).code st.1 st.2
+    to None n = alike_top (at_code w w.slots w.code) under r ws rs g out (st.0).homes (st.0).agrees (st.0).code st.1 st.2
     to (Some d) n =
         both_value o o out _ _ refl (λ v.
-        writes w.frame.homes.items w.frame.saved.items w.blocks w.aside below w.slots r d v out _ _ (st.0).homes (st.0).agrees n.0 (λ r' s' ag' e.
+        writes w.frame.homes.items w.frame.saved.items w.blocks w.aside under w.slots r d v out _ _
+        (reads_first w.code.insts w.code.exit) (reads_first w.code.insts w.code.exit) (st.0).homes (st.0).agrees n.0 (λ y _ m. m) (λ r' s' ag' e.
         alike_top (at_code w s' w.code) r' (places_with r d (Some v)) ws rs g out (st.0).homes ag' (st.0).code st.1
         (subst (λ p. Stack p ws rs) (sym e) st.2)))
 returns o a registers [] (r ∷ rs) g out dest st = absurd st
@@ -293,28 +433,40 @@ both_true false b e = absurd (true≢false (sym e))
 
 -- a function begins with all its homes unset
 home_unset : (hs : List Home) (saved : List ℕ) (bs : List RBlock) (registers : Places) → AreHomes hs saved bs → (x : ℕ) (h : Home)
-    → slice_get hs x ≡ Some h → in_home (registers_at_entry saved registers) unset_places h ≡ None
+    → slice_get hs x ≡ Some h → in_home (registers_at_entry saved (lasting registers)) unset_places h ≡ None
 home_unset hs saved bs registers ok x (Slot k) e = refl
-home_unset hs saved bs registers ok x (Reg r) e = ap (λ c. if c then None else registers r) (ok.kept x r e)
+home_unset hs saved bs registers ok x (Reg r) e = by (is_lasting r) refl
+  where
+    none : (c : Bool) → (if c then None else (if false then registers r else None)) ≡ None
+    none true = refl
+    none false = refl
+
+    by : (l : Bool) → is_lasting r ≡ l → (if is_in saved r then None else (if is_lasting r then registers r else None)) ≡ None
+    by true l = ap (λ c. if c then None else lasting registers r) (ok.kept x r e l)
+    by false l = ap (λ l. if is_in saved r then None else (if l then registers r else None)) l ∙ none (is_in saved r)
 
 all_unset : (hs : List Home) (saved : List ℕ) (bs : List RBlock) (registers : Places) → AreHomes hs saved bs
-    → Agrees hs (registers_at_entry saved registers) unset_places unset_places
-all_unset hs saved bs registers ok = record { by = λ x. at x (slice_get hs x) refl }
+    → Agrees hs (registers_at_entry saved (lasting registers)) unset_places unset_places (λ x. true)
+all_unset hs saved bs registers ok = record { by = λ x m. at x (slice_get hs x) refl }
   where
-    at : (x : ℕ) (o : Option Home) → slice_get hs x ≡ o → read_home hs (registers_at_entry saved registers) unset_places x ≡ None
-    at x None e = ap (λ o. chain o (in_home (registers_at_entry saved registers) unset_places)) e
-    at x (Some h) e = ap (λ o. chain o (in_home (registers_at_entry saved registers) unset_places)) e ∙ home_unset hs saved bs registers ok x h e
+    at : (x : ℕ) (o : Option Home) → slice_get hs x ≡ o → read_home hs (registers_at_entry saved (lasting registers)) unset_places x ≡ None
+    at x None e = ap (λ o. chain o (in_home (registers_at_entry saved (lasting registers)) unset_places)) e
+    at x (Some h) e = ap (λ o. chain o (in_home (registers_at_entry saved (lasting registers)) unset_places)) e ∙ home_unset hs saved bs registers ok x h e
 
 -- a call
+enough : (hs : List Home) (registers slots regs : Places) (wanted : ℕ → Bool) → Agrees hs registers slots regs (λ x. true)
+    → Agrees hs registers slots regs wanted
+enough hs registers slots regs wanted ag = record { by = λ x m. ag.by x (matters_if hs (λ x. true) x refl) }
+
 calls : (h : Homed) → AreAllHomes h
     → (depth f : ℕ) (vs : List ℕ) (dest : Option ℕ) (registers : Places) (ws : List Activation) (rs : List Places) (g : Arrays)
-    (out : List ℕ) → ResultHasHome dest ws → Stack registers ws rs
-    → Alike (state_after_call h depth f vs dest registers ws g out) (Meaning.state_after_call (h.rtl.now) depth f vs dest (plain ws rs) g out)
+    (out : List ℕ) → ResultHasHome dest ws → Stack (lasting registers) ws rs
+    → Alike (state_after_call h depth f vs dest (lasting registers) ws g out) (Meaning.state_after_call (h.rtl.now) depth f vs dest (plain ws rs) g out)
 calls h all depth f vs dest registers ws rs g out dn st =
     both_value_is (slice_get (h.rtl.now).functions f) out _ _ (λ func is.
     let has = all.by f func is in
     subst (λ o. Alike (with_value o out (enter func (fits (length ws) func))) (enters func (fits (length (plain ws rs)) func))) (sym has.1)
-    (subst (λ n. Alike (enter func (fits (length ws) func) has.0) (enters func (fits n func))) (sym (as_deep registers ws rs st))
+    (subst (λ n. Alike (enter func (fits (length ws) func) has.0) (enters func (fits n func))) (sym (as_deep (lasting registers) ws rs st))
     (by func has.0 has.2 (fits (length ws) func) refl)))
   where
     fits : ℕ → RFunc → Bool
@@ -322,10 +474,10 @@ calls h all depth f vs dest registers ws rs g out dn st =
 
     start : RFunc → Frame → Places → Activation
     start func frame s =
-        record { blocks = func.blocks.items; frame = frame; slots = s; aside = registers; code = record { insts = []; exit = Goto 0 }; result_to = dest }
+        record { blocks = func.blocks.items; frame = frame; slots = s; aside = lasting registers; code = record { insts = []; exit = Goto 0 }; result_to = dest }
 
     enter : RFunc → Bool → Frame → Run
-    enter func b frame = if b then write_homes frame.homes.items (registers_at_entry frame.saved.items registers) unset_places 0 vs out
+    enter func b frame = if b then write_homes frame.homes.items (registers_at_entry frame.saved.items (lasting registers)) unset_places 0 vs out
         (λ r' s'. state_at_block 0 (start func frame s') r' s' ws g out) else Failed out
 
     enters : RFunc → Bool → Meaning.Run
@@ -336,45 +488,85 @@ calls h all depth f vs dest registers ws rs g out dn st =
     by func frame ok true e =
         let as_many : length vs ≡ func.parameters =
         eqb-true (length vs) func.parameters (both_true (nat_lt (length ws) depth) (length vs == func.parameters) e) in
-        writes_all frame.homes.items frame.saved.items func.blocks.items registers
-        (registers_at_entry frame.saved.items registers) unset_places unset_places 0 vs out _ _ (ok.homes)
+        writes_all frame.homes.items frame.saved.items func.blocks.items (lasting registers)
+        (registers_at_entry frame.saved.items (lasting registers)) unset_places unset_places 0 vs out _ _ (λ x. true) (ok.homes)
         (all_unset frame.homes.items frame.saved.items func.blocks.items registers ok.homes)
         (λ y lt. ok.parameters y (omega (arith, lt, as_many))) (λ r' s' ag e1.
         jumps 0 (start func frame s') r' s' (argument_registers vs) ws rs g out ok.homes
-        (subst (λ regs. Agrees frame.homes.items r' s' regs) (arguments_written vs) ag) dn
+        (λ block there. enough frame.homes.items r' s' (argument_registers vs) (block_reads_first block)
+        (subst (λ regs. Agrees frame.homes.items r' s' regs (λ x. true)) (arguments_written vs) ag)) dn
         (subst (λ p. Stack p ws rs) (sym (e1 ∙ restored_cleared frame.saved.items registers)) st))
 
 exits : (h : Homed) → AreAllHomes h
     → (depth : ℕ) (exit : RExit) (a : Activation) (registers regs : Places) (ws : List Activation) (rs : List Places) (g : Arrays) (out : List ℕ)
-    → AreHomes a.frame.homes.items a.frame.saved.items a.blocks → Agrees a.frame.homes.items registers a.slots regs
-    → HaveHomes a.frame.homes.items (exit_names exit) → ResultHasHome a.result_to ws → Stack (registers_at_return a.frame.saved.items a.aside registers) ws rs
+    → AreHomes a.frame.homes.items a.frame.saved.items a.blocks → Agrees a.frame.homes.items registers a.slots regs (reads_first [] exit)
+    → HaveHomes a.frame.homes.items (exit_names exit) → ((t : ℕ) → is_in (goes_to exit) t ≡ true → some_go_to a.blocks t ≡ true)
+    → ResultHasHome a.result_to ws → Stack (below a.frame.saved.items a.aside registers) ws rs
     → Alike (state_after_exit h depth exit a registers ws g out) (Meaning.state_after_exit (h.rtl.now) depth exit a.blocks regs a.result_to (plain ws rs) g out)
-exits h all depth (Goto b) a registers regs ws rs g out ok ag n dest st = jumps b a registers a.slots regs ws rs g out ok ag dest st
-exits h all depth (Branch c x y) a registers regs ws rs g out ok ag n dest st =
-    both_value _ _ out _ _ (ag.by c) (λ v. jumps (if v == 0 then y else x) a registers a.slots regs ws rs g out ok ag dest st)
-exits h all depth (Call f xs d next) a registers regs ws rs g out ok ag n dest st =
-    both_value _ _ out _ _ (reads_all a.frame.homes.items registers a.slots regs xs.items ag) (λ vs. both_value_is (slice_get a.blocks next) out _ _ (λ block e.
-    calls h all depth f vs d registers (at_code a a.slots (code_of block) ∷ ws) (regs ∷ rs) g out (named_back a.frame.homes.items xs.items (optional d) n)
-    (record { homes = ok; agrees = ag; code = named_block a.frame.homes.items a.blocks next block ok.named e }, dest, st)))
-exits h all depth (Return None) a registers regs ws rs g out ok ag n dest st = returns None a registers ws rs g out dest st
-exits h all depth (Return (Some x)) a registers regs ws rs g out ok ag n dest st =
-    both_value _ _ out _ _ (ag.by x) (λ v. returns (Some v) a registers ws rs g out dest st)
-exits h all depth (Out x next) a registers regs ws rs g out ok ag n dest st =
-    both_value _ _ out _ _ (ag.by x) (λ v. jumps next a registers a.slots regs ws rs g (out ++ v ∷ []) ok ag dest st)
+exits h all depth exit a registers regs ws rs g out ok ag n goes dest st = at exit ag n goes
+  where
+    hs : List Home
+    hs = a.frame.homes.items
+
+    under : Stack (below a.frame.saved.items a.aside (lasting registers)) ws rs
+    under = subst (λ p. Stack (registers_at_return a.frame.saved.items a.aside p) ws rs) (sym (lasting_twice registers)) st
+
+    goes_on : (exit : RExit) → Agrees hs registers a.slots regs (reads_first [] exit)
+        → (b : ℕ) → some_go_to a.blocks b ≡ true → (out : List ℕ)
+        → Alike (state_at_block b a (lasting registers) a.slots ws g out) (Meaning.state_at_block a.blocks b regs a.result_to (plain ws rs) g out)
+    goes_on exit ag b there out = jumps b a (lasting registers) a.slots regs ws rs g out ok
+        (settles hs a.frame.saved.items a.blocks registers a.slots regs (reads_first [] exit) ok ag b there) dest under
+
+    reads : (exit : RExit) (x : ℕ) → Agrees hs registers a.slots regs (reads_first [] exit) → is_in (exit_reads exit) x ≡ true
+        → read_home hs registers a.slots x ≡ regs x
+    reads exit x ag t = ag.by x (matters_if hs (reads_first [] exit) x t)
+
+    one_of : (x y : ℕ) (b : Bool) → is_in (x ∷ y ∷ []) (if b then y else x) ≡ true
+    one_of x y true = is_in_later y x (y ∷ []) (is_in_first y [])
+    one_of x y false = is_in_first x (y ∷ [])
+
+    at : (exit : RExit) → Agrees hs registers a.slots regs (reads_first [] exit) → HaveHomes hs (exit_names exit)
+        → ((t : ℕ) → is_in (goes_to exit) t ≡ true → some_go_to a.blocks t ≡ true)
+        → Alike (state_after_exit h depth exit a registers ws g out)
+        (Meaning.state_after_exit (h.rtl.now) depth exit a.blocks regs a.result_to (plain ws rs) g out)
+    at (Goto b) ag n goes = goes_on (Goto b) ag b (goes b (is_in_first b [])) out
+    at (Branch c x y) ag n goes =
+        both_value _ _ out _ _ (reads (Branch c x y) c ag (is_in_first c []))
+        (λ v. goes_on (Branch c x y) ag (if v == 0 then y else x) (goes (if v == 0 then y else x) (one_of x y (v == 0))) out)
+    at (Call f xs d next) ag n goes =
+        both_value _ _ out _ _ (reads_all hs registers a.slots regs (reads_first [] (Call f xs d next)) xs.items ag (λ x t. t)) (λ vs.
+        both_value_is (slice_get a.blocks next) out _ _ (λ block e.
+        calls h all depth f vs d registers (at_code a a.slots (code_of block) ∷ ws) (regs ∷ rs) g out (named_back hs xs.items (optional d) n) (
+          record {
+            homes = ok;
+            agrees = settles hs a.frame.saved.items a.blocks registers a.slots regs (reads_first [] (Call f xs d next)) ok ag next
+                (goes next (is_in_first next [])) block e;
+            code = named_block hs a.blocks next block ok.named e;
+          },
+          dest,
+          under,
+        )))
+    at (Return None) ag n goes = returns None a registers ws rs g out dest st
+    at (Return (Some x)) ag n goes =
+        both_value _ _ out _ _ (reads (Return (Some x)) x ag (is_in_first x [])) (λ v. returns (Some v) a registers ws rs g out dest st)
+    at (Out x next) ag n goes =
+        both_value _ _ out _ _ (reads (Out x next) x ag (is_in_first x []))
+        (λ v. goes_on (Out x next) ag next (goes next (is_in_first next [])) (out ++ v ∷ []))
 
 code_alike : (h : Homed) → AreAllHomes h
     → (depth : ℕ) (is : List RInst) (exit : RExit) (a : Activation) (registers regs : Places) (ws : List Activation) (rs : List Places)
     (g : Arrays) (out : List ℕ)
-    → AreHomes a.frame.homes.items a.frame.saved.items a.blocks → Agrees a.frame.homes.items registers a.slots regs
-    → HaveHomes a.frame.homes.items (insts_names is) → HaveHomes a.frame.homes.items (exit_names exit) → ResultHasHome a.result_to ws
-    → Stack (registers_at_return a.frame.saved.items a.aside registers) ws rs
+    → AreHomes a.frame.homes.items a.frame.saved.items a.blocks → Agrees a.frame.homes.items registers a.slots regs (reads_first is exit)
+    → CodeHasHomes a.frame.homes.items a.blocks (record { insts = is; exit = exit }) → ResultHasHome a.result_to ws
+    → Stack (below a.frame.saved.items a.aside registers) ws rs
     → Alike (step_at h depth is exit a registers ws g out) (Meaning.step_at (h.rtl.now) depth is exit a.blocks regs a.result_to (plain ws rs) g out)
-code_alike h all depth [] exit a registers regs ws rs g out ok ag ni ne dest st = exits h all depth exit a registers regs ws rs g out ok ag ne dest st
-code_alike h all depth (i ∷ is) exit a registers regs ws rs g out ok ag ni ne dest st =
-    performs (h.rtl.now).globals i a.frame.homes.items a.frame.saved.items a.blocks a.aside registers a.slots regs g out _ _ ok ag
-    (named_front a.frame.homes.items (inst_names i) (insts_names is) ni) (λ r' s' regs' g' ag' e.
+code_alike h all depth [] exit a registers regs ws rs g out ok ag code dest st =
+    exits h all depth exit a registers regs ws rs g out ok ag code.exit code.goes dest st
+code_alike h all depth (i ∷ is) exit a registers regs ws rs g out ok ag code dest st =
+    performs (h.rtl.now).globals i is exit a.frame.homes.items a.frame.saved.items a.blocks a.aside registers a.slots regs g out _ _ ok ag
+    (named_front a.frame.homes.items (inst_names i) (insts_names is) code.insts) (λ r' s' regs' g' ag' e.
     alike_top (at_code a s' (record { insts = is; exit = exit })) r' regs' ws rs g' out ok ag'
-    (record { insts = named_back a.frame.homes.items (inst_names i) (insts_names is) ni; exit = ne }) dest
+    (record { insts = named_back a.frame.homes.items (inst_names i) (insts_names is) code.insts; exit = code.exit; goes = code.goes }) dest
     (subst (λ p. Stack p ws rs) (sym e) st))
 
 steps_alike : (h : Homed) → AreAllHomes h → (depth : ℕ) (s : Run) (t : Meaning.Run) → Alike s t → Alike (homed_step h depth s) (rtl_step (h.rtl.now) depth t)
@@ -391,7 +583,7 @@ steps_alike h all depth (Running registers (a ∷ ws) g out) t m = one m.0 m.1 m
     one [] e st = absurd st
     one (r ∷ rs) e st =
         subst (λ t. Alike (homed_step h depth (Running registers (a ∷ ws) g out)) (rtl_step (h.rtl.now) depth t)) (sym e)
-        (code_alike h all depth a.code.insts a.code.exit a registers r ws rs g out (st.0).homes (st.0).agrees (st.0).code.insts (st.0).code.exit st.1 st.2)
+        (code_alike h all depth a.code.insts a.code.exit a registers r ws rs g out (st.0).homes (st.0).agrees (st.0).code st.1 st.2)
 
 same_ran : (s : Run) (t : Meaning.Run) → Alike s t → outcome s ≡ Runs.outcome t
 same_ran (Running registers ws g out) t m = sym (ap Runs.outcome m.1)
@@ -413,7 +605,7 @@ starts_alike h all =
     (λ frame. state_at_block 0 (start func frame) unset_places unset_places [] (map first_values (h.rtl.now).globals) []))
     (Meaning.state_at_block func.blocks.items 0 unset_places None [] (map first_values (h.rtl.now).globals) [])) (sym has.1)
     (jumps 0 (start func has.0) unset_places unset_places unset_places [] [] (map first_values (h.rtl.now).globals) [] has.2.homes
-    (record { by = unset has.0.homes.items }) tt tt))
+    (λ block there. record { by = λ x m. unset has.0.homes.items x }) tt tt))
   where
     start : RFunc → Frame → Activation
     start func frame =

@@ -84,6 +84,14 @@ registers_at_entry saved registers = λ r. if is_in saved r then None else regis
 abbrev pub registers_at_return : List ℕ → Places → Places → Places
 registers_at_return saved aside registers = λ r. if is_in saved r then aside r else registers r
 
+-- the registers that outlive a block, 16 to 23
+abbrev pub is_lasting : ℕ → Bool
+is_lasting r = nat_lt 15 r && nat_lt r 24
+
+-- what they hold; the others are unset
+abbrev pub lasting : Places → Places
+lasting registers = λ r. if is_lasting r then registers r else None
+
 -- an instruction, with what it leaves in the registers, slots and globals
 abbrev pub with_inst : List RGlobal → RInst → List Home → Places → Places → Arrays → List ℕ → (Places → Places → Arrays → Run) → Run
 with_inst globals (Const d w) hs r s g out go = write_home hs r s d (wrap w) out (λ r s. go r s g)
@@ -127,19 +135,19 @@ state_after_call h depth f vs dest r ws g out =
     state_at_block 0 (new_activation func.blocks.items frame s' r dest) r' s' ws g out)
     else Failed out))
 
--- how a block is left
+-- how a block is left: what it reads it reads first, and then registers other than 16 to 23 are unset
 abbrev pub state_after_exit : Homed → (depth : ℕ) → RExit → Activation → Places → List Activation → Arrays → List ℕ → Run
-state_after_exit h depth (Goto b) a r ws g out = state_at_block b a r a.slots ws g out
+state_after_exit h depth (Goto b) a r ws g out = state_at_block b a (lasting r) a.slots ws g out
 state_after_exit h depth (Branch c t e) a r ws g out =
-    with_value (read_home a.frame.homes.items r a.slots c) out (λ v. state_at_block (if v == 0 then e else t) a r a.slots ws g out)
+    with_value (read_home a.frame.homes.items r a.slots c) out (λ v. state_at_block (if v == 0 then e else t) a (lasting r) a.slots ws g out)
 state_after_exit h depth (Call f xs dest next) a r ws g out =
     with_value (read_homes a.frame.homes.items r a.slots xs.items) out (λ vs. with_value (slice_get a.blocks next) out (λ block.
-    state_after_call h depth f vs dest r (at_code a a.slots (code_of block) ∷ ws) g out))
-state_after_exit h depth (Return None) a r ws g out = state_after_return None a r ws g out
+    state_after_call h depth f vs dest (lasting r) (at_code a a.slots (code_of block) ∷ ws) g out))
+state_after_exit h depth (Return None) a r ws g out = state_after_return None a (lasting r) ws g out
 state_after_exit h depth (Return (Some x)) a r ws g out =
-    with_value (read_home a.frame.homes.items r a.slots x) out (λ v. state_after_return (Some v) a r ws g out)
+    with_value (read_home a.frame.homes.items r a.slots x) out (λ v. state_after_return (Some v) a (lasting r) ws g out)
 state_after_exit h depth (Out x next) a r ws g out =
-    with_value (read_home a.frame.homes.items r a.slots x) out (λ v. state_at_block next a r a.slots ws g (out ++ v ∷ []))
+    with_value (read_home a.frame.homes.items r a.slots x) out (λ v. state_at_block next a (lasting r) a.slots ws g (out ++ v ∷ []))
 
 -- one instruction, or the exit where none is left
 abbrev pub step_at : Homed → (depth : ℕ) → List RInst → RExit → Activation → Places → List Activation → Arrays → List ℕ → Run

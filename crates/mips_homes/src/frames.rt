@@ -57,7 +57,8 @@ fn first_registers(alloc: Global, count: usize) -> Result<Vec<u8>, AllocError>
 
 /// The frame of a function: the eight pseudo-registers with most mentions live in registers.
 pub fn frame_of(alloc: Global, func: &RFunc) -> Result<Frame, AllocError>
-    ensures { IfOk result (λ frame. IsChoice func.now frame) }
+    ensures choice { IfOk result (λ frame. IsChoice func.now frame) }
+    ensures few { IfOk result (λ frame. length frame.homes.items ≤ 2 ^ 32) }
 {
     let uses = uses(alloc, func)?;
     let best = best_eight(alloc, uses.as_slice())?;

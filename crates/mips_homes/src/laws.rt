@@ -1,6 +1,13 @@
 ghost use Rattle.mips_homes.specs.Correct.{EachHomedRunIsTheRun};
+ghost use Rattle.mips_homes.specs.Forgetting.{EachChoiceNeverForgets};
 
 /// A program over homes that serve it does what the program does. A law: it computes nothing.
 pub fn each_homed_run_is_the_run()
     ensures { EachHomedRunIsTheRun }
+{}
+
+/// Over homes in registers 16 to 23 and in slots, as `homes` gives them, the end of a block forgets nothing. A law: it
+/// computes nothing.
+pub fn each_choice_never_forgets()
+    ensures { EachChoiceNeverForgets }
 {}

@@ -1,15 +1,20 @@
-//! Homes of pseudo-registers: for each function of an RTL program, which pseudo-registers live in the registers 16 to 23,
-//! and which in slots of the frame.
+//! Homes of pseudo-registers: for each function of an RTL program, which pseudo-registers live in the registers 16 to 23, which
+//! in slots of the frame, and which need neither, since they are local to their blocks.
 //!
-//! For the layer above there is one contract: `homes` gives each function the frame that `specs/Choice.antt` says (the eight
-//! pseudo-registers with most mentions live in registers, each other one in a slot of its own), and the run over these homes
-//! is the program's run at each bound (`KeepsRtlRuns`). That the runs are equal holds of every choice in which no two
-//! pseudo-registers share a home, the registers that are homes are saved, and each name has one
-//! (`each_homed_run_is_the_run`).
+//! For the layer above there are two contracts. `homes` gives each function the frame that `specs/Choice.antt` says: the eight
+//! pseudo-registers with most mentions live in registers, each other one in a slot of its own. `place` gives the same frames,
+//! but up to twelve pseudo-registers that each block writes before it reads them live in registers that no function keeps
+//! (`specs/Places.antt`). Over either the program's run is the run at each bound (`KeepsRtlRuns`). So it is over all homes that
+//! no two pseudo-registers share, where the lasting registers that are homes are saved, in others lives only what is local, and
+//! each name has one (`each_homed_run_is_the_run`).
 //!
-//! Definitions, in an order to read: `specs/HomedRun.antt` has what a program does over homes, `specs/Homes.antt` when
-//! homes serve a program, `specs/Correct.antt` the theorem, `specs/Choice.antt` the choice. The choice takes one pass over
-//! the program and eight over the counts.
+//! At a block's end the run forgets what isn't in 16 to 23 or in a slot. Over the homes of `homes` that is nothing
+//! (`each_choice_never_forgets`).
+//!
+//! Definitions, in an order to read: `specs/HomedRun.antt` has what a program does over homes, `specs/Locals.antt` which
+//! pseudo-registers are local, `specs/Homes.antt` when homes serve a program, `specs/Correct.antt` the theorem,
+//! `specs/Choice.antt` and `specs/Places.antt` the choice. It takes one pass over the program and eight over the counts, and
+//! then one over a function for each of its pseudo-registers, until twelve are found.
 #![tactic(auto)]
 
 mod best;
@@ -17,7 +22,10 @@ mod counts;
 mod frames;
 mod homed;
 mod laws;
+mod locals;
+mod places;
 
 pub use frames::{frame_of, homes};
 pub use homed::{Frame, Home, Homed};
-pub use laws::each_homed_run_is_the_run;
+pub use laws::{each_choice_never_forgets, each_homed_run_is_the_run};
+pub use places::place;

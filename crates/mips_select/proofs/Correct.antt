@@ -9,9 +9,9 @@ use Rattle.mblock.specs.UnitRuns.{ComesTo}
 use Rattle.rtl.specs.Programs.{IsProgram}
 use Rattle.rtl.specs.Meaning.{rtl_run}
 use Rattle.mips_homes.specs.declared.homed.Homed.{Homed}
-use Rattle.mips_homes.specs.Choice.{AreChoices}
+use Rattle.mips_homes.specs.Places.{ArePlaced}
 use Rattle.mips_homes.specs.HomedRun.{homed_run}
-use Rattle.mips_homes.proofs.Chosen.{choice_keeps_runs}
+use Rattle.mips_homes.proofs.Located.{places_keep_runs}
 use Rattle.mips_split.proofs.Apart.{comes_to}
 use Rattle.mips_split.specs.Split.{split_blocks}
 use Rattle.mips_select.proofs.DataPlaces.{have_values}
@@ -26,11 +26,11 @@ use Rattle.mips_select.proofs.Placed.{program_selected}
 use Rattle.mips_select.proofs.FrameSizes.{are_frames}
 
 -- before long blocks are cut
-pub blocks_come_to : (h : Homed) (depth : ℕ) → IsProgram h.rtl.now → AreChoices h → FramesFit h.rtl.now depth
+pub blocks_come_to : (h : Homed) (depth : ℕ) → IsProgram h.rtl.now → ArePlaced h → FramesFit h.rtl.now depth
     → (r : ℕ) → (rtl_run h.rtl.now depth r).end ≢ Wrong → ComesTo (program_blocks h) (start_state (padded_bytes (h.rtl.now).globals)) r
     (rtl_run h.rtl.now depth r)
 blocks_come_to h depth ok choices fit r right =
-    let same : homed_run h depth r ≡ rtl_run h.rtl.now depth r = choice_keeps_runs h choices depth r in
+    let same : homed_run h depth r ≡ rtl_run h.rtl.now depth r = places_keep_runs h choices depth r in
     let selected = program_selected h depth (largest_frame (h.rtl.now).functions) ok (are_frames h choices) fit.frames fit.stack in
     subst (ComesTo (program_blocks h) (start_state (padded_bytes (h.rtl.now).globals)) r) same
     (keep_homed_runs h depth (program_blocks h) selected r (subst (λ (o : Outcome). o.end ≢ Wrong) (sym same) right))

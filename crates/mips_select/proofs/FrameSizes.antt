@@ -1,5 +1,5 @@
 -- Frames of chosen homes are no larger than their functions say.
-use Rattle.std.proofs.Common.{◌≡◌, ◌≢◌, ℕ, zero, suc, ◌-◌, ◌*◌, ◌<◌, ◌≤◌, Bool, true, false, List, [], ◌∷◌, length, Option, Some, None, refl}
+use Rattle.std.proofs.Common.{◌≡◌, ◌≢◌, ℕ, zero, suc, ◌-◌, ◌*◌, ◌<◌, ◌≤◌, ◌⊎◌, inl, inr, Bool, true, false, List, [], ◌∷◌, length, Option, Some, None, refl}
 use Rattle.std.proofs.Common.{sym, ap, ◌∙◌, subst, arith, nat_eq, eqb-true}
 use Rattle.std.specs.Prelude.{if◌then◌else◌, slice_get, slice_index}
 use Rattle.std.proofs.lemmas.Bool.{eqb-false}
@@ -10,7 +10,9 @@ use Rattle.mips_homes.specs.declared.homed.Home.{Home}
 use Rattle.mips_homes.specs.declared.homed.Home.TheVariants.{Reg, Slot}
 use Rattle.mips_homes.specs.declared.homed.Frame.{Frame}
 use Rattle.mips_homes.specs.declared.homed.Homed.{Homed}
-use Rattle.mips_homes.specs.Choice.{IsChoice, AreChoices}
+use Rattle.mips_homes.specs.Choice.{IsChoice}
+use Rattle.mips_homes.specs.Places.{some_slot, IsPlacedFor, ArePlaced}
+use Rattle.mips_homes.proofs.Located.{Passes, passing_range, case_of, places_long_as, placed_apart, still_was, still_few, has_slot}
 use Rattle.mips_emit.specs.declared.limits.TheConstants.{FRAME_BYTES}
 use Rattle.mips_emit.specs.Frames.{IsHome, IsFrame}
 use Rattle.mips_split.proofs.Places.{block_there}
@@ -116,8 +118,37 @@ module _ (func : RFunc) (f : Frame) (ok : IsChoice func f) where
   }
     where
       home : (x : ℕ) (h : Home) → slice_get f.homes.items x ≡ Some h → IsHome f.slots h
-      home x (Reg r) there = (let range = ok.registers x r there in (range.0, range.1))
+      home x (Reg r) there = (let range = ok.registers x r there in (omega (arith, range.0), omega (arith, range.1)))
       home x (Slot k) there = ok.in_slots x k there
+
+-- with local pseudo-registers in passing registers
+placed_is_frame : (func : RFunc) (f : Frame) → IsPlacedFor func f → (most : ℕ) → frame_bytes_of func ≤ most → IsFrame most f
+placed_is_frame func f q most le = record {
+  homes = record { by = λ x h there. home x h there (case_of func q.choice f q.is q.placed x h there); apart = placed_apart func q.choice f q.is q.placed };
+  saved = λ j r there. (let w = still_was f.homes.items (q.choice).saved.items j r (sym (ap (λ l. slice_get l j) (q.placed).saved) ∙ there) in
+      was.saved w.0 r w.1);
+  fits = (let fits = was.fits in let few = still_few f.homes.items (q.choice).saved.items in let same = ap length (q.placed).saved in
+      let slots = slots_few in omega (arith, fits, few, same, slots));
+}
+  where
+    was : IsFrame most q.choice
+    was = is_frame func q.choice q.is most le
+
+    slots_few : f.slots ≤ (q.choice).slots
+    slots_few = by (some_slot f.homes.items) (q.placed).slots
+      where
+        by : (c : Bool) → f.slots ≡ (if c then (q.choice).slots else 0) → f.slots ≤ (q.choice).slots
+        by true e = omega (arith, e)
+        by false e = omega (arith, e)
+
+    home : (x : ℕ) (h : Home) → slice_get f.homes.items x ≡ Some h → (slice_get (q.choice).homes.items x ≡ Some h) ⊎ Passes func.blocks.items x 0 h
+        → IsHome f.slots h
+    home x (Reg r) there (inl e) = (was.homes).by x (Reg r) e
+    home x (Slot k) there (inl e) =
+        let lt = (was.homes).by x (Slot k) e in
+        let slots : f.slots ≡ (q.choice).slots = (q.placed).slots ∙ ap (λ c. if c then (q.choice).slots else 0) (has_slot f.homes.items x k there) in
+        omega (arith, lt, slots)
+    home x h there (inr p) = (let range = passing_range p.k p.high in subst (IsHome f.slots) (sym p.is) (range.0, range.1))
 
 -- ---- the largest one
 
@@ -129,12 +160,12 @@ largest_bounds (x ∷ funcs) (suc g) func there =
     let rest = largest_bounds funcs g func there in
     omega (arith, rest)
 
-pub are_frames : (h : Homed) → AreChoices h → (g : ℕ) (f : Frame) → slice_get h.frames.items g ≡ Some f → IsFrame (largest_frame (h.rtl.now).functions) f
+pub are_frames : (h : Homed) → ArePlaced h → (g : ℕ) (f : Frame) → slice_get h.frames.items g ≡ Some f → IsFrame (largest_frame (h.rtl.now).functions) f
 are_frames h ok g f there =
     let within = slice_get_within h.frames.items g f there in
     let long = ok.long in
     let func = block_there (h.rtl.now).functions g (omega (arith, within, long)) in
-    is_frame func.0 f (ok.by g func.0 f func.1 there) (largest_frame (h.rtl.now).functions) (largest_bounds (h.rtl.now).functions g func.0 func.1)
+    placed_is_frame func.0 f (ok.by g func.0 f func.1 there) (largest_frame (h.rtl.now).functions) (largest_bounds (h.rtl.now).functions g func.0 func.1)
 
 -- homes are as many as pseudo-registers
 homes_many : (funcs : List RFunc) (fs : List Frame) → length fs ≡ length funcs → ((i : ℕ) (func : RFunc) (f : Frame) → slice_get funcs i ≡ Some func
@@ -148,10 +179,10 @@ homes_many (func ∷ funcs) (f ∷ fs) same each =
     let one = each 0 func f refl refl in
     omega (arith, rest, one)
 
-pub largest_same : (h : Homed) → AreChoices h → largest_by_homes h.frames.items ≡ largest_frame (h.rtl.now).functions
-largest_same h ok = homes_many (h.rtl.now).functions h.frames.items ok.long (λ i func f there f_there. (ok.by i func f there f_there).long)
+pub largest_same : (h : Homed) → ArePlaced h → largest_by_homes h.frames.items ≡ largest_frame (h.rtl.now).functions
+largest_same h ok = homes_many (h.rtl.now).functions h.frames.items ok.long (λ i func f there f_there. (let q = ok.by i func f there f_there in places_long_as func q.choice f q.is q.placed))
 
-pub fit_from_room : (h : Homed) (depth : ℕ) → AreChoices h → HaveRoom h.frames.items depth → FramesFit h.rtl.now depth
+pub fit_from_room : (h : Homed) (depth : ℕ) → ArePlaced h → HaveRoom h.frames.items depth → FramesFit h.rtl.now depth
 fit_from_room h depth ok room =
     let same = largest_same h ok in
     record {
@@ -159,7 +190,7 @@ fit_from_room h depth ok room =
       stack = subst (λ n. depth * n ≤ STACK_BYTES) same room.stack;
     }
 
-pub room_from_fit : (h : Homed) (depth : ℕ) → AreChoices h → FramesFit h.rtl.now depth → HaveRoom h.frames.items depth
+pub room_from_fit : (h : Homed) (depth : ℕ) → ArePlaced h → FramesFit h.rtl.now depth → HaveRoom h.frames.items depth
 room_from_fit h depth ok fit =
     let same = sym (largest_same h ok) in
     record {
@@ -167,7 +198,7 @@ room_from_fit h depth ok fit =
       stack = subst (λ n. depth * n ≤ STACK_BYTES) same fit.stack;
     }
 
-pub reachable : (h : Homed) (depth : ℕ) → AreChoices h → HaveRoom h.frames.items depth → AreReachable h.frames.items
+pub reachable : (h : Homed) (depth : ℕ) → ArePlaced h → HaveRoom h.frames.items depth → AreReachable h.frames.items
 reachable h depth ok room = record {
   by = λ g f there. (let frame = are_frames h ok g f there in let fits = frame.fits in
       let small = (fit_from_room h depth ok room).frames in record { homes = frame.homes; saved = frame.saved; fits = omega (arith, fits, small) });

@@ -1,7 +1,7 @@
 -- Registers are saved in a frame and come back; arguments and parameters.
 use Rattle.std.proofs.Common.{◌≡◌, ◌≢◌, ℕ, zero, suc, ◌+◌, ◌*◌, ◌%◌, ◌^◌, ◌<◌, ◌≤◌, Bool, true, false, List, [], ◌∷◌, length, Option, Some, None}
 use Rattle.std.proofs.Common.{refl, sym, ap, ap₂, ◌∙◌, subst, arith, nat_eq, eqb-true, true≢false}
-use Rattle.std.specs.Prelude.{slice_get, ◌||◌}
+use Rattle.std.specs.Prelude.{if◌then◌else◌, slice_get, ◌||◌}
 use Rattle.std.proofs.lemmas.Bool.{eqb-false}
 use Rattle.std.proofs.lemmas.Option.{same_Some, none-some, slice_get_within}
 use Rattle.words.specs.declared.width.Width.{Width}
@@ -12,16 +12,17 @@ use Rattle.mips_isa.specs.Starting.{stack_base, stack_end, is_mapped}
 use Rattle.rtl.specs.declared.block.RGlobal.{RGlobal}
 use Rattle.mips_homes.specs.HomedRun.{Run, Failed, read_home, read_homes, write_homes, is_in}
 use Rattle.mips_homes.specs.declared.homed.Home.{Home}
-use Rattle.mips_emit.specs.declared.location.Location.TheVariants.{Held}
+use Rattle.mips_emit.specs.declared.location.Location.TheVariants.{Held, InSlot}
 use Rattle.mips_emit.specs.declared.location.Source.TheVariants.{From}
 use Rattle.mips_emit.specs.Frames.{AreFrameHomes}
-use Rattle.mips_emit.specs.Locations.{locations_of, Facts, known_in, operand}
+use Rattle.mips_emit.specs.declared.location.Location.{Location}
+use Rattle.mips_emit.specs.Locations.{locations_of, location_at, lazy_none, Facts, known_in, operand}
 use Rattle.mips_emit.specs.Code.{store_word_at, bring, arguments_code}
 use Rattle.mips_emit.proofs.Runs.{RunsTo, runs_none, runs_then}
 use Rattle.mips_emit.proofs.View.{shown_at, word_at, set, set_word, shown_other, word_here, set_words, set_at_words, word_below, put_here, put_other}
 use Rattle.mips_emit.proofs.View.{read_register, loads_word, stores_word}
 use Rattle.mips_emit.proofs.Stands.{Stored, with_slots, Stands, open_stack}
-use Rattle.mips_emit.proofs.Homes.{IsKnown, nothing_known, brings, operand_means, sets_kept, puts}
+use Rattle.mips_emit.proofs.Homes.{hidden, hide, IsLazy, none_lazy, fewer_stand, IsKnown, nothing_known, brings, operand_means, sets_kept, puts}
 use Rattle.mips_select.specs.Code.{saves, restores, parameters_code}
 
 -- a part of the stack from p on
@@ -165,6 +166,20 @@ restores_run total p n at (r ∷ rs) s kept a4 le h =
     inside rest q w false false eb ec e f = absurd (true≢false (sym e ∙ ap₂ (λ x y. x || y) eb ec))
 
 module _ (most total : ℕ) (gs : List RGlobal) (starts : ℕ → ℕ) where
+  -- where no word is to come, all registers are shown
+  pub all_shown : (l : Option Location) (registers : Places) (g : Arrays) (fs : List Stored) (s : State)
+      → Stands most total gs starts (hide (lazy_none l (λ q. None)) registers) g fs s → Stands most total gs starts registers g fs s
+  all_shown l registers g fs s h = fewer_stand most total gs starts (hide (lazy_none l (λ q. None)) registers) registers g fs s (λ q v is. by l q v is) h
+    where
+      held : (b : Bool) (q v : ℕ) → registers q ≡ Some v → hidden (if b then None else None) (registers q) ≡ Some v
+      held true q v is = is
+      held false q v is = is
+
+      by : (l : Option Location) (q v : ℕ) → registers q ≡ Some v → hide (lazy_none l (λ q. None)) registers q ≡ Some v
+      by None q v is = is
+      by (Some (InSlot k)) q v is = is
+      by (Some (Held r)) q v is = held (nat_eq q r) q v is
+
   pub record Arguments (registers : Places) (g : Arrays) (fs : List Stored) (s : State) (hs : List Home) (facts : Facts) (t : ℕ) (xs vs : List ℕ) : Type 0 where
     pub regs : ℕ → ℕ
     pub runs : RunsTo (arguments_code (locations_of hs) facts t xs) s (record s { regs = regs })
@@ -174,10 +189,10 @@ module _ (most total : ℕ) (gs : List RGlobal) (starts : ℕ → ℕ) where
     pub stands : Stands most total gs starts registers g fs (record s { regs = regs })
 
   pub arguments : (registers : Places) (g : Arrays) (top : Stored) (fs : List Stored) (s : State) (hs : List Home) (facts : Facts) (t : ℕ) (xs vs : List ℕ)
-      → AreFrameHomes hs top.count → IsKnown (known_in facts) hs registers top.slots → 0 < t → t + length xs ≤ 16
-      → read_homes hs registers top.slots xs ≡ Some vs → Stands most total gs starts registers g (top ∷ fs) s
-      → Arguments registers g (top ∷ fs) s hs facts t xs vs
-  arguments registers g top fs s hs facts t [] vs ok k low high e h =
+      → AreFrameHomes hs top.count → IsKnown (known_in facts) hs registers top.slots → IsLazy facts.lazy registers → 0 < t → t + length xs ≤ 8
+      → read_homes hs registers top.slots xs ≡ Some vs → Stands most total gs starts (hide facts.lazy registers) g (top ∷ fs) s
+      → Arguments (hide facts.lazy registers) g (top ∷ fs) s hs facts t xs vs
+  arguments registers g top fs s hs facts t [] vs ok k lz low high e h =
       let none : [] ≡ vs = same_Some [] vs e in
       record {
         regs = s.regs;
@@ -188,30 +203,30 @@ module _ (most total : ℕ) (gs : List RGlobal) (starts : ℕ → ℕ) where
         as_many = sym (ap length none);
         stands = h;
       }
-  arguments registers g top fs s hs facts t (x ∷ xs) vs ok k low high e h =
-      first (λ f ws rest st. arguments registers g top fs (record s { regs = f }) hs facts (suc t) xs ws ok k (omega arith) (omega (arith, high)) rest st)
+  arguments registers g top fs s hs facts t (x ∷ xs) vs ok k lz low high e h =
+      first (λ f ws rest st. arguments registers g top fs (record s { regs = f }) hs facts (suc t) xs ws ok k lz (omega arith) (omega (arith, high)) rest st)
       (read_home hs registers top.slots x) refl e
     where
       Again : Type 0
       Again = (f : ℕ → ℕ) (ws : List ℕ) → read_homes hs registers top.slots xs ≡ Some ws
-          → Stands most total gs starts registers g (top ∷ fs) (record s { regs = f }) → Arguments registers g (top ∷ fs) (record s { regs = f }) hs facts
+          → Stands most total gs starts (hide facts.lazy registers) g (top ∷ fs) (record s { regs = f }) → Arguments (hide facts.lazy registers) g (top ∷ fs) (record s { regs = f }) hs facts
           (suc t) xs ws
 
       first : Again → (o : Option ℕ) → read_home hs registers top.slots x ≡ o → chain o
-          (λ v. chain (read_homes hs registers top.slots xs) (λ vs. Some (v ∷ vs))) ≡ Some vs → Arguments registers g (top ∷ fs) s hs facts t (x ∷ xs) vs
+          (λ v. chain (read_homes hs registers top.slots xs) (λ vs. Some (v ∷ vs))) ≡ Some vs → Arguments (hide facts.lazy registers) g (top ∷ fs) s hs facts t (x ∷ xs) vs
       first again None there e = absurd (none-some vs e)
       first again (Some v) there e = second (read_homes hs registers top.slots xs) refl e
         where
           second : (o : Option (List ℕ)) → read_homes hs registers top.slots xs ≡ o → chain o (λ vs. Some (v ∷ vs)) ≡ Some vs
-              → Arguments registers g (top ∷ fs) s hs facts t (x ∷ xs) vs
+              → Arguments (hide facts.lazy registers) g (top ∷ fs) s hs facts t (x ∷ xs) vs
           second None rest e = absurd (none-some vs e)
           second (Some ws) rest e =
-              let means = operand_means most total gs starts registers g top fs s h (known_in facts) hs x v ok k there in
-              let one = brings most total gs starts registers g top fs s h t v (operand (locations_of hs) facts x)
+              let means = operand_means most total gs starts facts.lazy registers g top fs s h lz (known_in facts) hs x v ok k there in
+              let one = brings most total gs starts (hide facts.lazy registers) g top fs s h t v (operand (locations_of hs) facts x)
               (record { low = low; high = omega (arith, high) }) means.0 in
-              let st = sets_kept most total gs starts registers g top fs s h (bring t (operand (locations_of hs) facts x)) t v (omega (arith, high)) one in
+              let st = sets_kept most total gs starts (hide facts.lazy registers) g top fs s h (bring t (operand (locations_of hs) facts x)) t v (omega (arith, high)) one in
               let more = again one.regs ws rest st in
-              subst (λ vs. Arguments registers g (top ∷ fs) s hs facts t (x ∷ xs) vs) (same_Some (v ∷ ws) vs e) (record {
+              subst (λ vs. Arguments (hide facts.lazy registers) g (top ∷ fs) s hs facts t (x ∷ xs) vs) (same_Some (v ∷ ws) vs e) (record {
                 regs = more.regs;
                 runs = runs_then one.runs more.runs;
                 here = λ j w at. by one.regs one.here more j w at;
@@ -220,7 +235,7 @@ module _ (most total : ℕ) (gs : List RGlobal) (starts : ℕ → ℕ) where
                 stands = more.stands;
               })
             where
-              by : (f : ℕ → ℕ) → f t ≡ v → (more : Arguments registers g (top ∷ fs) (record s { regs = f }) hs facts (suc t) xs ws) → (j w : ℕ)
+              by : (f : ℕ → ℕ) → f t ≡ v → (more : Arguments (hide facts.lazy registers) g (top ∷ fs) (record s { regs = f }) hs facts (suc t) xs ws) → (j w : ℕ)
                   → slice_get (v ∷ ws) j ≡ Some w → more.regs (t + j) ≡ w
               by f here more zero w at =
                   let place : t + 0 ≡ t = omega arith in
@@ -231,7 +246,7 @@ module _ (most total : ℕ) (gs : List RGlobal) (starts : ℕ → ℕ) where
 
   module _ (g : Arrays) (fs : List Stored) (hs : List Home) (P : Run → Type 0) (out : List ℕ) (failed : P (Failed out)) where
     pub parameters : (vs : List ℕ) (t x : ℕ) (registers : Places) (top : Stored) (s : State) (go : Places → Places → Run) → AreFrameHomes hs top.count
-        → 1 < t → t + length vs ≤ 16 → ((j v : ℕ) → slice_get vs j ≡ Some v → s.regs (t + j) ≡ v) → Stands most total gs starts registers g (top ∷ fs) s
+        → 1 < t → t + length vs ≤ 8 → ((j v : ℕ) → slice_get vs j ≡ Some v → s.regs (t + j) ≡ v) → Stands most total gs starts registers g (top ∷ fs) s
         → ((registers' slots' : Places) (s' : State) → RunsTo (parameters_code (locations_of hs) t x (length vs)) s s'
         → Stands most total gs starts registers' g (with_slots top slots' ∷ fs) s' → P (go registers' slots'))
         → P (write_homes hs registers top.slots x vs out go)
@@ -239,11 +254,12 @@ module _ (most total : ℕ) (gs : List RGlobal) (starts : ℕ → ℕ) where
     parameters (v ∷ vs) t x registers top s go ok low high here h f =
         let place : t + 0 ≡ t = omega arith in
         let is : s.regs t ≡ v = ap s.regs (sym place) ∙ here 0 v refl in
-        puts most total gs starts registers g top fs s h P (λ r s. write_homes hs r s (suc x) vs out go) hs x v None out unset_places (From (Held t))
+        puts most total gs starts (λ q. None) registers g top fs s h (none_lazy registers) P (λ r s. write_homes hs r s (suc x) vs out go) hs x v None out unset_places (From (Held t))
         (read_register s.regs t (omega (arith, low)) ∙ is) (subst (λ v. v < 2 ^ 32) is ((h.words).regs t)) (λ w e. absurd (none-some w e)) ok
         (nothing_known hs registers top.slots) failed
-        (λ r1 slots1 s1 some e1 h1 kn same.
+        (λ r1 slots1 s1 some e1 h1 lz kn same.
         parameters vs (suc t) (suc x) r1 (with_slots top slots1) s1 go ok (omega (arith, low)) (omega (arith, high))
         (λ j w there. (let next : suc t + j ≡ t + suc j = omega arith in let within = slice_get_within vs j w there in
-        same (suc t + j) (omega (arith, low)) (omega (arith, high, within)) ∙ ap s.regs next) ∙ here (suc j) w there) h1
+        same (suc t + j) (omega (arith, low)) (omega (arith, high, within)) ∙ ap s.regs next) ∙ here (suc j) w there)
+        (all_shown (location_at (slice_get hs x)) r1 g (with_slots top slots1 ∷ fs) s1 h1)
         (λ r2 slots2 s2 e2 h2. f r2 slots2 s2 (runs_then e1 e2) h2))

@@ -102,8 +102,8 @@ module _ (globals : List RGlobal) (starts entry : ℕ → ℕ) (functions : List
     place_below t lt = (let high = (place_from t lt).1 in omega (arith, fits, high))
 
     branch_goes : (test : Option ℕ) (x : Source) (t e : ℕ) → IsFrom start size t → IsFrom start size e → GoesWithin bound start size (branch_exit test x t e)
-    branch_goes None x t e at_t at_e = (at_e, at_t)
-    branch_goes (Some q) x t e at_t at_e = (at_e, at_t)
+    branch_goes None x t e at_t at_e = (at_t, at_e)
+    branch_goes (Some q) x t e at_t at_e = (at_t, at_e)
 
     next_below : (k : ℕ) (g : ℕ) (d : Option ℕ) (next : ℕ) → next < blocks → (b : Bool) → k + (if b then 1 else 2) ≤ bound
         → (if b then place next else suc k) < bound

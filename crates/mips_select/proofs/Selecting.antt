@@ -18,7 +18,7 @@ use Rattle.rtl.specs.Meaning.{rtl_run}
 use Rattle.rtl.specs.Programs.{Program, IsExit, IsBlock, IsFunction, IsProgram, block_count}
 use Rattle.mips_homes.specs.declared.homed.Frame.{Frame}
 use Rattle.mips_homes.specs.declared.homed.Homed.{Homed}
-use Rattle.mips_homes.specs.Choice.{AreChoices}
+use Rattle.mips_homes.specs.Places.{ArePlaced}
 use Rattle.mips_split.specs.Split.{split_blocks, split_owners, place_of}
 use Rattle.mips_split.proofs.Counts.{total_above, length-split_from}
 use Rattle.mips_select.specs.Data.{zeros, data_bytes, starts_from, start_of}
@@ -111,19 +111,19 @@ program_made h starts es funcs globals frames main n first second out0 out1 out2
 -- ---- the unit
 
 -- a unit of so many blocks has as many pieces at least
-pub many_pieces : (h : Homed) → AreChoices h → 2 + functions_size (h.rtl.now).functions ≤ length (unit_for h).blocks
+pub many_pieces : (h : Homed) → ArePlaced h → 2 + functions_size (h.rtl.now).functions ≤ length (unit_for h).blocks
 many_pieces h ok =
     let long = program_length h ok.long in
     let total = total_above BLOCK_INSTS (program_blocks h) in
     let pieces = length-split_from BLOCK_INSTS (place_of BLOCK_INSTS (program_blocks h)) 0 (program_blocks h) in
     omega (arith, long, total, pieces)
 
-pub beyond : (h : Homed) (p : Program) (funcs : List RFunc) → h.rtl.now ≡ p → AreChoices h → funcs ≡ p.functions → UNIT_BLOCKS < 2 + functions_size funcs
+pub beyond : (h : Homed) (p : Program) (funcs : List RFunc) → h.rtl.now ≡ p → ArePlaced h → funcs ≡ p.functions → UNIT_BLOCKS < 2 + functions_size funcs
     → IsBeyond p
 beyond h p funcs lent ok f_is many = (let pieces = many_pieces h ok in let same = ap functions_size f_is
     ∙ ap (λ (p : Program). functions_size p.functions) (sym lent) in record { homed = h; lent = lent; choices = ok; many = omega (arith, pieces, same, many) })
 
-pub beyond_pieces : (h : Homed) (p : Program) (blocks blocks' : List BlockParts) → h.rtl.now ≡ p → AreChoices h → blocks ≡ program_blocks h
+pub beyond_pieces : (h : Homed) (p : Program) (blocks blocks' : List BlockParts) → h.rtl.now ≡ p → ArePlaced h → blocks ≡ program_blocks h
     → blocks' ≡ blocks → UNIT_BLOCKS < length (split_blocks blocks') → IsBeyond p
 beyond_pieces h p blocks blocks' lent ok is is' many = record {
   homed = h;
@@ -134,7 +134,7 @@ beyond_pieces h p blocks blocks' lent ok is is' many = record {
 }
 
 pub blocks_well : (h : Homed) (p : Program) (blocks blocks' : List BlockParts) (owners owners' : List ℕ) (funcs : List RFunc) → h.rtl.now ≡ p → IsProgram p
-    → AreChoices h → blocks ≡ program_blocks h → blocks' ≡ blocks → funcs ≡ p.functions → owners ≡ owners_for funcs → owners' ≡ owners
+    → ArePlaced h → blocks ≡ program_blocks h → blocks' ≡ blocks → funcs ≡ p.functions → owners ≡ owners_for funcs → owners' ≡ owners
     → AreLinked blocks' × AreOwners blocks' owners'
 blocks_well h p blocks blocks' owners owners' funcs lent program ok is is' f_is o_is o_is' =
     let well = program_well h (subst IsProgram (sym lent) program) ok.long in
@@ -143,7 +143,7 @@ blocks_well h p blocks blocks' owners owners' funcs lent program ok is is' f_is 
     well)
 
 pub unit_keeps : (h : Homed) (p : Program) (depth : ℕ) (u : UnitParts) (blocks blocks' : List BlockParts) (owners bytes : List ℕ) (globals : List RGlobal)
-    → h.rtl.now ≡ p → IsProgram p → AreChoices h → FramesFit p depth → blocks ≡ program_blocks h → blocks' ≡ blocks
+    → h.rtl.now ≡ p → IsProgram p → ArePlaced h → FramesFit p depth → blocks ≡ program_blocks h → blocks' ≡ blocks
     → globals ≡ p.globals → bytes ≡ data_bytes globals → u ≡ unit_parts (split_blocks blocks') (split_owners blocks' owners) bytes → KeepsRuns p depth u
 unit_keeps h p depth u blocks blocks' owners bytes globals lent program ok fit is is' g_is b_is u_is =
     let same : split_blocks blocks' ≡ (unit_for h).blocks = ap split_blocks (is' ∙ is) in
@@ -172,12 +172,12 @@ pub room_told : (h : Homed) (frames : List Frame) (depth : ℕ) (b : Bool) → (
 room_told h frames depth b says e is = subst (λ fs. HaveRoom fs depth) is (says e)
 
 pub fit_told : (h : Homed) (p : Program) (frames : List Frame) (depth : ℕ) (b : Bool) → (IsTrue b → HaveRoom frames depth) → b ≡ true
-    → frames ≡ h.frames.items → h.rtl.now ≡ p → AreChoices h → FramesFit p depth
+    → frames ≡ h.frames.items → h.rtl.now ≡ p → ArePlaced h → FramesFit p depth
 fit_told h p frames depth b says e is lent ok = subst (λ (p : Program). FramesFit p depth) lent
     (fit_from_room h depth ok (room_told h frames depth b says e is))
 
 pub no_room : (h : Homed) (p : Program) (frames : List Frame) (depth : ℕ) (b : Bool) → (HaveRoom frames depth → IsTrue b) → b ≡ false
-    → frames ≡ h.frames.items → h.rtl.now ≡ p → AreChoices h → FramesFit p depth → IsBeyond p
+    → frames ≡ h.frames.items → h.rtl.now ≡ p → ArePlaced h → FramesFit p depth → IsBeyond p
 no_room h p frames depth b says e is lent ok fit =
     absurd (true≢false (sym (says (subst (λ fs. HaveRoom fs depth) (sym is) (room_from_fit h depth ok
     (subst (λ (p : Program). FramesFit p depth) (sym lent) fit)))) ∙ e))

@@ -10,8 +10,8 @@ use Rattle.words.specs.Operators.{op_value}
 use Rattle.runs.specs.declared.ran.End.TheVariants.{Done}
 use Rattle.runs.specs.Runs.{Outcome}
 use Rattle.runs.specs.Stores.{Places, unset_places, Arrays, chain}
-use Rattle.mips_isa.specs.declared.inst.PairTest.TheVariants.{Equal}
-use Rattle.mips_isa.specs.declared.inst.ZeroTest.TheVariants.{AtMostZero}
+use Rattle.mips_isa.specs.declared.inst.PairTest.TheVariants.{NotEqual}
+use Rattle.mips_isa.specs.declared.inst.ZeroTest.TheVariants.{AboveZero}
 use Rattle.mips_isa.specs.declared.inst.Plain.{Plain}
 use Rattle.mips_isa.specs.States.{State, read}
 use Rattle.mips_isa.specs.Starting.{stack_base, stack_end}
@@ -28,7 +28,7 @@ use Rattle.rtl.specs.declared.block.RFunc.{RFunc}
 use Rattle.rtl.specs.declared.block.RGlobal.{RGlobal}
 use Rattle.rtl.specs.Meaning.{Code, code_of}
 use Rattle.mips_homes.specs.HomedRun.{Activation, new_activation, at_code, Run, Running, Ended, Failed, read_home, read_homes, write_home}
-use Rattle.mips_homes.specs.HomedRun.{write_homes, registers_at_entry, registers_at_return, state_at_block, with_result, state_after_return}
+use Rattle.mips_homes.specs.HomedRun.{is_lasting, lasting, write_homes, registers_at_entry, registers_at_return, state_at_block, with_result, state_after_return}
 use Rattle.mips_homes.specs.HomedRun.{state_after_exit, step_at, homed_step, homed_steps}
 use Rattle.mips_homes.specs.declared.homed.Frame.{Frame}
 use Rattle.mips_homes.specs.declared.homed.Home.{Home}
@@ -38,20 +38,20 @@ use Rattle.mips_emit.specs.declared.location.Source.TheVariants.{From}
 use Rattle.mips_emit.specs.declared.facts.Above.{Above}
 use Rattle.mips_emit.specs.declared.facts.Last.{Last}
 use Rattle.mips_emit.specs.declared.location.Source.{Source}
-use Rattle.mips_emit.specs.Locations.{Facts, known_in, locations, learned, known_after, last_of, last_after, no_last, tested, last_operand}
+use Rattle.mips_emit.specs.Locations.{Facts, no_facts, location_at, known_in, locations, learned, known_after, last_of, last_after, no_last, tested, last_operand}
 use Rattle.mips_emit.specs.Code.{move_code, branch_code, branch_exit, inst_code, insts_code, fetch, seat, bring}
 use Rattle.mips_emit.specs.Frames.{IsFrame}
 use Rattle.mips_emit.proofs.Runs.{RunsTo, runs_none, runs_then, Point, At, Stopped, from, Leads, leads_nowhere, leads_then, leads_run, leads_exit}
 use Rattle.mips_emit.proofs.View.{read_register, word_at, set, set_words, put_here, put_other, moves}
 use Rattle.mips_emit.proofs.Stands.{Stored, stack_room, Stands}
-use Rattle.mips_emit.proofs.Homes.{IsLast, none_last, frame_homes, words_kept, call_kept, IsKnown, nothing_known, last_means, fetches, brings, sets_kept, puts}
+use Rattle.mips_emit.proofs.Homes.{hidden, hide, IsLazy, none_lazy, fewer_stand, IsLast, none_last, frame_homes, words_kept, call_kept, IsKnown, nothing_known, last_means, fetches, brings, sets_kept, puts}
 use Rattle.mips_emit.proofs.Insts.{value_or_failed, performs}
 use Rattle.mips_select.specs.declared.limits.TheConstants.{STACK_BYTES}
 use Rattle.mips_select.specs.Data.{padded_bytes, start_of}
 use Rattle.mips_select.specs.Code.{saves, frame_bytes, link_save, lowers, parameters_code, prologue, epilogue, exit_code, exit_of, code_insts}
 use Rattle.mips_select.specs.Code.{own_block, result_code, after_block, prologue_block, end_block}
 use Rattle.mips_select.specs.Selected.{GoesOn, StandsAt, IsPlaced, IsFunction, IsSelected}
-use Rattle.mips_select.proofs.Frames.{arguments, parameters}
+use Rattle.mips_select.proofs.Frames.{all_shown, arguments, parameters}
 use Rattle.mips_select.proofs.Returns.{return_found}
 use Rattle.mips_select.proofs.Calls.{stored_frame, frames_of, linked_frames, enters, leaves_frame}
 use Rattle.mips_select.proofs.Comparisons.{at_most_zero}
@@ -106,7 +106,7 @@ module _ (h : Homed) (depth : ℕ) (blocks : List BlockParts) (ok : IsSelected h
     pub leads_on : GoesOn blocks gs starts ok.entry leaf f place head next x
 
   code_at : (leaf : Bool) (f : Frame) (place : ℕ → ℕ) (head : ℕ → List Plain) (k : ℕ) (first : List Plain) (b : RBlock) → Stood leaf f place head k first b
-      → CodeAt leaf f place head (known_after b.insts.items []) (last_after (locations f) [] b.insts.items no_last) k b.exit
+      → CodeAt leaf f place head (known_after (locations f) b.insts.items no_facts) (last_after (locations f) no_facts b.insts.items no_last) k b.exit
   code_at leaf f place head k first b at = record {
     form = own_block gs starts ok.entry place leaf f first at.next b;
     next = at.next;
@@ -153,12 +153,13 @@ module _ (h : Homed) (depth : ℕ) (blocks : List BlockParts) (ok : IsSelected h
     pub facts : Facts
     pub last : Last
     pub point : p ≡ At number (code_insts gs starts leaf a.frame facts last a.code) state out
-    pub code : CodeAt leaf a.frame place head (known_after a.code.insts facts) (last_after (locations a.frame) facts a.code.insts last) number a.code.exit
+    pub code : CodeAt leaf a.frame place head (known_after (locations a.frame) a.code.insts facts) (last_after (locations a.frame) facts a.code.insts last) number a.code.exit
     pub is_known : IsKnown (known_in facts) a.frame.homes.items r a.slots
+    pub is_lazy : IsLazy facts.lazy r
     pub is_last : IsLast last a.frame.homes.items r a.slots state
     pub placed : Placed leaf a.frame place head a.blocks
     pub frame : IsFrame ok.most a.frame
-    pub stands : Stand r g (stored_frame leaf a.frame a.slots a.aside link ∷ frames_of ws below) state
+    pub stands : Stand (hide facts.lazy r) g (stored_frame leaf a.frame a.slots a.aside link ∷ frames_of ws below) state
     pub waits : Waits link a.result_to ws below
 
   abbrev pub MatchRun : Run → Point → Type 0
@@ -220,13 +221,13 @@ module _ (h : Homed) (depth : ℕ) (blocks : List BlockParts) (ok : IsSelected h
       → (b : ℕ) (r slots : Places) (g : Arrays) (out : List ℕ) (s : State) → Stand r g (stored_frame leaf a.frame slots a.aside link ∷ frames_of ws below) s
       → 1 ≤ d
       → ((block : RBlock) → Stood leaf a.frame place head (place b) (head b) block → Lead d p
-      (At (place b) (code_insts gs starts leaf a.frame [] no_last (code_of block)) s out))
+      (At (place b) (code_insts gs starts leaf a.frame no_facts no_last (code_of block)) s out))
       → Reach 1 p (state_at_block b a r slots ws g out)
   jumps leaf p d a link below place head ws placed frame waits b r slots g out s st some f =
       value_or_failed (λ run. Reach 1 p run) (slice_get a.blocks b) out (λ block. Running r (at_code a slots (code_of block) ∷ ws) g out) tt (λ block there.
       let at = placed.by b block there in
       record {
-        to = At (place b) (code_insts gs starts leaf a.frame [] no_last (code_of block)) s out;
+        to = At (place b) (code_insts gs starts leaf a.frame no_facts no_last (code_of block)) s out;
         count = d;
         enough = some;
         leads = f block at;
@@ -238,12 +239,13 @@ module _ (h : Homed) (depth : ℕ) (blocks : List BlockParts) (ok : IsSelected h
           leaf = leaf;
           place = place;
           head = head;
-          facts = [];
+          facts = no_facts;
           last = no_last;
           point
               = refl;
           code = code_at leaf a.frame place head (place b) (head b) block at;
           is_known = nothing_known a.frame.homes.items r slots;
+          is_lazy = none_lazy r;
           is_last =
               none_last a.frame.homes.items r slots s;
           placed = placed;
@@ -296,15 +298,15 @@ module _ (h : Homed) (depth : ℕ) (blocks : List BlockParts) (ok : IsSelected h
           let target = own_block gs starts ok.entry is.place is.leaf frame (is.head 0) stood.next block in
           let l1 = enter (prologue_block is.leaf frame func.parameters (is.place 0)) at.0 in
           let l2 = code_leads (ok.entry f) code s s2 out body in
-          let l3 = no_head 1 (At (ok.entry f) [] s2 out) (is.place 0) (is.head 0) (code_insts gs starts is.leaf frame [] no_last (code_of block)) s2 out at.1
+          let l3 = no_head 1 (At (ok.entry f) [] s2 out) (is.place 0) (is.head 0) (code_insts gs starts is.leaf frame no_facts no_last (code_of block)) s2 out at.1
           (jump (ok.entry f) (prologue_block is.leaf frame func.parameters (is.place 0)) (is.place 0) target s2 out at.0 refl stood.there) in
-          let to = At (is.place 0) (code_insts gs starts is.leaf frame [] no_last (code_of block)) s2 out in
+          let to = At (is.place 0) (code_insts gs starts is.leaf frame no_facts no_last (code_of block)) s2 out in
           leads_then blocks links 1 (length code + 1) p (At (ok.entry f) code s out) to l1
           (leads_then blocks links (length code) 1 (At (ok.entry f) code s out) (At (ok.entry f) [] s2 out) to l2 l3))
       begins r' slots' s2 body st2 (inr at) =
           jumps is.leaf p (1 + length code) (callee slots') link below is.place is.head ws is.placed is.frame waits 0 r' slots' arrays out s2 st2 (omega arith)
           (λ block stood.
-          let rest = code_insts gs starts is.leaf frame [] no_last (code_of block) in
+          let rest = code_insts gs starts is.leaf frame no_facts no_last (code_of block) in
           let target = own_block gs starts ok.entry is.place is.leaf frame (is.head 0) stood.next block in
           let l1 : Lead 1 p (At (ok.entry f) (is.head 0 ++ rest) s out) = enter target (ap (slice_get blocks) at.0 ∙ stood.there) in
           let l2 : Lead 1 p (At (ok.entry f) (code ++ rest) s out) = subst (λ first. Lead 1 p (At (ok.entry f) (first ++ rest) s out)) at.1 l1 in
@@ -366,9 +368,9 @@ module _ (h : Homed) (depth : ℕ) (blocks : List BlockParts) (ok : IsSelected h
       again r' s' = Running r' (at_code w s' w.code ∷ ws) g out
 
       reached : (r' slots' : Places) (s' : State) (e : ℕ) → Stand r' g (stored_frame false w.frame slots' w.aside l ∷ frames_of ws ls) s'
-          → Lead (d + suc e) p (At m.next (code_insts gs starts false w.frame [] no_last (code_of m.block)) s' out) → Reach 1 p (again r' slots')
+          → Lead (d + suc e) p (At m.next (code_insts gs starts false w.frame no_facts no_last (code_of m.block)) s' out) → Reach 1 p (again r' slots')
       reached r' slots' s' e st' lead' = record {
-        to = At m.next (code_insts gs starts false w.frame [] no_last (code_of m.block)) s' out;
+        to = At m.next (code_insts gs starts false w.frame no_facts no_last (code_of m.block)) s' out;
         count = d + suc e;
         enough = omega arith;
         leads = lead';
@@ -380,12 +382,13 @@ module _ (h : Homed) (depth : ℕ) (blocks : List BlockParts) (ok : IsSelected h
           leaf = false;
           place = m.place;
           head = m.head;
-          facts = [];
+          facts = no_facts;
           last = no_last;
-          point = ap (λ c. At m.next (code_insts gs starts false w.frame [] no_last c) s' out) (sym m.code);
-          code = subst (λ (c : Code). CodeAt false w.frame m.place m.head (known_after c.insts []) (last_after (locations w.frame) [] c.insts no_last) m.next
+          point = ap (λ c. At m.next (code_insts gs starts false w.frame no_facts no_last c) s' out) (sym m.code);
+          code = subst (λ (c : Code). CodeAt false w.frame m.place m.head (known_after (locations w.frame) c.insts no_facts) (last_after (locations w.frame) no_facts c.insts no_last) m.next
               c.exit) (sym m.code) (code_at false w.frame m.place m.head m.next m.first m.block m.at);
           is_known = nothing_known w.frame.homes.items r' slots';
+          is_lazy = none_lazy r';
           is_last = none_last w.frame.homes.items r' slots' s';
           placed = m.placed;
           frame = m.frame;
@@ -404,7 +407,7 @@ module _ (h : Homed) (depth : ℕ) (blocks : List BlockParts) (ok : IsSelected h
           ((m.number ≡ m.next) × (m.first ≡ result_code (locations w.frame) a.result_to)) → Reach 1 p (again r' slots')
       resumed r' slots' s' e st' (inl after) =
           let code = result_code (locations w.frame) a.result_to in
-          let rest = code_insts gs starts false w.frame [] no_last (code_of m.block) in
+          let rest = code_insts gs starts false w.frame no_facts no_last (code_of m.block) in
           let to = At m.next rest s' out in
           let target = own_block gs starts ok.entry m.place false w.frame m.first (m.at).next m.block in
           let l1 = back k form s out link m.number (after_block w.frame a.result_to m.next) there is at m.found after.0 in
@@ -417,7 +420,7 @@ module _ (h : Homed) (depth : ℕ) (blocks : List BlockParts) (ok : IsSelected h
           (subst (λ n. Lead n (At k [] s out) to) (one_more (length code + 1)) all))
       resumed r' slots' s' e st' (inr after) =
           let code = result_code (locations w.frame) a.result_to in
-          let rest = code_insts gs starts false w.frame [] no_last (code_of m.block) in
+          let rest = code_insts gs starts false w.frame no_facts no_last (code_of m.block) in
           let to = At m.next rest s' out in
           let target = own_block gs starts ok.entry m.place false w.frame m.first (m.at).next m.block in
           let l1 : Lead 1 (At k [] s out) (At m.number (m.first ++ rest) s out) = back k form s out link m.number target there is at m.found
@@ -438,13 +441,14 @@ module _ (h : Homed) (depth : ℕ) (blocks : List BlockParts) (ok : IsSelected h
           value_or_failed (λ run. Reach 1 p run) o out (λ v. write_home w.frame.homes.items (registers_at_return a.frame.saved.items a.aside r) w.slots x v
           out again) tt (λ v o_v.
           let two = result v o_v in
-          puts ok.most total gs starts (registers_at_return a.frame.saved.items a.aside r) g (stored_frame false w.frame w.slots w.aside l) (frames_of ws ls)
-          s st (λ run. Reach 1 p run) again w.frame.homes.items x v None out unset_places (From (Held 2)) two
+          puts ok.most total gs starts (λ q. None) (registers_at_return a.frame.saved.items a.aside r) g (stored_frame false w.frame w.slots w.aside l)
+          (frames_of ws ls) s st (none_lazy (registers_at_return a.frame.saved.items a.aside r)) (λ run. Reach 1 p run) again w.frame.homes.items x v None out unset_places (From (Held 2)) two
           (subst (λ v. v < 2 ^ 32) two ((st.words).regs 2)) (λ w e. absurd (none-some w e)) (frame_homes ok.most w.frame m.frame)
           (nothing_known w.frame.homes.items (registers_at_return a.frame.saved.items a.aside r) w.slots) tt
-          (λ r' slots' s' some e st' kn low. f r' slots' s' e st'))
+          (λ r' slots' s' some e st' lz kn low. f r' slots' s' e
+          (all_shown ok.most total gs starts (location_at (slice_get w.frame.homes.items x)) r' g (stored_frame false w.frame slots' w.aside l ∷ frames_of ws ls) s' st')))
 
-  branch_words : (place : ℕ → ℕ) (x y v : ℕ) (b : Bool) → (if b then place x else place y) ≡ place (if b then x else y)
+  branch_words : (place : ℕ → ℕ) (x y v : ℕ) (b : Bool) → (if not b then place y else place x) ≡ place (if b then x else y)
   branch_words place x y v true = refl
   branch_words place x y v false = refl
 
@@ -452,20 +456,30 @@ module _ (h : Homed) (depth : ℕ) (blocks : List BlockParts) (ok : IsSelected h
   either head x y true e = e.1
   either head x y false e = e.0
 
+  -- behind a block only lasting registers are known, and none of them has a word to come
+  settled : (lazy r : Places) (g : Arrays) (fs : List Stored) (s : State) → IsLazy lazy r → Stand (hide lazy r) g fs s → Stand (lasting r) g fs s
+  settled lazy r g fs s lz st = fewer_stand ok.most total gs starts (hide lazy r) (lasting r) g fs s (λ q v is. was q v (is_lasting q) refl (lazy q) refl is) st
+    where
+      was : (q v : ℕ) (c : Bool) → is_lasting q ≡ c → (o : Option ℕ) → lazy q ≡ o → (if c then r q else None) ≡ Some v → hide lazy r q ≡ Some v
+      was q v false ec o eo e = absurd (none-some v e)
+      was q v true ec None eo e = ap (λ o. hidden o (r q)) eo ∙ e
+      was q v true ec (Some w) eo e = absurd (true≢false (sym ec ∙ lz.passes q w eo))
+
   -- an exit
   exits : (leaf : Bool) (x : RExit) (facts : Facts) (last : Last) (a : Activation) (k : ℕ) (link : ℕ) (below : List ℕ) (place : ℕ → ℕ) (head : ℕ
       → List Plain) (ws : List Activation) (r : Places) (g : Arrays) (out : List ℕ) (s : State)
-      → CodeAt leaf a.frame place head facts last k x → IsKnown (known_in facts) a.frame.homes.items r a.slots
+      → CodeAt leaf a.frame place head facts last k x → IsKnown (known_in facts) a.frame.homes.items r a.slots → IsLazy facts.lazy r
       → IsLast last a.frame.homes.items r a.slots s → Placed leaf a.frame place head a.blocks → IsFrame ok.most a.frame
-      → Waits link a.result_to ws below → Stand r g (stored_frame leaf a.frame a.slots a.aside link ∷ frames_of ws below) s
+      → Waits link a.result_to ws below → Stand (hide facts.lazy r) g (stored_frame leaf a.frame a.slots a.aside link ∷ frames_of ws below) s
       → Reach 1 (At k (exit_code leaf a.frame facts last x) s out) (state_after_exit h depth x a r ws g out)
-  exits leaf (Goto b) facts last a k link below place head ws r g out s c kn new placed frame waits st =
-      jumps leaf (At k [] s out) 1 a link below place head ws placed frame waits b r a.slots g out s st (omega arith)
-      (λ block stood. no_head 1 (At k [] s out) (place b) (head b) (code_insts gs starts leaf a.frame [] no_last (code_of block)) s out c.leads_on
+  exits leaf (Goto b) facts last a k link below place head ws r g out s c kn lz new placed frame waits st =
+      jumps leaf (At k [] s out) 1 a link below place head ws placed frame waits b (lasting r) a.slots g out s
+      (settled facts.lazy r g (stored_frame leaf a.frame a.slots a.aside link ∷ frames_of ws below) s lz st) (omega arith)
+      (λ block stood. no_head 1 (At k [] s out) (place b) (head b) (code_insts gs starts leaf a.frame no_facts no_last (code_of block)) s out c.leads_on
       (jump k c.form (place b) (own_block gs starts ok.entry place leaf a.frame (head b) stood.next block) s out c.there c.exit stood.there))
-  exits leaf (Branch x y z) facts last a k link below place head ws r g out s c kn new placed frame waits st =
+  exits leaf (Branch x y z) facts last a k link below place head ws r g out s c kn lz new placed frame waits st =
       value_or_failed (λ run. Reach 1 (At k (exit_code leaf a.frame facts last (Branch x y z)) s out) run) (read_home a.frame.homes.items r a.slots x) out
-      (λ v. state_at_block (if nat_eq v 0 then z else y) a r a.slots ws g out) tt (λ v e. branch v e (tested last.above x) refl c.exit)
+      (λ v. state_at_block (if nat_eq v 0 then z else y) a (lasting r) a.slots ws g out) tt (λ v e. branch v e (tested last.above x) refl c.exit)
     where
       o : Source
       o = last_operand (locations a.frame) facts last.fresh x
@@ -484,24 +498,25 @@ module _ (h : Homed) (depth : ℕ) (blocks : List BlockParts) (ok : IsSelected h
       branch : (v : ℕ) → read_home a.frame.homes.items r a.slots x ≡ Some v → (t : Option ℕ) → tested last.above x ≡ t
           → (c.form).exit ≡ branch_exit t (last_operand (locations a.frame) facts last.fresh x) (place y) (place z)
           → Reach 1 (At k (branch_code t (last_operand (locations a.frame) facts last.fresh x)) s out)
-          (state_at_block (if nat_eq v 0 then z else y) a r a.slots ws g out)
+          (state_at_block (if nat_eq v 0 then z else y) a (lasting r) a.slots ws g out)
       branch v e None is_test is_exit =
           let code = fetch 1 (last_operand (locations a.frame) facts last.fresh x) in
-          let means = last_means ok.most total gs starts r g (stored_frame leaf a.frame a.slots a.aside link) (frames_of ws below) s st (known_in facts)
+          let means = last_means ok.most total gs starts facts.lazy r g (stored_frame leaf a.frame a.slots a.aside link) (frames_of ws below) s st lz (known_in facts)
           last.fresh a.frame.homes.items x v (frame_homes ok.most a.frame frame) kn new.fresh e in
-          let one = fetches ok.most total gs starts r g (stored_frame leaf a.frame a.slots a.aside link) (frames_of ws below) s st 1 v
+          let one = fetches ok.most total gs starts (hide facts.lazy r) g (stored_frame leaf a.frame a.slots a.aside link) (frames_of ws below) s st 1 v
           (last_operand (locations a.frame) facts last.fresh x) (omega arith) (omega arith) means in
           let s1 : State = record s { regs = one.regs } in
           let b = if nat_eq v 0 then z else y in
           let l1 = code_leads k code s s1 out one.runs in
-          jumps leaf (At k code s out) (length code + 1) a link below place head ws placed frame waits b r a.slots g out s1 one.stands (omega arith)
+          jumps leaf (At k code s out) (length code + 1) a link below place head ws placed frame waits b (lasting r) a.slots g out s1
+          (settled facts.lazy r g (stored_frame leaf a.frame a.slots a.aside link ∷ frames_of ws below) s1 lz one.stands) (omega arith)
           (λ block stood.
-          let rest = code_insts gs starts leaf a.frame [] no_last (code_of block) in
+          let rest = code_insts gs starts leaf a.frame no_facts no_last (code_of block) in
           let q = At (place b) (head b ++ rest) s1 out in
-          let l2 = departs k c.form (E.BranchPair Equal (seat 1 (last_operand (locations a.frame) facts last.fresh x)) 0 (place z) (place y)) s1 out q
+          let l2 = departs k c.form (E.BranchPair NotEqual (seat 1 (last_operand (locations a.frame) facts last.fresh x)) 0 (place y) (place z)) s1 out q
           c.there is_exit (λ n.
-          ap (λ w. outcome_at_block (if (w == 0) then place z else place y) (slice_get blocks (if (w == 0) then place z else place y)) (items blocks links n)
-          s1 out) one.here
+          ap (λ w. outcome_at_block (if not (w == 0) then place y else place z) (slice_get blocks (if not (w == 0) then place y else place z))
+          (items blocks links n) s1 out) one.here
           ∙ ap (λ t. outcome_at_block t (slice_get blocks t) (items blocks links n) s1 out) (branch_words place z y v (nat_eq v 0))
           ∙ ap (λ o. outcome_at_block (place b) o (items blocks links n) s1 out) stood.there) in
           leads_then blocks links (length code) 1 (At k code s out) (At k [] s1 out) (At (place b) rest s1 out) l1
@@ -512,60 +527,64 @@ module _ (h : Homed) (depth : ℕ) (blocks : List BlockParts) (ok : IsSelected h
           let word : read 0 s.regs q ≡ s.regs q = read_register s.regs q at.0 in
           let same : ((read 0 s.regs q == 0) || not (nat_lt (read 0 s.regs q) (2 ^ 31))) ≡ nat_eq v 0 = ap (λ w. (w == 0) || not (nat_lt w (2 ^ 31))) word
           ∙ at_most_zero (s.regs q) ((st.words).regs q) ∙ ap (λ v. nat_eq v 0) (sym at.1) in
-          jumps leaf (At k [] s out) 1 a link below place head ws placed frame waits b r a.slots g out s st (omega arith)
+          jumps leaf (At k [] s out) 1 a link below place head ws placed frame waits b (lasting r) a.slots g out s
+          (settled facts.lazy r g (stored_frame leaf a.frame a.slots a.aside link ∷ frames_of ws below) s lz st) (omega arith)
           (λ block stood.
-          let rest = code_insts gs starts leaf a.frame [] no_last (code_of block) in
+          let rest = code_insts gs starts leaf a.frame no_facts no_last (code_of block) in
           let to = At (place b) (head b ++ rest) s out in
-          let l2 = departs k c.form (E.BranchZero AtMostZero q (place z) (place y)) s out to c.there is_exit (λ n.
-          ap (λ t. outcome_at_block (if t then place z else place y) (slice_get blocks (if t then place z else place y)) (items blocks links n) s out) same
+          let l2 = departs k c.form (E.BranchZero AboveZero q (place y) (place z)) s out to c.there is_exit (λ n.
+          ap (λ t. outcome_at_block (if not t then place y else place z) (slice_get blocks (if not t then place y else place z)) (items blocks links n) s out) same
           ∙ ap (λ t. outcome_at_block t (slice_get blocks t) (items blocks links n) s out) (branch_words place z y v (nat_eq v 0))
           ∙ ap (λ o. outcome_at_block (place b) o (items blocks links n) s out) stood.there) in
           no_head 1 (At k [] s out) (place b) (head b) rest s out (either head z y (nat_eq v 0) c.leads_on) l2)
-  exits leaf (Out x next) facts last a k link below place head ws r g out s c kn new placed frame waits st =
+  exits leaf (Out x next) facts last a k link below place head ws r g out s c kn lz new placed frame waits st =
       value_or_failed (λ run. Reach 1 (At k (exit_code leaf a.frame facts last (Out x next)) s out) run) (read_home a.frame.homes.items r a.slots x) out
-      (λ v. state_at_block next a r a.slots ws g (out ++ v ∷ [])) tt (λ v e.
+      (λ v. state_at_block next a (lasting r) a.slots ws g (out ++ v ∷ [])) tt (λ v e.
       let o = last_operand (locations a.frame) facts last.fresh x in
       let code = bring 4 o in
-      let means = last_means ok.most total gs starts r g (stored_frame leaf a.frame a.slots a.aside link) (frames_of ws below) s st (known_in facts)
+      let means = last_means ok.most total gs starts facts.lazy r g (stored_frame leaf a.frame a.slots a.aside link) (frames_of ws below) s st lz (known_in facts)
       last.fresh a.frame.homes.items x v (frame_homes ok.most a.frame frame) kn new.fresh e in
-      let one = brings ok.most total gs starts r g (stored_frame leaf a.frame a.slots a.aside link) (frames_of ws below) s st 4 v o
+      let one = brings ok.most total gs starts (hide facts.lazy r) g (stored_frame leaf a.frame a.slots a.aside link) (frames_of ws below) s st 4 v o
       (record { low = omega arith; high = omega arith }) means in
-      let st1 = sets_kept ok.most total gs starts r g (stored_frame leaf a.frame a.slots a.aside link) (frames_of ws below) s st code 4 v (omega arith) one in
+      let st1 = sets_kept ok.most total gs starts (hide facts.lazy r) g (stored_frame leaf a.frame a.slots a.aside link) (frames_of ws below) s st code 4 v (omega arith) one in
       let s1 : State = record s { regs = one.regs } in
       let s2 = set s1 2 1 in
-      let st2 = words_kept ok.most total gs starts r g (stored_frame leaf a.frame a.slots a.aside link ∷ frames_of ws below) s1 s2.regs
+      let st2 = words_kept ok.most total gs starts (hide facts.lazy r) g (stored_frame leaf a.frame a.slots a.aside link ∷ frames_of ws below) s1 s2.regs
       (set_words s1 2 1 st1.words (omega arith)) (λ q low high. put_other s1.regs 2 1 q (omega (arith, low))) st1 in
       let l1 = code_leads k code s s1 out one.runs in
-      jumps leaf (At k code s out) (length code + 1) a link below place head ws placed frame waits next r a.slots g (out ++ v ∷ []) s2 st2 (omega arith)
+      jumps leaf (At k code s out) (length code + 1) a link below place head ws placed frame waits next (lasting r) a.slots g (out ++ v ∷ []) s2
+      (settled facts.lazy r g (stored_frame leaf a.frame a.slots a.aside link ∷ frames_of ws below) s2 lz st2) (omega arith)
       (λ block stood.
-      let rest = code_insts gs starts leaf a.frame [] no_last (code_of block) in
+      let rest = code_insts gs starts leaf a.frame no_facts no_last (code_of block) in
       let q = At (place next) (head next ++ rest) s2 (out ++ v ∷ []) in
       let l2 = departs k c.form (E.Out (place next)) s1 out q c.there c.exit (λ n.
       ap (λ w. outcome_at_block (place next) (slice_get blocks (place next)) (items blocks links n) s2 (out ++ w ∷ [])) one.here
       ∙ ap (λ o. outcome_at_block (place next) o (items blocks links n) s2 (out ++ v ∷ [])) stood.there) in
       leads_then blocks links (length code) 1 (At k code s out) (At k [] s1 out) (At (place next) rest s2 (out ++ v ∷ [])) l1
       (no_head 1 (At k [] s1 out) (place next) (head next) rest s2 (out ++ v ∷ []) c.leads_on l2)))
-  exits leaf (Return None) facts last a k link below place head ws r g out s c kn new placed frame waits st =
-      let e = leaves_frame ok.most total gs starts ok.small r g (frames_of ws below) s leaf a.frame a.slots a.aside link frame (linked_frames ws below) st in
-      returns (At k (epilogue leaf a.frame) s out) (length (epilogue leaf a.frame)) k c.form a ws link below None r g out e.to c.there c.exit e.link_is
+  exits leaf (Return None) facts last a k link below place head ws r g out s c kn lz new placed frame waits st =
+      let e = leaves_frame ok.most total gs starts ok.small (lasting r) g (frames_of ws below) s leaf a.frame a.slots a.aside link frame (linked_frames ws below)
+      (settled facts.lazy r g (stored_frame leaf a.frame a.slots a.aside link ∷ frames_of ws below) s lz st) in
+      returns (At k (epilogue leaf a.frame) s out) (length (epilogue leaf a.frame)) k c.form a ws link below None (lasting r) g out e.to c.there c.exit e.link_is
       (λ v none. absurd (none-some v none)) e.stands waits (code_leads k (epilogue leaf a.frame) s e.to out e.runs)
-  exits leaf (Return (Some x)) facts last a k link below place head ws r g out s c kn new placed frame waits st =
+  exits leaf (Return (Some x)) facts last a k link below place head ws r g out s c kn lz new placed frame waits st =
       value_or_failed (λ run. Reach 1 (At k (exit_code leaf a.frame facts last (Return (Some x))) s out) run) (read_home a.frame.homes.items r a.slots x) out
-      (λ v. state_after_return (Some v) a r ws g out) tt (λ v read_v.
+      (λ v. state_after_return (Some v) a (lasting r) ws g out) tt (λ v read_v.
       let o = last_operand (locations a.frame) facts last.fresh x in
-      let means = last_means ok.most total gs starts r g (stored_frame leaf a.frame a.slots a.aside link) (frames_of ws below) s st (known_in facts)
+      let means = last_means ok.most total gs starts facts.lazy r g (stored_frame leaf a.frame a.slots a.aside link) (frames_of ws below) s st lz (known_in facts)
       last.fresh a.frame.homes.items x v (frame_homes ok.most a.frame frame) kn new.fresh read_v in
-      let one = brings ok.most total gs starts r g (stored_frame leaf a.frame a.slots a.aside link) (frames_of ws below) s st 2 v o
+      let one = brings ok.most total gs starts (hide facts.lazy r) g (stored_frame leaf a.frame a.slots a.aside link) (frames_of ws below) s st 2 v o
       (record { low = omega arith; high = omega arith }) means in
-      let st1 = sets_kept ok.most total gs starts r g (stored_frame leaf a.frame a.slots a.aside link) (frames_of ws below) s st (bring 2 o) 2 v
+      let st1 = sets_kept ok.most total gs starts (hide facts.lazy r) g (stored_frame leaf a.frame a.slots a.aside link) (frames_of ws below) s st (bring 2 o) 2 v
       (omega arith) one in
       let s1 : State = record s { regs = one.regs } in
-      let e = leaves_frame ok.most total gs starts ok.small r g (frames_of ws below) s1 leaf a.frame a.slots a.aside link frame (linked_frames ws below) st1 in
+      let e = leaves_frame ok.most total gs starts ok.small (lasting r) g (frames_of ws below) s1 leaf a.frame a.slots a.aside link frame
+      (linked_frames ws below) (settled facts.lazy r g (stored_frame leaf a.frame a.slots a.aside link ∷ frames_of ws below) s1 lz st1) in
       let code = bring 2 o ++ epilogue leaf a.frame in
-      returns (At k code s out) (length code) k c.form a ws link below (Some v) r g out e.to c.there c.exit e.link_is (λ w is. e.same 2 (omega arith)
+      returns (At k code s out) (length code) k c.form a ws link below (Some v) (lasting r) g out e.to c.there c.exit e.link_is (λ w is. e.same 2 (omega arith)
       ∙ one.here ∙ same_Some v w is) e.stands waits (code_leads k code s e.to out (runs_then one.runs e.runs)))
-  exits true (Call f xs result_to next) facts last a k link below place head ws r g out s c kn new placed frame waits st = absurd (true≢false (c.leads_on).0)
-  exits false (Call f xs result_to next) facts last a k link below place head ws r g out s c kn new placed frame waits st =
+  exits true (Call f xs result_to next) facts last a k link below place head ws r g out s c kn lz new placed frame waits st = absurd (true≢false (c.leads_on).0)
+  exits false (Call f xs result_to next) facts last a k link below place head ws r g out s c kn lz new placed frame waits st =
       value_or_failed (λ run. Reach 1 start run) (read_homes a.frame.homes.items r a.slots xs.items) out _ tt (λ vs read_vs.
       value_or_failed (λ run. Reach 1 start run) (slice_get a.blocks next) out _ tt (λ block next_there.
       value_or_failed (λ run. Reach 1 start run) (slice_get (h.rtl.now).functions f) out _ tt (λ func func_there.
@@ -576,10 +595,10 @@ module _ (h : Homed) (depth : ℕ) (blocks : List BlockParts) (ok : IsSelected h
       let asked = read_length a.frame.homes.items r a.slots xs.items vs read_vs in
       let count : length vs ≡ func.parameters = eqb-true (length vs) func.parameters as_many in
       let args = arguments ok.most total gs starts r g (stored_frame false a.frame a.slots a.aside link) (frames_of ws below) s a.frame.homes.items facts 4
-      xs.items vs (frame_homes ok.most a.frame frame) kn (omega arith) (omega (arith, asked, count, few)) read_vs st in
+      xs.items vs (frame_homes ok.most a.frame frame) kn lz (omega arith) (omega (arith, asked, count, few)) read_vs st in
       let s1 : State = record s { regs = args.regs } in
       let s2 = set s1 31 (links k) in
-      let st2 = call_kept ok.most total gs starts r g (stored_frame false a.frame a.slots a.aside link ∷ frames_of ws below) s1 s2.regs
+      let st2 = call_kept ok.most total gs starts (hide facts.lazy r) g (stored_frame false a.frame a.slots a.aside link ∷ frames_of ws below) s1 s2.regs
       (set_words s1 31 (links k) (args.stands).words (tells.words k)) (λ leaf. absurd (true≢false (sym leaf)))
       (λ q low high. put_other s1.regs 31 (links k) q (omega (arith, high))) args.stands in
       let found = return_found links blocks k (ok.entry f) c.next c.form tells c.there c.exit in
@@ -601,9 +620,10 @@ module _ (h : Homed) (depth : ℕ) (blocks : List BlockParts) (ok : IsSelected h
       } in
       let d = length (exit_code false a.frame facts last (Call f xs result_to next)) in
       reach_after 1 1 d start (At k [] s1 out) _ (omega arith) (code_leads k (exit_code false a.frame facts last (Call f xs result_to next)) s s1 out args.runs)
-      (entered (At k [] s1 out) f func callee is r g (waiting block ∷ ws) (links k) result_to (link ∷ below) vs s2 out
+      (entered (At k [] s1 out) f func callee is (lasting r) g (waiting block ∷ ws) (links k) result_to (link ∷ below) vs s2 out
       (λ form there. departs k c.form (E.Call (ok.entry f) c.next) s1 out (At (ok.entry f) form.insts s2 out) c.there c.exit
-      (λ n. ap (λ o. outcome_at_block (ok.entry f) o (items blocks links n) s2 out) there)) st2
+      (λ n. ap (λ o. outcome_at_block (ok.entry f) o (items blocks links n) s2 out) there))
+      (settled facts.lazy r g (stored_frame false a.frame a.slots a.aside link ∷ frames_of ws below) s2 lz st2)
       (put_here s1.regs 31 (links k) (record { low = omega arith; high = omega arith }))
       (λ j v there. (let low = slice_get_within vs j v there in put_other s1.regs 31 (links k) (4 + j) (omega (arith, low, count, few))) ∙ args.here j v there)
       count (room_for (suc (length ws)) (ltb-true (length (waiting block ∷ ws)) depth deep)) (resumes, waits)))))))
@@ -636,24 +656,24 @@ module _ (h : Homed) (depth : ℕ) (blocks : List BlockParts) (ok : IsSelected h
     where
       at : List RInst → Facts → Last → State → Point
       at is facts last s = At m.number (insts_code gs starts (locations a.frame) facts is
-          (exit_code m.leaf a.frame (known_after is facts) (last_after (locations a.frame) facts is last) a.code.exit)) s out
+          (exit_code m.leaf a.frame (known_after (locations a.frame) is facts) (last_after (locations a.frame) facts is last) a.code.exit)) s out
 
-      step : (is : List RInst) → CodeAt m.leaf a.frame m.place m.head (known_after is m.facts) (last_after (locations a.frame) m.facts is m.last) m.number
+      step : (is : List RInst) → CodeAt m.leaf a.frame m.place m.head (known_after (locations a.frame) is m.facts) (last_after (locations a.frame) m.facts is m.last) m.number
           a.code.exit → Reach 1 (at is m.facts m.last m.state) (step_at h depth is a.code.exit a r ws g out)
-      step [] c = exits m.leaf a.code.exit m.facts m.last a m.number m.link m.below m.place m.head ws r g out m.state c m.is_known m.is_last m.placed m.frame
+      step [] c = exits m.leaf a.code.exit m.facts m.last a m.number m.link m.below m.place m.head ws r g out m.state c m.is_known m.is_lazy m.is_last m.placed m.frame
           m.waits m.stands
       step (i ∷ is) c =
           performs ok.most total gs starts g (frames_of ws m.below) a.frame.homes.items (λ run. Reach 1 (at (i ∷ is) m.facts m.last m.state) run) out tt i
           m.facts r (stored_frame m.leaf a.frame a.slots a.aside m.link) m.state
-          (λ r' s' g'. Running r' (at_code a s' (record { insts = is; exit = a.code.exit }) ∷ ws) g' out) (frame_homes ok.most a.frame m.frame) m.is_known
+          (λ r' s' g'. Running r' (at_code a s' (record { insts = is; exit = a.code.exit }) ∷ ws) g' out) (frame_homes ok.most a.frame m.frame) m.is_known m.is_lazy
           m.stands
-          (λ r' slots' g' s' some e st kn new. record {
-            to = at is (learned i m.facts) (last_of (locations a.frame) m.facts i) s';
+          (λ r' slots' g' s' some e st lz kn new. record {
+            to = at is (learned (locations a.frame) i m.facts) (last_of (locations a.frame) m.facts i) s';
             count = length (inst_code gs starts (locations a.frame) m.facts i);
             enough = some;
             leads = leads_run blocks links m.number (inst_code gs starts (locations a.frame) m.facts i)
-                (insts_code gs starts (locations a.frame) (learned i m.facts) is
-                (exit_code m.leaf a.frame (known_after is (learned i m.facts)) (last_after (locations a.frame) (learned i m.facts) is
+                (insts_code gs starts (locations a.frame) (learned (locations a.frame) i m.facts) is
+                (exit_code m.leaf a.frame (known_after (locations a.frame) is (learned (locations a.frame) i m.facts)) (last_after (locations a.frame) (learned (locations a.frame) i m.facts) is
                 (last_of (locations a.frame) m.facts i)) a.code.exit)) m.state s' out e;
             match = record {
               state = s';
@@ -663,12 +683,12 @@ module _ (h : Homed) (depth : ℕ) (blocks : List BlockParts) (ok : IsSelected h
               leaf = m.leaf;
               place = m.place;
               head = m.head;
-              facts = learned i
-                  m.facts;
+              facts = learned (locations a.frame) i m.facts;
               last = last_of (locations a.frame) m.facts i;
               point = refl;
               code = c;
               is_known = kn;
+              is_lazy = lz;
               is_last = new;
               placed = m.placed;
               frame =

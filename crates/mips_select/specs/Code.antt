@@ -18,7 +18,7 @@ use Rattle.mips_emit.specs.declared.location.Location.TheVariants.{Held}
 use Rattle.mips_emit.specs.declared.location.Source.TheVariants.{From}
 use Rattle.mips_emit.specs.Frames.{link_words}
 use Rattle.mips_emit.specs.Elements.{data_middle}
-use Rattle.mips_emit.specs.Locations.{Locations, locations, Facts, known_after, last_after, no_last, tested, last_operand}
+use Rattle.mips_emit.specs.Locations.{Locations, locations, Facts, no_facts, known_after, last_after, no_last, tested, last_operand}
 use Rattle.mips_emit.specs.Code.{constant, load_word_at, store_word_at, move_code, bring, put_at, insts_code, arguments_code, branch_code, branch_exit}
 use Rattle.mips_select.specs.declared.heads.Head.{Head}
 use Rattle.mips_select.specs.declared.heads.Head.TheVariants.{Bare, Enters, Takes}
@@ -96,13 +96,13 @@ exit_of entry place f facts last n (Out x next) = exits.Out (place next)
 abbrev pub code_insts : List RGlobal → (starts : ℕ → ℕ) → Bool → Frame → Facts → Last → Code → List Plain
 code_insts globals starts leaf f facts last c =
     insts_code globals starts (locations f) facts c.insts
-    (exit_code leaf f (known_after c.insts facts) (last_after (locations f) facts c.insts last) c.exit)
+    (exit_code leaf f (known_after (locations f) c.insts facts) (last_after (locations f) facts c.insts last) c.exit)
 
 -- the block for a block, with what stands before its own code
 abbrev pub own_block : List RGlobal → (starts entry place : ℕ → ℕ) → Bool → Frame → (head : List Plain) → ℕ → RBlock → BlockParts
 own_block globals starts entry place leaf f head n b = record {
-  insts = head ++ code_insts globals starts leaf f [] no_last (code_of b);
-  exit = exit_of entry place f (known_after b.insts.items []) (last_after (locations f) [] b.insts.items no_last) n b.exit;
+  insts = head ++ code_insts globals starts leaf f no_facts no_last (code_of b);
+  exit = exit_of entry place f (known_after (locations f) b.insts.items no_facts) (last_after (locations f) no_facts b.insts.items no_last) n b.exit;
 }
 
 -- the result of a call into its location

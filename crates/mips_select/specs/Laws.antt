@@ -8,7 +8,7 @@ use Rattle.mblock.specs.Units.{UnitParts}
 use Rattle.rtl.specs.Programs.{Program, IsProgram}
 use Rattle.rtl.specs.Meaning.{rtl_run}
 use Rattle.mips_homes.specs.declared.homed.Homed.{Homed}
-use Rattle.mips_homes.specs.Choice.{AreChoices}
+use Rattle.mips_homes.specs.Places.{ArePlaced}
 use Rattle.mips_select.specs.Limits.{FramesFit}
 use Rattle.mips_select.specs.Whole.{unit_for}
 
@@ -19,11 +19,11 @@ KeepsRuns p depth u =
 
 -- the unit of every program whose frames fit keeps its runs
 abbrev pub EachUnitKeepsRuns : Type 0
-EachUnitKeepsRuns = (h : Homed) (depth : ℕ) → IsProgram h.rtl.now → AreChoices h → FramesFit h.rtl.now depth → KeepsRuns h.rtl.now depth (unit_for h)
+EachUnitKeepsRuns = (h : Homed) (depth : ℕ) → IsProgram h.rtl.now → ArePlaced h → FramesFit h.rtl.now depth → KeepsRuns h.rtl.now depth (unit_for h)
 
 -- the unit of a program over its homes would have too many blocks
 pub record IsBeyond (p : Program) : Type 0 where
   pub homed : Homed
   pub lent : homed.rtl.now ≡ p
-  pub choices : AreChoices homed
+  pub choices : ArePlaced homed
   pub many : UNIT_BLOCKS < length (unit_for homed).blocks

@@ -15,7 +15,7 @@ use crate::numbers::number_at;
 use crate::plan::{Linkage, Plan};
 use crate::prologue::emit_prologue;
 use mblock::{BlockNumber, Exit};
-use mips_emit::{Above, Last, emit_arrival, emit_insts, register};
+use mips_emit::{Above, Knowledge, Last, emit_arrival, emit_insts, register};
 use mips_homes::Frame;
 use mips_isa::Plain;
 use mips_split::LongBlock;
@@ -73,7 +73,7 @@ fn block_for(
 {
     let body = block.insts.as_slice();
     let mut insts = Vec::new(alloc);
-    let mut facts = Vec::new(alloc);
+    let mut facts = Knowledge::none(alloc)?;
     let frame = plan.frame;
     emit_head(&mut insts, frame, plan.leaf, plan.parameters, head)?;
     let last = emit_insts(
@@ -84,12 +84,11 @@ fn block_for(
         frame,
         body,
     )?;
-    let known = facts.as_slice();
     let fresh = last.fresh;
     let above: Option<Above> = last.above;
     let exit = emit_exit(
         &mut insts,
-        known,
+        &facts,
         Last { fresh, above },
         linkage.entries,
         plan.places,

@@ -3,7 +3,7 @@
 ghost use Rattle.std.specs.Prelude.{◌≡◌, ◌+◌, ◌≤◌, ◌++◌, IfOk, OnOk, slice_index};
 ghost use Rattle.mblock.specs.declared.limits.TheConstants.{UNIT_BLOCKS};
 ghost use Rattle.mips_emit.specs.Frames.{IsReachable};
-ghost use Rattle.mips_emit.specs.Locations.{locations, tested, last_operand};
+ghost use Rattle.mips_emit.specs.Locations.{facts_of, locations, tested, last_operand};
 ghost use Rattle.mips_emit.specs.Code.{branch_code, branch_exit};
 ghost use Rattle.mips_select.specs.Heads.{heads_in, count};
 ghost use Rattle.mips_select.specs.Code.{exit_code, exit_of};
@@ -15,7 +15,8 @@ use crate::numbers::{number, number_at};
 use crate::prologue::emit_epilogue;
 use mblock::{BlockNumber, Exit};
 use mips_emit::{
-    Fact, Last, emit_arguments, emit_departure, emit_fetch, last_operand, register, seat, tested,
+    Knowledge, Last, emit_arguments, emit_departure, emit_fetch, last_operand, register, seat,
+    tested,
 };
 use mips_homes::Frame;
 use mips_isa::{PairTest, Plain, Reg, ZeroTest};
@@ -50,7 +51,7 @@ pub(crate) fn next_at(
 // A branch to `then` where a pseudo-register isn't 0, else to `other`: what stands before it, and the exit.
 fn emit_branch(
     code: &mut Vec<Plain>,
-    facts: &[Fact],
+    facts: &Knowledge,
     last: Last,
     frame: &Frame,
     c: Register,
@@ -59,26 +60,26 @@ fn emit_branch(
 ) -> Result<Exit, AllocError>
     requires { IsReachable frame.now }
     ensures code { OnOk result (code.new.items ≡ code.old.items ++ branch_code (tested last.above c)
-        (last_operand (locations frame.now) facts.now last.fresh c)) }
-    ensures exit { IfOk result (λ x. x ≡ branch_exit (tested last.above c) (last_operand (locations frame.now) facts.now last.fresh c) then other) }
+        (last_operand (locations frame.now) (facts_of facts.now) last.fresh c)) }
+    ensures exit { IfOk result (λ x. x ≡ branch_exit (tested last.above c) (last_operand (locations frame.now) (facts_of facts.now) last.fresh c) then other) }
 {
     let operand = last_operand(facts, last.fresh, frame, c);
     match tested(last.above, c) {
         None => {
             emit_fetch(code, register(1), &operand)?;
             Ok(Exit::BranchPair {
-                test: PairTest::Equal,
+                test: PairTest::NotEqual,
                 rs: seat(register(1), &operand),
                 rt: Reg::ZERO,
-                then: other,
-                other: then,
+                then,
+                other,
             })
         }
         Some(q) => Ok(Exit::BranchZero {
-            test: ZeroTest::AtMostZero,
+            test: ZeroTest::AboveZero,
             rs: q.reg(),
-            then: other,
-            other: then,
+            then,
+            other,
         }),
     }
 }
@@ -87,7 +88,7 @@ fn emit_branch(
 // stands before the exit, and the exit.
 pub(crate) fn emit_exit(
     code: &mut Vec<Plain>,
-    facts: &[Fact],
+    facts: &Knowledge,
     last: Last,
     entries: &[BlockNumber],
     places: &[BlockNumber],
@@ -98,8 +99,8 @@ pub(crate) fn emit_exit(
 ) -> Result<Exit, AllocError>
     requires frame { IsReachable frame.now }
     requires few { HasFewArguments exit.now }
-    ensures code { OnOk result (code.new.items ≡ code.old.items ++ exit_code leaf frame.now facts.now last exit.now) }
-    ensures exit { IfOk result (λ x. x ≡ exit_of (λ g. slice_index entries.now g) (λ b. slice_index places.now b) frame.now facts.now last next exit.now) }
+    ensures code { OnOk result (code.new.items ≡ code.old.items ++ exit_code leaf frame.now (facts_of facts.now) last exit.now) }
+    ensures exit { IfOk result (λ x. x ≡ exit_of (λ g. slice_index entries.now g) (λ b. slice_index places.now b) frame.now (facts_of facts.now) last next exit.now) }
 {
     match exit {
         RExit::Goto(b) => Ok(Exit::Goto(number_at(places, *b))),

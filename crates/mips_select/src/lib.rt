@@ -16,7 +16,8 @@
 //! `specs/Heads.antt` (what blocks begin with), `specs/Code.antt` (prologues, epilogues, exits, blocks), `specs/Whole.antt`
 //! (all blocks), `specs/Selected.antt` (when blocks stand for a program, whatever their numbers), `specs/Laws.antt`. That an
 //! instruction's code does what the instruction does is proved in `mips_emit`; here each step over homes is one or more
-//! items of the unit (`proofs/Simulation.antt`). All passes are linear in the program.
+//! items of the unit (`proofs/Simulation.antt`). The passes of this crate are linear in the
+//! program.
 #![tactic(auto)]
 
 mod code;

@@ -2,7 +2,7 @@
 
 ghost use Rattle.std.specs.Prelude.{◌≡◌, ◌+◌, ◌≤◌, IfOk, IfErr};
 ghost use Rattle.mblock.specs.declared.limits.TheConstants.{UNIT_BLOCKS};
-ghost use Rattle.mips_homes.specs.Choice.{AreChoices};
+ghost use Rattle.mips_homes.specs.Places.{ArePlaced};
 ghost use Rattle.mips_select.specs.Data.{data_bytes};
 ghost use Rattle.mips_select.specs.Emittable.{AreReachable};
 ghost use Rattle.mips_select.specs.Limits.{FramesFit};
@@ -16,7 +16,7 @@ use crate::limits::have_room;
 use crate::numbers::{number_at, number_functions};
 use crate::plan::Linkage;
 use mblock::{BlockNumber, Unit};
-use mips_homes::{Homed, homes};
+use mips_homes::{Homed, place};
 use mips_split::{LongBlock, SelectFault, split_unit};
 use rtl::Rtl;
 use std::alloc::{AllocError, Global};
@@ -27,7 +27,7 @@ fn emit_program(
     homed: &Homed,
     entries: &[BlockNumber],
 ) -> Result<Vec<LongBlock>, AllocError>
-    requires choices { AreChoices homed.now }
+    requires choices { ArePlaced homed.now }
     requires frames { AreReachable homed.now.frames.items }
     requires entries { entries.now ≡ entries_from 2 (homed.now.rtl.now).functions }
     requires number { 2 + functions_size (homed.now.rtl.now).functions ≤ UNIT_BLOCKS }
@@ -61,7 +61,7 @@ pub fn select(alloc: Global, rtl: &Rtl, depth: u32) -> Result<Unit, SelectFault>
     ensures within { IfOk result (λ _. FramesFit rtl.now depth) }
     ensures limit { IfErr result (λ e. e ≡ SelectFault.Limit → (FramesFit rtl.now depth → IsBeyond rtl.now)) }
 {
-    let homed = homes(alloc, rtl)?;
+    let homed = place(alloc, rtl)?;
     if !have_room(homed.frames.as_slice(), depth) {
         return Err(SelectFault::Limit);
     }

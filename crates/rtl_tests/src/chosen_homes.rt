@@ -2,7 +2,9 @@
 
 use crate::programs::{Ends, Function, function, program};
 use crate::runs_of_blocks::WRITES_A_SUM;
-use mips_homes::{Frame, Home, each_homed_run_is_the_run, frame_of, homes};
+use mips_homes::{
+    Frame, Home, each_choice_never_forgets, each_homed_run_is_the_run, frame_of, homes, place,
+};
 use rtl::{Op, RInst};
 use std::process::Abort;
 use std::test::Fail;
@@ -79,5 +81,143 @@ fn exits_mention_registers_too(rt: HostRuntime) -> Result<(), Fail> {
     let wants = [Home::Reg(18), Home::Reg(19), Home::Reg(17), Home::Reg(16)];
     let saved = [16u8, 17, 18, 19];
     has_homes(&rt, &frame, wants.as_slice(), saved.as_slice(), 0);
+    Ok(())
+}
+
+// A function, and the homes, the saved registers and the slots of its frame where local pseudo-registers are in passing ones.
+type Placed = (Function, &'static [Home], &'static [u8], u32);
+
+const PLACED: &[Placed] = &[
+    // 0 and 3 are read first in block 1.
+    (
+        (
+            1,
+            &[
+                (
+                    &[RInst::Const(1, 5), RInst::Bin(Op::Add, 3, 0, 1)],
+                    Ends::Goto(1),
+                ),
+                (
+                    &[
+                        RInst::Const(2, 1),
+                        RInst::Bin(Op::Sub, 3, 3, 2),
+                        RInst::Bin(Op::Sub, 4, 3, 0),
+                    ],
+                    Ends::Branch(4, 1, 2),
+                ),
+                (&[], Ends::Return(Some(3))),
+            ],
+        ),
+        &[
+            Home::Reg(17),
+            Home::Reg(8),
+            Home::Reg(9),
+            Home::Reg(16),
+            Home::Reg(10),
+        ],
+        &[16, 17],
+        0,
+    ),
+    // A parameter that block 0 alone reads: it is local only where no exit goes back to that block.
+    (
+        (
+            1,
+            &[
+                (
+                    &[RInst::Const(1, 1), RInst::Bin(Op::Sub, 2, 0, 1)],
+                    Ends::Branch(2, 0, 1),
+                ),
+                (&[], Ends::Return(None)),
+            ],
+        ),
+        &[Home::Reg(18), Home::Reg(8), Home::Reg(9)],
+        &[18],
+        0,
+    ),
+    (
+        (
+            1,
+            &[
+                (
+                    &[RInst::Const(1, 1), RInst::Bin(Op::Sub, 2, 0, 1)],
+                    Ends::Branch(2, 1, 1),
+                ),
+                (&[], Ends::Return(None)),
+            ],
+        ),
+        &[Home::Reg(8), Home::Reg(9), Home::Reg(10)],
+        &[],
+        0,
+    ),
+    // Neither a call's result nor what is set before it is local.
+    (
+        (
+            1,
+            &[
+                (&[RInst::Move(2, 0)], Ends::Call(0, &[], Some(1), 1)),
+                (&[RInst::Bin(Op::Add, 1, 1, 2)], Ends::Return(Some(1))),
+            ],
+        ),
+        &[Home::Reg(8), Home::Reg(16), Home::Reg(17)],
+        &[16, 17],
+        0,
+    ),
+    // The thirteenth local one keeps its home.
+    (
+        (
+            0,
+            &[(
+                &[
+                    RInst::Const(0, 0),
+                    RInst::Const(1, 1),
+                    RInst::Const(2, 2),
+                    RInst::Const(3, 3),
+                    RInst::Const(4, 4),
+                    RInst::Const(5, 5),
+                    RInst::Const(6, 6),
+                    RInst::Const(7, 7),
+                    RInst::Const(8, 8),
+                    RInst::Const(9, 9),
+                    RInst::Const(10, 10),
+                    RInst::Const(11, 11),
+                    RInst::Const(12, 12),
+                ],
+                Ends::Return(None),
+            )],
+        ),
+        &[
+            Home::Reg(8),
+            Home::Reg(9),
+            Home::Reg(10),
+            Home::Reg(11),
+            Home::Reg(12),
+            Home::Reg(13),
+            Home::Reg(14),
+            Home::Reg(15),
+            Home::Reg(24),
+            Home::Reg(25),
+            Home::Reg(26),
+            Home::Reg(27),
+            Home::Slot(4),
+        ],
+        &[],
+        5,
+    ),
+];
+
+// Function 0, so that others may be called functions with parameters.
+const NOTHING: Function = (0, &[(&[], Ends::Return(None))]);
+
+#[test]
+fn what_is_local_to_blocks_needs_no_home(rt: HostRuntime) -> Result<(), Fail> {
+    for &(function, wants, saved, slots) in PLACED {
+        let both = program(&rt, rt.alloc(), [NOTHING, function].as_slice())?;
+        let placed = place(rt.alloc(), &both)?;
+        assert_eq!(&rt; placed.frames.len(), 2);
+        for frame in placed.frames.iter().skip(1) {
+            has_homes(&rt, frame, wants, saved, slots);
+        }
+    }
+    each_choice_never_forgets();
     Ok(())
 }

@@ -1,7 +1,7 @@
 //! The orders that schedulers propose for worked blocks, which the validator accepts.
 use block_validator::{Verdict, validate};
 use check_text::{Text, read};
-use delay_filler::FilledOrder;
+use delay_filler::{FilledOrder, fill};
 use list_scheduler::{ListOrder, Reorder};
 use mblock::{Block, Order};
 use std::alloc::Global;
@@ -65,6 +65,9 @@ const LISTED: &[&str] = &[
     // A load passes a store beside it.
     "block\nsw $9,4($29)\nlw $8,0($29)\naddu $10,$8,$8\nreturn\n\
      order\nlw $8,0($29)\nsw $9,4($29)\naddu $10,$8,$8\nreturn\nslot nop\n",
+    // One that loads what was stored passes no store at all.
+    "block\nsw $9,0($29)\nsw $10,4($29)\nlw $8,0($29)\naddu $11,$8,$8\nreturn\n\
+     order\nsw $9,0($29)\nsw $10,4($29)\nlw $8,0($29)\nnop\naddu $11,$8,$8\nreturn\nslot nop\n",
     // And none that may be at its own address.
     "block\nsw $9,0($4)\nlw $8,0($5)\naddu $10,$8,$8\nreturn\n\
      order\nsw $9,0($4)\nlw $8,0($5)\nnop\naddu $10,$8,$8\nreturn\nslot nop\n",
@@ -90,6 +93,15 @@ const FILLED: &[&str] = &[
     // Without it a load would stand before who reads it.
     "block\nlw $8,0($29)\naddiu $10,$10,1\naddu $9,$8,$8\nsw $9,0($29)\nreturn\n\
      order\nlw $8,0($29)\naddiu $10,$10,1\naddu $9,$8,$8\nreturn\nslot sw $9,0($29)\n",
+    // A store passes a load beside it.
+    "block\nsw $9,4($29)\nlw $8,0($29)\nreturn\n\
+     order\nlw $8,0($29)\nreturn\nslot sw $9,4($29)\n",
+    // But none that loads what was stored before.
+    "block\nsw $9,0($29)\nsw $10,4($29)\nlw $8,0($29)\nreturn\n\
+     order\nsw $9,0($29)\nsw $10,4($29)\nlw $8,0($29)\nreturn\nslot nop\n",
+    // The link is loaded first, so that the stack pointer goes up in the slot.
+    "block\nlw $16,0($29)\nlw $31,4($29)\naddiu $29,$29,8\nreturn\n\
+     order\nlw $31,4($29)\nlw $16,0($29)\nreturn\nslot addiu $29,$29,8\n",
 ];
 
 #[test]
@@ -100,5 +112,26 @@ fn slots_are_filled_where_they_can_be(rt: HostRuntime) -> Result<(), Fail> {
             "at {text}"
         );
     }
+    Ok(())
+}
+
+// An order without its slot filled, and filled: without `addiu $10,$10,1` the load would stand before who reads it.
+const EMPTY: &str =
+    "block\naddiu $12,$12,1\nlw $8,0($29)\naddiu $10,$10,1\nslt $9,$8,$11\nbne $9,$0,1,2\n\
+                     order\naddiu $12,$12,1\nlw $8,0($29)\naddiu $10,$10,1\nslt $9,$8,$11\nbne $9,$0,1,2\nslot nop\n";
+
+const OCCUPIED: &str =
+    "block\naddiu $12,$12,1\nlw $8,0($29)\naddiu $10,$10,1\nslt $9,$8,$11\nbne $9,$0,1,2\n\
+                        order\nlw $8,0($29)\naddiu $10,$10,1\nslt $9,$8,$11\nbne $9,$0,1,2\nslot addiu $12,$12,1\n";
+
+#[test]
+fn the_next_one_is_tried(rt: HostRuntime) -> Result<(), Fail> {
+    let (Some(empty), Some(occupied)) = (text_of(rt.alloc(), EMPTY), text_of(rt.alloc(), OCCUPIED))
+    else {
+        panic!(rt; "no orders")
+    };
+    let filled = fill(rt.alloc(), &empty.block, empty.order)?;
+    assert!(rt; is_equal(&filled, &occupied.order));
+    assert!(rt; is_accepted(rt.alloc(), &empty.block, filled));
     Ok(())
 }

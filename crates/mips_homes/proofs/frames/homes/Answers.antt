@@ -5,7 +5,7 @@ use Rattle.mips_homes.proofs.frames.homes.Goals as goal
 pub loop-func-preserved : goal.loop-func-preserved
 loop-func-preserved c =
     frames_step _ c.functions-func-items.result.now _ _ c.loop-func.func-index c.func-item.result c.in_ok-frame.frame
-    c.functions-func-items.ensures.value c.loop-func-test.true c.func-item.is c.in_ok-push.ensures.items c.in_ok-frame.ensures c.loop-func.invariant
+    c.functions-func-items.ensures.value c.loop-func-test.true c.func-item.is c.in_ok-push.ensures.items c.in_ok-frame.ensures.choice c.loop-func.invariant
 
 pub returns-clause-runs : goal.returns-clause-runs
 returns-clause-runs c =

@@ -1,0 +1,13 @@
+use Rattle.std.proofs.Common.{subst}
+use Rattle.mips_homes.specs.Places.{IsPlaced}
+use Rattle.mips_homes.proofs.places.placed_frame.Goals as goal
+
+pub placed-requires : goal.placed-requires
+placed-requires c = c.in_ok-choice.ensures.few
+
+pub returns : goal.returns
+returns c = record {
+  choice = c.in_ok-choice.choice;
+  is = c.in_ok-choice.ensures.choice;
+  placed = subst (λ bs. IsPlaced bs c.in_ok-choice.choice c.in_ok-frame.frame) c.as_slice.ensures.value (c.in_ok-frame.ensures);
+}
