@@ -1,0 +1,23 @@
+use Rattle.std.proofs.Common.{◌≡◌, ◌∙◌, ℕ, List, [], ◌∷◌, length, ap, sym, subst, arith}
+use Rattle.mblock.specs.Parts.{BlockParts}
+use Rattle.mblock.specs.Units.{AreLinked, AreOwners}
+use Rattle.layer_tests.specs.Alone.{halting}
+use Rattle.layer_tests.proofs.Alone.{alone_linked, alone_owned}
+use Rattle.layer_tests.proofs.pieces.counting.Goals as goal
+
+pub split_unit-requires-clause-linked : goal.split_unit-requires-clause-linked
+split_unit-requires-clause-linked c =
+    let one : c.as_slice.result.now ≡ halting c.in_ok-insts.insts.items ∷ [] = c.as_slice.ensures.value ∙ c.in_ok-blocks.ensures in
+    subst AreLinked (sym one) (alone_linked c.in_ok-insts.insts.items)
+
+pub split_unit-requires-clause-owners : goal.split_unit-requires-clause-owners
+split_unit-requires-clause-owners c =
+    let one : c.as_slice.result.now ≡ halting c.in_ok-insts.insts.items ∷ [] = c.as_slice.ensures.value ∙ c.in_ok-blocks.ensures in
+    let own : c.as_slice-2.result.now ≡ 0 ∷ [] = c.as_slice-2.ensures.value ∙ c.in_ok-owner.ensures in
+    subst (λ (l : List BlockParts). AreOwners l c.as_slice-2.result.now) (sym one)
+    (subst (λ (l : List ℕ). AreOwners (halting c.in_ok-insts.insts.items ∷ []) l) (sym own) (alone_owned c.in_ok-insts.insts.items))
+
+pub split_unit-requires-clause-some : goal.split_unit-requires-clause-some
+split_unit-requires-clause-some c =
+    let one : c.as_slice.result.now ≡ halting c.in_ok-insts.insts.items ∷ [] = c.as_slice.ensures.value ∙ c.in_ok-blocks.ensures in
+    omega (arith, ap length one)

@@ -1,0 +1,255 @@
+// Operators at their edges, and words of instructions with their texts (Kane, MIPS RISC Architecture, appendix A).
+
+use check_text::{exit_of, plain_of};
+use mblock::{Block, BlockNumber, Exit};
+use mips_code::{decode, encode};
+use mips_isa::{Inst, PairTest, Plain, Reg, ZeroTest};
+use std::alloc::{AllocError, Global};
+use std::test::Fail;
+use words::Operator;
+
+const OPERATORS: &[(Operator, u32, u32, Option<u32>)] = &[
+    (Operator::Addu, 0xffffffff, 0x1, Some(0x0)),
+    (Operator::Addu, 0x80000000, 0x21, Some(0x80000021)),
+    (Operator::Addu, 0x7fffffff, 0xffffffff, Some(0x7ffffffe)),
+    (Operator::Subu, 0xffffffff, 0x1, Some(0xfffffffe)),
+    (Operator::Subu, 0x80000000, 0x21, Some(0x7fffffdf)),
+    (Operator::Subu, 0x7fffffff, 0xffffffff, Some(0x80000000)),
+    (Operator::And, 0xffffffff, 0x1, Some(0x1)),
+    (Operator::And, 0x80000000, 0x21, Some(0x0)),
+    (Operator::And, 0x7fffffff, 0xffffffff, Some(0x7fffffff)),
+    (Operator::Or, 0xffffffff, 0x1, Some(0xffffffff)),
+    (Operator::Or, 0x80000000, 0x21, Some(0x80000021)),
+    (Operator::Or, 0x7fffffff, 0xffffffff, Some(0xffffffff)),
+    (Operator::Xor, 0xffffffff, 0x1, Some(0xfffffffe)),
+    (Operator::Xor, 0x80000000, 0x21, Some(0x80000021)),
+    (Operator::Xor, 0x7fffffff, 0xffffffff, Some(0x80000000)),
+    (Operator::Nor, 0xffffffff, 0x1, Some(0x0)),
+    (Operator::Nor, 0x80000000, 0x21, Some(0x7fffffde)),
+    (Operator::Nor, 0x7fffffff, 0xffffffff, Some(0x0)),
+    (Operator::Slt, 0xffffffff, 0x1, Some(0x1)),
+    (Operator::Slt, 0x80000000, 0x21, Some(0x1)),
+    (Operator::Slt, 0x7fffffff, 0xffffffff, Some(0x0)),
+    (Operator::Sltu, 0xffffffff, 0x1, Some(0x0)),
+    (Operator::Sltu, 0x80000000, 0x21, Some(0x0)),
+    (Operator::Sltu, 0x7fffffff, 0xffffffff, Some(0x1)),
+    (Operator::Sll, 0xffffffff, 0x1, Some(0xfffffffe)),
+    (Operator::Sll, 0x80000000, 0x21, Some(0x0)),
+    (Operator::Sll, 0x7fffffff, 0xffffffff, Some(0x80000000)),
+    (Operator::Srl, 0xffffffff, 0x1, Some(0x7fffffff)),
+    (Operator::Srl, 0x80000000, 0x21, Some(0x40000000)),
+    (Operator::Srl, 0x7fffffff, 0xffffffff, Some(0x0)),
+    (Operator::Sra, 0xffffffff, 0x1, Some(0xffffffff)),
+    (Operator::Sra, 0x80000000, 0x21, Some(0xc0000000)),
+    (Operator::Sra, 0x7fffffff, 0xffffffff, Some(0x0)),
+    (Operator::MultHigh, 0xffffffff, 0x1, Some(0xffffffff)),
+    (Operator::MultHigh, 0x80000000, 0x21, Some(0xffffffef)),
+    (Operator::MultHigh, 0x7fffffff, 0xffffffff, Some(0xffffffff)),
+    (Operator::MultLow, 0xffffffff, 0x1, Some(0xffffffff)),
+    (Operator::MultLow, 0x80000000, 0x21, Some(0x80000000)),
+    (Operator::MultLow, 0x7fffffff, 0xffffffff, Some(0x80000001)),
+    (Operator::MultuHigh, 0xffffffff, 0x1, Some(0x0)),
+    (Operator::MultuHigh, 0x80000000, 0x21, Some(0x10)),
+    (
+        Operator::MultuHigh,
+        0x7fffffff,
+        0xffffffff,
+        Some(0x7ffffffe),
+    ),
+    (Operator::MultuLow, 0xffffffff, 0x1, Some(0xffffffff)),
+    (Operator::MultuLow, 0x80000000, 0x21, Some(0x80000000)),
+    (Operator::MultuLow, 0x7fffffff, 0xffffffff, Some(0x80000001)),
+    (Operator::DivQuotient, 0xfffffff9, 0x2, Some(0xfffffffd)),
+    (Operator::DivRemainder, 0xfffffff9, 0x2, Some(0xffffffff)),
+    (Operator::DivuQuotient, 0xfffffff9, 0x2, Some(0x7ffffffc)),
+    (Operator::DivuRemainder, 0xfffffff9, 0x2, Some(0x1)),
+    (Operator::DivQuotient, 0x7, 0xfffffffe, Some(0xfffffffd)),
+    (Operator::DivRemainder, 0x7, 0xfffffffe, Some(0x1)),
+    (Operator::DivuQuotient, 0x7, 0xfffffffe, Some(0x0)),
+    (Operator::DivuRemainder, 0x7, 0xfffffffe, Some(0x7)),
+    (Operator::DivQuotient, 0x80000000, 0xffffffff, None),
+    (Operator::DivRemainder, 0x80000000, 0xffffffff, None),
+    (Operator::DivuQuotient, 0x80000000, 0xffffffff, Some(0x0)),
+    (
+        Operator::DivuRemainder,
+        0x80000000,
+        0xffffffff,
+        Some(0x80000000),
+    ),
+    (Operator::DivQuotient, 0x5, 0x0, None),
+    (Operator::DivRemainder, 0x5, 0x0, None),
+    (Operator::DivuQuotient, 0x5, 0x0, None),
+    (Operator::DivuRemainder, 0x5, 0x0, None),
+];
+
+#[test]
+fn operators_have_their_values(rt: HostRuntime) -> Result<(), Fail> {
+    for &(op, a, b, want) in OPERATORS {
+        assert_eq!(rt; op.value(a, b), want, "at {op:?} {a} {b}");
+    }
+    Ok(())
+}
+
+const PLAIN: &[(u32, &str)] = &[
+    (0x001f47c0, "sll $8,$31,31"),
+    (0x013f4004, "sllv $8,$31,$9"),
+    (0x001f47c2, "srl $8,$31,31"),
+    (0x013f4006, "srlv $8,$31,$9"),
+    (0x001f47c3, "sra $8,$31,31"),
+    (0x013f4007, "srav $8,$31,$9"),
+    (0x013f4021, "addu $8,$9,$31"),
+    (0x013f4023, "subu $8,$9,$31"),
+    (0x013f4024, "and $8,$9,$31"),
+    (0x013f4025, "or $8,$9,$31"),
+    (0x013f4026, "xor $8,$9,$31"),
+    (0x013f4027, "nor $8,$9,$31"),
+    (0x013f402a, "slt $8,$9,$31"),
+    (0x013f402b, "sltu $8,$9,$31"),
+    (0x24088000, "addiu $8,$0,-32768"),
+    (0x28087fff, "slti $8,$0,32767"),
+    (0x2c080000, "sltiu $8,$0,0"),
+    (0x30080000, "andi $8,$0,0"),
+    (0x34088000, "ori $8,$0,32768"),
+    (0x3808ffff, "xori $8,$0,65535"),
+    (0x3c081000, "lui $8,4096"),
+    (0x012a0018, "mult $9,$10"),
+    (0x012a001a, "div $9,$10"),
+    (0x012a0019, "multu $9,$10"),
+    (0x012a001b, "divu $9,$10"),
+    (0x00004810, "mfhi $9"),
+    (0x00004812, "mflo $9"),
+    (0x8d280004, "lw $8,4($9)"),
+    (0xad40fffc, "sw $0,-4($10)"),
+    (0x91280004, "lbu $8,4($9)"),
+    (0xa140fffc, "sb $0,-4($10)"),
+    (0x00000000, "nop"),
+    (0x012a4021, "addu $8,$9,$10"),
+    (0x8fa80004, "lw $8,4($29)"),
+    (0x90880003, "lbu $8,3($4)"),
+    (0xa089ffff, "sb $9,-1($4)"),
+];
+
+// Whether the word is that of an instruction which prints as the text, and the text is read as that instruction.
+fn is_spelled(alloc: Global, word: u32, text: &str) -> bool {
+    match decode(word) {
+        Some(Inst::Plain(inst)) => match inst.to_string(alloc) {
+            Ok(printed) => {
+                printed.as_str() == text
+                    && plain_of(text.as_bytes()) == Some(inst)
+                    && encode(Inst::Plain(inst)) == word
+            }
+            Err(_) => false,
+        },
+        _ => false,
+    }
+}
+
+#[test]
+fn words_are_instructions_with_their_texts(rt: HostRuntime) -> Result<(), Fail> {
+    for &(word, text) in PLAIN {
+        assert!(rt; is_spelled(rt.alloc(), word, text), "{word}: {text}");
+    }
+    assert!(rt; plain_of(b"sll $0,$0,0") == Some(Plain::nop()));
+    Ok(())
+}
+
+// `jr $31`, `bne $8,$9` to the word before the next, `bgez $8` over two words, `jal`, `syscall`.
+const CONTROL: &[u32] = &[
+    0x03e0_0008,
+    0x1509_ffff,
+    0x0501_0002,
+    0x0c10_0000,
+    0x0000_000c,
+];
+
+// Whether the word is that of a branch, jump or call.
+fn is_control(word: u32) -> bool {
+    match decode(word) {
+        Some(Inst::Control(control)) => encode(Inst::Control(control)) == word,
+        _ => false,
+    }
+}
+
+#[test]
+fn words_are_branches_and_jumps(rt: HostRuntime) -> Result<(), Fail> {
+    for &word in CONTROL {
+        assert!(rt; is_control(word), "{word}");
+    }
+    Ok(())
+}
+
+const PAIR_TESTS: [(PairTest, &str); 2] = [
+    (PairTest::Equal, "beq $8,$9,1048575,0"),
+    (PairTest::NotEqual, "bne $8,$9,1048575,0"),
+];
+
+const ZERO_TESTS: &[(ZeroTest, &str)] = &[
+    (ZeroTest::AtMostZero, "blez $8,1048575,0"),
+    (ZeroTest::AboveZero, "bgtz $8,1048575,0"),
+    (ZeroTest::BelowZero, "bltz $8,1048575,0"),
+    (ZeroTest::AtLeastZero, "bgez $8,1048575,0"),
+];
+
+// Of registers 8 and 9.
+fn branch_pair(test: PairTest, then: BlockNumber, other: BlockNumber) -> Exit {
+    Exit::BranchPair {
+        test,
+        rs: Reg::masked(8),
+        rt: Reg::masked(9),
+        then,
+        other,
+    }
+}
+
+// Of register 8.
+fn branch_zero(test: ZeroTest, then: BlockNumber, other: BlockNumber) -> Exit {
+    Exit::BranchZero {
+        test,
+        rs: Reg::masked(8),
+        then,
+        other,
+    }
+}
+
+#[test]
+fn texts_are_exits(rt: HostRuntime) -> Result<(), Fail> {
+    let far = BlockNumber::new(1048575).expect(&rt, "the last block");
+    let near = BlockNumber::new(0).expect(&rt, "the first block");
+    for (test, text) in PAIR_TESTS {
+        let exit = branch_pair(test, far, near);
+        assert!(rt; exit_of(text.as_bytes()) == Some(exit), "at {text}");
+    }
+    for &(test, text) in ZERO_TESTS {
+        let exit = branch_zero(test, far, near);
+        assert!(rt; exit_of(text.as_bytes()) == Some(exit), "at {text}");
+    }
+    for (exit, text) in [
+        (Exit::Goto(far), "goto 1048575"),
+        (
+            Exit::Call {
+                function: far,
+                next: near,
+            },
+            "call 1048575,0",
+        ),
+        (Exit::Return, "return"),
+        (Exit::Out(near), "out 0"),
+        (Exit::Halt, "halt"),
+    ] {
+        assert!(rt; exit_of(text.as_bytes()) == Some(exit), "at {text}");
+    }
+    Ok(())
+}
+
+// Whether so many `nop` are the instructions of a block.
+fn is_block(alloc: Global, count: usize) -> Result<bool, AllocError> {
+    let insts = vec![in alloc; Plain::nop(); count]?;
+    Ok(Block::new(insts, Exit::Return).is_some())
+}
+
+#[test]
+fn a_block_has_at_most_512_instructions(rt: HostRuntime) -> Result<(), Fail> {
+    assert!(rt; is_block(rt.alloc(), 512)?);
+    assert!(rt; !is_block(rt.alloc(), 513)?);
+    Ok(())
+}

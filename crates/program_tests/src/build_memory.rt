@@ -1,0 +1,220 @@
+//! Memory that is really refused to `check`, to the words of the command line, to builds by workers and to a machine's steps:
+//! each test is a process of its own, and takes all that it can get. With each block that it gives back the call comes further.
+use clap::error::ErrorKind;
+use command_line::words;
+use delay_filler::FilledOrder;
+use driver::{
+    BuildFault, BuildOpts, Built, CheckAnswer, CheckFault, build, build_plain, check, run_image,
+};
+use image::read_image;
+use list_scheduler::ListOrder;
+use mips_machine::{Machine, load};
+use mips_steps::Ending;
+use scarce_memory::AllMemory;
+use sched_phase::PhaseOpts;
+use stand_ins::COUNTS;
+use std::alloc::{AllocError, Global};
+use std::sync::Wait;
+use std::test::Fail;
+use std::thread::Threads;
+use steal_pool::Open;
+
+const MOVED: &str = "block\nlw $8,0($29)\naddu $9,$8,$8\naddiu $10,$10,1\nreturn\n\
+                     order\nlw $8,0($29)\naddiu $10,$10,1\naddu $9,$8,$8\nreturn\nslot nop\n";
+
+#[test]
+fn checks_tell_refused_memory_alone(rt: HostRuntime) -> Result<(), Fail> {
+    let alloc = rt.alloc();
+    let mut memory = AllMemory::take(alloc, 1000, 0x400_0000)?;
+    let mut refusals: u32 = 0;
+    for _ in 0..=memory.blocks.len() {
+        match check(alloc, MOVED.as_bytes()) {
+            Ok(answer) => {
+                assert_eq!(rt; answer, CheckAnswer::Same);
+                break;
+            }
+            Err(fault) => assert_eq!(rt; fault, CheckFault::NoMemory),
+        }
+        refusals = refusals.wrapping_add(1);
+        memory.give_back();
+    }
+    let left = memory.blocks.len();
+    drop(memory);
+    assert!(rt; refusals > 0);
+    assert!(rt; left > 0 || check(alloc, MOVED.as_bytes()) == Ok(CheckAnswer::Same));
+    Ok(())
+}
+
+// Whether the words are refused for want of memory; None where they are wrong.
+fn is_refused(alloc: Global) -> Option<bool> {
+    match words(alloc, ["mcc", "check", "x"].as_slice()) {
+        Ok(_) => Some(false),
+        Err(error) if error.kind() == ErrorKind::OutOfMemory => Some(true),
+        Err(_) => None,
+    }
+}
+
+#[test]
+fn words_tell_refused_memory_alone(rt: HostRuntime) -> Result<(), Fail> {
+    let alloc = rt.alloc();
+    let mut memory = AllMemory::take(alloc, 1000, 0x400_0000)?;
+    let mut refusals: u32 = 0;
+    for _ in 0..=memory.blocks.len() {
+        match is_refused(alloc) {
+            Some(true) => refusals = refusals.wrapping_add(1),
+            Some(false) => break,
+            None => panic!(rt; "wrong words"),
+        }
+        memory.give_back();
+    }
+    drop(memory);
+    assert!(rt; refusals > 0);
+    assert_eq!(rt; is_refused(alloc), Some(false));
+    Ok(())
+}
+
+// Whether each block has a verdict or was missed, and none met a full table.
+fn has_each_block(built: &Built) -> bool {
+    let report = built.report;
+    let mut counted: u64 = 0;
+    for count in [
+        report.same,
+        report.unclean,
+        report.differs,
+        report.no_memory,
+        report.missed,
+    ] {
+        counted = counted.wrapping_add(u64::from(count));
+    }
+    report.full == 0 && counted == built.blocks as u64
+}
+
+/// Whether memory was refused to a build.
+pub fn is_refusal(fault: BuildFault) -> bool {
+    match fault {
+        BuildFault::Front(fault) => fault.kind.number() == 30,
+        BuildFault::Types(fault) => fault.kind.number() == 30,
+        BuildFault::NoMemory => true,
+        BuildFault::Limit(_) => false,
+    }
+}
+
+/// Whether the image prints 3 and ends with 0.
+pub fn prints_three(alloc: Global, image: &[u8]) -> bool {
+    match run_image(alloc, image, 1000) {
+        Ok(ran) => ran.end == Ending::Halt(0) && ran.output.as_slice() == [3].as_slice(),
+        Err(_) => false,
+    }
+}
+
+// A build by two workers, of which a refusal is None; a fault of another kind, or a count that is off, is an Err.
+fn by_two<T: Threads + Wait + Sync>(
+    threads: &T,
+    alloc: Global,
+) -> Result<Option<Built>, BuildFault> {
+    let Some(phase) = PhaseOpts::new(2, 2000, 16) else {
+        return Err(BuildFault::NoMemory);
+    };
+    let options = BuildOpts { depth: 1, phase };
+    let scheduler = FilledOrder(ListOrder);
+    match build(
+        threads,
+        alloc,
+        COUNTS.as_bytes(),
+        &options,
+        &scheduler,
+        &Open,
+    ) {
+        Ok(built) => Ok(Some(built)),
+        Err(fault) if is_refusal(fault) => Ok(None),
+        Err(fault) => Err(fault),
+    }
+}
+
+// Gives memory back until a build has a verdict for each block, and keeps each image on the way; how many builds were refused.
+fn builds_until_whole<T: Threads + Wait + Sync>(
+    threads: &T,
+    alloc: Global,
+    memory: &mut AllMemory,
+    images: &mut Vec<Vec<u8>>,
+) -> Result<Option<u32>, AllocError> {
+    let mut refusals: u32 = 0;
+    for _ in 0..=memory.blocks.len() {
+        let Ok(answer) = by_two(threads, alloc) else {
+            return Ok(None);
+        };
+        match answer {
+            Some(built) => {
+                if !has_each_block(&built) {
+                    return Ok(None);
+                }
+                let is_whole = built.report.same as usize == built.blocks;
+                images.push(built.image)?;
+                if is_whole {
+                    break;
+                }
+            }
+            None => refusals = refusals.wrapping_add(1),
+        }
+        memory.give_back();
+    }
+    Ok(Some(refusals))
+}
+
+// A block whose order or verdict is refused memory, or that no worker comes to, has its own order.
+#[test]
+fn builds_by_workers_tell_refused_memory_or_run(rt: HostRuntime) -> Result<(), Fail> {
+    let alloc = rt.alloc();
+    let mut images = Vec::with_capacity(alloc, 1002)?;
+    let mut memory = AllMemory::take(alloc, 1000, 0x400_0000)?;
+    let refusals = builds_until_whole(&rt, alloc, &mut memory, &mut images)?;
+    drop(memory);
+    assert!(rt; refusals.is_some_and(|n| n > 0));
+    assert!(rt; !images.is_empty());
+    for image in images.as_slice() {
+        assert!(rt; prints_three(alloc, image.as_slice()));
+    }
+    Ok(())
+}
+
+const SEVENS: &str = "int main(void){while(1)out(7);}";
+
+// Steps of a machine, as many as it is refused memory or 2,000, with one block given back behind each refusal; how many were
+// refused, None where it ends.
+fn step_on(machine: &mut Machine<'_>, memory: &mut AllMemory) -> Option<u32> {
+    let mut refusals: u32 = 0;
+    for _ in 0..400_000 {
+        match machine.step() {
+            Ok(None) => {}
+            Ok(Some(_)) => return None,
+            Err(_) => {
+                refusals = refusals.wrapping_add(1);
+                memory.give_back();
+            }
+        }
+    }
+    Some(refusals)
+}
+
+#[test]
+fn a_machine_goes_on_behind_refused_memory(rt: HostRuntime) -> Result<(), Fail> {
+    let alloc = rt.alloc();
+    let Ok(built) = build_plain(alloc, SEVENS.as_bytes(), 1) else {
+        panic!(rt; "no image")
+    };
+    let Ok(image) = read_image(alloc, built.image.as_slice()) else {
+        panic!(rt; "no image behind the bytes")
+    };
+    let mut stepped = load(alloc, &image)?;
+    let mut memory = AllMemory::take(alloc, 1000, 0x400_0000)?;
+    let refusals = step_on(&mut stepped, &mut memory);
+    drop(memory);
+    assert!(rt; refusals.is_some_and(|n| n > 0));
+    let Ok(ran) = run_image(alloc, built.image.as_slice(), 400_000) else {
+        panic!(rt; "no run")
+    };
+    let output = stepped.output();
+    assert!(rt; output.len() > 1000 && output.len() < ran.output.len());
+    assert!(rt; output.iter().all(|word| *word == 7));
+    Ok(())
+}

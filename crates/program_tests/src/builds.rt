@@ -1,0 +1,75 @@
+//! Builds of C programs, and what their images do.
+use c_programs::{PROGRAMS, Program};
+use delay_filler::FilledOrder;
+use driver::{BuildOpts, Built, build, build_one, run_image};
+use list_scheduler::{ListOrder, Reorder};
+use mips_steps::Ending;
+use sched_phase::PhaseOpts;
+use std::alloc::{AllocError, Global};
+use std::sync::Wait;
+use std::thread::Threads;
+use steal_pool::Open;
+
+/// A loop over the elements of an array.
+pub const LOOP: Program = Program {
+    name: "loop",
+    text: "int a[3];int main(void){int i=0;a[0]=5;a[1]=6;a[2]=7;while(i<3&&a[i])i=i+1;out(i);}",
+    output: &[3],
+};
+
+/// Calls, 256 of which are active at once.
+pub const CALLS: Program = Program {
+    name: "calls",
+    text: "int f(int n){int r;if(n==1)return 1;r=f(n-1);return r+1;}int main(void){int r=f(255);out(r);}",
+    output: &[255],
+};
+
+/// Both, and the eight programs.
+pub fn programs(alloc: Global) -> Result<Vec<Program>, AllocError> {
+    let mut all = vec![in alloc; LOOP, CALLS]?;
+    all.extend_from_slice(PROGRAMS)?;
+    Ok(all)
+}
+
+/// The scheduler of `mcc build`.
+pub const SCHEDULER: FilledOrder<ListOrder> = FilledOrder(ListOrder);
+
+/// The nodes of a pass, as `mcc build` has them without options.
+pub const NODES: u64 = 65_536;
+
+/// The build of a text by so many workers, each of which may link so many terms.
+pub fn built<T: Threads + Wait + Sync, R: Reorder + Sync>(
+    threads: &T,
+    alloc: Global,
+    text: &str,
+    workers: u64,
+    nodes: u64,
+    reorder: &R,
+) -> Option<Built> {
+    let phase = PhaseOpts::new(workers, nodes, 1024)?;
+    let options = BuildOpts { depth: 256, phase };
+    build(threads, alloc, text.as_bytes(), &options, reorder, &Open).ok()
+}
+
+/// The same by one worker without threads.
+pub fn built_by_one<R: Reorder>(alloc: Global, text: &str, reorder: &R) -> Option<Built> {
+    let phase = PhaseOpts::new(1, NODES, 1024)?;
+    let options = BuildOpts { depth: 256, phase };
+    build_one(alloc, text.as_bytes(), &options, reorder).ok()
+}
+
+/// Whether the image writes these words and then ends with 0.
+pub fn prints(alloc: Global, built: &Built, output: &[u32]) -> bool {
+    match run_image(alloc, built.image.as_slice(), 100_000_000) {
+        Ok(ran) => ran.end == Ending::Halt(0) && ran.output.as_slice() == output,
+        Err(_) => false,
+    }
+}
+
+/// How many blocks are counted.
+pub fn counted(built: &Built) -> usize {
+    let report = built.report;
+    let asked = report.same as usize + report.unclean as usize + report.differs as usize;
+    let plain = report.full as usize + report.no_memory as usize + report.missed as usize;
+    asked + plain
+}
