@@ -22,26 +22,29 @@ use steal_pool::Open;
 const MOVED: &str = "block\nlw $8,0($29)\naddu $9,$8,$8\naddiu $10,$10,1\nreturn\n\
                      order\nlw $8,0($29)\naddiu $10,$10,1\naddu $9,$8,$8\nreturn\nslot nop\n";
 
-#[test]
-fn checks_tell_refused_memory_alone(rt: HostRuntime) -> Result<(), Fail> {
-    let alloc = rt.alloc();
-    let mut memory = AllMemory::take(alloc, 1000, 0x400_0000)?;
+// How often a check is refused memory before it answers; None where it answers another thing.
+fn check_refusals(alloc: Global, memory: &mut AllMemory) -> Option<u32> {
     let mut refusals: u32 = 0;
-    for _ in 0..=memory.blocks.len() {
+    for _ in 0..=1000 {
         match check(alloc, MOVED.as_bytes()) {
-            Ok(answer) => {
-                assert_eq!(rt; answer, CheckAnswer::Same);
-                break;
-            }
-            Err(fault) => assert_eq!(rt; fault, CheckFault::NoMemory),
+            Ok(CheckAnswer::Same) => break,
+            Err(CheckFault::NoMemory) => {}
+            _ => return None,
         }
         refusals = refusals.wrapping_add(1);
         memory.give_back();
     }
-    let left = memory.blocks.len();
+    Some(refusals)
+}
+
+#[test]
+fn checks_tell_refused_memory_alone(rt: HostRuntime) -> Result<(), Fail> {
+    let alloc = rt.alloc();
+    let mut memory = AllMemory::take(alloc, 1000, 0x400_0000)?;
+    let refusals = check_refusals(alloc, &mut memory);
     drop(memory);
-    assert!(rt; refusals > 0);
-    assert!(rt; left > 0 || check(alloc, MOVED.as_bytes()) == Ok(CheckAnswer::Same));
+    assert!(rt; refusals.is_some_and(|n| n > 0));
+    assert!(rt; check(alloc, MOVED.as_bytes()) == Ok(CheckAnswer::Same));
     Ok(())
 }
 
@@ -54,21 +57,26 @@ fn is_refused(alloc: Global) -> Option<bool> {
     }
 }
 
+// How often the words are refused memory before they are read; None where they are wrong.
+fn word_refusals(alloc: Global, memory: &mut AllMemory) -> Option<u32> {
+    let mut refusals: u32 = 0;
+    for _ in 0..=1000 {
+        if !is_refused(alloc)? {
+            break;
+        }
+        refusals = refusals.wrapping_add(1);
+        memory.give_back();
+    }
+    Some(refusals)
+}
+
 #[test]
 fn words_tell_refused_memory_alone(rt: HostRuntime) -> Result<(), Fail> {
     let alloc = rt.alloc();
     let mut memory = AllMemory::take(alloc, 1000, 0x400_0000)?;
-    let mut refusals: u32 = 0;
-    for _ in 0..=memory.blocks.len() {
-        match is_refused(alloc) {
-            Some(true) => refusals = refusals.wrapping_add(1),
-            Some(false) => break,
-            None => panic!(rt; "wrong words"),
-        }
-        memory.give_back();
-    }
+    let refusals = word_refusals(alloc, &mut memory);
     drop(memory);
-    assert!(rt; refusals > 0);
+    assert!(rt; refusals.is_some_and(|n| n > 0));
     assert_eq!(rt; is_refused(alloc), Some(false));
     Ok(())
 }
@@ -196,25 +204,22 @@ fn step_on(machine: &mut Machine<'_>, memory: &mut AllMemory) -> Option<u32> {
     Some(refusals)
 }
 
+// Whether the machine is refused memory, goes on, and prints 7 over and over.
+fn goes_on(machine: &mut Machine<'_>, memory: &mut AllMemory) -> bool {
+    let refusals = step_on(machine, memory);
+    let output = machine.output();
+    refusals.is_some_and(|n| n > 0) && output.len() > 1000 && output.iter().all(|word| *word == 7)
+}
+
 #[test]
 fn a_machine_goes_on_behind_refused_memory(rt: HostRuntime) -> Result<(), Fail> {
     let alloc = rt.alloc();
-    let Ok(built) = build_plain(alloc, SEVENS.as_bytes(), 1) else {
-        panic!(rt; "no image")
-    };
-    let Ok(image) = read_image(alloc, built.image.as_slice()) else {
-        panic!(rt; "no image behind the bytes")
-    };
-    let mut stepped = load(alloc, &image)?;
+    let built = build_plain(alloc, SEVENS.as_bytes(), 1)?;
+    let image = read_image(alloc, built.image.as_slice())?;
+    let mut machine = load(alloc, &image)?;
     let mut memory = AllMemory::take(alloc, 1000, 0x400_0000)?;
-    let refusals = step_on(&mut stepped, &mut memory);
+    let goes_on = goes_on(&mut machine, &mut memory);
     drop(memory);
-    assert!(rt; refusals.is_some_and(|n| n > 0));
-    let Ok(ran) = run_image(alloc, built.image.as_slice(), 400_000) else {
-        panic!(rt; "no run")
-    };
-    let output = stepped.output();
-    assert!(rt; output.len() > 1000 && output.len() < ran.output.len());
-    assert!(rt; output.iter().all(|word| *word == 7));
+    assert!(rt; goes_on);
     Ok(())
 }

@@ -1,11 +1,11 @@
 //! Builds of C programs, and what their images do.
-use c_programs::{PROGRAMS, Program};
+use c_programs::Program;
 use delay_filler::FilledOrder;
 use driver::{BuildOpts, Built, build, build_one, run_image};
 use list_scheduler::{ListOrder, Reorder};
 use mips_steps::Ending;
 use sched_phase::PhaseOpts;
-use std::alloc::{AllocError, Global};
+use std::alloc::Global;
 use std::sync::Wait;
 use std::thread::Threads;
 use steal_pool::Open;
@@ -18,18 +18,14 @@ pub const LOOP: Program = Program {
 };
 
 /// Calls, 256 of which are active at once.
-pub const CALLS: Program = Program {
+const CALLS: Program = Program {
     name: "calls",
     text: "int f(int n){int r;if(n==1)return 1;r=f(n-1);return r+1;}int main(void){int r=f(255);out(r);}",
     output: &[255],
 };
 
-/// Both, and the eight programs.
-pub fn programs(alloc: Global) -> Result<Vec<Program>, AllocError> {
-    let mut all = vec![in alloc; LOOP, CALLS]?;
-    all.extend_from_slice(PROGRAMS)?;
-    Ok(all)
-}
+/// Both.
+pub const OWN: &[Program] = &[LOOP, CALLS];
 
 /// The scheduler of `mcc build`.
 pub const SCHEDULER: FilledOrder<ListOrder> = FilledOrder(ListOrder);

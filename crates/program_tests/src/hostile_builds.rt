@@ -2,13 +2,15 @@
 //! process, by one worker without threads, by many, and a thousand of them.
 ghost use Rattle.std.specs.Prelude.{⊤};
 
-use crate::builds::{
-    CALLS, LOOP, NODES, SCHEDULER, built, built_by_one, counted, prints, programs,
-};
+use crate::builds::{LOOP, NODES, OWN, SCHEDULER, built, built_by_one, counted, prints};
+use c_programs::{PROGRAMS, Program};
+use driver::Built;
 use list_scheduler::{Hostile, Reorder};
 use mblock::{Block, Order, plain};
 use std::alloc::{AllocError, Global};
+use std::sync::Wait;
 use std::test::Fail;
+use std::thread::Threads;
 
 const KINDS: &[Hostile] = &[
     Hostile::Drop,
@@ -21,59 +23,87 @@ const KINDS: &[Hostile] = &[
     Hostile::Silent,
 ];
 
+// Whether there is an image, each block is counted, and it prints this.
+fn runs(alloc: Global, built: &Option<Built>, output: &[u32]) -> bool {
+    match built {
+        Some(built) => counted(built) == built.blocks && prints(alloc, built, output),
+        None => false,
+    }
+}
+
+// Whether there is an image, and no block was missed.
+fn misses_none(built: &Option<Built>) -> bool {
+    match built {
+        Some(built) => built.report.missed == 0,
+        None => false,
+    }
+}
+
 #[test]
 fn images_by_one_worker_run_as_their_source(rt: HostRuntime) -> Result<(), Fail> {
-    for &kind in KINDS {
-        let Some(built) = built_by_one(rt.alloc(), LOOP.text, &kind) else {
-            panic!(rt; "no image with {kind:?}")
-        };
-        assert_eq!(rt; counted(&built), built.blocks, "{kind:?}");
-        assert_eq!(rt; built.report.missed, 0, "{kind:?}");
-        assert!(rt; prints(rt.alloc(), &built, LOOP.output), "{kind:?}");
+    for kind in KINDS {
+        let built = built_by_one(rt.alloc(), LOOP.text, kind);
+        assert!(rt; runs(rt.alloc(), &built, LOOP.output), "{kind:?}");
+        assert!(rt; misses_none(&built), "{kind:?}");
     }
     Ok(())
 }
 
+// The first of the programs whose image by two workers doesn't run as its source.
+fn first_wrong<T: Threads + Wait + Sync, R: Reorder + Sync>(
+    threads: &T,
+    alloc: Global,
+    programs: &[Program],
+    scheduler: &R,
+) -> Option<&'static str> {
+    for program in programs {
+        let built = built(threads, alloc, program.text, 2, NODES, scheduler);
+        if !runs(alloc, &built, program.output) {
+            return Some(program.name);
+        }
+    }
+    None
+}
+
 #[test]
 fn images_by_two_workers_run_as_their_source(rt: HostRuntime) -> Result<(), Fail> {
-    for &kind in KINDS {
-        for program in programs(rt.alloc())? {
-            let name = program.name;
-            let Some(built) = built(&rt, rt.alloc(), program.text, 2, NODES, &kind) else {
-                panic!(rt; "no image of {name} with {kind:?}")
-            };
-            assert_eq!(rt; counted(&built), built.blocks, "{name} with {kind:?}");
-            assert!(rt;
-                prints(rt.alloc(), &built, program.output),
-                "{name} with {kind:?}"
-            );
+    for kind in KINDS {
+        for &programs in [OWN, PROGRAMS].as_slice() {
+            let wrong = first_wrong(&rt, rt.alloc(), programs, kind);
+            assert_eq!(rt; wrong, None, "{kind:?}");
         }
     }
     Ok(())
 }
 
+// Whether each block was refused memory.
+fn is_silent(built: &Option<Built>) -> bool {
+    match built {
+        Some(built) => built.report.no_memory as usize == built.blocks,
+        None => false,
+    }
+}
+
+// The first of the programs that has a block with another order where nothing is proposed.
+fn first_ordered<T: Threads + Wait + Sync>(
+    threads: &T,
+    alloc: Global,
+    programs: &[Program],
+) -> Option<&'static str> {
+    for program in programs {
+        let one = built_by_one(alloc, program.text, &Hostile::Silent);
+        let two = built(threads, alloc, program.text, 2, NODES, &Hostile::Silent);
+        if !is_silent(&one) || !is_silent(&two) {
+            return Some(program.name);
+        }
+    }
+    None
+}
+
 #[test]
 fn refused_memory_is_counted_as_that(rt: HostRuntime) -> Result<(), Fail> {
-    for program in programs(rt.alloc())? {
-        let Some(one) = built_by_one(rt.alloc(), program.text, &Hostile::Silent) else {
-            panic!(rt; "no image of {}", program.name)
-        };
-        assert_eq!(rt;
-            one.report.no_memory as usize,
-            one.blocks,
-            "{}",
-            program.name
-        );
-        let Some(two) = built(&rt, rt.alloc(), program.text, 2, NODES, &Hostile::Silent) else {
-            panic!(rt; "no image of {}", program.name)
-        };
-        assert_eq!(rt;
-            two.report.no_memory as usize,
-            two.blocks,
-            "{}",
-            program.name
-        );
-    }
+    assert_eq!(rt; first_ordered(&rt, rt.alloc(), OWN), None);
+    assert_eq!(rt; first_ordered(&rt, rt.alloc(), PROGRAMS), None);
     Ok(())
 }
 
@@ -88,56 +118,75 @@ impl Reorder for Own {
     }
 }
 
+// Whether each block has the order that was proposed.
+fn is_accepted(built: &Option<Built>) -> bool {
+    match built {
+        Some(built) => built.report.same as usize == built.blocks,
+        None => false,
+    }
+}
+
 #[test]
 fn plain_orders_are_accepted(rt: HostRuntime) -> Result<(), Fail> {
-    for program in [LOOP, CALLS] {
-        let Some(built) = built_by_one(rt.alloc(), program.text, &Own) else {
-            panic!(rt; "no image of {}", program.name)
-        };
-        assert_eq!(rt;
-            built.report.same as usize,
-            built.blocks,
-            "{}",
-            program.name
-        );
+    for program in OWN {
+        let built = built_by_one(rt.alloc(), program.text, &Own);
+        assert!(rt; is_accepted(&built), "{}", program.name);
     }
     Ok(())
+}
+
+// Whether there are two images, which are equal, as their reports are.
+fn are_equal(one: &Option<Built>, other: &Option<Built>) -> bool {
+    match (one, other) {
+        (Some(one), Some(other)) => {
+            one.image.as_slice() == other.image.as_slice() && one.report == other.report
+        }
+        _ => false,
+    }
+}
+
+const WORKERS: &[u64] = &[1, 2, 4, 64];
+
+// The first of the programs of which one worker without threads and some number of workers make different images.
+fn first_unequal<T: Threads + Wait + Sync>(
+    threads: &T,
+    alloc: Global,
+    programs: &[Program],
+) -> Option<(&'static str, u64)> {
+    for program in programs {
+        let one = built_by_one(alloc, program.text, &SCHEDULER);
+        for &workers in WORKERS {
+            let other = built(threads, alloc, program.text, workers, 8_192, &SCHEDULER);
+            if !are_equal(&one, &other) {
+                return Some((program.name, workers));
+            }
+        }
+    }
+    None
 }
 
 #[test]
 fn images_are_equal_for_any_number_of_workers(rt: HostRuntime) -> Result<(), Fail> {
-    for program in programs(rt.alloc())? {
-        let name = program.name;
-        let Some(one) = built_by_one(rt.alloc(), program.text, &SCHEDULER) else {
-            panic!(rt; "no image of {name}")
-        };
-        for workers in [1, 2, 4, 64] {
-            let Some(other) = built(&rt, rt.alloc(), program.text, workers, 8_192, &SCHEDULER)
-            else {
-                panic!(rt; "no image of {name} by {workers} workers")
-            };
-            assert!(rt;
-                other.image.as_slice() == one.image.as_slice(),
-                "{name} by {workers} workers"
-            );
-            assert_eq!(rt; other.report, one.report, "{name} by {workers} workers");
-        }
-    }
+    assert_eq!(rt; first_unequal(&rt, rt.alloc(), OWN), None);
+    assert_eq!(rt; first_unequal(&rt, rt.alloc(), PROGRAMS), None);
     Ok(())
 }
 
-const BUILDS: u32 = 1_000;
+// How many of so many builds make the image of the first.
+fn equal_builds<T: Threads + Wait + Sync>(threads: &T, alloc: Global, count: u32) -> u32 {
+    let first = built(threads, alloc, LOOP.text, 4, 1024, &SCHEDULER);
+    let mut equal: u32 = 0;
+    for _ in 0..count {
+        let other = built(threads, alloc, LOOP.text, 4, 1024, &SCHEDULER);
+        if are_equal(&first, &other) {
+            equal = equal.wrapping_add(1);
+        }
+    }
+    equal
+}
 
 #[test]
 fn a_thousand_builds_give_one_image(rt: HostRuntime) -> Result<(), Fail> {
-    let Some(first) = built(&rt, rt.alloc(), LOOP.text, 4, 1024, &SCHEDULER) else {
-        panic!(rt; "no image")
-    };
-    for k in 1..BUILDS {
-        let Some(other) = built(&rt, rt.alloc(), LOOP.text, 4, 1024, &SCHEDULER) else {
-            panic!(rt; "no image at {k}")
-        };
-        assert!(rt; other.image.as_slice() == first.image.as_slice(), "at {k}");
-    }
+    assert_eq!(rt; equal_builds(&rt, rt.alloc(), 999), 999);
     Ok(())
 }

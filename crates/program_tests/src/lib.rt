@@ -3,6 +3,8 @@
 #![tactic(auto)]
 
 #[cfg(test)]
+mod asked;
+#[cfg(test)]
 mod build_memory;
 #[cfg(test)]
 mod builds;
@@ -14,5 +16,3 @@ mod image_memory;
 mod interp_memory;
 #[cfg(test)]
 mod streams;
-#[cfg(test)]
-mod words;
