@@ -3,6 +3,13 @@
 //! `check` is its whole path: the answer is the verdict of the block and the order that the text spells, or the fault of the
 //! text (`specs/Checks.antt`). `check_file` is the command over files and streams: all that it asks of them, prints and ends by
 //! (`specs/Command.antt`). What answers and faults print, and the status of a verdict, stand in `specs/Texts.antt`.
+//!
+//! What is promised:
+//! - `check_command::check`, which `driver` exports too: the answer is the verdict on every block and order that the
+//!   text spells, or `full`, which comes only on a clean order. That it comes only where the table of 16,384 terms was
+//!   full is a clause of `validate`, above, and shown by the tests of `check`: some 180 stores in falling order over
+//!   one base fill it, since each goes inside all others. The longest text of stores in rising order has a verdict
+//!   (tested). Faults: size first, then the line; 30 where memory was refused, and never for a text that is too long.
 #![tactic(auto)]
 
 mod command;

@@ -7,6 +7,58 @@
 //! check_command, and what commands share is the crate commands. `mcc` is the whole program, which `main` calls with the
 //! real files and streams: all that it asks of them, prints and ends by (`specs/Program.antt`). It takes the words of the
 //! command line by the crate command_line. How answers and faults print stands in `specs/Texts.antt`.
+//!
+//! What is promised:
+//! - `driver::interp`: where it is Ok, the text spells a program, the program has no fault, and the answer is what so
+//!   many steps of its one typed program come to within the depth (`IsRun`); else the fault is the text's own, or the
+//!   first of the program that it spells (`IsInterpFault`). A text spells one program at most and a program has one
+//!   typing at most, so there is no other answer; nor has a text two faults (`one_reading`).
+//! - `driver::build` and `build_one` (without threads), for every scheduler, and `build_plain`: where they are Ok, the
+//!   text spells a program without fault and the bytes are those of an image that follows it (`follows`:
+//!   `FollowsText`): for every number of steps after which the source isn't wrong there is a number of words after
+//!   which the machine has the same output, isn't stuck, and has halted with a word exactly where the source is done
+//!   with it; a word stands for at most 513 steps, in a plain image for one. Image, report and number of blocks are
+//!   those of one scheduled unit (`scheduled`: `IsScheduledBuild`), and bytes are those of one image at most
+//!   (`one_image`). A fault is the text's own, or the first of the program that it spells (`IsBuildFault`). A Limit of
+//!   lowering comes only where the program has too many pseudo-registers or blocks for RTL (`IsTooLongForRtl`). Of the
+//!   other two the contract says little: a Limit of selection tells that some RTL program that keeps the source's runs
+//!   has too large a frame or stack or too many blocks of code (`IsTooLargeForStack`), one of assembly that some unit
+//!   that does has too many words of code (`IsTooLongForImage`), which is true of every program by code that nothing
+//!   calls; that these limits aren't told too early is tested. 20 and 30 behind the types come only of a text that
+//!   spells a program without faults.
+//! - `driver::run_image` is exactly the image's run (`IsImageRun`), and `list_image` its listing, where the bytes are
+//!   an image's, else the first test that fails.
+//! - `Display` of answers and faults is exact. The status of a verdict that could be printed is `exit_status` of it,
+//!   and that of a run is that of its end (`end_status`). The status of `driver::mcc` is at most 4, and never 2 (wrong
+//!   words) where clap takes the words; that of `mcc_check` is at most 3, and never 2 where clap takes the words as
+//!   those of `check`.
+//! - `driver::mcc`, over any files and any standard error, where clap takes the words: unless the status is 1, the
+//!   words are a command, all that was asked of the files, what standard output took and the status are those of an
+//!   answer that the command's own call may give, with the words' depth, steps and `--plain` (`answered`: `IsAnswered`
+//!   of specs/Program.antt), and nothing was told (`quiet`). A status of 1 comes with the line of a fault that the
+//!   command's own contract allows; IMAGE is asked to be nothing but the bytes of an image of what was read from
+//!   SOURCE, and SOURCE is only read (`stopped`: `IsStopped`). `check_command::check_file` promises the same of
+//!   `check`. Not promised: that refused memory, which is told by status 1 before any file is read, was really refused;
+//!   what stands below a fault's line, and clap's texts; that a writer which keeps bytes is flushed.
+//! - Only tested: that ten programs print what they should (the eight of crates/c_programs what gcc's builds of them
+//!   print), built plainly and scheduled; that interpreter and images print the same, worked by hand, where up to forty
+//!   locals live in a loop, locals and constants live over calls and a recursion, parameters are passed on in another
+//!   order, results are arguments, and bytes are written in an inner loop; that each block of all these gets the order
+//!   that was proposed, and so does each of three texts whose loads and stores meet; that 1, 2, 4 and 64 workers give
+//!   equal images; builds whose table is full; `mcc build` by its words; and (tests/images) images that are cut or
+//!   changed. And (program_tests): the same programs under each kind of `Hostile`, that `build_one` and many workers
+//!   give equal images, and 1,000 builds one image.
+//! - Only tested: that every image prints what the interpreter prints, wherever that isn't `wrong`; 1 MiB of C and the
+//!   deepest texts built and run, the deepest nest of statements refused for its size. And (program_tests): what each
+//!   command does where a read or a write fails, standard output at any byte, and memory that is really refused to
+//!   `build` with two workers, `build_one`, `build_plain`, `check`, the words of the command line, a machine's steps,
+//!   and to `mcc build --plain`, `run`, `list` and `interp`. `.ci/refuse` refuses each growth of each command of the
+//!   built program in turn, by number (not a part of the gate; docs/GATE.md has its last run).
+//! - Only tested: the lines below a fault, as the place (`FILE:LINE:COLUMN:`, the line of the text, cut where it is
+//!   long, and the caret); files that can't be read or written; `mcc interp` at each limit of a text's sizes; check
+//!   texts, their verdicts, and the line of what spells nothing; wrong words, and the text of help; and
+//!   (tests/examples) what each file of crates/example_files/data prints, and its status. `mcc_check` has the same
+//!   answers.
 #![tactic(auto)]
 
 mod build_commands;

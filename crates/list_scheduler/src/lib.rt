@@ -9,6 +9,13 @@
 //! block alone, and takes at most quadratic time in the block's length. `Resources` are what instructions read and write.
 //!
 //! `Hostile` proposes wrong orders, for those who test a validator.
+//!
+//! What is promised:
+//! - A `Reorder` is total, and its answers are those that its relation `proposes` allows; that of `ListOrder` and
+//!   `FilledOrder` allows every order. So nothing is promised of their orders but that they come.
+//! - Only tested: the orders of seventeen worked blocks, each of which the validator accepts: where a Nop stands and
+//!   where none does, what is left out, which loads pass which stores, which slots are filled; and the orders and
+//!   verdicts of `Hostile`, a scheduler that proposes wrong orders in eight ways, for those who test a validator.
 #![tactic(auto)]
 
 mod access;

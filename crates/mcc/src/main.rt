@@ -1,5 +1,9 @@
 //! The program `mcc`: `driver::mcc` over the real files and streams, on a thread whose stack holds the
 //! deepest text that the sizes of `c_front` allow.
+//!
+//! What is promised:
+//! - `mcc` does its work on a thread of 1 GiB of stack. That this holds the deepest texts is tested
+//!   (tests/c/deepest.case: the deepest nests of `if`, of `while` and of expressions), not proved.
 #![tactic(auto)]
 
 use commands::{HostFault, tell};

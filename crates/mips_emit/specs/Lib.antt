@@ -2,3 +2,4 @@ pub mod Frames
 pub mod Locations
 pub mod Elements
 pub mod Code
+pub mod Numbers

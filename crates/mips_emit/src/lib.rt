@@ -14,6 +14,12 @@
 //! Definitions, in an order to read: `specs/Frames.antt` (frames within reach), `specs/Locations.antt` (where
 //! pseudo-registers are, what is known, what operands are), `specs/Elements.antt` (elements of globals), `specs/Code.antt`.
 //! What is known is a window of the latest facts, so emitting takes constant time for each instruction.
+//!
+//! What is promised:
+//! - The code of an instruction is exactly `inst_code`, and does what the instruction does over homes (`performs`, a
+//!   lemma over every state that holds homes, frames and data): pseudo-registers are read and written in place, words
+//!   that are known in the block become immediates, and register 28 reaches the first 65,536 bytes of data.
+//! - Each limit is the number that `specs/Numbers.antt` tells (`limits_are_these_numbers`).
 #![tactic(auto)]
 
 mod constant;
@@ -30,6 +36,6 @@ pub use constant::{emit_constant, emit_load_word, emit_store_word};
 pub use exit::{branch_exit, emit_arguments, emit_arrival, emit_departure, emit_test};
 pub use facts::{Above, Fact, Knowledge, Last, last_operand, tested};
 pub use inst::emit_insts;
-pub use limits::FRAME_BYTES;
+pub use limits::{FRAME_BYTES, limits_are_these_numbers};
 pub use location::{Location, Source, register};
 pub use transfer::{emit_fetch, seat};

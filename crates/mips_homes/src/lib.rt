@@ -15,6 +15,18 @@
 //! pseudo-registers are local, `specs/Homes.antt` when homes serve a program, `specs/Correct.antt` the theorem,
 //! `specs/Choice.antt` and `specs/Places.antt` the choice. It takes one pass over the program and eight over the counts, and
 //! then one over a function for each of its pseudo-registers, until twelve are found.
+//!
+//! What is promised:
+//! - `homes` gives each function the eight pseudo-registers with most mentions in registers 16 to 23 and each other one
+//!   a slot of its own (`AreChoices`), and the run over these homes is the program's at each bound (`KeepsRtlRuns`); an
+//!   Err comes from refused memory alone.
+//! - `place` gives the same frames, but up to twelve pseudo-registers that each block writes before it reads them live
+//!   in registers 8 to 15 and 24 to 27, and only those of 16 to 23 are saved in which one still lives (`ArePlaced`);
+//!   this run is the program's too.
+//! - Laws: so is the run over all homes in which no two share one, those of 16 to 23 that are homes are saved, in other
+//!   registers lives only what each block writes before it reads it, and each name has one
+//!   (`each_homed_run_is_the_run`). A run over homes forgets at a block's end what isn't in 16 to 23 or in a slot; over
+//!   those of `homes` that is nothing (`each_choice_never_forgets`).
 #![tactic(auto)]
 
 mod best;

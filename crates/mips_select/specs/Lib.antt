@@ -6,3 +6,4 @@ pub mod Whole
 pub mod Limits
 pub mod Selected
 pub mod Laws
+pub mod Numbers

@@ -1,6 +1,12 @@
 ghost use Rattle.mips_select.specs.Laws.{EachUnitKeepsRuns};
+ghost use Rattle.mips_select.specs.Numbers.{LimitsAreTheseNumbers};
 
 /// The unit of every program over chosen homes, whose frames fit, keeps its runs. A law: it computes nothing.
 pub fn each_unit_keeps_runs()
     ensures { EachUnitKeepsRuns }
+{}
+
+/// Each limit is the number that specs/Numbers.antt tells, so a change of one is a change there. A law: it computes nothing.
+pub fn limits_are_these_numbers()
+    ensures { LimitsAreTheseNumbers }
 {}

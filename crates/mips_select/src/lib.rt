@@ -18,6 +18,20 @@
 //! instruction's code does what the instruction does is proved in `mips_emit`; here each step over homes is one or more
 //! items of the unit (`proofs/Simulation.antt`). The passes of this crate are linear in the
 //! program.
+//!
+//! What is promised:
+//! - `mips_select::select` gives a unit of blocks that does what the program does (`KeepsRuns`): at every bound at
+//!   which the program isn't wrong, the unit comes to the same end and output in as many items or more, whatever words
+//!   the links of its calls are. Its data are exactly the globals' bytes, each global at a multiple of 4
+//!   (`data_bytes`). Ok comes only where each frame has at most 32,000 bytes and the depth times the largest at most
+//!   16,777,216 (`FramesFit`, said of the RTL program alone); Limit only where they have not, or where the unit of the
+//!   program over its homes would have more than 1,048,576 blocks (`IsBeyond`).
+//! - Law: so does the unit of every program whose frames fit, over homes that are placed as `place` of mips_homes places
+//!   them (`ArePlaced`, `each_unit_keeps_runs`).
+//! - Only tested: units assembled, run and compared with `rtl::run` and with words worked by hand: up to 40 live
+//!   variables, blocks of 513 to 5,002 instructions, recursion, arrays of bytes beside arrays of words, each operator
+//!   with known and unknown operands; frames and stacks at their limits and above.
+//! - Each limit is the number that `specs/Numbers.antt` tells (`limits_are_these_numbers`).
 #![tactic(auto)]
 
 mod code;
@@ -32,7 +46,7 @@ mod plan;
 mod program;
 mod prologue;
 
-pub use laws::each_unit_keeps_runs;
+pub use laws::{each_unit_keeps_runs, limits_are_these_numbers};
 pub use limits::STACK_BYTES;
 pub use mips_split::SelectFault;
 pub use program::select;

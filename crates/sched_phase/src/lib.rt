@@ -7,6 +7,17 @@
 //! one table of terms; `schedule_one` does so without threads. Neither trusts the scheduler. What they promise is `IsPhase`
 //! of `specs/Phases.antt`: each block has an order that the scheduler may propose and that means it, or the plain one, and
 //! is counted once.
+//!
+//! What is promised:
+//! - A `Scheduled` has one order for each block, which means it and leaves it as the block is left (`AreOrders`, its
+//!   type's invariant).
+//! - `schedule_all` (threads) and `schedule_one` (none): each order is one that the scheduler may propose and that
+//!   means its block, or the plain one; each block is counted once: as same only where its order was accepted, as
+//!   unclean or as differing only where the scheduler may propose an order of that verdict (`IsPhase`); the counts add
+//!   up to the number of blocks, and `schedule_one` misses none (`IsWholePhase`). `schedule_plain` has the plain
+//!   orders, and counts none.
+//! - Only tested: that two workers share one table, which of three blocks find it full, and a scheduler that proposes
+//!   nothing.
 #![tactic(auto)]
 
 mod options;
