@@ -1,6 +1,7 @@
 -- What a worker needs: its pass is the table's and has seen each leaf, there are enough leaves for the terms, and its part is of them.
 use Rattle.std.specs.Prelude.{◌≡◌, ◌*◌, ◌≤◌, length, All}
-use Rattle.term_table.specs.Passes.{TableState, IsOf, HasSeen}
+use Rattle.term_table.specs.Passes.{TableState, IsOf}
+use Rattle.sym_exec.specs.MipsTerms.{HasSeen}
 use Rattle.bench.specs.declared.worker.Worker.{Worker}
 
 pub record IsReady (t : TableState) (w : Worker) : Type 0 where

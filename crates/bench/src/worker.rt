@@ -1,6 +1,7 @@
 //! One thread's work: it interns a part of the terms, which have two children each.
 ghost use Rattle.std.specs.Prelude.{◌≡◌, ◌+◌, ◌*◌, ◌<◌, ◌≤◌, IfSome, All, length};
-ghost use Rattle.term_table.specs.Passes.{IsOf, HasSeen};
+ghost use Rattle.term_table.specs.Passes.{IsOf};
+ghost use Rattle.sym_exec.specs.MipsTerms.{HasSeen};
 ghost use Rattle.bench.specs.Ready.{IsReady};
 
 use std::alloc::Global;

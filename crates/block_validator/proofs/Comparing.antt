@@ -7,7 +7,7 @@ use Rattle.mblock.specs.BlockMeaning.{Shape, Goes, ChoosesPair, ChoosesZero, Cal
 use Rattle.sym_terms.specs.Trees.{Tree}
 use Rattle.term_table.specs.Passes.{PassState}
 use Rattle.term_table.specs.Trees.{HasLegalHistory}
-use Rattle.term_table.proofs.Callers.{same_trees, one_tree}
+use Rattle.sym_exec.proofs.MipsTerms.{same_trees, one_tree}
 use Rattle.sym_exec.specs.declared.state.Guard.{Guard}
 use Rattle.sym_exec.specs.declared.state.Guard.TheVariants.{Address, Division}
 use Rattle.sym_exec.specs.declared.state.TermExit.{TermExit}

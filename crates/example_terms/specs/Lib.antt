@@ -1,2 +1,4 @@
-pub mod Expressions
-pub mod Memos
+pub mod Labels
+pub mod Back
+pub mod Meaning
+pub mod Standing

@@ -1,97 +1,77 @@
-//! A validator of one's own over the table of terms: two threads intern expressions of this program's
-//! own type, each with its pass; when the passes meet, two tickets are equal exactly when the
-//! expressions are. The values of terms are kept in a memo by ticket.
+//! A validator of one's own over the table of terms: two threads run a block and its optimised form on
+//! terms, and where the tickets of what they leave are equal, the two blocks mean the same.
 //!
-//! `term_of` and `meet` (`expression.rt`) and `value` (`memo.rt`) are the calls to read, with
-//! `specs/Expressions.antt` and `specs/Memos.antt`.
+//! `validate` (`validator.rt`) is the call to read, with `specs/Meaning.antt`: what a block means.
 #![tactic(auto)]
 
-ghost use Rattle.std.specs.Prelude.{◌≡◌, IfOk};
-ghost use Rattle.term_table.specs.Passes.{IsOf};
-ghost use Rattle.example_terms.specs.Expressions.{IsBuilt};
+mod block;
+mod fold;
+mod label;
+mod symbolic;
+#[cfg(test)]
+mod tests;
+mod validator;
 
-mod expression;
-mod memo;
-
-use crate::expression::{Built, Expression, build, meet};
-use crate::memo::{Memo, value};
-use mips_isa::NonzeroReg;
+use crate::block::{Block, Instruction, Operator};
+use crate::validator::validate;
 use std::alloc::{AllocError, Global};
-use std::collections::HashMap;
+use std::io;
 use std::thread::Threads;
-use std::{io, thread};
-use term_table::{Pass, TableFull, TermTable};
 
-/// (v + 3) * (v + 3), or with another constant on the right.
-fn square(alloc: Global, v: NonzeroReg, right: u32) -> Result<Expression, AllocError> {
-    let first = sum(alloc, v, 3)?;
-    let second = sum(alloc, v, right)?;
-    Ok(Expression::Times(Box::new(alloc, first)?, Box::new(alloc, second)?))
+/// (x + 3 * 5) * (x + 3 * 5) + the words at x and at 15, each computed where it is used.
+fn original(alloc: Global) -> Result<Block, AllocError> {
+    let instructions = vec![in alloc;
+        Instruction::Variable(7),
+        Instruction::Constant(3),
+        Instruction::Constant(5),
+        Instruction::Apply(Operator::Multiply, 1, 2),
+        Instruction::Apply(Operator::Add, 0, 3),
+        Instruction::Apply(Operator::Add, 0, 3),
+        Instruction::Apply(Operator::Multiply, 4, 5),
+        Instruction::Load(0),
+        Instruction::Load(3),
+        Instruction::Apply(Operator::Add, 7, 8),
+        Instruction::Apply(Operator::Add, 6, 9),
+        Instruction::Store(0, 10),
+    ]?;
+    Ok(Block {
+        instructions,
+        result: 10,
+    })
 }
 
-/// v + n
-fn sum(alloc: Global, v: NonzeroReg, n: u32) -> Result<Expression, AllocError> {
-    Ok(Expression::Plus(
-        Box::new(alloc, Expression::Variable(v))?,
-        Box::new(alloc, Expression::Constant(n))?,
-    ))
+/// The same, with the product folded, one sum left out, and the loads first and in the other order.
+fn optimised(alloc: Global, folded: u32) -> Result<Block, AllocError> {
+    let instructions = vec![in alloc;
+        Instruction::Constant(folded),
+        Instruction::Variable(7),
+        Instruction::Load(0),
+        Instruction::Load(1),
+        Instruction::Apply(Operator::Add, 1, 0),
+        Instruction::Apply(Operator::Multiply, 4, 4),
+        Instruction::Apply(Operator::Add, 3, 2),
+        Instruction::Apply(Operator::Add, 5, 6),
+        Instruction::Store(1, 7),
+    ]?;
+    Ok(Block {
+        instructions,
+        result: 7,
+    })
 }
 
-/// The terms of two expressions, each built in a thread of its own.
-fn both<R: Threads>(
-    rt: &R,
-    table: &TermTable,
-    first: (Pass, Expression),
-    second: (Pass, Expression),
-) -> Result<(Built, Built), TableFull>
-    requires first { IsOf table.now first.0 }
-    requires second { IsOf table.now second.0 }
-    ensures { IfOk result (λ b. IsBuilt table.now b.0 × IsBuilt table.now b.1) }
-{
-    let (one, other) = thread::join(
-        rt,
-        move || build(table, first.0, first.1),
-        move || build(table, second.0, second.1),
-    );
-    Ok((one?, other?))
-}
-
-/// Builds the two squares, and prints whether their terms are one and what they are worth.
-fn compare(rt: &(impl Threads + Print), alloc: Global, right: u32) -> io::Result<()> {
-    let Some(v) = NonzeroReg::new(4) else {
-        return println!(rt; "there is no register 4");
-    };
-    let (Ok(one), Ok(other)) = (square(alloc, v, 3), square(alloc, v, right)) else {
+/// Prints whether the optimised block, with this number for 3 * 5, provably means the original.
+fn check(rt: &(impl Threads + Print), alloc: Global, folded: u32) -> io::Result<()> {
+    let (Ok(original), Ok(optimised)) = (original(alloc), optimised(alloc, folded)) else {
         return println!(rt; "memory was refused");
     };
-    let Ok((table, mut passes)) = TermTable::open(alloc, 2, 16, 4) else {
-        return println!(rt; "the table was not opened");
-    };
-    let (Some(second), Some(first)) = (passes.pop(), passes.pop()) else {
-        return println!(rt; "there is no pass");
-    };
-    let Ok((mut first, mut second)) = both(rt, &table, (first, one), (second, other)) else {
-        return println!(rt; "a pass is full");
-    };
-    let equal = meet(&table, &mut first, &mut second);
-    let linked = first.pass.linked().saturating_add(second.pass.linked());
-    println!(rt; "one term: {equal}, terms linked: {linked}")?;
-    let mut memo: Memo = HashMap::new(alloc);
-    let Ok(one) = value(&table, &mut first.pass, &mut memo, &first.expression) else {
-        return println!(rt; "no value");
-    };
-    let Ok(other) = value(&table, &mut first.pass, &mut memo, &second.expression) else {
-        return println!(rt; "no value");
-    };
-    println!(rt;
-        "values: {} and {}, computed: {}",
-        one.value,
-        other.value,
-        memo.len()
-    )
+    match validate(rt, alloc, &original, &optimised) {
+        Ok(true) => println!(rt; "3 * 5 as {folded}: the same"),
+        Ok(false) => println!(rt; "3 * 5 as {folded}: not shown to be the same"),
+        Err(fault) => println!(rt; "3 * 5 as {folded}: {fault}"),
+    }
 }
 
 fn main(rt: HostRuntime) -> io::Result<()> {
-    compare(&rt, rt.alloc(), 3)?;
-    compare(&rt, rt.alloc(), 5)
+    check(&rt, rt.alloc(), 15)?;
+    check(&rt, rt.alloc(), 16)
 }

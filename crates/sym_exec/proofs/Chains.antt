@@ -10,8 +10,9 @@ use Rattle.sym_terms.specs.Sameness.{are_same}
 use Rattle.sym_terms.specs.NormalForms.{Address, address_of, are_disjoint, is_passed, is_passed_inward, load_tree, store_tree}
 use Rattle.sym_terms.proofs.Sameness.{same-is, same-self}
 use Rattle.term_table.specs.Passes.{PassState}
-use Rattle.term_table.specs.Trees.{HasTree, HasLegalHistory}
-use Rattle.term_table.proofs.Callers.{still_tree, same_trees, one_tree}
+use Rattle.term_table.specs.Trees.{HasLegalHistory}
+use Rattle.sym_exec.specs.MipsTerms.{HasTree}
+use Rattle.sym_exec.proofs.MipsTerms.{still_tree, same_trees, one_tree}
 use Rattle.sym_exec.specs.declared.address.TermAddress.{TermAddress}
 use Rattle.sym_exec.specs.declared.stores.Stored.{Stored}
 use Rattle.sym_exec.specs.Standing.{Later, IsAddress}

@@ -8,9 +8,10 @@ use Rattle.sym_terms.specs.declared.label.Label.TheVariants.{Init, Mem0, Const, 
 use Rattle.sym_terms.specs.Trees.{Tree, Trees, node, none, more, leaf, binary}
 use Rattle.sym_terms.specs.NormalForms.{label_constant, constant_of, is_sum, at_base, sum_address, address_of, tree_plus, const_tree, op_tree}
 use Rattle.sym_terms.proofs.Sameness.{operator-is}
-use Rattle.term_table.specs.Passes.{TableState, PassState, IsOf, HasSeen}
-use Rattle.term_table.specs.Trees.{HasTree, HaveTrees, HasLegalHistory, IsNode}
-use Rattle.term_table.proofs.Callers.{still_tree, seen_tree, one_tree}
+use Rattle.term_table.specs.Passes.{TableState, PassState, IsOf}
+use Rattle.sym_exec.specs.MipsTerms.{HasSeen, HasTree, HaveTrees, IsNode}
+use Rattle.term_table.specs.Trees.{HasLegalHistory}
+use Rattle.sym_exec.proofs.MipsTerms.{still_tree, seen_tree, one_tree}
 use Rattle.sym_exec.specs.declared.address.TermAddress.{TermAddress}
 use Rattle.sym_exec.specs.Standing.{Later, AfterReads, IsAddress, AreSummands}
 use Rattle.sym_exec.proofs.Tickets.{later_self, later_more}

@@ -8,9 +8,10 @@ use Rattle.mips_isa.proofs.Registers.{put_lost, read-put}
 use Rattle.sym_terms.specs.declared.label.Origin.TheVariants.{Register}
 use Rattle.sym_terms.specs.declared.label.Label.TheVariants.{Init}
 use Rattle.sym_terms.specs.Trees.{Tree, leaf}
-use Rattle.term_table.specs.Passes.{TableState, PassState, HasSeen}
-use Rattle.term_table.specs.Trees.{HasTree}
-use Rattle.term_table.proofs.Callers.{still_seen, still_tree, extends_more, extends_self}
+use Rattle.term_table.specs.Passes.{TableState, PassState}
+use Rattle.sym_exec.specs.MipsTerms.{HasSeen, HasTree}
+use Rattle.term_table.proofs.Callers.{extends_more, extends_self}
+use Rattle.sym_exec.proofs.MipsTerms.{still_seen, still_tree}
 use Rattle.mips_isa.specs.States.{is_register, read, put}
 use Rattle.sym_exec.specs.declared.state.TermPlaces.{TermPlaces}
 use Rattle.mblock.specs.BlockMeaning.{Shape}

@@ -1,3 +1,4 @@
 pub mod Symbolic
 pub mod Standing
 pub mod Stores
+pub mod MipsTerms

@@ -3,8 +3,9 @@ use Rattle.std.specs.Prelude.{◌≡◌, ℕ, ◌<◌, List, [], ◌∷◌, slic
 use Rattle.words.specs.declared.operator.Operator.TheVariants.{Addu}
 use Rattle.sym_terms.specs.declared.label.Label.TheVariants.{Op}
 use Rattle.sym_terms.specs.Trees.{Tree, binary}
-use Rattle.term_table.specs.Passes.{TableState, PassState, IsOf, HasSeen, linked}
-use Rattle.term_table.specs.Trees.{HasTree, Extends, HasLegalHistory}
+use Rattle.term_table.specs.Passes.{TableState, PassState, IsOf, linked}
+use Rattle.sym_exec.specs.MipsTerms.{HasSeen, HasTree}
+use Rattle.term_table.specs.Trees.{Extends, HasLegalHistory}
 use Rattle.mblock.specs.BlockMeaning.{Shape, Goes, ChoosesPair, ChoosesZero, Calls, Returns, Prints, Halts}
 use Rattle.sym_terms.specs.NormalForms.{Address as TreeAddress}
 use Rattle.sym_exec.specs.declared.address.TermAddress.{TermAddress}

@@ -7,7 +7,7 @@ use Rattle.sym_terms.specs.declared.label.Label.TheVariants.{Mem0, Store}
 use Rattle.sym_terms.specs.Trees.{Tree, leaf, ternary}
 use Rattle.sym_terms.specs.NormalForms.{address_of, are_disjoint}
 use Rattle.term_table.specs.Passes.{PassState}
-use Rattle.term_table.specs.Trees.{HasTree}
+use Rattle.sym_exec.specs.MipsTerms.{HasTree}
 use Rattle.sym_exec.specs.declared.address.TermAddress.{TermAddress}
 use Rattle.sym_exec.specs.declared.stores.Stored.{Stored}
 use Rattle.sym_exec.specs.declared.stores.StoreChain.{StoreChain}

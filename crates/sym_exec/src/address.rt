@@ -2,8 +2,8 @@
 ghost use Rattle.std.specs.Prelude.{◌≡◌, IfOk, IfSome, IfNone};
 ghost use Rattle.sym_terms.specs.Trees.{Tree};
 ghost use Rattle.sym_terms.specs.NormalForms.{label_constant, constant_of, is_sum, at_base, address_of, tree_plus};
-ghost use Rattle.term_table.specs.Passes.{IsOf, HasSeen};
-ghost use Rattle.term_table.specs.Trees.{HasTree};
+ghost use Rattle.term_table.specs.Passes.{IsOf};
+ghost use Rattle.sym_exec.specs.MipsTerms.{HasSeen, HasTree};
 ghost use Rattle.sym_exec.specs.Standing.{AfterInterns, AfterReads, IsAddress, AreSummands};
 
 use crate::terms::{binary_term, leaf_term};

@@ -4,6 +4,12 @@
 //! define (`specs/Symbolic.antt`): what each register, HI, LO and memory hold at the end, the exit with
 //! its operands, and the guards. `specs/Standing.antt` says when tickets stand for trees, `specs/Stores.antt` what the
 //! run keeps of its stores. Memory is taken first (`RunRoom`), so the only error of a run is that the pass is full.
+//!
+//! What is promised:
+//! - `run_block` and `run_order` answer the tickets of `block_trees` and `order_trees` (`StandsFor`). The memory for
+//!   guards and stores is taken first (`RunRoom`), so their only error is `TableFull`, which comes only where the pass
+//!   has linked all it may. The stores that memory is made of are kept beside its term, so a load or a store walks them
+//!   once, without recursion.
 #![tactic(auto)]
 
 mod address;

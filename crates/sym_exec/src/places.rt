@@ -3,8 +3,8 @@ ghost use Rattle.std.specs.Prelude.{◌≡◌, ℕ, ◌<◌, ◌+◌, OnOk, IfOk
 ghost use Rattle.mips_isa.specs.declared.action.Action.TheVariants.{Computes, Loads, Stores, Multiplies, Divides};
 ghost use Rattle.mips_isa.specs.States.{put};
 ghost use Rattle.sym_terms.specs.Trees.{Tree, leaf};
-ghost use Rattle.term_table.specs.Passes.{IsOf, HasSeen};
-ghost use Rattle.term_table.specs.Trees.{HasTree};
+ghost use Rattle.term_table.specs.Passes.{IsOf};
+ghost use Rattle.sym_exec.specs.MipsTerms.{HasSeen, HasTree};
 ghost use Rattle.sym_exec.specs.Symbolic.{TreeState, register_tree, operand_tree, address_tree, trees_after};
 ghost use Rattle.sym_exec.specs.Standing.{AfterInterns, Known, Stands, with_reg};
 
@@ -22,7 +22,8 @@ use words::{Operator, Sign, Width};
 impl TermPlaces {
     ghost use Rattle.std.specs.Prelude.{◌≡◌, ℕ, ◌<◌, ◌+◌, OnOk, IfOk, slice_index, length, vec_len};
     ghost use Rattle.mblock.specs.declared.limits.TheConstants.{ORDER_INSTS};
-    ghost use Rattle.term_table.specs.Trees.{HasTree, HasLegalHistory};
+    ghost use Rattle.term_table.specs.Trees.{HasLegalHistory};
+    ghost use Rattle.sym_exec.specs.MipsTerms.{HasTree};
     ghost use Rattle.sym_exec.specs.Standing.{AfterInterns, Known, Stands, with_reg};
     ghost use Rattle.sym_exec.specs.Stores.{IsChain, HasStoreRoom};
 

@@ -5,8 +5,9 @@ ghost use Rattle.mblock.specs.declared.limits.TheConstants.{ORDER_INSTS};
 ghost use Rattle.sym_terms.specs.declared.label.Label.TheVariants.{Load};
 ghost use Rattle.sym_terms.specs.Trees.{Tree, binary};
 ghost use Rattle.sym_terms.specs.NormalForms.{address_of, are_disjoint, load_tree, store_tree};
-ghost use Rattle.term_table.specs.Passes.{PassState, IsOf, HasSeen};
-ghost use Rattle.term_table.specs.Trees.{HasTree, HasLegalHistory};
+ghost use Rattle.term_table.specs.Passes.{PassState, IsOf};
+ghost use Rattle.sym_exec.specs.MipsTerms.{HasSeen, HasTree};
+ghost use Rattle.term_table.specs.Trees.{HasLegalHistory};
 ghost use Rattle.sym_exec.specs.Standing.{AfterInterns, IsAddress};
 ghost use Rattle.sym_exec.specs.Stores.{passes, passes_inward, Makes, IsChain, Rebuilds, HasStoreRoom};
 
@@ -88,8 +89,9 @@ impl StoreChain {
     ghost use Rattle.sym_terms.specs.Trees.{Tree, ternary};
     ghost use Rattle.sym_terms.specs.declared.label.Label.TheVariants.{Store};
     ghost use Rattle.sym_terms.specs.NormalForms.{address_of, load_tree, store_tree};
-    ghost use Rattle.term_table.specs.Passes.{PassState, IsOf, HasSeen};
-    ghost use Rattle.term_table.specs.Trees.{HasTree, HasLegalHistory};
+    ghost use Rattle.term_table.specs.Passes.{PassState, IsOf};
+    ghost use Rattle.sym_exec.specs.MipsTerms.{HasSeen, HasTree};
+    ghost use Rattle.term_table.specs.Trees.{HasLegalHistory};
     ghost use Rattle.sym_exec.specs.Standing.{AfterInterns, IsAddress};
     ghost use Rattle.sym_exec.specs.Stores.{Makes, IsChain, Rebuilds, HasStoreRoom};
 

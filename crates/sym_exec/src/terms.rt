@@ -2,8 +2,9 @@
 ghost use Rattle.std.specs.Prelude.{◌≡◌, ℕ, IfOk};
 ghost use Rattle.sym_terms.specs.Trees.{Tree, leaf, binary, ternary};
 ghost use Rattle.sym_terms.specs.NormalForms.{constant_of, is_addition, sum_tree, op_tree};
-ghost use Rattle.term_table.specs.Passes.{IsOf, HasSeen};
-ghost use Rattle.term_table.specs.Trees.{HasTree, HasLegalHistory};
+ghost use Rattle.term_table.specs.Passes.{IsOf};
+ghost use Rattle.sym_exec.specs.MipsTerms.{HasSeen, HasTree};
+ghost use Rattle.term_table.specs.Trees.{HasLegalHistory};
 ghost use Rattle.sym_exec.specs.Standing.{AfterInterns};
 
 use crate::address::{address_at, constant_at, plus_term};

@@ -8,6 +8,7 @@ use Rattle.words.specs.declared.width.Width.TheVariants.{Word, Byte}
 use Rattle.sym_terms.specs.declared.label.Origin.{Origin}
 use Rattle.sym_terms.specs.declared.label.Origin.TheVariants.{Register, Hi, Lo, Link}
 use Rattle.sym_terms.specs.declared.label.Label.{Label}
+use Rattle.term_labels.specs.Codings.{Coding}
 use Rattle.sym_terms.specs.declared.label.Label.TheVariants.{Init, Mem0, Const, Op, Load, Store}
 
 abbrev pub operator_code : Operator → ℕ
@@ -110,3 +111,6 @@ label_in kind content =
 -- the label that has this word
 abbrev pub label_with : ℕ → Option Label
 label_with w = label_in (w / 2 ^ 32) (w % 2 ^ 32)
+
+abbrev pub label_coding : Coding Label
+label_coding = record { word = label_word; is_label = is_label; label_with = label_with }

@@ -4,3 +4,4 @@ pub mod Sameness
 pub mod NormalForms
 pub mod Values
 pub mod Laws
+pub mod Back

@@ -1,20 +1,10 @@
 -- Terms as plain trees: a label over a list of trees.
+use Rattle.term_labels.specs.Trees as trees
+pub use Rattle.term_labels.specs.Trees.{node, none, more, leaf, binary, ternary}
 use Rattle.sym_terms.specs.declared.label.Label.{Label}
 
-mutual
-  pub data Tree : Type 0 where
-    node : Label → Trees → Tree
+abbrev pub Tree : Type 0
+Tree = trees.Tree Label
 
-  pub data Trees : Type 0 where
-    none : Trees
-    more : Tree → Trees → Trees
-
--- a tree with no children, with two, and with three
-abbrev pub leaf : Label → Tree
-leaf label = node label none
-
-abbrev pub binary : Label → Tree → Tree → Tree
-binary label x y = node label (more x (more y none))
-
-abbrev pub ternary : Label → Tree → Tree → Tree → Tree
-ternary label x y z = node label (more x (more y (more z none)))
+abbrev pub Trees : Type 0
+Trees = trees.Trees Label

@@ -188,3 +188,20 @@ pub fn label_of(word: u64) -> Option<Label>
         _ => None,
     }
 }
+
+impl term_labels::Label for Label {
+    ghost use Rattle.sym_terms.specs.Labels.{label_coding};
+    ghost use Rattle.sym_terms.specs.Back.{label_with-back};
+
+    ghost coding = { label_coding };
+
+    fn word(self) -> u64 {
+        word_of(self)
+    }
+
+    fn of_word(word: u64) -> Option<Label> {
+        label_of(word)
+    }
+
+    ghost back = { label_with-back };
+}

@@ -8,8 +8,6 @@ use mathlib.Core.Logic.{dite}
 use mathlib.Core.Option.{some}
 use lib.ListN.{get_elem?}
 use prog.Atomic.{either}
-use Rattle.sym_terms.specs.Labels.{label_word, label_with}
-use Rattle.sym_terms.proofs.Back.{label_with-back}
 use Rattle.term_core.specs.declared.Call.{Call}
 use Rattle.term_core.specs.declared.Call.TheVariants.{Intern, Find, Read}
 use Rattle.term_core.specs.declared.Answer.{Answer}
@@ -18,13 +16,13 @@ use Rattle.term_core.specs.declared.Entry.{Entry}
 use Rattle.term_core.specs.declared.Stage.{Stage}
 use Rattle.term_core.specs.declared.Stage.TheVariants.{Idle, Looking, AtLink, AtContent, Writing, Linking, Reading}
 use Rattle.term_core.specs.declared.Walker.{Walker}
-use Rattle.sym_terms.specs.Trees.{Tree}
+use Rattle.term_labels.specs.WordTrees.{Tree}
 use Rattle.term_core.specs.Terms.{Pair, tree_at, tree_over, node_if, is_there, pair_if, added_by, adds, pairs_of, Has}
 use Rattle.term_core.specs.Terms.{MayAnswer, calls_by}
 use Rattle.term_core.specs.World.{Shape, IsShape, World, Item, Choice, begins, looks, Turn, world_of, world_after, start, step, does, acts}
 use Rattle.term_core.specs.World.{steps, step_start, step_start_at, call_start, may_begin, all_occur, at_most_three, first_stage, is_idle, place}
 use Rattle.term_core.specs.World.{place_at, becomes, becomes_at, turn, turn_at, goes, ends, entry, follows, turn_without_node, turn_of_exchange, content}
-use Rattle.term_core.specs.World.{hit, read_answer, answer_of, fresh, fresh_from, link_of}
+use Rattle.term_core.specs.World.{hit, answer_of, fresh, fresh_from, link_of}
 use Rattle.term_core.proofs.Replay.{IsThere, One, one_of, there_from, tree_later, pairs_append, pairs_more, same_from, legal_front, tree_more}
 use Rattle.term_core.proofs.Chains.{Mem, mem_here, mem_cases, Linked, end_of, end_cases, end_snoc, linked_rest, linked_none, linked_some}
 use Rattle.term_core.proofs.Chains.{linked_frame, at_same, at_other, set_itself}
@@ -111,7 +109,6 @@ module _ (s : Shape) (ok : IsShape s) (w : World) (inv : Inv s w) (p : ℕ) (v :
             post = k.post;
             walk = record {
               searches = k.walk.searches;
-              proper = k.walk.proper;
               trees = k.walk.trees;
               known = k.walk.known;
               three =
@@ -129,7 +126,6 @@ module _ (s : Shape) (ok : IsShape s) (w : World) (inv : Inv s w) (p : ℕ) (v :
             post = k.post;
             walk = record {
               searches = k.walk.searches;
-              proper = k.walk.proper;
               trees = k.walk.trees;
               known = k.walk.known;
               three =
@@ -154,7 +150,7 @@ module _ (s : Shape) (ok : IsShape s) (w : World) (inv : Inv s w) (p : ℕ) (v :
   none_next (Read t) wr a k e = absurd k.walk.searches
 
   chain_low : (c : Call) → chain_of s c < s.heads
-  chain_low c = ok.1 (label_word (label_of c)) (kids_of c)
+  chain_low c = ok.1 (label_of c) (kids_of c)
 
   rest_linked : (c : Call) (wr : Bool) (pre post : List ℕ) (a : ℕ) → Walk s w.words ps chains b c wr pre post
       → a ≡ end_of s (chain_of s c) pre → Linked s w.words a post
@@ -174,7 +170,6 @@ module _ (s : Shape) (ok : IsShape s) (w : World) (inv : Inv s w) (p : ℕ) (v :
         post = r.0;
         walk = record {
           searches = k.walk.searches;
-          proper = k.walk.proper;
           trees = k.walk.trees;
           known = k.walk.known;
           three =
@@ -220,7 +215,6 @@ module _ (s : Shape) (ok : IsShape s) (w : World) (inv : Inv s w) (p : ℕ) (v :
         post = o.post;
         walk = record {
           searches = o.walk.searches;
-          proper = o.walk.proper;
           trees = o.walk.trees;
           known = o.walk.known;
           three = o.walk.three;
@@ -248,7 +242,6 @@ module _ (s : Shape) (ok : IsShape s) (w : World) (inv : Inv s w) (p : ℕ) (v :
       same_walk : Walk s w.words ps chains (record b { stage = AtContent c wr k (suc i); probes = b.probes }) c wr o.pre (k ∷ o.post)
       same_walk = record {
         searches = o.walk.searches;
-        proper = o.walk.proper;
         trees = o.walk.trees;
         known = o.walk.known;
         three =
@@ -329,7 +322,6 @@ module _ (s : Shape) (ok : IsShape s) (w : World) (inv : Inv s w) (p : ℕ) (v :
           let r = inv.shared.there t x e in let o = r.0 in (
             record {
               label = o.label;
-              proper = o.proper;
               kids = o.kids;
               trees = o.trees;
               tree_is = o.tree_is;
@@ -358,7 +350,6 @@ module _ (s : Shape) (ok : IsShape s) (w : World) (inv : Inv s w) (p : ℕ) (v :
       post = k.post;
       walk = record {
         searches = k.walk.searches;
-        proper = k.walk.proper;
         trees = k.walk.trees;
         known = k.walk.known;
         three = k.walk.three;
@@ -377,7 +368,6 @@ module _ (s : Shape) (ok : IsShape s) (w : World) (inv : Inv s w) (p : ℕ) (v :
       post = k.post;
       walk = record {
         searches = k.walk.searches;
-        proper = k.walk.proper;
         trees = k.walk.trees;
         known = k.walk.known;
         three = k.walk.three;
@@ -428,7 +418,6 @@ module _ (s : Shape) (ok : IsShape s) (w : World) (inv : Inv s w) (p : ℕ) (v :
         post = r.0;
         walk = record {
           searches = k.walk.searches;
-          proper = k.walk.proper;
           trees = k.walk.trees;
           known = k.walk.known;
           three =
@@ -488,15 +477,14 @@ module _ (s : Shape) (ok : IsShape s) (w : World) (inv : Inv s w) (p : ℕ) (v :
           let o = (inv.shared.there t x.0 x.1).0 in
           let y0 = loaded_word 0 (omega arith) in let y1 = loaded_word 1 (omega arith) in let y2 = loaded_word 2 (omega arith) in let y3 =
           loaded_word 3 (omega arith) in
-          let l : label_with (slice_index (xs ++ n ∷ []) 0) ≡ Some o.label =
-          ap label_with (y0 ∙ Rattle.term_core.proofs.Keys.label_is s w.words t o.label o.kids o.three o.holds) ∙ label_with-back o.label o.proper in
+          let l : slice_index (xs ++ n ∷ []) 0 ≡ o.label = y0 ∙ Rattle.term_core.proofs.Keys.label_is s w.words t o.label o.kids o.three o.holds in
           let ks : Rattle.term_core.specs.World.kid_in (slice_index (xs ++ n ∷ []) 1)
           (Rattle.term_core.specs.World.kid_in (slice_index (xs ++ n ∷ []) 2)
           (Rattle.term_core.specs.World.kid_in (slice_index (xs ++ n ∷ []) 3) [])) ≡ o.kids
           = (λ i. Rattle.term_core.specs.World.kid_in (y1 i)
           (Rattle.term_core.specs.World.kid_in (y2 i) (Rattle.term_core.specs.World.kid_in (y3 i) [])))
           ∙ Rattle.term_core.proofs.Keys.kids_is s w.words t o.label o.kids o.three o.holds in
-          let said : answer_of (xs ++ n ∷ []) ≡ Node o.label o.kids = λ i. read_answer (l i) (ks i) in
+          let said : answer_of (xs ++ n ∷ []) ≡ Node o.label o.kids = λ i. Node (l i) (ks i) in
           subst (MayAnswer s.nodes ps b.by (Read t)) (sym said) (x.0, x.1, ap (node_if o.label) o.kids_are ∙ ap Some (sym o.tree_is))
 
   -- a look: the pass sees more of the history

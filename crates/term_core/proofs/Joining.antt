@@ -6,13 +6,12 @@ use native.Mathlib.Decide.{ℕ_discrete}
 use mathlib.Core.Logic.{dite}
 use mathlib.Core.Option.{some}
 use lib.ListN.{get_elem?}
-use Rattle.sym_terms.specs.Labels.{label_word}
 use Rattle.term_core.specs.declared.Call.{Call}
 use Rattle.term_core.specs.declared.Call.TheVariants.{Intern, Find, Read}
 use Rattle.term_core.specs.declared.Answer.TheVariants.{Ticket}
 use Rattle.term_core.specs.declared.Entry.{Entry}
 use Rattle.term_core.specs.declared.Walker.{Walker}
-use Rattle.sym_terms.specs.Trees.{Tree}
+use Rattle.term_labels.specs.WordTrees.{Tree}
 use Rattle.term_core.specs.Terms.{Pair, tree_at, trees_at, tree_over, is_there, pair_if, added_by, adds, pairs_of, Has}
 use Rattle.term_core.specs.World.{Shape, IsShape, World, link_of, content, content_of, entry, ends}
 use Rattle.term_core.proofs.Replay.{IsThere, one_of, maybe, tree_more, tree_new, trees_more, added_append}
@@ -64,7 +63,7 @@ module _ (s : Shape) (ok : IsShape s) (w : World) (inv : Inv s w) (p : ℕ) (v :
   chains' i = cond (i == C) (inv.chains C ++ own ∷ []) (inv.chains i)
 
   C_low : C < s.heads
-  C_low = ok.1 (label_word (label_of c)) (kids_of c)
+  C_low = ok.1 (label_of c) (kids_of c)
 
   some_room : 0 < b.room
   some_room = (k.walk.wrote refl).1
@@ -200,7 +199,6 @@ module _ (s : Shape) (ok : IsShape s) (w : World) (inv : Inv s w) (p : ℕ) (v :
       subst (λ (n : ℕ). R n x) (sym q) (subst (λ (y : Tree). R own y) g (
         record {
           label = label_of c;
-          proper = k.walk.proper;
           kids = kids_of c;
           trees = k.walk.trees;
           tree_is = refl;
@@ -219,7 +217,6 @@ module _ (s : Shape) (ok : IsShape s) (w : World) (inv : Inv s w) (p : ℕ) (v :
       let o = r.0 in (
         record {
           label = o.label;
-          proper = o.proper;
           kids = o.kids;
           trees = o.trees;
           tree_is = sym g ∙ o.tree_is;

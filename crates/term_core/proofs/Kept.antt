@@ -4,16 +4,13 @@ use Rattle.std.proofs.Common.{length, slice_index, slice_set, Option, Some, None
 use Rattle.std.proofs.Common.{append-nil, arith}
 use mathlib.Core.Option.{some}
 use lib.ListN.{get_elem?}
-use Rattle.sym_terms.specs.declared.label.Label.{Label}
-use Rattle.sym_terms.specs.declared.label.Label.TheVariants.{Mem0}
-use Rattle.sym_terms.specs.Labels.{label_word, is_label}
 use Rattle.term_core.specs.declared.Call.{Call}
 use Rattle.term_core.specs.declared.Call.TheVariants.{Intern, Find, Read}
 use Rattle.term_core.specs.declared.Entry.{Entry}
 use Rattle.term_core.specs.declared.Stage.{Stage}
 use Rattle.term_core.specs.declared.Stage.TheVariants.{Idle, Looking, AtLink, AtContent, Writing, Linking, Reading}
 use Rattle.term_core.specs.declared.Walker.{Walker}
-use Rattle.sym_terms.specs.Trees.{Tree, Trees, node}
+use Rattle.term_labels.specs.WordTrees.{Tree, Trees, node}
 use Rattle.term_core.specs.Terms.{Pair, tree_at, trees_at, added_by, pairs_of, IsLegal, calls_by, StartsWith}
 use Rattle.term_core.specs.World.{Shape, World, link_of, kid_in, content_of, content, at_most_three}
 use Rattle.term_core.proofs.Replay.{IsThere}
@@ -34,8 +31,7 @@ abbrev pub home : Shape → List ℕ → ℕ → ℕ
 home s words t = s.chain (word s words t 0) (kids_at s words t)
 
 pub record Stored (s : Shape) (words : List ℕ) (ps : List Pair) (t : ℕ) (x : Tree) : Type 0 where
-  pub label : Label
-  pub proper : is_label label ≡ true
+  pub label : ℕ
   pub kids : List ℕ
   pub trees : Trees
   pub tree_is : x ≡ node label trees
@@ -51,10 +47,10 @@ pub record Shared (s : Shape) (words : List ℕ) (ps : List Pair) (chains : ℕ 
   pub few : (c : ℕ) → length (chains c) ≤ length ps
   pub long : length words ≡ s.heads + 5 * (s.workers * s.nodes)
 
-abbrev pub label_of : Call → Label
+abbrev pub label_of : Call → ℕ
 label_of (Intern l ks) = l
 label_of (Find l ks) = l
-label_of (Read t) = Mem0
+label_of (Read t) = 0
 
 abbrev pub kids_of : Call → List ℕ
 kids_of (Intern l ks) = ks
@@ -72,12 +68,11 @@ Interns (Find l ks) = ⊥
 Interns (Read t) = ⊥
 
 abbrev pub chain_of : Shape → Call → ℕ
-chain_of s c = s.chain (label_word (label_of c)) (kids_of c)
+chain_of s c = s.chain (label_of c) (kids_of c)
 
 -- the nodes pre of the chain were compared and differ, and post is the rest
 pub record Walk (s : Shape) (words : List ℕ) (ps : List Pair) (chains : ℕ → List ℕ) (v : Walker) (c : Call) (w : Bool) (pre post : List ℕ) : Type 0 where
   pub searches : Searches c
-  pub proper : is_label (label_of c) ≡ true
   pub trees : Trees
   pub known : trees_at ps (kids_of c) ≡ Some trees
   pub three : at_most_three (kids_of c) ≡ true
@@ -199,7 +194,6 @@ module _ (s : Shape) (p : ℕ) (words words' : List ℕ) (h h' : List Entry) (ch
       → Walk s words' (pairs_of h') chains' v c w pre (post ++ (d.grows (chain_of s c)).0)
   walk_stays v c w pre post own k = record {
     searches = k.searches;
-    proper = k.proper;
     trees = k.trees;
     known = trees_stay (pairs_of h) (pairs_of h') d.trees (kids_of c) k.trees k.known;
     three = k.three;

@@ -1,12 +1,9 @@
 -- A tree is there exactly where a node of its chain has its content.
 use Rattle.std.proofs.Common.{◌≡◌, ℕ, Bool, true, false, List, [], ◌∷◌, ◌++◌, Some, refl, sym, ap, subst, ◌∙◌, append-nil, arith}
-use Rattle.sym_terms.specs.declared.label.Label.{Label}
-use Rattle.sym_terms.specs.Labels.{label_word}
-use Rattle.sym_terms.proofs.Back.{one_label}
 use Rattle.term_core.specs.declared.Call.{Call}
 use Rattle.term_core.specs.declared.Call.TheVariants.{Intern, Find, Read}
 use Rattle.term_core.specs.declared.Walker.{Walker}
-use Rattle.sym_terms.specs.Trees.{Tree, node}
+use Rattle.term_labels.specs.WordTrees.{Tree, node}
 use Rattle.term_core.specs.Terms.{Pair, tree_at, trees_at, tree_over, node_if, Has}
 use Rattle.term_core.specs.World.{Shape, kid_in, kid_word, content_of, content, at_most_three}
 use Rattle.term_core.proofs.Replay.{One, one_kids}
@@ -28,8 +25,8 @@ content_is (Intern l ks) h = refl
 content_is (Find l ks) h = refl
 content_is (Read t) h = absurd h
 
-module _ (s : Shape) (words : List ℕ) (t : ℕ) (l : Label) (ks : List ℕ) (three : at_most_three ks ≡ true) (same : SameAs s words t (content_of l ks)) where
-  pub label_is : word s words t 0 ≡ label_word l
+module _ (s : Shape) (words : List ℕ) (t : ℕ) (l : ℕ) (ks : List ℕ) (three : at_most_three ks ≡ true) (same : SameAs s words t (content_of l ks)) where
+  pub label_is : word s words t 0 ≡ l
   label_is = same 0 (omega arith)
 
   pub kids_is : kids_at s words t ≡ ks
@@ -39,7 +36,7 @@ module _ (s : Shape) (words : List ℕ) (t : ℕ) (l : Label) (ks : List ℕ) (t
       let c : word s words t 3 ≡ kid_word ks 2 = same 3 (omega arith) in
       (λ i. kid_in (a i) (kid_in (b i) (kid_in (c i) []))) ∙ kids_back ks three
 
-  pub home_is : home s words t ≡ s.chain (label_word l) ks
+  pub home_is : home s words t ≡ s.chain l ks
   home_is = λ i. s.chain (label_is i) (kids_is i)
 
 module _ (s : Shape) (words : List ℕ) (ps : List Pair) (chains : ℕ → List ℕ) (sh : Shared s words ps chains) (v : Walker) (c : Call)
@@ -57,9 +54,7 @@ module _ (s : Shape) (words : List ℕ) (ps : List Pair) (chains : ℕ → List 
       let st = (sh.there t at.0 at.1).0 in
       let P : List ℕ → Type 0 = λ row. SameAs s words t row in
       let mine : SameAs s words t (content_of (label_of c) (kids_of c)) = subst P (content_is c k.searches) same in
-      let lw : label_word st.label ≡ label_word (label_of c) = sym (label_is s words t st.label st.kids st.three st.holds)
-      ∙ label_is s words t (label_of c) (kids_of c) k.three mine in
-      let l : st.label ≡ label_of c = one_label st.label (label_of c) st.proper k.proper lw in
+      let l : st.label ≡ label_of c = sym (label_is s words t st.label st.kids st.three st.holds) ∙ label_is s words t (label_of c) (kids_of c) k.three mine in
       let ks : st.kids ≡ kids_of c = sym (kids_is s words t st.label st.kids st.three st.holds) ∙ kids_is s words t (label_of c) (kids_of c) k.three mine in
       let q : Some st.trees ≡ Some k.trees = sym st.kids_are ∙ (ap (trees_at ps) ks ∙ k.known) in
       let ts : st.trees ≡ k.trees = cc in

@@ -1,13 +1,12 @@
 -- What the last entry of a legal history says.
 use Rattle.std.proofs.Common.{◌≡◌, ℕ, ◌+◌, ◌<◌, ◌≤◌, ◌==◌, Bool, true, false, cond, List, [], ◌∷◌, ◌++◌, Option, Some, None, refl, sym, ap}
 use Rattle.std.proofs.Common.{subst, ◌∙◌, ⊎_elim, eq-eqb, arith}
-use Rattle.sym_terms.specs.declared.label.Label.{Label}
 use Rattle.term_core.specs.declared.Call.{Call}
 use Rattle.term_core.specs.declared.Call.TheVariants.{Intern, Find, Read}
 use Rattle.term_core.specs.declared.Answer.{Answer}
 use Rattle.term_core.specs.declared.Answer.TheVariants.{Ticket, Full, Found, Missing, Node}
 use Rattle.term_core.specs.declared.Entry.{Entry}
-use Rattle.sym_terms.specs.Trees.{Tree}
+use Rattle.term_labels.specs.WordTrees.{Tree}
 use Rattle.term_core.specs.Terms.{Pair, tree_at, tree_over, Has, added_by, is_there, pair_if, adds, pairs_after, pairs_from, pairs_of}
 use Rattle.term_core.specs.Terms.{MayAnswer, legal_from, IsLegal}
 use Rattle.term_core.proofs.Replay.{tree_more, tree_new, pairs_append, added_append, eqb_eq}
@@ -24,13 +23,13 @@ pub pairs_last : (h : List Entry) (e : Entry) → pairs_of (h ++ e ∷ []) ≡ p
 pairs_last h e = pairs_append [] h (e ∷ [])
 
 -- a ticket whose tree was not there names the new pair
-pub added_row : (ps : List Pair) (by : ℕ) (l : Label) (ks : List ℕ) (t : ℕ) (x : Tree) → tree_over ps l ks ≡ Some x → tree_at ps t ≡ None
+pub added_row : (ps : List Pair) (by : ℕ) (l : ℕ) (ks : List ℕ) (t : ℕ) (x : Tree) → tree_over ps l ks ≡ Some x → tree_at ps t ≡ None
     → adds ps by (Intern l ks) (Ticket t) ≡ record { tree = x; ticket = t; by = by } ∷ []
 added_row ps by l ks t x over none = ap (λ (o : Option Tree). cond (is_there o) [] (pair_if (tree_over ps l ks) t by)) none
     ∙ ap (λ (o : Option Tree). pair_if o t by) over
 
 -- a ticket that an intern answers has the tree of the call
-pub ticket_tree : (n : ℕ) (ps : List Pair) (by : ℕ) (l : Label) (ks : List ℕ) (t : ℕ) (x : Tree)
+pub ticket_tree : (n : ℕ) (ps : List Pair) (by : ℕ) (l : ℕ) (ks : List ℕ) (t : ℕ) (x : Tree)
     → MayAnswer n ps by (Intern l ks) (Ticket t) → tree_over ps l ks ≡ Some x → tree_at (ps ++ adds ps by (Intern l ks) (Ticket t)) t ≡ Some x
 ticket_tree n ps by l ks t x ans over = (⊎_elim
     (λ (e : tree_at ps t ≡ Some ans.0). tree_more ps (adds ps by (Intern l ks) (Ticket t)) t ans.0 e)

@@ -1,6 +1,5 @@
 -- Each step is on a word that its kind may be on.
 use Rattle.std.proofs.Common.{◌≡◌, ℕ, List, ◌++◌, length, refl, sym, ◌∙◌, subst, inl, inr, ⊎_elim, arith}
-use Rattle.sym_terms.specs.Labels.{label_word}
 use Rattle.term_core.specs.declared.Call.{Call}
 use Rattle.term_core.specs.declared.Stage.{Stage}
 use Rattle.term_core.specs.declared.Stage.TheVariants.{Idle, Looking, AtLink, AtContent, Writing, Linking, Reading}
@@ -20,7 +19,7 @@ module _ (s : Shape) (ok : IsShape s) (w : World) (inv : Inv s w) where
   -- the link behind the nodes that a walk has passed
   end_reached : (c : Call) (pre post : List ℕ) (a : ℕ) → inv.chains (chain_of s c) ≡ pre ++ post → a ≡ end_of s (chain_of s c) pre → IsReachedLink s w a
   end_reached c pre post a split at = ⊎_elim
-      (λ (e : end_of s (chain_of s c) pre ≡ chain_of s c). let low = ok.1 (label_word (label_of c)) (kids_of c) in inl (omega arith))
+      (λ (e : end_of s (chain_of s c) pre ≡ chain_of s c). let low = ok.1 (label_of c) (kids_of c) in inl (omega arith))
       (λ (e : (n : ℕ) × Mem n pre × (end_of s (chain_of s c) pre ≡ link_of s n)).
       let t = there_in (chain_of s c) e.0 (subst (Mem e.0) (sym split) (mem_left e.0 pre post e.1)) in inr (e.0, t.0, t.1, at ∙ e.2))
       (end_cases s (chain_of s c) pre)

@@ -5,14 +5,13 @@ use Rattle.std.proofs.Common.{inl, inr, ⊎_elim, append_assoc, append-nil, leng
 use Rattle.std.proofs.lemmas.List.{length-replicate, append_cancel_left}
 use mathlib.Core.Option.{some, none, some-injective, some-ne-none}
 use lib.ListN.{get_elem?}
-use Rattle.sym_terms.specs.Labels.{label_word, is_label}
 use Rattle.term_core.specs.declared.Call.{Call}
 use Rattle.term_core.specs.declared.Call.TheVariants.{Intern, Find, Read}
 use Rattle.term_core.specs.declared.Entry.{Entry}
 use Rattle.term_core.specs.declared.Stage.{Stage}
 use Rattle.term_core.specs.declared.Stage.TheVariants.{Idle, Looking, AtLink, AtContent, Writing, Linking, Reading}
 use Rattle.term_core.specs.declared.Walker.{Walker}
-use Rattle.sym_terms.specs.Trees.{Tree, Trees, node}
+use Rattle.term_labels.specs.WordTrees.{Tree, Trees, node}
 use Rattle.term_core.specs.Terms.{Pair, tree_at, trees_at, tree_over, node_if, is_there, pair_if, added_by, adds, pairs_of, pairs_from, Has}
 use Rattle.term_core.specs.Terms.{MayAnswer, IsLegal, calls_by, StartsWith, occurs}
 use Rattle.term_core.specs.World.{Shape, IsShape, World, Item, Choice, begins, looks, world_of, world_after, start, step, does, acts}
@@ -33,12 +32,12 @@ both_true false b e = absurd (let f : false ≡ true = e in cc)
 
 all_known : (rows : List Pair) (h : List Entry) → ((t : ℕ) → occurs h t ≡ true → IsThere rows t) → (ts : List ℕ) → all_occur h ts ≡ true
     → (xs : Trees) × (trees_at rows ts ≡ Some xs)
-all_known rows h f [] e = (Rattle.sym_terms.specs.Trees.none, refl)
+all_known rows h f [] e = (Rattle.term_labels.specs.WordTrees.none, refl)
 all_known rows h f (t ∷ ts) e =
     let q = both_true (occurs h t) (all_occur h ts) e in
     let x = f t q.0 in
     let xs = all_known rows h f ts q.1 in
-    (Rattle.sym_terms.specs.Trees.more x.0 xs.0, (λ i. Rattle.term_core.specs.Terms.more_if (x.1 i) (xs.1 i)))
+    (Rattle.term_labels.specs.WordTrees.more x.0 xs.0, (λ i. Rattle.term_core.specs.Terms.more_if (x.1 i) (xs.1 i)))
 
 module _ (s : Shape) (ok : IsShape s) (w : World) (inv : Inv s w) (p : ℕ) (v : Walker) (at : get_elem? w.passes p ≡ some v) where
   st : Stands s w.words w.history inv.chains p v
@@ -73,18 +72,16 @@ module _ (s : Shape) (ok : IsShape s) (w : World) (inv : Inv s w) (p : ℕ) (v :
         spot = k;
       }
 
-  at_start : (c : Call) → Searches c → is_label (label_of c) && (at_most_three (kids_of c) && all_occur v.seen (kids_of c)) ≡ true
+  at_start : (c : Call) → Searches c → at_most_three (kids_of c) && all_occur v.seen (kids_of c) ≡ true
       → OnLink s w.words (pairs_of w.history) inv.chains (With (AtLink c false (chain_of s c)) 0) c false (chain_of s c)
   at_start c sc e =
-      let f = both_true (is_label (label_of c)) (at_most_three (kids_of c) && all_occur v.seen (kids_of c)) e in
-      let q = both_true (at_most_three (kids_of c)) (all_occur v.seen (kids_of c)) f.1 in
+      let q = both_true (at_most_three (kids_of c)) (all_occur v.seen (kids_of c)) e in
       let xs = all_known (pairs_of w.history) v.seen known (kids_of c) q.1 in
       record {
         pre = [];
         post = inv.chains (chain_of s c);
         walk = record {
           searches = sc;
-          proper = f.0;
           trees = xs.0;
           known = xs.1;
           three = q.0;
@@ -99,8 +96,8 @@ module _ (s : Shape) (ok : IsShape s) (w : World) (inv : Inv s w) (p : ℕ) (v :
 
   -- a pass that begins a call stands where it should
   begun_call : (c : Call) → may_begin v.seen c ≡ true → Stands s w.words w.history inv.chains p (With (first_stage s c) 0)
-  begun_call (Intern l ks) e = with_spot (AtLink (Intern l ks) false (s.chain (label_word l) ks)) 0 (omega arith) (at_start (Intern l ks) tt e)
-  begun_call (Find l ks) e = with_spot (AtLink (Find l ks) false (s.chain (label_word l) ks)) 0 (omega arith) (at_start (Find l ks) tt e)
+  begun_call (Intern l ks) e = with_spot (AtLink (Intern l ks) false (s.chain l ks)) 0 (omega arith) (at_start (Intern l ks) tt e)
+  begun_call (Find l ks) e = with_spot (AtLink (Find l ks) false (s.chain l ks)) 0 (omega arith) (at_start (Find l ks) tt e)
   begun_call (Read t) e =
       with_spot (Reading t []) 0 (omega arith) (record { there = known t e; below = omega arith; alike = λ j lt. absurd (omega arith); probes = refl })
 
@@ -234,7 +231,7 @@ module _ (s : Shape) (ok : IsShape s) (w : World) (inv : Inv s w) (p : ℕ) (v :
 
   end_below : (c : Call) (pre post : List ℕ) → inv.chains (chain_of s c) ≡ pre ++ post → end_of s (chain_of s c) pre < s.heads + 5 * (s.workers * s.nodes)
   end_below c pre post e = ⊎_elim
-      (λ (q : end_of s (chain_of s c) pre ≡ chain_of s c). let l = ok.1 (label_word (label_of c)) (kids_of c) in omega arith)
+      (λ (q : end_of s (chain_of s c) pre ≡ chain_of s c). let l = ok.1 (label_of c) (kids_of c) in omega arith)
       (λ (g : (n : ℕ) × Mem n pre × (end_of s (chain_of s c) pre ≡ link_of s n)). let q = g.2 in let l =
       node_below (chain_of s c) g.0
       (subst (λ (x : List ℕ). Mem g.0 x) (sym e) (Rattle.term_core.proofs.Chains.mem_left g.0 pre post g.1)) in omega arith)

@@ -4,8 +4,7 @@ use Rattle.std.proofs.Common.{◌∙◌, inl, inr, ⊎_elim, append_assoc, appen
 use mathlib.Core.Option.{some, none}
 use mathlib.Core.Option as O
 use lib.ListN.{get_elem?}
-use Rattle.sym_terms.specs.Trees.{Tree}
-use Rattle.sym_terms.specs.Labels.{label_word}
+use Rattle.term_labels.specs.WordTrees.{Tree}
 use Rattle.term_core.specs.declared.Entry.{Entry}
 use Rattle.term_core.specs.declared.Call.{Call}
 use Rattle.term_core.specs.declared.Stage.{Stage}
@@ -57,7 +56,7 @@ module _ (s : Shape) (items : List Item) (i : Item) (ok : IsShape s) where
       let inv = keeps_all s items ok in
       let at : OnLinking s w.words (pairs_of w.history) inv.chains v call a =
       subst (λ (g : Stage). Spot s w.words (pairs_of w.history) inv.chains v g) stage (inv.passes i.by v here).spot in
-      is_link s (chain_of s call) a at.pre (ok.1 (label_word (label_of call)) (kids_of call)) at.place_is
+      is_link s (chain_of s call) a at.pre (ok.1 (label_of call) (kids_of call)) at.place_is
 
   one_link : (o : O.Option Walker) → get_elem? w.passes i.by ≡ o → (a n : ℕ) → IsLink s a → slice_index w.words a ≡ suc n
       → slice_index (step s w i).words a ≡ suc n

@@ -1,7 +1,7 @@
 -- What one item does to the pass that it names, and to the others.
 use Rattle.std.specs.Prelude.{◌≡◌, ◌≢◌, ℕ, suc, ◌+◌, ◌<◌, ◌⊎◌, List, [], ◌∷◌, ◌++◌, Option, Some, None, slice_index}
 use mathlib.Core.Option.{some}
-use Rattle.sym_terms.specs.Trees.{Tree}
+use Rattle.term_labels.specs.WordTrees.{Tree}
 use lib.ListN.{get_elem?}
 use Rattle.term_core.specs.declared.Call.{Call}
 use Rattle.term_core.specs.declared.Call.TheVariants.{Read}

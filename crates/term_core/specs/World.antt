@@ -5,8 +5,6 @@ use Rattle.std.specs.Prelude.{slice_index, slice_set, replicate, Some, None}
 use mathlib.Core.Option.{Option, some, none}
 use lib.ListN.{get_elem?}
 use prog.Atomic.{either}
-use Rattle.sym_terms.specs.declared.label.Label.{Label}
-use Rattle.sym_terms.specs.Labels.{label_word, label_with, is_label}
 use Rattle.term_core.specs.declared.Call.{Call}
 use Rattle.term_core.specs.declared.Call.TheVariants.{Intern, Find, Read}
 use Rattle.term_core.specs.declared.Answer.{Answer}
@@ -37,8 +35,8 @@ kid_word [] i = 0
 kid_word (k ∷ ks) zero = suc k
 kid_word (k ∷ ks) (suc i) = kid_word ks i
 
-abbrev pub content_of : Label → List ℕ → List ℕ
-content_of label kids = label_word label ∷ kid_word kids 0 ∷ kid_word kids 1 ∷ kid_word kids 2 ∷ []
+abbrev pub content_of : ℕ → List ℕ → List ℕ
+content_of label kids = label ∷ kid_word kids 0 ∷ kid_word kids 1 ∷ kid_word kids 2 ∷ []
 
 abbrev pub content : Call → List ℕ
 content (Intern label kids) = content_of label kids
@@ -49,14 +47,9 @@ abbrev pub kid_in : ℕ → List ℕ → List ℕ
 kid_in zero ks = ks
 kid_in (suc k) ks = k ∷ ks
 
--- what a read answers; without a label that is what no read may answer
-abbrev pub read_answer : Rattle.std.specs.Prelude.Option Label → List ℕ → Answer
-read_answer (Some label) kids = Node label kids
-read_answer None kids = Missing
-
 -- what the four content words say
 abbrev pub answer_of : List ℕ → Answer
-answer_of words = read_answer (label_with (slice_index words 0)) (kid_in (slice_index words 1) (kid_in (slice_index words 2) (kid_in (slice_index words 3) [])))
+answer_of words = Node (slice_index words 0) (kid_in (slice_index words 1) (kid_in (slice_index words 2) (kid_in (slice_index words 3) [])))
 
 abbrev pub all_occur : List Entry → List ℕ → Bool
 all_occur h [] = true
@@ -71,8 +64,8 @@ at_most_three (a ∷ b ∷ c ∷ d ∷ ks) = false
 
 -- the caller's condition
 abbrev pub may_begin : List Entry → Call → Bool
-may_begin h (Intern label kids) = is_label label && (at_most_three kids && all_occur h kids)
-may_begin h (Find label kids) = is_label label && (at_most_three kids && all_occur h kids)
+may_begin h (Intern label kids) = at_most_three kids && all_occur h kids
+may_begin h (Find label kids) = at_most_three kids && all_occur h kids
 may_begin h (Read t) = occurs h t
 
 -- what a pass between calls does next
@@ -85,8 +78,8 @@ pub record Item : Type 0 where
   pub choice : Choice
 
 abbrev pub first_stage : Shape → Call → Stage
-first_stage s (Intern label kids) = AtLink (Intern label kids) false (s.chain (label_word label) kids)
-first_stage s (Find label kids) = AtLink (Find label kids) false (s.chain (label_word label) kids)
+first_stage s (Intern label kids) = AtLink (Intern label kids) false (s.chain label kids)
+first_stage s (Find label kids) = AtLink (Find label kids) false (s.chain label kids)
 first_stage s (Read t) = Reading t []
 
 abbrev pub call_start : Shape → Choice → Walker → Walker

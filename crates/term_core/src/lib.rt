@@ -6,6 +6,14 @@
 //! (the table of terms of one thread, its answers and its legal histories), `specs/World.antt`
 //! (passes, words, the four kinds of step), `specs/Law.antt` (what holds in each reached world),
 //! `specs/Items.antt` (what each item does).
+//!
+//! What is promised:
+//! - `term_core::any_schedule` is the theorem for every list of single steps: one legal history; an item ends one call
+//!   with one entry or goes on; no other pass changes; a link that names a node and the content of a linked node never
+//!   change. Each step is on a word that its kind may be on: a load of a link or an exchange at the head of a chain or
+//!   the link of a linked node, a load of content at a content word of a linked node, a store at one of the pass's next
+//!   node. Each step that the running table makes on content, each store and each exchange, and each load of a link
+//!   that a call makes, is one of the world's; that it makes no other load is by privacy (below).
 #![tactic(auto)]
 
 ghost use Rattle.std.specs.Prelude.{◌≡◌, ℕ, List};
@@ -14,14 +22,13 @@ ghost use Rattle.term_core.specs.Law.{Lawful};
 ghost use Rattle.term_core.specs.Items.{EachItemDoes, OthersStand, SeenAgree, WordsStay, LinksStay, ContentStays, EachStepHasItsPlace};
 
 use std::collections::LinkedList;
-use sym_terms::Label;
 
 /// A call on the table. Children and tickets are numbers.
 pub enum Call {
     /// The label, over the terms of these tickets.
-    Intern(Label, LinkedList<u64>),
+    Intern(u64, LinkedList<u64>),
     /// The same, but nothing is linked.
-    Find(Label, LinkedList<u64>),
+    Find(u64, LinkedList<u64>),
     /// The root of this ticket's term.
     Read(u64),
 }
@@ -37,7 +44,7 @@ pub enum Answer {
     /// A find: the term is not there.
     Missing,
     /// A read: the label, and the children's tickets.
-    Node(Label, LinkedList<u64>),
+    Node(u64, LinkedList<u64>),
 }
 
 /// A finished call, by the number of the pass that made it.

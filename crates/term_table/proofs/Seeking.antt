@@ -1,8 +1,6 @@
 -- What the single steps of a find and of a read tell.
 use Rattle.std.proofs.Common.{◌≡◌, ℕ, zero, suc, ◌-◌, ◌*◌, ◌<◌, ◌≢◌, Bool, true, false, cond, List, [], ◌∷◌, ◌++◌, length, refl, sym, ap}
 use Rattle.std.proofs.Common.{subst, ◌∙◌, ne_eqb, eq-eqb, arith}
-use Rattle.sym_terms.specs.declared.label.Label.{Label}
-use Rattle.sym_terms.specs.Labels.{label_word}
 use Rattle.atomic_table.specs.Table.{Me}
 use Rattle.term_core.specs.declared.Entry.{Entry}
 use Rattle.term_core.specs.declared.Answer.{Answer}
@@ -19,7 +17,7 @@ use Rattle.term_table.specs.Rule.{Moved, MovedFrom}
 use Rattle.term_table.specs.Calls.{inside, at, Ended, Sought}
 use Rattle.term_table.proofs.Steps.{paired, ended}
 
-module _ (s : Shape) (l : Label) (ks : List ℕ) (v : Walker) (told : List Entry) (p a : ℕ) where
+module _ (s : Shape) (l : ℕ) (ks : List ℕ) (v : Walker) (told : List Entry) (p a : ℕ) where
   abbrev c : Call
   c = Find l ks
 
@@ -46,8 +44,8 @@ module _ (s : Shape) (l : Label) (ks : List ℕ) (v : Walker) (told : List Entry
 starts_as : (s : Shape) (c : Call) (v : Walker) → (v.stage ≡ Idle) × (may_begin v.seen c ≡ true) → step_start s (begins c) v ≡ inside v (first_stage s c) 0
 starts_as s c v may = ap (step_start_at s (begins c) v) may.0 ∙ ap (λ (b : Bool). cond b (inside v (first_stage s c) 0) v) may.1
 
-pub first_sought : {S : Type 0} (s : Shape) (c : Call) (v : Walker) (told : List Entry) (a n : ℕ) (me : Me S View) (u : View) → (l : Label)
-    × (ks : List ℕ) × (c ≡ Find l ks) × (a ≡ s.chain (label_word l) ks) → (v.stage ≡ Idle) × (may_begin v.seen c ≡ true) → me ≡ (Walking v told, [])
+pub first_sought : {S : Type 0} (s : Shape) (c : Call) (v : Walker) (told : List Entry) (a n : ℕ) (me : Me S View) (u : View) → (l : ℕ)
+    × (ks : List ℕ) × (c ≡ Find l ks) × (a ≡ s.chain l ks) → (v.stage ≡ Idle) × (may_begin v.seen c ≡ true) → me ≡ (Walking v told, [])
     → MovedFrom s (begins c) me.0 n u → Sought s v told c n 1 u
 first_sought {S} s c v told a n me u call may is m =
     let l = call.0 in let ks = call.1 in
@@ -55,12 +53,12 @@ first_sought {S} s c v told a n me u call may is m =
     let P : Walker → Type 0 = λ b. (u ≡ Walking (turn s d.history n b).walker told)
     × Sees s (d.history ++ (turn s d.history n b).said) (turn s d.history n b).walker in
     let Q : Call → Type 0 = λ k. Sought s v told k n 1 u in
-    let goes_on : step_start s (begins c) v ≡ inside v (AtLink (Find l ks) false (s.chain (label_word l) ks)) 0 = starts_as s c v may
+    let goes_on : step_start s (begins c) v ≡ inside v (AtLink (Find l ks) false (s.chain l ks)) 0 = starts_as s c v may
     ∙ ap (λ (k : Call). inside v (first_stage s k) 0) call.2 in
     let r = subst P goes_on (d.view, d.sees) in
-    subst Q (sym call.2) (sought_follows s l ks v told 0 (s.chain (label_word l) ks) d.history n u d.begins r.0 r.1)
+    subst Q (sym call.2) (sought_follows s l ks v told 0 (s.chain l ks) d.history n u d.begins r.0 r.1)
 
-pub next_sought : {S : Type 0} (s : Shape) (c : Call) (v : Walker) (told : List Entry) (a n p : ℕ) (me : Me S View) (u : View) → (l : Label)
+pub next_sought : {S : Type 0} (s : Shape) (c : Call) (v : Walker) (told : List Entry) (a n p : ℕ) (me : Me S View) (u : View) → (l : ℕ)
     × (ks : List ℕ) × (c ≡ Find l ks) → me ≡ at v told (AtLink c false a) p
     → MovedFrom s (begins c) me.0 n u → Sought s v told c n (suc p) u
 next_sought {S} s c v told a n p me u call is m =

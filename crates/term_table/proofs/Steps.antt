@@ -1,8 +1,6 @@
 -- What the single steps of a call tell.
 use Rattle.std.proofs.Common.{◌≡◌, ℕ, zero, suc, ◌+◌, ◌-◌, ◌*◌, ◌<◌, ◌≤◌, ◌≢◌, ◌==◌, Bool, true, false, cond, List, [], ◌∷◌, ◌++◌}
 use Rattle.std.proofs.Common.{slice_index, refl, sym, ap, subst, ◌∙◌, ne_eqb, eq-eqb, arith}
-use Rattle.sym_terms.specs.declared.label.Label.{Label}
-use Rattle.sym_terms.specs.Labels.{label_word}
 use Rattle.atomic_table.specs.Table.{Me}
 use Rattle.term_core.specs.declared.Entry.{Entry}
 use Rattle.term_core.specs.declared.Answer.{Answer}
@@ -116,7 +114,7 @@ module _ {S : Type 0} (s : Shape) (c : Call) (v : Walker) (told : List Entry) (p
       ended s v x told d.history c (hit c k) me'.0 refl refl refl d.begins r.0 r.1
 
 -- the facts of a link that was loaded
-module _ (s : Shape) (l : Label) (ks : List ℕ) (v : Walker) (told : List Entry) (p : ℕ) (wr : Bool) (a : ℕ) where
+module _ (s : Shape) (l : ℕ) (ks : List ℕ) (v : Walker) (told : List Entry) (p : ℕ) (wr : Bool) (a : ℕ) where
   abbrev c : Call
   c = Intern l ks
 
@@ -163,8 +161,8 @@ module _ (s : Shape) (l : Label) (ks : List ℕ) (v : Walker) (told : List Entry
     own_low = sees.own_low;
   }
 
-pub first_arrived : {S : Type 0} (s : Shape) (c : Call) (v : Walker) (told : List Entry) (a n : ℕ) (me : Me S View) (u : View) → (l : Label)
-    × (ks : List ℕ) × (c ≡ Intern l ks) × (a ≡ s.chain (label_word l) ks) → (v.stage ≡ Idle) × (may_begin v.seen c ≡ true) → me ≡ (Walking v told, [])
+pub first_arrived : {S : Type 0} (s : Shape) (c : Call) (v : Walker) (told : List Entry) (a n : ℕ) (me : Me S View) (u : View) → (l : ℕ)
+    × (ks : List ℕ) × (c ≡ Intern l ks) × (a ≡ s.chain l ks) → (v.stage ≡ Idle) × (may_begin v.seen c ≡ true) → me ≡ (Walking v told, [])
     → MovedFrom s (begins c) me.0 n u → Arrived s v told c false a n 1 u
 first_arrived {S} s c v told a n me u call may is m =
     let l = call.0 in let ks = call.1 in
@@ -174,14 +172,14 @@ first_arrived {S} s c v told a n me u call may is m =
     let Q : Call → ℕ → Type 0 = λ k y. Arrived s v told k false y n 1 u in
     let starts : step_start s (begins c) v ≡ inside v (first_stage s c) 0 = ap (step_start_at s (begins c) v) may.0
     ∙ ap (λ (b : Bool). cond b (inside v (first_stage s c) 0) v) may.1 in
-    let goes_on : step_start s (begins c) v ≡ inside v (AtLink (Intern l ks) false (s.chain (label_word l) ks)) 0 = starts
+    let goes_on : step_start s (begins c) v ≡ inside v (AtLink (Intern l ks) false (s.chain l ks)) 0 = starts
     ∙ ap (λ (k : Call). inside v (first_stage s k) 0) call.2 in
     let r = subst P goes_on (d.view, d.sees) in
     subst (λ (k : Call). Q k a) (sym call.2)
-    (subst (λ (y : ℕ). Q (Intern l ks) y) (sym call.3) (after_follows s l ks v told 0 false (s.chain (label_word l) ks) d.history n u d.begins r.0 r.1))
+    (subst (λ (y : ℕ). Q (Intern l ks) y) (sym call.3) (after_follows s l ks v told 0 false (s.chain l ks) d.history n u d.begins r.0 r.1))
 
 pub next_arrived : {S : Type 0} (s : Shape) (c : Call) (v : Walker) (told : List Entry) (wr : Bool) (a n p : ℕ) (me : Me S View) (u : View)
-    → (l : Label) × (ks : List ℕ) × (c ≡ Intern l ks) → me ≡ at v told (AtLink c wr a) p
+    → (l : ℕ) × (ks : List ℕ) × (c ≡ Intern l ks) → me ≡ at v told (AtLink c wr a) p
     → MovedFrom s (begins c) me.0 n u → Arrived s v told c wr a n (suc p) u
 next_arrived {S} s c v told wr a n p me u call is m =
     let l = call.0 in let ks = call.1 in

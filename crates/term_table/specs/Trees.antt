@@ -1,7 +1,6 @@
 -- What the crates above say of a pass: which tree a ticket has, and that a pass has gone on.
 use Rattle.std.specs.Prelude.{◌≡◌, ℕ, List, [], ◌∷◌, Some}
-use Rattle.sym_terms.specs.declared.label.Label.{Label}
-use Rattle.sym_terms.specs.Trees.{Tree, Trees, node, none, more}
+use Rattle.term_labels.specs.WordTrees.{Tree, Trees, node, none, more}
 use Rattle.term_core.specs.Terms.{StartsWith, IsLegal, pairs_of, tree_at}
 use Rattle.term_table.specs.Passes.{PassState, HasSeen, IsSamePass}
 
@@ -31,7 +30,7 @@ abbrev pub IsAbsent : PassState → Tree → Type 0
 IsAbsent p x = (t : ℕ) → tree_at (pairs_of p.seen) t ≡ Some x → ⊥
 
 -- the tree is the label over the trees of these tickets
-pub record IsNode (p : PassState) (label : Label) (children : List ℕ) (x : Tree) : Type 0 where
+pub record IsNode (p : PassState) (label : ℕ) (children : List ℕ) (x : Tree) : Type 0 where
   pub trees : Trees
   pub tree : x ≡ node label trees
   pub have : HaveTrees p children trees

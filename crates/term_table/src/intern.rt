@@ -1,7 +1,5 @@
 //! A walk along a chain, which links a node of one's own where the term is not there.
 ghost use Rattle.std.specs.Prelude.{◌≡◌, ℕ, suc, ◌+◌, ◌-◌, ◌*◌, ◌<◌, ◌≤◌, true, false, List, [], ◌∷◌, slice_index};
-ghost use Rattle.sym_terms.specs.declared.label.Label.{Label};
-ghost use Rattle.sym_terms.specs.Labels.{label_word};
 ghost use Rattle.term_core.specs.declared.Stage.TheVariants.{Idle, AtLink, AtContent, Writing, Linking};
 ghost use Rattle.term_core.specs.declared.Answer.TheVariants.{Full, Ticket};
 ghost use Rattle.term_core.specs.World.{content, may_begin, link_of, hit, first_stage};
@@ -67,7 +65,7 @@ impl Nodes {
     pub(crate) fn first_link<C: Act>(&self, seat: &mut Seat<(), View>, chain: u64) -> u64
         requires table { (seat.old.table_id ≡ self.now.table.shared.table_id) × (C.shape ≡ shape_of self.now.size) }
         requires link { chain < self.now.size.heads + 5 * (self.now.size.workers * self.now.size.nodes) }
-        requires call { (l : Label) × (ks : List ℕ) × (C.call ≡ Intern l ks) × (chain ≡ C.shape.chain (label_word l) ks) }
+        requires call { (l : ℕ) × (ks : List ℕ) × (C.call ≡ Intern l ks) × (chain ≡ C.shape.chain l ks) }
         requires may { (C.start.stage ≡ Idle) × (may_begin C.start.seen C.call ≡ true) }
         requires before { seat.old.me ≡ (Walking C.start C.told, []) }
         ensures table { (seat.new.table_id ≡ seat.old.table_id) × (seat.new.me.1 ≡ []) }
@@ -86,7 +84,7 @@ impl Nodes {
     ) -> u64
         requires table { (seat.old.table_id ≡ self.now.table.shared.table_id) × (C.shape ≡ shape_of self.now.size) }
         requires link { link < self.now.size.heads + 5 * (self.now.size.workers * self.now.size.nodes) }
-        requires call { (l : Label) × (ks : List ℕ) × (C.call ≡ Intern l ks) }
+        requires call { (l : ℕ) × (ks : List ℕ) × (C.call ≡ Intern l ks) }
         requires before { seat.old.me ≡ at C.start C.told (AtLink C.call _written link) _probes }
         ensures table { (seat.new.table_id ≡ seat.old.table_id) × (seat.new.me.1 ≡ []) }
         ensures found { Arrived C.shape C.start C.told C.call _written link result (suc _probes) seat.new.me.0 }
@@ -150,7 +148,7 @@ impl Nodes {
     ) -> (InternEnd, u64)
         requires table { (seat.old.table_id ≡ self.now.table.shared.table_id) × (C.shape ≡ shape_of self.now.size) }
         requires link { chain < self.now.size.heads + 5 * (self.now.size.workers * self.now.size.nodes) }
-        requires call { (l : Label) × (ks : List ℕ) × (C.call ≡ Intern l ks) × (chain ≡ C.shape.chain (label_word l) ks) }
+        requires call { (l : ℕ) × (ks : List ℕ) × (C.call ≡ Intern l ks) × (chain ≡ C.shape.chain l ks) }
         requires words { words.now ≡ content C.call }
         requires own { (own ≡ C.start.own) × (room ≡ C.start.room) }
         requires may { (C.start.stage ≡ Idle) × (may_begin C.start.seen C.call ≡ true) }

@@ -1,7 +1,5 @@
 //! A walk along a chain that only looks, and the reading of a node.
 ghost use Rattle.std.specs.Prelude.{◌≡◌, ℕ, suc, ◌+◌, ◌*◌, ◌<◌, true, false, List, [], ◌∷◌, ◌++◌, length};
-ghost use Rattle.sym_terms.specs.declared.label.Label.{Label};
-ghost use Rattle.sym_terms.specs.Labels.{label_word};
 ghost use Rattle.term_core.specs.declared.Stage.TheVariants.{Idle, AtLink, Reading};
 ghost use Rattle.term_core.specs.declared.Call.TheVariants.{Find, Read};
 ghost use Rattle.term_core.specs.World.{content, may_begin, answer_of};
@@ -20,7 +18,7 @@ impl Nodes {
     pub(crate) fn first_seen<C: Act>(&self, seat: &mut Seat<(), View>, chain: u64) -> u64
         requires table { (seat.old.table_id ≡ self.now.table.shared.table_id) × (C.shape ≡ shape_of self.now.size) }
         requires link { chain < self.now.size.heads + 5 * (self.now.size.workers * self.now.size.nodes) }
-        requires call { (l : Label) × (ks : List ℕ) × (C.call ≡ Find l ks) × (chain ≡ C.shape.chain (label_word l) ks) }
+        requires call { (l : ℕ) × (ks : List ℕ) × (C.call ≡ Find l ks) × (chain ≡ C.shape.chain l ks) }
         requires may { (C.start.stage ≡ Idle) × (may_begin C.start.seen C.call ≡ true) }
         requires before { seat.old.me ≡ (Walking C.start C.told, []) }
         ensures table { (seat.new.table_id ≡ seat.old.table_id) × (seat.new.me.1 ≡ []) }
@@ -38,7 +36,7 @@ impl Nodes {
     ) -> u64
         requires table { (seat.old.table_id ≡ self.now.table.shared.table_id) × (C.shape ≡ shape_of self.now.size) }
         requires link { link < self.now.size.heads + 5 * (self.now.size.workers * self.now.size.nodes) }
-        requires call { (l : Label) × (ks : List ℕ) × (C.call ≡ Find l ks) }
+        requires call { (l : ℕ) × (ks : List ℕ) × (C.call ≡ Find l ks) }
         requires before { seat.old.me ≡ at C.start C.told (AtLink C.call false link) _probes }
         ensures table { (seat.new.table_id ≡ seat.old.table_id) × (seat.new.me.1 ≡ []) }
         ensures found { Sought C.shape C.start C.told C.call result (suc _probes) seat.new.me.0 }
@@ -55,7 +53,7 @@ impl Nodes {
     ) -> (Option<u64>, u64)
         requires table { (seat.old.table_id ≡ self.now.table.shared.table_id) × (C.shape ≡ shape_of self.now.size) }
         requires link { chain < self.now.size.heads + 5 * (self.now.size.workers * self.now.size.nodes) }
-        requires call { (l : Label) × (ks : List ℕ) × (C.call ≡ Find l ks) × (chain ≡ C.shape.chain (label_word l) ks) }
+        requires call { (l : ℕ) × (ks : List ℕ) × (C.call ≡ Find l ks) × (chain ≡ C.shape.chain l ks) }
         requires words { words.now ≡ content C.call }
         requires may { (C.start.stage ≡ Idle) × (may_begin C.start.seen C.call ≡ true) }
         requires before { seat.old.me ≡ (Walking C.start C.told, []) }

@@ -1,6 +1,5 @@
 //! Whole calls on the nodes, over a pass's seat.
 ghost use Rattle.std.specs.Prelude.{◌≡◌, ℕ, ◌+◌, ◌*◌, ◌^◌, ◌<◌, ◌≤◌, true, List, [], ◌∷◌};
-ghost use Rattle.sym_terms.specs.Labels.{label_word};
 ghost use Rattle.term_core.specs.declared.Stage.TheVariants.{Idle};
 ghost use Rattle.term_core.specs.declared.Call.TheVariants.{Find, Intern};
 ghost use Rattle.term_core.specs.World.{may_begin, kid_word};
@@ -16,7 +15,6 @@ use crate::rule::Act;
 use crate::ticket::Ticket;
 use crate::view::{InternEnd, View};
 use atomic_table::Seat;
-use sym_terms::Label;
 
 // An odd number near 2^64 divided by the golden ratio: multiples of it lie far apart modulo 2^64.
 const SCATTER: u64 = 11400714819323198485;
@@ -62,15 +60,13 @@ impl Nodes {
     pub(crate) fn intern_with<C: Act>(
         &self,
         seat: &mut Seat<(), View>,
-        _label: &Label,
         word: u64,
         kids: &[Ticket],
         own: u64,
         room: u64,
     ) -> (InternEnd, u64)
         requires table { (seat.old.table_id ≡ self.now.table.shared.table_id) × (C.shape ≡ shape_of self.now.size) }
-        requires call { C.call ≡ Intern _label.now kids.now }
-        requires word { word ≡ label_word _label.now }
+        requires call { C.call ≡ Intern word kids.now }
         requires own { (own ≡ C.start.own) × (room ≡ C.start.room) }
         requires may { (C.start.stage ≡ Idle) × (may_begin C.start.seen C.call ≡ true) }
         requires before { seat.old.me ≡ (Walking C.start C.told, []) }
@@ -90,13 +86,11 @@ impl Nodes {
     pub(crate) fn find_with<C: Act>(
         &self,
         seat: &mut Seat<(), View>,
-        _label: &Label,
         word: u64,
         kids: &[Ticket],
     ) -> (Option<u64>, u64)
         requires table { (seat.old.table_id ≡ self.now.table.shared.table_id) × (C.shape ≡ shape_of self.now.size) }
-        requires call { C.call ≡ Find _label.now kids.now }
-        requires word { word ≡ label_word _label.now }
+        requires call { C.call ≡ Find word kids.now }
         requires may { (C.start.stage ≡ Idle) × (may_begin C.start.seen C.call ≡ true) }
         requires before { seat.old.me ≡ (Walking C.start C.told, []) }
         ensures table { (seat.new.table_id ≡ seat.old.table_id) × (seat.new.me.1 ≡ []) }

@@ -1,8 +1,9 @@
 //! Small callers of the table, with their contracts.
 ghost use Rattle.std.specs.Prelude.{◌≡◌, ◌+◌, ◌^◌, ◌<◌, All, IfSome, IfOk, IfErr};
 ghost use Rattle.sym_terms.specs.Trees.{leaf, binary};
-ghost use Rattle.term_table.specs.Passes.{IsOf, HasSeen, linked};
-ghost use Rattle.term_table.specs.Trees.{HasTree, Extends};
+ghost use Rattle.term_table.specs.Passes.{IsOf, linked};
+ghost use Rattle.term_table.specs.Trees.{Extends};
+ghost use Rattle.sym_exec.specs.MipsTerms.{HasTree, HasSeen};
 
 use sym_terms::Label;
 use term_table::{Interned, Node, Pass, TableFull, TermTable, Ticket};
@@ -83,7 +84,7 @@ pub fn meet_and_read(
     over: Label,
     a: Ticket,
     b: Ticket,
-) -> (Node, Result<Interned, TableFull>)
+) -> (Node<Label>, Result<Interned, TableFull>)
     requires first { IsOf table.now first.old }
     requires second { IsOf table.now second.old }
     requires seen { HasSeen first.old a × HasSeen first.old b }

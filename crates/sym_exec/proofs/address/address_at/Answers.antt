@@ -1,5 +1,5 @@
 use Rattle.std.proofs.Common.{◌≡◌, ◌∙◌, sym, subst, Some}
-use Rattle.term_table.proofs.Callers.{still_seen, still_tree}
+use Rattle.sym_exec.proofs.MipsTerms.{still_seen, still_tree}
 use Rattle.sym_exec.proofs.Tickets.{later_more}
 use Rattle.sym_exec.proofs.Reading.{address-base, address-sum, address-none}
 use Rattle.sym_exec.specs.Standing.{IsAddress}

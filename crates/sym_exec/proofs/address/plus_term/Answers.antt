@@ -4,8 +4,8 @@ use Rattle.words.specs.declared.operator.Operator.TheVariants.{Addu}
 use Rattle.sym_terms.specs.declared.label.Label.TheVariants.{Op}
 use Rattle.sym_terms.specs.Trees.{binary}
 use Rattle.sym_terms.specs.NormalForms.{const_tree}
-use Rattle.term_table.specs.Trees.{HasTree}
-use Rattle.term_table.proofs.Callers.{still_seen, still_tree}
+use Rattle.sym_exec.specs.MipsTerms.{HasTree}
+use Rattle.sym_exec.proofs.MipsTerms.{still_seen, still_tree}
 use Rattle.sym_exec.proofs.address.plus_term.Goals as goal
 
 pub binary_term-requires-clause-a : goal.binary_term-requires-clause-a

@@ -1,9 +1,8 @@
 use Rattle.std.proofs.Common.{rules, ◌≡◌, ℕ, zero, suc, ◌<◌, ◌+◌, length, sym, ap, ◌∙◌, subst, arith, ⊎_elim}
 use Rattle.std.specs.Prelude.{slice_index, replicate}
 use Rattle.std.proofs.lemmas.List.{get_or-replicate}
-use Rattle.term_table.specs.Passes.{HasSeen}
-use Rattle.term_table.specs.Trees.{HasTree}
-use Rattle.term_table.proofs.Callers.{still_seen, still_tree}
+use Rattle.sym_exec.specs.MipsTerms.{HasSeen, HasTree}
+use Rattle.sym_exec.proofs.MipsTerms.{still_seen, still_tree, tree_seen}
 use Rattle.sym_exec.specs.Symbolic.{register_tree, start_trees}
 use Rattle.sym_exec.proofs.Tickets.{later_more, set_place, set_tree, length_set}
 use Rattle.sym_exec.proofs.run.start.Goals as goal
@@ -15,7 +14,7 @@ loop-r-init c = record {
   count = Rattle.std.proofs.Common.refl;
   seen = λ q lt.
       let e : slice_index (replicate 32 c.in_ok-zero.zero) q ≡ c.in_ok-zero.zero = get_or-replicate 32 q c.in_ok-zero.zero 0 lt in
-      subst (HasSeen c.leaf_term.new.pass) (sym e) c.in_ok-zero.ensures.tree.seen;
+      subst (HasSeen c.leaf_term.new.pass) (sym e) (tree_seen c.in_ok-zero.ensures.tree);
   stands = λ q lt.
       let e : 0 ≡ q = omega arith in
       subst (λ (n : ℕ). HasTree c.leaf_term.new.pass (slice_index (replicate 32 c.in_ok-zero.zero) n) (register_tree start_trees n)) e
@@ -33,7 +32,7 @@ loop-r-preserved c =
       later = later_more c.loop-r.invariant.later more;
       count = length_set regs k c.in_ok-regs.field-0 ∙ c.loop-r.invariant.count;
       seen = λ q lt.
-          set_place (HasSeen c.start_reg.new.pass) regs k c.in_ok-regs.field-0 q inside c.in_ok-regs.ensures.tree.seen
+          set_place (HasSeen c.start_reg.new.pass) regs k c.in_ok-regs.field-0 q inside (tree_seen c.in_ok-regs.ensures.tree)
           (still_seen more.extends (slice_index regs q) (c.loop-r.invariant.seen q lt));
       stands = λ q lt.
           set_tree c.start_reg.new.pass regs k c.in_ok-regs.field-0 q inside (c.loop-r.auto.r) c.in_ok-regs.ensures.tree lt
@@ -48,9 +47,9 @@ returns-clause-known c =
     let all = later_more e2 (later_more e3 e4) in
     record {
       regs = λ r lt. still_seen all.extends (slice_index c.loop-r.regs r) (c.loop-r.invariant.seen r lt);
-      hi = still_seen (later_more e3 e4).extends c.in_ok-hi.hi c.in_ok-hi.ensures.tree.seen;
-      lo = still_seen e4.extends c.in_ok-lo.lo c.in_ok-lo.ensures.tree.seen;
-      memory = c.in_ok-memory.ensures.tree.seen;
+      hi = still_seen (later_more e3 e4).extends c.in_ok-hi.hi (tree_seen c.in_ok-hi.ensures.tree);
+      lo = still_seen e4.extends c.in_ok-lo.lo (tree_seen c.in_ok-lo.ensures.tree);
+      memory = tree_seen c.in_ok-memory.ensures.tree;
     }
 
 pub returns-clause-stands : goal.returns-clause-stands

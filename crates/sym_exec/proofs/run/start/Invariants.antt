@@ -1,7 +1,7 @@
 use Rattle.std.proofs.Common.{◌≡◌, ℕ, ◌<◌, length}
 use Rattle.std.specs.Prelude.{slice_index}
-use Rattle.term_table.specs.Passes.{IsOf, HasSeen}
-use Rattle.term_table.specs.Trees.{HasTree}
+use Rattle.term_table.specs.Passes.{IsOf}
+use Rattle.sym_exec.specs.MipsTerms.{HasSeen, HasTree}
 use Rattle.sym_exec.specs.Symbolic.{register_tree, start_trees}
 use Rattle.sym_exec.specs.Standing.{Later}
 use Rattle.sym_exec.proofs.run.start.Given as goal

@@ -1,12 +1,12 @@
 use Rattle.std.proofs.Common.{refl, sym, subst}
 use Rattle.std.specs.Prelude.{OnOk}
 use Rattle.mips_isa.specs.declared.action.Action.{Action}
-use Rattle.term_table.proofs.Callers.{still_tree}
+use Rattle.sym_exec.proofs.MipsTerms.{still_tree}
 use Rattle.sym_exec.specs.declared.state.Guard.TheVariants.{Address, Division}
 use Rattle.sym_exec.specs.Symbolic.{AtAddress, AtDivision, register_tree, address_tree, trees_after}
 use Rattle.sym_exec.specs.Standing.{Stands, GuardsStand}
 use Rattle.sym_exec.specs.Stores.{IsChain}
-use Rattle.sym_exec.proofs.Tickets.{get_tree, guards_on, guards_more, on_ok, ok_always}
+use Rattle.sym_exec.proofs.Tickets.{get_tree, stands_put, guards_on, guards_more, on_ok, ok_always}
 use Rattle.sym_exec.proofs.Chains.{chain-on}
 use Rattle.sym_exec.proofs.run.step.Goals as goal
 
@@ -63,6 +63,18 @@ returns-in_ok-divides-in-Divides-clause-stands c = λ t h g.
     let tree = AtDivision c.in-Divides.sign (register_tree t c.in-Divides.a) (register_tree t c.in-Divides.b) in
     subst P (sym c.in-Divides.is)
     (c.in_ok-divides-in-Divides.ensures.stands t h, guards_more guard tree (guards_on later g) (refl, x, y) c.push_guard-in-Divides.ensures.pushed)
+
+pub returns-in-MovesHigh-clause-stands : goal.returns-in-MovesHigh-clause-stands
+returns-in-MovesHigh-clause-stands c = λ t h g.
+    let P : Action → Type 0 = λ a. Stands c.args.pass.now c.set.new.self (trees_after a t)
+    × GuardsStand c.args.pass.now c.args.lists.now.guards.items (trees_after a t).guards in
+    subst P (sym c.in-MovesHigh.is) (stands_put {t = t} h h.hi c.set.ensures.value c.set.ensures.range c.set.ensures.count, g)
+
+pub returns-in-MovesLow-clause-stands : goal.returns-in-MovesLow-clause-stands
+returns-in-MovesLow-clause-stands c = λ t h g.
+    let P : Action → Type 0 = λ a. Stands c.args.pass.now c.set-in-MovesLow.new.self (trees_after a t)
+    × GuardsStand c.args.pass.now c.args.lists.now.guards.items (trees_after a t).guards in
+    subst P (sym c.in-MovesLow.is) (stands_put {t = t} h h.lo c.set-in-MovesLow.ensures.value c.set-in-MovesLow.ensures.range c.set-in-MovesLow.ensures.count, g)
 
 pub returns-in-Computes-clause-chain : goal.returns-in-Computes-clause-chain
 returns-in-Computes-clause-chain c =

@@ -2,7 +2,8 @@ use Rattle.std.proofs.Common.{◌≡◌, length}
 use Rattle.sym_terms.specs.Trees.{Tree}
 use Rattle.sym_terms.specs.NormalForms.{address_of, load_tree}
 use Rattle.term_table.specs.Passes.{PassState}
-use Rattle.term_table.specs.Trees.{HasTree, HasLegalHistory}
+use Rattle.term_table.specs.Trees.{HasLegalHistory}
+use Rattle.sym_exec.specs.MipsTerms.{HasTree}
 use Rattle.sym_exec.specs.Standing.{IsAddress}
 use Rattle.sym_exec.specs.Stores.{IsChain}
 use Rattle.sym_exec.proofs.stores.seen_memory.Given as goal

@@ -1,5 +1,5 @@
-use Rattle.term_table.proofs.Callers.{intern_binary}
+use Rattle.term_labels.specs.Trees.{none, more}
 use Rattle.sym_exec.proofs.terms.binary_term.Goals as goal
 
 pub returns-clause-tree : goal.returns-clause-tree
-returns-clause-tree c = λ x y a b. intern_binary c.in_ok-interned.ensures.answered a b
+returns-clause-tree c = λ x y a b. c.in_ok-interned.ensures.tree (more x (more y none)) (a, (b, tt))

@@ -1,5 +1,5 @@
-use Rattle.term_table.proofs.Callers.{intern_leaf}
+use Rattle.term_labels.specs.Trees.{none}
 use Rattle.sym_exec.proofs.terms.leaf_term.Goals as goal
 
 pub returns-clause-tree : goal.returns-clause-tree
-returns-clause-tree c = intern_leaf c.in_ok-interned.ensures.answered
+returns-clause-tree c = c.in_ok-interned.ensures.tree none tt

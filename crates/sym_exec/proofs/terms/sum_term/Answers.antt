@@ -1,7 +1,7 @@
 use Rattle.std.proofs.Common.{◌∙◌, sym, subst, rules}
 use Rattle.std.specs.Prelude.{IfOk}
-use Rattle.term_table.specs.Trees.{HasTree}
-use Rattle.term_table.proofs.Callers.{still_seen, still_tree}
+use Rattle.sym_exec.specs.MipsTerms.{HasTree}
+use Rattle.sym_exec.proofs.MipsTerms.{still_seen, still_tree}
 use Rattle.sym_terms.specs.NormalForms.{address_of, tree_plus, sum_tree}
 use Rattle.sym_exec.proofs.terms.sum_term.Goals as goal
 

@@ -1,5 +1,5 @@
-use Rattle.term_table.proofs.Callers.{intern_ternary}
+use Rattle.term_labels.specs.Trees.{none, more}
 use Rattle.sym_exec.proofs.terms.ternary_term.Goals as goal
 
 pub returns-clause-tree : goal.returns-clause-tree
-returns-clause-tree c = λ x y z i j k. intern_ternary c.in_ok-interned.ensures.answered i j k
+returns-clause-tree c = λ x y z i j k. c.in_ok-interned.ensures.tree (more x (more y (more z none))) (i, (j, (k, tt)))

@@ -1,5 +1,5 @@
 use Rattle.std.proofs.Common.{rules, ◌∙◌}
-use Rattle.sym_terms.proofs.Back.{only_label}
+use Rattle.sym_terms.specs.Back.{only_label}
 use Rattle.sym_terms.proofs.label.label_of.Goals as goal
 
 pub returns-in_ok-operator-in-4-clause-value : goal.returns-in_ok-operator-in-4-clause-value

@@ -1,4 +1,5 @@
-use Rattle.term_table.specs.Passes.{IsOf, HasSeen}
+use Rattle.term_table.specs.Passes.{IsOf}
+use Rattle.sym_exec.specs.MipsTerms.{HasSeen}
 use Rattle.term_table_tests.proofs.callers.sums_probes.Given as goal
 
 abbrev pub invariant-loop-m : goal.invariant-loop-m

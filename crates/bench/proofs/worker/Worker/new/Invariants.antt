@@ -1,5 +1,6 @@
 use Rattle.std.proofs.Common.{◌≡◌, All, length}
-use Rattle.term_table.specs.Passes.{IsOf, HasSeen}
+use Rattle.term_table.specs.Passes.{IsOf}
+use Rattle.sym_exec.specs.MipsTerms.{HasSeen}
 use Rattle.bench.proofs.worker.Worker.new.Given as goal
 
 abbrev pub invariant-loop-n : goal.invariant-loop-n

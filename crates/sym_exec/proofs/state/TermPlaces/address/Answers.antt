@@ -1,7 +1,7 @@
 use Rattle.std.proofs.Common.{sym, subst, rules}
 use Rattle.std.specs.Prelude.{IfOk}
 use Rattle.sym_terms.specs.NormalForms.{address_of, tree_plus}
-use Rattle.term_table.specs.Trees.{HasTree}
+use Rattle.sym_exec.specs.MipsTerms.{HasTree}
 use Rattle.sym_exec.specs.Symbolic.{register_tree}
 use Rattle.sym_exec.proofs.Tickets.{get_seen, get_tree}
 use Rattle.sym_exec.proofs.Reading.{address-is}

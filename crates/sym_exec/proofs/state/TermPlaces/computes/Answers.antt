@@ -1,4 +1,4 @@
-use Rattle.term_table.proofs.Callers.{still_seen, still_tree}
+use Rattle.sym_exec.proofs.MipsTerms.{still_seen, still_tree}
 use Rattle.std.proofs.Common.{rules}
 use Rattle.sym_exec.proofs.Tickets.{later_more, stands_on, known_on, get_seen, get_tree, known_put, stands_put}
 use Rattle.sym_exec.proofs.state.TermPlaces.computes.Goals as goal

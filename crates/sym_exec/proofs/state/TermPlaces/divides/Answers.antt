@@ -1,9 +1,9 @@
 use Rattle.std.proofs.Common.{subst, rules}
 use Rattle.sym_terms.specs.NormalForms.{op_tree}
-use Rattle.term_table.proofs.Callers.{still_seen, still_tree}
+use Rattle.sym_exec.proofs.MipsTerms.{still_seen, still_tree}
 use Rattle.sym_exec.specs.Symbolic.{register_tree}
 use Rattle.sym_exec.specs.Standing.{Stands, Known}
-use Rattle.term_table.specs.Trees.{HasTree}
+use Rattle.sym_exec.specs.MipsTerms.{HasTree}
 use Rattle.sym_exec.proofs.Tickets.{later_more, stands_on, known_on, get_seen, get_tree}
 use Rattle.sym_exec.proofs.state.TermPlaces.divides.Goals as goal
 

@@ -1,7 +1,7 @@
 use Rattle.std.proofs.Common.{refl, subst}
 use Rattle.mips_isa.specs.States.{put}
 use Rattle.sym_terms.specs.NormalForms.{load_tree}
-use Rattle.term_table.proofs.Callers.{still_seen, still_tree}
+use Rattle.sym_exec.proofs.MipsTerms.{still_seen, still_tree}
 use Rattle.sym_exec.specs.Symbolic.{address_tree}
 use Rattle.sym_exec.specs.Standing.{Stands}
 use Rattle.sym_exec.proofs.Tickets.{later_more, stands_on, known_on, known_put, stands_put, stands_same}

@@ -1,4 +1,4 @@
-use Rattle.term_table.proofs.Callers.{still_seen, still_tree}
+use Rattle.sym_exec.proofs.MipsTerms.{still_seen, still_tree, tree_seen}
 use Rattle.sym_exec.specs.Symbolic.{register_tree, address_tree}
 use Rattle.sym_exec.specs.Standing.{Stands, Known}
 use Rattle.sym_exec.proofs.Tickets.{later_more, stands_on, known_on, get_seen, get_tree}
@@ -26,7 +26,7 @@ pub returns-clause-known : goal.returns-clause-known
 returns-clause-known c =
     let before = later_more c.in_ok-address.ensures.pass.later c.address_at-at.ensures.pass.later in
     let all : Known c.store_term.new.pass c.args.self.now = known_on (later_more before c.in_ok-self.ensures.pass.later) c.requires.known in
-    record { regs = all.regs; hi = all.hi; lo = all.lo; memory = (chain-tree c.in_ok-self.ensures.chain).1.seen }
+    record { regs = all.regs; hi = all.hi; lo = all.lo; memory = tree_seen (chain-tree c.in_ok-self.ensures.chain).1 }
 
 pub returns-clause-stands : goal.returns-clause-stands
 returns-clause-stands c = λ t h.

@@ -1,20 +1,20 @@
 use Rattle.std.proofs.Common.{refl, sym, subst}
 use Rattle.std.specs.Prelude.{IfOk}
-use Rattle.term_table.specs.Trees.{HasTree}
+use Rattle.sym_exec.specs.MipsTerms.{HasTree}
 use Rattle.sym_exec.specs.Stores.{IsChain}
 use Rattle.sym_exec.proofs.Tickets.{if_ok}
 use Rattle.sym_exec.proofs.Chains.{chain-on, chain-tree, chain-push, makes-on, makes-before}
-use Rattle.term_table.proofs.Callers.{still_tree}
+use Rattle.sym_exec.proofs.MipsTerms.{still_tree, tree_seen}
 use Rattle.sym_exec.proofs.stores.StoreChain.push.Goals as goal
 
 pub ternary_term-requires-clause-a : goal.ternary_term-requires-clause-a
-ternary_term-requires-clause-a c = (chain-tree c.requires.chain).1.seen
+ternary_term-requires-clause-a c = tree_seen (chain-tree c.requires.chain).1
 
 pub ternary_term-requires-clause-b : goal.ternary_term-requires-clause-b
-ternary_term-requires-clause-b c = let m = chain-tree c.requires.chain in (c.requires.made m.0 m.1).1.has_address.seen
+ternary_term-requires-clause-b c = let m = chain-tree c.requires.chain in tree_seen (c.requires.made m.0 m.1).1.has_address
 
 pub ternary_term-requires-clause-c : goal.ternary_term-requires-clause-c
-ternary_term-requires-clause-c c = let m = chain-tree c.requires.chain in (c.requires.made m.0 m.1).1.has_value.seen
+ternary_term-requires-clause-c c = let m = chain-tree c.requires.chain in tree_seen (c.requires.made m.0 m.1).1.has_value
 
 pub returns-clause-chain : goal.returns-clause-chain
 returns-clause-chain c =

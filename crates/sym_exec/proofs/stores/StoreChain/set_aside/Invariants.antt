@@ -2,7 +2,8 @@ use Rattle.std.proofs.Common.{◌≡◌, ◌+◌, vec_len, vec_capacity}
 use Rattle.sym_terms.specs.Trees.{Tree}
 use Rattle.sym_terms.specs.NormalForms.{address_of, store_tree}
 use Rattle.term_table.specs.Passes.{PassState}
-use Rattle.term_table.specs.Trees.{HasTree, HasLegalHistory}
+use Rattle.term_table.specs.Trees.{HasLegalHistory}
+use Rattle.sym_exec.specs.MipsTerms.{HasTree}
 use Rattle.sym_exec.specs.Standing.{IsAddress}
 use Rattle.sym_exec.specs.Stores.{IsChain, Rebuilds}
 use Rattle.sym_exec.proofs.stores.StoreChain.set_aside.Given as goal

@@ -2,8 +2,8 @@ use Rattle.std.proofs.Common.{◌∙◌, refl, subst, rules}
 use Rattle.sym_terms.specs.declared.label.Label.TheVariants.{Store}
 use Rattle.sym_terms.specs.Trees.{ternary}
 use Rattle.sym_terms.specs.NormalForms.{store_tree}
-use Rattle.term_table.specs.Trees.{HasTree}
-use Rattle.term_table.proofs.Callers.{seen_tree, one_tree}
+use Rattle.sym_exec.specs.MipsTerms.{HasTree}
+use Rattle.sym_exec.proofs.MipsTerms.{seen_tree, one_tree}
 use Rattle.sym_exec.specs.Stores.{Makes, Rebuilds}
 use Rattle.sym_exec.proofs.Tickets.{later_more}
 use Rattle.sym_exec.proofs.Chains.{chain-tree, rebuilds-on, rebuilds-pop, none-of}

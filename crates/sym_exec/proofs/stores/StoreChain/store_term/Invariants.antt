@@ -2,7 +2,7 @@ use Rattle.std.proofs.Common.{◌≡◌, ◌+◌, vec_len, vec_capacity}
 use Rattle.sym_terms.specs.Trees.{Tree}
 use Rattle.sym_terms.specs.NormalForms.{store_tree}
 use Rattle.term_table.specs.Passes.{IsOf}
-use Rattle.term_table.specs.Trees.{HasTree}
+use Rattle.sym_exec.specs.MipsTerms.{HasTree}
 use Rattle.sym_exec.specs.Standing.{Later}
 use Rattle.sym_exec.specs.Stores.{IsChain, Rebuilds}
 use Rattle.sym_exec.proofs.stores.StoreChain.store_term.Given as goal

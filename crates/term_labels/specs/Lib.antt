@@ -1,0 +1,4 @@
+pub mod Trees
+pub mod WordTrees
+pub mod Codings
+pub mod Kinds

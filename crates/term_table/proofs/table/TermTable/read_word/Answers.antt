@@ -1,0 +1,25 @@
+use Rattle.std.proofs.Common.{arith, rules}
+use Rattle.term_table.proofs.Callers.{extends_answered, still_of, read_seen, read_node}
+use Rattle.term_table.proofs.Public.{read_low}
+use Rattle.term_table.proofs.table.TermTable.read_word.Goals as goal
+
+pub children_of-requires : goal.children_of-requires
+children_of-requires c = λ i pos lt.
+    let low = read_low _ _ _ _ c.read_as-words.result _ _ _ _ c.read_as-words.ensures.ended i pos lt in
+    let small = c.self.inside.nodes.small in
+    omega arith
+
+pub returns-clause-answered : goal.returns-clause-answered
+returns-clause-answered c = search rules
+
+pub returns-clause-extends : goal.returns-clause-extends
+returns-clause-extends c = extends_answered (returns-clause-answered c)
+
+pub returns-clause-own : goal.returns-clause-own
+returns-clause-own c = still_of (returns-clause-extends c) c.requires.table
+
+pub returns-clause-seen : goal.returns-clause-seen
+returns-clause-seen c = read_seen (returns-clause-answered c)
+
+pub returns-clause-tree : goal.returns-clause-tree
+returns-clause-tree c = λ x h. read_node (returns-clause-answered c) h

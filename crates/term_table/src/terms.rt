@@ -1,0 +1,114 @@
+//! The calls on terms over labels of one's own type.
+ghost use Rattle.std.specs.Prelude.{◌≡◌, ◌≤◌, IfOk, IfErr, IfSome, IfNone, length};
+ghost use Rattle.term_core.specs.declared.Call.TheVariants.{Find, Intern, Read};
+ghost use Rattle.term_labels.specs.Trees.{Tree, Trees, node};
+ghost use Rattle.term_table.specs.Passes.{IsOf, Answered, linked};
+ghost use Rattle.term_table.specs.Trees.{Extends, HasLegalHistory};
+ghost use Rattle.term_table.specs.Terms.{HasTerm, HaveTerms, HasSeenTerm, HasSeenTerms, LacksTerm, IsTermNode};
+ghost use Rattle.term_table.specs.Answers.{intern_answer, intern_probes, sought_answer, node_answer};
+
+use crate::pass::Pass;
+use crate::table::{Found, Interned, TableFull, TermTable};
+use crate::ticket::Ticket;
+use smallvec::SmallVec;
+use term_labels::Label;
+
+/// The root of a term: its label, and the tickets of its children, none to three.
+#[derive(Drop)]
+pub struct Node<L> {
+    pub label: L,
+    pub children: SmallVec<Ticket, 3>,
+}
+
+impl TermTable {
+    /// The ticket of the term of this label over the children's terms: the one that it has, if it is
+    /// there, else that of a node that the pass now links. The pass has seen the ticket from then on.
+    ///
+    /// `TableFull` exactly where the term is not there and the pass has itself linked as many terms
+    /// as it may; the table is then as before. Either tells how many links the call loaded.
+    pub fn intern<L: Label>(
+        &self,
+        pass: &mut Pass,
+        label: L,
+        children: &[Ticket],
+    ) -> Result<Interned, TableFull>
+        requires table { IsOf self.now pass.old }
+        requires few { length children.now ≤ 3 }
+        requires seen { HasSeenTerms L.coding pass.old children.now }
+        ensures answered { Answered pass.old (Intern (L.coding.word label) children.now) (intern_answer result) pass.new }
+        ensures probes { intern_probes result ≡ pass.new.probes }
+
+        // The same in the words of the crates above.
+        ensures own { IsOf self.now pass.new }
+        ensures extends { Extends pass.old pass.new }
+        ensures legal { HasLegalHistory pass.new }
+        ensures seen { IfOk result (λ i. HasSeenTerm L.coding pass.new i.ticket) }
+        ensures tree { (xs : Trees L) → HaveTerms L.coding pass.old children.now xs → IfOk result (λ i. HasTerm L.coding pass.new i.ticket (node label xs)) }
+        ensures full { IfErr result (λ _. linked pass.new ≡ pass.new.nodes) }
+        ensures absent { (xs : Trees L) → HaveTerms L.coding pass.old children.now xs → IfErr result (λ _. LacksTerm L.coding pass.new (node label xs)) }
+    {
+        self.intern_word(pass, label.word(), children)
+    }
+
+    /// The ticket of the term of this label over the children's terms, None if it is not there. Links
+    /// nothing.
+    pub fn find<L: Label>(&self, pass: &mut Pass, label: L, children: &[Ticket]) -> Found
+        requires table { IsOf self.now pass.old }
+        requires few { length children.now ≤ 3 }
+        requires seen { HasSeenTerms L.coding pass.old children.now }
+        ensures answered { Answered pass.old (Find (L.coding.word label) children.now) (sought_answer result.ticket) pass.new }
+        ensures probes { result.probes ≡ pass.new.probes }
+
+        // The same in the words of the crates above.
+        ensures own { IsOf self.now pass.new }
+        ensures extends { Extends pass.old pass.new }
+        ensures legal { HasLegalHistory pass.new }
+        ensures seen { IfSome result.ticket (HasSeenTerm L.coding pass.new) }
+        ensures tree { (xs : Trees L) → HaveTerms L.coding pass.old children.now xs → IfSome result.ticket (λ t. HasTerm L.coding pass.new t (node label xs)) }
+        ensures absent { (xs : Trees L) → HaveTerms L.coding pass.old children.now xs → IfNone result.ticket (LacksTerm L.coding pass.new (node label xs)) }
+    {
+        self.find_word(pass, label.word(), children)
+    }
+
+    /// The label of a term that the pass has seen, and the tickets of its children, which it then has
+    /// seen too.
+    pub fn read<L: Label>(&self, pass: &mut Pass, ticket: Ticket) -> Node<L>
+        requires table { IsOf self.now pass.old }
+        requires seen { HasSeenTerm L.coding pass.old ticket }
+        ensures answered { Answered pass.old (Read ticket) (node_answer (L.coding.word result.label) result.children.items) pass.new }
+
+        // The same in the words of the crates above.
+        ensures own { IsOf self.now pass.new }
+        ensures extends { Extends pass.old pass.new }
+        ensures legal { HasLegalHistory pass.new }
+        ensures seen { HasSeenTerms L.coding pass.new result.children.items }
+        ensures tree { (x : Tree L) → HasTerm L.coding pass.old ticket x → IsTermNode L.coding pass.new result.label result.children.items x }
+    {
+        let node = self.read_word(pass, ticket);
+        // The word of a term over these labels is that of a label.
+        let Some(label) = L::of_word(node.word) else {
+            unreachable!();
+        };
+        Node {
+            label,
+            children: node.children,
+        }
+    }
+}
+
+impl Pass {
+    ghost use Rattle.std.specs.Prelude.{◌≡◌, ◌↔◌, IsTrue};
+    ghost use Rattle.term_labels.specs.Trees.{Tree};
+    ghost use Rattle.term_table.specs.Trees.{HasLegalHistory};
+    ghost use Rattle.term_table.specs.Terms.{HasTerm};
+
+    /// Whether two tickets that the pass has seen have one term over these labels: exactly where the
+    /// tickets are equal.
+    pub fn same_term<L: Label>(&self, first: Ticket, second: Ticket) -> bool
+        ensures { (x y : Tree L) → HasTerm L.coding self.now first x → HasTerm L.coding self.now second y → IsTrue result ↔ (x ≡ y) }
+    {
+        // The history of each pass is legal.
+        let _ = self.linked();
+        first == second
+    }
+}
