@@ -1,8 +1,8 @@
 //! The labels of terms, with a word of 64 bits for each, and the trees that carry them.
 //!
-//! For the crates above: `word_of` and `label_of` are inverse. Symbolic execution and the table of
-//! terms speak of one type of trees, a label over a list of trees (`specs/Trees.antt`). The words of
-//! labels stand in `specs/Labels.antt`.
+//! For the crates above: `word_of` and `label_of` are inverse, and `Label` is a type of labels for the
+//! table of terms. Symbolic execution speaks of trees of these labels (`specs/Trees.antt`). The words
+//! of labels stand in `specs/Labels.antt`.
 //!
 //! What is promised:
 //! - `word_of` and `label_of` are inverse on the table of labels. The terms of operations, loads and stores, in normal
