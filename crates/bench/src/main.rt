@@ -1,4 +1,4 @@
-//! The figures of docs/GATE.md. Without a word it prints what is the same in every run, which the gate compares; with
+//! The figures of docs/FIGURES.md. Without a word it prints what is the same in every run, which the gate compares; with
 //! one it measures:
 //!
 //! - `check`: the longest check text against one of an eighth of it
