@@ -130,8 +130,9 @@ fn the_next_one_is_tried(rt: HostRuntime) -> Result<(), Fail> {
     else {
         panic!(rt; "no orders")
     };
-    let filled = fill(rt.alloc(), &empty.block, empty.order)?;
-    assert!(rt; is_equal(&filled, &occupied.order));
-    assert!(rt; is_accepted(rt.alloc(), &empty.block, filled));
+    let (block, order) = (empty.block, empty.order);
+    let filled = fill(rt.alloc(), &block, order)?;
+    assert!(&rt; is_equal(&filled, &occupied.order));
+    assert!(&rt; is_accepted(rt.alloc(), &block, filled));
     Ok(())
 }
