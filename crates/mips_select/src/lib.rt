@@ -2,7 +2,7 @@
 //!
 //! For the layer above there is one contract, that of `select` (`specs/Laws.antt`): wherever the program isn't wrong after
 //! so many steps, its unit comes to the same end and output after as many items or more, whatever words the calls' links
-//! are (`KeepsRuns`). There is a unit exactly within the limits: each frame has at most 32,000 bytes, `depth` of the largest
+//! are (`KeepsRuns`). There is a unit only within the limits: each frame has at most 32,000 bytes, `depth` of the largest
 //! ones at most 16 MiB (`FramesFit`, from the program alone), and there are at most 1,048,576 blocks.
 //!
 //! The unit is a pure function of the program and its homes, `unit_for` of `specs/Whole.antt`: block 0 sets register 28 and
