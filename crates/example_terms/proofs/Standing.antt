@@ -1,89 +1,107 @@
 -- What a pass knows of a block lasts, and grows by an instruction.
-use Rattle.std.proofs.Common.{◌≡◌, ℕ, zero, suc, ◌+◌, ◌<◌, ◌≤◌, List, [], ◌∷◌, ◌++◌, length, refl, sym, ap, ap₂, subst, ◌∙◌, ⊎_elim, arith}
-use Rattle.std.specs.Prelude.{slice_index}
-use Rattle.std.proofs.lemmas.Bool.{cases_lt}
-use Rattle.std.proofs.lemmas.List.{length-append, get_or_append_left, get_or_push}
-use Rattle.term_labels.specs.Trees.{Tree}
+use Rattle.std.proofs.Common.{◌≡◌, ℕ, zero, suc, ◌<◌, List, [], ◌∷◌, ◌++◌, length, refl, sym, ap, ap₂, subst, ◌∙◌, arith}
+use Rattle.std.specs.Prelude.{map, slice_index}
+use Rattle.term_labels.specs.Trees.{Tree, Trees, none, more}
 use Rattle.term_table.specs.Passes.{PassState}
 use Rattle.term_table.specs.Trees.{Extends, Learns}
-use Rattle.term_table.proofs.TermCallers.{still_term, learns_term, term_seen}
+use Rattle.term_table.proofs.TermCallers.{still_term, still_terms, learns_term}
 use Rattle.example_terms.specs.declared.block.Instruction.{Instruction}
-use Rattle.example_terms.specs.declared.symbolic.Places.{Places}
-use Rattle.example_terms.specs.Meaning.{Environment, State, start, step, state_after, value_of, memory_after, word_of, memory_of}
-use Rattle.example_terms.specs.Standing.{HasSeen, IsWord, IsMemory, StandsFor}
+use Rattle.example_terms.specs.declared.label.Op.{Op}
+use Rattle.example_terms.specs.Labels.{op_coding}
+use Rattle.example_terms.specs.Meaning.{Environment, Value, at, made, value_of, values_of, values_behind, values_in}
+use Rattle.example_terms.specs.Standing.{HasTree, HaveTrees, AreAt, IsValue, StandsFor}
 
-pub still_word : {p q : PassState} {t : ℕ} {f : Environment → ℕ} → Extends p q → IsWord p t f → IsWord q t f
-still_word {p} {q} {t} {f} e h = record { term = h.term; has = still_term e h.has; value = h.value }
+pub still_value : {p q : PassState} {t : ℕ} {f : Environment → Value} → Extends p q → IsValue p t f → IsValue q t f
+still_value {p} {q} {t} {f} e h = record { term = h.term; has = still_term e h.has; value = h.value }
 
-pub still_memory : {p q : PassState} {t : ℕ} {m : Environment → ℕ → ℕ} → Extends p q → IsMemory p t m → IsMemory q t m
-still_memory {p} {q} {t} {m} e h = record { term = h.term; has = still_term e h.has; value = h.value }
+pub learns_value : {p q : PassState} {t : ℕ} {f : Environment → Value} → Learns q p → IsValue p t f → IsValue q t f
+learns_value {p} {q} {t} {f} e h = record { term = h.term; has = learns_term e h.has; value = h.value }
 
-pub still_stands : {p q : PassState} {s : Places} {is : List Instruction} → Extends p q → StandsFor p s is → StandsFor q s is
-still_stands {p} {q} {s} {is} e h = record { count = h.count; values = λ k lt. still_word e (h.values k lt); memory = still_memory e h.memory }
+-- the term at a place
+pub at_place : {p : PassState} (ts : List ℕ) (xs : Trees Op) (k : ℕ) → HaveTrees p ts xs → k < length ts
+    → IsValue p (slice_index ts k) (λ e. at (values_of xs e) k)
+at_place {p} [] xs k h lt = absurd (omega (arith, lt))
+at_place {p} (t ∷ ts) none k h lt = absurd h
+at_place {p} (t ∷ ts) (more x xs) zero h lt = record { term = x; has = h.0; value = λ e. refl }
+at_place {p} (t ∷ ts) (more x xs) (suc k) h lt = at_place {p = p} ts xs k h.1 (omega (arith, lt))
 
-pub word_seen : {p : PassState} {t : ℕ} {f : Environment → ℕ} → IsWord p t f → HasSeen p t
-word_seen {p} {t} {f} h = term_seen h.has
+pub value_there : {p : PassState} {ts : List ℕ} {is : List Instruction} {t k : ℕ} → StandsFor p ts is → (t ≡ slice_index ts k) × (k < length ts)
+    → IsValue p t (λ e. at (values_in is e) k)
+value_there {p} {ts} {is} {t} {k} h there =
+    let v = at_place {p = p} ts h.terms k h.have there.1 in
+    record { term = v.term; has = subst (λ u. HasTree p u v.term) (sym there.0) v.has; value = λ e. v.value e ∙ ap (λ vs. at vs k) (h.values e) }
 
-pub memory_seen : {p : PassState} {t : ℕ} {m : Environment → ℕ → ℕ} → IsMemory p t m → HasSeen p t
-memory_seen {p} {t} {m} h = term_seen h.has
+-- the terms at some places
+pub record Picked (p : PassState) (xs : Trees Op) (ks ts : List ℕ) : Type 0 where
+  pub terms : Trees Op
+  pub have : HaveTrees p ts terms
+  pub values : (e : Environment) → values_of terms e ≡ map (at (values_of xs e)) ks
 
--- the value at a place
-pub at_place : {p : PassState} {s : Places} {is : List Instruction} {t k : ℕ} → StandsFor p s is
-    → (t ≡ slice_index s.values.items k) × (k < length s.values.items) → IsWord p t (λ e. slice_index (state_after is e (start e)).values k)
-at_place {p} {s} {is} {t} {k} h at = subst (λ u. IsWord p u (λ e. slice_index (state_after is e (start e)).values k)) (sym at.0) (h.values k at.1)
-
--- one instruction more
-state_more : (is : List Instruction) (i : Instruction) (e : Environment) (s : State) → state_after (is ++ i ∷ []) e s ≡ step e (state_after is e s) i
-state_more [] i e s = refl
-state_more (j ∷ is) i e s = state_more is i e (step e s j)
-
-count_more : (is : List Instruction) (e : Environment) (s : State) → length (state_after is e s).values ≡ length s.values + length is
-count_more [] e s = omega arith
-count_more (i ∷ is) e s =
-    let rest = count_more is e (step e s i) in let one = length-append s.values (value_of i e s ∷ []) in omega arith
-
-at_front : (xs : List ℕ) (v k : ℕ) → k < length xs → slice_index (xs ++ v ∷ []) k ≡ slice_index xs k
-at_front xs v k lt = get_or_append_left xs (v ∷ []) 0 k lt
-
-retell : {p : PassState} {t u : ℕ} {f g : Environment → ℕ} → IsWord p t f → t ≡ u → ((e : Environment) → f e ≡ g e) → IsWord p u g
-retell {p} {t} {u} {f} {g} h same words = subst (λ n. IsWord p n g) same (record { term = h.term; has = h.has; value = λ e. h.value e ∙ words e })
-
-pub stands_more : {p : PassState} {s s' : Places} {is : List Instruction} {v : ℕ} (i : Instruction) → StandsFor p s is
-    → IsWord p v (λ e. value_of i e (state_after is e (start e))) → IsMemory p s'.memory (λ e. memory_after i (state_after is e (start e)))
-    → s'.values.items ≡ s.values.items ++ v ∷ [] → StandsFor p s' (is ++ i ∷ [])
-stands_more {p} {s} {s'} {is} {v} i h word memory pushed =
-    let xs = s.values.items in
-    let long : length s'.values.items ≡ length xs + 1 = ap (λ (l : List ℕ). length l) pushed ∙ length-append xs (v ∷ []) in
-    let before : (e : Environment) → length (state_after is e (start e)).values ≡ length xs = λ e. let n = count_more is e (start e) in let m = h.count in omega arith in
+pub picked : {p : PassState} (all : List ℕ) (xs : Trees Op) (ks ts : List ℕ) → HaveTrees p all xs → AreAt all ks ts → Picked p xs ks ts
+picked {p} all xs [] [] h there = record { terms = none; have = tt; values = λ e. refl }
+picked {p} all xs [] (t ∷ ts) h there = absurd there
+picked {p} all xs (k ∷ ks) [] h there = absurd there
+picked {p} all xs (k ∷ ks) (t ∷ ts) h there =
+    let v = at_place {p = p} all xs k h there.1 in
+    let rest = picked {p = p} all xs ks ts h there.2 in
     record {
-      count = (let n = h.count in let m = length-append is (i ∷ []) in omega arith);
-      values = λ k lt.
-          ⊎_elim
-          (λ (low : k < length xs).
-          retell (h.values k low) (sym (ap (λ (l : List ℕ). slice_index l k) pushed ∙ at_front xs v k low))
-          (λ e.
-          let old = (state_after is e (start e)).values in
-          sym (ap (λ (x : State). slice_index x.values k) (state_more is i e (start e)) ∙ at_front old (value_of i e (state_after is e (start e))) k
-          (subst (λ n. k < n) (sym (before e)) low))))
-          (λ (high : length xs ≤ k).
-          let end : length xs ≡ k = omega (arith, long, lt) in
-          retell word (sym (ap (λ (l : List ℕ). slice_index l k) pushed ∙ get_or_push xs v 0 k end))
-          (λ e.
-          let old = (state_after is e (start e)).values in
-          sym (ap (λ (x : State). slice_index x.values k) (state_more is i e (start e)) ∙ get_or_push old (value_of i e (state_after is e (start e))) 0 k
-          (before e ∙ end))))
-          (cases_lt k (length xs));
-      memory = record {
-        term = memory.term;
-        has = memory.has;
-        value = λ e. memory.value e ∙ ap (λ (x : State). x.memory) (sym (state_more is i e (start e)));
-      };
+      terms = more v.term rest.terms;
+      have = (subst (λ u. HasTree p u v.term) (sym there.0) v.has, rest.have);
+      values = λ e. ap₂ (λ a b. a ∷ b) (v.value e) (rest.values e);
     }
 
--- one term is one word, and one memory
-pub same_word : {p : PassState} {t u : ℕ} {f g : Environment → ℕ} (h : IsWord p t f) (k : IsWord p u g) → h.term ≡ k.term → (e : Environment) → f e ≡ g e
-same_word {p} {t} {u} {f} {g} h k same = λ e. sym (h.value e) ∙ (ap (λ x. word_of x e) same ∙ k.value e)
+-- two terms
+pub record Two (p : PassState) (ts : List ℕ) (xs : Trees Op) : Type 0 where
+  pub first : Tree Op
+  pub second : Tree Op
+  pub are : xs ≡ more first (more second none)
+  pub first_has : HasTree p (slice_index ts 0) first
+  pub second_has : HasTree p (slice_index ts 1) second
 
-pub same_memory : {p : PassState} {t u : ℕ} {f g : Environment → ℕ → ℕ} (h : IsMemory p t f) (k : IsMemory p u g) → h.term ≡ k.term
-    → (e : Environment) → f e ≡ g e
-same_memory {p} {t} {u} {f} {g} h k same = λ e. sym (h.value e) ∙ (ap (λ x. memory_of x e) same ∙ k.value e)
+pub two : {p : PassState} (ts : List ℕ) (xs : Trees Op) → HaveTrees p ts xs → length ts ≡ 2 → Two p ts xs
+two {p} (t ∷ u ∷ []) (more x (more y none)) h long = record { first = x; second = y; are = refl; first_has = h.0; second_has = h.1.0 }
+two {p} (t ∷ u ∷ []) (more x (more y (more z zs))) h long = absurd h.1.1
+two {p} (t ∷ u ∷ []) (more x none) h long = absurd h.1
+two {p} (t ∷ u ∷ []) none h long = absurd h
+two {p} [] xs h long = absurd (omega (arith, long))
+two {p} (t ∷ []) xs h long = absurd (omega (arith, long))
+two {p} (t ∷ u ∷ v ∷ ts) xs h long = absurd (omega (arith, long))
+
+-- one place more
+pub one_more : (all ks ts : List ℕ) (k t : ℕ) → AreAt all ks ts → t ≡ slice_index all k → k < length all → AreAt all (ks ++ k ∷ []) (ts ++ t ∷ [])
+one_more all [] [] k t h same lt = (same, lt, tt)
+one_more all [] (u ∷ us) k t h same lt = absurd h
+one_more all (j ∷ js) [] k t h same lt = absurd h
+one_more all (j ∷ js) (u ∷ us) k t h same lt = (h.0, h.1, one_more all js us k t h.2 same lt)
+
+-- one instruction more
+abbrev behind : Trees Op → Tree Op → Trees Op
+behind none y = more y none
+behind (more x xs) y = more x (behind xs y)
+
+have_behind : {p : PassState} (ts : List ℕ) (xs : Trees Op) (t : ℕ) (y : Tree Op) → HaveTrees p ts xs → HasTree p t y → HaveTrees p (ts ++ t ∷ []) (behind xs y)
+have_behind {p} [] none t y h one = (one, tt)
+have_behind {p} [] (more x xs) t y h one = absurd h
+have_behind {p} (u ∷ us) none t y h one = absurd h
+have_behind {p} (u ∷ us) (more x xs) t y h one = (h.0, have_behind {p = p} us xs t y h.1 one)
+
+values_of_behind : (xs : Trees Op) (y : Tree Op) (e : Environment) → values_of (behind xs y) e ≡ values_of xs e ++ value_of y e ∷ []
+values_of_behind none y e = refl
+values_of_behind (more x xs) y e = ap (λ l. value_of x e ∷ l) (values_of_behind xs y e)
+
+values_more : (vs : List Value) (is : List Instruction) (i : Instruction) (e : Environment)
+    → values_behind vs (is ++ i ∷ []) e ≡ values_behind vs is e ++ made i.op e (map (at (values_behind vs is e)) i.operands.items) ∷ []
+values_more vs [] i e = refl
+values_more vs (j ∷ is) i e = values_more (vs ++ made j.op e (map (at vs) j.operands.items) ∷ []) is i e
+
+pub stands_more : {p q : PassState} {ts : List ℕ} {is : List Instruction} {t : ℕ} (i : Instruction) → Extends p q → StandsFor p ts is
+    → IsValue q t (λ e. made i.op e (map (at (values_in is e)) i.operands.items)) → StandsFor q (ts ++ t ∷ []) (is ++ i ∷ [])
+stands_more {p} {q} {ts} {is} {t} i later h v = record {
+  terms = behind h.terms v.term;
+  have = have_behind {p = q} ts h.terms t v.term (still_terms op_coding later ts h.terms h.have) v.has;
+  values = λ e. values_of_behind h.terms v.term e ∙ (ap₂ (λ l x. l ++ x ∷ []) (h.values e) (v.value e) ∙ sym (values_more [] is i e));
+}
+
+-- one term has one value
+pub same_value : {p : PassState} {t u : ℕ} {f g : Environment → Value} (h : IsValue p t f) (k : IsValue p u g) → h.term ≡ k.term → (e : Environment) → f e ≡ g e
+same_value {p} {t} {u} {f} {g} h k same = λ e. sym (h.value e) ∙ (ap (λ x. value_of x e) same ∙ k.value e)

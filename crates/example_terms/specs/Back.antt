@@ -1,18 +1,17 @@
 -- Each label is read back from its word.
-use Rattle.std.proofs.Common.{◌≡◌, ℕ, ◌<◌, ◌%◌, ◌^◌, true, Some, nat_lt, refl, ap, arith}
+use Rattle.std.proofs.Common.{refl, arith}
 use Rattle.term_labels.specs.Codings.{IsCoding}
 use Rattle.term_labels.specs.Kinds.{coding_of, AreKinds}
 use Rattle.term_labels.proofs.ByKinds.{by_kinds}
-use Rattle.example_terms.specs.declared.block.Operator.TheVariants.{Add, Multiply, Less}
-use Rattle.example_terms.specs.declared.label.Op.TheVariants.{Constant, Variable, Apply, Select, Memory, Load, Store}
+use Rattle.example_terms.specs.declared.label.Op.TheVariants.{Constant, Variable, Add, Multiply, Less, Select, Memory, Load, Store}
 use Rattle.example_terms.specs.Labels.{op_kinds}
 
 are_kinds : AreKinds op_kinds
 are_kinds (Constant n) e = (grind arith, grind arith)
 are_kinds (Variable v) e = (grind arith, grind arith)
-are_kinds (Apply Add) e = (omega arith, refl)
-are_kinds (Apply Multiply) e = (omega arith, refl)
-are_kinds (Apply Less) e = (omega arith, refl)
+are_kinds Add e = (omega arith, refl)
+are_kinds Multiply e = (omega arith, refl)
+are_kinds Less e = (omega arith, refl)
 are_kinds Select e = (omega arith, refl)
 are_kinds Memory e = (omega arith, refl)
 are_kinds Load e = (omega arith, refl)

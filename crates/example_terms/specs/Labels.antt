@@ -2,16 +2,15 @@
 use Rattle.std.specs.Prelude.{ℕ, ◌^◌, Bool, true, ◌&&◌, Option, Some, None, if◌then◌else◌, ◌==◌, nat_lt}
 use Rattle.term_labels.specs.Kinds.{Kinds, coding_of}
 use Rattle.term_labels.specs.Codings.{Coding}
-use Rattle.example_terms.specs.declared.block.Operator.TheVariants.{Add, Multiply, Less}
 use Rattle.example_terms.specs.declared.label.Op.{Op}
-use Rattle.example_terms.specs.declared.label.Op.TheVariants.{Constant, Variable, Apply, Select, Memory, Load, Store}
+use Rattle.example_terms.specs.declared.label.Op.TheVariants.{Constant, Variable, Add, Multiply, Less, Select, Memory, Load, Store}
 
 abbrev pub kind : Op → ℕ
 kind (Constant n) = 1
 kind (Variable v) = 2
-kind (Apply Add) = 3
-kind (Apply Multiply) = 4
-kind (Apply Less) = 5
+kind Add = 3
+kind Multiply = 4
+kind Less = 5
 kind Select = 6
 kind Memory = 7
 kind Load = 8
@@ -30,8 +29,8 @@ is_op _ = true
 abbrev pub op_in : ℕ → ℕ → Option Op
 op_in k n =
     if k == 1 && nat_lt n (2 ^ 32) then Some (Constant n) else (if k == 2 && nat_lt n (2 ^ 16) then Some (Variable n) else (
-    if k == 3 && n == 0 then Some (Apply Add) else (if k == 4 && n == 0 then Some (Apply Multiply) else (
-    if k == 5 && n == 0 then Some (Apply Less) else (if k == 6 && n == 0 then Some Select else (if k == 7 && n == 0 then Some Memory else (
+    if k == 3 && n == 0 then Some Add else (if k == 4 && n == 0 then Some Multiply else (
+    if k == 5 && n == 0 then Some Less else (if k == 6 && n == 0 then Some Select else (if k == 7 && n == 0 then Some Memory else (
     if k == 8 && n == 0 then Some Load else (if k == 9 && n == 0 then Some Store else None))))))))
 
 abbrev pub op_kinds : Kinds Op

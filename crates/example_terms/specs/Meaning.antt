@@ -1,94 +1,62 @@
 -- What blocks mean, and what terms mean.
-use Rattle.std.specs.Prelude.{ℕ, ◌+◌, ◌*◌, ◌%◌, ◌^◌, ◌==◌, nat_lt, if◌then◌else◌, List, [], ◌∷◌, ◌++◌, slice_index}
+use Rattle.std.specs.Prelude.{ℕ, ◌+◌, ◌*◌, ◌%◌, ◌^◌, ◌==◌, nat_lt, if◌then◌else◌, List, [], ◌∷◌, ◌++◌, map, get_or}
 use Rattle.term_labels.specs.Trees.{Tree, Trees, node, none, more}
-use Rattle.example_terms.specs.declared.block.Operator.{Operator}
-use Rattle.example_terms.specs.declared.block.Operator.TheVariants.{Add, Multiply, Less}
 use Rattle.example_terms.specs.declared.block.Instruction.{Instruction}
-use Rattle.example_terms.specs.declared.block.Instruction.TheVariants as does
 use Rattle.example_terms.specs.declared.block.Block.{Block}
 use Rattle.example_terms.specs.declared.label.Op.{Op}
-use Rattle.example_terms.specs.declared.label.Op.TheVariants.{Constant, Variable, Apply, Select, Memory, Load, Store}
+use Rattle.example_terms.specs.declared.label.Op.TheVariants.{Constant, Variable, Add, Multiply, Less, Select, Memory, Load, Store}
 
 -- what a block begins with: the word of each variable, and the word at each address
 pub record Environment : Type 0 where
   pub variables : ℕ → ℕ
   pub memory : ℕ → ℕ
 
-abbrev pub operator_word : Operator → ℕ → ℕ → ℕ
-operator_word Add a b = (a + b) % 2 ^ 32
-operator_word Multiply a b = (a * b) % 2 ^ 32
-operator_word Less a b = if nat_lt a b then 1 else 0
+-- what an instruction makes: a word, and a memory, of which most operators make one alone
+pub record Value : Type 0 where
+  pub word : ℕ
+  pub memory : ℕ → ℕ
 
-abbrev pub choice : ℕ → ℕ → ℕ → ℕ
-choice c a b = if c == 0 then b else a
+-- a word, and memory as it is before the block
+abbrev pub just : Environment → ℕ → Value
+just e n = record { word = n; memory = e.memory }
 
+-- a memory in which v stands at a
 abbrev pub stored : ℕ → ℕ → (ℕ → ℕ) → ℕ → ℕ
 stored a v memory k = if k == a then v else memory k
 
--- Blocks
+-- an operand that isn't there is 0
+abbrev pub at : List Value → ℕ → Value
+at xs k = get_or xs k (record { word = 0; memory = λ _. 0 })
 
--- the values of the instructions that are done, and memory
-pub record State : Type 0 where
-  pub values : List ℕ
-  pub memory : ℕ → ℕ
+-- what an operator makes of its operands
+abbrev pub made : Op → Environment → List Value → Value
+made (Constant n) e xs = just e n
+made (Variable v) e xs = just e (e.variables v)
+made Add e xs = just e (((at xs 0).word + (at xs 1).word) % 2 ^ 32)
+made Multiply e xs = just e (((at xs 0).word * (at xs 1).word) % 2 ^ 32)
+made Less e xs = just e (if nat_lt (at xs 0).word (at xs 1).word then 1 else 0)
+made Select e xs = if (at xs 0).word == 0 then at xs 2 else at xs 1
+made Memory e xs = just e 0
+made Load e xs = just e ((at xs 0).memory (at xs 1).word)
+made Store e xs = record { word = 0; memory = stored (at xs 1).word (at xs 2).word (at xs 0).memory }
 
-abbrev pub value_of : Instruction → Environment → State → ℕ
-value_of (does.Constant n) e s = n
-value_of (does.Variable v) e s = e.variables v
-value_of (does.Apply op a b) e s = operator_word op (slice_index s.values a) (slice_index s.values b)
-value_of (does.Select c a b) e s = choice (slice_index s.values c) (slice_index s.values a) (slice_index s.values b)
-value_of (does.Load a) e s = s.memory (slice_index s.values a)
-value_of (does.Store a v) e s = slice_index s.values v
+-- the values that instructions make, behind those that are there
+abbrev pub values_behind : List Value → List Instruction → Environment → List Value
+values_behind xs [] e = xs
+values_behind xs (i ∷ is) e = values_behind (xs ++ made i.op e (map (at xs) i.operands.items) ∷ []) is e
 
-abbrev pub memory_after : Instruction → State → ℕ → ℕ
-memory_after (does.Store a v) s = stored (slice_index s.values a) (slice_index s.values v) s.memory
-memory_after _ s = s.memory
+-- the values of a block's instructions, and what the block means: its word, and memory as it leaves it
+abbrev pub values_in : List Instruction → Environment → List Value
+values_in = values_behind []
 
-abbrev pub start : Environment → State
-start e = record { values = []; memory = e.memory }
+abbrev pub meaning : Block → Environment → Value
+meaning b e = let xs = values_in b.instructions.items e in record { word = (at xs b.value).word; memory = (at xs b.memory).memory }
 
-abbrev pub step : Environment → State → Instruction → State
-step e s i = record { values = s.values ++ value_of i e s ∷ []; memory = memory_after i s }
-
-abbrev pub state_after : List Instruction → Environment → State → State
-state_after [] e s = s
-state_after (i ∷ is) e s = state_after is e (step e s i)
-
--- the value of a block, and memory behind it
-pub record Outcome : Type 0 where
-  pub value : ℕ
-  pub memory : ℕ → ℕ
-
-abbrev pub meaning : Block → Environment → Outcome
-meaning b e = let s = state_after b.instructions.items e (start e) in record { value = slice_index s.values b.result; memory = s.memory }
-
--- Terms
-
-abbrev pub root_word : Op → Environment → (ℕ → ℕ) → List ℕ → ℕ
-root_word (Constant n) e memory words = n
-root_word (Variable v) e memory words = e.variables v
-root_word (Apply op) e memory words = operator_word op (slice_index words 0) (slice_index words 1)
-root_word Select e memory words = choice (slice_index words 0) (slice_index words 1) (slice_index words 2)
-root_word Load e memory words = memory (slice_index words 1)
-root_word _ e memory words = 0
-
-abbrev pub root_memory : Op → Environment → (ℕ → ℕ) → List ℕ → ℕ → ℕ
-root_memory Store e memory words = stored (slice_index words 1) (slice_index words 2) memory
-root_memory _ e memory words = memory
-
+-- what a term means
 abbrev mutual
-  -- the word that a term stands for, 0 where it is a memory
-  pub word_of : Tree Op → Environment → ℕ
-  word_of (node l xs) e = root_word l e (memory_under xs e) (words_under xs e)
+  pub value_of : Tree Op → Environment → Value
+  value_of (node l xs) e = made l e (values_of xs e)
 
-  -- the memory that a term stands for: its own, that of its first child, or that of the environment
-  pub memory_of : Tree Op → Environment → ℕ → ℕ
-  memory_of (node l xs) e = root_memory l e (memory_under xs e) (words_under xs e)
-
-  pub words_under : Trees Op → Environment → List ℕ
-  words_under none e = []
-  words_under (more x xs) e = word_of x e ∷ words_under xs e
-
-  pub memory_under : Trees Op → Environment → ℕ → ℕ
-  memory_under none e = e.memory
-  memory_under (more x xs) e = memory_of x e
+  pub values_of : Trees Op → Environment → List Value
+  values_of none e = []
+  values_of (more x xs) e = value_of x e ∷ values_of xs e

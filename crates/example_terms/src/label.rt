@@ -1,29 +1,47 @@
-//! What stands at the root of a term.
-ghost use Rattle.std.specs.Prelude.{◌≡◌};
+//! What makes a value: the operator of an instruction, and the label at the root of a term.
+ghost use Rattle.std.specs.Prelude.{◌≡◌, [], ◌∷◌, IfSome};
 ghost use Rattle.term_labels.specs.Kinds.{coding_of};
 ghost use Rattle.example_terms.specs.Labels.{op_kinds};
 ghost use Rattle.example_terms.specs.Back.{op_back};
+ghost use Rattle.example_terms.specs.Meaning.{Environment, made, just};
 
-use crate::block::Operator;
 use term_labels::{Label, parts_of, word_of};
 
-/// A label. A term is a word, or all of memory.
+/// An operator. Words have 32 bits.
 #[derive(Clone, Copy, Debug, PartialEq, Eq)]
 pub enum Op {
-    /// The word itself. No children.
+    /// The word itself. No operands.
     Constant(u32),
-    /// The word of a variable. No children.
+    /// The word of a variable. No operands.
     Variable(u16),
-    /// An operator on two words.
-    Apply(Operator),
-    /// A word, and the two that it chooses from: the first where it isn't 0.
+    /// The sum of two words, modulo 2^32.
+    Add,
+    /// The product of two words, modulo 2^32.
+    Multiply,
+    /// 1 where the first word is less than the second, else 0.
+    Less,
+    /// The second value where the first's word isn't 0, else the third.
     Select,
-    /// Memory as it is before the block. No children.
+    /// Memory as it is before the block. No operands.
     Memory,
     /// The word in a memory at an address.
     Load,
-    /// A memory, an address, and the word that stands there afterwards.
+    /// A memory in which a word stands at an address: of the memory before, the address and the word.
     Store,
+}
+
+impl Op {
+    /// What an operator on words makes of two; None for all others.
+    pub fn word(self, a: u32, b: u32) -> Option<u32>
+        ensures { IfSome result (λ n. (e : Environment) → made self e (just e a ∷ just e b ∷ []) ≡ just e n) }
+    {
+        match self {
+            Op::Add => Some(a.wrapping_add(b)),
+            Op::Multiply => Some(a.wrapping_mul(b)),
+            Op::Less => Some(u32::from(a < b)),
+            _ => None,
+        }
+    }
 }
 
 impl Label for Op {
@@ -33,9 +51,9 @@ impl Label for Op {
         match self {
             Op::Constant(n) => word_of(1, u64::from(n)),
             Op::Variable(v) => word_of(2, u64::from(v)),
-            Op::Apply(Operator::Add) => word_of(3, 0),
-            Op::Apply(Operator::Multiply) => word_of(4, 0),
-            Op::Apply(Operator::Less) => word_of(5, 0),
+            Op::Add => word_of(3, 0),
+            Op::Multiply => word_of(4, 0),
+            Op::Less => word_of(5, 0),
             Op::Select => word_of(6, 0),
             Op::Memory => word_of(7, 0),
             Op::Load => word_of(8, 0),
@@ -48,9 +66,9 @@ impl Label for Op {
         match kind {
             1 if content < 4_294_967_296 => Some(Op::Constant(content as u32)),
             2 if content < 65_536 => Some(Op::Variable(content as u16)),
-            3 if content == 0 => Some(Op::Apply(Operator::Add)),
-            4 if content == 0 => Some(Op::Apply(Operator::Multiply)),
-            5 if content == 0 => Some(Op::Apply(Operator::Less)),
+            3 if content == 0 => Some(Op::Add),
+            4 if content == 0 => Some(Op::Multiply),
+            5 if content == 0 => Some(Op::Less),
             6 if content == 0 => Some(Op::Select),
             7 if content == 0 => Some(Op::Memory),
             8 if content == 0 => Some(Op::Load),

@@ -5,63 +5,60 @@
 #![tactic(auto)]
 
 mod block;
-mod fold;
 mod label;
 mod symbolic;
 #[cfg(test)]
 mod tests;
 mod validator;
 
-use crate::block::{Block, Instruction, Operator};
+use crate::block::{Block, Place};
+use crate::label::Op;
 use crate::validator::validate;
-use std::alloc::{AllocError, Global};
+use std::alloc::Global;
 use std::io;
 use std::thread::Threads;
 
-/// (x + 3 * 5) * (x + 3 * 5) + the words at x and at 15, each computed where it is used.
-fn original(alloc: Global) -> Result<Block, AllocError> {
-    let instructions = vec![in alloc;
-        Instruction::Variable(7),
-        Instruction::Constant(3),
-        Instruction::Constant(5),
-        Instruction::Apply(Operator::Multiply, 1, 2),
-        Instruction::Apply(Operator::Add, 0, 3),
-        Instruction::Apply(Operator::Add, 0, 3),
-        Instruction::Apply(Operator::Multiply, 4, 5),
-        Instruction::Load(0),
-        Instruction::Load(3),
-        Instruction::Apply(Operator::Add, 7, 8),
-        Instruction::Apply(Operator::Add, 6, 9),
-        Instruction::Store(0, 10),
-    ]?;
-    Ok(Block {
-        instructions,
-        result: 10,
-    })
+/// (x + 3 * 5) * (x + 3 * 5) + the words at x and at 15, each computed where it is used, which is then stored at x.
+fn original() -> [(Op, &'static [Place]); 13] {
+    [
+        (Op::Variable(7), &[]),
+        (Op::Constant(3), &[]),
+        (Op::Constant(5), &[]),
+        (Op::Multiply, &[1, 2]),
+        (Op::Add, &[0, 3]),
+        (Op::Add, &[0, 3]),
+        (Op::Multiply, &[4, 5]),
+        (Op::Memory, &[]),
+        (Op::Load, &[7, 0]),
+        (Op::Load, &[7, 3]),
+        (Op::Add, &[8, 9]),
+        (Op::Add, &[6, 10]),
+        (Op::Store, &[7, 0, 11]),
+    ]
 }
 
 /// The same, with the product folded, one sum left out, and the loads first and in the other order.
-fn optimised(alloc: Global, folded: u32) -> Result<Block, AllocError> {
-    let instructions = vec![in alloc;
-        Instruction::Constant(folded),
-        Instruction::Variable(7),
-        Instruction::Load(0),
-        Instruction::Load(1),
-        Instruction::Apply(Operator::Add, 1, 0),
-        Instruction::Apply(Operator::Multiply, 4, 4),
-        Instruction::Apply(Operator::Add, 3, 2),
-        Instruction::Apply(Operator::Add, 5, 6),
-        Instruction::Store(1, 7),
-    ]?;
-    Ok(Block {
-        instructions,
-        result: 7,
-    })
+fn optimised(folded: u32) -> [(Op, &'static [Place]); 10] {
+    [
+        (Op::Constant(folded), &[]),
+        (Op::Variable(7), &[]),
+        (Op::Memory, &[]),
+        (Op::Load, &[2, 0]),
+        (Op::Load, &[2, 1]),
+        (Op::Add, &[1, 0]),
+        (Op::Multiply, &[5, 5]),
+        (Op::Add, &[4, 3]),
+        (Op::Add, &[6, 7]),
+        (Op::Store, &[2, 1, 8]),
+    ]
 }
 
 /// Prints whether the optimised block, with this number for 3 * 5, provably means the original.
 fn check(rt: &(impl Threads + Print), alloc: Global, folded: u32) -> io::Result<()> {
-    let (Ok(original), Ok(optimised)) = (original(alloc), optimised(alloc, folded)) else {
+    let (Ok(original), Ok(optimised)) = (
+        Block::of(alloc, &original()),
+        Block::of(alloc, &optimised(folded)),
+    ) else {
         return println!(rt; "memory was refused");
     };
     match validate(rt, alloc, &original, &optimised) {

@@ -1,11 +1,15 @@
 //! Blocks to tickets: a block is run on terms.
-ghost use Rattle.std.specs.Prelude.{IfOk};
+ghost use Rattle.std.specs.Prelude.{◌≡◌, ◌<◌, ◌≤◌, ◌++◌, [], ◌∷◌, List, length, map, slice_index, IfOk, IfSome};
+ghost use Rattle.term_labels.specs.Trees.{Tree, Trees, node};
 ghost use Rattle.term_table.specs.Passes.{IsOf};
-ghost use Rattle.example_terms.specs.Standing.{HasRun};
+ghost use Rattle.term_table.specs.Trees.{Extends};
+ghost use Rattle.example_terms.specs.Labels.{op_coding};
+ghost use Rattle.example_terms.specs.Meaning.{Environment, just, made, value_of, values_of};
+ghost use Rattle.example_terms.specs.Standing.{HasTree, HaveTrees, HasSeen, HasSeenAll, IsValue, StandsFor, HasRun, AreAt};
 
 use crate::block::{Block, Instruction, Place};
-use crate::fold::apply;
 use crate::label::Op;
+use smallvec::SmallVec;
 use std::alloc::{AllocError, Global};
 use term_table::{Pass, TableFull, TermTable, Ticket};
 use thiserror::Error;
@@ -13,8 +17,10 @@ use thiserror::Error;
 /// Why a block was not run.
 #[derive(Clone, Copy, Debug, PartialEq, Eq, Drop, Error)]
 pub enum Fault {
-    #[error("an instruction or the result names a place that has no value yet")]
+    #[error("an instruction or the block names a place that has no value yet")]
     NoValue,
+    #[error("an instruction has more than three operands")]
+    Operands,
     #[error("a pass has linked as many terms as it may")]
     Full,
     #[error("memory was refused")]
@@ -33,13 +39,6 @@ impl From<AllocError> for Fault {
     }
 }
 
-/// The tickets of the values of the instructions that are done, and of memory.
-#[derive(Drop)]
-pub struct Places {
-    pub values: Vec<Ticket>,
-    pub memory: Ticket,
-}
-
 /// The tickets of a block's value and of memory behind it, and the pass that has seen them.
 #[derive(Drop)]
 pub struct Ran {
@@ -48,107 +47,102 @@ pub struct Ran {
     pub memory: Ticket,
 }
 
-impl Places {
-    ghost use Rattle.std.specs.Prelude.{◌≡◌, ◌<◌, ◌++◌, [], ◌∷◌, IfOk, length, slice_index};
-    ghost use Rattle.term_table.specs.Passes.{IsOf};
-    ghost use Rattle.term_table.specs.Trees.{Extends};
-    ghost use Rattle.example_terms.specs.Meaning.{start, state_after, value_of, memory_after};
-    ghost use Rattle.example_terms.specs.Standing.{IsWord, IsMemory, StandsFor};
+// The ticket of the value that was made at a place.
+fn value_at(values: &[Ticket], place: Place) -> Result<Ticket, Fault>
+    ensures { IfOk result (λ t. (t ≡ slice_index values.now place) × (place < length values.now)) }
+{
+    values
+        .get(usize::from(place))
+        .copied()
+        .ok_or(Fault::NoValue)
+}
 
-    /// The ticket of the value that was made at a place.
-    fn value(&self, place: Place) -> Result<Ticket, Fault>
-        ensures { IfOk result (λ t. (t ≡ slice_index self.now.values.items place) × (place < length self.now.values.items)) }
-    {
-        self.values
-            .get(usize::from(place))
-            .copied()
-            .ok_or(Fault::NoValue)
+// The tickets of the values that were made at these places.
+fn values_at(
+    alloc: Global,
+    values: &[Ticket],
+    places: &[Place],
+) -> Result<SmallVec<Ticket, 3>, Fault>
+    ensures { IfOk result (λ found. AreAt values.now places.now found.items × (length found.items ≤ 3)) }
+{
+    if places.len() > 3 {
+        return Err(Fault::Operands);
     }
-
-    /// The ticket of the value that an instruction makes behind those that are done.
-    fn make(
-        &self,
-        table: &TermTable,
-        pass: &mut Pass,
-        instruction: Instruction,
-        _done: &[Instruction],
-    ) -> Result<Ticket, Fault>
-        requires own { IsOf table.now pass.old }
-        requires stands { StandsFor pass.old self.now _done.now }
-        ensures own { IsOf table.now pass.new }
-        ensures extends { Extends pass.old pass.new }
-        ensures word { IfOk result (λ t. IsWord pass.new t (λ e. value_of instruction e (state_after _done.now e (start e)))) }
-    {
-        match instruction {
-            Instruction::Constant(n) => Ok(table.intern(pass, Op::Constant(n), &[])?.ticket),
-            Instruction::Variable(v) => Ok(table.intern(pass, Op::Variable(v), &[])?.ticket),
-            Instruction::Apply(operator, a, b) => {
-                let a = self.value(a)?;
-                let b = self.value(b)?;
-                Ok(apply(table, pass, operator, a, b)?)
-            }
-            Instruction::Select(condition, a, b) => {
-                let condition = self.value(condition)?;
-                let a = self.value(a)?;
-                let b = self.value(b)?;
-                Ok(table.intern(pass, Op::Select, &[condition, a, b])?.ticket)
-            }
-            Instruction::Load(address) => {
-                let address = self.value(address)?;
-                Ok(
-                    table
-                        .intern(pass, Op::Load, &[self.memory, address])?
-                        .ticket,
-                )
-            }
-            Instruction::Store(_, value) => self.value(value),
-        }
-    }
-
-    /// The ticket of memory behind an instruction.
-    fn memory_behind(
-        &self,
-        table: &TermTable,
-        pass: &mut Pass,
-        instruction: Instruction,
-        _done: &[Instruction],
-    ) -> Result<Ticket, Fault>
-        requires own { IsOf table.now pass.old }
-        requires stands { StandsFor pass.old self.now _done.now }
-        ensures own { IsOf table.now pass.new }
-        ensures extends { Extends pass.old pass.new }
-        ensures memory { IfOk result (λ t. IsMemory pass.new t (λ e. memory_after instruction (state_after _done.now e (start e)))) }
-    {
-        let Instruction::Store(address, value) = instruction else {
-            return Ok(self.memory);
-        };
-        let address = self.value(address)?;
-        let value = self.value(value)?;
-        let made = table.intern(pass, Op::Store, &[self.memory, address, value])?;
-        Ok(made.ticket)
-    }
-
-    /// Does one instruction more.
-    fn step(
-        &mut self,
-        table: &TermTable,
-        pass: &mut Pass,
-        instruction: Instruction,
-        _done: &[Instruction],
-    ) -> Result<(), Fault>
-        requires own { IsOf table.now pass.old }
-        requires stands { StandsFor pass.old self.old _done.now }
-        ensures own { IsOf table.now pass.new }
-        ensures stands { IfOk result (λ _. StandsFor pass.new self.new (_done.now ++ instruction ∷ [])) }
-    {
-        let value = self.make(table, pass, instruction, _done)?;
-        let memory = self.memory_behind(table, pass, instruction, _done)?;
-        let Ok(()) = self.values.push(value) else {
+    let mut found = SmallVec::new(alloc);
+    for i in 0..places.len() {
+        let Ok(()) = found.push(value_at(values, places[i])?) else {
             return Err(Fault::NoMemory);
         };
-        self.memory = memory;
-        Ok(())
     }
+    Ok(found)
+}
+
+// The word of a term, where it is a constant.
+fn known(table: &TermTable, pass: &mut Pass, ticket: Ticket) -> Option<u32>
+    requires own { IsOf table.now pass.old }
+    requires seen { HasSeen pass.old ticket }
+    ensures own { IsOf table.now pass.new }
+    ensures extends { Extends pass.old pass.new }
+    ensures word { (x : Tree Op) → HasTree pass.old ticket x → IfSome result (λ n. (e : Environment) → value_of x e ≡ just e n) }
+{
+    match table.read::<Op>(pass, ticket).label {
+        Op::Constant(n) => Some(n),
+        _ => None,
+    }
+}
+
+// The word that an operator makes of two terms, where both are constants.
+fn folded(table: &TermTable, pass: &mut Pass, op: Op, operands: &[Ticket]) -> Option<u32>
+    requires own { IsOf table.now pass.old }
+    requires seen { HasSeenAll pass.old operands.now }
+    ensures own { IsOf table.now pass.new }
+    ensures extends { Extends pass.old pass.new }
+    ensures word { (xs : Trees Op) → HaveTrees pass.old operands.now xs → IfSome result (λ n. (e : Environment) → made op e (values_of xs e) ≡ just e n) }
+{
+    if operands.len() != 2 {
+        return None;
+    }
+    let first = known(table, pass, operands[0]);
+    let second = known(table, pass, operands[1]);
+    op.word(first?, second?)
+}
+
+// The ticket of what an operator makes of these terms. Constants are folded.
+fn make(
+    table: &TermTable,
+    pass: &mut Pass,
+    op: Op,
+    operands: &[Ticket],
+) -> Result<Ticket, TableFull>
+    requires own { IsOf table.now pass.old }
+    requires seen { HasSeenAll pass.old operands.now }
+    requires few { length operands.now ≤ 3 }
+    ensures own { IsOf table.now pass.new }
+    ensures extends { Extends pass.old pass.new }
+    ensures value { (xs : Trees Op) → HaveTrees pass.old operands.now xs → IfOk result (λ t. IsValue pass.new t (λ e. made op e (values_of xs e))) }
+{
+    if let Some(word) = folded(table, pass, op, operands) {
+        return Ok(table.intern(pass, Op::Constant(word), &[])?.ticket);
+    }
+    Ok(table.intern(pass, op, operands)?.ticket)
+}
+
+// The ticket of the value that an instruction makes behind those that are done.
+fn step(
+    table: &TermTable,
+    alloc: Global,
+    pass: &mut Pass,
+    values: &[Ticket],
+    instruction: &Instruction,
+    _done: &[Instruction],
+) -> Result<Ticket, Fault>
+    requires own { IsOf table.now pass.old }
+    requires stands { StandsFor pass.old values.now _done.now }
+    ensures own { IsOf table.now pass.new }
+    ensures stands { IfOk result (λ t. StandsFor pass.new (values.now ++ t ∷ []) (_done.now ++ instruction.now ∷ [])) }
+{
+    let operands = values_at(alloc, values, instruction.operands.as_slice())?;
+    Ok(make(table, pass, instruction.op, operands.as_slice())?)
 }
 
 /// Runs a block on terms.
@@ -156,19 +150,26 @@ pub fn run(table: &TermTable, alloc: Global, mut pass: Pass, block: &Block) -> R
     requires { IsOf table.now pass }
     ensures { IfOk result (HasRun table.now block.now) }
 {
-    let memory = table.intern(&mut pass, Op::Memory, &[])?.ticket;
-    let mut places = Places {
-        values: Vec::new(alloc),
-        memory,
-    };
-    let instructions = block.instructions.as_slice();
-    for i in 0..instructions.len() {
-        places.step(table, &mut pass, instructions[i], &instructions[..i])?;
+    let mut values = Vec::new(alloc);
+    let code = block.instructions.as_slice();
+    for i in 0..code.len() {
+        let value = step(
+            table,
+            alloc,
+            &mut pass,
+            values.as_slice(),
+            &code[i],
+            &code[..i],
+        )?;
+        let Ok(()) = values.push(value) else {
+            return Err(Fault::NoMemory);
+        };
     }
-    let value = places.value(block.result)?;
+    let value = value_at(values.as_slice(), block.value)?;
+    let memory = value_at(values.as_slice(), block.memory)?;
     Ok(Ran {
         pass,
         value,
-        memory: places.memory,
+        memory,
     })
 }

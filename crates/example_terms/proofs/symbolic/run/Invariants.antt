@@ -4,4 +4,4 @@ use Rattle.example_terms.specs.Standing.{StandsFor}
 use Rattle.example_terms.proofs.symbolic.run.Given as goal
 
 abbrev pub invariant-loop-i : goal.invariant-loop-i
-invariant-loop-i l = IsOf l.table l.pass × StandsFor l.pass l.places (take l.i l.instructions)
+invariant-loop-i l = IsOf l.table l.pass × StandsFor l.pass l.values.items (take l.i l.code)
