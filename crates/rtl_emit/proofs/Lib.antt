@@ -5,3 +5,4 @@ pub mod Values
 pub mod Conditions
 pub mod Emitted
 pub mod Sound
+pub mod Emitting

@@ -1,16 +1,17 @@
 -- Each operator of C by an operator of RTL.
-use Rattle.std.proofs.Common.{◌≡◌, Bool, true, false, Some, refl, sym, subst}
-use Rattle.std.specs.Prelude.{not, ◌==◌, if◌then◌else◌}
+use Rattle.std.proofs.Common.{◌≡◌, Bool, true, false, Some, refl, sym, ◌∙◌, subst}
+use Rattle.std.specs.Prelude.{not, ◌==◌, ◌-◌, ◌^◌, if◌then◌else◌}
 use Rattle.c_tree.specs.declared.tree.BinaryOp.{BinaryOp}
 use Rattle.c_tree.specs.declared.tree.BinaryOp.TheVariants as B
+use Rattle.c_tree.specs.declared.tree.UnaryOp.TheVariants as U
 use Rattle.words.specs.declared.sign.Sign.{Sign}
 use Rattle.words.specs.declared.sign.Sign.TheVariants.{Signed, Unsigned}
 use Rattle.words.specs.C.{is_below}
 use Rattle.c_typed.specs.Values.{truth}
 use Rattle.rtl.specs.declared.operator.Op.{Op}
 use Rattle.rtl.specs.declared.operator.Op.TheVariants as O
-use Rattle.rtl.proofs.Computing.{sum-is, difference-is, product-is, left_shift-is, right_shift-is}
-use Rattle.rtl_emit.specs.Operations.{by_sign, Computes, ComputesContrary}
+use Rattle.rtl.proofs.Computing.{sum-is, difference-is, product-is, left_shift-is, right_shift-is, negation-is, complement-is}
+use Rattle.rtl_emit.specs.Operations.{by_sign, Computes, ComputesPrefix, ComputesContrary}
 use Rattle.rtl_emit.specs.declared.operation.Operation.{Operation}
 
 abbrev pub straight_op : Op → Operation
@@ -107,3 +108,14 @@ not_equal s = record { both = λ l r. refl; by = λ x y. (x == y, refl, refl) }
 
 pub not_different : (s : Sign) → ComputesContrary B.NotEqual s (straight_op O.Eq)
 not_different s = record { both = λ l r. refl; by = λ x y. (not (x == y), refl, not_not (x == y)) }
+
+-- prefix operators
+
+pub negates : ComputesPrefix U.Negate (record { operation = turned_op O.Sub; word = 0 })
+negates = record { by = λ s x v wx is. negation-is s x v wx is }
+
+pub complements : ComputesPrefix U.Complement (record { operation = straight_op O.Xor; word = 2 ^ 32 - 1 })
+complements = record { by = λ s x v wx is. complement-is x wx ∙ is }
+
+pub nots : ComputesPrefix U.Not (record { operation = straight_op O.Eq; word = 0 })
+nots = record { by = λ s x v wx is. is }

@@ -1,21 +1,15 @@
 -- Sound code of sound parts.
-use Rattle.std.proofs.Common.{◌≡◌, ℕ, zero, suc, ◌+◌, ◌<◌, ◌≤◌, max, Bool, true, false, List, [], ◌∷◌, ◌++◌, refl, sym, ap, subst, arith, length}
+use Rattle.std.proofs.Common.{◌≡◌, ℕ, zero, suc, Bool, true, false, List, [], ◌∷◌, ◌++◌, sym, subst}
 use Rattle.std.specs.Prelude.{if◌then◌else◌, slice_set}
 use Rattle.std.proofs.lemmas.List.Elements.{All-nil, All-cons}
-use Rattle.c_tokens.specs.declared.token.IntegerType.{IntegerType}
-use Rattle.c_tree.specs.declared.tree.BinaryOp.{BinaryOp}
-use Rattle.c_tree.specs.declared.tree.UnaryOp.{UnaryOp}
-use Rattle.c_typed.specs.Trees.{TypedExpression, global, element, unary, binary, conditional}
 use Rattle.rtl.specs.Programs.{IsRegister, IsInst, IsExit}
 use Rattle.rtl.specs.Meaning.{Code, code_of}
 use Rattle.rtl.specs.declared.instruction.RInst.{RInst}
 use Rattle.rtl.specs.declared.instruction.RInst.TheVariants.{Bin}
 use Rattle.rtl.specs.declared.instruction.RExit.{RExit}
-use Rattle.rtl.specs.declared.operator.Op.{Op}
 use Rattle.rtl.specs.declared.block.RBlock.{RBlock}
 use Rattle.rtl_emit.specs.Blocks.{exit_code, first, Spot, Block, Line, line_of}
 use Rattle.rtl_emit.specs.Operations.{inst_of}
-use Rattle.rtl_emit.specs.Sizes.{globals_named, globals_named_in}
 use Rattle.rtl_emit.specs.Sound.{Scope, IsSound, IsSoundSpot, AreSound}
 use Rattle.rtl_emit.specs.declared.operation.Operation.{Operation}
 
@@ -58,35 +52,3 @@ pub sound_set : (s : Scope) (old : List RBlock) (n : ℕ) (b : RBlock) (c : Code
 sound_set s [] n b c is g h = g
 sound_set s (x ∷ l) zero b c is g h = (sound_along is h, g.1)
 sound_set s (x ∷ l) (suc n) b c is g h = (g.0, sound_set s l n b c is g.1 h)
-
--- the globals that the parts of an expression name
-
-pub named_global : (e : TypedExpression) (a a' : ℕ) (k : IntegerType) (g : ℕ) → e ≡ global a k → a' ≡ a → globals_named e ≤ g → a' < g
-named_global e a a' k g is ia h = let n = ap globals_named is in omega (arith, n, ia, h)
-
-pub named_element : (e : TypedExpression) (a a' : ℕ) (k : IntegerType) (i i' : TypedExpression) (g : ℕ) → e ≡ element a k i → a' ≡ a → i' ≡ i
-    → globals_named e ≤ g
-    → (a' < g) × (globals_named i' ≤ g)
-named_element e a a' k i i' g is ia ii h =
-    let n = ap globals_named is in let m = ap globals_named ii in (omega (arith, n, ia, h), omega (arith, n, m, h))
-
-pub named_unary : (e : TypedExpression) (o : UnaryOp) (k : IntegerType) (a a' : TypedExpression) (g : ℕ) → e ≡ unary o k a → a' ≡ a → globals_named e ≤ g
-    → globals_named a' ≤ g
-named_unary e o k a a' g is ia h = let n = ap globals_named is in let m = ap globals_named ia in omega (arith, n, m, h)
-
-pub named_binary : (e : TypedExpression) (o : BinaryOp) (k : IntegerType) (a b a' b' : TypedExpression) (g : ℕ) → e ≡ binary o k a b → a' ≡ a → b' ≡ b
-    → globals_named e ≤ g
-    → (globals_named a' ≤ g) × (globals_named b' ≤ g)
-named_binary e o k a b a' b' g is ia ib h =
-    let n = ap globals_named is in let m = ap globals_named ia in let l = ap globals_named ib in (omega (arith, n, m, h), omega (arith, n, l, h))
-
-pub named_conditional : (e : TypedExpression) (k : IntegerType) (c a b c' a' b' : TypedExpression) (g : ℕ) → e ≡ conditional k c a b → c' ≡ c → a' ≡ a
-    → b' ≡ b → globals_named e ≤ g
-    → (globals_named c' ≤ g) × ((globals_named a' ≤ g) × (globals_named b' ≤ g))
-named_conditional e k c a b c' a' b' g is ic ia ib h =
-    let n = ap globals_named is in let j = ap globals_named ic in let m = ap globals_named ia in let l = ap globals_named ib in
-    (omega (arith, n, j, h), (omega (arith, n, m, h), omega (arith, n, l, h)))
-
-pub named_list : (all : List TypedExpression) (e : TypedExpression) (es : List TypedExpression) (g : ℕ) → all ≡ e ∷ es → globals_named_in all ≤ g
-    → (globals_named e ≤ g) × (globals_named_in es ≤ g)
-named_list all e es g is h = let n = ap globals_named_in is in (omega (arith, n, h), omega (arith, n, h))

@@ -1,10 +1,10 @@
 -- What the code of a value does.
 use Rattle.std.proofs.Common.{◌≡◌, ◌≢◌, ℕ, ◌<◌, ◌≤◌, ◌⊎◌, inl, inr, Bool, true, false, List, [], ◌∷◌, Some, refl, sym, ◌∙◌, ap}
 use Rattle.std.proofs.Common.{subst, arith, nat_eq}
-use Rattle.std.specs.Prelude.{map, if◌then◌else◌, ◌-◌, ◌^◌}
+use Rattle.std.specs.Prelude.{map, if◌then◌else◌}
 use Rattle.std.proofs.lemmas.Bool.Decides.{eqb_tells}
 use Rattle.words.specs.Words.{wrap}
-use Rattle.runs.specs.Stores.{Places, places_with, chain, element_at, IsWord}
+use Rattle.runs.specs.Stores.{Places, places_with, chain, element_at}
 use Rattle.runs.specs.Runs.{with_value}
 use Rattle.c_tokens.specs.declared.token.IntegerType.{IntegerType}
 use Rattle.c_tokens.specs.declared.token.Literal.{Literal}
@@ -15,19 +15,17 @@ use Rattle.c_typed.specs.Trees.{TypedExpression, constant, local, global, elemen
 use Rattle.c_typed.specs.Values.{sign_of, unary_of, binary_of, value_of, values_of}
 use Rattle.c_typed.proofs.Values.{value-word}
 use Rattle.rtl.specs.declared.operator.Op.{Op}
-use Rattle.rtl.specs.declared.operator.Op.TheVariants as O
 use Rattle.rtl.specs.declared.instruction.RInst.TheVariants as I
 use Rattle.rtl.specs.declared.block.RBlock.{RBlock}
 use Rattle.rtl.specs.Operators.{op_result}
 use Rattle.rtl.specs.Meaning.{Code, rtl_step, words_in}
-use Rattle.rtl.proofs.Computing.{negation-is, complement-is}
-use Rattle.rtl_emit.specs.Operations.{result_of, inst_of, Computes}
+use Rattle.rtl_emit.specs.Operations.{inst_of, Computes, ComputesPrefix}
 use Rattle.rtl_emit.specs.Blocks.{first}
 use Rattle.rtl_emit.specs.Runs.{Goes, Surroundings, at, Holds, Yields, Takes}
 use Rattle.rtl_emit.specs.Expressions.{Reads, IsPlace, Evaluates, Fetches, Operates, Combines, ArePlaces, FetchAll}
+use Rattle.rtl_emit.specs.declared.operation.Combination.{Combination}
 use Rattle.rtl_emit.specs.declared.operation.Operation.{Operation}
 use Rattle.rtl_emit.specs.declared.place.Place.{Place}
-use Rattle.rtl_emit.proofs.Operations.{straight_op, turned_op}
 use Rattle.rtl_emit.proofs.Steps.{goes_nowhere, goes_then, goes_one, moves_one, moves_then, moves_after, goes_of, with_some, chained, written_here}
 use Rattle.rtl_emit.proofs.Steps.{written_other, holds_kept}
 
@@ -201,30 +199,14 @@ combines bs op e c d free p next z from after pl le f = record {
 }
 
 -- a prefix operator by an operation at a constant
-prefix_value : (bs : List RBlock) (o : UnaryOp) (k : IntegerType) (op : Operation) (c : ℕ) (e : TypedExpression) (d free : ℕ) (from after : Code)
-    → ((x v : ℕ) → IsWord x → unary_of o (sign_of k) x ≡ Some v → result_of op x (wrap c) ≡ Some v)
-    → Combines bs op e c free d from after → Evaluates bs (unary o k e) free d from after
-prefix_value bs o k op c e d free from after fits o' = record {
+pub prefix_value : (bs : List RBlock) (o : UnaryOp) (k : IntegerType) (with : Combination) (e : TypedExpression) (d free : ℕ) (from after : Code)
+    → ComputesPrefix o with → Combines bs with.operation e with.word free d from after → Evaluates bs (unary o k e) free d from after
+prefix_value bs o k with e d free from after fits o' = record {
   by = λ w l r v h is.
       let g = w.globals in
       let ch = chained (value_of e l g) (λ x. unary_of o (sign_of k) x) v is in
-      o'.by w l r ch.value v h ch.is (fits ch.value v (value-word e l g h.locals h.globals ch.value ch.is) ch.then_is);
+      o'.by w l r ch.value v h ch.is (fits.by (sign_of k) ch.value v (value-word e l g h.locals h.globals ch.value ch.is) ch.then_is);
 }
-
-pub negation_value : (bs : List RBlock) (k : IntegerType) (e : TypedExpression) (d free : ℕ) (from after : Code)
-    → Combines bs (turned_op O.Sub) e 0 free d from after → Evaluates bs (unary U.Negate k e) free d from after
-negation_value bs k e d free from after c =
-    prefix_value bs U.Negate k (turned_op O.Sub) 0 e d free from after (λ x v wx is. negation-is (sign_of k) x v wx is) c
-
-pub complement_value : (bs : List RBlock) (k : IntegerType) (e : TypedExpression) (d free : ℕ) (from after : Code)
-    → Combines bs (straight_op O.Xor) e (2 ^ 32 - 1) free d from after → Evaluates bs (unary U.Complement k e) free d from after
-complement_value bs k e d free from after c =
-    prefix_value bs U.Complement k (straight_op O.Xor) (2 ^ 32 - 1) e d free from after (λ x v wx is. complement-is x wx ∙ is) c
-
-pub not_value : (bs : List RBlock) (k : IntegerType) (e : TypedExpression) (d free : ℕ) (from after : Code)
-    → Combines bs (straight_op O.Eq) e 0 free d from after → Evaluates bs (unary U.Not k e) free d from after
-not_value bs k e d free from after c =
-    prefix_value bs U.Not k (straight_op O.Eq) 0 e d free from after (λ x v wx is. is) c
 
 pub identity_value : (bs : List RBlock) (k : IntegerType) (e : TypedExpression) (d free : ℕ) (from after : Code)
     → Evaluates bs e free d from after → Evaluates bs (unary U.Identity k e) free d from after

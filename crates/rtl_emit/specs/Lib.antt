@@ -5,3 +5,4 @@ pub mod Runs
 pub mod Expressions
 pub mod Sizes
 pub mod Sound
+pub mod Emits

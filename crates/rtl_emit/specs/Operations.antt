@@ -1,18 +1,24 @@
 -- Which operator of RTL computes an operator of C (C99 6.5.5 to 6.5.14), and which one computes the contrary of a test.
-use Rattle.std.specs.Prelude.{◌≡◌, ℕ, Bool, not, Option, Some, if◌then◌else◌}
+use Rattle.std.specs.Prelude.{◌≡◌, ◌≢◌, ℕ, Bool, true, false, not, Option, Some, if◌then◌else◌}
 use Rattle.c_tree.specs.declared.tree.BinaryOp.{BinaryOp}
 use Rattle.c_tree.specs.declared.tree.BinaryOp.TheVariants as B
+use Rattle.c_tree.specs.declared.tree.UnaryOp.{UnaryOp}
+use Rattle.c_tree.specs.declared.tree.UnaryOp.TheVariants as U
+use Rattle.words.specs.Words.{wrap}
 use Rattle.words.specs.declared.sign.Sign.{Sign}
 use Rattle.words.specs.declared.sign.Sign.TheVariants.{Signed, Unsigned}
 use Rattle.runs.specs.Stores.{IsWord, chain}
-use Rattle.c_typed.specs.Values.{truth, binary_of, binary_value}
+use Rattle.c_typed.specs.Values.{truth, unary_of, binary_of, binary_value}
 use Rattle.rtl.specs.declared.operator.Op.{Op}
 use Rattle.rtl.specs.declared.instruction.RInst.{RInst}
 use Rattle.rtl.specs.declared.instruction.RInst.TheVariants.{Bin}
 use Rattle.rtl.specs.Operators.{truth_word, op_result}
 use Rattle.rtl_emit.specs.declared.operation.Operation.{Operation}
+use Rattle.rtl_emit.specs.declared.operation.Combination.{Combination}
 use Rattle.rtl_emit.specs.declared.operation.Form.{Form}
 use Rattle.rtl_emit.specs.declared.operation.Form.TheVariants as F
+use Rattle.rtl_emit.specs.declared.operation.Prefix.{Prefix}
+use Rattle.rtl_emit.specs.declared.operation.Prefix.TheVariants as P
 
 -- one operator for words read as signed numbers, another for words as they are
 abbrev pub by_sign : Sign → Op → Op → Op
@@ -45,3 +51,12 @@ IsForm o s (F.Plain op) = Computes o s op
 pub record ComputesContrary (o : BinaryOp) (s : Sign) (op : Operation) : Type 0 where
   pub both : EvaluatesBoth o s
   pub by : (x y : ℕ) → (z : Bool) × (binary_of o s x y ≡ Some (truth z)) × (result_of op x y ≡ Some (truth_word (not z)))
+
+-- a word whose value by a prefix operator an operation with a constant gives, wherever C gives it one
+pub record ComputesPrefix (o : UnaryOp) (with : Combination) : Type 0 where
+  pub by : (s : Sign) (x v : ℕ) → IsWord x → unary_of o s x ≡ Some v → result_of with.operation x (wrap with.word) ≡ Some v
+
+abbrev pub IsPrefix : UnaryOp → (by_branches : Bool) → Prefix → Type 0
+IsPrefix o b P.Same = o ≡ U.Identity
+IsPrefix o b P.Branches = (o ≡ U.Not) × (b ≡ true)
+IsPrefix o b (P.Combined with) = (o ≢ U.Identity) × ((o ≡ U.Not → b ≡ false) × ComputesPrefix o with)

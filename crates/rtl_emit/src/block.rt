@@ -1,4 +1,5 @@
-ghost use Rattle.std.specs.Prelude.{◌≡◌, ◌++◌, ◌∷◌, ◌+◌, ◌<◌, ◌≤◌, [], List, length, IfOk, IfErr, OnOk};
+// Blocks that are being made, from their exit on backwards, and the list that they are added to.
+ghost use Rattle.std.specs.Prelude.{◌≡◌, ◌++◌, ◌∷◌, ◌+◌, ◌<◌, ◌≤◌, [], List, length, IfOk, IfErr, OnOk, OnErr};
 ghost use Rattle.rtl.specs.declared.limits.TheConstants.{MAX_BLOCKS};
 ghost use Rattle.rtl_emit.specs.Sizes.{joint};
 ghost use Rattle.rtl_emit.specs.Sound.{IsSound, IsSoundSpot, AreSound, KeepsSound, Scope};
@@ -61,12 +62,15 @@ pub fn put_before(alloc: Global, inst: RInst, after: Continuation) -> Result<Ope
     Ok(from)
 }
 
-/// A block that begins there: no new one for a block that is there. A function with more than 1,048,575 blocks is a Limit.
+/// A block that begins there: no new one for a block that is there. A function with more than 1,048,575 blocks is a Limit. After an
+/// Err the blocks are as they were.
 pub fn sealed(blocks: &mut Vec<RBlock>, after: Continuation) -> Result<BlockNumber, LowerFault>
-    ensures grows { OnOk result (Grows blocks.old.items blocks.new.items) }
+    ensures grows { Grows blocks.old.items blocks.new.items }
+    ensures left { OnErr result (blocks.new.items ≡ blocks.old.items) }
     ensures count { OnOk result (length blocks.new.items ≡ length blocks.old.items + joint (spot after)) }
     ensures limit { IfErr result (λ f. f ≡ LowerFault.Limit → MAX_BLOCKS < length blocks.old.items + joint (spot after)) }
-    ensures sound { IfOk result (λ b. KeepsSound blocks.old.items blocks.new.items (λ s. IsSoundSpot s (spot after)) (λ s. b < s.blocks)) }
+    ensures sound { IfOk result (λ b. KeepsSound blocks.old.items blocks.new.items (λ s. IsSoundSpot s (spot after))
+        (λ s. b < s.blocks)) }
     ensures lands { IfOk result (λ b. (bs : List RBlock) → Has bs blocks.old.items blocks.new.items → Lands bs b (spot after)) }
 {
     match after {
@@ -80,10 +84,12 @@ pub fn sealed(blocks: &mut Vec<RBlock>, after: Continuation) -> Result<BlockNumb
 
 // The code as a block of its own; a Limit as for `sealed`.
 pub(crate) fn seal(blocks: &mut Vec<RBlock>, code: OpenBlock) -> Result<BlockNumber, LowerFault>
-    ensures grows { OnOk result (Grows blocks.old.items blocks.new.items) }
+    ensures grows { Grows blocks.old.items blocks.new.items }
+    ensures left { OnErr result (blocks.new.items ≡ blocks.old.items) }
     ensures count { OnOk result (length blocks.new.items ≡ length blocks.old.items + 1) }
     ensures limit { IfErr result (λ f. f ≡ LowerFault.Limit → MAX_BLOCKS < length blocks.old.items + 1) }
-    ensures sound { IfOk result (λ b. KeepsSound blocks.old.items blocks.new.items (λ s. IsSound s (open_code code)) (λ s. b < s.blocks)) }
+    ensures sound { IfOk result (λ b. KeepsSound blocks.old.items blocks.new.items (λ s. IsSound s (open_code code))
+        (λ s. b < s.blocks)) }
     ensures at { IfOk result (λ b. (bs : List RBlock) → Has bs blocks.old.items blocks.new.items → At bs b (open_code code)) }
 {
     let number = blocks.len();
@@ -98,14 +104,16 @@ pub(crate) fn seal(blocks: &mut Vec<RBlock>, code: OpenBlock) -> Result<BlockNum
 
 // One more block.
 fn put_block(blocks: &mut Vec<RBlock>, block: RBlock) -> Result<(), AllocError>
-    ensures { OnOk result (blocks.new.items ≡ blocks.old.items ++ block ∷ []) }
+    ensures added { OnOk result (blocks.new.items ≡ blocks.old.items ++ block ∷ []) }
+    ensures left { OnErr result (blocks.new.items ≡ blocks.old.items) }
 {
     blocks.push(block)?;
     Ok(())
 }
 
-/// A block that is filled later, and its number; a Limit as for `sealed`.
+/// A block that is filled later, and its number; a Limit as for `sealed`, and after an Err the blocks are as they were.
 pub fn reserve(alloc: Global, blocks: &mut Vec<RBlock>) -> Result<BlockNumber, LowerFault>
+    ensures left { OnErr result (blocks.new.items ≡ blocks.old.items) }
     ensures limit { IfErr result (λ f. f ≡ LowerFault.Limit → MAX_BLOCKS < length blocks.old.items + 1) }
     ensures sound { OnOk result ((s : Scope) → AreSound s blocks.old.items → AreSound s blocks.new.items) }
     ensures reserves { IfOk result (λ b. Reserves blocks.old.items blocks.new.items b) }

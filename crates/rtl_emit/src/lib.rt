@@ -10,6 +10,10 @@
 //! (`place_of`), and code for later operands keeps it. `&&`, `||` and `?:` become branches (`condition`), whose likely
 //! target stands first.
 //!
+//! Who adds blocks promises `Emits` (`specs/Emits.antt`): the blocks that were there stay at the front, after an Err too; an Ok
+//! adds so many, is within the limits, keeps what is sound, and does its work. Code before the last part of an expression is
+//! made apart (`waiting`): it waits for the values of operands in their places.
+//!
 //! A contract speaks of every list of blocks that has those which the call has added: `specs/Expressions.antt` says what
 //! the code does there (`Evaluates`, `Fetches`, `Decides`, `FetchAll`), by the meaning of RTL (`rtl_run`) and that of
 //! typed expressions (`value_of`), wherever the locals are in their registers and locals and globals hold words.
@@ -23,6 +27,8 @@
 //! - The code of an expression leaves its value in the register that is asked for (`value_into`, `Evaluates`) or in the
 //!   operand's own (`operand_into`, `Fetches`), that of a condition comes to one of two blocks (`condition`,
 //!   `Decides`), and the registers of the locals stay: whatever other blocks there are.
+//! - After an Err `sealed` and `reserve` have left the blocks as they were, the other calls have at most added some behind
+//!   them, and `places_of` at most places behind those that were there.
 #![tactic(auto)]
 
 mod block;
@@ -30,6 +36,8 @@ mod expression;
 mod fault;
 mod operation;
 mod place;
+mod targets;
+mod waiting;
 
 pub use block::{
     Continuation, OpenBlock, fill, leaving, opened, put_before, put_first, reserve, sealed,
@@ -37,3 +45,4 @@ pub use block::{
 pub use expression::{condition, operand_into, operands_into, value_into};
 pub use fault::LowerFault;
 pub use place::{Place, place_of, places_of, register_of, registers_of};
+pub use targets::Targets;

@@ -1,10 +1,11 @@
+// Which operation of RTL computes an operator of C.
 ghost use Rattle.std.specs.Prelude.{◌≡◌, true, false, is_some, IfSome};
 ghost use Rattle.rtl_emit.specs.Sizes.{has_contrary, is_logical, is_by_branches};
 ghost use Rattle.c_typed.specs.Values.{sign_of};
-ghost use Rattle.rtl_emit.specs.Operations.{by_sign, inst_of, IsForm, ComputesContrary};
+ghost use Rattle.rtl_emit.specs.Operations.{by_sign, inst_of, IsForm, IsPrefix, ComputesContrary};
 
 use c_tokens::IntegerType;
-use c_tree::BinaryOp;
+use c_tree::{BinaryOp, UnaryOp};
 use rtl::{Op, RInst, Register};
 
 // An operator of RTL at two words, or at the same words turned round.
@@ -12,6 +13,13 @@ use rtl::{Op, RInst, Register};
 pub(crate) struct Operation {
     pub(crate) op: Op,
     pub(crate) turned: bool,
+}
+
+// An operator of RTL whose other word is a constant.
+#[derive(Clone, Copy)]
+pub(crate) struct Combination {
+    pub(crate) operation: Operation,
+    pub(crate) word: u32,
 }
 
 // How a binary operator of C is computed: `&&` and `||` by branches, any other by one operation.
@@ -83,6 +91,41 @@ pub(crate) fn form_of(operator: BinaryOp, integer_type: IntegerType) -> Form
         BinaryOp::BitOr => Form::Plain(straight(Op::Or)),
         BinaryOp::LogicalAnd => Form::LogicalAnd,
         BinaryOp::LogicalOr => Form::LogicalOr,
+    }
+}
+
+// How a prefix operator is computed: its value is its operand's, or branches tell it, or one operation computes it.
+#[derive(Clone, Copy)]
+pub(crate) enum Prefix {
+    Same,
+    Branches,
+    Combined(Combination),
+}
+
+// How a prefix operator is computed at an operand whose own value may be told by branches.
+pub(crate) fn prefix_of(operator: UnaryOp, by_branches: bool) -> Prefix
+    ensures { IsPrefix operator by_branches result }
+{
+    match operator {
+        UnaryOp::Identity => Prefix::Same,
+        UnaryOp::Negate => Prefix::Combined(Combination {
+            operation: turned(Op::Sub),
+            word: 0,
+        }),
+        UnaryOp::Complement => Prefix::Combined(Combination {
+            operation: straight(Op::Xor),
+            word: u32::MAX,
+        }),
+        UnaryOp::Not => {
+            if by_branches {
+                Prefix::Branches
+            } else {
+                Prefix::Combined(Combination {
+                    operation: straight(Op::Eq),
+                    word: 0,
+                })
+            }
+        }
     }
 }
 

@@ -1,6 +1,8 @@
-ghost use Rattle.std.specs.Prelude.{◌≡◌, ◌++◌, ◌∷◌, ◌+◌, [], ◌<◌, ◌≤◌, map, IfOk, IfErr, OnOk};
+// Registers for the values of operands.
+ghost use Rattle.std.specs.Prelude.{◌≡◌, ◌++◌, ◌∷◌, ◌+◌, [], ◌<◌, ◌≤◌, map, List, IfOk, IfErr, OnOk, OnErr};
 ghost use Rattle.c_typed.specs.Shape.{typed_expression_of, typed_expressions_of};
 ghost use Rattle.rtl.specs.declared.limits.TheConstants.{MAX_REGISTERS};
+ghost use Rattle.rtl_emit.specs.declared.place.Place.{Place};
 ghost use Rattle.rtl_emit.specs.Expressions.{IsPlace, AddPlaces};
 ghost use Rattle.rtl_emit.specs.Sizes.{place_registers, places_registers};
 
@@ -57,12 +59,14 @@ pub fn place_of(e: &TypedExpression, free: Register) -> Result<Place, LowerFault
     })
 }
 
-/// Places for the values of a list, behind others. A Limit where the registers don't suffice.
+/// Places for the values of a list, behind others, which stay at the front after an Err too. A Limit where the registers
+/// don't suffice.
 pub fn places_of(
     es: &[TypedExpression],
     free: Register,
     places: &mut Vec<Place>,
 ) -> Result<(), LowerFault>
+    ensures begins { (more : List Place) × (places.new.items ≡ places.old.items ++ more) }
     ensures places { OnOk result (AddPlaces (typed_expressions_of es.now) free places.old.items places.new.items) }
     ensures room { OnOk result (places_registers (typed_expressions_of es.now) free ≤ MAX_REGISTERS) }
     ensures limit { IfErr result (λ f. f ≡ LowerFault.Limit → MAX_REGISTERS < places_registers (typed_expressions_of es.now) free) }
@@ -78,7 +82,8 @@ pub fn places_of(
 
 // One more place.
 fn put_place(places: &mut Vec<Place>, place: Place) -> Result<(), AllocError>
-    ensures { OnOk result (places.new.items ≡ places.old.items ++ place ∷ []) }
+    ensures added { OnOk result (places.new.items ≡ places.old.items ++ place ∷ []) }
+    ensures left { OnErr result (places.new.items ≡ places.old.items) }
 {
     places.push(place)?;
     Ok(())

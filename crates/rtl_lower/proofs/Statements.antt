@@ -10,12 +10,19 @@ use Rattle.rtl.specs.declared.instruction.RExit.TheVariants as X
 use Rattle.rtl.specs.declared.block.RBlock.{RBlock}
 use Rattle.rtl.specs.Meaning.{Code, code_of, words_in, state_after_call}
 use Rattle.rtl_emit.specs.Blocks.{exit_code, first, Spot, Block, Line, line_of, Lands, Grows, Has, At, Reserves, Fills}
-use Rattle.rtl_emit.specs.Expressions.{IsPlace, AddPlaces, FetchAll}
+use Rattle.rtl_emit.specs.Expressions.{IsPlace, AddPlaces, Fetches, Decides, FetchAll}
 use Rattle.rtl_emit.specs.declared.place.Place.{Place}
 use Rattle.rtl_emit.proofs.Blocks.{grows_then, split2, split5, split6}
-use Rattle.rtl_emit.proofs.Emitted.{Over, Joins, Finds, Ways, finds_to}
+use Rattle.rtl_emit.proofs.Emitted.{Over, Joins, finds_to}
 use Rattle.rtl_lower.specs.Coded.{Receives, IsTurn, Coded, CodedAll}
 use Rattle.rtl_lower.proofs.Spots.{comes_join}
+
+-- what was emitted for an operand, and for a condition
+abbrev Finds : List RBlock → List RBlock → TypedExpression → (free p : ℕ) → Code → Code → Type 0
+Finds old new e free p from after = Over old new (λ bs. Fetches bs e free p from after)
+
+abbrev Ways : List RBlock → List RBlock → TypedExpression → (free y n : ℕ) → Code → Type 0
+Ways old new e free y n from = Over old new (λ bs. Decides bs e free y n from)
 
 -- what was emitted for a statement
 abbrev pub Makes : List RBlock → List RBlock → ℕ → TypedStatement → (leave : ℕ) (next : Option ℕ) → Spot → Spot → Type 0

@@ -1,3 +1,4 @@
+// A function of a typed program as a function of RTL.
 ghost use Rattle.std.specs.Prelude.{◌≡◌, ◌≤◌, ◌<◌, ◌+◌, ◌^◌, length, IfOk, IfErr, OnOk};
 ghost use Rattle.c_typed.specs.Shape.{function_of};
 ghost use Rattle.rtl.specs.declared.limits.TheConstants.{MAX_REGISTERS};

@@ -1,3 +1,4 @@
+// A typed program as a program of RTL.
 ghost use Rattle.std.specs.Prelude.{◌≡◌, ◌++◌, ◌∷◌, ◌≤◌, [], All, sum_by, IfOk, IfErr, OnOk};
 ghost use Rattle.c_types.specs.Shape.{program_of};
 ghost use Rattle.c_typed.specs.Shape.{functions_of};

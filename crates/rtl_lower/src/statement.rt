@@ -1,3 +1,4 @@
+// The code of statements, from the last one on.
 ghost use Rattle.std.specs.Prelude.{◌≡◌, ◌+◌, ◌<◌, ◌≤◌, ◌^◌, ℕ, true, List, Option, Some, None, IfOk, IfErr, IfSome, OnOk, length, is_some, if◌then◌else◌};
 ghost use Rattle.rtl.specs.declared.limits.TheConstants.{MAX_REGISTERS, MAX_BLOCKS};
 ghost use Rattle.rtl_emit.specs.Sizes.{joint, Beyond};
@@ -19,7 +20,7 @@ ghost use Rattle.rtl.specs.declared.block.RBlock.{RBlock};
 use c_typed::{Destination, TypedExpression, TypedStatement};
 use rtl::{BlockNumber, MAX_REGISTERS, RBlock, RExit, RInst, Register};
 use rtl_emit::{
-    Continuation, LowerFault, OpenBlock, condition, fill, leaving, opened, operand_into,
+    Continuation, LowerFault, OpenBlock, Targets, condition, fill, leaving, opened, operand_into,
     operands_into, place_of, places_of, put_before, put_first, register_of, registers_of, reserve,
     sealed, value_into,
 };
@@ -418,13 +419,23 @@ pub(crate) fn statement(
                 Continuation::Jump(join),
             )?;
             let b_block = sealed(blocks, b_code)?;
-            let from = condition(alloc, blocks, e, a_block, b_block, stays(a), free)?;
+            let targets = Targets {
+                yes: a_block,
+                no: b_block,
+                likely: stays(a),
+            };
+            let from = condition(alloc, blocks, e, targets, free)?;
             Ok(Continuation::Made(from))
         }
         TypedStatement::Loop(e, last, body) => {
             let left = sealed(blocks, after)?;
             let head = reserve(alloc, blocks)?;
-            let bottom = condition(alloc, blocks, e, head, left, true, free)?;
+            let again = Targets {
+                yes: head,
+                no: left,
+                likely: true,
+            };
+            let bottom = condition(alloc, blocks, e, again, free)?;
             let last_code = statement(
                 alloc,
                 blocks,
@@ -436,7 +447,7 @@ pub(crate) fn statement(
             )?;
             let turn = turn_to(blocks, may_continue(body), last_code)?;
             let body_code = statement(alloc, blocks, body, free, left, turn.next, turn.after)?;
-            let top = condition(alloc, blocks, e, head, left, true, free)?;
+            let top = condition(alloc, blocks, e, again, free)?;
             fill(blocks, head, opened(alloc, body_code));
             Ok(Continuation::Made(top))
         }

@@ -11,4 +11,4 @@ use Rattle.rtl_emit.proofs.block.reserve.Goals as goal
 pub returns-clause-sound : goal.returns-clause-sound
 returns-clause-sound c = λ s g.
     let is = ap (λ (l : List RInst). let r : Code = record { insts = l; exit = X.Return None } in r) c.new.ensures.items in
-    sound_push s _ _ _ (exit_code (X.Return None)) c.in_ok-put_block.ensures is g (sound_exit (X.Return None) refl tt)
+    sound_push s _ _ _ (exit_code (X.Return None)) c.in_ok-put_block.ensures.added is g (sound_exit (X.Return None) refl tt)

@@ -42,7 +42,7 @@ statement-returns-in_ok-from-in-If-clause-coded t c =
     c.in_ok-join-in-If.ensures.grows c.in_ok-a_code-in-If.ensures.grows c.in_ok-a_block-in-If.ensures.grows c.in_ok-b_code-in-If.ensures.grows
     c.in_ok-b_block-in-If.ensures.grows c.in_ok-from-in-If.ensures.grows
     c.in_ok-join-in-If.ensures.lands c.in_ok-a_code-in-If.ensures.coded c.in_ok-a_block-in-If.ensures.lands c.in_ok-b_code-in-If.ensures.coded
-    c.in_ok-b_block-in-If.ensures.lands c.in_ok-from-in-If.ensures.way
+    c.in_ok-b_block-in-If.ensures.lands c.in_ok-from-in-If.ensures.does
 
 pub statement-returns-in_ok-top-in-Loop-clause-coded : goal.statement-returns-in_ok-top-in-Loop-clause-coded
 statement-returns-in_ok-top-in-Loop-clause-coded t c =
@@ -50,8 +50,8 @@ statement-returns-in_ok-top-in-Loop-clause-coded t c =
     (ap statement_of c.deref-in-Loop-3.ensures) c.opened.ensures
     c.in_ok-left-in-Loop.ensures.grows c.in_ok-head-in-Loop.ensures.reserves c.in_ok-bottom-in-Loop.ensures.grows c.in_ok-last_code-in-Loop.ensures.grows
     c.in_ok-turn-in-Loop.ensures.grows c.in_ok-body_code-in-Loop.ensures.grows c.in_ok-top-in-Loop.ensures.grows c.fill.ensures.fills
-    c.in_ok-left-in-Loop.ensures.lands c.in_ok-bottom-in-Loop.ensures.way c.in_ok-last_code-in-Loop.ensures.coded c.in_ok-turn-in-Loop.ensures.turn
-    c.in_ok-body_code-in-Loop.ensures.coded c.in_ok-top-in-Loop.ensures.way
+    c.in_ok-left-in-Loop.ensures.lands c.in_ok-bottom-in-Loop.ensures.does c.in_ok-last_code-in-Loop.ensures.coded c.in_ok-turn-in-Loop.ensures.turn
+    c.in_ok-body_code-in-Loop.ensures.coded c.in_ok-top-in-Loop.ensures.does
 
 pub statements-loop-done-init : goal.statements-loop-done-init
 statements-loop-done-init t c = (

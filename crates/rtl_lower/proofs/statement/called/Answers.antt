@@ -11,7 +11,7 @@ returns-clause-coded c =
     call_code _ _ _ _ _ _ _ _ _ _ _ _ _ _ _ _ _ _ c.in_ok-callee.ensures.is c.new-places.ensures.items c.in_ok-places_of.ensures.places c.as_slice.ensures.value
     c.as_slice-2.ensures.value
     c.in_ok-registers.ensures c.leaving-end.ensures c.in_ok-receiver.ensures.grows c.in_ok-from.ensures.grows c.in_ok-receiver.ensures.receives
-    c.in_ok-from.ensures.values
+    c.in_ok-from.ensures.does
 
 pub returns-clause-sound : goal.returns-clause-sound
 returns-clause-sound c = λ p n gives inside f s l g h.

@@ -8,7 +8,7 @@ pub returns-clause-coded : goal.returns-clause-coded
 returns-clause-coded c =
     store_code _ _ _ _ _ _ _ _ _ _ _ _ _ _ _ _ c.in_ok-global.ensures.is c.in_ok-last.ensures c.in_ok-index_place.ensures.place c.in_ok-value.ensures.place
     c.in_ok-middle.ensures.grows c.in_ok-from.ensures.grows
-    c.in_ok-middle.ensures.value c.in_ok-from.ensures.value
+    c.in_ok-middle.ensures.does c.in_ok-from.ensures.does
 
 pub returns-clause-sound : goal.returns-clause-sound
 returns-clause-sound c = λ p n gives inside f s l g h.

@@ -18,7 +18,7 @@ returns-clause-coded c = λ leave next bs h.
         p = c.in_ok-value.value.register;
         next = c.in_ok-value.value.free;
         is_place = c.in_ok-value.ensures.place;
-        value = finds_to c.leaving-end.ensures (c.in_ok-from.ensures.value bs s.1);
+        value = finds_to c.leaving-end.ensures (c.in_ok-from.ensures.does bs s.1);
       };
     }
 

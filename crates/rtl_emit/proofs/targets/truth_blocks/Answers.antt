@@ -1,7 +1,7 @@
 use Rattle.rtl_emit.proofs.Blocks.{within}
 use Rattle.rtl_emit.proofs.Emitted.{truth_code}
 use Rattle.rtl_emit.proofs.Sound.{sound_exit, sound_first}
-use Rattle.rtl_emit.proofs.expression.truth_blocks.Goals as goal
+use Rattle.rtl_emit.proofs.targets.truth_blocks.Goals as goal
 
 pub returns-clause-truth : goal.returns-clause-truth
 returns-clause-truth c =

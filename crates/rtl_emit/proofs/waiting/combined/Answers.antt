@@ -1,0 +1,15 @@
+use Rattle.rtl_emit.proofs.Emitted.{combine_from}
+use Rattle.rtl_emit.proofs.Sound.{sound_first, sound_operation}
+use Rattle.rtl_emit.proofs.waiting.combined.Goals as goal
+
+pub returns-clause-does : goal.returns-clause-does
+returns-clause-does c = λ bs from f.
+    combine_from bs _ _ _ _ _ _ _ _ _ from _ _ _ c.instruction.ensures c.in_ok-last.ensures c.in_ok-code.ensures c.in_ok-place.ensures.place
+    c.in_ok-other.ensures.is f
+
+pub returns-clause-sound : goal.returns-clause-sound
+returns-clause-sound c = λ s to after.
+    let other = c.in_ok-other.ensures.within in
+    let last = sound_first _ c.in_ok-last.ensures
+    (sound_operation s.globals _ _ _ _ _ c.instruction.ensures to c.in_ok-place.ensures.place.within other) after in
+    sound_first _ c.in_ok-code.ensures other last

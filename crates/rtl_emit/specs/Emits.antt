@@ -1,0 +1,72 @@
+-- What each call promises that emits code and adds blocks to a function's list, whatever the code is for.
+use Rattle.std.specs.Prelude.{◌≡◌, ℕ, ◌+◌, ◌<◌, ◌≤◌, Bool, List, length, Result, IfOk, IfErr, OnOk}
+use Rattle.c_typed.specs.Trees.{TypedExpression}
+use Rattle.rtl.specs.declared.block.RBlock.{RBlock}
+use Rattle.rtl.specs.declared.limits.TheConstants.{MAX_REGISTERS}
+use Rattle.rtl_emit.specs.Blocks.{open_code, line_of, Spot, Grows, Has}
+use Rattle.rtl_emit.specs.Expressions.{Evaluates, Fetches, Decides, FetchAll}
+use Rattle.rtl_emit.specs.Sizes.{joint, Beyond, value_registers, value_blocks, condition_registers, condition_blocks, globals_named}
+use Rattle.rtl_emit.specs.Sizes.{values_registers, arguments_blocks, globals_named_in, test_registers, place_registers, next_free}
+use Rattle.rtl_emit.specs.Sound.{IsSound, IsSoundSpot, KeepsSound}
+use Rattle.rtl_emit.specs.declared.block.OpenBlock.{OpenBlock}
+use Rattle.rtl_emit.specs.declared.fault.LowerFault.{LowerFault}
+use Rattle.rtl_emit.specs.declared.fault.LowerFault.TheVariants.{Limit}
+use Rattle.rtl_emit.specs.declared.place.Place.{Place}
+use Rattle.rtl_emit.specs.declared.targets.Targets.{Targets}
+
+-- how many blocks code adds, and one more than the greatest number of a register, and of a global, that it names
+pub record Size : Type 0 where
+  pub registers : ℕ
+  pub blocks : ℕ
+  pub globals : ℕ
+
+-- the blocks that were there stay, whatever is answered; an Ok adds so many, is within the limits, keeps what is sound, and does
+-- its work in every list of blocks that has those which were added; a Limit comes only where one of the sizes is beyond one
+pub record Emits {A : Type 0} (size : Size) (old new : List RBlock) (Keeps : A → Type 0) (Does : A → List RBlock → Type 0) (r : Result A LowerFault)
+    : Type 0 where
+  pub grows : Grows old new
+  pub count : OnOk r (length new ≡ length old + size.blocks)
+  pub room : OnOk r (size.registers ≤ MAX_REGISTERS)
+  pub limit : IfErr r (λ f. f ≡ Limit → Beyond size.registers (length old + size.blocks) size.globals)
+  pub sound : IfOk r Keeps
+  pub does : IfOk r (λ x. (bs : List RBlock) → Has bs old new → Does x bs)
+
+abbrev pub value_size : TypedExpression → (free joint : ℕ) → Size
+value_size e free n = record { registers = value_registers e free; blocks = value_blocks e n; globals = globals_named e }
+
+abbrev pub test_size : TypedExpression → (likely : Bool) (free : ℕ) → Size
+test_size e likely free = record {
+  registers = test_registers likely free (place_registers e free) (next_free e free) (value_registers e free);
+  blocks = value_blocks e 1;
+  globals = globals_named e;
+}
+
+abbrev pub condition_size : TypedExpression → (likely : Bool) (free : ℕ) → Size
+condition_size e likely free = record { registers = condition_registers e likely free; blocks = condition_blocks e; globals = globals_named e }
+
+abbrev pub values_size : List TypedExpression → (free : ℕ) → Size
+values_size es free = record { registers = values_registers es free; blocks = arguments_blocks es; globals = globals_named_in es }
+
+-- code that puts the value of an expression into the register `to`
+abbrev pub EmitsValue : TypedExpression → (to free : ℕ) → Spot → (old new : List RBlock) → Result OpenBlock LowerFault → Type 0
+EmitsValue e to free after old new r = Emits (value_size e free (joint after)) old new
+    (λ from. KeepsSound old new (λ s. (to < MAX_REGISTERS) × ((globals_named e ≤ s.globals) × IsSoundSpot s after)) (λ s. IsSound s (open_code from)))
+    (λ from bs. Evaluates bs e free to (open_code from) (line_of after)) r
+
+-- code that puts it into the operand's place, where it isn't there
+abbrev pub EmitsOperand : TypedExpression → (register free : ℕ) → OpenBlock → (old new : List RBlock) → Result OpenBlock LowerFault → Type 0
+EmitsOperand e register free after old new r = Emits (value_size e free 1) old new
+    (λ from. KeepsSound old new (λ s. (globals_named e ≤ s.globals) × IsSound s (open_code after)) (λ s. IsSound s (open_code from)))
+    (λ from bs. Fetches bs e free register (open_code from) (open_code after)) r
+
+-- code that leads to one of two blocks
+abbrev pub EmitsBranch : Size → TypedExpression → Targets → (free : ℕ) → (old new : List RBlock) → Result OpenBlock LowerFault → Type 0
+EmitsBranch size e targets free old new r = Emits size old new
+    (λ from. KeepsSound old new (λ s. (globals_named e ≤ s.globals) × ((targets.yes < s.blocks) × (targets.no < s.blocks))) (λ s. IsSound s (open_code from)))
+    (λ from bs. Decides bs e free targets.yes targets.no (open_code from)) r
+
+-- code that puts the values of a list into their places
+abbrev pub EmitsOperands : List TypedExpression → List Place → (free : ℕ) → OpenBlock → (old new : List RBlock) → Result OpenBlock LowerFault → Type 0
+EmitsOperands es places free after old new r = Emits (values_size es free) old new
+    (λ from. KeepsSound old new (λ s. (globals_named_in es ≤ s.globals) × IsSound s (open_code after)) (λ s. IsSound s (open_code from)))
+    (λ from bs. FetchAll bs es free places (open_code from) (open_code after)) r

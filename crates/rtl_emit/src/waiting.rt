@@ -1,0 +1,206 @@
+// Code that waits for the values of operands in their places, from where on it does what they are for.
+ghost use Rattle.std.specs.Prelude.{◌≡◌, ◌<◌, ◌≤◌, ◌+◌, ◌^◌, max, List, IfOk, IfErr, OnOk};
+ghost use Rattle.c_typed.specs.Shape.{typed_expression_of};
+ghost use Rattle.rtl.specs.Meaning.{Code};
+ghost use Rattle.rtl.specs.declared.block.RBlock.{RBlock};
+ghost use Rattle.rtl.specs.declared.instruction.RInst.TheVariants.{Const, Load};
+ghost use Rattle.rtl.specs.declared.instruction.RExit.TheVariants.{Branch};
+ghost use Rattle.rtl.specs.declared.limits.TheConstants.{MAX_REGISTERS};
+ghost use Rattle.rtl_emit.specs.Blocks.{open_code, exit_code, first, spot, line_of};
+ghost use Rattle.rtl_emit.specs.Expressions.{IsPlace, Fetches, Combines, Decides};
+ghost use Rattle.rtl_emit.specs.Operations.{inst_of};
+ghost use Rattle.rtl_emit.specs.Sizes.{place_registers, next_free, test_registers, Beyond};
+ghost use Rattle.rtl_emit.specs.Sound.{Scope, IsSound};
+
+use crate::block::{Continuation, OpenBlock, leaving, put_before, put_first};
+use crate::fault::LowerFault;
+use crate::operation::{Combination, Operation, straight};
+use crate::place::{Place, place_of, spare};
+use crate::targets::Targets;
+use c_typed::TypedExpression;
+use rtl::{GlobalNumber, Op, RExit, RInst, Register};
+use std::alloc::Global;
+
+/// An operand's place, and the code that waits for its value there.
+#[derive(Drop)]
+pub(crate) struct Waiting {
+    pub(crate) place: Place,
+    pub(crate) code: OpenBlock,
+}
+
+/// The places of two operands, the first of which is held while the second is found, and the code that waits for both.
+#[derive(Drop)]
+pub(crate) struct WaitingForTwo {
+    pub(crate) first: Place,
+    pub(crate) second: Place,
+    pub(crate) code: OpenBlock,
+}
+
+// The number of a global in RTL; a Limit where it has none.
+fn global_of(global: usize) -> Result<GlobalNumber, LowerFault>
+    ensures is { IfOk result (λ g. g ≡ global) }
+    ensures limit { IfErr result (λ f. f ≡ LowerFault.Limit → 2 ^ 32 < global + 1) }
+{
+    if global > u32::MAX as usize {
+        return Err(LowerFault::Limit);
+    }
+    Ok(global as u32)
+}
+
+// The value of a global variable, before what comes there.
+pub(crate) fn global_into(
+    alloc: Global,
+    global: usize,
+    to: Register,
+    free: Register,
+    after: Continuation,
+) -> Result<OpenBlock, LowerFault>
+    ensures is { IfOk result (λ c. open_code c ≡ first (Const free 0) (first (Load to global free) (line_of (spot after)))) }
+    ensures room { OnOk result (free < MAX_REGISTERS) }
+    ensures limit { IfErr result (λ f. f ≡ LowerFault.Limit → Beyond (free + 1) 0 (global + 1)) }
+{
+    let number = global_of(global)?;
+    let index = spare(free)?;
+    let load = put_before(alloc, RInst::Load(to, number, index), after)?;
+    let from = put_first(RInst::Const(index, 0), load)?;
+    Ok(from)
+}
+
+// The load of an element of an array, whose index is an operand.
+pub(crate) fn load_at(
+    alloc: Global,
+    array: usize,
+    index: &TypedExpression,
+    to: Register,
+    free: Register,
+    after: Continuation,
+) -> Result<Waiting, LowerFault>
+    ensures place { IfOk result (λ w. IsPlace (typed_expression_of index.now) free w.place.register w.place.free) }
+    ensures is { IfOk result (λ w. open_code w.code ≡ first (Load to array w.place.register) (line_of (spot after))) }
+    ensures room { OnOk result (place_registers (typed_expression_of index.now) free ≤ MAX_REGISTERS) }
+    ensures limit { IfErr result (λ f. f ≡ LowerFault.Limit
+        → Beyond (place_registers (typed_expression_of index.now) free) 0 (array + 1)) }
+{
+    let number = global_of(array)?;
+    let place = place_of(index, free)?;
+    let code = put_before(alloc, RInst::Load(to, number, place.register), after)?;
+    Ok(Waiting { place, code })
+}
+
+// What an operation gives at a value and the word of a constant.
+pub(crate) fn combined(
+    with: Combination,
+    e: &TypedExpression,
+    to: Register,
+    free: Register,
+    after: OpenBlock,
+) -> Result<Waiting, LowerFault>
+    ensures place { IfOk result (λ w. IsPlace (typed_expression_of e.now) free w.place.register w.place.free) }
+    ensures does { IfOk result (λ w. (bs : List RBlock) (from : Code)
+        → Fetches bs (typed_expression_of e.now) free w.place.register from (open_code w.code)
+        → Combines bs with.operation (typed_expression_of e.now) with.word free to from (open_code after)) }
+    ensures sound { IfOk result (λ w. (s : Scope) → to < MAX_REGISTERS → IsSound s (open_code after) → IsSound s (open_code w.code)) }
+    ensures room { OnOk result (max (place_registers (typed_expression_of e.now) free) (next_free (typed_expression_of e.now) free + 1)
+        ≤ MAX_REGISTERS) }
+    ensures limit { IfErr result (λ f. f ≡ LowerFault.Limit
+        → MAX_REGISTERS < max (place_registers (typed_expression_of e.now) free) (next_free (typed_expression_of e.now) free + 1)) }
+{
+    let place = place_of(e, free)?;
+    let other = spare(place.free)?;
+    let last = put_first(with.operation.instruction(to, place.register, other), after)?;
+    let code = put_first(RInst::Const(other, with.word), last)?;
+    Ok(Waiting { place, code })
+}
+
+// A branch by a value. Where `likely` is false the block `no` stands first, and the test is the contrary one.
+pub(crate) fn tested(
+    alloc: Global,
+    e: &TypedExpression,
+    targets: Targets,
+    free: Register,
+) -> Result<Waiting, LowerFault>
+    ensures place { IfOk result (λ w. IsPlace (typed_expression_of e.now) free w.place.register w.place.free) }
+    ensures does { IfOk result (λ w. (bs : List RBlock) (from : Code)
+        → Fetches bs (typed_expression_of e.now) free w.place.register from (open_code w.code)
+        → Decides bs (typed_expression_of e.now) free targets.yes targets.no from) }
+    ensures sound { IfOk result (λ w. (s : Scope) → targets.yes < s.blocks → targets.no < s.blocks → IsSound s (open_code w.code)) }
+    ensures room { OnOk result (test_registers targets.likely free (place_registers (typed_expression_of e.now) free)
+        (next_free (typed_expression_of e.now) free) 0 ≤ MAX_REGISTERS) }
+    ensures limit { IfErr result (λ f. f ≡ LowerFault.Limit → MAX_REGISTERS < test_registers targets.likely free
+        (place_registers (typed_expression_of e.now) free) (next_free (typed_expression_of e.now) free) 0) }
+{
+    if targets.likely {
+        let place = place_of(e, free)?;
+        let code = leaving(
+            alloc,
+            RExit::Branch(place.register, targets.yes, targets.no),
+        );
+        Ok(Waiting { place, code })
+    } else {
+        let contrary = spare(free)?;
+        let end = leaving(alloc, RExit::Branch(contrary, targets.no, targets.yes));
+        let is_zero = Combination {
+            operation: straight(Op::Eq),
+            word: 0,
+        };
+        let waiting = combined(is_zero, e, contrary, free, end)?;
+        Ok(waiting)
+    }
+}
+
+// What an operation gives at two values.
+pub(crate) fn operated(
+    operation: Operation,
+    left: &TypedExpression,
+    right: &TypedExpression,
+    to: Register,
+    free: Register,
+    after: OpenBlock,
+) -> Result<WaitingForTwo, LowerFault>
+    ensures first { IfOk result (λ w. IsPlace (typed_expression_of left.now) free w.first.register w.first.free) }
+    ensures second { IfOk result (λ w. IsPlace (typed_expression_of right.now) w.first.free w.second.register w.second.free) }
+    ensures is { IfOk result (λ w. open_code w.code ≡ first (inst_of operation to w.first.register w.second.register) (open_code after)) }
+    ensures sound { IfOk result (λ w. (s : Scope) → to < MAX_REGISTERS → IsSound s (open_code after) → IsSound s (open_code w.code)) }
+    ensures room { OnOk result (max (place_registers (typed_expression_of left.now) free)
+        (place_registers (typed_expression_of right.now) (next_free (typed_expression_of left.now) free)) ≤ MAX_REGISTERS) }
+    ensures limit { IfErr result (λ f. f ≡ LowerFault.Limit → MAX_REGISTERS < max (place_registers (typed_expression_of left.now) free)
+        (place_registers (typed_expression_of right.now) (next_free (typed_expression_of left.now) free))) }
+{
+    let first = place_of(left, free)?;
+    let second = place_of(right, first.free)?;
+    let code = put_first(
+        operation.instruction(to, first.register, second.register),
+        after,
+    )?;
+    Ok(WaitingForTwo {
+        first,
+        second,
+        code,
+    })
+}
+
+// A branch by the contrary of a comparison, with the block `no` first.
+pub(crate) fn contrary(
+    alloc: Global,
+    operation: Operation,
+    left: &TypedExpression,
+    right: &TypedExpression,
+    targets: Targets,
+    free: Register,
+) -> Result<WaitingForTwo, LowerFault>
+    ensures first { IfOk result (λ w. IsPlace (typed_expression_of left.now) free w.first.register w.first.free) }
+    ensures second { IfOk result (λ w. IsPlace (typed_expression_of right.now) w.first.free w.second.register w.second.free) }
+    ensures is { IfOk result (λ w. open_code w.code
+        ≡ first (inst_of operation free w.first.register w.second.register) (exit_code (Branch free targets.no targets.yes))) }
+    ensures sound { IfOk result (λ w. (s : Scope) → targets.yes < s.blocks → targets.no < s.blocks → IsSound s (open_code w.code)) }
+    ensures room { OnOk result (max (free + 1) (max (place_registers (typed_expression_of left.now) free)
+        (place_registers (typed_expression_of right.now) (next_free (typed_expression_of left.now) free))) ≤ MAX_REGISTERS) }
+    ensures limit { IfErr result (λ f. f ≡ LowerFault.Limit → MAX_REGISTERS < max (free + 1) (max
+        (place_registers (typed_expression_of left.now) free)
+        (place_registers (typed_expression_of right.now) (next_free (typed_expression_of left.now) free)))) }
+{
+    let to = spare(free)?;
+    let end = leaving(alloc, RExit::Branch(to, targets.no, targets.yes));
+    let waiting = operated(operation, left, right, to, free, end)?;
+    Ok(waiting)
+}
