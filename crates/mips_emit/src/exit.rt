@@ -1,18 +1,17 @@
-// What stands before an exit, and the exit of a branch.
+// What stands before an exit.
 
 ghost use Rattle.std.specs.Prelude.{◌≡◌, ◌≤◌, ◌++◌, length, OnOk};
 ghost use Rattle.mips_emit.specs.declared.location.Location.TheVariants.{Held};
 ghost use Rattle.mips_emit.specs.declared.location.Source.TheVariants.{From};
 ghost use Rattle.mips_emit.specs.Frames.{IsReachable};
-ghost use Rattle.mips_emit.specs.Locations.{facts_of, locations, operand, last_operand, tested};
-ghost use Rattle.mips_emit.specs.Code.{put_at, bring, arguments_code, branch_code, branch_exit};
+ghost use Rattle.mips_emit.specs.Locations.{facts_of, locations, operand, last_operand};
+ghost use Rattle.mips_emit.specs.Code.{put_at, bring, arguments_code};
 
-use crate::facts::{Knowledge, Last, last_operand, operand, tested};
+use crate::facts::{Knowledge, Last, last_operand, operand};
 use crate::location::{Location, Source, locate, register};
-use crate::transfer::{emit_bring, emit_fetch, emit_put, seat};
-use mblock::{BlockNumber, Exit};
+use crate::transfer::{emit_bring, emit_put};
 use mips_homes::Frame;
-use mips_isa::{NonzeroReg, PairTest, Plain, Reg, ZeroTest};
+use mips_isa::{NonzeroReg, Plain};
 use rtl::Register;
 use std::alloc::AllocError;
 
@@ -78,55 +77,4 @@ pub fn emit_arguments(
         t += 1;
     }
     Ok(())
-}
-
-/// What stands before a branch on a pseudo-register; an Err is refused memory.
-pub fn emit_test(
-    code: &mut Vec<Plain>,
-    facts: &Knowledge,
-    last: Last,
-    frame: &Frame,
-    c: Register,
-) -> Result<(), AllocError>
-    requires { IsReachable frame.now }
-    ensures { OnOk result (code.new.items ≡ code.old.items ++ branch_code (tested last.above c) (last_operand (locations frame.now) (facts_of facts.now) last.fresh c)) }
-{
-    match tested(last.above, c) {
-        None => emit_fetch(
-            code,
-            register(1),
-            &last_operand(facts, last.fresh, frame, c),
-        )?,
-        Some(_) => {}
-    }
-    Ok(())
-}
-
-/// The branch: to `then` where the pseudo-register isn't 0, else to `other`.
-pub fn branch_exit(
-    facts: &Knowledge,
-    last: Last,
-    frame: &Frame,
-    c: Register,
-    then: BlockNumber,
-    other: BlockNumber,
-) -> Exit
-    requires { IsReachable frame.now }
-    ensures { result ≡ branch_exit (tested last.above c) (last_operand (locations frame.now) (facts_of facts.now) last.fresh c) then other }
-{
-    match tested(last.above, c) {
-        None => Exit::BranchPair {
-            test: PairTest::NotEqual,
-            rs: seat(register(1), &last_operand(facts, last.fresh, frame, c)),
-            rt: Reg::ZERO,
-            then,
-            other,
-        },
-        Some(register) => Exit::BranchZero {
-            test: ZeroTest::AboveZero,
-            rs: register.reg(),
-            then,
-            other,
-        },
-    }
 }
