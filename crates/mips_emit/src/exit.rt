@@ -1,15 +1,13 @@
 // What stands before an exit.
 
 ghost use Rattle.std.specs.Prelude.{◌≡◌, ◌≤◌, ◌++◌, length, OnOk};
-ghost use Rattle.mips_emit.specs.declared.location.Location.TheVariants.{Held};
-ghost use Rattle.mips_emit.specs.declared.location.Source.TheVariants.{From};
 ghost use Rattle.mips_emit.specs.Frames.{IsReachable};
 ghost use Rattle.mips_emit.specs.Locations.{facts_of, locations, operand, last_operand};
-ghost use Rattle.mips_emit.specs.Code.{put_at, bring, arguments_code};
+ghost use Rattle.mips_emit.specs.Code.{arrive, carry, arguments_code};
 
 use crate::facts::{Knowledge, Last, last_operand, operand};
-use crate::location::{Location, Source, locate, register};
-use crate::transfer::{emit_bring, emit_put};
+use crate::location::{locate, register};
+use crate::transfer::{emit_arrive, emit_carry};
 use mips_homes::Frame;
 use mips_isa::{NonzeroReg, Plain};
 use rtl::Register;
@@ -23,9 +21,9 @@ pub fn emit_arrival(
     x: Register,
 ) -> Result<(), AllocError>
     requires { IsReachable frame.now }
-    ensures { OnOk result (code.new.items ≡ code.old.items ++ put_at (locations frame.now x) (From (Held t))) }
+    ensures { OnOk result (code.new.items ≡ code.old.items ++ arrive (locations frame.now x) t) }
 {
-    emit_put(code, locate(frame, x), &Source::From(Location::Held(t)))?;
+    emit_arrive(code, locate(frame, x), t)?;
     Ok(())
 }
 
@@ -39,9 +37,9 @@ pub fn emit_departure(
     x: Register,
 ) -> Result<(), AllocError>
     requires { IsReachable frame.now }
-    ensures { OnOk result (code.new.items ≡ code.old.items ++ bring t (last_operand (locations frame.now) (facts_of facts.now) last.fresh x)) }
+    ensures { OnOk result (code.new.items ≡ code.old.items ++ carry t (last_operand (locations frame.now) (facts_of facts.now) last.fresh x)) }
 {
-    emit_bring(code, t, &last_operand(facts, last.fresh, frame, x))?;
+    emit_carry(code, t, &last_operand(facts, last.fresh, frame, x))?;
     Ok(())
 }
 
@@ -54,9 +52,9 @@ fn emit_argument(
     x: Register,
 ) -> Result<(), AllocError>
     requires { IsReachable frame.now }
-    ensures { OnOk result (code.new.items ≡ code.old.items ++ bring t (operand (locations frame.now) (facts_of facts.now) x)) }
+    ensures { OnOk result (code.new.items ≡ code.old.items ++ carry t (operand (locations frame.now) (facts_of facts.now) x)) }
 {
-    emit_bring(code, t, &operand(facts, frame, x))?;
+    emit_carry(code, t, &operand(facts, frame, x))?;
     Ok(())
 }
 
