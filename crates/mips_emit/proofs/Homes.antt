@@ -33,7 +33,7 @@ use Rattle.mips_emit.specs.Locations.{known_in, no_facts, no_last, location_at, 
 use Rattle.mips_emit.specs.declared.location.Location.{Location}
 use Rattle.mips_emit.specs.Locations.{lazy_const, lazy_none, lazy_at, lazy_source, word_source}
 use Rattle.mips_emit.specs.Elements.{width_of, width_bytes, place_in, address_of_place}
-use Rattle.mips_emit.specs.Code.{nop, const_code, is_small, half, constant, li, load_word_at, store_word_at, move_code, fetch, seat, bring, into, finish, put_at}
+use Rattle.mips_emit.specs.Code.{nop, const_code, is_small, half, constant, li, load_word_at, store_word_at, move_code, fetch, seat, bring, carry, into, finish, put_at, arrive}
 use Rattle.mips_emit.proofs.Runs.{RunsTo, runs_none, runs_then}
 use Rattle.mips_emit.proofs.View.{word_at, set_word, shown_other, word_here, word_other, word_below, set_at_words, IsTarget, read_register}
 use Rattle.mips_emit.proofs.View.{read_other, moves, loads_word, stores_word, Sets, set_sets, li_sets}
@@ -217,14 +217,14 @@ Denotes count s (Word w) v = (w ≡ v) × (w < 2 ^ 32)
 Denotes count s (From (Held r)) v = read 0 s.regs r ≡ v
 Denotes count s (From (InSlot k)) v = (k < count) × (word_at s (s.regs 29 + 4 * k) ≡ v)
 
--- an operand that isn't in a register below 8
+-- an operand that isn't in a register below 4
 abbrev pub IsAway : Source → Type 0
-IsAway (From (Held r)) = 8 ≤ r
+IsAway (From (Held r)) = 4 ≤ r
 IsAway (From (InSlot k)) = Unit {0}
 IsAway Zero = Unit {0}
 IsAway (Word w) = Unit {0}
 
-pub seat_kept : (x : Source) (t u : ℕ) (f f' : ℕ → ℕ) → IsAway x → t ≢ u → u < 8 → ((r : ℕ) → r ≢ u → f' r ≡ f r) → read 0 f' (seat t x) ≡ read 0 f (seat t x)
+pub seat_kept : (x : Source) (t u : ℕ) (f f' : ℕ → ℕ) → IsAway x → t ≢ u → u < 4 → ((r : ℕ) → r ≢ u → f' r ≡ f r) → read 0 f' (seat t x) ≡ read 0 f (seat t x)
 seat_kept Zero t u f f' away ne low same = refl
 seat_kept (Word w) t u f f' away ne low same = read_other f f' t (λ _. same t ne)
 seat_kept (From (Held r)) t u f f' away ne low same = read_other f f' r (λ _. same r (omega (arith, away, low)))
@@ -254,6 +254,26 @@ bring_some t Zero = omega arith
 bring_some t (Word w) = li_some t w
 bring_some t (From (Held r)) = omega arith
 bring_some t (From (InSlot k)) = omega arith
+
+-- an operand that isn't in register t, and what it means after a write of that
+abbrev pub IsApart : ℕ → Source → Type 0
+IsApart t (From (Held r)) = r ≢ t
+IsApart t (From (InSlot k)) = Unit {0}
+IsApart t Zero = Unit {0}
+IsApart t (Word w) = Unit {0}
+
+pub denotes_kept : (count t v : ℕ) (x : Source) (s : State) (f : ℕ → ℕ) → t ≢ 29 → IsApart t x → ((q : ℕ) → q ≢ t → f q ≡ s.regs q)
+    → Denotes count s x v → Denotes count (record s { regs = f }) x v
+denotes_kept count t v Zero s f ne apart same d = d
+denotes_kept count t v (Word w) s f ne apart same d = d
+denotes_kept count t v (From (Held r)) s f ne apart same d = read_other s.regs f r (λ _. same r apart) ∙ d
+denotes_kept count t v (From (InSlot k)) s f ne apart same d = (d.0, ap (λ p. word_at s (p + 4 * k)) (same 29 (λ e. ne (sym e))) ∙ d.1)
+
+-- a register that isn't the location itself
+abbrev pub IsElsewhere : Option Location → ℕ → Type 0
+IsElsewhere None q = Unit {0}
+IsElsewhere (Some (Held r)) q = q ≢ r
+IsElsewhere (Some (InSlot k)) q = Unit {0}
 
 -- instructions that end in a write of register d, from a state m that they have reached but for it
 pub record Ends (is : List Plain) (s m : State) (d v : ℕ) : Type 0 where
@@ -293,7 +313,7 @@ module _ (most total : ℕ) (gs : List RGlobal) (starts : ℕ → ℕ) where
 
   -- registers that are no homes change
   pub call_kept : (registers : Places) (g : Arrays) (fs : List Stored) (s : State) (f : ℕ → ℕ) → IsWords (record s { regs = f }) → Linked fs (f 31)
-      → ((r : ℕ) → 8 ≤ r → r < 30 → f r ≡ s.regs r) → Stands most total gs starts registers g fs s
+      → ((r : ℕ) → 4 ≤ r → r < 30 → f r ≡ s.regs r) → Stands most total gs starts registers g fs s
       → Stands most total gs starts registers g fs (record s { regs = f })
   call_kept registers g fs s f words linked same h =
       let pointer : f 29 ≡ s.regs 29 = same 29 (omega arith) (omega arith) in
@@ -313,14 +333,37 @@ module _ (most total : ℕ) (gs : List RGlobal) (starts : ℕ → ℕ) where
         gp = same 28 (omega arith) (omega arith) ∙ h.gp;
       }
 
+  -- passing registers change where nothing is known of those below 8
+  pub passing_kept : (registers : Places) (g : Arrays) (fs : List Stored) (is : List Plain) (s : State) (t v : ℕ)
+      → ((q w : ℕ) → registers q ≡ Some w → 8 ≤ q) → t < 8 → (c : Sets is s t v) → Stands most total gs starts registers g fs s
+      → Stands most total gs starts registers g fs (record s { regs = c.regs })
+  passing_kept registers g fs is s t v above low c h =
+      let f = c.regs in
+      let pointer : c.regs 29 ≡ s.regs 29 = c.others 29 (omega (arith, low)) in
+      record {
+        words = run_words (map action_of is) s (record s { regs = c.regs }) h.words (c.runs).ends;
+        mapped = h.mapped;
+        held = λ r w ql qh at. (let up = above r w at in c.others r (omega (arith, low, up))) ∙ h.held r w ql qh at;
+        stack = subst (λ at. StackHolds most (word_at s) at fs) (sym pointer) h.stack;
+        room = subst (λ at. stack_base ≤ at) (sym pointer) h.room;
+        aligned = ap (λ at. at % 4) pointer ∙ h.aligned;
+        elements = h.elements;
+        inside = h.inside;
+        apart = h.apart;
+        even = h.even;
+        few = h.few;
+        linked = subst (Linked fs) (sym (c.others 31 (omega (arith, low)))) h.linked;
+        gp = c.others 28 (omega (arith, low)) ∙ h.gp;
+      }
+
   pub words_kept : (registers : Places) (g : Arrays) (fs : List Stored) (s : State) (f : ℕ → ℕ) → IsWords (record s { regs = f })
-      → ((r : ℕ) → 8 ≤ r → r < 32 → f r ≡ s.regs r) → Stands most total gs starts registers g fs s
+      → ((r : ℕ) → 4 ≤ r → r < 32 → f r ≡ s.regs r) → Stands most total gs starts registers g fs s
       → Stands most total gs starts registers g fs (record s { regs = f })
   words_kept registers g fs s f words same h = call_kept registers g fs s f words (subst (Linked fs) (sym (same 31 (omega arith) (omega arith))) h.linked)
       (λ r low high. same r low (omega (arith, high))) h
 
   pub regs_kept : (registers : Places) (g : Arrays) (fs : List Stored) (is : List Plain) (s : State) (f : ℕ → ℕ) → RunsTo is s (record s { regs = f })
-      → ((r : ℕ) → 8 ≤ r → r < 32 → f r ≡ s.regs r) → Stands most total gs starts registers g fs s
+      → ((r : ℕ) → 4 ≤ r → r < 32 → f r ≡ s.regs r) → Stands most total gs starts registers g fs s
       → Stands most total gs starts registers g fs (record s { regs = f })
   regs_kept registers g fs is s f e same h =
       words_kept registers g fs s f (run_words (map action_of is) s (record s { regs = f }) h.words e.ends) same h
@@ -347,8 +390,24 @@ module _ (most total : ℕ) (gs : List RGlobal) (starts : ℕ → ℕ) where
         let at = frame_open (4 * k) (omega arith) (omega (arith, lt)) in
         set_sets (load_word_at t (4 * k) ∷ []) s t (word_at s (s.regs 29 + 4 * k)) v ok d.1 (loads_word s t (4 * k) at.0 at.1)
 
-    -- a register below 8 is written
-    pub sets_kept : (is : List Plain) (t v : ℕ) → t < 8 → (c : Sets is s t v) → Stands most total gs starts registers g (top ∷ fs) (record s { regs = c.regs })
+    -- the same, but for an operand that is there already
+    pub carries : (t v : ℕ) (x : Source) → IsTarget t → Denotes top.count s x v → Sets (carry t x) s t v
+    carries t v Zero ok d = brings t v Zero ok d
+    carries t v (Word w) ok d = brings t v (Word w) ok d
+    carries t v (From (InSlot k)) ok d = brings t v (From (InSlot k)) ok d
+    carries t v (From (Held r)) ok d = by (nat_eq r t) refl
+      where
+        by : (b : Bool) → nat_eq r t ≡ b → Sets (if b then [] else bring t (From (Held r))) s t v
+        by true e = record {
+          regs = s.regs;
+          runs = runs_none s;
+          here = sym (read_register s.regs t ok.low) ∙ ap (read 0 s.regs) (sym (eqb-true r t e)) ∙ d;
+          others = λ q ne. refl;
+        }
+        by false e = brings t v (From (Held r)) ok d
+
+    -- a register below 4 is written
+    pub sets_kept : (is : List Plain) (t v : ℕ) → t < 4 → (c : Sets is s t v) → Stands most total gs starts registers g (top ∷ fs) (record s { regs = c.regs })
     sets_kept is t v lt c = regs_kept registers g (top ∷ fs) is s c.regs c.runs (λ r low high. c.others r (omega (arith, low, lt))) h
 
     -- an operand, shown by a register
@@ -359,7 +418,7 @@ module _ (most total : ℕ) (gs : List RGlobal) (starts : ℕ → ℕ) where
       pub others : (r : ℕ) → r ≢ t → regs r ≡ s.regs r
       pub stands : Stands most total gs starts registers g (top ∷ fs) (record s { regs = regs })
 
-    loaded : (is : List Plain) (t v : ℕ) → 0 < t → t < 8 → Sets is s t v → Fetched is t t v
+    loaded : (is : List Plain) (t v : ℕ) → 0 < t → t < 4 → Sets is s t v → Fetched is t t v
     loaded is t v low high c = record {
       regs = c.regs;
       runs = c.runs;
@@ -368,7 +427,7 @@ module _ (most total : ℕ) (gs : List RGlobal) (starts : ℕ → ℕ) where
       stands = sets_kept is t v high c;
     }
 
-    pub fetches : (t v : ℕ) (x : Source) → 0 < t → t < 8 → Denotes top.count s x v → Fetched (fetch t x) t (seat t x) v
+    pub fetches : (t v : ℕ) (x : Source) → 0 < t → t < 4 → Denotes top.count s x v → Fetched (fetch t x) t (seat t x) v
     fetches t v Zero low high d = record { regs = s.regs; runs = runs_none s; here = sym d; others = λ r ne. refl; stands = h }
     fetches t v (Word w) low high d = loaded (li t w) t v low high (brings t v (Word w) (record { low = low; high = omega (arith, high) }) d)
     fetches t v (From (Held r)) low high d = record { regs = s.regs; runs = runs_none s; here = d; others = λ r ne. refl; stands = h }
@@ -376,7 +435,7 @@ module _ (most total : ℕ) (gs : List RGlobal) (starts : ℕ → ℕ) where
         (brings t v (From (InSlot k)) (record { low = low; high = omega (arith, high) }) d)
 
     -- a home register is written
-    pub register_written : (r v : ℕ) (regs : ℕ → ℕ) → 8 ≤ r → r < 28 → v < 2 ^ 32 → regs r ≡ v → ((q : ℕ) → q ≢ r → regs q ≡ s.regs q)
+    pub register_written : (r v : ℕ) (regs : ℕ → ℕ) → 4 ≤ r → r < 28 → v < 2 ^ 32 → regs r ≡ v → ((q : ℕ) → q ≢ r → regs q ≡ s.regs q)
         → Stands most total gs starts (places_with registers r (Some v)) g (top ∷ fs) (record s { regs = regs })
     register_written r v regs low high below is others =
         let pointer : regs 29 ≡ s.regs 29 = (let ne : 29 ≢ r = omega (arith, high) in others 29 ne) in
@@ -400,7 +459,7 @@ module _ (most total : ℕ) (gs : List RGlobal) (starts : ℕ → ℕ) where
         word q true e = subst (λ v. v < 2 ^ 32) (sym (ap regs (eqb-true q r e) ∙ is)) below
         word q false e = subst (λ v. v < 2 ^ 32) (sym (others q (eqb-false q r e))) ((h.words).regs q)
 
-        by : (q w : ℕ) → 8 ≤ q → q < 28 → (b : Bool) → nat_eq q r ≡ b → (if b then Some v else registers q) ≡ Some w → regs q ≡ w
+        by : (q w : ℕ) → 4 ≤ q → q < 28 → (b : Bool) → nat_eq q r ≡ b → (if b then Some v else registers q) ≡ Some w → regs q ≡ w
         by q w ql qh true e at = ap regs (eqb-true q r e) ∙ is ∙ same_Some v w at
         by q w ql qh false e at = others q (eqb-false q r e) ∙ h.held q w ql qh at
 
@@ -535,7 +594,7 @@ module _ (most total : ℕ) (gs : List RGlobal) (starts : ℕ → ℕ) where
             test false t = (operand_means known hs x v ok k e).0
 
   module _ (registers : Places) (g : Arrays) (top : Stored) (fs : List Stored) (s : State) (h : Stands most total gs starts registers g (top ∷ fs) s) where
-    pub ends_stands : (is : List Plain) (s0 : State) (t v : ℕ) → t < 8 → (e : Ends is s0 s t v)
+    pub ends_stands : (is : List Plain) (s0 : State) (t v : ℕ) → t < 4 → (e : Ends is s0 s t v)
         → Stands most total gs starts registers g (top ∷ fs) (record s { regs = e.regs })
     ends_stands is s0 t v lt e = words_kept registers g (top ∷ fs) s e.regs
         (record { regs = λ q. word q (nat_eq q t) refl; hi = (h.words).hi; lo = (h.words).lo; memory = (h.words).memory })
@@ -558,7 +617,7 @@ module _ (most total : ℕ) (gs : List RGlobal) (starts : ℕ → ℕ) where
     Go P go is s0 known x o hs l = (registers' slots' : Places) (s' : State) → 1 ≤ length is → RunsTo is s0 s'
         → Stands most total gs starts (hide (lazy_none l lazy) registers') g (with_slots top slots' ∷ fs) s'
         → IsLazy (lazy_none l lazy) registers' → IsKnown (places_with known x o) hs registers' slots'
-        → ((r : ℕ) → 1 < r → r < 8 → s'.regs r ≡ s.regs r) → P (go registers' slots')
+        → P (go registers' slots')
 
     -- and that a result for a slot is still in register 1
     abbrev pub GoOn : (P : Run → Type 0) (go : Places → Places → Run) (is : List Plain) (s0 : State) (known : Places) (x : ℕ) (o : Option ℕ) (hs : List Home)
@@ -626,7 +685,7 @@ module _ (most total : ℕ) (gs : List RGlobal) (starts : ℕ → ℕ) where
             f (places_with registers r (Some v)) top.slots (record s { regs = c.regs }) (bring_some r y) c.runs
             (written r v (record s { regs = c.regs }) (register_written (hide lazy registers) g top fs s h r v c.regs range.0 range.1 below c.here c.others))
             (lazy_written lazy registers r (Some v) is_lazy)
-            (known_register known hs top.count registers top.slots x r v o ok at said k) (λ q ql qh. c.others q (omega (arith, qh, low)))
+            (known_register known hs top.count registers top.slots x r v o ok at said k)
         by (Some (Slot j)) at f =
             let lt = ok.by x (Slot j) at in
             let c = fetches (hide lazy registers) g top fs s h 1 v y (omega arith) (omega arith) d in
@@ -638,7 +697,41 @@ module _ (most total : ℕ) (gs : List RGlobal) (starts : ℕ → ℕ) where
             f registers (places_with top.slots j (Some v)) (set_word s1 (s1.regs 29 + 4 * j) v)
             (longer_behind (fetch 1 y) (store_word_at (seat 1 y) (4 * j) ∷ []) (omega arith)) (runs_then c.runs store)
             (slot_written (hide lazy registers) g top fs s1 c.stands j v lt below) is_lazy
-            (known_slot known hs top.count registers top.slots x j v o ok at said k) (λ q ql qh. c.others q (omega (arith, ql)))
+            (known_slot known hs top.count registers top.slots x j v o ok at said k)
+
+    -- a register into a location
+    pub arrives : (P : Run → Type 0) (go : Places → Places → Run) (hs : List Home) (x v t : ℕ) (out : List ℕ)
+        → 1 < t → s.regs t ≡ v → v < 2 ^ 32 → AreFrameHomes hs top.count → P (Failed out)
+        → ((registers' slots' : Places) (s' : State) → RunsTo (arrive (location_at (slice_get hs x)) t) s s'
+        → Stands most total gs starts (hide (lazy_none (location_at (slice_get hs x)) lazy) registers') g (with_slots top slots' ∷ fs) s'
+        → ((q : ℕ) → q < 28 → IsElsewhere (location_at (slice_get hs x)) q → s'.regs q ≡ s.regs q) → P (go registers' slots'))
+        → P (write_home hs registers top.slots x v out go)
+    arrives P go hs x v t out low is below ok failed f = by (slice_get hs x) refl f
+      where
+        shows : read 0 s.regs t ≡ v
+        shows = read_register s.regs t (omega (arith, low)) ∙ is
+
+        by : (p : Option Home) → slice_get hs x ≡ p
+            → ((registers' slots' : Places) (s' : State) → RunsTo (arrive (location_at p) t) s s'
+            → Stands most total gs starts (hide (lazy_none (location_at p) lazy) registers') g (with_slots top slots' ∷ fs) s'
+            → ((q : ℕ) → q < 28 → IsElsewhere (location_at p) q → s'.regs q ≡ s.regs q) → P (go registers' slots'))
+            → P (with_value p out (λ h. write_at h registers top.slots v go))
+        by None at f = failed
+        by (Some (Reg r)) at f =
+            let range = ok.by x (Reg r) at in
+            let low = range.0 in
+            let c = carries (hide lazy registers) g top fs s h r v (From (Held t)) (record { low = omega (arith, low); high = omega (arith, range.1) }) shows in
+            f (places_with registers r (Some v)) top.slots (record s { regs = c.regs }) c.runs
+            (written r v (record s { regs = c.regs }) (register_written (hide lazy registers) g top fs s h r v c.regs range.0 range.1 below c.here c.others))
+            (λ q qh ne. c.others q ne)
+        by (Some (Slot j)) at f =
+            let lt = ok.by x (Slot j) at in
+            let place = frame_open (hide lazy registers) g top fs s h (4 * j) (omega arith) (omega (arith, lt)) in
+            let store : RunsTo (store_word_at t (4 * j) ∷ []) s (set_word s (s.regs 29 + 4 * j) v) =
+            subst (λ u. RunsTo (store_word_at t (4 * j) ∷ []) s (set_word s (s.regs 29 + 4 * j) u)) shows
+            (stores_word s t (4 * j) place.0 place.1) in
+            f registers (places_with top.slots j (Some v)) (set_word s (s.regs 29 + 4 * j) v) store
+            (slot_written (hide lazy registers) g top fs s h j v lt below) (λ q qh ne. refl)
 
     -- a constant, which needn't be put into a passing register yet
     pub tells : (P : Run → Type 0) (go : Places → Places → Run) (hs : List Home) (x v : ℕ) (out : List ℕ) (known : Places)

@@ -236,7 +236,7 @@ module _ (most total : ℕ) (gs : List RGlobal) (starts : ℕ → ℕ) where
     Means x v = (s : State) → Stands most total gs starts registers g (top ∷ fs) s → Denotes top.count s x v
 
     -- one operand, then instructions that give a word
-    one_operand : (t d v u : ℕ) (x : Source) (is : List Plain) → 0 < t → t < 8 → Means x v → u < 2 ^ 32
+    one_operand : (t d v u : ℕ) (x : Source) (is : List Plain) → 0 < t → t < 4 → Means x v → u < 2 ^ 32
         → ((s : State) → read 0 s.regs (seat t x) ≡ v → Gives is s d u) → Computed (fetch t x ++ is) d u
     one_operand t d v u x is low high mx lt gives =
         let a = fetches most total gs starts registers g top fs s h t v x low high (mx s h) in
@@ -441,7 +441,7 @@ module _ (most total : ℕ) (gs : List RGlobal) (starts : ℕ → ℕ) where
         puts most total gs starts facts.lazy registers g top fs s h lz P (λ r s. go r s g) hs d v (known_in facts a) out (known_in facts)
         (operand (locations_of hs) facts a) x.0 (operand_below most total gs starts facts.lazy registers g top fs s h lz hs a v ok e)
         (λ u is. same_Some u v (sym (k.by a u is) ∙ e)) ok k failed
-        (λ r' s' to some e st lz' kn low. f r' s' g to some e st lz' (fact_known hs r' s' facts d (known_in facts a) kn) (none_last hs r' s' to)))
+        (λ r' s' to some e st lz' kn. f r' s' g to some e st lz' (fact_known hs r' s' facts d (known_in facts a) kn) (none_last hs r' s' to)))
     performs (Bin op d a b) facts registers top s go ok k lz h f =
         value_or_failed P (read_home hs registers top.slots a) out _ failed (λ v ev.
         value_or_failed P (read_home hs registers top.slots b) out _ failed (λ w ew.

@@ -77,7 +77,7 @@ Linked (f ∷ fs) x = f.leaf ≡ true → x ≡ f.link
 pub record Stands (most total : ℕ) (gs : List RGlobal) (starts : ℕ → ℕ) (registers : Places) (g : Arrays) (fs : List Stored) (s : State) : Type 0 where
   pub words : IsWords s
   pub mapped : s.mapped ≡ is_mapped total
-  pub held : (r v : ℕ) → 8 ≤ r → r < 28 → registers r ≡ Some v → s.regs r ≡ v
+  pub held : (r v : ℕ) → 4 ≤ r → r < 28 → registers r ≡ Some v → s.regs r ≡ v
   pub stack : StackHolds most (word_at s) (s.regs 29) fs
   pub room : stack_base ≤ s.regs 29
   pub aligned : s.regs 29 % 4 ≡ 0

@@ -86,6 +86,16 @@ bring t (Word w) = li t w
 bring t (From (Held r)) = move_code t r ∷ []
 bring t (From (InSlot k)) = load_word_at t (4 * k) ∷ []
 
+-- the same, but nothing where the operand is in that register
+abbrev pub stays : ℕ → Source → Bool
+stays t Zero = false
+stays t (Word w) = false
+stays t (From (Held r)) = nat_eq r t
+stays t (From (InSlot k)) = false
+
+abbrev pub carry : ℕ → Source → List Plain
+carry t x = if stays t x then [] else bring t x
+
 -- a result: the register into which it is computed, and what stands behind
 abbrev pub into : ℕ → Option Location → ℕ
 into t None = t
@@ -102,6 +112,12 @@ abbrev pub put_at : Option Location → Source → List Plain
 put_at None x = []
 put_at (Some (Held r)) x = bring r x
 put_at (Some (InSlot k)) x = fetch 1 x ++ store_word_at (seat 1 x) (4 * k) ∷ []
+
+-- a register into a location
+abbrev pub arrive : Option Location → ℕ → List Plain
+arrive None t = []
+arrive (Some (Held r)) t = carry r (From (Held t))
+arrive (Some (InSlot k)) t = store_word_at t (4 * k) ∷ []
 
 -- ---- operators
 
@@ -269,7 +285,7 @@ code_of_insts globals starts frame facts is = insts_code globals (slice_index st
 -- arguments into registers from t on
 abbrev pub arguments_code : Locations → Facts → ℕ → List ℕ → List Plain
 arguments_code at facts t [] = []
-arguments_code at facts t (x ∷ xs) = bring t (operand at facts x) ++ arguments_code at facts (suc t) xs
+arguments_code at facts t (x ∷ xs) = carry t (operand at facts x) ++ arguments_code at facts (suc t) xs
 
 -- a branch: on an operand, or on the word whose comparison with zero it is
 abbrev pub branch_code : (tested : Option ℕ) → Source → List Plain

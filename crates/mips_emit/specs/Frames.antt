@@ -5,9 +5,9 @@ use Rattle.mips_homes.specs.declared.homed.Home.TheVariants.{Reg, Slot}
 use Rattle.mips_homes.specs.declared.homed.Frame.{Frame}
 use Rattle.mips_emit.specs.declared.limits.TheConstants.{FRAME_BYTES}
 
--- a register 8 to 27, or one of so many slots
+-- a register 4 to 27, or one of so many slots
 abbrev pub IsHome : (slots : ℕ) → Home → Type 0
-IsHome slots (Reg r) = (8 ≤ r) × (r < 28)
+IsHome slots (Reg r) = (4 ≤ r) × (r < 28)
 IsHome slots (Slot k) = k < slots
 
 -- homes in a frame with so many slots, and no two pseudo-registers share one
@@ -24,7 +24,7 @@ abbrev pub link_words : (leaf : Bool) → ℕ
 link_words true = 0
 link_words false = 1
 
--- homes are registers 8 to 27 and slots of the frame, the registers that are saved are among 16 to 23, and the frame has at
+-- homes are registers 4 to 27 and slots of the frame, the registers that are saved are among 16 to 23, and the frame has at
 -- most so many bytes
 pub record IsFrame (most : ℕ) (f : Frame) : Type 0 where
   pub homes : AreFrameHomes f.homes.items f.slots

@@ -1,18 +1,15 @@
-// What stands before an exit, and the exit of a branch.
+// What stands before an exit.
 
 ghost use Rattle.std.specs.Prelude.{◌≡◌, ◌≤◌, ◌++◌, length, OnOk};
-ghost use Rattle.mips_emit.specs.declared.location.Location.TheVariants.{Held};
-ghost use Rattle.mips_emit.specs.declared.location.Source.TheVariants.{From};
 ghost use Rattle.mips_emit.specs.Frames.{IsReachable};
-ghost use Rattle.mips_emit.specs.Locations.{facts_of, locations, operand, last_operand, tested};
-ghost use Rattle.mips_emit.specs.Code.{put_at, bring, arguments_code, branch_code, branch_exit};
+ghost use Rattle.mips_emit.specs.Locations.{facts_of, locations, operand, last_operand};
+ghost use Rattle.mips_emit.specs.Code.{arrive, carry, arguments_code};
 
-use crate::facts::{Knowledge, Last, last_operand, operand, tested};
-use crate::location::{Location, Source, locate, register};
-use crate::transfer::{emit_bring, emit_fetch, emit_put, seat};
-use mblock::{BlockNumber, Exit};
+use crate::facts::{Knowledge, Last, last_operand, operand};
+use crate::location::{locate, register};
+use crate::transfer::{emit_arrive, emit_carry};
 use mips_homes::Frame;
-use mips_isa::{NonzeroReg, PairTest, Plain, Reg, ZeroTest};
+use mips_isa::{NonzeroReg, Plain};
 use rtl::Register;
 use std::alloc::AllocError;
 
@@ -24,9 +21,9 @@ pub fn emit_arrival(
     x: Register,
 ) -> Result<(), AllocError>
     requires { IsReachable frame.now }
-    ensures { OnOk result (code.new.items ≡ code.old.items ++ put_at (locations frame.now x) (From (Held t))) }
+    ensures { OnOk result (code.new.items ≡ code.old.items ++ arrive (locations frame.now x) t) }
 {
-    emit_put(code, locate(frame, x), &Source::From(Location::Held(t)))?;
+    emit_arrive(code, locate(frame, x), t)?;
     Ok(())
 }
 
@@ -40,9 +37,9 @@ pub fn emit_departure(
     x: Register,
 ) -> Result<(), AllocError>
     requires { IsReachable frame.now }
-    ensures { OnOk result (code.new.items ≡ code.old.items ++ bring t (last_operand (locations frame.now) (facts_of facts.now) last.fresh x)) }
+    ensures { OnOk result (code.new.items ≡ code.old.items ++ carry t (last_operand (locations frame.now) (facts_of facts.now) last.fresh x)) }
 {
-    emit_bring(code, t, &last_operand(facts, last.fresh, frame, x))?;
+    emit_carry(code, t, &last_operand(facts, last.fresh, frame, x))?;
     Ok(())
 }
 
@@ -55,9 +52,9 @@ fn emit_argument(
     x: Register,
 ) -> Result<(), AllocError>
     requires { IsReachable frame.now }
-    ensures { OnOk result (code.new.items ≡ code.old.items ++ bring t (operand (locations frame.now) (facts_of facts.now) x)) }
+    ensures { OnOk result (code.new.items ≡ code.old.items ++ carry t (operand (locations frame.now) (facts_of facts.now) x)) }
 {
-    emit_bring(code, t, &operand(facts, frame, x))?;
+    emit_carry(code, t, &operand(facts, frame, x))?;
     Ok(())
 }
 
@@ -78,55 +75,4 @@ pub fn emit_arguments(
         t += 1;
     }
     Ok(())
-}
-
-/// What stands before a branch on a pseudo-register; an Err is refused memory.
-pub fn emit_test(
-    code: &mut Vec<Plain>,
-    facts: &Knowledge,
-    last: Last,
-    frame: &Frame,
-    c: Register,
-) -> Result<(), AllocError>
-    requires { IsReachable frame.now }
-    ensures { OnOk result (code.new.items ≡ code.old.items ++ branch_code (tested last.above c) (last_operand (locations frame.now) (facts_of facts.now) last.fresh c)) }
-{
-    match tested(last.above, c) {
-        None => emit_fetch(
-            code,
-            register(1),
-            &last_operand(facts, last.fresh, frame, c),
-        )?,
-        Some(_) => {}
-    }
-    Ok(())
-}
-
-/// The branch: to `then` where the pseudo-register isn't 0, else to `other`.
-pub fn branch_exit(
-    facts: &Knowledge,
-    last: Last,
-    frame: &Frame,
-    c: Register,
-    then: BlockNumber,
-    other: BlockNumber,
-) -> Exit
-    requires { IsReachable frame.now }
-    ensures { result ≡ branch_exit (tested last.above c) (last_operand (locations frame.now) (facts_of facts.now) last.fresh c) then other }
-{
-    match tested(last.above, c) {
-        None => Exit::BranchPair {
-            test: PairTest::NotEqual,
-            rs: seat(register(1), &last_operand(facts, last.fresh, frame, c)),
-            rt: Reg::ZERO,
-            then,
-            other,
-        },
-        Some(register) => Exit::BranchZero {
-            test: ZeroTest::AboveZero,
-            rs: register.reg(),
-            then,
-            other,
-        },
-    }
 }

@@ -6,10 +6,10 @@
 //! a block takes no fewer steps than RTL.
 //!
 //! The code is a pure function, `insts_code` of `specs/Code.antt`, and `emit_insts` emits exactly that; likewise
-//! `emit_arguments`, `emit_test` and `branch_exit` for exits. That the code of an instruction does what the instruction
-//! does over homes is `performs` of `proofs/Insts.antt`: from every state that holds homes, frames and globals (`Stands` of
-//! `proofs/Stands.antt`) it leads to one that holds those after the instruction, unless the instruction goes wrong. It is
-//! carried by the contract of the crate above, which names whole units.
+//! `emit_arguments`, `emit_arrival` and `emit_departure` for what stands before exits and behind calls. That the code of an
+//! instruction does what the instruction does over homes is `performs` of `proofs/Insts.antt`: from every state that holds
+//! homes, frames and globals (`Stands` of `proofs/Stands.antt`) it leads to one that holds those after the instruction, unless
+//! the instruction goes wrong. It is carried by the contract of the crate above, which names whole units.
 //!
 //! Definitions, in an order to read: `specs/Frames.antt` (frames within reach), `specs/Locations.antt` (where
 //! pseudo-registers are, what is known, what operands are), `specs/Elements.antt` (elements of globals), `specs/Code.antt`.
@@ -33,7 +33,7 @@ mod operation;
 mod transfer;
 
 pub use constant::{emit_constant, emit_load_word, emit_store_word};
-pub use exit::{branch_exit, emit_arguments, emit_arrival, emit_departure, emit_test};
+pub use exit::{emit_arguments, emit_arrival, emit_departure};
 pub use facts::{Above, Fact, Knowledge, Last, last_operand, tested};
 pub use inst::emit_insts;
 pub use limits::{FRAME_BYTES, limits_are_these_numbers};

@@ -2,7 +2,7 @@
 
 ghost use Rattle.std.specs.Prelude.{◌≡◌, ◌++◌, OnOk};
 ghost use Rattle.mips_emit.specs.Locations.{FitsPlace, FitsSource};
-ghost use Rattle.mips_emit.specs.Code.{fetch, seat, bring, into, finish, put_at};
+ghost use Rattle.mips_emit.specs.Code.{fetch, seat, bring, stays, carry, into, finish, put_at, arrive};
 
 use crate::constant::{emit_li, emit_load_word, emit_move, emit_store_word};
 use crate::location::{Location, Source, register};
@@ -55,6 +55,31 @@ pub(crate) fn emit_bring(code: &mut Vec<Plain>, t: NonzeroReg, x: &Source) -> Re
     Ok(())
 }
 
+/// An operand into a register of its own, but where it is there already; an Err is refused memory.
+pub(crate) fn emit_carry(code: &mut Vec<Plain>, t: NonzeroReg, x: &Source) -> Result<(), AllocError>
+    requires { FitsSource x.now }
+    ensures { OnOk result (code.new.items ≡ code.old.items ++ carry t x.now) }
+{
+    if !stays(t, x) {
+        emit_bring(code, t, x)?;
+    }
+    Ok(())
+}
+
+// Whether an operand is in a register already.
+fn stays(t: NonzeroReg, x: &Source) -> bool
+    ensures { result ≡ stays t x.now }
+{
+    match x {
+        Source::Zero => false,
+        Source::Word(_) => false,
+        Source::From(location) => match location {
+            Location::Held(r) => *r == t,
+            Location::InSlot(_) => false,
+        },
+    }
+}
+
 // The register into which a result is computed.
 pub(crate) fn into_of(t: NonzeroReg, place: Option<Location>) -> NonzeroReg
     ensures { result ≡ into t place }
@@ -105,6 +130,25 @@ pub(crate) fn emit_put(
                 emit_fetch(code, register(1), x)?;
                 emit_store_word(code, seat(register(1), x), 4 * k)?;
             }
+        },
+    }
+    Ok(())
+}
+
+/// A register into a location, but where it is that register; an Err is refused memory.
+pub(crate) fn emit_arrive(
+    code: &mut Vec<Plain>,
+    place: Option<Location>,
+    t: NonzeroReg,
+) -> Result<(), AllocError>
+    requires { FitsPlace place }
+    ensures { OnOk result (code.new.items ≡ code.old.items ++ arrive place t) }
+{
+    match place {
+        None => {}
+        Some(location) => match location {
+            Location::Held(r) => emit_carry(code, r, &Source::From(Location::Held(t)))?,
+            Location::InSlot(k) => emit_store_word(code, t.reg(), 4 * k)?,
         },
     }
     Ok(())

@@ -328,7 +328,7 @@ module _ (most total : ℕ) (gs : List RGlobal) (starts : ℕ → ℕ) (small : 
           ∙ last_in f.saved.items 31) (λ j there. link_at is j 31 refl (kept_case most f ok leaf j 31 there))
 
       held : (regs : ℕ → ℕ) → ((q : ℕ) → is_in (kept leaf f) q ≡ false → regs q ≡ s.regs q) → ((q v : ℕ) → is_in (kept leaf f) q ≡ true → ((j : ℕ)
-          → slice_get (kept leaf f) j ≡ Some q → word_at s (s.regs 29 + 4 * f.slots + 4 * j) ≡ v) → regs q ≡ v) → (q w : ℕ) → 8 ≤ q → q < 28 → (b : Bool)
+          → slice_get (kept leaf f) j ≡ Some q → word_at s (s.regs 29 + 4 * f.slots + 4 * j) ≡ v) → regs q ≡ v) → (q w : ℕ) → 4 ≤ q → q < 28 → (b : Bool)
           → is_in f.saved.items q ≡ b → (if b then aside q else r q) ≡ Some w → regs q ≡ w
       held regs others inside q w ql qh false e at = others q (kept_in most f ok leaf q false e (omega (arith, qh))) ∙ h.held q w ql qh at
       held regs others inside q w ql qh true e at = inside q w (kept_in most f ok leaf q true e (omega (arith, qh)))

@@ -11,10 +11,8 @@ use Rattle.rtl.specs.declared.block.RBlock.{RBlock}
 use Rattle.rtl.specs.declared.block.RGlobal.{RGlobal}
 use Rattle.mips_homes.specs.declared.homed.Frame.{Frame}
 use Rattle.mips_emit.specs.declared.facts.Last.{Last}
-use Rattle.mips_emit.specs.declared.location.Location.TheVariants.{Held}
-use Rattle.mips_emit.specs.declared.location.Source.TheVariants.{From}
 use Rattle.mips_emit.specs.Locations.{Locations, locations, Facts, no_facts, learned, known_after, last_after, no_last}
-use Rattle.mips_emit.specs.Code.{load_word_at, store_word_at, put_at, inst_code, insts_code}
+use Rattle.mips_emit.specs.Code.{load_word_at, store_word_at, arrive, inst_code, insts_code}
 use Rattle.mips_select.specs.Code.{frame_bytes, saves, restores, link_save, link_load, lowers, raises, parameters_code, prologue, epilogue, exit_code}
 use Rattle.mips_select.specs.Code.{exit_of, own_block}
 
@@ -45,27 +43,27 @@ restores_more at (q ∷ rs) r =
     ap (λ l. load_word_at q at ∷ l) (restores_more (at + 4) rs r ∙ ap (λ n. restores (at + 4) rs ++ load_word_at r n ∷ []) e)
 
 -- one more parameter
-pub parameters_more : (at : Locations) (t x n : ℕ) → parameters_code at t x (suc n) ≡ parameters_code at t x n ++ put_at (at (x + n)) (From (Held (t + n)))
+pub parameters_more : (at : Locations) (t x n : ℕ) → parameters_code at t x (suc n) ≡ parameters_code at t x n ++ arrive (at (x + n)) (t + n)
 parameters_more at t x zero =
     let et : t ≡ t + 0 = omega arith in
     let ex : x ≡ x + 0 = omega arith in
-    append-nil (put_at (at x) (From (Held t))) ∙ ap (λ t. put_at (at x) (From (Held t))) et ∙ ap (λ x. put_at (at x) (From (Held (t + 0)))) ex
+    append-nil (arrive (at x) t) ∙ ap (λ t. arrive (at x) t) et ∙ ap (λ x. arrive (at x) (t + 0)) ex
 parameters_more at t x (suc n) =
     let et : suc t + n ≡ t + suc n = omega arith in
     let ex : suc x + n ≡ x + suc n = omega arith in
-    ap (λ l. put_at (at x) (From (Held t)) ++ l) (parameters_more at (suc t) (suc x) n ∙ ap
-    (λ t'. parameters_code at (suc t) (suc x) n ++ put_at (at (suc x + n)) (From (Held t'))) et
-    ∙ ap (λ x'. parameters_code at (suc t) (suc x) n ++ put_at (at x') (From (Held (t + suc n)))) ex)
-    ∙ sym (append_assoc (put_at (at x) (From (Held t))) (parameters_code at (suc t) (suc x) n) (put_at (at (x + suc n)) (From (Held (t + suc n)))))
+    ap (λ l. arrive (at x) t ++ l) (parameters_more at (suc t) (suc x) n ∙ ap
+    (λ t'. parameters_code at (suc t) (suc x) n ++ arrive (at (suc x + n)) t') et
+    ∙ ap (λ x'. parameters_code at (suc t) (suc x) n ++ arrive (at x') (t + suc n)) ex)
+    ∙ sym (append_assoc (arrive (at x) t) (parameters_code at (suc t) (suc x) n) (arrive (at (x + suc n)) (t + suc n)))
 
 pub parameters_step : (at : Locations) (x t : ℕ) (code code' start : List Plain) → code ≡ start ++ parameters_code at 4 0 x
-    → code' ≡ code ++ put_at (at x) (From (Held t)) → t ≡ 4 + x → code' ≡ start ++ parameters_code at 4 0 (x + 1)
+    → code' ≡ code ++ arrive (at x) t → t ≡ 4 + x → code' ≡ start ++ parameters_code at 4 0 (x + 1)
 parameters_step at x t code code' start e f t_is =
     let next : suc x ≡ x + 1 = omega arith in
     let zero_x : 0 + x ≡ x = omega arith in
-    f ∙ ap (λ l. l ++ put_at (at x) (From (Held t))) e ∙ append_assoc start (parameters_code at 4 0 x) (put_at (at x) (From (Held t)))
-    ∙ ap (λ t. start ++ (parameters_code at 4 0 x ++ put_at (at x) (From (Held t)))) t_is
-    ∙ ap (λ y. start ++ (parameters_code at 4 0 x ++ put_at (at y) (From (Held (4 + x))))) (sym zero_x)
+    f ∙ ap (λ l. l ++ arrive (at x) t) e ∙ append_assoc start (parameters_code at 4 0 x) (arrive (at x) t)
+    ∙ ap (λ t. start ++ (parameters_code at 4 0 x ++ arrive (at x) t)) t_is
+    ∙ ap (λ y. start ++ (parameters_code at 4 0 x ++ arrive (at y) (4 + x))) (sym zero_x)
     ∙ ap (λ l. start ++ l) (sym (parameters_more at 4 0 x)) ∙ ap (λ n. start ++ parameters_code at 4 0 n) next
 
 -- the link, behind the registers that are saved

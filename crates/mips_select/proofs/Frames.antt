@@ -1,29 +1,30 @@
 -- Registers are saved in a frame and come back; arguments and parameters.
-use Rattle.std.proofs.Common.{◌≡◌, ◌≢◌, ℕ, zero, suc, ◌+◌, ◌*◌, ◌%◌, ◌^◌, ◌<◌, ◌≤◌, Bool, true, false, List, [], ◌∷◌, length, Option, Some, None}
+use Rattle.std.proofs.Common.{◌≡◌, ◌≢◌, ◌⊎◌, inl, inr, ℕ, zero, suc, ◌+◌, ◌*◌, ◌%◌, ◌^◌, ◌<◌, ◌≤◌, Bool, true, false, List, [], ◌∷◌, length, Option, Some, None}
 use Rattle.std.proofs.Common.{refl, sym, ap, ap₂, ◌∙◌, subst, arith, nat_eq, eqb-true, true≢false}
 use Rattle.std.specs.Prelude.{if◌then◌else◌, slice_get, ◌||◌}
 use Rattle.std.proofs.lemmas.Bool.{eqb-false}
 use Rattle.std.proofs.lemmas.Option.{same_Some, none-some, slice_get_within}
 use Rattle.words.specs.declared.width.Width.{Width}
 use Rattle.words.specs.declared.width.Width.TheVariants.{Word}
-use Rattle.runs.specs.Stores.{Places, unset_places, Arrays, chain}
+use Rattle.runs.specs.Stores.{Places, Arrays, chain}
 use Rattle.mips_isa.specs.States.{State, IsWords, AreApart, is_open}
 use Rattle.mips_isa.specs.Starting.{stack_base, stack_end, is_mapped}
 use Rattle.rtl.specs.declared.block.RGlobal.{RGlobal}
 use Rattle.mips_homes.specs.HomedRun.{Run, Failed, read_home, read_homes, write_homes, is_in}
 use Rattle.mips_homes.specs.declared.homed.Home.{Home}
 use Rattle.mips_emit.specs.declared.location.Location.TheVariants.{Held, InSlot}
-use Rattle.mips_emit.specs.declared.location.Source.TheVariants.{From}
+use Rattle.mips_emit.specs.declared.location.Source.TheVariants.{Zero, Word}
 use Rattle.mips_emit.specs.Frames.{AreFrameHomes}
 use Rattle.mips_emit.specs.declared.location.Location.{Location}
-use Rattle.mips_emit.specs.Locations.{locations_of, location_at, lazy_none, Facts, known_in, operand}
-use Rattle.mips_emit.specs.Code.{store_word_at, bring, arguments_code}
+use Rattle.mips_emit.specs.Locations.{locations_of, location_at, lazy_none, Facts, known_in, known_source, lazy_at, lazy_source, source, operand}
+use Rattle.mips_emit.specs.Code.{store_word_at, carry, arguments_code}
 use Rattle.mips_emit.proofs.Runs.{RunsTo, runs_none, runs_then}
 use Rattle.mips_emit.proofs.View.{shown_at, word_at, set, set_word, shown_other, word_here, set_words, set_at_words, word_below, put_here, put_other}
 use Rattle.mips_emit.proofs.View.{read_register, loads_word, stores_word}
 use Rattle.mips_emit.proofs.Stands.{Stored, with_slots, Stands, open_stack}
-use Rattle.mips_emit.proofs.Homes.{hidden, hide, IsLazy, none_lazy, fewer_stand, IsKnown, nothing_known, brings, operand_means, sets_kept, puts}
+use Rattle.mips_emit.proofs.Homes.{hidden, hide, IsLazy, none_lazy, fewer_stand, IsKnown, operand_means, Denotes, IsApart, denotes_kept, IsElsewhere, passing_kept, carries, arrives}
 use Rattle.mips_select.specs.Code.{saves, restores, parameters_code}
+use Rattle.mips_select.specs.Selected.{IsBehind, AreInOrder, IsClear, AreClear}
 
 -- a part of the stack from p on
 pub record InStack (total : ℕ) (p n : ℕ) (s : State) : Type 0 where
@@ -185,81 +186,130 @@ module _ (most total : ℕ) (gs : List RGlobal) (starts : ℕ → ℕ) where
     pub runs : RunsTo (arguments_code (locations_of hs) facts t xs) s (record s { regs = regs })
     pub here : (j v : ℕ) → slice_get vs j ≡ Some v → regs (t + j) ≡ v
     pub others : (r : ℕ) → r < t → regs r ≡ s.regs r
-    pub as_many : length vs ≡ length xs
     pub stands : Stands most total gs starts registers g fs (record s { regs = regs })
 
-  pub arguments : (registers : Places) (g : Arrays) (top : Stored) (fs : List Stored) (s : State) (hs : List Home) (facts : Facts) (t : ℕ) (xs vs : List ℕ)
-      → AreFrameHomes hs top.count → IsKnown (known_in facts) hs registers top.slots → IsLazy facts.lazy registers → 0 < t → t + length xs ≤ 8
-      → read_homes hs registers top.slots xs ≡ Some vs → Stands most total gs starts (hide facts.lazy registers) g (top ∷ fs) s
-      → Arguments (hide facts.lazy registers) g (top ∷ fs) s hs facts t xs vs
-  arguments registers g top fs s hs facts t [] vs ok k lz low high e h =
-      let none : [] ≡ vs = same_Some [] vs e in
-      record {
-        regs = s.regs;
-        runs = runs_none s;
-        here = λ j v there. absurd (none-some v (ap (λ l. slice_get l j) none
-            ∙ there));
-        others = λ r lt. refl;
-        as_many = sym (ap length none);
-        stands = h;
-      }
-  arguments registers g top fs s hs facts t (x ∷ xs) vs ok k lz low high e h =
-      first (λ f ws rest st. arguments registers g top fs (record s { regs = f }) hs facts (suc t) xs ws ok k lz (omega arith) (omega (arith, high)) rest st)
-      (read_home hs registers top.slots x) refl e
+  -- arguments as operands, before the first is moved
+  abbrev pub AllDenote : ℕ → State → List Home → Facts → (xs vs : List ℕ) → Type 0
+  AllDenote count s hs facts [] [] = Unit {0}
+  AllDenote count s hs facts [] (v ∷ vs) = ⊥
+  AllDenote count s hs facts (x ∷ xs) [] = ⊥
+  AllDenote count s hs facts (x ∷ xs) (v ∷ vs) = Denotes count s (operand (locations_of hs) facts x) v × AllDenote count s hs facts xs vs
+
+  pub all_denote : (registers : Places) (g : Arrays) (top : Stored) (fs : List Stored) (s : State) (hs : List Home) (facts : Facts) (xs vs : List ℕ)
+      → AreFrameHomes hs top.count → IsKnown (known_in facts) hs registers top.slots → IsLazy facts.lazy registers
+      → Stands most total gs starts (hide facts.lazy registers) g (top ∷ fs) s → read_homes hs registers top.slots xs ≡ Some vs
+      → AllDenote top.count s hs facts xs vs
+  all_denote registers g top fs s hs facts [] [] ok k lz h e = tt
+  all_denote registers g top fs s hs facts [] (v ∷ vs) ok k lz h e = (let none : [] ≡ v ∷ vs = same_Some [] (v ∷ vs) e in let no = ap length none in absurd (omega (arith, no)))
+  all_denote registers g top fs s hs facts (x ∷ xs) vs ok k lz h e =
+      first (λ ws rest. all_denote registers g top fs s hs facts xs ws ok k lz h rest) (read_home hs registers top.slots x) refl e
     where
       Again : Type 0
-      Again = (f : ℕ → ℕ) (ws : List ℕ) → read_homes hs registers top.slots xs ≡ Some ws
-          → Stands most total gs starts (hide facts.lazy registers) g (top ∷ fs) (record s { regs = f }) → Arguments (hide facts.lazy registers) g (top ∷ fs) (record s { regs = f }) hs facts
-          (suc t) xs ws
+      Again = (ws : List ℕ) → read_homes hs registers top.slots xs ≡ Some ws → AllDenote top.count s hs facts xs ws
 
       first : Again → (o : Option ℕ) → read_home hs registers top.slots x ≡ o → chain o
-          (λ v. chain (read_homes hs registers top.slots xs) (λ vs. Some (v ∷ vs))) ≡ Some vs → Arguments (hide facts.lazy registers) g (top ∷ fs) s hs facts t (x ∷ xs) vs
+          (λ v. chain (read_homes hs registers top.slots xs) (λ vs. Some (v ∷ vs))) ≡ Some vs → AllDenote top.count s hs facts (x ∷ xs) vs
       first again None there e = absurd (none-some vs e)
       first again (Some v) there e = second (read_homes hs registers top.slots xs) refl e
         where
           second : (o : Option (List ℕ)) → read_homes hs registers top.slots xs ≡ o → chain o (λ vs. Some (v ∷ vs)) ≡ Some vs
-              → Arguments (hide facts.lazy registers) g (top ∷ fs) s hs facts t (x ∷ xs) vs
+              → AllDenote top.count s hs facts (x ∷ xs) vs
           second None rest e = absurd (none-some vs e)
-          second (Some ws) rest e =
-              let means = operand_means most total gs starts facts.lazy registers g top fs s h lz (known_in facts) hs x v ok k there in
-              let one = brings most total gs starts (hide facts.lazy registers) g top fs s h t v (operand (locations_of hs) facts x)
-              (record { low = low; high = omega (arith, high) }) means.0 in
-              let st = sets_kept most total gs starts (hide facts.lazy registers) g top fs s h (bring t (operand (locations_of hs) facts x)) t v (omega (arith, high)) one in
-              let more = again one.regs ws rest st in
-              subst (λ vs. Arguments (hide facts.lazy registers) g (top ∷ fs) s hs facts t (x ∷ xs) vs) (same_Some (v ∷ ws) vs e) (record {
-                regs = more.regs;
-                runs = runs_then one.runs more.runs;
-                here = λ j w at. by one.regs one.here more j w at;
-                others = λ r lt. more.others r (omega (arith, lt)) ∙ one.others r (omega (arith, lt));
-                as_many = ap suc more.as_many;
-                stands = more.stands;
-              })
-            where
-              by : (f : ℕ → ℕ) → f t ≡ v → (more : Arguments (hide facts.lazy registers) g (top ∷ fs) (record s { regs = f }) hs facts (suc t) xs ws) → (j w : ℕ)
-                  → slice_get (v ∷ ws) j ≡ Some w → more.regs (t + j) ≡ w
-              by f here more zero w at =
-                  let place : t + 0 ≡ t = omega arith in
-                  ap more.regs place ∙ more.others t (omega arith) ∙ here ∙ same_Some v w at
-              by f here more (suc j) w at =
-                  let place : t + suc j ≡ suc t + j = omega arith in
-                  ap more.regs place ∙ more.here j w at
+          second (Some ws) rest e = subst (AllDenote top.count s hs facts (x ∷ xs)) (same_Some (v ∷ ws) vs e) (
+            (operand_means most total gs starts facts.lazy registers g top fs s h lz (known_in facts) hs x v ok k there).0,
+            again ws rest,
+          )
+
+  -- an operand isn't in a register below its own
+  operand_apart : (l : Option Location) (z k : Option ℕ) (t t' : ℕ) → t < t' → IsBehind l t' → IsApart t (lazy_source z (source k l))
+  operand_apart l (Some w) k t t' lt behind = by (nat_eq w 0)
+    where
+      by : (b : Bool) → IsApart t (if b then Zero else Word w)
+      by true = tt
+      by false = tt
+  operand_apart None None None t t' lt behind = tt
+  operand_apart (Some (Held r)) None None t t' lt behind = λ e. absurd (omega (arith, lt, behind, e))
+  operand_apart (Some (InSlot j)) None None t t' lt behind = tt
+  operand_apart l None (Some w) t t' lt behind = by l behind (nat_eq w 0)
+    where
+      by : (l : Option Location) → IsBehind l t' → (b : Bool) → IsApart t (if b then Zero else known_source w l)
+      by l behind true = tt
+      by None behind false = tt
+      by (Some (Held r)) behind false = λ e. absurd (omega (arith, lt, behind, e))
+      by (Some (InSlot j)) behind false = tt
+
+  -- the arguments that are left, after a register below theirs was written
+  still_denote : (count t v : ℕ) (s : State) (f : ℕ → ℕ) (hs : List Home) (facts : Facts) (t' : ℕ) (xs vs : List ℕ) → t < t' → t < 8
+      → AreInOrder (locations_of hs) t' xs → ((q : ℕ) → q ≢ t → f q ≡ s.regs q) → AllDenote count s hs facts xs vs
+      → AllDenote count (record s { regs = f }) hs facts xs vs
+  still_denote count t v s f hs facts t' [] [] lt few order same d = tt
+  still_denote count t v s f hs facts t' [] (w ∷ ws) lt few order same d = absurd d
+  still_denote count t v s f hs facts t' (x ∷ xs) [] lt few order same d = absurd d
+  still_denote count t v s f hs facts t' (x ∷ xs) (w ∷ ws) lt few order same d = (
+    denotes_kept count t w (operand (locations_of hs) facts x) s f (λ e. absurd (omega (arith, few, e)))
+        (operand_apart (locations_of hs x) (lazy_at facts.lazy (locations_of hs x)) (known_in facts x) t t' lt order.0) same d.0,
+    still_denote count t v s f hs facts (suc t') xs ws (omega (arith, lt)) few order.1 same d.1,
+  )
+
+  pub arguments : (registers : Places) (g : Arrays) (top : Stored) (fs : List Stored) (s : State) (hs : List Home) (facts : Facts) (t : ℕ) (xs vs : List ℕ)
+      → ((q w : ℕ) → registers q ≡ Some w → 8 ≤ q) → 0 < t → t + length xs ≤ 8 → AreInOrder (locations_of hs) t xs
+      → AllDenote top.count s hs facts xs vs → Stands most total gs starts registers g (top ∷ fs) s → Arguments registers g (top ∷ fs) s hs facts t xs vs
+  arguments registers g top fs s hs facts t [] [] above low high order d h = record {
+    regs = s.regs;
+    runs = runs_none s;
+    here = λ j v there. absurd (none-some v there);
+    others = λ r lt. refl;
+    stands = h;
+  }
+  arguments registers g top fs s hs facts t [] (v ∷ vs) above low high order d h = absurd d
+  arguments registers g top fs s hs facts t (x ∷ xs) [] above low high order d h = absurd d
+  arguments registers g top fs s hs facts t (x ∷ xs) (v ∷ vs) above low high order d h =
+      let one = carries most total gs starts registers g top fs s h t v (operand (locations_of hs) facts x)
+      (record { low = low; high = omega (arith, high) }) d.0 in
+      let st = passing_kept most total gs starts registers g (top ∷ fs) (carry t (operand (locations_of hs) facts x)) s t v above (omega (arith, high)) one h in
+      let left = still_denote top.count t v s one.regs hs facts (suc t) xs vs (omega arith) (omega (arith, high)) order.1 one.others d.1 in
+      let more = arguments registers g top fs (record s { regs = one.regs }) hs facts (suc t) xs vs above (omega arith) (omega (arith, high)) order.1 left st in
+      record {
+        regs = more.regs;
+        runs = runs_then one.runs more.runs;
+        here = λ j w at. by one.regs one.here more j w at;
+        others = λ r lt. more.others r (omega (arith, lt)) ∙ one.others r (omega (arith, lt));
+        stands = more.stands;
+      }
+    where
+      by : (f : ℕ → ℕ) → f t ≡ v → (more : Arguments registers g (top ∷ fs) (record s { regs = f }) hs facts (suc t) xs vs) → (j w : ℕ)
+          → slice_get (v ∷ vs) j ≡ Some w → more.regs (t + j) ≡ w
+      by f here more zero w at =
+          let place : t + 0 ≡ t = omega arith in
+          ap more.regs place ∙ more.others t (omega arith) ∙ here ∙ same_Some v w at
+      by f here more (suc j) w at =
+          let place : t + suc j ≡ suc t + j = omega arith in
+          ap more.regs place ∙ more.here j w at
+
+  -- a parameter's location isn't the register of a later one
+  elsewhere : (l : Option Location) (t q : ℕ) → t < q → q < 8 → IsClear l t → IsElsewhere l q
+  elsewhere None t q lt few clear = tt
+  elsewhere (Some (Held r)) t q lt few (inl le) = λ e. absurd (omega (arith, lt, le, e))
+  elsewhere (Some (Held r)) t q lt few (inr le) = λ e. absurd (omega (arith, few, le, e))
+  elsewhere (Some (InSlot k)) t q lt few clear = tt
 
   module _ (g : Arrays) (fs : List Stored) (hs : List Home) (P : Run → Type 0) (out : List ℕ) (failed : P (Failed out)) where
     pub parameters : (vs : List ℕ) (t x : ℕ) (registers : Places) (top : Stored) (s : State) (go : Places → Places → Run) → AreFrameHomes hs top.count
-        → 1 < t → t + length vs ≤ 8 → ((j v : ℕ) → slice_get vs j ≡ Some v → s.regs (t + j) ≡ v) → Stands most total gs starts registers g (top ∷ fs) s
+        → 1 < t → t + length vs ≤ 8 → AreClear (locations_of hs) t x (length vs) → ((j v : ℕ) → slice_get vs j ≡ Some v → s.regs (t + j) ≡ v)
+        → Stands most total gs starts registers g (top ∷ fs) s
         → ((registers' slots' : Places) (s' : State) → RunsTo (parameters_code (locations_of hs) t x (length vs)) s s'
         → Stands most total gs starts registers' g (with_slots top slots' ∷ fs) s' → P (go registers' slots'))
         → P (write_homes hs registers top.slots x vs out go)
-    parameters [] t x registers top s go ok low high here h f = f registers top.slots s (runs_none s) h
-    parameters (v ∷ vs) t x registers top s go ok low high here h f =
+    parameters [] t x registers top s go ok low high clear here h f = f registers top.slots s (runs_none s) h
+    parameters (v ∷ vs) t x registers top s go ok low high clear here h f =
         let place : t + 0 ≡ t = omega arith in
         let is : s.regs t ≡ v = ap s.regs (sym place) ∙ here 0 v refl in
-        puts most total gs starts (λ q. None) registers g top fs s h (none_lazy registers) P (λ r s. write_homes hs r s (suc x) vs out go) hs x v None out unset_places (From (Held t))
-        (read_register s.regs t (omega (arith, low)) ∙ is) (subst (λ v. v < 2 ^ 32) is ((h.words).regs t)) (λ w e. absurd (none-some w e)) ok
-        (nothing_known hs registers top.slots) failed
-        (λ r1 slots1 s1 some e1 h1 lz kn same.
-        parameters vs (suc t) (suc x) r1 (with_slots top slots1) s1 go ok (omega (arith, low)) (omega (arith, high))
+        arrives most total gs starts (λ q. None) registers g top fs s h (none_lazy registers) P (λ r s. write_homes hs r s (suc x) vs out go) hs x v t out
+        low is (subst (λ v. v < 2 ^ 32) is ((h.words).regs t)) ok failed
+        (λ r1 slots1 s1 e1 h1 same.
+        parameters vs (suc t) (suc x) r1 (with_slots top slots1) s1 go ok (omega (arith, low)) (omega (arith, high)) clear.1
         (λ j w there. (let next : suc t + j ≡ t + suc j = omega arith in let within = slice_get_within vs j w there in
-        same (suc t + j) (omega (arith, low)) (omega (arith, high, within)) ∙ ap s.regs next) ∙ here (suc j) w there)
+        same (suc t + j) (omega (arith, high, within)) (elsewhere (locations_of hs x) t (suc t + j) (omega arith) (omega (arith, high, within)) clear.0)
+        ∙ ap s.regs next) ∙ here (suc j) w there)
         (all_shown (location_at (slice_get hs x)) r1 g (with_slots top slots1 ∷ fs) s1 h1)
         (λ r2 slots2 s2 e2 h2. f r2 slots2 s2 (runs_then e1 e2) h2))

@@ -1,7 +1,7 @@
 -- The blocks for a program stand for it.
 use Rattle.std.proofs.Common.{◌≡◌, ℕ, zero, suc, ◌+◌, ◌*◌, ◌≤◌, ◌⊎◌, inl, inr, Bool, true, false, true≢false, List, [], ◌∷◌, ◌++◌, length}
 use Rattle.std.proofs.Common.{Option, Some, None, refl, sym, ap, ◌∙◌, subst, arith}
-use Rattle.std.specs.Prelude.{if◌then◌else◌, slice_get, slice_index}
+use Rattle.std.specs.Prelude.{All, if◌then◌else◌, slice_get, slice_index}
 use Rattle.std.proofs.lemmas.Option.{same_Some, none-some}
 use Rattle.mblock.specs.Parts.{BlockParts}
 use Rattle.rtl.specs.declared.instruction.RExit.{RExit}
@@ -11,11 +11,13 @@ use Rattle.rtl.specs.declared.block.RFunc.{RFunc}
 use Rattle.rtl.specs.declared.block.RGlobal.{RGlobal}
 use Rattle.rtl.specs.Programs as programs
 use Rattle.rtl.specs.Programs.{IsProgram}
+use Rattle.mips_homes.specs.declared.homed.Home.{Home}
+use Rattle.mips_homes.specs.declared.homed.Home.TheVariants.{Reg, Slot}
 use Rattle.mips_homes.specs.declared.homed.Frame.{Frame}
 use Rattle.mips_homes.specs.declared.homed.Homed.{Homed}
 use Rattle.mips_emit.specs.declared.limits.TheConstants.{FRAME_BYTES}
 use Rattle.mips_emit.specs.Frames.{IsFrame}
-use Rattle.mips_emit.specs.Locations.{locations}
+use Rattle.mips_emit.specs.Locations.{location_at, locations}
 use Rattle.mips_split.proofs.Places.{HasAt, has_head, has_tail, has_front, has_back}
 use Rattle.mips_select.specs.declared.heads.Naming.{Naming}
 use Rattle.mips_select.specs.declared.heads.Naming.TheVariants.{Unnamed, Called, Jumped}
@@ -27,7 +29,7 @@ use Rattle.mips_select.specs.Data.{start_of}
 use Rattle.mips_select.specs.Code.{prologue, result_code, head_code, own_block, after_block, prologue_block}
 use Rattle.mips_select.specs.Whole.{numbers, next_of, behind, blocks_from, place_in, lead_blocks, function_blocks, function_size, entries_from}
 use Rattle.mips_select.specs.Whole.{entry_of, functions_blocks, program_blocks}
-use Rattle.mips_select.specs.Selected.{GoesOn, StandsAt, IsSelected}
+use Rattle.mips_select.specs.Selected.{IsBehind, AreInOrder, IsClear, AreClear, GoesOn, StandsAt, IsSelected}
 use Rattle.mips_select.proofs.Lists.{all_at}
 use Rattle.mips_select.proofs.Linked.{behind_length, lead_length, function_length}
 use Rattle.mips_select.proofs.Named.{NamedJump, NamedCall, Named, named}
@@ -36,6 +38,47 @@ no_head_code : (leaf : Bool) (f : Frame) (n : ℕ) (x : Head) → NamedJump x �
 no_head_code leaf f n Bare ok = refl
 no_head_code leaf f n Enters ok = absurd ok
 no_head_code leaf f n (Takes d) ok = absurd ok
+
+-- homes in registers from 8 on lose no argument and no parameter
+abbrev pub AreAbove : Frame → Type 0
+AreAbove f = (x r : ℕ) → slice_get f.homes.items x ≡ Some (Reg r) → 8 ≤ r
+
+in_order : (f : Frame) → AreAbove f → (t : ℕ) (xs : List ℕ) → t + length xs ≤ 8 → AreInOrder (locations f) t xs
+in_order f above t [] few = tt
+in_order f above t (x ∷ xs) few = (here (slice_get f.homes.items x) refl, in_order f above (suc t) xs (omega (arith, few)))
+  where
+    here : (o : Option Home) → slice_get f.homes.items x ≡ o → IsBehind (location_at o) t
+    here None e = tt
+    here (Some (Reg r)) e = (let low = above x r e in omega (arith, low, few))
+    here (Some (Slot k)) e = tt
+
+are_clear : (f : Frame) → AreAbove f → (t x n : ℕ) → AreClear (locations f) t x n
+are_clear f above t x zero = tt
+are_clear f above t x (suc n) = (here (slice_get f.homes.items x) refl, are_clear f above (suc t) (suc x) n)
+  where
+    here : (o : Option Home) → slice_get f.homes.items x ≡ o → IsClear (location_at o) t
+    here None e = tt
+    here (Some (Reg r)) e = inr (above x r e)
+    here (Some (Slot k)) e = tt
+
+abbrev IsOrdered : Frame → RExit → Type 0
+IsOrdered f (Call g xs d next) = AreInOrder (locations f) 4 xs.items
+IsOrdered f (Goto b) = Unit {0}
+IsOrdered f (Branch c t e) = Unit {0}
+IsOrdered f (Return o) = Unit {0}
+IsOrdered f (Out x next) = Unit {0}
+
+ordered : (functions : List RFunc) (globals blocks : ℕ) (f : Frame) (x : RExit) → AreAbove f → All (programs.IsFunction functions globals) functions
+    → programs.IsExit functions blocks x → IsOrdered f x
+ordered functions globals blocks f (Call g xs d next) above all ok =
+    let callee = ok.0 in
+    let few = (all_at (programs.IsFunction functions globals) functions g callee.callee all callee.there).parameters in
+    let takes = callee.takes in
+    in_order f above 4 xs.items (omega (arith, few, takes))
+ordered functions globals blocks f (Goto b) above all ok = tt
+ordered functions globals blocks f (Branch c t e) above all ok = tt
+ordered functions globals blocks f (Return o) above all ok = tt
+ordered functions globals blocks f (Out x next) above all ok = tt
 
 -- a leaf has no call
 abbrev IsFine : Bool → RExit → Type 0
@@ -66,31 +109,32 @@ leaf_fine (x ∷ bs) (suc b) block there = more (calls_none x.exit) block.exit (
     more false (Out y next) ok = tt
 
 module _ (whole : List BlockParts) (globals : List RGlobal) (starts entry : ℕ → ℕ) where
-  goes_on : (leaf : Bool) (heads : ℕ → Head) (place : ℕ → ℕ) (f : Frame) (n k : ℕ) (x : RExit) (rest : List BlockParts) → Named heads x → IsFine leaf x
+  goes_on : (leaf : Bool) (heads : ℕ → Head) (place : ℕ → ℕ) (f : Frame) (n k : ℕ) (x : RExit) (rest : List BlockParts) → Named heads x → IsFine leaf x → IsOrdered f x
       → HasAt whole (suc k) (behind heads place f x ++ rest) → GoesOn whole globals starts entry leaf f place (λ b. head_code leaf f n (heads b))
       (next_of heads place k x) x
-  goes_on leaf heads place f n k (Call g xs d next) rest ok calls has = go d (heads next) refl ok has
+  goes_on leaf heads place f n k (Call g xs d next) rest ok calls order has = go d (heads next) refl ok has
     where
       go : (d : Option ℕ) (x : Head) → heads next ≡ x → NamedCall d x → HasAt whole (suc k)
           ((if resumes d x then [] else after_block f d (place next) ∷ []) ++ rest)
           → GoesOn whole globals starts entry leaf f place (λ b. head_code leaf f n (heads b)) (if resumes d x then place next else suc k) (Call g xs d next)
-      go None Bare e ok has = (calls, inr (refl, ap (head_code leaf f n) e))
-      go (Some d) Bare e ok has = (calls, inl (has_head whole (suc k) (after_block f (Some d) (place next)) rest has, ap (head_code leaf f n) e))
+      go None Bare e ok has = ((calls, order), inr (refl, ap (head_code leaf f n) e))
+      go (Some d) Bare e ok has = ((calls, order), inl (has_head whole (suc k) (after_block f (Some d) (place next)) rest has, ap (head_code leaf f n) e))
       go d Enters e ok has = absurd ok
       go None (Takes c) e ok has = absurd (none-some c ok)
-      go (Some d) (Takes c) e ok has = (calls, inr (refl, ap (head_code leaf f n) e ∙ ap (result_code (locations f)) (sym ok)))
-  goes_on leaf heads place f n k (Goto b) rest ok calls has = no_head_code leaf f n (heads b) ok
-  goes_on leaf heads place f n k (Branch c t e) rest ok calls has = (no_head_code leaf f n (heads t) ok.0, no_head_code leaf f n (heads e) ok.1)
-  goes_on leaf heads place f n k (Return o) rest ok calls has = tt
-  goes_on leaf heads place f n k (Out x next) rest ok calls has = no_head_code leaf f n (heads next) ok
+      go (Some d) (Takes c) e ok has = ((calls, order), inr (refl, ap (head_code leaf f n) e ∙ ap (result_code (locations f)) (sym ok)))
+  goes_on leaf heads place f n k (Goto b) rest ok calls order has = no_head_code leaf f n (heads b) ok
+  goes_on leaf heads place f n k (Branch c t e) rest ok calls order has = (no_head_code leaf f n (heads t) ok.0, no_head_code leaf f n (heads e) ok.1)
+  goes_on leaf heads place f n k (Return o) rest ok calls order has = tt
+  goes_on leaf heads place f n k (Out x next) rest ok calls order has = no_head_code leaf f n (heads next) ok
 
   placed : (leaf : Bool) (heads : ℕ → Head) (place : ℕ → ℕ) (f : Frame) (n k j : ℕ) (bs : List RBlock)
       → HasAt whole k (blocks_from globals starts entry place leaf heads f n k j bs) → ((b : ℕ) (block : RBlock) → slice_get bs b ≡ Some block
       → Named heads block.exit) → ((b : ℕ) (block : RBlock) → slice_get bs b ≡ Some block → IsFine leaf block.exit)
+      → ((b : ℕ) (block : RBlock) → slice_get bs b ≡ Some block → IsOrdered f block.exit)
       → (b : ℕ) (block : RBlock) → slice_get bs b ≡ Some block → StandsAt whole globals starts entry leaf f place (λ b. head_code leaf f n (heads b))
       (slice_index (numbers heads k bs) b) (head_code leaf f n (heads (j + b))) block
-  placed leaf heads place f n k j [] has ok fine b block there = absurd (none-some block there)
-  placed leaf heads place f n k j (x ∷ bs) has ok fine zero block there =
+  placed leaf heads place f n k j [] has ok fine order b block there = absurd (none-some block there)
+  placed leaf heads place f n k j (x ∷ bs) has ok fine order zero block there =
       let rest = behind heads place f x.exit ++ blocks_from globals starts entry place leaf heads f n (k + count heads x.exit) (suc j) bs in
       let zero_j : j ≡ j + 0 = omega arith in
       let first = own_block globals starts entry place leaf f (head_code leaf f n (heads j)) (next_of heads place k x.exit) x in
@@ -100,9 +144,9 @@ module _ (whole : List BlockParts) (globals : List RGlobal) (starts entry : ℕ 
         next = next_of heads place k x.exit;
         there = has_head whole k first rest has;
         leads_on = goes_on leaf heads place f n k x.exit (blocks_from globals starts entry place leaf heads f n (k + count heads x.exit) (suc j) bs)
-            (ok 0 x refl) (fine 0 x refl) (has_tail whole k first rest has);
+            (ok 0 x refl) (fine 0 x refl) (order 0 x refl) (has_tail whole k first rest has);
       }))
-  placed leaf heads place f n k j (x ∷ bs) has ok fine (suc b) block there =
+  placed leaf heads place f n k j (x ∷ bs) has ok fine order (suc b) block there =
       let more = blocks_from globals starts entry place leaf heads f n (k + count heads x.exit) (suc j) bs in
       let rest = behind heads place f x.exit ++ more in
       let one = behind_length heads place f x.exit in
@@ -114,7 +158,7 @@ module _ (whole : List BlockParts) (globals : List RGlobal) (starts entry : ℕ 
       subst (λ i. StandsAt whole globals starts entry leaf f place (λ b. head_code leaf f n (heads b))
       (slice_index (numbers heads (k + count heads x.exit) bs) b) (head_code leaf f n (heads i)) block) next_j
       (placed leaf heads place f n (k + count heads x.exit) (suc j) bs has' (λ b block there. ok (suc b) block there)
-      (λ b block there. fine (suc b) block there) b block there)
+      (λ b block there. fine (suc b) block there) (λ b block there. order (suc b) block there) b block there)
 
   -- the prologue stands in a block of its own, or at the head of block 0
   begins : (leaf : Bool) (heads : ℕ → Head) (place : ℕ → ℕ) (f : Frame) (n k : ℕ) (rest : List BlockParts)
@@ -174,8 +218,9 @@ no_take bs d e = go (slice_get (namings bs (unnamed bs)) 0) e
     go (Some Jumped) e = true≢false (sym (ap takes e))
 
 pub program_selected : (h : Homed) (depth most : ℕ) → IsProgram h.rtl.now → ((g : ℕ) (f : Frame) → slice_get h.frames.items g ≡ Some f → IsFrame most f)
+    → ((g : ℕ) (f : Frame) → slice_get h.frames.items g ≡ Some f → AreAbove f)
     → most ≤ FRAME_BYTES → depth * most ≤ STACK_BYTES → IsSelected h depth (program_blocks h)
-program_selected h depth most ok frames small room = record {
+program_selected h depth most ok frames above small room = record {
   entry = entry_of (h.rtl.now).functions;
   most = most;
   program = ok;
@@ -195,6 +240,10 @@ program_selected h depth most ok frames small room = record {
       let lead = lead_blocks leaf (heads 0) f n (place_in k bs 0) in
       let more = blocks_from p.globals starts entry (place_in k bs) leaf heads f n (k + lead_in heads) 0 bs in
       let front = lead_length leaf (heads 0) f n (place_in k bs 0) in
+      let is = all_at (programs.IsFunction p.functions (length p.globals)) p.functions g func ok.functions there_f in
+      let exit_ordered : (b : ℕ) (block : RBlock) → slice_get bs b ≡ Some block → IsOrdered f block.exit = λ b block at.
+      ordered p.functions (length p.globals) (length bs) f block.exit (above g f f_there) ok.functions
+      (all_at (programs.IsBlock p.functions (length p.globals) (length bs)) bs b block is.blocks at).exit in
       let behind_lead : k + length lead ≡ k + lead_in heads = omega (arith, front) in
       let has' : HasAt whole (k + lead_in heads) more = subst (λ m. HasAt whole m more) behind_lead (has_back whole k lead more has) in
       record {
@@ -207,10 +256,11 @@ program_selected h depth most ok frames small room = record {
               subst (λ i. StandsAt whole p.globals starts entry leaf f (place_in k bs) (λ b. head_code leaf f n (heads b)) (place_in k bs b)
               (head_code leaf f n (heads i)) block) zero_b
               (placed whole p.globals starts entry leaf heads (place_in k bs) f n (k + lead_in heads) 0 bs has'
-              (λ b block at. named bs (unnamed bs) b block at) (leaf_fine bs) b block there));
+              (λ b block at. named bs (unnamed bs) b block at) (leaf_fine bs) (λ b block at. exit_ordered b block at) b block there));
         };
         frame = frames g f f_there;
-        parameters = (all_at (programs.IsFunction p.functions (length p.globals)) p.functions g func ok.functions there_f).parameters;
+        parameters = is.parameters;
+        clear = are_clear f (above g f f_there) 4 0 n;
       };
   small = small;
   room = room;

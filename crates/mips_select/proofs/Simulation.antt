@@ -33,25 +33,23 @@ use Rattle.mips_homes.specs.HomedRun.{state_after_exit, step_at, homed_step, hom
 use Rattle.mips_homes.specs.declared.homed.Frame.{Frame}
 use Rattle.mips_homes.specs.declared.homed.Home.{Home}
 use Rattle.mips_homes.specs.declared.homed.Homed.{Homed}
-use Rattle.mips_emit.specs.declared.location.Location.TheVariants.{Held}
-use Rattle.mips_emit.specs.declared.location.Source.TheVariants.{From}
 use Rattle.mips_emit.specs.declared.facts.Above.{Above}
 use Rattle.mips_emit.specs.declared.facts.Last.{Last}
 use Rattle.mips_emit.specs.declared.location.Source.{Source}
 use Rattle.mips_emit.specs.Locations.{Facts, no_facts, location_at, known_in, locations, learned, known_after, last_of, last_after, no_last, tested, last_operand}
-use Rattle.mips_emit.specs.Code.{move_code, branch_code, branch_exit, inst_code, insts_code, fetch, seat, bring}
+use Rattle.mips_emit.specs.Code.{move_code, branch_code, branch_exit, inst_code, insts_code, fetch, seat, carry}
 use Rattle.mips_emit.specs.Frames.{IsFrame}
 use Rattle.mips_emit.proofs.Runs.{RunsTo, runs_none, runs_then, Point, At, Stopped, from, Leads, leads_nowhere, leads_then, leads_run, leads_exit}
 use Rattle.mips_emit.proofs.View.{read_register, word_at, set, set_words, put_here, put_other, moves}
 use Rattle.mips_emit.proofs.Stands.{Stored, stack_room, Stands}
-use Rattle.mips_emit.proofs.Homes.{hidden, hide, IsLazy, none_lazy, fewer_stand, IsLast, none_last, frame_homes, words_kept, call_kept, IsKnown, nothing_known, last_means, fetches, brings, sets_kept, puts}
+use Rattle.mips_emit.proofs.Homes.{hidden, hide, IsLazy, none_lazy, fewer_stand, IsLast, none_last, frame_homes, words_kept, call_kept, IsKnown, nothing_known, last_means, fetches, carries, sets_kept, passing_kept, arrives}
 use Rattle.mips_emit.proofs.Insts.{value_or_failed, performs}
 use Rattle.mips_select.specs.declared.limits.TheConstants.{STACK_BYTES}
 use Rattle.mips_select.specs.Data.{padded_bytes, start_of}
 use Rattle.mips_select.specs.Code.{saves, frame_bytes, link_save, lowers, parameters_code, prologue, epilogue, exit_code, exit_of, code_insts}
 use Rattle.mips_select.specs.Code.{own_block, result_code, after_block, prologue_block, end_block}
-use Rattle.mips_select.specs.Selected.{GoesOn, StandsAt, IsPlaced, IsFunction, IsSelected}
-use Rattle.mips_select.proofs.Frames.{all_shown, arguments, parameters}
+use Rattle.mips_select.specs.Selected.{AreClear, GoesOn, StandsAt, IsPlaced, IsFunction, IsSelected}
+use Rattle.mips_select.proofs.Frames.{all_shown, all_denote, arguments, parameters}
 use Rattle.mips_select.proofs.Returns.{return_found}
 use Rattle.mips_select.proofs.Calls.{stored_frame, frames_of, linked_frames, enters, leaves_frame}
 use Rattle.mips_select.proofs.Comparisons.{at_most_zero}
@@ -275,6 +273,7 @@ module _ (h : Homed) (depth : ℕ) (blocks : List BlockParts) (ok : IsSelected h
       (registers_at_entry frame.saved.items r) (stored_frame is.leaf frame unset_places r link) e.to
       (λ r' s'. state_at_block 0 (new_activation func.blocks.items frame s' r result_to) r' s' ws arrays out)
       (frame_homes ok.most frame is.frame) (omega arith) (omega (arith, count, few))
+      (subst (λ n. AreClear (locations frame) 4 0 n) (sym count) is.clear)
       (λ j v at. (let low = slice_get_within vs j v at in e.same (4 + j) (omega (arith, low, count, few))) ∙ here j v at) e.stands
       (λ r' s' s2 e2 st2. begins r' s' s2 (subst (λ n. RunsTo (prologue is.leaf frame n) s s2) count
       (regrouped (lowers (frame_bytes is.leaf frame)) (saves (4 * frame.slots) frame.saved.items ++ link_save is.leaf frame)
@@ -441,11 +440,10 @@ module _ (h : Homed) (depth : ℕ) (blocks : List BlockParts) (ok : IsSelected h
           value_or_failed (λ run. Reach 1 p run) o out (λ v. write_home w.frame.homes.items (registers_at_return a.frame.saved.items a.aside r) w.slots x v
           out again) tt (λ v o_v.
           let two = result v o_v in
-          puts ok.most total gs starts (λ q. None) (registers_at_return a.frame.saved.items a.aside r) g (stored_frame false w.frame w.slots w.aside l)
-          (frames_of ws ls) s st (none_lazy (registers_at_return a.frame.saved.items a.aside r)) (λ run. Reach 1 p run) again w.frame.homes.items x v None out unset_places (From (Held 2)) two
-          (subst (λ v. v < 2 ^ 32) two ((st.words).regs 2)) (λ w e. absurd (none-some w e)) (frame_homes ok.most w.frame m.frame)
-          (nothing_known w.frame.homes.items (registers_at_return a.frame.saved.items a.aside r) w.slots) tt
-          (λ r' slots' s' some e st' lz kn low. f r' slots' s' e
+          arrives ok.most total gs starts (λ q. None) (registers_at_return a.frame.saved.items a.aside r) g (stored_frame false w.frame w.slots w.aside l)
+          (frames_of ws ls) s st (none_lazy (registers_at_return a.frame.saved.items a.aside r)) (λ run. Reach 1 p run) again w.frame.homes.items x v 2 out
+          (omega arith) two (subst (λ v. v < 2 ^ 32) two ((st.words).regs 2)) (frame_homes ok.most w.frame m.frame) tt
+          (λ r' slots' s' e st' same. f r' slots' s' e
           (all_shown ok.most total gs starts (location_at (slice_get w.frame.homes.items x)) r' g (stored_frame false w.frame slots' w.aside l ∷ frames_of ws ls) s' st')))
 
   branch_words : (place : ℕ → ℕ) (x y v : ℕ) (b : Bool) → (if not b then place y else place x) ≡ place (if b then x else y)
@@ -464,6 +462,14 @@ module _ (h : Homed) (depth : ℕ) (blocks : List BlockParts) (ok : IsSelected h
       was q v false ec o eo e = absurd (none-some v e)
       was q v true ec None eo e = ap (λ o. hidden o (r q)) eo ∙ e
       was q v true ec (Some w) eo e = absurd (true≢false (sym ec ∙ lz.passes q w eo))
+
+  -- a lasting register is none of those in which arguments are passed
+  above_passing : (r : Places) (q w : ℕ) → lasting r q ≡ Some w → 8 ≤ q
+  above_passing r q w e = by (nat_lt 15 q) (nat_lt q 24) refl e
+    where
+      by : (b c : Bool) → nat_lt 15 q ≡ b → (if b && c then r q else None) ≡ Some w → 8 ≤ q
+      by true c eb e = (let low = ltb-true 15 q eb in omega (arith, low))
+      by false c eb e = absurd (none-some w e)
 
   -- an exit
   exits : (leaf : Bool) (x : RExit) (facts : Facts) (last : Last) (a : Activation) (k : ℕ) (link : ℕ) (below : List ℕ) (place : ℕ → ℕ) (head : ℕ
@@ -541,19 +547,21 @@ module _ (h : Homed) (depth : ℕ) (blocks : List BlockParts) (ok : IsSelected h
       value_or_failed (λ run. Reach 1 (At k (exit_code leaf a.frame facts last (Out x next)) s out) run) (read_home a.frame.homes.items r a.slots x) out
       (λ v. state_at_block next a (lasting r) a.slots ws g (out ++ v ∷ [])) tt (λ v e.
       let o = last_operand (locations a.frame) facts last.fresh x in
-      let code = bring 4 o in
+      let code = carry 4 o in
       let means = last_means ok.most total gs starts facts.lazy r g (stored_frame leaf a.frame a.slots a.aside link) (frames_of ws below) s st lz (known_in facts)
       last.fresh a.frame.homes.items x v (frame_homes ok.most a.frame frame) kn new.fresh e in
-      let one = brings ok.most total gs starts (hide facts.lazy r) g (stored_frame leaf a.frame a.slots a.aside link) (frames_of ws below) s st 4 v o
+      let st0 = settled facts.lazy r g (stored_frame leaf a.frame a.slots a.aside link ∷ frames_of ws below) s lz st in
+      let one = carries ok.most total gs starts (lasting r) g (stored_frame leaf a.frame a.slots a.aside link) (frames_of ws below) s st0 4 v o
       (record { low = omega arith; high = omega arith }) means in
-      let st1 = sets_kept ok.most total gs starts (hide facts.lazy r) g (stored_frame leaf a.frame a.slots a.aside link) (frames_of ws below) s st code 4 v (omega arith) one in
+      let st1 = passing_kept ok.most total gs starts (lasting r) g (stored_frame leaf a.frame a.slots a.aside link ∷ frames_of ws below) code s 4 v
+      (above_passing r) (omega arith) one st0 in
       let s1 : State = record s { regs = one.regs } in
       let s2 = set s1 2 1 in
-      let st2 = words_kept ok.most total gs starts (hide facts.lazy r) g (stored_frame leaf a.frame a.slots a.aside link ∷ frames_of ws below) s1 s2.regs
+      let st2 = words_kept ok.most total gs starts (lasting r) g (stored_frame leaf a.frame a.slots a.aside link ∷ frames_of ws below) s1 s2.regs
       (set_words s1 2 1 st1.words (omega arith)) (λ q low high. put_other s1.regs 2 1 q (omega (arith, low))) st1 in
       let l1 = code_leads k code s s1 out one.runs in
       jumps leaf (At k code s out) (length code + 1) a link below place head ws placed frame waits next (lasting r) a.slots g (out ++ v ∷ []) s2
-      (settled facts.lazy r g (stored_frame leaf a.frame a.slots a.aside link ∷ frames_of ws below) s2 lz st2) (omega arith)
+      st2 (omega arith)
       (λ block stood.
       let rest = code_insts gs starts leaf a.frame no_facts no_last (code_of block) in
       let q = At (place next) (head next ++ rest) s2 (out ++ v ∷ []) in
@@ -573,17 +581,17 @@ module _ (h : Homed) (depth : ℕ) (blocks : List BlockParts) (ok : IsSelected h
       let o = last_operand (locations a.frame) facts last.fresh x in
       let means = last_means ok.most total gs starts facts.lazy r g (stored_frame leaf a.frame a.slots a.aside link) (frames_of ws below) s st lz (known_in facts)
       last.fresh a.frame.homes.items x v (frame_homes ok.most a.frame frame) kn new.fresh read_v in
-      let one = brings ok.most total gs starts (hide facts.lazy r) g (stored_frame leaf a.frame a.slots a.aside link) (frames_of ws below) s st 2 v o
+      let one = carries ok.most total gs starts (hide facts.lazy r) g (stored_frame leaf a.frame a.slots a.aside link) (frames_of ws below) s st 2 v o
       (record { low = omega arith; high = omega arith }) means in
-      let st1 = sets_kept ok.most total gs starts (hide facts.lazy r) g (stored_frame leaf a.frame a.slots a.aside link) (frames_of ws below) s st (bring 2 o) 2 v
+      let st1 = sets_kept ok.most total gs starts (hide facts.lazy r) g (stored_frame leaf a.frame a.slots a.aside link) (frames_of ws below) s st (carry 2 o) 2 v
       (omega arith) one in
       let s1 : State = record s { regs = one.regs } in
       let e = leaves_frame ok.most total gs starts ok.small (lasting r) g (frames_of ws below) s1 leaf a.frame a.slots a.aside link frame
       (linked_frames ws below) (settled facts.lazy r g (stored_frame leaf a.frame a.slots a.aside link ∷ frames_of ws below) s1 lz st1) in
-      let code = bring 2 o ++ epilogue leaf a.frame in
+      let code = carry 2 o ++ epilogue leaf a.frame in
       returns (At k code s out) (length code) k c.form a ws link below (Some v) (lasting r) g out e.to c.there c.exit e.link_is (λ w is. e.same 2 (omega arith)
       ∙ one.here ∙ same_Some v w is) e.stands waits (code_leads k code s e.to out (runs_then one.runs e.runs)))
-  exits true (Call f xs result_to next) facts last a k link below place head ws r g out s c kn lz new placed frame waits st = absurd (true≢false (c.leads_on).0)
+  exits true (Call f xs result_to next) facts last a k link below place head ws r g out s c kn lz new placed frame waits st = absurd (true≢false ((c.leads_on).0).0)
   exits false (Call f xs result_to next) facts last a k link below place head ws r g out s c kn lz new placed frame waits st =
       value_or_failed (λ run. Reach 1 start run) (read_homes a.frame.homes.items r a.slots xs.items) out _ tt (λ vs read_vs.
       value_or_failed (λ run. Reach 1 start run) (slice_get a.blocks next) out _ tt (λ block next_there.
@@ -594,11 +602,15 @@ module _ (h : Homed) (depth : ℕ) (blocks : List BlockParts) (ok : IsSelected h
       let few = is.parameters in
       let asked = read_length a.frame.homes.items r a.slots xs.items vs read_vs in
       let count : length vs ≡ func.parameters = eqb-true (length vs) func.parameters as_many in
-      let args = arguments ok.most total gs starts r g (stored_frame false a.frame a.slots a.aside link) (frames_of ws below) s a.frame.homes.items facts 4
-      xs.items vs (frame_homes ok.most a.frame frame) kn lz (omega arith) (omega (arith, asked, count, few)) read_vs st in
+      let stored = stored_frame false a.frame a.slots a.aside link in
+      let st0 = settled facts.lazy r g (stored ∷ frames_of ws below) s lz st in
+      let denote = all_denote ok.most total gs starts r g stored (frames_of ws below) s a.frame.homes.items facts xs.items vs
+      (frame_homes ok.most a.frame frame) kn lz st read_vs in
+      let args = arguments ok.most total gs starts (lasting r) g stored (frames_of ws below) s a.frame.homes.items facts 4 xs.items vs (above_passing r)
+      (omega arith) (omega (arith, asked, count, few)) ((c.leads_on).0).1 denote st0 in
       let s1 : State = record s { regs = args.regs } in
       let s2 = set s1 31 (links k) in
-      let st2 = call_kept ok.most total gs starts (hide facts.lazy r) g (stored_frame false a.frame a.slots a.aside link ∷ frames_of ws below) s1 s2.regs
+      let st2 = call_kept ok.most total gs starts (lasting r) g (stored ∷ frames_of ws below) s1 s2.regs
       (set_words s1 31 (links k) (args.stands).words (tells.words k)) (λ leaf. absurd (true≢false (sym leaf)))
       (λ q low high. put_other s1.regs 31 (links k) q (omega (arith, high))) args.stands in
       let found = return_found links blocks k (ok.entry f) c.next c.form tells c.there c.exit in
@@ -623,8 +635,7 @@ module _ (h : Homed) (depth : ℕ) (blocks : List BlockParts) (ok : IsSelected h
       (entered (At k [] s1 out) f func callee is (lasting r) g (waiting block ∷ ws) (links k) result_to (link ∷ below) vs s2 out
       (λ form there. departs k c.form (E.Call (ok.entry f) c.next) s1 out (At (ok.entry f) form.insts s2 out) c.there c.exit
       (λ n. ap (λ o. outcome_at_block (ok.entry f) o (items blocks links n) s2 out) there))
-      (settled facts.lazy r g (stored_frame false a.frame a.slots a.aside link ∷ frames_of ws below) s2 lz st2)
-      (put_here s1.regs 31 (links k) (record { low = omega arith; high = omega arith }))
+      st2 (put_here s1.regs 31 (links k) (record { low = omega arith; high = omega arith }))
       (λ j v there. (let low = slice_get_within vs j v there in put_other s1.regs 31 (links k) (4 + j) (omega (arith, low, count, few))) ∙ args.here j v there)
       count (room_for (suc (length ws)) (ltb-true (length (waiting block ∷ ws)) depth deep)) (resumes, waits)))))))
     where

@@ -14,12 +14,10 @@ use Rattle.rtl.specs.declared.block.RGlobal.{RGlobal}
 use Rattle.rtl.specs.Meaning.{Code, code_of}
 use Rattle.mips_homes.specs.declared.homed.Frame.{Frame}
 use Rattle.mips_emit.specs.declared.facts.Last.{Last}
-use Rattle.mips_emit.specs.declared.location.Location.TheVariants.{Held}
-use Rattle.mips_emit.specs.declared.location.Source.TheVariants.{From}
 use Rattle.mips_emit.specs.Frames.{link_words}
 use Rattle.mips_emit.specs.Elements.{data_middle}
 use Rattle.mips_emit.specs.Locations.{Locations, locations, Facts, no_facts, known_after, last_after, no_last, tested, last_operand}
-use Rattle.mips_emit.specs.Code.{constant, load_word_at, store_word_at, move_code, bring, put_at, insts_code, arguments_code, branch_code, branch_exit}
+use Rattle.mips_emit.specs.Code.{constant, load_word_at, store_word_at, move_code, carry, arrive, insts_code, arguments_code, branch_code, branch_exit}
 use Rattle.mips_select.specs.declared.heads.Head.{Head}
 use Rattle.mips_select.specs.declared.heads.Head.TheVariants.{Bare, Enters, Takes}
 
@@ -60,7 +58,7 @@ raises n = if nat_eq n 0 then [] else Imm Addiu 29 29 (pos n) ∷ []
 -- n parameters from registers from t on, into the homes of the pseudo-registers from x on
 abbrev pub parameters_code : Locations → (t x n : ℕ) → List Plain
 parameters_code at t x zero = []
-parameters_code at t x (suc n) = put_at (at x) (From (Held t)) ++ parameters_code at (suc t) (suc x) n
+parameters_code at t x (suc n) = arrive (at x) t ++ parameters_code at (suc t) (suc x) n
 
 -- what a function begins with and ends with
 abbrev pub prologue : Bool → Frame → (parameters : ℕ) → List Plain
@@ -78,8 +76,8 @@ exit_code leaf f facts last (Goto b) = []
 exit_code leaf f facts last (Branch c t e) = branch_code (tested last.above c) (last_operand (locations f) facts last.fresh c)
 exit_code leaf f facts last (Call g xs d next) = arguments_code (locations f) facts 4 xs.items
 exit_code leaf f facts last (Return None) = epilogue leaf f
-exit_code leaf f facts last (Return (Some x)) = bring 2 (last_operand (locations f) facts last.fresh x) ++ epilogue leaf f
-exit_code leaf f facts last (Out x next) = bring 4 (last_operand (locations f) facts last.fresh x)
+exit_code leaf f facts last (Return (Some x)) = carry 2 (last_operand (locations f) facts last.fresh x) ++ epilogue leaf f
+exit_code leaf f facts last (Out x next) = carry 4 (last_operand (locations f) facts last.fresh x)
 
 -- an exit, where functions begin at `entry` and blocks stand at `place`; a call goes on at block n
 abbrev pub exit_of : (entry place : ℕ → ℕ) → Frame → Facts → Last → ℕ → RExit → Exit
@@ -108,7 +106,7 @@ own_block globals starts entry place leaf f head n b = record {
 -- the result of a call into its location
 abbrev pub result_code : Locations → Option ℕ → List Plain
 result_code at None = []
-result_code at (Some d) = put_at (at d) (From (Held 2))
+result_code at (Some d) = arrive (at d) 2
 
 -- what stands before a block's own code
 abbrev pub head_code : Bool → Frame → (parameters : ℕ) → Head → List Plain

@@ -1,5 +1,5 @@
 -- Which blocks stand for a program over homes, whatever their numbers.
-use Rattle.std.specs.Prelude.{◌≡◌, ◌≢◌, ◌⊎◌, ℕ, ◌*◌, ◌≤◌, Bool, false, List, [], Some, slice_get}
+use Rattle.std.specs.Prelude.{◌≡◌, ◌≢◌, ◌⊎◌, ℕ, zero, suc, ◌*◌, ◌≤◌, Bool, false, List, [], ◌∷◌, Option, None, Some, slice_get}
 use Rattle.runs.specs.declared.ran.End.TheVariants.{Wrong}
 use Rattle.mips_isa.specs.declared.inst.Plain.{Plain}
 use Rattle.mips_isa.specs.Starting.{start_state}
@@ -16,11 +16,33 @@ use Rattle.mips_homes.specs.declared.homed.Frame.{Frame}
 use Rattle.mips_homes.specs.declared.homed.Homed.{Homed}
 use Rattle.mips_homes.specs.HomedRun.{homed_run}
 use Rattle.mips_emit.specs.declared.limits.TheConstants.{FRAME_BYTES}
-use Rattle.mips_emit.specs.Locations.{locations}
+use Rattle.mips_emit.specs.declared.location.Location.{Location}
+use Rattle.mips_emit.specs.declared.location.Location.TheVariants.{Held, InSlot}
+use Rattle.mips_emit.specs.Locations.{Locations, locations}
 use Rattle.mips_emit.specs.Frames.{IsFrame}
 use Rattle.mips_select.specs.declared.limits.TheConstants.{STACK_BYTES}
 use Rattle.mips_select.specs.Data.{padded_bytes, start_of}
 use Rattle.mips_select.specs.Code.{result_code, prologue, own_block, after_block, prologue_block, start_block, end_block}
+
+-- an argument that is moved into register t isn't in a register from 4 on that an earlier one was moved into
+abbrev pub IsBehind : Option Location → ℕ → Type 0
+IsBehind None t = Unit {0}
+IsBehind (Some (Held r)) t = t ≤ r
+IsBehind (Some (InSlot k)) t = Unit {0}
+
+abbrev pub AreInOrder : Locations → (t : ℕ) → List ℕ → Type 0
+AreInOrder at t [] = Unit {0}
+AreInOrder at t (x ∷ xs) = IsBehind (at x) t × AreInOrder at (suc t) xs
+
+-- a parameter that comes in register t doesn't go to a register in which a later one comes
+abbrev pub IsClear : Option Location → ℕ → Type 0
+IsClear None t = Unit {0}
+IsClear (Some (Held r)) t = (r ≤ t) ⊎ (8 ≤ r)
+IsClear (Some (InSlot k)) t = Unit {0}
+
+abbrev pub AreClear : Locations → (t x n : ℕ) → Type 0
+AreClear at t x zero = Unit {0}
+AreClear at t x (suc n) = IsClear (at x) t × AreClear at (suc t) (suc x) n
 
 -- wherever the program isn't wrong after r steps, the blocks come to the same after r items or more
 abbrev pub KeepHomedRuns : Homed → (depth : ℕ) → List BlockParts → Type 0
@@ -28,11 +50,11 @@ KeepHomedRuns h depth blocks =
     (r : ℕ) → (homed_run h depth r).end ≢ Wrong → ComesTo blocks (start_state (padded_bytes (h.rtl.now).globals)) r (homed_run h depth r)
 
 module _ (blocks : List BlockParts) (globals : List RGlobal) (starts entry : ℕ → ℕ) where
-  -- what an exit needs: a leaf has no calls; a block to which it goes has no head, but that a call may go on at a block that
+  -- what an exit needs: a leaf has no calls, and no argument is lost before it is moved; a block to which it goes has no head, but that a call may go on at a block that
   -- begins with the store of its result
   abbrev pub GoesOn : Bool → Frame → (place : ℕ → ℕ) → (head : ℕ → List Plain) → ℕ → RExit → Type 0
   GoesOn leaf f place head n (Call g xs d next) =
-      (leaf ≡ false)
+      ((leaf ≡ false) × AreInOrder (locations f) 4 xs.items)
       × (((slice_get blocks n ≡ Some (after_block f d (place next))) × (head next ≡ []))
       ⊎ ((n ≡ place next) × (head next ≡ result_code (locations f) d)))
   GoesOn leaf f place head n (Goto b) = head b ≡ []
@@ -59,6 +81,7 @@ module _ (blocks : List BlockParts) (globals : List RGlobal) (starts entry : ℕ
     pub placed : IsPlaced leaf f place head func.blocks.items
     pub frame : IsFrame most f
     pub parameters : func.parameters ≤ MAX_PARAMETERS
+    pub clear : AreClear (locations f) 4 0 func.parameters
 
 pub record IsSelected (h : Homed) (depth : ℕ) (blocks : List BlockParts) : Type 0 where
   pub entry : ℕ → ℕ
