@@ -32,40 +32,26 @@ value_there {p} {ts} {is} {t} {k} h there =
     record { term = v.term; has = subst (λ u. HasTree p u v.term) (sym there.0) v.has; value = λ e. v.value e ∙ ap (λ vs. at vs k) (h.values e) }
 
 -- the terms at some places
-pub record Picked (p : PassState) (xs : Trees Op) (ks ts : List ℕ) : Type 0 where
-  pub terms : Trees Op
-  pub have : HaveTrees p ts terms
-  pub values : (e : Environment) → values_of terms e ≡ map (at (values_of xs e)) ks
-
-pub picked : {p : PassState} (all : List ℕ) (xs : Trees Op) (ks ts : List ℕ) → HaveTrees p all xs → AreAt all ks ts → Picked p xs ks ts
-picked {p} all xs [] [] h there = record { terms = none; have = tt; values = λ e. refl }
-picked {p} all xs [] (t ∷ ts) h there = absurd there
-picked {p} all xs (k ∷ ks) [] h there = absurd there
-picked {p} all xs (k ∷ ks) (t ∷ ts) h there =
+pub picked : (p : PassState) (all : List ℕ) (xs : Trees Op) (ks ts : List ℕ) → HaveTrees p all xs → AreAt all ks ts
+    → (ys : Trees Op) × HaveTrees p ts ys × ((e : Environment) → values_of ys e ≡ map (at (values_of xs e)) ks)
+picked p all xs [] [] h there = (none, tt, λ e. refl)
+picked p all xs [] (t ∷ ts) h there = absurd there
+picked p all xs (k ∷ ks) [] h there = absurd there
+picked p all xs (k ∷ ks) (t ∷ ts) h there =
     let v = at_place {p = p} all xs k h there.1 in
-    let rest = picked {p = p} all xs ks ts h there.2 in
-    record {
-      terms = more v.term rest.terms;
-      have = (subst (λ u. HasTree p u v.term) (sym there.0) v.has, rest.have);
-      values = λ e. ap₂ (λ a b. a ∷ b) (v.value e) (rest.values e);
-    }
+    let rest = picked p all xs ks ts h there.2 in
+    (more v.term rest.0, (subst (λ u. HasTree p u v.term) (sym there.0) v.has, rest.1), λ e. ap₂ (λ a b. a ∷ b) (v.value e) (rest.2 e))
 
 -- two terms
-pub record Two (p : PassState) (ts : List ℕ) (xs : Trees Op) : Type 0 where
-  pub first : Tree Op
-  pub second : Tree Op
-  pub are : xs ≡ more first (more second none)
-  pub first_has : HasTree p (slice_index ts 0) first
-  pub second_has : HasTree p (slice_index ts 1) second
-
-pub two : {p : PassState} (ts : List ℕ) (xs : Trees Op) → HaveTrees p ts xs → length ts ≡ 2 → Two p ts xs
-two {p} (t ∷ u ∷ []) (more x (more y none)) h long = record { first = x; second = y; are = refl; first_has = h.0; second_has = h.1.0 }
-two {p} (t ∷ u ∷ []) (more x (more y (more z zs))) h long = absurd h.1.1
-two {p} (t ∷ u ∷ []) (more x none) h long = absurd h.1
-two {p} (t ∷ u ∷ []) none h long = absurd h
-two {p} [] xs h long = absurd (omega (arith, long))
-two {p} (t ∷ []) xs h long = absurd (omega (arith, long))
-two {p} (t ∷ u ∷ v ∷ ts) xs h long = absurd (omega (arith, long))
+pub two : (p : PassState) (ts : List ℕ) (xs : Trees Op) → HaveTrees p ts xs → length ts ≡ 2
+    → (x : Tree Op) × (y : Tree Op) × (xs ≡ more x (more y none)) × HasTree p (slice_index ts 0) x × HasTree p (slice_index ts 1) y
+two p (t ∷ u ∷ []) (more x (more y none)) h long = (x, y, refl, h.0, h.1.0)
+two p (t ∷ u ∷ []) (more x (more y (more z zs))) h long = absurd h.1.1
+two p (t ∷ u ∷ []) (more x none) h long = absurd h.1
+two p (t ∷ u ∷ []) none h long = absurd h
+two p [] xs h long = absurd (omega (arith, long))
+two p (t ∷ []) xs h long = absurd (omega (arith, long))
+two p (t ∷ u ∷ v ∷ ts) xs h long = absurd (omega (arith, long))
 
 -- one place more
 pub one_more : (all ks ts : List ℕ) (k t : ℕ) → AreAt all ks ts → t ≡ slice_index all k → k < length all → AreAt all (ks ++ k ∷ []) (ts ++ t ∷ [])
