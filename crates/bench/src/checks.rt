@@ -18,7 +18,8 @@ enum Kind {
     /// Each instruction of the block loads at an offset of its own; the order loads the last two again and again into the
     /// block's two registers, so each of its guards is looked for among all of the block's, and the verdict is `same`.
     Loads,
-    /// Each instruction stores over one base, each below the one before, so that each new store goes inside all others.
+    /// Each instruction stores over one base, each below the one before, so that each new store goes inside all others; the
+    /// order has stores that the block hasn't, and the verdict is `differs mem`.
     Downward,
 }
 

@@ -47,7 +47,8 @@ pub record DiffersFirst (x y : CodeTrees) (p : Place) : Type 0 where
   pub before : (q : Place) → IsPlace q → place_rank q < place_rank p → SameAt q x y
 
 abbrev pub EachCheckedOrderMeansItsBlock : Type 0
-EachCheckedOrderMeansItsBlock = (b : BlockParts) (o : OrderParts) → FitsSlot o → IsClean o → SameTrees (block_trees b) (order_trees o) → Means b o
+EachCheckedOrderMeansItsBlock = (b : BlockParts) (o : OrderParts) → FitsSlot o → IsClean o → SameTrees (block_trees b) (order_trees o)
+    → Means b o
 
 -- a block beside a checked order of it
 pub record CheckedParts : Type 0 where

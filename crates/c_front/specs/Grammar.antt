@@ -9,21 +9,26 @@ use Rattle.c_tokens.specs.declared.token.Token.{Token}
 use Rattle.c_tokens.specs.declared.token.Token.TheVariants.{Name, Constant, Jump, The}
 use Rattle.c_tokens.specs.declared.token.Mark.{Mark}
 use Rattle.c_tokens.specs.declared.token.Mark.TheVariants.{Int, Unsigned, Char, Void, If, Else, While, For, Semicolon, Comma, LeftBrace}
-use Rattle.c_tokens.specs.declared.token.Mark.TheVariants.{RightBrace, LeftParen, RightParen, LeftBracket, RightBracket, Assign, Question, Colon}
+use Rattle.c_tokens.specs.declared.token.Mark.TheVariants.{RightBrace, LeftParen, RightParen, LeftBracket, RightBracket, Assign, Question}
+use Rattle.c_tokens.specs.declared.token.Mark.TheVariants.{Colon}
 use Rattle.c_tokens.specs.declared.token.Mark.TheVariants.{Plus, Minus, Star, Slash, Percent}
-use Rattle.c_tokens.specs.declared.token.Mark.TheVariants.{Bang, Tilde, BarBar, AndAnd, Bar, Caret, Ampersand, EqualEqual, BangEqual, LessSign, GreaterSign}
+use Rattle.c_tokens.specs.declared.token.Mark.TheVariants.{Bang, Tilde, BarBar, AndAnd, Bar, Caret, Ampersand, EqualEqual, BangEqual}
+use Rattle.c_tokens.specs.declared.token.Mark.TheVariants.{LessSign, GreaterSign}
 use Rattle.c_tokens.specs.declared.token.Mark.TheVariants.{LessEqual, GreaterEqual, LessLess, GreaterGreater}
 use Rattle.c_tree.specs.declared.tree.UnaryOp.{UnaryOp}
 use Rattle.c_tree.specs.declared.tree.UnaryOp.TheVariants.{Negate, Identity, Complement, Not}
 use Rattle.c_tree.specs.declared.tree.BinaryOp.{BinaryOp}
-use Rattle.c_tree.specs.declared.tree.BinaryOp.TheVariants.{Multiply, Divide, Remainder, Add, Subtract, ShiftLeft, ShiftRight, Less, Greater, LessOrEqual}
+use Rattle.c_tree.specs.declared.tree.BinaryOp.TheVariants.{Multiply, Divide, Remainder, Add, Subtract, ShiftLeft, ShiftRight, Less}
+use Rattle.c_tree.specs.declared.tree.BinaryOp.TheVariants.{Greater, LessOrEqual}
 use Rattle.c_tree.specs.declared.tree.BinaryOp.TheVariants.{GreaterOrEqual, Equal, NotEqual, BitAnd, BitXor, BitOr, LogicalAnd, LogicalOr}
 use Rattle.c_tokens.specs.declared.token.Literal.{Literal}
 use Rattle.words.specs.declared.width.Width.TheVariants.{Word, Byte}
 use Rattle.c_tree.specs.declared.tree.Initial.{Initial}
 use Rattle.c_tree.specs.declared.tree.Parameter.{Parameter}
-use Rattle.c_tree.specs.Tree.{Expression, constant, name, index, unary, binary, conditional, Call, call, Value, plain, called, Simple, assign, assign_at}
-use Rattle.c_tree.specs.Tree.{call_statement, Statement, empty, block, if_then, if_then_else, while_loop, for_loop, break_at, continue_at, return_at, simply}
+use Rattle.c_tree.specs.Tree.{Expression, constant, name, index, unary, binary, conditional, Call, call, Value, plain, called, Simple}
+use Rattle.c_tree.specs.Tree.{assign, assign_at}
+use Rattle.c_tree.specs.Tree.{call_statement, Statement, empty, block, if_then, if_then_else, while_loop, for_loop, break_at, continue_at}
+use Rattle.c_tree.specs.Tree.{return_at, simply}
 use Rattle.c_tree.specs.Tree.{Item, declare, statement, Items, no_items, more_items, Declaration, variable, array, function}
 
 -- what a rule may ask of one token: any name, any constant, one of the keywords that leave a place, or a mark
@@ -181,7 +186,8 @@ pub data Rule : Nonterminal → List Symbol → Type 0 where
   declarations_end : Rule declarations []
   declarations_more : Rule declarations (N a_declaration ∷ N declarations ∷ [])
   declaration_typed : Rule a_declaration (N a_type ∷ T a_name ∷ N after_global ∷ [])
-  declaration_bytes : Rule a_declaration (T (the Unsigned) ∷ T (the Char) ∷ T a_name ∷ T (the LeftBracket) ∷ T a_constant ∷ T (the RightBracket)
+  declaration_bytes : Rule a_declaration (T (the Unsigned) ∷ T (the Char) ∷ T a_name ∷ T (the LeftBracket) ∷ T a_constant
+      ∷ T (the RightBracket)
       ∷ T (the Semicolon) ∷ [])
   declaration_void : Rule a_declaration (T (the Void) ∷ T a_name ∷ N function_rest ∷ [])
   type_int : Rule a_type (T (the Int) ∷ [])
@@ -194,7 +200,8 @@ pub data Rule : Nonterminal → List Symbol → Type 0 where
   global_function : Rule after_global (N function_rest ∷ [])
   initial_plain : Rule initial (T a_constant ∷ [])
   initial_negative : Rule initial (T (the Minus) ∷ T a_constant ∷ [])
-  function_rule : Rule function_rest (T (the LeftParen) ∷ N parameters ∷ T (the RightParen) ∷ T (the LeftBrace) ∷ N items ∷ T (the RightBrace) ∷ [])
+  function_rule : Rule function_rest (T (the LeftParen) ∷ N parameters ∷ T (the RightParen) ∷ T (the LeftBrace) ∷ N items
+      ∷ T (the RightBrace) ∷ [])
   parameters_void : Rule parameters (T (the Void) ∷ [])
   parameters_some : Rule parameters (N a_type ∷ T a_name ∷ N more_parameters ∷ [])
   more_parameters_end : Rule more_parameters []
@@ -209,7 +216,8 @@ pub data Rule : Nonterminal → List Symbol → Type 0 where
   statement_block : Rule a_statement (T (the LeftBrace) ∷ N items ∷ T (the RightBrace) ∷ [])
   statement_if : Rule a_statement (T (the If) ∷ T (the LeftParen) ∷ N an_expression ∷ T (the RightParen) ∷ N a_statement ∷ N else_part ∷ [])
   statement_while : Rule a_statement (T (the While) ∷ T (the LeftParen) ∷ N an_expression ∷ T (the RightParen) ∷ N a_statement ∷ [])
-  statement_for : Rule a_statement (T (the For) ∷ T (the LeftParen) ∷ N maybe_simple ∷ T (the Semicolon) ∷ N maybe_expression ∷ T (the Semicolon) ∷ N
+  statement_for : Rule a_statement (T (the For) ∷ T (the LeftParen) ∷ N maybe_simple ∷ T (the Semicolon) ∷ N maybe_expression
+      ∷ T (the Semicolon) ∷ N
       maybe_simple ∷ T (the RightParen) ∷ N a_statement ∷ [])
   statement_break : Rule a_statement (T (a_jump Break) ∷ T (the Semicolon) ∷ [])
   statement_continue : Rule a_statement (T (a_jump Continue) ∷ T (the Semicolon) ∷ [])
@@ -222,7 +230,8 @@ pub data Rule : Nonterminal → List Symbol → Type 0 where
   expression_none : Rule maybe_expression []
   expression_some : Rule maybe_expression (N an_expression ∷ [])
   simple_assign : Rule simple (T a_name ∷ T (the Assign) ∷ N value ∷ [])
-  simple_assign_at : Rule simple (T a_name ∷ T (the LeftBracket) ∷ N an_expression ∷ T (the RightBracket) ∷ T (the Assign) ∷ N an_expression ∷ [])
+  simple_assign_at : Rule simple (T a_name ∷ T (the LeftBracket) ∷ N an_expression ∷ T (the RightBracket) ∷ T (the Assign) ∷ N an_expression
+      ∷ [])
   simple_call : Rule simple (N a_call ∷ [])
   value_plain : Rule value (N an_expression ∷ [])
   value_call : Rule value (N a_call ∷ [])
@@ -236,11 +245,13 @@ pub data Rule : Nonterminal → List Symbol → Type 0 where
   choice_some : Rule choice (T (the Question) ∷ N an_expression ∷ T (the Colon) ∷ N an_expression ∷ [])
   operands_rule : {l : Level} → Rule (operands (above l)) (N (operands l) ∷ N (more_operands l) ∷ [])
   operands_end : {l : Level} → Rule (more_operands l) []
-  operands_more : {l : Level} {o : BinaryOp} {t : Mark} → Operator l o t → Rule (more_operands l) (T (the t) ∷ N (operands l) ∷ N (more_operands l) ∷ [])
+  operands_more : {l : Level} {o : BinaryOp} {t : Mark} → Operator l o t
+      → Rule (more_operands l) (T (the t) ∷ N (operands l) ∷ N (more_operands l) ∷ [])
   operand_constant : Rule (operands unary_expressions) (T a_constant ∷ [])
   operand_name : Rule (operands unary_expressions) (T a_name ∷ [])
   operand_index : Rule (operands unary_expressions) (T a_name ∷ T (the LeftBracket) ∷ N an_expression ∷ T (the RightBracket) ∷ [])
-  operand_unary : {o : UnaryOp} {t : Mark} → Prefix o t → Rule (operands unary_expressions) (T (the t) ∷ N (operands unary_expressions) ∷ [])
+  operand_unary : {o : UnaryOp} {t : Mark} → Prefix o t
+      → Rule (operands unary_expressions) (T (the t) ∷ N (operands unary_expressions) ∷ [])
   operand_paren : Rule (operands unary_expressions) (T (the LeftParen) ∷ N an_expression ∷ T (the RightParen) ∷ [])
 
 -- binary operators group from the left

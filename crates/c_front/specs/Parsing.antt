@@ -5,15 +5,18 @@ use Rattle.c_tokens.specs.declared.token.IntegerType.{IntegerType}
 use Rattle.c_tokens.specs.declared.token.Token.{Token}
 use Rattle.c_tokens.specs.declared.token.Token.TheVariants.{Name, Constant, The}
 use Rattle.c_tokens.specs.declared.token.Mark.{Mark}
-use Rattle.c_tokens.specs.declared.token.Mark.TheVariants.{Int, Unsigned, Char, Else, Semicolon, LeftParen, RightParen, LeftBracket, RightBracket}
+use Rattle.c_tokens.specs.declared.token.Mark.TheVariants.{Int, Unsigned, Char, Else, Semicolon, LeftParen, RightParen, LeftBracket}
+use Rattle.c_tokens.specs.declared.token.Mark.TheVariants.{RightBracket}
 use Rattle.c_tokens.specs.declared.token.Mark.TheVariants.{Assign, Colon}
 use Rattle.c_tokens.specs.declared.token.Mark.TheVariants.{Plus, Minus, Bang, Tilde}
 use Rattle.c_tokens.specs.declared.token.IntegerType.TheVariants.{SignedInt}
 use Rattle.words.specs.declared.width.Width.TheVariants.{Byte}
 use Rattle.c_tree.specs.declared.tree.BinaryOp.{BinaryOp}
-use Rattle.c_front.specs.Grammar.{a_name, a_constant, the, Level, unary_expressions, above, Nonterminal, a_program, a_type, after_global, a_statement}
+use Rattle.c_front.specs.Grammar.{a_name, a_constant, the, Level, unary_expressions, above, Nonterminal, a_program, a_type, after_global}
+use Rattle.c_front.specs.Grammar.{a_statement}
 use Rattle.c_front.specs.Grammar.{else_part}
-use Rattle.c_front.specs.Grammar.{maybe_simple, maybe_expression, value, arguments, an_expression, Symbol, T, N, Tail, PhraseTree, Operator, if_of}
+use Rattle.c_front.specs.Grammar.{maybe_simple, maybe_expression, value, arguments, an_expression, Symbol, T, N, Tail, PhraseTree, Operator}
+use Rattle.c_front.specs.Grammar.{if_of}
 use Rattle.c_front.specs.Grammar.{typed_declaration}
 use Rattle.c_front.specs.Grammar.{first, second}
 use Rattle.c_front.specs.declared.cursor.ParseStop.{ParseStop}
@@ -114,7 +117,8 @@ StartsNoCall ts = (x : Identifier) → first ts ≡ Some (Name x) → second ts 
 -- what stands after `if`
 abbrev pub IsBranchRead : List Token → List Token → Statement → Type 0
 IsBranchRead ts rest s = (e : Expression) × (a : Statement) × (b : Option Statement) ×
-    Reads (T (the LeftParen) ∷ N an_expression ∷ T (the RightParen) ∷ N a_statement ∷ N else_part ∷ []) ts rest (tt, (e, (tt, (a, (b, tt)))))
+    Reads (T (the LeftParen) ∷ N an_expression ∷ T (the RightParen) ∷ N a_statement ∷ N else_part
+    ∷ []) ts rest (tt, (e, (tt, (a, (b, tt)))))
     × (s ≡ if_of e a b)
 
 abbrev pub IsBranchStuck : List Token → ParseStop → Type 0
@@ -155,7 +159,8 @@ IsEndedStuck n u = AreStuck (N n ∷ T (the u) ∷ [])
 
 -- the parts of a `for` in their parentheses
 abbrev pub head_symbols : List Symbol
-head_symbols = T (the LeftParen) ∷ N maybe_simple ∷ T (the Semicolon) ∷ N maybe_expression ∷ T (the Semicolon) ∷ N maybe_simple ∷ T (the RightParen) ∷ []
+head_symbols = T (the LeftParen) ∷ N maybe_simple ∷ T (the Semicolon) ∷ N maybe_expression ∷ T (the Semicolon) ∷ N maybe_simple
+    ∷ T (the RightParen) ∷ []
 
 abbrev pub IsHeadRead : List Token → List Token → Option Simple → Option Expression → Option Simple → Type 0
 IsHeadRead ts rest a b c = Reads head_symbols ts rest (tt, (a, (tt, (b, (tt, (c, (tt, tt)))))))

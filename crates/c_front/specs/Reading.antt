@@ -20,10 +20,12 @@ pub data Stuck : List Symbol → List Token → List Token → Type 0 where
       ((t : Token) (v : SortTree s) → first ts ≡ Some t → IsToken s t v → ⊥) → Stuck (T s ∷ symbols) ts ts
   stuck_past : {s : Sort} {symbols : List Symbol} {t : Token} {ts rest : List Token} {v : SortTree s} →
       IsToken s t v → Stuck symbols ts rest → Stuck (T s ∷ symbols) (t ∷ ts) rest
-  stuck_phrase : {n : Nonterminal} {symbols : List Symbol} {ts : List Token} → ((after : Option Token) → chosen_rule n (first ts) after ≡ None)
+  stuck_phrase : {n : Nonterminal} {symbols : List Symbol} {ts : List Token}
+      → ((after : Option Token) → chosen_rule n (first ts) after ≡ None)
       → Stuck (N n ∷ symbols) ts ts
   stuck_inside : {n : Nonterminal} {inner symbols : List Symbol} {ts rest : List Token} (r : Rule n inner) →
-      chosen_rule n (first ts) (second ts) ≡ Some (inner, r) → (Peeks n (first ts) → length rest < length ts) → Stuck (inner ++ symbols) ts rest
+      chosen_rule n (first ts) (second ts) ≡ Some (inner, r) → (Peeks n (first ts) → length rest < length ts)
+      → Stuck (inner ++ symbols) ts rest
       → Stuck (N n ∷ symbols) ts rest
 
 pub data CanRead (symbols : List Symbol) (ts rest : List Token) : Type 0 where

@@ -1,5 +1,6 @@
 -- Which program a text spells, and why it is refused.
-use Rattle.std.specs.Prelude.{◌≡◌, ◌<◌, ◌≤◌, ℕ, List, [], length, Bool, true, false, nat_eq, nat_le, nat_lt, ◌&&◌, ◌||◌, if◌then◌else◌, slice_index}
+use Rattle.std.specs.Prelude.{◌≡◌, ◌<◌, ◌≤◌, ℕ, List, [], length, Bool, true, false, nat_eq, nat_le, nat_lt, ◌&&◌, ◌||◌, if◌then◌else◌}
+use Rattle.std.specs.Prelude.{slice_index}
 use Rattle.c_tokens.specs.declared.sizes.TheConstants.{MAX_TEXT}
 use Rattle.c_tokens.specs.declared.token.Token.{Token}
 use Rattle.c_tokens.specs.declared.fault.Refusal.{Refusal}
@@ -46,6 +47,7 @@ pub data IsTextFault (text : List ℕ) : FrontFaultKind → ℕ → Type 0 where
   too_long : MAX_TEXT < length text → IsTextFault text Size MAX_TEXT
   bad_byte : {k : ℕ} → length text ≤ MAX_TEXT → IsBadByte text k → IsTextFault text Byte k
   bad_token : {r : Refusal} {k : ℕ} → length text ≤ MAX_TEXT → AllText text → LexStops 0 text [] r k → IsTextFault text (refusal_kind r) k
-  bad_syntax : {tokens : List Token} {places : List ℕ} {k : ℕ} → length text ≤ MAX_TEXT → AllText text → Lexes 0 text [] tokens places → IsFirstWrong tokens k →
+  bad_syntax : {tokens : List Token} {places : List ℕ} {k : ℕ} → length text ≤ MAX_TEXT → AllText text → Lexes 0 text [] tokens places
+      → IsFirstWrong tokens k →
       IsTextFault text Syntax (place_or (length text) places k)
   no_memory : length text ≤ MAX_TEXT → AllText text → IsTextFault text NoMemory (length text)

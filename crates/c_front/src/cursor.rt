@@ -1,5 +1,7 @@
+// The token in front, and what a reader of a part stops at.
 ghost use Rattle.std.specs.Prelude.{◌≡◌, ◌∷◌, [], IfOk, IfErr, IfSome, IfNone};
-ghost use Rattle.c_front.specs.Parsing.{IsMissing, StartsWith, StartsWithout, StartsWithName, IsNameMissing, StartsWithConstant, IsConstantMissing};
+ghost use Rattle.c_front.specs.Parsing.{IsMissing, StartsWith, StartsWithout, StartsWithName, IsNameMissing, StartsWithConstant};
+ghost use Rattle.c_front.specs.Parsing.{IsConstantMissing};
 ghost use Rattle.c_front.specs.Parsing.{StartsNamed, StartsUnnamed, StartsBytes, StartsNoBytes};
 
 use c_tokens::{Identifier, Literal, Mark, Token};

@@ -1,8 +1,11 @@
+// Expressions, level by level of precedence (C99 6.5).
 ghost use Rattle.std.specs.Prelude.{◌≡◌, ◌<◌, length, IfOk, IfErr, IfSome, IfNone, Some};
-ghost use Rattle.c_front.specs.Grammar.{an_expression, operands, unary_expressions, above, Level, Operator, Prefix, first, value, arguments};
+ghost use Rattle.c_front.specs.Grammar.{an_expression, operands, unary_expressions, above, Level, Operator, Prefix, first, value};
+ghost use Rattle.c_front.specs.Grammar.{arguments};
 ghost use Rattle.c_front.specs.Choosing.{EndsOperands};
 ghost use Rattle.c_tree.specs.Shape.{expression_of, expressions_of, value_tree};
-ghost use Rattle.c_front.specs.Parsing.{IsRead, IsStuck, level_of, StartsWithOperator, EndsUpTo, EndsBelow, IsChoiceRead, IsChoiceStuck, IsNoPrefix};
+ghost use Rattle.c_front.specs.Parsing.{IsRead, IsStuck, level_of, StartsWithOperator, EndsUpTo, EndsBelow, IsChoiceRead, IsChoiceStuck};
+ghost use Rattle.c_front.specs.Parsing.{IsNoPrefix};
 ghost use Rattle.c_front.specs.Parsing.{IsClosedRead, IsClosedStuck, IsArgumentsRead, IsArgumentsStuck, StartsCall, StartsNoCall};
 ghost use Rattle.c_tokens.specs.declared.token.Token.TheVariants.{The};
 

@@ -1,3 +1,4 @@
+// A whole text: its bytes, its tokens, its program, or the fault that comes first.
 ghost use Rattle.std.specs.Prelude.{◌≡◌, ◌≢◌, ℕ, List, length, IfOk, IfErr, IfSome, IfNone};
 ghost use Rattle.c_tree.specs.Shape.{declarations_of};
 ghost use Rattle.c_front.specs.Texts.{SpellsText, IsTextFault, is_text, IsBadByte, AllText, place_or, refusal_kind};
@@ -119,7 +120,8 @@ pub fn read(alloc: Global, text: &[u8]) -> Result<Program, FrontFault>
 /// most, at one place. A law: it computes nothing.
 pub fn one_reading()
     ensures once { (text : List ℕ) (p q : List Declaration) → SpellsText text p → SpellsText text q → p ≡ q }
-    ensures refused { (text : List ℕ) (k : FrontFaultKind) (at : ℕ) (p : List Declaration) → IsTextFault text k at → k ≢ NoMemory → SpellsText text p → ⊥ }
+    ensures refused { (text : List ℕ) (k : FrontFaultKind) (at : ℕ) (p : List Declaration) → IsTextFault text k at → k ≢ NoMemory
+        → SpellsText text p → ⊥ }
     ensures one_fault { (text : List ℕ) (k j : FrontFaultKind) (at n : ℕ) → IsTextFault text k at → IsTextFault text j n
         → k ≢ NoMemory → j ≢ NoMemory → (k ≡ j) × (at ≡ n) }
 {}

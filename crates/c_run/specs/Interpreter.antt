@@ -9,7 +9,8 @@ use Rattle.c_typed.specs.declared.tree.Destination.{Destination}
 use Rattle.c_typed.specs.declared.tree.Global as Variable
 use Rattle.c_typed.specs.Shape.{statement_of, statements_of}
 use Rattle.c_typed.specs.Meaning as Meaning
-use Rattle.c_typed.specs.Meaning.{Todo, Do, Next, before, before_all, Point, Run, step_at, with_assignment, state_after_call, state_after_return}
+use Rattle.c_typed.specs.Meaning.{Todo, Do, Next, before, before_all, Point, Run, step_at, with_assignment, state_after_call}
+use Rattle.c_typed.specs.Meaning.{state_after_return}
 use Rattle.c_run.specs.declared.pending.Pending.{Pending}
 use Rattle.c_run.specs.declared.pending.Pending.TheVariants.{One, Rest, Turn}
 use Rattle.c_run.specs.declared.pending.Head.{Head}
@@ -72,7 +73,8 @@ state_at Reach.Failed m = Failed m.output.items
 -- the same interpreter with other locals and globals
 abbrev pub state_with : Interpreter → Places → Arrays → Run
 state_with m l g =
-    Running (record { locals = l; todo = todos m.frame.todo.items; result_to = m.frame.result_to } ∷ frames_of m.waiting.items) g m.output.items
+    Running (record { locals = l; todo = todos m.frame.todo.items; result_to = m.frame.result_to }
+    ∷ frames_of m.waiting.items) g m.output.items
 
 -- a step at this list
 abbrev pub state_after_step : TypedProgram → (depth : ℕ) → List Todo → Interpreter → Run
@@ -94,7 +96,8 @@ Does s before r after = (p : TypedProgram) → DoesAtAnyDepth p s before r after
 -- a word goes to this place
 abbrev pub Assigns : List Variable.Global → Destination → ℕ → Interpreter → Reached → Interpreter → Type 0
 Assigns globals to v before r after =
-    with_assignment globals to v (places before.frame.locals.items) (arrays before.globals.items) before.output.items (state_with before) ≡ state_at r after
+    with_assignment globals to v (places before.frame.locals.items) (arrays before.globals.items) before.output.items (state_with before)
+    ≡ state_at r after
 
 -- a function is called with these values, and its result goes there
 abbrev pub Calls : TypedProgram → (depth f : ℕ) → List ℕ → Option Destination → Interpreter → Reached → Interpreter → Type 0
@@ -105,7 +108,8 @@ Calls p depth f vs to before r after =
 -- the call returns, with a word or without
 abbrev pub Returns : List Variable.Global → Option ℕ → Interpreter → Reached → Interpreter → Type 0
 Returns globals v before r after =
-    state_after_return globals v before.frame.result_to (frames_of before.waiting.items) (arrays before.globals.items) before.output.items ≡ state_at r after
+    state_after_return globals v before.frame.result_to (frames_of before.waiting.items) (arrays before.globals.items) before.output.items
+    ≡ state_at r after
 
 -- the locals, with what comes first and the others behind it
 abbrev pub point_at : Places → Head → List Todo → Point

@@ -1,3 +1,4 @@
+// A program under way: active calls, variables at file scope and output.
 ghost use Rattle.std.specs.Prelude.{◌≡◌, ℕ, ◌<◌, ◌∷◌, [], length, Option, IfOk, OnOk, None, Some, if◌then◌else◌, List, map};
 ghost use Rattle.runs.specs.Stores.{Places, Arrays, places_with, arrays_with};
 ghost use Rattle.c_typed.specs.Meaning.{kept_in, elements_with};

@@ -1,3 +1,4 @@
+// The statements that an active call still has to do.
 ghost use Rattle.std.specs.Prelude.{◌≡◌, ℕ, ◌++◌, ◌∷◌, [], OnOk, IfOk, None, length, ◌+◌, ◌≤◌};
 ghost use Rattle.runs.specs.Stores.{places_with};
 ghost use Rattle.c_typed.specs.Meaning.{next_point, Going};
@@ -114,7 +115,8 @@ pub(crate) fn settle<'a>(
     todo: &mut Vec<Pending<'a>>,
     locals: &mut [Option<u32>],
 ) -> Result<Head<'a>, AllocError>
-    ensures { IfOk result (λ h. next_point Going (places locals.old) (todos todo.old.items) ≡ point_at (places locals.new) h (todos todo.new.items)) }
+    ensures { IfOk result (λ h. next_point Going (places locals.old) (todos todo.old.items)
+        ≡ point_at (places locals.new) h (todos todo.new.items)) }
 {
     loop {
         let head = first(todo)?;

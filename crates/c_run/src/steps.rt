@@ -1,3 +1,4 @@
+// The run of a typed program, so many steps.
 ghost use Rattle.std.specs.Prelude.{◌≡◌, IfOk, map};
 ghost use Rattle.runs.specs.Runs.{outcome_of};
 ghost use Rattle.c_types.specs.Shape.{program_of};

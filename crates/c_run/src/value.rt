@@ -1,3 +1,4 @@
+// Values of typed expressions (C99 6.5).
 ghost use Rattle.std.specs.Prelude.{◌≡◌, ℕ, Option, Some, IfOk, map};
 ghost use Rattle.std.specs.Option.{option_map};
 ghost use Rattle.c_typed.specs.Shape.{typed_expression_of, typed_expressions_of};

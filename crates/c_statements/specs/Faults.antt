@@ -3,7 +3,8 @@ use Rattle.std.specs.Prelude.{◌≡◌, ◌<◌, ◌≤◌, ◌⊎◌, ℕ, Boo
 use Rattle.std.specs.Prelude.{length, codes}
 use Rattle.c_tree.specs.Texts.{placed_fault_text}
 use Rattle.c_statements.specs.declared.fault.TypeFaultKind.{TypeFaultKind}
-use Rattle.c_statements.specs.declared.fault.TypeFaultKind.TheVariants.{Undeclared, Redeclared, Kind, Count, NoMain, Outside, Limit, NoMemory as WantOfMemory}
+use Rattle.c_statements.specs.declared.fault.TypeFaultKind.TheVariants.{Undeclared, Redeclared, Kind, Count, NoMain, Outside, Limit}
+use Rattle.c_statements.specs.declared.fault.TypeFaultKind.TheVariants.{NoMemory as WantOfMemory}
 use Rattle.c_statements.specs.declared.fault.TypeFault.{TypeFault}
 use Rattle.c_statements.specs.declared.fault.TypeStop.{TypeStop}
 use Rattle.c_statements.specs.declared.fault.TypeStop.TheVariants.{Fault, NoMemory}

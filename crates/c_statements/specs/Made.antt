@@ -14,14 +14,16 @@ use Rattle.c_statements.specs.declared.fault.TypeStop.{TypeStop}
 abbrev pub MadeOfTwo : {A B D : Type 0} → Result A TypeStop → Result B TypeStop → (A → B → D → Type 0) → D → Type 0
 MadeOfTwo {A} {B} a b E d = (x : A) × (y : B) × (a ≡ Ok x) × (b ≡ Ok y) × E x y d
 
-abbrev pub MadeOfThree : {A B C D : Type 0} → Result A TypeStop → Result B TypeStop → Result C TypeStop → (A → B → C → D → Type 0) → D → Type 0
+abbrev pub MadeOfThree : {A B C D : Type 0} → Result A TypeStop → Result B TypeStop → Result C TypeStop → (A → B → C → D → Type 0) → D
+    → Type 0
 MadeOfThree {A} {B} {C} a b c E d = (x : A) × (y : B) × (z : C) × (a ≡ Ok x) × (b ≡ Ok y) × (c ≡ Ok z) × E x y z d
 
 abbrev pub IsElement : (ℕ × IntegerType) → TypedExpression → TypedExpression → Type 0
 IsElement a i t = typed_expression_of t ≡ element a.0 a.1 (typed_expression_of i)
 
 abbrev pub IsUnary : UnaryOp → Result TypedExpression TypeStop → TypedExpression → Type 0
-IsUnary o r t = (x : TypedExpression) × (r ≡ Ok x) × (typed_expression_of t ≡ unary o (prefix_type o (type_of (typed_expression_of x))) (typed_expression_of x))
+IsUnary o r t = (x : TypedExpression) × (r ≡ Ok x)
+    × (typed_expression_of t ≡ unary o (prefix_type o (type_of (typed_expression_of x))) (typed_expression_of x))
 
 abbrev pub IsBinary : BinaryOp → TypedExpression → TypedExpression → TypedExpression → Type 0
 IsBinary o l r t = typed_expression_of t ≡ binary o (operation_type o (type_of (typed_expression_of l)) (type_of (typed_expression_of r)))

@@ -74,7 +74,12 @@ with_declared text s x m = with_spelling s (spelling_in text x) m
 
 -- behind the declarator of a local, which has the next number
 abbrev pub with_local : List ℕ → Scopes → IntegerType → Identifier → Scopes
-with_local text s k x = record { inner = with_name s.inner (spelling_in text x) (Local s.locals k); around = s.around; locals = suc s.locals }
+with_local text s k x = record {
+  inner = with_name s.inner (spelling_in text x)
+      (Local s.locals k);
+  around = s.around;
+  locals = suc s.locals;
+}
 
 -- how many locals a statement declares
 abbrev mutual

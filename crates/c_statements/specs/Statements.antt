@@ -69,7 +69,8 @@ pub data FaultyDeclarator (text : List ℕ) (sc : Scopes) (x : Identifier) : Typ
 
 -- a declaration of a local, which is in sight from the end of its declarator on, in its own first value too
 abbrev pub FaultyLocal : List ℕ → Scopes → IntegerType → Identifier → Option Tree.Value → Faults
-FaultyLocal text sc integer_type x v k at = FaultyDeclarator text sc x k at ⊎ FaultyFirst (environment_in text (with_local text sc integer_type x)) v k at
+FaultyLocal text sc integer_type x v k at = FaultyDeclarator text sc x k at
+    ⊎ FaultyFirst (environment_in text (with_local text sc integer_type x)) v k at
 
 -- the faults of a statement in a function that gives a result or not, in a loop or not
 abbrev mutual
@@ -78,14 +79,18 @@ abbrev mutual
   FaultyStatement text gives loop sc (block all) k at = FaultyItems text gives loop (within sc) all k at
   FaultyStatement text gives loop sc (if_then c s) k at = Faulty (environment_in text sc) c k at ⊎ FaultyStatement text gives loop sc s k at
   FaultyStatement text gives loop sc (if_then_else c s t) k at =
-      Faulty (environment_in text sc) c k at ⊎ (FaultyStatement text gives loop sc s k at ⊎ FaultyStatement text gives loop (behind sc s) t k at)
-  FaultyStatement text gives loop sc (while_loop c s) k at = Faulty (environment_in text sc) c k at ⊎ FaultyStatement text gives true sc s k at
+      Faulty (environment_in text sc) c k at
+      ⊎ (FaultyStatement text gives loop sc s k at ⊎ FaultyStatement text gives loop (behind sc s) t k at)
+  FaultyStatement text gives loop sc (while_loop c s) k at = Faulty (environment_in text sc) c k at
+      ⊎ FaultyStatement text gives true sc s k at
   FaultyStatement text gives loop sc (for_loop f c l s) k at =
       FaultyPart (environment_in text sc) f k at ⊎
-      (FaultyMaybe (environment_in text sc) c k at ⊎ (FaultyPart (environment_in text sc) l k at ⊎ FaultyStatement text gives true sc s k at))
+      (FaultyMaybe (environment_in text sc) c k at
+      ⊎ (FaultyPart (environment_in text sc) l k at ⊎ FaultyStatement text gives true sc s k at))
   FaultyStatement text gives loop sc (break_at place) k at = FaultyJump loop place k at
   FaultyStatement text gives loop sc (continue_at place) k at = FaultyJump loop place k at
-  FaultyStatement text gives loop sc (return_at place e) k at = FaultyReturn gives e place k at ⊎ FaultyMaybe (environment_in text sc) e k at
+  FaultyStatement text gives loop sc (return_at place e) k at =
+      FaultyReturn gives e place k at ⊎ FaultyMaybe (environment_in text sc) e k at
   FaultyStatement text gives loop sc (simply s) k at = FaultySimple (environment_in text sc) s k at
 
   pub FaultyItems : List ℕ → (gives loop : Bool) → Scopes → Items → Faults

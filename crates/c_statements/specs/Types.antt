@@ -20,9 +20,11 @@ pub data Types (scope : Environment) : Expression → TypedExpression → Type 0
   constant_typed : {c : Literal} → Types scope (Tree.constant c) (constant c)
   local_typed : {x : Identifier} {n : ℕ} {k : IntegerType} → scope x ≡ Some (Local n k) → Types scope (Tree.name x) (local n k)
   global_typed : {x : Identifier} {n : ℕ} {k : IntegerType} → scope x ≡ Some (Global n k) → Types scope (Tree.name x) (global n k)
-  element_typed : {x : Identifier} {n : ℕ} {k : IntegerType} {e : Expression} {t : TypedExpression} → scope x ≡ Some (Array n k) → Types scope e t →
+  element_typed : {x : Identifier} {n : ℕ} {k : IntegerType} {e : Expression} {t : TypedExpression} → scope x ≡ Some (Array n k)
+      → Types scope e t →
       Types scope (Tree.index x e) (element n k t)
-  unary_typed : {o : UnaryOp} {e : Expression} {t : TypedExpression} → Types scope e t → Types scope (Tree.unary o e) (unary o (prefix_type o (type_of t)) t)
+  unary_typed : {o : UnaryOp} {e : Expression} {t : TypedExpression} → Types scope e t
+      → Types scope (Tree.unary o e) (unary o (prefix_type o (type_of t)) t)
   binary_typed : {o : BinaryOp} {l r : Expression} {t u : TypedExpression} → Types scope l t → Types scope r u →
       Types scope (Tree.binary o l r) (binary o (operation_type o (type_of t) (type_of u)) t u)
   conditional_typed : {c a b : Expression} {s t u : TypedExpression} → Types scope c s → Types scope a t → Types scope b u →
@@ -30,7 +32,8 @@ pub data Types (scope : Environment) : Expression → TypedExpression → Type 0
 
 pub data TypesAll (scope : Environment) : List Expression → List TypedExpression → Type 0 where
   all_typed : TypesAll scope [] []
-  more_typed : {e : Expression} {t : TypedExpression} {rest : List Expression} {typed : List TypedExpression} → Types scope e t → TypesAll scope rest typed →
+  more_typed : {e : Expression} {t : TypedExpression} {rest : List Expression} {typed : List TypedExpression} → Types scope e t
+      → TypesAll scope rest typed →
       TypesAll scope (e ∷ rest) (t ∷ typed)
 
 pub data TypesMaybe (scope : Environment) : Option Expression → Option TypedExpression → Type 0 where
@@ -56,7 +59,8 @@ pub data TypesValue (scope : Environment) (to : Destination) : Tree.Value → Ty
   called_typed : {c : Tree.Call} {s : TypedStatement} → TypesCall scope (Some to) c s → TypesValue scope to (Tree.called c) s
 
 pub data TypesSimple (scope : Environment) : Tree.Simple → TypedStatement → Type 0 where
-  assign_typed : {x : Identifier} {to : Destination} {v : Tree.Value} {s : TypedStatement} → TypesPlace scope x to → TypesValue scope to v s →
+  assign_typed : {x : Identifier} {to : Destination} {v : Tree.Value} {s : TypedStatement} → TypesPlace scope x to
+      → TypesValue scope to v s →
       TypesSimple scope (Tree.assign x v) s
   store_typed : {x : Identifier} {n : ℕ} {k : IntegerType} {i e : Expression} {t u : TypedExpression} → scope x ≡ Some (Named.Array n k)
       → Types scope i t → Types scope e u →
@@ -102,11 +106,13 @@ mutual
     continue_typed : {sc : Scopes} {at : ℕ} → TypesStatement text sc (Tree.continue_at at) continue_loop
     return_typed : {sc : Scopes} {at : ℕ} {e : Option Expression} {t : Option TypedExpression} → TypesMaybe (environment_in text sc) e t
         → TypesStatement text sc (Tree.return_at at e) (return_with t)
-    simply_typed : {sc : Scopes} {p : Tree.Simple} {s : TypedStatement} → TypesSimple (environment_in text sc) p s → TypesStatement text sc (Tree.simply p) s
+    simply_typed : {sc : Scopes} {p : Tree.Simple} {s : TypedStatement} → TypesSimple (environment_in text sc) p s
+        → TypesStatement text sc (Tree.simply p) s
 
   pub data TypesItems (text : List ℕ) : Scopes → Tree.Items → TypedStatements → Type 0 where
     no_items_typed : {sc : Scopes} → TypesItems text sc Tree.no_items no_statements
-    statement_typed : {sc : Scopes} {s : Tree.Statement} {u : TypedStatement} {rest : Tree.Items} {typed : TypedStatements} → TypesStatement text sc s u →
+    statement_typed : {sc : Scopes} {s : Tree.Statement} {u : TypedStatement} {rest : Tree.Items} {typed : TypedStatements}
+        → TypesStatement text sc s u →
         TypesItems text (behind sc s) rest typed → TypesItems text sc (Tree.more_items (Tree.statement s) rest) (more_statements u typed)
     declare_typed : {sc : Scopes} {k : IntegerType} {x : Identifier} {v : Option Tree.Value} {u : TypedStatement} {rest : Tree.Items}
         {typed : TypedStatements} →

@@ -1,3 +1,4 @@
+// What a called name stands for.
 ghost use Rattle.std.specs.Prelude.{◌≡◌, IfOk, IfErr, IfSome, IfNone, Some};
 ghost use Rattle.c_statements.specs.Calls.{Signs, IsNoFunction, IsTarget};
 ghost use Rattle.c_statements.specs.Faults.{Answers};

@@ -1,3 +1,4 @@
+// Types of expressions (C99 6.5).
 ghost use Rattle.std.specs.Prelude.{◌≡◌, IfOk, IfErr, Some};
 ghost use Rattle.c_statements.specs.declared.names.Named.TheVariants.{Array};
 ghost use Rattle.c_statements.specs.declared.fault.TypeStop.TheVariants.{Fault};

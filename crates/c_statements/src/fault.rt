@@ -1,3 +1,4 @@
+// The faults that types find, with their places.
 ghost use Rattle.std.specs.Prelude.{◌≡◌, ◌≢◌, IfOk, IfErr, Ok, Err, Some};
 ghost use Rattle.c_statements.specs.Faults.{number_of, kind_name, fault_text, is_later, first_of, both_of, StopsBoth};
 ghost use Rattle.c_statements.specs.declared.fault.TypeStop.TheVariants.{NoMemory};

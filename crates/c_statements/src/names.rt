@@ -1,3 +1,4 @@
+// What a name stands for.
 use c_tokens::IntegerType;
 
 /// What a name stands for. Locals are numbered within their function, global variables, arrays and functions within

@@ -1,5 +1,7 @@
+// Types of simple statements: assignments and calls.
 ghost use Rattle.std.specs.Prelude.{◌≡◌, ◌++◌, ◌∷◌, [], ◌⊎◌, IfOk, IfErr, Ok, is_some};
-ghost use Rattle.c_tree.specs.Shape.{expressions_of, maybe_expression_of, call_of, value_tree, maybe_value_tree, simple_of, maybe_simple_of};
+ghost use Rattle.c_tree.specs.Shape.{expressions_of, maybe_expression_of, call_of, value_tree, maybe_value_tree, simple_of};
+ghost use Rattle.c_tree.specs.Shape.{maybe_simple_of};
 ghost use Rattle.c_statements.specs.declared.fault.TypeStop.TheVariants.{NoMemory};
 ghost use Rattle.c_statements.specs.Faults.{Answers, StopsBoth};
 ghost use Rattle.c_statements.specs.Shape.{environment_of};

@@ -1,5 +1,7 @@
+// Types of statements and of declarations of locals (C99 6.8).
 ghost use Rattle.std.specs.Prelude.{◌≡◌, ℕ, List, IfOk, IfErr, Err, false};
-ghost use Rattle.c_tree.specs.Shape.{expression_of, maybe_expression_of, maybe_simple_of, maybe_value_tree, statement_of, item_of, items_of};
+ghost use Rattle.c_tree.specs.Shape.{expression_of, maybe_expression_of, maybe_simple_of, maybe_value_tree, statement_of, item_of};
+ghost use Rattle.c_tree.specs.Shape.{items_of};
 ghost use Rattle.c_tree.specs.Tree as Tree;
 ghost use Rattle.c_tree.specs.Tree.{block, if_then, if_then_else, while_loop, for_loop, return_at, more_items, no_items};
 ghost use Rattle.c_statements.specs.declared.fault.TypeStop.TheVariants.{NoMemory};
@@ -9,7 +11,8 @@ ghost use Rattle.c_statements.specs.Contexts.{Typing, text_of};
 ghost use Rattle.c_statements.specs.Names as Names;
 ghost use Rattle.c_statements.specs.Names.{environment_in, with_local, behind, behind_item, behind_items};
 ghost use Rattle.c_typed.specs.Shape.{maybe_typed_expression_of, statement_of as typed_of, statements_of};
-ghost use Rattle.c_statements.specs.Statements.{FaultyMaybe, FaultyReturn, FaultyJump, FaultyDeclarator, FaultyLocal, FaultyStatement, FaultyItems};
+ghost use Rattle.c_statements.specs.Statements.{FaultyMaybe, FaultyReturn, FaultyJump, FaultyDeclarator, FaultyLocal, FaultyStatement};
+ghost use Rattle.c_statements.specs.Statements.{FaultyItems};
 ghost use Rattle.c_typed.specs.Trees as Trees;
 ghost use Rattle.c_typed.specs.Trees.{TypedStatements, more_statements, no_statements};
 ghost use Rattle.c_statements.specs.Types.{TypesFirst, TypesMaybe, TypesStatement, TypesItems};
@@ -64,7 +67,8 @@ fn returned(
     scopes: &Scopes,
     given: &Option<Expression>,
 ) -> Result<Option<TypedExpression>, TypeStop>
-    ensures { Answers (λ t. TypesMaybe (environment_of program.now scopes.now) (maybe_expression_of given.now) (maybe_typed_expression_of t))
+    ensures { Answers (λ t. TypesMaybe (environment_of program.now scopes.now) (maybe_expression_of given.now)
+        (maybe_typed_expression_of t))
         (FaultyMaybe (environment_of program.now scopes.now) (maybe_expression_of given.now)) result }
 {
     match given {
@@ -98,8 +102,10 @@ fn return_from(
     at: usize,
     given: &Option<Expression>,
 ) -> Result<TypedStatement, TypeStop>
-    ensures { Answers (λ t. TypesStatement (text_of context.now) (scopes_of scopes.now) (return_at at (maybe_expression_of given.now)) (typed_of t))
-        (FaultyStatement (text_of context.now) context.now.gives false (scopes_of scopes.now) (return_at at (maybe_expression_of given.now))) result }
+    ensures { Answers (λ t. TypesStatement (text_of context.now) (scopes_of scopes.now) (return_at at (maybe_expression_of given.now))
+        (typed_of t))
+        (FaultyStatement (text_of context.now) context.now.gives false (scopes_of scopes.now)
+        (return_at at (maybe_expression_of given.now))) result }
 {
     let value = returned(context.alloc, context.program, scopes, given);
     let (_, value) = both(fits(context.gives, given, at), value)?;
@@ -114,10 +120,12 @@ fn declare<'a>(
     name: Identifier,
     given: &Option<Value>,
 ) -> Result<TypedStatement, TypeStop>
-    ensures typed { Answers (λ t. TypesFirst (environment_in (text_of context.now) (with_local (text_of context.now) (scopes_of scopes.old) integer_type name))
+    ensures typed { Answers (λ t. TypesFirst (environment_in (text_of context.now)
+        (with_local (text_of context.now) (scopes_of scopes.old) integer_type name))
         (scopes_of scopes.old).locals (maybe_value_tree given.now) (typed_of t))
         (FaultyLocal (text_of context.now) (scopes_of scopes.old) integer_type name (maybe_value_tree given.now)) result }
-    ensures scopes { (result ≡ Err NoMemory → ⊥) → scopes_of scopes.new ≡ with_local (text_of context.now) (scopes_of scopes.old) integer_type name }
+    ensures scopes { (result ≡ Err NoMemory → ⊥)
+        → scopes_of scopes.new ≡ with_local (text_of context.now) (scopes_of scopes.old) integer_type name }
 {
     let refused = declarator(context.program, scopes, name);
     let number = scopes.locals();
@@ -152,7 +160,8 @@ fn if_then<'a>(
     condition: &Expression,
     first: &Statement,
 ) -> Result<TypedStatement, TypeStop>
-    ensures { Typing context.now (scopes_of scopes.old) (scopes_of scopes.new) (if_then (expression_of condition.now) (statement_of first.now)) result }
+    ensures { Typing context.now (scopes_of scopes.old) (scopes_of scopes.new)
+        (if_then (expression_of condition.now) (statement_of first.now)) result }
 {
     let condition = expression(context.alloc, context.program, scopes, condition);
     let first = statement(context, scopes, first);
@@ -185,7 +194,8 @@ fn while_loop<'a>(
     condition: &Expression,
     body: &Statement,
 ) -> Result<TypedStatement, TypeStop>
-    ensures { Typing context.now (scopes_of scopes.old) (scopes_of scopes.new) (while_loop (expression_of condition.now) (statement_of body.now)) result }
+    ensures { Typing context.now (scopes_of scopes.old) (scopes_of scopes.new)
+        (while_loop (expression_of condition.now) (statement_of body.now)) result }
 {
     let inside = Context {
         in_loop: true,
@@ -205,7 +215,8 @@ fn for_loop<'a>(
     body: &Statement,
 ) -> Result<TypedStatement, TypeStop>
     ensures { Typing context.now (scopes_of scopes.old) (scopes_of scopes.new)
-        (for_loop (maybe_simple_of parts.now.first) (maybe_expression_of parts.now.test) (maybe_simple_of parts.now.last) (statement_of body.now)) result }
+        (for_loop (maybe_simple_of parts.now.first) (maybe_expression_of parts.now.test) (maybe_simple_of parts.now.last)
+        (statement_of body.now)) result }
 {
     let inside = Context {
         in_loop: true,
@@ -262,8 +273,10 @@ fn item<'a>(
 ) -> Result<TypedStatement, TypeStop>
     ensures typed { Answers (λ t. TypesItems (text_of context.now) (scopes_of scopes.old) (more_items (item_of one.now) no_items)
         (more_statements (typed_of t) no_statements))
-        (FaultyItems (text_of context.now) context.now.gives context.now.in_loop (scopes_of scopes.old) (more_items (item_of one.now) no_items)) result }
-    ensures scopes { (result ≡ Err NoMemory → ⊥) → scopes_of scopes.new ≡ behind_item (text_of context.now) (scopes_of scopes.old) (item_of one.now) }
+        (FaultyItems (text_of context.now) context.now.gives context.now.in_loop (scopes_of scopes.old)
+        (more_items (item_of one.now) no_items)) result }
+    ensures scopes { (result ≡ Err NoMemory → ⊥)
+        → scopes_of scopes.new ≡ behind_item (text_of context.now) (scopes_of scopes.old) (item_of one.now) }
 {
     match one {
         Item::Declare(integer_type, name, given) => {
@@ -282,7 +295,8 @@ pub fn items<'a>(
 ) -> Result<Vec<TypedStatement>, TypeStop>
     ensures typed { Answers (λ v. TypesItems (text_of context.now) (scopes_of scopes.old) (items_of all.now) (statements_of v.items))
         (FaultyItems (text_of context.now) context.now.gives context.now.in_loop (scopes_of scopes.old) (items_of all.now)) result }
-    ensures scopes { (result ≡ Err NoMemory → ⊥) → scopes_of scopes.new ≡ behind_items (text_of context.now) (scopes_of scopes.old) (items_of all.now) }
+    ensures scopes { (result ≡ Err NoMemory → ⊥)
+        → scopes_of scopes.new ≡ behind_items (text_of context.now) (scopes_of scopes.old) (items_of all.now) }
 {
     let mut typed = Ok(Vec::new(context.alloc));
     for one in all {

@@ -1,3 +1,4 @@
+// The names in sight, scope by scope (C99 6.2.1).
 ghost use Rattle.std.specs.Prelude.{◌≡◌, OnOk, is_some};
 ghost use Rattle.c_statements.specs.Shape.{scopes_of};
 ghost use Rattle.c_statements.specs.Names.{Scopes, named_in, environment_in, with_spelling, no_scopes, within};

@@ -1,5 +1,6 @@
 -- How the constant that a run of digits is can be computed: words of private functions.
-use Rattle.std.specs.Prelude.{◌+◌, ◌*◌, ◌-◌, ℕ, List, [], ◌∷◌, length, take, Bool, false, nat_eq, nat_le, nat_lt, ◌&&◌, ◌||◌, if◌then◌else◌, Option, Some, None}
+use Rattle.std.specs.Prelude.{◌+◌, ◌*◌, ◌-◌, ℕ, List, [], ◌∷◌, length, take, Bool, false, nat_eq, nat_le, nat_lt, ◌&&◌, ◌||◌, if◌then◌else◌}
+use Rattle.std.specs.Prelude.{Option, Some, None}
 use Rattle.c_tokens.specs.declared.token.IntegerType.{IntegerType}
 use Rattle.c_tokens.specs.declared.token.IntegerType.TheVariants.{SignedInt, UnsignedInt}
 use Rattle.c_tokens.specs.declared.lexer.Lexeme.{Lexeme}
@@ -8,7 +9,8 @@ use Rattle.c_tokens.specs.Lexing.{is_digit}
 
 -- the value of a digit, or 99
 abbrev pub digit_of : ℕ → ℕ
-digit_of b = if is_digit b then b - 48 else (if nat_le 97 b && nat_le b 102 then b - 87 else (if nat_le 65 b && nat_le b 70 then b - 55 else 99))
+digit_of b = if is_digit b then b - 48 else (if nat_le 97 b && nat_le b 102 then b - 87
+    else (if nat_le 65 b && nat_le b 70 then b - 55 else 99))
 
 -- the number that digits spell, after others that spell `n`
 abbrev pub digits_of : ℕ → ℕ → List ℕ → Option ℕ
@@ -25,7 +27,8 @@ abbrev pub plain_of : List ℕ → Option ℕ
 plain_of [] = None
 plain_of (b ∷ []) = digits_of 10 0 (b ∷ [])
 plain_of (b ∷ c ∷ []) = if nat_eq b 48 then digits_of 8 0 (c ∷ []) else digits_of 10 0 (b ∷ c ∷ [])
-plain_of (b ∷ c ∷ d ∷ ds) = if nat_eq b 48 then (if nat_eq c 120 || nat_eq c 88 then digits_of 16 0 (d ∷ ds) else digits_of 8 0 (c ∷ d ∷ ds))
+plain_of (b ∷ c ∷ d
+    ∷ ds) = if nat_eq b 48 then (if nat_eq c 120 || nat_eq c 88 then digits_of 16 0 (d ∷ ds) else digits_of 8 0 (c ∷ d ∷ ds))
     else digits_of 10 0 (b ∷ c ∷ d ∷ ds)
 
 abbrev pub is_suffix : ℕ → Bool
@@ -49,7 +52,8 @@ constant_type run v = if is_suffix (last_or 0 run) || nat_lt 2147483647 v then U
 
 abbrev pub within_limit : List ℕ → ℕ → Option ℕ → Lexeme
 within_limit run limit None = NoConstant
-within_limit run limit (Some v) = if nat_le v limit then Numeral (record { value = v; integer_type = constant_type run v }) (length run) else NoConstant
+within_limit run limit (Some v) = if nat_le v limit then Numeral (record { value = v; integer_type = constant_type run v }) (length run)
+    else NoConstant
 
 -- a constant without its suffix
 abbrev pub digits_in : List ℕ → List ℕ

@@ -1,10 +1,14 @@
 -- The classes of bytes, and the tables of operators and keywords (C99 6.4.1, 6.4.6).
-use Rattle.std.specs.Prelude.{ℕ, suc, List, [], ◌∷◌, length, Bool, true, false, nat_eq, nat_le, ◌&&◌, ◌||◌, if◌then◌else◌, Option, Some, None, codes}
+use Rattle.std.specs.Prelude.{ℕ, suc, List, [], ◌∷◌, length, Bool, true, false, nat_eq, nat_le, ◌&&◌, ◌||◌, if◌then◌else◌, Option, Some}
+use Rattle.std.specs.Prelude.{None, codes}
 use Rattle.c_tokens.specs.declared.token.JumpWord.TheVariants.{Break, Continue, Return}
 use Rattle.c_tokens.specs.declared.token.Mark.{Mark}
-use Rattle.c_tokens.specs.declared.token.Mark.TheVariants.{Int, Unsigned, Char, Void, If, Else, While, For, Semicolon, Comma, LeftBrace, RightBrace, LeftParen}
-use Rattle.c_tokens.specs.declared.token.Mark.TheVariants.{RightParen, LeftBracket, RightBracket, Assign, Question, Colon, Plus, Minus, Star, Slash, Percent}
-use Rattle.c_tokens.specs.declared.token.Mark.TheVariants.{Bang, Tilde, BarBar, AndAnd, Bar, Caret, Ampersand, EqualEqual, BangEqual, LessSign, GreaterSign}
+use Rattle.c_tokens.specs.declared.token.Mark.TheVariants.{Int, Unsigned, Char, Void, If, Else, While, For, Semicolon, Comma, LeftBrace}
+use Rattle.c_tokens.specs.declared.token.Mark.TheVariants.{RightBrace, LeftParen}
+use Rattle.c_tokens.specs.declared.token.Mark.TheVariants.{RightParen, LeftBracket, RightBracket, Assign, Question, Colon, Plus, Minus}
+use Rattle.c_tokens.specs.declared.token.Mark.TheVariants.{Star, Slash, Percent}
+use Rattle.c_tokens.specs.declared.token.Mark.TheVariants.{Bang, Tilde, BarBar, AndAnd, Bar, Caret, Ampersand, EqualEqual, BangEqual}
+use Rattle.c_tokens.specs.declared.token.Mark.TheVariants.{LessSign, GreaterSign}
 use Rattle.c_tokens.specs.declared.token.Mark.TheVariants.{LessEqual, GreaterEqual, LessLess, GreaterGreater}
 use Rattle.c_tokens.specs.declared.lexer.Lexeme.{Lexeme}
 use Rattle.c_tokens.specs.declared.lexer.Lexeme.TheVariants.{Word, Sign, Leap, Refused}
@@ -54,20 +58,27 @@ abbrev pub signs : List (List ℕ × Option Mark)
 signs =
     (codes "(", Some LeftParen) ∷ (codes ")", Some RightParen) ∷ (codes "{", Some LeftBrace) ∷ (codes "}", Some RightBrace) ∷
     (codes "[", Some LeftBracket) ∷ (codes "]", Some RightBracket) ∷ (codes ";", Some Semicolon) ∷ (codes ",", Some Comma) ∷
-    (codes "=", Some Assign) ∷ (codes "?", Some Question) ∷ (codes ":", Some Colon) ∷ (codes "||", Some BarBar) ∷ (codes "&&", Some AndAnd) ∷
-    (codes "|", Some Bar) ∷ (codes "^", Some Caret) ∷ (codes "&", Some Ampersand) ∷ (codes "==", Some EqualEqual) ∷ (codes "!=", Some BangEqual) ∷
-    (codes "<", Some LessSign) ∷ (codes ">", Some GreaterSign) ∷ (codes "<=", Some LessEqual) ∷ (codes ">=", Some GreaterEqual) ∷ (codes "<<", Some LessLess)
+    (codes "=", Some Assign) ∷ (codes "?", Some Question) ∷ (codes ":", Some Colon) ∷ (codes "||", Some BarBar)
+    ∷ (codes "&&", Some AndAnd) ∷
+    (codes "|", Some Bar) ∷ (codes "^", Some Caret) ∷ (codes "&", Some Ampersand) ∷ (codes "==", Some EqualEqual)
+    ∷ (codes "!=", Some BangEqual) ∷
+    (codes "<", Some LessSign) ∷ (codes ">", Some GreaterSign) ∷ (codes "<=", Some LessEqual) ∷ (codes ">=", Some GreaterEqual)
+    ∷ (codes "<<", Some LessLess)
     ∷ (codes ">>", Some GreaterGreater) ∷
-    (codes "+", Some Plus) ∷ (codes "-", Some Minus) ∷ (codes "*", Some Star) ∷ (codes "/", Some Slash) ∷ (codes "%", Some Percent) ∷ (codes "~", Some Tilde)
+    (codes "+", Some Plus) ∷ (codes "-", Some Minus) ∷ (codes "*", Some Star) ∷ (codes "/", Some Slash) ∷ (codes "%", Some Percent)
+    ∷ (codes "~", Some Tilde)
     ∷ (codes "!", Some Bang) ∷
-    (codes "++", None) ∷ (codes "--", None) ∷ (codes "+=", None) ∷ (codes "-=", None) ∷ (codes "*=", None) ∷ (codes "/=", None) ∷ (codes "%=", None) ∷
-    (codes "<<=", None) ∷ (codes ">>=", None) ∷ (codes "&=", None) ∷ (codes "|=", None) ∷ (codes "^=", None) ∷ (codes "->", None) ∷ (codes ".", None) ∷
+    (codes "++", None) ∷ (codes "--", None) ∷ (codes "+=", None) ∷ (codes "-=", None) ∷ (codes "*=", None) ∷ (codes "/=", None)
+    ∷ (codes "%=", None) ∷
+    (codes "<<=", None) ∷ (codes ">>=", None) ∷ (codes "&=", None) ∷ (codes "|=", None) ∷ (codes "^=", None) ∷ (codes "->", None)
+    ∷ (codes ".", None) ∷
     (codes "...", None) ∷ (codes "#", None) ∷ (codes "##", None) ∷ (codes "??", None) ∷ []
 
 -- the 37 keywords of C99; those that are not in use are refused
 abbrev pub keywords : List (List ℕ × Reserved)
 keywords =
-    (codes "int", Marked Int) ∷ (codes "unsigned", Marked Unsigned) ∷ (codes "char", Marked Char) ∷ (codes "void", Marked Void) ∷ (codes "if", Marked If) ∷
+    (codes "int", Marked Int) ∷ (codes "unsigned", Marked Unsigned) ∷ (codes "char", Marked Char) ∷ (codes "void", Marked Void)
+    ∷ (codes "if", Marked If) ∷
     (codes "else", Marked Else) ∷ (codes "while", Marked While) ∷ (codes "for", Marked For) ∷ (codes "break", Jumping Break) ∷
     (codes "continue", Jumping Continue) ∷ (codes "return", Jumping Return) ∷
     (codes "auto", Unused) ∷ (codes "case", Unused) ∷ (codes "const", Unused) ∷ (codes "default", Unused) ∷ (codes "do", Unused)

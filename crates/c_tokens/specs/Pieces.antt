@@ -1,10 +1,12 @@
 -- The pieces that a text consists of (C99 6.4), and which of them stands at its front: the longest.
-use Rattle.std.specs.Prelude.{◌≡◌, ◌+◌, ◌<◌, ◌≤◌, ℕ, List, [], ◌∷◌, length, take, Bool, true, false, nat_eq, if◌then◌else◌, Option, Some, None, codes}
+use Rattle.std.specs.Prelude.{◌≡◌, ◌+◌, ◌<◌, ◌≤◌, ℕ, List, [], ◌∷◌, length, take, Bool, true, false, nat_eq, if◌then◌else◌, Option, Some}
+use Rattle.std.specs.Prelude.{None, codes}
 use Rattle.c_tokens.specs.declared.token.Mark.{Mark}
 use Rattle.c_tokens.specs.declared.token.Literal.{Literal}
 use Rattle.c_tokens.specs.declared.lexer.Lexeme.{Lexeme}
 use Rattle.c_tokens.specs.declared.lexer.Lexeme.TheVariants.{End, Separator, Numeral, Sign, Refused, NoConstant}
-use Rattle.c_tokens.specs.Lexing.{is_space, is_letter, is_digit, is_word, goes_on, is_exponent, is_front, same_bytes, signs, keywords, word_lexeme, escape_at}
+use Rattle.c_tokens.specs.Lexing.{is_space, is_letter, is_digit, is_word, goes_on, is_exponent, is_front, same_bytes, signs, keywords}
+use Rattle.c_tokens.specs.Lexing.{word_lexeme, escape_at}
 use Rattle.c_tokens.specs.Constants.{IsConstant}
 
 -- letters, digits and `_`
@@ -47,13 +49,15 @@ pub data IsPiece : List ℕ → Lexeme → Type 0 where
   a_word : {b : ℕ} {bs : List ℕ} → is_letter b ≡ true → IsWord bs → IsPiece (b ∷ bs) (word_lexeme keywords (b ∷ bs))
   a_constant : {b : ℕ} {bs : List ℕ} {c : Literal} → is_digit b ≡ true → IsRun false (b ∷ bs) → IsConstant (b ∷ bs) c
       → IsPiece (b ∷ bs) (Numeral c (length (b ∷ bs)))
-  no_constant : {b : ℕ} {bs : List ℕ} → is_digit b ≡ true → IsRun false (b ∷ bs) → ((c : Literal) → IsConstant (b ∷ bs) c → ⊥) → IsPiece (b ∷ bs) NoConstant
+  no_constant : {b : ℕ} {bs : List ℕ} → is_digit b ≡ true → IsRun false (b ∷ bs) → ((c : Literal) → IsConstant (b ∷ bs) c → ⊥)
+      → IsPiece (b ∷ bs) NoConstant
   an_operator : {o : List ℕ} {m : Mark} → entry_in signs o ≡ Some (Some m) → IsPiece o (Sign m (length o))
   an_unused_operator : {o : List ℕ} → entry_in signs o ≡ Some None → IsPiece o (Refused 0)
   a_line : {bs : List ℕ} → IsLine bs → IsPiece (47 ∷ 47 ∷ bs) (comment_piece (length bs + 2) bs)
   a_comment : {bs : List ℕ} → IsClosed bs → IsPiece (47 ∷ 42 ∷ bs) (comment_piece (length bs + 2) bs)
   an_open_comment : {bs : List ℕ} → IsOpen bs → IsPiece (47 ∷ 42 ∷ bs) (Refused 0)
-  a_stray_byte : {b : ℕ} → is_space b ≡ false → is_letter b ≡ false → is_digit b ≡ false → entry_in signs (b ∷ []) ≡ None → IsPiece (b ∷ []) (Refused 0)
+  a_stray_byte : {b : ℕ} → is_space b ≡ false → is_letter b ≡ false → is_digit b ≡ false → entry_in signs (b ∷ []) ≡ None
+      → IsPiece (b ∷ []) (Refused 0)
 
 -- the longest front of the bytes that is a piece has this length, and is this
 pub record IsLongest (bs : List ℕ) (n : ℕ) (l : Lexeme) : Type 0 where

@@ -91,7 +91,8 @@ pub data Lexes : ℕ → List ℕ → List Token → List Token → List ℕ →
   lexes_end : {at : ℕ} {bs : List ℕ} {before : List Token} → IsStep at bs Done → Lexes at bs before [] []
   lexes_skip : {at n : ℕ} {bs places : List ℕ} {before tokens : List Token} → IsStep at bs (Skip n) →
       Lexes (at + n) (drop n bs) before tokens places → Lexes at bs before tokens places
-  lexes_take : {at n : ℕ} {bs places : List ℕ} {before tokens : List Token} {t : Token} → IsStep at bs (Take t n) → is_oversize (t ∷ before) ≡ false →
+  lexes_take : {at n : ℕ} {bs places : List ℕ} {before tokens : List Token} {t : Token} → IsStep at bs (Take t n)
+      → is_oversize (t ∷ before) ≡ false →
       Lexes (at + n) (drop n bs) (t ∷ before) tokens places → Lexes at bs before (t ∷ tokens) (at ∷ places)
 
 -- the first refusal, and where it is
@@ -99,9 +100,11 @@ pub data LexStops : ℕ → List ℕ → List Token → Refusal → ℕ → Type
   stops_here : {at k : ℕ} {r : Refusal} {bs : List ℕ} {before : List Token} → IsStep at bs (Stop r k) → LexStops at bs before r (at + k)
   stops_size : {at n : ℕ} {bs : List ℕ} {before : List Token} {t : Token} → IsStep at bs (Take t n) → is_oversize (t ∷ before) ≡ true
       → LexStops at bs before BadSize at
-  stops_skip : {at n k : ℕ} {r : Refusal} {bs : List ℕ} {before : List Token} → IsStep at bs (Skip n) → LexStops (at + n) (drop n bs) before r k
+  stops_skip : {at n k : ℕ} {r : Refusal} {bs : List ℕ} {before : List Token} → IsStep at bs (Skip n)
+      → LexStops (at + n) (drop n bs) before r k
       → LexStops at bs before r k
-  stops_take : {at n k : ℕ} {r : Refusal} {bs : List ℕ} {before : List Token} {t : Token} → IsStep at bs (Take t n) → is_oversize (t ∷ before) ≡ false →
+  stops_take : {at n k : ℕ} {r : Refusal} {bs : List ℕ} {before : List Token} {t : Token} → IsStep at bs (Take t n)
+      → is_oversize (t ∷ before) ≡ false →
       LexStops (at + n) (drop n bs) (t ∷ before) r k → LexStops at bs before r k
 
 abbrev pub IsLexFault : List ℕ → LexFault → Type 0
@@ -120,7 +123,8 @@ pub record Within (sizes : Sizes) : Type 0 where
   pub nested : sizes.nested ≤ MAX_NESTED
 
 abbrev pub Counted : Sizes → Token → Sizes → Type 0
-Counted sizes t new = Within new × ((before : List Token) → Counts sizes before → Counts new (t ∷ before) × (is_oversize (t ∷ before) ≡ false))
+Counted sizes t new = Within new
+    × ((before : List Token) → Counts sizes before → Counts new (t ∷ before) × (is_oversize (t ∷ before) ≡ false))
 
 abbrev pub Oversize : Sizes → Token → Type 0
 Oversize sizes t = (before : List Token) → Counts sizes before → is_oversize (t ∷ before) ≡ true

@@ -1,5 +1,7 @@
+// Constants, their value and their type (C99 6.4.4.1).
 ghost use Rattle.std.specs.Prelude.{◌≡◌, ◌<◌, ◌≤◌, ◌^◌, length, take, false};
-ghost use Rattle.c_tokens.specs.Digits.{constant_type, constant_lexeme, digit_of, digits_of, up_to, is_suffix, plain_of, digits_in, last_or, greatest_of};
+ghost use Rattle.c_tokens.specs.Digits.{constant_type, constant_lexeme, digit_of, digits_of, up_to, is_suffix, plain_of, digits_in};
+ghost use Rattle.c_tokens.specs.Digits.{last_or, greatest_of};
 ghost use Rattle.c_tokens.specs.Fronts.{run_length};
 ghost use Rattle.c_tokens.specs.Texts.{Fits};
 

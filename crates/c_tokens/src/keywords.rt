@@ -1,3 +1,4 @@
+// Words that are no identifiers: the keywords in use, and those that are refused (C99 6.4.1).
 ghost use Rattle.std.specs.Prelude.{◌≡◌, ◌<◌, length, take, map};
 ghost use Rattle.c_tokens.specs.Lexing.{word_lexeme, keyword_lexeme, keywords};
 ghost use Rattle.c_tokens.specs.Fronts.{word_length};

@@ -1,3 +1,4 @@
+// A text piece by piece: its tokens with their places, or the first refusal (C99 6.4).
 ghost use Rattle.std.specs.Prelude.{◌≡◌, ◌+◌, ◌<◌, ◌≤◌, ◌^◌, [], length, IfOk, IfErr, List, ℕ};
 ghost use Rattle.c_tokens.specs.Lexing.{comment_length};
 ghost use Rattle.c_tokens.specs.Fronts.{lexeme_of, comment_lexeme, line_lexeme, line_length};
@@ -158,7 +159,9 @@ pub fn lex(alloc: Global, text: &[u8]) -> Result<(Vec<Token>, Vec<usize>), LexFa
 /// A text has one list of tokens at most, at one list of places, and none where it is refused, which it is for one
 /// reason at one place. A law: it computes nothing.
 pub fn one_lexing()
-    ensures once { (text : List ℕ) (ts us : List Token) (ks js : List ℕ) → Lexes 0 text [] ts ks → Lexes 0 text [] us js → (ts ≡ us) × (ks ≡ js) }
-    ensures refused { (text : List ℕ) (r : Refusal) (k : ℕ) (ts : List Token) (ks : List ℕ) → LexStops 0 text [] r k → Lexes 0 text [] ts ks → ⊥ }
+    ensures once { (text : List ℕ) (ts us : List Token) (ks js : List ℕ) → Lexes 0 text [] ts ks → Lexes 0 text [] us js
+        → (ts ≡ us) × (ks ≡ js) }
+    ensures refused { (text : List ℕ) (r : Refusal) (k : ℕ) (ts : List Token) (ks : List ℕ) → LexStops 0 text [] r k → Lexes 0 text [] ts ks
+        → ⊥ }
     ensures one_refusal { (text : List ℕ) (r q : Refusal) (k j : ℕ) → LexStops 0 text [] r k → LexStops 0 text [] q j → (r ≡ q) × (k ≡ j) }
 {}

@@ -1,5 +1,7 @@
+// Classes of bytes, and how far a run of one class goes.
 ghost use Rattle.std.specs.Prelude.{◌≡◌, ◌∷◌, [], false, ◌<◌, ◌≤◌, length, drop, IfNone, IfSome};
-ghost use Rattle.c_tokens.specs.Lexing.{goes_on, is_word, is_exponent, is_space, is_letter, is_digit, comment_length, escape_at, is_front, same_bytes};
+ghost use Rattle.c_tokens.specs.Lexing.{goes_on, is_word, is_exponent, is_space, is_letter, is_digit, comment_length, escape_at, is_front};
+ghost use Rattle.c_tokens.specs.Lexing.{same_bytes};
 ghost use Rattle.c_tokens.specs.Fronts.{word_length, run_length, line_length};
 
 /// A byte that separates tokens: a space, a tab, LF or CR.

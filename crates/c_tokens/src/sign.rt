@@ -1,3 +1,4 @@
+// Operators and punctuators: the longest one at the front of a text (C99 6.4.6).
 ghost use Rattle.std.specs.Prelude.{◌≡◌, ◌<◌, ◌≤◌, length, map, Some};
 ghost use Rattle.c_tokens.specs.Lexing.{is_front, signs};
 ghost use Rattle.c_tokens.specs.Fronts.{beginning, longest, longer, sign_lexeme};

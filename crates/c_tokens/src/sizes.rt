@@ -1,3 +1,4 @@
+// The sizes that a list of tokens keeps within.
 ghost use Rattle.c_tokens.specs.Numbers.{LimitsAreTheseNumbers};
 ghost use Rattle.std.specs.Prelude.{◌≡◌, ◌+◌, ◌-◌, ◌≤◌, suc, IfSome, IfNone, if◌then◌else◌};
 ghost use Rattle.c_tokens.specs.declared.sizes.TheConstants.{MAX_RUN, MAX_OPEN, MAX_NESTED};

@@ -1,7 +1,8 @@
 -- The tree that a value of the program stands for.
 use Rattle.std.specs.Prelude.{List, [], ◌∷◌, Option, Some, None}
 use Rattle.c_tree.specs.declared.tree.Expression.{Expression, Constant, Name, Index', Unary', Binary', Conditional'}
-use Rattle.c_tree.specs.declared.tree.Statement.{Statement, Empty, Block', If', IfElse', While', For', Break, Continue, Return, Simply, Row_of-Item}
+use Rattle.c_tree.specs.declared.tree.Statement.{Statement, Empty, Block', If', IfElse', While', For', Break, Continue, Return, Simply}
+use Rattle.c_tree.specs.declared.tree.Statement.{Row_of-Item}
 use Rattle.c_tree.specs.declared.tree.Statement.{end_of-Item, more_of-Item}
 use Rattle.c_tree.specs.declared.tree.Item.{Item, Declare, Statement as InnerStatement}
 use Rattle.c_tree.specs.declared.tree.Call.{Call}
@@ -12,8 +13,10 @@ use Rattle.c_tree.specs.declared.tree.Simple.TheVariants.{Assign, AssignAt, Call
 use Rattle.c_tree.specs.declared.tree.Declaration.{Declaration}
 use Rattle.c_tree.specs.declared.tree.Declaration.TheVariants.{Variable, Array, Function}
 use Rattle.c_tree.specs.Tree as Tree
-use Rattle.c_tree.specs.Tree.{Items, constant, name, index, unary, binary, conditional, call, plain, called, assign, assign_at, call_statement, empty, block}
-use Rattle.c_tree.specs.Tree.{if_then, if_then_else, while_loop, for_loop, break_at, continue_at, return_at, simply, declare, statement, no_items, more_items}
+use Rattle.c_tree.specs.Tree.{Items, constant, name, index, unary, binary, conditional, call, plain, called, assign, assign_at}
+use Rattle.c_tree.specs.Tree.{call_statement, empty, block}
+use Rattle.c_tree.specs.Tree.{if_then, if_then_else, while_loop, for_loop, break_at, continue_at, return_at, simply, declare, statement}
+use Rattle.c_tree.specs.Tree.{no_items, more_items}
 use Rattle.c_tree.specs.Tree.{variable, array, function}
 
 abbrev pub expression_of : Expression → Tree.Expression
@@ -59,7 +62,8 @@ abbrev mutual
   statement_of (If' c p s) = if_then (expression_of c) (statement_of s)
   statement_of (IfElse' c p s q e) = if_then_else (expression_of c) (statement_of s) (statement_of e)
   statement_of (While' c p s) = while_loop (expression_of c) (statement_of s)
-  statement_of (For' h p s) = for_loop (maybe_simple_of h.value.first) (maybe_expression_of h.value.test) (maybe_simple_of h.value.last) (statement_of s)
+  statement_of (For' h p s) = for_loop (maybe_simple_of h.value.first) (maybe_expression_of h.value.test) (maybe_simple_of h.value.last)
+      (statement_of s)
   statement_of (Break at) = break_at at
   statement_of (Continue at) = continue_at at
   statement_of (Return at e) = return_at at (maybe_expression_of e)

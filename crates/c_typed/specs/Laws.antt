@@ -18,20 +18,23 @@ RunHoldsWords s = HoldsWords FrameHoldsWords s
 
 -- where the locals and the globals hold words, each value is a word; a run begins with words, and each step keeps to them
 pub record ValuesAreWords : Type 0 where
-  pub value : (e : TypedExpression) (l : Places) (g : Arrays) (v : ℕ) → PlacesHoldWords l → ArraysHoldWords g → value_of e l g ≡ Some v → IsWord v
+  pub value : (e : TypedExpression) (l : Places) (g : Arrays) (v : ℕ) → PlacesHoldWords l → ArraysHoldWords g → value_of e l g ≡ Some v
+      → IsWord v
   pub start : (p : TypedProgram) → RunHoldsWords (source_start p)
   pub step : (p : TypedProgram) (depth : ℕ) (s : Run) → RunHoldsWords s → RunHoldsWords (source_step p depth s)
   pub reached : (p : TypedProgram) (depth n : ℕ) → RunHoldsWords (source_steps p depth n (source_start p))
 
 -- a number of steps is taken in two parts, and a run that ended or failed stays so
 pub record RunsGoOnFromWhereTheyAre : Type 0 where
-  pub sum : (p : TypedProgram) (depth a b : ℕ) (s : Run) → source_steps p depth (a + b) s ≡ source_steps p depth b (source_steps p depth a s)
+  pub sum : (p : TypedProgram) (depth a b : ℕ) (s : Run)
+      → source_steps p depth (a + b) s ≡ source_steps p depth b (source_steps p depth a s)
   pub ended : (p : TypedProgram) (depth n w : ℕ) (out : List ℕ) → source_steps p depth n (Ended w out) ≡ Ended w out
   pub failed : (p : TypedProgram) (depth n : ℕ) (out : List ℕ) → source_steps p depth n (Failed out) ≡ Failed out
 
 -- each global's elements are words that its width keeps as they are
 abbrev pub ElementsFit : List Global → Arrays → Type 0
-ElementsFit globals g = (a : ℕ) (x : Global) (vs : List ℕ) → slice_get globals a ≡ Some x → slice_get g a ≡ Some vs → All (λ v. kept x.width v ≡ v) vs
+ElementsFit globals g = (a : ℕ) (x : Global) (vs : List ℕ) → slice_get globals a ≡ Some x → slice_get g a ≡ Some vs
+    → All (λ v. kept x.width v ≡ v) vs
 
 abbrev pub RunFits : List Global → Run → Type 0
 RunFits globals (Running frames g out) = ElementsFit globals g
@@ -44,5 +47,6 @@ pub record ElementsFitTheirWidths : Type 0 where
   pub start : (p : TypedProgram) → RunFits p.globals (source_start p)
   pub step : (p : TypedProgram) (depth : ℕ) (s : Run) → RunFits p.globals s → RunFits p.globals (source_step p depth s)
   pub reached : (p : TypedProgram) (depth n : ℕ) → RunFits p.globals (source_steps p depth n (source_start p))
-  pub read : (globals : List Global) (l : Places) (g : Arrays) (a : ℕ) (x : Global) (k : IntegerType) (i : TypedExpression) (v : ℕ) → ElementsFit globals g
+  pub read : (globals : List Global) (l : Places) (g : Arrays) (a : ℕ) (x : Global) (k : IntegerType) (i : TypedExpression) (v : ℕ)
+      → ElementsFit globals g
       → slice_get globals a ≡ Some x → x.width ≡ Byte → value_of (element a k i) l g ≡ Some v → v < 2 ^ 8

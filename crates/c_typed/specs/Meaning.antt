@@ -8,7 +8,8 @@ use Rattle.words.specs.Widths.{kept}
 use Rattle.c_typed.specs.declared.tree.Destination.{Destination}
 use Rattle.c_typed.specs.declared.tree.Destination.TheVariants.{Local, Global as Variable}
 use Rattle.c_typed.specs.declared.tree.Global.{Global}
-use Rattle.c_typed.specs.Trees.{TypedStatement, TypedStatements, empty, block, unset, assign, store, call, output, if_else, loop, break_loop, continue_loop}
+use Rattle.c_typed.specs.Trees.{TypedStatement, TypedStatements, empty, block, unset, assign, store, call, output, if_else, loop}
+use Rattle.c_typed.specs.Trees.{break_loop, continue_loop}
 use Rattle.c_typed.specs.Trees.{return_with, no_statements, more_statements, TypedProgram}
 use Rattle.c_typed.specs.Values.{value_of, values_of}
 
@@ -127,7 +128,8 @@ step_at p depth l (Do (if_else c a b) ∷ k) to frames g out =
     Running (record { locals = l; todo = todo_of_test v (before a k) (before b k); result_to = to } ∷ frames) g out)
 step_at p depth l (Do (loop c last body) ∷ k) to frames g out =
     with_value (value_of c l g) out (λ v.
-    Running (record { locals = l; todo = todo_of_test v (before body (Next last (loop c last body) ∷ k)) k; result_to = to } ∷ frames) g out)
+    Running (record { locals = l; todo = todo_of_test v (before body (Next last (loop c last body) ∷ k)) k; result_to = to }
+    ∷ frames) g out)
 step_at p depth l (Do (return_with None) ∷ k) to frames g out = state_after_return p.globals None to frames g out
 step_at p depth l (Do (return_with (Some e)) ∷ k) to frames g out =
     with_value (value_of e l g) out (λ v. state_after_return p.globals (Some v) to frames g out)

@@ -1,11 +1,13 @@
 -- The typed tree that a value of the program stands for.
 use Rattle.std.specs.Prelude.{List, [], ◌∷◌, Option, Some, None}
 use Rattle.c_typed.specs.declared.tree.TypedExpression.{TypedExpression, Constant, Local, Global, Element', Unary', Binary', Conditional'}
-use Rattle.c_typed.specs.declared.tree.TypedStatement.{TypedStatement, Empty, Block', Unset, Assign, Store, Call, Output, If', Loop', Break, Continue, Return}
+use Rattle.c_typed.specs.declared.tree.TypedStatement.{TypedStatement, Empty, Block', Unset, Assign, Store, Call, Output, If', Loop', Break}
+use Rattle.c_typed.specs.declared.tree.TypedStatement.{Continue, Return}
 use Rattle.c_typed.specs.declared.tree.TypedStatement.{Row_of-TypedStatement, end_of-TypedStatement, more_of-TypedStatement}
 use Rattle.c_typed.specs.declared.tree.Function.{Function}
 use Rattle.c_typed.specs.Trees as Trees
-use Rattle.c_typed.specs.Trees.{constant, local, global, element, unary, binary, conditional, TypedStatements, empty, block, unset, assign, store, call, output}
+use Rattle.c_typed.specs.Trees.{constant, local, global, element, unary, binary, conditional, TypedStatements, empty, block, unset, assign}
+use Rattle.c_typed.specs.Trees.{store, call, output}
 use Rattle.c_typed.specs.Trees.{if_else, loop, break_loop, continue_loop, return_with, no_statements, more_statements, TypedFunction}
 
 abbrev pub typed_expression_of : TypedExpression → Trees.TypedExpression

@@ -6,7 +6,8 @@ use Rattle.c_tokens.specs.declared.token.Literal.{Literal}
 use Rattle.c_tree.specs.declared.tree.UnaryOp.{UnaryOp}
 use Rattle.c_tree.specs.declared.tree.UnaryOp.TheVariants.{Not}
 use Rattle.c_tree.specs.declared.tree.BinaryOp.{BinaryOp}
-use Rattle.c_tree.specs.declared.tree.BinaryOp.TheVariants.{ShiftLeft, ShiftRight, Less, Greater, LessOrEqual, GreaterOrEqual, Equal, NotEqual, LogicalAnd}
+use Rattle.c_tree.specs.declared.tree.BinaryOp.TheVariants.{ShiftLeft, ShiftRight, Less, Greater, LessOrEqual, GreaterOrEqual, Equal}
+use Rattle.c_tree.specs.declared.tree.BinaryOp.TheVariants.{NotEqual, LogicalAnd}
 use Rattle.c_tree.specs.declared.tree.BinaryOp.TheVariants.{LogicalOr}
 use Rattle.c_typed.specs.declared.tree.Destination.{Destination}
 use Rattle.c_typed.specs.declared.tree.Global.{Global}

@@ -7,8 +7,10 @@ use Rattle.c_typed.specs.declared.limits.TheConstants.{MAX_FUNCTIONS, MAX_GLOBAL
 use Rattle.c_typed.specs.declared.tree.Destination.{Destination}
 use Rattle.c_typed.specs.declared.tree.Destination.TheVariants.{Local, Global as Variable}
 use Rattle.c_typed.specs.declared.tree.Global.{Global}
-use Rattle.c_typed.specs.Trees.{TypedExpression, TypedStatement, TypedStatements, TypedFunction, TypedProgram, constant, local, global, element, unary, binary}
-use Rattle.c_typed.specs.Trees.{conditional, type_of, prefix_type, operation_type, common_type, empty, block, unset, assign, store, call, output, if_else, loop}
+use Rattle.c_typed.specs.Trees.{TypedExpression, TypedStatement, TypedStatements, TypedFunction, TypedProgram, constant, local, global}
+use Rattle.c_typed.specs.Trees.{element, unary, binary}
+use Rattle.c_typed.specs.Trees.{conditional, type_of, prefix_type, operation_type, common_type, empty, block, unset, assign, store, call}
+use Rattle.c_typed.specs.Trees.{output, if_else, loop}
 use Rattle.c_typed.specs.Trees.{break_loop, continue_loop, return_with, no_statements, more_statements}
 
 -- in a function with so many locals, each local and global is there, and an operator computes in the type that its
@@ -20,7 +22,8 @@ FitsExpression p n (global x k) = x < length p.globals
 FitsExpression p n (element x k e) = (x < length p.globals) × FitsExpression p n e
 FitsExpression p n (unary o k e) = (k ≡ prefix_type o (type_of e)) × FitsExpression p n e
 FitsExpression p n (binary o k l r) = (k ≡ operation_type o (type_of l) (type_of r)) × (FitsExpression p n l × FitsExpression p n r)
-FitsExpression p n (conditional k c a b) = (k ≡ common_type (type_of a) (type_of b)) × (FitsExpression p n c × (FitsExpression p n a × FitsExpression p n b))
+FitsExpression p n (conditional k c a b) = (k ≡ common_type (type_of a) (type_of b))
+    × (FitsExpression p n c × (FitsExpression p n a × FitsExpression p n b))
 
 abbrev pub FitsAll : TypedProgram → (locals : ℕ) → List TypedExpression → Type 0
 FitsAll p n [] = Unit {0}
@@ -56,8 +59,10 @@ abbrev mutual
   FitsStatement p n gives inside (store x i e) = (x < length p.globals) × (FitsExpression p n i × FitsExpression p n e)
   FitsStatement p n gives inside (call to f all) = FitsTarget p n to × (FitsCall p to f (length all) × FitsAll p n all)
   FitsStatement p n gives inside (output e) = FitsExpression p n e
-  FitsStatement p n gives inside (if_else c a b) = FitsExpression p n c × (FitsStatement p n gives inside a × FitsStatement p n gives inside b)
-  FitsStatement p n gives inside (loop c last body) = FitsExpression p n c × (FitsStatement p n gives false last × FitsStatement p n gives true body)
+  FitsStatement p n gives inside (if_else c a b) = FitsExpression p n c
+      × (FitsStatement p n gives inside a × FitsStatement p n gives inside b)
+  FitsStatement p n gives inside (loop c last body) = FitsExpression p n c
+      × (FitsStatement p n gives false last × FitsStatement p n gives true body)
   FitsStatement p n gives inside break_loop = inside ≡ true
   FitsStatement p n gives inside continue_loop = inside ≡ true
   FitsStatement p n gives inside (return_with e) = (is_some e ≡ gives) × FitsMaybe p n e

@@ -1,3 +1,4 @@
+// The laws of typed programs, each as the contract of a function that does nothing.
 ghost use Rattle.c_typed.specs.Laws.{ElementsFitTheirWidths, RunsGoOnFromWhereTheyAre, ValuesAreWords};
 ghost use Rattle.c_typed.specs.Numbers.{LimitsAreTheseNumbers};
 

@@ -1,3 +1,4 @@
+// Typed trees, whose names are numbers.
 ghost use Rattle.std.specs.Prelude.{◌≡◌};
 ghost use Rattle.c_typed.specs.Shape.{typed_expression_of};
 ghost use Rattle.c_typed.specs.Trees.{type_of};

@@ -1,5 +1,6 @@
 -- What the walk over the declarations keeps.
-use Rattle.std.specs.Prelude.{length, [], ◌∷◌, ◌++◌, Result, Ok, ◌≡◌, ◌+◌, ◌<◌, ◌≤◌, ◌⊎◌, ℕ, List, Option, Bool, true, false, nat_eq, bytes_eq}
+use Rattle.std.specs.Prelude.{length, [], ◌∷◌, ◌++◌, Result, Ok, ◌≡◌, ◌+◌, ◌<◌, ◌≤◌, ◌⊎◌, ℕ, List, Option, Bool, true, false, nat_eq}
+use Rattle.std.specs.Prelude.{bytes_eq}
 use Rattle.c_tree.specs.Tree.{Declaration, Items, variable, array, function}
 use Rattle.words.specs.Widths.{words_of_elements}
 use Rattle.c_typed.specs.declared.limits.TheConstants.{MAX_FUNCTIONS, MAX_GLOBAL_WORDS}

@@ -82,8 +82,10 @@ IsNotMain (function r x ps body) = (r ≢ Some SignedInt) ⊎ (ps ≢ [])
 -- which the globals exceed 262,144
 pub data FaultyName (text : List ℕ) (f : File) : Declaration → TypeFaultKind → ℕ → Type 0 where
   declared_again : {d : Declaration} → f.names (spelling_in text (name_of d)) ≢ None → FaultyName text f d Redeclared (name_of d).at
-  other_main : {d : Declaration} → bytes_eq (spelling_in text (name_of d)) main_name ≡ true → IsNotMain d → FaultyName text f d KindFault (name_of d).at
-  array_of_nothing : {w : Width} {k : IntegerType} {x : Identifier} {n : Literal} → n.value ≡ 0 → FaultyName text f (array w k x n) KindFault x.at
+  other_main : {d : Declaration} → bytes_eq (spelling_in text (name_of d)) main_name ≡ true → IsNotMain d
+      → FaultyName text f d KindFault (name_of d).at
+  array_of_nothing : {w : Width} {k : IntegerType} {x : Identifier} {n : Literal} → n.value ≡ 0
+      → FaultyName text f (array w k x n) KindFault x.at
   too_many_words : {d : Declaration} → f.counts.words ≤ MAX_GLOBAL_WORDS → MAX_GLOBAL_WORDS < f.counts.words + words_of d
       → FaultyName text f d Limit (name_of d).at
   too_many_functions : {r : Option IntegerType} {x : Identifier} {ps : List Parameter} {body : Items} → f.counts.functions ≡ MAX_FUNCTIONS →
@@ -96,7 +98,8 @@ pub data FaultyParameter (text : List ℕ) (sc : Scopes) (x : Identifier) : Type
 
 abbrev pub FaultyParameters : List ℕ → Scopes → List Parameter → TypeFaultKind → ℕ → Type 0
 FaultyParameters text sc [] k at = ⊥
-FaultyParameters text sc (p ∷ rest) k at = FaultyParameter text sc p.name k at ⊎ FaultyParameters text (with_local text sc p.integer_type p.name) rest k at
+FaultyParameters text sc (p ∷ rest) k at = FaultyParameter text sc p.name k at
+    ⊎ FaultyParameters text (with_local text sc p.integer_type p.name) rest k at
 
 abbrev pub behind_parameters : List ℕ → Scopes → List Parameter → Scopes
 behind_parameters text sc [] = sc
@@ -110,7 +113,8 @@ abbrev pub FaultyBody : List ℕ → Bindings → Declaration → TypeFaultKind 
 FaultyBody text names (variable integer_type x i) k at = ⊥
 FaultyBody text names (array w integer_type x n) k at = ⊥
 FaultyBody text names (function r x ps body) k at =
-    FaultyParameters text (scopes_at names) ps k at ⊎ FaultyItems text (is_some r) false (behind_parameters text (scopes_at names) ps) body k at
+    FaultyParameters text (scopes_at names) ps k at
+    ⊎ FaultyItems text (is_some r) false (behind_parameters text (scopes_at names) ps) body k at
 
 abbrev pub FaultyDeclaration : List ℕ → File → Declaration → TypeFaultKind → ℕ → Type 0
 FaultyDeclaration text f d k at = FaultyName text f d k at ⊎ FaultyBody text (after text f d).names d k at
@@ -124,7 +128,8 @@ pub data LacksMain (text : List ℕ) (names : Bindings) : TypeFaultKind → ℕ 
   no_main : names main_name ≡ None → LacksMain text names NoMain (length text)
 
 abbrev pub FaultyProgram : List ℕ → List Declaration → TypeFaultKind → ℕ → Type 0
-FaultyProgram text all k at = FaultyDeclarations text no_declarations all k at ⊎ LacksMain text (after_all text no_declarations all).names k at
+FaultyProgram text all k at = FaultyDeclarations text no_declarations all k at
+    ⊎ LacksMain text (after_all text no_declarations all).names k at
 
 -- the word of a first value
 abbrev pub first_word : Option Initial → ℕ

@@ -1,3 +1,4 @@
+// What declarations at file scope count, and which of them are faults.
 ghost use Rattle.std.specs.Prelude.{◌≡◌, ◌<◌, ◌≤◌, ◌+◌, ◌^◌, IfOk, IfErr, true, false, bytes_eq};
 ghost use Rattle.c_tree.specs.Shape.{declaration_of};
 ghost use Rattle.c_statements.specs.Faults.{HasNone, StopsAtFirst};
@@ -159,8 +160,10 @@ pub fn name_fault(
     tally: &Tally,
     declaration: &Declaration,
 ) -> Result<(), TypeStop>
-    ensures none { IfOk result (λ _. HasNone (FaultyName program.now.text.items (file_of scopes.now tally.now) (declaration_of declaration.now))) }
-    ensures err { IfErr result (StopsAtFirst (FaultyName program.now.text.items (file_of scopes.now tally.now) (declaration_of declaration.now))) }
+    ensures none { IfOk result (λ _. HasNone (FaultyName program.now.text.items (file_of scopes.now tally.now)
+        (declaration_of declaration.now))) }
+    ensures err { IfErr result (StopsAtFirst (FaultyName program.now.text.items (file_of scopes.now tally.now)
+        (declaration_of declaration.now))) }
 {
     let name = declared_name(declaration);
     if scopes.declares(program, name) {

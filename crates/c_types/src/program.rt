@@ -1,3 +1,4 @@
+// Types of a whole program (C99 6.9).
 ghost use Rattle.std.specs.Prelude.{◌≡◌, ◌⊎◌, ℕ, List, Some, true, IfOk, IfErr, OnOk, Err};
 ghost use Rattle.c_tree.specs.Shape.{declaration_of, declarations_of, items_of};
 ghost use Rattle.c_tree.specs.Tree.{function, Declaration as DeclarationTree};
@@ -8,7 +9,8 @@ ghost use Rattle.c_statements.specs.Shape.{scopes_of};
 ghost use Rattle.c_typed.specs.Shape.{function_of, statements_of};
 ghost use Rattle.c_typed.specs.Trees.{TypedProgram};
 ghost use Rattle.c_types.specs.Files.{AreTyped, IsFunction, IsWith, declared_of, file_of, file_scopes};
-ghost use Rattle.c_types.specs.Programs.{File, FaultyBody, FaultyDeclaration, FaultyDeclarations, FaultyProgram, LacksMain, TypesDeclaration};
+ghost use Rattle.c_types.specs.Programs.{File, FaultyBody, FaultyDeclaration, FaultyDeclarations, FaultyProgram, LacksMain};
+ghost use Rattle.c_types.specs.Programs.{TypesDeclaration};
 ghost use Rattle.c_types.specs.Programs.{TypesProgram, after, after_all, closing, no_declarations, with_last};
 ghost use Rattle.c_types.specs.Shape.{program_of};
 ghost use Rattle.c_types.specs.Typed.{EachTypedProgramIsWellFormed, SpellsTyped};
@@ -139,7 +141,8 @@ fn declaration<'a>(
     d: &Declaration,
 ) -> Result<Declared, TypeStop>
     requires { scopes_of scopes.now ≡ file_scopes (scopes_of scopes.now).inner }
-    ensures typed { Answers (λ t. TypesDeclaration program.now.text.items (file_of scopes.old tally.now) (declaration_of d.now) (declared_of t))
+    ensures typed { Answers (λ t. TypesDeclaration program.now.text.items (file_of scopes.old tally.now) (declaration_of d.now)
+        (declared_of t))
         (FaultyDeclaration program.now.text.items (file_of scopes.old tally.now) (declaration_of d.now)) result }
     ensures scopes { (result ≡ Err NoMemory → ⊥)
         → scopes_of scopes.new ≡ file_scopes (after program.now.text.items (file_of scopes.old tally.now) (declaration_of d.now)).names }
@@ -245,7 +248,8 @@ fn typed(alloc: Global, program: &Program) -> Result<Typed, TypeStop>
 pub fn check(alloc: Global, program: Program) -> Result<Typed, TypeFault>
     ensures ok { IfOk result (λ t. TypesProgram program.text.items (declarations_of program.declarations.items) (program_of t)) }
     ensures none { IfOk result (λ t. HasNone (FaultyProgram program.text.items (declarations_of program.declarations.items))) }
-    ensures err { IfErr result (IsTypeFault program.text.items (FaultyProgram program.text.items (declarations_of program.declarations.items))) }
+    ensures err { IfErr result (IsTypeFault program.text.items
+        (FaultyProgram program.text.items (declarations_of program.declarations.items))) }
 {
     match typed(alloc, &program) {
         Ok(typed) => Ok(typed),
@@ -259,7 +263,8 @@ pub fn check(alloc: Global, program: Program) -> Result<Typed, TypeFault>
 
 /// A program has at most one typed program.
 pub fn one_typing_of_programs()
-    ensures { (text : List ℕ) (all : List DeclarationTree) (p q : TypedProgram) → TypesProgram text all p → TypesProgram text all q → p ≡ q }
+    ensures { (text : List ℕ) (all : List DeclarationTree) (p q : TypedProgram) → TypesProgram text all p → TypesProgram text all q
+        → p ≡ q }
 {}
 
 /// A text has at most one typed program. A law: it computes nothing.

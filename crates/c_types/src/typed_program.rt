@@ -1,3 +1,4 @@
+// Programs that were typed, and so have no fault.
 ghost use Rattle.std.specs.Prelude.{◌≡◌};
 
 use c_typed::{Function, Global};

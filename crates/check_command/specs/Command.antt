@@ -1,6 +1,7 @@
 -- What `mcc check FILE` asks of its files, prints and ends by.
 use Rattle.std.specs.Prelude.{◌≡◌, ℕ, List, [], ◌∷◌, ◌++◌}
-use Rattle.commands.specs.Requests.{Request}
+use Rattle.commands.specs.Requests.{Request, reading_fault}
+use Rattle.commands.specs.declared.files.FileFault.{FileFault}
 use Rattle.commands.specs.Requests.Request.{Read, NotRead}
 use Rattle.commands.specs.Texts.{host_fault_text}
 use Rattle.commands.specs.declared.fault.HostFault.{HostFault}
@@ -20,7 +21,7 @@ pub record Checks (file : List ℕ) (status : ℕ) (requests : List Request) (pr
 
 -- the same where it ended by a fault, with the text that was told: of the file, of its text, or of standard output
 pub data StopsCheck (file : List ℕ) : List Request → List ℕ → Type 0 where
-  unread : (fault : HostFault) → StopsCheck file (NotRead file ∷ []) (host_fault_text fault)
+  unread : (fault : FileFault) → StopsCheck file (NotRead file fault ∷ []) (host_fault_text (reading_fault fault))
   faulty : (text : List ℕ) (fault : CheckFault) → IsCheckFault text fault → StopsCheck file (Read file text ∷ []) (check_fault_text fault)
   untold : (text : List ℕ) (answer : CheckAnswer) → IsAnswerTo text answer → (fault : HostFault)
       → StopsCheck file (Read file text ∷ []) (host_fault_text fault)

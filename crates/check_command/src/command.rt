@@ -7,8 +7,11 @@ ghost use Rattle.check_command.specs.Texts.{answer_text, exit_status};
 ghost use Rattle.commands.specs.Requests.{Asks, Does};
 ghost use Rattle.commands.specs.declared.fault.HostFault.TheVariants.{CannotWrite};
 
+use crate::lines::explain_line;
 use crate::verdicts::{CheckAnswer, CheckFault, check};
-use commands::{Complaints, Files, HostFault, line_offset, read_file, tell, tell_placed};
+use commands::{
+    Complaints, Explanation, Files, HostFault, Place, line_offset, read_file, tell, tell_placed,
+};
 use std::alloc::Global;
 use std::io::{self, Write};
 
@@ -50,6 +53,14 @@ fn offset_of(text: &[u8], fault: CheckFault) -> Option<usize> {
     }
 }
 
+/// What is said of a fault of a check text: of a line, if anything.
+fn about(alloc: Global, text: &[u8], fault: CheckFault) -> Option<Explanation> {
+    match fault {
+        CheckFault::Line(line) => explain_line(alloc, text, line).ok(),
+        CheckFault::Size | CheckFault::NoMemory => None,
+    }
+}
+
 /// The verdict on the text of a file, printed; the answer is the exit status.
 pub fn check_file<F: Files, W: Write, E: Complaints>(
     alloc: Global,
@@ -75,8 +86,13 @@ pub fn check_file<F: Files, W: Write, E: Complaints>(
             Err(fault) => tell(err, &fault),
         },
         Err(fault) => {
-            let at = offset_of(text.as_slice(), fault);
-            tell_placed(alloc, err, file, text.as_slice(), &fault, at)
+            let place = Place {
+                source: file,
+                text: text.as_slice(),
+                at: offset_of(text.as_slice(), fault),
+                about: about(alloc, text.as_slice(), fault),
+            };
+            tell_placed(alloc, err, &fault, &place)
         }
     }
 }

@@ -8,11 +8,13 @@
 //! - `check_command::check`, which `driver` exports too: the answer is the verdict on every block and order that the
 //!   text spells, or `full`, which comes only on a clean order. That it comes only where the table of 16,384 terms was
 //!   full is a clause of `validate`, above, and shown by the tests of `check`: some 180 stores in falling order over
-//!   one base fill it, since each goes inside all others. The longest text of stores in rising order has a verdict
-//!   (tested). Faults: size first, then the line; 30 where memory was refused, and never for a text that is too long.
+//!   one base fill it where a load behind each sees them all, since each goes inside all others. The longest texts of
+//!   stores, in rising and in falling order, have a verdict (tested). Faults: size first, then the line; 30 where memory
+//!   was refused, and never for a text that is too long.
 #![tactic(auto)]
 
 mod command;
+mod lines;
 mod texts;
 mod verdicts;
 

@@ -1,3 +1,4 @@
+// The verdict of a check text, or its fault.
 ghost use Rattle.std.specs.Prelude.{◌≡◌, ℕ, ◌≤◌, ◌^◌, length, IfOk, IfErr, IfSome, MatchResult, All};
 ghost use Rattle.mblock.specs.Parts.{BlockParts, OrderParts};
 ghost use Rattle.check_text.specs.Lines.{lines_of};
@@ -61,7 +62,8 @@ fn opened(alloc: Global) -> Option<(TermTable, Pass)>
 
 /// The verdict on the block and the order that the text spells.
 pub fn check(alloc: Global, text: &[u8]) -> Result<CheckAnswer, CheckFault>
-    ensures spelled { IfOk result (λ _. (length text.now ≤ 2 ^ 20) × (b : BlockParts) × (o : OrderParts) × SpellsPair (lines_of text.now) b o) }
+    ensures spelled { IfOk result (λ _. (length text.now ≤ 2 ^ 20) × (b : BlockParts) × (o : OrderParts)
+        × SpellsPair (lines_of text.now) b o) }
     ensures answer { length text.now ≤ 2 ^ 20 → (b : BlockParts) (o : OrderParts) → SpellsPair (lines_of text.now) b o
         → MatchResult result (IsAnswer b o) (λ e. e ≡ CheckFault.NoMemory) }
     ensures fault { IfErr result (IsCheckFault text.now) }

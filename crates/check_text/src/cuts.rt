@@ -1,3 +1,4 @@
+// Texts cut at a byte, and into lines.
 ghost use Rattle.std.specs.Prelude.{◌≡◌, ℕ, List, ◌++◌, ◌∷◌, ◌==◌, ◌<◌, true, position, IfSome, IfNone, IsSomeAnd, length};
 ghost use Rattle.check_text.specs.Lines.{lacks, lines_of};
 

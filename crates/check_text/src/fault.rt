@@ -1,3 +1,4 @@
+// Why lines spell no block and order.
 ghost use Rattle.std.specs.Prelude.{Some};
 ghost use Rattle.check_text.specs.Faults.{pair_fault_text};
 

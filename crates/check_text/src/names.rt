@@ -1,3 +1,4 @@
+// Names of instructions and exits.
 ghost use Rattle.std.specs.Prelude.{◌≡◌, IfSome, Some};
 ghost use Rattle.mips_isa.specs.Texts.{mnemonic_text};
 ghost use Rattle.mips_isa.specs.declared.text.Mnemonic.{Mnemonic};

@@ -1,3 +1,4 @@
+// Operands, form by form of instruction.
 ghost use Rattle.std.specs.Prelude.{◌≡◌, ℕ, ℤ, ◌<◌, IfSome, Some, FitsSigned};
 ghost use Rattle.std.specs.Int.{w16};
 ghost use Rattle.mips_isa.specs.Texts.{address_text};

@@ -2,7 +2,8 @@
 
 ghost use Rattle.std.specs.Prelude.{◌≡◌, false, IfOk};
 ghost use Rattle.clap.specs.Words.{app_of};
-ghost use Rattle.command_line.specs.Commands.{build_app, building_app, check_app, checking_app, files_app, interp_app, interpreting_app, list_app, mcc_app, plain_app};
+ghost use Rattle.command_line.specs.Commands.{build_app, building_app, check_app, checking_app, files_app, interp_app, interpreting_app};
+ghost use Rattle.command_line.specs.Commands.{list_app, mcc_app, plain_app};
 ghost use Rattle.command_line.specs.Commands.{run_app, running_app, source_app};
 
 use crate::parts::CommandBuilder;

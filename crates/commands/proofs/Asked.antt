@@ -2,7 +2,8 @@
 use Rattle.std.proofs.Common.{◌≡◌, ℕ, List, [], ◌∷◌, refl, sym, subst}
 use Rattle.std.specs.List.{FoldsTo}
 use Rattle.commands.specs.Requests.{Request}
-use Rattle.commands.specs.Requests.Request.{Read, NotRead, Written, NotWritten}
+use Rattle.commands.specs.Requests.Request.{Read, Written, NotWritten}
+use Rattle.commands.specs.declared.files.FileFault.{FileFault}
 
 module _ {F : Type 0} (answers : F → Request → F → Type 0) where
   pub asked_once : (old new : F) (r : Request) → answers old r new → FoldsTo answers old (r ∷ []) new
@@ -17,6 +18,6 @@ module _ {F : Type 0} (answers : F → Request → F → Type 0) where
   pub written_as : (old new : F) (name bytes items : List ℕ) → bytes ≡ items → answers old (Written name bytes) new → answers old (Written name items) new
   written_as old new name bytes items e h = subst (λ (t : List ℕ). answers old (Written name t) new) e h
 
-  pub not_written_as : (old new : F) (name bytes items : List ℕ) → bytes ≡ items → answers old (NotWritten name bytes) new
-      → answers old (NotWritten name items) new
-  not_written_as old new name bytes items e h = subst (λ (t : List ℕ). answers old (NotWritten name t) new) e h
+  pub not_written_as : (old new : F) (name bytes items : List ℕ) (fault : FileFault) → bytes ≡ items → answers old (NotWritten name bytes fault) new
+      → answers old (NotWritten name items fault) new
+  not_written_as old new name bytes items fault e h = subst (λ (t : List ℕ). answers old (NotWritten name t fault) new) e h

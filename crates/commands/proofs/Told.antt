@@ -1,7 +1,9 @@
 -- What was told, and then more.
-use Rattle.std.proofs.Common.{ℕ, List, [], ◌∷◌, ◌++◌, Option, Some, None, IfSome, sym, subst}
+use Rattle.std.proofs.Common.{◌≡◌, ℕ, List, [], ◌∷◌, ◌++◌, Option, Some, None, IfSome, sym, subst}
 use Rattle.std.specs.List.{FoldsTo}
 use Rattle.commands.specs.Requests.{TellsLine, TellsOn}
+use Rattle.commands.specs.Texts.{host_fault_text}
+use Rattle.commands.specs.declared.fault.HostFault.{HostFault}
 
 module _ {E : Type 0} (tells : E → List ℕ → E → Type 0) where
   pub folds_on : (p q r : E) (xs ys : List (List ℕ)) → FoldsTo tells p xs q → FoldsTo tells q ys r → FoldsTo tells p (xs ++ ys) r
@@ -15,3 +17,8 @@ module _ {E : Type 0} (tells : E → List ℕ → E → Type 0) where
       → IfSome o (λ text. TellsLine tells p text r)
   told_on None p q r a b = tt
   told_on (Some text) p q r a b = line_on p q r text a b
+
+  -- the line of a fault that is equal
+  pub told_as : (p q : E) (fault fault' : HostFault) → fault ≡ fault' → TellsLine tells p (host_fault_text fault) q
+      → TellsLine tells p (host_fault_text fault') q
+  told_as p q fault fault' e told = subst (λ (f : HostFault). TellsLine tells p (host_fault_text f) q) e told

@@ -2,13 +2,26 @@
 use Rattle.std.specs.Prelude.{ℕ, List, [], ◌∷◌, ◌++◌, Option}
 use Rattle.std.specs.List.{FoldsTo}
 use Rattle.std.specs.Io.KnownBytes.{Appends}
+use Rattle.commands.specs.declared.files.FileFault.{FileFault}
+use Rattle.commands.specs.declared.files.FileFault.TheVariants as file_faults
+use Rattle.commands.specs.declared.fault.HostFault.{HostFault}
+use Rattle.commands.specs.declared.fault.HostFault.TheVariants as host_faults
 
--- one request with its answer: the bytes that were read, or that were written; or that it was refused
+-- one request with its answer: the bytes that were read, or that were written; or why it was refused
 pub data Request : Type 0 where
   Read : (name bytes : List ℕ) → Request
-  NotRead : (name : List ℕ) → Request
+  NotRead : (name : List ℕ) (fault : FileFault) → Request
   Written : (name bytes : List ℕ) → Request
-  NotWritten : (name bytes : List ℕ) → Request
+  NotWritten : (name bytes : List ℕ) (fault : FileFault) → Request
+
+-- what a command tells of a read that was refused, and of a write
+abbrev pub reading_fault : FileFault → HostFault
+reading_fault file_faults.Failed = host_faults.CannotRead
+reading_fault file_faults.NoMemory = host_faults.NoMemory
+
+abbrev pub writing_fault : FileFault → HostFault
+writing_fault file_faults.Failed = host_faults.CannotWrite
+writing_fault file_faults.NoMemory = host_faults.NoMemory
 
 -- what a command did: all that it asked of its files, in order, and the bytes that its standard output took, which are as Means
 -- says

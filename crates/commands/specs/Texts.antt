@@ -1,5 +1,6 @@
--- What the faults of files and memory print.
-use Rattle.std.specs.Prelude.{ℕ, List, codes}
+-- What the faults of files and memory print, and what may be said of a fault.
+use Rattle.std.specs.Prelude.{ℕ, ◌≤◌, List, All, IfSome, codes}
+use Rattle.commands.specs.declared.explanation.Explanation.{Explanation}
 use Rattle.commands.specs.declared.fault.HostFault.{HostFault}
 use Rattle.commands.specs.declared.fault.HostFault.TheVariants as faults
 
@@ -7,3 +8,11 @@ abbrev pub host_fault_text : HostFault → List ℕ
 host_fault_text faults.CannotRead = codes "fault 60 CannotRead"
 host_fault_text faults.CannotWrite = codes "fault 61 CannotWrite"
 host_fault_text faults.NoMemory = codes "fault 30 NoMemory"
+
+-- a byte that steers no terminal: from the space to `~`
+abbrev pub IsPrintable : ℕ → Type 0
+IsPrintable byte = (32 ≤ byte) × (byte ≤ 126)
+
+-- an explanation in such bytes alone, so each part of it is one line
+abbrev pub IsPrintableExplanation : Explanation → Type 0
+IsPrintableExplanation e = All IsPrintable e.message.items × IfSome e.hint (λ hint. All IsPrintable hint.items)

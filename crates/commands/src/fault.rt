@@ -1,8 +1,9 @@
+// What keeps a command from its answer, and where it is told.
 ghost use Rattle.std.specs.Prelude.{◌≡◌, ℕ, List, [], ◌∷◌, ◌++◌, Some, IfSome, ⊤};
 ghost use Rattle.commands.specs.Requests.{TellsLine};
 ghost use Rattle.commands.specs.Texts.{host_fault_text};
 
-use crate::place::show_place;
+use crate::place::{Place, show_place};
 use std::alloc::Global;
 use std::error::Error;
 use std::fmt;
@@ -72,21 +73,19 @@ pub fn tell<E: Complaints, F: fmt::Display>(err: &mut E, fault: &F) -> u8
     1
 }
 
-/// The line of a fault of a text, and below it where it lies, if it has a place.
+/// The line of a fault of a text, and below it where it lies and what is said of it, if it has a place.
 pub fn tell_placed<E: Complaints, F: fmt::Display>(
     alloc: Global,
     err: &mut E,
-    source: &str,
-    text: &[u8],
     fault: &F,
-    at: Option<usize>,
+    place: &Place<'_>,
 ) -> u8
     ensures status { result ≡ 1 }
     ensures told { IfSome (F.output fault.now) (λ text. TellsLine E.tells err.old text err.new) }
 {
     let status = tell(err, fault);
-    if let Some(at) = at {
-        show_place(alloc, err, source, text, at);
+    if let Some(at) = place.at {
+        show_place(alloc, err, place, at);
     }
     status
 }

@@ -1,5 +1,7 @@
-ghost use Rattle.std.specs.Prelude.{◌≢◌, IfErr, MatchResult};
-ghost use Rattle.commands.specs.Requests.{Request};
+// The files that the program may reach.
+ghost use Rattle.std.specs.Prelude.{◌≡◌, ◌≢◌, IfErr, MatchResult};
+ghost use Rattle.commands.specs.Requests.{Request, reading_fault, writing_fault};
+ghost use Rattle.commands.specs.declared.files.FileFault.{FileFault};
 ghost use Rattle.commands.specs.Requests.Request.{NotRead, NotWritten, Read, Written};
 ghost use Rattle.commands.specs.declared.fault.HostFault.TheVariants.{CannotRead, CannotWrite};
 
@@ -23,18 +25,18 @@ pub trait Files {
     /// The bytes of the file of this name.
     fn read(&mut self, alloc: Global, name: &str) -> Result<Vec<u8>, FileFault>
         ensures { MatchResult result (λ bytes. answers self.old (Read name.now bytes.items) self.new)
-            (λ _. answers self.old (NotRead name.now) self.new) };
+            (λ fault. answers self.old (NotRead name.now fault) self.new) };
 
     /// Makes these bytes the file of this name; after a fault nothing is said of the file.
     fn write(&mut self, name: &str, bytes: &[u8]) -> Result<(), FileFault>
         ensures { MatchResult result (λ _. answers self.old (Written name.now bytes.now) self.new)
-            (λ _. answers self.old (NotWritten name.now bytes.now) self.new) };
+            (λ fault. answers self.old (NotWritten name.now bytes.now fault) self.new) };
 }
 
-/// The bytes of a file.
+/// The bytes of a file; an Err tells why they could not be had (`reading_fault`).
 pub fn read_file<F: Files>(alloc: Global, name: &str, files: &mut F) -> Result<Vec<u8>, HostFault>
     ensures asked { MatchResult result (λ bytes. F.answers files.old (Read name.now bytes.items) files.new)
-        (λ _. F.answers files.old (NotRead name.now) files.new) }
+        (λ e. (fault : FileFault) × (e ≡ reading_fault fault) × F.answers files.old (NotRead name.now fault) files.new) }
     ensures fault { IfErr result (λ e. e ≢ CannotWrite) }
 {
     match files.read(alloc, name) {
@@ -44,10 +46,10 @@ pub fn read_file<F: Files>(alloc: Global, name: &str, files: &mut F) -> Result<V
     }
 }
 
-/// Makes these bytes the file of this name.
+/// Makes these bytes the file of this name; an Err tells why it could not (`writing_fault`).
 pub fn write_file<F: Files>(name: &str, bytes: &[u8], files: &mut F) -> Result<(), HostFault>
     ensures asked { MatchResult result (λ _. F.answers files.old (Written name.now bytes.now) files.new)
-        (λ _. F.answers files.old (NotWritten name.now bytes.now) files.new) }
+        (λ e. (fault : FileFault) × (e ≡ writing_fault fault) × F.answers files.old (NotWritten name.now bytes.now fault) files.new) }
     ensures fault { IfErr result (λ e. e ≢ CannotRead) }
 {
     match files.write(name, bytes) {

@@ -2,21 +2,26 @@
 //!
 //! A command reads its files by `read_file`, over whatever has files (`Files`), and tells a fault by `tell` or
 //! `tell_placed`, to whatever takes faults (`Complaints`); the status is 1. All that a command asked and printed is one fact
-//! (`Does` and `Asks` of `specs/Requests.antt`). What a fault of files and memory prints stands in `specs/Texts.antt`.
-//! `tell_words` tells clap's error, help included; its status is 2 only where the words are wrong.
+//! (`Does` and `Asks` of `specs/Requests.antt`). What is said of a fault below its line is an `Explanation`. What a fault of files and
+//! memory prints stands in `specs/Texts.antt`. `tell_words` tells clap's error, help included; its status is 2 only where the words are
+//! wrong.
 //!
 //! What is promised:
 //! - `commands::read_file` and `write_file` tell no fault of the other; a fault that is told ends by 1 (`tell`,
 //!   `tell_placed`), also where standard error loses its line; refused memory is never told as wrong words
 //!   (`tell_words`).
+//! - `commands::Explanation::new` has printable ASCII alone, so that what is said of a text of others steers no terminal
+//!   (`IsPrintableExplanation`).
 #![tactic(auto)]
 
+mod explanation;
 mod fault;
 mod files;
 mod place;
 mod wrong_words;
 
+pub use explanation::Explanation;
 pub use fault::{Complaints, HostFault, tell, tell_placed};
 pub use files::{FileFault, Files, read_file, write_file};
-pub use place::line_offset;
+pub use place::{Place, Spot, line_offset, spot_of};
 pub use wrong_words::tell_words;

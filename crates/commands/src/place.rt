@@ -1,9 +1,10 @@
-// Where a fault lies in its file, as editors and readers want it: the line `FILE:LINE:COLUMN:`, and below it the line
-// of the text around the place with a caret.
+// Where a fault lies in its file, as editors and readers want it: the line `FILE:LINE:COLUMN: error: MESSAGE`, below it the
+// line of the text around the place with a caret, and a line with a hint.
 
 ghost use Rattle.std.specs.Prelude.{◌≤◌, length, ◌++◌, Some, codes, decimal};
 ghost use Rattle.commands.specs.Requests.{TellsOn};
 
+use crate::explanation::Explanation;
 use crate::fault::Complaints;
 use std::alloc::{AllocError, Global};
 use std::fmt;
@@ -20,7 +21,7 @@ const DOTS: &[u8] = b"...";
 
 /// A place in a text.
 #[derive(Clone, Copy, Debug, PartialEq, Eq)]
-pub(crate) struct Spot {
+pub struct Spot {
     /// From 1.
     pub line: usize,
     /// In bytes, from 1.
@@ -49,7 +50,7 @@ fn line_end(text: &[u8], at: usize) -> usize {
 }
 
 /// The line and the column of an offset of the text, or of its end.
-pub(crate) fn spot_of(text: &[u8], at: usize) -> Spot {
+pub fn spot_of(text: &[u8], at: usize) -> Spot {
     let before = text.iter().take(at).filter(|byte| **byte == b'\n').count();
     let column = at.saturating_sub(line_start(text, at));
     Spot {
@@ -127,27 +128,59 @@ pub(crate) fn place_lines(alloc: Global, text: &[u8], at: usize) -> Result<Vec<u
     Ok(line)
 }
 
-/// Below a fault's line: where it lies, as editors read it, and the line of the text with a caret under the place. At the
-/// text's end there is no such line.
-pub(crate) fn show_place<E: Complaints>(
-    alloc: Global,
-    err: &mut E,
-    source: &str,
-    text: &[u8],
-    at: usize,
-)
+/// Where a fault lies, and what is said of it.
+#[derive(Drop)]
+pub struct Place<'a> {
+    /// The file as it was named.
+    pub source: &'a str,
+    pub text: &'a [u8],
+    /// The offset in the text, or its length; none where memory was refused.
+    pub at: Option<usize>,
+    /// None where nothing more is known, or memory was refused.
+    pub about: Option<Explanation>,
+}
+
+/// The line with the place and the message, the line of the text with its caret, which isn't there at the text's end, and
+/// the hint.
+fn lines_below(alloc: Global, place: &Place<'_>, at: usize) -> Result<Vec<u8>, AllocError> {
+    let mut lines = Vec::new(alloc);
+    let site = site_of(place, at).to_string(alloc)?;
+    lines.extend_from_slice(site.as_bytes())?;
+    if let Some(about) = &place.about {
+        lines.extend_from_slice(b" error: ")?;
+        lines.extend_from_slice(about.message.as_slice())?;
+    }
+    lines.push(b'\n')?;
+    if at < place.text.len() {
+        let shown = place_lines(alloc, place.text, at)?;
+        lines.extend_from_slice(shown.as_slice())?;
+    }
+    if let Some(about) = &place.about
+        && let Some(hint) = &about.hint
+    {
+        lines.extend_from_slice(b"hint: ")?;
+        lines.extend_from_slice(hint.as_slice())?;
+        lines.push(b'\n')?;
+    }
+    Ok(lines)
+}
+
+/// Below a fault's line: where it lies and what is said of it; where memory is refused only where it lies.
+pub(crate) fn show_place<E: Complaints>(alloc: Global, err: &mut E, place: &Place<'_>, at: usize)
     ensures { TellsOn E.tells err.old err.new }
 {
-    let Spot { line, column } = spot_of(text, at);
-    err.line(&Site {
-        source,
+    match lines_below(alloc, place, at) {
+        Ok(lines) => err.bytes(lines.as_slice()),
+        Err(_) => err.line(&site_of(place, at)),
+    }
+}
+
+fn site_of<'a>(place: &Place<'a>, at: usize) -> Site<'a> {
+    let Spot { line, column } = spot_of(place.text, at);
+    Site {
+        source: place.source,
         line,
         column,
-    });
-    if at < text.len() {
-        if let Ok(lines) = place_lines(alloc, text, at) {
-            err.bytes(lines.as_slice());
-        }
     }
 }
 

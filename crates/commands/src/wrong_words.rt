@@ -1,7 +1,9 @@
+// What is told of wrong words, and the help.
 ghost use Rattle.std.specs.Prelude.{◌≡◌, ◌≤◌};
 ghost use Rattle.clap.specs.declared.error.ErrorKind.TheVariants.{OutOfMemory};
 ghost use Rattle.clap.specs.Words.{kind_of};
 ghost use Rattle.commands.specs.declared.fault.HostFault.{HostFault};
+ghost use Rattle.commands.specs.declared.fault.HostFault.TheVariants.{NoMemory};
 ghost use Rattle.commands.specs.Requests.{TellsLine};
 ghost use Rattle.commands.specs.Texts.{host_fault_text};
 
@@ -14,7 +16,8 @@ use std::io::Write;
 pub fn tell_words<W: Write, E: Complaints>(error: &Error, out: &mut W, err: &mut E) -> u8
     ensures most { result ≤ 2 }
     ensures refused { kind_of error.now ≡ OutOfMemory → result ≡ 1 }
-    ensures told { result ≡ 1 → (fault : HostFault) × TellsLine E.tells err.old (host_fault_text fault) err.new }
+    ensures told { result ≡ 1 → (fault : HostFault) × TellsLine E.tells err.old (host_fault_text fault) err.new
+        × (kind_of error.now ≡ OutOfMemory → fault ≡ NoMemory) }
 {
     if error.kind() == ErrorKind::OutOfMemory {
         return tell(err, &HostFault::NoMemory);

@@ -1,26 +1,28 @@
 -- A build from its two halves.
-use Rattle.std.proofs.Common.{◌≡◌, ◌≢◌, ℕ, List, sym, subst}
-use Rattle.runs.specs.declared.ran.End.TheVariants.{Wrong}
+use Rattle.std.proofs.Common.{◌≡◌, ℕ, List, sym, subst}
 use Rattle.c_typed.specs.Meaning.{source_run}
 use Rattle.mips_isa.specs.Starting.{start_state}
 use Rattle.mblock.specs.Units.{UnitParts}
-use Rattle.mblock.specs.UnitRuns.{ComesTo}
+use Rattle.mblock.specs.UnitRuns.{unit_run, TellsApart}
 use Rattle.mips_layout.specs.LayoutRuns.{RunsAs}
 use Rattle.sched_phase.specs.Schedules.{ScheduledParts}
 use Rattle.driver.specs.declared.builds.Built.{Built}
 use Rattle.driver.specs.declared.builds.BuildFault.{BuildFault}
 use Rattle.driver.specs.declared.builds.BuildFault.TheVariants as faults
 use Rattle.driver.specs.declared.builds.Limit.TheVariants as limits
-use Rattle.driver.specs.Builds.{IsScheduledBuild, IsUnitOf, IsWritten}
+use Rattle.runs.specs.Refines.{Refines, Same, AtLeast}
+use Rattle.driver.specs.Builds.{IsScheduledBuild}
 use Rattle.driver.specs.Follows.{FollowsText}
-use Rattle.driver.specs.BuildFaults.{IsBuildFault, IsUnwritten}
+use Rattle.driver.specs.BuildFaults.{IsBuildFault}
+use Rattle.driver.specs.Halves.{IsUnitOf, IsWritten, IsUnwritten}
 use Rattle.driver.proofs.Composed.{followed}
 
 pub followed_text : (text : List ℕ) (depth factor : ℕ) (u : UnitParts) (s : ScheduledParts) (b : Built)
     → IsUnitOf text depth u → s.unit ≡ u → (w : IsWritten s b) → RunsAs factor s.unit.blocks s.orders w.image.code → FollowsText text depth factor b.image.items
 followed_text text depth factor u s b of same w runs =
     let Comes : UnitParts → Type 0 =
-    λ v. (n : ℕ) → (source_run of.program depth n).end ≢ Wrong → ComesTo v.blocks (start_state v.globals) n (source_run of.program depth n) in
+    λ v. (links : ℕ → ℕ) → TellsApart links v.blocks
+    → Refines AtLeast Same (source_run of.program depth) (unit_run v.blocks links (start_state v.globals)) in
     record {
       program = of.program;
       spelled = of.spelled;
@@ -46,16 +48,11 @@ scheduled_build Suits s b w suits = record {
 }
 
 -- a unit of the text's program that has no image
-pub unwritten : (text : List ℕ) (depth : ℕ) (u : UnitParts) (s : ScheduledParts) (e : BuildFault) → IsUnitOf text depth u → s.unit ≡ u → IsUnwritten s e
-    → IsBuildFault text depth e
-unwritten text depth u s (faults.Front f) of same h = absurd h
-unwritten text depth u s (faults.Types f) of same h = absurd h
-unwritten text depth u s (faults.Limit limits.Lowering) of same h = absurd h
-unwritten text depth u s (faults.Limit limits.Selection) of same h = absurd h
-unwritten text depth u s (faults.Limit limits.Assembly) of same h = record {
-  scheduled = s;
-  orders = h.0;
-  unit = subst (IsUnitOf text depth) (sym same) of;
-  beyond = h.1;
-}
-unwritten text depth u s faults.NoMemory of same h = (of.program, of.spelled)
+pub unwritten : (text : List ℕ) (depth : ℕ) (u : UnitParts) (s : ScheduledParts) (e : BuildFault) → IsUnitOf text depth u → IsUnwritten s e
+    → IsBuildFault text e
+unwritten text depth u s (faults.Front f) of h = absurd h
+unwritten text depth u s (faults.Types f) of h = absurd h
+unwritten text depth u s (faults.Limit limits.Lowering) of h = absurd h
+unwritten text depth u s (faults.Limit limits.Selection) of h = absurd h
+unwritten text depth u s (faults.Limit limits.Assembly) of h = (of.program, of.spelled)
+unwritten text depth u s faults.NoMemory of h = (of.program, of.spelled)

@@ -5,3 +5,5 @@ pub mod Follows
 pub mod Builds
 pub mod BuildFaults
 pub mod Program
+-- words of private functions
+pub mod Halves

@@ -10,13 +10,15 @@ use Rattle.image.specs.Images.{ImageParts, IsImage, IsImageFault, image_bytes}
 use Rattle.image.specs.declared.fault.ImageFault.{ImageFault}
 use Rattle.mips_steps.specs.Machines.{MachineOutcome}
 use Rattle.sched_phase.specs.Phases.{IsPhase}
-use Rattle.commands.specs.Requests.{Request}
+use Rattle.commands.specs.Requests.{Request, reading_fault, writing_fault}
+use Rattle.commands.specs.declared.files.FileFault.{FileFault}
 use Rattle.commands.specs.Requests.Request.{Read, NotRead, Written, NotWritten}
 use Rattle.commands.specs.Texts.{host_fault_text}
 use Rattle.commands.specs.declared.fault.HostFault.{HostFault}
-use Rattle.commands.specs.declared.fault.HostFault.TheVariants.{CannotWrite}
+use Rattle.commands.specs.declared.fault.HostFault.TheVariants.{CannotWrite, NoMemory}
 use Rattle.check_command.specs.Command.{Checks, StopsCheck}
-use Rattle.command_line.specs.Commands.{IsCommand}
+use Rattle.clap.specs.Words.{takes}
+use Rattle.command_line.specs.Commands.{IsCommand, mcc_app}
 use Rattle.command_line.specs.declared.command.Command.{Command}
 use Rattle.command_line.specs.declared.command.Command.TheVariants.{Check, Interp, Build, Run, List as Listing}
 use Rattle.driver.specs.Texts.{build_fault_text, end_text, end_status, ending_text, ending_status, interp_fault_text}
@@ -52,7 +54,8 @@ built_text true b = codes "blocks " ++ (decimal b.blocks ++ codes " plain\n")
 built_text false b = codes "blocks " ++ (decimal b.blocks ++ (codes " " ++ (counts_text (counts_of b.report) ++ 10 ∷ [])))
 
 -- `mcc build SOURCE IMAGE`: SOURCE was read, and then IMAGE became the bytes of an image of its text
-pub record Builds (source image : List ℕ) (depth : ℕ) (plain : Bool) (status : ℕ) (requests : List Request) (printed : List ℕ) : Type 0 where
+pub record Builds (source image : List ℕ) (depth : ℕ) (plain : Bool) (status : ℕ) (requests : List Request)
+    (printed : List ℕ) : Type 0 where
   pub text : List ℕ
   pub built : Built
   pub asked : requests ≡ Read source text ∷ (Written image built.image.items ∷ [])
@@ -62,11 +65,12 @@ pub record Builds (source image : List ℕ) (depth : ℕ) (plain : Bool) (status
 
 -- the same where it ended by a fault: IMAGE isn't touched but by the bytes of an image of the text
 pub data StopsBuild (source image : List ℕ) (depth : ℕ) (plain : Bool) : List Request → List ℕ → Type 0 where
-  unread : (fault : HostFault) → StopsBuild source image depth plain (NotRead source ∷ []) (host_fault_text fault)
-  faulty : (text : List ℕ) (fault : BuildFault) → IsBuildFault text depth fault
+  unread : (fault : FileFault) → StopsBuild source image depth plain (NotRead source fault ∷ []) (host_fault_text (reading_fault fault))
+  faulty : (text : List ℕ) (fault : BuildFault) → IsBuildFault text fault
       → StopsBuild source image depth plain (Read source text ∷ []) (build_fault_text fault)
-  unwritten : (text : List ℕ) (built : Built) → IsBuiltAs text depth plain built → (fault : HostFault)
-      → StopsBuild source image depth plain (Read source text ∷ (NotWritten image built.image.items ∷ [])) (host_fault_text fault)
+  unwritten : (text : List ℕ) (built : Built) → IsBuiltAs text depth plain built → (fault : FileFault)
+      → StopsBuild source image depth plain (Read source text ∷ (NotWritten image built.image.items fault ∷ []))
+      (host_fault_text (writing_fault fault))
   untold : (text : List ℕ) (built : Built) → IsBuiltAs text depth plain built
       → StopsBuild source image depth plain (Read source text ∷ (Written image built.image.items ∷ [])) (host_fault_text CannotWrite)
 
@@ -101,15 +105,17 @@ pub record Lists (image : List ℕ) (status : ℕ) (requests : List Request) (pr
 
 -- the first two where they ended by a fault: of the file, of its text or bytes, or of standard output
 pub data StopsInterp (source : List ℕ) : List Request → List ℕ → Type 0 where
-  unread : (fault : HostFault) → StopsInterp source (NotRead source ∷ []) (host_fault_text fault)
-  faulty : (text : List ℕ) (fault : InterpFault) → IsInterpFault text fault → StopsInterp source (Read source text ∷ []) (interp_fault_text fault)
+  unread : (fault : FileFault) → StopsInterp source (NotRead source fault ∷ []) (host_fault_text (reading_fault fault))
+  faulty : (text : List ℕ) (fault : InterpFault) → IsInterpFault text fault
+      → StopsInterp source (Read source text ∷ []) (interp_fault_text fault)
   untold : (text : List ℕ) (depth steps : ℕ) (outcome : Outcome) → IsRun text depth steps outcome
       → StopsInterp source (Read source text ∷ []) (host_fault_text CannotWrite)
 
 -- `run` and `list`
 pub data StopsImage (image : List ℕ) : List Request → List ℕ → Type 0 where
-  unread : (fault : HostFault) → StopsImage image (NotRead image ∷ []) (host_fault_text fault)
-  faulty : (bytes : List ℕ) (fault : ImageFault) → IsImageFault bytes fault → StopsImage image (Read image bytes ∷ []) (image_fault_text fault)
+  unread : (fault : FileFault) → StopsImage image (NotRead image fault ∷ []) (host_fault_text (reading_fault fault))
+  faulty : (bytes : List ℕ) (fault : ImageFault) → IsImageFault bytes fault
+      → StopsImage image (Read image bytes ∷ []) (image_fault_text fault)
   untold : (bytes : List ℕ) (parts : ImageParts) → IsImage parts → image_bytes parts ≡ bytes
       → StopsImage image (Read image bytes ∷ []) (host_fault_text CannotWrite)
 
@@ -136,8 +142,9 @@ pub record IsAnswered (words : List (List ℕ)) (status : ℕ) (requests : List 
   pub entered : IsCommand words command
   pub answered : Answers command status requests printed
 
--- the same where it ended by a fault; nothing is asked of the files where memory, or standard output for the help, was refused
+-- the same where it ended by a fault; nothing is asked of the files where memory, or standard output for the help, was refused,
+-- and of words that clap takes there is no help
 abbrev pub IsStopped : List (List ℕ) → List Request → List ℕ → Type 0
 IsStopped words requests told =
-    ((requests ≡ []) × ((fault : HostFault) × (told ≡ host_fault_text fault)))
+    ((requests ≡ []) × ((fault : HostFault) × (told ≡ host_fault_text fault) × (takes mcc_app words ≡ true → fault ≡ NoMemory)))
     ⊎ ((command : Command) × IsCommand words command × Stops command requests told)

@@ -8,7 +8,7 @@ ghost use Rattle.driver.specs.BuildFaults.{IsBuildFault};
 ghost use Rattle.driver.specs.Program.{Builds, IsBuiltAs, StopsBuild, built_text};
 
 use crate::builds::{BuildFault, Built, Limit, build_plain};
-use crate::offsets::build_offset;
+use crate::offsets::{build_source_fault, place_of};
 use crate::scheduled_builds::{BuildOpts, build};
 use commands::{Complaints, Files, HostFault, read_file, tell, tell_placed, write_file};
 use delay_filler::FilledOrder;
@@ -34,6 +34,21 @@ fn limit_text(limit: Limit) -> &'static str {
     }
 }
 
+/// The line of the fault, and below it where it lies; apart, since what is said of it is let go before a limit's line.
+fn tell_source_fault<E: Complaints>(
+    alloc: Global,
+    err: &mut E,
+    source: &str,
+    text: &[u8],
+    fault: BuildFault,
+) -> u8
+    ensures status { result ≡ 1 }
+    ensures told { TellsLine E.tells err.old (build_fault_text fault) err.new }
+{
+    let place = place_of(alloc, source, text, build_source_fault(fault));
+    tell_placed(alloc, err, &fault, &place)
+}
+
 fn tell_build<E: Complaints>(
     alloc: Global,
     err: &mut E,
@@ -44,7 +59,7 @@ fn tell_build<E: Complaints>(
     ensures status { result ≡ 1 }
     ensures told { TellsLine E.tells err.old (build_fault_text fault) err.new }
 {
-    let status = tell_placed(alloc, err, source, text, &fault, build_offset(fault));
+    let status = tell_source_fault(alloc, err, source, text, fault);
     if let BuildFault::Limit(limit) = fault {
         let about = limit_text(limit);
         err.line(&about);
@@ -82,7 +97,7 @@ fn built_as_asked<T: Threads + Wait + Sync>(
 ) -> Result<Built, BuildFault>
     requires { 1 ≤ asked.now.options.depth }
     ensures built { IfOk result (IsBuiltAs text.now asked.now.options.depth asked.now.plain) }
-    ensures fault { IfErr result (IsBuildFault text.now asked.now.options.depth) }
+    ensures fault { IfErr result (IsBuildFault text.now) }
 {
     if asked.plain {
         build_plain(alloc, text, asked.options.depth)

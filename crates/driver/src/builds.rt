@@ -1,9 +1,11 @@
-ghost use Rattle.std.specs.Prelude.{◌≤◌, ℕ, IfOk, IfErr};
+// Builds without a schedule, and what all builds share.
+ghost use Rattle.std.specs.Prelude.{◌≤◌, IfOk, IfErr};
 ghost use Rattle.c_types.specs.Shape.{program_of};
 ghost use Rattle.c_types.specs.Typed.{SpellsTyped};
-ghost use Rattle.driver.specs.Builds.{IsPlain, IsScheduledBuild, IsUnitOf, IsWritten};
+ghost use Rattle.driver.specs.Builds.{IsPlain, IsScheduledBuild};
 ghost use Rattle.driver.specs.Follows.{FollowsText};
-ghost use Rattle.driver.specs.BuildFaults.{IsBuildFault, IsUnwritten};
+ghost use Rattle.driver.specs.BuildFaults.{IsBuildFault};
+ghost use Rattle.driver.specs.Halves.{IsUnitOf, IsWritten, IsUnwritten};
 
 use c_front::{FrontFault, read};
 use c_statements::TypeFault;
@@ -52,7 +54,7 @@ pub struct Built {
 /// The typed program that the text spells.
 fn typed_of(alloc: Global, text: &[u8]) -> Result<Typed, BuildFault>
     ensures typed { IfOk result (λ t. SpellsTyped text.now (program_of t)) }
-    ensures fault { IfErr result (λ e. (depth : ℕ) → IsBuildFault text.now depth e) }
+    ensures fault { IfErr result (IsBuildFault text.now) }
 {
     let program = match read(alloc, text) {
         Ok(program) => program,
@@ -68,7 +70,7 @@ fn typed_of(alloc: Global, text: &[u8]) -> Result<Typed, BuildFault>
 pub(crate) fn unit_of(alloc: Global, text: &[u8], depth: u32) -> Result<Unit, BuildFault>
     requires { 1 ≤ depth }
     ensures unit { IfOk result (IsUnitOf text.now depth) }
-    ensures fault { IfErr result (IsBuildFault text.now depth) }
+    ensures fault { IfErr result (IsBuildFault text.now) }
 {
     let typed = typed_of(alloc, text)?;
     let rtl = match lower(alloc, &typed) {
@@ -110,7 +112,7 @@ pub fn build_plain(alloc: Global, text: &[u8], depth: u32) -> Result<Built, Buil
     requires { 1 ≤ depth }
     ensures follows { IfOk result (λ b. FollowsText text.now depth 1 b.image.items) }
     ensures scheduled { IfOk result (IsScheduledBuild IsPlain) }
-    ensures fault { IfErr result (IsBuildFault text.now depth) }
+    ensures fault { IfErr result (IsBuildFault text.now) }
 {
     let unit = unit_of(alloc, text, depth)?;
     let Ok(scheduled) = schedule_plain(alloc, &unit) else {

@@ -1,3 +1,4 @@
+// An image's run and its listing.
 ghost use Rattle.std.specs.Prelude.{IfOk, IfErr};
 ghost use Rattle.std.specs.String.{string_bytes};
 ghost use Rattle.image.specs.Images.{IsImageFault};

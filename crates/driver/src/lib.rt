@@ -20,12 +20,9 @@
 //!   with it; a word stands for at most 513 steps, in a plain image for one. Image, report and number of blocks are
 //!   those of one scheduled unit (`scheduled`: `IsScheduledBuild`), and bytes are those of one image at most
 //!   (`one_image`). A fault is the text's own, or the first of the program that it spells (`IsBuildFault`). A Limit of
-//!   lowering comes only where the program has too many pseudo-registers or blocks for RTL (`IsTooLongForRtl`). Of the
-//!   other two the contract says little: a Limit of selection tells that some RTL program that keeps the source's runs
-//!   has too large a frame or stack or too many blocks of code (`IsTooLargeForStack`), one of assembly that some unit
-//!   that does has too many words of code (`IsTooLongForImage`), which is true of every program by code that nothing
-//!   calls; that these limits aren't told too early is tested. 20 and 30 behind the types come only of a text that
-//!   spells a program without faults.
+//!   lowering comes only where the program has too many pseudo-registers or blocks for RTL (`IsTooLongForRtl`). Of those
+//!   of selection and of assembly the contract says no more than that the text spells a program without faults; that
+//!   they aren't told too early is tested. 30 behind the types comes only of such a text too.
 //! - `driver::run_image` is exactly the image's run (`IsImageRun`), and `list_image` its listing, where the bytes are
 //!   an image's, else the first test that fails.
 //! - `Display` of answers and faults is exact. The status of a verdict that could be printed is `exit_status` of it,
@@ -54,11 +51,11 @@
 //!   `build` with two workers, `build_one`, `build_plain`, `check`, the words of the command line, a machine's steps,
 //!   and to `mcc build --plain`, `run`, `list` and `interp`. `.ci/refuse` refuses each growth of each command of the
 //!   built program in turn, by number (not a part of the gate; docs/GATE.md has its last run).
-//! - Only tested: the lines below a fault, as the place (`FILE:LINE:COLUMN:`, the line of the text, cut where it is
-//!   long, and the caret); files that can't be read or written; `mcc interp` at each limit of a text's sizes; check
-//!   texts, their verdicts, and the line of what spells nothing; wrong words, and the text of help; and
-//!   (tests/examples) what each file of crates/example_files/data prints, and its status. `mcc_check` has the same
-//!   answers.
+//! - Only tested: the lines below a fault, as the place (`FILE:LINE:COLUMN: error:`, the line of the text, cut where it
+//!   is long, and the caret), what is wrong there and the hint (tests/messages); files that can't be read or written;
+//!   `mcc interp` at each limit of a text's sizes; check texts, their verdicts, and the line of what spells nothing;
+//!   wrong words, and the text of help; and (tests/examples) what each file of crates/example_files/data prints, and its
+//!   status. `mcc_check` has the same answers.
 #![tactic(auto)]
 
 mod build_commands;

@@ -1,42 +1,47 @@
-// Where the faults of C programs lie in their text.
+// The faults of C programs, as the crate messages explains them.
 
 use crate::builds::BuildFault;
 use crate::source_runs::InterpFault;
-use c_front::{FrontFault, FrontFaultKind};
-use c_statements::{TypeFault, TypeFaultKind};
+use commands::Place;
+use messages::{SourceFault, explain};
+use std::alloc::Global;
 
-/// Where a fault of a text lies; none where memory was refused.
-fn front_offset(fault: FrontFault) -> Option<usize> {
-    if fault.kind == FrontFaultKind::NoMemory {
-        None
-    } else {
-        Some(fault.at)
-    }
-}
-
-/// Where a fault of a program lies, likewise.
-fn types_offset(fault: TypeFault) -> Option<usize> {
-    if fault.kind == TypeFaultKind::NoMemory {
-        None
-    } else {
-        Some(fault.at)
-    }
-}
-
-/// Where the fault of a run lies.
-pub(crate) fn interp_offset(fault: InterpFault) -> Option<usize> {
+/// The fault of a run that lies in its text.
+pub(crate) fn interp_source_fault(fault: InterpFault) -> Option<SourceFault> {
     match fault {
-        InterpFault::Front(fault) => front_offset(fault),
-        InterpFault::Types(fault) => types_offset(fault),
+        InterpFault::Front(fault) => Some(SourceFault::Front(fault)),
+        InterpFault::Types(fault) => Some(SourceFault::Types(fault)),
         InterpFault::NoMemory => None,
     }
 }
 
-/// Where the fault of a build lies.
-pub(crate) fn build_offset(fault: BuildFault) -> Option<usize> {
+/// The fault of a build that lies in its text.
+pub(crate) fn build_source_fault(fault: BuildFault) -> Option<SourceFault> {
     match fault {
-        BuildFault::Front(fault) => front_offset(fault),
-        BuildFault::Types(fault) => types_offset(fault),
+        BuildFault::Front(fault) => Some(SourceFault::Front(fault)),
+        BuildFault::Types(fault) => Some(SourceFault::Types(fault)),
         BuildFault::Limit(_) | BuildFault::NoMemory => None,
     }
+}
+
+/// Where the fault of a text lies, and what is said of it.
+pub(crate) fn place_of<'a>(
+    alloc: Global,
+    source: &'a str,
+    text: &'a [u8],
+    fault: Option<SourceFault>,
+) -> Place<'a> {
+    let mut place = Place {
+        source,
+        text,
+        at: None,
+        about: None,
+    };
+    if let Some(fault) = fault {
+        place.at = fault.offset();
+        if place.at.is_some() {
+            place.about = explain(alloc, text, fault).ok();
+        }
+    }
+    place
 }

@@ -1,3 +1,4 @@
+// The whole program: its words, its files and its streams.
 ghost use Rattle.std.specs.Prelude.{◌≡◌, ◌≢◌, ◌≤◌, map, true};
 ghost use Rattle.clap.specs.Words.{takes};
 ghost use Rattle.command_line.specs.Commands.{mcc_app};
@@ -8,7 +9,7 @@ ghost use Rattle.term_table.specs.Passes.{InRange};
 
 use crate::build_commands::{Asked, build_file};
 use crate::image_commands::{list_file, run_file};
-use crate::offsets::interp_offset;
+use crate::offsets::{interp_source_fault, place_of};
 use crate::scheduled_builds::BuildOpts;
 use crate::source_runs::interp;
 use crate::texts::{EndLine, print_run};
@@ -65,8 +66,8 @@ fn interp_file<F: Files, W: Write, E: Complaints>(
             Err(_) => tell(err, &HostFault::CannotWrite),
         },
         Err(fault) => {
-            let at = interp_offset(fault);
-            tell_placed(alloc, err, source, text.as_slice(), &fault, at)
+            let place = place_of(alloc, source, text.as_slice(), interp_source_fault(fault));
+            tell_placed(alloc, err, &fault, &place)
         }
     }
 }
@@ -97,7 +98,8 @@ pub fn mcc<T: Threads + Wait + Sync, F: Files, W: Write, E: Complaints>(
         → Does F.answers files.old files.new (W.contents out.old) (W.contents out.new)
         (IsAnswered (map (λ s. s.now) args.entry.now) result) }
     ensures quiet { takes mcc_app (map (λ s. s.now) args.entry.now) ≡ true → result ≢ 1 → err.new ≡ err.old }
-    ensures stopped { result ≡ 1 → Asks F.answers files.old files.new E.tells err.old err.new (IsStopped (map (λ s. s.now) args.entry.now)) }
+    ensures stopped { result ≡ 1
+        → Asks F.answers files.old files.new E.tells err.old err.new (IsStopped (map (λ s. s.now) args.entry.now)) }
 {
     match words(alloc, args) {
         Ok(Command::Check { file }) => check_file(alloc, file, files, out, err),

@@ -35,7 +35,7 @@ pub fn build<T: Threads + Wait + Sync, R: Reorder + Sync, G: Gate + Sync>(
     requires { 1 ≤ options.now.depth }
     ensures follows { IfOk result (λ b. FollowsText text.now options.now.depth (BLOCK_INSTS + 1) b.image.items) }
     ensures scheduled { IfOk result (IsScheduledBuild (IsPhase (R.proposes reorder.now))) }
-    ensures fault { IfErr result (IsBuildFault text.now options.now.depth) }
+    ensures fault { IfErr result (IsBuildFault text.now) }
 {
     let unit = unit_of(alloc, text, options.depth)?;
     let Ok(scheduled) = schedule_all(rt, alloc, &unit, options.phase, reorder, gate) else {
@@ -57,7 +57,7 @@ pub fn build_one<R: Reorder>(
     requires { 1 ≤ options.now.depth }
     ensures follows { IfOk result (λ b. FollowsText text.now options.now.depth (BLOCK_INSTS + 1) b.image.items) }
     ensures scheduled { IfOk result (IsScheduledBuild (IsWholePhase (R.proposes reorder.now))) }
-    ensures fault { IfErr result (IsBuildFault text.now options.now.depth) }
+    ensures fault { IfErr result (IsBuildFault text.now) }
 {
     let unit = unit_of(alloc, text, options.depth)?;
     let Ok(scheduled) = schedule_one(alloc, &unit, options.phase, reorder) else {

@@ -1,3 +1,4 @@
+// The run of a C text.
 ghost use Rattle.std.specs.Prelude.{IfOk, IfErr};
 ghost use Rattle.runs.specs.Runs.{outcome_of};
 ghost use Rattle.driver.specs.Interps.{IsInterpFault, IsRun};

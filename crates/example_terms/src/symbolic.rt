@@ -97,7 +97,8 @@ fn folded(table: &TermTable, pass: &mut Pass, op: Op, operands: &[Ticket]) -> Op
     requires seen { HasSeenAll pass.old operands.now }
     ensures own { IsOf table.now pass.new }
     ensures extends { Extends pass.old pass.new }
-    ensures word { (xs : Trees Op) → HaveTrees pass.old operands.now xs → IfSome result (λ n. (e : Environment) → made op e (values_of xs e) ≡ just e n) }
+    ensures word { (xs : Trees Op) → HaveTrees pass.old operands.now xs
+        → IfSome result (λ n. (e : Environment) → made op e (values_of xs e) ≡ just e n) }
 {
     if operands.len() != 2 {
         return None;
@@ -119,7 +120,8 @@ fn make(
     requires few { length operands.now ≤ 3 }
     ensures own { IsOf table.now pass.new }
     ensures extends { Extends pass.old pass.new }
-    ensures value { (xs : Trees Op) → HaveTrees pass.old operands.now xs → IfOk result (λ t. IsValue pass.new t (λ e. made op e (values_of xs e))) }
+    ensures value { (xs : Trees Op) → HaveTrees pass.old operands.now xs
+        → IfOk result (λ t. IsValue pass.new t (λ e. made op e (values_of xs e))) }
 {
     if let Some(word) = folded(table, pass, op, operands) {
         return Ok(table.intern(pass, Op::Constant(word), &[])?.ticket);

@@ -1,3 +1,4 @@
+// Images, and the counts of a build's report.
 ghost use Rattle.std.specs.Prelude.{Some};
 ghost use Rattle.image.specs.Texts.{counts_text};
 ghost use Rattle.image.specs.Views.{counts_of};

@@ -145,7 +145,7 @@ const PLACED: &[Placed] = &[
                 (&[], Ends::Return(None)),
             ],
         ),
-        &[Home::Reg(8), Home::Reg(9), Home::Reg(10)],
+        &[Home::Reg(4), Home::Reg(8), Home::Reg(9)],
         &[],
         0,
     ),
@@ -158,11 +158,78 @@ const PLACED: &[Placed] = &[
                 (&[RInst::Bin(Op::Add, 1, 1, 2)], Ends::Return(Some(1))),
             ],
         ),
-        &[Home::Reg(8), Home::Reg(16), Home::Reg(17)],
+        &[Home::Reg(4), Home::Reg(16), Home::Reg(17)],
         &[16, 17],
         0,
     ),
-    // The thirteenth local one keeps its home.
+    // Parameters that are passed on in another order: 1 may stay where it comes, since what is moved before it is no later
+    // argument; 0 would be overwritten by 1.
+    (
+        (
+            2,
+            &[
+                (&[], Ends::Call(1, &[1, 0], None, 1)),
+                (&[], Ends::Return(None)),
+            ],
+        ),
+        &[Home::Reg(8), Home::Reg(5)],
+        &[],
+        0,
+    ),
+    // Two words that are computed for a call, where the parameters have the registers; the result is printed at once.
+    (
+        (
+            2,
+            &[
+                (
+                    &[RInst::Bin(Op::Add, 2, 0, 1), RInst::Bin(Op::Sub, 3, 0, 1)],
+                    Ends::Call(1, &[2, 3], Some(4), 1),
+                ),
+                (&[], Ends::Out(4, 2)),
+                (&[], Ends::Return(None)),
+            ],
+        ),
+        &[
+            Home::Reg(4),
+            Home::Reg(5),
+            Home::Reg(8),
+            Home::Reg(9),
+            Home::Reg(20),
+        ],
+        &[20],
+        0,
+    ),
+    // One word for both arguments has the register of the second. Parameter 1 isn't local.
+    (
+        (
+            2,
+            &[
+                (&[RInst::Const(2, 3)], Ends::Call(1, &[2, 2], None, 1)),
+                (&[], Ends::Return(Some(1))),
+            ],
+        ),
+        &[Home::Reg(4), Home::Reg(17), Home::Reg(5)],
+        &[17],
+        0,
+    ),
+    // What is printed is in register 4, the first of them.
+    (
+        (
+            0,
+            &[
+                (
+                    &[RInst::Const(0, 5), RInst::Bin(Op::Add, 1, 0, 0)],
+                    Ends::Out(1, 1),
+                ),
+                (&[RInst::Const(0, 7)], Ends::Out(0, 2)),
+                (&[], Ends::Return(None)),
+            ],
+        ),
+        &[Home::Reg(4), Home::Reg(8)],
+        &[],
+        0,
+    ),
+    // The thirteenth local one without a hint keeps its home.
     (
         (
             0,

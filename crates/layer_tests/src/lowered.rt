@@ -125,7 +125,8 @@ const PROGRAMS: &[Row] = &[
         &[(256, 1000000, End::Wrong, &[7])],
     ),
     (
-        "int main(void) { int i; for (i = 0; i < 5; i = i + 1) { if (i == 1) { { continue; } } if (i == 3) break; out(i); } out(99); return 0; }",
+        "int main(void) { int i; for (i = 0; i < 5; i = i + 1) { if (i == 1) { { continue; } } if
+            (i == 3) break; out(i); } out(99); return 0; }",
         &[
             (1, 5, End::More, &[0]),
             (1, 12, End::More, &[0]),

@@ -44,7 +44,8 @@ HasQuietSlot o = (i : Plain) → o.slot ≡ Some i → (is_load (action_of i) ||
 
 -- the last instruction loads no register that the first word of the exit reads or writes
 abbrev pub HasQuietEnd : List Plain → Exit → Type 0
-HasQuietEnd insts exit = (i r : ℕ) (a : Plain) → slice_get insts i ≡ Some a → suc i ≡ length insts → loads (action_of a) r ≡ true → exit_touches exit r ≡ false
+HasQuietEnd insts exit = (i r : ℕ) (a : Plain) → slice_get insts i ≡ Some a → suc i ≡ length insts → loads (action_of a) r ≡ true
+    → exit_touches exit r ≡ false
 
 pub record IsClean (o : OrderParts) : Type 0 where
   pub apart : IsApart o.insts

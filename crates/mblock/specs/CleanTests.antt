@@ -28,4 +28,5 @@ conflict_of None second = false
 
 -- word k reads HI or LO, and one of the next two is a product
 abbrev pub early_at : List (Option Action) → ℕ → Bool
-early_at words k = is_move_word (slice_get words k) && (is_product_word (slice_get words (k + 1)) || is_product_word (slice_get words (k + 2)))
+early_at words k = is_move_word (slice_get words k) && (is_product_word (slice_get words (k + 1))
+    || is_product_word (slice_get words (k + 2)))

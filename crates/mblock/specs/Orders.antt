@@ -10,7 +10,8 @@ use Rattle.mblock.specs.PlainOrders.{plain_order_of}
 
 -- where the block isn't stuck, the order isn't and leaves the same registers, HI, LO, memory and exit
 abbrev pub Means : BlockParts → OrderParts → Type 0
-Means b o = (s : State) (link : ℕ) (r : Effect) → IsWords s → link < 2 ^ 32 → block_effect b s link ≡ Some r → order_effect o s link ≡ Some r
+Means b o = (s : State) (link : ℕ) (r : Effect) → IsWords s → link < 2 ^ 32 → block_effect b s link ≡ Some r
+    → order_effect o s link ≡ Some r
 
 -- one order for each block, which means it and is left as it is
 pub record AreOrders (blocks : List BlockParts) (orders : List OrderParts) : Type 0 where
@@ -35,4 +36,5 @@ EachPlainUnitHasItsOrders = (blocks : List BlockParts)
 
 -- blocks keep a state's words, so they compose
 abbrev pub EachBlockKeepsWords : Type 0
-EachBlockKeepsWords = (b : BlockParts) (s : State) (link : ℕ) (r : Effect) → IsWords s → link < 2 ^ 32 → block_effect b s link ≡ Some r → IsWords r.state
+EachBlockKeepsWords = (b : BlockParts) (s : State) (link : ℕ) (r : Effect) → IsWords s → link < 2 ^ 32 → block_effect b s link ≡ Some r
+    → IsWords r.state

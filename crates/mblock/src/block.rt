@@ -1,3 +1,4 @@
+// Blocks: at most 512 instructions, and an exit.
 ghost use Rattle.std.specs.Prelude.{◌≡◌, ℕ, List, ◌≤◌, length};
 ghost use Rattle.std.specs.Option.{SomeIff};
 

@@ -1,3 +1,4 @@
+// How blocks are left.
 ghost use Rattle.std.specs.Prelude.{◌≡◌};
 ghost use Rattle.mblock.specs.Slots.{is_slotted};
 

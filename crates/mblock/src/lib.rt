@@ -1,8 +1,8 @@
 //! Basic blocks, the orders that a scheduler proposes for them, and when an order breaks no delay rule.
 //!
 //! `clean` tells the least delay rule that an order breaks, exactly; a clean order is never stuck by
-//! a delay. `plain` makes the order that keeps every instruction in place, `plain_orders` those of a unit. A `Unit` is the blocks of a program's functions,
-//! with its bytes of data. The definitions: `specs/Parts.antt` (blocks and orders as contracts see them),
+//! a delay. `plain` makes the order that keeps every instruction in place, `plain_orders` those of a unit. A `Unit` is the blocks of a
+//! program's functions, with its bytes of data. The definitions: `specs/Parts.antt` (blocks and orders as contracts see them),
 //! `specs/BlockMeaning.antt` and `specs/OrderMeaning.antt` (what they do), `specs/Clean.antt` (the rules), `specs/Orders.antt`
 //! (when an order means its block), `specs/Units.antt` and `specs/UnitRuns.antt` (units and what they do).
 //!

@@ -1,3 +1,4 @@
+// Orders: the words that may stand for a block.
 ghost use Rattle.std.specs.Prelude.{◌≡◌, ℕ, List, ◌≤◌, length, is_some};
 ghost use Rattle.std.specs.Option.{SomeIff};
 ghost use Rattle.mblock.specs.Slots.{is_slotted};

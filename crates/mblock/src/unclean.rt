@@ -1,3 +1,4 @@
+// The delay rules by name, as they print.
 ghost use Rattle.std.specs.Prelude.{Some};
 ghost use Rattle.mblock.specs.Texts.{unclean_text};
 

@@ -1,13 +1,15 @@
 // The words of orders, in the order of the layout.
 
-ghost use Rattle.std.specs.Prelude.{◌≡◌, ℕ, ◌+◌, ◌<◌, ◌≤◌, ◌++◌, ◌∷◌, [], ℤ, pos, All, length, map, slice_index, FitsSigned, Err, OnOk, IfOk};
+ghost use Rattle.std.specs.Prelude.{◌≡◌, ℕ, ◌+◌, ◌<◌, ◌≤◌, ◌++◌, ◌∷◌, [], ℤ, pos, All, length, map, slice_index, FitsSigned, Err, OnOk};
+ghost use Rattle.std.specs.Prelude.{IfOk};
 ghost use Rattle.std.specs.Int.{w16};
 ghost use Rattle.mips_isa.specs.declared.inst.Inst.TheVariants as insts;
 ghost use Rattle.mips_isa.specs.declared.inst.Control.TheVariants.{SystemCall};
 ghost use Rattle.mips_isa.specs.Ranges.{IsInst};
 ghost use Rattle.mips_code.specs.Words.{inst_word};
 ghost use Rattle.mips_layout.specs.declared.limits.TheConstants.{CODE_WORDS};
-ghost use Rattle.mips_layout.specs.Layout.{jump_to, hop, slot_insts, branch_offset, exit_insts, order_insts, insts_of, layout, place, set_number};
+ghost use Rattle.mips_layout.specs.Layout.{jump_to, hop, slot_insts, branch_offset, exit_insts, order_insts, insts_of, layout, place};
+ghost use Rattle.mips_layout.specs.Layout.{set_number};
 ghost use Rattle.mips_asm.specs.Emitted.{AllNear, AreUnits, Fit, IsNear, IsWithin, start_of};
 
 use crate::fault::AsmFault;

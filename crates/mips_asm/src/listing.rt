@@ -8,7 +8,8 @@ ghost use Rattle.mips_code.specs.Decoding.{instruction_of};
 ghost use Rattle.image.specs.Images.{code_base, word_at_byte, words_of};
 ghost use Rattle.image.specs.Views.{version_of};
 ghost use Rattle.image.specs.declared.limits.TheConstants as image_limits;
-ghost use Rattle.mips_asm.specs.Listing.{byte_line, byte_text, code_line, data_lines, decoded_text, lines_at, listing, report_line, word_line, word_text};
+ghost use Rattle.mips_asm.specs.Listing.{byte_line, byte_text, code_line, data_lines, decoded_text, lines_at, listing, report_line};
+ghost use Rattle.mips_asm.specs.Listing.{word_line, word_text};
 
 use image::{Counts, Image};
 use mips_code::decode;

@@ -19,7 +19,8 @@ use Rattle.mips_isa.specs.declared.inst.ZeroTest.TheVariants.{AboveZero}
 use Rattle.mblock.specs.declared.exit.Exit.{Exit}
 use Rattle.mblock.specs.declared.exit.Exit.TheVariants.{BranchPair, BranchZero}
 use Rattle.rtl.specs.declared.operator.Op.{Op}
-use Rattle.rtl.specs.declared.operator.Op.TheVariants.{Add, Sub, Mul, DivS, DivU, RemS, RemU, And, Or, Xor, Shl, ShrU, ShrS, Eq, Ne, LtS, LtU, LeS, LeU}
+use Rattle.rtl.specs.declared.operator.Op.TheVariants.{Add, Sub, Mul, DivS, DivU, RemS, RemU, And, Or, Xor, Shl, ShrU, ShrS, Eq, Ne, LtS}
+use Rattle.rtl.specs.declared.operator.Op.TheVariants.{LtU, LeS, LeU}
 use Rattle.rtl.specs.declared.instruction.RInst.{RInst}
 use Rattle.rtl.specs.declared.instruction.RInst.TheVariants.{Const, Move, Bin, Load, Store}
 use Rattle.rtl.specs.declared.block.RGlobal.{RGlobal}
@@ -221,7 +222,8 @@ code_by_right op d (Some i) left less x y = fetch 1 x ++ i ∷ []
 
 abbrev pub op_code : Op → ℕ → (left right : Option ℕ) → Source → Source → List Plain
 op_code op d left right x y =
-    code_by_right op d (immediate_of op d (seat 1 x) right) (turned_immediate_of op d (seat 2 y) left) (turned_less_of op d (seat 2 y) left) x y
+    code_by_right op d (immediate_of op d (seat 1 x) right) (turned_immediate_of op d (seat 2 y) left)
+    (turned_less_of op d (seat 2 y) left) x y
 
 -- ---- instructions
 

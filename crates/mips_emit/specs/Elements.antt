@@ -1,5 +1,6 @@
 -- Elements of globals in data memory: where they are, and how instructions reach them.
-use Rattle.std.specs.Prelude.{◌≡◌, ℕ, ℤ, pos, negsuc, ◌+◌, ◌-◌, ◌*◌, ◌/◌, ◌%◌, ◌<◌, ◌≤◌, Option, Some, None, List, [], ◌∷◌, ◌++◌, nat_lt, slice_get}
+use Rattle.std.specs.Prelude.{◌≡◌, ℕ, ℤ, pos, negsuc, ◌+◌, ◌-◌, ◌*◌, ◌/◌, ◌%◌, ◌<◌, ◌≤◌, Option, Some, None, List, [], ◌∷◌, ◌++◌, nat_lt}
+use Rattle.std.specs.Prelude.{slice_get}
 use Rattle.std.specs.Prelude.{if◌then◌else◌}
 use Rattle.words.specs.declared.width.Width.{Width}
 use Rattle.words.specs.declared.width.Width.TheVariants.{Word, Byte}
@@ -54,7 +55,8 @@ data_middle = 268468224
 -- the place of an element whose index is known, where register 28 reaches it
 abbrev pub direct : Width → (start : ℕ) → Option ℕ → Option ℕ
 direct w start None = None
-direct w start (Some i) = if nat_lt i 65536 then (if nat_lt (element_place w start i) 65536 then Some (element_place w start i) else None) else None
+direct w start (Some i) = if nat_lt i 65536 then (if nat_lt (element_place w start i) 65536 then Some (element_place w start i) else None)
+    else None
 
 abbrev pub IsNear : Option ℕ → Type 0
 IsNear None = Unit {0}

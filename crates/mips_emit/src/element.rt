@@ -3,7 +3,8 @@
 ghost use Rattle.std.specs.Prelude.{◌≡◌, ◌≤◌, ◌<◌, ◌++◌, ◌∷◌, [], OnOk};
 ghost use Rattle.mblock.specs.declared.limits.TheConstants.{UNIT_BYTES};
 ghost use Rattle.mips_emit.specs.Locations.{FitsSource};
-ghost use Rattle.mips_emit.specs.Elements.{width_bytes, element_place, address_of_place, direct, IsNear, near, page, low, scaled, scaled_seat};
+ghost use Rattle.mips_emit.specs.Elements.{width_bytes, element_place, address_of_place, direct, IsNear, near, page, low, scaled};
+ghost use Rattle.mips_emit.specs.Elements.{scaled_seat};
 ghost use Rattle.mips_emit.specs.Elements.{base_sum, base_code, base_offset, element_base, element_offset};
 ghost use Rattle.mips_emit.specs.Code.{element_code, element_load, element_store};
 

@@ -37,7 +37,8 @@ pub fn emit_departure(
     x: Register,
 ) -> Result<(), AllocError>
     requires { IsReachable frame.now }
-    ensures { OnOk result (code.new.items ≡ code.old.items ++ carry t (last_operand (locations frame.now) (facts_of facts.now) last.fresh x)) }
+    ensures { OnOk result (code.new.items ≡ code.old.items
+        ++ carry t (last_operand (locations frame.now) (facts_of facts.now) last.fresh x)) }
 {
     emit_carry(code, t, &last_operand(facts, last.fresh, frame, x))?;
     Ok(())

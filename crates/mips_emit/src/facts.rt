@@ -4,7 +4,9 @@ ghost use Rattle.std.specs.Prelude.{◌≡◌, ◌++◌, ◌∷◌, [], None, On
 ghost use Rattle.mips_emit.specs.Frames.{IsReachable};
 ghost use Rattle.runs.specs.Stores.{places_with};
 ghost use Rattle.mips_homes.specs.HomedRun.{is_lasting};
-ghost use Rattle.mips_emit.specs.Locations.{known_of, known_in, facts_of, no_facts, word_in, IsEmpty, lazy_at, lazy_const, lazy_none, above_held, with_fact, learned, in_slot, fresh_of, above_at, above_by, above_of, last_of, tested};
+ghost use Rattle.mips_emit.specs.Locations.{known_of, known_in, facts_of, no_facts, word_in, IsEmpty, lazy_at, lazy_const, lazy_none};
+ghost use Rattle.mips_emit.specs.Locations.{above_held, with_fact, learned, in_slot, fresh_of, above_at, above_by, above_of, last_of};
+ghost use Rattle.mips_emit.specs.Locations.{tested};
 ghost use Rattle.mips_emit.specs.Locations.{locations, operand, last_operand, FitsSource};
 
 use crate::limits::KEPT_FACTS;

@@ -62,7 +62,8 @@ fn emit_move(
     a: Register,
 ) -> Result<(), AllocError>
     requires { IsReachable frame.now }
-    ensures { OnOk result (code.new.items ≡ code.old.items ++ put_at (locations frame.now d) (operand (locations frame.now) (facts_of facts.now) a)) }
+    ensures { OnOk result (code.new.items ≡ code.old.items
+        ++ put_at (locations frame.now d) (operand (locations frame.now) (facts_of facts.now) a)) }
 {
     emit_put(code, locate(frame, d), &operand(facts, frame, a))?;
     Ok(())
@@ -169,7 +170,8 @@ fn emit_inst(
     requires frame { IsReachable frame.now }
     requires few { AreStarts starts.now }
     requires named { IsInst (length starts.now) inst.now }
-    ensures { OnOk result (code.new.items ≡ code.old.items ++ inst_code globals.now (slice_index starts.now) (locations frame.now) (facts_of facts.now) inst.now) }
+    ensures { OnOk result (code.new.items ≡ code.old.items
+        ++ inst_code globals.now (slice_index starts.now) (locations frame.now) (facts_of facts.now) inst.now) }
 {
     match inst {
         RInst::Const(d, word) => emit_const(code, frame, *d, *word)?,
@@ -200,7 +202,8 @@ pub fn emit_insts(
     requires long { length facts.old.lazy.items ≡ 32 }
     requires few { AreStarts starts.now }
     requires named { All (IsInst (length starts.now)) insts.now }
-    ensures code { OnOk result (code.new.items ≡ code.old.items ++ code_of_insts globals.now starts.now frame.now (facts_of facts.old) insts.now) }
+    ensures code { OnOk result (code.new.items ≡ code.old.items
+        ++ code_of_insts globals.now starts.now frame.now (facts_of facts.old) insts.now) }
     ensures last { IfOk result (λ l. l ≡ last_after (locations frame.now) (facts_of facts.old) insts.now no_last) }
     ensures known { OnOk result (facts_of facts.new ≡ known_after (locations frame.now) insts.now (facts_of facts.old)) }
 {

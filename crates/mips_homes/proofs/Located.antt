@@ -1,18 +1,19 @@
 -- Places serve, as homes do.
 use Rattle.std.proofs.Common.{◌≡◌, ℕ, zero, suc, ◌+◌, ◌<◌, ◌≤◌, ◌⊎◌, inl, inr, ⊎_elim, Bool, true, false, ◌&&◌, List, [], ◌∷◌, ◌++◌}
-use Rattle.std.proofs.Common.{Some, refl, sym, ap, ap₂, ◌∙◌, subst, arith, length, nat_eq, nat_lt, true≢false, eqb-true, ltb-true, eq-eqb, drop, get_or}
-use Rattle.std.specs.Prelude.{if◌then◌else◌, ◌||◌, slice_get}
+use Rattle.std.proofs.Common.{Some, refl, sym, ap, ap₂, ◌∙◌, subst, arith, length, nat_eq, nat_lt, true≢false, eqb-true, ltb-true, leb-true, eq-eqb, drop, get_or}
+use Rattle.std.specs.Prelude.{if◌then◌else◌, ◌||◌, max, Option, None, nat_le, slice_get}
 use Rattle.std.proofs.lemmas.Bool.{ltb-false}
 use Rattle.std.proofs.lemmas.List.{append_assoc}
 use Rattle.std.proofs.lemmas.Option.{slice_get_within, slice_get_read, same_Some, none-some}
-use Rattle.rtl.specs.Names.{blocks_names, how_many}
+use Rattle.rtl.specs.Names.{blocks_names, how_many, optional}
 use Rattle.mips_homes.specs.HomedRun.{is_in, is_lasting}
 use Rattle.mips_homes.specs.Homes.{Serves}
 use Rattle.mips_homes.specs.Correct.{KeepsRtlRuns}
 use Rattle.mips_homes.specs.Choice.{IsChoice}
 use Rattle.mips_homes.specs.Locals.{is_local, none_reads_first, some_go_to, block_reads_first}
-use Rattle.mips_homes.specs.Places.{passing_register, places_from, is_register, lives_in, still_saved, is_slot, some_slot, IsPlaced, IsPlacedFor, ArePlaced}
-use Rattle.mips_homes.proofs.Choosing.{at_index, got_push, length_one}
+use Rattle.mips_homes.specs.Hints.{reach_from, exit_reach, blocks_reach, register_of, hint}
+use Rattle.mips_homes.specs.Places.{passing_registers, first_free, free_register, home_or, also, places_from, is_register, lives_in, still_saved, is_slot, some_slot, IsPlaced, IsPlacedFor, ArePlaced}
+use Rattle.mips_homes.proofs.Choosing.{at_index, drop_at, got_push, length_one}
 use Rattle.mips_homes.proofs.Chosen.{home_lasts, home_at, bound_least, named_below}
 use Rattle.mips_homes.proofs.Lockstep.{each_homed_run}
 use Rattle.mips_homes.specs.declared.homed.Home.{Home}
@@ -24,38 +25,18 @@ use Rattle.rtl.specs.declared.block.RFunc.{RFunc}
 
 -- ---- the loop over homes
 
-drop_at : {A : Type 0} (xs : List A) (i : ℕ) (x : A) → slice_get xs i ≡ Some x → drop i xs ≡ x ∷ drop (i + 1) xs
-drop_at [] i x e = absurd (none-some x e)
-drop_at (y ∷ ys) zero x e = ap (λ z. z ∷ ys) (same_Some y x e)
-drop_at (y ∷ ys) (suc i) x e =
-    let next : suc i + 1 ≡ suc (i + 1) = omega arith in
-    drop_at ys i x e ∙ ap (λ n. x ∷ drop n (y ∷ ys)) (sym next)
-
-pub place_passing : (bs : List RBlock) (hs : List Home) (x n : ℕ) (out out' all : List Home) → x < length hs → (nat_lt n 12 && is_local bs x) ≡ true
-    → out' ≡ out ++ Reg (passing_register n) ∷ [] → out ++ places_from bs x n (drop x hs) ≡ all
-    → out' ++ places_from bs (x + 1) (n + 1) (drop (x + 1) hs) ≡ all
-place_passing bs hs x n out out' all lt met e before =
-    let here = at_index hs x lt in
+-- one more home
+pub place_step : (local : ℕ → Bool) (hint : ℕ → Option ℕ) (hs : List Home) (x : ℕ) (taken taken' : List ℕ) (h : Home) (r : Option ℕ)
+    (out out' all : List Home) → slice_get hs x ≡ Some h → r ≡ (if local x then free_register taken (hint x) else None) → taken' ≡ also taken r
+    → out' ≡ out ++ home_or r h ∷ [] → out ++ places_from local hint x taken (drop x hs) ≡ all
+    → out' ++ places_from local hint (x + 1) taken' (drop (x + 1) hs) ≡ all
+place_step local hint hs x taken taken' h r out out' all there is more e before =
     let next : x + 1 ≡ suc x = omega arith in
-    let more : n + 1 ≡ suc n = omega arith in
-    ap (λ l. l ++ places_from bs (x + 1) (n + 1) (drop (x + 1) hs)) e
-    ∙ append_assoc out (Reg (passing_register n) ∷ []) (places_from bs (x + 1) (n + 1) (drop (x + 1) hs))
-    ∙ ap₂ (λ i j. out ++ Reg (passing_register n) ∷ places_from bs i j (drop (x + 1) hs)) next more
-    ∙ ap (λ c. out ++ (if c then Reg (passing_register n) ∷ places_from bs (suc x) (suc n) (drop (x + 1) hs) else here.0 ∷ places_from bs (suc x) n (drop (x + 1) hs)))
-    (sym met)
-    ∙ ap (λ l. out ++ places_from bs x n l) (sym (drop_at hs x here.0 here.1)) ∙ before
-
-pub place_home : (bs : List RBlock) (hs : List Home) (x n : ℕ) (h : Home) (out out' all : List Home) → slice_get hs x ≡ Some h
-    → (nat_lt n 12 && is_local bs x) ≡ false → out' ≡ out ++ h ∷ [] → out ++ places_from bs x n (drop x hs) ≡ all
-    → out' ++ places_from bs (x + 1) n (drop (x + 1) hs) ≡ all
-place_home bs hs x n h out out' all there unmet e before =
-    let next : x + 1 ≡ suc x = omega arith in
-    ap (λ l. l ++ places_from bs (x + 1) n (drop (x + 1) hs)) e
-    ∙ append_assoc out (h ∷ []) (places_from bs (x + 1) n (drop (x + 1) hs))
-    ∙ ap (λ i. out ++ h ∷ places_from bs i n (drop (x + 1) hs)) next
-    ∙ ap (λ c. out ++ (if c then Reg (passing_register n) ∷ places_from bs (suc x) (suc n) (drop (x + 1) hs) else h ∷ places_from bs (suc x) n (drop (x + 1) hs)))
-    (sym unmet)
-    ∙ ap (λ l. out ++ places_from bs x n l) (sym (drop_at hs x h there)) ∙ before
+    let chosen : Option ℕ = (if local x then free_register taken (hint x) else None) in
+    ap₂ (λ l t. l ++ places_from local hint (x + 1) t (drop (x + 1) hs)) e more
+    ∙ append_assoc out (home_or r h ∷ []) (places_from local hint (x + 1) (also taken r) (drop (x + 1) hs))
+    ∙ ap₂ (λ i c. out ++ home_or c h ∷ places_from local hint i (also taken c) (drop (x + 1) hs)) next is
+    ∙ ap (λ l. out ++ places_from local hint x taken l) (sym (drop_at hs x h there)) ∙ before
 
 -- ---- what places are
 
@@ -66,51 +47,88 @@ Lasting hs = (x r : ℕ) → slice_get hs x ≡ Some (Reg r) → is_lasting r �
 abbrev pub Apart : List Home → Type 0
 Apart hs = (x y : ℕ) (h : Home) → slice_get hs x ≡ Some h → slice_get hs y ≡ Some h → x ≡ y
 
--- the passing register of the pseudo-register x, of which n were taken before
-pub record Passes (bs : List RBlock) (x n : ℕ) (h : Home) : Type 0 where
-  pub k : ℕ
-  pub low : n ≤ k
-  pub high : k < 12
-  pub is : h ≡ Reg (passing_register k)
-  pub local : is_local bs x ≡ true
+-- a register that a local pseudo-register x gets in place of its home: it isn't taken, and it is the register of its hint or a passing one
+pub record Passes (locals : ℕ → Bool) (hint : ℕ → Option ℕ) (x : ℕ) (taken : List ℕ) (h : Home) : Type 0 where
+  pub r : ℕ
+  pub is : h ≡ Reg r
+  pub local : locals x ≡ true
+  pub free : is_in taken r ≡ false
+  pub among : is_in (optional (hint x) ++ passing_registers) r ≡ true
 
-both_true : (a b : Bool) → (a && b) ≡ true → (a ≡ true) × (b ≡ true)
-both_true true b e = (refl, e)
-both_true false b e = absurd (true≢false (sym e))
-
-pub place_case : (bs : List RBlock) (x n : ℕ) (hs : List Home) (j : ℕ) (h : Home) → slice_get (places_from bs x n hs) j ≡ Some h
-    → (slice_get hs j ≡ Some h) ⊎ Passes bs (x + j) n h
-place_case bs x n [] j h e = absurd (none-some h e)
-place_case bs x n (g ∷ hs) j h e = by (λ j e. place_case bs (suc x) (suc n) hs j h e) (λ j e. place_case bs (suc x) n hs j h e)
-    (nat_lt n 12 && is_local bs x) refl j e
+in_also : (taken : List ℕ) (o : Option ℕ) (r : ℕ) → is_in (also taken o) r ≡ false → is_in taken r ≡ false
+in_also taken None r e = e
+in_also taken (Some q) r e = go taken e
   where
-    same0 : x + 0 ≡ x
+    go : (xs : List ℕ) → is_in (xs ++ q ∷ []) r ≡ false → is_in xs r ≡ false
+    go [] e = refl
+    go (x ∷ xs) e = by (nat_eq r x) (go xs) e
+      where
+        by : (c : Bool) → (is_in (xs ++ q ∷ []) r ≡ false → is_in xs r ≡ false) → (c || is_in (xs ++ q ∷ []) r) ≡ false → (c || is_in xs r) ≡ false
+        by true rest e = absurd (true≢false e)
+        by false rest e = rest e
+
+also_in : (taken : List ℕ) (r : ℕ) → is_in (also taken (Some r)) r ≡ true
+also_in [] r = ap (λ c. c || false) (eq-eqb r r refl)
+also_in (x ∷ xs) r = by (nat_eq r x) (also_in xs r)
+  where
+    by : (c : Bool) → is_in (xs ++ r ∷ []) r ≡ true → (c || is_in (xs ++ r ∷ []) r) ≡ true
+    by true rest = refl
+    by false rest = rest
+
+-- the first one that is free is one of them, and isn't taken
+first_is : (taken rs : List ℕ) (r : ℕ) → first_free taken rs ≡ Some r → (is_in taken r ≡ false) × (is_in rs r ≡ true)
+first_is taken [] r e = absurd (none-some r e)
+first_is taken (q ∷ rs) r e = by (is_in taken q) refl (first_is taken rs r) e
+  where
+    later : (c : Bool) → is_in rs r ≡ true → (c || is_in rs r) ≡ true
+    later true e = refl
+    later false e = e
+
+    by : (c : Bool) → is_in taken q ≡ c → (first_free taken rs ≡ Some r → (is_in taken r ≡ false) × (is_in rs r ≡ true))
+        → (if c then first_free taken rs else Some q) ≡ Some r → (is_in taken r ≡ false) × (is_in (q ∷ rs) r ≡ true)
+    by true c rest e = let got = rest e in (got.0, later (nat_eq r q) got.1)
+    by false c rest e =
+        let same = same_Some q r e in
+        (sym (ap (is_in taken) same) ∙ c, ap (λ b. b || is_in rs r) (eq-eqb r q (sym same)))
+
+pub place_case : (local : ℕ → Bool) (hint : ℕ → Option ℕ) (x : ℕ) (taken : List ℕ) (hs : List Home) (j : ℕ) (h : Home)
+    → slice_get (places_from local hint x taken hs) j ≡ Some h → (slice_get hs j ≡ Some h) ⊎ Passes local hint (x + j) taken h
+place_case local hint x taken [] j h e = absurd (none-some h e)
+place_case local hint x taken (g ∷ hs) zero h e = here (local x) refl (free_register taken (hint x)) refl (same_Some _ h e)
+  where
+    same0 : x ≡ x + 0
     same0 = omega arith
 
-    later : (j m : ℕ) → n ≤ m → (slice_get hs j ≡ Some h) ⊎ Passes bs (suc x + j) m h → (slice_get hs j ≡ Some h) ⊎ Passes bs (x + suc j) n h
-    later j m le (inl e) = inl e
-    later j m le (inr p) =
-        let low = p.low in
-        let at : suc x + j ≡ x + suc j = omega arith in
-        inr (record { k = p.k; low = omega (arith, le, low); high = p.high; is = p.is; local = ap (is_local bs) (sym at) ∙ p.local })
-
-    by : ((j : ℕ) → slice_get (places_from bs (suc x) (suc n) hs) j ≡ Some h → (slice_get hs j ≡ Some h) ⊎ Passes bs (suc x + j) (suc n) h)
-        → ((j : ℕ) → slice_get (places_from bs (suc x) n hs) j ≡ Some h → (slice_get hs j ≡ Some h) ⊎ Passes bs (suc x + j) n h)
-        → (c : Bool) → (nat_lt n 12 && is_local bs x) ≡ c → (j : ℕ)
-        → slice_get (if c then Reg (passing_register n) ∷ places_from bs (suc x) (suc n) hs else g ∷ places_from bs (suc x) n hs) j ≡ Some h
-        → (slice_get (g ∷ hs) j ≡ Some h) ⊎ Passes bs (x + j) n h
-    by one two true c zero e =
-        let met = both_true (nat_lt n 12) (is_local bs x) c in
+    here : (c : Bool) → local x ≡ c → (o : Option ℕ) → free_register taken (hint x) ≡ o → home_or (if c then o else None) g ≡ h
+        → (slice_get (g ∷ hs) 0 ≡ Some h) ⊎ Passes local hint (x + 0) taken h
+    here true c None f e = inl (ap Some e)
+    here true c (Some r) f e =
+        let first = first_is taken (optional (hint x) ++ passing_registers) r f in
         inr (record {
-          k = n;
-          low = omega arith;
-          high = ltb-true n 12 met.0;
-          is = sym (same_Some (Reg (passing_register n)) h e);
-          local = ap (is_local bs) same0 ∙ met.1;
+          r = r;
+          is = sym e;
+          local = sym (ap local same0) ∙ c;
+          free = first.0;
+          among = sym (ap (λ y. is_in (optional (hint y) ++ passing_registers) r) same0) ∙ first.1;
         })
-    by one two true c (suc j) e = later j (suc n) (omega arith) (one j e)
-    by one two false c zero e = inl e
-    by one two false c (suc j) e = later j n (omega arith) (two j e)
+    here false c o f e = inl (ap Some e)
+place_case local hint x taken (g ∷ hs) (suc j) h e =
+    later (place_case local hint (suc x) (also taken (if local x then free_register taken (hint x) else None)) hs j h e)
+  where
+    at : suc x + j ≡ x + suc j
+    at = omega arith
+
+    later : (slice_get hs j ≡ Some h) ⊎ Passes local hint (suc x + j) (also taken (if local x then free_register taken (hint x) else None)) h
+        → (slice_get hs j ≡ Some h) ⊎ Passes local hint (x + suc j) taken h
+    later (inl e) = inl e
+    later (inr p) =
+        inr (record {
+          r = p.r;
+          is = p.is;
+          local = sym (ap local at) ∙ p.local;
+          free = in_also taken (if local x then free_register taken (hint x) else None) p.r p.free;
+          among = sym (ap (λ y. is_in (optional (hint y) ++ passing_registers) p.r) at) ∙ p.among;
+        })
 
 register_in : Home → ℕ
 register_in (Reg r) = r
@@ -120,40 +138,109 @@ same_register : (q r : ℕ) → Reg q ≡ Reg r → q ≡ r
 unfolding register_in
 same_register q r e = ap register_in e
 
-passing_apart : (j k : ℕ) → j < 12 → k < 12 → passing_register j ≡ passing_register k → j ≡ k
-passing_apart j k lj lk e = by (nat_lt j 8) (nat_lt k 8) refl refl e
+-- registers that are hints: 4 to 7
+abbrev pub AreHints : (ℕ → Option ℕ) → Type 0
+AreHints hint = (x r : ℕ) → hint x ≡ Some r → (4 ≤ r) × (r < 8)
+
+ge-ltb : (a b : ℕ) → b ≤ a → nat_lt a b ≡ false
+ge-ltb a b le = go (nat_lt a b) refl
   where
-    by : (a b : Bool) → nat_lt j 8 ≡ a → nat_lt k 8 ≡ b → (if a then 8 + j else 16 + j) ≡ (if b then 8 + k else 16 + k) → j ≡ k
-    by true true ea eb e = omega (arith, e)
-    by false false ea eb e = omega (arith, e)
-    by true false ea eb e = let x = ltb-true j 8 ea in let y = ltb-false k 8 eb in absurd (omega (arith, x, y, e))
-    by false true ea eb e = let x = ltb-true k 8 eb in let y = ltb-false j 8 ea in absurd (omega (arith, x, y, e))
+    go : (c : Bool) → nat_lt a b ≡ c → c ≡ false
+    go true e = let lt = ltb-true a b e in absurd (omega (arith, lt, le))
+    go false e = refl
 
-pub passing_range : (k : ℕ) → k < 12 → (8 ≤ passing_register k) × (passing_register k < 28) × (is_lasting (passing_register k) ≡ false)
-passing_range k lt = by (nat_lt k 8) refl
+low_passes : (r : ℕ) → r < 8 → is_lasting r ≡ false
+low_passes r lt = ap (λ c. c && nat_lt r 24) (ge-ltb 15 r (omega (arith, lt)))
+
+-- one of these, or of the others
+is_or : {A : Type 0} (q r : ℕ) (rest : Bool) → (q ≡ r → A) → (rest ≡ true → A) → (nat_eq r q || rest) ≡ true → A
+is_or {A} q r rest one other e = by (nat_eq r q) refl e
   where
-    and_false : (c : Bool) → (c && false) ≡ false
-    and_false true = refl
-    and_false false = refl
+    by : (c : Bool) → nat_eq r q ≡ c → (c || rest) ≡ true → A
+    by true c e = one (sym (eqb-true r q c))
+    by false c e = other e
 
-    ge-ltb : (a b : ℕ) → b ≤ a → nat_lt a b ≡ false
-    ge-ltb a b le = go (nat_lt a b) refl
-      where
-        go : (c : Bool) → nat_lt a b ≡ c → c ≡ false
-        go true e = let lt = ltb-true a b e in absurd (omega (arith, lt, le))
-        go false e = refl
+abbrev pub IsPassing : ℕ → Type 0
+IsPassing r = (8 ≤ r) × (r < 28) × (is_lasting r ≡ false)
 
-    by : (a : Bool) → nat_lt k 8 ≡ a → (8 ≤ (if a then 8 + k else 16 + k)) × ((if a then 8 + k else 16 + k) < 28)
-        × (is_lasting (if a then 8 + k else 16 + k) ≡ false)
-    by true e = let lt8 = ltb-true k 8 e in (omega arith, omega (arith, lt8), ap (λ c. c && nat_lt (8 + k) 24) (ge-ltb 15 (8 + k) (omega (arith, lt8))))
-    by false e =
-        let ge = ltb-false k 8 e in
-        (omega arith, omega (arith, lt), ap (λ c. nat_lt 15 (16 + k) && c) (ge-ltb (16 + k) 24 (omega (arith, ge))) ∙ and_false (nat_lt 15 (16 + k)))
+abbrev AllPass : List ℕ → Type 0
+AllPass [] = Unit {0}
+AllPass (r ∷ rs) = IsPassing r × AllPass rs
 
-pub places_apart : (bs : List RBlock) (x n : ℕ) (hs : List Home) → Lasting hs → Apart hs → Apart (places_from bs x n hs)
-places_apart bs x n [] last apart i j h a b = absurd (none-some h a)
-places_apart bs x n (g ∷ hs) last apart i j h a b =
-    by (places_apart bs (suc x) (suc n) hs last' apart') (places_apart bs (suc x) n hs last' apart') (nat_lt n 12 && is_local bs x) refl i j a b
+each_passes : (rs : List ℕ) → AllPass rs → (r : ℕ) → is_in rs r ≡ true → IsPassing r
+each_passes [] all r e = absurd (true≢false (sym e))
+each_passes (q ∷ rs) all r e = is_or q r (is_in rs r) (λ same. subst IsPassing same all.0) (each_passes rs all.1 r) e
+
+is_passing : (r : ℕ) → 8 ≤ r → r < 28 → is_lasting r ≡ false → IsPassing r
+is_passing r low high passes = (low, high, passes)
+
+passing_all : AllPass passing_registers
+passing_all = (
+  is_passing 8 (omega arith) (omega arith) refl,
+  (
+    is_passing 9 (omega arith) (omega arith) refl,
+    (
+      is_passing 10 (omega arith) (omega arith) refl,
+      (
+        is_passing 11 (omega arith) (omega arith) refl,
+        (
+          is_passing 12 (omega arith) (omega arith) refl,
+          (
+            is_passing 13 (omega arith) (omega arith) refl,
+            (
+              is_passing 14 (omega arith) (omega arith) refl,
+              (
+                is_passing 15 (omega arith) (omega arith) refl,
+                (
+                  is_passing 24 (omega arith) (omega arith) refl,
+                  (
+                    is_passing 25 (omega arith) (omega arith) refl,
+                    (
+                      is_passing 26 (omega arith) (omega arith) refl,
+                      (
+                        is_passing 27 (omega arith) (omega arith) refl,
+                        tt,
+                      ),
+                    ),
+                  ),
+                ),
+              ),
+            ),
+          ),
+        ),
+      ),
+    ),
+  ),
+)
+
+-- the register that is passed
+pub passes_range : (local : ℕ → Bool) (hint : ℕ → Option ℕ) → AreHints hint → (x : ℕ) (taken : List ℕ) (h : Home) (p : Passes local hint x taken h)
+    → (hint x ≡ Some p.r) ⊎ IsPassing p.r
+passes_range local hint hints x taken h p = by (hint x) refl p.among
+  where
+    by : (o : Option ℕ) → hint x ≡ o → is_in (optional o ++ passing_registers) p.r ≡ true → (hint x ≡ Some p.r) ⊎ IsPassing p.r
+    by None e among = inr (each_passes passing_registers passing_all p.r among)
+    by (Some q) e among = is_or q p.r (is_in passing_registers p.r) (λ same. inl (e ∙ ap Some same))
+        (λ m. inr (each_passes passing_registers passing_all p.r m)) among
+
+-- it is none that outlives a block
+pub passes_not : (local : ℕ → Bool) (hint : ℕ → Option ℕ) → AreHints hint → (x : ℕ) (taken : List ℕ) (h : Home) (p : Passes local hint x taken h)
+    → is_lasting p.r ≡ false
+passes_not local hint hints x taken h p = by (passes_range local hint hints x taken h p)
+  where
+    by : (hint x ≡ Some p.r) ⊎ IsPassing p.r → is_lasting p.r ≡ false
+    by (inl e) = low_passes p.r (hints x p.r e).1
+    by (inr range) = range.2
+
+-- the register that x gets
+abbrev pub chosen : (local : ℕ → Bool) → (hint : ℕ → Option ℕ) → (x : ℕ) → (taken : List ℕ) → Option ℕ
+chosen local hint x taken = if local x then free_register taken (hint x) else None
+
+pub places_apart : (local : ℕ → Bool) (hint : ℕ → Option ℕ) → AreHints hint → (x : ℕ) (taken : List ℕ) (hs : List Home) → Lasting hs → Apart hs
+    → Apart (places_from local hint x taken hs)
+places_apart local hint hints x taken [] last apart i j h a b = absurd (none-some h a)
+places_apart local hint hints x taken (g ∷ hs) last apart i j h a b =
+    by (λ last apart. places_apart local hint hints (suc x) (also taken (chosen local hint x taken)) hs last apart) i j a b
   where
     last' : Lasting hs
     last' y r e = last (suc y) r e
@@ -161,45 +248,33 @@ places_apart bs x n (g ∷ hs) last apart i j h a b =
     apart' : Apart hs
     apart' y z h e f = let same = apart (suc y) (suc z) h e f in omega (arith, same)
 
-    -- the first one is in a passing register
-    first : (j : ℕ) → h ≡ Reg (passing_register n) → n < 12 → (slice_get hs j ≡ Some h) ⊎ Passes bs (suc x + j) (suc n) h → ⊥
-    first j is lt (inl e) =
-        true≢false (sym (last' j (passing_register n) (e ∙ ap Some is)) ∙ (passing_range n lt).2)
-    first j is lt (inr p) =
-        let low = p.low in
-        let same = passing_apart n p.k lt p.high (same_register (passing_register n) (passing_register p.k) (sym is ∙ p.is)) in
-        absurd (omega (arith, low, same))
+    -- a later one is elsewhere
+    first : (j : ℕ) (c : Option ℕ) → (chosen local hint x taken) ≡ c → home_or c g ≡ h → (slice_get hs j ≡ Some h) ⊎ Passes local hint (suc x + j) (also taken (chosen local hint x taken)) h
+        → (slice_get (g ∷ hs) 0 ≡ Some h) ⊎ Passes local hint (x + 0) taken h → ⊥
+    first j None c is (inl e) mine = let same = apart 0 (suc j) h (ap Some is) e in absurd (omega (arith, same))
+    first j None c is (inr p) mine =
+        true≢false (sym (last 0 p.r (ap Some (is ∙ p.is))) ∙ passes_not local hint hints (suc x + j) (also taken (chosen local hint x taken)) h p)
+    first j (Some r) c is (inl e) (inl m) = let same = apart 0 (suc j) h m e in absurd (omega (arith, same))
+    first j (Some r) c is (inl e) (inr m) =
+        true≢false (sym (last' j m.r (e ∙ ap Some m.is)) ∙ passes_not local hint hints (x + 0) taken h m)
+    first j (Some r) c is (inr p) mine =
+        let same = same_register r p.r (is ∙ p.is) in
+        true≢false (sym (ap (λ o. is_in (also taken o) p.r) (c ∙ ap Some same) ∙ also_in taken p.r) ∙ p.free)
 
-    -- it is at its home
-    second : (j : ℕ) → g ≡ h → (slice_get hs j ≡ Some h) ⊎ Passes bs (suc x + j) n h → ⊥
-    second j is (inl e) = let same = apart 0 (suc j) h (ap Some is) e in absurd (omega (arith, same))
-    second j is (inr p) =
-        true≢false (sym (last 0 (passing_register p.k) (ap Some (is ∙ p.is))) ∙ (passing_range p.k p.high).2)
+    by : (Lasting hs → Apart hs → Apart (places_from local hint (suc x) (also taken (chosen local hint x taken)) hs)) → (i j : ℕ)
+        → slice_get (places_from local hint x taken (g ∷ hs)) i ≡ Some h → slice_get (places_from local hint x taken (g ∷ hs)) j ≡ Some h → i ≡ j
+    by rest zero zero a b = refl
+    by rest zero (suc j) a b =
+        absurd (first j (chosen local hint x taken) refl (same_Some (home_or (chosen local hint x taken) g) h a) (place_case local hint (suc x) (also taken (chosen local hint x taken)) hs j h b)
+        (place_case local hint x taken (g ∷ hs) 0 h a))
+    by rest (suc i) zero a b =
+        absurd (first i (chosen local hint x taken) refl (same_Some (home_or (chosen local hint x taken) g) h b) (place_case local hint (suc x) (also taken (chosen local hint x taken)) hs i h a)
+        (place_case local hint x taken (g ∷ hs) 0 h b))
+    by rest (suc i) (suc j) a b = ap suc (rest last' apart' i j h a b)
 
-    by : Apart (places_from bs (suc x) (suc n) hs) → Apart (places_from bs (suc x) n hs)
-        → (c : Bool) → (nat_lt n 12 && is_local bs x) ≡ c → (i j : ℕ)
-        → slice_get (if c then Reg (passing_register n) ∷ places_from bs (suc x) (suc n) hs else g ∷ places_from bs (suc x) n hs) i ≡ Some h
-        → slice_get (if c then Reg (passing_register n) ∷ places_from bs (suc x) (suc n) hs else g ∷ places_from bs (suc x) n hs) j ≡ Some h → i ≡ j
-    by one two c e zero zero a b = refl
-    by one two true e zero (suc j) a b =
-        absurd (first j (sym (same_Some (Reg (passing_register n)) h a)) (ltb-true n 12 (both_true (nat_lt n 12) (is_local bs x) e).0)
-        (place_case bs (suc x) (suc n) hs j h b))
-    by one two true e (suc i) zero a b =
-        absurd (first i (sym (same_Some (Reg (passing_register n)) h b)) (ltb-true n 12 (both_true (nat_lt n 12) (is_local bs x) e).0)
-        (place_case bs (suc x) (suc n) hs i h a))
-    by one two true e (suc i) (suc j) a b = ap suc (one i j h a b)
-    by one two false e zero (suc j) a b = absurd (second j (same_Some g h a) (place_case bs (suc x) n hs j h b))
-    by one two false e (suc i) zero a b = absurd (second i (same_Some g h b) (place_case bs (suc x) n hs i h a))
-    by one two false e (suc i) (suc j) a b = ap suc (two i j h a b)
-
-pub places_long : (bs : List RBlock) (x n : ℕ) (hs : List Home) → length (places_from bs x n hs) ≡ length hs
-places_long bs x n [] = refl
-places_long bs x n (g ∷ hs) = by (places_long bs (suc x) (suc n) hs) (places_long bs (suc x) n hs) (nat_lt n 12 && is_local bs x)
-  where
-    by : length (places_from bs (suc x) (suc n) hs) ≡ length hs → length (places_from bs (suc x) n hs) ≡ length hs → (c : Bool)
-        → length (if c then Reg (passing_register n) ∷ places_from bs (suc x) (suc n) hs else g ∷ places_from bs (suc x) n hs) ≡ suc (length hs)
-    by one two true = ap suc one
-    by one two false = ap suc two
+pub places_long : (local : ℕ → Bool) (hint : ℕ → Option ℕ) (x : ℕ) (taken : List ℕ) (hs : List Home) → length (places_from local hint x taken hs) ≡ length hs
+places_long local hint x taken [] = refl
+places_long local hint x taken (g ∷ hs) = ap suc (places_long local hint (suc x) (also taken (if local x then free_register taken (hint x) else None)) hs)
 
 -- local to blocks
 pub local_to : (bs : List RBlock) (x : ℕ) → is_local bs x ≡ true → (b : ℕ) (block : RBlock) → slice_get bs b ≡ Some block → some_go_to bs b ≡ true
@@ -218,6 +293,59 @@ local_to bs x is b block there goes = from (some_go_to bs 0) bs b is there (λ z
         sym (ap (λ k. block_reads_first k x) (same_Some k block there))
         ∙ (either first (block_reads_first k x) (none_reads_first true ks x) e).0 (met refl)
     from first (k ∷ ks) (suc b) e there met = from true ks b (either first (block_reads_first k x) (none_reads_first true ks x) e).1 there (λ z. refl)
+
+-- ---- hints
+
+register_range : (q r : ℕ) → register_of q ≡ Some r → (r ≡ 3 + q) × (0 < q) × (q < 5)
+register_range q r e = by (nat_lt 0 q) (nat_lt q 5) refl refl e
+  where
+    by : (b c : Bool) → nat_lt 0 q ≡ b → nat_lt q 5 ≡ c → (if b && c then Some (3 + q) else None) ≡ Some r → (r ≡ 3 + q) × (0 < q) × (q < 5)
+    by true true eb ec e = (sym (same_Some (3 + q) r e), ltb-true 0 q eb, ltb-true q 5 ec)
+    by true false eb ec e = absurd (none-some r e)
+    by false c eb ec e = absurd (none-some r e)
+
+-- the register of a hint: of a parameter that in which it comes; no argument is behind it
+pub hint_is : (n : ℕ) (bs : List RBlock) (x r : ℕ) → hint n bs x ≡ Some r → (4 ≤ r) × (r < 8) × (blocks_reach bs x + 3 ≤ r) × (x < n → r ≡ 4 + x)
+hint_is n bs x r e = by (nat_lt x n) (nat_le (blocks_reach bs x) (suc x)) refl refl e
+  where
+    by : (b c : Bool) → nat_lt x n ≡ b → nat_le (blocks_reach bs x) (suc x) ≡ c
+        → (if b then (if c then register_of (suc x) else None) else register_of (blocks_reach bs x)) ≡ Some r
+        → (4 ≤ r) × (r < 8) × (blocks_reach bs x + 3 ≤ r) × (x < n → r ≡ 4 + x)
+    by true true eb ec e =
+        let range = register_range (suc x) r e in
+        let is = range.0 in
+        let high = range.2 in
+        let le = leb-true (blocks_reach bs x) (suc x) ec in
+        (omega (arith, is), omega (arith, is, high), omega (arith, is, le), λ lt. omega (arith, is))
+    by true false eb ec e = absurd (none-some r e)
+    by false c eb ec e =
+        let range = register_range (blocks_reach bs x) r e in
+        let is = range.0 in
+        let low = range.1 in
+        let high = range.2 in
+        let out = ltb-false x n eb in
+        (omega (arith, is, low), omega (arith, is, high), omega (arith, is), λ lt. absurd (omega (arith, lt, out)))
+
+pub hints_range : (n : ℕ) (bs : List RBlock) → AreHints (hint n bs)
+hints_range n bs x r e = let is = hint_is n bs x r e in (is.0, is.1)
+
+-- each argument is among those up to the last
+pub reach_covers : (n : ℕ) (xs : List ℕ) (j x : ℕ) → slice_get xs j ≡ Some x → n + suc j ≤ reach_from n xs x
+reach_covers n [] j x e = absurd (none-some x e)
+reach_covers n (y ∷ ys) zero x e = by (nat_eq x y) (eq-eqb x y (sym (same_Some y x e)))
+  where
+    by : (c : Bool) → c ≡ true → n + 1 ≤ max (if c then suc n else 0) (reach_from (suc n) ys x)
+    by true c = omega arith
+    by false c = absurd (true≢false (sym c))
+reach_covers n (y ∷ ys) (suc j) x e =
+    let rest = reach_covers (suc n) ys j x e in
+    omega (arith, rest)
+
+pub blocks_cover : (bs : List RBlock) (b : ℕ) (block : RBlock) (x : ℕ) → slice_get bs b ≡ Some block → exit_reach block.exit x ≤ blocks_reach bs x
+blocks_cover [] b block x e = absurd (none-some block e)
+blocks_cover (k ∷ bs) zero block x e =
+    subst (λ (block : RBlock). exit_reach block.exit x ≤ blocks_reach (k ∷ bs) x) (same_Some k block e) (omega arith)
+blocks_cover (k ∷ bs) (suc b) block x e = let rest = blocks_cover bs b block x e in omega (arith, rest)
 
 -- ---- registers that are still saved
 
@@ -278,24 +406,65 @@ has_slot (h ∷ hs) (suc x) k e = by (is_slot h) (has_slot hs x k e)
 
 -- ---- places serve
 
-module _ (func : RFunc) (c f : Frame) (ok : IsChoice func c) (p : IsPlaced func.blocks.items c f) where
-  bs : List RBlock
-  bs = func.blocks.items
+module _ (func : RFunc) (c f : Frame) (ok : IsChoice func c) (p : IsPlaced func.parameters func.blocks.items c f) where
+  -- the register of a hint or a passing one in place of the home of a local pseudo-register
+  abbrev pub PassesIn : ℕ → Home → Type 0
+  PassesIn x h = Passes (is_local func.blocks.items) (hint func.parameters func.blocks.items) x [] h
 
   pub choice_lasts : Lasting c.homes.items
   choice_lasts x r e = let range = ok.registers x r e in home_lasts r range.0 range.1
 
-  pub case_of : (x : ℕ) (h : Home) → slice_get f.homes.items x ≡ Some h → (slice_get c.homes.items x ≡ Some h) ⊎ Passes func.blocks.items x 0 h
+  pub case_of : (x : ℕ) (h : Home) → slice_get f.homes.items x ≡ Some h → (slice_get c.homes.items x ≡ Some h) ⊎ PassesIn x h
   case_of x h e =
       let at : 0 + x ≡ x = omega arith in
-      subst (λ y. (slice_get c.homes.items x ≡ Some h) ⊎ Passes func.blocks.items y 0 h) at
-      (place_case func.blocks.items 0 0 c.homes.items x h (sym (ap (λ l. slice_get l x) p.homes) ∙ e))
+      subst (λ y. (slice_get c.homes.items x ≡ Some h) ⊎ PassesIn y h) at
+      (place_case (is_local func.blocks.items) (hint func.parameters func.blocks.items) 0 [] c.homes.items x h (sym (ap (λ l. slice_get l x) p.homes) ∙ e))
+
+  -- a register below 8 is that of the hint: no argument is passed behind it, and a parameter comes in it
+  pub seated : (x r : ℕ) → slice_get f.homes.items x ≡ Some (Reg r)
+      → (8 ≤ r) ⊎ ((blocks_reach func.blocks.items x + 3 ≤ r) × (x < func.parameters → r ≡ 4 + x))
+  seated x r e = by (case_of x (Reg r) e)
+    where
+      hinted : (q : ℕ) → r ≡ q → (hint func.parameters func.blocks.items x ≡ Some q) ⊎ IsPassing q
+          → (8 ≤ r) ⊎ ((blocks_reach func.blocks.items x + 3 ≤ r) × (x < func.parameters → r ≡ 4 + x))
+      hinted q same (inl e) =
+          let is = hint_is func.parameters func.blocks.items x q e in
+          let behind = is.2 in
+          inr (omega (arith, behind, same), λ lt. same ∙ is.3 lt)
+      hinted q same (inr range) = (let low = range.0 in inl (omega (arith, low, same)))
+
+      by : (slice_get c.homes.items x ≡ Some (Reg r)) ⊎ PassesIn x (Reg r)
+          → (8 ≤ r) ⊎ ((blocks_reach func.blocks.items x + 3 ≤ r) × (x < func.parameters → r ≡ 4 + x))
+      by (inl home) = (let low = (ok.registers x r home).0 in inl (omega (arith, low)))
+      by (inr q) =
+          hinted q.r (same_register r q.r q.is)
+          (passes_range (is_local func.blocks.items) (hint func.parameters func.blocks.items) (hints_range func.parameters func.blocks.items) x [] (Reg r) q)
+
+  -- and all are among 4 to 27
+  pub within : (x r : ℕ) → slice_get f.homes.items x ≡ Some (Reg r) → (4 ≤ r) × (r < 28)
+  within x r e = by (case_of x (Reg r) e)
+    where
+      hinted : (q : ℕ) → r ≡ q → (hint func.parameters func.blocks.items x ≡ Some q) ⊎ IsPassing q → (4 ≤ r) × (r < 28)
+      hinted q same (inl e) =
+          let is = hint_is func.parameters func.blocks.items x q e in
+          let low = is.0 in
+          let high = is.1 in
+          (omega (arith, low, same), omega (arith, high, same))
+      hinted q same (inr range) = (let low = range.0 in let high = range.1 in (omega (arith, low, same), omega (arith, high, same)))
+
+      by : (slice_get c.homes.items x ≡ Some (Reg r)) ⊎ PassesIn x (Reg r) → (4 ≤ r) × (r < 28)
+      by (inl home) = (let range = ok.registers x r home in let low = range.0 in let high = range.1 in (omega (arith, low), omega (arith, high)))
+      by (inr q) =
+          hinted q.r (same_register r q.r q.is)
+          (passes_range (is_local func.blocks.items) (hint func.parameters func.blocks.items) (hints_range func.parameters func.blocks.items) x [] (Reg r) q)
 
   pub places_long_as : length f.homes.items ≡ how_many func
-  places_long_as = ap length p.homes ∙ places_long func.blocks.items 0 0 c.homes.items ∙ ok.long
+  places_long_as = ap length p.homes ∙ places_long (is_local func.blocks.items) (hint func.parameters func.blocks.items) 0 [] c.homes.items ∙ ok.long
 
   pub placed_apart : Apart f.homes.items
-  placed_apart = subst Apart (sym p.homes) (places_apart func.blocks.items 0 0 c.homes.items choice_lasts ok.apart)
+  placed_apart = subst Apart (sym p.homes)
+      (places_apart (is_local func.blocks.items) (hint func.parameters func.blocks.items) (hints_range func.parameters func.blocks.items) 0 [] c.homes.items
+      choice_lasts ok.apart)
 
   pub placed_serves : Serves f func
   placed_serves = record {
@@ -313,15 +482,16 @@ module _ (func : RFunc) (c f : Frame) (ok : IsChoice func c) (p : IsPlaced func.
       kept : (x r : ℕ) → slice_get f.homes.items x ≡ Some (Reg r) → is_lasting r ≡ true → is_in f.saved.items r ≡ true
       kept x r e lasts = ap (λ l. is_in l r) p.saved ∙ by (case_of x (Reg r) e)
         where
-          by : (slice_get c.homes.items x ≡ Some (Reg r)) ⊎ Passes func.blocks.items x 0 (Reg r) → is_in (still_saved f.homes.items c.saved.items) r ≡ true
+          by : (slice_get c.homes.items x ≡ Some (Reg r)) ⊎ PassesIn x (Reg r) → is_in (still_saved f.homes.items c.saved.items) r ≡ true
           by (inl home) = saved_still f.homes.items c.saved.items r (ok.registers x r home).2 (lives f.homes.items x r e)
-          by (inr q) = absurd (true≢false (sym lasts ∙ ap is_lasting (same_register r (passing_register q.k) q.is) ∙ (passing_range q.k q.high).2))
+          by (inr q) = absurd (true≢false (sym lasts ∙ ap is_lasting (same_register r q.r q.is)
+              ∙ passes_not (is_local func.blocks.items) (hint func.parameters func.blocks.items) (hints_range func.parameters func.blocks.items) x [] (Reg r) q))
 
       local : (x r : ℕ) → slice_get f.homes.items x ≡ Some (Reg r) → is_lasting r ≡ false → (b : ℕ) (block : RBlock)
           → slice_get func.blocks.items b ≡ Some block → some_go_to func.blocks.items b ≡ true → block_reads_first block x ≡ false
       local x r e passes b block there goes = by (case_of x (Reg r) e)
         where
-          by : (slice_get c.homes.items x ≡ Some (Reg r)) ⊎ Passes func.blocks.items x 0 (Reg r) → block_reads_first block x ≡ false
+          by : (slice_get c.homes.items x ≡ Some (Reg r)) ⊎ PassesIn x (Reg r) → block_reads_first block x ≡ false
           by (inl home) = absurd (true≢false (sym (choice_lasts x r home) ∙ passes))
           by (inr q) = local_to func.blocks.items x q.local b block there goes
 

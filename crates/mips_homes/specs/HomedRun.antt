@@ -103,7 +103,8 @@ with_inst globals (Load d a i) hs r s g out go =
     with_value (read_home hs r s i) out (λ x. with_value (element_at g a x) out (λ v. write_home hs r s d v out (λ r s. go r s g)))
 with_inst globals (Store a i b) hs r s g out go =
     with_value (read_home hs r s i) out
-    (λ x. with_value (read_home hs r s b) out (λ v. with_value (kept_in globals a v) out (λ w. with_value (arrays_with g a x w) out (λ g'. go r s g'))))
+    (λ x. with_value (read_home hs r s b) out (λ v. with_value (kept_in globals a v) out
+    (λ w. with_value (arrays_with g a x w) out (λ g'. go r s g'))))
 
 -- an activation with other slots, at other code
 abbrev pub at_code : Activation → Places → Code → Activation
@@ -139,7 +140,8 @@ state_after_call h depth f vs dest r ws g out =
 abbrev pub state_after_exit : Homed → (depth : ℕ) → RExit → Activation → Places → List Activation → Arrays → List ℕ → Run
 state_after_exit h depth (Goto b) a r ws g out = state_at_block b a (lasting r) a.slots ws g out
 state_after_exit h depth (Branch c t e) a r ws g out =
-    with_value (read_home a.frame.homes.items r a.slots c) out (λ v. state_at_block (if v == 0 then e else t) a (lasting r) a.slots ws g out)
+    with_value (read_home a.frame.homes.items r a.slots c) out
+    (λ v. state_at_block (if v == 0 then e else t) a (lasting r) a.slots ws g out)
 state_after_exit h depth (Call f xs dest next) a r ws g out =
     with_value (read_homes a.frame.homes.items r a.slots xs.items) out (λ vs. with_value (slice_get a.blocks next) out (λ block.
     state_after_call h depth f vs dest (lasting r) (at_code a a.slots (code_of block) ∷ ws) g out))
@@ -174,7 +176,8 @@ outcome (Failed out) = record { end = Wrong; output = out }
 -- before the first step: `main`, and all homes unset
 abbrev pub homed_start : Homed → Run
 homed_start h =
-    with_value (slice_get (h.rtl.now).functions (h.rtl.now).main) [] (λ func. with_value (slice_get h.frames.items (h.rtl.now).main) [] (λ frame.
+    with_value (slice_get (h.rtl.now).functions (h.rtl.now).main) []
+    (λ func. with_value (slice_get h.frames.items (h.rtl.now).main) [] (λ frame.
     state_at_block 0 (new_activation func.blocks.items frame unset_places unset_places None) unset_places unset_places []
     (map first_values (h.rtl.now).globals) []))
 

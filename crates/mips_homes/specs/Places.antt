@@ -1,23 +1,45 @@
 -- Where pseudo-registers are put: at their homes, or, if they are local to blocks, in registers that no function keeps.
-use Rattle.std.specs.Prelude.{◌≡◌, ℕ, suc, ◌+◌, Bool, true, false, ◌&&◌, List, [], ◌∷◌, Some, length, nat_eq, nat_lt, if◌then◌else◌, slice_get}
+use Rattle.std.specs.Prelude.{◌≡◌, ℕ, suc, Bool, true, false, List, [], ◌∷◌, ◌++◌, Option, None, Some, length, nat_eq, if◌then◌else◌}
+use Rattle.std.specs.Prelude.{slice_get}
+use Rattle.rtl.specs.Names.{optional}
 use Rattle.rtl.specs.declared.block.RBlock.{RBlock}
 use Rattle.rtl.specs.declared.block.RFunc.{RFunc}
 use Rattle.mips_homes.specs.Choice.{IsChoice}
+use Rattle.mips_homes.specs.HomedRun.{is_in}
 use Rattle.mips_homes.specs.Locals.{is_local}
+use Rattle.mips_homes.specs.Hints.{hint}
 use Rattle.mips_homes.specs.declared.homed.Home.{Home}
 use Rattle.mips_homes.specs.declared.homed.Home.TheVariants.{Reg, Slot}
 use Rattle.mips_homes.specs.declared.homed.Frame.{Frame}
 use Rattle.mips_homes.specs.declared.homed.Homed.{Homed}
 
 -- registers 8 to 15 and 24 to 27
-abbrev pub passing_register : ℕ → ℕ
-passing_register k = if nat_lt k 8 then 8 + k else 16 + k
+abbrev pub passing_registers : List ℕ
+passing_registers = 8 ∷ 9 ∷ 10 ∷ 11 ∷ 12 ∷ 13 ∷ 14 ∷ 15 ∷ 24 ∷ 25 ∷ 26 ∷ 27 ∷ []
 
--- the homes of the pseudo-registers from x on, where so many passing registers are taken
-abbrev pub places_from : List RBlock → (x taken : ℕ) → List Home → List Home
-places_from bs x n [] = []
-places_from bs x n (h ∷ hs) =
-    if nat_lt n 12 && is_local bs x then Reg (passing_register n) ∷ places_from bs (suc x) (suc n) hs else h ∷ places_from bs (suc x) n hs
+-- the first of these registers that isn't taken
+abbrev pub first_free : (taken : List ℕ) → List ℕ → Option ℕ
+first_free taken [] = None
+first_free taken (r ∷ rs) = if is_in taken r then first_free taken rs else Some r
+
+-- the register of its hint if that isn't taken, else the first passing one
+abbrev pub free_register : (taken : List ℕ) → (hint : Option ℕ) → Option ℕ
+free_register taken hint = first_free taken (optional hint ++ passing_registers)
+
+abbrev pub home_or : Option ℕ → Home → Home
+home_or None h = h
+home_or (Some r) h = Reg r
+
+abbrev pub also : List ℕ → Option ℕ → List ℕ
+also taken None = taken
+also taken (Some r) = taken ++ r ∷ []
+
+-- the homes of the pseudo-registers from x on, where these registers are taken
+abbrev pub places_from : (local : ℕ → Bool) → (hint : ℕ → Option ℕ) → (x : ℕ) → (taken : List ℕ) → List Home → List Home
+places_from local hint x taken [] = []
+places_from local hint x taken (h ∷ hs) =
+    home_or (if local x then free_register taken (hint x) else None) h
+    ∷ places_from local hint (suc x) (also taken (if local x then free_register taken (hint x) else None)) hs
 
 abbrev pub is_register : Home → ℕ → Bool
 is_register (Reg q) r = nat_eq q r
@@ -42,16 +64,16 @@ abbrev pub some_slot : List Home → Bool
 some_slot [] = false
 some_slot (h ∷ hs) = if is_slot h then true else some_slot hs
 
--- the frame of a choice, with its local pseudo-registers in passing registers
-pub record IsPlaced (bs : List RBlock) (c f : Frame) : Type 0 where
-  pub homes : f.homes.items ≡ places_from bs 0 0 c.homes.items
+-- the frame of a choice in a function with n parameters, with local pseudo-registers in registers that no function keeps
+pub record IsPlaced (n : ℕ) (bs : List RBlock) (c f : Frame) : Type 0 where
+  pub homes : f.homes.items ≡ places_from (is_local bs) (hint n bs) 0 [] c.homes.items
   pub saved : f.saved.items ≡ still_saved f.homes.items c.saved.items
   pub slots : f.slots ≡ (if some_slot f.homes.items then c.slots else 0)
 
 pub record IsPlacedFor (func : RFunc) (f : Frame) : Type 0 where
   pub choice : Frame
   pub is : IsChoice func choice
-  pub placed : IsPlaced func.blocks.items choice f
+  pub placed : IsPlaced func.parameters func.blocks.items choice f
 
 -- each function has its frame, and there are no others
 pub record ArePlaced (h : Homed) : Type 0 where

@@ -1,9 +1,10 @@
+// Homes of pseudo-registers, frames, and a program with a frame for each function.
 use rtl::Rtl;
 
 /// Where a pseudo-register lives.
 #[derive(Clone, Copy, Debug, PartialEq, Eq)]
 pub enum Home {
-    /// A register: 16 to 23, or one that doesn't outlive a block, 8 to 15 or 24 to 27.
+    /// A register: 16 to 23, or one that doesn't outlive a block, 4 to 15 or 24 to 27.
     Reg(u8),
     /// A slot of the frame, from 0 on.
     Slot(u32),

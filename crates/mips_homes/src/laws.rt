@@ -1,3 +1,4 @@
+// The laws of runs over homes, each as the contract of a function that does nothing.
 ghost use Rattle.mips_homes.specs.Correct.{EachHomedRunIsTheRun};
 ghost use Rattle.mips_homes.specs.Forgetting.{EachChoiceNeverForgets};
 

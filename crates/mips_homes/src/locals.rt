@@ -1,62 +1,26 @@
 // Which pseudo-registers are local to blocks.
 
-ghost use Rattle.std.specs.Prelude.{◌≡◌};
+ghost use Rattle.std.specs.Prelude.{◌≡◌, ◌<◌, ◌≤◌, ◌||◌, ◌∷◌, [], ℕ, not, length, if◌then◌else◌, IfOk, OnOk};
 ghost use Rattle.mips_homes.specs.HomedRun.{is_in};
-ghost use Rattle.mips_homes.specs.Locals.{inst_reads, inst_writes, exit_reads, block_reads_first, goes_to, some_go_to, none_reads_first, is_local};
+ghost use Rattle.mips_homes.specs.Locals.{inst_reads, inst_writes, exit_reads, block_reads_first, goes_to, some_go_to, is_local};
+ghost use Rattle.mips_homes.specs.Walks.{sight_at, is_read_first, is_unwritten, IsUpTo, Sees};
 
 use rtl::{RBlock, RExit, RInst, Register};
+use std::alloc::{AllocError, Global};
 
-// Whether a number is among these.
-fn is_among(xs: &[u32], x: u32) -> bool
-    ensures { result ≡ is_in xs.now x }
-{
-    for y in xs {
-        if x == *y {
-            return true;
-        }
-    }
-    false
+/// What a walk over blocks has seen of a pseudo-register: whether a block read it before it wrote it, and the number of the
+/// last block that wrote it, from 1 on.
+#[derive(Clone, Copy)]
+pub(crate) struct Sight {
+    pub read_first: bool,
+    pub written_in: usize,
 }
 
-// Whether an instruction reads a pseudo-register.
-fn inst_reads(inst: &RInst, x: Register) -> bool
-    ensures { result ≡ is_in (inst_reads inst.now) x }
-{
-    match inst {
-        RInst::Const(_, _) => false,
-        RInst::Move(_, a) => x == *a,
-        RInst::Bin(_, _, a, b) => x == *a || x == *b,
-        RInst::Load(_, _, i) => x == *i,
-        RInst::Store(_, i, a) => x == *i || x == *a,
-    }
-}
-
-// Whether it writes it.
-fn inst_writes(inst: &RInst, x: Register) -> bool
-    ensures { result ≡ is_in (inst_writes inst.now) x }
-{
-    match inst {
-        RInst::Const(d, _) => x == *d,
-        RInst::Move(d, _) => x == *d,
-        RInst::Bin(_, d, _, _) => x == *d,
-        RInst::Load(d, _, _) => x == *d,
-        RInst::Store(_, _, _) => false,
-    }
-}
-
-// Whether an exit reads it.
-fn exit_reads(exit: &RExit, x: Register) -> bool
-    ensures { result ≡ is_in (exit_reads exit.now) x }
-{
-    match exit {
-        RExit::Goto(_) => false,
-        RExit::Branch(c, _, _) => x == *c,
-        RExit::Call(_, xs, _, _) => is_among(xs.as_slice(), x),
-        RExit::Return(None) => false,
-        RExit::Return(Some(y)) => x == *y,
-        RExit::Out(y, _) => x == *y,
-    }
-}
+// Of one that wasn't mentioned.
+const NOTHING: Sight = Sight {
+    read_first: false,
+    written_in: 0,
+};
 
 // Whether an exit goes to a block.
 fn exit_goes_to(exit: &RExit, b: u32) -> bool
@@ -71,21 +35,6 @@ fn exit_goes_to(exit: &RExit, b: u32) -> bool
     }
 }
 
-// Whether a block reads a pseudo-register before it writes it.
-fn block_reads_first(block: &RBlock, x: Register) -> bool
-    ensures { result ≡ block_reads_first block.now x }
-{
-    for inst in block.insts.as_slice() {
-        if inst_reads(inst, x) {
-            return true;
-        }
-        if inst_writes(inst, x) {
-            return false;
-        }
-    }
-    exit_reads(&block.exit, x)
-}
-
 /// Whether an exit of these blocks goes to block b.
 fn some_go_to(blocks: &[RBlock], b: u32) -> bool
     ensures { result ≡ some_go_to blocks.now b }
@@ -98,23 +47,153 @@ fn some_go_to(blocks: &[RBlock], b: u32) -> bool
     false
 }
 
-// Whether no block reads it before it writes it; the first one counts only then.
-fn none_reads_first(first: bool, blocks: &[RBlock], x: Register) -> bool
-    ensures { result ≡ none_reads_first first blocks.now x }
+// Room for what is seen of x.
+fn make_room(sights: &mut Vec<Sight>, x: Register) -> Result<(), AllocError>
+    ensures same { OnOk result ((y : ℕ) → sight_at sights.new.items y ≡ sight_at sights.old.items y) }
+    ensures room { OnOk result (x < length sights.new.items) }
 {
-    let mut counts = first;
-    for block in blocks {
-        if counts && block_reads_first(block, x) {
-            return false;
-        }
-        counts = true;
+    while sights.len() <= x as usize {
+        sights.push(NOTHING)?;
     }
-    true
+    Ok(())
 }
 
-/// Whether a pseudo-register is local to blocks.
-pub(crate) fn is_local(blocks: &[RBlock], x: Register) -> bool
-    ensures { result ≡ is_local blocks.now x }
+// Block k reads x.
+fn see_read(sights: &mut Vec<Sight>, k: usize, x: Register) -> Result<(), AllocError>
+    ensures { OnOk result (Sees k sights.old.items sights.new.items (x ∷ []) []) }
 {
-    none_reads_first(some_go_to(blocks, 0), blocks, x)
+    make_room(sights, x)?;
+    let sight = sights[x as usize];
+    if sight.written_in != k {
+        sights[x as usize] = Sight {
+            read_first: true,
+            written_in: sight.written_in,
+        };
+    }
+    Ok(())
+}
+
+// Block k writes x.
+fn see_write(sights: &mut Vec<Sight>, k: usize, x: Register) -> Result<(), AllocError>
+    ensures { OnOk result (Sees k sights.old.items sights.new.items [] (x ∷ [])) }
+{
+    make_room(sights, x)?;
+    let sight = sights[x as usize];
+    sights[x as usize] = Sight {
+        read_first: sight.read_first,
+        written_in: k,
+    };
+    Ok(())
+}
+
+// It reads two.
+fn see_reads(sights: &mut Vec<Sight>, k: usize, x: Register, y: Register) -> Result<(), AllocError>
+    ensures { OnOk result (Sees k sights.old.items sights.new.items (x ∷ y ∷ []) []) }
+{
+    see_read(sights, k, x)?;
+    see_read(sights, k, y)?;
+    Ok(())
+}
+
+// It reads all of these.
+fn see_all(sights: &mut Vec<Sight>, k: usize, xs: &[Register]) -> Result<(), AllocError>
+    ensures { OnOk result (Sees k sights.old.items sights.new.items xs.now []) }
+{
+    for x in xs {
+        see_read(sights, k, *x)?;
+    }
+    Ok(())
+}
+
+// It reads one and then writes one.
+fn see_move(sights: &mut Vec<Sight>, k: usize, d: Register, x: Register) -> Result<(), AllocError>
+    ensures { OnOk result (Sees k sights.old.items sights.new.items (x ∷ []) (d ∷ [])) }
+{
+    see_read(sights, k, x)?;
+    see_write(sights, k, d)?;
+    Ok(())
+}
+
+// It reads two and then writes one.
+fn see_operation(
+    sights: &mut Vec<Sight>,
+    k: usize,
+    d: Register,
+    x: Register,
+    y: Register,
+) -> Result<(), AllocError>
+    ensures { OnOk result (Sees k sights.old.items sights.new.items (x ∷ y ∷ []) (d ∷ [])) }
+{
+    see_reads(sights, k, x, y)?;
+    see_write(sights, k, d)?;
+    Ok(())
+}
+
+// Block k has an instruction.
+fn see_inst(sights: &mut Vec<Sight>, k: usize, inst: &RInst) -> Result<(), AllocError>
+    ensures { OnOk result (Sees k sights.old.items sights.new.items (inst_reads inst.now) (inst_writes inst.now)) }
+{
+    match inst {
+        RInst::Const(d, _) => see_write(sights, k, *d),
+        RInst::Move(d, a) => see_move(sights, k, *d, *a),
+        RInst::Bin(_, d, a, b) => see_operation(sights, k, *d, *a, *b),
+        RInst::Load(d, _, i) => see_move(sights, k, *d, *i),
+        RInst::Store(_, i, a) => see_reads(sights, k, *i, *a),
+    }
+}
+
+// It has an exit.
+fn see_exit(sights: &mut Vec<Sight>, k: usize, exit: &RExit) -> Result<(), AllocError>
+    ensures { OnOk result (Sees k sights.old.items sights.new.items (exit_reads exit.now) []) }
+{
+    match exit {
+        RExit::Goto(_) => see_all(sights, k, &[]),
+        RExit::Branch(c, _, _) => see_read(sights, k, *c),
+        RExit::Call(_, xs, _, _) => see_all(sights, k, xs.as_slice()),
+        RExit::Return(None) => see_all(sights, k, &[]),
+        RExit::Return(Some(x)) => see_read(sights, k, *x),
+        RExit::Out(x, _) => see_read(sights, k, *x),
+    }
+}
+
+// What is seen of block k, which none before has reached.
+fn see_block(sights: &mut Vec<Sight>, k: usize, block: &RBlock) -> Result<(), AllocError>
+    requires { (x : ℕ) → (sight_at sights.now.items x).written_in < k }
+    ensures first { OnOk result ((x : ℕ)
+        → is_read_first sights.new.items x ≡ (is_read_first sights.old.items x || block_reads_first block.now x)) }
+    ensures late { OnOk result (IsUpTo k sights.new.items) }
+{
+    for inst in block.insts.as_slice() {
+        see_inst(sights, k, inst)?;
+    }
+    see_exit(sights, k, &block.exit)?;
+    Ok(())
+}
+
+// The first block that counts: block 0 only if an exit goes there.
+fn first_block(blocks: &[RBlock]) -> usize
+    ensures { result ≡ (if some_go_to blocks.now 0 then 0 else 1) }
+{
+    if some_go_to(blocks, 0) { 0 } else { 1 }
+}
+
+/// What a walk over blocks sees: those that are read first nowhere are local. An Err is refused memory.
+pub(crate) fn sights(alloc: Global, blocks: &[RBlock]) -> Result<Vec<Sight>, AllocError>
+    ensures { IfOk result (λ sights. (x : ℕ) → not (is_read_first sights.items x) ≡ is_local blocks.now x) }
+{
+    let mut sights = Vec::new(alloc);
+    for i in first_block(blocks)..blocks.len() {
+        see_block(&mut sights, i + 1, &blocks[i])?;
+    }
+    Ok(sights)
+}
+
+/// Whether a pseudo-register is local, by what was seen.
+pub(crate) fn is_local(sights: &[Sight], x: usize) -> bool
+    ensures { result ≡ not (is_read_first sights.now x) }
+{
+    match sights.get(x) {
+        Some(sight) => !sight.read_first,
+        None => true,
+    }
 }

@@ -1,57 +1,106 @@
 // Where pseudo-registers are put.
 
-ghost use Rattle.std.specs.Prelude.{◌≡◌, ◌&&◌, nat_lt, ◌<◌, ◌≤◌, ◌^◌, ◌++◌, ◌∷◌, [], length, IfOk, OnOk};
+ghost use Rattle.std.specs.Prelude.{◌≡◌, ◌≤◌, ◌^◌, None, [], length, if◌then◌else◌, IfOk, OnOk};
+ghost use Rattle.mips_homes.specs.HomedRun.{is_in};
+ghost use Rattle.mips_homes.specs.Hints.{hint};
 ghost use Rattle.mips_homes.specs.Correct.{KeepsRtlRuns};
 ghost use Rattle.mips_homes.specs.Locals.{is_local};
-ghost use Rattle.mips_homes.specs.Places.{passing_register, places_from, is_register, lives_in, still_saved, is_slot, some_slot, IsPlaced, IsPlacedFor, ArePlaced};
+ghost use Rattle.mips_homes.specs.Places.{first_free, free_register, home_or, also, places_from, is_register, lives_in, still_saved};
+ghost use Rattle.mips_homes.specs.Places.{is_slot, some_slot, IsPlaced, IsPlacedFor, ArePlaced};
 
 use crate::frames::frame_of;
+use crate::hints::{hint, reach_of, reaches};
 use crate::homed::{Frame, Home, Homed};
-use crate::locals::is_local;
+use crate::locals::{is_local, sights};
 use rtl::{RBlock, RFunc, Rtl};
 use std::alloc::{AllocError, Global};
 
-// How many passing registers there are.
-const PASSING: usize = 12;
-
-// A register that no function keeps.
-fn passing_register(k: usize) -> u8
-    requires { k < 12 }
-    ensures { result ≡ passing_register k }
+// Whether a register is among these.
+fn is_taken(taken: &[u8], r: u8) -> bool
+    ensures { result ≡ is_in taken.now r }
 {
-    if k < 8 { 8 + k as u8 } else { 16 + k as u8 }
+    for q in taken {
+        if r == *q {
+            return true;
+        }
+    }
+    false
 }
 
-// One more home.
-fn push_home(homes: &mut Vec<Home>, home: Home) -> Result<(), AllocError>
-    ensures { OnOk result (homes.new.items ≡ homes.old.items ++ home ∷ []) }
+// The first of these registers that isn't taken.
+fn first_free(taken: &[u8], registers: &[u8]) -> Option<u8>
+    ensures { result ≡ first_free taken.now registers.now }
 {
-    homes.push(home)?;
+    for r in registers {
+        if !is_taken(taken, *r) {
+            return Some(*r);
+        }
+    }
+    None
+}
+
+// The register of a hint if that isn't taken, else the first passing one.
+fn free_register(taken: &[u8], hint: Option<u8>) -> Option<u8>
+    ensures { result ≡ free_register taken.now hint }
+{
+    if let Some(r) = hint {
+        if !is_taken(taken, r) {
+            return Some(r);
+        }
+    }
+    first_free(taken, &[8, 9, 10, 11, 12, 13, 14, 15, 24, 25, 26, 27])
+}
+
+// The register of a pseudo-register, if it gets one.
+fn register_for(local: bool, taken: &[u8], hint: Option<u8>) -> Option<u8>
+    ensures { result ≡ (if local then free_register taken.now hint else None) }
+{
+    if local {
+        free_register(taken, hint)
+    } else {
+        None
+    }
+}
+
+// A home, or a register in its stead.
+fn home_or(register: Option<u8>, home: Home) -> Home
+    ensures { result ≡ home_or register home }
+{
+    match register {
+        Some(r) => Home::Reg(r),
+        None => home,
+    }
+}
+
+// One more is taken.
+fn take(taken: &mut Vec<u8>, register: Option<u8>) -> Result<(), AllocError>
+    ensures { OnOk result (taken.new.items ≡ also taken.old.items register) }
+{
+    if let Some(r) = register {
+        taken.push(r)?;
+    }
     Ok(())
 }
 
-// Whether the pseudo-register x gets a passing register, where so many are taken.
-fn passes(blocks: &[RBlock], x: u32, taken: usize) -> bool
-    ensures { result ≡ (nat_lt taken 12 && is_local blocks.now x) }
-{
-    taken < PASSING && is_local(blocks, x)
-}
-
-// The homes, with local pseudo-registers in passing registers.
-fn places(alloc: Global, blocks: &[RBlock], homes: &[Home]) -> Result<Vec<Home>, AllocError>
+// The homes, with local pseudo-registers in registers that no function keeps.
+fn places(
+    alloc: Global,
+    parameters: u32,
+    blocks: &[RBlock],
+    homes: &[Home],
+) -> Result<Vec<Home>, AllocError>
     requires { length homes.now ≤ 2 ^ 32 }
-    ensures { IfOk result (λ hs. hs.items ≡ places_from blocks.now 0 0 homes.now) }
+    ensures { IfOk result (λ hs. hs.items ≡ places_from (is_local blocks.now) (hint parameters blocks.now) 0 [] homes.now) }
 {
+    let sights = sights(alloc, blocks)?;
+    let reaches = reaches(alloc, blocks)?;
+    let mut taken = Vec::new(alloc);
     let mut out = Vec::new(alloc);
-    let mut taken: usize = 0;
     for x in 0..homes.len() {
-        let passes = passes(blocks, x as u32, taken);
-        if passes {
-            push_home(&mut out, Home::Reg(passing_register(taken)))?;
-            taken += 1;
-        } else {
-            push_home(&mut out, homes[x])?;
-        }
+        let hint = hint(parameters, reach_of(reaches.as_slice(), x), x as u32);
+        let register = register_for(is_local(sights.as_slice(), x), taken.as_slice(), hint);
+        take(&mut taken, register)?;
+        out.push(home_or(register, homes[x]))?;
     }
     Ok(out)
 }
@@ -113,12 +162,17 @@ fn some_slot(homes: &[Home]) -> bool
     false
 }
 
-// The frame of a choice, with its local pseudo-registers in passing registers.
-fn placed(alloc: Global, blocks: &[RBlock], choice: &Frame) -> Result<Frame, AllocError>
+// The frame of a choice, with local pseudo-registers in registers that no function keeps.
+fn placed(
+    alloc: Global,
+    parameters: u32,
+    blocks: &[RBlock],
+    choice: &Frame,
+) -> Result<Frame, AllocError>
     requires { length choice.now.homes.items ≤ 2 ^ 32 }
-    ensures { IfOk result (λ f. IsPlaced blocks.now choice.now f) }
+    ensures { IfOk result (λ f. IsPlaced parameters blocks.now choice.now f) }
 {
-    let homes = places(alloc, blocks, choice.homes.as_slice())?;
+    let homes = places(alloc, parameters, blocks, choice.homes.as_slice())?;
     let saved = still_saved(alloc, homes.as_slice(), choice.saved.as_slice())?;
     let slots = if some_slot(homes.as_slice()) {
         choice.slots
@@ -137,7 +191,7 @@ fn placed_frame(alloc: Global, func: &RFunc) -> Result<Frame, AllocError>
     ensures { IfOk result (λ f. IsPlacedFor func.now f) }
 {
     let choice = frame_of(alloc, func)?;
-    let frame = placed(alloc, func.blocks.as_slice(), &choice)?;
+    let frame = placed(alloc, func.parameters, func.blocks.as_slice(), &choice)?;
     Ok(frame)
 }
 

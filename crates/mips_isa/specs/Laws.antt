@@ -11,7 +11,8 @@ use Rattle.mips_isa.specs.Rules.{action_breaks, action_rule_of, is_stuck, IsLeas
 
 -- a safe action is one that breaks no rule on divisions and addresses
 abbrev pub SafeActionsKeepTheirRules : Type 0
-SafeActionsKeepTheirRules = (a : Action) (f : Flow) → is_safe a f.state ≡ not (action_breaks M4 a f || (action_breaks M5 a f || action_breaks M6 a f))
+SafeActionsKeepTheirRules = (a : Action) (f : Flow)
+    → is_safe a f.state ≡ not (action_breaks M4 a f || (action_breaks M5 a f || action_breaks M6 a f))
 
 -- an action is stuck exactly where it breaks some rule
 pub record StuckActionsBreakARule : Type 0 where

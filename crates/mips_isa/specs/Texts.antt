@@ -10,7 +10,8 @@ use Rattle.mips_isa.specs.declared.inst.ImmOp.TheVariants.{Addiu, Slti, Sltiu}
 use Rattle.mips_isa.specs.declared.inst.LogicOp.TheVariants.{Andi, Ori, Xori}
 use Rattle.mips_isa.specs.declared.inst.HiLo.TheVariants.{Hi, Lo}
 use Rattle.mips_isa.specs.declared.inst.Plain.{Plain}
-use Rattle.mips_isa.specs.declared.inst.Plain.TheVariants.{Shift, ShiftBy, Alu, Imm, Logic, LoadUpper, MoveFrom, Multiply, Divide, Load, Store}
+use Rattle.mips_isa.specs.declared.inst.Plain.TheVariants.{Shift, ShiftBy, Alu, Imm, Logic, LoadUpper, MoveFrom, Multiply, Divide, Load}
+use Rattle.mips_isa.specs.declared.inst.Plain.TheVariants.{Store}
 use Rattle.mips_isa.specs.declared.inst.PairTest.TheVariants.{Equal, NotEqual}
 use Rattle.mips_isa.specs.declared.inst.ZeroTest.TheVariants.{AtMostZero, AboveZero, BelowZero, AtLeastZero}
 use Rattle.mips_isa.specs.declared.inst.JumpOp.TheVariants.{Jump, JumpAndLink}
@@ -142,7 +143,8 @@ control_name SystemCall = codes "syscall"
 abbrev pub control_operands : Control → (slot : ℕ) → List ℕ
 control_operands (BranchPair test rs rt offset) slot =
     codes " " ++ (register_text rs ++ (codes "," ++ (register_text rt ++ (codes "," ++ target_text (branch_target slot offset)))))
-control_operands (BranchZero test rs offset) slot = codes " " ++ (register_text rs ++ (codes "," ++ target_text (branch_target slot offset)))
+control_operands (BranchZero test rs offset) slot = codes " "
+    ++ (register_text rs ++ (codes "," ++ target_text (branch_target slot offset)))
 control_operands (JumpTo op target) slot = codes " " ++ target_text (jump_target slot target)
 control_operands (JumpRegister rs) slot = codes " " ++ register_text rs
 control_operands SystemCall slot = []

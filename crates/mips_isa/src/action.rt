@@ -1,3 +1,4 @@
+// What each instruction does, one of eight kinds of action.
 ghost use Rattle.std.specs.Prelude.{◌≡◌, ℕ, ◌*◌, ◌^◌, ◌<◌, ◌||◌, ◌&&◌, ◌==◌};
 ghost use Rattle.mips_isa.specs.declared.action.Operand.TheVariants.{Fixed, Held};
 ghost use Rattle.mips_isa.specs.declared.action.Action.TheVariants.{Computes};

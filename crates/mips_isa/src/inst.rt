@@ -1,3 +1,4 @@
+// Instructions that don't jump (Kane, MIPS RISC Architecture, appendix A).
 use crate::reg::{Amount, JumpTarget, NonzeroReg, Reg};
 use words::{Sign, Width};
 

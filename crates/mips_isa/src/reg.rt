@@ -1,3 +1,4 @@
+// Registers and amounts of shifts, by their numbers.
 ghost use Rattle.std.specs.Prelude.{◌≡◌, ℕ, ◌%◌, ◌<◌, ◌^◌};
 ghost use Rattle.std.specs.Option.{SomeIff};
 

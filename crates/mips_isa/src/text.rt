@@ -327,7 +327,8 @@ fn write_compared<W: fmt::Write>(
 }
 
 fn write_tested<W: fmt::Write>(r: Reg, target: u32, f: &mut fmt::Formatter<W>) -> fmt::Result
-    ensures { DisplaysOnOk W.write_str_gives f.old result (Some (codes " " ++ (register_text r ++ (codes "," ++ target_text target)))) f.new }
+    ensures { DisplaysOnOk W.write_str_gives f.old result (Some (codes " "
+        ++ (register_text r ++ (codes "," ++ target_text target)))) f.new }
 {
     let target = Target(target);
     write!(f, " {r},{target}")

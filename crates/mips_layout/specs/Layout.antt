@@ -58,7 +58,8 @@ exit_insts start here (BranchPair test a b t e) slot =
     insts.Control (controls.BranchPair test a b (branch_offset here (start t))) ∷ (slot_insts slot ++ hop (start e))
 exit_insts start here (BranchZero test a t e) slot =
     insts.Control (controls.BranchZero test a (branch_offset here (start t))) ∷ (slot_insts slot ++ hop (start e))
-exit_insts start here (Call f n) slot = insts.Control (controls.JumpTo JumpAndLink (address_of_place (start f) / 4)) ∷ (slot_insts slot ++ hop (start n))
+exit_insts start here (Call f n) slot = insts.Control (controls.JumpTo JumpAndLink (address_of_place (start f) / 4))
+    ∷ (slot_insts slot ++ hop (start n))
 exit_insts start here Return slot = insts.Control (controls.JumpRegister 31) ∷ slot_insts slot
 exit_insts start here (Out n) slot = set_number (pos 1) ∷ insts.Control controls.SystemCall ∷ hop (start n)
 exit_insts start here Halt slot = set_number (pos 10) ∷ insts.Control controls.SystemCall ∷ []

@@ -1,6 +1,6 @@
 -- What laid out orders do: the words of their instructions run as the unit of their blocks.
-use Rattle.std.specs.Prelude.{◌≢◌, ℕ, ◌+◌, ◌*◌, ◌<◌, ◌≤◌, List, [], None, map, All, length}
-use Rattle.runs.specs.declared.ran.End.TheVariants.{Wrong}
+use Rattle.std.specs.Prelude.{ℕ, ◌+◌, ◌≤◌, List, [], None, map, All, length}
+use Rattle.runs.specs.Refines.{Refines, UpTo}
 use Rattle.mips_isa.specs.Ranges.{IsInst}
 use Rattle.mips_isa.specs.States.{State, IsWords}
 use Rattle.mips_isa.specs.Flows.{quiet}
@@ -17,9 +17,8 @@ use Rattle.mips_layout.specs.Layout.{layout, links_of, address_of_place}
 
 -- wherever the unit isn't stuck, the code comes to the same, with at most c items a word
 abbrev pub RunsAs : (c : ℕ) → List BlockParts → List OrderParts → List ℕ → Type 0
-RunsAs c blocks orders words = (s : State) → IsWords s → (i : ℕ) → (unit_run blocks (links_of orders) s i).end ≢ Wrong
-    → (m : ℕ) × (i < c * (m + 1)) × Agrees (unit_run blocks (links_of orders) s i)
-    (machine_run (words_code words) m (record { flow = quiet s; pc = address_of_place 0; target = None; output = [] }))
+RunsAs c blocks orders words = (s : State) → IsWords s → Refines (UpTo c) Agrees (unit_run blocks (links_of orders) s)
+    (λ m. machine_run (words_code words) m (record { flow = quiet s; pc = address_of_place 0; target = None; output = [] }))
 
 -- the instructions of a block and its exit in one word at most, whatever the orders are
 abbrev pub EachLayoutRuns : Type 0
@@ -34,5 +33,6 @@ EachPlainLayoutRuns = (blocks : List BlockParts) → AreOrders blocks (map plain
 
 -- the links of a layout are words, and no two calls have one
 abbrev pub EachLayoutTellsCallsApart : Type 0
-EachLayoutTellsCallsApart = (blocks : List BlockParts) (orders : List OrderParts) → AreOrders blocks orders → length (layout orders) ≤ CODE_WORDS
+EachLayoutTellsCallsApart = (blocks : List BlockParts) (orders : List OrderParts) → AreOrders blocks orders
+    → length (layout orders) ≤ CODE_WORDS
     → TellsApart (links_of orders) blocks

@@ -1,3 +1,4 @@
+// The laws of layouts, each as the contract of a function that does nothing.
 ghost use Rattle.mips_layout.specs.Fetching.{WordsRunAsInstructions};
 ghost use Rattle.mips_layout.specs.Functions.{EachLayoutFits};
 ghost use Rattle.mips_layout.specs.LayoutRuns.{EachLayoutRuns, EachLayoutTellsCallsApart, EachPlainLayoutRuns};

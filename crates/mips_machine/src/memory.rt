@@ -1,3 +1,4 @@
+// Data and stack, kept as words.
 ghost use Rattle.std.specs.Prelude.{replicate, IfOk, ◌≡◌, ℕ, ◌<◌, ◌≤◌, ◌+◌, ◌*◌, ◌-◌, ◌/◌, ◌^◌, slice_set, slice_index, Some, None, true};
 ghost use Rattle.std.specs.Prelude.{length, if◌then◌else◌, ◌==◌};
 ghost use Rattle.mips_isa.specs.States.{is_open, byte_of, load_at, store_at};
@@ -87,7 +88,8 @@ impl Memory {
     /// The word at an address, or the byte, extended with zeros.
     pub fn load(&self, width: Width, a: u32) -> u32
         requires { is_open width (words_mapped (length self.now.globals.items)) a ≡ true }
-        ensures { result ≡ load_at width (words_mapped (length self.now.globals.items)) (bytes_in self.now.globals.items self.now.stack.items) a }
+        ensures { result ≡ load_at width (words_mapped (length self.now.globals.items))
+            (bytes_in self.now.globals.items self.now.stack.items) a }
     {
         let word = self.word_at(a);
         match width {

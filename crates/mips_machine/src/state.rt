@@ -1,3 +1,4 @@
+// Registers, HI, LO, and the load under way.
 ghost use Rattle.std.specs.Prelude.{◌≡◌, ℕ, None, true, slice_index, IfOk, IfErr};
 ghost use Rattle.words.specs.Operators.{op_value, has_quotient};
 ghost use Rattle.mips_isa.specs.States.{read, put, is_aligned, is_open, load_at, store_at};

@@ -1,5 +1,5 @@
 -- Frames of chosen homes are no larger than their functions say.
-use Rattle.std.proofs.Common.{◌≡◌, ◌≢◌, ℕ, zero, suc, ◌-◌, ◌*◌, ◌<◌, ◌≤◌, ◌⊎◌, inl, inr, Bool, true, false, List, [], ◌∷◌, length, Option, Some, None, refl}
+use Rattle.std.proofs.Common.{◌≡◌, ◌≢◌, ℕ, zero, suc, ◌+◌, ◌-◌, ◌*◌, ◌<◌, ◌≤◌, ◌⊎◌, inl, inr, Bool, true, false, List, [], ◌∷◌, length, Option, Some, None, refl}
 use Rattle.std.proofs.Common.{sym, ap, ◌∙◌, subst, arith, nat_eq, eqb-true}
 use Rattle.std.specs.Prelude.{if◌then◌else◌, slice_get, slice_index}
 use Rattle.std.proofs.lemmas.Bool.{eqb-false}
@@ -11,8 +11,9 @@ use Rattle.mips_homes.specs.declared.homed.Home.TheVariants.{Reg, Slot}
 use Rattle.mips_homes.specs.declared.homed.Frame.{Frame}
 use Rattle.mips_homes.specs.declared.homed.Homed.{Homed}
 use Rattle.mips_homes.specs.Choice.{IsChoice}
-use Rattle.mips_homes.specs.Places.{passing_register, some_slot, IsPlacedFor, ArePlaced}
-use Rattle.mips_homes.proofs.Located.{Passes, passing_range, case_of, places_long_as, placed_apart, still_was, still_few, has_slot}
+use Rattle.mips_homes.specs.Hints.{blocks_reach}
+use Rattle.mips_homes.specs.Places.{some_slot, IsPlacedFor, ArePlaced}
+use Rattle.mips_homes.proofs.Located.{PassesIn, within, seated, case_of, places_long_as, placed_apart, still_was, still_few, has_slot}
 use Rattle.mips_emit.specs.declared.limits.TheConstants.{FRAME_BYTES}
 use Rattle.mips_emit.specs.Frames.{IsHome, IsFrame}
 use Rattle.mips_split.proofs.Places.{block_there}
@@ -141,14 +142,14 @@ placed_is_frame func f q most le = record {
         by true e = omega (arith, e)
         by false e = omega (arith, e)
 
-    home : (x : ℕ) (h : Home) → slice_get f.homes.items x ≡ Some h → (slice_get (q.choice).homes.items x ≡ Some h) ⊎ Passes func.blocks.items x 0 h
+    home : (x : ℕ) (h : Home) → slice_get f.homes.items x ≡ Some h → (slice_get (q.choice).homes.items x ≡ Some h) ⊎ PassesIn func q.choice f q.is q.placed x h
         → IsHome f.slots h
-    home x (Reg r) there (inl e) = (was.homes).by x (Reg r) e
+    home x (Reg r) there e = within func q.choice f q.is q.placed x r there
     home x (Slot k) there (inl e) =
         let lt = (was.homes).by x (Slot k) e in
         let slots : f.slots ≡ (q.choice).slots = (q.placed).slots ∙ ap (λ c. if c then (q.choice).slots else 0) (has_slot f.homes.items x k there) in
         omega (arith, lt, slots)
-    home x h there (inr p) = (let range = passing_range p.k p.high in let low = range.0 in subst (IsHome f.slots) (sym p.is) (omega (arith, low), range.1))
+    home x (Slot k) there (inr p) = (let range = within func q.choice f q.is q.placed x p.r (there ∙ ap Some p.is) in subst (IsHome f.slots) (sym p.is) range)
 
 -- ---- the largest one
 
@@ -167,24 +168,11 @@ are_frames h ok g f there =
     let func = block_there (h.rtl.now).functions g (omega (arith, within, long)) in
     placed_is_frame func.0 f (ok.by g func.0 f func.1 there) (largest_frame (h.rtl.now).functions) (largest_bounds (h.rtl.now).functions g func.0 func.1)
 
--- no home is in a register below 8
-placed_above : (func : RFunc) (f : Frame) → IsPlacedFor func f → (x r : ℕ) → slice_get f.homes.items x ≡ Some (Reg r) → 8 ≤ r
-placed_above func f q x r there = by (case_of func q.choice f q.is q.placed x (Reg r) there)
-  where
-    by : (slice_get (q.choice).homes.items x ≡ Some (Reg r)) ⊎ Passes func.blocks.items x 0 (Reg r) → 8 ≤ r
-    by (inl e) = let range = (q.is).registers x r e in omega (arith, range.0)
-    by (inr p) =
-        let range = passing_range p.k p.high in
-        let same = registers_same r (passing_register p.k) p.is in
-        omega (arith, range.0, same)
-
-pub are_above : (h : Homed) → ArePlaced h → (g : ℕ) (f : Frame) → slice_get h.frames.items g ≡ Some f → (x r : ℕ)
-    → slice_get f.homes.items x ≡ Some (Reg r) → 8 ≤ r
-are_above h ok g f there =
-    let within = slice_get_within h.frames.items g f there in
-    let long = ok.long in
-    let func = block_there (h.rtl.now).functions g (omega (arith, within, long)) in
-    placed_above func.0 f (ok.by g func.0 f func.1 there)
+-- a register below 8 is one in which no argument is passed behind it, and the one in which a parameter comes
+pub are_seated : (h : Homed) → ArePlaced h → (g : ℕ) (func : RFunc) (f : Frame) → slice_get (h.rtl.now).functions g ≡ Some func
+    → slice_get h.frames.items g ≡ Some f → (x r : ℕ) → slice_get f.homes.items x ≡ Some (Reg r)
+    → (8 ≤ r) ⊎ ((blocks_reach func.blocks.items x + 3 ≤ r) × (x < func.parameters → r ≡ 4 + x))
+are_seated h ok g func f got there = (let q = ok.by g func f got there in seated func q.choice f q.is q.placed)
 
 -- homes are as many as pseudo-registers
 homes_many : (funcs : List RFunc) (fs : List Frame) → length fs ≡ length funcs → ((i : ℕ) (func : RFunc) (f : Frame) → slice_get funcs i ≡ Some func

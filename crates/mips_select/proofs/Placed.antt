@@ -1,8 +1,8 @@
 -- The blocks for a program stand for it.
-use Rattle.std.proofs.Common.{◌≡◌, ℕ, zero, suc, ◌+◌, ◌*◌, ◌≤◌, ◌⊎◌, inl, inr, Bool, true, false, true≢false, List, [], ◌∷◌, ◌++◌, length}
+use Rattle.std.proofs.Common.{◌≡◌, ℕ, zero, suc, ◌+◌, ◌*◌, ◌<◌, ◌≤◌, ◌⊎◌, inl, inr, Bool, true, false, true≢false, List, [], ◌∷◌, ◌++◌, length}
 use Rattle.std.proofs.Common.{Option, Some, None, refl, sym, ap, ◌∙◌, subst, arith}
 use Rattle.std.specs.Prelude.{All, if◌then◌else◌, slice_get, slice_index}
-use Rattle.std.proofs.lemmas.Option.{same_Some, none-some}
+use Rattle.std.proofs.lemmas.Option.{same_Some, none-some, slice_get_within}
 use Rattle.mblock.specs.Parts.{BlockParts}
 use Rattle.rtl.specs.declared.instruction.RExit.{RExit}
 use Rattle.rtl.specs.declared.instruction.RExit.TheVariants.{Goto, Branch, Call, Return, Out}
@@ -11,6 +11,8 @@ use Rattle.rtl.specs.declared.block.RFunc.{RFunc}
 use Rattle.rtl.specs.declared.block.RGlobal.{RGlobal}
 use Rattle.rtl.specs.Programs as programs
 use Rattle.rtl.specs.Programs.{IsProgram}
+use Rattle.mips_homes.specs.Hints.{reach_from, exit_reach, blocks_reach}
+use Rattle.mips_homes.proofs.Located.{reach_covers, blocks_cover}
 use Rattle.mips_homes.specs.declared.homed.Home.{Home}
 use Rattle.mips_homes.specs.declared.homed.Home.TheVariants.{Reg, Slot}
 use Rattle.mips_homes.specs.declared.homed.Frame.{Frame}
@@ -39,26 +41,35 @@ no_head_code leaf f n Bare ok = refl
 no_head_code leaf f n Enters ok = absurd ok
 no_head_code leaf f n (Takes d) ok = absurd ok
 
--- homes in registers from 8 on lose no argument and no parameter
-abbrev pub AreAbove : Frame → Type 0
-AreAbove f = (x r : ℕ) → slice_get f.homes.items x ≡ Some (Reg r) → 8 ≤ r
+-- a home below 8 is in a register in which no argument is passed behind it, and where a parameter comes
+abbrev pub AreSeated : RFunc → Frame → Type 0
+AreSeated func f = (x r : ℕ) → slice_get f.homes.items x ≡ Some (Reg r)
+    → (8 ≤ r) ⊎ ((blocks_reach func.blocks.items x + 3 ≤ r) × (x < func.parameters → r ≡ 4 + x))
 
-in_order : (f : Frame) → AreAbove f → (t : ℕ) (xs : List ℕ) → t + length xs ≤ 8 → AreInOrder (locations f) t xs
-in_order f above t [] few = tt
-in_order f above t (x ∷ xs) few = (here (slice_get f.homes.items x) refl, in_order f above (suc t) xs (omega (arith, few)))
+-- so no argument and no parameter is lost
+in_order : (f : Frame) (t : ℕ) (xs : List ℕ) → ((j x r : ℕ) → slice_get xs j ≡ Some x → slice_get f.homes.items x ≡ Some (Reg r) → t + j ≤ r)
+    → AreInOrder (locations f) t xs
+in_order f t [] behind = tt
+in_order f t (x ∷ xs) behind =
+    (here (slice_get f.homes.items x) refl, in_order f (suc t) xs (λ j y r e there. (let le = behind (suc j) y r e there in omega (arith, le))))
   where
     here : (o : Option Home) → slice_get f.homes.items x ≡ o → IsBehind (location_at o) t
     here None e = tt
-    here (Some (Reg r)) e = (let low = above x r e in omega (arith, low, few))
+    here (Some (Reg r)) e = (let le = behind 0 x r refl e in omega (arith, le))
     here (Some (Slot k)) e = tt
 
-are_clear : (f : Frame) → AreAbove f → (t x n : ℕ) → AreClear (locations f) t x n
-are_clear f above t x zero = tt
-are_clear f above t x (suc n) = (here (slice_get f.homes.items x) refl, are_clear f above (suc t) (suc x) n)
+are_clear : (func : RFunc) (f : Frame) → AreSeated func f → (t x n : ℕ) → t ≡ 4 + x → x + n ≤ func.parameters → AreClear (locations f) t x n
+are_clear func f seated t x zero at few = tt
+are_clear func f seated t x (suc n) at few =
+    (here (slice_get f.homes.items x) refl, are_clear func f seated (suc t) (suc x) n (omega (arith, at)) (omega (arith, few)))
   where
+    comes : (r : ℕ) → (8 ≤ r) ⊎ ((blocks_reach func.blocks.items x + 3 ≤ r) × (x < func.parameters → r ≡ 4 + x)) → (r ≤ t) ⊎ (8 ≤ r)
+    comes r (inl high) = inr high
+    comes r (inr is) = (let same = is.1 (omega (arith, few)) in inl (omega (arith, same, at)))
+
     here : (o : Option Home) → slice_get f.homes.items x ≡ o → IsClear (location_at o) t
     here None e = tt
-    here (Some (Reg r)) e = inr (above x r e)
+    here (Some (Reg r)) e = comes r (seated x r e)
     here (Some (Slot k)) e = tt
 
 abbrev IsOrdered : Frame → RExit → Type 0
@@ -68,17 +79,24 @@ IsOrdered f (Branch c t e) = Unit {0}
 IsOrdered f (Return o) = Unit {0}
 IsOrdered f (Out x next) = Unit {0}
 
-ordered : (functions : List RFunc) (globals blocks : ℕ) (f : Frame) (x : RExit) → AreAbove f → All (programs.IsFunction functions globals) functions
+ordered : (functions : List RFunc) (globals blocks : ℕ) (func : RFunc) (f : Frame) (x : RExit) → AreSeated func f
+    → ((y : ℕ) → exit_reach x y ≤ blocks_reach func.blocks.items y) → All (programs.IsFunction functions globals) functions
     → programs.IsExit functions blocks x → IsOrdered f x
-ordered functions globals blocks f (Call g xs d next) above all ok =
+ordered functions globals blocks func f (Call g xs d next) seated covers all ok =
     let callee = ok.0 in
     let few = (all_at (programs.IsFunction functions globals) functions g callee.callee all callee.there).parameters in
     let takes = callee.takes in
-    in_order f above 4 xs.items (omega (arith, few, takes))
-ordered functions globals blocks f (Goto b) above all ok = tt
-ordered functions globals blocks f (Branch c t e) above all ok = tt
-ordered functions globals blocks f (Return o) above all ok = tt
-ordered functions globals blocks f (Out x next) above all ok = tt
+    in_order f 4 xs.items (λ j y r at there. (let lt = slice_get_within xs.items j y at in
+    behind j y r (omega (arith, lt, few, takes)) (reach_covers 0 xs.items j y at) (covers y) (seated y r there)))
+  where
+    behind : (j y r : ℕ) → j < 4 → 0 + suc j ≤ reach_from 0 xs.items y → reach_from 0 xs.items y ≤ blocks_reach func.blocks.items y
+        → (8 ≤ r) ⊎ ((blocks_reach func.blocks.items y + 3 ≤ r) × (y < func.parameters → r ≡ 4 + y)) → 4 + j ≤ r
+    behind j y r lt one two (inl high) = omega (arith, lt, high)
+    behind j y r lt one two (inr is) = (let le = is.0 in omega (arith, one, two, le))
+ordered functions globals blocks func f (Goto b) seated covers all ok = tt
+ordered functions globals blocks func f (Branch c t e) seated covers all ok = tt
+ordered functions globals blocks func f (Return o) seated covers all ok = tt
+ordered functions globals blocks func f (Out x next) seated covers all ok = tt
 
 -- a leaf has no call
 abbrev IsFine : Bool → RExit → Type 0
@@ -218,9 +236,9 @@ no_take bs d e = go (slice_get (namings bs (unnamed bs)) 0) e
     go (Some Jumped) e = true≢false (sym (ap takes e))
 
 pub program_selected : (h : Homed) (depth most : ℕ) → IsProgram h.rtl.now → ((g : ℕ) (f : Frame) → slice_get h.frames.items g ≡ Some f → IsFrame most f)
-    → ((g : ℕ) (f : Frame) → slice_get h.frames.items g ≡ Some f → AreAbove f)
+    → ((g : ℕ) (func : RFunc) (f : Frame) → slice_get (h.rtl.now).functions g ≡ Some func → slice_get h.frames.items g ≡ Some f → AreSeated func f)
     → most ≤ FRAME_BYTES → depth * most ≤ STACK_BYTES → IsSelected h depth (program_blocks h)
-program_selected h depth most ok frames above small room = record {
+program_selected h depth most ok frames seated small room = record {
   entry = entry_of (h.rtl.now).functions;
   most = most;
   program = ok;
@@ -242,7 +260,7 @@ program_selected h depth most ok frames above small room = record {
       let front = lead_length leaf (heads 0) f n (place_in k bs 0) in
       let is = all_at (programs.IsFunction p.functions (length p.globals)) p.functions g func ok.functions there_f in
       let exit_ordered : (b : ℕ) (block : RBlock) → slice_get bs b ≡ Some block → IsOrdered f block.exit = λ b block at.
-      ordered p.functions (length p.globals) (length bs) f block.exit (above g f f_there) ok.functions
+      ordered p.functions (length p.globals) (length bs) func f block.exit (seated g func f there_f f_there) (λ y. blocks_cover bs b block y at) ok.functions
       (all_at (programs.IsBlock p.functions (length p.globals) (length bs)) bs b block is.blocks at).exit in
       let behind_lead : k + length lead ≡ k + lead_in heads = omega (arith, front) in
       let has' : HasAt whole (k + lead_in heads) more = subst (λ m. HasAt whole m more) behind_lead (has_back whole k lead more has) in
@@ -260,7 +278,7 @@ program_selected h depth most ok frames above small room = record {
         };
         frame = frames g f f_there;
         parameters = is.parameters;
-        clear = are_clear f (above g f f_there) 4 0 n;
+        clear = are_clear func f (seated g func f there_f f_there) 4 0 n refl (omega arith);
       };
   small = small;
   room = room;

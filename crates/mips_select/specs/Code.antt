@@ -1,5 +1,6 @@
 -- The machine code of functions: what stands before and behind the code of their instructions, and how blocks are left.
-use Rattle.std.specs.Prelude.{ℕ, pos, negsuc, zero, suc, ◌+◌, ◌-◌, ◌*◌, Bool, true, false, nat_eq, if◌then◌else◌, List, [], ◌∷◌, ◌++◌, Option, Some}
+use Rattle.std.specs.Prelude.{ℕ, pos, negsuc, zero, suc, ◌+◌, ◌-◌, ◌*◌, Bool, true, false, nat_eq, if◌then◌else◌, List, [], ◌∷◌, ◌++◌}
+use Rattle.std.specs.Prelude.{Option, Some}
 use Rattle.std.specs.Prelude.{None, length}
 use Rattle.mips_isa.specs.declared.inst.ImmOp.TheVariants.{Addiu}
 use Rattle.mips_isa.specs.declared.inst.Plain.{Plain}
@@ -17,7 +18,8 @@ use Rattle.mips_emit.specs.declared.facts.Last.{Last}
 use Rattle.mips_emit.specs.Frames.{link_words}
 use Rattle.mips_emit.specs.Elements.{data_middle}
 use Rattle.mips_emit.specs.Locations.{Locations, locations, Facts, no_facts, known_after, last_after, no_last, tested, last_operand}
-use Rattle.mips_emit.specs.Code.{constant, load_word_at, store_word_at, move_code, carry, arrive, insts_code, arguments_code, branch_code, branch_exit}
+use Rattle.mips_emit.specs.Code.{constant, load_word_at, store_word_at, move_code, carry, arrive, insts_code, arguments_code, branch_code}
+use Rattle.mips_emit.specs.Code.{branch_exit}
 use Rattle.mips_select.specs.declared.heads.Head.{Head}
 use Rattle.mips_select.specs.declared.heads.Head.TheVariants.{Bare, Enters, Takes}
 
@@ -100,7 +102,8 @@ code_insts globals starts leaf f facts last c =
 abbrev pub own_block : List RGlobal → (starts entry place : ℕ → ℕ) → Bool → Frame → (head : List Plain) → ℕ → RBlock → BlockParts
 own_block globals starts entry place leaf f head n b = record {
   insts = head ++ code_insts globals starts leaf f no_facts no_last (code_of b);
-  exit = exit_of entry place f (known_after (locations f) b.insts.items no_facts) (last_after (locations f) no_facts b.insts.items no_last) n b.exit;
+  exit = exit_of entry place f (known_after (locations f) b.insts.items no_facts)
+      (last_after (locations f) no_facts b.insts.items no_last) n b.exit;
 }
 
 -- the result of a call into its location

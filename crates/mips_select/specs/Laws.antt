@@ -19,7 +19,8 @@ KeepsRuns p depth u =
 
 -- the unit of every program whose frames fit keeps its runs
 abbrev pub EachUnitKeepsRuns : Type 0
-EachUnitKeepsRuns = (h : Homed) (depth : ℕ) → IsProgram h.rtl.now → ArePlaced h → FramesFit h.rtl.now depth → KeepsRuns h.rtl.now depth (unit_for h)
+EachUnitKeepsRuns = (h : Homed) (depth : ℕ) → IsProgram h.rtl.now → ArePlaced h → FramesFit h.rtl.now depth
+    → KeepsRuns h.rtl.now depth (unit_for h)
 
 -- the unit of a program over its homes would have too many blocks
 pub record IsBeyond (p : Program) : Type 0 where

@@ -50,8 +50,8 @@ KeepHomedRuns h depth blocks =
     (r : ℕ) → (homed_run h depth r).end ≢ Wrong → ComesTo blocks (start_state (padded_bytes (h.rtl.now).globals)) r (homed_run h depth r)
 
 module _ (blocks : List BlockParts) (globals : List RGlobal) (starts entry : ℕ → ℕ) where
-  -- what an exit needs: a leaf has no calls, and no argument is lost before it is moved; a block to which it goes has no head, but that a call may go on at a block that
-  -- begins with the store of its result
+  -- what an exit needs: a leaf has no calls, and no argument is lost before it is moved; a block to which it goes has no head, but that a
+  -- call may go on at a block that begins with the store of its result
   abbrev pub GoesOn : Bool → Frame → (place : ℕ → ℕ) → (head : ℕ → List Plain) → ℕ → RExit → Type 0
   GoesOn leaf f place head n (Call g xs d next) =
       ((leaf ≡ false) × AreInOrder (locations f) 4 xs.items)
@@ -63,7 +63,8 @@ module _ (blocks : List BlockParts) (globals : List RGlobal) (starts entry : ℕ
   GoesOn leaf f place head n (Out x next) = head next ≡ []
 
   -- block k stands for a block of a function, which begins with `first`
-  pub record StandsAt (leaf : Bool) (f : Frame) (place : ℕ → ℕ) (head : ℕ → List Plain) (k : ℕ) (first : List Plain) (b : RBlock) : Type 0 where
+  pub record StandsAt (leaf : Bool) (f : Frame) (place : ℕ → ℕ) (head : ℕ → List Plain) (k : ℕ) (first : List Plain)
+      (b : RBlock) : Type 0 where
     pub next : ℕ
     pub there : slice_get blocks k ≡ Some (own_block globals starts entry place leaf f first next b)
     pub leads_on : GoesOn leaf f place head next b.exit

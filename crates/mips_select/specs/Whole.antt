@@ -43,7 +43,8 @@ behind heads place f (Return o) = []
 behind heads place f (Out x next) = []
 
 -- the blocks for the blocks from j on, the first of which has the number k, in a function with n parameters
-abbrev pub blocks_from : List RGlobal → (starts entry place : ℕ → ℕ) → Bool → (ℕ → Head) → Frame → (n k j : ℕ) → List RBlock → List BlockParts
+abbrev pub blocks_from : List RGlobal → (starts entry place : ℕ → ℕ) → Bool → (ℕ → Head) → Frame → (n k j : ℕ) → List RBlock
+    → List BlockParts
 blocks_from globals starts entry place leaf heads f n k j [] = []
 blocks_from globals starts entry place leaf heads f n k j (b ∷ bs) =
     own_block globals starts entry place leaf f (head_code leaf f n (heads j)) (next_of heads place k b.exit) b
@@ -105,7 +106,8 @@ abbrev pub program_blocks : Homed → List BlockParts
 program_blocks h =
     start_block (entry_of (h.rtl.now).functions (h.rtl.now).main)
     ∷ end_block
-    ∷ functions_blocks (h.rtl.now).globals (start_of (h.rtl.now).globals) (entry_of (h.rtl.now).functions) 2 (h.rtl.now).functions h.frames.items
+    ∷ functions_blocks (h.rtl.now).globals (start_of (h.rtl.now).globals) (entry_of (h.rtl.now).functions) 2
+    (h.rtl.now).functions h.frames.items
 
 -- the unit of a program over homes: its blocks, cut where they are long, and the bytes of its globals
 abbrev pub unit_for : Homed → UnitParts

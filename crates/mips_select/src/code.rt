@@ -168,9 +168,11 @@ pub(crate) fn emit_block(
     requires block { IsEmittable (length linkage.now.starts.now) block.now }
     ensures { OnOk result (out.new.items ≡ out.old.items ++ own_block linkage.now.globals.now (slice_index linkage.now.starts.now)
         (slice_index linkage.now.entries.now)
-        (slice_index plan.now.places.now) plan.now.leaf plan.now.frame.now (head_code plan.now.leaf plan.now.frame.now plan.now.parameters (heads_in
+        (slice_index plan.now.places.now) plan.now.leaf plan.now.frame.now
+        (head_code plan.now.leaf plan.now.frame.now plan.now.parameters (heads_in
         plan.now.table.now j))
-        (next_of (heads_in plan.now.table.now) (slice_index plan.now.places.now) k block.now.exit) block.now ∷ behind (heads_in plan.now.table.now)
+        (next_of (heads_in plan.now.table.now) (slice_index plan.now.places.now) k block.now.exit) block.now
+        ∷ behind (heads_in plan.now.table.now)
         (slice_index plan.now.places.now) plan.now.frame.now block.now.exit) }
 {
     let head = head_at(plan.table, j);

@@ -61,7 +61,8 @@ fn emit_branch(
     requires { IsReachable frame.now }
     ensures code { OnOk result (code.new.items ≡ code.old.items ++ branch_code (tested last.above c)
         (last_operand (locations frame.now) (facts_of facts.now) last.fresh c)) }
-    ensures exit { IfOk result (λ x. x ≡ branch_exit (tested last.above c) (last_operand (locations frame.now) (facts_of facts.now) last.fresh c) then other) }
+    ensures exit { IfOk result (λ x. x ≡ branch_exit (tested last.above c)
+        (last_operand (locations frame.now) (facts_of facts.now) last.fresh c) then other) }
 {
     let operand = last_operand(facts, last.fresh, frame, c);
     match tested(last.above, c) {
@@ -100,7 +101,8 @@ pub(crate) fn emit_exit(
     requires frame { IsReachable frame.now }
     requires few { HasFewArguments exit.now }
     ensures code { OnOk result (code.new.items ≡ code.old.items ++ exit_code leaf frame.now (facts_of facts.now) last exit.now) }
-    ensures exit { IfOk result (λ x. x ≡ exit_of (λ g. slice_index entries.now g) (λ b. slice_index places.now b) frame.now (facts_of facts.now) last next exit.now) }
+    ensures exit { IfOk result (λ x. x ≡ exit_of (λ g. slice_index entries.now g) (λ b. slice_index places.now b) frame.now
+        (facts_of facts.now) last next exit.now) }
 {
     match exit {
         RExit::Goto(b) => Ok(Exit::Goto(number_at(places, *b))),

@@ -6,7 +6,8 @@ ghost use Rattle.mips_emit.specs.Frames.{IsReachable};
 ghost use Rattle.mips_select.specs.Heads.{heads_in};
 ghost use Rattle.mips_select.specs.Code.{prologue_block, start_block, end_block};
 ghost use Rattle.mips_select.specs.Emittable.{AreEmittable, AreInside, AreReachable, IsFunctionEmittable, AreFunctionsEmittable};
-ghost use Rattle.mips_select.specs.Whole.{size_of_blocks, blocks_from, lead_blocks, function_size, functions_size, function_blocks, functions_blocks};
+ghost use Rattle.mips_select.specs.Whole.{size_of_blocks, blocks_from, lead_blocks, function_size, functions_size, function_blocks};
+ghost use Rattle.mips_select.specs.Whole.{functions_blocks};
 
 use crate::code::{emit_block, push_block};
 use crate::heads::{Head, all_namings, count_of, head_at, is_leaf, lead_in};

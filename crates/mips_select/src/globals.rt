@@ -6,7 +6,8 @@ ghost use Rattle.words.specs.Widths.{kept};
 ghost use Rattle.rtl.specs.declared.limits.TheConstants.{MAX_GLOBAL_WORDS};
 ghost use Rattle.rtl.specs.Meaning.{first_values};
 ghost use Rattle.rtl.specs.Programs.{IsGlobal, word_count};
-ghost use Rattle.mips_select.specs.Data.{element_bytes, elements_bytes, gap_behind, zeros, global_bytes, padded_bytes, bare_bytes, data_bytes, starts_from};
+ghost use Rattle.mips_select.specs.Data.{element_bytes, elements_bytes, gap_behind, zeros, global_bytes, padded_bytes, bare_bytes};
+ghost use Rattle.mips_select.specs.Data.{data_bytes, starts_from};
 
 use rtl::RGlobal;
 use std::alloc::{AllocError, Global};

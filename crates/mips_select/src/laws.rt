@@ -1,3 +1,4 @@
+// The laws of selection, each as the contract of a function that does nothing.
 ghost use Rattle.mips_select.specs.Laws.{EachUnitKeepsRuns};
 ghost use Rattle.mips_select.specs.Numbers.{LimitsAreTheseNumbers};
 

@@ -1,6 +1,7 @@
 // Numbers of blocks.
 
-ghost use Rattle.std.specs.Prelude.{◌≡◌, ℕ, ◌+◌, ◌<◌, ◌≤◌, ◌++◌, ◌∷◌, [], length, IfOk, OnOk, IfErr, Some, slice_get, slice_index, replicate};
+ghost use Rattle.std.specs.Prelude.{◌≡◌, ℕ, ◌+◌, ◌<◌, ◌≤◌, ◌++◌, ◌∷◌, [], length, IfOk, OnOk, IfErr, Some, slice_get, slice_index};
+ghost use Rattle.std.specs.Prelude.{replicate};
 ghost use Rattle.mblock.specs.declared.limits.TheConstants.{UNIT_BLOCKS};
 ghost use Rattle.rtl.specs.declared.block.RFunc.{RFunc};
 ghost use Rattle.rtl.specs.declared.limits.TheConstants.{MAX_BLOCKS};

@@ -6,7 +6,8 @@ ghost use Rattle.mips_isa.specs.declared.inst.Plain.TheVariants.{Imm};
 ghost use Rattle.mips_emit.specs.declared.limits.TheConstants.{FRAME_BYTES};
 ghost use Rattle.mips_emit.specs.Frames.{IsReachable};
 ghost use Rattle.mips_emit.specs.Locations.{locations};
-ghost use Rattle.mips_select.specs.Code.{saves, restores, frame_bytes, link_save, link_load, lowers, raises, parameters_code, prologue, epilogue};
+ghost use Rattle.mips_select.specs.Code.{saves, restores, frame_bytes, link_save, link_load, lowers, raises, parameters_code, prologue};
+ghost use Rattle.mips_select.specs.Code.{epilogue};
 
 use mips_emit::{emit_arrival, emit_load_word, emit_store_word, register};
 use mips_homes::Frame;

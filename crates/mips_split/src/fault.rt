@@ -1,3 +1,4 @@
+// Why there is no unit: a limit, or memory.
 use std::alloc::AllocError;
 use thiserror::Error;
 

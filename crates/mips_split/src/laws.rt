@@ -1,3 +1,4 @@
+// The laws of split units, each as the contract of a function that does nothing.
 ghost use Rattle.mips_split.specs.Functions.{EachListOfFunctionsIsOwned};
 ghost use Rattle.mips_split.specs.Laws.{EachSplitUnitComesTo, EachSplitUnitIsWell, EachSplitUnitRuns};
 

@@ -1,6 +1,7 @@
 // Long blocks to pieces.
 
-ghost use Rattle.std.specs.Prelude.{◌≡◌, ◌↔◌, ℕ, suc, ◌+◌, ◌-◌, ◌/◌, ◌^◌, ◌<◌, ◌≤◌, ◌++◌, ◌∷◌, [], length, IfOk, OnOk, IfErr, IsTrue, slice_index, replicate};
+ghost use Rattle.std.specs.Prelude.{◌≡◌, ◌↔◌, ℕ, suc, ◌+◌, ◌-◌, ◌/◌, ◌^◌, ◌<◌, ◌≤◌, ◌++◌, ◌∷◌, [], length, IfOk, OnOk, IfErr, IsTrue};
+ghost use Rattle.std.specs.Prelude.{slice_index, replicate};
 ghost use Rattle.mips_split.specs.Split.{renumbered_exit, more_pieces, piece, pieces, count_of, total, firsts, split_from, owners_from};
 ghost use Rattle.mips_split.specs.Split.{split_blocks, split_owners};
 ghost use Rattle.mips_isa.specs.States.{State};
@@ -159,7 +160,8 @@ fn push_pieces(
     exit: Exit,
 ) -> Result<(), AllocError>
     requires { length out.old.items + (length insts.now - 1) / BLOCK_INSTS < UNIT_BLOCKS }
-    ensures { OnOk result (out.new.items ≡ out.old.items ++ pieces BLOCK_INSTS exit ((length insts.now - 1) / BLOCK_INSTS) (length out.old.items) insts.now) }
+    ensures { OnOk result (out.new.items ≡ out.old.items
+        ++ pieces BLOCK_INSTS exit ((length insts.now - 1) / BLOCK_INSTS) (length out.old.items) insts.now) }
 {
     let mut rest = insts;
     while rest.len() > BLOCK_INSTS {

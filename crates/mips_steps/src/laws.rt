@@ -1,3 +1,4 @@
+// The law of the machine's rules, as the contract of a function that does nothing.
 ghost use Rattle.mips_steps.specs.Machines.{EachRuleIsLeast};
 
 /// A stuck machine tells the least rule that is broken.

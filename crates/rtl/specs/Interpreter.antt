@@ -73,13 +73,15 @@ frame_at block f =
 -- a value, if there is one, goes to a register
 abbrev pub Puts : ℕ → Option ℕ → Interpreter → Reached → Interpreter → Type 0
 Puts x v before r after =
-    with_value v before.output.items (λ w. state_with before (places_with (places before.frame.registers.items) x (Some w)) (arrays before.globals.items))
+    with_value v before.output.items (λ w. state_with before (places_with (places before.frame.registers.items) x (Some w))
+    (arrays before.globals.items))
     ≡ state_at r after
 
 -- an instruction of a program with these globals takes the interpreter before to what is reached
 abbrev pub Performs : List RGlobal → RInst → Interpreter → Reached → Interpreter → Type 0
 Performs globals i before r after =
-    with_inst globals i (places before.frame.registers.items) (arrays before.globals.items) before.output.items (state_with before) ≡ state_at r after
+    with_inst globals i (places before.frame.registers.items) (arrays before.globals.items) before.output.items (state_with before)
+    ≡ state_at r after
 
 -- on to a block of the same function
 abbrev pub Jumps : ℕ → Interpreter → Reached → Interpreter → Type 0
@@ -91,24 +93,28 @@ Jumps b before r after =
 -- a function is called with these words, and its result goes there
 abbrev pub Calls : Program → (depth f : ℕ) → List ℕ → Option ℕ → Interpreter → Reached → Interpreter → Type 0
 Calls p depth f vs to before r after =
-    state_after_call p depth f vs to (frame_of before.frame ∷ frames_of before.waiting.items) (arrays before.globals.items) before.output.items
+    state_after_call p depth f vs to (frame_of before.frame
+    ∷ frames_of before.waiting.items) (arrays before.globals.items) before.output.items
     ≡ state_at r after
 
 -- the same by a caller that goes on at this block
 abbrev pub CallsFrom : Program → (depth f : ℕ) → List ℕ → Option ℕ → (next : ℕ) → Interpreter → Reached → Interpreter → Type 0
 CallsFrom p depth f vs to next before r after =
     with_value (slice_get before.frame.blocks.now next) before.output.items (λ block.
-    state_after_call p depth f vs to (frame_at block before.frame ∷ frames_of before.waiting.items) (arrays before.globals.items) before.output.items)
+    state_after_call p depth f vs to (frame_at block before.frame
+    ∷ frames_of before.waiting.items) (arrays before.globals.items) before.output.items)
     ≡ state_at r after
 
 -- the activation returns, with a word or without
 abbrev pub Returns : Option ℕ → Interpreter → Reached → Interpreter → Type 0
 Returns v before r after =
-    state_after_return v before.frame.result_to (frames_of before.waiting.items) (arrays before.globals.items) before.output.items ≡ state_at r after
+    state_after_return v before.frame.result_to (frames_of before.waiting.items) (arrays before.globals.items) before.output.items
+    ≡ state_at r after
 
 -- the block is left by this exit
 abbrev pub Leaves : Program → (depth : ℕ) → RExit → Interpreter → Reached → Interpreter → Type 0
 Leaves p depth exit before r after =
-    state_after_exit p depth exit before.frame.blocks.now (places before.frame.registers.items) before.frame.result_to (frames_of before.waiting.items)
+    state_after_exit p depth exit before.frame.blocks.now (places before.frame.registers.items) before.frame.result_to
+    (frames_of before.waiting.items)
     (arrays before.globals.items) before.output.items
     ≡ state_at r after

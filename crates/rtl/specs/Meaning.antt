@@ -1,7 +1,8 @@
 -- What a program does, one step after another: each instruction and each exit is one step. Wrong is what has no value: a
 -- division without one, a pseudo-register that isn't set in its activation, an index outside a global, a result that is
 -- wanted and not returned, a call beyond the depth, and what isn't there at all, which no program that is an `Rtl` names.
-use Rattle.std.specs.Prelude.{ℕ, ◌%◌, ◌^◌, ◌&&◌, ◌==◌, List, [], ◌∷◌, ◌++◌, Option, Some, None, length, nat_lt, if◌then◌else◌, slice_get, map}
+use Rattle.std.specs.Prelude.{ℕ, ◌%◌, ◌^◌, ◌&&◌, ◌==◌, List, [], ◌∷◌, ◌++◌, Option, Some, None, length, nat_lt, if◌then◌else◌, slice_get}
+use Rattle.std.specs.Prelude.{map}
 use Rattle.words.specs.Words.{wrap}
 use Rattle.words.specs.Widths.{kept}
 use Rattle.runs.specs.Stores.{Places, unset_places, places_with, Arrays, chain, element_at, arrays_with}
@@ -56,12 +57,14 @@ with_inst globals (Bin op d a b) r g out go =
 with_inst globals (Load d a i) r g out go =
     with_value (r i) out (λ x. with_value (element_at g a x) out (λ v. go (places_with r d (Some v)) g))
 with_inst globals (Store a i b) r g out go =
-    with_value (r i) out (λ x. with_value (r b) out (λ v. with_value (kept_in globals a v) out (λ w. with_value (arrays_with g a x w) out (λ g'. go r g'))))
+    with_value (r i) out (λ x. with_value (r b) out (λ v. with_value (kept_in globals a v) out
+    (λ w. with_value (arrays_with g a x w) out (λ g'. go r g'))))
 
 -- at the start of a block of the same function
 abbrev pub state_at_block : List RBlock → ℕ → Places → Option ℕ → List Frame → Arrays → List ℕ → Run
 state_at_block bs b r to frames g out =
-    with_value (slice_get bs b) out (λ block. Running (record { blocks = bs; registers = r; code = code_of block; result_to = to } ∷ frames) g out)
+    with_value (slice_get bs b) out (λ block. Running (record { blocks = bs; registers = r; code = code_of block; result_to = to }
+    ∷ frames) g out)
 
 -- a result goes to a register, where one is wanted
 abbrev pub with_result : Option ℕ → Option ℕ → Places → List ℕ → (Places → Run) → Run
@@ -72,7 +75,8 @@ with_result (Some d) v r out go = with_value v out (λ w. go (places_with r d (S
 abbrev pub state_after_return : Option ℕ → Option ℕ → List Frame → Arrays → List ℕ → Run
 state_after_return v to [] g out = with_value v out (λ w. Ended w out)
 state_after_return v to (f ∷ frames) g out =
-    with_result to v f.registers out (λ r. Running (record { blocks = f.blocks; registers = r; code = f.code; result_to = f.result_to } ∷ frames) g out)
+    with_result to v f.registers out (λ r. Running (record { blocks = f.blocks; registers = r; code = f.code; result_to = f.result_to }
+    ∷ frames) g out)
 
 -- a call of a function with as many arguments as it has parameters, where the bound on activations lets it
 abbrev pub state_after_call : Program → (depth f : ℕ) → List ℕ → Option ℕ → List Frame → Arrays → List ℕ → Run
@@ -92,7 +96,8 @@ state_after_exit p depth (Call f args d next) bs r to frames g out =
     state_after_call p depth f vs d (record { blocks = bs; registers = r; code = code_of block; result_to = to } ∷ frames) g out))
 state_after_exit p depth (Return None) bs r to frames g out = state_after_return None to frames g out
 state_after_exit p depth (Return (Some a)) bs r to frames g out = with_value (r a) out (λ v. state_after_return (Some v) to frames g out)
-state_after_exit p depth (Out a next) bs r to frames g out = with_value (r a) out (λ v. state_at_block bs next r to frames g (out ++ v ∷ []))
+state_after_exit p depth (Out a next) bs r to frames g out = with_value (r a) out (λ v. state_at_block bs next r to frames g (out
+    ++ v ∷ []))
 
 -- one instruction, or the exit where none is left
 abbrev pub step_at : Program → (depth : ℕ) → List RInst → RExit → List RBlock → Places → Option ℕ → List Frame → Arrays → List ℕ → Run

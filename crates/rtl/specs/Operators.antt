@@ -6,7 +6,8 @@ use Rattle.words.specs.Words.{wrap}
 use Rattle.words.specs.Operators.{addu, subu, sll, srl, sra, quotient_of, remainder_of}
 use Rattle.words.specs.C.{is_below}
 use Rattle.rtl.specs.declared.operator.Op.{Op}
-use Rattle.rtl.specs.declared.operator.Op.TheVariants.{Add, Sub, Mul, DivS, DivU, RemS, RemU, And, Or, Xor, Shl, ShrU, ShrS, Eq, Ne, LtS, LtU, LeS, LeU}
+use Rattle.rtl.specs.declared.operator.Op.TheVariants.{Add, Sub, Mul, DivS, DivU, RemS, RemU, And, Or, Xor, Shl, ShrU, ShrS, Eq, Ne, LtS}
+use Rattle.rtl.specs.declared.operator.Op.TheVariants.{LtU, LeS, LeU}
 
 -- tests give 0 or 1
 abbrev pub truth_word : Bool → ℕ

@@ -1,3 +1,4 @@
+// A program of RTL under way: activations, globals and output.
 ghost use Rattle.std.specs.Prelude.{◌≡◌, ℕ, List, IfOk, Some, None, map, Option, slice_get};
 ghost use Rattle.std.specs.Option.{option_map};
 ghost use Rattle.rtl.specs.declared.instruction.RInst.TheVariants.{Store};

@@ -1,3 +1,4 @@
+// The laws of RTL, each as the contract of a function that does nothing.
 ghost use Rattle.rtl.specs.Laws.{ComputesAsC, RunsGoOnFromWhereTheyAre, ValuesAreWords};
 ghost use Rattle.rtl.specs.Numbers.{LimitsAreTheseNumbers};
 

@@ -1,3 +1,4 @@
+// Operators of RTL on two words.
 ghost use Rattle.std.specs.Prelude.{◌≡◌, Option};
 ghost use Rattle.rtl.specs.Operators.{op_result};
 

@@ -1,6 +1,8 @@
+// Programs of RTL, and which parts make one.
 ghost use Rattle.std.specs.Prelude.{◌≡◌, ℕ, ◌<◌, ◌≤◌, ◌↔◌, IsTrue, All, length, sum_by};
 ghost use Rattle.std.specs.Option.{SomeIff};
-ghost use Rattle.rtl.specs.Programs.{IsRegister, IsMaybeRegister, IsInst, IsCallee, IsExit, IsBlock, IsFunction, IsGlobal, IsProgram, program_of};
+ghost use Rattle.rtl.specs.Programs.{IsRegister, IsMaybeRegister, IsInst, IsCallee, IsExit, IsBlock, IsFunction, IsGlobal, IsProgram};
+ghost use Rattle.rtl.specs.Programs.{program_of};
 ghost use Rattle.rtl.specs.Programs.{block_count, word_count};
 
 use crate::block::{RBlock, RFunc, RGlobal};

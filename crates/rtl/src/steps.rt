@@ -1,3 +1,4 @@
+// The run of a program of RTL, so many steps.
 ghost use Rattle.std.specs.Prelude.{◌≡◌, IfOk, map};
 ghost use Rattle.runs.specs.Runs.{outcome_of};
 ghost use Rattle.rtl.specs.Meaning.{first_values, rtl_start, rtl_run};

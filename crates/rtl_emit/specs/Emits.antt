@@ -22,7 +22,8 @@ pub record Size : Type 0 where
 
 -- the blocks that were there stay, whatever is answered; an Ok adds so many, is within the limits, keeps what is sound, and does
 -- its work in every list of blocks that has those which were added; a Limit comes only where one of the sizes is beyond one
-pub record Emits {A : Type 0} (size : Size) (old new : List RBlock) (Keeps : A → Type 0) (Does : A → List RBlock → Type 0) (r : Result A LowerFault)
+pub record Emits {A : Type 0} (size : Size) (old new : List RBlock) (Keeps : A → Type 0) (Does : A → List RBlock
+    → Type 0) (r : Result A LowerFault)
     : Type 0 where
   pub grows : Grows old new
   pub count : OnOk r (length new ≡ length old + size.blocks)
@@ -50,7 +51,8 @@ values_size es free = record { registers = values_registers es free; blocks = ar
 -- code that puts the value of an expression into the register `to`
 abbrev pub EmitsValue : TypedExpression → (to free : ℕ) → Spot → (old new : List RBlock) → Result OpenBlock LowerFault → Type 0
 EmitsValue e to free after old new r = Emits (value_size e free (joint after)) old new
-    (λ from. KeepsSound old new (λ s. (to < MAX_REGISTERS) × ((globals_named e ≤ s.globals) × IsSoundSpot s after)) (λ s. IsSound s (open_code from)))
+    (λ from. KeepsSound old new (λ s. (to < MAX_REGISTERS)
+    × ((globals_named e ≤ s.globals) × IsSoundSpot s after)) (λ s. IsSound s (open_code from)))
     (λ from bs. Evaluates bs e free to (open_code from) (line_of after)) r
 
 -- code that puts it into the operand's place, where it isn't there
@@ -62,11 +64,13 @@ EmitsOperand e register free after old new r = Emits (value_size e free 1) old n
 -- code that leads to one of two blocks
 abbrev pub EmitsBranch : Size → TypedExpression → Targets → (free : ℕ) → (old new : List RBlock) → Result OpenBlock LowerFault → Type 0
 EmitsBranch size e targets free old new r = Emits size old new
-    (λ from. KeepsSound old new (λ s. (globals_named e ≤ s.globals) × ((targets.yes < s.blocks) × (targets.no < s.blocks))) (λ s. IsSound s (open_code from)))
+    (λ from. KeepsSound old new (λ s. (globals_named e ≤ s.globals)
+    × ((targets.yes < s.blocks) × (targets.no < s.blocks))) (λ s. IsSound s (open_code from)))
     (λ from bs. Decides bs e free targets.yes targets.no (open_code from)) r
 
 -- code that puts the values of a list into their places
-abbrev pub EmitsOperands : List TypedExpression → List Place → (free : ℕ) → OpenBlock → (old new : List RBlock) → Result OpenBlock LowerFault → Type 0
+abbrev pub EmitsOperands : List TypedExpression → List Place → (free : ℕ) → OpenBlock → (old new : List RBlock)
+    → Result OpenBlock LowerFault → Type 0
 EmitsOperands es places free after old new r = Emits (values_size es free) old new
     (λ from. KeepsSound old new (λ s. (globals_named_in es ≤ s.globals) × IsSound s (open_code after)) (λ s. IsSound s (open_code from)))
     (λ from bs. FetchAll bs es free places (open_code from) (open_code after)) r

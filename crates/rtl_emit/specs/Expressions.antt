@@ -29,11 +29,13 @@ pub record IsPlace (e : TypedExpression) (free p next : ℕ) : Type 0 where
 
 -- the code from here on puts the value of e into the register d, and goes on there
 pub record Evaluates (bs : List RBlock) (e : TypedExpression) (free d : ℕ) (from to : Code) : Type 0 where
-  pub by : (w : Surroundings) (l r : Places) (v : ℕ) → Holds free l r w.globals → value_of e l w.globals ≡ Some v → Yields w bs free d r from to v
+  pub by : (w : Surroundings) (l r : Places) (v : ℕ) → Holds free l r w.globals → value_of e l w.globals ≡ Some v
+      → Yields w bs free d r from to v
 
 -- the value of e is in the register p, or the code from here on puts it there
 pub record Fetches (bs : List RBlock) (e : TypedExpression) (free p : ℕ) (from to : Code) : Type 0 where
-  pub by : (w : Surroundings) (l r : Places) (v : ℕ) → Holds free l r w.globals → value_of e l w.globals ≡ Some v → Takes w bs free p r from to v
+  pub by : (w : Surroundings) (l r : Places) (v : ℕ) → Holds free l r w.globals → value_of e l w.globals ≡ Some v
+      → Takes w bs free p r from to v
 
 -- the code from here on puts what an operation gives at the values of a and b into the register d
 pub record Operates (bs : List RBlock) (op : Operation) (a b : TypedExpression) (free d : ℕ) (from to : Code) : Type 0 where

@@ -54,7 +54,8 @@ abbrev mutual
   condition_blocks (unary U.Identity k e) = condition_blocks e
   condition_blocks (unary U.Not k e) = condition_blocks e
   condition_blocks (unary o k e) = value_blocks e 1
-  condition_blocks (binary o k l r) = if is_logical o then condition_blocks r + 1 + condition_blocks l else value_blocks r 1 + value_blocks l 1
+  condition_blocks (binary o k l r) = if is_logical o then condition_blocks r + 1 + condition_blocks l
+      else value_blocks r 1 + value_blocks l 1
   condition_blocks (conditional k c a b) = condition_blocks a + 1 + condition_blocks b + 1 + condition_blocks c
 
 -- a local is read in its own register, another operand in the first free one
@@ -104,11 +105,13 @@ abbrev mutual
   value_registers (element x k i) free = max (place_registers i free) (value_registers i free)
   value_registers (unary U.Identity k e) free = value_registers e free
   value_registers (unary U.Not k e) free =
-      if by_branches e then condition_registers e true free else combined_registers (place_registers e free) (next_free e free) (value_registers e free)
+      if by_branches e then condition_registers e true free else combined_registers (place_registers e free) (next_free e free)
+      (value_registers e free)
   value_registers (unary o k e) free = combined_registers (place_registers e free) (next_free e free) (value_registers e free)
   value_registers (binary o k l r) free =
       if is_logical o then max (condition_registers r true free) (condition_registers l true free)
-      else operands_registers (place_registers l free) (place_registers r (next_free l free)) (value_registers l free) (value_registers r (next_free l free))
+      else operands_registers (place_registers l free) (place_registers r (next_free l free)) (value_registers l free)
+      (value_registers r (next_free l free))
   value_registers (conditional k c a b) free = max (max (value_registers a free) (value_registers b free)) (condition_registers c true free)
 
   pub condition_registers : TypedExpression → (likely : Bool) (free : ℕ) → ℕ
@@ -120,7 +123,8 @@ abbrev mutual
   condition_registers (unary U.Identity k e) likely free = condition_registers e likely free
   condition_registers (unary U.Not k e) likely free = condition_registers e (not likely) free
   condition_registers (unary o k e) likely free =
-      test_registers likely free (free + 1) (free + 1) (combined_registers (place_registers e free) (next_free e free) (value_registers e free))
+      test_registers likely free (free + 1) (free + 1) (combined_registers (place_registers e free) (next_free e free)
+      (value_registers e free))
   condition_registers (binary o k l r) likely free =
       if is_logical o then max (condition_registers r likely free) (condition_registers l likely free)
       else choice_registers likely (has_contrary o) free (operands_registers

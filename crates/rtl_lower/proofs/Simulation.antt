@@ -679,6 +679,6 @@ same_end src (Ended v out) t m ne = ap outcome m
 same_end src (Failed out) t m ne = absurd (ne refl)
 
 pub keeps_runs : (src : TypedProgram) (p : Program) → IsCodeOfProgram src p → IsWellFormed src → KeepsRuns src p
-keeps_runs src p ok well depth n some ne =
+keeps_runs src p ok well depth some n ne =
     let r = runs src p ok well depth n (source_start src) (rtl_start p) (source-start-words src) (starts src p ok well depth) in
     (r.0, r.1, same_end src (source_steps src depth n (source_start src)) (rtl_steps p depth r.0 (rtl_start p)) r.2 ne)

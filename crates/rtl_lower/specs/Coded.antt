@@ -6,7 +6,8 @@ use Rattle.runs.specs.Runs.{with_value}
 use Rattle.c_typed.specs.declared.tree.Destination.{Destination}
 use Rattle.c_typed.specs.declared.tree.Destination.TheVariants.{Local, Global as Variable}
 use Rattle.c_typed.specs.declared.tree.Global.{Global}
-use Rattle.c_typed.specs.Trees.{TypedExpression, TypedStatement, TypedStatements, TypedFunction, TypedProgram, empty, block, unset, assign, store, call}
+use Rattle.c_typed.specs.Trees.{TypedExpression, TypedStatement, TypedStatements, TypedFunction, TypedProgram, empty, block, unset, assign}
+use Rattle.c_typed.specs.Trees.{store, call}
 use Rattle.c_typed.specs.Trees.{output, if_else, loop, break_loop, continue_loop, return_with, no_statements, more_statements}
 use Rattle.c_typed.specs.WellFormed.{FitsFunction}
 use Rattle.c_typed.specs.Meaning.{first_words}
@@ -82,7 +83,8 @@ pub record Leaves (bs : List RBlock) (free : ℕ) (e : TypedExpression) (from : 
   pub value : Fetches bs e free p code (exit_code (exit p))
 
 -- an exit by a value that goes on at a block
-pub record Exits (bs : List RBlock) (free : ℕ) (e : TypedExpression) (from : Spot) (exit : (p block : ℕ) → RExit) (after : Spot) : Type 0 where
+pub record Exits (bs : List RBlock) (free : ℕ) (e : TypedExpression) (from : Spot) (exit : (p block : ℕ)
+    → RExit) (after : Spot) : Type 0 where
   pub block : ℕ
   pub lands : Lands bs block after
   pub leaves : Leaves bs free e from (λ p. exit p block)
@@ -102,7 +104,8 @@ Receives bs free None to b after = (to ≡ None) × Lands bs b after
 Receives bs free (Some (Local x)) to b after = (to ≡ Some x) × Lands bs b after
 Receives bs free (Some (Variable g)) to b after = PutsResult bs free g to b after
 
-pub record IsCall (bs : List RBlock) (free : ℕ) (place : Option Destination) (f : ℕ) (es : List TypedExpression) (from after : Spot) : Type 0 where
+pub record IsCall (bs : List RBlock) (free : ℕ) (place : Option Destination) (f : ℕ) (es : List TypedExpression)
+    (from after : Spot) : Type 0 where
   pub code : Code
   pub is : from ≡ Line code
   pub to : Option ℕ
@@ -118,7 +121,8 @@ pub record IsCall (bs : List RBlock) (free : ℕ) (place : Option Destination) (
   pub values : FetchAll bs es free places code (exit_code exit)
 
 -- ForA and ForB: the code from here on, to there, is that of either side
-pub record IsChoice (bs : List RBlock) (free : ℕ) (e : TypedExpression) (ForA ForB : Spot → Spot → Type 0) (from after : Spot) : Type 0 where
+pub record IsChoice (bs : List RBlock) (free : ℕ) (e : TypedExpression) (ForA ForB : Spot → Spot
+    → Type 0) (from after : Spot) : Type 0 where
   pub code : Code
   pub is : from ≡ Line code
   pub join : ℕ
@@ -203,7 +207,8 @@ pub record IsGlobalOf (g : Global) (r : RGlobal) : Type 0 where
 -- the code of each function, and the globals
 pub record IsCodeOfProgram (s : TypedProgram) (p : Program) : Type 0 where
   pub main : p.main ≡ s.main
-  pub functions : (i : ℕ) (f : TypedFunction) → slice_get s.functions i ≡ Some f → (r : RFunc) × (slice_get p.functions i ≡ Some r) × IsCodeOf f r
+  pub functions : (i : ℕ) (f : TypedFunction) → slice_get s.functions i ≡ Some f
+      → (r : RFunc) × (slice_get p.functions i ≡ Some r) × IsCodeOf f r
   pub globals : (i : ℕ) (g : Global) → slice_get s.globals i ≡ Some g → (r : RGlobal) × (slice_get p.globals i ≡ Some r) × IsGlobalOf g r
   pub first : map first_values p.globals ≡ map first_words s.globals
 

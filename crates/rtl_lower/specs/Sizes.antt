@@ -1,12 +1,14 @@
 -- How many blocks the code of a statement, a function and a program takes, and how many pseudo-registers: one more than the
 -- greatest number that it takes. `free` is the number of the function's locals, the first register that is free.
-use Rattle.std.specs.Prelude.{◌≡◌, ℕ, ◌+◌, ◌<◌, ◌^◌, max, Bool, true, false, ◌||◌, ◌≤◌, All, sum_by, List, Option, Some, None, if◌then◌else◌}
+use Rattle.std.specs.Prelude.{◌≡◌, ℕ, ◌+◌, ◌<◌, ◌^◌, max, Bool, true, false, ◌||◌, ◌≤◌, All, sum_by, List, Option, Some, None}
+use Rattle.std.specs.Prelude.{if◌then◌else◌}
 use Rattle.c_typed.specs.declared.tree.Destination.{Destination}
 use Rattle.c_typed.specs.declared.tree.Destination.TheVariants.{Local, Global as Variable}
 use Rattle.c_typed.specs.Trees.{TypedStatement, TypedStatements, TypedFunction, empty, block, unset, assign, store, call}
 use Rattle.c_typed.specs.Trees.{output, if_else, loop, break_loop, continue_loop, return_with, no_statements, more_statements}
 use Rattle.rtl.specs.declared.limits.TheConstants.{MAX_REGISTERS, MAX_BLOCKS}
-use Rattle.rtl_emit.specs.Sizes.{value_blocks, condition_blocks, arguments_blocks, value_registers, condition_registers, place_registers, next_free}
+use Rattle.rtl_emit.specs.Sizes.{value_blocks, condition_blocks, arguments_blocks, value_registers, condition_registers, place_registers}
+use Rattle.rtl_emit.specs.Sizes.{next_free}
 use Rattle.rtl_emit.specs.Sizes.{operand_registers, operands_registers, places_registers, values_registers, globals_named, globals_named_in}
 
 -- whether a `continue` of this loop stands in a statement
@@ -90,7 +92,8 @@ abbrev mutual
   statement_registers (assign (Local x) e) free = max (x + 1) (value_registers e free)
   statement_registers (assign (Variable g) e) free = max (next_free e free + 1) (operand_registers e free)
   statement_registers (store a i e) free =
-      operands_registers (place_registers i free) (place_registers e (next_free i free)) (value_registers i free) (value_registers e (next_free i free))
+      operands_registers (place_registers i free) (place_registers e (next_free i free)) (value_registers i free)
+      (value_registers e (next_free i free))
   statement_registers (call to f es) free = max (receiver_registers to free) (max (places_registers es free) (values_registers es free))
   statement_registers (output e) free = operand_registers e free
   statement_registers (if_else e a b) free =

@@ -14,8 +14,10 @@ pub record Suits (p : TypedProgram) (s : Scope) : Type 0 where
 -- blocks stay sound as code is added for a statement, of whatever program it fits
 abbrev pub KeepsFit : TypedStatement → (old new : List RBlock) → (Needs Gives : Scope → Type 0) → Type 0
 KeepsFit t old new Needs Gives =
-    (p : TypedProgram) (n : ℕ) (gives inside : Bool) → FitsStatement p n gives inside t → KeepsSound old new (λ s. Suits p s × Needs s) Gives
+    (p : TypedProgram) (n : ℕ) (gives inside : Bool) → FitsStatement p n gives inside t
+    → KeepsSound old new (λ s. Suits p s × Needs s) Gives
 
 abbrev pub KeepsFitAll : TypedStatements → (old new : List RBlock) → (Needs Gives : Scope → Type 0) → Type 0
 KeepsFitAll all old new Needs Gives =
-    (p : TypedProgram) (n : ℕ) (gives inside : Bool) → FitsStatements p n gives inside all → KeepsSound old new (λ s. Suits p s × Needs s) Gives
+    (p : TypedProgram) (n : ℕ) (gives inside : Bool) → FitsStatements p n gives inside all
+    → KeepsSound old new (λ s. Suits p s × Needs s) Gives

@@ -18,7 +18,8 @@ pub(crate) fn function(alloc: Global, f: &Function) -> Result<RFunc, LowerFault>
     ensures code { IfOk result (λ r. IsCodeOf (function_of f.now) r) }
     ensures count { IfOk result (λ r. length r.blocks.items ≡ function_blocks (function_of f.now)) }
     ensures room { OnOk result (function_registers (function_of f.now) ≤ MAX_REGISTERS) }
-    ensures limit { IfErr result (λ e. e ≡ LowerFault.Limit → Beyond (function_registers (function_of f.now)) (function_blocks (function_of f.now)) 0) }
+    ensures limit { IfErr result (λ e. e ≡ LowerFault.Limit
+        → Beyond (function_registers (function_of f.now)) (function_blocks (function_of f.now)) 0) }
 {
     let free = register_of(f.locals)?;
     let parameters = register_of(f.parameters)?;

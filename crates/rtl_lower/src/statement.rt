@@ -1,9 +1,11 @@
 // The code of statements, from the last one on.
-ghost use Rattle.std.specs.Prelude.{◌≡◌, ◌+◌, ◌<◌, ◌≤◌, ◌^◌, ℕ, true, List, Option, Some, None, IfOk, IfErr, IfSome, OnOk, length, is_some, if◌then◌else◌};
+ghost use Rattle.std.specs.Prelude.{◌≡◌, ◌+◌, ◌<◌, ◌≤◌, ◌^◌, ℕ, true, List, Option, Some, None, IfOk, IfErr, IfSome, OnOk, length, is_some};
+ghost use Rattle.std.specs.Prelude.{if◌then◌else◌};
 ghost use Rattle.rtl.specs.declared.limits.TheConstants.{MAX_REGISTERS, MAX_BLOCKS};
 ghost use Rattle.rtl_emit.specs.Sizes.{joint, Beyond};
 ghost use Rattle.rtl_lower.specs.Sizes.{continues, receiver_blocks, receiver_registers, target_number, statement_joint, statements_joint};
-ghost use Rattle.rtl_lower.specs.Sizes.{statement_blocks, statements_blocks, statement_registers, statements_registers, numbers_named, numbers_named_in};
+ghost use Rattle.rtl_lower.specs.Sizes.{statement_blocks, statements_blocks, statement_registers, statements_registers, numbers_named};
+ghost use Rattle.rtl_lower.specs.Sizes.{numbers_named_in};
 ghost use Rattle.rtl_lower.specs.Sizes as Sizes;
 ghost use Rattle.rtl_lower.specs.Sizes.{any_continues};
 ghost use Rattle.c_typed.specs.Shape.{typed_expression_of, typed_expressions_of, maybe_typed_expression_of, statement_of, statements_of};
@@ -101,16 +103,20 @@ fn element_store(
 ) -> Result<OpenBlock, LowerFault>
     ensures grows { OnOk result (Grows blocks.old.items blocks.new.items) }
     ensures count { OnOk result (length blocks.new.items
-        ≡ length blocks.old.items + statement_blocks (store array (typed_expression_of index.now) (typed_expression_of e.now)) (joint (spot after))) }
-    ensures room { OnOk result (statement_registers (store array (typed_expression_of index.now) (typed_expression_of e.now)) free ≤ MAX_REGISTERS) }
+        ≡ length blocks.old.items + statement_blocks (store array (typed_expression_of index.now) (typed_expression_of e.now))
+        (joint (spot after))) }
+    ensures room { OnOk result (statement_registers (store array (typed_expression_of index.now)
+        (typed_expression_of e.now)) free ≤ MAX_REGISTERS) }
     ensures limit { IfErr result (λ f. f ≡ LowerFault.Limit
         → Beyond (statement_registers (store array (typed_expression_of index.now) (typed_expression_of e.now)) free)
-        (length blocks.old.items + statement_blocks (store array (typed_expression_of index.now) (typed_expression_of e.now)) (joint (spot after)))
+        (length blocks.old.items + statement_blocks (store array (typed_expression_of index.now) (typed_expression_of e.now))
+        (joint (spot after)))
         (numbers_named (store array (typed_expression_of index.now) (typed_expression_of e.now)))) }
     ensures sound { IfOk result (λ from. KeepsFit (store array (typed_expression_of index.now) (typed_expression_of e.now))
         blocks.old.items blocks.new.items (λ s. IsSoundSpot s (spot after)) (λ s. IsSound s (open_code from))) }
     ensures coded { IfOk result (λ from. (leave : ℕ) (next : Option ℕ) (bs : List RBlock) → Has bs blocks.old.items blocks.new.items
-        → Coded bs free (store array (typed_expression_of index.now) (typed_expression_of e.now)) leave next (Line (open_code from)) (spot after)) }
+        → Coded bs free (store array (typed_expression_of index.now) (typed_expression_of e.now)) leave next (Line (open_code from))
+        (spot after)) }
 {
     let global = number(array)?;
     let index_place = place_of(index, free)?;
@@ -174,8 +180,10 @@ fn receiver_of(
     ensures limit { IfErr result (λ f. f ≡ LowerFault.Limit
         → Beyond (receiver_registers to free) (length blocks.old.items + receiver_blocks to (joint (spot after))) (target_number to)) }
     ensures sound { IfOk result (λ r. (p : TypedProgram) (n : ℕ) → FitsTarget p n to
-        → KeepsSound blocks.old.items blocks.new.items (λ s. Suits p s × IsSoundSpot s (spot after)) (λ s. IsMaybeRegister r.to × (r.block < s.blocks))) }
-    ensures receives { IfOk result (λ r. (bs : List RBlock) → Has bs blocks.old.items blocks.new.items → Receives bs free to r.to r.block (spot after)) }
+        → KeepsSound blocks.old.items blocks.new.items (λ s. Suits p s × IsSoundSpot s (spot after)) (λ s. IsMaybeRegister r.to
+        × (r.block < s.blocks))) }
+    ensures receives { IfOk result (λ r. (bs : List RBlock) → Has bs blocks.old.items blocks.new.items
+        → Receives bs free to r.to r.block (spot after)) }
 {
     match to {
         None => {
@@ -252,7 +260,8 @@ fn returned(
     free: Register,
 ) -> Result<OpenBlock, LowerFault>
     ensures grows { OnOk result (Grows blocks.old.items blocks.new.items) }
-    ensures count { OnOk result (length blocks.new.items ≡ length blocks.old.items + statement_blocks (return_with (maybe_typed_expression_of given.now)) 0) }
+    ensures count { OnOk result (length blocks.new.items ≡ length blocks.old.items
+        + statement_blocks (return_with (maybe_typed_expression_of given.now)) 0) }
     ensures room { OnOk result (statement_registers (return_with (maybe_typed_expression_of given.now)) free ≤ MAX_REGISTERS) }
     ensures limit { IfErr result (λ f. f ≡ LowerFault.Limit
         → Beyond (statement_registers (return_with (maybe_typed_expression_of given.now)) free)
@@ -260,7 +269,8 @@ fn returned(
         (numbers_named (return_with (maybe_typed_expression_of given.now)))) }
     ensures sound { IfOk result (λ from. (p : TypedProgram) (n : ℕ) → FitsMaybe p n (maybe_typed_expression_of given.now)
         → KeepsSound blocks.old.items blocks.new.items (λ s. Suits p s) (λ s. IsSound s (open_code from))) }
-    ensures coded { IfOk result (λ from. (leave : ℕ) (next : Option ℕ) (after : Spot) (bs : List RBlock) → Has bs blocks.old.items blocks.new.items
+    ensures coded { IfOk result (λ from. (leave : ℕ) (next : Option ℕ) (after : Spot) (bs : List RBlock)
+        → Has bs blocks.old.items blocks.new.items
         → Coded bs free (return_with (maybe_typed_expression_of given.now)) leave next (Line (open_code from)) after) }
 {
     match given {
@@ -319,12 +329,14 @@ pub(crate) struct Turn {
 fn turn_to(blocks: &mut Vec<RBlock>, many: bool, last: Continuation) -> Result<Turn, LowerFault>
     ensures grows { OnOk result (Grows blocks.old.items blocks.new.items) }
     ensures count { OnOk result (length blocks.new.items ≡ length blocks.old.items + (if many then joint (spot last) else 0)) }
-    ensures limit { IfErr result (λ f. f ≡ LowerFault.Limit → MAX_BLOCKS < length blocks.old.items + (if many then joint (spot last) else 0)) }
+    ensures limit { IfErr result (λ f. f ≡ LowerFault.Limit
+        → MAX_BLOCKS < length blocks.old.items + (if many then joint (spot last) else 0)) }
     ensures next { IfOk result (λ t. is_some t.next ≡ many) }
     ensures joint { IfOk result (λ t. joint (spot t.after) ≡ (if many then 0 else joint (spot last))) }
     ensures sound { IfOk result (λ t. KeepsSound blocks.old.items blocks.new.items (λ s. IsSoundSpot s (spot last))
         (λ s. IfSome t.next (λ b. b < s.blocks) × IsSoundSpot s (spot t.after))) }
-    ensures turn { IfOk result (λ t. (bs : List RBlock) → Has bs blocks.old.items blocks.new.items → IsTurn bs t.next (spot t.after) (spot last)) }
+    ensures turn { IfOk result (λ t. (bs : List RBlock) → Has bs blocks.old.items blocks.new.items
+        → IsTurn bs t.next (spot t.after) (spot last)) }
 {
     if many {
         let block = sealed(blocks, last)?;
@@ -354,7 +366,8 @@ pub(crate) fn statement(
 ) -> Result<Continuation, LowerFault>
     requires next { continues (statement_of s.now) ≡ true → is_some next ≡ true }
     ensures grows { OnOk result (Grows blocks.old.items blocks.new.items) }
-    ensures count { OnOk result (length blocks.new.items ≡ length blocks.old.items + statement_blocks (statement_of s.now) (joint (spot after))) }
+    ensures count { OnOk result (length blocks.new.items ≡ length blocks.old.items
+        + statement_blocks (statement_of s.now) (joint (spot after))) }
     ensures room { OnOk result (statement_registers (statement_of s.now) free ≤ MAX_REGISTERS) }
     ensures limit { IfErr result (λ f. f ≡ LowerFault.Limit
         → Beyond (statement_registers (statement_of s.now) free)
@@ -478,7 +491,8 @@ pub(crate) fn statements(
 ) -> Result<Continuation, LowerFault>
     requires next { any_continues (statements_of all.now) ≡ true → is_some next ≡ true }
     ensures grows { OnOk result (Grows blocks.old.items blocks.new.items) }
-    ensures count { OnOk result (length blocks.new.items ≡ length blocks.old.items + statements_blocks (statements_of all.now) (joint (spot after))) }
+    ensures count { OnOk result (length blocks.new.items ≡ length blocks.old.items
+        + statements_blocks (statements_of all.now) (joint (spot after))) }
     ensures room { OnOk result (statements_registers (statements_of all.now) free ≤ MAX_REGISTERS) }
     ensures limit { IfErr result (λ f. f ≡ LowerFault.Limit
         → Beyond (statements_registers (statements_of all.now) free)

@@ -1,3 +1,4 @@
+// How many workers, nodes and heads a phase has.
 ghost use Rattle.std.specs.Option.{SomeIff};
 ghost use Rattle.std.specs.Prelude.{◌≡◌};
 ghost use Rattle.term_table.specs.Passes.{InRange};

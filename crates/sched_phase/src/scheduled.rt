@@ -1,3 +1,4 @@
+// Scheduled units: an order for each block, which means it.
 use image::Counts;
 use mblock::{Order, UNIT_BLOCKS, Unit};
 use std::marker::Model;

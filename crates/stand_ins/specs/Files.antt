@@ -7,6 +7,6 @@ use Rattle.stand_ins.specs.declared.files.OneFile.{OneFile}
 -- a read gives the bytes, and a write adds to what is written
 abbrev pub Answers : OneFile → Request → OneFile → Type 0
 Answers old (Read name bytes) new = (bytes ≡ old.bytes.now) × (new ≡ old)
-Answers old (NotRead name) new = new ≡ old
+Answers old (NotRead name fault) new = new ≡ old
 Answers old (Written name bytes) new = (new.written.items ≡ old.written.items ++ bytes) × (new.bytes.now ≡ old.bytes.now)
-Answers old (NotWritten name bytes) new = new.bytes.now ≡ old.bytes.now
+Answers old (NotWritten name bytes fault) new = new.bytes.now ≡ old.bytes.now

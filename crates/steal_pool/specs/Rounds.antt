@@ -27,4 +27,6 @@ module _ {K : Type 0} where
   -- noted that the deque was empty
   abbrev pub FoundEmpty : (View → Type 0) → ℕ → List (RowsId × Global) → ℕ → Member K → Type 0
   FoundEmpty empty n deques w m =
-      (j : ℕ) (q : RowsId × Global) → slice_get deques j ≡ Some q → (k : ℕ) × (v : View) × ((w + k) % length deques ≡ j) × (slice_get (deques_of m) k ≡ Some q) × (slice_get (views_of m) k ≡ Some v) × IsShare j (length deques) n v.put × empty v
+      (j : ℕ) (q : RowsId × Global) → slice_get deques j ≡ Some q
+      → (k : ℕ) × (v : View) × ((w + k) % length deques ≡ j) × (slice_get (deques_of m) k ≡ Some q)
+      × (slice_get (views_of m) k ≡ Some v) × IsShare j (length deques) n v.put × empty v

@@ -35,13 +35,16 @@ Dealt items views =
 module _ (real : List ℕ → List View → Type 0) where
   -- the fact is carried on when the pass that may put puts tasks, when one takes some, and when a pass is made of another
   abbrev pub KeptByPutting : Type 0
-  KeptByPutting = (xs items : List ℕ) (views : List View) (port : ℕ) (v : View) → real items views → get_elem? views port ≡ some v → v.puts ≡ true → real (items ++ xs) (slice_set views port (after_putting v xs))
+  KeptByPutting = (xs items : List ℕ) (views : List View) (port : ℕ) (v : View) → real items views → get_elem? views port ≡ some v
+      → v.puts ≡ true → real (items ++ xs) (slice_set views port (after_putting v xs))
 
   abbrev pub KeptByTaking : Type 0
-  KeptByTaking = (xs items : List ℕ) (views : List View) (port : ℕ) (v : View) → real (xs ++ items) views → get_elem? views port ≡ some v → real items (slice_set views port (after_taking v xs))
+  KeptByTaking = (xs items : List ℕ) (views : List View) (port : ℕ) (v : View) → real (xs ++ items) views → get_elem? views port ≡ some v
+      → real items (slice_set views port (after_taking v xs))
 
   abbrev pub KeptBySharing : Type 0
-  KeptBySharing = (items : List ℕ) (views : List View) (port : ℕ) (v : View) → real items views → get_elem? views port ≡ some v → real items (views ++ shared v ∷ [])
+  KeptBySharing = (items : List ℕ) (views : List View) (port : ℕ) (v : View) → real items views → get_elem? views port ≡ some v
+      → real items (views ++ shared v ∷ [])
 
   -- what is noted of a view is true whenever the deque has that view and no task
   abbrev pub Notes : (View → Type 0) → Type 0
@@ -49,4 +52,5 @@ module _ (real : List ℕ → List View → Type 0) where
 
 -- of a view that may put: it is one of views that took, together, each task that it put as often as it put it
 abbrev pub all_taken : View → Type 0
-all_taken v = v.puts ≡ true → (views : List View) × (port : ℕ) × (get_elem? views port ≡ some v) × ((x : ℕ) → times x v.put ≡ sum_by (λ (u : View). times x u.taken) views)
+all_taken v = v.puts ≡ true → (views : List View) × (port : ℕ) × (get_elem? views port ≡ some v)
+    × ((x : ℕ) → times x v.put ≡ sum_by (λ (u : View). times x u.taken) views)

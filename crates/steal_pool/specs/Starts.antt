@@ -35,7 +35,8 @@ module _ {K : Type 0} where
     pub victims : All IsVictim ways
     pub visits : (k : ℕ) (l : Victim K) → slice_get ways k ≡ Some l → Visits ((w + 1 + k) % length deques) (length deques) n (view l.pass)
     pub others : length ways + 1 ≡ length deques
-    pub turn : (k : ℕ) (l : Victim K) → slice_get ways k ≡ Some l → slice_get deques ((w + 1 + k) % length deques) ≡ Some (stealer_deque l.stealer)
+    pub turn : (k : ℕ) (l : Victim K) → slice_get ways k ≡ Some l
+        → slice_get deques ((w + 1 + k) % length deques) ≡ Some (stealer_deque l.stealer)
 
   -- the member at place w of count, which are to do n tasks
   pub record StartsAt (count n : ℕ) (deques : List (RowsId × Global)) (w : ℕ) (m : Member K) : Type 0 where
@@ -47,4 +48,5 @@ module _ {K : Type 0} where
     pub len : length ms ≡ count
     pub each : (w : ℕ) (m : Member K) → slice_get ms w ≡ Some m → StartsAt count n (own_deques ms) w m
     -- two of the deques are never one
-    pub apart : (i j : ℕ) (a b : Member K) → slice_get ms i ≡ Some a → slice_get ms j ≡ Some b → i ≢ j → Apart (worker_view a.own) (worker_view b.own)
+    pub apart : (i j : ℕ) (a b : Member K) → slice_get ms i ≡ Some a → slice_get ms j ≡ Some b → i ≢ j
+        → Apart (worker_view a.own) (worker_view b.own)

@@ -62,7 +62,8 @@ pub(crate) fn victims_of<K: Fact>(
     requires count { (w < vec_len workers.old) × (vec_len workers.old ≤ 64) }
     requires filled { AreFilled (vec_len workers.old) n workers.old.items }
     requires shares { KeptBySharing K.real }
-    ensures same { OnOk result ((vec_len workers.new ≡ vec_len workers.old) × (map (λ d. worker_deque d) workers.new.items ≡ map (λ d. worker_deque d) workers.old.items)) }
+    ensures same { OnOk result ((vec_len workers.new ≡ vec_len workers.old)
+        × (map (λ d. worker_deque d) workers.new.items ≡ map (λ d. worker_deque d) workers.old.items)) }
     ensures filled { OnOk result (AreFilled (vec_len workers.old) n workers.new.items) }
     ensures ways { IfOk result (λ v. AreVictims n (map (λ d. worker_deque d) workers.old.items) w v.items) }
 {
@@ -80,7 +81,8 @@ fn victim_to<K: Fact>(
 ) -> Result<Victim<K>, AllocError>
     requires fifo { worker_flavor worker.old ≡ 0 }
     requires shares { KeptBySharing K.real }
-    ensures same { (worker_deque worker.new ≡ worker_deque worker.old) × (worker_flavor worker.new ≡ worker_flavor worker.old) × (worker_view worker.new ≡ worker_view worker.old) }
+    ensures same { (worker_deque worker.new ≡ worker_deque worker.old) × (worker_flavor worker.new ≡ worker_flavor worker.old)
+        × (worker_view worker.new ≡ worker_view worker.old) }
     ensures victim { IfOk result (λ l. IsVictim l × (view l.pass ≡ shared (worker_view worker.old))) }
     ensures deque { IfOk result (λ l. stealer_deque l.stealer ≡ worker_deque worker.old) }
 {

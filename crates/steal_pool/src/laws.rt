@@ -1,3 +1,4 @@
+// The laws of a pool's deques, each as the contract of a function that does nothing.
 ghost use Rattle.steal_pool.specs.Laws.{EachDequeKeepsItsTasks, ViewsTellPlaces};
 
 /// The rule of a deque is itself a fact that its steps carry on, and of a deque that was found empty it tells that each

@@ -32,8 +32,10 @@ impl<K: Fact> Member<K> {
         requires notes { Notes K.real N.empty }
         ensures member { IsMember self.new }
         ensures same { deques_of self.new ≡ deques_of self.old }
-        ensures taken { MatchOption result ((views_of self.new ≡ views_of self.old) × All N.empty (views_of self.old)) (λ i. TookOne i (views_of self.old) (views_of self.new)) }
-        ensures round { (n : ℕ) (deques : List (RowsId × Global)) (w : ℕ) → GoesRound n deques w self.old → GoesRound n deques w self.new × MatchOption result (FoundEmpty N.empty n deques w self.old) (λ _. ⊤) }
+        ensures taken { MatchOption result ((views_of self.new ≡ views_of self.old)
+            × All N.empty (views_of self.old)) (λ i. TookOne i (views_of self.old) (views_of self.new)) }
+        ensures round { (n : ℕ) (deques : List (RowsId × Global)) (w : ℕ) → GoesRound n deques w self.old
+            → GoesRound n deques w self.new × MatchOption result (FoundEmpty N.empty n deques w self.old) (λ _. ⊤) }
     {
         if let Some(i) = self.own.pop_as::<Takes<N>>() {
             return Some(i);
@@ -49,7 +51,9 @@ fn take_from<K: Fact, N: Note, R: Wait>(rt: &R, victims: &mut Vec<Victim<K>>) ->
     requires notes { Notes K.real N.empty }
     ensures victims { All IsVictim victims.new.items }
     ensures same { map (λ l. stealer_deque l.stealer) victims.new.items ≡ map (λ l. stealer_deque l.stealer) victims.old.items }
-    ensures taken { MatchOption result ((map (λ l. view l.pass) victims.new.items ≡ map (λ l. view l.pass) victims.old.items) × All N.empty (map (λ l. view l.pass) victims.old.items)) (λ i. TookOne i (map (λ l. view l.pass) victims.old.items) (map (λ l. view l.pass) victims.new.items)) }
+    ensures taken { MatchOption result ((map (λ l. view l.pass) victims.new.items ≡ map (λ l. view l.pass) victims.old.items)
+        × All N.empty (map (λ l. view l.pass) victims.old.items))
+        (λ i. TookOne i (map (λ l. view l.pass) victims.old.items) (map (λ l. view l.pass) victims.new.items)) }
 {
     for k in 0..victims.len() {
         let victim = &mut victims[k];

@@ -96,7 +96,8 @@ fn do_all<R: Threads + Wait + Sync, J: Job + Sync, G: Gate + Sync>(
         stations,
         count,
         &|_w, station: &mut Station<J::Out>|
-            requires { IsMember station.now.member × J.suits job.now station.now.pass × All (λ d. J.right job.now d.0 d.1) station.now.done.items }
+            requires { IsMember station.now.member × J.suits job.now station.now.pass
+                × All (λ d. J.right job.now d.0 d.1) station.now.done.items }
             ensures { All (λ d. J.right job.entry.now d.0 d.1) station.exit.now.done.items }
         { work(rt, job, gate, station) },
     );

@@ -26,7 +26,8 @@ impl<K: Fact> Victim<K> {
         requires notes { Notes K.real N.empty }
         ensures victim { IsVictim self.new }
         ensures same { stealer_deque self.new.stealer ≡ stealer_deque self.old.stealer }
-        ensures taken { MatchOption result ((view self.new.pass ≡ view self.old.pass) × N.empty (view self.old.pass)) (λ i. view self.new.pass ≡ after_taking (view self.old.pass) (i ∷ [])) }
+        ensures taken { MatchOption result ((view self.new.pass ≡ view self.old.pass)
+            × N.empty (view self.old.pass)) (λ i. view self.new.pass ≡ after_taking (view self.old.pass) (i ∷ [])) }
     {
         for _ in rt.forever() {
             match self.stealer.steal_as::<Takes<N>>(&mut self.pass) {

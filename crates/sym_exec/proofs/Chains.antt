@@ -1,7 +1,13 @@
--- Chains of stores: they go on, and a store comes to their end and goes from it.
-use Rattle.std.proofs.Common.{◌≡◌, ℕ, ◌&&◌, ◌==◌, ◌++◌, Bool, true, false, cond, List, [], ◌∷◌, refl, sym}
-use Rattle.std.proofs.Common.{ap, ap₂, ◌∙◌, subst, true≢false, eq-eqb, eqb-true, length, arith}
-use Rattle.std.specs.Prelude.{int_lt}
+-- Chains of stores: they go on, and a store comes among them.
+use Rattle.std.proofs.Common.{◌≡◌, ℕ, zero, suc, ◌+◌, ◌<◌, ◌≤◌, ◌&&◌, ◌==◌, ◌++◌, Bool, true, false, cond, List, [], ◌∷◌, refl, sym}
+use Rattle.std.proofs.Common.{ap, ap₂, ◌∙◌, subst, true≢false, eq-eqb, eqb-true, length, take, drop, min, slice_index_or, ⊎_elim, arith}
+use Rattle.std.specs.Prelude.{int_lt, slice_index}
+use Rattle.std.specs.List.{insert}
+use Rattle.std.proofs.Math.Seq.{take-suc, get_or-append_seam}
+use Rattle.std.proofs.Math.ListN.{get_or-append}
+use Rattle.std.proofs.lemmas.Bool.{cases_lt}
+use Rattle.std.proofs.lemmas.List.Edits.{length-insert}
+use Rattle.std.proofs.lemmas.List.{take-append-le, take-append-drop, length-append, length-take, length-take-le, get_or-take, get_or_default}
 use Rattle.words.specs.declared.width.Width.{Width}
 use Rattle.words.specs.Words.{signed}
 use Rattle.sym_terms.specs.declared.label.Label.TheVariants.{Mem0, Load, Store}
@@ -15,8 +21,9 @@ use Rattle.sym_exec.specs.MipsTerms.{HasTree}
 use Rattle.sym_exec.proofs.MipsTerms.{still_tree, same_trees, one_tree}
 use Rattle.sym_exec.specs.declared.address.TermAddress.{TermAddress}
 use Rattle.sym_exec.specs.declared.stores.Stored.{Stored}
+use Rattle.sym_exec.specs.declared.stores.StoreChain.{StoreChain}
 use Rattle.sym_exec.specs.Standing.{Later, IsAddress}
-use Rattle.sym_exec.specs.Stores.{passes, passes_inward, Makes, LeadsTo, IsChain, Rebuilds}
+use Rattle.sym_exec.specs.Stores.{address_of_store, passes, passes_inward, Makes, LeadsTo, MakeMemory, AreMemories, IsChain}
 
 pub address-on : {p q : PassState} {a : TermAddress} {x : Address} → Later p q → IsAddress p a x → IsAddress q a x
 address-on {p} {q} {a} {x} e h = record { base = still_tree e.extends h.base; offset = h.offset }
@@ -31,96 +38,189 @@ makes-on {p} {q} {s} {t} {u} e h = record {
   tree = h.tree;
 }
 
-leads-on : {p q : PassState} (k : ℕ) (t : Tree) (xs : List Stored) (m : ℕ) → Later p q → LeadsTo p k t xs m → LeadsTo q k t xs m
-leads-on {p} {q} k t [] m e h = (h.0, still_tree e.extends h.1)
-leads-on {p} {q} k t (s ∷ rest) m e h =
-    (h.0, still_tree e.extends h.1, h.2, h.3, makes-on e h.4, leads-on h.3 h.2 rest m e h.5)
+leads-on : {p q : PassState} (t : Tree) (xs : List Stored) (u : Tree) → Later p q → LeadsTo p t xs u → LeadsTo q t xs u
+leads-on {p} {q} t [] u e h = h
+leads-on {p} {q} t (s ∷ rest) u e h = (h.0, makes-on e h.1, leads-on h.0 rest u e h.2)
 
-pub chain-on : {p q : PassState} {xs : List Stored} {m : ℕ} → Later p q → IsChain p xs m → IsChain q xs m
-chain-on {p} {q} {xs} {m} e h = record { start = h.start; leads = leads-on h.start (leaf Mem0) xs m e h.leads }
+pub memory-on : {p q : PassState} (xs : List Stored) (u : Tree) → Later p q → MakeMemory p xs u → MakeMemory q xs u
+memory-on {p} {q} xs u e h = leads-on (leaf Mem0) xs u e h
 
-pub rebuilds-on : {p q : PassState} (xs : List Stored) (t u : Tree) → Later p q → Rebuilds p xs t u → Rebuilds q xs t u
-rebuilds-on {p} {q} [] t u e h = h
-rebuilds-on {p} {q} (s ∷ rest) t u e h = (h.0, rebuilds-on rest t h.0 e h.1, makes-on e h.2)
+-- a store makes one memory of one memory, and so do stores
+makes-one : {p : PassState} {s : Stored} {t u v : Tree} → Makes p s t u → Makes p s t v → u ≡ v
+makes-one {p} {s} {t} {u} {v} h k =
+    h.tree ∙ (ap₂ (λ a x. ternary (Store s.width) t a x) (one_tree h.has_address k.has_address) (one_tree h.has_value k.has_value) ∙ sym k.tree)
 
--- the memory that a chain makes has a tree
-leads-tree : (p : PassState) (k : ℕ) (t : Tree) (xs : List Stored) (m : ℕ) → LeadsTo p k t xs m → (u : Tree) × HasTree p m u
-leads-tree p k t [] m h = (t, subst (λ j. HasTree p j t) h.0 h.1)
-leads-tree p k t (s ∷ rest) m h = leads-tree p h.3 h.2 rest m h.5
+leads-one : (p : PassState) (t : Tree) (xs : List Stored) (u v : Tree) → LeadsTo p t xs u → LeadsTo p t xs v → u ≡ v
+leads-one p t [] u v h k = sym h ∙ k
+leads-one p t (s ∷ rest) u v h k =
+    leads-one p k.0 rest u v (subst (λ x. LeadsTo p x rest u) (makes-one h.1 k.1) h.2) k.2
 
-pub chain-tree : {p : PassState} {xs : List Stored} {m : ℕ} → IsChain p xs m → (u : Tree) × HasTree p m u
-chain-tree {p} {xs} {m} h = leads-tree p h.start (leaf Mem0) xs m h.leads
+pub memory-one : (p : PassState) (xs : List Stored) {u v : Tree} → MakeMemory p xs u → MakeMemory p xs v → u ≡ v
+memory-one p xs {u} {v} h k = leads-one p (leaf Mem0) xs u v h k
+
+-- stores behind stores
+leads-join : (p : PassState) (t : Tree) (xs ys : List Stored) (u v : Tree) → LeadsTo p t xs u → LeadsTo p u ys v → LeadsTo p t (xs ++ ys) v
+leads-join p t [] ys u v h k = subst (λ x. LeadsTo p x ys v) (sym h) k
+leads-join p t (s ∷ rest) ys u v h k = (h.0, h.1, leads-join p h.0 rest ys u v h.2 k)
+
+pub memory-join : (p : PassState) (u v : Tree) (xs ys : List Stored) → MakeMemory p xs u → LeadsTo p u ys v → MakeMemory p (xs ++ ys) v
+memory-join p u v xs ys h k = leads-join p (leaf Mem0) xs ys u v h k
+
+leads-split : (p : PassState) (t : Tree) (xs ys : List Stored) (v : Tree) → LeadsTo p t (xs ++ ys) v → (u : Tree) × LeadsTo p t xs u × LeadsTo p u ys v
+leads-split p t [] ys v h = (t, refl, h)
+leads-split p t (s ∷ rest) ys v h =
+    let l = leads-split p h.0 rest ys v h.2 in
+    (l.0, (h.0, h.1, l.1), l.2)
+
+-- the first stores make a memory
+pub memory-take : (p : PassState) (u : Tree) (k : ℕ) (xs : List Stored) → MakeMemory p xs u → (v : Tree) × MakeMemory p (take k xs) v
+memory-take p u k xs h =
+    let l = leads-split p (leaf Mem0) (take k xs) (drop k xs) u (subst (λ ys. MakeMemory p ys u) (sym (take-append-drop k xs)) h) in
+    (l.0, l.1)
+
+-- the last store, and the memory before it
+pub memory-pop : {p : PassState} {u : Tree} (xs : List Stored) (s : Stored) → MakeMemory p (xs ++ s ∷ []) u → (v : Tree) × MakeMemory p xs v × Makes p s v u
+memory-pop {p} {u} xs s h =
+    let l = leads-split p (leaf Mem0) xs (s ∷ []) u h in
+    (l.0, l.1, subst (Makes p s l.0) l.2.2 l.2.1)
+
+-- the same tickets are those of the memories later
+pub memories-on : {p q : PassState} (u : Tree) (ms : List ℕ) (xs : List Stored) → Later p q → MakeMemory p xs u → AreMemories p ms xs → AreMemories q ms xs
+memories-on {p} {q} u ms xs e h are = λ k lt t made.
+    let v = memory-take p u k xs h in
+    subst (HasTree q (slice_index ms k)) (memory-one q (take k xs) (memory-on (take k xs) v.0 e v.1) made)
+    (still_tree e.extends (are k lt v.0 v.1))
+
+pub chain-on : {p q : PassState} {c : StoreChain} → Later p q → IsChain p c → IsChain q c
+chain-on {p} {q} {c} e h = record {
+  memory = h.memory;
+  made = memory-on c.stores.items h.memory e h.made;
+  memories = memories-on h.memory c.memories.items c.stores.items e h.made h.memories;
+  some = h.some;
+  fit = h.fit;
+}
 
 -- where no store is, the memory is that at the start
-pub chain-none : {p : PassState} {m : ℕ} {t : Tree} → IsChain p [] m → HasTree p m t → t ≡ leaf Mem0
-chain-none {p} {m} {t} h k = one_tree k (subst (λ j. HasTree p j (leaf Mem0)) h.leads.0 h.leads.1)
+pub memories-start : {p : PassState} {m : ℕ} → HasTree p m (leaf Mem0) → AreMemories p (m ∷ []) []
+memories-start {p} {m} h = λ k lt t made. go k lt t made
+  where
+    go : (k : ℕ) → k < 1 → (t : Tree) → MakeMemory p (take k []) t → HasTree p (slice_index (m ∷ []) k) t
+    go zero lt t made = subst (HasTree p m) made h
+    go (suc k) lt t made = absurd (omega (arith, lt))
 
-pub chain-start : {p : PassState} {m : ℕ} → HasTree p m (leaf Mem0) → IsChain p [] m
-chain-start {p} {m} h = record { start = m; leads = (refl, h) }
+-- one ticket more: that of the memory behind one store more
+pub memories-push : {p : PassState} {n : ℕ} {s : Stored} (ms : List ℕ) (k : ℕ) (xs : List Stored) → AreMemories p ms xs → length ms ≡ suc k
+    → k < length xs → s ≡ slice_index_or xs k s → ((t u : Tree) → MakeMemory p (take k xs) t → Makes p s t u → HasTree p n u)
+    → AreMemories p (ms ++ n ∷ []) xs
+memories-push {p} {n} {s} ms k xs are len inside is new = λ j lt t made.
+    ⊎_elim (λ (old : j < length ms). subst (λ m. HasTree p m t) (sym (get_or-append ms (n ∷ []) 0 j old)) (are j old t made))
+    (λ (end : length ms ≤ j). last j (omega (arith, end, lt, length-append ms (n ∷ []), len)) t made) (cases_lt j (length ms))
+  where
+    whole : (t : Tree) → MakeMemory p (take (suc k) xs) t → HasTree p n t
+    whole t made =
+        let grown : take (suc k) xs ≡ take k xs ++ s ∷ [] = take-suc xs k s inside ∙ ap (λ x. take k xs ++ x ∷ []) (sym is) in
+        let one = memory-pop (take k xs) s (subst (λ ys. MakeMemory p ys t) grown made) in
+        new one.0 t one.1 one.2
 
--- one store more
-leads-push : (p : PassState) (k : ℕ) (t : Tree) (xs : List Stored) (s : Stored) (m n : ℕ) (v u : Tree) → LeadsTo p k t xs m → s.before ≡ m
-    → HasTree p m v → Makes p s v u → HasTree p n u → LeadsTo p k t (xs ++ s ∷ []) n
-leads-push p k t [] s m n v u h before tree makes new =
-    let same : v ≡ t = one_tree tree (subst (λ j. HasTree p j t) h.0 h.1) in
-    (before ∙ sym h.0, h.1, u, n, subst (λ x. Makes p s x u) same makes, (refl, new))
-leads-push p k t (y ∷ ys) s m n v u h before tree makes new =
-    (h.0, h.1, h.2, h.3, h.4, leads-push p h.3 h.2 ys s m n v u h.5 before tree makes new)
+    last : (j : ℕ) → j ≡ suc k → (t : Tree) → MakeMemory p (take j xs) t → HasTree p (slice_index (ms ++ n ∷ []) j) t
+    last j e t made =
+        let at : slice_index (ms ++ n ∷ []) j ≡ n = ap (slice_index (ms ++ n ∷ [])) (e ∙ sym len) ∙ get_or-append_seam ms n [] 0 in
+        subst (λ m. HasTree p m t) (sym at) (whole t (subst (λ i. MakeMemory p (take i xs) t) e made))
 
-pub chain-push : {p : PassState} {xs : List Stored} {s : Stored} {m n : ℕ} {v u : Tree} → IsChain p xs m → s.before ≡ m → HasTree p m v
-    → Makes p s v u → HasTree p n u → IsChain p (xs ++ s ∷ []) n
-chain-push {p} {xs} {s} {m} {n} {v} {u} h before tree makes new =
-    record { start = h.start; leads = leads-push p h.start (leaf Mem0) xs s m n v u h.leads before tree makes new }
+-- the first stores are those that were there before one came behind them
+take-insert : (k i : ℕ) (xs : List Stored) (s : Stored) → k ≤ i → i ≤ length xs → take k (insert xs i s) ≡ take k xs
+take-insert k i xs s le inside =
+    let short : k ≤ length (take i xs) = omega (arith, le, length-take-le i xs inside) in
+    take-append-le k (take i xs) (s ∷ drop i xs) short
+    ∙ (sym (take-append-le k (take i xs) (drop i xs) short) ∙ ap (take k) (take-append-drop i xs))
 
--- the last store, what it makes, and the chain before it
-pub record Last (p : PassState) (k : ℕ) (t : Tree) (xs : List Stored) (s : Stored) (n : ℕ) : Type 0 where
-  pub rest : LeadsTo p k t xs s.before
-  pub old : Tree
-  pub has_old : HasTree p s.before old
-  pub new : Tree
-  pub has_new : HasTree p n new
-  pub makes : Makes p s old new
+-- the tickets of the memories up to the place where a store came
+pub memories-insert : {p : PassState} (ms : List ℕ) (i : ℕ) (xs : List Stored) (s : Stored) → AreMemories p ms xs → i ≤ length xs
+    → AreMemories p (take (i + 1) ms) (insert xs i s)
+memories-insert {p} ms i xs s are inside = λ k lt t made.
+    let bound : length (take (i + 1) ms) ≡ min (i + 1) (length ms) = length-take (i + 1) ms in
+    let low : k < i + 1 = omega (arith, lt, bound) in
+    let old : k < length ms = omega (arith, lt, bound) in
+    subst (λ m. HasTree p m t) (sym (get_or-take (i + 1) ms k 0 low))
+    (are k old t (subst (λ ys. MakeMemory p ys t) (take-insert k i xs s (omega (arith, low)) inside) made))
 
-leads-pop : (p : PassState) (k : ℕ) (t : Tree) (xs : List Stored) (s : Stored) (n : ℕ) → LeadsTo p k t (xs ++ s ∷ []) n → Last p k t xs s n
-leads-pop p k t [] s n h = record {
-  rest = (sym h.0, h.1);
-  old = t;
-  has_old = subst (λ j. HasTree p j t) (sym h.0) h.1;
-  new = h.2;
-  has_new = subst (λ j. HasTree p j h.2) h.5.0 h.5.1;
-  makes = h.4;
-}
-leads-pop p k t (y ∷ ys) s n h =
-    let l = leads-pop p h.3 h.2 ys s n h.5 in
-    record { rest = (h.0, h.1, h.2, h.3, h.4, l.rest); old = l.old; has_old = l.has_old; new = l.new; has_new = l.has_new; makes = l.makes }
+-- the memory whose ticket stands at a place
+pub record Memory (p : PassState) (c : StoreChain) (k m : ℕ) : Type 0 where
+  pub tree : Tree
+  pub made : MakeMemory p (take k c.stores.items) tree
+  pub has : HasTree p m tree
 
-pub record Popped (p : PassState) (xs : List Stored) (s : Stored) (n : ℕ) (u : Tree) : Type 0 where
-  pub chain : IsChain p xs s.before
-  pub old : Tree
-  pub has_old : HasTree p s.before old
-  pub makes : Makes p s old u
+pub chain-memory : {p : PassState} {c : StoreChain} (k : ℕ) {m : ℕ} → IsChain p c → k < length c.memories.items → m ≡ slice_index_or c.memories.items k m
+    → Memory p c k m
+chain-memory {p} {c} k {m} h inside is =
+    let t = memory-take p h.memory k c.stores.items h.made in
+    let at : slice_index c.memories.items k ≡ m = get_or_default c.memories.items k 0 m inside ∙ sym is in
+    record { tree = t.0; made = t.1; has = subst (λ n. HasTree p n t.0) at (h.memories k inside t.0 t.1) }
 
-pub chain-pop : {p : PassState} {xs : List Stored} {s : Stored} {n : ℕ} {u : Tree} → IsChain p (xs ++ s ∷ []) n → HasTree p n u → Popped p xs s n u
-chain-pop {p} {xs} {s} {n} {u} h tree =
-    let l = leads-pop p h.start (leaf Mem0) xs s n h.leads in
+-- the store at a place makes a memory of that of the stores before it
+pub chain-store : {p : PassState} {c : StoreChain} (k : ℕ) {s : Stored} → IsChain p c → k < length c.stores.items → s ≡ slice_index_or c.stores.items k s
+    → (t u : Tree) × MakeMemory p (take k c.stores.items) t × Makes p s t u
+chain-store {p} {c} k {s} h inside is =
+    let xs = c.stores.items in
+    let u = memory-take p h.memory (suc k) xs h.made in
+    let grown : take (suc k) xs ≡ take k xs ++ s ∷ [] = take-suc xs k s inside ∙ ap (λ x. take k xs ++ x ∷ []) (sym is) in
+    let one = memory-pop (take k xs) s (subst (λ ys. MakeMemory p ys u.0) grown u.1) in
+    (one.0, u.0, one.1, one.2)
+
+-- the term of one more memory
+pub chain-push : {p q : PassState} {c d : StoreChain} (k : ℕ) {n m : ℕ} {s : Stored} → Later p q → IsChain p c → length c.memories.items ≡ suc k
+    → k < length c.stores.items → s ≡ slice_index_or c.stores.items k s → m ≡ slice_index_or c.memories.items k m
+    → ((t a x : Tree) → HasTree p m t → HasTree p s.address a → HasTree p s.value x → HasTree q n (ternary (Store s.width) t a x))
+    → d.stores ≡ c.stores → d.memories.items ≡ c.memories.items ++ n ∷ [] → IsChain q d
+chain-push {p} {q} {c} {d} k {n} {m} {s} e h len inside is at new stores memories =
+    let xs = c.stores.items in
+    let ms = c.memories.items in
+    let on : IsChain q c = chain-on e h in
+    let some : 0 < length ms = h.some in
+    let longer : length d.memories.items ≡ length (ms ++ n ∷ []) = ap length memories in
+    let count : length (ms ++ n ∷ []) ≡ length ms + 1 = length-append ms (n ∷ []) in
+    let same : length d.stores.items ≡ length xs = ap (λ v. length v.items) stores in
+    let before = chain-memory k h (omega (arith, len)) at in
+    let store = chain-store k h inside is in
+    let first : before.tree ≡ store.0 = memory-one p (take k xs) before.made store.2 in
+    let made : HasTree q n store.1 =
+    subst (HasTree q n) (sym store.3.tree)
+    (new store.0 store.3.address store.3.value (subst (HasTree p m) first before.has) store.3.has_address store.3.has_value) in
+    let whole : (t u : Tree) → MakeMemory q (take k xs) t → Makes q s t u → HasTree q n u =
+    λ t u there makes. let one : store.0 ≡ t = memory-one q (take k xs) (memory-on (take k xs) store.0 e store.2) there in
+    subst (HasTree q n) (makes-one (subst (λ x. Makes q s x store.1) one (makes-on e store.3)) makes) made in
     record {
-      chain = record { start = h.start; leads = l.rest };
-      old = l.old;
-      has_old = l.has_old;
-      makes = subst (Makes p s l.old) (one_tree l.has_new tree) l.makes;
+      memory = on.memory;
+      made = subst (λ v. MakeMemory q v.items on.memory) (sym stores) on.made;
+      memories = subst (λ ys. AreMemories q ys d.stores.items) (sym memories)
+          (subst (λ v. AreMemories q (ms ++ n ∷ []) v.items) (sym stores) (memories-push ms k xs on.memories len inside is whole));
+      some = omega (arith, longer, count, some);
+      fit = omega (arith, longer, count, same, inside, len);
     }
 
--- what is rebuilt from one store less
-pub rebuilds-push : (p : PassState) (xs : List Stored) (s : Stored) (t v u : Tree) → Rebuilds p xs v u → Makes p s t v → Rebuilds p (xs ++ s ∷ []) t u
-rebuilds-push p [] s t v u h makes = (t, refl, subst (Makes p s t) h makes)
-rebuilds-push p (y ∷ ys) s t v u h makes = (h.0, rebuilds-push p ys s t v h.0 h.1 makes, h.2)
+-- a store that comes behind the first i
+pub memory-insert : {p : PassState} {b v : Tree} (s : Stored) (n u : Tree) (i : ℕ) (xs : List Stored) → MakeMemory p (take i xs) n → HasTree p s.address b
+    → HasTree p s.value v → IsAddress p (address_of_store s) (address_of b) → LeadsTo p (ternary (Store s.width) n b v) (drop i xs) u → MakeMemory p (insert xs i s) u
+memory-insert {p} {b} {v} s n u i xs made hb hv at leads =
+    let makes : Makes p s n (ternary (Store s.width) n b v) =
+    record { address = b; value = v; has_address = hb; has_value = hv; at = at; tree = refl } in
+    memory-join p n u (take i xs) (s ∷ drop i xs) made (ternary (Store s.width) n b v, makes, leads)
 
-pub rebuilds-pop : (p : PassState) (xs : List Stored) (s : Stored) (t u : Tree) → Rebuilds p (xs ++ s ∷ []) t u
-    → (v : Tree) × Makes p s t v × Rebuilds p xs v u
-rebuilds-pop p [] s t u h = (u, subst (λ x. Makes p s x u) (sym h.1) h.2, refl)
-rebuilds-pop p (y ∷ ys) s t u h =
-    let r = rebuilds-pop p ys s t h.0 h.1 in
-    (r.0, r.1, (h.0, r.2, h.2))
+pub chain-insert : {p : PassState} {c d : StoreChain} (i : ℕ) (s : Stored) (u : Tree) → IsChain p c → i ≤ length c.stores.items
+    → d.stores.items ≡ insert c.stores.items i s → d.memories.items ≡ take (i + 1) c.memories.items → MakeMemory p d.stores.items u → IsChain p d
+chain-insert {p} {c} {d} i s u h inside stores memories made =
+    let count : length d.memories.items ≡ min (i + 1) (length c.memories.items) = ap length memories ∙ length-take (i + 1) c.memories.items in
+    let more : length d.stores.items ≡ length c.stores.items + 1 = ap length stores ∙ length-insert c.stores.items i s inside in
+    let some : 0 < length c.memories.items = h.some in
+    let fit : length c.memories.items ≤ length c.stores.items + 1 = h.fit in
+    record {
+      memory = u;
+      made = made;
+      memories = subst (λ ms. AreMemories p ms d.stores.items) (sym memories)
+          (subst (AreMemories p (take (i + 1) c.memories.items)) (sym stores) (memories-insert c.memories.items i c.stores.items s h.memories inside));
+      some = omega (arith, count, some);
+      fit = omega (arith, count, more, fit);
+    }
 
 -- bases are the same by tickets exactly when they are by trees
 same-bases : {p : PassState} {t u : ℕ} {x y : Tree} → HasLegalHistory p → HasTree p t x → HasTree p u y → are_same x y ≡ (t == u)
@@ -168,47 +268,45 @@ unfolding store_tree
 store-start w b y = refl
 
 -- a load doesn't pass the last store, or it does and sees the memory before it
-pub load-stays : {p : PassState} {k : ℕ} {n : Tree} {at : TermAddress} (xs : List Stored) (s : Stored) (w : Width) (b : Tree) → HasLegalHistory p
-    → IsChain p (xs ++ s ∷ []) k → HasTree p k n → IsAddress p at (address_of b) → passes s w at ≡ false → load_tree w n b ≡ binary (Load w) n b
-load-stays {p} {k} {n} {at} xs s w b legal chain tree h e =
-    let l = chain-pop chain tree in
-    let m = l.makes in
+pub load-stays : {p : PassState} {n : Tree} {at : TermAddress} (xs : List Stored) (s : Stored) (w : Width) (b : Tree) → HasLegalHistory p
+    → MakeMemory p (xs ++ s ∷ []) n → IsAddress p at (address_of b) → passes s w at ≡ false → load_tree w n b ≡ binary (Load w) n b
+load-stays {p} {n} {at} xs s w b legal made h e =
+    let l = memory-pop xs s made in
+    let m = l.2 in
     ap (λ t. load_tree w t b) m.tree
-    ∙ (load-step w s.width l.old m.address m.value b false (passes-is w b legal m h ∙ e)
+    ∙ (load-step w s.width l.0 m.address m.value b false (passes-is w b legal m h ∙ e)
     ∙ ap (λ t. binary (Load w) t b) (sym m.tree))
 
-pub load-passes : {p : PassState} {k : ℕ} {n : Tree} {at : TermAddress} (xs : List Stored) (s : Stored) (w : Width) (b : Tree) → HasLegalHistory p
-    → IsChain p (xs ++ s ∷ []) k → HasTree p k n → IsAddress p at (address_of b) → passes s w at ≡ true
-    → (o : Tree) × HasTree p s.before o × (load_tree w n b ≡ load_tree w o b)
-load-passes {p} {k} {n} {at} xs s w b legal chain tree h e =
-    let l = chain-pop chain tree in
-    let m = l.makes in
-    (l.old, l.has_old, ap (λ t. load_tree w t b) m.tree ∙ load-step w s.width l.old m.address m.value b true (passes-is w b legal m h ∙ e))
+pub load-passes : {p : PassState} {at : TermAddress} (n : Tree) (xs : List Stored) (s : Stored) (w : Width) (b : Tree) → HasLegalHistory p
+    → MakeMemory p (xs ++ s ∷ []) n → IsAddress p at (address_of b) → passes s w at ≡ true
+    → (o : Tree) × MakeMemory p xs o × (load_tree w n b ≡ load_tree w o b)
+load-passes {p} {at} n xs s w b legal made h e =
+    let l = memory-pop xs s made in
+    let m = l.2 in
+    (l.0, l.1, ap (λ t. load_tree w t b) m.tree ∙ load-step w s.width l.0 m.address m.value b true (passes-is w b legal m h ∙ e))
 
-pub load-last : {p : PassState} {k : ℕ} {n : Tree} (w : Width) (b : Tree) → IsChain p [] k → HasTree p k n → load_tree w n b ≡ binary (Load w) n b
-load-last {p} {k} {n} w b chain tree =
-    let e = chain-none chain tree in
-    ap (λ t. load_tree w t b) e ∙ (load-start w b ∙ ap (λ t. binary (Load w) t b) (sym e))
+pub load-last : (p : PassState) (n : Tree) (w : Width) (b : Tree) → MakeMemory p [] n → load_tree w n b ≡ binary (Load w) n b
+load-last p n w b made =
+    ap (λ t. load_tree w t b) (sym made) ∙ (load-start w b ∙ ap (λ t. binary (Load w) t b) made)
 
 -- a store stays outside the last one, or goes inside it
-pub store-stays : {p : PassState} {k : ℕ} {n : Tree} {at : TermAddress} (xs : List Stored) (s : Stored) (w : Width) (b y : Tree) → HasLegalHistory p
-    → IsChain p (xs ++ s ∷ []) k → HasTree p k n → IsAddress p at (address_of b) → passes_inward s w at ≡ false
-    → store_tree w n b y ≡ ternary (Store w) n b y
-store-stays {p} {k} {n} {at} xs s w b y legal chain tree h e =
-    let l = chain-pop chain tree in
-    let m = l.makes in
+pub store-stays : {p : PassState} {n : Tree} {at : TermAddress} (xs : List Stored) (s : Stored) (w : Width) (b y : Tree) → HasLegalHistory p
+    → MakeMemory p (xs ++ s ∷ []) n → IsAddress p at (address_of b) → passes_inward s w at ≡ false → store_tree w n b y ≡ ternary (Store w) n b y
+store-stays {p} {n} {at} xs s w b y legal made h e =
+    let l = memory-pop xs s made in
+    let m = l.2 in
     ap (λ t. store_tree w t b y) m.tree
-    ∙ (store-step w s.width l.old m.address m.value b y false (passes_inward-is w b legal m h ∙ e)
+    ∙ (store-step w s.width l.0 m.address m.value b y false (passes_inward-is w b legal m h ∙ e)
     ∙ ap (λ t. ternary (Store w) t b y) (sym m.tree))
 
-pub store-goes : {p : PassState} {k : ℕ} {n : Tree} {at : TermAddress} (xs : List Stored) (s : Stored) (w : Width) (b y : Tree) → HasLegalHistory p
-    → IsChain p (xs ++ s ∷ []) k → HasTree p k n → IsAddress p at (address_of b) → passes_inward s w at ≡ true
-    → (o : Tree) × HasTree p s.before o × Makes p s (store_tree w o b y) (store_tree w n b y)
-store-goes {p} {k} {n} {at} xs s w b y legal chain tree h e =
-    let l = chain-pop chain tree in
-    let m = l.makes in (
-      l.old,
-      l.has_old,
+pub store-goes : {p : PassState} {at : TermAddress} (n : Tree) (xs : List Stored) (s : Stored) (w : Width) (b y : Tree) → HasLegalHistory p
+    → MakeMemory p (xs ++ s ∷ []) n → IsAddress p at (address_of b) → passes_inward s w at ≡ true
+    → (o : Tree) × MakeMemory p xs o × Makes p s (store_tree w o b y) (store_tree w n b y)
+store-goes {p} {at} n xs s w b y legal made h e =
+    let l = memory-pop xs s made in
+    let m = l.2 in (
+      l.0,
+      l.1,
       record {
         address = m.address;
         value = m.value;
@@ -216,20 +314,13 @@ store-goes {p} {k} {n} {at} xs s w b y legal chain tree h e =
         has_value = m.has_value;
         at = m.at;
         tree = ap (λ t. store_tree w t b y) m.tree
-            ∙ store-step w s.width l.old m.address m.value b y true (passes_inward-is w b legal m h ∙ e);
+            ∙ store-step w s.width l.0 m.address m.value b y true (passes_inward-is w b legal m h ∙ e);
       },
     )
 
-pub store-last : {p : PassState} {k : ℕ} {n : Tree} (w : Width) (b y : Tree) → IsChain p [] k → HasTree p k n
-    → store_tree w n b y ≡ ternary (Store w) n b y
-store-last {p} {k} {n} w b y chain tree =
-    let e = chain-none chain tree in
-    ap (λ t. store_tree w t b y) e ∙ (store-start w b y ∙ ap (λ t. ternary (Store w) t b y) (sym e))
-
--- the same store upon another record of what was before it
-pub makes-before : {p : PassState} {s : Stored} {t u : Tree} (k : ℕ) → Makes p s t u → Makes p (record s { before = k }) t u
-makes-before {p} {s} {t} {u} k m =
-    record { address = m.address; value = m.value; has_address = m.has_address; has_value = m.has_value; at = m.at; tree = m.tree }
+pub store-last : (p : PassState) (n : Tree) (w : Width) (b y : Tree) → MakeMemory p [] n → store_tree w n b y ≡ ternary (Store w) n b y
+store-last p n w b y made =
+    ap (λ t. store_tree w t b y) (sym made) ∙ (store-start w b y ∙ ap (λ t. ternary (Store w) t b y) made)
 
 pub none-of : (xs : List Stored) → length xs ≡ 0 → xs ≡ []
 none-of [] e = refl

@@ -1,5 +1,6 @@
 pub mod Tickets
 pub mod Reading
 pub mod Chains
+mod Tracking
 pub mod Values
 pub mod MipsTerms

@@ -13,13 +13,14 @@ use Rattle.sym_exec.specs.MipsTerms.{HasSeen, HasTree}
 use Rattle.term_table.proofs.Callers.{extends_more, extends_self}
 use Rattle.sym_exec.proofs.MipsTerms.{still_seen, still_tree}
 use Rattle.mips_isa.specs.States.{is_register, read, put}
+use Rattle.sym_exec.specs.declared.registers.TermRegisters.{TermRegisters}
 use Rattle.sym_exec.specs.declared.state.TermPlaces.{TermPlaces}
 use Rattle.mblock.specs.BlockMeaning.{Shape}
 use Rattle.sym_exec.specs.declared.state.TermExit.{TermExit}
 use Rattle.sym_exec.specs.declared.state.Guard.{Guard}
 use Rattle.sym_exec.specs.declared.state.Guard.TheVariants.{Address, Division}
 use Rattle.sym_exec.specs.Symbolic.{TreeState, register_tree, start_trees, CodeTrees, GuardTree, AtAddress, AtDivision}
-use Rattle.sym_exec.specs.Standing.{Later, AfterInterns, Known, Stands, with_reg, IsGuard, GuardsStand, AllHave, LeavesBy, StandsFor, tickets_of}
+use Rattle.sym_exec.specs.Standing.{Later, AfterInterns, Known, Hold, Stands, with_reg, IsGuard, GuardsStand, AllHave, LeavesBy, StandsFor, tickets_of}
 
 pub later_self : (p : PassState) → Later p p
 later_self p = record { extends = extends_self p; legal = λ h. h }
@@ -32,7 +33,7 @@ pub calls_more : {A B E F : Type 0} {t : TableState} {p q r : PassState} {x : Re
     → AfterInterns t q y r → AfterInterns t p y r
 calls_more {A} {B} {E} {F} {t} {p} {q} {r} {x} {y} e f = record { table = f.table; later = later_more e.later f.later; full = f.full }
 
-pub stands_on : {p q : PassState} {s : TermPlaces} {t : TreeState} → Later p q → Stands p s t → Stands q s t
+stands_on : {p q : PassState} {s : TermPlaces} {t : TreeState} → Later p q → Stands p s t → Stands q s t
 stands_on {p} {q} {s} {t} e h = record {
   regs = λ r lt. still_tree e.extends (h.regs r lt);
   hi = still_tree e.extends h.hi;
@@ -40,18 +41,24 @@ stands_on {p} {q} {s} {t} e h = record {
   memory = still_tree e.extends h.memory;
 }
 
-pub known_on : {p q : PassState} {s : TermPlaces} → Later p q → Known p s → Known q s
+pub hold_on : {p q : PassState} {s : TermRegisters} {t : TreeState} → Later p q → Hold p s t → Hold q s t
+hold_on {p} {q} {s} {t} e h = record {
+  regs = λ r lt. still_tree e.extends (h.regs r lt);
+  hi = still_tree e.extends h.hi;
+  lo = still_tree e.extends h.lo;
+}
+
+pub known_on : {p q : PassState} {s : TermRegisters} → Later p q → Known p s → Known q s
 known_on {p} {q} {s} e h = record {
   regs = λ r lt. still_seen e.extends (slice_index_or s.regs r 0) (h.regs r lt);
   hi = still_seen e.extends s.hi h.hi;
   lo = still_seen e.extends s.lo h.lo;
-  memory = still_seen e.extends s.memory h.memory;
 }
 
-pub get_seen : {p : PassState} {s : TermPlaces} {v r : ℕ} → Known p s → v ≡ slice_index s.regs r → r < 32 → HasSeen p v
+pub get_seen : {p : PassState} {s : TermRegisters} {v r : ℕ} → Known p s → v ≡ slice_index s.regs r → r < 32 → HasSeen p v
 get_seen {p} {s} {v} {r} h e lt = subst (HasSeen p) (sym e) (h.regs r lt)
 
-pub get_tree : {p : PassState} {s : TermPlaces} {t : TreeState} {v r : ℕ} → Stands p s t → v ≡ slice_index s.regs r → r < 32 → HasTree p v (register_tree t r)
+pub get_tree : {p : PassState} {s : TermRegisters} {t : TreeState} {v r : ℕ} → Hold p s t → v ≡ slice_index s.regs r → r < 32 → HasTree p v (register_tree t r)
 get_tree {p} {s} {t} {v} {r} h e lt = subst (λ n. HasTree p n (register_tree t r)) (sym e) (h.regs r lt)
 
 written : List ℕ → ℕ → ℕ → List ℕ
@@ -73,12 +80,11 @@ written_at P regs d v r lt lost same other = go (d == 0) refl (r == d) refl
     go false ez false eb =
         subst (P r) (sym (get_or-set_other regs d r v 0 (λ e. true≢false (sym (eq-eqb r d e) ∙ eb)))) (other eb)
 
-pub known_put : {p : PassState} {s s' : TermPlaces} (d v : ℕ) → Known p s → HasSeen p v → s' ≡ with_reg s d v → d < 32 → length s.regs ≡ 32 → Known p s'
+pub known_put : {p : PassState} {s s' : TermRegisters} (d v : ℕ) → Known p s → HasSeen p v → s' ≡ with_reg s d v → d < 32 → length s.regs ≡ 32 → Known p s'
 known_put {p} {s} {s'} d v h seen e lt n = subst (Known p) (sym e) (record {
   regs = λ r low. written_at (λ _ x. HasSeen p x) s.regs d v r (omega (arith, lt, n)) (λ _. h.regs r low) (λ _ _. seen) (λ _. h.regs r low);
   hi = h.hi;
   lo = h.lo;
-  memory = h.memory;
 })
 
 read_put : (f : ℕ → Tree) (z x : Tree) (d r : ℕ) → 0 < d → d < 32 → r ≡ d → read z (put f d x) r ≡ x
@@ -89,9 +95,9 @@ read_put f z x d (suc r) some lt e =
     is_one : (k : ℕ) → 0 < k → k < 32 → is_register k ≡ true
     is_one k a b = grind arith
 
-pub stands_put : {p : PassState} {s s' : TermPlaces} {t : TreeState} {d v : ℕ} {x : Tree} → Stands p s t → HasTree p v x
-    → s' ≡ with_reg s d v → d < 32 → length s.regs ≡ 32 → Stands p s' (record t { regs = put t.regs d x })
-stands_put {p} {s} {s'} {t} {d} {v} {x} h tree e lt n = subst (λ y. Stands p y (record t { regs = put t.regs d x })) (sym e) (record {
+pub hold_put : {p : PassState} {s s' : TermRegisters} {t : TreeState} {d v : ℕ} {x : Tree} → Hold p s t → HasTree p v x
+    → s' ≡ with_reg s d v → d < 32 → length s.regs ≡ 32 → Hold p s' (record t { regs = put t.regs d x })
+hold_put {p} {s} {s'} {t} {d} {v} {x} h tree e lt n = subst (λ y. Hold p y (record t { regs = put t.regs d x })) (sym e) (record {
   regs = λ r low.
       written_at (λ k y. HasTree p y (read (const_tree 0) (put t.regs d x) k)) s.regs d v r (omega (arith, lt, n))
       (λ none. subst (λ f. HasTree p (slice_index s.regs r) (read (const_tree 0) f r)) (sym (put_lost t.regs d x (ap is_register none))) (h.regs r low))
@@ -99,18 +105,20 @@ stands_put {p} {s} {s'} {t} {d} {v} {x} h tree e lt n = subst (λ y. Stands p y 
       (λ other. subst (HasTree p (slice_index s.regs r)) (sym (read-put (const_tree 0) t.regs d x r other)) (h.regs r low));
   hi = h.hi;
   lo = h.lo;
-  memory = h.memory;
 })
 
--- the guards play no part
-pub stands_same : {p : PassState} {s : TermPlaces} {t u : TreeState} → Stands p s t → t.regs ≡ u.regs → t.hi ≡ u.hi → t.lo ≡ u.lo
-    → t.memory ≡ u.memory → Stands p s u
-stands_same {p} {s} {t} {u} h a b c d = record {
+-- memory and the guards play no part
+pub hold_same : {p : PassState} {s : TermRegisters} {t u : TreeState} → Hold p s t → t.regs ≡ u.regs → t.hi ≡ u.hi → t.lo ≡ u.lo → Hold p s u
+hold_same {p} {s} {t} {u} h a b c = record {
   regs = λ r lt. subst (λ f. HasTree p (slice_index s.regs r) (read (const_tree 0) f r)) a (h.regs r lt);
   hi = subst (HasTree p s.hi) b h.hi;
   lo = subst (HasTree p s.lo) c h.lo;
-  memory = subst (HasTree p s.memory) d h.memory;
 }
+
+-- with the ticket of memory, all that the places hold
+pub stands_with : {p : PassState} {s : TermRegisters} {t : TreeState} (m : ℕ) → Hold p s t → HasTree p m t.memory
+    → Stands p (record { regs = s.regs; hi = s.hi; lo = s.lo; memory = m }) t
+stands_with {p} {s} {t} m h tree = record { regs = h.regs; hi = h.hi; lo = h.lo; memory = tree }
 
 guard_on : {p q : PassState} → Later p q → (g : Guard) (x : GuardTree) → IsGuard p g x → IsGuard q g x
 guard_on {p} {q} e (Address w t) (AtAddress v x) h = (h.0, still_tree e.extends h.1)

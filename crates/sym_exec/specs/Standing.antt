@@ -11,6 +11,7 @@ use Rattle.sym_terms.specs.NormalForms.{Address as TreeAddress}
 use Rattle.sym_exec.specs.declared.address.TermAddress.{TermAddress}
 use Rattle.sym_exec.specs.declared.state.Guard.{Guard}
 use Rattle.sym_exec.specs.declared.state.Guard.TheVariants.{Address, Division}
+use Rattle.sym_exec.specs.declared.registers.TermRegisters.{TermRegisters}
 use Rattle.sym_exec.specs.declared.state.TermPlaces.{TermPlaces}
 use Rattle.sym_exec.specs.declared.state.TermExit.{TermExit}
 use Rattle.sym_exec.specs.declared.state.TermExit.TheVariants as exits
@@ -46,11 +47,10 @@ pub record AreSummands (p : PassState) (left right : ℕ) (x : Tree) : Type 0 wh
   pub sum : x ≡ binary (Op Addu) a b
 
 -- the pass has seen the tickets
-pub record Known (p : PassState) (s : TermPlaces) : Type 0 where
+pub record Known (p : PassState) (s : TermRegisters) : Type 0 where
   pub regs : (r : ℕ) → r < 32 → HasSeen p (slice_index s.regs r)
   pub hi : HasSeen p s.hi
   pub lo : HasSeen p s.lo
-  pub memory : HasSeen p s.memory
 
 -- a guard by tickets stands for one by trees
 abbrev pub IsGuard : PassState → Guard → GuardTree → Type 0
@@ -63,6 +63,12 @@ IsGuard p (Division sign a b) (AtAddress v x) = ⊥
 pub record GuardsStand (p : PassState) (gs : List Guard) (xs : List GuardTree) : Type 0 where
   pub down : (g : Guard) → Contains gs g → (x : GuardTree) × Contains xs x × IsGuard p g x
   pub up : (x : GuardTree) → Contains xs x → (g : Guard) × Contains gs g × IsGuard p g x
+
+-- registers, HI and LO have the trees that stand in their places
+pub record Hold (p : PassState) (s : TermRegisters) (t : TreeState) : Type 0 where
+  pub regs : (r : ℕ) → r < 32 → HasTree p (slice_index s.regs r) (register_tree t r)
+  pub hi : HasTree p s.hi t.hi
+  pub lo : HasTree p s.lo t.lo
 
 -- each ticket has the tree that stands in its place
 pub record Stands (p : PassState) (s : TermPlaces) (t : TreeState) : Type 0 where
@@ -107,5 +113,5 @@ pub record StandsFor (p : PassState) (s : TermPlaces) (e : TermExit) (gs : List 
   pub guards : GuardsStand p gs c.trees.guards
 
 -- a write, which register 0 loses
-abbrev pub with_reg : TermPlaces → ℕ → ℕ → TermPlaces
+abbrev pub with_reg : TermRegisters → ℕ → ℕ → TermRegisters
 with_reg s d v = record s { regs = if d == 0 then s.regs else slice_set s.regs d v }

@@ -1,5 +1,6 @@
--- The stores that a term of memory is made of, by tickets.
-use Rattle.std.specs.Prelude.{◌≡◌, ℕ, ◌+◌, ◌≤◌, ◌&&◌, ◌==◌, Bool, int_lt, List, [], ◌∷◌, vec_len, vec_capacity}
+-- The stores that a run's memory is made of, by tickets, and how far a run has come.
+use Rattle.std.specs.Prelude.{◌≡◌, ℕ, ◌+◌, ◌<◌, ◌≤◌, ◌&&◌, ◌==◌, Bool, int_lt, List, [], ◌∷◌, take, length, slice_index, vec_len}
+use Rattle.std.specs.Prelude.{vec_capacity}
 use Rattle.words.specs.declared.width.Width.{Width}
 use Rattle.words.specs.Words.{signed}
 use Rattle.mblock.specs.declared.limits.TheConstants.{ORDER_INSTS}
@@ -12,15 +13,21 @@ use Rattle.sym_exec.specs.declared.address.TermAddress.{TermAddress}
 use Rattle.sym_exec.specs.declared.stores.Stored.{Stored}
 use Rattle.sym_exec.specs.declared.stores.StoreChain.{StoreChain}
 use Rattle.sym_exec.specs.declared.room.RunLists.{RunLists}
-use Rattle.sym_exec.specs.Standing.{IsAddress}
+use Rattle.sym_exec.specs.declared.registers.TermRegisters.{TermRegisters}
+use Rattle.sym_exec.specs.Symbolic.{TreeState}
+use Rattle.sym_exec.specs.Standing.{IsAddress, Hold, GuardsStand}
+
+-- where it stores
+abbrev pub address_of_store : Stored → TermAddress
+address_of_store s = record { base = s.base; offset = s.offset }
 
 -- an access of this width at this address doesn't meet the store
 abbrev pub passes : Stored → Width → TermAddress → Bool
-passes s w at = (s.at.base == at.base) && are_disjoint s.width s.at.offset w at.offset
+passes s w at = (s.base == at.base) && are_disjoint s.width s.offset w at.offset
 
 -- and the store has the greater offset
 abbrev pub passes_inward : Stored → Width → TermAddress → Bool
-passes_inward s w at = passes s w at && int_lt (signed at.offset) (signed s.at.offset)
+passes_inward s w at = passes s w at && int_lt (signed at.offset) (signed s.offset)
 
 -- the store makes memory u of memory t
 pub record Makes (p : PassState) (s : Stored) (t u : Tree) : Type 0 where
@@ -28,33 +35,49 @@ pub record Makes (p : PassState) (s : Stored) (t u : Tree) : Type 0 where
   pub value : Tree
   pub has_address : HasTree p s.address address
   pub has_value : HasTree p s.value value
-  pub at : IsAddress p s.at (address_of address)
+  pub at : IsAddress p (address_of_store s) (address_of address)
   pub tree : u ≡ ternary (Store s.width) t address value
 
--- one after another, the stores make the memory of ticket m out of that of ticket k, which has tree t
-abbrev pub LeadsTo : PassState → (k : ℕ) → Tree → List Stored → (m : ℕ) → Type 0
-LeadsTo p k t [] m = (k ≡ m) × HasTree p k t
-LeadsTo p k t (s ∷ rest) m =
-    (s.before ≡ k) × HasTree p k t × (u : Tree) × (n : ℕ) × Makes p s t u × LeadsTo p n u rest m
+-- one after another, the stores make memory u of memory t
+abbrev pub LeadsTo : PassState → Tree → List Stored → Tree → Type 0
+LeadsTo p t [] u = t ≡ u
+LeadsTo p t (s ∷ rest) u = (v : Tree) × Makes p s t v × LeadsTo p v rest u
 
--- the stores make the memory of this ticket out of that at the start
-pub record IsChain (p : PassState) (stores : List Stored) (m : ℕ) : Type 0 where
-  pub start : ℕ
-  pub leads : LeadsTo p start (leaf Mem0) stores m
+-- they make it of the memory at the start
+abbrev pub MakeMemory : PassState → List Stored → Tree → Type 0
+MakeMemory p stores u = LeadsTo p (leaf Mem0) stores u
 
--- done again upon memory t, the last one first, the stores make memory u
-abbrev pub Rebuilds : PassState → List Stored → Tree → Tree → Type 0
-Rebuilds p [] t u = t ≡ u
-Rebuilds p (s ∷ rest) t u = (r : Tree) × Rebuilds p rest t r × Makes p s r u
+-- each ticket has the tree of the memory behind as many stores as tickets stand before it
+abbrev pub AreMemories : PassState → List ℕ → List Stored → Type 0
+AreMemories p memories stores = (k : ℕ) → k < length memories → (t : Tree) → MakeMemory p (take k stores) t
+    → HasTree p (slice_index memories k) t
 
--- memory for one store of each instruction, and none is moved
+-- the stores make a memory, and the terms of memory are those that they make, the one at the start among them
+pub record IsChain (p : PassState) (c : StoreChain) : Type 0 where
+  pub memory : Tree
+  pub made : MakeMemory p c.stores.items memory
+  pub memories : AreMemories p c.memories.items c.stores.items
+  pub some : 0 < length c.memories.items
+  pub fit : length c.memories.items ≤ length c.stores.items + 1
+
+-- memory for one store of each instruction, and for the terms before and behind each
 pub record HasStoreRoom (c : StoreChain) : Type 0 where
-  pub kept : ORDER_INSTS + 1 ≤ vec_capacity c.stores
-  pub moving : ORDER_INSTS + 1 ≤ vec_capacity c.moved
-  pub none : c.moved.items ≡ []
+  pub stores : ORDER_INSTS + 1 ≤ vec_capacity c.stores
+  pub memories : ORDER_INSTS + 2 ≤ vec_capacity c.memories
 
 -- memory for a guard and a store of each instruction; a store has its guard
 pub record HasRoom (r : RunLists) : Type 0 where
   pub guards : ORDER_INSTS + 1 ≤ vec_capacity r.guards
   pub chain : HasStoreRoom r.chain
   pub few : vec_len r.chain.stores ≤ vec_len r.guards
+
+pub record IsEmpty (r : RunLists) : Type 0 where
+  pub guards : r.guards.items ≡ []
+  pub stores : r.chain.stores.items ≡ []
+  pub memories : r.chain.memories.items ≡ []
+
+-- a run has come as far as these trees
+pub record Tracks (p : PassState) (registers : TermRegisters) (r : RunLists) (t : TreeState) : Type 0 where
+  pub hold : Hold p registers t
+  pub memory : MakeMemory p r.chain.stores.items t.memory
+  pub guards : GuardsStand p r.guards.items t.guards

@@ -63,9 +63,17 @@ abbrev pub trees_after : Action → TreeState → TreeState
 trees_after (Computes d op a b) t = record t { regs = put t.regs d (op_tree op (register_tree t a) (operand_tree t b)) }
 trees_after (Sets d w) t = record t { regs = put t.regs d (const_tree w) }
 trees_after (Loads w d base offset) t =
-    record t { regs = put t.regs d (load_tree w t.memory (address_tree t base offset)); guards = AtAddress w (address_tree t base offset) ∷ t.guards }
+    record t {
+      regs = put t.regs d (load_tree w t.memory (address_tree t base offset));
+      guards = AtAddress w (address_tree t base offset)
+          ∷ t.guards;
+    }
 trees_after (Stores w r base offset) t =
-    record t { memory = store_tree w t.memory (address_tree t base offset) (register_tree t r); guards = AtAddress w (address_tree t base offset) ∷ t.guards }
+    record t {
+      memory = store_tree w t.memory (address_tree t base offset) (register_tree t r);
+      guards = AtAddress w
+          (address_tree t base offset) ∷ t.guards;
+    }
 trees_after (Multiplies sign a b) t =
     record t {
       hi = op_tree (product_high sign) (register_tree t a) (register_tree t b);

@@ -12,7 +12,7 @@ use term_table::{Pass, TableFull, TermTable, Ticket};
 use words::Operator;
 
 /// An address by its terms: a base, and how many bytes behind it.
-#[derive(Clone, Copy, Debug)]
+#[derive(Clone, Copy)]
 pub(crate) struct TermAddress {
     pub(crate) base: Ticket,
     pub(crate) offset: u32,

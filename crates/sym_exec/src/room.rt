@@ -1,6 +1,5 @@
 //! Memory for a symbolic run, taken before it.
-ghost use Rattle.std.specs.Prelude.{◌≡◌, []};
-ghost use Rattle.sym_exec.specs.Stores.{HasRoom};
+ghost use Rattle.sym_exec.specs.Stores.{HasRoom, IsEmpty};
 
 use crate::state::Guard;
 use crate::stores::{StoreChain, Stored};
@@ -9,29 +8,28 @@ use std::alloc::{AllocError, Global};
 use std::marker::Model;
 
 /// What a run gathers: its guards, and the stores that its memory is made of.
-#[derive(Debug, Drop)]
+#[derive(Drop)]
 pub(crate) struct RunLists {
     pub(crate) guards: Vec<Guard>,
     pub(crate) chain: StoreChain,
 }
 
-/// Empty lists with memory for the guards and the stores of any block or order: one an instruction, so at most 2,049 with
-/// the slot.
+/// Empty lists with memory for the guards and the stores of any block or order, one an instruction, so at most 2,049 with
+/// the slot, and for the terms of the memories before, between and behind these stores.
 #[derive(Drop)]
 pub struct RunRoom {
     lists: RunLists,
 }
 
 impl Model for RunRoom {
-    ghost use Rattle.std.specs.Prelude.{◌≡◌, []};
     ghost use Rattle.sym_exec.specs.declared.room.RunLists.{RunLists};
-    ghost use Rattle.sym_exec.specs.Stores.{HasRoom};
+    ghost use Rattle.sym_exec.specs.Stores.{HasRoom, IsEmpty};
 
     ghost Value = { RunLists };
 
     ghost view = { λ r. r.lists };
 
-    ghost invariant = { λ r. HasRoom r.lists × (r.lists.guards.items ≡ []) × (r.lists.chain.stores.items ≡ []) };
+    ghost invariant = { λ r. HasRoom r.lists × IsEmpty r.lists };
 }
 
 impl RunRoom {
@@ -39,11 +37,11 @@ impl RunRoom {
     pub fn new(alloc: Global) -> Result<RunRoom, AllocError> {
         let guards = Vec::with_capacity(alloc, ORDER_INSTS + 1)?;
         let stores: Vec<Stored> = Vec::with_capacity(alloc, ORDER_INSTS + 1)?;
-        let moved = Vec::with_capacity(alloc, ORDER_INSTS + 1)?;
+        let memories = Vec::with_capacity(alloc, ORDER_INSTS + 2)?;
         Ok(RunRoom {
             lists: RunLists {
                 guards,
-                chain: StoreChain { stores, moved },
+                chain: StoreChain { stores, memories },
             },
         })
     }
@@ -51,7 +49,7 @@ impl RunRoom {
     /// The lists themselves.
     pub(crate) fn into_lists(self) -> RunLists
         ensures room { HasRoom result }
-        ensures none { (result.guards.items ≡ []) × (result.chain.stores.items ≡ []) }
+        ensures empty { IsEmpty result }
     {
         self.lists
     }

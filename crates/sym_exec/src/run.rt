@@ -1,5 +1,5 @@
 //! Blocks and orders, instruction by instruction.
-ghost use Rattle.std.specs.Prelude.{◌≡◌, ℕ, ◌+◌, ◌<◌, ◌≤◌, [], OnOk, IfOk, map, length, vec_len};
+ghost use Rattle.std.specs.Prelude.{◌≡◌, ℕ, ◌+◌, ◌<◌, ◌≤◌, OnOk, IfOk, map, length, vec_len};
 ghost use Rattle.mips_isa.specs.declared.action.Action.{Action as AnAction};
 ghost use Rattle.mips_isa.specs.Actions.{action_of};
 ghost use Rattle.mblock.specs.BlockMeaning.{exit_shape};
@@ -13,9 +13,10 @@ ghost use Rattle.term_table.specs.Trees.{HasLegalHistory};
 ghost use Rattle.sym_exec.specs.MipsTerms.{HasTree};
 ghost use Rattle.sym_exec.specs.Symbolic.{TreeState, GuardTree, start_trees, trees_after, all_trees, exit_trees, exit_operands, code_trees};
 ghost use Rattle.sym_exec.specs.Symbolic.{block_trees, order_trees};
-ghost use Rattle.sym_exec.specs.Standing.{AfterInterns, Known, Stands, GuardsStand, LeavesBy, StandsFor};
-ghost use Rattle.sym_exec.specs.Stores.{IsChain, HasRoom};
+ghost use Rattle.sym_exec.specs.Standing.{AfterInterns, Known, Hold, LeavesBy, StandsFor};
+ghost use Rattle.sym_exec.specs.Stores.{IsChain, HasRoom, IsEmpty, Tracks};
 
+use crate::registers::{Access, TermRegisters};
 use crate::room::{RunLists, RunRoom};
 use crate::state::{Guard, SymState, TermExit, TermPlaces};
 use crate::terms::leaf_term;
@@ -42,34 +43,39 @@ impl RunLists {
 fn step(
     table: &TermTable,
     pass: &mut Pass,
-    places: &mut TermPlaces,
+    registers: &mut TermRegisters,
     lists: &mut RunLists,
     action: &Action,
 ) -> Result<(), TableFull>
     requires table { IsOf table.now pass.old }
     requires legal { HasLegalHistory pass.old }
-    requires known { Known pass.old places.old }
-    requires chain { IsChain pass.old lists.old.chain.stores.items places.old.memory }
+    requires known { Known pass.old registers.old }
+    requires chain { IsChain pass.old lists.old.chain }
     requires room { HasRoom lists.old }
     requires few { vec_len lists.old.guards ≤ ORDER_INSTS }
-    ensures known { OnOk result (Known pass.new places.new) }
-    ensures chain { OnOk result (IsChain pass.new lists.new.chain.stores.items places.new.memory) }
-    ensures stands { (t : TreeState) → Stands pass.old places.old t → GuardsStand pass.old lists.old.guards.items t.guards
-        → OnOk result (Stands pass.new places.new (trees_after action.now t) × GuardsStand pass.new lists.new.guards.items (trees_after action.now t).guards) }
+    ensures known { OnOk result (Known pass.new registers.new) }
+    ensures chain { OnOk result (IsChain pass.new lists.new.chain) }
+    ensures tracks { (t : TreeState) → Tracks pass.old registers.old lists.old t
+        → OnOk result (Tracks pass.new registers.new lists.new (trees_after action.now t)) }
     ensures pass { AfterInterns table.now pass.old result pass.new }
     ensures room { OnOk result (HasRoom lists.new) }
     ensures count { OnOk result (vec_len lists.new.guards ≤ vec_len lists.old.guards + 1) }
 {
     match *action {
-        Action::Computes { d, op, a, b } => { places.computes(table, pass, d, op, a, &b) }
-        Action::Sets { d, word } => { places.put_leaf(table, pass, d, Label::Const(word)) }
+        Action::Computes { d, op, a, b } => { registers.computes(table, pass, d, op, a, &b) }
+        Action::Sets { d, word } => { registers.put_leaf(table, pass, d, Label::Const(word)) }
         Action::Loads {
             width,
             d,
             base,
             offset,
         } => {
-            let address = places.loads(table, pass, &lists.chain, width, d, base, offset)?;
+            let access = Access {
+                width,
+                base,
+                offset,
+            };
+            let address = registers.loads(table, pass, &mut lists.chain, d, access)?;
             lists.push_guard(Guard::Address { width, address });
             Ok(())
         }
@@ -79,15 +85,20 @@ fn step(
             base,
             offset,
         } => {
-            let address = places.stores(table, pass, &mut lists.chain, width, r, base, offset)?;
+            let access = Access {
+                width,
+                base,
+                offset,
+            };
+            let address = registers.stores(table, pass, &mut lists.chain, r, access)?;
             lists.push_guard(Guard::Address { width, address });
             Ok(())
         }
-        Action::Multiplies { sign, a, b } => { places.multiplies(table, pass, sign, a, b) }
+        Action::Multiplies { sign, a, b } => { registers.multiplies(table, pass, sign, a, b) }
         Action::Divides { sign, a, b } => {
-            let dividend = places.get(a);
-            let divisor = places.get(b);
-            places.divides(table, pass, sign, a, b)?;
+            let dividend = registers.get(a);
+            let divisor = registers.get(b);
+            registers.divides(table, pass, sign, a, b)?;
             lists.push_guard(Guard::Division {
                 sign,
                 dividend,
@@ -96,11 +107,11 @@ fn step(
             Ok(())
         }
         Action::MovesHigh { d } => {
-            places.set(d, places.hi);
+            registers.set(d, registers.hi);
             Ok(())
         }
         Action::MovesLow { d } => {
-            places.set(d, places.lo);
+            registers.set(d, registers.lo);
             Ok(())
         }
     }
@@ -109,27 +120,26 @@ fn step(
 fn steps(
     table: &TermTable,
     pass: &mut Pass,
-    places: &mut TermPlaces,
+    registers: &mut TermRegisters,
     lists: &mut RunLists,
     insts: &[Plain],
 ) -> Result<(), TableFull>
     requires table { IsOf table.now pass.old }
     requires legal { HasLegalHistory pass.old }
-    requires known { Known pass.old places.old }
-    requires chain { IsChain pass.old lists.old.chain.stores.items places.old.memory }
+    requires known { Known pass.old registers.old }
+    requires chain { IsChain pass.old lists.old.chain }
     requires room { HasRoom lists.old }
     requires few { vec_len lists.old.guards + length insts.now ≤ ORDER_INSTS }
-    ensures known { OnOk result (Known pass.new places.new) }
-    ensures chain { OnOk result (IsChain pass.new lists.new.chain.stores.items places.new.memory) }
-    ensures stands { (t : TreeState) → Stands pass.old places.old t → GuardsStand pass.old lists.old.guards.items t.guards
-        → OnOk result (Stands pass.new places.new (all_trees (map action_of insts.now) t)
-        × GuardsStand pass.new lists.new.guards.items (all_trees (map action_of insts.now) t).guards) }
+    ensures known { OnOk result (Known pass.new registers.new) }
+    ensures chain { OnOk result (IsChain pass.new lists.new.chain) }
+    ensures tracks { (t : TreeState) → Tracks pass.old registers.old lists.old t
+        → OnOk result (Tracks pass.new registers.new lists.new (all_trees (map action_of insts.now) t)) }
     ensures pass { AfterInterns table.now pass.old result pass.new }
     ensures room { OnOk result (HasRoom lists.new) }
     ensures count { OnOk result (vec_len lists.new.guards ≤ vec_len lists.old.guards + length insts.now) }
 {
     for inst in insts {
-        step(table, pass, places, lists, &inst.action())?;
+        step(table, pass, registers, lists, &inst.action())?;
     }
     Ok(())
 }
@@ -149,12 +159,11 @@ fn start_reg(table: &TermTable, pass: &mut Pass, r: u8) -> Result<Ticket, TableF
     leaf_term(table, pass, Label::Init(Origin::Register(reg)))
 }
 
-/// What each place holds at the start: the constant 0 in register 0, in any other its own label.
-fn start(table: &TermTable, pass: &mut Pass) -> Result<TermPlaces, TableFull>
+/// What registers, HI and LO hold at the start: the constant 0 in register 0, in any other its own label.
+fn start_registers(table: &TermTable, pass: &mut Pass) -> Result<TermRegisters, TableFull>
     requires { IsOf table.now pass.old }
     ensures known { IfOk result (Known pass.new) }
-    ensures stands { IfOk result (λ s. Stands pass.new s start_trees) }
-    ensures chain { IfOk result (λ s. IsChain pass.new [] s.memory) }
+    ensures hold { IfOk result (λ s. Hold pass.new s start_trees) }
     ensures legal { HasLegalHistory pass.new }
     ensures pass { AfterInterns table.now pass.old result pass.new }
 {
@@ -165,18 +174,36 @@ fn start(table: &TermTable, pass: &mut Pass) -> Result<TermPlaces, TableFull>
     }
     let hi = leaf_term(table, pass, Label::Init(Origin::Hi))?;
     let lo = leaf_term(table, pass, Label::Init(Origin::Lo))?;
+    Ok(TermRegisters { regs, hi, lo })
+}
+
+/// The same, with the memory at the start, which begins the chain of stores.
+fn start(
+    table: &TermTable,
+    pass: &mut Pass,
+    lists: &mut RunLists,
+) -> Result<TermRegisters, TableFull>
+    requires table { IsOf table.now pass.old }
+    requires room { HasRoom lists.old }
+    requires empty { IsEmpty lists.old }
+    ensures known { IfOk result (Known pass.new) }
+    ensures chain { OnOk result (IsChain pass.new lists.new.chain) }
+    ensures room { HasRoom lists.new }
+    ensures none { vec_len lists.new.guards ≡ 0 }
+    ensures tracks { IfOk result (λ s. Tracks pass.new s lists.new start_trees) }
+    ensures legal { HasLegalHistory pass.new }
+    ensures pass { AfterInterns table.now pass.old result pass.new }
+{
+    let registers = start_registers(table, pass)?;
     let memory = leaf_term(table, pass, Label::Mem0)?;
-    Ok(TermPlaces {
-        regs,
-        hi,
-        lo,
-        memory,
-    })
+    lists.chain.memories.push_reserved(memory);
+    Ok(registers)
 }
 
 /// The exit, with the tickets of what it reads.
-fn leave(places: &TermPlaces, exit: &Exit) -> TermExit
-    ensures { (p : PassState) (t : TreeState) → Stands p places.now t → LeavesBy p result (exit_shape exit.now) (exit_operands exit.now t) }
+fn leave(registers: &TermRegisters, exit: &Exit) -> TermExit
+    ensures { (p : PassState) (t : TreeState) → Hold p registers.now t
+        → LeavesBy p result (exit_shape exit.now) (exit_operands exit.now t) }
 {
     match *exit {
         Exit::Goto(t) => TermExit::Goto(t),
@@ -188,8 +215,8 @@ fn leave(places: &TermPlaces, exit: &Exit) -> TermExit
             other,
         } => TermExit::BranchPair {
             test,
-            a: places.get(rs),
-            b: places.get(rt),
+            a: registers.get(rs),
+            b: registers.get(rt),
             then,
             other,
         },
@@ -200,17 +227,17 @@ fn leave(places: &TermPlaces, exit: &Exit) -> TermExit
             other,
         } => TermExit::BranchZero {
             test,
-            a: places.get(rs),
+            a: registers.get(rs),
             then,
             other,
         },
         Exit::Call { function, next } => TermExit::Call { function, next },
-        Exit::Return => TermExit::Return(places.get(Reg::LINK)),
+        Exit::Return => TermExit::Return(registers.get(Reg::LINK)),
         Exit::Out(next) => TermExit::Out {
-            word: places.get(Reg::ARGUMENT),
+            word: registers.get(Reg::ARGUMENT),
             next,
         },
-        Exit::Halt => TermExit::Halt(places.get(Reg::ARGUMENT)),
+        Exit::Halt => TermExit::Halt(registers.get(Reg::ARGUMENT)),
     }
 }
 
@@ -218,23 +245,22 @@ fn leave(places: &TermPlaces, exit: &Exit) -> TermExit
 fn put_own(
     table: &TermTable,
     pass: &mut Pass,
-    places: &mut TermPlaces,
+    registers: &mut TermRegisters,
     exit: &Exit,
 ) -> Result<(), TableFull>
     requires table { IsOf table.now pass.old }
-    requires known { Known pass.old places.old }
-    ensures known { OnOk result (Known pass.new places.new) }
-    ensures stands { (t : TreeState) → Stands pass.old places.old t → OnOk result (Stands pass.new places.new (exit_trees exit.now t)) }
-    ensures memory { places.new.memory ≡ places.old.memory }
+    requires known { Known pass.old registers.old }
+    ensures known { OnOk result (Known pass.new registers.new) }
+    ensures hold { (t : TreeState) → Hold pass.old registers.old t → OnOk result (Hold pass.new registers.new (exit_trees exit.now t)) }
     ensures pass { AfterInterns table.now pass.old result pass.new }
 {
     match *exit {
         Exit::Call {
             function: _,
             next: _,
-        } => places.put_leaf(table, pass, Reg::LINK, Label::Init(Origin::Link)),
-        Exit::Out(_) => places.put_leaf(table, pass, Reg::RESULT, Label::Const(1)),
-        Exit::Halt => places.put_leaf(table, pass, Reg::RESULT, Label::Const(10)),
+        } => registers.put_leaf(table, pass, Reg::LINK, Label::Init(Origin::Link)),
+        Exit::Out(_) => registers.put_leaf(table, pass, Reg::RESULT, Label::Const(1)),
+        Exit::Halt => registers.put_leaf(table, pass, Reg::RESULT, Label::Const(10)),
         _ => Ok(()),
     }
 }
@@ -243,23 +269,25 @@ fn put_own(
 fn run_slot(
     table: &TermTable,
     pass: &mut Pass,
-    places: &mut TermPlaces,
+    registers: &mut TermRegisters,
     lists: &mut RunLists,
     slot: &Option<Plain>,
 ) -> Result<(), TableFull>
     requires table { IsOf table.now pass.old }
     requires legal { HasLegalHistory pass.old }
-    requires known { Known pass.old places.old }
-    requires chain { IsChain pass.old lists.old.chain.stores.items places.old.memory }
+    requires known { Known pass.old registers.old }
+    requires chain { IsChain pass.old lists.old.chain }
     requires room { HasRoom lists.old }
     requires few { vec_len lists.old.guards ≤ ORDER_INSTS }
-    ensures stands { (t : TreeState) → Stands pass.old places.old t → GuardsStand pass.old lists.old.guards.items t.guards
-        → OnOk result (Stands pass.new places.new (all_trees (slot_actions slot.now) t)
-        × GuardsStand pass.new lists.new.guards.items (all_trees (slot_actions slot.now) t).guards) }
+    ensures chain { OnOk result (IsChain pass.new lists.new.chain) }
+    ensures room { OnOk result (HasRoom lists.new) }
+    ensures count { OnOk result (vec_len lists.new.guards ≤ vec_len lists.old.guards + 1) }
+    ensures tracks { (t : TreeState) → Tracks pass.old registers.old lists.old t
+        → OnOk result (Tracks pass.new registers.new lists.new (all_trees (slot_actions slot.now) t)) }
     ensures pass { AfterInterns table.now pass.old result pass.new }
 {
     match slot {
-        Some(inst) => step(table, pass, places, lists, &inst.action()),
+        Some(inst) => step(table, pass, registers, lists, &inst.action()),
         None => Ok(()),
     }
 }
@@ -274,20 +302,27 @@ fn run_code(
 ) -> Result<SymState, TableFull>
     requires table { IsOf table.now pass.old }
     requires room { HasRoom lists }
-    requires none { (lists.guards.items ≡ []) × (lists.chain.stores.items ≡ []) }
+    requires empty { IsEmpty lists }
     requires few { length insts.now ≤ ORDER_INSTS }
     ensures trees { IfOk result (λ s. StandsFor pass.new s.places s.exit s.guards.items
         (code_trees (map action_of insts.now) exit.now (slot_actions slot.now))) }
     ensures legal { HasLegalHistory pass.new }
     ensures pass { AfterInterns table.now pass.old result pass.new }
 {
-    let mut places = start(table, pass)?;
-    steps(table, pass, &mut places, &mut lists, insts)?;
-    let left = leave(&places, exit);
-    put_own(table, pass, &mut places, exit)?;
-    run_slot(table, pass, &mut places, &mut lists, slot)?;
+    let mut registers = start(table, pass, &mut lists)?;
+    steps(table, pass, &mut registers, &mut lists, insts)?;
+    let left = leave(&registers, exit);
+    put_own(table, pass, &mut registers, exit)?;
+    run_slot(table, pass, &mut registers, &mut lists, slot)?;
+    let memory = lists.chain.memory_term(table, pass)?;
+    let TermRegisters { regs, hi, lo } = registers;
     Ok(SymState {
-        places,
+        places: TermPlaces {
+            regs,
+            hi,
+            lo,
+            memory,
+        },
         exit: left,
         guards: lists.guards,
     })

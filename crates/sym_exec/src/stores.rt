@@ -1,15 +1,16 @@
-//! The stores that the term of memory is made of. They are kept beside it, so that a load finds the memory that it sees,
-//! and a store its place among them, by one walk from the last store inward.
-ghost use Rattle.std.specs.Prelude.{◌≡◌, ℕ, ◌<◌, ◌+◌, ◌&&◌, [], OnOk, IfOk, vec_len, vec_capacity};
+//! The stores that a run's memory is made of. They are kept in the order of the term of memory, so that a load finds the
+//! memory that it sees, and a store its place among them, by one walk from the last store inward. Terms of memory are made
+//! where a load or the end of the run needs them: a store that goes inside others makes none of theirs anew.
+ghost use Rattle.std.specs.Prelude.{◌≡◌, ℕ, ◌<◌, ◌≤◌, ◌+◌, ◌&&◌, [], IfOk, length, take, drop, vec_len};
 ghost use Rattle.mblock.specs.declared.limits.TheConstants.{ORDER_INSTS};
-ghost use Rattle.sym_terms.specs.declared.label.Label.TheVariants.{Load};
-ghost use Rattle.sym_terms.specs.Trees.{Tree, binary};
+ghost use Rattle.sym_terms.specs.declared.label.Label.TheVariants.{Load, Store};
+ghost use Rattle.sym_terms.specs.Trees.{Tree, binary, ternary};
 ghost use Rattle.sym_terms.specs.NormalForms.{address_of, are_disjoint, load_tree, store_tree};
 ghost use Rattle.term_table.specs.Passes.{PassState, IsOf};
 ghost use Rattle.sym_exec.specs.MipsTerms.{HasSeen, HasTree};
 ghost use Rattle.term_table.specs.Trees.{HasLegalHistory};
 ghost use Rattle.sym_exec.specs.Standing.{AfterInterns, IsAddress};
-ghost use Rattle.sym_exec.specs.Stores.{passes, passes_inward, Makes, IsChain, Rebuilds, HasStoreRoom};
+ghost use Rattle.sym_exec.specs.Stores.{passes, passes_inward, LeadsTo, MakeMemory, IsChain, HasStoreRoom};
 
 use crate::address::TermAddress;
 use crate::terms::{binary_term, ternary_term};
@@ -17,21 +18,23 @@ use sym_terms::Label;
 use term_table::{Pass, TableFull, TermTable, Ticket};
 use words::Width;
 
-/// A store that the term of memory is made of: how wide, where and what, and the memory before it.
-#[derive(Clone, Copy, Debug)]
+/// A store that memory is made of: how wide, where and what. The address's base and offset stand beside its ticket, in 32
+/// bytes together, since a walk reads them and an insertion moves them.
+#[derive(Clone, Copy)]
 pub(crate) struct Stored {
-    pub(crate) width: Width,
-    pub(crate) at: TermAddress,
     pub(crate) address: Ticket,
     pub(crate) value: Ticket,
-    pub(crate) before: Ticket,
+    pub(crate) base: Ticket,
+    pub(crate) offset: u32,
+    pub(crate) width: Width,
 }
 
-/// The stores of a run, the last one outermost, and those that are set aside while one is put inside them.
-#[derive(Debug, Drop)]
+/// The stores of a run, innermost first, and the terms of memory that were needed so far: the first is the memory at the
+/// start, each further one that behind one store more.
+#[derive(Drop)]
 pub(crate) struct StoreChain {
     pub(crate) stores: Vec<Stored>,
-    pub(crate) moved: Vec<Stored>,
+    pub(crate) memories: Vec<Ticket>,
 }
 
 // Whether what stands at two offsets from one base shares no byte.
@@ -48,170 +51,171 @@ fn are_disjoint(v: Width, a: u32, w: Width, b: u32) -> bool
 
 impl Stored {
     ghost use Rattle.std.specs.Prelude.{◌≡◌};
-    ghost use Rattle.sym_exec.specs.Stores.{passes, passes_inward};
+    ghost use Rattle.sym_exec.specs.Stores.{address_of_store, passes, passes_inward};
+
+    fn at(&self) -> TermAddress
+        ensures { result ≡ address_of_store self.now }
+    {
+        TermAddress {
+            base: self.base,
+            offset: self.offset,
+        }
+    }
 
     /// Whether an access doesn't meet this store.
     fn is_passed(&self, width: Width, at: &TermAddress) -> bool
         ensures { result ≡ passes self.now width at.now }
     {
-        self.at.base == at.base && are_disjoint(self.width, self.at.offset, width, at.offset)
+        self.base == at.base && are_disjoint(self.width, self.offset, width, at.offset)
     }
 
     /// Whether a store at this address belongs inside this one.
     fn is_passed_inward(&self, width: Width, at: &TermAddress) -> bool
         ensures { result ≡ passes_inward self.now width at.now }
     {
-        let (outer, inner) = (self.at.offset, at.offset);
+        let (outer, inner) = (self.offset, at.offset);
         self.is_passed(width, at) && inner.cast_signed() < outer.cast_signed()
     }
 }
 
-/// The memory that a load sees, behind all stores that it passes.
-fn seen_memory(stores: &[Stored], memory: Ticket, width: Width, at: &TermAddress) -> Ticket
-    ensures { (p : PassState) (m b : Tree) → HasLegalHistory p → IsChain p stores.now memory → HasTree p memory m → IsAddress p at.now (address_of b)
-        → (n : Tree) × HasTree p result n × (load_tree width m b ≡ binary (Load width) n b) }
+/// How many stores make the memory that a load sees: those inside all that it passes.
+fn stores_seen(stores: &[Stored], width: Width, at: &TermAddress) -> usize
+    ensures count { result ≤ length stores.now }
+    ensures tree { (p : PassState) (m b : Tree) → HasLegalHistory p → MakeMemory p stores.now m → IsAddress p at.now (address_of b)
+        → (n : Tree) × MakeMemory p (take result stores.now) n × (load_tree width m b ≡ binary (Load width) n b) }
 {
-    let mut memory = memory;
-    let mut rest = stores;
-    while let Some((last, before)) = rest.split_last() {
+    let mut inner = stores;
+    while let Some((last, rest)) = inner.split_last() {
         if !last.is_passed(width, at) {
-            return memory;
+            return inner.len();
         }
-        memory = last.before;
-        rest = before;
+        inner = rest;
     }
-    memory
+    0
+}
+
+/// How many stores a store at this address goes outside of; it goes inside the others.
+fn stores_inside(stores: &[Stored], width: Width, at: &TermAddress) -> usize
+    ensures count { result ≤ length stores.now }
+    ensures tree { (p : PassState) (m b v : Tree) → HasLegalHistory p → MakeMemory p stores.now m → IsAddress p at.now (address_of b)
+        → (n : Tree) × MakeMemory p (take result stores.now) n
+        × LeadsTo p (ternary (Store width) n b v) (drop result stores.now) (store_tree width m b v) }
+{
+    let mut inner = stores;
+    while let Some((last, rest)) = inner.split_last() {
+        if !last.is_passed_inward(width, at) {
+            return inner.len();
+        }
+        inner = rest;
+    }
+    0
 }
 
 impl StoreChain {
-    ghost use Rattle.std.specs.Prelude.{◌≡◌, ℕ, ◌<◌, ◌+◌, [], OnOk, IfOk, vec_len, vec_capacity};
+    ghost use Rattle.std.specs.Prelude.{◌≡◌, ℕ, ◌<◌, ◌≤◌, ◌+◌, IfOk, take, vec_len};
     ghost use Rattle.mblock.specs.declared.limits.TheConstants.{ORDER_INSTS};
-    ghost use Rattle.sym_terms.specs.Trees.{Tree, ternary};
-    ghost use Rattle.sym_terms.specs.declared.label.Label.TheVariants.{Store};
+    ghost use Rattle.sym_terms.specs.Trees.{Tree};
     ghost use Rattle.sym_terms.specs.NormalForms.{address_of, load_tree, store_tree};
     ghost use Rattle.term_table.specs.Passes.{PassState, IsOf};
     ghost use Rattle.sym_exec.specs.MipsTerms.{HasSeen, HasTree};
     ghost use Rattle.term_table.specs.Trees.{HasLegalHistory};
     ghost use Rattle.sym_exec.specs.Standing.{AfterInterns, IsAddress};
-    ghost use Rattle.sym_exec.specs.Stores.{Makes, IsChain, Rebuilds, HasStoreRoom};
+    ghost use Rattle.sym_exec.specs.Stores.{address_of_store, MakeMemory, IsChain, HasStoreRoom};
+
+    /// The term of the memory behind so many stores; those of the memories before it are made with it.
+    fn memory_behind(
+        &mut self,
+        table: &TermTable,
+        pass: &mut Pass,
+        count: usize,
+    ) -> Result<Ticket, TableFull>
+        requires table { IsOf table.now pass.old }
+        requires chain { IsChain pass.old self.old }
+        requires room { HasStoreRoom self.old }
+        requires few { vec_len self.old.stores ≤ ORDER_INSTS + 1 }
+        requires count { count ≤ vec_len self.old.stores }
+        ensures chain { IsChain pass.new self.new }
+        ensures stores { self.new.stores ≡ self.old.stores }
+        ensures room { HasStoreRoom self.new }
+        ensures tree { (t : Tree) → MakeMemory pass.old (take count self.old.stores.items) t → IfOk result (λ k. HasTree pass.new k t) }
+        ensures pass { AfterInterns table.now pass.old result pass.new }
+    {
+        while self.memories.len() <= count {
+            let made = self.memories.len();
+            let stored = self.stores[made - 1];
+            let label = Label::Store(stored.width);
+            let before = self.memories[made - 1];
+            let memory = ternary_term(table, pass, label, before, stored.address, stored.value)?;
+            self.memories.push_reserved(memory);
+        }
+        Ok(self.memories[count])
+    }
+
+    /// The term of the memory behind all stores.
+    pub(crate) fn memory_term(
+        &mut self,
+        table: &TermTable,
+        pass: &mut Pass,
+    ) -> Result<Ticket, TableFull>
+        requires table { IsOf table.now pass.old }
+        requires chain { IsChain pass.old self.old }
+        requires room { HasStoreRoom self.old }
+        requires few { vec_len self.old.stores ≤ ORDER_INSTS + 1 }
+        ensures tree { (t : Tree) → MakeMemory pass.old self.old.stores.items t → IfOk result (λ k. HasTree pass.new k t) }
+        ensures pass { AfterInterns table.now pass.old result pass.new }
+    {
+        let count = self.stores.len();
+        self.memory_behind(table, pass, count)
+    }
 
     /// The term of a load from the memory that the stores make.
     pub(crate) fn load_term(
-        &self,
+        &mut self,
         table: &TermTable,
         pass: &mut Pass,
-        memory: Ticket,
         width: Width,
         at: &TermAddress,
         address: Ticket,
     ) -> Result<Ticket, TableFull>
         requires table { IsOf table.now pass.old }
         requires legal { HasLegalHistory pass.old }
-        requires chain { IsChain pass.old self.now.stores.items memory }
+        requires chain { IsChain pass.old self.old }
+        requires room { HasStoreRoom self.old }
+        requires few { vec_len self.old.stores ≤ ORDER_INSTS + 1 }
         requires address { HasSeen pass.old address }
         requires at { (b : Tree) → HasTree pass.old address b → IsAddress pass.old at.now (address_of b) }
+        ensures chain { IsChain pass.new self.new }
+        ensures stores { self.new.stores ≡ self.old.stores }
+        ensures room { HasStoreRoom self.new }
         ensures seen { IfOk result (λ t. HasSeen pass.new t) }
-        ensures tree { (m b : Tree) → HasTree pass.old memory m → HasTree pass.old address b → IfOk result (λ t. HasTree pass.new t (load_tree width m b)) }
+        ensures tree { (m b : Tree) → MakeMemory pass.old self.old.stores.items m → HasTree pass.old address b
+            → IfOk result (λ t. HasTree pass.new t (load_tree width m b)) }
         ensures pass { AfterInterns table.now pass.old result pass.new }
     {
-        let memory = seen_memory(self.stores.as_slice(), memory, width, at);
+        let count = stores_seen(self.stores.as_slice(), width, at);
+        let memory = self.memory_behind(table, pass, count)?;
         binary_term(table, pass, Label::Load(width), memory, address)
     }
 
-    // Sets aside the stores that a store at this address belongs inside of. Answers the memory before them.
-    fn set_aside(&mut self, memory: Ticket, width: Width, at: &TermAddress) -> Ticket
+    /// A store more. It goes inside those that it doesn't meet and that have greater offsets; the terms of memory behind its
+    /// place are made anew where they are needed.
+    pub(crate) fn store(&mut self, stored: Stored)
         requires room { HasStoreRoom self.old }
         requires few { vec_len self.old.stores < ORDER_INSTS + 1 }
-        ensures chain { (p : PassState) → IsChain p self.old.stores.items memory → IsChain p self.new.stores.items result }
-        ensures trees { (p : PassState) (m b v : Tree) → HasLegalHistory p → IsChain p self.old.stores.items memory → HasTree p memory m
-            → IsAddress p at.now (address_of b)
-            → (n : Tree) × HasTree p result n × Rebuilds p self.new.moved.items (ternary (Store width) n b v) (store_tree width m b v) }
-        ensures count { vec_len self.new.stores + vec_len self.new.moved ≡ vec_len self.old.stores }
-        ensures capacity { (vec_capacity self.new.stores ≡ vec_capacity self.old.stores) × (vec_capacity self.new.moved ≡ vec_capacity self.old.moved) }
-    {
-        let mut memory = memory;
-        while let Some(last) = self.stores.pop() {
-            if !last.is_passed_inward(width, at) {
-                self.stores.push_reserved(last);
-                return memory;
-            }
-            memory = last.before;
-            self.moved.push_reserved(last);
-        }
-        memory
-    }
-
-    // A store more, outermost.
-    fn push(
-        &mut self,
-        table: &TermTable,
-        pass: &mut Pass,
-        memory: Ticket,
-        stored: Stored,
-    ) -> Result<Ticket, TableFull>
-        requires table { IsOf table.now pass.old }
-        requires room { vec_len self.old.stores < vec_capacity self.old.stores }
-        requires chain { IsChain pass.old self.old.stores.items memory }
-        requires made { (t : Tree) → HasTree pass.old memory t → (u : Tree) × Makes pass.old stored t u }
-        ensures chain { IfOk result (IsChain pass.new self.new.stores.items) }
-        ensures tree { (t u : Tree) → HasTree pass.old memory t → Makes pass.old stored t u → IfOk result (λ k. HasTree pass.new k u) }
-        ensures moved { self.new.moved ≡ self.old.moved }
+        ensures chain { (p : PassState) (b v : Tree) → HasLegalHistory p → IsChain p self.old → HasTree p stored.address b
+            → HasTree p stored.value v
+            → IsAddress p (address_of_store stored) (address_of b) → IsChain p self.new }
+        ensures tree { (p : PassState) (m b v : Tree) → HasLegalHistory p → MakeMemory p self.old.stores.items m
+            → HasTree p stored.address b
+            → HasTree p stored.value v → IsAddress p (address_of_store stored) (address_of b)
+            → MakeMemory p self.new.stores.items (store_tree stored.width m b v) }
+        ensures room { HasStoreRoom self.new }
         ensures count { vec_len self.new.stores ≡ vec_len self.old.stores + 1 }
-        ensures capacity { vec_capacity self.new.stores ≡ vec_capacity self.old.stores }
-        ensures pass { AfterInterns table.now pass.old result pass.new }
     {
-        self.stores.push_reserved(Stored {
-            before: memory,
-            ..stored
-        });
-        ternary_term(
-            table,
-            pass,
-            Label::Store(stored.width),
-            memory,
-            stored.address,
-            stored.value,
-        )
-    }
-
-    /// The term of memory after a store, which goes inside those that it doesn't meet and that have greater offsets.
-    pub(crate) fn store_term(
-        &mut self,
-        table: &TermTable,
-        pass: &mut Pass,
-        memory: Ticket,
-        width: Width,
-        at: &TermAddress,
-        address: Ticket,
-        value: Ticket,
-    ) -> Result<Ticket, TableFull>
-        requires table { IsOf table.now pass.old }
-        requires legal { HasLegalHistory pass.old }
-        requires room { HasStoreRoom self.old }
-        requires few { vec_len self.old.stores < ORDER_INSTS + 1 }
-        requires chain { IsChain pass.old self.old.stores.items memory }
-        requires address { HasSeen pass.old address }
-        requires value { HasSeen pass.old value }
-        requires at { (b : Tree) → HasTree pass.old address b → IsAddress pass.old at.now (address_of b) }
-        ensures chain { IfOk result (IsChain pass.new self.new.stores.items) }
-        ensures tree { (m b v : Tree) → HasTree pass.old memory m → HasTree pass.old address b → HasTree pass.old value v
-            → IfOk result (λ k. HasTree pass.new k (store_tree width m b v)) }
-        ensures room { OnOk result (HasStoreRoom self.new) }
-        ensures count { OnOk result (vec_len self.new.stores ≡ vec_len self.old.stores + 1) }
-        ensures pass { AfterInterns table.now pass.old result pass.new }
-    {
-        let inner = self.set_aside(memory, width, at);
-        let stored = Stored {
-            width,
-            at: *at,
-            address,
-            value,
-            before: inner,
-        };
-        let mut memory = self.push(table, pass, inner, stored)?;
-        while let Some(stored) = self.moved.pop() {
-            memory = self.push(table, pass, memory, stored)?;
+        let place = stores_inside(self.stores.as_slice(), stored.width, &stored.at());
+        match self.stores.insert(place, stored) {
+            Ok(()) => self.memories.truncate(place + 1),
+            Err(_) => unreachable!(),
         }
-        Ok(memory)
     }
 }

@@ -80,7 +80,8 @@ fn sum_term(table: &TermTable, pass: &mut Pass, a: Ticket, b: Ticket) -> Result<
     requires a { HasSeen pass.old a }
     requires b { HasSeen pass.old b }
     ensures seen { IfOk result (λ t. HasSeen pass.new t) }
-    ensures tree { (x y : Tree) → HasTree pass.old a x → HasTree pass.old b y → IfOk result (λ t. HasTree pass.new t (sum_tree x y (constant_of y))) }
+    ensures tree { (x y : Tree) → HasTree pass.old a x → HasTree pass.old b y
+        → IfOk result (λ t. HasTree pass.new t (sum_tree x y (constant_of y))) }
     ensures pass { AfterInterns table.now pass.old result pass.new }
 {
     match constant_at(table, pass, b) {

@@ -51,7 +51,8 @@ operator_at n =
     (if n == 13 then Some MultuHigh else
     (if n == 14 then Some MultuLow else
     (if n == 15 then Some DivQuotient else
-    (if n == 16 then Some DivRemainder else (if n == 17 then Some DivuQuotient else (if n == 18 then Some DivuRemainder else None))))))))))))))))))
+    (if n == 16 then Some DivRemainder else (if n == 17 then Some DivuQuotient
+    else (if n == 18 then Some DivuRemainder else None))))))))))))))))))
 
 abbrev pub origin_code : Origin → ℕ
 origin_code (Register r) = r

@@ -103,5 +103,6 @@ store_tree w (node l none) b x = ternary (Store w) (node l none) b x
 store_tree w (node l (more m none)) b x = ternary (Store w) (node l (more m none)) b x
 store_tree w (node l (more m (more a none))) b x = ternary (Store w) (node l (more m (more a none))) b x
 store_tree w (node l (more m (more a (more v none)))) b x =
-    let r = store_tree w m b x in if is_passed_inward l (address_of a) w (address_of b) then ternary l r a v else ternary (Store w) (ternary l m a v) b x
+    let r = store_tree w m b x in if is_passed_inward l (address_of a) w (address_of b) then ternary l r a v
+    else ternary (Store w) (ternary l m a v) b x
 store_tree w (node l (more m (more a (more v (more u rest))))) b x = ternary (Store w) (node l (more m (more a (more v (more u rest))))) b x

@@ -35,7 +35,8 @@ abbrev mutual
   pub tree_word : Tree → State → ℕ → ℕ
   tree_word (node l none) s link = leaf_value l s link
   tree_word (node l (more a none)) s link = 0
-  tree_word (node l (more a (more b none))) s link = binary_value l s.mapped (tree_memory a s link) (tree_word a s link) (tree_word b s link)
+  tree_word (node l (more a (more b none))) s link = binary_value l s.mapped (tree_memory a s link) (tree_word a s link)
+      (tree_word b s link)
   tree_word (node l (more a (more b (more c rest)))) s link = 0
 
   -- the memory that a tree stands for; a store where no word is changes nothing
@@ -43,5 +44,6 @@ abbrev mutual
   tree_memory (node l none) s link = s.memory
   tree_memory (node l (more a none)) s link = s.memory
   tree_memory (node l (more a (more b none))) s link = s.memory
-  tree_memory (node l (more a (more b (more c none)))) s link = ternary_memory l s.mapped (tree_memory a s link) (tree_word b s link) (tree_word c s link)
+  tree_memory (node l (more a (more b (more c none)))) s link =
+      ternary_memory l s.mapped (tree_memory a s link) (tree_word b s link) (tree_word c s link)
   tree_memory (node l (more a (more b (more c (more d rest))))) s link = s.memory

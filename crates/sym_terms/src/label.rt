@@ -1,12 +1,14 @@
 //! Labels, and the 64-bit word of each.
 ghost use Rattle.std.specs.Prelude.{◌≡◌, ◌⊎◌, ℕ, ◌<◌, IfSome, Some, true};
 ghost use Rattle.sym_terms.specs.declared.label.Label.{Label};
-ghost use Rattle.sym_terms.specs.Labels.{operator_code, operator_at, origin_code, origin_at, width_code, width_at, label_word, label_with, is_label, is_origin};
+ghost use Rattle.sym_terms.specs.Labels.{operator_code, operator_at, origin_code, origin_at, width_code, width_at, label_word, label_with};
+ghost use Rattle.sym_terms.specs.Labels.{is_label, is_origin};
 
 use mips_isa::NonzeroReg;
 use words::{Operator, Width};
 
-/// Where a value that is there at the start of a block comes from: a register 1 to 31, HI, LO, or the link that a call leaves in register 31.
+/// Where a value that is there at the start of a block comes from: a register 1 to 31, HI, LO, or the link that a call leaves in register
+/// 31.
 #[derive(Clone, Copy, Debug, PartialEq, Eq)]
 pub enum Origin {
     Register(NonzeroReg),

@@ -68,7 +68,8 @@ SeenAgree = (s : Shape) (items : List Item) (p q : ℕ) (v u : Walker) → IsSha
     → get_elem? (world_of s items).passes p ≡ some v → get_elem? (world_of s items).passes q ≡ some u
     → StartsWith v.seen u.seen ⊎ StartsWith u.seen v.seen
 
--- A word that an item changes is a link that was none and becomes the node of the pass, or a content word of the pass's next node, which no ticket names yet
+-- A word that an item changes is a link that was none and becomes the node of the pass, or a content word of the pass's next node, which
+-- no ticket names yet
 pub record Links (s : Shape) (w w' : World) (v : Walker) (a : ℕ) : Type 0 where
   pub call : Call
   pub stage : v.stage ≡ Linking call a
@@ -123,5 +124,6 @@ IsPlaceOf s w v exchange_link a = IsReachedLink s w a
 
 -- the word of each step that an item takes is one that its kind may be on
 abbrev pub EachStepHasItsPlace : Type 0
-EachStepHasItsPlace = (s : Shape) (items : List Item) (i : Item) (v : Walker) → IsShape s → get_elem? (world_of s items).passes i.by ≡ some v
+EachStepHasItsPlace = (s : Shape) (items : List Item) (i : Item) (v : Walker) → IsShape s
+    → get_elem? (world_of s items).passes i.by ≡ some v
     → IsPlaceOf s (world_of s items) (step_start s i.choice v) (kind (step_start s i.choice v).stage) (place s (step_start s i.choice v))

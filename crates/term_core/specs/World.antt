@@ -168,7 +168,8 @@ ends h v c a =
 
 abbrev pub turn_without_node : List Entry → Walker → Call → Bool → ℕ → Turn
 turn_without_node h v (Intern label kids) w a =
-    cond (v.room == 0) (ends h v (Intern label kids) Full) (goes v (cond w (Linking (Intern label kids) a) (Writing (Intern label kids) a 0)))
+    cond (v.room == 0) (ends h v (Intern label kids) Full) (goes v
+    (cond w (Linking (Intern label kids) a) (Writing (Intern label kids) a 0)))
 turn_without_node h v (Find label kids) w a = ends h v (Find label kids) Missing
 turn_without_node h v (Read t) w a = goes v Idle
 
@@ -192,7 +193,8 @@ turn_at s h n v Idle = goes v Idle
 turn_at s h n v (Looking k) = record { walker = record v { stage = Idle; seen = take (max k (length v.seen)) h }; said = [] }
 turn_at s h n v (AtLink c w a) = follows h (record v { probes = suc v.probes }) c w a n
 turn_at s h n v (AtContent c w k i) =
-    cond (n == slice_index (content c) i) (cond (i == 3) (ends h v c (hit c k)) (goes v (AtContent c w k (suc i)))) (goes v (AtLink c w (link_of s k)))
+    cond (n == slice_index (content c) i) (cond (i == 3) (ends h v c (hit c k)) (goes v (AtContent c w k (suc i))))
+    (goes v (AtLink c w (link_of s k)))
 turn_at s h n v (Writing c a i) = goes v (cond (i == 3) (Linking c a) (Writing c a (suc i)))
 turn_at s h n v (Linking c a) = turn_of_exchange h v c a n
 turn_at s h n v (Reading t xs) = cond (length xs == 3) (ends h v (Read t) (answer_of (xs ++ n ∷ []))) (goes v (Reading t (xs ++ n ∷ [])))

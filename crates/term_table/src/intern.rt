@@ -54,7 +54,8 @@ impl Nodes {
         requires before { seat.old.me ≡ at C.start C.told (AtContent C.call _written node index) _probes }
         ensures table { (seat.new.table_id ≡ seat.old.table_id) × (seat.new.me.1 ≡ []) }
         ensures more { result ≡ true → index < 3 → seat.new.me ≡ at C.start C.told (AtContent C.call _written node (suc index)) _probes }
-        ensures same { result ≡ true → index ≡ 3 → Ended C.shape C.start C.told C.call (hit C.call node) C.start.own C.start.room _probes seat.new.me.0 }
+        ensures same { result ≡ true → index ≡ 3
+            → Ended C.shape C.start C.told C.call (hit C.call node) C.start.own C.start.room _probes seat.new.me.0 }
         ensures differs { result ≡ false → seat.new.me ≡ at C.start C.told (AtLink C.call _written (link_of C.shape node)) _probes }
     {
         let found = self.load::<C>(seat, self.size.heads + 5 * node + 1 + index);
@@ -126,7 +127,8 @@ impl Nodes {
         requires node { node < self.now.size.workers * self.now.size.nodes }
         requires before { seat.old.me ≡ at C.start C.told (AtContent C.call _written node 0) _probes }
         ensures table { (seat.new.table_id ≡ seat.old.table_id) × (seat.new.me.1 ≡ []) }
-        ensures same { result ≡ true → Ended C.shape C.start C.told C.call (hit C.call node) C.start.own C.start.room _probes seat.new.me.0 }
+        ensures same { result ≡ true
+            → Ended C.shape C.start C.told C.call (hit C.call node) C.start.own C.start.room _probes seat.new.me.0 }
         ensures differs { result ≡ false → seat.new.me ≡ at C.start C.told (AtLink C.call _written (link_of C.shape node)) _probes }
     {
         for i in 0..3 {

@@ -97,7 +97,8 @@ impl Nodes {
         requires before { seat.old.me ≡ at C.start C.told (Reading node row.now) 0 }
         ensures table { (seat.new.table_id ≡ seat.old.table_id) × (seat.new.me.1 ≡ []) }
         ensures more { length row.now < 3 → seat.new.me ≡ at C.start C.told (Reading node (row.now ++ result ∷ [])) 0 }
-        ensures last { length row.now ≡ 3 → Ended C.shape C.start C.told C.call (answer_of (row.now ++ result ∷ [])) C.start.own C.start.room 0 seat.new.me.0 }
+        ensures last { length row.now ≡ 3
+            → Ended C.shape C.start C.told C.call (answer_of (row.now ++ result ∷ [])) C.start.own C.start.room 0 seat.new.me.0 }
     {
         self.load::<C>(seat, self.size.heads + 5 * node + 1 + row.len() as u64)
     }

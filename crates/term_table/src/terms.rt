@@ -43,9 +43,11 @@ impl TermTable {
         ensures extends { Extends pass.old pass.new }
         ensures legal { HasLegalHistory pass.new }
         ensures seen { IfOk result (λ i. HasSeenTerm L.coding pass.new i.ticket) }
-        ensures tree { (xs : Trees L) → HaveTerms L.coding pass.old children.now xs → IfOk result (λ i. HasTerm L.coding pass.new i.ticket (node label xs)) }
+        ensures tree { (xs : Trees L) → HaveTerms L.coding pass.old children.now xs
+            → IfOk result (λ i. HasTerm L.coding pass.new i.ticket (node label xs)) }
         ensures full { IfErr result (λ _. linked pass.new ≡ pass.new.nodes) }
-        ensures absent { (xs : Trees L) → HaveTerms L.coding pass.old children.now xs → IfErr result (λ _. LacksTerm L.coding pass.new (node label xs)) }
+        ensures absent { (xs : Trees L) → HaveTerms L.coding pass.old children.now xs
+            → IfErr result (λ _. LacksTerm L.coding pass.new (node label xs)) }
     {
         self.intern_word(pass, label.word(), children)
     }
@@ -64,8 +66,10 @@ impl TermTable {
         ensures extends { Extends pass.old pass.new }
         ensures legal { HasLegalHistory pass.new }
         ensures seen { IfSome result.ticket (HasSeenTerm L.coding pass.new) }
-        ensures tree { (xs : Trees L) → HaveTerms L.coding pass.old children.now xs → IfSome result.ticket (λ t. HasTerm L.coding pass.new t (node label xs)) }
-        ensures absent { (xs : Trees L) → HaveTerms L.coding pass.old children.now xs → IfNone result.ticket (LacksTerm L.coding pass.new (node label xs)) }
+        ensures tree { (xs : Trees L) → HaveTerms L.coding pass.old children.now xs
+            → IfSome result.ticket (λ t. HasTerm L.coding pass.new t (node label xs)) }
+        ensures absent { (xs : Trees L) → HaveTerms L.coding pass.old children.now xs
+            → IfNone result.ticket (LacksTerm L.coding pass.new (node label xs)) }
     {
         self.find_word(pass, label.word(), children)
     }
@@ -82,7 +86,8 @@ impl TermTable {
         ensures extends { Extends pass.old pass.new }
         ensures legal { HasLegalHistory pass.new }
         ensures seen { HasSeenTerms L.coding pass.new result.children.items }
-        ensures tree { (x : Tree L) → HasTerm L.coding pass.old ticket x → IsTermNode L.coding pass.new result.label result.children.items x }
+        ensures tree { (x : Tree L) → HasTerm L.coding pass.old ticket x
+            → IsTermNode L.coding pass.new result.label result.children.items x }
     {
         let node = self.read_word(pass, ticket);
         // The word of a term over these labels is that of a label.

@@ -1,3 +1,4 @@
+// The laws of words, each as the contract of a function that does nothing.
 ghost use Rattle.words.specs.Laws.{OperatorsGiveWords, CComputesAsTheMachine};
 
 /// Each operator of the machine gives a word at two words. A law: it computes nothing.

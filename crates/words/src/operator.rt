@@ -1,3 +1,4 @@
+// The machine's operators on two words.
 ghost use Rattle.std.specs.Prelude.{◌≡◌, ℕ, ◌/◌, ◌%◌, ◌^◌, ◌<◌, Option};
 ghost use Rattle.words.specs.Operators.{value_of, slt, sltu, sra, nor, subu};
 

@@ -1,3 +1,4 @@
+// Signed or unsigned: how products, quotients and comparisons read words.
 ghost use Rattle.std.specs.Prelude.{◌≡◌, ℕ, ◌↔◌, IsTrue, Option, ◌*ℤ◌};
 ghost use Rattle.words.specs.Operators.{has_quotient, quotient_of, remainder_of, product};
 

@@ -1,3 +1,4 @@
+// The two widths that memory is reached by: words and bytes.
 ghost use Rattle.std.specs.Prelude.{◌≡◌};
 ghost use Rattle.words.specs.Widths.{kept, words_of_elements};
 

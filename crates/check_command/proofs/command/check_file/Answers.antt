@@ -1,5 +1,7 @@
 use Rattle.std.proofs.Common.{refl}
+use Rattle.commands.specs.Requests.{reading_fault}
 use Rattle.commands.specs.Requests.Request.{Read, NotRead}
+use Rattle.commands.proofs.Told.{told_as}
 use Rattle.commands.proofs.Asked.{asked_once, read_as}
 use Rattle.commands.specs.Texts.{host_fault_text}
 use Rattle.check_command.specs.Texts.{check_fault_text}
@@ -35,10 +37,10 @@ returns-in-Ok-print_answer-clause-answered g c = λ other.
 pub returns-in-Err-clause-stopped : goal.returns-in-Err-clause-stopped
 returns-in-Err-clause-stopped g c = λ one. record {
   requests = _;
-  text = host_fault_text c.in-Err.fault;
-  told = c.tell.ensures.told;
-  asked = asked_once g.F.Files.answers _ _ (NotRead c.args.file.now) c.in-Err.ensures.asked;
-  means = unread c.in-Err.fault;
+  text = host_fault_text (reading_fault c.in-Err.ensures.asked.0);
+  told = told_as _ _ _ _ _ c.in-Err.ensures.asked.1 c.tell.ensures.told;
+  asked = asked_once g.F.Files.answers _ _ (NotRead c.args.file.now c.in-Err.ensures.asked.0) c.in-Err.ensures.asked.2;
+  means = unread c.in-Err.ensures.asked.0;
 }
 
 pub returns-in-Ok-check-clause-stopped : goal.returns-in-Ok-check-clause-stopped

@@ -14,4 +14,4 @@ returns-in-Ok-written-clause-scheduled c = scheduled_build IsPlain c.in-Ok.sched
 
 pub returns-clause-fault : goal.returns-clause-fault
 returns-clause-fault c = unwritten c.args.text.now c.args.depth c.in_ok-unit.unit c.in-Ok.scheduled c.in-Err.fault
-    c.in_ok-unit.ensures.unit c.in-Ok.ensures.unit c.in-Err.ensures.fault
+    c.in_ok-unit.ensures.unit c.in-Err.ensures.fault

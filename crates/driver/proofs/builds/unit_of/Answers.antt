@@ -13,13 +13,7 @@ returns-in-Ok-select-clause-unit c = record {
 pub returns-in_err-typed-clause-fault : goal.returns-in_err-typed-clause-fault
 returns-in_err-typed-clause-fault c =
     let p = err_from_is_err_and c.from_residual.result c.from_residual.ensures.1 in
-    rw (p.1, p.2) (c.in_err-typed.ensures.fault c.args.depth)
+    rw (p.1, p.2) (c.in_err-typed.ensures.fault)
 
 pub returns-in-Err-Limit-select-clause-fault : goal.returns-in-Err-Limit-select-clause-fault
-returns-in-Err-Limit-select-clause-fault c = record {
-  program = program_of c.in_ok-typed.typed;
-  spelled = c.in_ok-typed.ensures.typed;
-  rtl = c.in-Ok.rtl;
-  lowered = c.in-Ok.ensures.runs;
-  beyond = c.in-Err-Limit-select.ensures.limit c.in-Err-Limit-select.field-0-is;
-}
+returns-in-Err-Limit-select-clause-fault c = (program_of c.in_ok-typed.typed, c.in_ok-typed.ensures.typed)

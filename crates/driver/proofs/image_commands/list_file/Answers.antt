@@ -1,7 +1,9 @@
 use Rattle.std.proofs.Common.{ℕ, List, refl, sym, subst}
+use Rattle.commands.specs.Requests.{reading_fault}
 use Rattle.commands.specs.Requests.Request.{Read, NotRead}
 use Rattle.commands.specs.Texts.{host_fault_text}
 use Rattle.commands.specs.declared.fault.HostFault.TheVariants.{CannotWrite}
+use Rattle.commands.proofs.Told.{told_as}
 use Rattle.commands.proofs.Asked.{asked_once, read_as}
 use Rattle.driver.specs.ImageRuns.{IsListing}
 use Rattle.image.specs.Texts.{image_fault_text}
@@ -11,10 +13,10 @@ use Rattle.driver.proofs.image_commands.list_file.Goals as goal
 pub returns-in-Err-clause-stopped : goal.returns-in-Err-clause-stopped
 returns-in-Err-clause-stopped g c = λ one. record {
   requests = _;
-  asked = asked_once g.F.Files.answers _ _ (NotRead c.args.image.now) c.in-Err.ensures.asked;
-  text = host_fault_text c.in-Err.fault;
-  told = c.tell.ensures.told;
-  means = unread c.in-Err.fault;
+  asked = asked_once g.F.Files.answers _ _ (NotRead c.args.image.now c.in-Err.ensures.asked.0) c.in-Err.ensures.asked.2;
+  text = host_fault_text (reading_fault c.in-Err.ensures.asked.0);
+  told = told_as _ _ _ _ _ c.in-Err.ensures.asked.1 c.tell.ensures.told;
+  means = unread c.in-Err.ensures.asked.0;
 }
 
 pub returns-in-Ok-print_listing-clause-answered : goal.returns-in-Ok-print_listing-clause-answered

@@ -10,5 +10,5 @@ returns-in-Err-clause-stopped g c = λ one.
       text = host_fault_text told.0;
       asked = refl;
       told = told.1;
-      means = inl (refl, (told.0, refl));
+      means = inl (refl, (told.0, refl, λ taken. told.2 (c.in-Err.ensures.refused taken)));
     }

@@ -17,4 +17,4 @@ returns-in-Ok-written-clause-scheduled g c =
 
 pub returns-clause-fault : goal.returns-clause-fault
 returns-clause-fault g c = unwritten c.args.text.now c.args.options.now.depth c.in_ok-unit.unit c.in-Ok.scheduled c.in-Err.fault
-    c.in_ok-unit.ensures.unit c.in-Ok.ensures.unit c.in-Err.ensures.fault
+    c.in_ok-unit.ensures.unit c.in-Err.ensures.fault

@@ -9,5 +9,5 @@ pub returns : goal.returns
 returns c = record {
   choice = c.in_ok-choice.choice;
   is = c.in_ok-choice.ensures.choice;
-  placed = subst (λ bs. IsPlaced bs c.in_ok-choice.choice c.in_ok-frame.frame) c.as_slice.ensures.value (c.in_ok-frame.ensures);
+  placed = subst (λ bs. IsPlaced c.args.func.now.parameters bs c.in_ok-choice.choice c.in_ok-frame.frame) c.as_slice.ensures.value (c.in_ok-frame.ensures);
 }

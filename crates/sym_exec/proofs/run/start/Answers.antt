@@ -1,103 +1,20 @@
-use Rattle.std.proofs.Common.{rules, ◌≡◌, ℕ, zero, suc, ◌<◌, ◌+◌, length, sym, ap, ◌∙◌, subst, arith, ⊎_elim}
-use Rattle.std.specs.Prelude.{slice_index, replicate}
-use Rattle.std.proofs.lemmas.List.{get_or-replicate}
-use Rattle.sym_exec.specs.MipsTerms.{HasSeen, HasTree}
-use Rattle.sym_exec.proofs.MipsTerms.{still_seen, still_tree, tree_seen}
-use Rattle.sym_exec.specs.Symbolic.{register_tree, start_trees}
-use Rattle.sym_exec.proofs.Tickets.{later_more, set_place, set_tree, length_set}
+use Rattle.std.proofs.Common.{refl}
+use Rattle.sym_exec.proofs.Tickets.{later_more, hold_on, known_on}
+use Rattle.sym_exec.proofs.Tracking.{chain_start, tracks_start}
 use Rattle.sym_exec.proofs.run.start.Goals as goal
 
-pub loop-r-init : goal.loop-r-init
-loop-r-init c = record {
-  table = c.in_ok-zero.ensures.pass.table;
-  later = c.in_ok-zero.ensures.pass.later;
-  count = Rattle.std.proofs.Common.refl;
-  seen = λ q lt.
-      let e : slice_index (replicate 32 c.in_ok-zero.zero) q ≡ c.in_ok-zero.zero = get_or-replicate 32 q c.in_ok-zero.zero 0 lt in
-      subst (HasSeen c.leaf_term.new.pass) (sym e) (tree_seen c.in_ok-zero.ensures.tree);
-  stands = λ q lt.
-      let e : 0 ≡ q = omega arith in
-      subst (λ (n : ℕ). HasTree c.leaf_term.new.pass (slice_index (replicate 32 c.in_ok-zero.zero) n) (register_tree start_trees n)) e
-      c.in_ok-zero.ensures.tree;
-}
-
-pub loop-r-preserved : goal.loop-r-preserved
-loop-r-preserved c =
-    let more = c.in_ok-regs.ensures.pass.later in
-    let k = c.loop-r.r in
-    let regs = c.loop-r.regs in
-    let inside : k < length regs = (let n = c.loop-r.invariant.count in omega (arith, n, c.loop-r-test.true)) in
-    record {
-      table = c.in_ok-regs.ensures.pass.table;
-      later = later_more c.loop-r.invariant.later more;
-      count = length_set regs k c.in_ok-regs.field-0 ∙ c.loop-r.invariant.count;
-      seen = λ q lt.
-          set_place (HasSeen c.start_reg.new.pass) regs k c.in_ok-regs.field-0 q inside (tree_seen c.in_ok-regs.ensures.tree)
-          (still_seen more.extends (slice_index regs q) (c.loop-r.invariant.seen q lt));
-      stands = λ q lt.
-          set_tree c.start_reg.new.pass regs k c.in_ok-regs.field-0 q inside (c.loop-r.auto.r) c.in_ok-regs.ensures.tree lt
-          (λ below. still_tree more.extends (c.loop-r.invariant.stands q below));
-    }
-
 pub returns-clause-known : goal.returns-clause-known
-returns-clause-known c =
-    let e2 = c.in_ok-hi.ensures.pass.later in
-    let e3 = c.in_ok-lo.ensures.pass.later in
-    let e4 = c.in_ok-memory.ensures.pass.later in
-    let all = later_more e2 (later_more e3 e4) in
-    record {
-      regs = λ r lt. still_seen all.extends (slice_index c.loop-r.regs r) (c.loop-r.invariant.seen r lt);
-      hi = still_seen (later_more e3 e4).extends c.in_ok-hi.hi (tree_seen c.in_ok-hi.ensures.tree);
-      lo = still_seen e4.extends c.in_ok-lo.lo (tree_seen c.in_ok-lo.ensures.tree);
-      memory = tree_seen c.in_ok-memory.ensures.tree;
-    }
+returns-clause-known c = known_on c.in_ok-memory.ensures.pass.later c.in_ok-registers.ensures.known
 
-pub returns-clause-stands : goal.returns-clause-stands
-returns-clause-stands c =
-    let e2 = c.in_ok-hi.ensures.pass.later in
-    let e3 = c.in_ok-lo.ensures.pass.later in
-    let e4 = c.in_ok-memory.ensures.pass.later in
-    let all = later_more e2 (later_more e3 e4) in
-    record {
-      regs = λ r lt. still_tree all.extends (c.loop-r.invariant.stands r (omega (arith, lt, c.loop-r-test.false)));
-      hi = still_tree (later_more e3 e4).extends c.in_ok-hi.ensures.tree;
-      lo = still_tree e4.extends c.in_ok-lo.ensures.tree;
-      memory = c.in_ok-memory.ensures.tree;
-    }
+pub returns-clause-chain : goal.returns-clause-chain
+returns-clause-chain c = chain_start c.requires.empty c.in_ok-memory.ensures.tree refl c.push_reserved.ensures.items
 
-pub returns-in_err-hi-clause-pass : goal.returns-in_err-hi-clause-pass
-returns-in_err-hi-clause-pass c = record {
-  table = c.in_err-hi.ensures.pass.table;
-  later = later_more c.loop-r.invariant.later c.in_err-hi.ensures.pass.later;
-  full = search rules;
-}
+pub returns-clause-tracks : goal.returns-clause-tracks
+returns-clause-tracks c = tracks_start c.requires.empty (hold_on c.in_ok-memory.ensures.pass.later c.in_ok-registers.ensures.hold) refl refl
 
 pub returns-clause-pass : goal.returns-clause-pass
 returns-clause-pass c = record {
   table = c.in_ok-memory.ensures.pass.table;
-  later = later_more c.loop-r.invariant.later
-      (later_more c.in_ok-hi.ensures.pass.later (later_more c.in_ok-lo.ensures.pass.later c.in_ok-memory.ensures.pass.later));
+  later = later_more c.in_ok-registers.ensures.pass.later c.in_ok-memory.ensures.pass.later;
   full = tt;
-}
-
-pub returns-in_err-regs-clause-pass : goal.returns-in_err-regs-clause-pass
-returns-in_err-regs-clause-pass c = record {
-  table = c.in_err-regs.ensures.pass.table;
-  later = later_more c.loop-r.invariant.later c.in_err-regs.ensures.pass.later;
-  full = search rules;
-}
-
-pub returns-in_err-lo-clause-pass : goal.returns-in_err-lo-clause-pass
-returns-in_err-lo-clause-pass c = record {
-  table = c.in_err-lo.ensures.pass.table;
-  later = later_more c.loop-r.invariant.later (later_more c.in_ok-hi.ensures.pass.later c.in_err-lo.ensures.pass.later);
-  full = search rules;
-}
-
-pub returns-in_err-memory-clause-pass : goal.returns-in_err-memory-clause-pass
-returns-in_err-memory-clause-pass c = record {
-  table = c.in_err-memory.ensures.pass.table;
-  later = later_more c.loop-r.invariant.later
-      (later_more c.in_ok-hi.ensures.pass.later (later_more c.in_ok-lo.ensures.pass.later c.in_err-memory.ensures.pass.later));
-  full = search rules;
 }

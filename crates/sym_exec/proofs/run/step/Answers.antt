@@ -1,107 +1,97 @@
 use Rattle.std.proofs.Common.{refl, sym, subst}
 use Rattle.std.specs.Prelude.{OnOk}
 use Rattle.mips_isa.specs.declared.action.Action.{Action}
+use Rattle.sym_terms.specs.NormalForms.{store_tree}
 use Rattle.sym_exec.proofs.MipsTerms.{still_tree}
 use Rattle.sym_exec.specs.declared.state.Guard.TheVariants.{Address, Division}
 use Rattle.sym_exec.specs.Symbolic.{AtAddress, AtDivision, register_tree, address_tree, trees_after}
-use Rattle.sym_exec.specs.Standing.{Stands, GuardsStand}
-use Rattle.sym_exec.specs.Stores.{IsChain}
-use Rattle.sym_exec.proofs.Tickets.{get_tree, stands_put, guards_on, guards_more, on_ok, ok_always}
-use Rattle.sym_exec.proofs.Chains.{chain-on}
+use Rattle.sym_exec.specs.Stores.{MakeMemory, IsChain, Tracks}
+use Rattle.sym_exec.proofs.Tickets.{later_self, get_tree, known_on, hold_on, hold_put, hold_same, on_ok, ok_always}
+use Rattle.sym_exec.proofs.Chains.{chain-on, memory-on}
+use Rattle.sym_exec.proofs.Tracking.{tracks_on, tracks_guard}
 use Rattle.sym_exec.proofs.run.step.Goals as goal
 
-pub returns-in-Computes-clause-stands : goal.returns-in-Computes-clause-stands
-returns-in-Computes-clause-stands c = λ t h g.
-    let P : Action
-    → Type 0 = λ a. OnOk c.computes.result
-    (Stands c.computes.new.pass c.computes.new.self (trees_after a t)
-    × GuardsStand c.computes.new.pass c.args.lists.now.guards.items (trees_after a t).guards) in
-    subst P (sym c.in-Computes.is) (on_ok c.computes.result (c.computes.ensures.stands t h) (λ e. (e, guards_on c.computes.ensures.pass.later g)))
+pub returns-in-Computes-clause-tracks : goal.returns-in-Computes-clause-tracks
+returns-in-Computes-clause-tracks c = λ t h.
+    let P : Action → Type 0 = λ a. OnOk c.computes.result (Tracks c.computes.new.pass c.computes.new.self c.args.lists.now (trees_after a t)) in
+    subst P (sym c.in-Computes.is) (on_ok c.computes.result (c.computes.ensures.hold t h.hold) (λ e. tracks_on c.computes.ensures.pass.later h e refl refl))
 
-pub returns-in-Sets-clause-stands : goal.returns-in-Sets-clause-stands
-returns-in-Sets-clause-stands c = λ t h g.
-    let P : Action
-    → Type 0 = λ a. OnOk c.put_leaf.result
-    (Stands c.put_leaf.new.pass c.put_leaf.new.self (trees_after a t)
-    × GuardsStand c.put_leaf.new.pass c.args.lists.now.guards.items (trees_after a t).guards) in
-    subst P (sym c.in-Sets.is) (on_ok c.put_leaf.result (c.put_leaf.ensures.stands t h) (λ e. (e, guards_on c.put_leaf.ensures.pass.later g)))
+pub returns-in-Sets-clause-tracks : goal.returns-in-Sets-clause-tracks
+returns-in-Sets-clause-tracks c = λ t h.
+    let P : Action → Type 0 = λ a. OnOk c.put_leaf.result (Tracks c.put_leaf.new.pass c.put_leaf.new.self c.args.lists.now (trees_after a t)) in
+    subst P (sym c.in-Sets.is) (on_ok c.put_leaf.result (c.put_leaf.ensures.hold t h.hold) (λ e. tracks_on c.put_leaf.ensures.pass.later h e refl refl))
 
-pub returns-in_ok-address-in-Loads-clause-stands : goal.returns-in_ok-address-in-Loads-clause-stands
-returns-in_ok-address-in-Loads-clause-stands c = λ t h g.
+pub returns-in_ok-address-in-Loads-clause-tracks : goal.returns-in_ok-address-in-Loads-clause-tracks
+returns-in_ok-address-in-Loads-clause-tracks c = λ t h.
     let d = c.in_ok-address-in-Loads.ensures in
-    let P : Action → Type 0 = λ a. Stands c.loads.new.pass c.loads.new.self (trees_after a t)
-    × GuardsStand c.loads.new.pass c.push_guard.new.self.guards.items (trees_after a t).guards in
+    let P : Action → Type 0 = λ a. Tracks c.loads.new.pass c.loads.new.self c.push_guard.new.self (trees_after a t) in
     let guard = Address c.in-Loads.width c.in_ok-address-in-Loads.address in
     let tree = AtAddress c.in-Loads.width (address_tree t c.in-Loads.base c.in-Loads.offset) in
-    subst P (sym c.in-Loads.is) (d.stands t h, guards_more guard tree (guards_on d.pass.later g) (refl, d.address t h) c.push_guard.ensures.pushed)
+    let memory = subst (λ v. MakeMemory c.loads.new.pass v.items t.memory) (sym d.stores)
+    (memory-on c.args.lists.now.chain.stores.items t.memory d.pass.later h.memory) in
+    subst P (sym c.in-Loads.is)
+    (tracks_guard guard tree d.pass.later h (d.hold t h.hold h.memory)
+    (subst (λ k. MakeMemory c.loads.new.pass k.stores.items t.memory) (sym c.push_guard.ensures.chain) memory) (refl, d.address t h.hold)
+    c.push_guard.ensures.pushed refl)
 
-pub returns-in_ok-address-in-Stores-clause-stands : goal.returns-in_ok-address-in-Stores-clause-stands
-returns-in_ok-address-in-Stores-clause-stands c = λ t h g.
+pub returns-in_ok-address-in-Stores-clause-tracks : goal.returns-in_ok-address-in-Stores-clause-tracks
+returns-in_ok-address-in-Stores-clause-tracks c = λ t h.
     let d = c.in_ok-address-in-Stores.ensures in
-    let P : Action → Type 0 = λ a. Stands c.stores.new.pass c.stores.new.self (trees_after a t)
-    × GuardsStand c.stores.new.pass c.push_guard-in-Stores.new.self.guards.items (trees_after a t).guards in
+    let P : Action → Type 0 = λ a. Tracks c.stores.new.pass c.args.registers.now c.push_guard-in-Stores.new.self (trees_after a t) in
     let guard = Address c.in-Stores.width c.in_ok-address-in-Stores.address in
     let tree = AtAddress c.in-Stores.width (address_tree t c.in-Stores.base c.in-Stores.offset) in
-    subst P (sym c.in-Stores.is) (d.stands t h, guards_more guard tree (guards_on d.pass.later g) (refl, d.address t h) c.push_guard-in-Stores.ensures.pushed)
+    let memory = store_tree c.in-Stores.width t.memory (address_tree t c.in-Stores.base c.in-Stores.offset) (register_tree t c.in-Stores.r) in
+    subst P (sym c.in-Stores.is)
+    (tracks_guard guard tree d.pass.later h (hold_same (hold_on d.pass.later h.hold) refl refl refl)
+    (subst (λ k. MakeMemory c.stores.new.pass k.stores.items memory) (sym c.push_guard-in-Stores.ensures.chain) (d.memory t h.hold h.memory))
+    (refl, d.address t h.hold) c.push_guard-in-Stores.ensures.pushed refl)
 
-pub returns-in-Multiplies-clause-stands : goal.returns-in-Multiplies-clause-stands
-returns-in-Multiplies-clause-stands c = λ t h g.
-    let P : Action
-    → Type 0 = λ a. OnOk c.multiplies.result
-    (Stands c.multiplies.new.pass c.multiplies.new.self (trees_after a t)
-    × GuardsStand c.multiplies.new.pass c.args.lists.now.guards.items (trees_after a t).guards) in
-    subst P (sym c.in-Multiplies.is) (on_ok c.multiplies.result (c.multiplies.ensures.stands t h) (λ e. (e, guards_on c.multiplies.ensures.pass.later g)))
+pub returns-in-Multiplies-clause-tracks : goal.returns-in-Multiplies-clause-tracks
+returns-in-Multiplies-clause-tracks c = λ t h.
+    let P : Action → Type 0 = λ a. OnOk c.multiplies.result (Tracks c.multiplies.new.pass c.multiplies.new.self c.args.lists.now (trees_after a t)) in
+    subst P (sym c.in-Multiplies.is)
+    (on_ok c.multiplies.result (c.multiplies.ensures.hold t h.hold) (λ e. tracks_on c.multiplies.ensures.pass.later h e refl refl))
 
-pub returns-in_ok-divides-in-Divides-clause-stands : goal.returns-in_ok-divides-in-Divides-clause-stands
-returns-in_ok-divides-in-Divides-clause-stands c = λ t h g.
+pub returns-in_ok-divides-in-Divides-clause-tracks : goal.returns-in_ok-divides-in-Divides-clause-tracks
+returns-in_ok-divides-in-Divides-clause-tracks c = λ t h.
     let later = c.in_ok-divides-in-Divides.ensures.pass.later in
-    let P : Action → Type 0 = λ a. Stands c.divides.new.pass c.divides.new.self (trees_after a t)
-    × GuardsStand c.divides.new.pass c.push_guard-in-Divides.new.self.guards.items (trees_after a t).guards in
-    let x = still_tree later.extends (get_tree {t = t} h c.get-dividend.ensures.value c.get-dividend.ensures.range) in
-    let y = still_tree later.extends (get_tree {t = t} h c.get-divisor.ensures.value c.get-divisor.ensures.range) in
+    let P : Action → Type 0 = λ a. Tracks c.divides.new.pass c.divides.new.self c.push_guard-in-Divides.new.self (trees_after a t) in
+    let x = still_tree later.extends (get_tree {t = t} h.hold c.get-dividend.ensures.value c.get-dividend.ensures.range) in
+    let y = still_tree later.extends (get_tree {t = t} h.hold c.get-divisor.ensures.value c.get-divisor.ensures.range) in
     let guard = Division c.in-Divides.sign c.get-dividend.result c.get-divisor.result in
     let tree = AtDivision c.in-Divides.sign (register_tree t c.in-Divides.a) (register_tree t c.in-Divides.b) in
+    let memory = memory-on c.args.lists.now.chain.stores.items t.memory later h.memory in
     subst P (sym c.in-Divides.is)
-    (c.in_ok-divides-in-Divides.ensures.stands t h, guards_more guard tree (guards_on later g) (refl, x, y) c.push_guard-in-Divides.ensures.pushed)
+    (tracks_guard guard tree later h (c.in_ok-divides-in-Divides.ensures.hold t h.hold)
+    (subst (λ k. MakeMemory c.divides.new.pass k.stores.items t.memory) (sym c.push_guard-in-Divides.ensures.chain) memory) (refl, x, y)
+    c.push_guard-in-Divides.ensures.pushed refl)
 
-pub returns-in-MovesHigh-clause-stands : goal.returns-in-MovesHigh-clause-stands
-returns-in-MovesHigh-clause-stands c = λ t h g.
-    let P : Action → Type 0 = λ a. Stands c.args.pass.now c.set.new.self (trees_after a t)
-    × GuardsStand c.args.pass.now c.args.lists.now.guards.items (trees_after a t).guards in
-    subst P (sym c.in-MovesHigh.is) (stands_put {t = t} h h.hi c.set.ensures.value c.set.ensures.range c.set.ensures.count, g)
+pub returns-in-MovesHigh-clause-tracks : goal.returns-in-MovesHigh-clause-tracks
+returns-in-MovesHigh-clause-tracks c = λ t h.
+    let P : Action → Type 0 = λ a. Tracks c.args.pass.now c.set.new.self c.args.lists.now (trees_after a t) in
+    subst P (sym c.in-MovesHigh.is)
+    (tracks_on (later_self c.args.pass.now) h (hold_put {t = t} h.hold h.hold.hi c.set.ensures.value c.set.ensures.range c.set.ensures.count) refl refl)
 
-pub returns-in-MovesLow-clause-stands : goal.returns-in-MovesLow-clause-stands
-returns-in-MovesLow-clause-stands c = λ t h g.
-    let P : Action → Type 0 = λ a. Stands c.args.pass.now c.set-in-MovesLow.new.self (trees_after a t)
-    × GuardsStand c.args.pass.now c.args.lists.now.guards.items (trees_after a t).guards in
-    subst P (sym c.in-MovesLow.is) (stands_put {t = t} h h.lo c.set-in-MovesLow.ensures.value c.set-in-MovesLow.ensures.range c.set-in-MovesLow.ensures.count, g)
+pub returns-in-MovesLow-clause-tracks : goal.returns-in-MovesLow-clause-tracks
+returns-in-MovesLow-clause-tracks c = λ t h.
+    let P : Action → Type 0 = λ a. Tracks c.args.pass.now c.set-in-MovesLow.new.self c.args.lists.now (trees_after a t) in
+    subst P (sym c.in-MovesLow.is)
+    (tracks_on (later_self c.args.pass.now) h
+    (hold_put {t = t} h.hold h.hold.lo c.set-in-MovesLow.ensures.value c.set-in-MovesLow.ensures.range c.set-in-MovesLow.ensures.count) refl refl)
 
 pub returns-in-Computes-clause-chain : goal.returns-in-Computes-clause-chain
-returns-in-Computes-clause-chain c =
-    ok_always c.computes.result
-    (subst (IsChain c.computes.new.pass c.args.lists.now.chain.stores.items) (sym c.computes.ensures.memory)
-    (chain-on c.computes.ensures.pass.later c.requires.chain))
+returns-in-Computes-clause-chain c = ok_always c.computes.result (chain-on c.computes.ensures.pass.later c.requires.chain)
 
 pub returns-in-Sets-clause-chain : goal.returns-in-Sets-clause-chain
-returns-in-Sets-clause-chain c =
-    ok_always c.put_leaf.result
-    (subst (IsChain c.put_leaf.new.pass c.args.lists.now.chain.stores.items) (sym c.put_leaf.ensures.memory)
-    (chain-on c.put_leaf.ensures.pass.later c.requires.chain))
+returns-in-Sets-clause-chain c = ok_always c.put_leaf.result (chain-on c.put_leaf.ensures.pass.later c.requires.chain)
 
 pub returns-in-Multiplies-clause-chain : goal.returns-in-Multiplies-clause-chain
-returns-in-Multiplies-clause-chain c =
-    ok_always c.multiplies.result
-    (subst (IsChain c.multiplies.new.pass c.args.lists.now.chain.stores.items) (sym c.multiplies.ensures.memory)
-    (chain-on c.multiplies.ensures.pass.later c.requires.chain))
+returns-in-Multiplies-clause-chain c = ok_always c.multiplies.result (chain-on c.multiplies.ensures.pass.later c.requires.chain)
 
-pub returns-in_ok-address-in-Loads-clause-chain : goal.returns-in_ok-address-in-Loads-clause-chain
-returns-in_ok-address-in-Loads-clause-chain c =
-    subst (λ h. IsChain c.loads.new.pass h.stores.items c.loads.new.self.memory) (sym c.push_guard.ensures.chain)
-    (subst (IsChain c.loads.new.pass c.args.lists.now.chain.stores.items) (sym c.in_ok-address-in-Loads.ensures.memory)
-    (chain-on c.in_ok-address-in-Loads.ensures.pass.later c.requires.chain))
+pub returns-in_ok-address-in-Stores-clause-known : goal.returns-in_ok-address-in-Stores-clause-known
+returns-in_ok-address-in-Stores-clause-known c = known_on c.in_ok-address-in-Stores.ensures.pass.later c.requires.known
 
 pub returns-in_ok-divides-in-Divides-clause-chain : goal.returns-in_ok-divides-in-Divides-clause-chain
 returns-in_ok-divides-in-Divides-clause-chain c =
-    subst (λ h. IsChain c.divides.new.pass h.stores.items c.divides.new.self.memory) (sym c.push_guard-in-Divides.ensures.chain)
-    (subst (IsChain c.divides.new.pass c.args.lists.now.chain.stores.items) (sym c.in_ok-divides-in-Divides.ensures.memory)
-    (chain-on c.in_ok-divides-in-Divides.ensures.pass.later c.requires.chain))
+    subst (IsChain c.divides.new.pass) (sym c.push_guard-in-Divides.ensures.chain)
+    (chain-on c.in_ok-divides-in-Divides.ensures.pass.later c.requires.chain)

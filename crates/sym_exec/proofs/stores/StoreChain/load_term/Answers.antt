@@ -1,20 +1,21 @@
-use Rattle.std.proofs.Common.{subst, sym}
+use Rattle.std.proofs.Common.{sym, subst, take}
 use Rattle.std.specs.Prelude.{IfOk}
 use Rattle.sym_exec.specs.MipsTerms.{HasTree}
-use Rattle.sym_exec.proofs.MipsTerms.{seen_tree, tree_seen}
-use Rattle.sym_exec.specs.Stores.{IsChain}
-use Rattle.sym_exec.proofs.Chains.{chain-tree}
+use Rattle.sym_exec.proofs.MipsTerms.{still_tree, still_seen}
+use Rattle.sym_exec.specs.Stores.{MakeMemory}
+use Rattle.sym_exec.proofs.Chains.{chain-on}
 use Rattle.sym_exec.proofs.stores.StoreChain.load_term.Goals as goal
-
-pub binary_term-requires-clause-a : goal.binary_term-requires-clause-a
-binary_term-requires-clause-a c =
-    let m = chain-tree c.requires.chain in
-    let b = seen_tree c.requires.legal c.requires.address in
-    tree_seen (c.seen_memory-memory.ensures c.args.pass.now m.0 b.0 c.requires.legal
-    (subst (λ xs. IsChain c.args.pass.now xs c.args.memory) (sym c.as_slice.ensures.value) c.requires.chain) m.1 (c.requires.at b.0 b.1)).1
 
 pub returns-clause-tree : goal.returns-clause-tree
 returns-clause-tree c = λ m b h k.
-    let n = c.seen_memory-memory.ensures c.args.pass.now m b c.requires.legal
-    (subst (λ xs. IsChain c.args.pass.now xs c.args.memory) (sym c.as_slice.ensures.value) c.requires.chain) h (c.requires.at b k) in
-    subst (λ t. IfOk c.binary_term.result (λ x. HasTree c.binary_term.new.pass x t)) (sym n.2) (c.binary_term.ensures.tree n.0 b n.1 k)
+    let n = c.stores_seen-count.ensures.tree c.args.pass.now m b c.requires.legal
+    (subst (λ xs. MakeMemory c.args.pass.now xs m) (sym c.as_slice.ensures.value) h) (c.requires.at b k) in
+    let made = subst (λ xs. MakeMemory c.args.pass.now (take c.stores_seen-count.result xs) n.0) c.as_slice.ensures.value n.1 in
+    subst (λ t. IfOk c.binary_term.result (λ x. HasTree c.binary_term.new.pass x t)) (sym n.2)
+    (c.binary_term.ensures.tree n.0 b (c.in_ok-memory.ensures.tree n.0 made) (still_tree c.in_ok-memory.ensures.pass.later.extends k))
+
+pub binary_term-requires-clause-b : goal.binary_term-requires-clause-b
+binary_term-requires-clause-b c = still_seen c.in_ok-memory.ensures.pass.later.extends c.args.address c.requires.address
+
+pub returns-clause-chain : goal.returns-clause-chain
+returns-clause-chain c = chain-on c.binary_term.ensures.pass.later c.in_ok-memory.ensures.chain

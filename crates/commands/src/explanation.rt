@@ -1,0 +1,50 @@
+// What is said of a fault below its line: what is wrong, and what to write in its place.
+
+ghost use Rattle.std.specs.Prelude.{◌≤◌, All, IfOk};
+ghost use Rattle.commands.specs.Texts.{IsPrintable, IsPrintableExplanation};
+
+use std::alloc::{AllocError, Global};
+
+/// What is said of a fault, in printable ASCII alone, so that no text of another steers a terminal.
+#[derive(Drop)]
+pub struct Explanation {
+    /// What is wrong, in one line.
+    pub message: Vec<u8>,
+    /// What to write in its place, if something helps.
+    pub hint: Option<Vec<u8>>,
+}
+
+/// The byte itself if it is printable, else `?`.
+fn printable(byte: u8) -> u8
+    ensures { IsPrintable result }
+{
+    match byte {
+        b' '..=b'~' => byte,
+        _ => b'?',
+    }
+}
+
+/// The text with `?` for what isn't printable ASCII.
+fn printable_bytes(alloc: Global, text: &str) -> Result<Vec<u8>, AllocError>
+    ensures { IfOk result (λ bytes. All IsPrintable bytes.items) }
+{
+    let mut bytes = Vec::new(alloc);
+    for byte in text.as_bytes() {
+        bytes.push(printable(*byte))?;
+    }
+    Ok(bytes)
+}
+
+impl Explanation {
+    /// The message and the hint, with `?` for each byte that isn't printable ASCII.
+    pub fn new(alloc: Global, message: &str, hint: Option<&str>) -> Result<Explanation, AllocError>
+        ensures { IfOk result IsPrintableExplanation }
+    {
+        let message = printable_bytes(alloc, message)?;
+        let hint = match hint {
+            Some(hint) => Some(printable_bytes(alloc, hint)?),
+            None => None,
+        };
+        Ok(Explanation { message, hint })
+    }
+}

@@ -1,0 +1,279 @@
+// What is said of bytes that begin no token, and of what C has and this subset leaves out.
+
+ghost use Rattle.std.specs.Prelude.{IfOk, IfSome};
+ghost use Rattle.commands.specs.Texts.{IsPrintableExplanation};
+
+use crate::source::{Source, back, before, front, shown, spelled_at};
+use commands::Explanation;
+use std::alloc::{AllocError, Global};
+
+const NO_DIRECTIVES: &str = "there is no preprocessor: leave the line out";
+
+const TWO_WORDS: &str = "int and unsigned have 32 bits: write one of them";
+
+const LEAVE_OUT: &str = "leave it out";
+
+const NO_MEMBERS: &str = "write an array at file scope for each member";
+
+const IF_ELSE: &str = "write if and else";
+
+const NO_FLOATING: &str = "floating point isn't in this subset of C: write int or unsigned";
+
+/// What C has and the subset leaves out, with what to write in its place.
+const LEFT_OUT: [(&[u8], &str); 30] = [
+    (b"do", "write while (1) { s if (!(e)) break; }"),
+    (b"switch", IF_ELSE),
+    (b"case", IF_ELSE),
+    (b"default", IF_ELSE),
+    (b"goto", "write a loop with break"),
+    (b"struct", NO_MEMBERS),
+    (b"union", NO_MEMBERS),
+    (
+        b"enum",
+        "write a variable at file scope for each constant: int red = 0;",
+    ),
+    (b"typedef", "write int or unsigned in its place"),
+    (b"sizeof", "write the number: int and unsigned have 4 bytes"),
+    (b"const", LEAVE_OUT),
+    (b"volatile", LEAVE_OUT),
+    (
+        b"static",
+        "leave it out; what outlives a call stands at file scope",
+    ),
+    (b"extern", "leave it out: a program is one text"),
+    (b"auto", LEAVE_OUT),
+    (b"register", LEAVE_OUT),
+    (b"restrict", LEAVE_OUT),
+    (b"inline", LEAVE_OUT),
+    (b"long", TWO_WORDS),
+    (b"short", TWO_WORDS),
+    (b"signed", "write int"),
+    (b"float", NO_FLOATING),
+    (b"double", NO_FLOATING),
+    (b"_Complex", NO_FLOATING),
+    (b"_Imaginary", NO_FLOATING),
+    (b"_Bool", "write int: 0 is false, and 1 is true"),
+    (b"->", NO_MEMBERS),
+    (b"...", "a function has up to four parameters"),
+    (b"##", NO_DIRECTIVES),
+    (b"??", "trigraphs aren't read: write the sign itself"),
+];
+
+/// Assignments with an operator, and the operator.
+const COMPOUND: [(&[u8], &str); 10] = [
+    (b"+=", "+"),
+    (b"-=", "-"),
+    (b"*=", "*"),
+    (b"/=", "/"),
+    (b"%=", "%"),
+    (b"&=", "&"),
+    (b"|=", "|"),
+    (b"^=", "^"),
+    (b"<<=", "<<"),
+    (b">>=", ">>"),
+];
+
+/// Characters behind a backslash, and their numbers (C99 5.2.2, 6.4.4.4).
+const ESCAPES: [(u8, u8); 11] = [
+    (b'n', 10),
+    (b't', 9),
+    (b'0', 0),
+    (b'r', 13),
+    (b'a', 7),
+    (b'b', 8),
+    (b'f', 12),
+    (b'v', 11),
+    (b'\\', 92),
+    (b'\'', 39),
+    (b'"', 34),
+];
+
+/// What is said of a byte that no text may have.
+pub(crate) fn bad_byte(alloc: Global, text: &[u8], at: usize) -> Result<Explanation, AllocError>
+    ensures { IfOk result IsPrintableExplanation }
+{
+    let byte = back(text, at).first().copied().unwrap_or(0);
+    let message = format!(in alloc; "the byte {byte} can't stand in a text")?;
+    let hint = "write ASCII alone: bytes 32 to 126, tab and the ends of lines";
+    Explanation::new(alloc, message.as_str(), Some(hint))
+}
+
+/// The number of the character behind a quote.
+fn character(quoted: &[u8]) -> Option<u8> {
+    let mut bytes = quoted.iter().copied().skip(1);
+    let first = bytes.next()?;
+    if first != b'\\' {
+        return Some(first);
+    }
+    let escaped = bytes.next()?;
+    for (letter, number) in ESCAPES {
+        if escaped == letter {
+            return Some(number);
+        }
+    }
+    None
+}
+
+/// The name before `++` or behind it, or `i`.
+fn counted<'t>(source: &Source<'t>, at: usize) -> &'t str {
+    let k = before(source.index_of(at), 1);
+    if source.is_name(k) {
+        return source.shown(k);
+    }
+    let rest = back(source.text, at.saturating_add(2));
+    let blanks = rest.iter().take_while(|byte| **byte == b' ').count();
+    let name = spelled_at(rest, blanks);
+    match name.first() {
+        Some(byte) if byte.is_ascii_alphabetic() => shown(name),
+        _ => "i",
+    }
+}
+
+fn not_in_subset(alloc: Global, spelled: &str, hint: &str) -> Result<Explanation, AllocError>
+    ensures { IfOk result IsPrintableExplanation }
+{
+    let message = format!(in alloc; "'{spelled}' isn't in this subset of C")?;
+    Explanation::new(alloc, message.as_str(), Some(hint))
+}
+
+/// `++`, `--` and assignments with an operator.
+fn compound(
+    alloc: Global,
+    source: &Source<'_>,
+    at: usize,
+) -> Result<Option<Explanation>, AllocError>
+    ensures { IfOk result (λ o. IfSome o IsPrintableExplanation) }
+{
+    let sign = spelled_at(source.text, at);
+    let name = counted(source, at);
+    if matches!(sign, b"++" | b"--") {
+        let operator = if matches!(sign, b"++") { "+" } else { "-" };
+        let hint = format!(in alloc; "write {name} = {name} {operator} 1")?;
+        return Ok(Some(not_in_subset(alloc, shown(sign), hint.as_str())?));
+    }
+    for (assignment, operator) in COMPOUND {
+        if sign == assignment {
+            let hint = format!(in alloc; "write {name} = {name} {operator} ..")?;
+            return Ok(Some(not_in_subset(alloc, shown(sign), hint.as_str())?));
+        }
+    }
+    Ok(None)
+}
+
+/// What stands behind `#`.
+fn directive(alloc: Global, text: &[u8], at: usize) -> Result<Explanation, AllocError>
+    ensures { IfOk result IsPrintableExplanation }
+{
+    let rest = back(text, at.saturating_add(1));
+    let blanks = rest.iter().take_while(|byte| **byte == b' ').count();
+    let word = spelled_at(rest, blanks);
+    let hint = match word {
+        b"include" => "there is nothing to include: out(e); prints a word",
+        b"define" => "write a variable at file scope, as int size = 16;, or the number itself",
+        _ => NO_DIRECTIVES,
+    };
+    let word = shown(word);
+    let message = format!(in alloc; "'#{word}' isn't in this subset of C")?;
+    Explanation::new(alloc, message.as_str(), Some(hint))
+}
+
+fn quoted(alloc: Global, text: &[u8], at: usize) -> Result<Explanation, AllocError>
+    ensures { IfOk result IsPrintableExplanation }
+{
+    let message = "a character constant isn't in this subset of C";
+    match character(front(back(text, at), 3)) {
+        Some(number) => {
+            let hint = format!(in alloc; "write the character's number: {number}")?;
+            Explanation::new(alloc, message, Some(hint.as_str()))
+        }
+        None => Explanation::new(alloc, message, Some("write the character's number")),
+    }
+}
+
+/// A backslash, or two question marks, inside a comment.
+fn in_comment(alloc: Global, sign: &[u8]) -> Result<Explanation, AllocError>
+    ensures { IfOk result IsPrintableExplanation }
+{
+    let sign = shown(sign);
+    let message = format!(in alloc; "'{sign}' can't stand in a comment")?;
+    let hint = "leave it out: C may read what follows as code";
+    Explanation::new(alloc, message.as_str(), Some(hint))
+}
+
+/// Whether the offset lies inside a comment: behind the last token stands one that isn't closed before it.
+fn is_in_comment(source: &Source<'_>, at: usize) -> bool {
+    let k = before(source.index_of(at), 1);
+    let from = if k < source.count() {
+        source.at(k).saturating_add(source.spelled(k).len())
+    } else {
+        0
+    };
+    let rest = back(front(source.text, at), from);
+    let mut is_inside = false;
+    for pair in rest.windows(2) {
+        match pair {
+            b"/*" | b"//" => is_inside = true,
+            b"*/" => is_inside = false,
+            _ => {}
+        }
+    }
+    is_inside
+}
+
+/// What is said where no token begins.
+pub(crate) fn bad_token(
+    alloc: Global,
+    source: &Source<'_>,
+    at: usize,
+) -> Result<Explanation, AllocError>
+    ensures { IfOk result IsPrintableExplanation }
+{
+    let sign = spelled_at(source.text, at);
+    if matches!(sign, b"\\" | b"??") && is_in_comment(source, at) {
+        return in_comment(alloc, sign);
+    }
+    if let Some(explanation) = compound(alloc, source, at)? {
+        return Ok(explanation);
+    }
+    match sign {
+        b"/*" => Explanation::new(
+            alloc,
+            "this comment isn't closed",
+            Some("write */ where it ends"),
+        ),
+        b"#" => directive(alloc, source.text, at),
+        b"\"" => {
+            let hint =
+                "out(e); prints a word; bytes stand in an array of unsigned char at file scope";
+            Explanation::new(alloc, "a string isn't in this subset of C", Some(hint))
+        }
+        b"'" => quoted(alloc, source.text, at),
+        _ => other_sign(alloc, source.text, at),
+    }
+}
+
+fn other_sign(alloc: Global, text: &[u8], at: usize) -> Result<Explanation, AllocError>
+    ensures { IfOk result IsPrintableExplanation }
+{
+    let sign = spelled_at(text, at);
+    for (known, hint) in LEFT_OUT {
+        if sign == known {
+            return not_in_subset(alloc, shown(sign), hint);
+        }
+    }
+    if matches!(sign, b".") {
+        let next = back(text, at.saturating_add(1))
+            .first()
+            .copied()
+            .unwrap_or(0);
+        let hint = if next.is_ascii_digit() {
+            NO_FLOATING
+        } else {
+            NO_MEMBERS
+        };
+        return not_in_subset(alloc, shown(sign), hint);
+    }
+    let sign = shown(sign);
+    let message = format!(in alloc; "'{sign}' begins nothing in C")?;
+    Explanation::new(alloc, message.as_str(), None)
+}

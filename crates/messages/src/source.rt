@@ -1,0 +1,175 @@
+// The tokens of a text, by their numbers, as messages speak of them.
+
+ghost use Rattle.std.specs.Prelude.{◌≤◌, length};
+
+use c_tokens::{LexFault, MAX_TEXT, Mark, Token, lex};
+use commands::{Spot, spot_of};
+use std::alloc::{AllocError, Global};
+use std::str;
+
+/// The number of no token.
+pub(crate) const NO_TOKEN: usize = usize::MAX;
+
+/// The most bytes of a name that a message shows (C99 5.2.4.1: so many are significant).
+const SHOWN: usize = 63;
+
+/// Operators of more than one byte, the longer ones first.
+const LONG_SIGNS: [&[u8]; 27] = [
+    b"<<=", b">>=", b"...", b"++", b"--", b"->", b"+=", b"-=", b"*=", b"/=", b"%=", b"&=", b"|=",
+    b"^=", b"==", b"!=", b"<=", b">=", b"<<", b">>", b"&&", b"||", b"##", b"??", b"/*", b"//",
+    b"*/",
+];
+
+/// The first bytes of a text, at most so many.
+pub(crate) fn front<'t>(text: &'t [u8], n: usize) -> &'t [u8]
+    ensures most { length result.now ≤ n }
+    ensures part { length result.now ≤ length text.now }
+{
+    if n < text.len() { &text[..n] } else { text }
+}
+
+/// The bytes of a text from an offset on.
+pub(crate) fn back<'t>(text: &'t [u8], n: usize) -> &'t [u8]
+    ensures part { length result.now ≤ length text.now }
+{
+    if n < text.len() {
+        &text[n..]
+    } else {
+        &text[text.len()..]
+    }
+}
+
+/// The text that a message shows of bytes.
+pub(crate) fn shown<'t>(bytes: &'t [u8]) -> &'t str {
+    str::from_utf8(front(bytes, SHOWN)).unwrap_or("?")
+}
+
+fn is_word(byte: u8) -> bool {
+    byte.is_ascii_alphanumeric() || byte == b'_'
+}
+
+/// The word or the longest sign at an offset.
+pub(crate) fn spelled_at<'t>(text: &'t [u8], at: usize) -> &'t [u8] {
+    let rest = back(text, at);
+    let word = rest.iter().take_while(|byte| is_word(**byte)).count();
+    if word > 0 {
+        return front(rest, word);
+    }
+    for sign in LONG_SIGNS {
+        if rest.starts_with(sign) {
+            return front(rest, sign.len());
+        }
+    }
+    front(rest, 1)
+}
+
+/// The tokens of a text, or those before its first refusal.
+#[derive(Drop)]
+pub(crate) struct Source<'t> {
+    pub(crate) text: &'t [u8],
+    tokens: Vec<Token>,
+    places: Vec<usize>,
+}
+
+impl<'t> Source<'t> {
+    /// A refusal inside a comment leaves an open comment before it, so at most two refusals stand behind one another.
+    pub(crate) fn read(alloc: Global, text: &'t [u8]) -> Result<Source<'t>, AllocError> {
+        let text = front(text, MAX_TEXT);
+        let mut end = text.len();
+        for _ in 0..3 {
+            match lex(alloc, front(text, end)) {
+                Ok((tokens, places)) => {
+                    return Ok(Source {
+                        text,
+                        tokens,
+                        places,
+                    });
+                }
+                Err(LexFault::Refused(_, at)) => end = at,
+                Err(LexFault::NoMemory) => return Err(AllocError),
+            }
+        }
+        Ok(Source {
+            text,
+            tokens: Vec::new(alloc),
+            places: Vec::new(alloc),
+        })
+    }
+
+    /// How many tokens there are.
+    pub(crate) fn count(&self) -> usize {
+        self.tokens.len()
+    }
+
+    pub(crate) fn token(&self, k: usize) -> Option<Token> {
+        self.tokens.get(k).copied()
+    }
+
+    /// Where a token begins; the text's length where there is none.
+    pub(crate) fn at(&self, k: usize) -> usize {
+        self.places.get(k).copied().unwrap_or(self.text.len())
+    }
+
+    /// The number of the first token that doesn't begin before the offset.
+    pub(crate) fn index_of(&self, at: usize) -> usize {
+        self.places.iter().take_while(|place| **place < at).count()
+    }
+
+    pub(crate) fn mark(&self, k: usize) -> Option<Mark> {
+        match self.token(k) {
+            Some(Token::The(mark)) => Some(mark),
+            _ => None,
+        }
+    }
+
+    pub(crate) fn is(&self, k: usize, mark: Mark) -> bool {
+        self.mark(k) == Some(mark)
+    }
+
+    pub(crate) fn is_name(&self, k: usize) -> bool {
+        matches!(self.token(k), Some(Token::Name(_)))
+    }
+
+    pub(crate) fn is_constant(&self, k: usize) -> bool {
+        matches!(self.token(k), Some(Token::Constant(_)))
+    }
+
+    /// `int`, `unsigned`, `char` or `void`.
+    pub(crate) fn is_type(&self, k: usize) -> bool {
+        matches!(
+            self.mark(k),
+            Some(Mark::Int | Mark::Unsigned | Mark::Char | Mark::Void)
+        )
+    }
+
+    /// Whether a token is a name that is declared here: in a text that spells a program each such name, and no other, stands
+    /// behind its type.
+    pub(crate) fn is_declared(&self, k: usize) -> bool {
+        self.is_name(k) && self.is_type(before(k, 1))
+    }
+
+    /// The bytes of a token.
+    pub(crate) fn spelled(&self, k: usize) -> &'t [u8] {
+        spelled_at(self.text, self.at(k))
+    }
+
+    /// What a message shows of a token.
+    pub(crate) fn shown(&self, k: usize) -> &'t str {
+        shown(self.spelled(k))
+    }
+
+    /// Line and column of a token.
+    pub(crate) fn spot(&self, k: usize) -> Spot {
+        spot_of(self.text, self.at(k))
+    }
+}
+
+/// The number of the token so many before this one.
+pub(crate) fn before(k: usize, n: usize) -> usize {
+    if n <= k { k - n } else { NO_TOKEN }
+}
+
+/// The number of the token so many behind this one.
+pub(crate) fn behind(k: usize, n: usize) -> usize {
+    k.saturating_add(n)
+}

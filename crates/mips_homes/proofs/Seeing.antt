@@ -1,0 +1,168 @@
+-- What a walk over blocks sees, one instruction after another.
+use Rattle.std.proofs.Common.{◌≡◌, ℕ, suc, ◌+◌, ◌<◌, ◌≤◌, Bool, true, false, ◌&&◌, List, [], ◌∷◌, ◌++◌, refl, sym, ap, ap₂, ◌∙◌, subst, arith, length, drop, get_or, nat_eq}
+use Rattle.std.specs.Prelude.{if◌then◌else◌, ◌||◌, not}
+use Rattle.std.proofs.Common.{eqb-true}
+use Rattle.std.proofs.Math.Seq.{drop-cons}
+use Rattle.mips_homes.proofs.Counting.{drop_end}
+use Rattle.rtl.specs.declared.instruction.RInst.{RInst}
+use Rattle.rtl.specs.declared.block.RBlock.{RBlock}
+use Rattle.mips_homes.specs.HomedRun.{is_in}
+use Rattle.mips_homes.specs.Locals.{inst_reads, inst_writes, exit_reads, reads_first, block_reads_first, some_go_to, none_reads_first, is_local}
+use Rattle.mips_homes.specs.Walks.{sight_at, is_read_first, is_unwritten, IsUpTo, Sees}
+use Rattle.mips_homes.specs.declared.locals.Sight.{Sight}
+
+-- ---- instructions
+
+pub sees_none : (k : ℕ) (s : List Sight) → Sees k s s [] []
+sees_none k s = record { first = λ x. none (is_read_first s x) (is_unwritten k s x); unwritten = λ x. all (is_unwritten k s x); late = λ up. up }
+  where
+    none : (a b : Bool) → a ≡ (a || (b && false))
+    none true b = refl
+    none false true = refl
+    none false false = refl
+
+    all : (b : Bool) → b ≡ (b && not false)
+    all true = refl
+    all false = refl
+
+in_append : (xs ys : List ℕ) (x : ℕ) → is_in (xs ++ ys) x ≡ (is_in xs x || is_in ys x)
+in_append [] ys x = refl
+in_append (y ∷ xs) ys x = by (nat_eq x y) (in_append xs ys x)
+  where
+    by : (c : Bool) → is_in (xs ++ ys) x ≡ (is_in xs x || is_in ys x) → (c || is_in (xs ++ ys) x) ≡ ((c || is_in xs x) || is_in ys x)
+    by true e = refl
+    by false e = e
+
+-- reads, and then more of them and writes
+pub sees_then : (k : ℕ) (s t u : List Sight) (xs ys ws : List ℕ) → Sees k s t xs [] → Sees k t u ys ws → Sees k s u (xs ++ ys) ws
+sees_then k s t u xs ys ws a b = record {
+  first = λ x. b.first x
+      ∙ ap₂ (λ f n. f || (n && is_in ys x)) (a.first x) (a.unwritten x)
+      ∙ both (is_read_first s x) (is_unwritten k s x) (is_in xs x) (is_in ys x)
+      ∙ ap (λ c. is_read_first s x || (is_unwritten k s x && c)) (sym (in_append xs ys x));
+  unwritten = λ x. b.unwritten x ∙ ap (λ n. n && not (is_in ws x)) (a.unwritten x) ∙ still (is_unwritten k s x) (is_in ws x);
+  late = λ up. b.late (a.late up);
+}
+  where
+    both : (f n p q : Bool) → ((f || (n && p)) || ((n && not false) && q)) ≡ (f || (n && (p || q)))
+    both true n p q = refl
+    both false true true q = refl
+    both false true false q = refl
+    both false false p q = refl
+
+    still : (n w : Bool) → ((n && not false) && not w) ≡ (n && not w)
+    still true w = refl
+    still false w = refl
+
+-- ---- a block
+
+-- where block k has come to these instructions
+pub record IsSeenTo (k : ℕ) (start now : List Sight) (is : List RInst) (block : RBlock) : Type 0 where
+  pub first : (x : ℕ) → (is_read_first now x || (is_unwritten k now x && reads_first is block.exit x)) ≡ (is_read_first start x || block_reads_first block x)
+  pub late : IsUpTo k now
+
+pub seen_start : (k : ℕ) (s : List Sight) (block : RBlock) → ((x : ℕ) → (sight_at s x).written_in < k) → IsSeenTo k s s block.insts.items block
+seen_start k s block before = record {
+  first = λ x. ap (λ c. is_read_first s x || (not c && block_reads_first block x)) (unequal (sight_at s x).written_in (before x));
+  late = λ x. (let lt = before x in omega (arith, lt));
+}
+  where
+    unequal : (n : ℕ) → n < k → nat_eq n k ≡ false
+    unequal n lt = go (nat_eq n k) refl
+      where
+        go : (c : Bool) → nat_eq n k ≡ c → c ≡ false
+        go true e = let same = eqb-true n k e in absurd (omega (arith, same, lt))
+        go false e = refl
+
+pub seen_step : (k : ℕ) (s t u : List Sight) (is : List RInst) (j : ℕ) (i : RInst) (block : RBlock) → j < length is → i ≡ get_or is j i
+    → Sees k t u (inst_reads i) (inst_writes i) → IsSeenTo k s t (drop j is) block → IsSeenTo k s u (drop (j + 1) is) block
+seen_step k s t u is j i block lt at one before = record {
+  first = λ x.
+      ap₂ (λ f n. f || (n && reads_first (drop (j + 1) is) block.exit x)) (one.first x) (one.unwritten x)
+      ∙ step (is_read_first t x) (is_unwritten k t x) (is_in (inst_reads i) x) (is_in (inst_writes i) x) (reads_first (drop (j + 1) is) block.exit x)
+      ∙ ap (λ l. is_read_first t x || (is_unwritten k t x && reads_first l block.exit x)) (sym here)
+      ∙ before.first x;
+  late = one.late before.late;
+}
+  where
+    next : j + 1 ≡ suc j
+    next = omega arith
+
+    here : drop j is ≡ i ∷ drop (j + 1) is
+    here = drop-cons is j i lt ∙ ap (λ y. y ∷ drop (suc j) is) (sym at) ∙ ap (λ k. i ∷ drop k is) (sym next)
+
+    step : (f n r w rest : Bool) → ((f || (n && r)) || ((n && not w) && rest)) ≡ (f || (n && (if r then true else if w then false else rest)))
+    step true n r w rest = refl
+    step false true true w rest = refl
+    step false true false true rest = refl
+    step false true false false rest = refl
+    step false false r w rest = refl
+
+pub seen_end : (k : ℕ) (s t u : List Sight) (is : List RInst) (block : RBlock) → is ≡ [] → Sees k t u (exit_reads block.exit) []
+    → IsSeenTo k s t is block → (x : ℕ) → is_read_first u x ≡ (is_read_first s x || block_reads_first block x)
+seen_end k s t u is block none last before x =
+    last.first x ∙ ap (λ l. is_read_first t x || (is_unwritten k t x && reads_first l block.exit x)) (sym none) ∙ before.first x
+
+-- ---- several reads
+
+pub all_step : (k : ℕ) (xs : List ℕ) (i x d : ℕ) (start s t : List Sight) → i < length xs → x ≡ get_or xs i d → Sees k s t (x ∷ []) []
+    → ((end : List Sight) → Sees k s end (drop i xs) [] → Sees k start end xs []) → (end : List Sight) → Sees k t end (drop (i + 1) xs) []
+    → Sees k start end xs []
+all_step k xs i x d start s t lt at one before end rest =
+    let next : i + 1 ≡ suc i = omega arith in
+    let here : drop i xs ≡ x ∷ drop (i + 1) xs = drop-cons xs i d lt ∙ ap (λ y. y ∷ drop (suc i) xs) (sym at) ∙ ap (λ k. x ∷ drop k xs) (sym next) in
+    before end (subst (λ l. Sees k s end l []) (sym here) (sees_then k s t end (x ∷ []) (drop (i + 1) xs) [] one rest))
+
+pub all_end : (k : ℕ) (xs : List ℕ) (i : ℕ) (start s : List Sight) → length xs ≤ i
+    → ((end : List Sight) → Sees k s end (drop i xs) [] → Sees k start end xs []) → Sees k start s xs []
+all_end k xs i start s le before = before s (subst (λ l. Sees k s s l []) (sym (drop_end xs i le)) (sees_none k s))
+
+-- ---- blocks
+
+-- where a walk over blocks has come to these, the first of which has the number i
+pub record AreSeenTo (i : ℕ) (now : List Sight) (left bs : List RBlock) : Type 0 where
+  pub first : (x : ℕ) → (not (is_read_first now x) && none_reads_first true left x) ≡ is_local bs x
+  pub late : (x : ℕ) → (sight_at now x).written_in ≤ i
+
+pub are_seen_start : (bs : List RBlock) (i : ℕ) → i ≡ (if some_go_to bs 0 then 0 else 1) → AreSeenTo i [] (drop i bs) bs
+are_seen_start bs i e = record { first = λ x. by x (some_go_to bs 0) refl e; late = λ x. omega arith }
+  where
+    past : (bs : List RBlock) (x : ℕ) → none_reads_first true (drop 1 bs) x ≡ none_reads_first false bs x
+    past [] x = refl
+    past (b ∷ bs) x = refl
+
+    by : (x : ℕ) (c : Bool) → some_go_to bs 0 ≡ c → i ≡ (if c then 0 else 1) → none_reads_first true (drop i bs) x ≡ none_reads_first (some_go_to bs 0) bs x
+    by x true c e = ap (λ n. none_reads_first true (drop n bs) x) e ∙ ap (λ b. none_reads_first b bs x) (sym c)
+    by x false c e = ap (λ n. none_reads_first true (drop n bs) x) e ∙ past bs x ∙ ap (λ b. none_reads_first b bs x) (sym c)
+
+pub are_seen_step : (bs : List RBlock) (i : ℕ) (b : RBlock) (s t : List Sight) → i < length bs → b ≡ get_or bs i b
+    → ((x : ℕ) → is_read_first t x ≡ (is_read_first s x || block_reads_first b x)) → IsUpTo (i + 1) t → AreSeenTo i s (drop i bs) bs
+    → AreSeenTo (i + 1) t (drop (i + 1) bs) bs
+are_seen_step bs i b s t lt at one late before = record {
+  first = λ x.
+      ap (λ c. not c && none_reads_first true (drop (i + 1) bs) x) (one x)
+      ∙ step (is_read_first s x) (block_reads_first b x) (none_reads_first true (drop (i + 1) bs) x)
+      ∙ ap (λ l. not (is_read_first s x) && none_reads_first true l x) (sym here)
+      ∙ before.first x;
+  late = late;
+}
+  where
+    next : i + 1 ≡ suc i
+    next = omega arith
+
+    here : drop i bs ≡ b ∷ drop (i + 1) bs
+    here = drop-cons bs i b lt ∙ ap (λ y. y ∷ drop (suc i) bs) (sym at) ∙ ap (λ k. b ∷ drop k bs) (sym next)
+
+    step : (f r rest : Bool) → (not (f || r) && rest) ≡ (not f && (if true && r then false else rest))
+    step true r rest = refl
+    step false true rest = refl
+    step false false rest = refl
+
+pub are_seen_end : (bs : List RBlock) (i : ℕ) (s : List Sight) → length bs ≤ i → AreSeenTo i s (drop i bs) bs
+    → (x : ℕ) → not (is_read_first s x) ≡ is_local bs x
+are_seen_end bs i s le before x =
+    all (not (is_read_first s x)) ∙ ap (λ l. not (is_read_first s x) && none_reads_first true l x) (sym (drop_end bs i le)) ∙ before.first x
+  where
+    all : (b : Bool) → b ≡ (b && true)
+    all true = refl
+    all false = refl

@@ -1,0 +1,56 @@
+-- A run has come as far as its trees: calls of the table leave it there, and what an action does takes it on.
+use Rattle.std.proofs.Common.{◌≡◌, ℕ, ◌<◌, ◌≤◌, ◌+◌, [], ◌∷◌, ◌++◌, length, refl, sym, subst, arith}
+use Rattle.sym_terms.specs.declared.label.Label.TheVariants.{Mem0}
+use Rattle.sym_terms.specs.Trees.{leaf}
+use Rattle.term_table.specs.Passes.{PassState}
+use Rattle.sym_exec.specs.MipsTerms.{HasTree}
+use Rattle.sym_exec.specs.declared.registers.TermRegisters.{TermRegisters}
+use Rattle.sym_exec.specs.declared.room.RunLists.{RunLists}
+use Rattle.sym_exec.specs.declared.state.Guard.{Guard}
+use Rattle.sym_exec.specs.declared.stores.StoreChain.{StoreChain}
+use Rattle.sym_exec.specs.Symbolic.{TreeState, GuardTree, start_trees}
+use Rattle.sym_exec.specs.Standing.{Later, Hold, IsGuard, GuardsStand}
+use Rattle.sym_exec.specs.Stores.{MakeMemory, AreMemories, IsChain, IsEmpty, Tracks}
+use Rattle.sym_exec.proofs.Tickets.{guards_on, guards_more, guards_none}
+use Rattle.sym_exec.proofs.Chains.{memory-on, memories-start}
+
+-- registers, HI or LO changed
+pub tracks_on : {p q : PassState} {r s : TermRegisters} {l : RunLists} {t u : TreeState} → Later p q → Tracks p r l t → Hold q s u → t.memory ≡ u.memory
+    → t.guards ≡ u.guards → Tracks q s l u
+tracks_on {p} {q} {r} {s} {l} {t} {u} e h hold memory guards = record {
+  hold = hold;
+  memory = memory-on l.chain.stores.items u.memory e (subst (MakeMemory p l.chain.stores.items) memory h.memory);
+  guards = guards_on e (subst (GuardsStand p l.guards.items) guards h.guards);
+}
+
+-- and there is a guard more
+pub tracks_guard : {p q : PassState} {r s : TermRegisters} {l m : RunLists} {t u : TreeState} (g : Guard) (x : GuardTree) → Later p q → Tracks p r l t → Hold q s u
+    → MakeMemory q m.chain.stores.items u.memory → IsGuard q g x → m.guards.items ≡ l.guards.items ++ g ∷ [] → u.guards ≡ x ∷ t.guards → Tracks q s m u
+tracks_guard {p} {q} {r} {s} {l} {m} {t} {u} g x e h hold memory is pushed guards = record {
+  hold = hold;
+  memory = memory;
+  guards = subst (GuardsStand q m.guards.items) (sym guards) (guards_more g x (guards_on e h.guards) is pushed);
+}
+
+-- at the start no store is made and no guard is there
+pub chain_start : {p : PassState} {l : RunLists} {d : StoreChain} {k : ℕ} → IsEmpty l → HasTree p k (leaf Mem0) → d.stores ≡ l.chain.stores
+    → d.memories.items ≡ l.chain.memories.items ++ k ∷ [] → IsChain p d
+chain_start {p} {l} {d} {k} none has stores memories =
+    let one : d.memories.items ≡ k ∷ [] = subst (λ ms. d.memories.items ≡ ms ++ k ∷ []) none.memories memories in
+    let nothing : d.stores.items ≡ [] = subst (λ v. v.items ≡ []) (sym stores) none.stores in
+    record {
+      memory = leaf Mem0;
+      made = subst (λ xs. MakeMemory p xs (leaf Mem0)) (sym nothing) refl;
+      memories = subst (λ ms. AreMemories p ms d.stores.items) (sym one)
+          (subst (AreMemories p (k ∷ [])) (sym nothing) (memories-start has));
+      some = subst (λ ms. 0 < length ms) (sym one) (omega arith);
+      fit = subst (λ ms. length ms ≤ length d.stores.items + 1) (sym one) (omega arith);
+    }
+
+pub tracks_start : {p : PassState} {s : TermRegisters} {l m : RunLists} → IsEmpty l → Hold p s start_trees → m.chain.stores ≡ l.chain.stores
+    → m.guards ≡ l.guards → Tracks p s m start_trees
+tracks_start {p} {s} {l} {m} none hold stores guards = record {
+  hold = hold;
+  memory = subst (λ v. MakeMemory p v.items (leaf Mem0)) (sym stores) (subst (λ xs. MakeMemory p xs (leaf Mem0)) (sym none.stores) refl);
+  guards = guards_none (subst (λ v. v.items ≡ []) (sym guards) none.guards);
+}

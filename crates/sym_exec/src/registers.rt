@@ -1,0 +1,256 @@
+//! The terms of registers, HI and LO, and what one action does to them, done to their tickets.
+ghost use Rattle.std.specs.Prelude.{◌≡◌, ℕ, ◌<◌, ◌+◌, OnOk, IfOk, slice_index, vec_len};
+ghost use Rattle.mips_isa.specs.declared.action.Action.TheVariants.{Computes, Loads, Stores, Multiplies, Divides};
+ghost use Rattle.mips_isa.specs.States.{put};
+ghost use Rattle.sym_terms.specs.Trees.{Tree, leaf};
+ghost use Rattle.term_table.specs.Passes.{IsOf};
+ghost use Rattle.sym_exec.specs.MipsTerms.{HasSeen, HasTree};
+ghost use Rattle.sym_exec.specs.Symbolic.{TreeState, register_tree, operand_tree, address_tree, trees_after};
+ghost use Rattle.sym_exec.specs.Standing.{AfterInterns, Known, Hold, with_reg};
+
+use crate::address::{address_at, plus_term};
+use crate::stores::{StoreChain, Stored};
+use crate::terms::{leaf_term, op_term};
+use mips_isa::{
+    NonzeroReg, Operand, Reg, product_high, product_low, quotient_operator, remainder_operator,
+};
+use sym_terms::Label;
+use term_table::{Pass, TableFull, TermTable, Ticket};
+use words::{Operator, Sign, Width};
+
+/// What a load or a store reaches: how wide, and how many bytes behind a register's word.
+#[derive(Clone, Copy)]
+pub(crate) struct Access {
+    pub(crate) width: Width,
+    pub(crate) base: Reg,
+    pub(crate) offset: u32,
+}
+
+/// The terms that registers, HI and LO hold, by tickets. Register 0 holds the constant 0.
+#[derive(Clone, Copy)]
+pub(crate) struct TermRegisters {
+    pub(crate) regs: [Ticket; 32],
+    pub(crate) hi: Ticket,
+    pub(crate) lo: Ticket,
+}
+
+impl TermRegisters {
+    ghost use Rattle.std.specs.Prelude.{◌≡◌, ℕ, ◌<◌, ◌≤◌, ◌+◌, OnOk, IfOk, slice_index, length, vec_len};
+    ghost use Rattle.mblock.specs.declared.limits.TheConstants.{ORDER_INSTS};
+    ghost use Rattle.term_table.specs.Trees.{HasLegalHistory};
+    ghost use Rattle.sym_exec.specs.MipsTerms.{HasTree};
+    ghost use Rattle.sym_exec.specs.Standing.{AfterInterns, Known, Hold, with_reg};
+    ghost use Rattle.sym_exec.specs.Stores.{MakeMemory, IsChain, HasStoreRoom};
+
+    pub(crate) fn get(&self, r: Reg) -> Ticket
+        ensures value { result ≡ slice_index self.now.regs r }
+        ensures range { r < 32 }
+    {
+        self.regs[r.index() as usize]
+    }
+
+    /// A write to register 0 is lost.
+    pub(crate) fn set(&mut self, d: Reg, ticket: Ticket)
+        ensures value { self.new ≡ with_reg self.old d ticket }
+        ensures range { d < 32 }
+        ensures count { length self.old.regs ≡ 32 }
+    {
+        let index = d.index() as usize;
+        if index > 0 {
+            self.regs[index] = ticket;
+        }
+    }
+
+    fn operand(
+        &self,
+        table: &TermTable,
+        pass: &mut Pass,
+        operand: &Operand,
+    ) -> Result<Ticket, TableFull>
+        requires table { IsOf table.now pass.old }
+        requires known { Known pass.old self.now }
+        ensures seen { IfOk result (λ x. HasSeen pass.new x) }
+        ensures tree { (t : TreeState) → Hold pass.old self.now t → IfOk result (λ x. HasTree pass.new x (operand_tree t operand.now)) }
+        ensures pass { AfterInterns table.now pass.old result pass.new }
+    {
+        match *operand {
+            Operand::Held(r) => Ok(self.get(r)),
+            Operand::Fixed(word) => leaf_term(table, pass, Label::Const(word)),
+        }
+    }
+
+    fn address(
+        &self,
+        table: &TermTable,
+        pass: &mut Pass,
+        base: Reg,
+        offset: u32,
+    ) -> Result<Ticket, TableFull>
+        requires table { IsOf table.now pass.old }
+        requires known { Known pass.old self.now }
+        ensures seen { IfOk result (λ x. HasSeen pass.new x) }
+        ensures tree { (t : TreeState) → Hold pass.old self.now t → IfOk result (λ x. HasTree pass.new x (address_tree t base offset)) }
+        ensures pass { AfterInterns table.now pass.old result pass.new }
+    {
+        let at = address_at(table, pass, self.get(base));
+        plus_term(table, pass, at.base, at.offset.wrapping_add(offset))
+    }
+
+    pub(crate) fn computes(
+        &mut self,
+        table: &TermTable,
+        pass: &mut Pass,
+        d: Reg,
+        op: Operator,
+        a: Reg,
+        b: &Operand,
+    ) -> Result<(), TableFull>
+        requires table { IsOf table.now pass.old }
+        requires known { Known pass.old self.old }
+        ensures known { OnOk result (Known pass.new self.new) }
+        ensures hold { (t : TreeState) → Hold pass.old self.old t
+            → OnOk result (Hold pass.new self.new (trees_after (Computes d op a b.now) t)) }
+        ensures pass { AfterInterns table.now pass.old result pass.new }
+    {
+        let y = self.operand(table, pass, b)?;
+        let value = op_term(table, pass, op, self.get(a), y)?;
+        self.set(d, value);
+        Ok(())
+    }
+
+    /// Register `d` gets the term of a label without children.
+    pub(crate) fn put_leaf(
+        &mut self,
+        table: &TermTable,
+        pass: &mut Pass,
+        d: Reg,
+        label: Label,
+    ) -> Result<(), TableFull>
+        requires table { IsOf table.now pass.old }
+        requires known { Known pass.old self.old }
+        ensures known { OnOk result (Known pass.new self.new) }
+        ensures hold { (t : TreeState) → Hold pass.old self.old t
+            → OnOk result (Hold pass.new self.new (record t { regs = put t.regs d (leaf label) })) }
+        ensures pass { AfterInterns table.now pass.old result pass.new }
+    {
+        let value = leaf_term(table, pass, label)?;
+        self.set(d, value);
+        Ok(())
+    }
+
+    /// Answers the ticket of the address.
+    pub(crate) fn loads(
+        &mut self,
+        table: &TermTable,
+        pass: &mut Pass,
+        chain: &mut StoreChain,
+        d: NonzeroReg,
+        access: Access,
+    ) -> Result<Ticket, TableFull>
+        requires table { IsOf table.now pass.old }
+        requires legal { HasLegalHistory pass.old }
+        requires known { Known pass.old self.old }
+        requires chain { IsChain pass.old chain.old }
+        requires room { HasStoreRoom chain.old }
+        requires few { vec_len chain.old.stores ≤ ORDER_INSTS + 1 }
+        ensures known { OnOk result (Known pass.new self.new) }
+        ensures hold { (t : TreeState) → Hold pass.old self.old t → MakeMemory pass.old chain.old.stores.items t.memory
+            → OnOk result (Hold pass.new self.new (trees_after (Loads access.width d access.base access.offset) t)) }
+        ensures address { (t : TreeState) → Hold pass.old self.old t
+            → IfOk result (λ x. HasTree pass.new x (address_tree t access.base access.offset)) }
+        ensures chain { OnOk result (IsChain pass.new chain.new) }
+        ensures stores { OnOk result (chain.new.stores ≡ chain.old.stores) }
+        ensures room { OnOk result (HasStoreRoom chain.new) }
+        ensures pass { AfterInterns table.now pass.old result pass.new }
+    {
+        let address = self.address(table, pass, access.base, access.offset)?;
+        let at = address_at(table, pass, address);
+        let value = chain.load_term(table, pass, access.width, &at, address)?;
+        self.set(d.reg(), value);
+        Ok(address)
+    }
+
+    /// Answers the ticket of the address.
+    pub(crate) fn stores(
+        &self,
+        table: &TermTable,
+        pass: &mut Pass,
+        chain: &mut StoreChain,
+        r: Reg,
+        access: Access,
+    ) -> Result<Ticket, TableFull>
+        requires table { IsOf table.now pass.old }
+        requires legal { HasLegalHistory pass.old }
+        requires known { Known pass.old self.now }
+        requires chain { IsChain pass.old chain.old }
+        requires room { HasStoreRoom chain.old }
+        requires few { vec_len chain.old.stores < ORDER_INSTS + 1 }
+        ensures memory { (t : TreeState) → Hold pass.old self.now t → MakeMemory pass.old chain.old.stores.items t.memory
+            → OnOk result (MakeMemory pass.new chain.new.stores.items
+            (trees_after (Stores access.width r access.base access.offset) t).memory) }
+        ensures address { (t : TreeState) → Hold pass.old self.now t
+            → IfOk result (λ x. HasTree pass.new x (address_tree t access.base access.offset)) }
+        ensures chain { OnOk result (IsChain pass.new chain.new) }
+        ensures room { OnOk result (HasStoreRoom chain.new) }
+        ensures count { OnOk result (vec_len chain.new.stores ≡ vec_len chain.old.stores + 1) }
+        ensures pass { AfterInterns table.now pass.old result pass.new }
+    {
+        let address = self.address(table, pass, access.base, access.offset)?;
+        let at = address_at(table, pass, address);
+        let value = self.get(r);
+        chain.store(Stored {
+            address,
+            value,
+            base: at.base,
+            offset: at.offset,
+            width: access.width,
+        });
+        Ok(address)
+    }
+
+    pub(crate) fn multiplies(
+        &mut self,
+        table: &TermTable,
+        pass: &mut Pass,
+        sign: Sign,
+        a: Reg,
+        b: Reg,
+    ) -> Result<(), TableFull>
+        requires table { IsOf table.now pass.old }
+        requires known { Known pass.old self.old }
+        ensures known { OnOk result (Known pass.new self.new) }
+        ensures hold { (t : TreeState) → Hold pass.old self.old t
+            → OnOk result (Hold pass.new self.new (trees_after (Multiplies sign a b) t)) }
+        ensures pass { AfterInterns table.now pass.old result pass.new }
+    {
+        let (x, y) = (self.get(a), self.get(b));
+        let hi = op_term(table, pass, product_high(sign), x, y)?;
+        let lo = op_term(table, pass, product_low(sign), x, y)?;
+        self.hi = hi;
+        self.lo = lo;
+        Ok(())
+    }
+
+    pub(crate) fn divides(
+        &mut self,
+        table: &TermTable,
+        pass: &mut Pass,
+        sign: Sign,
+        a: Reg,
+        b: Reg,
+    ) -> Result<(), TableFull>
+        requires table { IsOf table.now pass.old }
+        requires known { Known pass.old self.old }
+        ensures known { OnOk result (Known pass.new self.new) }
+        ensures hold { (t : TreeState) → Hold pass.old self.old t
+            → OnOk result (Hold pass.new self.new (trees_after (Divides sign a b) t)) }
+        ensures pass { AfterInterns table.now pass.old result pass.new }
+    {
+        let (x, y) = (self.get(a), self.get(b));
+        let hi = op_term(table, pass, remainder_operator(sign), x, y)?;
+        let lo = op_term(table, pass, quotient_operator(sign), x, y)?;
+        self.hi = hi;
+        self.lo = lo;
+        Ok(())
+    }
+}
