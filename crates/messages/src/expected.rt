@@ -28,14 +28,14 @@ enum Cover {
 type Candidate = (&'static [u8], &'static str, &'static [Cover]);
 
 /// A word for many tokens, and one that can stand exactly where all of them can.
-const COVERS: [(Cover, &[u8], &str); 4] = [
+const COVERS: &[(Cover, &[u8], &str)] = &[
     (Cover::Statement, b"if", "a statement"),
     (Cover::Expression, b"!", "an expression"),
     (Cover::Operator, b"*", "an operator"),
     (Cover::Type, b"unsigned", "a type"),
 ];
 
-const CANDIDATES: [Candidate; 17] = [
+const CANDIDATES: &[Candidate] = &[
     (b";", "';'", &[Cover::Statement]),
     (b"{", "'{'", &[Cover::Statement]),
     (b"x", "a name", &[Cover::Statement, Cover::Expression]),
@@ -94,8 +94,8 @@ fn can_stand(alloc: Global, piece: &[u8], token: &[u8]) -> Result<bool, AllocErr
 fn covers(alloc: Global, piece: &[u8]) -> Result<Vec<Cover>, AllocError> {
     let mut all = Vec::new(alloc);
     for (cover, token, _) in COVERS {
-        if can_stand(alloc, piece, token)? {
-            all.push(cover)?;
+        if can_stand(alloc, piece, *token)? {
+            all.push(*cover)?;
         }
     }
     Ok(all)
@@ -103,11 +103,25 @@ fn covers(alloc: Global, piece: &[u8]) -> Result<Vec<Cover>, AllocError> {
 
 fn told_by(cover: Cover) -> &'static str {
     for (other, _, told) in COVERS {
-        if other == cover {
-            return told;
+        if *other == cover {
+            return *told;
         }
     }
     "a token"
+}
+
+/// Whether a token can stand that nothing covers.
+fn is_news(
+    alloc: Global,
+    piece: &[u8],
+    covers: &[Cover],
+    candidate: &Candidate,
+) -> Result<bool, AllocError> {
+    let (token, _, covered) = candidate;
+    if covers.iter().any(|cover| covered.contains(cover)) {
+        return Ok(false);
+    }
+    can_stand(alloc, piece, *token)
 }
 
 /// What can stand behind these bytes, in the words of a message.
@@ -117,10 +131,9 @@ fn all_expected(alloc: Global, piece: &[u8]) -> Result<Vec<&'static str>, AllocE
     for cover in covers.iter() {
         all.push(told_by(*cover))?;
     }
-    for (token, told, covered) in CANDIDATES {
-        let is_covered = covers.iter().any(|cover| covered.contains(cover));
-        if !is_covered && can_stand(alloc, piece, token)? {
-            all.push(told)?;
+    for candidate in CANDIDATES {
+        if is_news(alloc, piece, covers.as_slice(), candidate)? {
+            all.push(candidate.1)?;
         }
     }
     Ok(all)

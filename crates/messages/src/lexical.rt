@@ -3,7 +3,7 @@
 ghost use Rattle.std.specs.Prelude.{IfOk, IfSome};
 ghost use Rattle.commands.specs.Texts.{IsPrintableExplanation};
 
-use crate::source::{Source, back, before, front, shown, spelled_at};
+use crate::source::{Source, Told, back, before, front, shown, spelled_at, told_of};
 use commands::Explanation;
 use std::alloc::{AllocError, Global};
 
@@ -20,7 +20,7 @@ const IF_ELSE: &str = "write if and else";
 const NO_FLOATING: &str = "floating point isn't in this subset of C: write int or unsigned";
 
 /// What C has and the subset leaves out, with what to write in its place.
-const LEFT_OUT: [(&[u8], &str); 30] = [
+const LEFT_OUT: &[Told] = &[
     (b"do", "write while (1) { s if (!(e)) break; }"),
     (b"switch", IF_ELSE),
     (b"case", IF_ELSE),
@@ -59,22 +59,36 @@ const LEFT_OUT: [(&[u8], &str); 30] = [
     (b"??", "trigraphs aren't read: write the sign itself"),
 ];
 
-/// Assignments with an operator, and the operator.
-const COMPOUND: [(&[u8], &str); 10] = [
-    (b"+=", "+"),
-    (b"-=", "-"),
-    (b"*=", "*"),
-    (b"/=", "/"),
-    (b"%=", "%"),
-    (b"&=", "&"),
-    (b"|=", "|"),
-    (b"^=", "^"),
-    (b"<<=", "<<"),
-    (b">>=", ">>"),
+/// `++`, `--` and assignments with an operator, and what is written behind `i = i` in their place.
+const COMPOUND: &[Told] = &[
+    (b"++", "+ 1"),
+    (b"--", "- 1"),
+    (b"+=", "+ .."),
+    (b"-=", "- .."),
+    (b"*=", "* .."),
+    (b"/=", "/ .."),
+    (b"%=", "% .."),
+    (b"&=", "& .."),
+    (b"|=", "| .."),
+    (b"^=", "^ .."),
+    (b"<<=", "<< .."),
+    (b">>=", ">> .."),
+];
+
+/// Directives that have a hint of their own.
+const DIRECTIVES: &[Told] = &[
+    (
+        b"include",
+        "there is nothing to include: out(e); prints a word",
+    ),
+    (
+        b"define",
+        "write a variable at file scope, as int size = 16;, or the number itself",
+    ),
 ];
 
 /// Characters behind a backslash, and their numbers (C99 5.2.2, 6.4.4.4).
-const ESCAPES: [(u8, u8); 11] = [
+const ESCAPES: &[(u8, u8)] = &[
     (b'n', 10),
     (b't', 9),
     (b'0', 0),
@@ -107,8 +121,8 @@ fn character(quoted: &[u8]) -> Option<u8> {
     }
     let escaped = bytes.next()?;
     for (letter, number) in ESCAPES {
-        if escaped == letter {
-            return Some(number);
+        if escaped == *letter {
+            return Some(*number);
         }
     }
     None
@@ -136,28 +150,17 @@ fn not_in_subset(alloc: Global, spelled: &str, hint: &str) -> Result<Explanation
     Explanation::new(alloc, message.as_str(), Some(hint))
 }
 
-/// `++`, `--` and assignments with an operator.
+/// A sign that assigns to a name and computes with it.
 fn compound(
     alloc: Global,
-    source: &Source<'_>,
-    at: usize,
-) -> Result<Option<Explanation>, AllocError>
-    ensures { IfOk result (λ o. IfSome o IsPrintableExplanation) }
+    sign: &[u8],
+    name: &str,
+    written: &str,
+) -> Result<Explanation, AllocError>
+    ensures { IfOk result IsPrintableExplanation }
 {
-    let sign = spelled_at(source.text, at);
-    let name = counted(source, at);
-    if matches!(sign, b"++" | b"--") {
-        let operator = if matches!(sign, b"++") { "+" } else { "-" };
-        let hint = format!(in alloc; "write {name} = {name} {operator} 1")?;
-        return Ok(Some(not_in_subset(alloc, shown(sign), hint.as_str())?));
-    }
-    for (assignment, operator) in COMPOUND {
-        if sign == assignment {
-            let hint = format!(in alloc; "write {name} = {name} {operator} ..")?;
-            return Ok(Some(not_in_subset(alloc, shown(sign), hint.as_str())?));
-        }
-    }
-    Ok(None)
+    let hint = format!(in alloc; "write {name} = {name} {written}")?;
+    not_in_subset(alloc, shown(sign), hint.as_str())
 }
 
 /// What stands behind `#`.
@@ -167,11 +170,7 @@ fn directive(alloc: Global, text: &[u8], at: usize) -> Result<Explanation, Alloc
     let rest = back(text, at.saturating_add(1));
     let blanks = rest.iter().take_while(|byte| **byte == b' ').count();
     let word = spelled_at(rest, blanks);
-    let hint = match word {
-        b"include" => "there is nothing to include: out(e); prints a word",
-        b"define" => "write a variable at file scope, as int size = 16;, or the number itself",
-        _ => NO_DIRECTIVES,
-    };
+    let hint = told_of(DIRECTIVES, word).unwrap_or(NO_DIRECTIVES);
     let word = shown(word);
     let message = format!(in alloc; "'#{word}' isn't in this subset of C")?;
     Explanation::new(alloc, message.as_str(), Some(hint))
@@ -232,23 +231,34 @@ pub(crate) fn bad_token(
     if matches!(sign, b"\\" | b"??") && is_in_comment(source, at) {
         return in_comment(alloc, sign);
     }
-    if let Some(explanation) = compound(alloc, source, at)? {
-        return Ok(explanation);
+    if let Some(written) = told_of(COMPOUND, sign) {
+        return compound(alloc, sign, counted(source, at), written);
     }
     match sign {
-        b"/*" => Explanation::new(
-            alloc,
-            "this comment isn't closed",
-            Some("write */ where it ends"),
-        ),
         b"#" => directive(alloc, source.text, at),
-        b"\"" => {
-            let hint =
-                "out(e); prints a word; bytes stand in an array of unsigned char at file scope";
-            Explanation::new(alloc, "a string isn't in this subset of C", Some(hint))
-        }
         b"'" => quoted(alloc, source.text, at),
         _ => other_sign(alloc, source.text, at),
+    }
+}
+
+/// What begins with a sign that is told by a whole message.
+const BEGINNINGS: &[(&[u8], &str, &str)] = &[
+    (b"/*", "this comment isn't closed", "write */ where it ends"),
+    (
+        b"\"",
+        "a string isn't in this subset of C",
+        "out(e); prints a word; bytes stand in an array of unsigned char at file scope",
+    ),
+];
+
+/// What is written in the place of a sign that the subset leaves out; of a point it depends on what follows.
+fn left_out(text: &[u8], at: usize, sign: &[u8]) -> Option<&'static str> {
+    if !matches!(sign, b".") {
+        return told_of(LEFT_OUT, sign);
+    }
+    match back(text, at.saturating_add(1)).first() {
+        Some(next) if next.is_ascii_digit() => Some(NO_FLOATING),
+        _ => Some(NO_MEMBERS),
     }
 }
 
@@ -256,24 +266,15 @@ fn other_sign(alloc: Global, text: &[u8], at: usize) -> Result<Explanation, Allo
     ensures { IfOk result IsPrintableExplanation }
 {
     let sign = spelled_at(text, at);
-    for (known, hint) in LEFT_OUT {
-        if sign == known {
-            return not_in_subset(alloc, shown(sign), hint);
+    for (beginning, message, hint) in BEGINNINGS {
+        if sign == *beginning {
+            return Explanation::new(alloc, *message, Some(*hint));
         }
     }
-    if matches!(sign, b".") {
-        let next = back(text, at.saturating_add(1))
-            .first()
-            .copied()
-            .unwrap_or(0);
-        let hint = if next.is_ascii_digit() {
-            NO_FLOATING
-        } else {
-            NO_MEMBERS
-        };
-        return not_in_subset(alloc, shown(sign), hint);
+    let shown = shown(sign);
+    if let Some(hint) = left_out(text, at, sign) {
+        return not_in_subset(alloc, shown, hint);
     }
-    let sign = shown(sign);
-    let message = format!(in alloc; "'{sign}' begins nothing in C")?;
+    let message = format!(in alloc; "'{shown}' begins nothing in C")?;
     Explanation::new(alloc, message.as_str(), None)
 }

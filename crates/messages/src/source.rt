@@ -14,7 +14,7 @@ pub(crate) const NO_TOKEN: usize = usize::MAX;
 const SHOWN: usize = 63;
 
 /// Operators of more than one byte, the longer ones first.
-const LONG_SIGNS: [&[u8]; 27] = [
+const LONG_SIGNS: &[&[u8]] = &[
     b"<<=", b">>=", b"...", b"++", b"--", b"->", b"+=", b"-=", b"*=", b"/=", b"%=", b"&=", b"|=",
     b"^=", b"==", b"!=", b"<=", b">=", b"<<", b">>", b"&&", b"||", b"##", b"??", b"/*", b"//",
     b"*/",
@@ -44,6 +44,19 @@ pub(crate) fn shown<'t>(bytes: &'t [u8]) -> &'t str {
     str::from_utf8(front(bytes, SHOWN)).unwrap_or("?")
 }
 
+/// A word or a sign, and what is told of it.
+pub(crate) type Told = (&'static [u8], &'static str);
+
+/// What a table tells of a word.
+pub(crate) fn told_of(table: &[Told], word: &[u8]) -> Option<&'static str> {
+    for (known, told) in table {
+        if word == *known {
+            return Some(*told);
+        }
+    }
+    None
+}
+
 fn is_word(byte: u8) -> bool {
     byte.is_ascii_alphanumeric() || byte == b'_'
 }
@@ -56,7 +69,7 @@ pub(crate) fn spelled_at<'t>(text: &'t [u8], at: usize) -> &'t [u8] {
         return front(rest, word);
     }
     for sign in LONG_SIGNS {
-        if rest.starts_with(sign) {
+        if rest.starts_with(*sign) {
             return front(rest, sign.len());
         }
     }

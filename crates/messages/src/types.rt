@@ -4,7 +4,7 @@ ghost use Rattle.std.specs.Prelude.{IfOk};
 ghost use Rattle.commands.specs.Texts.{IsPrintableExplanation};
 
 use crate::names::{Declared, Meaning, Names};
-use crate::source::{Source, behind};
+use crate::source::{Source, Told, behind, told_of};
 use c_statements::{TypeFault, TypeFaultKind};
 use c_tokens::{Mark, Token};
 use commands::{Explanation, Spot};
@@ -13,7 +13,7 @@ use std::alloc::{AllocError, Global};
 const CALL_HINT: &str = "a call stands alone or behind '=': int r; r = f(1); out(r);";
 
 /// Names of C's library, and of its headers, with what to write.
-const LIBRARY: [(&[u8], &str); 9] = [
+const LIBRARY: &[Told] = &[
     (b"printf", "out(e); prints a word in decimal"),
     (b"puts", "out(e); prints a word in decimal"),
     (b"putchar", "out(e); prints a word in decimal"),
@@ -49,12 +49,7 @@ fn undeclared(alloc: Global, source: &Source<'_>, k: usize) -> Result<Explanatio
         };
         return Explanation::new(alloc, message.as_str(), Some(hint.as_str()));
     }
-    for (known, hint) in LIBRARY {
-        if source.spelled(k) == known {
-            return Explanation::new(alloc, message.as_str(), Some(hint));
-        }
-    }
-    Explanation::new(alloc, message.as_str(), None)
+    Explanation::new(alloc, message.as_str(), told_of(LIBRARY, source.spelled(k)))
 }
 
 fn redeclared(alloc: Global, source: &Source<'_>, k: usize) -> Result<Explanation, AllocError>
