@@ -4,22 +4,23 @@ ghost use Rattle.std.specs.Prelude.{◌≡◌, ◌≢◌, ◌≤◌, [], ◌∷�
 ghost use Rattle.std.specs.Io.KnownBytes.{Appends};
 ghost use Rattle.check_command.specs.Command.{Checks, StopsCheck};
 ghost use Rattle.check_command.specs.Texts.{answer_text, exit_status};
-ghost use Rattle.commands.specs.Requests.{Asks, Does};
+ghost use Rattle.commands.specs.Requests.{Asks, Does, IsSent};
 ghost use Rattle.commands.specs.declared.fault.HostFault.TheVariants.{CannotWrite};
 
 use crate::lines::explain_line;
 use crate::verdicts::{CheckAnswer, CheckFault, check};
 use commands::{
-    Complaints, Explanation, Files, HostFault, Place, line_offset, read_file, tell, tell_placed,
+    Complaints, Explanation, Files, HostFault, Output, Place, line_offset, read_file, tell, tell_placed,
 };
 use std::alloc::Global;
-use std::io::{self, Write};
+use std::io;
 
-fn print<W: Write>(out: &mut W, line: &CheckAnswer) -> io::Result<()>
-    ensures { OnOk result (Appends (W.contents out.old) (W.contents out.new) (answer_text line.now ++ 10 ∷ [])) }
+fn print<W: Output>(out: &mut W, line: &CheckAnswer) -> io::Result<()>
+    ensures sent { OnOk result (IsSent W.sends out.new) }
+    ensures line { OnOk result (Appends (W.contents out.old) (W.contents out.new) (answer_text line.now ++ 10 ∷ [])) }
 {
     writeln!(out, "{line}")?;
-    out.flush()
+    out.send()
 }
 
 fn status_of(answer: &CheckAnswer) -> u8
@@ -33,8 +34,9 @@ fn status_of(answer: &CheckAnswer) -> u8
 }
 
 /// The answer, printed; its status.
-fn print_answer<W: Write>(out: &mut W, answer: &CheckAnswer) -> Result<u8, HostFault>
+fn print_answer<W: Output>(out: &mut W, answer: &CheckAnswer) -> Result<u8, HostFault>
     ensures line { OnOk result (Appends (W.contents out.old) (W.contents out.new) (answer_text answer.now ++ 10 ∷ [])) }
+    ensures sent { OnOk result (IsSent W.sends out.new) }
     ensures status { IfOk result (λ s. s ≡ exit_status answer.now) }
     ensures not_wrong_words { IfOk result (λ s. s ≢ 2) }
     ensures fault { IfErr result (λ e. e ≡ CannotWrite) }
@@ -62,7 +64,7 @@ fn about(alloc: Global, text: &[u8], fault: CheckFault) -> Option<Explanation> {
 }
 
 /// The verdict on the text of a file, printed; the answer is the exit status.
-pub fn check_file<F: Files, W: Write, E: Complaints>(
+pub fn check_file<F: Files, W: Output, E: Complaints>(
     alloc: Global,
     file: &str,
     files: &mut F,
@@ -73,6 +75,7 @@ pub fn check_file<F: Files, W: Write, E: Complaints>(
     ensures not_wrong_words { result ≢ 2 }
     ensures answered { result ≢ 1
         → Does F.answers files.old files.new (W.contents out.old) (W.contents out.new) (Checks file.now result) }
+    ensures sent { result ≢ 1 → IsSent W.sends out.new }
     ensures quiet { result ≢ 1 → err.new ≡ err.old }
     ensures stopped { result ≡ 1 → Asks F.answers files.old files.new E.tells err.old err.new (StopsCheck file.now) }
 {

@@ -33,6 +33,10 @@ pub record Does {F : Type 0} (answers : F → Request → F → Type 0) (old new
   pub took : Appends out_old out_new printed
   pub means : Means requests printed
 
+-- standard output was asked to send on what it had taken, and nothing was written behind that
+abbrev pub IsSent : {W : Type 0} → (W → W → Type 0) → W → Type 0
+IsSent {W} sends out = (kept : W) × sends kept out
+
 -- a line was told, and maybe more behind it
 abbrev pub TellsLine : {E : Type 0} → (E → List ℕ → E → Type 0) → E → List ℕ → E → Type 0
 TellsLine tells old text new = (more : List (List ℕ)) × FoldsTo tells old ((text ++ 10 ∷ []) ∷ more) new

@@ -10,6 +10,8 @@
 //! - `commands::read_file` and `write_file` tell no fault of the other; a fault that is told ends by 1 (`tell`,
 //!   `tell_placed`), also where standard error loses its line; refused memory is never told as wrong words
 //!   (`tell_words`).
+//! - `commands::Output`: where answers go may keep what is written; that it was asked to send all on, last, is a fact of
+//!   its own relation (`IsSent`), so no body can leave it out.
 //! - `commands::Explanation::new` has printable ASCII alone, so that what is said of a text of others steers no terminal
 //!   (`IsPrintableExplanation`).
 #![tactic(auto)]
@@ -17,11 +19,13 @@
 mod explanation;
 mod fault;
 mod files;
+mod output;
 mod place;
 mod wrong_words;
 
 pub use explanation::Explanation;
 pub use fault::{Complaints, HostFault, tell, tell_placed};
 pub use files::{FileFault, Files, read_file, write_file};
+pub use output::Output;
 pub use place::{Place, Spot, line_offset, spot_of};
 pub use wrong_words::tell_words;

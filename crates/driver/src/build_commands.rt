@@ -2,7 +2,7 @@
 
 ghost use Rattle.std.specs.Prelude.{◌≡◌, ◌≢◌, ◌≤◌, IfErr, IfOk, OnOk};
 ghost use Rattle.std.specs.Io.KnownBytes.{Appends};
-ghost use Rattle.commands.specs.Requests.{Asks, Does, TellsLine};
+ghost use Rattle.commands.specs.Requests.{Asks, Does, IsSent, TellsLine};
 ghost use Rattle.driver.specs.Texts.{build_fault_text};
 ghost use Rattle.driver.specs.BuildFaults.{IsBuildFault};
 ghost use Rattle.driver.specs.Program.{Builds, IsBuiltAs, StopsBuild, built_text};
@@ -10,11 +10,11 @@ ghost use Rattle.driver.specs.Program.{Builds, IsBuiltAs, StopsBuild, built_text
 use crate::builds::{BuildFault, Built, Limit, build_plain};
 use crate::offsets::{build_source_fault, place_of};
 use crate::scheduled_builds::{BuildOpts, build};
-use commands::{Complaints, Files, HostFault, read_file, tell, tell_placed, write_file};
+use commands::{Complaints, Files, HostFault, Output, read_file, tell, tell_placed, write_file};
 use delay_filler::FilledOrder;
 use list_scheduler::ListOrder;
 use std::alloc::Global;
-use std::io::{self, Write};
+use std::io;
 use std::sync::Wait;
 use std::thread::Threads;
 use steal_pool::Open;
@@ -67,8 +67,9 @@ fn tell_build<E: Complaints>(
     status
 }
 
-fn print_built<W: Write>(out: &mut W, plain: bool, built: &Built) -> io::Result<()>
-    ensures { OnOk result (Appends (W.contents out.old) (W.contents out.new) (built_text plain built.now)) }
+fn print_built<W: Output>(out: &mut W, plain: bool, built: &Built) -> io::Result<()>
+    ensures sent { OnOk result (IsSent W.sends out.new) }
+    ensures line { OnOk result (Appends (W.contents out.old) (W.contents out.new) (built_text plain built.now)) }
 {
     let blocks = built.blocks;
     if plain {
@@ -77,7 +78,7 @@ fn print_built<W: Write>(out: &mut W, plain: bool, built: &Built) -> io::Result<
         let report = built.report;
         writeln!(out, "blocks {blocks} {report}")?;
     }
-    out.flush()
+    out.send()
 }
 
 /// What is asked of a build.
@@ -109,7 +110,7 @@ fn built_as_asked<T: Threads + Wait + Sync>(
 
 /// Builds the C program of a file. The image's file is written before anything is printed, and isn't touched where the
 /// build fails.
-pub(crate) fn build_file<T: Threads + Wait + Sync, F: Files, W: Write, E: Complaints>(
+pub(crate) fn build_file<T: Threads + Wait + Sync, F: Files, W: Output, E: Complaints>(
     rt: &T,
     alloc: Global,
     asked: &Asked<'_>,
@@ -121,6 +122,7 @@ pub(crate) fn build_file<T: Threads + Wait + Sync, F: Files, W: Write, E: Compla
     ensures most { result ≤ 1 }
     ensures answered { result ≢ 1 → Does F.answers files.old files.new (W.contents out.old) (W.contents out.new)
         (Builds asked.now.source.now asked.now.image.now asked.now.options.depth asked.now.plain result) }
+    ensures sent { result ≢ 1 → IsSent W.sends out.new }
     ensures quiet { result ≢ 1 → err.new ≡ err.old }
     ensures stopped { result ≡ 1 → Asks F.answers files.old files.new E.tells err.old err.new
         (StopsBuild asked.now.source.now asked.now.image.now asked.now.options.depth asked.now.plain) }

@@ -2,16 +2,16 @@
 
 ghost use Rattle.std.specs.Prelude.{◌≡◌, ◌≢◌, ◌≤◌, OnOk};
 ghost use Rattle.std.specs.Io.KnownBytes.{Appends};
-ghost use Rattle.commands.specs.Requests.{Asks, Does};
+ghost use Rattle.commands.specs.Requests.{Asks, Does, IsSent};
 ghost use Rattle.driver.specs.Program.{Lists, Runs, StopsImage};
 ghost use Rattle.driver.specs.Texts.{ending_status};
 
 use crate::image_runs::{list_image, run_image};
 use crate::texts::{EndingLine, print_run};
-use commands::{Complaints, Files, HostFault, read_file, tell};
+use commands::{Complaints, Files, HostFault, Output, read_file, tell};
 use mips_steps::Ending;
 use std::alloc::Global;
-use std::io::{self, Write};
+use std::io;
 
 fn ending_status(end: Ending) -> u8
     ensures status { result ≡ ending_status end }
@@ -25,7 +25,7 @@ fn ending_status(end: Ending) -> u8
 }
 
 /// Runs the image of a file.
-pub(crate) fn run_file<F: Files, W: Write, E: Complaints>(
+pub(crate) fn run_file<F: Files, W: Output, E: Complaints>(
     alloc: Global,
     image: &str,
     steps: u64,
@@ -37,6 +37,7 @@ pub(crate) fn run_file<F: Files, W: Write, E: Complaints>(
     ensures not_wrong_words { result ≢ 2 }
     ensures answered { result ≢ 1
         → Does F.answers files.old files.new (W.contents out.old) (W.contents out.new) (Runs image.now steps result) }
+    ensures sent { result ≢ 1 → IsSent W.sends out.new }
     ensures quiet { result ≢ 1 → err.new ≡ err.old }
     ensures stopped { result ≡ 1 → Asks F.answers files.old files.new E.tells err.old err.new (StopsImage image.now) }
 {
@@ -53,15 +54,16 @@ pub(crate) fn run_file<F: Files, W: Write, E: Complaints>(
     }
 }
 
-fn print_listing<W: Write>(out: &mut W, text: &str) -> io::Result<()>
-    ensures { OnOk result (Appends (W.contents out.old) (W.contents out.new) text.now) }
+fn print_listing<W: Output>(out: &mut W, text: &str) -> io::Result<()>
+    ensures sent { OnOk result (IsSent W.sends out.new) }
+    ensures text { OnOk result (Appends (W.contents out.old) (W.contents out.new) text.now) }
 {
     out.write_all(text.as_bytes())?;
-    out.flush()
+    out.send()
 }
 
 /// Prints the listing of the image of a file.
-pub(crate) fn list_file<F: Files, W: Write, E: Complaints>(
+pub(crate) fn list_file<F: Files, W: Output, E: Complaints>(
     alloc: Global,
     image: &str,
     files: &mut F,
@@ -71,6 +73,7 @@ pub(crate) fn list_file<F: Files, W: Write, E: Complaints>(
     ensures most { result ≤ 1 }
     ensures answered { result ≢ 1
         → Does F.answers files.old files.new (W.contents out.old) (W.contents out.new) (Lists image.now result) }
+    ensures sent { result ≢ 1 → IsSent W.sends out.new }
     ensures quiet { result ≢ 1 → err.new ≡ err.old }
     ensures stopped { result ≡ 1 → Asks F.answers files.old files.new E.tells err.old err.new (StopsImage image.now) }
 {

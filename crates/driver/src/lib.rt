@@ -36,7 +36,7 @@
 //!   command's own contract allows; IMAGE is asked to be nothing but the bytes of an image of what was read from
 //!   SOURCE, and SOURCE is only read (`stopped`: `IsStopped`). `check_command::check_file` promises the same of
 //!   `check`. Not promised: that refused memory, which is told by status 1 before any file is read, was really refused;
-//!   what stands below a fault's line, and clap's texts; that a writer which keeps bytes is flushed.
+//!   what stands below a fault's line, and clap's texts.
 //! - Only tested: that ten programs print what they should (the eight of crates/c_programs what gcc's builds of them
 //!   print), built plainly and scheduled; that interpreter and images print the same, worked by hand, where up to forty
 //!   locals live in a loop, locals and constants live over calls and a recursion, parameters are passed on in another

@@ -2,7 +2,7 @@
 ghost use Rattle.std.specs.Prelude.{◌≡◌, ◌≢◌, ◌≤◌, map, true};
 ghost use Rattle.clap.specs.Words.{takes};
 ghost use Rattle.command_line.specs.Commands.{mcc_app};
-ghost use Rattle.commands.specs.Requests.{Asks, Does};
+ghost use Rattle.commands.specs.Requests.{Asks, Does, IsSent};
 ghost use Rattle.driver.specs.Program.{Interps, IsAnswered, IsStopped, StopsInterp};
 ghost use Rattle.driver.specs.Texts.{end_status};
 ghost use Rattle.term_table.specs.Passes.{InRange};
@@ -15,11 +15,10 @@ use crate::source_runs::interp;
 use crate::texts::{EndLine, print_run};
 use check_command::check_file;
 use command_line::{Command, words};
-use commands::{Complaints, Files, HostFault, read_file, tell, tell_placed, tell_words};
+use commands::{Complaints, Files, HostFault, Output, read_file, tell, tell_placed, tell_words};
 use runs::End;
 use sched_phase::PhaseOpts;
 use std::alloc::Global;
-use std::io::Write;
 use std::sync::Wait;
 use std::thread::Threads;
 
@@ -41,7 +40,7 @@ struct Bounds {
     steps: u64,
 }
 
-fn interp_file<F: Files, W: Write, E: Complaints>(
+fn interp_file<F: Files, W: Output, E: Complaints>(
     alloc: Global,
     source: &str,
     bounds: Bounds,
@@ -53,6 +52,7 @@ fn interp_file<F: Files, W: Write, E: Complaints>(
     ensures not_wrong_words { result ≢ 2 }
     ensures answered { result ≢ 1 → Does F.answers files.old files.new (W.contents out.old) (W.contents out.new)
         (Interps source.now bounds.depth bounds.steps result) }
+    ensures sent { result ≢ 1 → IsSent W.sends out.new }
     ensures quiet { result ≢ 1 → err.new ≡ err.old }
     ensures stopped { result ≡ 1 → Asks F.answers files.old files.new E.tells err.old err.new (StopsInterp source.now) }
 {
@@ -84,7 +84,7 @@ fn phase_of(workers: u32, nodes: u32, heads: u32) -> PhaseOpts
 /// The whole program over its words (the first is its name), its files and two writers; a build starts threads. The answer is
 /// the exit status: 0 for `same`, `done`, a build, a listing and help, 1 for a fault, 2 for wrong words, 4 for `more`, 3
 /// for any other answer.
-pub fn mcc<T: Threads + Wait + Sync, F: Files, W: Write, E: Complaints>(
+pub fn mcc<T: Threads + Wait + Sync, F: Files, W: Output, E: Complaints>(
     rt: &T,
     alloc: Global,
     args: &[&str],
@@ -97,6 +97,7 @@ pub fn mcc<T: Threads + Wait + Sync, F: Files, W: Write, E: Complaints>(
     ensures answered { takes mcc_app (map (λ s. s.now) args.entry.now) ≡ true → result ≢ 1
         → Does F.answers files.old files.new (W.contents out.old) (W.contents out.new)
         (IsAnswered (map (λ s. s.now) args.entry.now) result) }
+    ensures sent { result ≢ 1 → result ≢ 2 → IsSent W.sends out.new }
     ensures quiet { takes mcc_app (map (λ s. s.now) args.entry.now) ≡ true → result ≢ 1 → err.new ≡ err.old }
     ensures stopped { result ≡ 1
         → Asks F.answers files.old files.new E.tells err.old err.new (IsStopped (map (λ s. s.now) args.entry.now)) }

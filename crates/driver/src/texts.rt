@@ -2,16 +2,18 @@
 
 ghost use Rattle.std.specs.Prelude.{Some, [], ◌∷◌, ◌++◌, IfSome, OnOk};
 ghost use Rattle.std.specs.Io.KnownBytes.{Appends};
+ghost use Rattle.commands.specs.Requests.{IsSent};
 ghost use Rattle.driver.specs.Texts.{build_fault_text, end_text, ending_text, interp_fault_text};
 ghost use Rattle.driver.specs.Program.{words_text};
 
 use crate::builds::BuildFault;
 use crate::source_runs::InterpFault;
+use commands::Output;
 use mips_steps::Ending;
 use runs::End;
 use std::error::Error;
 use std::fmt;
-use std::io::{self, Write};
+use std::io;
 
 impl fmt::Display for InterpFault {
     ghost output = { λ e. Some (interp_fault_text e) };
@@ -75,17 +77,18 @@ impl fmt::Display for EndingLine {
 }
 
 /// Each word of output in unsigned decimal, and how the run ended, each on a line.
-pub(crate) fn print_run<W: Write, L: fmt::Display>(
+pub(crate) fn print_run<W: Output, L: fmt::Display>(
     out: &mut W,
     output: &[u32],
     end: &L,
 ) -> io::Result<()>
-    ensures { OnOk result (IfSome (L.output end.now)
+    ensures sent { OnOk result (IsSent W.sends out.new) }
+    ensures lines { OnOk result (IfSome (L.output end.now)
         (λ last. Appends (W.contents out.old) (W.contents out.new) (words_text output.now ++ (last ++ 10 ∷ [])))) }
 {
     for word in output {
         writeln!(out, "{word}")?;
     }
     writeln!(out, "{end}")?;
-    out.flush()
+    out.send()
 }

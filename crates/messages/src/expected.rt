@@ -16,7 +16,7 @@ const LONGEST: usize = 16_384;
 const MOST: usize = 4;
 
 /// What covers a token in a list: some word for many tokens.
-#[derive(Clone, Copy, PartialEq, Eq, Debug)]
+#[derive(Clone, Copy, PartialEq, Eq)]
 enum Cover {
     Statement,
     Expression,

@@ -3,7 +3,7 @@
 ghost use Rattle.std.specs.Prelude.{IfOk, IfSome};
 ghost use Rattle.commands.specs.Texts.{IsPrintableExplanation};
 
-use crate::source::{Source, Told, back, before, front, shown, spelled_at, told_of};
+use crate::source::{Source, Told, back, before, front, of_name, shown, spelled_at, told_of};
 use commands::Explanation;
 use std::alloc::{AllocError, Global};
 
@@ -143,12 +143,8 @@ fn counted<'t>(source: &Source<'t>, at: usize) -> &'t str {
     }
 }
 
-fn not_in_subset(alloc: Global, spelled: &str, hint: &str) -> Result<Explanation, AllocError>
-    ensures { IfOk result IsPrintableExplanation }
-{
-    let message = format!(in alloc; "'{spelled}' isn't in this subset of C")?;
-    Explanation::new(alloc, message.as_str(), Some(hint))
-}
+/// What is said of a word or a sign that C has and the subset leaves out.
+const LEFT_OUT_HERE: &str = "isn't in this subset of C";
 
 /// A sign that assigns to a name and computes with it.
 fn compound(
@@ -160,7 +156,7 @@ fn compound(
     ensures { IfOk result IsPrintableExplanation }
 {
     let hint = format!(in alloc; "write {name} = {name} {written}")?;
-    not_in_subset(alloc, shown(sign), hint.as_str())
+    of_name(alloc, shown(sign), LEFT_OUT_HERE, Some(hint.as_str()))
 }
 
 /// What stands behind `#`.
@@ -187,16 +183,6 @@ fn quoted(alloc: Global, text: &[u8], at: usize) -> Result<Explanation, AllocErr
         }
         None => Explanation::new(alloc, message, Some("write the character's number")),
     }
-}
-
-/// A backslash, or two question marks, inside a comment.
-fn in_comment(alloc: Global, sign: &[u8]) -> Result<Explanation, AllocError>
-    ensures { IfOk result IsPrintableExplanation }
-{
-    let sign = shown(sign);
-    let message = format!(in alloc; "'{sign}' can't stand in a comment")?;
-    let hint = "leave it out: C may read what follows as code";
-    Explanation::new(alloc, message.as_str(), Some(hint))
 }
 
 /// Whether the offset lies inside a comment: behind the last token stands one that isn't closed before it.
@@ -229,7 +215,8 @@ pub(crate) fn bad_token(
 {
     let sign = spelled_at(source.text, at);
     if matches!(sign, b"\\" | b"??") && is_in_comment(source, at) {
-        return in_comment(alloc, sign);
+        let hint = "leave it out: C may read what follows as code";
+        return of_name(alloc, shown(sign), "can't stand in a comment", Some(hint));
     }
     if let Some(written) = told_of(COMPOUND, sign) {
         return compound(alloc, sign, counted(source, at), written);
@@ -273,8 +260,7 @@ fn other_sign(alloc: Global, text: &[u8], at: usize) -> Result<Explanation, Allo
     }
     let shown = shown(sign);
     if let Some(hint) = left_out(text, at, sign) {
-        return not_in_subset(alloc, shown, hint);
+        return of_name(alloc, shown, LEFT_OUT_HERE, Some(hint));
     }
-    let message = format!(in alloc; "'{shown}' begins nothing in C")?;
-    Explanation::new(alloc, message.as_str(), None)
+    of_name(alloc, shown, "begins nothing in C", None)
 }

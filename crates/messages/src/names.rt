@@ -5,7 +5,7 @@ use c_tokens::{Mark, Token};
 use std::alloc::{AllocError, Global};
 
 /// What a name stands for.
-#[derive(Clone, Copy, PartialEq, Eq, Debug)]
+#[derive(Clone, Copy)]
 pub(crate) enum Meaning {
     Variable,
     Array,
@@ -13,7 +13,7 @@ pub(crate) enum Meaning {
 }
 
 /// A declared name: the number of its token, and of the scope that it stands in.
-#[derive(Clone, Copy, Debug)]
+#[derive(Clone, Copy)]
 pub(crate) struct Declared {
     pub(crate) token: usize,
     pub(crate) scope: usize,

@@ -1,9 +1,10 @@
 // The tokens of a text, by their numbers, as messages speak of them.
 
-ghost use Rattle.std.specs.Prelude.{◌≤◌, length};
+ghost use Rattle.std.specs.Prelude.{◌≤◌, IfOk, length};
+ghost use Rattle.commands.specs.Texts.{IsPrintableExplanation};
 
 use c_tokens::{LexFault, MAX_TEXT, Mark, Token, lex};
-use commands::{Spot, spot_of};
+use commands::{Explanation, Spot, spot_of};
 use std::alloc::{AllocError, Global};
 use std::str;
 
@@ -55,6 +56,19 @@ pub(crate) fn told_of(table: &[Told], word: &[u8]) -> Option<&'static str> {
         }
     }
     None
+}
+
+/// What is said of a name or a sign, which stands in quotes before it.
+pub(crate) fn of_name(
+    alloc: Global,
+    name: &str,
+    what: &str,
+    hint: Option<&str>,
+) -> Result<Explanation, AllocError>
+    ensures { IfOk result IsPrintableExplanation }
+{
+    let message = format!(in alloc; "'{name}' {what}")?;
+    Explanation::new(alloc, message.as_str(), hint)
 }
 
 fn is_word(byte: u8) -> bool {

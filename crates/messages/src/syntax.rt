@@ -4,7 +4,7 @@ ghost use Rattle.std.specs.Prelude.{IfOk};
 ghost use Rattle.commands.specs.Texts.{IsPrintableExplanation};
 
 use crate::expected::expected;
-use crate::source::{NO_TOKEN, Source, before, behind};
+use crate::source::{NO_TOKEN, Source, before, behind, of_name};
 use c_tokens::{JumpWord, Mark, Token};
 use commands::{Explanation, Spot};
 use std::alloc::{AllocError, Global};
@@ -393,6 +393,14 @@ fn ended(alloc: Global, source: &Source<'_>, message: &str) -> Result<Explanatio
     Explanation::new(alloc, message, Some(hint.as_str()))
 }
 
+/// What is wrong at a text's end.
+fn end_message(alloc: Global, expected: Option<String>) -> Result<String, AllocError> {
+    match expected {
+        Some(list) => format!(in alloc; "expected {list} at the text's end"),
+        None => String::from_str(alloc, "the text ends too early"),
+    }
+}
+
 /// What is said of the first token that can't stand, or of a text that ends too early.
 pub(crate) fn bad_syntax(
     alloc: Global,
@@ -404,16 +412,13 @@ pub(crate) fn bad_syntax(
     let k = source.index_of(at);
     let expected = expected(alloc, source, k)?;
     if k >= source.count() {
-        let message = match expected {
-            Some(list) => format!(in alloc; "expected {list} at the text's end")?,
-            None => String::from_str(alloc, "the text ends too early")?,
-        };
+        let message = end_message(alloc, expected)?;
         return ended(alloc, source, message.as_str());
     }
-    let found = source.shown(k);
-    let message = match expected {
-        Some(list) => format!(in alloc; "expected {list} before '{found}'")?,
-        None => format!(in alloc; "'{found}' can't stand here")?,
+    let (found, hint) = (source.shown(k), Found::new(source, k).hint());
+    let Some(list) = expected else {
+        return of_name(alloc, found, "can't stand here", hint);
     };
-    Explanation::new(alloc, message.as_str(), Found::new(source, k).hint())
+    let message = format!(in alloc; "expected {list} before '{found}'")?;
+    Explanation::new(alloc, message.as_str(), hint)
 }

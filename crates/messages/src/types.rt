@@ -4,7 +4,7 @@ ghost use Rattle.std.specs.Prelude.{IfOk};
 ghost use Rattle.commands.specs.Texts.{IsPrintableExplanation};
 
 use crate::names::{Declared, Meaning, Names};
-use crate::source::{Source, Told, behind, told_of};
+use crate::source::{Source, Told, behind, of_name, told_of};
 use c_statements::{TypeFault, TypeFaultKind};
 use c_tokens::{Mark, Token};
 use commands::{Explanation, Spot};
@@ -34,22 +34,34 @@ fn elsewhere(source: &Source<'_>, k: usize) -> Option<usize> {
 fn undeclared(alloc: Global, source: &Source<'_>, k: usize) -> Result<Explanation, AllocError>
     ensures { IfOk result IsPrintableExplanation }
 {
+    let what = "isn't declared";
     let name = source.shown(k);
-    let message = format!(in alloc; "'{name}' isn't declared")?;
-    if let Some(other) = elsewhere(source, k) {
-        let Spot { line, .. } = source.spot(other);
-        let hint = if other < k {
-            format!(in alloc;
-                "'{name}' of line {line} ends with its block: declare it further out"
-            )?
-        } else {
-            format!(in alloc;
-                "'{name}' of line {line} comes too late: put it before its first use"
-            )?
-        };
-        return Explanation::new(alloc, message.as_str(), Some(hint.as_str()));
-    }
-    Explanation::new(alloc, message.as_str(), told_of(LIBRARY, source.spelled(k)))
+    let Some(other) = elsewhere(source, k) else {
+        let hint = told_of(LIBRARY, source.spelled(k));
+        return of_name(alloc, name, what, hint);
+    };
+    let Spot { line, .. } = source.spot(other);
+    let reason = if other < k {
+        "ends with its block: declare it further out"
+    } else {
+        "comes too late: put it before its first use"
+    };
+    let hint = format!(in alloc; "'{name}' of line {line} {reason}")?;
+    of_name(alloc, name, what, Some(hint.as_str()))
+}
+
+/// A name that is declared twice: the first time here.
+fn twice(alloc: Global, name: &str, first: Spot) -> Result<Explanation, AllocError>
+    ensures { IfOk result IsPrintableExplanation }
+{
+    let Spot { line, column } = first;
+    let hint = format!(in alloc; "the first one stands at line {line}, column {column}")?;
+    of_name(
+        alloc,
+        name,
+        "is declared twice in this scope",
+        Some(hint.as_str()),
+    )
 }
 
 fn redeclared(alloc: Global, source: &Source<'_>, k: usize) -> Result<Explanation, AllocError>
@@ -58,18 +70,13 @@ fn redeclared(alloc: Global, source: &Source<'_>, k: usize) -> Result<Explanatio
     let name = source.shown(k);
     let names = Names::before(alloc, source, k)?;
     match names.in_scope(source, k) {
-        Some(first) => {
-            let message = format!(in alloc; "'{name}' is declared twice in this scope")?;
-            let Spot { line, column } = source.spot(first.token);
-            let hint = format!(in alloc; "the first one stands at line {line}, column {column}")?;
-            Explanation::new(alloc, message.as_str(), Some(hint.as_str()))
-        }
-        None => {
-            let message = format!(in alloc;
-                "'{name}' is there from the beginning: it prints a word"
-            )?;
-            Explanation::new(alloc, message.as_str(), Some("give yours another name"))
-        }
+        Some(first) => twice(alloc, name, source.spot(first.token)),
+        None => of_name(
+            alloc,
+            name,
+            "is there from the beginning: it prints a word",
+            Some("give yours another name"),
+        ),
     }
 }
 
@@ -91,71 +98,59 @@ fn returned(alloc: Global, source: &Source<'_>, names: &Names) -> Result<Explana
     let Some(function) = names.last_function() else {
         return Explanation::new(alloc, "this return doesn't fit its function", None);
     };
-    let name = source.shown(function.token);
-    if matches!(
+    let (what, hint) = if matches!(
         function.meaning,
         Meaning::Function {
             has_result: true,
             ..
         }
     ) {
-        let message = format!(in alloc; "'{name}' gives a result: return needs a value")?;
-        return Explanation::new(
-            alloc,
-            message.as_str(),
-            Some("write return 0; or another value"),
-        );
-    }
-    let message = format!(in alloc; "'{name}' is void: it returns no value")?;
-    Explanation::new(
-        alloc,
-        message.as_str(),
-        Some("write return; or give the function a type"),
-    )
+        (
+            "gives a result: return needs a value",
+            "write return 0; or another value",
+        )
+    } else {
+        (
+            "is void: it returns no value",
+            "write return; or give the function a type",
+        )
+    };
+    of_name(alloc, source.shown(function.token), what, Some(hint))
 }
 
 /// A declaration of a `main` that isn't `int main(void)`, or of an array of length 0.
-fn declared_so(alloc: Global, source: &Source<'_>, k: usize) -> Result<Explanation, AllocError>
+fn declared_so(alloc: Global, name: &str) -> Result<Explanation, AllocError>
     ensures { IfOk result IsPrintableExplanation }
 {
-    let name = source.shown(k);
-    if name == "main" {
-        return Explanation::new(alloc, "'main' has to be int main(void)", None);
-    }
-    let message = format!(in alloc; "'{name}' has length 0: an array has an element at least")?;
-    Explanation::new(alloc, message.as_str(), None)
+    let what = if name == "main" {
+        "has to be int main(void)"
+    } else {
+        "has length 0: an array has an element at least"
+    };
+    of_name(alloc, name, what, None)
 }
 
 /// A name that is called.
 fn called(alloc: Global, name: &str, meaning: Meaning) -> Result<Explanation, AllocError>
     ensures { IfOk result IsPrintableExplanation }
 {
-    match meaning {
-        Meaning::Function { .. } => {
-            let message = format!(in alloc; "'{name}' is void: its call has no value")?;
-            let hint = format!(in alloc; "call it alone: {name}(..);")?;
-            Explanation::new(alloc, message.as_str(), Some(hint.as_str()))
-        }
-        Meaning::Variable | Meaning::Array => {
-            let message = format!(in alloc; "'{name}' is no function: it can't be called")?;
-            Explanation::new(alloc, message.as_str(), None)
-        }
-    }
+    let Meaning::Function { .. } = meaning else {
+        return of_name(alloc, name, "is no function: it can't be called", None);
+    };
+    let hint = format!(in alloc; "call it alone: {name}(..);")?;
+    let what = "is void: its call has no value";
+    of_name(alloc, name, what, Some(hint.as_str()))
 }
 
 /// A name with an index.
 fn indexed(alloc: Global, name: &str, meaning: Meaning) -> Result<Explanation, AllocError>
     ensures { IfOk result IsPrintableExplanation }
 {
-    let message = match meaning {
-        Meaning::Function { .. } => format!(in alloc;
-            "'{name}' is a function: it has no elements"
-        )?,
-        Meaning::Variable | Meaning::Array => format!(in alloc;
-            "'{name}' is no array: it has no elements"
-        )?,
+    let what = match meaning {
+        Meaning::Function { .. } => "is a function: it has no elements",
+        Meaning::Variable | Meaning::Array => "is no array: it has no elements",
     };
-    Explanation::new(alloc, message.as_str(), None)
+    of_name(alloc, name, what, None)
 }
 
 /// A name that stands alone, or before `=`.
@@ -167,21 +162,16 @@ fn alone(
 ) -> Result<Explanation, AllocError>
     ensures { IfOk result IsPrintableExplanation }
 {
-    match meaning {
-        Meaning::Function { .. } if is_assigned => {
-            let message = format!(in alloc; "'{name}' is a function: it can't be assigned to")?;
-            Explanation::new(alloc, message.as_str(), None)
-        }
-        Meaning::Function { .. } => {
-            let message = format!(in alloc; "'{name}' is a function: call it")?;
-            Explanation::new(alloc, message.as_str(), Some(CALL_HINT))
-        }
-        Meaning::Variable | Meaning::Array => {
-            let message = format!(in alloc; "'{name}' is an array: name one of its elements")?;
-            let hint = format!(in alloc; "write {name}[0] or another index")?;
-            Explanation::new(alloc, message.as_str(), Some(hint.as_str()))
-        }
+    if let Meaning::Function { .. } = meaning {
+        return if is_assigned {
+            of_name(alloc, name, "is a function: it can't be assigned to", None)
+        } else {
+            of_name(alloc, name, "is a function: call it", Some(CALL_HINT))
+        };
     }
+    let hint = format!(in alloc; "write {name}[0] or another index")?;
+    let what = "is an array: name one of its elements";
+    of_name(alloc, name, what, Some(hint.as_str()))
 }
 
 fn other_kind(alloc: Global, source: &Source<'_>, k: usize) -> Result<Explanation, AllocError>
@@ -192,7 +182,7 @@ fn other_kind(alloc: Global, source: &Source<'_>, k: usize) -> Result<Explanatio
         return returned(alloc, source, &names);
     }
     if source.is_declared(k) {
-        return declared_so(alloc, source, k);
+        return declared_so(alloc, source.shown(k));
     }
     let (name, meaning) = (source.shown(k), meaning_in_sight(&names, source, k));
     match source.mark(behind(k, 1)) {
@@ -220,30 +210,43 @@ fn arguments(source: &Source<'_>, open: usize) -> usize {
     count
 }
 
+/// A function with too many parameters.
+fn too_many(alloc: Global, source: &Source<'_>, names: &Names) -> Result<Explanation, AllocError>
+    ensures { IfOk result IsPrintableExplanation }
+{
+    let name = match names.last_function() {
+        Some(function) => source.shown(function.token),
+        None => "it",
+    };
+    let hint = "more values go through variables at file scope";
+    of_name(alloc, name, "has more than 4 parameters", Some(hint))
+}
+
+/// How many arguments a name takes.
+fn taken(meaning: Meaning) -> &'static str {
+    let Meaning::Function { parameters, .. } = meaning else {
+        return "no arguments";
+    };
+    match parameters {
+        0 => "no arguments",
+        1 => "1 argument",
+        2 => "2 arguments",
+        3 => "3 arguments",
+        _ => "4 arguments",
+    }
+}
+
 fn other_count(alloc: Global, source: &Source<'_>, k: usize) -> Result<Explanation, AllocError>
     ensures { IfOk result IsPrintableExplanation }
 {
     let names = Names::before(alloc, source, k)?;
     if source.is_declared(k) {
-        let name = match names.last_function() {
-            Some(function) => source.shown(function.token),
-            None => "it",
-        };
-        let message = format!(in alloc; "'{name}' has more than 4 parameters")?;
-        let hint = "more values go through variables at file scope";
-        return Explanation::new(alloc, message.as_str(), Some(hint));
+        return too_many(alloc, source, &names);
     }
-    let (name, given) = (source.shown(k), arguments(source, behind(k, 1)));
-    let wanted = match meaning_in_sight(&names, source, k) {
-        Meaning::Function { parameters, .. } => parameters,
-        Meaning::Variable | Meaning::Array => 0,
-    };
-    let message = match wanted {
-        0 => format!(in alloc; "'{name}' takes no arguments, not {given}")?,
-        1 => format!(in alloc; "'{name}' takes 1 argument, not {given}")?,
-        _ => format!(in alloc; "'{name}' takes {wanted} arguments, not {given}")?,
-    };
-    Explanation::new(alloc, message.as_str(), None)
+    let taken = taken(meaning_in_sight(&names, source, k));
+    let given = arguments(source, behind(k, 1));
+    let what = format!(in alloc; "takes {taken}, not {given}")?;
+    of_name(alloc, source.shown(k), what.as_str(), None)
 }
 
 fn beyond_limit(alloc: Global, source: &Source<'_>, k: usize) -> Result<Explanation, AllocError>
@@ -269,14 +272,6 @@ fn beyond_limit(alloc: Global, source: &Source<'_>, k: usize) -> Result<Explanat
     )
 }
 
-fn outside(alloc: Global, source: &Source<'_>, k: usize) -> Result<Explanation, AllocError>
-    ensures { IfOk result IsPrintableExplanation }
-{
-    let word = source.shown(k);
-    let message = format!(in alloc; "'{word}' stands in no loop")?;
-    Explanation::new(alloc, message.as_str(), None)
-}
-
 /// What is said of the first fault of a program.
 pub(crate) fn explain_types(
     alloc: Global,
@@ -296,7 +291,7 @@ pub(crate) fn explain_types(
             let hint = "a program begins at int main(void) { .. }";
             Explanation::new(alloc, "the program has no 'main'", Some(hint))
         }
-        TypeFaultKind::Outside => outside(alloc, &source, k),
+        TypeFaultKind::Outside => of_name(alloc, source.shown(k), "stands in no loop", None),
         TypeFaultKind::Limit => beyond_limit(alloc, &source, k),
         TypeFaultKind::NoMemory => Explanation::new(alloc, "memory was refused", None),
     }

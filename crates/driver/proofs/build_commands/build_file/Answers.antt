@@ -58,7 +58,7 @@ returns-in-Ok-print_built-clause-answered g c = λ other.
       asked = asked_twice answers _ c.read_file.new.files _ (Read c.args.asked.now.source.now text) (Written c.args.asked.now.image.now built.image.items)
           (read_as answers _ _ _ _ text c.as_slice.ensures.value c.in-Ok.ensures.asked)
           (written_as answers _ _ _ _ built.image.items c.as_slice-2.ensures.value c.in_default.ensures.asked);
-      took = c.in-Ok-print_built.ensures;
+      took = c.in-Ok-print_built.ensures.line;
       means = record {
         text = text;
         built = built;
