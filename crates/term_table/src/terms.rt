@@ -26,6 +26,7 @@ impl TermTable {
     ///
     /// `TableFull` exactly where the term is not there and the pass has itself linked as many terms
     /// as it may; the table is then as before. Either tells how many links the call loaded.
+    #[inline(always)]
     pub fn intern<L: Label>(
         &self,
         pass: &mut Pass,
@@ -54,6 +55,7 @@ impl TermTable {
 
     /// The ticket of the term of this label over the children's terms, None if it is not there. Links
     /// nothing.
+    #[inline(always)]
     pub fn find<L: Label>(&self, pass: &mut Pass, label: L, children: &[Ticket]) -> Found
         requires table { IsOf self.now pass.old }
         requires few { length children.now ≤ 3 }
