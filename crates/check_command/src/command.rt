@@ -3,8 +3,8 @@
 ghost use Rattle.std.specs.Prelude.{◌≡◌, ◌≢◌, ◌≤◌, [], ◌∷◌, ◌++◌, IfOk, IfErr, OnOk};
 ghost use Rattle.std.specs.Io.KnownBytes.{Appends};
 ghost use Rattle.check_command.specs.Command.{Checks, StopsCheck};
-ghost use Rattle.check_command.specs.Texts.{answer_text, exit_status};
-ghost use Rattle.commands.specs.Requests.{Asks, Does, IsSent};
+ghost use Rattle.check_command.specs.Texts.{answer_text, check_fault_text, exit_status};
+ghost use Rattle.commands.specs.Requests.{Asks, Does, IsSent, TellsLine};
 ghost use Rattle.commands.specs.declared.fault.HostFault.TheVariants.{CannotWrite};
 
 use crate::lines::explain_line;
@@ -34,7 +34,7 @@ fn status_of(answer: &CheckAnswer) -> u8
 }
 
 /// The answer, printed; its status.
-fn print_answer<W: Output>(out: &mut W, answer: &CheckAnswer) -> Result<u8, HostFault>
+pub fn print_answer<W: Output>(out: &mut W, answer: &CheckAnswer) -> Result<u8, HostFault>
     ensures line { OnOk result (Appends (W.contents out.old) (W.contents out.new) (answer_text answer.now ++ 10 ∷ [])) }
     ensures sent { OnOk result (IsSent W.sends out.new) }
     ensures status { IfOk result (λ s. s ≡ exit_status answer.now) }
@@ -63,6 +63,26 @@ fn about(alloc: Global, text: &[u8], fault: CheckFault) -> Option<Explanation> {
     }
 }
 
+/// The line of a fault of a text, and below it where it lies and what is said of it.
+pub fn tell_check<E: Complaints>(
+    alloc: Global,
+    err: &mut E,
+    file: &str,
+    text: &[u8],
+    fault: CheckFault,
+) -> u8
+    ensures status { result ≡ 1 }
+    ensures told { TellsLine E.tells err.old (check_fault_text fault) err.new }
+{
+    let place = Place {
+        source: file,
+        text,
+        at: offset_of(text, fault),
+        about: about(alloc, text, fault),
+    };
+    tell_placed(alloc, err, &fault, &place)
+}
+
 /// The verdict on the text of a file, printed; the answer is the exit status.
 pub fn check_file<F: Files, W: Output, E: Complaints>(
     alloc: Global,
@@ -88,14 +108,6 @@ pub fn check_file<F: Files, W: Output, E: Complaints>(
             Ok(status) => status,
             Err(fault) => tell(err, &fault),
         },
-        Err(fault) => {
-            let place = Place {
-                source: file,
-                text: text.as_slice(),
-                at: offset_of(text.as_slice(), fault),
-                about: about(alloc, text.as_slice(), fault),
-            };
-            tell_placed(alloc, err, &fault, &place)
-        }
+        Err(fault) => tell_check(alloc, err, file, text.as_slice(), fault),
     }
 }

@@ -2,7 +2,7 @@
 //!
 //! `check` is its whole path: the answer is the verdict of the block and the order that the text spells, or the fault of the
 //! text (`specs/Checks.antt`). `check_file` is the command over files and streams: all that it asks of them, prints and ends by
-//! (`specs/Command.antt`). What answers and faults print, and the status of a verdict, stand in `specs/Texts.antt`.
+//! (`specs/Command.antt`); `print_answer` and `tell_check` are its two ends, over a stream alone. What answers and faults print, and the status of a verdict, stand in `specs/Texts.antt`.
 //!
 //! What is promised:
 //! - `check_command::check`, which `driver` exports too: the answer is the verdict on every block and order that the
@@ -18,5 +18,5 @@ mod lines;
 mod texts;
 mod verdicts;
 
-pub use command::check_file;
+pub use command::{check_file, print_answer, tell_check};
 pub use verdicts::{CheckAnswer, CheckFault, check};

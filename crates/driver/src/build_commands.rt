@@ -49,7 +49,8 @@ fn tell_source_fault<E: Complaints>(
     tell_placed(alloc, err, &fault, &place)
 }
 
-fn tell_build<E: Complaints>(
+/// The line of a build's fault, and below it where it lies and what is said of it, or what the limit is about.
+pub fn tell_build<E: Complaints>(
     alloc: Global,
     err: &mut E,
     source: &str,
@@ -67,7 +68,8 @@ fn tell_build<E: Complaints>(
     status
 }
 
-fn print_built<W: Output>(out: &mut W, plain: bool, built: &Built) -> io::Result<()>
+/// The line of a build: how many blocks there are, and how many of them had which verdict.
+pub fn print_built<W: Output>(out: &mut W, plain: bool, built: &Built) -> io::Result<()>
     ensures sent { OnOk result (IsSent W.sends out.new) }
     ensures line { OnOk result (Appends (W.contents out.old) (W.contents out.new) (built_text plain built.now)) }
 {

@@ -66,8 +66,8 @@ fn typed_of(alloc: Global, text: &[u8]) -> Result<Typed, BuildFault>
     }
 }
 
-/// The unit of the program that the text spells.
-pub(crate) fn unit_of(alloc: Global, text: &[u8], depth: u32) -> Result<Unit, BuildFault>
+/// The unit of the program that the text spells: its blocks, before they are put in order.
+pub fn unit_of(alloc: Global, text: &[u8], depth: u32) -> Result<Unit, BuildFault>
     requires { 1 ≤ depth }
     ensures unit { IfOk result (IsUnitOf text.now depth) }
     ensures fault { IfErr result (IsBuildFault text.now) }

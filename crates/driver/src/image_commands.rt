@@ -13,7 +13,8 @@ use mips_steps::Ending;
 use std::alloc::Global;
 use std::io;
 
-fn ending_status(end: Ending) -> u8
+/// The status of an image's run.
+pub fn ending_status(end: Ending) -> u8
     ensures status { result ≡ ending_status end }
     ensures not_wrong_words { result ≢ 2 }
 {

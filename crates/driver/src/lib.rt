@@ -6,7 +6,8 @@
 //! and `list_image` are those of `mcc run` and `mcc list` (`specs/ImageRuns.antt`). `mcc check` is the crate
 //! check_command, and what commands share is the crate commands. `mcc` is the whole program, which `main` calls with the
 //! real files and streams: all that it asks of them, prints and ends by (`specs/Program.antt`). It takes the words of the
-//! command line by the crate command_line. How answers and faults print stands in `specs/Texts.antt`.
+//! command line by the crate command_line. How answers and faults print stands in `specs/Texts.antt`; `print_run` and
+//! `print_built` print them, `tell_interp` and `tell_build` tell faults, over a stream alone, for hosts without files.
 //!
 //! What is promised:
 //! - `driver::interp`: where it is Ok, the text spells a program, the program has no fault, and the answer is what so
@@ -68,11 +69,14 @@ mod scheduled_builds;
 mod source_runs;
 mod texts;
 
-pub use builds::{BuildFault, Built, Limit, build_plain};
+pub use build_commands::{print_built, tell_build};
+pub use builds::{BuildFault, Built, Limit, build_plain, unit_of};
 pub use check_command::{CheckAnswer, CheckFault, check};
 pub use command_line::{Command, words};
 pub use commands::{FileFault, Files};
+pub use image_commands::ending_status;
 pub use image_runs::{list_image, run_image};
-pub use program::mcc;
+pub use program::{end_status, mcc, tell_interp};
 pub use scheduled_builds::{BuildOpts, build, build_one};
 pub use source_runs::{InterpFault, interp};
+pub use texts::{EndLine, EndingLine, print_run};

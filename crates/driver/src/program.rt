@@ -2,16 +2,16 @@
 ghost use Rattle.std.specs.Prelude.{◌≡◌, ◌≢◌, ◌≤◌, map, true};
 ghost use Rattle.clap.specs.Words.{takes};
 ghost use Rattle.command_line.specs.Commands.{mcc_app};
-ghost use Rattle.commands.specs.Requests.{Asks, Does, IsSent};
+ghost use Rattle.commands.specs.Requests.{Asks, Does, IsSent, TellsLine};
 ghost use Rattle.driver.specs.Program.{Interps, IsAnswered, IsStopped, StopsInterp};
-ghost use Rattle.driver.specs.Texts.{end_status};
+ghost use Rattle.driver.specs.Texts.{end_status, interp_fault_text};
 ghost use Rattle.term_table.specs.Passes.{InRange};
 
 use crate::build_commands::{Asked, build_file};
 use crate::image_commands::{list_file, run_file};
 use crate::offsets::{interp_source_fault, place_of};
 use crate::scheduled_builds::BuildOpts;
-use crate::source_runs::interp;
+use crate::source_runs::{InterpFault, interp};
 use crate::texts::{EndLine, print_run};
 use check_command::check_file;
 use command_line::{Command, words};
@@ -22,7 +22,8 @@ use std::alloc::Global;
 use std::sync::Wait;
 use std::thread::Threads;
 
-fn end_status(end: End) -> u8
+/// The status of a program's run.
+pub fn end_status(end: End) -> u8
     ensures status { result ≡ end_status end }
     ensures not_wrong_words { result ≢ 2 }
 {
@@ -31,6 +32,21 @@ fn end_status(end: End) -> u8
         End::Wrong => 3,
         End::More => 4,
     }
+}
+
+/// The line of a run's fault, and below it where it lies and what is said of it.
+pub fn tell_interp<E: Complaints>(
+    alloc: Global,
+    err: &mut E,
+    source: &str,
+    text: &[u8],
+    fault: InterpFault,
+) -> u8
+    ensures status { result ≡ 1 }
+    ensures told { TellsLine E.tells err.old (interp_fault_text fault) err.new }
+{
+    let place = place_of(alloc, source, text, interp_source_fault(fault));
+    tell_placed(alloc, err, &fault, &place)
 }
 
 /// How far a program runs.
@@ -65,10 +81,7 @@ fn interp_file<F: Files, W: Output, E: Complaints>(
             Ok(()) => end_status(ran.end),
             Err(_) => tell(err, &HostFault::CannotWrite),
         },
-        Err(fault) => {
-            let place = place_of(alloc, source, text.as_slice(), interp_source_fault(fault));
-            tell_placed(alloc, err, &fault, &place)
-        }
+        Err(fault) => tell_interp(alloc, err, source, text.as_slice(), fault),
     }
 }
 

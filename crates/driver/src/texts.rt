@@ -46,7 +46,7 @@ impl Error for BuildFault {}
 
 /// The last line of a program's run.
 #[derive(Clone, Copy, Debug)]
-pub(crate) struct EndLine(pub End);
+pub struct EndLine(pub End);
 
 impl fmt::Display for EndLine {
     ghost output = { λ e. Some (end_text e.0) };
@@ -62,7 +62,7 @@ impl fmt::Display for EndLine {
 
 /// The last line of a machine's run.
 #[derive(Clone, Copy, Debug)]
-pub(crate) struct EndingLine(pub Ending);
+pub struct EndingLine(pub Ending);
 
 impl fmt::Display for EndingLine {
     ghost output = { λ e. Some (ending_text e.0) };
@@ -77,11 +77,7 @@ impl fmt::Display for EndingLine {
 }
 
 /// Each word of output in unsigned decimal, and how the run ended, each on a line.
-pub(crate) fn print_run<W: Output, L: fmt::Display>(
-    out: &mut W,
-    output: &[u32],
-    end: &L,
-) -> io::Result<()>
+pub fn print_run<W: Output, L: fmt::Display>(out: &mut W, output: &[u32], end: &L) -> io::Result<()>
     ensures sent { OnOk result (IsSent W.sends out.new) }
     ensures lines { OnOk result (IfSome (L.output end.now)
         (λ last. Appends (W.contents out.old) (W.contents out.new) (words_text output.now ++ (last ++ 10 ∷ [])))) }

@@ -102,7 +102,7 @@ impl Registers {
     }
 
     // The word or the byte at an address.
-    fn load(&self, width: Width, a: u32) -> Result<u32, Rule>
+    pub(crate) fn load(&self, width: Width, a: u32) -> Result<u32, Rule>
         ensures rule { address_rule_of width a (state_of self.now) ≡ rule_told result }
         ensures word { IfOk result (λ w. w ≡ load_at width (state_of self.now).mapped (state_of self.now).memory a) }
     {

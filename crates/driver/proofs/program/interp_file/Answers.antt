@@ -60,6 +60,6 @@ returns-clause-stopped g c = λ one.
       requests = _;
       asked = asked_once answers _ _ (Read c.args.source.now text) (read_as answers _ _ _ _ text c.as_slice.ensures.value c.in-Ok.ensures.asked);
       text = interp_fault_text c.in-Err-interp.fault;
-      told = c.tell_placed.ensures.told;
+      told = c.tell_interp.ensures.told;
       means = faulty text c.in-Err-interp.fault c.in-Err-interp.ensures.fault;
     }
