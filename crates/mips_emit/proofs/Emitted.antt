@@ -1,20 +1,24 @@
 -- Code that is being made.
-use Rattle.std.proofs.Common.{◌≡◌, ℕ, zero, suc, ◌+◌, ◌<◌, List, [], ◌∷◌, ◌++◌, drop, get_or, length, refl, sym, ap, ap₂, ◌∙◌, arith}
+use Rattle.std.proofs.Common.{◌≡◌, ℕ, zero, suc, ◌+◌, ◌-◌, ◌<◌, List, [], ◌∷◌, ◌++◌, drop, get_or, length, Option, None, refl, sym, ap, ap₂, ◌∙◌}
+use Rattle.std.proofs.Common.{arith, nat_eq, eq-eqb, ne_eqb}
+use Rattle.std.specs.Prelude.{if◌then◌else◌}
 use Rattle.std.proofs.lemmas.List.{append_assoc, at_drop_more}
 use Rattle.mips_isa.specs.declared.inst.Plain.{Plain}
 use Rattle.rtl.specs.declared.instruction.RInst.{RInst}
 use Rattle.rtl.specs.declared.block.RGlobal.{RGlobal}
 use Rattle.mips_emit.specs.declared.facts.Last.{Last}
-use Rattle.mips_emit.specs.Locations.{Locations, Facts, learned, known_after, last_of, last_after}
-use Rattle.mips_emit.specs.Code.{inst_code, insts_code}
+use Rattle.mips_emit.specs.declared.comparison.Comparison.{Comparison}
+use Rattle.mips_emit.specs.Locations.{Locations, Facts, learned, known_after, fresh_of}
+use Rattle.mips_emit.specs.Comparisons.{comparison_of, asked_last, next_code, last_with, last_after, insts_code}
 
 -- the code of some instructions stands before what comes behind them
-pub insts_behind : (gs : List RGlobal) (starts : ℕ → ℕ) (at : Locations) (facts : Facts) (is : List RInst) (behind : List Plain)
-    → insts_code gs starts at facts is [] ++ behind ≡ insts_code gs starts at facts is behind
-insts_behind gs starts at facts [] behind = refl
-insts_behind gs starts at facts (i ∷ is) behind =
-    append_assoc (inst_code gs starts at facts i) (insts_code gs starts at (learned at i facts) is []) behind
-    ∙ ap (λ l. inst_code gs starts at facts i ++ l) (insts_behind gs starts at (learned at i facts) is behind)
+pub insts_behind : (gs : List RGlobal) (starts : ℕ → ℕ) (at : Locations) (asked : Option ℕ) (facts : Facts) (is : List RInst) (behind : List Plain)
+    → insts_code gs starts at asked facts is [] ++ behind ≡ insts_code gs starts at asked facts is behind
+insts_behind gs starts at asked facts [] behind = refl
+insts_behind gs starts at asked facts (i ∷ is) behind =
+    append_assoc (next_code gs starts at facts (comparison_of at facts (asked_last asked is) i) i) (insts_code gs starts at asked (learned at i facts) is [])
+    behind
+    ∙ ap (λ l. next_code gs starts at facts (comparison_of at facts (asked_last asked is) i) i ++ l) (insts_behind gs starts at asked (learned at i facts) is behind)
 
 -- what stands at a place doesn't depend on what is given for no place
 get_same : {A : Type 0} (xs : List A) (i : ℕ) (d e : A) → i < length xs → get_or xs i d ≡ get_or xs i e
@@ -22,28 +26,49 @@ get_same [] i d e lt = absurd (omega (arith, lt))
 get_same (x ∷ xs) zero d e lt = refl
 get_same (x ∷ xs) (suc i) d e lt = get_same xs i d e (omega (arith, lt))
 
+-- the branch stands behind the last of them
+last_asked : (asked : Option ℕ) (xs : List RInst) (left : ℕ) → left ≡ suc (length xs) → (if nat_eq (left - 1) 0 then asked else None) ≡ asked_last asked xs
+last_asked asked [] left e = ap (λ b. if b then asked else None) (eq-eqb (left - 1) 0 (omega (arith, e)))
+last_asked asked (x ∷ xs) left e = ap (λ b. if b then asked else None) (ne_eqb (left - 1) 0 (omega (arith, e)))
+
+asks_last : (asked : Option ℕ) (insts : List RInst) (i left : ℕ) → i < length insts → left + i ≡ length insts
+    → (if nat_eq (left - 1) 0 then asked else None) ≡ asked_last asked (drop (i + 1) insts)
+asks_last asked [] i left lt e = absurd (omega (arith, lt))
+asks_last asked (x ∷ xs) zero left lt e = last_asked asked xs left (omega (arith, e))
+asks_last asked (x ∷ xs) (suc i) left lt e =
+    asks_last asked xs i left (omega (arith, lt)) (omega (arith, e))
+    ∙ (let next : suc (i + 1) ≡ suc i + 1 = omega arith in ap (λ n. asked_last asked (drop n (x ∷ xs))) next)
+
 -- one more instruction
-pub insts_step : (gs : List RGlobal) (starts : ℕ → ℕ) (at : Locations) (i : ℕ) (insts : List RInst) (d : RInst)
-    (facts facts1 facts2 facts' all_facts : Facts) (last last' all_last : Last) (code code' all : List Plain)
-    → i < length insts → facts1 ≡ facts → facts2 ≡ facts → code' ≡ code ++ inst_code gs starts at facts1 (get_or insts i d)
-    → facts' ≡ learned at (get_or insts i d) facts → last' ≡ last_of at facts2 (get_or insts i d)
-    → (code ++ insts_code gs starts at facts (drop i insts) [] ≡ all) × (known_after at (drop i insts) facts ≡ all_facts)
-    × (last_after at facts (drop i insts) last ≡ all_last)
-    → (code' ++ insts_code gs starts at facts' (drop (i + 1) insts) [] ≡ all) × (known_after at (drop (i + 1) insts) facts' ≡ all_facts)
-    × (last_after at facts' (drop (i + 1) insts) last' ≡ all_last)
-insts_step gs starts at i insts d facts facts1 facts2 facts' all_facts last last' all_last code code' all within same same2 e k l before =
+pub insts_step : (gs : List RGlobal) (starts : ℕ → ℕ) (at : Locations) (asked asks : Option ℕ) (i left : ℕ) (insts : List RInst) (d : RInst)
+    (m : Option Comparison) (fresh : Option ℕ) (facts facts' all_facts : Facts) (last last' all_last : Last) (code code' all : List Plain)
+    → i < length insts → asks ≡ (if nat_eq (left - 1) 0 then asked else None) → m ≡ comparison_of at facts asks (get_or insts i d)
+    → fresh ≡ fresh_of at (get_or insts i d)
+    → code' ≡ code ++ next_code gs starts at facts m (get_or insts i d)
+    → facts' ≡ learned at (get_or insts i d) facts → last' ≡ last_with m fresh
+    → (left + i ≡ length insts) × (code ++ insts_code gs starts at asked facts (drop i insts) [] ≡ all) × (known_after at (drop i insts) facts ≡ all_facts)
+    × (last_after at asked facts (drop i insts) last ≡ all_last)
+    → (left - 1 + (i + 1) ≡ length insts) × (code' ++ insts_code gs starts at asked facts' (drop (i + 1) insts) [] ≡ all)
+    × (known_after at (drop (i + 1) insts) facts' ≡ all_facts)
+    × (last_after at asked facts' (drop (i + 1) insts) last' ≡ all_last)
+insts_step gs starts at asked asks i left insts d m fresh facts facts' all_facts last last' all_last code code' all within asks_is m_is fresh_is e k l before =
     let inst = get_or insts i d in
     let is : get_or insts i d ≡ get_or insts i (get_or insts i d) = get_same insts i d (get_or insts i d) within in
-    let rest = drop (i + 1) insts in (
-      ap (λ l. l ++ insts_code gs starts at facts' rest []) (e ∙ ap (λ f. code ++ inst_code gs starts at f inst) same)
-          ∙ append_assoc code (inst_code gs starts at facts inst) (insts_code gs starts at facts' rest [])
-          ∙ ap (λ facts'. code ++ (inst_code gs starts at facts inst ++ insts_code gs starts at facts' rest [])) k
-          ∙ ap (λ (inst : RInst). code ++ insts_code gs starts at facts (inst ∷ rest) []) is
-          ∙ sym (at_drop_more (λ is. code ++ insts_code gs starts at facts is []) insts i inst within)
-          ∙ before.0,
+    let rest = drop (i + 1) insts in
+    let count = before.0 in
+    let m' : m ≡ comparison_of at facts (asked_last asked (drop (i + 1) insts)) (get_or insts i d) =
+    m_is ∙ ap (λ a. comparison_of at facts a (get_or insts i d)) (asks_is ∙ asks_last asked insts i left within before.0) in (
+      omega (arith, count, within),
+      ap (λ l. l ++ insts_code gs starts at asked facts' rest []) e
+          ∙ append_assoc code (next_code gs starts at facts m inst) (insts_code gs starts at asked facts' rest [])
+          ∙ ap (λ facts'. code ++ (next_code gs starts at facts m inst ++ insts_code gs starts at asked facts' rest [])) k
+          ∙ ap (λ m. code ++ (next_code gs starts at facts m inst ++ insts_code gs starts at asked (learned at inst facts) rest [])) m'
+          ∙ ap (λ (inst : RInst). code ++ insts_code gs starts at asked facts (inst ∷ rest) []) is
+          ∙ sym (at_drop_more (λ is. code ++ insts_code gs starts at asked facts is []) insts i inst within)
+          ∙ before.1,
       ap (known_after at rest) k ∙ ap (λ (inst : RInst). known_after at (inst ∷ rest) facts) is
-          ∙ sym (at_drop_more (λ is. known_after at is facts) insts i inst within) ∙ before.1,
-      ap₂ (λ facts' (l : Last). last_after at facts' rest l) k (l ∙ ap (λ f. last_of at f inst) same2)
-          ∙ ap (λ (inst : RInst). last_after at facts (inst ∷ rest) last) is
-          ∙ sym (at_drop_more (λ is. last_after at facts is last) insts i inst within) ∙ before.2,
+          ∙ sym (at_drop_more (λ is. known_after at is facts) insts i inst within) ∙ before.2,
+      ap₂ (λ facts' (l : Last). last_after at asked facts' rest l) k (l ∙ ap₂ last_with m' fresh_is)
+          ∙ ap (λ (inst : RInst). last_after at asked facts (inst ∷ rest) last) is
+          ∙ sym (at_drop_more (λ is. last_after at asked facts is last) insts i inst within) ∙ before.3,
     )

@@ -1,13 +1,11 @@
 -- Locations are read and written.
 use Rattle.std.proofs.Common.{◌≡◌, ◌≢◌, ℕ, ◌+◌, ◌*◌, ◌/◌, ◌%◌, ◌^◌, ◌<◌, ◌≤◌, Bool, true, false, List, [], ◌∷◌, ◌++◌, map, length, length-append}
 use Rattle.std.proofs.Common.{Option, Some, None, refl, sym, ap, ◌∙◌, subst, arith, eq-eqb, eqb-true, nat_eq}
-use Rattle.std.specs.Prelude.{if◌then◌else◌, slice_get}
+use Rattle.std.specs.Prelude.{if◌then◌else◌, not, slice_get}
 use Rattle.std.proofs.lemmas.Bool.{eqb-false}
 use Rattle.std.proofs.lemmas.Option.{same_Some, none-some}
 use Rattle.words.specs.declared.width.Width.{Width}
 use Rattle.words.specs.declared.width.Width.TheVariants as widths
-use Rattle.words.specs.declared.operator.Operator.TheVariants as operators
-use Rattle.words.specs.Operators.{op_value}
 use Rattle.runs.specs.Stores.{Places, places_with, Arrays, chain}
 use Rattle.mips_isa.specs.declared.inst.ImmOp.TheVariants.{Addiu}
 use Rattle.mips_isa.specs.declared.inst.LogicOp.TheVariants.{Ori}
@@ -16,6 +14,8 @@ use Rattle.mips_isa.specs.declared.inst.Plain.TheVariants.{Imm, Logic, LoadUpper
 use Rattle.mips_isa.specs.States.{State, IsWords, AreApart, is_open, read}
 use Rattle.mips_isa.specs.Starting.{stack_base, stack_end}
 use Rattle.mips_isa.specs.Actions.{action_of}
+use Rattle.mips_isa.specs.declared.inst.PairTest.TheVariants.{Equal, NotEqual}
+use Rattle.mips_isa.specs.Controls.{pair_passes, zero_passes}
 use Rattle.mblock.specs.declared.limits.TheConstants.{UNIT_BYTES}
 use Rattle.mblock.proofs.StateWords.{run_words}
 use Rattle.rtl.specs.declared.block.RGlobal.{RGlobal}
@@ -26,10 +26,13 @@ use Rattle.mips_homes.specs.declared.homed.Frame.{Frame}
 use Rattle.mips_emit.specs.declared.location.Location.TheVariants.{Held, InSlot}
 use Rattle.mips_emit.specs.declared.location.Source.{Source}
 use Rattle.mips_emit.specs.declared.location.Source.TheVariants.{Zero, Word, From}
-use Rattle.mips_emit.specs.declared.facts.Above.{Above}
+use Rattle.mips_emit.specs.declared.comparison.Form.{Form}
+use Rattle.mips_emit.specs.declared.comparison.Form.TheVariants.{OnPair, OnLeft, OnRight, ByResult, ByOpposite}
+use Rattle.mips_emit.specs.declared.comparison.Comparison.{Comparison}
 use Rattle.mips_emit.specs.declared.facts.Last.{Last}
 use Rattle.mips_emit.specs.Frames.{IsHome, AreFrameHomes, IsFrame}
-use Rattle.mips_emit.specs.Locations.{known_in, no_facts, no_last, location_at, in_slot, fresh_source, source}
+use Rattle.mips_emit.specs.Comparisons.{no_last}
+use Rattle.mips_emit.specs.Locations.{known_in, no_facts, location_at, in_slot, fresh_source, source}
 use Rattle.mips_emit.specs.declared.location.Location.{Location}
 use Rattle.mips_emit.specs.Locations.{lazy_const, lazy_none, lazy_at, lazy_source, word_source}
 use Rattle.mips_emit.specs.Elements.{width_of, width_bytes, place_in, address_of_place}
@@ -174,14 +177,22 @@ pub record IsFresh (fresh : Option ℕ) (hs : List Home) (registers slots : Plac
 pub none_fresh : (hs : List Home) (registers slots : Places) (s : State) → IsFresh None hs registers slots s
 none_fresh hs registers slots s = record { by = λ x w e. absurd (none-some x e) }
 
+-- whether the branch for a comparison is taken
+abbrev pub passes : Form → Source → Source → State → Bool
+passes (OnPair test) x y s = pair_passes test (read 0 s.regs (seat 1 x)) (read 0 s.regs (seat 3 y))
+passes (OnLeft test) x y s = zero_passes test (read 0 s.regs (seat 3 x))
+passes (OnRight test) x y s = zero_passes test (read 0 s.regs (seat 3 y))
+passes ByResult x y s = pair_passes NotEqual (read 0 s.regs 3) (read 0 s.regs 0)
+passes ByOpposite x y s = pair_passes Equal (read 0 s.regs 3) (read 0 s.regs 0)
+
 -- what an exit can use of the last instruction
 pub record IsLast (last : Last) (hs : List Home) (registers slots : Places) (s : State) : Type 0 where
   pub fresh : IsFresh last.fresh hs registers slots s
-  pub above : (a : Above) (v : ℕ) → last.above ≡ Some a → read_home hs registers slots a.result ≡ Some v
-      → (0 < a.register) × (v ≡ op_value operators.Slt 0 (s.regs a.register))
+  pub comparison : (m : Comparison) (v : ℕ) → last.comparison ≡ Some m → read_home hs registers slots m.result ≡ Some v
+      → passes m.form m.x m.y s ≡ not (nat_eq v 0)
 
 pub none_last : (hs : List Home) (registers slots : Places) (s : State) → IsLast no_last hs registers slots s
-none_last hs registers slots s = record { fresh = none_fresh hs registers slots s; above = λ a v e. absurd (none-some a e) }
+none_last hs registers slots s = record { fresh = none_fresh hs registers slots s; comparison = λ m v e. absurd (none-some m e) }
 
 -- one more known word, and two words less
 pub known_with : (known : Places) (hs : List Home) (registers slots : Places) (b w : ℕ) → read_home hs registers slots b ≡ Some w

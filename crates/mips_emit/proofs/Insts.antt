@@ -34,10 +34,9 @@ use Rattle.mips_emit.specs.declared.location.Location.{Location}
 use Rattle.mips_emit.specs.declared.location.Location.TheVariants.{Held, InSlot}
 use Rattle.mips_emit.specs.declared.location.Source.{Source}
 use Rattle.mips_emit.specs.declared.location.Source.TheVariants.{Zero, Word, From}
-use Rattle.mips_emit.specs.declared.facts.Above.{Above}
 use Rattle.mips_emit.specs.declared.facts.Fact.{Fact}
 use Rattle.mips_emit.specs.Frames.{AreFrameHomes}
-use Rattle.mips_emit.specs.Locations.{Facts, known_of, known_in, lazy_none, above_held, with_fact, learned, location_at, locations_of, is_signed_less, above_at, above_by, above_of}
+use Rattle.mips_emit.specs.Locations.{Facts, known_of, known_in, with_fact, learned, location_at, locations_of}
 use Rattle.mips_emit.specs.Locations.{last_of, word_source, operand}
 use Rattle.mips_emit.specs.Elements.{width_of, width_bytes, element_place, place_in, address_of_place, data_middle, direct, near, base_code}
 use Rattle.mips_emit.specs.Elements.{base_offset, element_base, element_offset}
@@ -69,15 +68,6 @@ fact_known : (hs : List Home) (registers slots : Places) (facts : Facts) (x : �
     → IsKnown (known_of (with_fact x o facts.known)) hs registers slots
 fact_known hs registers slots facts x o h =
     record { by = λ y w e. h.by y w (known_fewer KEPT_FACTS ((let f : Fact = record { register = x; word = o } in f) ∷ facts.known) y w e) }
-
-still_none : (l : Option Location) (lazy : Places) (q : ℕ) → lazy q ≡ None → lazy_none l lazy q ≡ None
-still_none None lazy q e = e
-still_none (Some (InSlot k)) lazy q e = e
-still_none (Some (Held r)) lazy q e = by (nat_eq q r)
-  where
-    by : (b : Bool) → (if b then None else lazy q) ≡ None
-    by true = refl
-    by false = e
 
 -- ---- parts of the proof
 
@@ -127,31 +117,6 @@ seat_apart Zero away = λ e. absurd (omega (arith, e))
 seat_apart (Word w) away = λ e. absurd (omega (arith, e))
 seat_apart (From (Held r)) away = λ e. absurd (omega (arith, e, away))
 seat_apart (From (InSlot k)) away = λ e. absurd (omega (arith, e))
-
-signed_less : (op : Op) → is_signed_less op ≡ true → op ≡ LtS
-signed_less LtS e = refl
-signed_less Add e = absurd (true≢false (sym e))
-signed_less Sub e = absurd (true≢false (sym e))
-signed_less Mul e = absurd (true≢false (sym e))
-signed_less DivS e = absurd (true≢false (sym e))
-signed_less DivU e = absurd (true≢false (sym e))
-signed_less RemS e = absurd (true≢false (sym e))
-signed_less RemU e = absurd (true≢false (sym e))
-signed_less And e = absurd (true≢false (sym e))
-signed_less Or e = absurd (true≢false (sym e))
-signed_less Xor e = absurd (true≢false (sym e))
-signed_less Shl e = absurd (true≢false (sym e))
-signed_less ShrU e = absurd (true≢false (sym e))
-signed_less ShrS e = absurd (true≢false (sym e))
-signed_less Eq e = absurd (true≢false (sym e))
-signed_less Ne e = absurd (true≢false (sym e))
-signed_less LtU e = absurd (true≢false (sym e))
-signed_less LeS e = absurd (true≢false (sym e))
-signed_less LeU e = absurd (true≢false (sym e))
-
-slt_value : (v w : ℕ) → op_value operators.Slt v w ≡ slt v w
-unfolding op_value
-slt_value v w = refl
 
 module _ (most total : ℕ) (gs : List RGlobal) (starts : ℕ → ℕ) where
   -- HI and LO change
@@ -352,78 +317,6 @@ module _ (most total : ℕ) (gs : List RGlobal) (starts : ℕ → ℕ) where
             go true true e = close (element_place (width_of gs a) (starts a) w) (ap (element_place (width_of gs a) (starts a)) (said w refl)) e
 
   module _ (g : Arrays) (fs : List Stored) (hs : List Home) (P : Run → Type 0) (out : List ℕ) (failed : P (Failed out)) where
-    -- a comparison with zero says whether the other word is above zero
-    above_holds : (facts : Facts) (registers : Places) (top : Stored) (d a b v w u : ℕ) → AreFrameHomes hs top.count
-        → IsKnown (known_in facts) hs registers top.slots → read_home hs registers top.slots a ≡ Some v → op_result LtS v w ≡ Some u
-        → (r' lazy' : Places) (top' : Stored) (to : State) → ((q : ℕ) → facts.lazy q ≡ None → lazy' q ≡ None)
-        → Stands most total gs starts (hide lazy' r') g (top' ∷ fs) to
-        → IsKnown (places_with (places_with (known_in facts) b (Some w)) d (Some u)) hs r' top'.slots
-        → (m : Above) (v' : ℕ) → above_by (known_in facts a) facts.lazy (locations_of hs b) d b ≡ Some m → read_home hs r' top'.slots m.result ≡ Some v'
-        → (0 < m.register) × (v' ≡ op_value operators.Slt 0 (to.regs m.register))
-    above_holds facts registers top d a b v w u ok k ev eu r' lazy' top' to none st kn m v' is there = by_known (known_in facts a) refl is
-      where
-        known : Places
-        known = known_in facts
-
-        Holds : Type 0
-        Holds = (0 < m.register) × (v' ≡ op_value operators.Slt 0 (to.regs m.register))
-
-        found : (q : ℕ) → slice_get hs b ≡ Some (Reg q) → facts.lazy q ≡ None → 0 ≡ v → d ≢ b → (let x : Above = record { result = d; register = q } in x) ≡ m → Holds
-        found q home shows zero_v ne same =
-            let range = ok.by b (Reg q) home in
-            let low = range.0 in
-            let kept : read_home hs r' top'.slots b ≡ Some w = kn.by b w
-            (ap (λ t. if t then Some u else (places_with (known_in facts) b (Some w)) b) (ne_eqb b d (λ e. ne (sym e)))
-            ∙ ap (λ t. if t then Some w else known_in facts b) (eq-eqb b b refl)) in
-            let result : read_home hs r' top'.slots d ≡ Some u = kn.by d u
-            (ap (λ t. if t then Some u else (places_with (known_in facts) b (Some w)) d) (eq-eqb d d refl)) in
-            let shown : to.regs q ≡ w = st.held q w range.0 range.1 (ap (λ o. hidden o (r' q)) (none q shows)
-            ∙ ap (λ o. chain o (in_home r' top'.slots)) (sym home) ∙ kept) in
-            let value : v' ≡ u = same_Some v' u (sym there ∙ ap (λ (x : Above). read_home hs r' top'.slots x.result) (sym same) ∙ result) in
-            let register : q ≡ m.register = ap (λ (x : Above). x.register) same in (
-              subst (λ r. 0 < r) register (omega (arith, low)),
-              value ∙ sym (same_Some (slt v w) u eu) ∙ sym (slt_value v w) ∙ ap₂ (op_value operators.Slt) (sym zero_v) (sym shown)
-                  ∙ ap (λ r. op_value operators.Slt 0 (to.regs r)) register,
-            )
-
-        by_home : (o : Option Home) → slice_get hs b ≡ o → 0 ≡ v → above_at facts.lazy (location_at o) d b ≡ Some m → Holds
-        by_home None home z is = absurd (none-some m is)
-        by_home (Some (Slot j)) home z is = absurd (none-some m is)
-        by_home (Some (Reg q)) home z is = held (facts.lazy q) refl is
-          where
-            test : facts.lazy q ≡ None → (t : Bool) → nat_eq d b ≡ t
-                → (if t then None else Some (let x : Above = record { result = d; register = q } in x)) ≡ Some m → Holds
-            test shows true t is = absurd (none-some m is)
-            test shows false t is = found q home shows z (eqb-false d b t) (same_Some (let x : Above = record { result = d; register = q } in x) m is)
-
-            held : (o : Option ℕ) → facts.lazy q ≡ o → above_held o q d b ≡ Some m → Holds
-            held (Some c) e is = absurd (none-some m is)
-            held None e is = test e (nat_eq d b) refl is
-
-        by_known : (o : Option ℕ) → known_in facts a ≡ o → above_by o facts.lazy (locations_of hs b) d b ≡ Some m → Holds
-        by_known None ka is = absurd (none-some m is)
-        by_known (Some c) ka is = test (nat_eq c 0) refl is
-          where
-            test : (t : Bool) → nat_eq c 0 ≡ t → (if t then above_at facts.lazy (locations_of hs b) d b else None) ≡ Some m → Holds
-            test false t is = absurd (none-some m is)
-            test true t is = by_home (slice_get hs b) refl (sym (eqb-true c 0 t) ∙ same_Some c v (sym (k.by a c ka) ∙ ev)) is
-
-    -- only a signed comparison says it
-    above_of_op : (op : Op) (facts : Facts) (registers : Places) (top : Stored) (d a b v w u : ℕ) → AreFrameHomes hs top.count
-        → IsKnown (known_in facts) hs registers top.slots → read_home hs registers top.slots a ≡ Some v → op_result op v w ≡ Some u
-        → (r' lazy' : Places) (top' : Stored) (to : State) → ((q : ℕ) → facts.lazy q ≡ None → lazy' q ≡ None)
-        → Stands most total gs starts (hide lazy' r') g (top' ∷ fs) to
-        → IsKnown (places_with (places_with (known_in facts) b (Some w)) d (Some u)) hs r' top'.slots
-        → (m : Above) (v' : ℕ) → above_of (locations_of hs) facts (Bin op d a b) ≡ Some m → read_home hs r' top'.slots m.result ≡ Some v'
-        → (0 < m.register) × (v' ≡ op_value operators.Slt 0 (to.regs m.register))
-    above_of_op op facts registers top d a b v w u ok k ev eu r' lazy' top' to none st kn m v' is there = go (is_signed_less op) refl is
-      where
-        go : (t : Bool) → is_signed_less op ≡ t → (if t then above_by (known_in facts a) facts.lazy (locations_of hs b) d b else None) ≡ Some m
-            → (0 < m.register) × (v' ≡ op_value operators.Slt 0 (to.regs m.register))
-        go false t is = absurd (none-some m is)
-        go true t is = above_holds facts registers top d a b v w u ok k ev
-            (ap (λ op. op_result op v w) (sym (signed_less op t)) ∙ eu) r' lazy' top' to none st kn m v' is there
-
     pub performs : (i : RInst) (facts : Facts) (registers : Places) (top : Stored) (s : State) (go : Places → Places → Arrays → Run)
         → AreFrameHomes hs top.count → IsKnown (known_in facts) hs registers top.slots → IsLazy facts.lazy registers
         → Stands most total gs starts (hide facts.lazy registers) g (top ∷ fs) s
@@ -462,11 +355,7 @@ module _ (most total : ℕ) (gs : List RGlobal) (starts : ℕ → ℕ) where
         (λ c is. sym (same_Some u c is)) ok (known_with known hs registers top.slots b w ew k) failed
         (λ r' s' to some e st lz' kn new. f r' s' g to some e st lz' (fact_known hs r' s' facts d None
         (known_without known hs r' s' b w d u (λ c is. same_Some c w (sym (k.by b c is) ∙ ew)) kn))
-        (record {
-          fresh = new;
-          above = λ m v' is there. above_of_op op facts registers top d a b v w u ok k ev eu r' (lazy_none (locations_of hs d) facts.lazy)
-              (with_slots top s') to (λ q e. still_none (locations_of hs d) facts.lazy q e) st kn m v' is there;
-        })))))
+        (record { fresh = new; comparison = λ m v' is. absurd (none-some m is) })))))
     performs (Load d a i) facts registers top s go ok k lz h f =
         value_or_failed P (read_home hs registers top.slots i) out _ failed (λ v ev.
         value_or_failed P (element_at g a v) out _ failed (λ w there.
@@ -487,7 +376,7 @@ module _ (most total : ℕ) (gs : List RGlobal) (starts : ℕ → ℕ) where
         (ends_set is s to d' (shown_at width to at) w (into_target hs top.count d ok) (runs_then p.runs load) value below)
         (longer_behind (element_code width (starts a) o x) _ (omega arith)) (λ w e. absurd (none-some w e)) ok k failed
         (λ r' s' to some e st lz' kn new. f r' s' g to some e st lz' (fact_known hs r' s' facts d None kn)
-        (record { fresh = new; above = λ m v' is. absurd (none-some m is) }))))
+        (record { fresh = new; comparison = λ m v' is. absurd (none-some m is) }))))
     performs (Store a i b) facts registers top s go ok k lz h f =
         value_or_failed P (read_home hs registers top.slots i) out _ failed (λ v ev.
         value_or_failed P (read_home hs registers top.slots b) out _ failed (λ w ew.

@@ -5,5 +5,6 @@ pub mod Homes
 pub mod Globals
 pub mod Operations
 pub mod Insts
+pub mod Comparing
 pub mod Tables
 pub mod Emitted

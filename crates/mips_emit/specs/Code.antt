@@ -1,4 +1,4 @@
--- The machine code of each instruction, of arguments, and of a branch's test. Registers 1 and 2 are free between instructions.
+-- The machine code of each instruction, and of arguments. Registers 1 to 3 are free between instructions.
 use Rattle.std.specs.Prelude.{ℕ, ℤ, pos, negsuc, suc, ◌-◌, ◌*◌, ◌/◌, ◌%◌, ◌^◌, Bool, true, false, ◌||◌, nat_eq, nat_lt}
 use Rattle.std.specs.Prelude.{◌+◌, if◌then◌else◌, List, [], ◌∷◌, ◌++◌, Option, Some, None, slice_index}
 use Rattle.std.specs.Int.{w32, trailing_zeros}
@@ -272,28 +272,9 @@ inst_code globals starts at facts (Bin op d a b) = bin_code at facts op d a b
 inst_code globals starts at facts (Load d a i) = load_code at facts (width_of globals a) (starts a) d i
 inst_code globals starts at facts (Store a i b) = store_code at facts (width_of globals a) (starts a) i b
 
--- the code of several, before other code
-abbrev pub insts_code : List RGlobal → (starts : ℕ → ℕ) → Locations → Facts → List RInst → List Plain → List Plain
-insts_code globals starts at facts [] behind = behind
-insts_code globals starts at facts (i ∷ is) behind =
-    inst_code globals starts at facts i ++ insts_code globals starts at (learned at i facts) is behind
-
--- and before none
-abbrev pub code_of_insts : List RGlobal → (starts : List ℕ) → Frame → Facts → List RInst → List Plain
-code_of_insts globals starts frame facts is = insts_code globals (slice_index starts) (locations frame) facts is []
-
 -- ---- exits
 
 -- arguments into registers from t on
 abbrev pub arguments_code : Locations → Facts → ℕ → List ℕ → List Plain
 arguments_code at facts t [] = []
 arguments_code at facts t (x ∷ xs) = carry t (operand at facts x) ++ arguments_code at facts (suc t) xs
-
--- a branch: on an operand, or on the word whose comparison with zero it is
-abbrev pub branch_code : (tested : Option ℕ) → Source → List Plain
-branch_code None x = fetch 1 x
-branch_code (Some q) x = []
-
-abbrev pub branch_exit : (tested : Option ℕ) → Source → (t e : ℕ) → Exit
-branch_exit None x t e = BranchPair NotEqual (seat 1 x) 0 t e
-branch_exit (Some q) x t e = BranchZero AboveZero q t e

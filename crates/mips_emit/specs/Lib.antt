@@ -2,4 +2,5 @@ pub mod Frames
 pub mod Locations
 pub mod Elements
 pub mod Code
+pub mod Comparisons
 pub mod Numbers

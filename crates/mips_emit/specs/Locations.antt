@@ -3,8 +3,6 @@ use Rattle.std.specs.Prelude.{◌≡◌, length, ℕ, ◌*◌, ◌≤◌, Bool, 
 use Rattle.std.specs.Prelude.{slice_get}
 use Rattle.words.specs.Words.{wrap}
 use Rattle.runs.specs.Stores.{Places, places_with, chain}
-use Rattle.rtl.specs.declared.operator.Op.{Op}
-use Rattle.rtl.specs.declared.operator.Op.TheVariants.{LtS}
 use Rattle.rtl.specs.declared.instruction.RInst.{RInst}
 use Rattle.rtl.specs.declared.instruction.RInst.TheVariants.{Const, Move, Bin, Load, Store}
 use Rattle.mips_homes.specs.HomedRun.{is_lasting}
@@ -18,7 +16,6 @@ use Rattle.mips_emit.specs.declared.location.Source.{Source}
 use Rattle.mips_emit.specs.declared.location.Source.TheVariants.{Zero, Word, From}
 use Rattle.mips_emit.specs.declared.facts.Fact.{Fact}
 use Rattle.mips_emit.specs.declared.facts.Knowledge.{Knowledge}
-use Rattle.mips_emit.specs.declared.facts.Above.{Above}
 use Rattle.mips_emit.specs.declared.facts.Last.{Last}
 
 -- ---- locations
@@ -120,45 +117,8 @@ fresh_of at (Bin op d a b) = in_slot (at d) d
 fresh_of at (Load d a i) = in_slot (at d) d
 fresh_of at (Store a i b) = None
 
--- a comparison 0 < b whose result isn't b itself, where b is in a register
-abbrev pub above_held : (lazy : Option ℕ) → ℕ → ℕ → ℕ → Option Above
-above_held (Some w) q d b = None
-above_held None q d b = if nat_eq d b then None else Some (record { result = d; register = q })
-
-abbrev pub above_at : Places → Option Location → ℕ → ℕ → Option Above
-above_at lazy None d b = None
-above_at lazy (Some (InSlot k)) d b = None
-above_at lazy (Some (Held q)) d b = above_held (lazy q) q d b
-
-abbrev pub above_by : (known : Option ℕ) → Places → Option Location → ℕ → ℕ → Option Above
-above_by None lazy l d b = None
-above_by (Some w) lazy l d b = if nat_eq w 0 then above_at lazy l d b else None
-
-abbrev pub is_signed_less : Op → Bool
-is_signed_less LtS = true
-is_signed_less _ = false
-
-abbrev pub above_of : Locations → Facts → RInst → Option Above
-above_of at facts (Const d w) = None
-above_of at facts (Move d a) = None
-above_of at facts (Bin op d a b) = if is_signed_less op then above_by (known_in facts a) facts.lazy (at b) d b else None
-above_of at facts (Load d a i) = None
-above_of at facts (Store a i b) = None
-
 abbrev pub last_of : Locations → Facts → RInst → Last
-last_of at facts i = record { fresh = fresh_of at i; above = above_of at facts i }
-
-abbrev pub no_last : Last
-no_last = record { fresh = None; above = None }
-
-abbrev pub last_after : Locations → Facts → List RInst → Last → Last
-last_after at facts [] last = last
-last_after at facts (i ∷ is) last = last_after at (learned at i facts) is (last_of at facts i)
-
--- the register whose word is above zero exactly where the pseudo-register isn't 0
-abbrev pub tested : Option Above → ℕ → Option ℕ
-tested None c = None
-tested (Some a) c = if nat_eq a.result c then Some a.register else None
+last_of at facts i = record { fresh = fresh_of at i; comparison = None }
 
 -- ---- operands
 

@@ -5,7 +5,7 @@ ghost use Rattle.mips_emit.specs.Frames.{IsReachable};
 ghost use Rattle.mips_emit.specs.Locations.{facts_of, locations, operand, last_operand};
 ghost use Rattle.mips_emit.specs.Code.{arrive, carry, arguments_code};
 
-use crate::facts::{Knowledge, Last, last_operand, operand};
+use crate::facts::{Knowledge, last_operand, operand};
 use crate::location::{locate, register};
 use crate::transfer::{emit_arrive, emit_carry};
 use mips_homes::Frame;
@@ -31,16 +31,16 @@ pub fn emit_arrival(
 pub fn emit_departure(
     code: &mut Vec<Plain>,
     facts: &Knowledge,
-    last: Last,
+    fresh: Option<Register>,
     frame: &Frame,
     t: NonzeroReg,
     x: Register,
 ) -> Result<(), AllocError>
     requires { IsReachable frame.now }
     ensures { OnOk result (code.new.items ≡ code.old.items
-        ++ carry t (last_operand (locations frame.now) (facts_of facts.now) last.fresh x)) }
+        ++ carry t (last_operand (locations frame.now) (facts_of facts.now) fresh x)) }
 {
-    emit_carry(code, t, &last_operand(facts, last.fresh, frame, x))?;
+    emit_carry(code, t, &last_operand(facts, fresh, frame, x))?;
     Ok(())
 }
 

@@ -5,15 +5,16 @@ ghost use Rattle.mips_emit.specs.Frames.{IsReachable};
 ghost use Rattle.runs.specs.Stores.{places_with};
 ghost use Rattle.mips_homes.specs.HomedRun.{is_lasting};
 ghost use Rattle.mips_emit.specs.Locations.{known_of, known_in, facts_of, no_facts, word_in, IsEmpty, lazy_at, lazy_const, lazy_none};
-ghost use Rattle.mips_emit.specs.Locations.{above_held, with_fact, learned, in_slot, fresh_of, above_at, above_by, above_of, last_of};
-ghost use Rattle.mips_emit.specs.Locations.{tested};
+ghost use Rattle.mips_emit.specs.Locations.{with_fact, learned, in_slot, fresh_of};
+ghost use Rattle.mips_emit.specs.Comparisons.{last_with};
 ghost use Rattle.mips_emit.specs.Locations.{locations, operand, last_operand, FitsSource};
 
+use crate::comparison::Comparison;
 use crate::limits::KEPT_FACTS;
 use crate::location::{Location, Source, locate, register, source_of, word_source};
 use mips_homes::Frame;
 use mips_isa::NonzeroReg;
-use rtl::{Op, RInst, Register};
+use rtl::{RInst, Register};
 use std::alloc::{AllocError, Global};
 
 /// A write of a pseudo-register, and the word that it is known to hold since, if any.
@@ -23,19 +24,12 @@ pub struct Fact {
     pub word: Option<u32>,
 }
 
-/// A pseudo-register that is 1 where the word in a register is above zero as a signed number, else 0.
-#[derive(Clone, Copy, Debug, PartialEq, Eq)]
-pub struct Above {
-    pub result: Register,
-    pub register: NonzeroReg,
-}
-
 /// What an exit can use of the last instruction: the pseudo-register whose word is still in register 1, and a comparison
-/// with zero.
+/// that is one with the branch.
 #[derive(Clone, Copy, Debug, PartialEq, Eq)]
 pub struct Last {
     pub fresh: Option<Register>,
-    pub above: Option<Above>,
+    pub comparison: Option<Comparison>,
 }
 
 /// What is known within a block: words of pseudo-registers, the newest first, and by the numbers of registers the words that
@@ -84,7 +78,7 @@ impl Last {
     /// Nothing that can be used.
     pub const NONE: Last = Last {
         fresh: None,
-        above: None,
+        comparison: None,
     };
 }
 
@@ -236,8 +230,8 @@ fn in_slot(place: Option<Location>, x: Register) -> Option<Register>
     }
 }
 
-// The pseudo-register whose word an instruction leaves in register 1.
-fn fresh_of(frame: &Frame, inst: &RInst) -> Option<Register>
+/// The pseudo-register whose word an instruction leaves in register 1.
+pub(crate) fn fresh_of(frame: &Frame, inst: &RInst) -> Option<Register>
     requires { IsReachable frame.now }
     ensures { result ≡ fresh_of (locations frame.now) inst.now }
 {
@@ -247,107 +241,19 @@ fn fresh_of(frame: &Frame, inst: &RInst) -> Option<Register>
     }
 }
 
-// A comparison 0 < b whose result isn't b itself, where b is in a register.
-fn above_at(
-    table: &[Option<u32>],
-    place: Option<Location>,
-    d: Register,
-    b: Register,
-) -> Option<Above>
-    ensures { result ≡ above_at (word_in table.now) place d b }
+/// What an exit can use of an instruction: the comparison that is one with it, or the word that is still in register 1.
+pub(crate) fn last_with(comparison: &Option<Comparison>, fresh: Option<Register>) -> Last
+    ensures { result ≡ last_with comparison.now fresh }
 {
-    match place {
-        None => None,
-        Some(location) => above_in(table, location, d, b),
-    }
-}
-
-// The same in a register that holds its word.
-fn above_held(lazy: Option<u32>, register: NonzeroReg, d: Register, b: Register) -> Option<Above>
-    ensures { result ≡ above_held lazy register d b }
-{
-    match lazy {
-        Some(_) => None,
-        None => {
-            if d == b {
-                None
-            } else {
-                Some(Above {
-                    result: d,
-                    register,
-                })
-            }
-        }
-    }
-}
-
-// The same at a location.
-fn above_in(table: &[Option<u32>], location: Location, d: Register, b: Register) -> Option<Above>
-    ensures { result ≡ above_at (word_in table.now) (Some location) d b }
-{
-    match location {
-        Location::InSlot(_) => None,
-        Location::Held(register) => above_held(lazy_in(table, register), register, d, b),
-    }
-}
-
-// The same where the other word is known.
-fn above_by(
-    known: Option<u32>,
-    table: &[Option<u32>],
-    place: Option<Location>,
-    d: Register,
-    b: Register,
-) -> Option<Above>
-    ensures { result ≡ above_by known (word_in table.now) place d b }
-{
-    match known {
-        Some(0) => above_at(table, place, d, b),
-        _ => None,
-    }
-}
-
-// What an instruction's result is, if it compares with zero.
-fn above_of(facts: &Knowledge, frame: &Frame, inst: &RInst) -> Option<Above>
-    requires { IsReachable frame.now }
-    ensures { result ≡ above_of (locations frame.now) (facts_of facts.now) inst.now }
-{
-    match inst {
-        RInst::Bin(Op::LtS, d, a, b) => above_by(
-            known_word(facts, *a),
-            facts.lazy.as_slice(),
-            locate(frame, *b),
-            *d,
-            *b,
-        ),
-        _ => None,
-    }
-}
-
-/// What an exit can use of an instruction, from what is known before it.
-pub(crate) fn last_of(facts: &Knowledge, frame: &Frame, inst: &RInst) -> Last
-    requires { IsReachable frame.now }
-    ensures { result ≡ last_of (locations frame.now) (facts_of facts.now) inst.now }
-{
-    Last {
-        fresh: fresh_of(frame, inst),
-        above: above_of(facts, frame, inst),
-    }
-}
-
-/// The register whose word is above zero exactly where the pseudo-register isn't 0.
-pub fn tested(above: Option<Above>, c: Register) -> Option<NonzeroReg>
-    ensures { result ≡ tested above c }
-{
-    match above {
-        None => None,
-        Some(a) => {
-            if a.result == c {
-                Some(a.register)
-            } else {
-                None
-            }
-        }
+    match comparison {
+        None => Last {
+            fresh,
+            comparison: None,
+        },
+        Some(m) => Last {
+            fresh: None,
+            comparison: Some(*m),
+        },
     }
 }
 

@@ -1,17 +1,19 @@
 // The code of instructions.
 
-ghost use Rattle.std.specs.Prelude.{◌≡◌, ◌<◌, ◌≤◌, ◌++◌, All, length, slice_index, OnOk, IfOk, Some};
+ghost use Rattle.std.specs.Prelude.{◌≡◌, ◌<◌, ◌≤◌, ◌++◌, All, length, slice_index, if◌then◌else◌, OnOk, IfOk, Some, None};
 ghost use Rattle.mblock.specs.declared.limits.TheConstants.{UNIT_BYTES};
 ghost use Rattle.words.specs.Words.{wrap};
 ghost use Rattle.rtl.specs.Programs.{IsInst};
 ghost use Rattle.mips_emit.specs.declared.location.Location.TheVariants.{Held};
 ghost use Rattle.mips_emit.specs.Frames.{IsReachable};
-ghost use Rattle.mips_emit.specs.Locations.{facts_of, locations, word_source, operand, known_after, last_after, no_last};
+ghost use Rattle.mips_emit.specs.Locations.{facts_of, locations, word_source, operand, known_after};
+ghost use Rattle.mips_emit.specs.Comparisons.{FitsComparison, next_code, last_after, no_last, code_of_insts};
 ghost use Rattle.mips_emit.specs.Elements.{AreStarts, width_of};
-ghost use Rattle.mips_emit.specs.Code.{const_code, put_at, bin_code, load_code, store_code, inst_code, code_of_insts};
+ghost use Rattle.mips_emit.specs.Code.{const_code, put_at, bin_code, load_code, store_code, inst_code};
 
+use crate::comparison::{Comparison, comparison_of, emit_comparison};
 use crate::element::{direct, element_load, element_store, emit_element};
-use crate::facts::{Knowledge, Last, is_lasting, known_word, last_of, learn, operand};
+use crate::facts::{Knowledge, Last, fresh_of, is_lasting, known_word, last_with, learn, operand};
 use crate::location::{Location, locate, register, word_source};
 use crate::operation::emit_op;
 use crate::transfer::{emit_bring, emit_fetch, emit_finish, emit_put, into_of, seat};
@@ -189,13 +191,46 @@ fn emit_inst(
     Ok(())
 }
 
-/// Several instructions, and what is known after them and left for an exit; an Err is refused memory.
+// One instruction, or the comparison that it is.
+fn emit_next(
+    code: &mut Vec<Plain>,
+    globals: &[RGlobal],
+    starts: &[u32],
+    facts: &Knowledge,
+    frame: &Frame,
+    comparison: &Option<Comparison>,
+    inst: &RInst,
+) -> Result<(), AllocError>
+    requires frame { IsReachable frame.now }
+    requires few { AreStarts starts.now }
+    requires named { IsInst (length starts.now) inst.now }
+    requires fits { FitsComparison comparison.now }
+    ensures { OnOk result (code.new.items ≡ code.old.items
+        ++ next_code globals.now (slice_index starts.now) (locations frame.now) (facts_of facts.now) comparison.now inst.now) }
+{
+    match comparison {
+        None => emit_inst(code, globals, starts, facts, frame, inst)?,
+        Some(m) => emit_comparison(code, m)?,
+    }
+    Ok(())
+}
+
+// What the branch asks for, if it stands right behind.
+fn asked_if(is_last: bool, asked: Option<Register>) -> Option<Register>
+    ensures { result ≡ (if is_last then asked else None) }
+{
+    if is_last { asked } else { None }
+}
+
+/// Several instructions, and what is known after them and left for an exit, where that is a branch by the pseudo-register
+/// asked for, or none; an Err is refused memory.
 pub fn emit_insts(
     code: &mut Vec<Plain>,
     facts: &mut Knowledge,
     globals: &[RGlobal],
     starts: &[u32],
     frame: &Frame,
+    asked: Option<Register>,
     insts: &[RInst],
 ) -> Result<Last, AllocError>
     requires frame { IsReachable frame.now }
@@ -203,14 +238,19 @@ pub fn emit_insts(
     requires few { AreStarts starts.now }
     requires named { All (IsInst (length starts.now)) insts.now }
     ensures code { OnOk result (code.new.items ≡ code.old.items
-        ++ code_of_insts globals.now starts.now frame.now (facts_of facts.old) insts.now) }
-    ensures last { IfOk result (λ l. l ≡ last_after (locations frame.now) (facts_of facts.old) insts.now no_last) }
+        ++ code_of_insts globals.now starts.now frame.now asked (facts_of facts.old) insts.now) }
+    ensures last { IfOk result (λ l. l ≡ last_after (locations frame.now) asked (facts_of facts.old) insts.now no_last) }
     ensures known { OnOk result (facts_of facts.new ≡ known_after (locations frame.now) insts.now (facts_of facts.old)) }
 {
     let mut last = Last::NONE;
+    let mut left = insts.len();
     for inst in insts {
-        last = last_of(facts, frame, inst);
-        emit_inst(code, globals, starts, facts, frame, inst)?;
+        left -= 1;
+        let asks = asked_if(left == 0, asked);
+        let comparison = comparison_of(facts, frame, asks, inst);
+        let fresh = fresh_of(frame, inst);
+        emit_next(code, globals, starts, facts, frame, &comparison, inst)?;
+        last = last_with(&comparison, fresh);
         learn(facts, frame, inst)?;
     }
     Ok(last)

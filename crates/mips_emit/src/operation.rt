@@ -241,8 +241,8 @@ fn is_symmetric(op: Op) -> bool
     )
 }
 
-// An operator on a register and what is known of the other operand.
-fn immediate_of(op: Op, rd: Reg, rs: Reg, known: Option<u32>) -> Option<Plain>
+/// An operator on a register and what is known of the other operand.
+pub(crate) fn immediate_of(op: Op, rd: Reg, rs: Reg, known: Option<u32>) -> Option<Plain>
     ensures { result ≡ immediate_of op rd rs known }
 {
     match known {

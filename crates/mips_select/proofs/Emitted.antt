@@ -1,5 +1,5 @@
 -- Facts about code that is being made.
-use Rattle.std.proofs.Common.{◌≡◌, ℕ, zero, suc, ◌+◌, ◌*◌, ◌<◌, ◌≤◌, Bool, true, false, Some, List, [], ◌∷◌, ◌++◌, length, refl, sym, ap, ap₂, ◌∙◌, arith}
+use Rattle.std.proofs.Common.{◌≡◌, ℕ, zero, suc, ◌+◌, ◌*◌, ◌<◌, ◌≤◌, Bool, true, false, Some, List, [], ◌∷◌, ◌++◌, length, Option, refl, sym, ap, ap₂, ◌∙◌, arith}
 use Rattle.std.specs.Prelude.{slice_get, slice_index}
 use Rattle.std.proofs.lemmas.List.{append-nil, append_assoc}
 use Rattle.std.proofs.lemmas.Option.{slice_get-get_or}
@@ -11,18 +11,12 @@ use Rattle.rtl.specs.declared.block.RBlock.{RBlock}
 use Rattle.rtl.specs.declared.block.RGlobal.{RGlobal}
 use Rattle.mips_homes.specs.declared.homed.Frame.{Frame}
 use Rattle.mips_emit.specs.declared.facts.Last.{Last}
-use Rattle.mips_emit.specs.Locations.{Locations, locations, Facts, no_facts, learned, known_after, last_after, no_last}
-use Rattle.mips_emit.specs.Code.{load_word_at, store_word_at, arrive, inst_code, insts_code}
-use Rattle.mips_select.specs.Code.{frame_bytes, saves, restores, link_save, link_load, lowers, raises, parameters_code, prologue, epilogue, exit_code}
+use Rattle.mips_emit.specs.Locations.{Locations, locations, Facts, no_facts, known_after}
+use Rattle.mips_emit.specs.Code.{load_word_at, store_word_at, arrive}
+use Rattle.mips_emit.specs.Comparisons.{insts_code, last_after, no_last}
+use Rattle.mips_emit.proofs.Emitted.{insts_behind}
+use Rattle.mips_select.specs.Code.{frame_bytes, saves, restores, link_save, link_load, lowers, raises, parameters_code, prologue, epilogue, asked_of, exit_code}
 use Rattle.mips_select.specs.Code.{exit_of, own_block}
-
--- the code of some instructions stands before what comes behind them
-pub insts_behind : (globals : List RGlobal) (starts : ℕ → ℕ) (at : Locations) (facts : Facts) (is : List RInst) (behind : List Plain)
-    → insts_code globals starts at facts is [] ++ behind ≡ insts_code globals starts at facts is behind
-insts_behind globals starts at facts [] behind = refl
-insts_behind globals starts at facts (i ∷ is) behind = append_assoc (inst_code globals starts at facts i)
-    (insts_code globals starts at (learned at i facts) is []) behind ∙ ap (λ l. inst_code globals starts at facts i ++ l)
-    (insts_behind globals starts at (learned at i facts) is behind)
 
 -- what a frame keeps: the registers that the function saves, and the link
 abbrev pub kept : Bool → Frame → List ℕ
@@ -115,23 +109,26 @@ saved_number rs i range lt =
 
 -- a block, from the parts of what was made
 pub block_made : (globals : List RGlobal) (starts entry place : ℕ → ℕ) (leaf : Bool) (f : Frame) (head : List Plain) (n : ℕ) (b : RBlock)
-    (insts : List RInst) (last : Last) (facts0 facts1 facts2 : Facts) (code0 codeh code1 code2 : List Plain) (x : Exit) (made : BlockParts)
-    → code0 ≡ [] → codeh ≡ code0 ++ head → facts0 ≡ no_facts → insts ≡ b.insts.items → facts2 ≡ facts1 → last ≡ last_after (locations f) facts0 insts no_last
-    → code1 ≡ codeh ++ insts_code globals starts (locations f) facts0 insts [] → facts1 ≡ known_after (locations f) insts facts0
+    (insts : List RInst) (asked : Option ℕ) (last : Last) (facts0 facts1 facts2 : Facts) (code0 codeh code1 code2 : List Plain) (x : Exit) (made : BlockParts)
+    → code0 ≡ [] → codeh ≡ code0 ++ head → facts0 ≡ no_facts → insts ≡ b.insts.items → facts2 ≡ facts1 → asked ≡ asked_of b.exit
+    → last ≡ last_after (locations f) asked facts0 insts no_last
+    → code1 ≡ codeh ++ insts_code globals starts (locations f) asked facts0 insts [] → facts1 ≡ known_after (locations f) insts facts0
     → code2 ≡ code1 ++ exit_code leaf f facts2 last b.exit → x ≡ exit_of entry place f facts2 last n b.exit
     → made ≡ (let m : BlockParts = record { insts = code2; exit = x } in m) → made ≡ own_block globals starts entry place leaf f head n b
-block_made globals starts entry place leaf f head n b insts last facts0 facts1 facts2 code0 codeh code1 code2 x made e0 eh f0 is f2 new e1 ek e2 ex em =
+block_made globals starts entry place leaf f head n b insts asked last facts0 facts1 facts2 code0 codeh code1 code2 x made e0 eh f0 is f2 a_is new e1 ek e2 ex em =
     let known : facts2 ≡ known_after (locations f) b.insts.items no_facts = f2 ∙ ek ∙ ap (known_after (locations f) insts) f0 ∙ ap (λ is. known_after (locations f) is no_facts) is in
-    let last_one = last_after (locations f) no_facts b.insts.items no_last in
-    let new' : last ≡ last_after (locations f) no_facts b.insts.items no_last = new ∙ ap (λ (l : Facts). last_after (locations f) l insts no_last) f0
-    ∙ ap (λ is. last_after (locations f) no_facts is no_last) is in
+    let last_one = last_after (locations f) (asked_of b.exit) no_facts b.insts.items no_last in
+    let new' : last ≡ last_after (locations f) (asked_of b.exit) no_facts b.insts.items no_last = new
+    ∙ ap₂ (λ (a : Option ℕ) (l : Facts). last_after (locations f) a l insts no_last) a_is f0
+    ∙ ap (λ is. last_after (locations f) (asked_of b.exit) no_facts is no_last) is in
     let exit : x ≡ exit_of entry place f (known_after (locations f) b.insts.items no_facts) last_one n b.exit = ex
     ∙ ap₂ (λ (known : Facts) (last : Last). exit_of entry place f known last n b.exit) known new' in
     let tail = exit_code leaf f (known_after (locations f) b.insts.items no_facts) last_one b.exit in
-    let all : code2 ≡ head ++ insts_code globals starts (locations f) no_facts b.insts.items tail =
+    let all : code2 ≡ head ++ insts_code globals starts (locations f) (asked_of b.exit) no_facts b.insts.items tail =
     e2 ∙ ap₂ (λ (known : Facts) (last : Last). code1 ++ exit_code leaf f known last b.exit) known new'
-    ∙ ap (λ l. l ++ tail) (e1 ∙ ap (λ l. l ++ insts_code globals starts (locations f) facts0 insts []) (eh ∙ ap (λ l. l ++ head) e0)
-    ∙ ap (λ (l : Facts). head ++ insts_code globals starts (locations f) l insts []) f0)
-    ∙ append_assoc head (insts_code globals starts (locations f) no_facts insts []) tail
-    ∙ ap (λ l. head ++ l) (insts_behind globals starts (locations f) no_facts insts tail ∙ ap (λ is. insts_code globals starts (locations f) no_facts is tail) is) in
+    ∙ ap (λ l. l ++ tail) (e1 ∙ ap (λ l. l ++ insts_code globals starts (locations f) asked facts0 insts []) (eh ∙ ap (λ l. l ++ head) e0)
+    ∙ ap₂ (λ (a : Option ℕ) (l : Facts). head ++ insts_code globals starts (locations f) a l insts []) a_is f0)
+    ∙ append_assoc head (insts_code globals starts (locations f) (asked_of b.exit) no_facts insts []) tail
+    ∙ ap (λ l. head ++ l) (insts_behind globals starts (locations f) (asked_of b.exit) no_facts insts tail
+    ∙ ap (λ is. insts_code globals starts (locations f) (asked_of b.exit) no_facts is tail) is) in
     em ∙ ap₂ (λ (l : List Plain) (x : Exit). let m : BlockParts = record { insts = l; exit = x } in m) all exit

@@ -7,7 +7,6 @@ mod Linked
 mod Frames
 mod Emitted
 mod Calls
-mod Comparisons
 mod Simulation
 mod Theorem
 mod Lists

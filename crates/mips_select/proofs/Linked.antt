@@ -15,8 +15,11 @@ use Rattle.mips_homes.specs.declared.homed.Frame.{Frame}
 use Rattle.mips_homes.specs.declared.homed.Homed.{Homed}
 use Rattle.mips_emit.specs.declared.facts.Last.{Last}
 use Rattle.mips_emit.specs.declared.location.Source.{Source}
-use Rattle.mips_emit.specs.Locations.{Facts, locations, tested, last_operand}
-use Rattle.mips_emit.specs.Code.{branch_exit}
+use Rattle.mips_emit.specs.declared.comparison.Form.{Form}
+use Rattle.mips_emit.specs.declared.comparison.Form.TheVariants.{OnPair, OnLeft, OnRight, ByResult, ByOpposite}
+use Rattle.mips_emit.specs.declared.comparison.Comparison.{Comparison}
+use Rattle.mips_emit.specs.Locations.{Facts, locations, last_operand}
+use Rattle.mips_emit.specs.Comparisons.{exit_by_form, tested, branch_exit}
 use Rattle.mips_split.specs.Functions.{blocks_of, owners_of, IsFrom, GoesWithin, IsFunctionAt, AreFunctions}
 use Rattle.mips_split.proofs.Owned.{functions_owned}
 use Rattle.mips_select.specs.declared.heads.Head.{Head}
@@ -101,9 +104,16 @@ module _ (globals : List RGlobal) (starts entry : ℕ → ℕ) (functions : List
     place_below : (t : ℕ) → t < blocks → place t < bound
     place_below t lt = (let high = (place_from t lt).1 in omega (arith, fits, high))
 
-    branch_goes : (test : Option ℕ) (x : Source) (t e : ℕ) → IsFrom start size t → IsFrom start size e → GoesWithin bound start size (branch_exit test x t e)
+    compared_goes : (form : Form) (x y : Source) (t e : ℕ) → IsFrom start size t → IsFrom start size e → GoesWithin bound start size (exit_by_form form x y t e)
+    compared_goes (OnPair test) x y t e at_t at_e = (at_t, at_e)
+    compared_goes (OnLeft test) x y t e at_t at_e = (at_t, at_e)
+    compared_goes (OnRight test) x y t e at_t at_e = (at_t, at_e)
+    compared_goes ByResult x y t e at_t at_e = (at_t, at_e)
+    compared_goes ByOpposite x y t e at_t at_e = (at_t, at_e)
+
+    branch_goes : (test : Option Comparison) (x : Source) (t e : ℕ) → IsFrom start size t → IsFrom start size e → GoesWithin bound start size (branch_exit test x t e)
     branch_goes None x t e at_t at_e = (at_t, at_e)
-    branch_goes (Some q) x t e at_t at_e = (at_t, at_e)
+    branch_goes (Some m) x t e at_t at_e = compared_goes m.form m.x m.y t e at_t at_e
 
     next_below : (k : ℕ) (g : ℕ) (d : Option ℕ) (next : ℕ) → next < blocks → (b : Bool) → k + (if b then 1 else 2) ≤ bound
         → (if b then place next else suc k) < bound
@@ -114,7 +124,7 @@ module _ (globals : List RGlobal) (starts entry : ℕ → ℕ) (functions : List
     exit_goes : (k : ℕ) (facts : Facts) (last : Last) (x : RExit) → IsExit functions blocks x → k + count heads x ≤ bound
         → GoesWithin bound start size (exit_of entry place f facts last (next_of heads place k x) x)
     exit_goes k facts last (Goto b) ok le = place_below b ok
-    exit_goes k facts last (Branch c t e) ok le = branch_goes (tested last.above c) (last_operand (locations f) facts last.fresh c) (place t) (place e)
+    exit_goes k facts last (Branch c t e) ok le = branch_goes (tested last.comparison c) (last_operand (locations f) facts last.fresh c) (place t) (place e)
         (place_from t (ok.1).0) (place_from e (ok.1).1)
     exit_goes k facts last (Call g xs d next) ok le = (
       entry_below g (slice_get_within functions g (ok.0).callee (ok.0).there),

@@ -5,13 +5,10 @@ use Rattle.std.specs.Prelude.{if◌then◌else◌, not, slice_get}
 use Rattle.std.proofs.lemmas.List.{append-nil, append_assoc}
 use Rattle.std.proofs.lemmas.Option.{same_Some, none-some, slice_get_within}
 use Rattle.std.proofs.Math.Nat.{mul-le-mul_right}
-use Rattle.words.specs.declared.operator.Operator.TheVariants.{Slt}
-use Rattle.words.specs.Operators.{op_value}
 use Rattle.runs.specs.declared.ran.End.TheVariants.{Done}
 use Rattle.runs.specs.Runs.{Outcome}
-use Rattle.runs.specs.Stores.{Places, unset_places, Arrays, chain}
+use Rattle.runs.specs.Stores.{Places, places_with, unset_places, Arrays, chain}
 use Rattle.mips_isa.specs.declared.inst.PairTest.TheVariants.{NotEqual}
-use Rattle.mips_isa.specs.declared.inst.ZeroTest.TheVariants.{AboveZero}
 use Rattle.mips_isa.specs.declared.inst.Plain.{Plain}
 use Rattle.mips_isa.specs.States.{State, read}
 use Rattle.mips_isa.specs.Starting.{stack_base, stack_end}
@@ -33,26 +30,30 @@ use Rattle.mips_homes.specs.HomedRun.{state_after_exit, step_at, homed_step, hom
 use Rattle.mips_homes.specs.declared.homed.Frame.{Frame}
 use Rattle.mips_homes.specs.declared.homed.Home.{Home}
 use Rattle.mips_homes.specs.declared.homed.Homed.{Homed}
-use Rattle.mips_emit.specs.declared.facts.Above.{Above}
+use Rattle.mips_emit.specs.declared.comparison.Form.{Form}
+use Rattle.mips_emit.specs.declared.comparison.Form.TheVariants.{OnPair, OnLeft, OnRight, ByResult, ByOpposite}
+use Rattle.mips_emit.specs.declared.comparison.Comparison.{Comparison}
 use Rattle.mips_emit.specs.declared.facts.Last.{Last}
 use Rattle.mips_emit.specs.declared.location.Source.{Source}
-use Rattle.mips_emit.specs.Locations.{Facts, no_facts, location_at, known_in, locations, learned, known_after, last_of, last_after, no_last, tested, last_operand}
-use Rattle.mips_emit.specs.Code.{move_code, branch_code, branch_exit, inst_code, insts_code, fetch, seat, carry}
+use Rattle.mips_emit.specs.Locations.{Locations, Facts, no_facts, location_at, known_in, locations, learned, known_after, fresh_of, last_operand}
+use Rattle.mips_emit.specs.Code.{move_code, inst_code, fetch, seat, carry}
+use Rattle.mips_emit.specs.Comparisons.{comparison_code, exit_by_form, comparison_of, asked_last, next_code, last_with, no_last, last_after, insts_code}
+use Rattle.mips_emit.specs.Comparisons.{tested, branch_code, branch_exit}
 use Rattle.mips_emit.specs.Frames.{IsFrame}
 use Rattle.mips_emit.proofs.Runs.{RunsTo, runs_none, runs_then, Point, At, Stopped, from, Leads, leads_nowhere, leads_then, leads_run, leads_exit}
 use Rattle.mips_emit.proofs.View.{read_register, word_at, set, set_words, put_here, put_other, moves}
 use Rattle.mips_emit.proofs.Stands.{Stored, stack_room, Stands}
-use Rattle.mips_emit.proofs.Homes.{hidden, hide, IsLazy, none_lazy, fewer_stand, IsLast, none_last, frame_homes, words_kept, call_kept, IsKnown, nothing_known, last_means, fetches, carries, sets_kept, passing_kept, arrives}
+use Rattle.mips_emit.proofs.Homes.{passes, hidden, hide, IsLazy, none_lazy, fewer_stand, IsLast, none_last, frame_homes, words_kept, call_kept, IsKnown, nothing_known, last_means, fetches, carries, sets_kept, passing_kept, arrives}
 use Rattle.mips_emit.proofs.Insts.{value_or_failed, performs}
+use Rattle.mips_emit.proofs.Comparing.{none_asked, asked_result, waiting, compares}
 use Rattle.mips_select.specs.declared.limits.TheConstants.{STACK_BYTES}
 use Rattle.mips_select.specs.Data.{padded_bytes, start_of}
-use Rattle.mips_select.specs.Code.{saves, frame_bytes, link_save, lowers, parameters_code, prologue, epilogue, exit_code, exit_of, code_insts}
+use Rattle.mips_select.specs.Code.{saves, frame_bytes, link_save, lowers, parameters_code, prologue, epilogue, asked_of, exit_code, exit_of, code_insts}
 use Rattle.mips_select.specs.Code.{own_block, result_code, after_block, prologue_block, end_block}
 use Rattle.mips_select.specs.Selected.{AreClear, GoesOn, StandsAt, IsPlaced, IsFunction, IsSelected}
 use Rattle.mips_select.proofs.Frames.{all_shown, all_denote, arguments, parameters}
 use Rattle.mips_select.proofs.Returns.{return_found}
 use Rattle.mips_select.proofs.Calls.{stored_frame, frames_of, linked_frames, enters, leaves_frame}
-use Rattle.mips_select.proofs.Comparisons.{at_most_zero}
 
 abbrev halted : ℕ → List ℕ → Outcome
 halted w out = record { end = Done w; output = out }
@@ -104,7 +105,7 @@ module _ (h : Homed) (depth : ℕ) (blocks : List BlockParts) (ok : IsSelected h
     pub leads_on : GoesOn blocks gs starts ok.entry leaf f place head next x
 
   code_at : (leaf : Bool) (f : Frame) (place : ℕ → ℕ) (head : ℕ → List Plain) (k : ℕ) (first : List Plain) (b : RBlock) → Stood leaf f place head k first b
-      → CodeAt leaf f place head (known_after (locations f) b.insts.items no_facts) (last_after (locations f) no_facts b.insts.items no_last) k b.exit
+      → CodeAt leaf f place head (known_after (locations f) b.insts.items no_facts) (last_after (locations f) (asked_of b.exit) no_facts b.insts.items no_last) k b.exit
   code_at leaf f place head k first b at = record {
     form = own_block gs starts ok.entry place leaf f first at.next b;
     next = at.next;
@@ -151,7 +152,7 @@ module _ (h : Homed) (depth : ℕ) (blocks : List BlockParts) (ok : IsSelected h
     pub facts : Facts
     pub last : Last
     pub point : p ≡ At number (code_insts gs starts leaf a.frame facts last a.code) state out
-    pub code : CodeAt leaf a.frame place head (known_after (locations a.frame) a.code.insts facts) (last_after (locations a.frame) facts a.code.insts last) number a.code.exit
+    pub code : CodeAt leaf a.frame place head (known_after (locations a.frame) a.code.insts facts) (last_after (locations a.frame) (asked_of a.code.exit) facts a.code.insts last) number a.code.exit
     pub is_known : IsKnown (known_in facts) a.frame.homes.items r a.slots
     pub is_lazy : IsLazy facts.lazy r
     pub is_last : IsLast last a.frame.homes.items r a.slots state
@@ -384,7 +385,7 @@ module _ (h : Homed) (depth : ℕ) (blocks : List BlockParts) (ok : IsSelected h
           facts = no_facts;
           last = no_last;
           point = ap (λ c. At m.next (code_insts gs starts false w.frame no_facts no_last c) s' out) (sym m.code);
-          code = subst (λ (c : Code). CodeAt false w.frame m.place m.head (known_after (locations w.frame) c.insts no_facts) (last_after (locations w.frame) no_facts c.insts no_last) m.next
+          code = subst (λ (c : Code). CodeAt false w.frame m.place m.head (known_after (locations w.frame) c.insts no_facts) (last_after (locations w.frame) (asked_of c.exit) no_facts c.insts no_last) m.next
               c.exit) (sym m.code) (code_at false w.frame m.place m.head m.next m.first m.block m.at);
           is_known = nothing_known w.frame.homes.items r' slots';
           is_lazy = none_lazy r';
@@ -471,6 +472,46 @@ module _ (h : Homed) (depth : ℕ) (blocks : List BlockParts) (ok : IsSelected h
       by true c eb e = (let low = ltb-true 15 q eb in omega (arith, low))
       by false c eb e = absurd (none-some w e)
 
+  -- a branch for a comparison
+  goes_by : (form : Form) (x y : Source) (t e : ℕ) (k : ℕ) (s : State) (out : List ℕ) (n : ℕ)
+      → outcome_of_departure blocks links (exit_effect (exit_by_form form x y t e) s (links k)).goes (items blocks links n)
+      (exit_effect (exit_by_form form x y t e) s (links k)).state out
+      ≡ outcome_at_block (if passes form x y s then t else e) (slice_get blocks (if passes form x y s then t else e)) (items blocks links n) s out
+  goes_by (OnPair test) x y t e k s out n = refl
+  goes_by (OnLeft test) x y t e k s out n = refl
+  goes_by (OnRight test) x y t e k s out n = refl
+  goes_by ByResult x y t e k s out n = refl
+  goes_by ByOpposite x y t e k s out n = refl
+
+  -- behind a comparison the exit doesn't go by what is known
+  asked_test : (at : Locations) (facts : Facts) (c : ℕ) (i : RInst) (m : Comparison) → comparison_of at facts (Some c) i ≡ Some m
+      → tested (Some m) c ≡ Some m
+  asked_test at facts c i m e = ap (λ b. if b then Some m else None) (asked_result at facts c i m e)
+
+  same_exit : (entry place : ℕ → ℕ) (f : Frame) (facts known known' : Facts) (i : RInst) (m : Comparison) (n : ℕ) (x : RExit)
+      → comparison_of (locations f) facts (asked_of x) i ≡ Some m
+      → exit_of entry place f known (last_with (Some m) None) n x ≡ exit_of entry place f known' (last_with (Some m) None) n x
+  same_exit entry place f facts known known' i m n (Branch c t e) is =
+      let test = asked_test (locations f) facts c i m is in
+      ap (λ o. branch_exit o (last_operand (locations f) known None c) (place t) (place e)) test
+      ∙ sym (ap (λ o. branch_exit o (last_operand (locations f) known' None c) (place t) (place e)) test)
+  same_exit entry place f facts known known' i m n (Goto b) is = absurd (none_asked (locations f) facts i m is)
+  same_exit entry place f facts known known' i m n (Call g xs d next) is = absurd (none_asked (locations f) facts i m is)
+  same_exit entry place f facts known known' i m n (Return o) is = absurd (none_asked (locations f) facts i m is)
+  same_exit entry place f facts known known' i m n (Out b next) is = absurd (none_asked (locations f) facts i m is)
+
+  same_code : (leaf : Bool) (f : Frame) (facts known known' : Facts) (i : RInst) (m : Comparison) (x : RExit)
+      → comparison_of (locations f) facts (asked_of x) i ≡ Some m
+      → exit_code leaf f known (last_with (Some m) None) x ≡ exit_code leaf f known' (last_with (Some m) None) x
+  same_code leaf f facts known known' i m (Branch c t e) is =
+      let test = asked_test (locations f) facts c i m is in
+      ap (λ o. branch_code o (last_operand (locations f) known None c)) test
+      ∙ sym (ap (λ o. branch_code o (last_operand (locations f) known' None c)) test)
+  same_code leaf f facts known known' i m (Goto b) is = absurd (none_asked (locations f) facts i m is)
+  same_code leaf f facts known known' i m (Call g xs d next) is = absurd (none_asked (locations f) facts i m is)
+  same_code leaf f facts known known' i m (Return o) is = absurd (none_asked (locations f) facts i m is)
+  same_code leaf f facts known known' i m (Out b next) is = absurd (none_asked (locations f) facts i m is)
+
   -- an exit
   exits : (leaf : Bool) (x : RExit) (facts : Facts) (last : Last) (a : Activation) (k : ℕ) (link : ℕ) (below : List ℕ) (place : ℕ → ℕ) (head : ℕ
       → List Plain) (ws : List Activation) (r : Places) (g : Arrays) (out : List ℕ) (s : State)
@@ -485,23 +526,23 @@ module _ (h : Homed) (depth : ℕ) (blocks : List BlockParts) (ok : IsSelected h
       (jump k c.form (place b) (own_block gs starts ok.entry place leaf a.frame (head b) stood.next block) s out c.there c.exit stood.there))
   exits leaf (Branch x y z) facts last a k link below place head ws r g out s c kn lz new placed frame waits st =
       value_or_failed (λ run. Reach 1 (At k (exit_code leaf a.frame facts last (Branch x y z)) s out) run) (read_home a.frame.homes.items r a.slots x) out
-      (λ v. state_at_block (if nat_eq v 0 then z else y) a (lasting r) a.slots ws g out) tt (λ v e. branch v e (tested last.above x) refl c.exit)
+      (λ v. state_at_block (if nat_eq v 0 then z else y) a (lasting r) a.slots ws g out) tt (λ v e. branch v e (tested last.comparison x) refl c.exit)
     where
       o : Source
       o = last_operand (locations a.frame) facts last.fresh x
 
-      -- the word of a register, whose comparison with zero is the operand
-      found : (v q : ℕ) → read_home a.frame.homes.items r a.slots x ≡ Some v → (p : Option Above) → last.above ≡ p → tested p x ≡ Some q
-          → (0 < q) × (v ≡ op_value Slt 0 (s.regs q))
-      found v q e None is t = absurd (none-some q t)
-      found v q e (Some m) is t = go (nat_eq m.result x) refl t
+      -- what is left of a comparison says whether the branch is taken
+      found : (v : ℕ) (m : Comparison) → read_home a.frame.homes.items r a.slots x ≡ Some v → (p : Option Comparison) → last.comparison ≡ p
+          → tested p x ≡ Some m → passes m.form m.x m.y s ≡ not (nat_eq v 0)
+      found v m e None is t = absurd (none-some m t)
+      found v m e (Some n) is t = go (nat_eq n.result x) refl t
         where
-          go : (b : Bool) → nat_eq m.result x ≡ b → (if b then Some m.register else None) ≡ Some q → (0 < q) × (v ≡ op_value Slt 0 (s.regs q))
-          go false eb t = absurd (none-some q t)
-          go true eb t = subst (λ q. (0 < q) × (v ≡ op_value Slt 0 (s.regs q))) (same_Some m.register q t)
-              (new.above m v is (ap (read_home a.frame.homes.items r a.slots) (eqb-true m.result x eb) ∙ e))
+          go : (b : Bool) → nat_eq n.result x ≡ b → (if b then Some n else None) ≡ Some m → passes m.form m.x m.y s ≡ not (nat_eq v 0)
+          go false eb t = absurd (none-some m t)
+          go true eb t = subst (λ (m : Comparison). passes m.form m.x m.y s ≡ not (nat_eq v 0)) (same_Some n m t)
+              (new.comparison n v is (ap (read_home a.frame.homes.items r a.slots) (eqb-true n.result x eb) ∙ e))
 
-      branch : (v : ℕ) → read_home a.frame.homes.items r a.slots x ≡ Some v → (t : Option ℕ) → tested last.above x ≡ t
+      branch : (v : ℕ) → read_home a.frame.homes.items r a.slots x ≡ Some v → (t : Option Comparison) → tested last.comparison x ≡ t
           → (c.form).exit ≡ branch_exit t (last_operand (locations a.frame) facts last.fresh x) (place y) (place z)
           → Reach 1 (At k (branch_code t (last_operand (locations a.frame) facts last.fresh x)) s out)
           (state_at_block (if nat_eq v 0 then z else y) a (lasting r) a.slots ws g out)
@@ -527,19 +568,17 @@ module _ (h : Homed) (depth : ℕ) (blocks : List BlockParts) (ok : IsSelected h
           ∙ ap (λ o. outcome_at_block (place b) o (items blocks links n) s1 out) stood.there) in
           leads_then blocks links (length code) 1 (At k code s out) (At k [] s1 out) (At (place b) rest s1 out) l1
           (no_head 1 (At k [] s1 out) (place b) (head b) rest s1 out (either head z y (nat_eq v 0) c.leads_on) l2))
-      branch v e (Some q) is_test is_exit =
-          let at = found v q e last.above refl is_test in
+      branch v e (Some m) is_test is_exit =
           let b = if nat_eq v 0 then z else y in
-          let word : read 0 s.regs q ≡ s.regs q = read_register s.regs q at.0 in
-          let same : ((read 0 s.regs q == 0) || not (nat_lt (read 0 s.regs q) (2 ^ 31))) ≡ nat_eq v 0 = ap (λ w. (w == 0) || not (nat_lt w (2 ^ 31))) word
-          ∙ at_most_zero (s.regs q) ((st.words).regs q) ∙ ap (λ v. nat_eq v 0) (sym at.1) in
+          let taken : passes m.form m.x m.y s ≡ not (nat_eq v 0) = found v m e last.comparison refl is_test in
           jumps leaf (At k [] s out) 1 a link below place head ws placed frame waits b (lasting r) a.slots g out s
           (settled facts.lazy r g (stored_frame leaf a.frame a.slots a.aside link ∷ frames_of ws below) s lz st) (omega arith)
           (λ block stood.
           let rest = code_insts gs starts leaf a.frame no_facts no_last (code_of block) in
           let to = At (place b) (head b ++ rest) s out in
-          let l2 = departs k c.form (E.BranchZero AboveZero q (place y) (place z)) s out to c.there is_exit (λ n.
-          ap (λ t. outcome_at_block (if not t then place y else place z) (slice_get blocks (if not t then place y else place z)) (items blocks links n) s out) same
+          let l2 = departs k c.form (exit_by_form m.form m.x m.y (place y) (place z)) s out to c.there is_exit (λ n.
+          goes_by m.form m.x m.y (place y) (place z) k s out n
+          ∙ ap (λ t. outcome_at_block (if t then place y else place z) (slice_get blocks (if t then place y else place z)) (items blocks links n) s out) taken
           ∙ ap (λ t. outcome_at_block t (slice_get blocks t) (items blocks links n) s out) (branch_words place z y v (nat_eq v 0))
           ∙ ap (λ o. outcome_at_block (place b) o (items blocks links n) s out) stood.there) in
           no_head 1 (At k [] s out) (place b) (head b) rest s out (either head z y (nat_eq v 0) c.leads_on) l2)
@@ -665,27 +704,44 @@ module _ (h : Homed) (depth : ℕ) (blocks : List BlockParts) (ok : IsSelected h
   advances (Running r (a ∷ ws) g out) p m =
       subst (λ p. Reach 1 p (step_at h depth a.code.insts a.code.exit a r ws g out)) (sym m.point) (step a.code.insts m.code)
     where
-      at : List RInst → Facts → Last → State → Point
-      at is facts last s = At m.number (insts_code gs starts (locations a.frame) facts is
-          (exit_code m.leaf a.frame (known_after (locations a.frame) is facts) (last_after (locations a.frame) facts is last) a.code.exit)) s out
+      asked : Option ℕ
+      asked = asked_of a.code.exit
 
-      step : (is : List RInst) → CodeAt m.leaf a.frame m.place m.head (known_after (locations a.frame) is m.facts) (last_after (locations a.frame) m.facts is m.last) m.number
-          a.code.exit → Reach 1 (at is m.facts m.last m.state) (step_at h depth is a.code.exit a r ws g out)
-      step [] c = exits m.leaf a.code.exit m.facts m.last a m.number m.link m.below m.place m.head ws r g out m.state c m.is_known m.is_lazy m.is_last m.placed m.frame
-          m.waits m.stands
-      step (i ∷ is) c =
-          performs ok.most total gs starts g (frames_of ws m.below) a.frame.homes.items (λ run. Reach 1 (at (i ∷ is) m.facts m.last m.state) run) out tt i
+      at : List RInst → Facts → Last → State → Point
+      at is facts last s = At m.number (insts_code gs starts (locations a.frame) asked facts is
+          (exit_code m.leaf a.frame (known_after (locations a.frame) is facts) (last_after (locations a.frame) asked facts is last) a.code.exit)) s out
+
+      Coded : List RInst → Facts → Last → Type 0
+      Coded is facts last = CodeAt m.leaf a.frame m.place m.head (known_after (locations a.frame) is facts)
+          (last_after (locations a.frame) asked facts is last) m.number a.code.exit
+
+      -- the next instruction, with the comparison that is one with the branch if it is such
+      next : (i : RInst) (is : List RInst) (o : Option Comparison) → comparison_of (locations a.frame) m.facts (asked_last asked is) i ≡ o
+          → Coded is (learned (locations a.frame) i m.facts) (last_with o (fresh_of (locations a.frame) i))
+          → Reach 1 (At m.number (next_code gs starts (locations a.frame) m.facts o i
+          ++ insts_code gs starts (locations a.frame) asked (learned (locations a.frame) i m.facts) is
+          (exit_code m.leaf a.frame (known_after (locations a.frame) is (learned (locations a.frame) i m.facts))
+          (last_after (locations a.frame) asked (learned (locations a.frame) i m.facts) is (last_with o (fresh_of (locations a.frame) i))) a.code.exit)) m.state out)
+          (step_at h depth (i ∷ is) a.code.exit a r ws g out)
+      next i is None e0 c =
+          performs ok.most total gs starts g (frames_of ws m.below) a.frame.homes.items
+          (λ run. Reach 1 (At m.number (inst_code gs starts (locations a.frame) m.facts i
+          ++ insts_code gs starts (locations a.frame) asked (learned (locations a.frame) i m.facts) is
+          (exit_code m.leaf a.frame (known_after (locations a.frame) is (learned (locations a.frame) i m.facts))
+          (last_after (locations a.frame) asked (learned (locations a.frame) i m.facts) is (last_with None (fresh_of (locations a.frame) i))) a.code.exit)) m.state out)
+          run) out tt i
           m.facts r (stored_frame m.leaf a.frame a.slots a.aside m.link) m.state
           (λ r' s' g'. Running r' (at_code a s' (record { insts = is; exit = a.code.exit }) ∷ ws) g' out) (frame_homes ok.most a.frame m.frame) m.is_known m.is_lazy
           m.stands
           (λ r' slots' g' s' some e st lz kn new. record {
-            to = at is (learned (locations a.frame) i m.facts) (last_of (locations a.frame) m.facts i) s';
+            to = at is (learned (locations a.frame) i m.facts) (last_with None (fresh_of (locations a.frame) i)) s';
             count = length (inst_code gs starts (locations a.frame) m.facts i);
             enough = some;
             leads = leads_run blocks links m.number (inst_code gs starts (locations a.frame) m.facts i)
-                (insts_code gs starts (locations a.frame) (learned (locations a.frame) i m.facts) is
-                (exit_code m.leaf a.frame (known_after (locations a.frame) is (learned (locations a.frame) i m.facts)) (last_after (locations a.frame) (learned (locations a.frame) i m.facts) is
-                (last_of (locations a.frame) m.facts i)) a.code.exit)) m.state s' out e;
+                (insts_code gs starts (locations a.frame) asked (learned (locations a.frame) i m.facts) is
+                (exit_code m.leaf a.frame (known_after (locations a.frame) is (learned (locations a.frame) i m.facts))
+                (last_after (locations a.frame) asked (learned (locations a.frame) i m.facts) is (last_with None (fresh_of (locations a.frame) i)))
+                a.code.exit)) m.state s' out e;
             match = record {
               state = s';
               number = m.number;
@@ -695,19 +751,70 @@ module _ (h : Homed) (depth : ℕ) (blocks : List BlockParts) (ok : IsSelected h
               place = m.place;
               head = m.head;
               facts = learned (locations a.frame) i m.facts;
-              last = last_of (locations a.frame) m.facts i;
+              last = last_with None (fresh_of (locations a.frame) i);
               point = refl;
               code = c;
               is_known = kn;
               is_lazy = lz;
               is_last = new;
               placed = m.placed;
-              frame =
-                  m.frame;
+              frame = m.frame;
               stands = st;
               waits = m.waits;
             };
           })
+      next i (j ∷ js) (Some n) is c = absurd (none_asked (locations a.frame) m.facts i n is)
+      next i [] (Some n) is c =
+          compares ok.most total gs starts g (frames_of ws m.below) a.frame.homes.items
+          (λ run. Reach 1 (At m.number (comparison_code n
+          ++ exit_code m.leaf a.frame (learned (locations a.frame) i m.facts) (last_with (Some n) None) a.code.exit) m.state out) run) out tt i
+          m.facts (asked_of a.code.exit) n r (stored_frame m.leaf a.frame a.slots a.aside m.link) m.state
+          (λ r' s' g'. Running r' (at_code a s' (record { insts = []; exit = a.code.exit }) ∷ ws) g' out) is (frame_homes ok.most a.frame m.frame) m.is_known
+          m.is_lazy m.stands
+          (λ q u s' some e st lz new.
+          let behind = exit_code m.leaf a.frame (learned (locations a.frame) i m.facts) (last_with (Some n) None) a.code.exit in
+          let start = At m.number (comparison_code n
+          ++ exit_code m.leaf a.frame (learned (locations a.frame) i m.facts) (last_with (Some n) None) a.code.exit) m.state out in
+          record {
+            to = At m.number (exit_code m.leaf a.frame (waiting m.facts q u) (last_with (Some n) None) a.code.exit) s' out;
+            count = length (comparison_code n);
+            enough = some;
+            leads = subst (λ l. Lead (length (comparison_code n)) start (At m.number l s' out))
+                (same_code m.leaf a.frame m.facts (learned (locations a.frame) i m.facts) (waiting m.facts q u) i n a.code.exit is)
+                (leads_run blocks links m.number (comparison_code n) behind m.state s' out e);
+            match = record {
+              state = s';
+              number = m.number;
+              link = m.link;
+              below = m.below;
+              leaf = m.leaf;
+              place = m.place;
+              head = m.head;
+              facts = waiting m.facts q u;
+              last = last_with (Some n) None;
+              point = refl;
+              code = record {
+                form = c.form;
+                next = c.next;
+                there = c.there;
+                exit = c.exit
+                    ∙ same_exit ok.entry m.place a.frame m.facts (learned (locations a.frame) i m.facts) (waiting m.facts q u) i n c.next a.code.exit is;
+                leads_on = c.leads_on;
+              };
+              is_known = nothing_known a.frame.homes.items (places_with r q (Some u)) a.slots;
+              is_lazy = lz;
+              is_last = new;
+              placed = m.placed;
+              frame = m.frame;
+              stands = st;
+              waits = m.waits;
+            };
+          })
+
+      step : (is : List RInst) → Coded is m.facts m.last → Reach 1 (at is m.facts m.last m.state) (step_at h depth is a.code.exit a r ws g out)
+      step [] c = exits m.leaf a.code.exit m.facts m.last a m.number m.link m.below m.place m.head ws r g out m.state c m.is_known m.is_lazy m.is_last m.placed m.frame
+          m.waits m.stands
+      step (i ∷ is) c = next i is (comparison_of (locations a.frame) m.facts (asked_last asked is) i) refl c
 
   failed_steps : (n : ℕ) (out : List ℕ) → homed_steps h depth n (Failed out) ≡ Failed out
   failed_steps zero out = refl

@@ -17,9 +17,9 @@ use Rattle.mips_homes.specs.declared.homed.Frame.{Frame}
 use Rattle.mips_emit.specs.declared.facts.Last.{Last}
 use Rattle.mips_emit.specs.Frames.{link_words}
 use Rattle.mips_emit.specs.Elements.{data_middle}
-use Rattle.mips_emit.specs.Locations.{Locations, locations, Facts, no_facts, known_after, last_after, no_last, tested, last_operand}
-use Rattle.mips_emit.specs.Code.{constant, load_word_at, store_word_at, move_code, carry, arrive, insts_code, arguments_code, branch_code}
-use Rattle.mips_emit.specs.Code.{branch_exit}
+use Rattle.mips_emit.specs.Locations.{Locations, locations, Facts, no_facts, known_after, last_operand}
+use Rattle.mips_emit.specs.Code.{constant, load_word_at, store_word_at, move_code, carry, arrive, arguments_code}
+use Rattle.mips_emit.specs.Comparisons.{insts_code, last_after, no_last, tested, branch_code, branch_exit}
 use Rattle.mips_select.specs.declared.heads.Head.{Head}
 use Rattle.mips_select.specs.declared.heads.Head.TheVariants.{Bare, Enters, Takes}
 
@@ -72,10 +72,18 @@ epilogue leaf f = (restores (4 * f.slots) f.saved.items ++ link_load leaf f) ++ 
 
 -- ---- exits
 
+-- the pseudo-register by which a block is left, where that is by a branch
+abbrev pub asked_of : RExit → Option ℕ
+asked_of (Branch c t e) = Some c
+asked_of (Goto b) = None
+asked_of (Call g xs d next) = None
+asked_of (Return o) = None
+asked_of (Out x next) = None
+
 -- what stands before an exit
 abbrev pub exit_code : Bool → Frame → Facts → Last → RExit → List Plain
 exit_code leaf f facts last (Goto b) = []
-exit_code leaf f facts last (Branch c t e) = branch_code (tested last.above c) (last_operand (locations f) facts last.fresh c)
+exit_code leaf f facts last (Branch c t e) = branch_code (tested last.comparison c) (last_operand (locations f) facts last.fresh c)
 exit_code leaf f facts last (Call g xs d next) = arguments_code (locations f) facts 4 xs.items
 exit_code leaf f facts last (Return None) = epilogue leaf f
 exit_code leaf f facts last (Return (Some x)) = carry 2 (last_operand (locations f) facts last.fresh x) ++ epilogue leaf f
@@ -85,7 +93,7 @@ exit_code leaf f facts last (Out x next) = carry 4 (last_operand (locations f) f
 abbrev pub exit_of : (entry place : ℕ → ℕ) → Frame → Facts → Last → ℕ → RExit → Exit
 exit_of entry place f facts last n (Goto b) = exits.Goto (place b)
 exit_of entry place f facts last n (Branch c t e) =
-    branch_exit (tested last.above c) (last_operand (locations f) facts last.fresh c) (place t) (place e)
+    branch_exit (tested last.comparison c) (last_operand (locations f) facts last.fresh c) (place t) (place e)
 exit_of entry place f facts last n (Call g xs d next) = exits.Call (entry g) n
 exit_of entry place f facts last n (Return o) = exits.Return
 exit_of entry place f facts last n (Out x next) = exits.Out (place next)
@@ -95,15 +103,15 @@ exit_of entry place f facts last n (Out x next) = exits.Out (place next)
 -- what is left of a block's code
 abbrev pub code_insts : List RGlobal → (starts : ℕ → ℕ) → Bool → Frame → Facts → Last → Code → List Plain
 code_insts globals starts leaf f facts last c =
-    insts_code globals starts (locations f) facts c.insts
-    (exit_code leaf f (known_after (locations f) c.insts facts) (last_after (locations f) facts c.insts last) c.exit)
+    insts_code globals starts (locations f) (asked_of c.exit) facts c.insts
+    (exit_code leaf f (known_after (locations f) c.insts facts) (last_after (locations f) (asked_of c.exit) facts c.insts last) c.exit)
 
 -- the block for a block, with what stands before its own code
 abbrev pub own_block : List RGlobal → (starts entry place : ℕ → ℕ) → Bool → Frame → (head : List Plain) → ℕ → RBlock → BlockParts
 own_block globals starts entry place leaf f head n b = record {
   insts = head ++ code_insts globals starts leaf f no_facts no_last (code_of b);
   exit = exit_of entry place f (known_after (locations f) b.insts.items no_facts)
-      (last_after (locations f) no_facts b.insts.items no_last) n b.exit;
+      (last_after (locations f) (asked_of b.exit) no_facts b.insts.items no_last) n b.exit;
 }
 
 -- the result of a call into its location

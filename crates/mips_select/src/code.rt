@@ -9,13 +9,13 @@ ghost use Rattle.mips_select.specs.Code.{result_code, head_code, own_block, afte
 ghost use Rattle.mips_select.specs.Emittable.{IsEmittable, AreInside};
 ghost use Rattle.mips_select.specs.Whole.{next_of, behind};
 
-use crate::exits::{emit_exit, next_at};
+use crate::exits::{asked_of, emit_exit, next_at};
 use crate::heads::{Head, head_at, resumes};
 use crate::numbers::number_at;
 use crate::plan::{Linkage, Plan};
 use crate::prologue::emit_prologue;
 use mblock::{BlockNumber, Exit};
-use mips_emit::{Above, Knowledge, Last, emit_arrival, emit_insts, register};
+use mips_emit::{Comparison, Knowledge, Last, emit_arrival, emit_insts, register};
 use mips_homes::Frame;
 use mips_isa::Plain;
 use mips_split::LongBlock;
@@ -76,20 +76,22 @@ fn block_for(
     let mut facts = Knowledge::none(alloc)?;
     let frame = plan.frame;
     emit_head(&mut insts, frame, plan.leaf, plan.parameters, head)?;
+    let asked = asked_of(&block.exit);
     let last = emit_insts(
         &mut insts,
         &mut facts,
         linkage.globals,
         linkage.starts,
         frame,
+        asked,
         body,
     )?;
     let fresh = last.fresh;
-    let above: Option<Above> = last.above;
+    let comparison: Option<Comparison> = last.comparison;
     let exit = emit_exit(
         &mut insts,
         &facts,
-        Last { fresh, above },
+        &Last { fresh, comparison },
         linkage.entries,
         plan.places,
         frame,

@@ -3,10 +3,10 @@
 ghost use Rattle.std.specs.Prelude.{◌≡◌, ◌+◌, ◌≤◌, ◌++◌, IfOk, OnOk, slice_index};
 ghost use Rattle.mblock.specs.declared.limits.TheConstants.{UNIT_BLOCKS};
 ghost use Rattle.mips_emit.specs.Frames.{IsReachable};
-ghost use Rattle.mips_emit.specs.Locations.{facts_of, locations, tested, last_operand};
-ghost use Rattle.mips_emit.specs.Code.{branch_code, branch_exit};
+ghost use Rattle.mips_emit.specs.Locations.{facts_of, locations, last_operand};
+ghost use Rattle.mips_emit.specs.Comparisons.{tested, branch_code, branch_exit};
 ghost use Rattle.mips_select.specs.Heads.{heads_in, count};
-ghost use Rattle.mips_select.specs.Code.{exit_code, exit_of};
+ghost use Rattle.mips_select.specs.Code.{asked_of, exit_code, exit_of};
 ghost use Rattle.mips_select.specs.Emittable.{HasFewArguments};
 ghost use Rattle.mips_select.specs.Whole.{next_of};
 
@@ -15,11 +15,11 @@ use crate::numbers::{number, number_at};
 use crate::prologue::emit_epilogue;
 use mblock::{BlockNumber, Exit};
 use mips_emit::{
-    Knowledge, Last, emit_arguments, emit_departure, emit_fetch, last_operand, register, seat,
-    tested,
+    Knowledge, Last, comparison_exit, emit_arguments, emit_departure, emit_fetch, last_operand,
+    register, seat, tested,
 };
 use mips_homes::Frame;
-use mips_isa::{PairTest, Plain, Reg, ZeroTest};
+use mips_isa::{PairTest, Plain, Reg};
 use rtl::{RExit, Register};
 use std::alloc::AllocError;
 
@@ -48,24 +48,37 @@ pub(crate) fn next_at(
     }
 }
 
+// The pseudo-register by which a block is left, where that is by a branch.
+pub(crate) fn asked_of(exit: &RExit) -> Option<Register>
+    ensures { result ≡ asked_of exit.now }
+{
+    match exit {
+        RExit::Goto(_) => None,
+        RExit::Branch(c, _, _) => Some(*c),
+        RExit::Call(_, _, _, _) => None,
+        RExit::Return(_) => None,
+        RExit::Out(_, _) => None,
+    }
+}
+
 // A branch to `then` where a pseudo-register isn't 0, else to `other`: what stands before it, and the exit.
 fn emit_branch(
     code: &mut Vec<Plain>,
     facts: &Knowledge,
-    last: Last,
+    last: &Last,
     frame: &Frame,
     c: Register,
     then: BlockNumber,
     other: BlockNumber,
 ) -> Result<Exit, AllocError>
     requires { IsReachable frame.now }
-    ensures code { OnOk result (code.new.items ≡ code.old.items ++ branch_code (tested last.above c)
-        (last_operand (locations frame.now) (facts_of facts.now) last.fresh c)) }
-    ensures exit { IfOk result (λ x. x ≡ branch_exit (tested last.above c)
-        (last_operand (locations frame.now) (facts_of facts.now) last.fresh c) then other) }
+    ensures code { OnOk result (code.new.items ≡ code.old.items ++ branch_code (tested last.now.comparison c)
+        (last_operand (locations frame.now) (facts_of facts.now) last.now.fresh c)) }
+    ensures exit { IfOk result (λ x. x ≡ branch_exit (tested last.now.comparison c)
+        (last_operand (locations frame.now) (facts_of facts.now) last.now.fresh c) then other) }
 {
     let operand = last_operand(facts, last.fresh, frame, c);
-    match tested(last.above, c) {
+    match tested(&last.comparison, c) {
         None => {
             emit_fetch(code, register(1), &operand)?;
             Ok(Exit::BranchPair {
@@ -76,12 +89,7 @@ fn emit_branch(
                 other,
             })
         }
-        Some(q) => Ok(Exit::BranchZero {
-            test: ZeroTest::AboveZero,
-            rs: q.reg(),
-            then,
-            other,
-        }),
+        Some(m) => Ok(comparison_exit(&m, then, other)),
     }
 }
 
@@ -90,7 +98,7 @@ fn emit_branch(
 pub(crate) fn emit_exit(
     code: &mut Vec<Plain>,
     facts: &Knowledge,
-    last: Last,
+    last: &Last,
     entries: &[BlockNumber],
     places: &[BlockNumber],
     frame: &Frame,
@@ -100,9 +108,9 @@ pub(crate) fn emit_exit(
 ) -> Result<Exit, AllocError>
     requires frame { IsReachable frame.now }
     requires few { HasFewArguments exit.now }
-    ensures code { OnOk result (code.new.items ≡ code.old.items ++ exit_code leaf frame.now (facts_of facts.now) last exit.now) }
+    ensures code { OnOk result (code.new.items ≡ code.old.items ++ exit_code leaf frame.now (facts_of facts.now) last.now exit.now) }
     ensures exit { IfOk result (λ x. x ≡ exit_of (λ g. slice_index entries.now g) (λ b. slice_index places.now b) frame.now
-        (facts_of facts.now) last next exit.now) }
+        (facts_of facts.now) last.now next exit.now) }
 {
     match exit {
         RExit::Goto(b) => Ok(Exit::Goto(number_at(places, *b))),
@@ -124,12 +132,12 @@ pub(crate) fn emit_exit(
             Ok(Exit::Return)
         }
         RExit::Return(Some(x)) => {
-            emit_departure(code, facts, last, frame, register(2), *x)?;
+            emit_departure(code, facts, last.fresh, frame, register(2), *x)?;
             emit_epilogue(code, frame, leaf)?;
             Ok(Exit::Return)
         }
         RExit::Out(x, next) => {
-            emit_departure(code, facts, last, frame, register(4), *x)?;
+            emit_departure(code, facts, last.fresh, frame, register(4), *x)?;
             Ok(Exit::Out(number_at(places, *next)))
         }
     }

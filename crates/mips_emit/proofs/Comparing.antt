@@ -1,0 +1,357 @@
+-- A comparison that is one with the branch on its result does what the comparison does.
+use Rattle.std.proofs.Common.{◌≡◌, ℕ, ◌+◌, ◌^◌, ◌<◌, ◌≤◌, ◌==◌, Bool, true, false, List, [], ◌∷◌, ◌++◌, length, Option, Some, None, refl, sym, ap, ap₂, ◌∙◌}
+use Rattle.std.proofs.Common.{subst, arith, nat_eq, eq-eqb, eqb-true, true≢false}
+use Rattle.std.specs.Prelude.{◌&&◌, ◌||◌, not, if◌then◌else◌, slice_get}
+use Rattle.std.proofs.lemmas.Int.{ints}
+use Rattle.std.proofs.lemmas.Option.{same_Some, none-some}
+use Rattle.words.specs.declared.sign.Sign.TheVariants.{Signed, Unsigned}
+use Rattle.words.specs.C.{is_below}
+use Rattle.runs.specs.Stores.{Places, places_with, chain, Arrays}
+use Rattle.mips_isa.specs.declared.inst.PairTest.{PairTest}
+use Rattle.mips_isa.specs.declared.inst.PairTest.TheVariants.{Equal, NotEqual}
+use Rattle.mips_isa.specs.declared.inst.ZeroTest.{ZeroTest}
+use Rattle.mips_isa.specs.declared.inst.ZeroTest.TheVariants.{AtMostZero, AboveZero, BelowZero, AtLeastZero}
+use Rattle.mips_isa.specs.declared.inst.Plain.{Plain}
+use Rattle.mips_isa.specs.States.{State, read}
+use Rattle.mips_isa.specs.Controls.{pair_passes, zero_passes}
+use Rattle.rtl.specs.declared.operator.Op.{Op}
+use Rattle.rtl.specs.declared.operator.Op.TheVariants.{Add, Sub, Mul, DivS, DivU, RemS, RemU, And, Or, Xor, Shl, ShrU, ShrS, Eq, Ne, LtS, LtU, LeS, LeU}
+use Rattle.rtl.specs.declared.instruction.RInst.{RInst}
+use Rattle.rtl.specs.declared.instruction.RInst.TheVariants.{Const, Move, Bin, Load, Store}
+use Rattle.rtl.specs.declared.block.RGlobal.{RGlobal}
+use Rattle.rtl.specs.Operators.{truth_word, op_result}
+use Rattle.rtl.proofs.Results.{result-word}
+use Rattle.mips_homes.specs.HomedRun.{is_lasting, in_home, Run, Failed, with_value, write_at, read_home, write_home, with_inst}
+use Rattle.mips_homes.specs.declared.homed.Home.{Home}
+use Rattle.mips_homes.specs.declared.homed.Home.TheVariants.{Reg, Slot}
+use Rattle.mips_emit.specs.declared.location.Source.{Source}
+use Rattle.mips_emit.specs.declared.comparison.Form.{Form}
+use Rattle.mips_emit.specs.declared.comparison.Form.TheVariants.{OnPair, OnLeft, OnRight, ByResult, ByOpposite}
+use Rattle.mips_emit.specs.declared.comparison.Comparison.{Comparison}
+use Rattle.mips_emit.specs.declared.facts.Last.{Last}
+use Rattle.mips_emit.specs.Frames.{AreFrameHomes}
+use Rattle.mips_emit.specs.Locations.{Locations, Facts, known_in, locations_of, location_at, operand}
+use Rattle.mips_emit.specs.Code.{nop, fetch, seat, op_code}
+use Rattle.mips_emit.specs.Comparisons.{is_known_zero, is_immediate, opposite_if, form_of, opposite_op, code_by_form, comparison_code, is_asked, is_passing}
+use Rattle.mips_emit.specs.Comparisons.{compared, comparison_of, last_with}
+use Rattle.mips_emit.proofs.Runs.{RunsTo, runs_then}
+use Rattle.mips_emit.proofs.View.{IsTarget, read_register}
+use Rattle.mips_emit.proofs.Stands.{Stored, Stands}
+use Rattle.mips_emit.proofs.Homes.{passes, IsLast, none_fresh, IsKnown, Denotes, IsAway, seat_kept, longer_behind, runs_nop, hide, IsLazy, lazy_told, shown_told, fewer_stand}
+use Rattle.mips_emit.proofs.Homes.{operand_below, operand_means, fetches, ends_stands}
+use Rattle.mips_emit.proofs.Insts.{value_or_failed, computes}
+
+-- ---- truth words
+
+truth : (b : Bool) → b ≡ not (nat_eq (truth_word b) 0)
+truth true = refl
+truth false = refl
+
+truth_opposite : (b : Bool) → nat_eq (truth_word (not b)) 0 ≡ not (nat_eq (truth_word b) 0)
+truth_opposite true = refl
+truth_opposite false = refl
+
+opposite_truth : (b : Bool) → nat_eq (truth_word b) 0 ≡ not (nat_eq (truth_word (not b)) 0)
+opposite_truth true = refl
+opposite_truth false = refl
+
+-- ---- the sign of a word
+
+above_zero : (w : ℕ) → w < 2 ^ 32 → zero_passes AboveZero w ≡ is_below Signed 0 w
+above_zero w lt = grind (arith, ints)
+
+below_zero : (w : ℕ) → w < 2 ^ 32 → zero_passes BelowZero w ≡ is_below Signed w 0
+below_zero w lt = grind (arith, ints)
+
+at_most_zero : (w : ℕ) → w < 2 ^ 32 → zero_passes AtMostZero w ≡ not (is_below Signed 0 w)
+at_most_zero w lt = grind (arith, ints)
+
+at_least_zero : (w : ℕ) → w < 2 ^ 32 → zero_passes AtLeastZero w ≡ not (is_below Signed w 0)
+at_least_zero w lt = grind (arith, ints)
+
+known_zero : (k : Option ℕ) (v : ℕ) → ((c : ℕ) → k ≡ Some c → c ≡ v) → is_known_zero k ≡ true → v ≡ 0
+known_zero None v said is = absurd (true≢false (sym is))
+known_zero (Some c) v said is = sym (said c refl) ∙ eqb-true c 0 is
+
+and_first : (a b : Bool) → (a && b) ≡ true → a ≡ true
+and_first true b e = refl
+and_first false b e = absurd (true≢false (sym e))
+
+and_second : (a b : Bool) → (a && b) ≡ true → b ≡ true
+and_second true b e = e
+and_second false b e = absurd (true≢false (sym e))
+
+not_true : (b : Bool) → not b ≡ true → b ≡ false
+not_true true e = absurd (true≢false (sym e))
+not_true false e = refl
+
+-- nothing is one with a branch that doesn't stand behind it
+pub none_asked : (at : Locations) (facts : Facts) (i : RInst) (m : Comparison) → comparison_of at facts None i ≡ Some m → ⊥
+none_asked at facts (Const d w) m e = none-some m e
+none_asked at facts (Move d a) m e = none-some m e
+none_asked at facts (Bin op d a b) m e = none-some m e
+none_asked at facts (Load d a i) m e = none-some m e
+none_asked at facts (Store a i b) m e = none-some m e
+
+compared_result : (d : ℕ) (op : Op) (l r : Option ℕ) (x y : Source) (o : Option Form) (m : Comparison) → compared d op l r x y o ≡ Some m → m.result ≡ d
+compared_result d op l r x y None m e = absurd (none-some m e)
+compared_result d op l r x y (Some form) m e =
+    sym (ap (λ (m : Comparison). m.result)
+    (same_Some (let x : Comparison = record { result = d; op = op; form = form; left = l; right = r; x = x; y = y } in x) m e))
+
+-- it is what the branch goes by
+pub asked_result : (at : Locations) (facts : Facts) (c : ℕ) (i : RInst) (m : Comparison) → comparison_of at facts (Some c) i ≡ Some m → nat_eq m.result c ≡ true
+asked_result at facts c (Const d w) m e = absurd (none-some m e)
+asked_result at facts c (Move d a) m e = absurd (none-some m e)
+asked_result at facts c (Load d a i) m e = absurd (none-some m e)
+asked_result at facts c (Store a i b) m e = absurd (none-some m e)
+asked_result at facts c (Bin op d a b) m e = go (nat_eq c d && is_passing (at d)) refl e
+  where
+    go : (t : Bool) → (nat_eq c d && is_passing (at d)) ≡ t
+        → (if t then compared d op (known_in facts a) (known_in facts b) (operand at facts a) (operand at facts b)
+        (form_of op (known_in facts a) (known_in facts b)) else None) ≡ Some m → nat_eq m.result c ≡ true
+    go false t e = absurd (none-some m e)
+    go true t e =
+        let same : c ≡ d = eqb-true c d (and_first (nat_eq c d) (is_passing (at d)) t) in
+        eq-eqb m.result c (compared_result d op (known_in facts a) (known_in facts b) (operand at facts a) (operand at facts b)
+        (form_of op (known_in facts a) (known_in facts b)) m e ∙ sym same)
+
+t3 : IsTarget 3
+t3 = record { low = omega arith; high = omega arith }
+
+-- what is known then: nothing but that a register doesn't hold its word
+abbrev pub waiting : Facts → (q u : ℕ) → Facts
+waiting facts q u = record { known = []; lazy = places_with facts.lazy q (Some u) }
+
+module _ (most total : ℕ) (gs : List RGlobal) (starts : ℕ → ℕ) where
+  module _ (registers : Places) (g : Arrays) (top : Stored) (fs : List Stored) (s : State) (h : Stands most total gs starts registers g (top ∷ fs) s) where
+    -- code behind which a branch tells a word
+    pub record Decided (is : List Plain) (form : Form) (x y : Source) (u : ℕ) : Type 0 where
+      pub to : State
+      pub runs : RunsTo is s to
+      pub some : 1 ≤ length is
+      pub stands : Stands most total gs starts registers g (top ∷ fs) to
+      pub tells : passes form x y to ≡ not (nat_eq u 0)
+
+    abbrev Means : Source → ℕ → Type 0
+    Means x v = (s : State) → Stands most total gs starts registers g (top ∷ fs) s → Denotes top.count s x v
+
+    module _ (v w u : ℕ) (k l : Option ℕ) (x y : Source) (x_away : IsAway x) (y_away : IsAway y) (x_means : Means x v) (y_means : Means y w)
+        (kv : (c : ℕ) → k ≡ Some c → c ≡ v) (lw : (c : ℕ) → l ≡ Some c → c ≡ w) (vb : v < 2 ^ 32) (wb : w < 2 ^ 32) where
+      abbrev Given : Op → Form → Type 0
+      Given op form = Decided (code_by_form form op k l x y) form x y u
+
+      on_pair : (test : PairTest) → pair_passes test v w ≡ not (nat_eq u 0) → Decided (fetch 1 x ++ (fetch 3 y ++ nop ∷ [])) (OnPair test) x y u
+      on_pair test e =
+          let a = fetches most total gs starts registers g top fs s h 1 v x (omega arith) (omega arith) (x_means s h) in
+          let s1 : State = record s { regs = a.regs } in
+          let b = fetches most total gs starts registers g top fs s1 a.stands 3 w y (omega arith) (omega arith) (y_means s1 a.stands) in
+          let s2 : State = record s1 { regs = b.regs } in
+          let left : read 0 b.regs (seat 1 x) ≡ v = seat_kept x 1 3 a.regs b.regs x_away (λ e. absurd (omega (arith, e))) (omega arith) b.others ∙ a.here in
+          record {
+            to = s2;
+            runs = runs_then a.runs (runs_then b.runs (runs_nop s2));
+            some = longer_behind (fetch 1 x) (fetch 3 y ++ nop ∷ []) (longer_behind (fetch 3 y) (nop ∷ []) (omega arith));
+            stands = b.stands;
+            tells = ap₂ (pair_passes test) left b.here ∙ e;
+          }
+
+      on_left : (test : ZeroTest) → zero_passes test v ≡ not (nat_eq u 0) → Decided (fetch 3 x ++ nop ∷ []) (OnLeft test) x y u
+      on_left test e =
+          let c = fetches most total gs starts registers g top fs s h 3 v x (omega arith) (omega arith) (x_means s h) in
+          let s1 : State = record s { regs = c.regs } in
+          record {
+            to = s1;
+            runs = runs_then c.runs (runs_nop s1);
+            some = longer_behind (fetch 3 x) (nop ∷ []) (omega arith);
+            stands = c.stands;
+            tells = ap (zero_passes test) c.here ∙ e;
+          }
+
+      on_right : (test : ZeroTest) → zero_passes test w ≡ not (nat_eq u 0) → Decided (fetch 3 y ++ nop ∷ []) (OnRight test) x y u
+      on_right test e =
+          let c = fetches most total gs starts registers g top fs s h 3 w y (omega arith) (omega arith) (y_means s h) in
+          let s1 : State = record s { regs = c.regs } in
+          record {
+            to = s1;
+            runs = runs_then c.runs (runs_nop s1);
+            some = longer_behind (fetch 3 y) (nop ∷ []) (omega arith);
+            stands = c.stands;
+            tells = ap (zero_passes test) c.here ∙ e;
+          }
+
+      by_result : (op : Op) → op_result op v w ≡ Some u → Given op ByResult
+      by_result op e =
+          let z = computes most total gs starts registers g top fs s h op 3 v w u k l x y t3 x_away x_means y_means kv lw vb wb e in
+          let regs = (z.ends).regs in
+          record {
+            to = record z.to { regs = (z.ends).regs };
+            runs = (z.ends).runs;
+            some = z.some;
+            stands = ends_stands most total gs starts registers g top fs z.to z.stands (op_code op 3 k l x y) s 3 u (omega arith) z.ends;
+            tells = ap (λ c. not (c == 0)) (read_register regs 3 (omega arith) ∙ (z.ends).here);
+          }
+
+      by_opposite : (op : Op) (t : ℕ) → op_result (opposite_op op) w v ≡ Some t → nat_eq t 0 ≡ not (nat_eq u 0) → Given op ByOpposite
+      by_opposite op t e turned =
+          let z = computes most total gs starts registers g top fs s h (opposite_op op) 3 w v t l k y x t3 y_away y_means x_means lw kv wb vb e in
+          let regs = (z.ends).regs in
+          record {
+            to = record z.to { regs = (z.ends).regs };
+            runs = (z.ends).runs;
+            some = z.some;
+            stands = ends_stands most total gs starts registers g top fs z.to z.stands (op_code (opposite_op op) 3 l k y x) s 3 t (omega arith) z.ends;
+            tells = ap (λ c. c == 0) (read_register regs 3 (omega arith) ∙ (z.ends).here) ∙ turned;
+          }
+
+      -- the result is a truth word
+      said : (b : Bool) → Some (truth_word b) ≡ Some u → b ≡ not (nat_eq u 0)
+      said b e = truth b ∙ ap (λ u. not (nat_eq u 0)) (same_Some (truth_word b) u e)
+
+      said_opposite : (b : Bool) → Some (truth_word b) ≡ Some u → nat_eq (truth_word (not b)) 0 ≡ not (nat_eq u 0)
+      said_opposite b e = truth_opposite b ∙ ap (λ u. not (nat_eq u 0)) (same_Some (truth_word b) u e)
+
+      opposite_said : (b : Bool) → Some (truth_word (not b)) ≡ Some u → nat_eq (truth_word b) 0 ≡ not (nat_eq u 0)
+      opposite_said b e = opposite_truth b ∙ ap (λ u. not (nat_eq u 0)) (same_Some (truth_word (not b)) u e)
+
+      signed_less : op_result LtS v w ≡ Some u → (a b c : Bool) → is_known_zero k ≡ a → is_known_zero l ≡ b
+          → Given LtS (if a then OnRight AboveZero else if b then OnLeft BelowZero else opposite_if c)
+      signed_less e true b c ka lb = on_right AboveZero (above_zero w wb ∙ ap (λ v. is_below Signed v w) (sym (known_zero k v kv ka)) ∙ said (is_below Signed v w) e)
+      signed_less e false true c ka lb = on_left BelowZero (below_zero v vb ∙ ap (is_below Signed v) (sym (known_zero l w lw lb)) ∙ said (is_below Signed v w) e)
+      signed_less e false false true ka lb = by_opposite LtS (truth_word (not (is_below Signed v w))) refl (said_opposite (is_below Signed v w) e)
+      signed_less e false false false ka lb = by_result LtS e
+
+      less : op_result LtU v w ≡ Some u → (c : Bool) → Given LtU (opposite_if c)
+      less e true = by_opposite LtU (truth_word (not (is_below Unsigned v w))) refl (said_opposite (is_below Unsigned v w) e)
+      less e false = by_result LtU e
+
+      signed_at_most : op_result LeS v w ≡ Some u → (a b c : Bool) → is_known_zero l ≡ a → is_known_zero k ≡ b
+          → Given LeS (if a then OnLeft AtMostZero else if b then OnRight AtLeastZero else opposite_if c)
+      signed_at_most e true b c la kb =
+          on_left AtMostZero (at_most_zero v vb ∙ ap (λ w. not (is_below Signed w v)) (sym (known_zero l w lw la)) ∙ said (not (is_below Signed w v)) e)
+      signed_at_most e false true c la kb =
+          on_right AtLeastZero (at_least_zero w wb ∙ ap (λ v. not (is_below Signed w v)) (sym (known_zero k v kv kb)) ∙ said (not (is_below Signed w v)) e)
+      signed_at_most e false false true la kb = by_opposite LeS (truth_word (is_below Signed w v)) refl (opposite_said (is_below Signed w v) e)
+      signed_at_most e false false false la kb = by_result LeS e
+
+      at_most : op_result LeU v w ≡ Some u → (c : Bool) → Given LeU (opposite_if c)
+      at_most e true = by_opposite LeU (truth_word (is_below Unsigned w v)) refl (opposite_said (is_below Unsigned w v) e)
+      at_most e false = by_result LeU e
+
+      pub decides : (op : Op) (form : Form) → form_of op k l ≡ Some form → op_result op v w ≡ Some u → Given op form
+      decides Eq form is e = subst (Given Eq) (same_Some (OnPair Equal) form is) (on_pair Equal (said (v == w) e))
+      decides Ne form is e = subst (Given Ne) (same_Some (OnPair NotEqual) form is) (on_pair NotEqual (said (not (v == w)) e))
+      decides LtS form is e = subst (Given LtS) (same_Some _ form is) (signed_less e (is_known_zero k) (is_known_zero l) (is_immediate LeS k) refl refl)
+      decides LtU form is e = subst (Given LtU) (same_Some _ form is) (less e (is_immediate LeU k))
+      decides LeS form is e = subst (Given LeS) (same_Some _ form is) (signed_at_most e (is_known_zero l) (is_known_zero k) (not (is_immediate LeS l)) refl refl)
+      decides LeU form is e = subst (Given LeU) (same_Some _ form is) (at_most e (not (is_immediate LeU l)))
+      decides Add form is e = absurd (none-some form is)
+      decides Sub form is e = absurd (none-some form is)
+      decides Mul form is e = absurd (none-some form is)
+      decides DivS form is e = absurd (none-some form is)
+      decides DivU form is e = absurd (none-some form is)
+      decides RemS form is e = absurd (none-some form is)
+      decides RemU form is e = absurd (none-some form is)
+      decides And form is e = absurd (none-some form is)
+      decides Or form is e = absurd (none-some form is)
+      decides Xor form is e = absurd (none-some form is)
+      decides Shl form is e = absurd (none-some form is)
+      decides ShrU form is e = absurd (none-some form is)
+      decides ShrS form is e = absurd (none-some form is)
+
+  module _ (g : Arrays) (fs : List Stored) (hs : List Home) (P : Run → Type 0) (out : List ℕ) (failed : P (Failed out)) where
+    -- what a comparison leaves that is one with the branch behind it
+    abbrev pub Leaves : (facts : Facts) (registers : Places) (top : Stored) (s : State) (go : Places → Places → Arrays → Run) → Comparison → Type 0
+    Leaves facts registers top s go m = (q u : ℕ) (s' : State) → 1 ≤ length (comparison_code m) → RunsTo (comparison_code m) s s'
+        → Stands most total gs starts (hide (waiting facts q u).lazy (places_with registers q (Some u))) g (top ∷ fs) s'
+        → IsLazy (waiting facts q u).lazy (places_with registers q (Some u))
+        → IsLast (last_with (Some m) None) hs (places_with registers q (Some u)) top.slots s'
+        → P (go (places_with registers q (Some u)) top.slots g)
+
+    compares_bin : (op : Op) (d a b : ℕ) (facts : Facts) (form : Form) (registers : Places) (top : Stored) (s : State)
+        (go : Places → Places → Arrays → Run) → form_of op (known_in facts a) (known_in facts b) ≡ Some form → is_passing (locations_of hs d) ≡ true
+        → AreFrameHomes hs top.count → IsKnown (known_in facts) hs registers top.slots → IsLazy facts.lazy registers
+        → Stands most total gs starts (hide facts.lazy registers) g (top ∷ fs) s
+        → Leaves facts registers top s go (record {
+          result = d;
+          op = op;
+          form = form;
+          left = known_in facts a;
+          right = known_in facts b;
+          x = operand (locations_of hs) facts a;
+          y = operand (locations_of hs) facts b;
+        })
+        → P (with_inst gs (Bin op d a b) hs registers top.slots g out go)
+    compares_bin op d a b facts form registers top s go is passing ok k lz h f =
+        value_or_failed P (read_home hs registers top.slots a) out _ failed (λ v ev.
+        value_or_failed P (read_home hs registers top.slots b) out _ failed (λ w ew.
+        value_or_failed P (op_result op v w) out _ failed (λ u eu.
+        let known = known_in facts in
+        let vb = operand_below most total gs starts facts.lazy registers g top fs s h lz hs a v ok ev in
+        let wb = operand_below most total gs starts facts.lazy registers g top fs s h lz hs b w ok ew in
+        let z = decides (hide facts.lazy registers) g top fs s h v w u (known_in facts a) (known_in facts b) (operand (locations_of hs) facts a)
+        (operand (locations_of hs) facts b) (operand_means most total gs starts facts.lazy registers g top fs s h lz known hs a v ok k ev).1
+        (operand_means most total gs starts facts.lazy registers g top fs s h lz known hs b w ok k ew).1
+        (λ s h. (operand_means most total gs starts facts.lazy registers g top fs s h lz known hs a v ok k ev).0)
+        (λ s h. (operand_means most total gs starts facts.lazy registers g top fs s h lz known hs b w ok k ew).0)
+        (λ c is. same_Some c v (sym (k.by a c is) ∙ ev)) (λ c is. same_Some c w (sym (k.by b c is) ∙ ew)) vb wb op form is eu in
+        write u (result-word op v w u vb wb eu) z (slice_get hs d) refl passing)))
+      where
+        m : Comparison
+        m = record {
+          result = d;
+          op = op;
+          form = form;
+          left = known_in facts a;
+          right = known_in facts b;
+          x = operand (locations_of hs) facts a;
+          y = operand (locations_of hs) facts b;
+        }
+
+        write : (u : ℕ) → u < 2 ^ 32
+            → Decided (hide facts.lazy registers) g top fs s h (code_by_form form op (known_in facts a) (known_in facts b)
+            (operand (locations_of hs) facts a) (operand (locations_of hs) facts b)) form (operand (locations_of hs) facts a) (operand (locations_of hs) facts b) u
+            → (o : Option Home) → slice_get hs d ≡ o → is_passing (location_at o) ≡ true
+            → P (with_value o out (λ h. write_at h registers top.slots u (λ r s. go r s g)))
+        write u below z None at passes_by = absurd (true≢false (sym passes_by))
+        write u below z (Some (Slot j)) at passes_by = absurd (true≢false (sym passes_by))
+        write u below z (Some (Reg q)) at passes_by =
+            let there : read_home hs (places_with registers q (Some u)) top.slots d ≡ Some u =
+            ap (λ o. chain o (in_home (places_with registers q (Some u)) top.slots)) at ∙ ap (λ b. if b then Some u else registers q) (eq-eqb q q refl) in
+            f q u z.to z.some z.runs
+            (fewer_stand most total gs starts (hide facts.lazy registers) (hide (places_with facts.lazy q (Some u)) (places_with registers q (Some u))) g (top ∷ fs)
+            z.to (λ r c e. shown_told facts.lazy registers q u r c e) z.stands)
+            (lazy_told facts.lazy registers q u (not_true (is_lasting q) passes_by) below lz)
+            (record {
+              fresh = none_fresh hs (places_with registers q (Some u)) top.slots z.to;
+              comparison = λ n c same holds.
+                  subst (λ (n : Comparison). read_home hs (places_with registers q (Some u)) top.slots n.result ≡ Some c → passes n.form n.x n.y z.to ≡ not (nat_eq c 0))
+                  (same_Some m n same) (λ here. z.tells ∙ ap (λ u. not (nat_eq u 0)) (same_Some u c (sym there ∙ here))) holds;
+            })
+
+    pub compares : (i : RInst) (facts : Facts) (asked : Option ℕ) (m : Comparison) (registers : Places) (top : Stored) (s : State)
+        (go : Places → Places → Arrays → Run) → comparison_of (locations_of hs) facts asked i ≡ Some m
+        → AreFrameHomes hs top.count → IsKnown (known_in facts) hs registers top.slots → IsLazy facts.lazy registers
+        → Stands most total gs starts (hide facts.lazy registers) g (top ∷ fs) s → Leaves facts registers top s go m
+        → P (with_inst gs i hs registers top.slots g out go)
+    compares (Const d w) facts asked m registers top s go e ok k lz h f = absurd (none-some m e)
+    compares (Move d a) facts asked m registers top s go e ok k lz h f = absurd (none-some m e)
+    compares (Load d a i) facts asked m registers top s go e ok k lz h f = absurd (none-some m e)
+    compares (Store a i b) facts asked m registers top s go e ok k lz h f = absurd (none-some m e)
+    compares (Bin op d a b) facts asked m registers top s go e ok k lz h f =
+        go1 (is_asked asked d && is_passing (locations_of hs d)) refl e
+      where
+        Goal : Type 0
+        Goal = P (with_inst gs (Bin op d a b) hs registers top.slots g out go)
+
+        go2 : is_passing (locations_of hs d) ≡ true → (o : Option Form) → form_of op (known_in facts a) (known_in facts b) ≡ o
+            → compared d op (known_in facts a) (known_in facts b) (operand (locations_of hs) facts a) (operand (locations_of hs) facts b) o ≡ Some m → Goal
+        go2 passing None is e = absurd (none-some m e)
+        go2 passing (Some form) is e =
+            compares_bin op d a b facts form registers top s go is passing ok k lz h (subst (Leaves facts registers top s go) (sym (same_Some _ m e)) f)
+
+        go1 : (t : Bool) → (is_asked asked d && is_passing (locations_of hs d)) ≡ t
+            → (if t then compared d op (known_in facts a) (known_in facts b) (operand (locations_of hs) facts a) (operand (locations_of hs) facts b)
+            (form_of op (known_in facts a) (known_in facts b)) else None) ≡ Some m → Goal
+        go1 false t e = absurd (none-some m e)
+        go1 true t e = go2 (and_second (is_asked asked d) (is_passing (locations_of hs d)) t) (form_of op (known_in facts a) (known_in facts b)) refl e

@@ -1,0 +1,168 @@
+-- Comparisons that are one with the branch on their result, and the code of several instructions.
+use Rattle.std.specs.Prelude.{ℕ, Bool, true, false, not, ◌&&◌, nat_eq, if◌then◌else◌, List, [], ◌∷◌, ◌++◌, Option, Some, None, slice_index}
+use Rattle.mips_isa.specs.declared.inst.PairTest.TheVariants.{Equal, NotEqual}
+use Rattle.mips_isa.specs.declared.inst.ZeroTest.TheVariants.{AtMostZero, AboveZero, BelowZero, AtLeastZero}
+use Rattle.mips_isa.specs.declared.inst.Plain.{Plain}
+use Rattle.mblock.specs.declared.exit.Exit.{Exit}
+use Rattle.mblock.specs.declared.exit.Exit.TheVariants.{BranchPair, BranchZero}
+use Rattle.rtl.specs.declared.operator.Op.{Op}
+use Rattle.rtl.specs.declared.operator.Op.TheVariants.{Eq, Ne, LtS, LtU, LeS, LeU}
+use Rattle.rtl.specs.declared.instruction.RInst.{RInst}
+use Rattle.rtl.specs.declared.instruction.RInst.TheVariants.{Const, Move, Bin, Load, Store}
+use Rattle.rtl.specs.declared.block.RGlobal.{RGlobal}
+use Rattle.mips_homes.specs.HomedRun.{is_lasting}
+use Rattle.mips_homes.specs.declared.homed.Frame.{Frame}
+use Rattle.mips_emit.specs.declared.location.Location.{Location}
+use Rattle.mips_emit.specs.declared.location.Location.TheVariants.{Held, InSlot}
+use Rattle.mips_emit.specs.declared.location.Source.{Source}
+use Rattle.mips_emit.specs.declared.comparison.Form.{Form}
+use Rattle.mips_emit.specs.declared.comparison.Form.TheVariants.{OnPair, OnLeft, OnRight, ByResult, ByOpposite}
+use Rattle.mips_emit.specs.declared.comparison.Comparison.{Comparison}
+use Rattle.mips_emit.specs.declared.facts.Last.{Last}
+use Rattle.mips_emit.specs.Locations.{Locations, Facts, FitsSource, locations, known_in, learned, operand, fresh_of}
+use Rattle.mips_emit.specs.Code.{fetch, seat, immediate_of, op_code, inst_code, nop}
+
+-- ---- forms
+
+abbrev pub is_known_zero : Option ℕ → Bool
+is_known_zero None = false
+is_known_zero (Some w) = nat_eq w 0
+
+abbrev pub is_there : Option Plain → Bool
+is_there None = false
+is_there (Some i) = true
+
+-- a word that an operator has in its instruction
+abbrev pub is_immediate : Op → (known : Option ℕ) → Bool
+is_immediate op known = is_there (immediate_of op 1 0 known)
+
+abbrev pub opposite_if : Bool → Form
+opposite_if b = if b then ByOpposite else ByResult
+
+-- how a branch tells the result of a comparison, from what is known of its operands; none of another operator
+abbrev pub form_of : Op → (left right : Option ℕ) → Option Form
+form_of Eq l r = Some (OnPair Equal)
+form_of Ne l r = Some (OnPair NotEqual)
+form_of LtS l r =
+    Some (if is_known_zero l then OnRight AboveZero else if is_known_zero r then OnLeft BelowZero else opposite_if (is_immediate LeS l))
+form_of LtU l r = Some (opposite_if (is_immediate LeU l))
+form_of LeS l r =
+    Some (if is_known_zero r then OnLeft AtMostZero else if is_known_zero l then OnRight AtLeastZero else opposite_if (not (is_immediate LeS r)))
+form_of LeU l r = Some (opposite_if (not (is_immediate LeU r)))
+form_of _ l r = None
+
+-- one is less than another where that isn't at most the one
+abbrev pub opposite_op : Op → Op
+opposite_op LtS = LeS
+opposite_op LtU = LeU
+opposite_op LeS = LtS
+opposite_op LeU = LtU
+opposite_op op = op
+
+-- ---- code and exits
+
+-- what stands before the branch; a nop where that would be nothing. Register 3 is for this alone, so that what stands before
+-- may be done behind it
+abbrev pub code_by_form : Form → Op → (left right : Option ℕ) → Source → Source → List Plain
+code_by_form (OnPair test) op l r x y = fetch 1 x ++ (fetch 3 y ++ nop ∷ [])
+code_by_form (OnLeft test) op l r x y = fetch 3 x ++ nop ∷ []
+code_by_form (OnRight test) op l r x y = fetch 3 y ++ nop ∷ []
+code_by_form ByResult op l r x y = op_code op 3 l r x y
+code_by_form ByOpposite op l r x y = op_code (opposite_op op) 3 r l y x
+
+abbrev pub comparison_code : Comparison → List Plain
+comparison_code m = code_by_form m.form m.op m.left m.right m.x m.y
+
+abbrev pub exit_by_form : Form → Source → Source → (t e : ℕ) → Exit
+exit_by_form (OnPair test) x y t e = BranchPair test (seat 1 x) (seat 3 y) t e
+exit_by_form (OnLeft test) x y t e = BranchZero test (seat 3 x) t e
+exit_by_form (OnRight test) x y t e = BranchZero test (seat 3 y) t e
+exit_by_form ByResult x y t e = BranchPair NotEqual 3 0 t e
+exit_by_form ByOpposite x y t e = BranchPair Equal 3 0 t e
+
+abbrev pub comparison_exit : Comparison → (t e : ℕ) → Exit
+comparison_exit m t e = exit_by_form m.form m.x m.y t e
+
+-- ---- which comparisons
+
+-- the pseudo-register by which the branch behind goes
+abbrev pub is_asked : Option ℕ → ℕ → Bool
+is_asked None d = false
+is_asked (Some c) d = nat_eq c d
+
+-- a location that no other block reads
+abbrev pub is_passing : Option Location → Bool
+is_passing None = false
+is_passing (Some (Held r)) = not (is_lasting r)
+is_passing (Some (InSlot k)) = false
+
+abbrev pub compared : ℕ → Op → (left right : Option ℕ) → Source → Source → Option Form → Option Comparison
+compared d op l r x y None = None
+compared d op l r x y (Some form) =
+    Some (record { result = d; op = op; form = form; left = l; right = r; x = x; y = y })
+
+-- an instruction that is one with the branch behind it, which goes by the pseudo-register asked for
+abbrev pub comparison_of : Locations → Facts → (asked : Option ℕ) → RInst → Option Comparison
+comparison_of at facts asked (Const d w) = None
+comparison_of at facts asked (Move d a) = None
+comparison_of at facts asked (Bin op d a b) =
+    if is_asked asked d && is_passing (at d)
+    then compared d op (known_in facts a) (known_in facts b) (operand at facts a) (operand at facts b) (form_of op (known_in facts a) (known_in facts b))
+    else None
+comparison_of at facts asked (Load d a i) = None
+comparison_of at facts asked (Store a i b) = None
+
+abbrev pub FitsComparison : Option Comparison → Type 0
+FitsComparison None = Unit {0}
+FitsComparison (Some m) = FitsSource m.x × FitsSource m.y
+
+-- ---- several instructions
+
+-- only behind the last of them stands the branch
+abbrev pub asked_last : Option ℕ → (behind : List RInst) → Option ℕ
+asked_last asked [] = asked
+asked_last asked (i ∷ is) = None
+
+abbrev pub next_code : List RGlobal → (starts : ℕ → ℕ) → Locations → Facts → Option Comparison → RInst → List Plain
+next_code globals starts at facts None i = inst_code globals starts at facts i
+next_code globals starts at facts (Some m) i = comparison_code m
+
+-- what an exit can use then
+abbrev pub last_with : Option Comparison → (fresh : Option ℕ) → Last
+last_with None fresh = record { fresh = fresh; comparison = None }
+last_with (Some m) fresh = record { fresh = None; comparison = Some m }
+
+abbrev pub no_last : Last
+no_last = record { fresh = None; comparison = None }
+
+abbrev pub last_after : Locations → (asked : Option ℕ) → Facts → List RInst → Last → Last
+last_after at asked facts [] last = last
+last_after at asked facts (i ∷ is) last =
+    last_after at asked (learned at i facts) is (last_with (comparison_of at facts (asked_last asked is) i) (fresh_of at i))
+
+-- the code of several, before other code
+abbrev pub insts_code : List RGlobal → (starts : ℕ → ℕ) → Locations → (asked : Option ℕ) → Facts → List RInst → List Plain → List Plain
+insts_code globals starts at asked facts [] behind = behind
+insts_code globals starts at asked facts (i ∷ is) behind =
+    next_code globals starts at facts (comparison_of at facts (asked_last asked is) i) i
+    ++ insts_code globals starts at asked (learned at i facts) is behind
+
+-- and before none
+abbrev pub code_of_insts : List RGlobal → (starts : List ℕ) → Frame → (asked : Option ℕ) → Facts → List RInst → List Plain
+code_of_insts globals starts frame asked facts is = insts_code globals (slice_index starts) (locations frame) asked facts is []
+
+-- ---- branches
+
+-- the comparison whose result a pseudo-register is
+abbrev pub tested : Option Comparison → ℕ → Option Comparison
+tested None c = None
+tested (Some m) c = if nat_eq m.result c then Some m else None
+
+-- a branch: on an operand, or on what was compared
+abbrev pub branch_code : (tested : Option Comparison) → Source → List Plain
+branch_code None x = fetch 1 x
+branch_code (Some m) x = []
+
+abbrev pub branch_exit : (tested : Option Comparison) → Source → (t e : ℕ) → Exit
+branch_exit None x t e = BranchPair NotEqual (seat 1 x) 0 t e
+branch_exit (Some m) x t e = comparison_exit m t e

@@ -1,0 +1,295 @@
+// Comparisons that are one with the branch on their result.
+
+ghost use Rattle.std.specs.Prelude.{◌≡◌, ◌++◌, Some, OnOk};
+ghost use Rattle.mblock.specs.declared.exit.Exit.TheVariants.{BranchPair, BranchZero};
+ghost use Rattle.rtl.specs.declared.operator.Op.TheVariants.{LtS, LeS};
+ghost use Rattle.mips_emit.specs.Frames.{IsReachable};
+ghost use Rattle.mips_emit.specs.Locations.{facts_of, locations, known_in, operand, FitsSource};
+ghost use Rattle.mips_emit.specs.Comparisons.{is_known_zero, is_immediate, opposite_if, form_of, opposite_op, comparison_code, comparison_exit};
+ghost use Rattle.mips_emit.specs.Comparisons.{is_asked, is_passing, compared, comparison_of, FitsComparison, tested};
+
+use crate::facts::{Knowledge, is_lasting, known_word, operand};
+use crate::location::{Location, Source, locate, register};
+use crate::operation::{emit_op, immediate_of};
+use crate::transfer::{emit_fetch, seat};
+use mblock::{BlockNumber, Exit};
+use mips_homes::Frame;
+use mips_isa::{PairTest, Plain, Reg, ZeroTest};
+use rtl::{Op, RInst, Register};
+use std::alloc::AllocError;
+
+/// How a branch tells the result of a comparison.
+#[derive(Clone, Copy, Debug, PartialEq, Eq)]
+pub enum Form {
+    /// It tests both operands.
+    OnPair(PairTest),
+    /// It tests the sign of the left operand, where the right one is 0.
+    OnLeft(ZeroTest),
+    /// It tests the sign of the right operand, where the left one is 0.
+    OnRight(ZeroTest),
+    /// It tests the result, in register 3.
+    ByResult,
+    /// It tests the result of the opposite comparison of turned operands, in register 3.
+    ByOpposite,
+}
+
+/// A comparison whose result nothing but the branch behind it takes, so that it is in no register: the words of its operands
+/// that are known, and the operands.
+#[derive(Clone, Copy, Debug, PartialEq, Eq)]
+pub struct Comparison {
+    pub result: Register,
+    pub op: Op,
+    pub form: Form,
+    pub left: Option<u32>,
+    pub right: Option<u32>,
+    pub x: Source,
+    pub y: Source,
+}
+
+// Whether a word is known to be 0.
+fn is_known_zero(known: Option<u32>) -> bool
+    ensures { result ≡ is_known_zero known }
+{
+    match known {
+        None => false,
+        Some(word) => word == 0,
+    }
+}
+
+// Whether an operator has this word in its instruction.
+fn is_immediate(op: Op, known: Option<u32>) -> bool
+    ensures { result ≡ is_immediate op known }
+{
+    match immediate_of(op, register(1).reg(), Reg::ZERO, known) {
+        None => false,
+        Some(_) => true,
+    }
+}
+
+// By the opposite comparison, or by the comparison itself.
+fn opposite_if(opposite: bool) -> Form
+    ensures { result ≡ opposite_if opposite }
+{
+    if opposite {
+        Form::ByOpposite
+    } else {
+        Form::ByResult
+    }
+}
+
+// How a branch tells whether one word is less than another as a signed number.
+fn signed_less(left: Option<u32>, right: Option<u32>) -> Form
+    ensures { Some result ≡ form_of LtS left right }
+{
+    if is_known_zero(left) {
+        Form::OnRight(ZeroTest::AboveZero)
+    } else if is_known_zero(right) {
+        Form::OnLeft(ZeroTest::BelowZero)
+    } else {
+        opposite_if(is_immediate(Op::LeS, left))
+    }
+}
+
+// The same of at most.
+fn signed_at_most(left: Option<u32>, right: Option<u32>) -> Form
+    ensures { Some result ≡ form_of LeS left right }
+{
+    if is_known_zero(right) {
+        Form::OnLeft(ZeroTest::AtMostZero)
+    } else if is_known_zero(left) {
+        Form::OnRight(ZeroTest::AtLeastZero)
+    } else {
+        opposite_if(!is_immediate(Op::LeS, right))
+    }
+}
+
+// How a branch tells the result of a comparison, from what is known of its operands; None of another operator.
+fn form_of(op: Op, left: Option<u32>, right: Option<u32>) -> Option<Form>
+    ensures { result ≡ form_of op left right }
+{
+    match op {
+        Op::Eq => Some(Form::OnPair(PairTest::Equal)),
+        Op::Ne => Some(Form::OnPair(PairTest::NotEqual)),
+        Op::LtS => Some(signed_less(left, right)),
+        Op::LtU => Some(opposite_if(is_immediate(Op::LeU, left))),
+        Op::LeS => Some(signed_at_most(left, right)),
+        Op::LeU => Some(opposite_if(!is_immediate(Op::LeU, right))),
+        _ => None,
+    }
+}
+
+// The comparison that holds of turned operands exactly where this one doesn't.
+fn opposite_op(op: Op) -> Op
+    ensures { result ≡ opposite_op op }
+{
+    match op {
+        Op::LtS => Op::LeS,
+        Op::LtU => Op::LeU,
+        Op::LeS => Op::LtS,
+        Op::LeU => Op::LtU,
+        _ => op,
+    }
+}
+
+/// What stands before the branch; an Err is refused memory.
+pub(crate) fn emit_comparison(code: &mut Vec<Plain>, m: &Comparison) -> Result<(), AllocError>
+    requires left { FitsSource m.now.x }
+    requires right { FitsSource m.now.y }
+    ensures { OnOk result (code.new.items ≡ code.old.items ++ comparison_code m.now) }
+{
+    let rd = register(3).reg();
+    match m.form {
+        Form::OnPair(_) => {
+            emit_fetch(code, register(1), &m.x)?;
+            emit_fetch(code, register(3), &m.y)?;
+            code.push(Plain::nop())?;
+        }
+        Form::OnLeft(_) => {
+            emit_fetch(code, register(3), &m.x)?;
+            code.push(Plain::nop())?;
+        }
+        Form::OnRight(_) => {
+            emit_fetch(code, register(3), &m.y)?;
+            code.push(Plain::nop())?;
+        }
+        Form::ByResult => emit_op(code, m.op, rd, m.left, m.right, &m.x, &m.y)?,
+        Form::ByOpposite => {
+            let op = opposite_op(m.op);
+            emit_op(code, op, rd, m.right, m.left, &m.y, &m.x)?;
+        }
+    }
+    Ok(())
+}
+
+// A branch on two registers.
+fn on_pair(test: PairTest, rs: Reg, rt: Reg, then: BlockNumber, other: BlockNumber) -> Exit
+    ensures { result ≡ BranchPair test rs rt then other }
+{
+    Exit::BranchPair {
+        test,
+        rs,
+        rt,
+        then,
+        other,
+    }
+}
+
+// A branch on the sign of a register.
+fn on_sign(test: ZeroTest, rs: Reg, then: BlockNumber, other: BlockNumber) -> Exit
+    ensures { result ≡ BranchZero test rs then other }
+{
+    Exit::BranchZero {
+        test,
+        rs,
+        then,
+        other,
+    }
+}
+
+/// The branch to `then` where the comparison holds, else to `other`.
+pub fn comparison_exit(m: &Comparison, then: BlockNumber, other: BlockNumber) -> Exit
+    ensures { result ≡ comparison_exit m.now then other }
+{
+    let left = seat(register(3), &m.x);
+    let right = seat(register(3), &m.y);
+    let truth = register(3).reg();
+    match m.form {
+        Form::OnPair(test) => on_pair(test, seat(register(1), &m.x), right, then, other),
+        Form::OnLeft(test) => on_sign(test, left, then, other),
+        Form::OnRight(test) => on_sign(test, right, then, other),
+        Form::ByResult => on_pair(PairTest::NotEqual, truth, Reg::ZERO, then, other),
+        Form::ByOpposite => on_pair(PairTest::Equal, truth, Reg::ZERO, then, other),
+    }
+}
+
+// Whether the branch behind goes by this result.
+fn is_asked(asked: Option<Register>, d: Register) -> bool
+    ensures { result ≡ is_asked asked d }
+{
+    match asked {
+        None => false,
+        Some(c) => c == d,
+    }
+}
+
+// Whether no other block reads a location.
+fn is_passing(place: Option<Location>) -> bool
+    ensures { result ≡ is_passing place }
+{
+    match place {
+        None => false,
+        Some(location) => match location {
+            Location::Held(r) => !is_lasting(r),
+            Location::InSlot(_) => false,
+        },
+    }
+}
+
+// An operator as a comparison, if it is one.
+fn compared(
+    facts: &Knowledge,
+    frame: &Frame,
+    op: Op,
+    d: Register,
+    a: Register,
+    b: Register,
+) -> Option<Comparison>
+    requires { IsReachable frame.now }
+    ensures value { result ≡ compared d op (known_in (facts_of facts.now) a) (known_in (facts_of facts.now) b)
+        (operand (locations frame.now) (facts_of facts.now) a) (operand (locations frame.now) (facts_of facts.now) b)
+        (form_of op (known_in (facts_of facts.now) a) (known_in (facts_of facts.now) b)) }
+    ensures fits { FitsComparison result }
+{
+    let left = known_word(facts, a);
+    let right = known_word(facts, b);
+    let x = operand(facts, frame, a);
+    let y = operand(facts, frame, b);
+    match form_of(op, left, right) {
+        None => None,
+        Some(form) => Some(Comparison {
+            result: d,
+            op,
+            form,
+            left,
+            right,
+            x,
+            y,
+        }),
+    }
+}
+
+/// An instruction that is one with the branch behind it, which goes by the pseudo-register asked for.
+pub(crate) fn comparison_of(
+    facts: &Knowledge,
+    frame: &Frame,
+    asked: Option<Register>,
+    inst: &RInst,
+) -> Option<Comparison>
+    requires { IsReachable frame.now }
+    ensures value { result ≡ comparison_of (locations frame.now) (facts_of facts.now) asked inst.now }
+    ensures fits { FitsComparison result }
+{
+    match inst {
+        RInst::Bin(op, d, a, b) => {
+            if is_asked(asked, *d) && is_passing(locate(frame, *d)) {
+                compared(facts, frame, *op, *d, *a, *b)
+            } else {
+                None
+            }
+        }
+        RInst::Const(_, _) => None,
+        RInst::Move(_, _) => None,
+        RInst::Load(_, _, _) => None,
+        RInst::Store(_, _, _) => None,
+    }
+}
+
+/// The comparison whose result a pseudo-register is.
+pub fn tested(comparison: &Option<Comparison>, c: Register) -> Option<Comparison>
+    ensures { result ≡ tested comparison.now c }
+{
+    match comparison {
+        None => None,
+        Some(m) => { if m.result == c { Some(*m) } else { None } }
+    }
+}
