@@ -26,14 +26,16 @@ use Rattle.mips_homes.specs.declared.homed.Home.{Home}
 use Rattle.mips_homes.specs.declared.homed.Home.TheVariants.{Reg, Slot}
 use Rattle.mips_emit.specs.declared.location.Source.{Source}
 use Rattle.mips_emit.specs.declared.comparison.Form.{Form}
-use Rattle.mips_emit.specs.declared.comparison.Form.TheVariants.{OnPair, OnLeft, OnRight, ByResult, ByOpposite}
+use Rattle.mips_emit.specs.declared.comparison.Form.TheVariants.{OnPair, OnLeft, OnRight, ByResult, ByOpposite, InResult}
+use Rattle.mips_emit.specs.declared.comparison.Asked.{Asked}
+use Rattle.mips_emit.specs.declared.comparison.Asked.TheVariants.{Nothing, Branched, Returned}
 use Rattle.mips_emit.specs.declared.comparison.Comparison.{Comparison}
 use Rattle.mips_emit.specs.declared.facts.Last.{Last}
 use Rattle.mips_emit.specs.Frames.{AreFrameHomes}
 use Rattle.mips_emit.specs.Locations.{Locations, Facts, known_in, locations_of, location_at, operand}
 use Rattle.mips_emit.specs.Code.{nop, fetch, seat, op_code}
 use Rattle.mips_emit.specs.Comparisons.{is_known_zero, is_immediate, opposite_if, form_of, opposite_op, code_by_form, comparison_code, is_asked, is_passing}
-use Rattle.mips_emit.specs.Comparisons.{compared, comparison_of, last_with}
+use Rattle.mips_emit.specs.Comparisons.{form_for, compared, comparison_of, last_with, is_result, returned}
 use Rattle.mips_emit.proofs.Runs.{RunsTo, runs_then}
 use Rattle.mips_emit.proofs.View.{IsTarget, read_register}
 use Rattle.mips_emit.proofs.Stands.{Stored, Stands}
@@ -86,7 +88,7 @@ not_true true e = absurd (true≢false (sym e))
 not_true false e = refl
 
 -- nothing is one with a branch that doesn't stand behind it
-pub none_asked : (at : Locations) (facts : Facts) (i : RInst) (m : Comparison) → comparison_of at facts None i ≡ Some m → ⊥
+pub none_asked : (at : Locations) (facts : Facts) (i : RInst) (m : Comparison) → comparison_of at facts Nothing i ≡ Some m → ⊥
 none_asked at facts (Const d w) m e = none-some m e
 none_asked at facts (Move d a) m e = none-some m e
 none_asked at facts (Bin op d a b) m e = none-some m e
@@ -100,7 +102,7 @@ compared_result d op l r x y (Some form) m e =
     (same_Some (let x : Comparison = record { result = d; op = op; form = form; left = l; right = r; x = x; y = y } in x) m e))
 
 -- it is what the branch goes by
-pub asked_result : (at : Locations) (facts : Facts) (c : ℕ) (i : RInst) (m : Comparison) → comparison_of at facts (Some c) i ≡ Some m → nat_eq m.result c ≡ true
+pub asked_result : (at : Locations) (facts : Facts) (c : ℕ) (i : RInst) (m : Comparison) → comparison_of at facts (Branched c) i ≡ Some m → nat_eq m.result c ≡ true
 asked_result at facts c (Const d w) m e = absurd (none-some m e)
 asked_result at facts c (Move d a) m e = absurd (none-some m e)
 asked_result at facts c (Load d a i) m e = absurd (none-some m e)
@@ -116,8 +118,34 @@ asked_result at facts c (Bin op d a b) m e = go (nat_eq c d && is_passing (at d)
         eq-eqb m.result c (compared_result d op (known_in facts a) (known_in facts b) (operand at facts a) (operand at facts b)
         (form_of op (known_in facts a) (known_in facts b)) m e ∙ sym same)
 
+closed_form : (d : ℕ) (op : Op) (l r : Option ℕ) (x y : Source) (form : Form) (m : Comparison) → compared d op l r x y (Some form) ≡ Some m → m.form ≡ form
+closed_form d op l r x y form m e =
+    sym (ap (λ (m : Comparison). m.form)
+    (same_Some (let x : Comparison = record { result = d; op = op; form = form; left = l; right = r; x = x; y = y } in x) m e))
+
+-- what a return goes by is in register 2
+pub returned_result : (at : Locations) (facts : Facts) (c : ℕ) (i : RInst) (m : Comparison) → comparison_of at facts (Returned c) i ≡ Some m
+    → returned (Some m) c ≡ true
+returned_result at facts c (Const d w) m e = absurd (none-some m e)
+returned_result at facts c (Move d a) m e = absurd (none-some m e)
+returned_result at facts c (Load d a i) m e = absurd (none-some m e)
+returned_result at facts c (Store a i b) m e = absurd (none-some m e)
+returned_result at facts c (Bin op d a b) m e = go (nat_eq c d && is_passing (at d)) refl e
+  where
+    go : (t : Bool) → (nat_eq c d && is_passing (at d)) ≡ t
+        → (if t then compared d op (known_in facts a) (known_in facts b) (operand at facts a) (operand at facts b) (Some InResult) else None) ≡ Some m
+        → returned (Some m) c ≡ true
+    go false t e = absurd (none-some m e)
+    go true t e =
+        let same : c ≡ d = eqb-true c d (and_first (nat_eq c d) (is_passing (at d)) t) in
+        ap₂ (λ form b. is_result form && b) (closed_form d op (known_in facts a) (known_in facts b) (operand at facts a) (operand at facts b) InResult m e)
+        (eq-eqb m.result c (compared_result d op (known_in facts a) (known_in facts b) (operand at facts a) (operand at facts b) (Some InResult) m e ∙ sym same))
+
 t3 : IsTarget 3
 t3 = record { low = omega arith; high = omega arith }
+
+t2 : IsTarget 2
+t2 = record { low = omega arith; high = omega arith }
 
 -- what is known then: nothing but that a register doesn't hold its word
 abbrev pub waiting : Facts → (q u : ℕ) → Facts
@@ -132,6 +160,7 @@ module _ (most total : ℕ) (gs : List RGlobal) (starts : ℕ → ℕ) where
       pub some : 1 ≤ length is
       pub stands : Stands most total gs starts registers g (top ∷ fs) to
       pub tells : passes form x y to ≡ not (nat_eq u 0)
+      pub result : is_result form ≡ true → to.regs 2 ≡ u
 
     abbrev Means : Source → ℕ → Type 0
     Means x v = (s : State) → Stands most total gs starts registers g (top ∷ fs) s → Denotes top.count s x v
@@ -154,6 +183,7 @@ module _ (most total : ℕ) (gs : List RGlobal) (starts : ℕ → ℕ) where
             some = longer_behind (fetch 1 x) (fetch 3 y ++ nop ∷ []) (longer_behind (fetch 3 y) (nop ∷ []) (omega arith));
             stands = b.stands;
             tells = ap₂ (pair_passes test) left b.here ∙ e;
+            result = λ e. absurd (true≢false (sym e));
           }
 
       on_left : (test : ZeroTest) → zero_passes test v ≡ not (nat_eq u 0) → Decided (fetch 3 x ++ nop ∷ []) (OnLeft test) x y u
@@ -166,6 +196,7 @@ module _ (most total : ℕ) (gs : List RGlobal) (starts : ℕ → ℕ) where
             some = longer_behind (fetch 3 x) (nop ∷ []) (omega arith);
             stands = c.stands;
             tells = ap (zero_passes test) c.here ∙ e;
+            result = λ e. absurd (true≢false (sym e));
           }
 
       on_right : (test : ZeroTest) → zero_passes test w ≡ not (nat_eq u 0) → Decided (fetch 3 y ++ nop ∷ []) (OnRight test) x y u
@@ -178,6 +209,7 @@ module _ (most total : ℕ) (gs : List RGlobal) (starts : ℕ → ℕ) where
             some = longer_behind (fetch 3 y) (nop ∷ []) (omega arith);
             stands = c.stands;
             tells = ap (zero_passes test) c.here ∙ e;
+            result = λ e. absurd (true≢false (sym e));
           }
 
       by_result : (op : Op) → op_result op v w ≡ Some u → Given op ByResult
@@ -190,6 +222,7 @@ module _ (most total : ℕ) (gs : List RGlobal) (starts : ℕ → ℕ) where
             some = z.some;
             stands = ends_stands most total gs starts registers g top fs z.to z.stands (op_code op 3 k l x y) s 3 u (omega arith) z.ends;
             tells = ap (λ c. not (c == 0)) (read_register regs 3 (omega arith) ∙ (z.ends).here);
+            result = λ e. absurd (true≢false (sym e));
           }
 
       by_opposite : (op : Op) (t : ℕ) → op_result (opposite_op op) w v ≡ Some t → nat_eq t 0 ≡ not (nat_eq u 0) → Given op ByOpposite
@@ -202,6 +235,20 @@ module _ (most total : ℕ) (gs : List RGlobal) (starts : ℕ → ℕ) where
             some = z.some;
             stands = ends_stands most total gs starts registers g top fs z.to z.stands (op_code (opposite_op op) 3 l k y x) s 3 t (omega arith) z.ends;
             tells = ap (λ c. c == 0) (read_register regs 3 (omega arith) ∙ (z.ends).here) ∙ turned;
+            result = λ e. absurd (true≢false (sym e));
+          }
+
+      in_result : (op : Op) → op_result op v w ≡ Some u → Given op InResult
+      in_result op e =
+          let z = computes most total gs starts registers g top fs s h op 2 v w u k l x y t2 x_away x_means y_means kv lw vb wb e in
+          let regs = (z.ends).regs in
+          record {
+            to = record z.to { regs = (z.ends).regs };
+            runs = (z.ends).runs;
+            some = z.some;
+            stands = ends_stands most total gs starts registers g top fs z.to z.stands (op_code op 2 k l x y) s 2 u (omega arith) z.ends;
+            tells = ap (λ c. not (c == 0)) (read_register regs 2 (omega arith) ∙ (z.ends).here);
+            result = λ _. (z.ends).here;
           }
 
       -- the result is a truth word
@@ -259,6 +306,11 @@ module _ (most total : ℕ) (gs : List RGlobal) (starts : ℕ → ℕ) where
       decides ShrU form is e = absurd (none-some form is)
       decides ShrS form is e = absurd (none-some form is)
 
+      pub decides_for : (asked : Asked) (op : Op) (form : Form) → form_for asked op k l ≡ Some form → op_result op v w ≡ Some u → Given op form
+      decides_for Nothing op form is e = absurd (none-some form is)
+      decides_for (Branched c) op form is e = decides op form is e
+      decides_for (Returned c) op form is e = subst (Given op) (same_Some InResult form is) (in_result op e)
+
   module _ (g : Arrays) (fs : List Stored) (hs : List Home) (P : Run → Type 0) (out : List ℕ) (failed : P (Failed out)) where
     -- what a comparison leaves that is one with the branch behind it
     abbrev pub Leaves : (facts : Facts) (registers : Places) (top : Stored) (s : State) (go : Places → Places → Arrays → Run) → Comparison → Type 0
@@ -268,8 +320,8 @@ module _ (most total : ℕ) (gs : List RGlobal) (starts : ℕ → ℕ) where
         → IsLast (last_with (Some m) None) hs (places_with registers q (Some u)) top.slots s'
         → P (go (places_with registers q (Some u)) top.slots g)
 
-    compares_bin : (op : Op) (d a b : ℕ) (facts : Facts) (form : Form) (registers : Places) (top : Stored) (s : State)
-        (go : Places → Places → Arrays → Run) → form_of op (known_in facts a) (known_in facts b) ≡ Some form → is_passing (locations_of hs d) ≡ true
+    compares_bin : (asked : Asked) (op : Op) (d a b : ℕ) (facts : Facts) (form : Form) (registers : Places) (top : Stored) (s : State)
+        (go : Places → Places → Arrays → Run) → form_for asked op (known_in facts a) (known_in facts b) ≡ Some form → is_passing (locations_of hs d) ≡ true
         → AreFrameHomes hs top.count → IsKnown (known_in facts) hs registers top.slots → IsLazy facts.lazy registers
         → Stands most total gs starts (hide facts.lazy registers) g (top ∷ fs) s
         → Leaves facts registers top s go (record {
@@ -282,19 +334,19 @@ module _ (most total : ℕ) (gs : List RGlobal) (starts : ℕ → ℕ) where
           y = operand (locations_of hs) facts b;
         })
         → P (with_inst gs (Bin op d a b) hs registers top.slots g out go)
-    compares_bin op d a b facts form registers top s go is passing ok k lz h f =
+    compares_bin asked op d a b facts form registers top s go is passing ok k lz h f =
         value_or_failed P (read_home hs registers top.slots a) out _ failed (λ v ev.
         value_or_failed P (read_home hs registers top.slots b) out _ failed (λ w ew.
         value_or_failed P (op_result op v w) out _ failed (λ u eu.
         let known = known_in facts in
         let vb = operand_below most total gs starts facts.lazy registers g top fs s h lz hs a v ok ev in
         let wb = operand_below most total gs starts facts.lazy registers g top fs s h lz hs b w ok ew in
-        let z = decides (hide facts.lazy registers) g top fs s h v w u (known_in facts a) (known_in facts b) (operand (locations_of hs) facts a)
+        let z = decides_for (hide facts.lazy registers) g top fs s h v w u (known_in facts a) (known_in facts b) (operand (locations_of hs) facts a)
         (operand (locations_of hs) facts b) (operand_means most total gs starts facts.lazy registers g top fs s h lz known hs a v ok k ev).1
         (operand_means most total gs starts facts.lazy registers g top fs s h lz known hs b w ok k ew).1
         (λ s h. (operand_means most total gs starts facts.lazy registers g top fs s h lz known hs a v ok k ev).0)
         (λ s h. (operand_means most total gs starts facts.lazy registers g top fs s h lz known hs b w ok k ew).0)
-        (λ c is. same_Some c v (sym (k.by a c is) ∙ ev)) (λ c is. same_Some c w (sym (k.by b c is) ∙ ew)) vb wb op form is eu in
+        (λ c is. same_Some c v (sym (k.by a c is) ∙ ev)) (λ c is. same_Some c w (sym (k.by b c is) ∙ ew)) vb wb asked op form is eu in
         write u (result-word op v w u vb wb eu) z (slice_get hs d) refl passing)))
       where
         m : Comparison
@@ -327,9 +379,12 @@ module _ (most total : ℕ) (gs : List RGlobal) (starts : ℕ → ℕ) where
               comparison = λ n c same holds.
                   subst (λ (n : Comparison). read_home hs (places_with registers q (Some u)) top.slots n.result ≡ Some c → passes n.form n.x n.y z.to ≡ not (nat_eq c 0))
                   (same_Some m n same) (λ here. z.tells ∙ ap (λ u. not (nat_eq u 0)) (same_Some u c (sym there ∙ here))) holds;
+              result = λ n c same is_it holds.
+                  subst (λ (n : Comparison). is_result n.form ≡ true → read_home hs (places_with registers q (Some u)) top.slots n.result ≡ Some c → (z.to).regs 2 ≡ c)
+                  (same_Some m n same) (λ it here. z.result it ∙ same_Some u c (sym there ∙ here)) is_it holds;
             })
 
-    pub compares : (i : RInst) (facts : Facts) (asked : Option ℕ) (m : Comparison) (registers : Places) (top : Stored) (s : State)
+    pub compares : (i : RInst) (facts : Facts) (asked : Asked) (m : Comparison) (registers : Places) (top : Stored) (s : State)
         (go : Places → Places → Arrays → Run) → comparison_of (locations_of hs) facts asked i ≡ Some m
         → AreFrameHomes hs top.count → IsKnown (known_in facts) hs registers top.slots → IsLazy facts.lazy registers
         → Stands most total gs starts (hide facts.lazy registers) g (top ∷ fs) s → Leaves facts registers top s go m
@@ -344,14 +399,14 @@ module _ (most total : ℕ) (gs : List RGlobal) (starts : ℕ → ℕ) where
         Goal : Type 0
         Goal = P (with_inst gs (Bin op d a b) hs registers top.slots g out go)
 
-        go2 : is_passing (locations_of hs d) ≡ true → (o : Option Form) → form_of op (known_in facts a) (known_in facts b) ≡ o
+        go2 : is_passing (locations_of hs d) ≡ true → (o : Option Form) → form_for asked op (known_in facts a) (known_in facts b) ≡ o
             → compared d op (known_in facts a) (known_in facts b) (operand (locations_of hs) facts a) (operand (locations_of hs) facts b) o ≡ Some m → Goal
         go2 passing None is e = absurd (none-some m e)
         go2 passing (Some form) is e =
-            compares_bin op d a b facts form registers top s go is passing ok k lz h (subst (Leaves facts registers top s go) (sym (same_Some _ m e)) f)
+            compares_bin asked op d a b facts form registers top s go is passing ok k lz h (subst (Leaves facts registers top s go) (sym (same_Some _ m e)) f)
 
         go1 : (t : Bool) → (is_asked asked d && is_passing (locations_of hs d)) ≡ t
             → (if t then compared d op (known_in facts a) (known_in facts b) (operand (locations_of hs) facts a) (operand (locations_of hs) facts b)
-            (form_of op (known_in facts a) (known_in facts b)) else None) ≡ Some m → Goal
+            (form_for asked op (known_in facts a) (known_in facts b)) else None) ≡ Some m → Goal
         go1 false t e = absurd (none-some m e)
-        go1 true t e = go2 (and_second (is_asked asked d) (is_passing (locations_of hs d)) t) (form_of op (known_in facts a) (known_in facts b)) refl e
+        go1 true t e = go2 (and_second (is_asked asked d) (is_passing (locations_of hs d)) t) (form_for asked op (known_in facts a) (known_in facts b)) refl e

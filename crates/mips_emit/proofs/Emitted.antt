@@ -8,11 +8,13 @@ use Rattle.rtl.specs.declared.instruction.RInst.{RInst}
 use Rattle.rtl.specs.declared.block.RGlobal.{RGlobal}
 use Rattle.mips_emit.specs.declared.facts.Last.{Last}
 use Rattle.mips_emit.specs.declared.comparison.Comparison.{Comparison}
+use Rattle.mips_emit.specs.declared.comparison.Asked.{Asked}
+use Rattle.mips_emit.specs.declared.comparison.Asked.TheVariants.{Nothing}
 use Rattle.mips_emit.specs.Locations.{Locations, Facts, learned, known_after, fresh_of}
 use Rattle.mips_emit.specs.Comparisons.{comparison_of, asked_last, next_code, last_with, last_after, insts_code}
 
 -- the code of some instructions stands before what comes behind them
-pub insts_behind : (gs : List RGlobal) (starts : ℕ → ℕ) (at : Locations) (asked : Option ℕ) (facts : Facts) (is : List RInst) (behind : List Plain)
+pub insts_behind : (gs : List RGlobal) (starts : ℕ → ℕ) (at : Locations) (asked : Asked) (facts : Facts) (is : List RInst) (behind : List Plain)
     → insts_code gs starts at asked facts is [] ++ behind ≡ insts_code gs starts at asked facts is behind
 insts_behind gs starts at asked facts [] behind = refl
 insts_behind gs starts at asked facts (i ∷ is) behind =
@@ -27,12 +29,12 @@ get_same (x ∷ xs) zero d e lt = refl
 get_same (x ∷ xs) (suc i) d e lt = get_same xs i d e (omega (arith, lt))
 
 -- the branch stands behind the last of them
-last_asked : (asked : Option ℕ) (xs : List RInst) (left : ℕ) → left ≡ suc (length xs) → (if nat_eq (left - 1) 0 then asked else None) ≡ asked_last asked xs
-last_asked asked [] left e = ap (λ b. if b then asked else None) (eq-eqb (left - 1) 0 (omega (arith, e)))
-last_asked asked (x ∷ xs) left e = ap (λ b. if b then asked else None) (ne_eqb (left - 1) 0 (omega (arith, e)))
+last_asked : (asked : Asked) (xs : List RInst) (left : ℕ) → left ≡ suc (length xs) → (if nat_eq (left - 1) 0 then asked else Nothing) ≡ asked_last asked xs
+last_asked asked [] left e = ap (λ b. if b then asked else Nothing) (eq-eqb (left - 1) 0 (omega (arith, e)))
+last_asked asked (x ∷ xs) left e = ap (λ b. if b then asked else Nothing) (ne_eqb (left - 1) 0 (omega (arith, e)))
 
-asks_last : (asked : Option ℕ) (insts : List RInst) (i left : ℕ) → i < length insts → left + i ≡ length insts
-    → (if nat_eq (left - 1) 0 then asked else None) ≡ asked_last asked (drop (i + 1) insts)
+asks_last : (asked : Asked) (insts : List RInst) (i left : ℕ) → i < length insts → left + i ≡ length insts
+    → (if nat_eq (left - 1) 0 then asked else Nothing) ≡ asked_last asked (drop (i + 1) insts)
 asks_last asked [] i left lt e = absurd (omega (arith, lt))
 asks_last asked (x ∷ xs) zero left lt e = last_asked asked xs left (omega (arith, e))
 asks_last asked (x ∷ xs) (suc i) left lt e =
@@ -40,9 +42,9 @@ asks_last asked (x ∷ xs) (suc i) left lt e =
     ∙ (let next : suc (i + 1) ≡ suc i + 1 = omega arith in ap (λ n. asked_last asked (drop n (x ∷ xs))) next)
 
 -- one more instruction
-pub insts_step : (gs : List RGlobal) (starts : ℕ → ℕ) (at : Locations) (asked asks : Option ℕ) (i left : ℕ) (insts : List RInst) (d : RInst)
+pub insts_step : (gs : List RGlobal) (starts : ℕ → ℕ) (at : Locations) (asked asks : Asked) (i left : ℕ) (insts : List RInst) (d : RInst)
     (m : Option Comparison) (fresh : Option ℕ) (facts facts' all_facts : Facts) (last last' all_last : Last) (code code' all : List Plain)
-    → i < length insts → asks ≡ (if nat_eq (left - 1) 0 then asked else None) → m ≡ comparison_of at facts asks (get_or insts i d)
+    → i < length insts → asks ≡ (if nat_eq (left - 1) 0 then asked else Nothing) → m ≡ comparison_of at facts asks (get_or insts i d)
     → fresh ≡ fresh_of at (get_or insts i d)
     → code' ≡ code ++ next_code gs starts at facts m (get_or insts i d)
     → facts' ≡ learned at (get_or insts i d) facts → last' ≡ last_with m fresh

@@ -27,11 +27,11 @@ use Rattle.mips_emit.specs.declared.location.Location.TheVariants.{Held, InSlot}
 use Rattle.mips_emit.specs.declared.location.Source.{Source}
 use Rattle.mips_emit.specs.declared.location.Source.TheVariants.{Zero, Word, From}
 use Rattle.mips_emit.specs.declared.comparison.Form.{Form}
-use Rattle.mips_emit.specs.declared.comparison.Form.TheVariants.{OnPair, OnLeft, OnRight, ByResult, ByOpposite}
+use Rattle.mips_emit.specs.declared.comparison.Form.TheVariants.{OnPair, OnLeft, OnRight, ByResult, ByOpposite, InResult}
 use Rattle.mips_emit.specs.declared.comparison.Comparison.{Comparison}
 use Rattle.mips_emit.specs.declared.facts.Last.{Last}
 use Rattle.mips_emit.specs.Frames.{IsHome, AreFrameHomes, IsFrame}
-use Rattle.mips_emit.specs.Comparisons.{no_last}
+use Rattle.mips_emit.specs.Comparisons.{no_last, is_result}
 use Rattle.mips_emit.specs.Locations.{known_in, no_facts, location_at, in_slot, fresh_source, source}
 use Rattle.mips_emit.specs.declared.location.Location.{Location}
 use Rattle.mips_emit.specs.Locations.{lazy_const, lazy_none, lazy_at, lazy_source, word_source}
@@ -184,15 +184,17 @@ passes (OnLeft test) x y s = zero_passes test (read 0 s.regs (seat 3 x))
 passes (OnRight test) x y s = zero_passes test (read 0 s.regs (seat 3 y))
 passes ByResult x y s = pair_passes NotEqual (read 0 s.regs 3) (read 0 s.regs 0)
 passes ByOpposite x y s = pair_passes Equal (read 0 s.regs 3) (read 0 s.regs 0)
+passes InResult x y s = pair_passes NotEqual (read 0 s.regs 2) (read 0 s.regs 0)
 
 -- what an exit can use of the last instruction
 pub record IsLast (last : Last) (hs : List Home) (registers slots : Places) (s : State) : Type 0 where
   pub fresh : IsFresh last.fresh hs registers slots s
   pub comparison : (m : Comparison) (v : ℕ) → last.comparison ≡ Some m → read_home hs registers slots m.result ≡ Some v
       → passes m.form m.x m.y s ≡ not (nat_eq v 0)
+  pub result : (m : Comparison) (v : ℕ) → last.comparison ≡ Some m → is_result m.form ≡ true → read_home hs registers slots m.result ≡ Some v → s.regs 2 ≡ v
 
 pub none_last : (hs : List Home) (registers slots : Places) (s : State) → IsLast no_last hs registers slots s
-none_last hs registers slots s = record { fresh = none_fresh hs registers slots s; comparison = λ m v e. absurd (none-some m e) }
+none_last hs registers slots s = record { fresh = none_fresh hs registers slots s; comparison = λ m v e. absurd (none-some m e); result = λ m v e. absurd (none-some m e) }
 
 -- one more known word, and two words less
 pub known_with : (known : Places) (hs : List Home) (registers slots : Places) (b w : ℕ) → read_home hs registers slots b ≡ Some w

@@ -355,7 +355,7 @@ module _ (most total : ℕ) (gs : List RGlobal) (starts : ℕ → ℕ) where
         (λ c is. sym (same_Some u c is)) ok (known_with known hs registers top.slots b w ew k) failed
         (λ r' s' to some e st lz' kn new. f r' s' g to some e st lz' (fact_known hs r' s' facts d None
         (known_without known hs r' s' b w d u (λ c is. same_Some c w (sym (k.by b c is) ∙ ew)) kn))
-        (record { fresh = new; comparison = λ m v' is. absurd (none-some m is) })))))
+        (record { fresh = new; comparison = λ m v' is. absurd (none-some m is); result = λ m v' is. absurd (none-some m is) })))))
     performs (Load d a i) facts registers top s go ok k lz h f =
         value_or_failed P (read_home hs registers top.slots i) out _ failed (λ v ev.
         value_or_failed P (element_at g a v) out _ failed (λ w there.
@@ -376,7 +376,7 @@ module _ (most total : ℕ) (gs : List RGlobal) (starts : ℕ → ℕ) where
         (ends_set is s to d' (shown_at width to at) w (into_target hs top.count d ok) (runs_then p.runs load) value below)
         (longer_behind (element_code width (starts a) o x) _ (omega arith)) (λ w e. absurd (none-some w e)) ok k failed
         (λ r' s' to some e st lz' kn new. f r' s' g to some e st lz' (fact_known hs r' s' facts d None kn)
-        (record { fresh = new; comparison = λ m v' is. absurd (none-some m is) }))))
+        (record { fresh = new; comparison = λ m v' is. absurd (none-some m is); result = λ m v' is. absurd (none-some m is) }))))
     performs (Store a i b) facts registers top s go ok k lz h f =
         value_or_failed P (read_home hs registers top.slots i) out _ failed (λ v ev.
         value_or_failed P (read_home hs registers top.slots b) out _ failed (λ w ew.

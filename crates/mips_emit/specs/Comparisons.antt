@@ -1,4 +1,5 @@
--- Comparisons that are one with the branch on their result, and the code of several instructions.
+-- Operators that are one with the exit behind them (comparisons with a branch on their result, any with a return of it), and
+-- the code of several instructions.
 use Rattle.std.specs.Prelude.{ℕ, Bool, true, false, not, ◌&&◌, nat_eq, if◌then◌else◌, List, [], ◌∷◌, ◌++◌, Option, Some, None, slice_index}
 use Rattle.mips_isa.specs.declared.inst.PairTest.TheVariants.{Equal, NotEqual}
 use Rattle.mips_isa.specs.declared.inst.ZeroTest.TheVariants.{AtMostZero, AboveZero, BelowZero, AtLeastZero}
@@ -16,11 +17,13 @@ use Rattle.mips_emit.specs.declared.location.Location.{Location}
 use Rattle.mips_emit.specs.declared.location.Location.TheVariants.{Held, InSlot}
 use Rattle.mips_emit.specs.declared.location.Source.{Source}
 use Rattle.mips_emit.specs.declared.comparison.Form.{Form}
-use Rattle.mips_emit.specs.declared.comparison.Form.TheVariants.{OnPair, OnLeft, OnRight, ByResult, ByOpposite}
+use Rattle.mips_emit.specs.declared.comparison.Form.TheVariants.{OnPair, OnLeft, OnRight, ByResult, ByOpposite, InResult}
+use Rattle.mips_emit.specs.declared.comparison.Asked.{Asked}
+use Rattle.mips_emit.specs.declared.comparison.Asked.TheVariants.{Nothing, Branched, Returned}
 use Rattle.mips_emit.specs.declared.comparison.Comparison.{Comparison}
 use Rattle.mips_emit.specs.declared.facts.Last.{Last}
 use Rattle.mips_emit.specs.Locations.{Locations, Facts, FitsSource, locations, known_in, learned, operand, fresh_of}
-use Rattle.mips_emit.specs.Code.{fetch, seat, immediate_of, op_code, inst_code, nop}
+use Rattle.mips_emit.specs.Code.{fetch, seat, carry, immediate_of, op_code, inst_code, nop}
 
 -- ---- forms
 
@@ -69,6 +72,7 @@ code_by_form (OnLeft test) op l r x y = fetch 3 x ++ nop ∷ []
 code_by_form (OnRight test) op l r x y = fetch 3 y ++ nop ∷ []
 code_by_form ByResult op l r x y = op_code op 3 l r x y
 code_by_form ByOpposite op l r x y = op_code (opposite_op op) 3 r l y x
+code_by_form InResult op l r x y = op_code op 2 l r x y
 
 abbrev pub comparison_code : Comparison → List Plain
 comparison_code m = code_by_form m.form m.op m.left m.right m.x m.y
@@ -79,16 +83,24 @@ exit_by_form (OnLeft test) x y t e = BranchZero test (seat 3 x) t e
 exit_by_form (OnRight test) x y t e = BranchZero test (seat 3 y) t e
 exit_by_form ByResult x y t e = BranchPair NotEqual 3 0 t e
 exit_by_form ByOpposite x y t e = BranchPair Equal 3 0 t e
+exit_by_form InResult x y t e = BranchPair NotEqual 2 0 t e
 
 abbrev pub comparison_exit : Comparison → (t e : ℕ) → Exit
 comparison_exit m t e = exit_by_form m.form m.x m.y t e
 
 -- ---- which comparisons
 
--- the pseudo-register by which the branch behind goes
-abbrev pub is_asked : Option ℕ → ℕ → Bool
-is_asked None d = false
-is_asked (Some c) d = nat_eq c d
+-- whether the exit behind goes by a pseudo-register
+abbrev pub is_asked : Asked → ℕ → Bool
+is_asked Nothing d = false
+is_asked (Branched c) d = nat_eq c d
+is_asked (Returned c) d = nat_eq c d
+
+-- a branch goes by comparisons, a return by any operator
+abbrev pub form_for : Asked → Op → (left right : Option ℕ) → Option Form
+form_for Nothing op l r = None
+form_for (Branched c) op l r = form_of op l r
+form_for (Returned c) op l r = Some InResult
 
 -- a location that no other block reads
 abbrev pub is_passing : Option Location → Bool
@@ -102,12 +114,12 @@ compared d op l r x y (Some form) =
     Some (record { result = d; op = op; form = form; left = l; right = r; x = x; y = y })
 
 -- an instruction that is one with the branch behind it, which goes by the pseudo-register asked for
-abbrev pub comparison_of : Locations → Facts → (asked : Option ℕ) → RInst → Option Comparison
+abbrev pub comparison_of : Locations → Facts → Asked → RInst → Option Comparison
 comparison_of at facts asked (Const d w) = None
 comparison_of at facts asked (Move d a) = None
 comparison_of at facts asked (Bin op d a b) =
     if is_asked asked d && is_passing (at d)
-    then compared d op (known_in facts a) (known_in facts b) (operand at facts a) (operand at facts b) (form_of op (known_in facts a) (known_in facts b))
+    then compared d op (known_in facts a) (known_in facts b) (operand at facts a) (operand at facts b) (form_for asked op (known_in facts a) (known_in facts b))
     else None
 comparison_of at facts asked (Load d a i) = None
 comparison_of at facts asked (Store a i b) = None
@@ -119,9 +131,9 @@ FitsComparison (Some m) = FitsSource m.x × FitsSource m.y
 -- ---- several instructions
 
 -- only behind the last of them stands the branch
-abbrev pub asked_last : Option ℕ → (behind : List RInst) → Option ℕ
+abbrev pub asked_last : Asked → (behind : List RInst) → Asked
 asked_last asked [] = asked
-asked_last asked (i ∷ is) = None
+asked_last asked (i ∷ is) = Nothing
 
 abbrev pub next_code : List RGlobal → (starts : ℕ → ℕ) → Locations → Facts → Option Comparison → RInst → List Plain
 next_code globals starts at facts None i = inst_code globals starts at facts i
@@ -135,20 +147,20 @@ last_with (Some m) fresh = record { fresh = None; comparison = Some m }
 abbrev pub no_last : Last
 no_last = record { fresh = None; comparison = None }
 
-abbrev pub last_after : Locations → (asked : Option ℕ) → Facts → List RInst → Last → Last
+abbrev pub last_after : Locations → Asked → Facts → List RInst → Last → Last
 last_after at asked facts [] last = last
 last_after at asked facts (i ∷ is) last =
     last_after at asked (learned at i facts) is (last_with (comparison_of at facts (asked_last asked is) i) (fresh_of at i))
 
 -- the code of several, before other code
-abbrev pub insts_code : List RGlobal → (starts : ℕ → ℕ) → Locations → (asked : Option ℕ) → Facts → List RInst → List Plain → List Plain
+abbrev pub insts_code : List RGlobal → (starts : ℕ → ℕ) → Locations → Asked → Facts → List RInst → List Plain → List Plain
 insts_code globals starts at asked facts [] behind = behind
 insts_code globals starts at asked facts (i ∷ is) behind =
     next_code globals starts at facts (comparison_of at facts (asked_last asked is) i) i
     ++ insts_code globals starts at asked (learned at i facts) is behind
 
 -- and before none
-abbrev pub code_of_insts : List RGlobal → (starts : List ℕ) → Frame → (asked : Option ℕ) → Facts → List RInst → List Plain
+abbrev pub code_of_insts : List RGlobal → (starts : List ℕ) → Frame → Asked → Facts → List RInst → List Plain
 code_of_insts globals starts frame asked facts is = insts_code globals (slice_index starts) (locations frame) asked facts is []
 
 -- ---- branches
@@ -166,3 +178,18 @@ branch_code (Some m) x = []
 abbrev pub branch_exit : (tested : Option Comparison) → Source → (t e : ℕ) → Exit
 branch_exit None x t e = BranchPair NotEqual (seat 1 x) 0 t e
 branch_exit (Some m) x t e = comparison_exit m t e
+
+-- ---- returns
+
+abbrev pub is_result : Form → Bool
+is_result InResult = true
+is_result _ = false
+
+-- whether a pseudo-register is in register 2 already
+abbrev pub returned : Option Comparison → ℕ → Bool
+returned None x = false
+returned (Some m) x = is_result m.form && nat_eq m.result x
+
+abbrev pub return_code : (returned : Bool) → Source → List Plain
+return_code true x = []
+return_code false x = carry 2 x

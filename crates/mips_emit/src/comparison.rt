@@ -1,4 +1,4 @@
-// Comparisons that are one with the branch on their result.
+// Operators that are one with the exit behind them: comparisons with a branch on their result, any with a return of it.
 
 ghost use Rattle.std.specs.Prelude.{◌≡◌, ◌++◌, Some, OnOk};
 ghost use Rattle.mblock.specs.declared.exit.Exit.TheVariants.{BranchPair, BranchZero};
@@ -6,7 +6,7 @@ ghost use Rattle.rtl.specs.declared.operator.Op.TheVariants.{LtS, LeS};
 ghost use Rattle.mips_emit.specs.Frames.{IsReachable};
 ghost use Rattle.mips_emit.specs.Locations.{facts_of, locations, known_in, operand, FitsSource};
 ghost use Rattle.mips_emit.specs.Comparisons.{is_known_zero, is_immediate, opposite_if, form_of, opposite_op, comparison_code, comparison_exit};
-ghost use Rattle.mips_emit.specs.Comparisons.{is_asked, is_passing, compared, comparison_of, FitsComparison, tested};
+ghost use Rattle.mips_emit.specs.Comparisons.{is_asked, form_for, is_passing, is_result, returned, compared, comparison_of, FitsComparison, tested};
 
 use crate::facts::{Knowledge, is_lasting, known_word, operand};
 use crate::location::{Location, Source, locate, register};
@@ -18,7 +18,7 @@ use mips_isa::{PairTest, Plain, Reg, ZeroTest};
 use rtl::{Op, RInst, Register};
 use std::alloc::AllocError;
 
-/// How a branch tells the result of a comparison.
+/// How a branch tells the result of a comparison, or a return has that of an operator.
 #[derive(Clone, Copy, Debug, PartialEq, Eq)]
 pub enum Form {
     /// It tests both operands.
@@ -31,9 +31,22 @@ pub enum Form {
     ByResult,
     /// It tests the result of the opposite comparison of turned operands, in register 3.
     ByOpposite,
+    /// No branch: the result is returned, in register 2.
+    InResult,
 }
 
-/// A comparison whose result nothing but the branch behind it takes, so that it is in no register: the words of its operands
+/// By which pseudo-register a block is left.
+#[derive(Clone, Copy, Debug, PartialEq, Eq)]
+pub enum Asked {
+    /// By none.
+    Nothing,
+    /// By a branch on this one.
+    Branched(Register),
+    /// By a return of this one.
+    Returned(Register),
+}
+
+/// An operator whose result nothing but the branch or return behind it takes, so that it is in no home: the words of its operands
 /// that are known, and the operands.
 #[derive(Clone, Copy, Debug, PartialEq, Eq)]
 pub struct Comparison {
@@ -157,6 +170,7 @@ pub(crate) fn emit_comparison(code: &mut Vec<Plain>, m: &Comparison) -> Result<(
             let op = opposite_op(m.op);
             emit_op(code, op, rd, m.right, m.left, &m.y, &m.x)?;
         }
+        Form::InResult => emit_op(code, m.op, Reg::RESULT, m.left, m.right, &m.x, &m.y)?,
     }
     Ok(())
 }
@@ -199,16 +213,29 @@ pub fn comparison_exit(m: &Comparison, then: BlockNumber, other: BlockNumber) ->
         Form::OnRight(test) => on_sign(test, right, then, other),
         Form::ByResult => on_pair(PairTest::NotEqual, truth, Reg::ZERO, then, other),
         Form::ByOpposite => on_pair(PairTest::Equal, truth, Reg::ZERO, then, other),
+        Form::InResult => on_pair(PairTest::NotEqual, Reg::RESULT, Reg::ZERO, then, other),
     }
 }
 
 // Whether the branch behind goes by this result.
-fn is_asked(asked: Option<Register>, d: Register) -> bool
+fn is_asked(asked: Asked, d: Register) -> bool
     ensures { result ≡ is_asked asked d }
 {
     match asked {
-        None => false,
-        Some(c) => c == d,
+        Asked::Nothing => false,
+        Asked::Branched(c) => c == d,
+        Asked::Returned(c) => c == d,
+    }
+}
+
+// How an exit takes the result of an operator, if it does.
+fn form_for(asked: Asked, op: Op, left: Option<u32>, right: Option<u32>) -> Option<Form>
+    ensures { result ≡ form_for asked op left right }
+{
+    match asked {
+        Asked::Nothing => None,
+        Asked::Branched(_) => form_of(op, left, right),
+        Asked::Returned(_) => Some(Form::InResult),
     }
 }
 
@@ -229,6 +256,7 @@ fn is_passing(place: Option<Location>) -> bool
 fn compared(
     facts: &Knowledge,
     frame: &Frame,
+    asked: Asked,
     op: Op,
     d: Register,
     a: Register,
@@ -237,14 +265,14 @@ fn compared(
     requires { IsReachable frame.now }
     ensures value { result ≡ compared d op (known_in (facts_of facts.now) a) (known_in (facts_of facts.now) b)
         (operand (locations frame.now) (facts_of facts.now) a) (operand (locations frame.now) (facts_of facts.now) b)
-        (form_of op (known_in (facts_of facts.now) a) (known_in (facts_of facts.now) b)) }
+        (form_for asked op (known_in (facts_of facts.now) a) (known_in (facts_of facts.now) b)) }
     ensures fits { FitsComparison result }
 {
     let left = known_word(facts, a);
     let right = known_word(facts, b);
     let x = operand(facts, frame, a);
     let y = operand(facts, frame, b);
-    match form_of(op, left, right) {
+    match form_for(asked, op, left, right) {
         None => None,
         Some(form) => Some(Comparison {
             result: d,
@@ -258,11 +286,11 @@ fn compared(
     }
 }
 
-/// An instruction that is one with the branch behind it, which goes by the pseudo-register asked for.
+/// An instruction that is one with the exit behind it, which goes by the pseudo-register asked for.
 pub(crate) fn comparison_of(
     facts: &Knowledge,
     frame: &Frame,
-    asked: Option<Register>,
+    asked: Asked,
     inst: &RInst,
 ) -> Option<Comparison>
     requires { IsReachable frame.now }
@@ -272,7 +300,7 @@ pub(crate) fn comparison_of(
     match inst {
         RInst::Bin(op, d, a, b) => {
             if is_asked(asked, *d) && is_passing(locate(frame, *d)) {
-                compared(facts, frame, *op, *d, *a, *b)
+                compared(facts, frame, asked, *op, *d, *a, *b)
             } else {
                 None
             }
@@ -291,5 +319,25 @@ pub fn tested(comparison: &Option<Comparison>, c: Register) -> Option<Comparison
     match comparison {
         None => None,
         Some(m) => { if m.result == c { Some(*m) } else { None } }
+    }
+}
+
+// Whether it is a returned result.
+fn is_result(form: Form) -> bool
+    ensures { result ≡ is_result form }
+{
+    match form {
+        Form::InResult => true,
+        _ => false,
+    }
+}
+
+/// Whether a pseudo-register is in register 2 already.
+pub fn returned(comparison: &Option<Comparison>, x: Register) -> bool
+    ensures { result ≡ returned comparison.now x }
+{
+    match comparison {
+        None => false,
+        Some(m) => is_result(m.form) && m.result == x,
     }
 }

@@ -6,12 +6,13 @@ ghost use Rattle.words.specs.Words.{wrap};
 ghost use Rattle.rtl.specs.Programs.{IsInst};
 ghost use Rattle.mips_emit.specs.declared.location.Location.TheVariants.{Held};
 ghost use Rattle.mips_emit.specs.Frames.{IsReachable};
+ghost use Rattle.mips_emit.specs.declared.comparison.Asked.TheVariants.{Nothing};
 ghost use Rattle.mips_emit.specs.Locations.{facts_of, locations, word_source, operand, known_after};
 ghost use Rattle.mips_emit.specs.Comparisons.{FitsComparison, next_code, last_after, no_last, code_of_insts};
 ghost use Rattle.mips_emit.specs.Elements.{AreStarts, width_of};
 ghost use Rattle.mips_emit.specs.Code.{const_code, put_at, bin_code, load_code, store_code, inst_code};
 
-use crate::comparison::{Comparison, comparison_of, emit_comparison};
+use crate::comparison::{Asked, Comparison, comparison_of, emit_comparison};
 use crate::element::{direct, element_load, element_store, emit_element};
 use crate::facts::{Knowledge, Last, fresh_of, is_lasting, known_word, last_with, learn, operand};
 use crate::location::{Location, locate, register, word_source};
@@ -215,22 +216,22 @@ fn emit_next(
     Ok(())
 }
 
-// What the branch asks for, if it stands right behind.
-fn asked_if(is_last: bool, asked: Option<Register>) -> Option<Register>
-    ensures { result ≡ (if is_last then asked else None) }
+// What the exit asks for, if it stands right behind.
+fn asked_if(is_last: bool, asked: Asked) -> Asked
+    ensures { result ≡ (if is_last then asked else Nothing) }
 {
-    if is_last { asked } else { None }
+    if is_last { asked } else { Asked::Nothing }
 }
 
-/// Several instructions, and what is known after them and left for an exit, where that is a branch by the pseudo-register
-/// asked for, or none; an Err is refused memory.
+/// Several instructions, and what is known after them and left for an exit, where that goes by the pseudo-register
+/// asked for; an Err is refused memory.
 pub fn emit_insts(
     code: &mut Vec<Plain>,
     facts: &mut Knowledge,
     globals: &[RGlobal],
     starts: &[u32],
     frame: &Frame,
-    asked: Option<Register>,
+    asked: Asked,
     insts: &[RInst],
 ) -> Result<Last, AllocError>
     requires frame { IsReachable frame.now }

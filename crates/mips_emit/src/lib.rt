@@ -21,7 +21,8 @@
 //!   lemma over every state that holds homes, frames and data): pseudo-registers are read and written in place, words
 //!   that are known in the block become immediates, and register 28 reaches the first 65,536 bytes of data.
 //! - A comparison at the end of a block whose result only the branch behind it reads is one with that branch: its code
-//!   (`comparison_code`) leaves what the branch (`comparison_exit`) tests, and no result (`compares`, a lemma likewise).
+//!   (`comparison_code`) leaves what the branch (`comparison_exit`) tests, and no result. The result of an operator that
+//!   only the return behind it reads is computed into register 2 (`compares`, a lemma likewise).
 //! - Each limit is the number that `specs/Numbers.antt` tells (`limits_are_these_numbers`).
 #![tactic(auto)]
 
@@ -36,7 +37,7 @@ mod location;
 mod operation;
 mod transfer;
 
-pub use comparison::{Comparison, Form, comparison_exit, tested};
+pub use comparison::{Asked, Comparison, Form, comparison_exit, returned, tested};
 pub use constant::{emit_constant, emit_load_word, emit_store_word};
 pub use exit::{emit_arguments, emit_arrival, emit_departure};
 pub use facts::{Fact, Knowledge, Last, last_operand};

@@ -11,6 +11,7 @@ use Rattle.rtl.specs.declared.block.RBlock.{RBlock}
 use Rattle.rtl.specs.declared.block.RGlobal.{RGlobal}
 use Rattle.mips_homes.specs.declared.homed.Frame.{Frame}
 use Rattle.mips_emit.specs.declared.facts.Last.{Last}
+use Rattle.mips_emit.specs.declared.comparison.Asked.{Asked}
 use Rattle.mips_emit.specs.Locations.{Locations, locations, Facts, no_facts, known_after}
 use Rattle.mips_emit.specs.Code.{load_word_at, store_word_at, arrive}
 use Rattle.mips_emit.specs.Comparisons.{insts_code, last_after, no_last}
@@ -109,7 +110,7 @@ saved_number rs i range lt =
 
 -- a block, from the parts of what was made
 pub block_made : (globals : List RGlobal) (starts entry place : ℕ → ℕ) (leaf : Bool) (f : Frame) (head : List Plain) (n : ℕ) (b : RBlock)
-    (insts : List RInst) (asked : Option ℕ) (last : Last) (facts0 facts1 facts2 : Facts) (code0 codeh code1 code2 : List Plain) (x : Exit) (made : BlockParts)
+    (insts : List RInst) (asked : Asked) (last : Last) (facts0 facts1 facts2 : Facts) (code0 codeh code1 code2 : List Plain) (x : Exit) (made : BlockParts)
     → code0 ≡ [] → codeh ≡ code0 ++ head → facts0 ≡ no_facts → insts ≡ b.insts.items → facts2 ≡ facts1 → asked ≡ asked_of b.exit
     → last ≡ last_after (locations f) asked facts0 insts no_last
     → code1 ≡ codeh ++ insts_code globals starts (locations f) asked facts0 insts [] → facts1 ≡ known_after (locations f) insts facts0
@@ -119,7 +120,7 @@ block_made globals starts entry place leaf f head n b insts asked last facts0 fa
     let known : facts2 ≡ known_after (locations f) b.insts.items no_facts = f2 ∙ ek ∙ ap (known_after (locations f) insts) f0 ∙ ap (λ is. known_after (locations f) is no_facts) is in
     let last_one = last_after (locations f) (asked_of b.exit) no_facts b.insts.items no_last in
     let new' : last ≡ last_after (locations f) (asked_of b.exit) no_facts b.insts.items no_last = new
-    ∙ ap₂ (λ (a : Option ℕ) (l : Facts). last_after (locations f) a l insts no_last) a_is f0
+    ∙ ap₂ (λ (a : Asked) (l : Facts). last_after (locations f) a l insts no_last) a_is f0
     ∙ ap (λ is. last_after (locations f) (asked_of b.exit) no_facts is no_last) is in
     let exit : x ≡ exit_of entry place f (known_after (locations f) b.insts.items no_facts) last_one n b.exit = ex
     ∙ ap₂ (λ (known : Facts) (last : Last). exit_of entry place f known last n b.exit) known new' in
@@ -127,7 +128,7 @@ block_made globals starts entry place leaf f head n b insts asked last facts0 fa
     let all : code2 ≡ head ++ insts_code globals starts (locations f) (asked_of b.exit) no_facts b.insts.items tail =
     e2 ∙ ap₂ (λ (known : Facts) (last : Last). code1 ++ exit_code leaf f known last b.exit) known new'
     ∙ ap (λ l. l ++ tail) (e1 ∙ ap (λ l. l ++ insts_code globals starts (locations f) asked facts0 insts []) (eh ∙ ap (λ l. l ++ head) e0)
-    ∙ ap₂ (λ (a : Option ℕ) (l : Facts). head ++ insts_code globals starts (locations f) a l insts []) a_is f0)
+    ∙ ap₂ (λ (a : Asked) (l : Facts). head ++ insts_code globals starts (locations f) a l insts []) a_is f0)
     ∙ append_assoc head (insts_code globals starts (locations f) (asked_of b.exit) no_facts insts []) tail
     ∙ ap (λ l. head ++ l) (insts_behind globals starts (locations f) (asked_of b.exit) no_facts insts tail
     ∙ ap (λ is. insts_code globals starts (locations f) (asked_of b.exit) no_facts is tail) is) in

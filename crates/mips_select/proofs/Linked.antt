@@ -16,7 +16,7 @@ use Rattle.mips_homes.specs.declared.homed.Homed.{Homed}
 use Rattle.mips_emit.specs.declared.facts.Last.{Last}
 use Rattle.mips_emit.specs.declared.location.Source.{Source}
 use Rattle.mips_emit.specs.declared.comparison.Form.{Form}
-use Rattle.mips_emit.specs.declared.comparison.Form.TheVariants.{OnPair, OnLeft, OnRight, ByResult, ByOpposite}
+use Rattle.mips_emit.specs.declared.comparison.Form.TheVariants.{OnPair, OnLeft, OnRight, ByResult, ByOpposite, InResult}
 use Rattle.mips_emit.specs.declared.comparison.Comparison.{Comparison}
 use Rattle.mips_emit.specs.Locations.{Facts, locations, last_operand}
 use Rattle.mips_emit.specs.Comparisons.{exit_by_form, tested, branch_exit}
@@ -110,6 +110,7 @@ module _ (globals : List RGlobal) (starts entry : ℕ → ℕ) (functions : List
     compared_goes (OnRight test) x y t e at_t at_e = (at_t, at_e)
     compared_goes ByResult x y t e at_t at_e = (at_t, at_e)
     compared_goes ByOpposite x y t e at_t at_e = (at_t, at_e)
+    compared_goes InResult x y t e at_t at_e = (at_t, at_e)
 
     branch_goes : (test : Option Comparison) (x : Source) (t e : ℕ) → IsFrom start size t → IsFrom start size e → GoesWithin bound start size (branch_exit test x t e)
     branch_goes None x t e at_t at_e = (at_t, at_e)

@@ -31,21 +31,23 @@ use Rattle.mips_homes.specs.declared.homed.Frame.{Frame}
 use Rattle.mips_homes.specs.declared.homed.Home.{Home}
 use Rattle.mips_homes.specs.declared.homed.Homed.{Homed}
 use Rattle.mips_emit.specs.declared.comparison.Form.{Form}
-use Rattle.mips_emit.specs.declared.comparison.Form.TheVariants.{OnPair, OnLeft, OnRight, ByResult, ByOpposite}
+use Rattle.mips_emit.specs.declared.comparison.Form.TheVariants.{OnPair, OnLeft, OnRight, ByResult, ByOpposite, InResult}
+use Rattle.mips_emit.specs.declared.comparison.Asked.{Asked}
+use Rattle.mips_emit.specs.declared.comparison.Asked.TheVariants.{Nothing, Branched, Returned}
 use Rattle.mips_emit.specs.declared.comparison.Comparison.{Comparison}
 use Rattle.mips_emit.specs.declared.facts.Last.{Last}
 use Rattle.mips_emit.specs.declared.location.Source.{Source}
 use Rattle.mips_emit.specs.Locations.{Locations, Facts, no_facts, location_at, known_in, locations, learned, known_after, fresh_of, last_operand}
 use Rattle.mips_emit.specs.Code.{move_code, inst_code, fetch, seat, carry}
 use Rattle.mips_emit.specs.Comparisons.{comparison_code, exit_by_form, comparison_of, asked_last, next_code, last_with, no_last, last_after, insts_code}
-use Rattle.mips_emit.specs.Comparisons.{tested, branch_code, branch_exit}
+use Rattle.mips_emit.specs.Comparisons.{tested, branch_code, branch_exit, is_result, returned, return_code}
 use Rattle.mips_emit.specs.Frames.{IsFrame}
 use Rattle.mips_emit.proofs.Runs.{RunsTo, runs_none, runs_then, Point, At, Stopped, from, Leads, leads_nowhere, leads_then, leads_run, leads_exit}
 use Rattle.mips_emit.proofs.View.{read_register, word_at, set, set_words, put_here, put_other, moves}
 use Rattle.mips_emit.proofs.Stands.{Stored, stack_room, Stands}
 use Rattle.mips_emit.proofs.Homes.{passes, hidden, hide, IsLazy, none_lazy, fewer_stand, IsLast, none_last, frame_homes, words_kept, call_kept, IsKnown, nothing_known, last_means, fetches, carries, sets_kept, passing_kept, arrives}
 use Rattle.mips_emit.proofs.Insts.{value_or_failed, performs}
-use Rattle.mips_emit.proofs.Comparing.{none_asked, asked_result, waiting, compares}
+use Rattle.mips_emit.proofs.Comparing.{none_asked, asked_result, returned_result, waiting, compares}
 use Rattle.mips_select.specs.declared.limits.TheConstants.{STACK_BYTES}
 use Rattle.mips_select.specs.Data.{padded_bytes, start_of}
 use Rattle.mips_select.specs.Code.{saves, frame_bytes, link_save, lowers, parameters_code, prologue, epilogue, asked_of, exit_code, exit_of, code_insts}
@@ -447,6 +449,14 @@ module _ (h : Homed) (depth : ℕ) (blocks : List BlockParts) (ok : IsSelected h
           (λ r' slots' s' e st' same. f r' slots' s' e
           (all_shown ok.most total gs starts (location_at (slice_get w.frame.homes.items x)) r' g (stored_frame false w.frame slots' w.aside l ∷ frames_of ws ls) s' st')))
 
+  first_true : (a b : Bool) → (a && b) ≡ true → a ≡ true
+  first_true true b e = refl
+  first_true false b e = absurd (true≢false (sym e))
+
+  second_true : (a b : Bool) → (a && b) ≡ true → b ≡ true
+  second_true true b e = e
+  second_true false b e = absurd (true≢false (sym e))
+
   branch_words : (place : ℕ → ℕ) (x y v : ℕ) (b : Bool) → (if not b then place y else place x) ≡ place (if b then x else y)
   branch_words place x y v true = refl
   branch_words place x y v false = refl
@@ -482,9 +492,10 @@ module _ (h : Homed) (depth : ℕ) (blocks : List BlockParts) (ok : IsSelected h
   goes_by (OnRight test) x y t e k s out n = refl
   goes_by ByResult x y t e k s out n = refl
   goes_by ByOpposite x y t e k s out n = refl
+  goes_by InResult x y t e k s out n = refl
 
   -- behind a comparison the exit doesn't go by what is known
-  asked_test : (at : Locations) (facts : Facts) (c : ℕ) (i : RInst) (m : Comparison) → comparison_of at facts (Some c) i ≡ Some m
+  asked_test : (at : Locations) (facts : Facts) (c : ℕ) (i : RInst) (m : Comparison) → comparison_of at facts (Branched c) i ≡ Some m
       → tested (Some m) c ≡ Some m
   asked_test at facts c i m e = ap (λ b. if b then Some m else None) (asked_result at facts c i m e)
 
@@ -497,7 +508,8 @@ module _ (h : Homed) (depth : ℕ) (blocks : List BlockParts) (ok : IsSelected h
       ∙ sym (ap (λ o. branch_exit o (last_operand (locations f) known' None c) (place t) (place e)) test)
   same_exit entry place f facts known known' i m n (Goto b) is = absurd (none_asked (locations f) facts i m is)
   same_exit entry place f facts known known' i m n (Call g xs d next) is = absurd (none_asked (locations f) facts i m is)
-  same_exit entry place f facts known known' i m n (Return o) is = absurd (none_asked (locations f) facts i m is)
+  same_exit entry place f facts known known' i m n (Return None) is = absurd (none_asked (locations f) facts i m is)
+  same_exit entry place f facts known known' i m n (Return (Some x)) is = refl
   same_exit entry place f facts known known' i m n (Out b next) is = absurd (none_asked (locations f) facts i m is)
 
   same_code : (leaf : Bool) (f : Frame) (facts known known' : Facts) (i : RInst) (m : Comparison) (x : RExit)
@@ -509,7 +521,11 @@ module _ (h : Homed) (depth : ℕ) (blocks : List BlockParts) (ok : IsSelected h
       ∙ sym (ap (λ o. branch_code o (last_operand (locations f) known' None c)) test)
   same_code leaf f facts known known' i m (Goto b) is = absurd (none_asked (locations f) facts i m is)
   same_code leaf f facts known known' i m (Call g xs d next) is = absurd (none_asked (locations f) facts i m is)
-  same_code leaf f facts known known' i m (Return o) is = absurd (none_asked (locations f) facts i m is)
+  same_code leaf f facts known known' i m (Return None) is = absurd (none_asked (locations f) facts i m is)
+  same_code leaf f facts known known' i m (Return (Some x)) is =
+      let test = returned_result (locations f) facts x i m is in
+      ap (λ b. return_code b (last_operand (locations f) known None x) ++ epilogue leaf f) test
+      ∙ sym (ap (λ b. return_code b (last_operand (locations f) known' None x) ++ epilogue leaf f) test)
   same_code leaf f facts known known' i m (Out b next) is = absurd (none_asked (locations f) facts i m is)
 
   -- an exit
@@ -616,20 +632,38 @@ module _ (h : Homed) (depth : ℕ) (blocks : List BlockParts) (ok : IsSelected h
       (λ v none. absurd (none-some v none)) e.stands waits (code_leads k (epilogue leaf a.frame) s e.to out e.runs)
   exits leaf (Return (Some x)) facts last a k link below place head ws r g out s c kn lz new placed frame waits st =
       value_or_failed (λ run. Reach 1 (At k (exit_code leaf a.frame facts last (Return (Some x))) s out) run) (read_home a.frame.homes.items r a.slots x) out
-      (λ v. state_after_return (Some v) a (lasting r) ws g out) tt (λ v read_v.
-      let o = last_operand (locations a.frame) facts last.fresh x in
-      let means = last_means ok.most total gs starts facts.lazy r g (stored_frame leaf a.frame a.slots a.aside link) (frames_of ws below) s st lz (known_in facts)
-      last.fresh a.frame.homes.items x v (frame_homes ok.most a.frame frame) kn new.fresh read_v in
-      let one = carries ok.most total gs starts (hide facts.lazy r) g (stored_frame leaf a.frame a.slots a.aside link) (frames_of ws below) s st 2 v o
-      (record { low = omega arith; high = omega arith }) means in
-      let st1 = sets_kept ok.most total gs starts (hide facts.lazy r) g (stored_frame leaf a.frame a.slots a.aside link) (frames_of ws below) s st (carry 2 o) 2 v
-      (omega arith) one in
-      let s1 : State = record s { regs = one.regs } in
-      let e = leaves_frame ok.most total gs starts ok.small (lasting r) g (frames_of ws below) s1 leaf a.frame a.slots a.aside link frame
-      (linked_frames ws below) (settled facts.lazy r g (stored_frame leaf a.frame a.slots a.aside link ∷ frames_of ws below) s1 lz st1) in
-      let code = carry 2 o ++ epilogue leaf a.frame in
-      returns (At k code s out) (length code) k c.form a ws link below (Some v) (lasting r) g out e.to c.there c.exit e.link_is (λ w is. e.same 2 (omega arith)
-      ∙ one.here ∙ same_Some v w is) e.stands waits (code_leads k code s e.to out (runs_then one.runs e.runs)))
+      (λ v. state_after_return (Some v) a (lasting r) ws g out) tt (λ v read_v. gives v read_v (returned last.comparison x) refl)
+    where
+      there_already : (v : ℕ) → read_home a.frame.homes.items r a.slots x ≡ Some v → (p : Option Comparison) → last.comparison ≡ p → returned p x ≡ true
+          → s.regs 2 ≡ v
+      there_already v read_v None is t = absurd (true≢false (sym t))
+      there_already v read_v (Some m) is t =
+          new.result m v is (first_true (is_result m.form) (nat_eq m.result x) t)
+          (ap (read_home a.frame.homes.items r a.slots) (eqb-true m.result x (second_true (is_result m.form) (nat_eq m.result x) t)) ∙ read_v)
+
+      gives : (v : ℕ) → read_home a.frame.homes.items r a.slots x ≡ Some v → (b : Bool) → returned last.comparison x ≡ b
+          → Reach 1 (At k (return_code b (last_operand (locations a.frame) facts last.fresh x) ++ epilogue leaf a.frame) s out)
+          (state_after_return (Some v) a (lasting r) ws g out)
+      gives v read_v true is =
+          let two = there_already v read_v last.comparison refl is in
+          let e = leaves_frame ok.most total gs starts ok.small (lasting r) g (frames_of ws below) s leaf a.frame a.slots a.aside link frame
+          (linked_frames ws below) (settled facts.lazy r g (stored_frame leaf a.frame a.slots a.aside link ∷ frames_of ws below) s lz st) in
+          returns (At k (epilogue leaf a.frame) s out) (length (epilogue leaf a.frame)) k c.form a ws link below (Some v) (lasting r) g out e.to c.there c.exit
+          e.link_is (λ w is. e.same 2 (omega arith) ∙ two ∙ same_Some v w is) e.stands waits (code_leads k (epilogue leaf a.frame) s e.to out e.runs)
+      gives v read_v false is =
+          let o = last_operand (locations a.frame) facts last.fresh x in
+          let means = last_means ok.most total gs starts facts.lazy r g (stored_frame leaf a.frame a.slots a.aside link) (frames_of ws below) s st lz
+          (known_in facts) last.fresh a.frame.homes.items x v (frame_homes ok.most a.frame frame) kn new.fresh read_v in
+          let one = carries ok.most total gs starts (hide facts.lazy r) g (stored_frame leaf a.frame a.slots a.aside link) (frames_of ws below) s st 2 v o
+          (record { low = omega arith; high = omega arith }) means in
+          let st1 = sets_kept ok.most total gs starts (hide facts.lazy r) g (stored_frame leaf a.frame a.slots a.aside link) (frames_of ws below) s st (carry 2 o) 2 v
+          (omega arith) one in
+          let s1 : State = record s { regs = one.regs } in
+          let e = leaves_frame ok.most total gs starts ok.small (lasting r) g (frames_of ws below) s1 leaf a.frame a.slots a.aside link frame
+          (linked_frames ws below) (settled facts.lazy r g (stored_frame leaf a.frame a.slots a.aside link ∷ frames_of ws below) s1 lz st1) in
+          let code = carry 2 o ++ epilogue leaf a.frame in
+          returns (At k code s out) (length code) k c.form a ws link below (Some v) (lasting r) g out e.to c.there c.exit e.link_is
+          (λ w is. e.same 2 (omega arith) ∙ one.here ∙ same_Some v w is) e.stands waits (code_leads k code s e.to out (runs_then one.runs e.runs))
   exits true (Call f xs result_to next) facts last a k link below place head ws r g out s c kn lz new placed frame waits st = absurd (true≢false ((c.leads_on).0).0)
   exits false (Call f xs result_to next) facts last a k link below place head ws r g out s c kn lz new placed frame waits st =
       value_or_failed (λ run. Reach 1 start run) (read_homes a.frame.homes.items r a.slots xs.items) out _ tt (λ vs read_vs.
@@ -704,7 +738,7 @@ module _ (h : Homed) (depth : ℕ) (blocks : List BlockParts) (ok : IsSelected h
   advances (Running r (a ∷ ws) g out) p m =
       subst (λ p. Reach 1 p (step_at h depth a.code.insts a.code.exit a r ws g out)) (sym m.point) (step a.code.insts m.code)
     where
-      asked : Option ℕ
+      asked : Asked
       asked = asked_of a.code.exit
 
       at : List RInst → Facts → Last → State → Point

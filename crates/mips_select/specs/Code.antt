@@ -15,11 +15,13 @@ use Rattle.rtl.specs.declared.block.RGlobal.{RGlobal}
 use Rattle.rtl.specs.Meaning.{Code, code_of}
 use Rattle.mips_homes.specs.declared.homed.Frame.{Frame}
 use Rattle.mips_emit.specs.declared.facts.Last.{Last}
+use Rattle.mips_emit.specs.declared.comparison.Asked.{Asked}
+use Rattle.mips_emit.specs.declared.comparison.Asked.TheVariants.{Nothing, Branched, Returned}
 use Rattle.mips_emit.specs.Frames.{link_words}
 use Rattle.mips_emit.specs.Elements.{data_middle}
 use Rattle.mips_emit.specs.Locations.{Locations, locations, Facts, no_facts, known_after, last_operand}
 use Rattle.mips_emit.specs.Code.{constant, load_word_at, store_word_at, move_code, carry, arrive, arguments_code}
-use Rattle.mips_emit.specs.Comparisons.{insts_code, last_after, no_last, tested, branch_code, branch_exit}
+use Rattle.mips_emit.specs.Comparisons.{insts_code, last_after, no_last, tested, branch_code, branch_exit, returned, return_code}
 use Rattle.mips_select.specs.declared.heads.Head.{Head}
 use Rattle.mips_select.specs.declared.heads.Head.TheVariants.{Bare, Enters, Takes}
 
@@ -72,13 +74,14 @@ epilogue leaf f = (restores (4 * f.slots) f.saved.items ++ link_load leaf f) ++ 
 
 -- ---- exits
 
--- the pseudo-register by which a block is left, where that is by a branch
-abbrev pub asked_of : RExit → Option ℕ
-asked_of (Branch c t e) = Some c
-asked_of (Goto b) = None
-asked_of (Call g xs d next) = None
-asked_of (Return o) = None
-asked_of (Out x next) = None
+-- by which pseudo-register a block is left
+abbrev pub asked_of : RExit → Asked
+asked_of (Branch c t e) = Branched c
+asked_of (Return (Some x)) = Returned x
+asked_of (Return None) = Nothing
+asked_of (Goto b) = Nothing
+asked_of (Call g xs d next) = Nothing
+asked_of (Out x next) = Nothing
 
 -- what stands before an exit
 abbrev pub exit_code : Bool → Frame → Facts → Last → RExit → List Plain
@@ -86,7 +89,8 @@ exit_code leaf f facts last (Goto b) = []
 exit_code leaf f facts last (Branch c t e) = branch_code (tested last.comparison c) (last_operand (locations f) facts last.fresh c)
 exit_code leaf f facts last (Call g xs d next) = arguments_code (locations f) facts 4 xs.items
 exit_code leaf f facts last (Return None) = epilogue leaf f
-exit_code leaf f facts last (Return (Some x)) = carry 2 (last_operand (locations f) facts last.fresh x) ++ epilogue leaf f
+exit_code leaf f facts last (Return (Some x)) =
+    return_code (returned last.comparison x) (last_operand (locations f) facts last.fresh x) ++ epilogue leaf f
 exit_code leaf f facts last (Out x next) = carry 4 (last_operand (locations f) facts last.fresh x)
 
 -- an exit, where functions begin at `entry` and blocks stand at `place`; a call goes on at block n

@@ -4,7 +4,7 @@ ghost use Rattle.std.specs.Prelude.{◌≡◌, ◌+◌, ◌≤◌, ◌++◌, IfO
 ghost use Rattle.mblock.specs.declared.limits.TheConstants.{UNIT_BLOCKS};
 ghost use Rattle.mips_emit.specs.Frames.{IsReachable};
 ghost use Rattle.mips_emit.specs.Locations.{facts_of, locations, last_operand};
-ghost use Rattle.mips_emit.specs.Comparisons.{tested, branch_code, branch_exit};
+ghost use Rattle.mips_emit.specs.Comparisons.{tested, branch_code, branch_exit, returned, return_code};
 ghost use Rattle.mips_select.specs.Heads.{heads_in, count};
 ghost use Rattle.mips_select.specs.Code.{asked_of, exit_code, exit_of};
 ghost use Rattle.mips_select.specs.Emittable.{HasFewArguments};
@@ -15,8 +15,8 @@ use crate::numbers::{number, number_at};
 use crate::prologue::emit_epilogue;
 use mblock::{BlockNumber, Exit};
 use mips_emit::{
-    Knowledge, Last, comparison_exit, emit_arguments, emit_departure, emit_fetch, last_operand,
-    register, seat, tested,
+    Asked, Knowledge, Last, comparison_exit, emit_arguments, emit_departure, emit_fetch,
+    last_operand, register, returned, seat, tested,
 };
 use mips_homes::Frame;
 use mips_isa::{PairTest, Plain, Reg};
@@ -48,16 +48,17 @@ pub(crate) fn next_at(
     }
 }
 
-// The pseudo-register by which a block is left, where that is by a branch.
-pub(crate) fn asked_of(exit: &RExit) -> Option<Register>
+// By which pseudo-register a block is left.
+pub(crate) fn asked_of(exit: &RExit) -> Asked
     ensures { result ≡ asked_of exit.now }
 {
     match exit {
-        RExit::Goto(_) => None,
-        RExit::Branch(c, _, _) => Some(*c),
-        RExit::Call(_, _, _, _) => None,
-        RExit::Return(_) => None,
-        RExit::Out(_, _) => None,
+        RExit::Goto(_) => Asked::Nothing,
+        RExit::Branch(c, _, _) => Asked::Branched(*c),
+        RExit::Call(_, _, _, _) => Asked::Nothing,
+        RExit::Return(None) => Asked::Nothing,
+        RExit::Return(Some(x)) => Asked::Returned(*x),
+        RExit::Out(_, _) => Asked::Nothing,
     }
 }
 
@@ -91,6 +92,24 @@ fn emit_branch(
         }
         Some(m) => Ok(comparison_exit(&m, then, other)),
     }
+}
+
+// A pseudo-register into register 2, but where it is there already.
+fn emit_returned(
+    code: &mut Vec<Plain>,
+    facts: &Knowledge,
+    last: &Last,
+    frame: &Frame,
+    x: Register,
+) -> Result<(), AllocError>
+    requires { IsReachable frame.now }
+    ensures { OnOk result (code.new.items ≡ code.old.items ++ return_code (returned last.now.comparison x)
+        (last_operand (locations frame.now) (facts_of facts.now) last.now.fresh x)) }
+{
+    if !returned(&last.comparison, x) {
+        emit_departure(code, facts, last.fresh, frame, register(2), x)?;
+    }
+    Ok(())
 }
 
 // How a block is left, where functions begin at `entries` and blocks stand at `places`, and a call goes on at `next`: what
@@ -132,7 +151,7 @@ pub(crate) fn emit_exit(
             Ok(Exit::Return)
         }
         RExit::Return(Some(x)) => {
-            emit_departure(code, facts, last.fresh, frame, register(2), *x)?;
+            emit_returned(code, facts, last, frame, *x)?;
             emit_epilogue(code, frame, leaf)?;
             Ok(Exit::Return)
         }

@@ -1,15 +1,23 @@
 -- How many blocks the code of a statement, a function and a program takes, and how many pseudo-registers: one more than the
 -- greatest number that it takes. `free` is the number of the function's locals, the first register that is free.
-use Rattle.std.specs.Prelude.{◌≡◌, ℕ, ◌+◌, ◌<◌, ◌^◌, max, Bool, true, false, ◌||◌, ◌≤◌, All, sum_by, List, Option, Some, None}
+use Rattle.std.specs.Prelude.{◌≡◌, ℕ, ◌+◌, ◌<◌, ◌^◌, max, Bool, true, false, ◌||◌, ◌&&◌, not, ◌≤◌, All, sum_by, List, Option, Some, None}
 use Rattle.std.specs.Prelude.{if◌then◌else◌}
 use Rattle.c_typed.specs.declared.tree.Destination.{Destination}
 use Rattle.c_typed.specs.declared.tree.Destination.TheVariants.{Local, Global as Variable}
-use Rattle.c_typed.specs.Trees.{TypedStatement, TypedStatements, TypedFunction, empty, block, unset, assign, store, call}
+use Rattle.c_tree.specs.declared.tree.UnaryOp.TheVariants.{Not}
+use Rattle.c_tree.specs.declared.tree.BinaryOp.TheVariants.{Equal}
+use Rattle.c_typed.specs.Trees.{TypedExpression, unary, binary, TypedStatement, TypedStatements, TypedFunction, empty, block, unset, assign, store, call}
 use Rattle.c_typed.specs.Trees.{output, if_else, loop, break_loop, continue_loop, return_with, no_statements, more_statements}
 use Rattle.rtl.specs.declared.limits.TheConstants.{MAX_REGISTERS, MAX_BLOCKS}
 use Rattle.rtl_emit.specs.Sizes.{value_blocks, condition_blocks, arguments_blocks, value_registers, condition_registers, place_registers}
 use Rattle.rtl_emit.specs.Sizes.{next_free}
 use Rattle.rtl_emit.specs.Sizes.{operand_registers, operands_registers, places_registers, values_registers, globals_named, globals_named_in}
+
+-- a test of equality, which seldom holds
+abbrev pub is_equality : TypedExpression → Bool
+is_equality (unary Not k e) = true
+is_equality (binary Equal k l r) = true
+is_equality _ = false
 
 -- whether a `continue` of this loop stands in a statement
 abbrev mutual
@@ -97,7 +105,7 @@ abbrev mutual
   statement_registers (call to f es) free = max (receiver_registers to free) (max (places_registers es free) (values_registers es free))
   statement_registers (output e) free = operand_registers e free
   statement_registers (if_else e a b) free =
-      max (max (statement_registers a free) (statement_registers b free)) (condition_registers e (stays a) free)
+      max (max (statement_registers a free) (statement_registers b free)) (condition_registers e (stays a && not (is_equality e)) free)
   statement_registers (loop e last body) free =
       max (max (statement_registers last free) (statement_registers body free)) (condition_registers e true free)
   statement_registers (return_with (Some e)) free = operand_registers e free

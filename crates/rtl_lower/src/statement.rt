@@ -19,6 +19,7 @@ ghost use Rattle.rtl_lower.specs.Sound.{Suits, KeepsFit, KeepsFitAll};
 ghost use Rattle.rtl_lower.specs.Coded.{Receives, IsTurn, Coded, CodedAll};
 ghost use Rattle.rtl.specs.declared.block.RBlock.{RBlock};
 
+use c_tree::{BinaryOp, UnaryOp};
 use c_typed::{Destination, TypedExpression, TypedStatement};
 use rtl::{BlockNumber, MAX_REGISTERS, RBlock, RExit, RInst, Register};
 use rtl_emit::{
@@ -304,6 +305,17 @@ fn may_continue(s: &TypedStatement) -> bool
     }
 }
 
+// Whether a test is one of equality, which seldom holds.
+fn is_equality(e: &TypedExpression) -> bool
+    ensures { result ≡ Sizes.is_equality (typed_expression_of e.now) }
+{
+    match e {
+        TypedExpression::Unary(operator, _, _) => *operator == UnaryOp::Not,
+        TypedExpression::Binary(operator, _, _, _) => *operator == BinaryOp::Equal,
+        _ => false,
+    }
+}
+
 // Whether code goes on behind a statement: the likely side of a condition.
 fn stays(s: &TypedStatement) -> bool
     ensures { result ≡ Sizes.stays (statement_of s.now) }
@@ -435,7 +447,7 @@ pub(crate) fn statement(
             let targets = Targets {
                 yes: a_block,
                 no: b_block,
-                likely: stays(a),
+                likely: stays(a) && !is_equality(e),
             };
             let from = condition(alloc, blocks, e, targets, free)?;
             Ok(Continuation::Made(from))
