@@ -49,7 +49,8 @@ fn tell_source_fault<E: Complaints>(
     tell_placed(alloc, err, &fault, &place)
 }
 
-fn tell_build<E: Complaints>(
+/// The line of a build's fault, and below it where it lies, or what is limited.
+pub(crate) fn tell_build<E: Complaints>(
     alloc: Global,
     err: &mut E,
     source: &str,

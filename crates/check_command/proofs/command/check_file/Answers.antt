@@ -69,7 +69,7 @@ returns-clause-stopped g c = λ one.
     record {
       requests = _;
       text = check_fault_text c.in-Err-check.fault;
-      told = c.tell_placed.ensures.told;
+      told = c.tell_check.ensures.told;
       asked = asked_once answers _ _ (Read c.args.file.now text) (read_as answers _ _ _ _ text c.as_slice.ensures.value c.in-Ok.ensures.asked);
       means = faulty text c.in-Err-check.fault c.in-Err-check.ensures.fault;
     }
