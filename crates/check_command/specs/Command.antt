@@ -1,5 +1,7 @@
--- What `mcc check FILE` asks of its files, prints and ends by.
-use Rattle.std.specs.Prelude.{◌≡◌, ℕ, List, [], ◌∷◌, ◌++◌}
+-- What `mcc check` asks of its files, prints and ends by.
+use Rattle.std.specs.Prelude.{◌≡◌, ℕ, List, [], ◌∷◌, ◌++◌, All, Option}
+use Rattle.std.specs.Io.KnownBytes.{Appends}
+use Rattle.block_text.specs.Shown.{IsShown}
 use Rattle.commands.specs.Requests.{Request, reading_fault}
 use Rattle.commands.specs.declared.files.FileFault.{FileFault}
 use Rattle.commands.specs.Requests.Request.{Read, NotRead}
@@ -17,6 +19,23 @@ pub record Checks (file : List ℕ) (status : ℕ) (requests : List Request) (pr
   pub answer : CheckAnswer
   pub answered : IsAnswerTo text answer
   pub line : printed ≡ answer_text answer ++ 10 ∷ []
+  pub ends : status ≡ exit_status answer
+
+-- standard output took the answer's line, and lines of printable ASCII behind it
+pub record TookExplained (old new : Option (List ℕ)) (answer : CheckAnswer) : Type 0 where
+  pub more : List ℕ
+  pub took : Appends old new ((answer_text answer ++ 10 ∷ []) ++ more)
+  pub shown : All IsShown more
+
+-- the same with `--explain`: lines of printable ASCII stand behind the answer
+pub record Explains (file : List ℕ) (status : ℕ) (requests : List Request) (printed : List ℕ) : Type 0 where
+  pub text : List ℕ
+  pub asked : requests ≡ Read file text ∷ []
+  pub answer : CheckAnswer
+  pub answered : IsAnswerTo text answer
+  pub more : List ℕ
+  pub line : printed ≡ (answer_text answer ++ 10 ∷ []) ++ more
+  pub shown : All IsShown more
   pub ends : status ≡ exit_status answer
 
 -- the same where it ended by a fault, with the text that was told: of the file, of its text, or of standard output

@@ -2,11 +2,12 @@
 
 ghost use Rattle.std.specs.Prelude.{◌≡◌, ◌≢◌, ◌≤◌, [], ◌∷◌, ◌++◌, IfOk, IfErr, OnOk};
 ghost use Rattle.std.specs.Io.KnownBytes.{Appends};
-ghost use Rattle.check_command.specs.Command.{Checks, StopsCheck};
+ghost use Rattle.check_command.specs.Command.{Checks, Explains, StopsCheck, TookExplained};
 ghost use Rattle.check_command.specs.Texts.{answer_text, check_fault_text, exit_status};
 ghost use Rattle.commands.specs.Requests.{Asks, Does, IsSent, TellsLine};
 ghost use Rattle.commands.specs.declared.fault.HostFault.TheVariants.{CannotWrite};
 
+use crate::explain::explained;
 use crate::lines::explain_line;
 use crate::verdicts::{CheckAnswer, CheckFault, check};
 use commands::{
@@ -63,6 +64,37 @@ fn about(alloc: Global, text: &[u8], fault: CheckFault) -> Option<Explanation> {
     }
 }
 
+/// The answer, and lines behind it.
+fn print_more<W: Output>(out: &mut W, answer: &CheckAnswer, more: &[u8]) -> io::Result<()>
+    ensures sent { OnOk result (IsSent W.sends out.new) }
+    ensures lines { OnOk result (Appends (W.contents out.old) (W.contents out.new) ((answer_text answer.now ++ 10 ∷ []) ++ more.now)) }
+{
+    writeln!(out, "{answer}")?;
+    out.write_all(more)?;
+    out.send()
+}
+
+/// The answer and why it isn't `same`, printed; its status.
+fn print_explained<W: Output>(
+    alloc: Global,
+    out: &mut W,
+    text: &[u8],
+    answer: &CheckAnswer,
+) -> Result<u8, HostFault>
+    ensures took { OnOk result (TookExplained (W.contents out.old) (W.contents out.new) answer.now) }
+    ensures sent { OnOk result (IsSent W.sends out.new) }
+    ensures status { IfOk result (λ s. s ≡ exit_status answer.now) }
+    ensures not_wrong_words { IfOk result (λ s. s ≢ 2) }
+{
+    let Ok(more) = explained(alloc, text, answer) else {
+        return Err(HostFault::NoMemory);
+    };
+    match print_more(out, answer, more.as_slice()) {
+        Ok(()) => Ok(status_of(answer)),
+        Err(_) => Err(HostFault::CannotWrite),
+    }
+}
+
 /// The line of a fault of a text, and below it where it lies and what is said of it.
 pub fn tell_check<E: Complaints>(
     alloc: Global,
@@ -105,6 +137,35 @@ pub fn check_file<F: Files, W: Output, E: Complaints>(
     };
     match check(alloc, text.as_slice()) {
         Ok(answer) => match print_answer(out, &answer) {
+            Ok(status) => status,
+            Err(fault) => tell(err, &fault),
+        },
+        Err(fault) => tell_check(alloc, err, file, text.as_slice(), fault),
+    }
+}
+
+/// The verdict on the text of a file, printed, and behind it why it isn't `same`; the answer is the exit status.
+pub fn explain_file<F: Files, W: Output, E: Complaints>(
+    alloc: Global,
+    file: &str,
+    files: &mut F,
+    out: &mut W,
+    err: &mut E,
+) -> u8
+    ensures most { result ≤ 3 }
+    ensures not_wrong_words { result ≢ 2 }
+    ensures answered { result ≢ 1
+        → Does F.answers files.old files.new (W.contents out.old) (W.contents out.new) (Explains file.now result) }
+    ensures sent { result ≢ 1 → IsSent W.sends out.new }
+    ensures quiet { result ≢ 1 → err.new ≡ err.old }
+    ensures stopped { result ≡ 1 → Asks F.answers files.old files.new E.tells err.old err.new (StopsCheck file.now) }
+{
+    let text = match read_file(alloc, file, files) {
+        Ok(text) => text,
+        Err(fault) => return tell(err, &fault),
+    };
+    match check(alloc, text.as_slice()) {
+        Ok(answer) => match print_explained(alloc, out, text.as_slice(), &answer) {
             Ok(status) => status,
             Err(fault) => tell(err, &fault),
         },

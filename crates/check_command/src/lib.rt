@@ -2,7 +2,9 @@
 //!
 //! `check` is its whole path: the answer is the verdict of the block and the order that the text spells, or the fault of the
 //! text (`specs/Checks.antt`). `check_file` is the command over files and streams: all that it asks of them, prints and ends by
-//! (`specs/Command.antt`); `print_answer` and `tell_check` are its two ends, over a stream alone. What answers and faults print, and the status of a verdict, stand in `specs/Texts.antt`.
+//! (`specs/Command.antt`); `explain_file` is the same with `--explain`, which says behind the answer why it isn't `same`, and
+//! `print_answer` and `tell_check` are its two ends, over a stream alone. What answers and faults print, and the status of a
+//! verdict, stand in `specs/Texts.antt`.
 //!
 //! What is promised:
 //! - `check_command::check`, which `driver` exports too: the answer is the verdict on every block and order that the
@@ -11,12 +13,15 @@
 //!   one base fill it where a load behind each sees them all, since each goes inside all others. The longest texts of
 //!   stores, in rising and in falling order, have a verdict (tested). Faults: size first, then the line; 30 where memory
 //!   was refused, and never for a text that is too long.
+//! - `check_command::explain_file` prints the same answer with the same status, and behind it lines of printable ASCII, of
+//!   which nothing else is stated (`Explains`).
 #![tactic(auto)]
 
 mod command;
+mod explain;
 mod lines;
 mod texts;
 mod verdicts;
 
-pub use command::{check_file, print_answer, tell_check};
+pub use command::{check_file, explain_file, print_answer, tell_check};
 pub use verdicts::{CheckAnswer, CheckFault, check};

@@ -1,11 +1,11 @@
 -- The command line of `mcc`, and what its words ask for.
-use Rattle.std.specs.Prelude.{◌≡◌, ◌<◌, ◌≤◌, ◌^◌, ℕ, List, Option, Some, None, Bool, true, false, codes}
+use Rattle.std.specs.Prelude.{◌≡◌, ◌<◌, ◌≤◌, ◌^◌, ℕ, List, Option, Some, None, Bool, true, false, codes, option_map}
 use Rattle.std.specs.Str.Parse.{IsNumeral, digits_value, without_leading_plus}
 use Rattle.clap.specs.Words.{App, Row, Rule, Text, first_of, one_of, new_app, new_rule, subcommand_of, with_rule, with_subcommand}
 use Rattle.clap.specs.declared.builder.ArgAction.TheVariants.{Set, SetTrue}
 use Rattle.clap.specs.declared.builder.value_parser.ValueParser.TheVariants as parsers
 use Rattle.command_line.specs.declared.command.Command.{Command}
-use Rattle.command_line.specs.declared.command.Command.TheVariants.{Check, Interp, Build, Run, List as Listing}
+use Rattle.command_line.specs.declared.command.Command.TheVariants.{Check, Interp, Build, Run, List as Listing, Show}
 
 -- an argument by its place, which must be there
 abbrev pub required_rule : Text → Rule
@@ -19,12 +19,24 @@ number_rule id low high = record (new_rule id) { long = Some id; action = Some S
 abbrev pub flag_rule : Text → Rule
 flag_rule id = record (new_rule id) { long = Some id; action = Some SetTrue }
 
+-- `--id TEXT`
+abbrev pub text_rule : Text → Rule
+text_rule id = record (new_rule id) { long = Some id; action = Some Set }
+
 -- a command that is nothing without a subcommand
 abbrev pub with_required_subcommand : App → App
 with_required_subcommand a = record a { top = record a.top { subcommand_required = true } }
 
+-- a command that has a version
+abbrev pub with_version : App → App
+with_version a = record a { top = record a.top { has_version = true } }
+
+-- `check` before its option
+abbrev pub file_app : App
+file_app = with_rule (new_app (codes "check")) (required_rule (codes "FILE"))
+
 abbrev pub check_app : App
-check_app = with_rule (new_app (codes "check")) (required_rule (codes "FILE"))
+check_app = with_rule file_app (flag_rule (codes "explain"))
 
 -- `interp` before its options
 abbrev pub source_app : App
@@ -48,12 +60,23 @@ build_app = with_rule (with_rule (with_rule plain_app (number_rule (codes "worke
 abbrev pub run_app : App
 run_app = with_rule (with_rule (new_app (codes "run")) (required_rule (codes "IMAGE"))) (number_rule (codes "steps") 0 4294967295)
 
-abbrev pub list_app : App
-list_app = with_rule (new_app (codes "list")) (required_rule (codes "IMAGE"))
+-- `list` before its option
+abbrev pub listed_app : App
+listed_app = with_rule (new_app (codes "list")) (required_rule (codes "IMAGE"))
 
--- `mcc` with its first command, with two, with three, with four
+abbrev pub list_app : App
+list_app = with_rule listed_app (flag_rule (codes "asm"))
+
+-- `show` before its options
+abbrev pub shown_app : App
+shown_app = with_rule (new_app (codes "show")) (required_rule (codes "SOURCE"))
+
+abbrev pub show_app : App
+show_app = with_rule (with_rule (with_rule shown_app (text_rule (codes "stage"))) (text_rule (codes "function"))) (flag_rule (codes "dot"))
+
+-- `mcc` with its first command, with two, with three, with four, with five
 abbrev pub checking_app : App
-checking_app = with_subcommand (with_required_subcommand (new_app (codes "mcc"))) check_app.top
+checking_app = with_subcommand (with_version (with_required_subcommand (new_app (codes "mcc")))) check_app.top
 
 abbrev pub interpreting_app : App
 interpreting_app = with_subcommand checking_app interp_app.top
@@ -64,8 +87,11 @@ building_app = with_subcommand interpreting_app build_app.top
 abbrev pub running_app : App
 running_app = with_subcommand building_app run_app.top
 
+abbrev pub listing_app : App
+listing_app = with_subcommand running_app list_app.top
+
 abbrev pub mcc_app : App
-mcc_app = with_subcommand running_app list_app.top
+mcc_app = with_subcommand listing_app show_app.top
 
 -- the number that the text gives, or the default where there is no text
 abbrev pub IsNumber : Option Text → ℕ → ℕ → Type 0
@@ -78,7 +104,8 @@ IsFlag given b = (given ≡ None → b ≡ false) × (given ≡ Some (codes "tru
 
 -- the command's name, and the values that its arguments have
 abbrev pub HasValues : Text → List Row → Command → Type 0
-HasValues name rows (Check file) = (name ≡ codes "check") × (first_of (codes "FILE") rows ≡ Some file.now)
+HasValues name rows (Check file explain) =
+    (name ≡ codes "check") × (first_of (codes "FILE") rows ≡ Some file.now) × IsFlag (one_of (codes "explain") rows) explain
 HasValues name rows (Interp source depth steps) =
     (name ≡ codes "interp") × (first_of (codes "SOURCE") rows ≡ Some source.now)
     × IsNumber (one_of (codes "depth") rows) 256 depth × (1 ≤ depth) × (depth ≤ 4096)
@@ -93,7 +120,13 @@ HasValues name rows (Build source image plain depth workers nodes heads) =
 HasValues name rows (Run image steps) =
     (name ≡ codes "run") × (first_of (codes "IMAGE") rows ≡ Some image.now)
     × IsNumber (one_of (codes "steps") rows) 1000000 steps × (steps < 2 ^ 32)
-HasValues name rows (Listing image) = (name ≡ codes "list") × (first_of (codes "IMAGE") rows ≡ Some image.now)
+HasValues name rows (Listing image asm) =
+    (name ≡ codes "list") × (first_of (codes "IMAGE") rows ≡ Some image.now) × IsFlag (one_of (codes "asm") rows) asm
+HasValues name rows (Show source stage function dot) =
+    (name ≡ codes "show") × (first_of (codes "SOURCE") rows ≡ Some source.now)
+    × (first_of (codes "stage") rows ≡ option_map (λ s. s.now) stage)
+    × (first_of (codes "function") rows ≡ option_map (λ s. s.now) function)
+    × IsFlag (one_of (codes "dot") rows) dot
 
 -- the subcommand and its values are clap's matches of the words
 abbrev pub IsCommand : List Text → Command → Type 0

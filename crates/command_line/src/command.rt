@@ -1,9 +1,10 @@
 /// A command of the program with its values.
 #[derive(Clone, Copy)]
 pub enum Command<'a> {
-    /// The verdict on the check text of a file.
+    /// The verdict on the check text of a file; `explain` asks why it isn't `same`.
     Check {
         file: &'a str,
+        explain: bool,
     },
     /// A run of the C program of a file, with `depth` active calls at most (1 to 4096) and `steps` steps (below 2^32).
     Interp {
@@ -28,8 +29,17 @@ pub enum Command<'a> {
         image: &'a str,
         steps: u64,
     },
-    /// The listing of the image of a file.
+    /// The listing of the image of a file, or, with `asm`, assembler source for GNU as and SPIM.
     List {
         image: &'a str,
+        asm: bool,
+    },
+    /// What becomes of the C program of a file at one stage (`rtl`, `homes`, `blocks`, `orders`, `terms`, `listing`), or at
+    /// three where none is named; of one function, or of all; `dot` asks for graphs.
+    Show {
+        source: &'a str,
+        stage: Option<&'a str>,
+        function: Option<&'a str>,
+        dot: bool,
     },
 }

@@ -2,9 +2,10 @@
 
 ghost use Rattle.std.specs.Prelude.{◌≡◌, false, IfOk};
 ghost use Rattle.clap.specs.Words.{app_of};
-ghost use Rattle.command_line.specs.Commands.{build_app, building_app, check_app, checking_app, files_app, interp_app, interpreting_app};
-ghost use Rattle.command_line.specs.Commands.{list_app, mcc_app, plain_app};
-ghost use Rattle.command_line.specs.Commands.{run_app, running_app, source_app};
+ghost use Rattle.command_line.specs.Commands.{build_app, building_app, check_app, checking_app, file_app, files_app};
+ghost use Rattle.command_line.specs.Commands.{interp_app, interpreting_app};
+ghost use Rattle.command_line.specs.Commands.{list_app, listed_app, listing_app, mcc_app, plain_app};
+ghost use Rattle.command_line.specs.Commands.{run_app, running_app, show_app, shown_app, source_app};
 
 use crate::parts::CommandBuilder;
 use clap::Command as CommandLine;
@@ -24,6 +25,11 @@ Of this text the answer is `same`: the order breaks no delay rule and leaves eac
 memory and the exit as the block does. Other answers: `unclean U1` (to U4, the least delay rule that
 is broken), `differs P` (the first place whose terms differ), `full` (the table of terms is full).
 `mcc check /dev/stdin` reads standard input.";
+
+const EXPLAIN_HELP: &str =
+    "Say why: the two terms that differ, or the rule and the words that break it";
+
+const VERSION: &str = "0.1.0";
 
 const INTERP_HELP: &str = "\
 SOURCE is a program in an integer subset of C99; `out(e)` writes the word of an expression:
@@ -88,6 +94,30 @@ Each code word has a line with its address, the word and its instruction:
 A word that is no instruction, and each word of data, has `.word` there, and a byte behind the last whole
 word of data `.byte`. An image of version 2 tells in the last line what its blocks came to.";
 
+const SHOW_HELP: &str = "\
+Each block has one number in all stages: that of the machine's blocks.
+
+    mcc show squares.c                        RTL, blocks and orders of each function
+    mcc show squares.c --stage orders         each block as scheduled, with the validator's verdict
+    mcc show squares.c --dot | dot -Tsvg      the blocks and how they are left, for Graphviz
+
+Stages: `rtl` (instructions over pseudo-registers: locals by their names, others as %3), `homes` (the register
+or slot of the frame of each), `blocks` (the machine's blocks, each in its own order), `orders`
+(as scheduled; where an order was refused its verdict, the order, and the one that is taken), `terms` (what each
+block leaves in registers, memory, exit and guards, as the validator compares it; `$8` is what register 8
+held at the start, and `..` what is cut), `listing` (the image's words under their blocks).
+Blocks and orders are in the lines of a check text, which `mcc check` reads.";
+
+const STAGE_HELP: &str =
+    "One of rtl, homes, blocks, orders, terms, listing; else rtl, blocks and orders";
+
+const FUNCTION_HELP: &str = "The function that is shown alone";
+
+const DOT_HELP: &str = "Graphs for Graphviz: of RTL with --stage rtl, else of the machine's blocks";
+
+const ASM_HELP: &str =
+    "Assembler source for GNU as (MIPS I, big-endian) and SPIM in place of the listing";
+
 const DEPTH_HELP: &str = "Calls active at once, main counted: 1 to 4096, or 256 if left out";
 
 const STEPS_HELP: &str = "Steps until the run stops: 0 to 4294967295, or 1000000 if left out";
@@ -95,15 +125,15 @@ const STEPS_HELP: &str = "Steps until the run stops: 0 to 4294967295, or 1000000
 const WORDS_HELP: &str = "Words until the run stops: 0 to 4294967295, or 1000000 if left out";
 
 const STATUS_HELP: &str = "\
-Exit status: 0 for `same`, `done`, a build, a listing and help, 1 for a fault (`fault N NAME` on standard error), 2 for
+Exit status: 0 for `same`, `done`, a build, a listing, stages and help, 1 for a fault (`fault N NAME` on standard error), 2 for
 wrong words, 4 for `more`, 3 for any other answer.
 
 Examples: mcc check crates/example_files/data/slot-filled.check
           mcc interp crates/example_files/data/squares.c
           mcc build crates/example_files/data/squares.c squares.image --plain";
 
-fn check_command<'a, C: CommandBuilder<'a>>(alloc: Global) -> Result<C, AllocError>
-    ensures app { IfOk result (λ c. C.app c ≡ check_app) }
+fn file_command<'a, C: CommandBuilder<'a>>(alloc: Global) -> Result<C, AllocError>
+    ensures app { IfOk result (λ c. C.app c ≡ file_app) }
     ensures local { IfOk result (λ c. C.has_globals c ≡ false) }
 {
     let command = C::named(
@@ -113,6 +143,14 @@ fn check_command<'a, C: CommandBuilder<'a>>(alloc: Global) -> Result<C, AllocErr
         CHECK_HELP,
     );
     command.required(alloc, "FILE", "The check text")
+}
+
+fn check_command<'a, C: CommandBuilder<'a>>(alloc: Global) -> Result<C, AllocError>
+    ensures app { IfOk result (λ c. C.app c ≡ check_app) }
+    ensures local { IfOk result (λ c. C.has_globals c ≡ false) }
+{
+    let command: C = file_command(alloc)?;
+    command.flag(alloc, "explain", EXPLAIN_HELP)
 }
 
 fn source_command<'a, C: CommandBuilder<'a>>(alloc: Global) -> Result<C, AllocError>
@@ -179,12 +217,43 @@ fn run_command<'a, C: CommandBuilder<'a>>(alloc: Global) -> Result<C, AllocError
     command.number(alloc, "steps", 0, 4294967295, WORDS_HELP)
 }
 
-fn list_command<'a, C: CommandBuilder<'a>>(alloc: Global) -> Result<C, AllocError>
-    ensures app { IfOk result (λ c. C.app c ≡ list_app) }
+fn listed_command<'a, C: CommandBuilder<'a>>(alloc: Global) -> Result<C, AllocError>
+    ensures app { IfOk result (λ c. C.app c ≡ listed_app) }
     ensures local { IfOk result (λ c. C.has_globals c ≡ false) }
 {
     let command = C::named(alloc, "list", "Prints the listing of an image", LIST_HELP);
     command.required(alloc, "IMAGE", "The image")
+}
+
+fn list_command<'a, C: CommandBuilder<'a>>(alloc: Global) -> Result<C, AllocError>
+    ensures app { IfOk result (λ c. C.app c ≡ list_app) }
+    ensures local { IfOk result (λ c. C.has_globals c ≡ false) }
+{
+    let command: C = listed_command(alloc)?;
+    command.flag(alloc, "asm", ASM_HELP)
+}
+
+fn shown_command<'a, C: CommandBuilder<'a>>(alloc: Global) -> Result<C, AllocError>
+    ensures app { IfOk result (λ c. C.app c ≡ shown_app) }
+    ensures local { IfOk result (λ c. C.has_globals c ≡ false) }
+{
+    let command = C::named(
+        alloc,
+        "show",
+        "Shows what becomes of a C program, stage by stage",
+        SHOW_HELP,
+    );
+    command.required(alloc, "SOURCE", "The C program")
+}
+
+fn show_command<'a, C: CommandBuilder<'a>>(alloc: Global) -> Result<C, AllocError>
+    ensures app { IfOk result (λ c. C.app c ≡ show_app) }
+    ensures local { IfOk result (λ c. C.has_globals c ≡ false) }
+{
+    let command: C = shown_command(alloc)?;
+    let command = command.text(alloc, "stage", STAGE_HELP)?;
+    let command = command.text(alloc, "function", FUNCTION_HELP)?;
+    command.flag(alloc, "dot", DOT_HELP)
 }
 
 /// `mcc` with its first command.
@@ -197,7 +266,10 @@ fn checking_command<'a, C: CommandBuilder<'a>>(alloc: Global) -> Result<C, Alloc
         "A C compiler for MIPS I, its checks, a C interpreter and a machine",
         STATUS_HELP,
     );
-    command.asking().over(check_command(alloc)?)
+    command
+        .asking()
+        .versioned(VERSION)
+        .over(check_command(alloc)?)
 }
 
 /// `mcc` with two commands.
@@ -224,12 +296,20 @@ fn running_command<'a, C: CommandBuilder<'a>>(alloc: Global) -> Result<C, AllocE
     command.over(run_command(alloc)?)
 }
 
-/// `mcc` with all five.
-fn whole_command<'a, C: CommandBuilder<'a>>(alloc: Global) -> Result<C, AllocError>
-    ensures { IfOk result (λ c. C.app c ≡ mcc_app) }
+/// `mcc` with five.
+fn listing_command<'a, C: CommandBuilder<'a>>(alloc: Global) -> Result<C, AllocError>
+    ensures { IfOk result (λ c. C.app c ≡ listing_app) }
 {
     let command: C = running_command(alloc)?;
     command.over(list_command(alloc)?)
+}
+
+/// `mcc` with all six.
+fn whole_command<'a, C: CommandBuilder<'a>>(alloc: Global) -> Result<C, AllocError>
+    ensures { IfOk result (λ c. C.app c ≡ mcc_app) }
+{
+    let command: C = listing_command(alloc)?;
+    command.over(show_command(alloc)?)
 }
 
 /// The command line of `mcc`.

@@ -3,7 +3,7 @@
 ghost use Rattle.std.specs.Prelude.{◌≡◌, Bool, false, IfOk};
 ghost use Rattle.clap.specs.declared.builder.command.Command.TheViews.{out-Command};
 ghost use Rattle.clap.specs.Words.{App, app_of, new_app, rule_of, with_rule, with_subcommand};
-ghost use Rattle.command_line.specs.Commands.{flag_rule, number_rule, required_rule, with_required_subcommand};
+ghost use Rattle.command_line.specs.Commands.{flag_rule, number_rule, required_rule, text_rule, with_required_subcommand, with_version};
 
 use clap::builder::ValueParser;
 use clap::{Arg, ArgAction, Command as CommandLine};
@@ -43,9 +43,18 @@ pub trait CommandBuilder<'a>: Sized + Drop {
         ensures app { IfOk result (λ c. app c ≡ with_rule (app self) (flag_rule id.entry.now)) }
         ensures local { has_globals self ≡ false → IfOk result (λ c. has_globals c ≡ false) };
 
+    /// With the option `--id TEXT`.
+    fn text(self, alloc: Global, id: &'a str, about: &'a str) -> Result<Self, AllocError>
+        ensures app { IfOk result (λ c. app c ≡ with_rule (app self) (text_rule id.entry.now)) }
+        ensures local { has_globals self ≡ false → IfOk result (λ c. has_globals c ≡ false) };
+
     /// The command, which is nothing without a subcommand.
     fn asking(self) -> Self
         ensures { app result ≡ with_required_subcommand (app self) };
+
+    /// With the option `--version`, which prints this.
+    fn versioned(self, version: &'a str) -> Self
+        ensures { app result ≡ with_version (app self) };
 
     /// With a subcommand.
     fn over(self, command: Self) -> Result<Self, AllocError>
@@ -81,8 +90,16 @@ impl<'a> CommandBuilder<'a> for CommandLine<'a> {
         self.arg(flag(alloc, id, about))
     }
 
+    fn text(self, alloc: Global, id: &'a str, about: &'a str) -> Result<Self, AllocError> {
+        self.arg(text(alloc, id, about))
+    }
+
     fn asking(self) -> Self {
         self.subcommand_required(true)
+    }
+
+    fn versioned(self, version: &'a str) -> Self {
+        self.version(version)
     }
 
     fn over(self, command: Self) -> Result<Self, AllocError> {
@@ -121,5 +138,16 @@ fn flag<'a>(alloc: Global, id: &'a str, about: &'a str) -> Arg<'a>
     Arg::new(alloc, id)
         .long(id)
         .action(ArgAction::SetTrue)
+        .help(about)
+}
+
+/// The option `--id TEXT`.
+fn text<'a>(alloc: Global, id: &'a str, about: &'a str) -> Arg<'a>
+    ensures rule { rule_of result ≡ text_rule id.entry.now }
+    ensures local { result.global ≡ false }
+{
+    Arg::new(alloc, id)
+        .long(id)
+        .action(ArgAction::Set)
         .help(about)
 }

@@ -10,11 +10,18 @@ use crate::grammar::grammar;
 use clap::{ArgMatches, Error};
 use std::alloc::{AllocError, Global};
 
+fn flag(values: &ArgMatches<'_>, id: &str) -> bool
+    ensures { IsFlag (one_of id.now (rows_of (found_of values.now))) result }
+{
+    values.get_flag(id)
+}
+
 fn entered_check<'a>(values: &ArgMatches<'a>) -> Option<Command<'a>>
     ensures { IfSome result (HasValues (codes "check") (rows_of (found_of values.now))) }
 {
     let file = values.get_str("FILE")?;
-    Some(Command::Check { file })
+    let explain = flag(values, "explain");
+    Some(Command::Check { file, explain })
 }
 
 /// The value of an option, or the number that stands for it; None where its text is no number.
@@ -53,12 +60,6 @@ fn entered_interp<'a>(values: &ArgMatches<'a>) -> Option<Command<'a>>
     })
 }
 
-fn flag(values: &ArgMatches<'_>, id: &str) -> bool
-    ensures { IsFlag (one_of id.now (rows_of (found_of values.now))) result }
-{
-    values.get_flag(id)
-}
-
 fn entered_build<'a>(values: &ArgMatches<'a>) -> Option<Command<'a>>
     ensures { IfSome result (HasValues (codes "build") (rows_of (found_of values.now))) }
 {
@@ -95,7 +96,23 @@ fn entered_list<'a>(values: &ArgMatches<'a>) -> Option<Command<'a>>
     ensures { IfSome result (HasValues (codes "list") (rows_of (found_of values.now))) }
 {
     let image = values.get_str("IMAGE")?;
-    Some(Command::List { image })
+    let asm = flag(values, "asm");
+    Some(Command::List { image, asm })
+}
+
+fn entered_show<'a>(values: &ArgMatches<'a>) -> Option<Command<'a>>
+    ensures { IfSome result (HasValues (codes "show") (rows_of (found_of values.now))) }
+{
+    let source = values.get_str("SOURCE")?;
+    let stage = values.get_str("stage");
+    let function = values.get_str("function");
+    let dot = flag(values, "dot");
+    Some(Command::Show {
+        source,
+        stage,
+        function,
+        dot,
+    })
 }
 
 /// The command of this name, with its values.
@@ -112,6 +129,8 @@ fn named<'a>(name: &str, values: &ArgMatches<'a>) -> Option<Command<'a>>
         entered_run(values)
     } else if name == "list" {
         entered_list(values)
+    } else if name == "show" {
+        entered_show(values)
     } else {
         None
     }

@@ -12,6 +12,10 @@ pub record IsImageRun (bytes : List ℕ) (steps : ℕ) (o : MachineOutcome) : Ty
   pub written : image_bytes image ≡ bytes
   pub run : o ≡ image_run image steps
 
+-- bytes that are an image's
+abbrev pub IsOfImage : List ℕ → Type 0
+IsOfImage bytes = (image : ImageParts) × IsImage image × (image_bytes image ≡ bytes)
+
 -- how it is listed
 pub record IsListing (bytes text : List ℕ) : Type 0 where
   pub image : ImageParts

@@ -1,5 +1,5 @@
 -- What the program does with its words: what it asks of its files, what its standard output takes, and its status.
-use Rattle.std.specs.Prelude.{◌≡◌, ◌⊎◌, ℕ, ◌+◌, List, [], ◌∷◌, ◌++◌, Bool, true, false, codes, decimal, ⊤}
+use Rattle.std.specs.Prelude.{◌≡◌, ◌⊎◌, ℕ, ◌+◌, List, [], ◌∷◌, ◌++◌, Bool, true, false, codes, decimal, ⊤, All}
 use Rattle.std.specs.List.{flat_map}
 use Rattle.runs.specs.Runs.{Outcome}
 use Rattle.mblock.specs.Parts.{BlockParts, OrderParts}
@@ -16,17 +16,20 @@ use Rattle.commands.specs.Requests.Request.{Read, NotRead, Written, NotWritten}
 use Rattle.commands.specs.Texts.{host_fault_text}
 use Rattle.commands.specs.declared.fault.HostFault.{HostFault}
 use Rattle.commands.specs.declared.fault.HostFault.TheVariants.{CannotWrite, NoMemory}
-use Rattle.check_command.specs.Command.{Checks, StopsCheck}
+use Rattle.block_text.specs.Shown.{IsShown}
+use Rattle.check_command.specs.Command.{Checks, Explains, StopsCheck}
 use Rattle.clap.specs.Words.{takes}
 use Rattle.command_line.specs.Commands.{IsCommand, mcc_app}
 use Rattle.command_line.specs.declared.command.Command.{Command}
-use Rattle.command_line.specs.declared.command.Command.TheVariants.{Check, Interp, Build, Run, List as Listing}
+use Rattle.command_line.specs.declared.command.Command.TheVariants.{Check, Interp, Build, Run, List as Listing, Show}
 use Rattle.driver.specs.Texts.{build_fault_text, end_text, end_status, ending_text, ending_status, interp_fault_text}
 use Rattle.driver.specs.Interps.{IsRun, IsInterpFault}
-use Rattle.driver.specs.ImageRuns.{IsImageRun, IsListing}
+use Rattle.driver.specs.ImageRuns.{IsImageRun, IsListing, IsOfImage}
 use Rattle.driver.specs.Builds.{IsScheduledBuild, IsPlain}
 use Rattle.driver.specs.Follows.{FollowsText}
-use Rattle.driver.specs.BuildFaults.{IsBuildFault}
+use Rattle.driver.specs.BuildFaults.{IsBuildFault, IsFaultless}
+use Rattle.driver.specs.Stages.{IsStagesFault, stages_fault_text}
+use Rattle.driver.specs.declared.show_commands.StagesFault.{StagesFault}
 use Rattle.driver.specs.declared.builds.Built.{Built}
 use Rattle.driver.specs.declared.source_runs.InterpFault.{InterpFault}
 use Rattle.driver.specs.declared.builds.BuildFault.{BuildFault}
@@ -103,6 +106,23 @@ pub record Lists (image : List ℕ) (status : ℕ) (requests : List Request) (pr
   pub listed : IsListing bytes printed
   pub ends : status ≡ 0
 
+-- `mcc list IMAGE --asm`. Of the source no more is said than that it is lines of printable ASCII
+pub record Assembles (image : List ℕ) (status : ℕ) (requests : List Request) (printed : List ℕ) : Type 0 where
+  pub bytes : List ℕ
+  pub asked : requests ≡ Read image bytes ∷ []
+  pub of : IsOfImage bytes
+  pub shown : All IsShown printed
+  pub ends : status ≡ 0
+
+-- `mcc show SOURCE`: the text spells a program without faults. Of what is printed no more is said than that it is lines of
+-- printable ASCII
+pub record Shows (source : List ℕ) (status : ℕ) (requests : List Request) (printed : List ℕ) : Type 0 where
+  pub text : List ℕ
+  pub asked : requests ≡ Read source text ∷ []
+  pub faultless : IsFaultless text
+  pub shown : All IsShown printed
+  pub ends : status ≡ 0
+
 -- the first two where they ended by a fault: of the file, of its text or bytes, or of standard output
 pub data StopsInterp (source : List ℕ) : List Request → List ℕ → Type 0 where
   unread : (fault : FileFault) → StopsInterp source (NotRead source fault ∷ []) (host_fault_text (reading_fault fault))
@@ -119,22 +139,33 @@ pub data StopsImage (image : List ℕ) : List Request → List ℕ → Type 0 wh
   untold : (bytes : List ℕ) (parts : ImageParts) → IsImage parts → image_bytes parts ≡ bytes
       → StopsImage image (Read image bytes ∷ []) (host_fault_text CannotWrite)
 
+-- `show`
+pub data StopsShow (source : List ℕ) : List Request → List ℕ → Type 0 where
+  unread : (fault : FileFault) → StopsShow source (NotRead source fault ∷ []) (host_fault_text (reading_fault fault))
+  faulty : (text : List ℕ) (fault : StagesFault) → IsStagesFault text fault
+      → StopsShow source (Read source text ∷ []) (stages_fault_text fault)
+  untold : (text : List ℕ) → IsFaultless text → StopsShow source (Read source text ∷ []) (host_fault_text CannotWrite)
+
 -- a command that has its answer
 abbrev pub Answers : Command → ℕ → List Request → List ℕ → Type 0
-Answers (Check file) status requests printed = Checks file.now status requests printed
+Answers (Check file false) status requests printed = Checks file.now status requests printed
+Answers (Check file true) status requests printed = Explains file.now status requests printed
 Answers (Interp source depth steps) status requests printed = Interps source.now depth steps status requests printed
 Answers (Build source image plain depth workers nodes heads) status requests printed =
     Builds source.now image.now depth plain status requests printed
 Answers (Run image steps) status requests printed = Runs image.now steps status requests printed
-Answers (Listing image) status requests printed = Lists image.now status requests printed
+Answers (Listing image false) status requests printed = Lists image.now status requests printed
+Answers (Listing image true) status requests printed = Assembles image.now status requests printed
+Answers (Show source stage function dot) status requests printed = Shows source.now status requests printed
 
 -- a command that ended by a fault
 abbrev pub Stops : Command → List Request → List ℕ → Type 0
-Stops (Check file) requests told = StopsCheck file.now requests told
+Stops (Check file explain) requests told = StopsCheck file.now requests told
 Stops (Interp source depth steps) requests told = StopsInterp source.now requests told
 Stops (Build source image plain depth workers nodes heads) requests told = StopsBuild source.now image.now depth plain requests told
 Stops (Run image steps) requests told = StopsImage image.now requests told
-Stops (Listing image) requests told = StopsImage image.now requests told
+Stops (Listing image asm) requests told = StopsImage image.now requests told
+Stops (Show source stage function dot) requests told = StopsShow source.now requests told
 
 -- the program: its words are a command, which has its answer
 pub record IsAnswered (words : List (List ℕ)) (status : ℕ) (requests : List Request) (printed : List ℕ) : Type 0 where

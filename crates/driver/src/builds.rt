@@ -52,7 +52,7 @@ pub struct Built {
 }
 
 /// The typed program that the text spells.
-fn typed_of(alloc: Global, text: &[u8]) -> Result<Typed, BuildFault>
+pub(crate) fn typed_of(alloc: Global, text: &[u8]) -> Result<Typed, BuildFault>
     ensures typed { IfOk result (λ t. SpellsTyped text.now (program_of t)) }
     ensures fault { IfErr result (IsBuildFault text.now) }
 {

@@ -4,10 +4,11 @@
 //! (`specs/Interps.antt`). `build` is that of `mcc build`, and `build_plain` with `--plain`: the bytes of an image that
 //! follows the program (`specs/Follows.antt`), and the report of its scheduled unit (`specs/Builds.antt`). `run_image`
 //! and `list_image` are those of `mcc run` and `mcc list` (`specs/ImageRuns.antt`). `mcc check` is the crate
-//! check_command, and what commands share is the crate commands. `mcc` is the whole program, which `main` calls with the
-//! real files and streams: all that it asks of them, prints and ends by (`specs/Program.antt`). It takes the words of the
-//! command line by the crate command_line. How answers and faults print stands in `specs/Texts.antt`; `print_run` and
-//! `print_built` print them, `tell_interp` and `tell_build` tell faults, over a stream alone, for hosts without files.
+//! check_command, `mcc show` the crate show, and what commands share is the crate commands. `mcc` is the whole program,
+//! which `main` calls with the real files and streams: all that it asks of them, prints and ends by
+//! (`specs/Program.antt`). It takes the words of the command line by the crate command_line. How answers and faults
+//! print stands in `specs/Texts.antt`; `print_run` and `print_built` print them, `tell_interp` and `tell_build` tell
+//! faults, over a stream alone, for hosts without files.
 //!
 //! What is promised:
 //! - `driver::interp`: where it is Ok, the text spells a program, the program has no fault, and the answer is what so
@@ -36,7 +37,9 @@
 //!   of specs/Program.antt), and nothing was told (`quiet`). A status of 1 comes with the line of a fault that the
 //!   command's own contract allows; IMAGE is asked to be nothing but the bytes of an image of what was read from
 //!   SOURCE, and SOURCE is only read (`stopped`: `IsStopped`). `check_command::check_file` promises the same of
-//!   `check`. Not promised: that refused memory, which is told by status 1 before any file is read, was really refused;
+//!   `check`. Of what `show`, `list --asm` and (behind the answer) `check --explain` print no more is promised than that
+//!   the source has no fault, or the file is an image, and that it is printable ASCII in lines (`Shows`, `Assembles`,
+//!   `Explains`). Not promised: that refused memory, which is told by status 1 before any file is read, was really refused;
 //!   what stands below a fault's line, and clap's texts.
 //! - Only tested: that ten programs print what they should (the eight of crates/c_programs what gcc's builds of them
 //!   print), built plainly and scheduled; that interpreter and images print the same, worked by hand, where up to forty
@@ -66,6 +69,7 @@ mod image_runs;
 mod offsets;
 mod program;
 mod scheduled_builds;
+mod show_commands;
 mod source_runs;
 mod texts;
 

@@ -7,17 +7,19 @@ ghost use Rattle.driver.specs.Program.{Interps, IsAnswered, IsStopped, StopsInte
 ghost use Rattle.driver.specs.Texts.{end_status, interp_fault_text};
 ghost use Rattle.term_table.specs.Passes.{InRange};
 
-use crate::build_commands::{Asked, build_file};
-use crate::image_commands::{list_file, run_file};
+use crate::build_commands::{Asked as AskedBuild, build_file};
+use crate::image_commands::{assemble_file, list_file, run_file};
 use crate::offsets::{interp_source_fault, place_of};
 use crate::scheduled_builds::BuildOpts;
+use crate::show_commands::show_file;
 use crate::source_runs::{InterpFault, interp};
 use crate::texts::{EndLine, print_run};
-use check_command::check_file;
+use check_command::{check_file, explain_file};
 use command_line::{Command, words};
 use commands::{Complaints, Files, HostFault, Output, read_file, tell, tell_placed, tell_words};
 use runs::End;
 use sched_phase::PhaseOpts;
+use show::Asked;
 use std::alloc::Global;
 use std::sync::Wait;
 use std::thread::Threads;
@@ -95,7 +97,7 @@ fn phase_of(workers: u32, nodes: u32, heads: u32) -> PhaseOpts
 }
 
 /// The whole program over its words (the first is its name), its files and two writers; a build starts threads. The answer is
-/// the exit status: 0 for `same`, `done`, a build, a listing and help, 1 for a fault, 2 for wrong words, 4 for `more`, 3
+/// the exit status: 0 for `same`, `done`, a build, a listing, stages and help, 1 for a fault, 2 for wrong words, 4 for `more`, 3
 /// for any other answer.
 pub fn mcc<T: Threads + Wait + Sync, F: Files, W: Output, E: Complaints>(
     rt: &T,
@@ -116,7 +118,13 @@ pub fn mcc<T: Threads + Wait + Sync, F: Files, W: Output, E: Complaints>(
         → Asks F.answers files.old files.new E.tells err.old err.new (IsStopped (map (λ s. s.now) args.entry.now)) }
 {
     match words(alloc, args) {
-        Ok(Command::Check { file }) => check_file(alloc, file, files, out, err),
+        Ok(Command::Check { file, explain }) => {
+            if explain {
+                explain_file(alloc, file, files, out, err)
+            } else {
+                check_file(alloc, file, files, out, err)
+            }
+        }
         Ok(
             Command::Interp {
                 source,
@@ -136,7 +144,7 @@ pub fn mcc<T: Threads + Wait + Sync, F: Files, W: Output, E: Complaints>(
             },
         ) => {
             let phase = phase_of(workers, nodes, heads);
-            let asked = Asked {
+            let asked = AskedBuild {
                 source,
                 image,
                 plain,
@@ -145,7 +153,28 @@ pub fn mcc<T: Threads + Wait + Sync, F: Files, W: Output, E: Complaints>(
             build_file(rt, alloc, &asked, files, out, err)
         }
         Ok(Command::Run { image, steps }) => run_file(alloc, image, steps, files, out, err),
-        Ok(Command::List { image }) => list_file(alloc, image, files, out, err),
+        Ok(Command::List { image, asm }) => {
+            if asm {
+                assemble_file(alloc, image, files, out, err)
+            } else {
+                list_file(alloc, image, files, out, err)
+            }
+        }
+        Ok(
+            Command::Show {
+                source,
+                stage,
+                function,
+                dot,
+            },
+        ) => {
+            let asked = Asked {
+                stage,
+                function,
+                dot,
+            };
+            show_file(alloc, source, &asked, files, out, err)
+        }
         Err(error) => tell_words(&error, out, err),
     }
 }

@@ -5,7 +5,7 @@
 ghost use Rattle.std.specs.Prelude.{◌≡◌, ◌≢◌, ◌≤◌, map};
 ghost use Rattle.mcc_check.specs.Words.{AreOfCheck};
 
-use check_command::check_file;
+use check_command::{check_file, explain_file};
 use command_line::{Command, words};
 use commands::{Files, HostFault, tell, tell_words};
 use disk::{Disk, owned_words, tell_no_words};
@@ -37,7 +37,13 @@ fn answer<F: Files, W: Write, E: Write>(
     ensures taken { AreOfCheck (map (λ s. s.now) args.entry.now) → result ≢ 2 }
 {
     match words(alloc, args) {
-        Ok(Command::Check { file }) => check_file(alloc, file, files, out, err),
+        Ok(Command::Check { file, explain }) => {
+            if explain {
+                explain_file(alloc, file, files, out, err)
+            } else {
+                check_file(alloc, file, files, out, err)
+            }
+        }
         Ok(_) => tell_others(err),
         Err(error) => tell_words(&error, out, err),
     }

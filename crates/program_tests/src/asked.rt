@@ -7,10 +7,11 @@ use std::test::Fail;
 #[test]
 fn words_give_the_file(rt: HostRuntime) -> Result<(), Fail> {
     let args = ["mcc", "check", "a text"];
-    let Ok(Command::Check { file }) = words(rt.alloc(), args.as_slice()) else {
+    let Ok(Command::Check { file, explain }) = words(rt.alloc(), args.as_slice()) else {
         panic!(rt; "no command")
     };
     assert_eq!(rt; file, "a text");
+    assert_eq!(rt; explain, false);
     Ok(())
 }
 
@@ -105,10 +106,31 @@ fn words_name_the_image(rt: HostRuntime) -> Result<(), Fail> {
     };
     assert_eq!(rt; image, "x");
     assert_eq!(rt; steps, 1_000_000);
-    let list = ["mcc", "list", "x"];
-    let Ok(Command::List { image }) = words(rt.alloc(), list.as_slice()) else {
+    let list = ["mcc", "list", "--asm", "x"];
+    let Ok(Command::List { image, asm }) = words(rt.alloc(), list.as_slice()) else {
         panic!(rt; "no command")
     };
     assert_eq!(rt; image, "x");
+    assert_eq!(rt; asm, true);
+    Ok(())
+}
+
+#[test]
+fn words_name_the_stage(rt: HostRuntime) -> Result<(), Fail> {
+    let show = ["mcc", "show", "x.c", "--function", "f", "--stage=terms"];
+    let Ok(
+        Command::Show {
+            source,
+            stage,
+            function,
+            dot,
+        },
+    ) = words(rt.alloc(), show.as_slice()) else {
+        panic!(rt; "no command")
+    };
+    assert_eq!(rt; source, "x.c");
+    assert_eq!(rt; stage, Some("terms"));
+    assert_eq!(rt; function, Some("f"));
+    assert_eq!(rt; dot, false);
     Ok(())
 }

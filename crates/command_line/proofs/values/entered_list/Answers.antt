@@ -4,4 +4,8 @@ use Rattle.clap.proofs.WalkLemmas.{first_value-rows}
 use Rattle.command_line.proofs.values.entered_list.Goals as goal
 
 pub returns : goal.returns
-returns c = (refl, sym (first_value-rows (found_of c.args.values.now) (codes "IMAGE")) ∙ sym c.in_ok-image.ensures)
+returns c = (
+  refl,
+  sym (first_value-rows (found_of c.args.values.now) (codes "IMAGE")) ∙ sym c.in_ok-image.ensures,
+  c.flag-asm.ensures,
+)

@@ -1,0 +1,204 @@
+//! Images as assembler source, for GNU as and for SPIM.
+//!
+//! `source` writes the code words as instructions, with labels where branches and jumps lead, and the data behind them. Assembled for
+//! MIPS I, big-endian, and linked with code at 0x00400000 and data at 0x10000000 the source has the image's words. A word that is
+//! no instruction, one that leads out of the code, and a division, which the two assemblers write in two ways, are `.word`.
+//!
+//! What is promised:
+//! - `asm_text::source` answers in printable ASCII and line ends (`IsShown` of block_text). Only tested: that the source has the
+//!   image's words (tests/images, and .ci/machines with GNU as and SPIM).
+#![tactic(auto)]
+
+ghost use Rattle.std.specs.Prelude.{All, IfOk};
+ghost use Rattle.block_text.specs.Shown.{IsShown};
+
+use block_text::{WIDTH, page_of};
+use image::Image;
+use mips_code::decode;
+use mips_isa::{Control, Inst, ListedControl, Plain, branch_target, jump_target};
+use std::alloc::{AllocError, Global};
+
+const CODE_BASE: u32 = 0x0040_0000;
+
+const HEAD: &str = "\
+# An image of mcc: code at 0x00400000, data at 0x10000000, MIPS I, big-endian.
+.set noreorder
+.set noat
+.text
+.globl __start
+";
+
+/// Where a branch or jump of an address leads, of those that name a place.
+fn target_of(control: &Control, address: u32) -> Option<u32> {
+    let slot = address.wrapping_add(4);
+    match control {
+        Control::BranchPair { offset, .. } => Some(branch_target(slot, *offset)),
+        Control::BranchZero { offset, .. } => Some(branch_target(slot, *offset)),
+        Control::JumpTo { target, .. } => Some(jump_target(slot, *target)),
+        Control::JumpRegister { .. } | Control::SystemCall => None,
+    }
+}
+
+/// The place of a code word by its address.
+fn place_of(address: u32) -> usize {
+    (address.wrapping_sub(CODE_BASE) / 4) as usize
+}
+
+/// What a word is written as.
+#[derive(Clone, Copy)]
+enum Form {
+    Plain(Plain),
+    /// A branch or jump to a word of the code, or one that names no place.
+    Control(Control),
+    Word(u32),
+}
+
+/// Whether a branch or jump leads to no word of the code, which has so many words.
+fn leads_out(control: &Control, address: u32, count: usize) -> bool {
+    match target_of(control, address) {
+        Some(target) => target < CODE_BASE || place_of(target) >= count,
+        None => false,
+    }
+}
+
+fn form_of(word: u32, address: u32, count: usize) -> Form {
+    match decode(word) {
+        Some(Inst::Plain(Plain::Divide { .. })) => Form::Word(word),
+        Some(Inst::Plain(plain)) => Form::Plain(plain),
+        Some(Inst::Control(control)) => {
+            if leads_out(&control, address, count) {
+                Form::Word(word)
+            } else {
+                Form::Control(control)
+            }
+        }
+        None => Form::Word(word),
+    }
+}
+
+/// Which code words a branch or jump leads to.
+fn targets(alloc: Global, code: &[u32]) -> Result<Vec<bool>, AllocError> {
+    let mut marks = Vec::new(alloc);
+    for _ in code {
+        marks.push(false)?;
+    }
+    let mut address = CODE_BASE;
+    for word in code {
+        if let Form::Control(control) = form_of(*word, address, code.len())
+            && let Some(target) = target_of(&control, address)
+            && let Some(mark) = marks.get_mut(place_of(target))
+        {
+            *mark = true;
+        }
+        address = address.wrapping_add(4);
+    }
+    Ok(marks)
+}
+
+/// A word in eight hexadecimal digits.
+fn put_digits(out: &mut String, word: u32) -> Result<(), AllocError> {
+    for shift in [28u32, 24, 20, 16, 12, 8, 4, 0] {
+        let digit = (word >> shift) % 16;
+        write!(out, "{digit:x}")?;
+    }
+    Ok(())
+}
+
+fn put_label(out: &mut String, address: u32) -> Result<(), AllocError> {
+    out.push_str("L")?;
+    put_digits(out, address)?;
+    out.push_str(":\n")
+}
+
+/// A branch or jump with a label in place of the address.
+fn put_control(
+    alloc: Global,
+    out: &mut String,
+    control: Control,
+    address: u32,
+) -> Result<(), AllocError> {
+    let text = format!(in alloc; "{}", ListedControl { control, address })?;
+    match text.split_once("0x") {
+        Some((before, digits)) => {
+            out.push_str(before)?;
+            out.push_str("L")?;
+            out.push_str(digits)
+        }
+        None => out.push_str(text.as_str()),
+    }
+}
+
+fn put_word(out: &mut String, word: u32) -> Result<(), AllocError> {
+    out.push_str(".word 0x")?;
+    put_digits(out, word)
+}
+
+fn put_form(alloc: Global, out: &mut String, form: Form, address: u32) -> Result<(), AllocError> {
+    out.push_str("    ")?;
+    match form {
+        Form::Plain(plain) => write!(out, "{plain}")?,
+        Form::Control(control) => put_control(alloc, out, control, address)?,
+        Form::Word(word) => put_word(out, word)?,
+    }
+    out.push_str("\n")
+}
+
+fn put_code(alloc: Global, out: &mut String, image: &Image) -> Result<(), AllocError> {
+    let code = image.code();
+    let marks = targets(alloc, code)?;
+    let mut address = CODE_BASE;
+    for (k, word) in code.iter().enumerate() {
+        if address == image.entry() {
+            out.push_str("__start:\n")?;
+        }
+        if marks.get(k).copied() == Some(true) {
+            put_label(out, address)?;
+        }
+        put_form(alloc, out, form_of(*word, address, code.len()), address)?;
+        address = address.wrapping_add(4);
+    }
+    Ok(())
+}
+
+/// Four bytes as a word, the first the highest.
+fn word_of(bytes: &[u8]) -> u32 {
+    bytes.iter().fold(
+        0u32,
+        |word, byte| word.wrapping_mul(256).wrapping_add(u32::from(*byte)),
+    )
+}
+
+fn put_byte(out: &mut String, byte: u8) -> Result<(), AllocError> {
+    let (high, low) = (byte / 16, byte % 16);
+    writeln!(out, "    .byte 0x{high:x}{low:x}")
+}
+
+/// The data, four bytes a line, and those behind the last whole word.
+fn put_data(out: &mut String, bytes: &[u8]) -> Result<(), AllocError> {
+    if bytes.is_empty() {
+        return Ok(());
+    }
+    out.push_str(".data\n")?;
+    for part in bytes.chunks(4) {
+        if part.len() == 4 {
+            out.push_str("    ")?;
+            put_word(out, word_of(part))?;
+            out.push_str("\n")?;
+        } else {
+            for byte in part {
+                put_byte(out, *byte)?;
+            }
+        }
+    }
+    Ok(())
+}
+
+/// The assembler source of an image.
+pub fn source(alloc: Global, image: &Image) -> Result<Vec<u8>, AllocError>
+    ensures { IfOk result (λ page. All IsShown page.items) }
+{
+    let mut out = String::from_str(alloc, HEAD)?;
+    put_code(alloc, &mut out, image)?;
+    put_data(&mut out, image.bytes())?;
+    page_of(alloc, out.as_bytes(), WIDTH)
+}

@@ -1,0 +1,212 @@
+// What is said of a verdict: the terms that differ, or the rule that is broken and the words that break it.
+
+ghost use Rattle.std.specs.Prelude.{All, IfOk};
+ghost use Rattle.block_text.specs.Shown.{IsShown};
+
+use crate::verdicts::CheckAnswer;
+use block_text::{
+    ReadFault, WIDTH, block_place_text, order_place_text, page_of, put_exit, put_insts,
+};
+use block_validator::Place;
+use check_text::{Text, read};
+use mblock::{Block, Exit, Order, Unclean};
+use mips_isa::{Action, Plain, Reg};
+use std::alloc::{AllocError, Global};
+
+/// How deep terms are shown, from the least that tells them apart.
+const DEPTHS: [u32; 5] = [4, 6, 8, 12, 16];
+
+/// How deep they are shown where none of these does.
+const DEEPEST: u32 = 24;
+
+/// A delay rule in words.
+fn rule_words(rule: Unclean) -> &'static str {
+    match rule {
+        Unclean::LoadUse => {
+            "an instruction reads or writes the register that the one just before it loads"
+        }
+        Unclean::ProductAfterMove => {
+            "fewer than two words stand between mfhi or mflo and a mult, multu, div or divu behind it"
+        }
+        Unclean::SlotLoadOrMove => "a load, mfhi or mflo is in the slot",
+        Unclean::ExitLoad => {
+            "the last instruction loads a register that the exit's first word reads or writes"
+        }
+    }
+}
+
+/// The register that an instruction loads.
+fn loaded(inst: &Plain) -> Option<Reg> {
+    match inst.action() {
+        Action::Loads { d, .. } => Some(d.reg()),
+        _ => None,
+    }
+}
+
+/// The first instruction that touches what the one before it loads; its number.
+fn load_use(insts: &[Plain]) -> Option<usize> {
+    for (k, inst) in insts.iter().enumerate() {
+        if let Some(register) = loaded(inst)
+            && let Some(next) = insts.get(k + 1)
+            && next.action().touches(register)
+        {
+            return Some(k);
+        }
+    }
+    None
+}
+
+/// An instruction of an order by the place of its word: the exit's first word and the slot are behind the others.
+fn word_at(order: &Order, place: usize) -> Option<Plain> {
+    let count = order.insts().len();
+    if place < count {
+        return order.insts().get(place).copied();
+    }
+    if place == count.saturating_add(1) {
+        order.slot()
+    } else {
+        None
+    }
+}
+
+fn is_product_at(order: &Order, place: usize) -> bool {
+    match word_at(order, place) {
+        Some(inst) => inst.action().is_product(),
+        None => false,
+    }
+}
+
+/// The first product that comes too soon behind a move: the places of the two.
+fn early_product(order: &Order) -> Option<(usize, usize)> {
+    for (k, inst) in order.insts().iter().enumerate() {
+        if !inst.action().is_move() {
+            continue;
+        }
+        for place in [k.saturating_add(1), k.saturating_add(2)] {
+            if is_product_at(order, place) {
+                return Some((k, place));
+            }
+        }
+    }
+    None
+}
+
+fn put_word(out: &mut String, order: &Order, place: usize) -> Result<(), AllocError> {
+    match word_at(order, place) {
+        Some(inst) => put_insts(out, &[inst], "  ", "\n"),
+        None => put_left(out, order.exit()),
+    }
+}
+
+fn put_left(out: &mut String, exit: Exit) -> Result<(), AllocError> {
+    out.push_str("  ")?;
+    put_exit(out, exit)?;
+    out.push_str("\n")
+}
+
+/// The words that break a rule.
+fn put_breaking(out: &mut String, rule: Unclean, order: &Order) -> Result<(), AllocError> {
+    let count = order.insts().len();
+    match rule {
+        Unclean::LoadUse => match load_use(order.insts()) {
+            Some(k) => {
+                put_word(out, order, k)?;
+                put_word(out, order, k.saturating_add(1))
+            }
+            None => Ok(()),
+        },
+        Unclean::ProductAfterMove => match early_product(order) {
+            Some((first, second)) => {
+                put_word(out, order, first)?;
+                put_word(out, order, second)
+            }
+            None => Ok(()),
+        },
+        Unclean::SlotLoadOrMove => {
+            put_left(out, order.exit())?;
+            put_word(out, order, count.saturating_add(1))
+        }
+        Unclean::ExitLoad => {
+            put_word(out, order, count.saturating_sub(1))?;
+            put_left(out, order.exit())
+        }
+    }
+}
+
+fn put_unclean(out: &mut String, rule: Unclean, order: &Order) -> Result<(), AllocError> {
+    out.push_str(rule_words(rule))?;
+    out.push_str(":\n")?;
+    put_breaking(out, rule, order)
+}
+
+/// A text, or what stands for it where there is none.
+fn read_text(alloc: Global, text: Result<String, ReadFault>) -> Result<String, AllocError> {
+    match text {
+        Ok(text) => Ok(text),
+        Err(ReadFault::Full) => String::from_str(alloc, "?"),
+        Err(ReadFault::NoMemory) => Err(AllocError),
+    }
+}
+
+/// What block and order leave in a place, at a depth.
+fn texts_at(
+    alloc: Global,
+    block: &Block,
+    order: &Order,
+    place: &Place,
+    depth: u32,
+) -> Result<(String, String), AllocError> {
+    let first = read_text(alloc, block_place_text(alloc, block, *place, depth))?;
+    let second = read_text(alloc, order_place_text(alloc, order, *place, depth))?;
+    Ok((first, second))
+}
+
+fn put_pair(out: &mut String, block: &str, order: &str) -> Result<(), AllocError> {
+    writeln!(out, "block: {block}")?;
+    writeln!(out, "order: {order}")
+}
+
+/// What block and order leave in a place, at the first depth that tells them apart.
+fn put_differing(
+    alloc: Global,
+    out: &mut String,
+    place: &Place,
+    text: &Text,
+) -> Result<(), AllocError> {
+    for depth in DEPTHS {
+        let (block, order) = texts_at(alloc, &text.block, &text.order, place, depth)?;
+        if block.as_str() != order.as_str() {
+            return put_pair(out, block.as_str(), order.as_str());
+        }
+    }
+    let (block, order) = texts_at(alloc, &text.block, &text.order, place, DEEPEST)?;
+    put_pair(out, block.as_str(), order.as_str())
+}
+
+/// Block and order of a text that has a verdict.
+fn spelled(alloc: Global, text: &[u8]) -> Option<Text> {
+    if text.len() > 1_048_576 {
+        return None;
+    }
+    read(alloc, text).ok()
+}
+
+/// What is said of a verdict on the text's block and order: printable lines, and none of `same`.
+pub(crate) fn explained(
+    alloc: Global,
+    text: &[u8],
+    answer: &CheckAnswer,
+) -> Result<Vec<u8>, AllocError>
+    ensures { IfOk result (λ page. All IsShown page.items) }
+{
+    let mut out = String::new(alloc);
+    if let Some(spelled) = spelled(alloc, text) {
+        match answer {
+            CheckAnswer::Same => {}
+            CheckAnswer::Full => out.push_str("the table has no room for more than 16384 terms\n")?,
+            CheckAnswer::Unclean(rule) => put_unclean(&mut out, *rule, &spelled.order)?,
+            CheckAnswer::Differs(place) => put_differing(alloc, &mut out, place, &spelled)?,
+        }
+    }
+    page_of(alloc, out.as_bytes(), WIDTH)
+}

@@ -1,0 +1,155 @@
+// The names of functions, globals and locals, by their numbers.
+
+use c_tokens::{Identifier, MAX_TEXT, Mark, Token, lex};
+use std::alloc::{AllocError, Global};
+use std::str;
+
+/// A function's name, and those of its locals, the parameters first.
+#[derive(Drop)]
+pub(crate) struct FunctionNames {
+    name: Identifier,
+    locals: Vec<Identifier>,
+}
+
+/// The names of a text, as its tokens have them: each stands behind its type.
+#[derive(Drop)]
+pub(crate) struct Names<'t> {
+    text: &'t [u8],
+    functions: Vec<FunctionNames>,
+    globals: Vec<Identifier>,
+}
+
+fn is_type(token: Option<Token>) -> bool {
+    matches!(
+        token,
+        Some(Token::The(Mark::Int | Mark::Unsigned | Mark::Char | Mark::Void))
+    )
+}
+
+/// How many brackets are open behind a token.
+fn open_behind(token: Token, open: usize) -> usize {
+    match token {
+        Token::The(Mark::LeftParen | Mark::LeftBrace) => open.saturating_add(1),
+        Token::The(Mark::RightParen | Mark::RightBrace) => open.saturating_sub(1),
+        _ => open,
+    }
+}
+
+fn is_paren(token: Option<Token>) -> bool {
+    matches!(token, Some(Token::The(Mark::LeftParen)))
+}
+
+fn tokens_of(alloc: Global, text: &[u8]) -> Result<Vec<Token>, AllocError> {
+    if text.len() > MAX_TEXT {
+        return Ok(Vec::new(alloc));
+    }
+    match lex(alloc, text) {
+        Ok((tokens, _)) => Ok(tokens),
+        Err(_) => Err(AllocError),
+    }
+}
+
+impl<'t> Names<'t> {
+    /// The names that a text declares.
+    pub(crate) fn read(alloc: Global, text: &'t [u8]) -> Result<Names<'t>, AllocError> {
+        let tokens = tokens_of(alloc, text)?;
+        let mut names = Names {
+            text,
+            functions: Vec::new(alloc),
+            globals: Vec::new(alloc),
+        };
+        let mut before = None;
+        let mut open = 0usize;
+        for (k, token) in tokens.iter().enumerate() {
+            if let Token::Name(name) = *token
+                && is_type(before)
+            {
+                names.declare(alloc, name, open, is_paren(tokens.get(k + 1).copied()))?;
+            }
+            open = open_behind(*token, open);
+            before = Some(*token);
+        }
+        Ok(names)
+    }
+
+    /// A declared name: at file scope a function or a global, else a local of the last function.
+    fn declare(
+        &mut self,
+        alloc: Global,
+        name: Identifier,
+        open: usize,
+        is_function: bool,
+    ) -> Result<(), AllocError> {
+        if open > 0 {
+            if let Some(function) = self.functions.last_mut() {
+                function.locals.push(name)?;
+            }
+            return Ok(());
+        }
+        if !is_function {
+            self.globals.push(name)?;
+            return Ok(());
+        }
+        self.functions.push(FunctionNames {
+            name,
+            locals: Vec::new(alloc),
+        })?;
+        Ok(())
+    }
+
+    fn spelled(&self, name: Identifier) -> &'t str {
+        let rest = self.text.get(name.at..).unwrap_or(b"");
+        let bytes = rest.get(..name.length).unwrap_or(b"");
+        str::from_utf8(bytes).unwrap_or("?")
+    }
+
+    /// The name of a function; `?` where there is none of this number.
+    pub(crate) fn function(&self, number: usize) -> &'t str {
+        match self.functions.get(number) {
+            Some(function) => self.spelled(function.name),
+            None => "?",
+        }
+    }
+
+    /// The name of a global.
+    pub(crate) fn global(&self, number: usize) -> &'t str {
+        match self.globals.get(number) {
+            Some(name) => self.spelled(*name),
+            None => "?",
+        }
+    }
+
+    /// The number of the function of this name.
+    pub(crate) fn function_named(&self, name: &str) -> Option<usize> {
+        (0..self.functions.len()).find(|number| self.function(*number) == name)
+    }
+
+    /// The name of a function's local.
+    fn local(&self, function: usize, number: usize) -> Option<&'t str> {
+        let name = self.functions.get(function)?.locals.get(number)?;
+        Some(self.spelled(*name))
+    }
+
+    /// Whether an earlier local of the function has the same name.
+    fn is_again(&self, function: usize, number: usize, name: &str) -> bool {
+        (0..number).any(|other| self.local(function, other) == Some(name))
+    }
+
+    /// The pseudo-register of a function: a local by its name, with its number where an earlier one has the name too; any
+    /// other by its number alone.
+    pub(crate) fn put_register(
+        &self,
+        out: &mut String,
+        function: usize,
+        register: u32,
+    ) -> Result<(), AllocError> {
+        let Some(name) = self.local(function, register as usize) else {
+            return write!(out, "%{register}");
+        };
+        out.push_str(name)?;
+        if self.is_again(function, register as usize, name) {
+            return write!(out, "%{register}");
+        }
+        Ok(())
+    }
+}

@@ -1,0 +1,97 @@
+// Orders as the scheduler proposes them, and what the validator says of them.
+
+ghost use Rattle.std.specs.Prelude.{All, IfSome};
+ghost use Rattle.term_table.specs.Passes.{IsOf};
+
+use block_text::put_order;
+use block_validator::{Place, Verdict, validate};
+use delay_filler::FilledOrder;
+use list_scheduler::{ListOrder, Reorder};
+use mblock::{Block, Order, plain};
+use std::alloc::{AllocError, Global};
+use term_table::{Pass, TermTable};
+
+/// The terms of the table, and its chains.
+const NODES: u64 = 65536;
+
+const HEADS: u64 = 1024;
+
+fn tables(alloc: Global) -> Option<(TermTable, Vec<Pass>)>
+    ensures { IfSome result (λ t. All (IsOf t.0) t.1.items) }
+{
+    TermTable::open(alloc, 1, NODES, HEADS).ok()
+}
+
+fn opened(alloc: Global) -> Option<(TermTable, Pass)>
+    ensures { IfSome result (λ t. IsOf t.0 t.1) }
+{
+    let (table, mut passes) = tables(alloc)?;
+    let pass = passes.pop()?;
+    Some((table, pass))
+}
+
+fn put_place(out: &mut String, place: Place) -> Result<(), AllocError> {
+    match place {
+        Place::Register(r) => write!(out, "{r}"),
+        Place::Hi => out.push_str("hi"),
+        Place::Lo => out.push_str("lo"),
+        Place::Memory => out.push_str("mem"),
+        Place::Exit => out.push_str("exit"),
+        Place::Guards => out.push_str("guards"),
+    }
+}
+
+/// What a block comes to with an order: its verdict in the words of `mcc check`, and the order that is taken, if it is.
+fn settled(
+    alloc: Global,
+    out: &mut String,
+    block: &Block,
+    order: Order,
+) -> Result<Option<Order>, AllocError> {
+    let Some((table, mut pass)) = opened(alloc) else {
+        return Err(AllocError);
+    };
+    match validate(alloc, &table, &mut pass, block, order) {
+        Verdict::Same(checked) => {
+            out.push_str("same")?;
+            return Ok(Some(checked.into_order()));
+        }
+        Verdict::Unclean(rule) => write!(out, "unclean {rule}")?,
+        Verdict::Differs(place) => {
+            out.push_str("differs ")?;
+            put_place(out, place)?;
+        }
+        Verdict::Full => out.push_str("full")?,
+        Verdict::NoMemory => return Err(AllocError),
+    }
+    Ok(None)
+}
+
+fn proposed(alloc: Global, block: &Block) -> Result<Order, AllocError> {
+    FilledOrder(ListOrder).reorder(alloc, block)
+}
+
+/// The order that was refused, and the plain one, which stands in its place.
+fn put_refused(alloc: Global, out: &mut String, block: &Block) -> Result<(), AllocError> {
+    let refused = proposed(alloc, block)?;
+    out.push_str("    proposed:\n")?;
+    put_order(out, &refused, "      ", "\n")?;
+    out.push_str("    taken:\n")?;
+    put_order(out, &plain(alloc, block)?, "      ", "\n")
+}
+
+/// The verdict on the order that is proposed for a block, and the order that is taken; the one that was refused before it.
+pub(crate) fn put_settled(
+    alloc: Global,
+    out: &mut String,
+    block: &Block,
+) -> Result<(), AllocError> {
+    let order = proposed(alloc, block)?;
+    out.push_str(": ")?;
+    let taken = settled(alloc, out, block, order)?;
+    out.push_str("\n")?;
+    match taken {
+        Some(order) => put_order(out, &order, "    ", "\n"),
+        None => put_refused(alloc, out, block),
+    }
+}

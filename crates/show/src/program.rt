@@ -1,0 +1,364 @@
+// The stages of a program, function by function.
+
+ghost use Rattle.std.specs.Prelude.{All, IfOk};
+ghost use Rattle.block_text.specs.Shown.{IsShown};
+
+use crate::blocks::{callee, put_heading};
+use crate::dot::{put_block, put_rtl_block};
+use crate::homes::put_homes;
+use crate::listing::{ListingView, put_title};
+use crate::names::Names;
+use crate::numbers::{Range, functions_of, numbers_of};
+use crate::orders::put_settled;
+use crate::rtl_text::RtlView;
+use crate::stage::Stage;
+use crate::terms::put_terms;
+use block_text::{WIDTH, page_of, put_order};
+use delay_filler::FilledOrder;
+use list_scheduler::ListOrder;
+use mblock::{Block, Unit, plain};
+use mips_asm::{AsmFault, assemble, list};
+use mips_homes::place;
+use rtl::{RFunc, Rtl};
+use sched_phase::{PhaseOpts, schedule_one};
+use std::alloc::{AllocError, Global};
+
+/// A program at its stages, with the text that it is of.
+#[derive(Clone, Copy)]
+pub struct Shown<'a> {
+    pub text: &'a [u8],
+    pub rtl: &'a Rtl,
+    pub unit: &'a Unit,
+}
+
+/// What is asked for.
+#[derive(Clone, Copy)]
+pub struct Asked<'a> {
+    /// One stage by its name, or RTL, blocks and orders of each function.
+    pub stage: Option<&'a str>,
+    /// One function, or all.
+    pub function: Option<&'a str>,
+    /// Graphs for Graphviz: of RTL where that stage is asked for, else of the unit's blocks.
+    pub dot: bool,
+}
+
+/// Why there is nothing to show.
+#[derive(Clone, Copy, Debug, PartialEq, Eq)]
+pub enum ShowFault {
+    /// There is no stage of this name.
+    NoStage,
+    /// The program has no function of this name.
+    NoFunction,
+    /// A function has more than 32,000 words of code, or the program more than 1,048,576: there is no listing.
+    Limit,
+    /// Memory was refused.
+    NoMemory,
+}
+
+impl From<AllocError> for ShowFault {
+    fn from(_refused: AllocError) -> ShowFault {
+        ShowFault::NoMemory
+    }
+}
+
+/// What is asked for, by what it stands for.
+#[derive(Clone, Copy)]
+struct Wanted {
+    stage: Option<Stage>,
+    /// By its number among the ranges.
+    only: Option<usize>,
+    dot: bool,
+}
+
+/// A program with its names and the numbers of its blocks.
+#[derive(Drop)]
+struct View<'a> {
+    shown: Shown<'a>,
+    names: Names<'a>,
+    ranges: Vec<Range>,
+}
+
+impl<'a> View<'a> {
+    fn read(alloc: Global, shown: Shown<'a>) -> Result<View<'a>, AllocError> {
+        let names = Names::read(alloc, shown.text)?;
+        let ranges = functions_of(alloc, shown.unit)?;
+        Ok(View {
+            shown,
+            names,
+            ranges,
+        })
+    }
+
+    fn range(&self, number: usize) -> Range {
+        let none = Range { from: 0, to: 0 };
+        self.ranges.get(number).copied().unwrap_or(none)
+    }
+
+    /// The function of RTL of this number among the ranges, the first of which is none of the program's.
+    fn function(&self, number: usize) -> Option<&'a RFunc> {
+        if number == 0 {
+            return None;
+        }
+        self.shown.rtl.functions().get(number - 1)
+    }
+
+    fn put_rtl(
+        &self,
+        alloc: Global,
+        out: &mut String,
+        number: usize,
+        is_graph: bool,
+    ) -> Result<(), AllocError> {
+        let Some(function) = self.function(number) else {
+            return Ok(());
+        };
+        let blocks = function.blocks.as_slice();
+        let numbers = numbers_of(alloc, self.shown.unit, self.range(number).from, blocks)?;
+        let view = RtlView {
+            names: &self.names,
+            function: number.saturating_sub(1),
+            globals: self.shown.rtl.globals(),
+            numbers: numbers.as_slice(),
+        };
+        if !is_graph {
+            return view.blocks(out, blocks);
+        }
+        for (k, block) in blocks.iter().enumerate() {
+            let number = numbers.get(k).copied().unwrap_or(0);
+            put_rtl_block(out, &view, number, block)?;
+        }
+        Ok(())
+    }
+
+    fn put_homes(&self, alloc: Global, out: &mut String, number: usize) -> Result<(), AllocError> {
+        if number == 0 {
+            return Ok(());
+        }
+        let homed = place(alloc, self.shown.rtl)?;
+        match homed.frames.get(number - 1) {
+            Some(frame) => put_homes(out, &self.names, number - 1, frame),
+            None => Ok(()),
+        }
+    }
+
+    /// A block in one of the stages of blocks.
+    fn put_stage(
+        &self,
+        alloc: Global,
+        out: &mut String,
+        stage: Stage,
+        block: &Block,
+    ) -> Result<(), AllocError> {
+        match stage {
+            Stage::Orders => put_settled(alloc, out, block),
+            Stage::Terms => {
+                out.push_str("\n")?;
+                put_terms(alloc, out, block)
+            }
+            _ => {
+                out.push_str("\n")?;
+                put_order(out, &plain(alloc, block)?, "    ", "\n")
+            }
+        }
+    }
+
+    fn put_blocks(
+        &self,
+        alloc: Global,
+        out: &mut String,
+        stage: Stage,
+        number: usize,
+    ) -> Result<(), AllocError> {
+        let range = self.range(number);
+        let blocks = self.shown.unit.blocks();
+        for (k, block) in blocks.iter().enumerate().take(range.to).skip(range.from) {
+            put_heading(
+                out,
+                k,
+                callee(&self.names, self.ranges.as_slice(), block.exit()),
+            )?;
+            self.put_stage(alloc, out, stage, block)?;
+        }
+        Ok(())
+    }
+
+    /// One stage of a function, but for the listing.
+    fn put_function(
+        &self,
+        alloc: Global,
+        out: &mut String,
+        stage: Stage,
+        number: usize,
+    ) -> Result<(), AllocError> {
+        put_title(out, &self.names, number)?;
+        match stage {
+            Stage::Rtl => self.put_rtl(alloc, out, number, false),
+            Stage::Homes => self.put_homes(alloc, out, number),
+            _ => self.put_blocks(alloc, out, stage, number),
+        }
+    }
+
+    /// A function's graph, as a cluster.
+    fn put_graph(
+        &self,
+        alloc: Global,
+        out: &mut String,
+        is_rtl: bool,
+        number: usize,
+    ) -> Result<(), AllocError> {
+        let name = if number == 0 {
+            "start"
+        } else {
+            self.names.function(number - 1)
+        };
+        writeln!(out, "  subgraph cluster_{number} {{")?;
+        writeln!(out, "    label=\"{name}\";")?;
+        if is_rtl {
+            self.put_rtl(alloc, out, number, true)?;
+        } else {
+            let range = self.range(number);
+            let blocks = self.shown.unit.blocks();
+            for (k, block) in blocks.iter().enumerate().take(range.to).skip(range.from) {
+                put_block(out, k, block)?;
+            }
+        }
+        out.push_str("  }\n")
+    }
+
+    fn put_listing(
+        &self,
+        alloc: Global,
+        out: &mut String,
+        only: Option<usize>,
+    ) -> Result<(), ShowFault> {
+        let Some(options) = PhaseOpts::new(1, 65536, 1024) else {
+            return Ok(());
+        };
+        let scheduler = FilledOrder(ListOrder);
+        let scheduled = schedule_one(alloc, self.shown.unit, options, &scheduler)?;
+        let image = match assemble(alloc, &scheduled) {
+            Ok(image) => image,
+            Err(AsmFault::Limit) => return Err(ShowFault::Limit),
+            Err(AsmFault::NoMemory) => return Err(ShowFault::NoMemory),
+        };
+        let listing = list(alloc, &image)?;
+        let view = ListingView {
+            names: &self.names,
+            unit: self.shown.unit,
+            ranges: self.ranges.as_slice(),
+            globals: self.shown.rtl.globals(),
+            only,
+        };
+        view.put(out, scheduled.orders(), listing.as_str())?;
+        Ok(())
+    }
+
+    /// All that is asked of a function.
+    fn put_asked(
+        &self,
+        alloc: Global,
+        out: &mut String,
+        wanted: &Wanted,
+        number: usize,
+    ) -> Result<(), AllocError> {
+        if wanted.dot {
+            return self.put_graph(alloc, out, wanted.stage == Some(Stage::Rtl), number);
+        }
+        match wanted.stage {
+            Some(stage) => self.put_function(alloc, out, stage, number),
+            None => {
+                for stage in [Stage::Rtl, Stage::Blocks, Stage::Orders] {
+                    self.put_staged(alloc, out, stage, number)?;
+                }
+                Ok(())
+            }
+        }
+    }
+
+    /// A stage of a function under the stage's name.
+    fn put_staged(
+        &self,
+        alloc: Global,
+        out: &mut String,
+        stage: Stage,
+        number: usize,
+    ) -> Result<(), AllocError> {
+        if number == 0 && stage == Stage::Rtl {
+            return Ok(());
+        }
+        let name = stage.name();
+        write!(out, "{name}: ")?;
+        self.put_function(alloc, out, stage, number)
+    }
+
+    fn put_all(&self, alloc: Global, out: &mut String, wanted: &Wanted) -> Result<(), AllocError> {
+        if wanted.dot {
+            out.push_str("digraph blocks {\n  node [shape=box fontname=monospace];\n")?;
+        }
+        let (first, end) = match wanted.only {
+            Some(number) => (number, number.saturating_add(1)),
+            None => (first_of(wanted), self.ranges.len()),
+        };
+        for number in first..end {
+            self.put_asked(alloc, out, wanted, number)?;
+        }
+        if wanted.dot {
+            out.push_str("}\n")?;
+        }
+        Ok(())
+    }
+
+    /// The text of what is asked for.
+    fn text(&self, alloc: Global, wanted: &Wanted) -> Result<String, ShowFault> {
+        let mut out = String::new(alloc);
+        if wanted.stage == Some(Stage::Listing) && !wanted.dot {
+            self.put_listing(alloc, &mut out, wanted.only)?;
+        } else {
+            self.put_all(alloc, &mut out, wanted)?;
+        }
+        Ok(out)
+    }
+
+    /// What is asked for, if it is there.
+    fn wanted(&self, asked: &Asked<'_>) -> Result<Wanted, ShowFault> {
+        let stage = match asked.stage {
+            None => None,
+            Some(name) => match Stage::named(name) {
+                Some(stage) => Some(stage),
+                None => return Err(ShowFault::NoStage),
+            },
+        };
+        let only = match asked.function {
+            None => None,
+            Some(name) => match self.names.function_named(name) {
+                Some(number) => Some(number.saturating_add(1)),
+                None => return Err(ShowFault::NoFunction),
+            },
+        };
+        Ok(Wanted {
+            stage,
+            only,
+            dot: asked.dot,
+        })
+    }
+}
+
+/// The first function that is shown: the code that calls main has neither RTL nor homes.
+fn first_of(wanted: &Wanted) -> usize {
+    match wanted.stage {
+        Some(Stage::Rtl | Stage::Homes) => 1,
+        _ => 0,
+    }
+}
+
+/// What is asked for of a program: lines of printable ASCII, of at most 120 bytes but for graphs.
+pub fn show(alloc: Global, shown: Shown<'_>, asked: &Asked<'_>) -> Result<Vec<u8>, ShowFault>
+    ensures { IfOk result (λ page. All IsShown page.items) }
+{
+    let view = View::read(alloc, shown)?;
+    let wanted = view.wanted(asked)?;
+    let text = view.text(alloc, &wanted)?;
+    let width = if asked.dot { usize::MAX } else { WIDTH };
+    let page = page_of(alloc, text.as_bytes(), width)?;
+    Ok(page)
+}
