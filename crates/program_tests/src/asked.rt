@@ -125,7 +125,8 @@ fn words_name_the_stage(rt: HostRuntime) -> Result<(), Fail> {
             function,
             dot,
         },
-    ) = words(rt.alloc(), show.as_slice()) else {
+    ) = words(rt.alloc(), show.as_slice())
+    else {
         panic!(rt; "no command")
     };
     assert_eq!(rt; source, "x.c");
