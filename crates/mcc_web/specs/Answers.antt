@@ -1,0 +1,90 @@
+-- What the exports give their host.
+use Rattle.std.specs.Prelude.{◌≡◌, ◌≤◌, ℕ, List, [], ◌∷◌, ◌++◌, Bool, true, false, length, take}
+use Rattle.runs.specs.Runs.{Outcome}
+use Rattle.mips_steps.specs.Machines.{MachineOutcome}
+use Rattle.image.specs.Images.{IsImageFault}
+use Rattle.image.specs.Texts.{image_fault_text}
+use Rattle.image.specs.declared.fault.ImageFault.{ImageFault}
+use Rattle.check_command.specs.Checks.{IsAnswerTo, IsCheckFault}
+use Rattle.check_command.specs.Texts.{answer_text, check_fault_text, exit_status}
+use Rattle.check_command.specs.declared.verdicts.CheckAnswer.{CheckAnswer}
+use Rattle.check_command.specs.declared.verdicts.CheckFault.{CheckFault}
+use Rattle.sched_phase.specs.Phases.{IsWholePhase}
+use Rattle.driver.specs.Program.{AnyOrder, built_text, factor_of, words_text}
+use Rattle.driver.specs.Texts.{build_fault_text, end_status, end_text, ending_status, ending_text, interp_fault_text}
+use Rattle.driver.specs.Interps.{IsInterpFault, IsRun}
+use Rattle.driver.specs.ImageRuns.{IsImageRun, IsListing}
+use Rattle.driver.specs.Builds.{IsPlain, IsScheduledBuild}
+use Rattle.driver.specs.BuildFaults.{IsBuildFault}
+use Rattle.driver.specs.Follows.{FollowsText}
+use Rattle.driver.specs.declared.builds.Built.{Built}
+use Rattle.driver.specs.declared.builds.BuildFault.{BuildFault}
+use Rattle.driver.specs.declared.source_runs.InterpFault.{InterpFault}
+
+-- a text of this length, at the front of what the host lent, where it fits
+abbrev pub Gives : (text : List ℕ) → (said : ℕ) → (old new : List ℕ) → Type 0
+Gives text said old new = (said ≡ length text) × (length new ≡ length old) × (said ≤ length old → take said new ≡ text)
+
+-- a line of a fault, and maybe more behind it
+abbrev pub GivesLine : (line : List ℕ) → (said : ℕ) → (old new : List ℕ) → Type 0
+GivesLine line said old new = (more : List ℕ) × Gives (line ++ 10 ∷ more) said old new
+
+-- `check`: the verdict on what the text spells
+pub record SaysVerdict (text : List ℕ) (status said : ℕ) (old new : List ℕ) : Type 0 where
+  pub answer : CheckAnswer
+  pub answered : IsAnswerTo text answer
+  pub ends : status ≡ exit_status answer
+  pub gives : Gives (answer_text answer ++ 10 ∷ []) said old new
+
+pub record SaysCheckFault (text : List ℕ) (said : ℕ) (old new : List ℕ) : Type 0 where
+  pub fault : CheckFault
+  pub is : IsCheckFault text fault
+  pub gives : GivesLine (check_fault_text fault) said old new
+
+-- `interp`: the run of the program that the text spells
+pub record SaysRun (text : List ℕ) (depth steps : ℕ) (status said : ℕ) (old new : List ℕ) : Type 0 where
+  pub outcome : Outcome
+  pub run : IsRun text depth steps outcome
+  pub ends : status ≡ end_status outcome.end
+  pub gives : Gives (words_text outcome.output ++ (end_text outcome.end ++ 10 ∷ [])) said old new
+
+pub record SaysInterpFault (text : List ℕ) (said : ℕ) (old new : List ℕ) : Type 0 where
+  pub fault : InterpFault
+  pub is : IsInterpFault text fault
+  pub gives : GivesLine (interp_fault_text fault) said old new
+
+-- with `plain` each block in its own order, else checked orders; no block is missed
+abbrev pub IsScheduledAs : Bool → Built → Type 0
+IsScheduledAs true b = IsScheduledBuild IsPlain b
+IsScheduledAs false b = IsScheduledBuild (IsWholePhase AnyOrder) b
+
+-- `build`: its line, and behind it the bytes of an image that follows the program
+pub record SaysImage (text : List ℕ) (depth : ℕ) (plain : Bool) (status said : ℕ) (old new : List ℕ) : Type 0 where
+  pub built : Built
+  pub follows : FollowsText text depth (factor_of plain) built.image.items
+  pub scheduled : IsScheduledAs plain built
+  pub ends : status ≡ 0
+  pub gives : Gives (built_text plain built ++ built.image.items) said old new
+
+pub record SaysBuildFault (text : List ℕ) (said : ℕ) (old new : List ℕ) : Type 0 where
+  pub fault : BuildFault
+  pub is : IsBuildFault text fault
+  pub gives : GivesLine (build_fault_text fault) said old new
+
+-- `run` and `list`
+pub record SaysMachine (bytes : List ℕ) (steps : ℕ) (status said : ℕ) (old new : List ℕ) : Type 0 where
+  pub outcome : MachineOutcome
+  pub run : IsImageRun bytes steps outcome
+  pub ends : status ≡ ending_status outcome.end
+  pub gives : Gives (words_text outcome.output ++ (ending_text outcome.end ++ 10 ∷ [])) said old new
+
+pub record SaysListing (bytes : List ℕ) (status said : ℕ) (old new : List ℕ) : Type 0 where
+  pub text : List ℕ
+  pub listed : IsListing bytes text
+  pub ends : status ≡ 0
+  pub gives : Gives text said old new
+
+pub record SaysImageFault (bytes : List ℕ) (said : ℕ) (old new : List ℕ) : Type 0 where
+  pub fault : ImageFault
+  pub is : IsImageFault bytes fault
+  pub gives : GivesLine (image_fault_text fault) said old new

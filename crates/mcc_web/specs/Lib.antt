@@ -1,0 +1,4 @@
+pub mod Answers
+pub mod Telling
+pub mod Machines
+pub mod Orders

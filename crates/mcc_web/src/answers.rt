@@ -1,0 +1,140 @@
+// The exports that print what a command prints.
+
+ghost use Rattle.std.specs.Prelude.{◌≡◌, ◌≢◌};
+ghost use Rattle.mcc_web.specs.Answers.{SaysCheckFault, SaysImageFault, SaysInterpFault, SaysListing, SaysMachine, SaysRun, SaysVerdict};
+ghost use Rattle.mcc_web.specs.declared.told.TheConstants.{REFUSED};
+
+pub use crate::told::REFUSED;
+use crate::told::{Told, put};
+use check_command::{print_answer, tell_check};
+use commands::tell;
+use driver::{
+    EndLine, EndingLine, check, end_status, ending_status, interp, list_image, print_run,
+    run_image, tell_interp,
+};
+use std::alloc::Global;
+
+/// Memory was refused to the text of an answer.
+fn refused(status: &mut u8) -> usize
+    ensures { status.new ≡ REFUSED }
+{
+    *status = REFUSED;
+    0
+}
+
+/// The verdict on the block and the order that the text spells: what `mcc check order.check` prints or tells, and its status.
+#[unsafe(no_mangle)]
+pub extern "C" fn mcc_web_check(
+    alloc: Global,
+    text: &[u8],
+    out: &mut [u8],
+    status: &mut u8,
+) -> usize
+    ensures answered { status.new ≢ 1 → status.new ≢ REFUSED → SaysVerdict text.now status.new result out.old out.new }
+    ensures faulty { status.new ≡ 1 → SaysCheckFault text.now result out.old out.new }
+{
+    match check(alloc, text) {
+        Ok(answer) => {
+            let mut printed = Vec::new(alloc);
+            match print_answer(&mut printed, &answer) {
+                Ok(ended) => {
+                    *status = ended;
+                    put(out, printed.as_slice())
+                }
+                Err(_) => refused(status),
+            }
+        }
+        Err(fault) => {
+            let mut told = Told::new(alloc);
+            *status = tell_check(alloc, &mut told, "order.check", text, fault);
+            told.give(out, status)
+        }
+    }
+}
+
+/// The run of the C program that the text spells: what `mcc interp program.c` prints or tells, and its status.
+#[unsafe(no_mangle)]
+pub extern "C" fn mcc_web_interp(
+    alloc: Global,
+    text: &[u8],
+    depth: u32,
+    steps: u64,
+    out: &mut [u8],
+    status: &mut u8,
+) -> usize
+    ensures answered { status.new ≢ 1 → status.new ≢ REFUSED → SaysRun text.now depth steps status.new result out.old out.new }
+    ensures faulty { status.new ≡ 1 → SaysInterpFault text.now result out.old out.new }
+{
+    match interp(alloc, text, depth, steps) {
+        Ok(ran) => {
+            let mut printed = Vec::new(alloc);
+            match print_run(&mut printed, ran.output.as_slice(), &EndLine(ran.end)) {
+                Ok(()) => {
+                    *status = end_status(ran.end);
+                    put(out, printed.as_slice())
+                }
+                Err(_) => refused(status),
+            }
+        }
+        Err(fault) => {
+            let mut told = Told::new(alloc);
+            *status = tell_interp(alloc, &mut told, "program.c", text, fault);
+            told.give(out, status)
+        }
+    }
+}
+
+/// What the image does within so many words: what `mcc run` prints or tells, and its status.
+#[unsafe(no_mangle)]
+pub extern "C" fn mcc_web_run(
+    alloc: Global,
+    image: &[u8],
+    steps: u64,
+    out: &mut [u8],
+    status: &mut u8,
+) -> usize
+    ensures answered { status.new ≢ 1 → status.new ≢ REFUSED → SaysMachine image.now steps status.new result out.old out.new }
+    ensures faulty { status.new ≡ 1 → SaysImageFault image.now result out.old out.new }
+{
+    match run_image(alloc, image, steps) {
+        Ok(ran) => {
+            let mut printed = Vec::new(alloc);
+            match print_run(&mut printed, ran.output.as_slice(), &EndingLine(ran.end)) {
+                Ok(()) => {
+                    *status = ending_status(ran.end);
+                    put(out, printed.as_slice())
+                }
+                Err(_) => refused(status),
+            }
+        }
+        Err(fault) => {
+            let mut told = Told::new(alloc);
+            *status = tell(&mut told, &fault);
+            told.give(out, status)
+        }
+    }
+}
+
+/// The listing of the image: what `mcc list` prints or tells, and its status.
+#[unsafe(no_mangle)]
+pub extern "C" fn mcc_web_list(
+    alloc: Global,
+    image: &[u8],
+    out: &mut [u8],
+    status: &mut u8,
+) -> usize
+    ensures answered { status.new ≢ 1 → status.new ≢ REFUSED → SaysListing image.now status.new result out.old out.new }
+    ensures faulty { status.new ≡ 1 → SaysImageFault image.now result out.old out.new }
+{
+    match list_image(alloc, image) {
+        Ok(text) => {
+            *status = 0;
+            put(out, text.as_bytes())
+        }
+        Err(fault) => {
+            let mut told = Told::new(alloc);
+            *status = tell(&mut told, &fault);
+            told.give(out, status)
+        }
+    }
+}

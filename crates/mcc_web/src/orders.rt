@@ -1,0 +1,197 @@
+// The export that lists the blocks of a build and the orders that they have.
+
+ghost use Rattle.std.specs.Prelude.{◌≡◌, ◌≢◌, Some, OnOk, length};
+ghost use Rattle.std.specs.Io.KnownBytes.{Appends};
+ghost use Rattle.check_text.specs.Spelling.{exit_name_text, exit_text};
+ghost use Rattle.check_text.specs.declared.names.ExitName.TheVariants as names;
+ghost use Rattle.mcc_web.specs.Answers.{SaysBuildFault};
+ghost use Rattle.mcc_web.specs.Orders.{SaysOrders, insts_text, pair_text, pairs_text, slot_text};
+ghost use Rattle.mcc_web.specs.declared.told.TheConstants.{REFUSED};
+
+use crate::builds::phase_for;
+use crate::told::{REFUSED, Told, put};
+use delay_filler::FilledOrder;
+use driver::{tell_build, unit_of};
+use list_scheduler::ListOrder;
+use mblock::{Block, BlockNumber, Exit, Order};
+use mips_isa::{PairTest, Plain, ZeroTest};
+use sched_phase::schedule_one;
+use std::alloc::Global;
+use std::fmt;
+use std::io::{self, Write};
+
+/// How a block is left, as check texts spell it.
+#[derive(Clone, Copy)]
+struct ExitLine(Exit);
+
+fn pair_name(test: PairTest) -> &'static str
+    ensures { result.now ≡ exit_name_text (names.BranchPair test) }
+{
+    match test {
+        PairTest::Equal => "beq",
+        PairTest::NotEqual => "bne",
+    }
+}
+
+fn zero_name(test: ZeroTest) -> &'static str
+    ensures { result.now ≡ exit_name_text (names.BranchZero test) }
+{
+    match test {
+        ZeroTest::AtMostZero => "blez",
+        ZeroTest::AboveZero => "bgtz",
+        ZeroTest::BelowZero => "bltz",
+        ZeroTest::AtLeastZero => "bgez",
+    }
+}
+
+impl fmt::Display for ExitLine {
+    ghost output = { λ e. Some (exit_text e.0) };
+
+    fn fmt<W: fmt::Write>(&self, f: &mut fmt::Formatter<W>) -> fmt::Result {
+        match self.0 {
+            Exit::Goto(then) => {
+                let then = then.number();
+                write!(f, "goto {then}")
+            }
+            Exit::BranchPair {
+                test,
+                rs,
+                rt,
+                then,
+                other,
+            } => {
+                let (name, then, other) = (pair_name(test), then.number(), other.number());
+                write!(f, "{name} {rs},{rt},{then},{other}")
+            }
+            Exit::BranchZero {
+                test,
+                rs,
+                then,
+                other,
+            } => {
+                let (name, then, other) = (zero_name(test), then.number(), other.number());
+                write!(f, "{name} {rs},{then},{other}")
+            }
+            Exit::Call { function, next } => {
+                let (function, next) = (function.number(), next.number());
+                write!(f, "call {function},{next}")
+            }
+            Exit::Return => f.write_str("return"),
+            Exit::Out(next) => {
+                let next = next.number();
+                write!(f, "out {next}")
+            }
+            Exit::Halt => f.write_str("halt"),
+        }
+    }
+}
+
+fn print_insts<W: Write>(out: &mut W, insts: &[Plain]) -> io::Result<()>
+    ensures { OnOk result (Appends (W.contents out.old) (W.contents out.new) (insts_text insts.now)) }
+{
+    for inst in insts {
+        writeln!(out, "{inst}")?;
+    }
+    Ok(())
+}
+
+fn print_slot<W: Write>(out: &mut W, slot: Option<Plain>) -> io::Result<()>
+    ensures { OnOk result (Appends (W.contents out.old) (W.contents out.new) (slot_text slot)) }
+{
+    match slot {
+        Some(inst) => writeln!(out, "slot {inst}"),
+        None => Ok(()),
+    }
+}
+
+fn print_pair<W: Write>(
+    out: &mut W,
+    number: usize,
+    owner: BlockNumber,
+    block: &Block,
+    order: &Order,
+) -> io::Result<()>
+    ensures { OnOk result (Appends (W.contents out.old) (W.contents out.new) (pair_text number owner block.now order.now)) }
+{
+    let owner = owner.number();
+    write!(out, "# {number} {owner}\nblock\n")?;
+    print_insts(out, block.insts())?;
+    let exit = ExitLine(block.exit());
+    write!(out, "{exit}\norder\n")?;
+    print_insts(out, order.insts())?;
+    let exit = ExitLine(order.exit());
+    write!(out, "{exit}\n")?;
+    print_slot(out, order.slot())
+}
+
+fn print_pairs<W: Write>(
+    out: &mut W,
+    owners: &[BlockNumber],
+    blocks: &[Block],
+    orders: &[Order],
+) -> io::Result<()>
+    requires owners { length owners.now ≡ length blocks.now }
+    requires orders { length orders.now ≡ length blocks.now }
+    ensures { OnOk result (Appends (W.contents out.old) (W.contents out.new) (pairs_text 0 owners.now blocks.now orders.now)) }
+{
+    for number in 0..blocks.len() {
+        print_pair(
+            out,
+            number,
+            owners[number],
+            &blocks[number],
+            &orders[number],
+        )?;
+    }
+    Ok(())
+}
+
+/// The blocks of the program that the text spells, each with the order that it has in the image of `mcc_web_build`; or what
+/// `mcc build program.c IMAGE` tells, and its status.
+#[unsafe(no_mangle)]
+pub extern "C" fn mcc_web_orders(
+    alloc: Global,
+    text: &[u8],
+    depth: u32,
+    out: &mut [u8],
+    status: &mut u8,
+) -> usize
+    ensures wrong_words { status.new ≡ 2 → depth ≡ 0 }
+    ensures answered { status.new ≢ 1 → status.new ≢ 2 → status.new ≢ REFUSED
+        → SaysOrders text.now depth status.new result out.old out.new }
+    ensures faulty { status.new ≡ 1 → SaysBuildFault text.now result out.old out.new }
+{
+    if depth == 0 {
+        *status = 2;
+        return 0;
+    }
+    let unit = match unit_of(alloc, text, depth) {
+        Ok(unit) => unit,
+        Err(fault) => {
+            let mut told = Told::new(alloc);
+            *status = tell_build(alloc, &mut told, "program.c", text, fault);
+            return told.give(out, status);
+        }
+    };
+    let Ok(scheduled) = schedule_one(alloc, &unit, phase_for(text.len()), &FilledOrder(ListOrder))
+    else {
+        *status = REFUSED;
+        return 0;
+    };
+    let mut printed = Vec::new(alloc);
+    match print_pairs(
+        &mut printed,
+        unit.owner(),
+        unit.blocks(),
+        scheduled.orders(),
+    ) {
+        Ok(()) => {
+            *status = 0;
+            put(out, printed.as_slice())
+        }
+        Err(_) => {
+            *status = REFUSED;
+            0
+        }
+    }
+}

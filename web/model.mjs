@@ -1,0 +1,334 @@
+// What the page makes of the program's texts: blocks, orders, functions, the graph of a function, and changes of an order.
+// The module decides everything that matters (verdicts, images, runs); this is how it is shown.
+
+export const RULES = {
+  U1: 'U1: an instruction reads or writes the register that the instruction just before it loads.',
+  U2: 'U2: fewer than two words stand between an mfhi or mflo and a multiplication or division behind it.',
+  U3: 'U3: a load, mfhi or mflo is in the slot.',
+  U4: 'U4: the last instruction loads a register that the first word of the exit reads or writes.',
+  M1: 'M1: the word after a load reads or writes the loaded register.',
+  M2: 'M2: a multiplication or division with fewer than two words since HI or LO was read.',
+  M3: 'M3: a branch or jump in a delay slot.',
+  M4: 'M4: a division without a value: by 0, or the least int by -1.',
+  M5: "M5: a word's address that is no multiple of 4.",
+  M6: "M6: an address that isn't mapped.",
+  M7: 'M7: a fetch outside the code, or not at a multiple of 4.',
+  M8: 'M8: a word that no instruction has.',
+  M9: 'M9: a call to the system with another number than 1 and 10.',
+};
+
+const PLACES = { hi: 'HI', lo: 'LO', mem: 'memory', exit: 'the exit', guards: 'the loads and divisions that may go wrong' };
+const EXIT_WORDS = { goto: 2, call: 4, return: 2, out: 4, halt: 2 };
+const SLOTLESS = ['out', 'halt'];
+
+export const hex = word => '0x' + word.toString(16).padStart(8, '0');
+
+const mnemonic = line => line.split(' ')[0];
+export const exitWords = exit => EXIT_WORDS[mnemonic(exit)] ?? 4;
+export const hasSlot = exit => !SLOTLESS.includes(mnemonic(exit));
+
+// The numbers of the blocks to which an exit goes inside its function, the first one where a condition holds.
+export function targets(exit) {
+  const operands = exit.split(' ')[1]?.split(',') ?? [];
+  switch (mnemonic(exit)) {
+    case 'goto': case 'out': return [Number(operands[0])];
+    case 'call': return [Number(operands[1])];
+    case 'return': case 'halt': return [];
+    default: return operands.slice(-2).map(Number);
+  }
+}
+
+// A check text: its block, and its order.
+export function parsePair(text) {
+  const lines = text.trimEnd().split('\n');
+  const middle = lines.indexOf('order');
+  if (lines[0] !== 'block' || middle < 2) return null;
+  const block = { insts: lines.slice(1, middle - 1), exit: lines[middle - 1] };
+  const rest = lines.slice(middle + 1);
+  const slot = rest.at(-1)?.startsWith('slot ') ? rest.pop().slice(5) : null;
+  return { block, order: { insts: rest.slice(0, -1), exit: rest.at(-1), slot } };
+}
+
+export function pairText(block, order) {
+  const lines = ['block', ...block.insts, block.exit, 'order', ...order.insts, order.exit];
+  if (order.slot !== null) lines.push('slot ' + order.slot);
+  return lines.join('\n') + '\n';
+}
+
+export const orderWords = order => order.insts.length + exitWords(order.exit);
+
+// The blocks of a build, each with its order and the address of its first word.
+export function parseOrders(text) {
+  let address = 0x00400000;
+  return text.split(/^# /m).slice(1).map(part => {
+    const end = part.indexOf('\n');
+    const [number, owner] = part.slice(0, end).split(' ').map(Number);
+    const block = { number, owner, address, ...parsePair(part.slice(end + 1)) };
+    address += 4 * orderWords(block.order);
+    return block;
+  });
+}
+
+export const blockAt = (blocks, pc) => blocks.findLast(b => b.address <= pc && pc < b.address + 4 * orderWords(b.order)) ?? null;
+
+// The plain order: a Nop behind each load, two behind each mfhi and mflo, one in the slot.
+export function plainOrder(block) {
+  const insts = block.insts.flatMap(i => {
+    const word = mnemonic(i);
+    if (word === 'lw' || word === 'lbu') return [i, 'nop'];
+    return word === 'mfhi' || word === 'mflo' ? [i, 'nop', 'nop'] : [i];
+  });
+  return { insts, exit: block.exit, slot: hasSlot(block.exit) ? 'nop' : null };
+}
+
+// The functions that a C text defines, in order, with their lines; what isn't code is left out.
+export function functionsOf(text) {
+  const code = text.replace(/\/\*[\s\S]*?\*\/|\/\/.*/g, found => found.replace(/[^\n]/g, ' '));
+  const found = [];
+  let depth = 0, start = 0, head = '';
+  for (let at = 0, line = 1; at < code.length; at++) {
+    const c = code[at];
+    if (c === '\n') line++;
+    if (c === '{' && depth++ === 0) {
+      const name = /(\w+)\s*\([^()]*\)\s*$/.exec(head)?.[1];
+      if (name) found.push({ name, from: start, to: line });
+    } else if (c === '}' && --depth <= 0) {
+      depth = 0;
+      if (found.length) found.at(-1).to = Math.max(found.at(-1).to, line);
+      head = '';
+    } else if (depth === 0) {
+      if (c === ';') head = '';
+      else {
+        if (head.trim() === '' && c.trim() !== '') start = line;
+        head += c;
+      }
+    }
+  }
+  return found;
+}
+
+// The functions of a build: the start, and those of the text in their order; each with the numbers of its blocks.
+export function groupBlocks(blocks, functions) {
+  const owners = [...new Set(blocks.map(b => b.owner))];
+  return owners.map((owner, k) => ({
+    owner,
+    name: k === 0 ? 'start' : functions[k - 1]?.name ?? 'block ' + owner,
+    lines: k === 0 ? null : functions[k - 1] ?? null,
+    blocks: blocks.filter(b => b.owner === owner),
+  }));
+}
+
+// ---- faults
+
+// The line of a fault, and its place and what is said of it, where the program tells them.
+export function parseTold(text) {
+  const lines = text.split('\n');
+  const told = { fault: lines[0], line: null, column: null, message: null, hint: null };
+  for (const line of lines.slice(1)) {
+    const place = /^[\w.]+:(\d+):(\d+):(?: error: (.*))?$/.exec(line);
+    if (place) Object.assign(told, { line: +place[1], column: +place[2], message: place[3] ?? null });
+    else if (line.startsWith('hint: ')) told.hint = line.slice(6);
+    else if (told.line === null && line) told.message = line;
+  }
+  return told;
+}
+
+// ---- what instructions touch, to mark the two that a rule is about
+
+const registersIn = text => (text.match(/\$\d+/g) ?? []).map(r => Number(r.slice(1)));
+const isLoad = inst => ['lw', 'lbu'].includes(mnemonic(inst));
+const isMove = inst => ['mfhi', 'mflo'].includes(mnemonic(inst));
+const isProduct = inst => ['mult', 'multu', 'div', 'divu'].includes(mnemonic(inst));
+
+function exitTouches(exit) {
+  const word = mnemonic(exit);
+  if (word === 'call' || word === 'return') return [31];
+  if (word === 'out' || word === 'halt') return [2];
+  return registersIn(exit);
+}
+
+// The places of an order (0.., 'exit', 'slot') that a delay rule is about.
+export function marked(order, rule) {
+  const { insts, exit, slot } = order;
+  const last = insts.length - 1;
+  if (rule === 'U1') {
+    const at = insts.findIndex((inst, k) => k < last && isLoad(inst) && registersIn(insts[k + 1]).includes(registersIn(inst)[0]));
+    return at < 0 ? [] : [at, at + 1];
+  }
+  if (rule === 'U2') {
+    const words = [...insts, '', slot ?? ''];
+    for (const [k, inst] of words.entries()) {
+      const next = isMove(inst) ? [k + 1, k + 2].find(n => isProduct(words[n] ?? '')) : undefined;
+      if (next !== undefined) return [k, next === insts.length + 1 ? 'slot' : next];
+    }
+    return [];
+  }
+  if (rule === 'U3') return ['slot'];
+  if (rule === 'U4') return exitTouches(exit).includes(registersIn(insts[last] ?? '')[0]) ? [last, 'exit'] : ['exit'];
+  return [];
+}
+
+export function explain(verdict) {
+  const [kind, what] = verdict.trim().split(' ');
+  if (kind === 'same') return 'The order means the block: it may stand for it.';
+  if (kind === 'unclean') return RULES[what];
+  if (kind === 'differs') return `Not shown to mean the block: ${PLACES[what] ?? 'register ' + what} may end otherwise.`;
+  if (kind === 'full') return 'The table of terms was full: nothing is decided.';
+  return '';
+}
+
+// ---- changes of an order; each gives a new one
+
+const copy = order => ({ ...order, insts: [...order.insts] });
+
+// Moves what stands at a place (a number or 'slot') to another one; what was in the slot and is no Nop goes to the end.
+export function move(order, from, to) {
+  const next = copy(order);
+  if (from === to) return next;
+  let inst = next.slot;
+  if (from === 'slot') next.slot = 'nop';
+  else [inst] = next.insts.splice(from, 1);
+  if (to !== 'slot') {
+    next.insts.splice(to, 0, inst);
+    return next;
+  }
+  if (next.slot !== null && next.slot !== 'nop') next.insts.push(next.slot);
+  next.slot = inst;
+  return next;
+}
+
+export function addNop(order, at) {
+  const next = copy(order);
+  next.insts.splice(at, 0, 'nop');
+  return next;
+}
+
+export function removeNop(order, at) {
+  const next = copy(order);
+  if (next.insts[at] === 'nop') next.insts.splice(at, 1);
+  return next;
+}
+
+// ---- the graph of a function: blocks in layers, and its edges
+
+export function graphOf(blocks) {
+  const numbers = new Map(blocks.map((b, k) => [b.number, k]));
+  const edges = [];
+  for (const [from, b] of blocks.entries()) {
+    const all = targets(b.block.exit);
+    all.forEach((t, k) => {
+      if (numbers.has(t)) edges.push({ from, to: numbers.get(t), kind: all.length < 2 ? '' : k === 0 ? 'yes' : 'no', isBack: false });
+    });
+  }
+  markBackEdges(blocks.length, edges);
+  const layer = layers(blocks.length, edges);
+  const steps = stepsOf(edges, layer);
+  return { edges, layer, rank: ranks(layer.length, steps, layer) };
+}
+
+// Where an edge goes past layers, it has a place in each of them, behind those of the blocks (`by`).
+function stepsOf(edges, layer) {
+  const steps = [];
+  for (const edge of edges) {
+    edge.by = [];
+    if (edge.isBack) continue;
+    let from = edge.from;
+    while (layer[from] + 1 < layer[edge.to]) {
+      const place = layer.push(layer[from] + 1) - 1;
+      steps.push({ from, to: place });
+      edge.by.push(place);
+      from = place;
+    }
+    steps.push({ from, to: edge.to });
+  }
+  return steps;
+}
+
+function markBackEdges(count, edges) {
+  const out = Array.from({ length: count }, () => []);
+  for (const edge of edges) out[edge.from].push(edge);
+  const state = new Array(count).fill(0);
+  for (let root = 0; root < count; root++) {
+    if (state[root]) continue;
+    const stack = [[root, 0]];
+    state[root] = 1;
+    while (stack.length) {
+      const top = stack.at(-1);
+      const edge = out[top[0]][top[1]++];
+      if (!edge) {
+        state[top[0]] = 2;
+        stack.pop();
+      } else if (state[edge.to] === 1) edge.isBack = true;
+      else if (state[edge.to] === 0) {
+        state[edge.to] = 1;
+        stack.push([edge.to, 0]);
+      }
+    }
+  }
+}
+
+// Each block below all from which an edge comes down.
+function layers(count, edges) {
+  const layer = new Array(count).fill(0);
+  const forward = edges.filter(e => !e.isBack);
+  for (let round = 0; round < count; round++) {
+    let isDone = true;
+    for (const { from, to } of forward) {
+      if (layer[to] <= layer[from]) {
+        layer[to] = layer[from] + 1;
+        isDone = false;
+      }
+    }
+    if (isDone) break;
+  }
+  return layer;
+}
+
+// The place of each block in its layer: near the middle of the blocks above it, then of those below.
+function ranks(count, edges, layer) {
+  const rows = [];
+  for (let k = 0; k < count; k++) (rows[layer[k]] ??= []).push(k);
+  const rank = new Array(count).fill(0);
+  const settle = row => row.forEach((k, place) => { rank[k] = place - (row.length - 1) / 2; });
+  rows.forEach(settle);
+  const sweep = (order, near) => {
+    for (const row of order) {
+      const middle = k => {
+        const others = near(k);
+        return others.length ? others.reduce((sum, n) => sum + rank[n], 0) / others.length : rank[k];
+      };
+      const by = new Map(row.map(k => [k, middle(k)]));
+      row.sort((a, b) => by.get(a) - by.get(b) || a - b);
+      settle(row);
+    }
+  };
+  const above = Array.from({ length: count }, () => []);
+  const below = Array.from({ length: count }, () => []);
+  for (const { from, to } of edges) {
+    above[to].push(from);
+    below[from].push(to);
+  }
+  for (let round = 0; round < 3; round++) {
+    sweep(rows, k => above[k]);
+    sweep([...rows].reverse(), k => below[k]);
+  }
+  return rank;
+}
+
+// ---- listings
+
+// The lines of a listing that have an address, as { address, word, text, isCode }.
+export function parseListing(text) {
+  return text.split('\n').flatMap(line => {
+    const parts = /^([0-9a-f]{8}) {2}([0-9a-f]+) {2}(.*)$/.exec(line);
+    if (!parts) return [];
+    const address = parseInt(parts[1], 16);
+    return [{ address, word: parts[2], text: parts[3], isCode: address < 0x10000000 }];
+  });
+}
+
+// The address that a load or store reaches, by the registers before it.
+export function reached(text, registers) {
+  const parts = /^(lw|lbu|sw|sb) \$\d+,(-?\d+)\(\$(\d+)\)$/.exec(text);
+  return parts ? (registers[+parts[3]] + Number(parts[2])) >>> 0 : null;
+}

@@ -1,0 +1,680 @@
+// The page: what is typed goes to the worker, and what it answers is shown.
+import {
+  RULES, addNop, blockAt, explain, functionsOf, graphOf, groupBlocks, hasSlot, hex, marked, move, orderWords, pairText, parseListing,
+  parseOrders, parsePair, parseTold, plainOrder, reached, removeNop,
+} from './model.mjs';
+
+const $ = id => document.getElementById(id);
+const SHORT_RUN = 1_000_000;
+const LONG_RUN = 1_000_000_000_000;
+const LINES = 400;
+const SHOWN = 100_000;
+const NO_MEMORY64 = 'This browser lacks WebAssembly with 64-bit memories. Chromium or Chrome from 133 on has it, and Firefox from 134 on.';
+
+const element = (tag, text, ...classes) => {
+  const made = document.createElement(tag);
+  if (text !== null) made.textContent = text;
+  made.classList.add(...classes.filter(Boolean));
+  return made;
+};
+const say = (id, text) => { $(id).textContent = text; };
+const cut = text => (text.length > SHOWN ? text.slice(0, SHOWN) + '\n.. and more' : text);
+
+// ---- the worker
+
+class Client {
+  constructor(script, wasm) {
+    this.script = URL.createObjectURL(new Blob([script], { type: 'text/javascript' }));
+    this.wasm = wasm;
+  }
+
+  start() {
+    this.worker = new Worker(this.script);
+    this.waiting = new Map();
+    this.count = 0;
+    this.worker.onmessage = ({ data: { id, answer, error } }) => {
+      const { resolve, reject } = this.waiting.get(id);
+      this.waiting.delete(id);
+      if (error === undefined) resolve(answer);
+      else reject(new Error(error));
+    };
+    return this.ask('start', { wasm: this.wasm });
+  }
+
+  ask(name, work) {
+    return new Promise((resolve, reject) => {
+      this.waiting.set(++this.count, { resolve, reject });
+      this.worker.postMessage({ id: this.count, name, work });
+    });
+  }
+
+  // Ends what is running, and begins anew.
+  stop() {
+    this.worker.terminate();
+    for (const { reject } of this.waiting.values()) reject(new Error('stopped'));
+    return this.start();
+  }
+}
+
+let client = null;
+const page = {
+  text: '', image: null, blocks: [], groups: [], group: null, chosen: null, order: null, at: 0, verdict: '', told: null,
+  listing: [], from: 0, cursor: 0, view: null, before: null, breakpoint: null, touched: null, texts: {}, isBusy: false, isStale: false,
+};
+
+// ---- the C text
+
+function showGutter() {
+  const bad = page.told?.line ?? null;
+  const held = bad === null ? page.group?.lines ?? null : null;
+  $('gutter').replaceChildren(...page.text.split('\n').flatMap((_, k) => {
+    const line = k + 1;
+    const isHeld = held && held.from <= line && line <= held.to;
+    return [element('span', String(line), line === bad && 'bad', isHeld && 'held'), '\n'];
+  }));
+  const behind = $('behind');
+  behind.replaceChildren();
+  if (bad !== null) {
+    const lines = page.text.split('\n');
+    const start = lines.slice(0, bad - 1).reduce((sum, line) => sum + line.length + 1, 0) + page.told.column - 1;
+    const rest = page.text.slice(start);
+    const length = /^(\w+|.)/.exec(rest)?.[0].length ?? 0;
+    behind.append(page.text.slice(0, start), element('mark', rest.slice(0, length) || ' '), rest.slice(length) + '\n');
+  }
+  follow();
+}
+
+function follow() {
+  const { scrollTop, scrollLeft } = $('source');
+  $('gutter').scrollTop = scrollTop;
+  $('behind').scrollTo(scrollLeft, scrollTop);
+}
+
+function showFault(told) {
+  page.told = told;
+  $('fault').hidden = told === null;
+  if (told) {
+    const place = told.line === null ? '' : `Line ${told.line}, column ${told.column}: `;
+    $('fault').replaceChildren(element('b', told.fault), element('div', place + (told.message ?? '')));
+    if (told.hint) $('fault').append(element('div', 'Hint: ' + told.hint));
+  }
+  showGutter();
+}
+
+async function refresh() {
+  if (page.isBusy) {
+    page.isStale = true;
+    return;
+  }
+  page.isBusy = true;
+  do {
+    page.isStale = false;
+    const text = page.text;
+    const late = setTimeout(() => { $('stop').hidden = false; }, 700);
+    const started = performance.now();
+    try {
+      const answer = await client.ask('program', { text, steps: SHORT_RUN, plain: $('plain').checked });
+      if (text === page.text) showProgram(answer, performance.now() - started);
+    } catch (error) {
+      say('state', error.message);
+    }
+    clearTimeout(late);
+    $('stop').hidden = true;
+  } while (page.isStale);
+  page.isBusy = false;
+}
+
+function showRuns(interp, run) {
+  say('interp', cut(interp.text));
+  say('machine', run ? cut(run.text) : '');
+  const isMore = interp.status === 4 || run?.status === 4;
+  $('run-on').hidden = !isMore || !run;
+  if (!run) say('agree', '');
+  else if (interp.status === 3) say('agree', 'C gives the text no meaning from there on, so nothing is promised of the machine.');
+  else if (isMore) say('agree', 'Not at the end after these steps.');
+  else say('agree', interp.text === run.text ? 'Both print the same.' : 'They differ: this must not be.');
+}
+
+function showProgram({ interp, build, run, list, orders }, time) {
+  showRuns(interp.status === 1 ? { status: 1, text: '' } : interp, run);
+  if (build.image === null) {
+    page.image = null;
+    showFault(parseTold(build.text));
+    say('state', 'fault');
+    return;
+  }
+  page.image = build.image;
+  const blocks = orders.status === 0 ? parseOrders(orders.text) : [];
+  page.blocks = blocks;
+  page.groups = groupBlocks(blocks, functionsOf(page.text));
+  page.listing = parseListing(list.text).filter(line => line.isCode);
+  page.texts = stageTexts(blocks, build.text + list.text);
+  showFault(null);
+  say('state', `${build.text.trim().split(' ').slice(0, 4).join(' ')} · ${time.toFixed(0)} ms`);
+  showFunctions();
+  showStage();
+  page.breakpoint = null;
+  goTo(0);
+}
+
+function stageTexts(blocks, listing) {
+  const head = b => `block ${b.number}, of the function at block ${b.owner}, at ${hex(b.address)}`;
+  const part = lines => lines.map(line => '    ' + line).join('\n') + '\n';
+  return {
+    'Blocks, as they are selected': blocks.map(b => head(b) + '\n' + part([...b.block.insts, b.block.exit])).join('\n'),
+    'Orders, as they run': blocks.map(b => {
+      const slot = b.order.slot === null ? [] : ['slot ' + b.order.slot];
+      return head(b) + '\n' + part([...b.order.insts, b.order.exit, ...slot]);
+    }).join('\n'),
+    'Listing of the image': listing,
+  };
+}
+
+function showStage() {
+  const names = Object.keys(page.texts);
+  const chosen = names.includes($('stage').value) ? $('stage').value : names.at(0);
+  $('stage').replaceChildren(...names.map(name => element('option', name)));
+  if (chosen) $('stage').value = chosen;
+  say('stage-text', cut(page.texts[chosen] ?? ''));
+}
+
+// ---- the graph of a function
+
+function showFunctions() {
+  const was = page.group?.name;
+  const select = $('functions');
+  select.replaceChildren(...page.groups.map((g, k) => new Option(`${g.name} (${g.blocks.length})`, k)));
+  const wanted = page.groups.findIndex(g => g.name === was);
+  const main = page.groups.findIndex(g => g.name === 'main');
+  chooseGroup(wanted >= 0 ? wanted : Math.max(main, 0), page.chosen?.number);
+}
+
+function chooseGroup(k, number) {
+  page.group = page.groups[k] ?? null;
+  $('functions').value = k;
+  if (!page.group) return;
+  showGraph();
+  chooseBlock(page.group.blocks.find(b => b.number === number) ?? page.group.blocks[0]);
+}
+
+const NODE = { width: 92, height: 34, across: 116, down: 62, pad: 30 };
+const svg = (tag, attributes, text = null) => {
+  const made = document.createElementNS('http://www.w3.org/2000/svg', tag);
+  for (const [name, value] of Object.entries(attributes)) made.setAttribute(name, value);
+  if (text !== null) made.textContent = text;
+  return made;
+};
+
+function showGraph() {
+  const { blocks } = page.group;
+  const { edges, layer, rank } = graphOf(blocks);
+  const least = Math.min(...rank);
+  const widest = Math.max(...rank) - least;
+  const back = edges.filter(e => e.isBack).length;
+  const middle = k => NODE.pad + NODE.width / 2 + (rank[k] - least) * NODE.across;
+  const top = k => NODE.pad + layer[k] * NODE.down;
+  const right = NODE.pad + NODE.width + widest * NODE.across;
+  const width = right + 26 + 12 * back;
+  const height = NODE.pad * 2 + NODE.height + Math.max(...layer) * NODE.down;
+  const graph = $('graph');
+  graph.replaceChildren(arrowHeads());
+  graph.setAttribute('viewBox', `0 0 ${width} ${height}`);
+  Object.assign(graph.style, { width: width + 'px', height: height + 'px', minWidth: width + 'px' });
+  let lane = right + 8;
+  for (const { from, to, by, kind, isBack } of edges) {
+    const side = kind === 'yes' ? -14 : kind === 'no' ? 14 : 0;
+    const [x, y, u, v] = [middle(from) + side, top(from) + NODE.height, middle(to), top(to)];
+    const bend = NODE.down - NODE.height;
+    const curve = (a, b, c, d) => `C ${a} ${b + bend}, ${c} ${d - bend}, ${c} ${d}`;
+    const past = by.map(k => [middle(k), top(k)]);
+    let [a, b] = [x, y];
+    const down = [...past, [u, v]].map(([c, d], k) => {
+      const drawn = curve(a, b, c, d) + (k < past.length ? ` L ${c} ${d + NODE.height}` : '');
+      [a, b] = [c, d + NODE.height];
+      return drawn;
+    });
+    const line = isBack
+      ? `M ${x} ${y} C ${x} ${y + 16}, ${lane} ${y + 16}, ${lane} ${y - 6} L ${lane} ${v + 6} C ${lane} ${v - 18}, ${u + 8} ${v - 18}, ${u + 8} ${v}`
+      : `M ${x} ${y} ` + down.join(' ');
+    if (isBack) lane += 12;
+    graph.append(svg('path', { d: line, class: isBack ? 'back' : '', 'marker-end': isBack ? 'url(#arrow-back)' : 'url(#arrow)' }));
+    if (kind) graph.append(svg('text', { x: x + (side < 0 ? -26 : 10), y: y + 12, class: 'kind' }, kind));
+  }
+  blocks.forEach((b, k) => {
+    const node = svg('g', { class: 'node', tabindex: 0, role: 'button', 'data-block': b.number, 'aria-label': `block ${b.number}` });
+    node.append(svg('rect', { x: middle(k) - NODE.width / 2, y: top(k), width: NODE.width, height: NODE.height }));
+    const [word] = b.block.exit.split(' ');
+    node.append(svg('text', { x: middle(k), y: top(k) + 14, 'text-anchor': 'middle' }, String(b.number)));
+    node.append(svg('text', { x: middle(k), y: top(k) + 28, 'text-anchor': 'middle', class: 'kind' }, `${b.block.insts.length} · ${word}`));
+    node.onclick = () => chooseBlock(b);
+    node.onkeydown = event => {
+      if (event.key === 'Enter' || event.key === ' ') { event.preventDefault(); chooseBlock(b); }
+    };
+    graph.append(node);
+  });
+}
+
+function arrowHeads() {
+  const heads = svg('defs', {});
+  for (const [id, colour] of [['arrow', '--soft'], ['arrow-back', '--back']]) {
+    const head = svg('marker', { id, viewBox: '0 0 8 8', refX: 7, refY: 4, markerWidth: 7, markerHeight: 7, orient: 'auto' });
+    head.append(svg('path', { d: 'M 0 0 L 8 4 L 0 8 z', style: `fill: var(${colour}); stroke: none` }));
+    heads.append(head);
+  }
+  return heads;
+}
+
+function markNodes() {
+  const here = page.view ? blockAt(page.blocks, page.view.pc) : null;
+  for (const node of document.querySelectorAll('#graph .node')) {
+    const number = Number(node.dataset.block);
+    node.classList.toggle('chosen', number === page.chosen?.number);
+    node.classList.toggle('pointed', number === here?.number);
+  }
+}
+
+// ---- a block and its order
+
+function chooseBlock(block) {
+  page.chosen = block;
+  page.order = block.order;
+  page.at = 0;
+  const where = block.number === null ? 'A block of a check text' : `Block ${block.number}, ${hex(block.address)}`;
+  say('block-title', where);
+  showBlock();
+  markNodes();
+  showListing();
+  showGutter();
+  judge();
+}
+
+const classOf = line => (line === 'nop' ? 'nop' : null);
+
+function showBlock() {
+  const { block } = page.chosen;
+  $('block').replaceChildren(...block.insts.map(line => element('li', line, classOf(line))), element('li', block.exit, 'exit'));
+  showOrder();
+}
+
+// The places of the order, in the order of their words: 0.., 'exit', 'slot'.
+const placesOf = order => [...order.insts.keys(), 'exit', ...(order.slot === null ? [] : ['slot'])];
+
+function showOrder() {
+  const { order } = page;
+  const rule = page.verdict.startsWith('unclean ') ? page.verdict.slice(8) : null;
+  const broken = rule ? marked(order, rule) : [];
+  const places = placesOf(order);
+  if (!places.includes(page.at)) page.at = places.includes(page.at - 1) ? page.at - 1 : places[0];
+  $('order').replaceChildren(...places.map(place => {
+    const line = place === 'exit' ? order.exit : place === 'slot' ? 'slot ' + order.slot : order.insts[place];
+    const kind = place === 'exit' || place === 'slot' ? place : null;
+    const item = element('li', line, kind, classOf(line.replace('slot ', '')), broken.includes(place) && 'broken');
+    item.dataset.place = place;
+    item.tabIndex = place === page.at ? 0 : -1;
+    item.draggable = place !== 'exit';
+    return item;
+  }));
+  say('verdict-words', `${orderWords(order)} words; the plain order takes ${orderWords(plainOrder(page.chosen.block))}.`);
+}
+
+const focusOrder = () => $('order').querySelector('[tabindex="0"]')?.focus();
+
+let asked = 0;
+async function judge() {
+  const mine = ++asked;
+  page.verdict = '';
+  const { text } = await client.ask('check', { text: pairText(page.chosen.block, page.order) }).catch(error => ({ text: error.message }));
+  if (mine !== asked) return;
+  page.verdict = text.trim().split('\n')[0];
+  const isSame = page.verdict === 'same';
+  $('verdict').className = isSame ? 'same' : 'other';
+  $('verdict').replaceChildren(page.verdict, element('div', explain(page.verdict), 'help'));
+  const hadFocus = $('order').contains(document.activeElement);
+  showOrder();
+  if (hadFocus) focusOrder();
+}
+
+function change(order, at) {
+  page.order = order;
+  page.at = at;
+  page.verdict = '';
+  showOrder();
+  focusOrder();
+  judge();
+}
+
+const CHANGES = {
+  up: ({ insts, slot }, at) => {
+    if (at === 'slot') return slot === 'nop' ? null : [move(page.order, 'slot', insts.length), insts.length];
+    return at > 0 ? [move(page.order, at, at - 1), at - 1] : null;
+  },
+  down: ({ insts, slot }, at) => {
+    if (at === 'slot' || at === 'exit') return null;
+    if (at < insts.length - 1) return [move(page.order, at, at + 1), at + 1];
+    return slot === null ? null : [move(page.order, at, 'slot'), 'slot'];
+  },
+  'to-slot': ({ slot }, at) => (slot === null || typeof at !== 'number' ? null : [move(page.order, at, 'slot'), 'slot']),
+  'add-nop': ({ insts }, at) => [addNop(page.order, typeof at === 'number' ? at : insts.length), typeof at === 'number' ? at : insts.length],
+  'remove-nop': ({ insts, slot }, at) => (insts[at] === 'nop' ? [removeNop(page.order, at), Math.min(at, insts.length - 2)] : null),
+  'to-plain': () => [plainOrder(page.chosen.block), 0],
+  'to-build': () => [page.chosen.order, 0],
+};
+
+function apply(name) {
+  if (!page.chosen) return;
+  const changed = CHANGES[name](page.order, page.at);
+  if (changed) change(...changed);
+}
+
+function orderKey(event) {
+  const name = event.altKey
+    ? { ArrowUp: 'up', ArrowDown: 'down' }[event.key]
+    : { s: 'to-slot', n: 'add-nop', Delete: 'remove-nop', Backspace: 'remove-nop' }[event.key];
+  if (name) {
+    event.preventDefault();
+    apply(name);
+  } else if (!event.altKey && (event.key === 'ArrowUp' || event.key === 'ArrowDown')) {
+    event.preventDefault();
+    const places = placesOf(page.order);
+    const next = places.indexOf(page.at) + (event.key === 'ArrowUp' ? -1 : 1);
+    stand(places[Math.max(0, Math.min(places.length - 1, next))]);
+  }
+}
+
+function stand(place) {
+  page.at = place;
+  for (const item of $('order').children) item.tabIndex = item.dataset.place === String(place) ? 0 : -1;
+  focusOrder();
+}
+
+const placeOf = item => (/^\d+$/.test(item.dataset.place) ? Number(item.dataset.place) : item.dataset.place);
+
+function listenToOrder() {
+  const list = $('order');
+  let from = null;
+  list.onkeydown = orderKey;
+  list.onclick = event => { if (event.target.dataset.place) stand(placeOf(event.target)); };
+  list.ondragstart = event => {
+    from = placeOf(event.target);
+    event.dataTransfer.setData('text/plain', event.target.textContent);
+    event.dataTransfer.effectAllowed = 'move';
+  };
+  list.ondragover = event => {
+    event.preventDefault();
+    for (const item of list.children) item.classList.toggle('over', item === event.target);
+  };
+  list.ondrop = event => {
+    event.preventDefault();
+    if (from === null || !event.target.dataset.place) return;
+    const onto = placeOf(event.target);
+    const count = page.order.insts.length;
+    let to = onto === 'exit' ? count : onto;
+    if (typeof from === 'number' && typeof to === 'number' && to > from) to--;
+    change(move(page.order, from, to), to);
+    from = null;
+  };
+  list.ondragend = showOrder;
+  for (const name of Object.keys(CHANGES)) $(name).onclick = () => apply(name);
+}
+
+// ---- the machine
+
+async function goTo(from, { most = 0, stop = 0 } = {}) {
+  if (!page.image) return;
+  const { image } = page;
+  const address = page.touched ?? 0x10000000;
+  const view = await client.ask('machine', { image, from, most, stop, address }).catch(() => null);
+  if (image !== page.image || !view || view.status !== 0) return;
+  page.before = page.view && view.words === page.view.words + 1 ? page.view : null;
+  page.view = view;
+  showMachine();
+}
+
+function step() {
+  const { view } = page;
+  if (!view || view.next.status !== 4) return;
+  const at = reached(lineAt(view.pc)?.text ?? '', view.registers);
+  if (at !== null && at < 0x6f000000) page.touched = at - (at % 4) - Math.min(16, at - (at % 4) - 0x10000000);
+  if (at !== null) page.last = at;
+  goTo(view.words + 1);
+}
+
+const lineAt = pc => page.listing[(pc - 0x00400000) / 4];
+
+function showListing() {
+  const list = $('listing');
+  const here = page.view ? (page.view.pc - 0x00400000) / 4 : 0;
+  const count = page.listing.length;
+  const near = count <= LINES * 2 ? 0 : Math.max(0, Math.min(here - LINES / 2, count - LINES));
+  const upTo = count <= LINES * 2 ? count : near + LINES;
+  const begins = new Map(page.blocks.map(b => [b.address, b.number]));
+  const { chosen, view } = page;
+  const isIn = address => chosen?.number != null && chosen.address <= address && address < chosen.address + 4 * orderWords(chosen.order);
+  const after = view ? view.target ?? (view.next.status === 4 ? view.pc + 4 : null) : null;
+  list.replaceChildren(...page.listing.slice(near, upTo).map(({ address, text }) => {
+    const number = begins.get(address);
+    const label = (number === undefined ? '' : String(number)).padStart(4) + '  ' + address.toString(16).padStart(8, '0') + '  ' + text;
+    const item = element('li', label, number !== undefined && 'block', address === view?.pc && 'here', isIn(address) && 'chosen',
+      address === after && 'next', address === page.breakpoint && 'breakpoint');
+    item.dataset.address = address;
+    return item;
+  }));
+  list.querySelector('.here')?.scrollIntoView({ block: 'nearest' });
+}
+
+function showMachine() {
+  const { view, before } = page;
+  showListing();
+  markNodes();
+  const { next } = view;
+  const lines = next.text.trimEnd().split('\n');
+  const end = lines.pop();
+  say('written', cut(lines.join('\n')));
+  say('count', `${view.words} words ran` + (page.breakpoint === null ? '' : `; breakpoint ${hex(page.breakpoint)}`));
+  $('ending').className = next.status === 3 ? 'stuck' : '';
+  if (next.status === 0) say('ending', `The next word halts the machine: ${end}.`);
+  else if (next.status === 3) say('ending', `The machine is stuck. ${RULES[end.slice(6)] ?? end}`);
+  else say('ending', '');
+  showSpecial(view, before);
+  $('registers').replaceChildren(...view.registers.map((word, r) => {
+    const isLoading = view.loads === r && r > 0;
+    const isChanged = before !== null && before.registers[r] !== word;
+    const item = element('div', null, isChanged && 'changed', isLoading && 'loading');
+    item.append(element('span', '$' + r), word.toString(16).padStart(8, '0'));
+    item.title = isLoading ? `${word | 0}; a load is under way: ${view.loaded | 0} shows behind the next word` : `${word | 0}`;
+    return item;
+  }));
+  showMemory('stack', view.registers[29], view.stack.slice(0, 16));
+  say('data-title', 'Data from ' + hex(view.address));
+  showMemory('data', view.address, view.memory.slice(0, 16));
+}
+
+function showMemory(id, address, words) {
+  const lines = words.map((word, k) => [`${(address + 4 * k).toString(16).padStart(8, '0')}  ${word.toString(16).padStart(8, '0')}\n`, address + 4 * k]);
+  const isLast = at => page.last !== undefined && at <= page.last && page.last < at + 4;
+  $(id).replaceChildren(...lines.map(([line, at]) => (isLast(at) ? element('mark', line) : line)));
+}
+
+function showSpecial(view, before) {
+  const changed = name => before !== null && before[name] !== view[name] && 'changed';
+  const row = (...cells) => {
+    const made = element('tr', null);
+    for (const [name, text, ...classes] of cells) made.append(element('th', name), element('td', text, ...classes));
+    return made;
+  };
+  const after = view.target === null ? hex((view.pc + 4) >>> 0) : `${hex(view.target)} (pc is a slot)`;
+  const load = view.loads ? `$${view.loads} gets ${hex(view.loaded)}` : 'none';
+  const wait = view.hold ? `wait ${view.hold} word${view.hold > 1 ? 's' : ''}` : 'ready';
+  $('special').replaceChildren(
+    row(['pc', hex(view.pc), changed('pc')], ['HI', hex(view.high), changed('high')]),
+    row(['then', after], ['LO', hex(view.low), changed('low')]),
+    row(['load', load, view.loads > 0 && 'loading'], ['mult, div', wait, view.hold > 0 && 'loading']),
+  );
+}
+
+function setBreakpoint(address) {
+  page.breakpoint = page.breakpoint === address ? null : address;
+  showMachine();
+}
+
+function listenToMachine() {
+  $('step').onclick = step;
+  $('back').onclick = () => goTo(Math.max(0, (page.view?.words ?? 0) - 1));
+  $('reset').onclick = () => { page.last = undefined; page.touched = null; goTo(0); };
+  $('run').onclick = () => goTo((page.view?.words ?? 0) + 1, { most: SHORT_RUN, stop: page.breakpoint ?? 0 });
+  $('listing').onclick = event => { if (event.target.dataset.address) setBreakpoint(Number(event.target.dataset.address)); };
+  $('steps').onkeydown = event => {
+    if (event.target.closest('button, select, input')) return;
+    const name = { ArrowRight: 'step', ' ': 'step', ArrowLeft: 'back', Home: 'reset', r: 'run' }[event.key];
+    if (name) {
+      event.preventDefault();
+      $(name).click();
+    } else if (event.key === 'Enter' && page.view) setBreakpoint(page.view.pc);
+  };
+}
+
+// ---- examples, links, themes, tabs
+
+function openText(text) {
+  $('source').value = text;
+  typed();
+}
+
+function typed() {
+  page.text = $('source').value;
+  page.view = page.before = null;
+  showGutter();
+  clearTimeout(typed.later);
+  typed.later = setTimeout(refresh, 120);
+}
+
+function openPair(text) {
+  const pair = parsePair(text);
+  if (!pair) return;
+  chooseTab('orders');
+  chooseBlock({ number: null, owner: null, address: 0, ...pair });
+}
+
+function listExamples(texts) {
+  const select = $('examples');
+  const groups = [['C programs', /\.c$/], ['Orders', /\.check$/]].map(([label, pattern]) => {
+    const group = document.createElement('optgroup');
+    group.label = label;
+    group.append(...Object.keys(texts).filter(name => pattern.test(name)).map(name => new Option(name.replace(/\.\w+$/, ''), name)));
+    return group;
+  });
+  select.replaceChildren(new Option('choose', ''), ...groups);
+  select.onchange = () => {
+    const name = select.value;
+    if (name.endsWith('.c')) openText(texts[name]);
+    else if (name) openPair(texts[name]);
+  };
+}
+
+function textOfAddress() {
+  try {
+    return decodeURIComponent(location.hash.slice(1));
+  } catch {
+    return '';
+  }
+}
+
+async function copyLink() {
+  history.replaceState(null, '', '#' + encodeURIComponent(page.text));
+  const isCopied = await navigator.clipboard?.writeText(location.href).then(() => true, () => false);
+  say('state', isCopied ? 'link copied' : 'the address has the text now');
+}
+
+function setTheme(theme) {
+  document.documentElement.dataset.theme = theme;
+  $('theme').textContent = theme === 'dark' ? 'Light' : 'Dark';
+  $('theme').setAttribute('aria-pressed', String(theme === 'dark'));
+}
+
+const TABS = ['orders', 'steps', 'stages'];
+
+function chooseTab(name) {
+  for (const tab of TABS) {
+    $('tab-' + tab).setAttribute('aria-selected', String(tab === name));
+    $('tab-' + tab).tabIndex = tab === name ? 0 : -1;
+    $(tab).hidden = tab !== name;
+  }
+  $('listing').querySelector('.here')?.scrollIntoView({ block: 'nearest' });
+}
+
+function listenToTabs() {
+  for (const [k, tab] of TABS.entries()) {
+    $('tab-' + tab).onclick = () => chooseTab(tab);
+    $('tab-' + tab).onkeydown = event => {
+      const by = { ArrowRight: 1, ArrowLeft: -1 }[event.key];
+      if (!by) return;
+      const next = TABS[(k + by + TABS.length) % TABS.length];
+      chooseTab(next);
+      $('tab-' + next).focus();
+    };
+  }
+}
+
+// The function of the line on which one stands is the one that is shown.
+function followCaret() {
+  const line = page.text.slice(0, $('source').selectionStart).split('\n').length;
+  const k = page.groups.findIndex(g => g.lines && g.lines.from <= line && line <= g.lines.to);
+  if (k >= 0 && page.groups[k] !== page.group) chooseGroup(k);
+}
+
+async function runOn() {
+  if (!page.image) return;
+  $('run-on').hidden = true;
+  $('stop').hidden = false;
+  say('agree', 'running ..');
+  try {
+    const { interp, run } = await client.ask('runs', { text: page.text, image: page.image, steps: LONG_RUN });
+    showRuns(interp, run);
+  } catch (error) {
+    say('agree', error.message);
+  }
+  $('stop').hidden = true;
+}
+
+async function stop() {
+  $('stop').hidden = true;
+  await client.stop();
+  say('state', 'stopped');
+}
+
+async function main() {
+  const dark = matchMedia('(prefers-color-scheme: dark)').matches;
+  setTheme(dark ? 'dark' : 'light');
+  $('theme').onclick = () => setTheme(document.documentElement.dataset.theme === 'dark' ? 'light' : 'dark');
+  listenToTabs();
+  listenToOrder();
+  listenToMachine();
+  const texts = JSON.parse($('example-texts').textContent);
+  listExamples(texts);
+  const source = $('source');
+  source.oninput = typed;
+  source.onscroll = follow;
+  source.onkeyup = source.onclick = followCaret;
+  $('plain').onchange = refresh;
+  $('functions').onchange = () => chooseGroup(Number($('functions').value));
+  $('stage').onchange = showStage;
+  $('link').onclick = copyLink;
+  $('run-on').onclick = runOn;
+  $('stop').onclick = stop;
+  onhashchange = () => openText(textOfAddress());
+  const wasm = Uint8Array.from(atob($('wasm').textContent.trim()), c => c.charCodeAt(0));
+  client = new Client($('worker').textContent, wasm);
+  const started = performance.now();
+  try {
+    await client.start();
+  } catch (error) {
+    say('state', NO_MEMORY64);
+    $('fault').hidden = false;
+    $('fault').textContent = `${NO_MEMORY64} (${error.message})`;
+    return;
+  }
+  document.documentElement.dataset.ready = (performance.now() - started).toFixed(0);
+  openText(textOfAddress() || texts['squares.c']);
+}
+
+main();

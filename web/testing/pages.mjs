@@ -1,0 +1,143 @@
+// The page in headless Chromium, from its file: node pages.mjs PAGE [FOLDER for pictures]
+import path from 'node:path';
+import { pathToFileURL } from 'node:url';
+import { Browser } from './browser.mjs';
+
+const [, , file, pictures] = process.argv;
+const address = pathToFileURL(path.resolve(file)).href;
+const ENDLESS = 'int main(void) {\n    int i;\n    i = 0;\n    while (1) {\n        i = i + 1;\n        if (i < 0) { i = 0; }\n        i = i & 1023;\n    }\n}\n';
+const text = id => `document.getElementById('${id}').textContent`;
+const click = id => `document.getElementById('${id}').click()`;
+const typed = value => `(() => { const s = document.getElementById('source'); s.value = ${JSON.stringify(value)};
+  s.dispatchEvent(new Event('input')); })()`;
+const READY = `document.querySelectorAll('#graph .node').length > 0 && ${text('verdict')} !== ''`;
+let passed = 0, failed = 0;
+
+const judge = (what, isSo, more = '') => {
+  if (isSo) passed++;
+  else {
+    failed++;
+    console.log(`pages: ${what}`, more);
+  }
+};
+
+async function stepTo(page, condition, most = 300) {
+  for (let k = 0; k < most; k++) {
+    if (await page.value(condition)) return true;
+    const before = await page.value(text('count'));
+    await page.value(click('step'));
+    if (!(await page.until(`${text('count')} !== ${JSON.stringify(before)}`, 5))) return false;
+  }
+  return false;
+}
+
+const contrast = `(() => {
+  const light = c => { const [r, g, b] = c.match(/[\\d.]+/g).map(Number).map(v => v / 255).map(v => v <= 0.03928 ? v / 12.92 : ((v + 0.055) / 1.055) ** 2.4);
+    return 0.2126 * r + 0.7152 * g + 0.0722 * b; };
+  const ground = e => { for (; e; e = e.parentElement) { const c = getComputedStyle(e).backgroundColor; if (!/, 0\\)$/.test(c)) return c; } return 'rgb(255,255,255)'; };
+  let least = [99, ''];
+  for (const e of document.querySelectorAll('body *:not(#behind):not(#behind *):not(script):not(:disabled)')) {
+    if (![...e.childNodes].some(n => n.nodeType === 3 && n.data.trim()) || !e.checkVisibility()) continue;
+    const style = getComputedStyle(e);
+    const [a, b] = [light(e instanceof SVGElement ? style.fill : style.color), light(ground(e))].sort((x, y) => y - x);
+    const ratio = (a + 0.05) / (b + 0.05);
+    if (ratio < least[0]) least = [ratio, e.tagName + '#' + e.id + '.' + e.className];
+  }
+  return least; })()`;
+
+async function looks(page, name) {
+  for (const theme of ['light', 'dark']) {
+    if ((await page.value('document.documentElement.dataset.theme')) !== theme) await page.value(click('theme'));
+    const [ratio, where] = await page.value(contrast);
+    judge(`contrast of ${name}, ${theme}`, ratio >= 4.5, `${ratio} at ${where}`);
+    const isWide = await page.value('document.documentElement.scrollWidth <= innerWidth && document.documentElement.scrollHeight <= innerHeight');
+    judge(`${name} fits 1280 x 800, ${theme}`, isWide);
+    if (pictures) await page.picture(path.join(pictures, `${name}-${theme}.png`));
+  }
+}
+
+async function main() {
+  const browser = new Browser();
+  const page = await browser.open(address);
+  judge('the page is ready', await page.until(READY));
+  judge('nothing is asked of a server', page.requests.every(url => url === address || url.startsWith('blob:') || url.startsWith('data:')), page.requests);
+  judge('both print the same', await page.until(`${text('agree')} === 'Both print the same.'`));
+  judge('the interpreter prints', (await page.value(text('interp'))).startsWith('0\n1\n4\n9\n16\ndone 0'));
+  console.log(`pages: ready after ${await page.value('document.documentElement.dataset.ready')} ms; ${await page.value(text('state'))}`);
+  await looks(page, 'orders');
+
+  // a changed order changes its verdict: by the keyboard, and by dragging
+  await page.value(`[...document.querySelectorAll('#functions option')].length`);
+  await page.value(`document.querySelector('#order li').focus()`);
+  judge('the order of the build is the block', (await page.value(text('verdict'))).startsWith('same'));
+  await page.key('ArrowDown', { alt: true });
+  judge('Alt+Down moves a line', await page.until(`document.activeElement.dataset.place === '1'`));
+  await page.value(click('to-build'));
+  judge('and back', await page.until(`${text('verdict')}.startsWith('same')`));
+  await page.value(`(() => { const s = document.getElementById('examples'); s.value = 'load-moved-apart.check'; s.onchange(); })()`);
+  judge('an order of the examples', await page.until(`${text('block-title')} === 'A block of a check text' && ${text('verdict')} !== ''`));
+  const before = await page.value(text('verdict'));
+  for (const to of ['up', 'up', 'up', 'to-slot']) await page.value(click(to));
+  await page.value(click('to-plain'));
+  judge('the plain order means its block', await page.until(`${text('verdict')}.startsWith('same')`), before);
+  await page.drag('#order li[data-place="0"]', '#order li.exit');
+  judge('a dragged line changes the verdict', await page.until(`!${text('verdict')}.startsWith('same') && ${text('verdict')} !== ''`),
+    await page.value(text('order')));
+  if (pictures) await page.picture(path.join(pictures, 'dragged.png'));
+
+  // the machine, up to a load under way
+  await page.value(typed('int a[4];\n\nint main(void) {\n    int i;\n    i = 3;\n    a[i] = 7;\n    out(a[i] + 1);\n    return 0;\n}\n'));
+  judge('a text that is typed', await page.until(`${text('interp')}.startsWith('8\\ndone 0')`));
+  await page.value(click('tab-steps'));
+  judge('the machine steps to a load under way', await stepTo(page, `document.querySelectorAll('#registers .loading').length === 1`));
+  await looks(page, 'machine');
+  judge('and to its end', await stepTo(page, `${text('ending')}.startsWith('The next word halts')`));
+  await page.value(click('reset'));
+  judge('back to the start', await page.until(`${text('count')}.startsWith('0 words')`));
+  await page.value(`document.querySelectorAll('#listing li')[8].click()`);
+  await page.value(click('run'));
+  judge('runs to the breakpoint', await page.until(`document.querySelector('#listing .here.breakpoint') !== null`));
+  await page.value(click('tab-stages'));
+  judge('the stages', (await page.value(text('stage-text'))).includes('block 0'));
+
+  // a fault at its place
+  await page.value(typed('int main(void) {\n    int i = 0;\n    i++;\n    return 0;\n}\n'));
+  judge('a fault is shown', await page.until(`!document.getElementById('fault').hidden`));
+  judge('at its place', (await page.value(`document.querySelector('#gutter .bad')?.textContent`)) === '3'
+    && (await page.value(`document.querySelector('#behind mark')?.textContent`)).startsWith('+'));
+  judge('with its hint', (await page.value(text('fault'))).includes('i = i + 1'), await page.value(text('fault')));
+  await looks(page, 'fault');
+
+  // a program that never ends, and one that is stopped
+  await page.value(typed(ENDLESS));
+  judge('an endless program tells so', await page.until(`!document.getElementById('run-on').hidden`));
+  await page.value(click('run-on'));
+  await page.until(`!document.getElementById('stop').hidden`);
+  await page.value(click('stop'));
+  judge('and is stopped', await page.until(`${text('state')} === 'stopped'`));
+  await page.value(typed('int main(void) {\n    out(5);\n    return 0;\n}\n'));
+  judge('the page works on', await page.until(`${text('interp')}.startsWith('5\\ndone 0')`));
+
+  // texts that are too much
+  const deep = n => 'int main(void) { int x; x = 1; ' + '{'.repeat(n) + '}'.repeat(n) + ' out(' + '('.repeat(n) + '1' + ')'.repeat(n) + '); return 0; }';
+  for (const [what, value] of [['the deepest nest', deep(120)], ['a deeper one', deep(100_000)], ['20 MiB', ' '.repeat(20 << 20)],
+    ['bytes', String.fromCharCode(...Array.from({ length: 4000 }, (_, k) => (k * 7919) % 251))]]) {
+    await page.value(`document.getElementById('state').textContent = ''`);
+    await page.value(typed(value));
+    judge(`${what} has an answer`, await page.until(`${text('state')} !== ''`, 60));
+  }
+  await page.value(typed('int main(void) {\n    out(6);\n    return 0;\n}\n'));
+  judge('the page lives', await page.until(`${text('interp')}.startsWith('6\\ndone 0')`));
+
+  const linked = await browser.open(address + '#' + encodeURIComponent('int main(void) {\n    out(42);\n    return 0;\n}\n'));
+  judge('a link opens its text', await linked.until(`${text('interp')}.startsWith('42\\ndone 0')`));
+  judge('no error on the console', page.errors.length + linked.errors.length === 0, [...page.errors, ...linked.errors]);
+  await browser.close();
+  console.log(`${passed} passed, ${failed} failed`);
+}
+
+main().catch(error => {
+  console.log('pages:', error.message);
+  console.log(`${passed} passed, ${failed + 1} failed`);
+  process.exit(1);
+});

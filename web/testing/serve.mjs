@@ -1,0 +1,59 @@
+// Answers the words of mcc's command line by the module of a page: node serve.mjs PAGE SOCKET. Beside it `mcc` stands for the
+// program, and hands its words on; so tests/run runs its cases on the module.
+import fs from 'node:fs';
+import net from 'node:net';
+import path from 'node:path';
+import { mccOf } from './module.mjs';
+
+const [, , page, socket] = process.argv;
+const mcc = mccOf(page);
+const STEPS = 100_000_000;
+
+function wordsOf(words) {
+  const options = { depth: 256, steps: STEPS, plain: false };
+  const files = [];
+  for (let k = 1; k < words.length; k++) {
+    if (words[k] === '--plain') options.plain = true;
+    else if (words[k].startsWith('--')) options[words[k].slice(2)] = Number(words[++k]);
+    else files.push(words[k]);
+  }
+  return { command: words[0], files, options };
+}
+
+function answer(words, folder) {
+  const { command, files, options } = wordsOf(words);
+  const [file, image] = files.map(name => path.resolve(folder, name));
+  const bytes = fs.readFileSync(file);
+  switch (command) {
+    case 'check': return mcc.check(bytes);
+    case 'interp': return mcc.interp(bytes, options.steps, options.depth);
+    case 'run': return mcc.run(bytes, options.steps);
+    case 'list': return mcc.list(bytes);
+    case 'build': {
+      const built = mcc.build(bytes, options.plain, options.depth);
+      if (built.image) fs.writeFileSync(image, built.image);
+      return built;
+    }
+    default: throw new Error(`the module has no ${command}`);
+  }
+}
+
+// The program names its file where the module has a name of its own.
+function told({ status, text }, words, folder) {
+  if (status !== 1) return { status, out: text, err: '' };
+  return { status, out: '', err: text.replace(/^(program\.c|order\.check)(?=:\d+:\d+:)/m, wordsOf(words).files[0]) };
+}
+
+net.createServer(stream => {
+  let asked = '';
+  stream.setEncoding('utf8').on('data', text => {
+    asked += text;
+    if (!asked.endsWith('\n')) return;
+    const { words, folder } = JSON.parse(asked);
+    try {
+      stream.end(JSON.stringify(told(answer(words, folder), words, folder)));
+    } catch (error) {
+      stream.end(JSON.stringify({ status: 99, out: '', err: String(error) + '\n' }));
+    }
+  });
+}).listen(socket);
