@@ -130,8 +130,11 @@ fn words_name_the_stage(rt: HostRuntime) -> Result<(), Fail> {
         panic!(rt; "no command")
     };
     assert_eq!(rt; source, "x.c");
-    assert_eq!(rt; stage, Some("terms"));
-    assert_eq!(rt; function, Some("f"));
+    let (Some(stage), Some(function)) = (stage, function) else {
+        panic!(rt; "no stage or no function")
+    };
+    assert_eq!(rt; stage, "terms");
+    assert_eq!(rt; function, "f");
     assert_eq!(rt; dot, false);
     Ok(())
 }
