@@ -57,13 +57,14 @@ export function pairText(block, order) {
 
 export const orderWords = order => order.insts.length + exitWords(order.exit);
 
-// The blocks of a build, each with its order and the address of its first word.
-export function parseOrders(text) {
+// The blocks of a build, each with its order, or its plain one, and the address of its first word.
+export function parseOrders(text, isPlain) {
   let address = 0x00400000;
   return text.split(/^# /m).slice(1).map(part => {
     const end = part.indexOf('\n');
     const [number, owner] = part.slice(0, end).split(' ').map(Number);
     const block = { number, owner, address, ...parsePair(part.slice(end + 1)) };
+    if (isPlain) block.order = plainOrder(block.block);
     address += 4 * orderWords(block.order);
     return block;
   });

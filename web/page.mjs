@@ -109,12 +109,13 @@ async function refresh() {
   page.isBusy = true;
   do {
     page.isStale = false;
-    const text = page.text;
+    const { text } = page;
+    const plain = $('plain').checked;
     const late = setTimeout(() => { $('stop').hidden = false; }, 700);
     const started = performance.now();
     try {
-      const answer = await client.ask('program', { text, steps: SHORT_RUN, plain: $('plain').checked });
-      if (text === page.text) showProgram(answer, performance.now() - started);
+      const answer = await client.ask('program', { text, steps: SHORT_RUN, plain });
+      if (text === page.text) showProgram(answer, plain, performance.now() - started);
     } catch (error) {
       say('state', error.message);
     }
@@ -135,7 +136,7 @@ function showRuns(interp, run) {
   else say('agree', interp.text === run.text ? 'Both print the same.' : 'They differ: this must not be.');
 }
 
-function showProgram({ interp, build, run, list, orders }, time) {
+function showProgram({ interp, build, run, list, orders }, isPlain, time) {
   showRuns(interp.status === 1 ? { status: 1, text: '' } : interp, run);
   if (build.image === null) {
     page.image = null;
@@ -144,7 +145,7 @@ function showProgram({ interp, build, run, list, orders }, time) {
     return;
   }
   page.image = build.image;
-  const blocks = orders.status === 0 ? parseOrders(orders.text) : [];
+  const blocks = orders.status === 0 ? parseOrders(orders.text, isPlain) : [];
   page.blocks = blocks;
   page.groups = groupBlocks(blocks, functionsOf(page.text));
   page.listing = parseListing(list.text).filter(line => line.isCode);
@@ -234,7 +235,8 @@ function showGraph() {
       return drawn;
     });
     const line = isBack
-      ? `M ${x} ${y} C ${x} ${y + 16}, ${lane} ${y + 16}, ${lane} ${y - 6} L ${lane} ${v + 6} C ${lane} ${v - 18}, ${u + 8} ${v - 18}, ${u + 8} ${v}`
+      ? `M ${x} ${y} C ${x} ${y + 16}, ${lane} ${y + 16}, ${lane} ${y - 6} L ${lane} ${v + 6} `
+        + `C ${lane} ${v - 18}, ${u + 8} ${v - 18}, ${u + 8} ${v}`
       : `M ${x} ${y} ` + down.join(' ');
     if (isBack) lane += 12;
     graph.append(svg('path', { d: line, class: isBack ? 'back' : '', 'marker-end': isBack ? 'url(#arrow-back)' : 'url(#arrow)' }));
@@ -323,7 +325,8 @@ let asked = 0;
 async function judge() {
   const mine = ++asked;
   page.verdict = '';
-  const { text } = await client.ask('check', { text: pairText(page.chosen.block, page.order) }).catch(error => ({ text: error.message }));
+  const pair = pairText(page.chosen.block, page.order);
+  const { text } = await client.ask('check', { text: pair }).catch(error => ({ text: error.message }));
   if (mine !== asked) return;
   page.verdict = text.trim().split('\n')[0];
   const isSame = page.verdict === 'same';
@@ -354,7 +357,10 @@ const CHANGES = {
     return slot === null ? null : [move(page.order, at, 'slot'), 'slot'];
   },
   'to-slot': ({ slot }, at) => (slot === null || typeof at !== 'number' ? null : [move(page.order, at, 'slot'), 'slot']),
-  'add-nop': ({ insts }, at) => [addNop(page.order, typeof at === 'number' ? at : insts.length), typeof at === 'number' ? at : insts.length],
+  'add-nop': ({ insts }, at) => {
+    const place = typeof at === 'number' ? at : insts.length;
+    return [addNop(page.order, place), place];
+  },
   'remove-nop': ({ insts, slot }, at) => (insts[at] === 'nop' ? [removeNop(page.order, at), Math.min(at, insts.length - 2)] : null),
   'to-plain': () => [plainOrder(page.chosen.block), 0],
   'to-build': () => [page.chosen.order, 0],
@@ -490,7 +496,8 @@ function showMachine() {
 }
 
 function showMemory(id, address, words) {
-  const lines = words.map((word, k) => [`${(address + 4 * k).toString(16).padStart(8, '0')}  ${word.toString(16).padStart(8, '0')}\n`, address + 4 * k]);
+  const digits = word => word.toString(16).padStart(8, '0');
+  const lines = words.map((word, k) => [`${digits(address + 4 * k)}  ${digits(word)}\n`, address + 4 * k]);
   const isLast = at => page.last !== undefined && at <= page.last && page.last < at + 4;
   $(id).replaceChildren(...lines.map(([line, at]) => (isLast(at) ? element('mark', line) : line)));
 }
