@@ -2,8 +2,8 @@
 //!
 //! `run` is `image_run` of `specs/ImageRuns.antt`, the run of the machine of `mips_steps` from the start of an image, and
 //! `Machine::step` is one step of it. `load` decodes each code word once, and a step takes constant time.
-//! `specs/Views.antt` says which machine the parts stand for; `Machine::pc`, `target`, `registers`, `high_low`, `loading`, `hold` and `word_at` show it
-//! between two words.
+//! `specs/Views.antt` says which machine the parts stand for; `Machine::pc`, `target`, `registers`, `high_low`, `loading`,
+//! `hold` and `word_at` show it between two words.
 //!
 //! What is promised:
 //! - `mips_machine::load`, `Machine::step` and `run` are exactly the machine of `mips_steps` from the image's start
