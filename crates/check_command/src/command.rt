@@ -11,7 +11,8 @@ use crate::explain::explained;
 use crate::lines::explain_line;
 use crate::verdicts::{CheckAnswer, CheckFault, check};
 use commands::{
-    Complaints, Explanation, Files, HostFault, Output, Place, line_offset, read_file, tell, tell_placed,
+    Complaints, Explanation, Files, HostFault, Output, Place, line_offset, read_file, tell,
+    tell_placed,
 };
 use std::alloc::Global;
 use std::io;

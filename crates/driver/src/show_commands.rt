@@ -18,8 +18,7 @@ use rtl_lower::{LowerFault, lower};
 use show::{Asked, ShowFault, Shown, show};
 use std::alloc::Global;
 use std::error::Error;
-use std::fmt;
-use std::io;
+use std::{fmt, io};
 
 /// Why nothing of a text is shown.
 #[derive(Clone, Copy, Debug, PartialEq, Eq)]

@@ -12,8 +12,7 @@ use commands::Output;
 use mips_steps::Ending;
 use runs::End;
 use std::error::Error;
-use std::fmt;
-use std::io;
+use std::{fmt, io};
 
 impl fmt::Display for InterpFault {
     ghost output = { λ e. Some (interp_fault_text e) };
