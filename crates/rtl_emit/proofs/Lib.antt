@@ -6,3 +6,4 @@ pub mod Conditions
 pub mod Emitted
 pub mod Sound
 pub mod Emitting
+mod Weights

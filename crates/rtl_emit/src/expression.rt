@@ -3,6 +3,7 @@ ghost use Rattle.std.specs.Prelude.{◌≡◌, ◌<◌};
 ghost use Rattle.rtl.specs.declared.limits.TheConstants.{MAX_REGISTERS};
 ghost use Rattle.words.specs.Words.{wrap};
 ghost use Rattle.c_typed.specs.Shape.{typed_expression_of, typed_expressions_of};
+ghost use Rattle.c_typed.specs.Trees.{binary};
 ghost use Rattle.rtl_emit.specs.Blocks.{spot};
 ghost use Rattle.rtl_emit.specs.Expressions.{ArePlaces};
 ghost use Rattle.rtl_emit.specs.Sizes.{by_branches};
@@ -14,6 +15,7 @@ use crate::operation::{Form, Prefix, contrary_of, form_of, prefix_of};
 use crate::place::{Place, register_of};
 use crate::targets::{Targets, decided, likely, truth_blocks};
 use crate::waiting::{combined, contrary, global_into, load_at, operated, tested};
+use c_tokens::IntegerType;
 use c_tree::{BinaryOp, UnaryOp};
 use c_typed::TypedExpression;
 use rtl::{RBlock, RInst, Register};
@@ -83,34 +85,13 @@ pub fn value_into(
             }
         }
         TypedExpression::Binary(operator, integer_type, left, right) => {
-            match form_of(*operator, *integer_type) {
-                Form::LogicalAnd => {
-                    let truth = truth_blocks(alloc, blocks, to, after)?;
-                    let second_code = condition(alloc, blocks, right, truth, free)?;
-                    let second = seal(blocks, second_code)?;
-                    condition(alloc, blocks, left, truth.with_yes(second), free)
-                }
-                Form::LogicalOr => {
-                    let truth = truth_blocks(alloc, blocks, to, after)?;
-                    let second_code = condition(alloc, blocks, right, truth, free)?;
-                    let second = seal(blocks, second_code)?;
-                    condition(alloc, blocks, left, truth.with_no(second), free)
-                }
-                Form::Plain(operation) => {
-                    let code = opened(alloc, after);
-                    let values = operated(operation, left, right, to, free, code)?;
-                    let (first, second) = (values.first, values.second);
-                    let middle = operand_into(
-                        alloc,
-                        blocks,
-                        right,
-                        second.register,
-                        first.free,
-                        values.code,
-                    )?;
-                    operand_into(alloc, blocks, left, first.register, free, middle)
-                }
-            }
+            let aim = Aim {
+                alloc,
+                to,
+                free,
+                after,
+            };
+            binary_into(aim, blocks, *operator, *integer_type, left, right)
         }
         TypedExpression::Conditional(_, test, first, second) => {
             let join = sealed(blocks, after)?;
@@ -126,6 +107,64 @@ pub fn value_into(
             )?;
             let no = seal(blocks, second_code)?;
             condition(alloc, blocks, test, likely(yes, no), free)
+        }
+    }
+}
+
+// What becomes of a value: the register that takes it, the first that is free, and where code goes on.
+#[derive(Drop)]
+struct Aim {
+    alloc: Global,
+    to: Register,
+    free: Register,
+    after: Continuation,
+}
+
+// The value of an operator with two operands.
+#[cycle(expressions)]
+fn binary_into(
+    aim: Aim,
+    blocks: &mut Vec<RBlock>,
+    operator: BinaryOp,
+    integer_type: IntegerType,
+    left: &TypedExpression,
+    right: &TypedExpression,
+) -> Result<OpenBlock, LowerFault>
+    ensures { EmitsValue (binary operator integer_type (typed_expression_of left.now) (typed_expression_of right.now)) aim.to aim.free
+        (spot aim.after) blocks.old.items blocks.new.items result }
+{
+    let Aim {
+        alloc,
+        to,
+        free,
+        after,
+    } = aim;
+    match form_of(operator, integer_type) {
+        Form::LogicalAnd => {
+            let truth = truth_blocks(alloc, blocks, to, after)?;
+            let second_code = condition(alloc, blocks, right, truth, free)?;
+            let second = seal(blocks, second_code)?;
+            condition(alloc, blocks, left, truth.with_yes(second), free)
+        }
+        Form::LogicalOr => {
+            let truth = truth_blocks(alloc, blocks, to, after)?;
+            let second_code = condition(alloc, blocks, right, truth, free)?;
+            let second = seal(blocks, second_code)?;
+            condition(alloc, blocks, left, truth.with_no(second), free)
+        }
+        Form::Plain(operation) => {
+            let code = opened(alloc, after);
+            let values = operated(operation, left, right, to, free, code)?;
+            let (first, second) = (values.first, values.second);
+            let middle = operand_into(
+                alloc,
+                blocks,
+                right,
+                second.register,
+                first.free,
+                values.code,
+            )?;
+            operand_into(alloc, blocks, left, first.register, free, middle)
         }
     }
 }

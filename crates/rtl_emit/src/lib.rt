@@ -44,5 +44,5 @@ pub use block::{
 };
 pub use expression::{condition, operand_into, operands_into, value_into};
 pub use fault::LowerFault;
-pub use place::{Place, place_of, places_of, register_of, registers_of};
+pub use place::{Place, place_of, places_of, register_of, registers_of, spare};
 pub use targets::Targets;

@@ -30,8 +30,8 @@ pub fn register_of(local: usize) -> Result<Register, LowerFault>
     Ok(local as u32)
 }
 
-// A register that is free; a Limit above the last one.
-pub(crate) fn spare(free: Register) -> Result<Register, LowerFault>
+/// A register that is free; a Limit above the last one.
+pub fn spare(free: Register) -> Result<Register, LowerFault>
     ensures is { IfOk result (λ r. r ≡ free) }
     ensures within { IfOk result (λ r. r < MAX_REGISTERS) }
     ensures limit { IfErr result (λ f. f ≡ LowerFault.Limit → MAX_REGISTERS < free + 1) }

@@ -48,13 +48,13 @@ value_into-returns-in_ok-value-in-Combined t c =
     (ap typed_expression_of c.deref-in-Unary.ensures) prefix.0 prefix.1.0 c.is_logical.ensures prefix.1.1 c.opened.ensures value.room value.does value.sound
     c.operand_into-in-Combined.ensures
 
-pub value_into-returns-in_ok-second-in-LogicalAnd : goal.value_into-returns-in_ok-second-in-LogicalAnd
-value_into-returns-in_ok-second-in-LogicalAnd t c =
+pub binary_into-returns-in_ok-second-in-LogicalAnd : goal.binary_into-returns-in_ok-second-in-LogicalAnd
+binary_into-returns-in_ok-second-in-LogicalAnd t c =
     let truth = c.in_ok-truth-in-LogicalAnd.ensures in
     let second = c.in_ok-second-in-LogicalAnd.ensures in
-    and_emits _ _ _ _ _ _ _ _ _ _ _ _ c.in_ok-truth-in-LogicalAnd.truth _ _ _ _ c.in_ok-second_code-in-LogicalAnd.second_code (spot c.args.after) _
-    (ap typed_expression_of c.in-Binary.is) c.in-LogicalAnd.ensures.form (ap typed_expression_of c.deref-in-LogicalAnd-2.ensures)
-    (ap typed_expression_of c.deref-in-LogicalAnd.ensures) c.with_yes.ensures
+    and_emits _ _ _ _ _ _ _ _ _ _ _ _ c.in_ok-truth-in-LogicalAnd.truth _ _ _ _ c.in_ok-second_code-in-LogicalAnd.second_code (spot c.args.aim.after) _
+    refl c.in-LogicalAnd.ensures.form refl
+    refl c.with_yes.ensures
     (record { grows = truth.grows; count = truth.count; sound = truth.sound; likely = truth.is_likely; truth = truth.truth })
     (record {
       emits = c.in_ok-second_code-in-LogicalAnd.ensures;
@@ -62,15 +62,15 @@ value_into-returns-in_ok-second-in-LogicalAnd t c =
       count = second.count;
       sound = second.sound;
       at = second.at;
-    }) c.condition-in-LogicalAnd-2.ensures
+    }) c.condition-in-LogicalAnd.ensures
 
-pub value_into-returns-in_ok-second-in-LogicalOr : goal.value_into-returns-in_ok-second-in-LogicalOr
-value_into-returns-in_ok-second-in-LogicalOr t c =
+pub binary_into-returns-in_ok-second-in-LogicalOr : goal.binary_into-returns-in_ok-second-in-LogicalOr
+binary_into-returns-in_ok-second-in-LogicalOr t c =
     let truth = c.in_ok-truth-in-LogicalOr.ensures in
     let second = c.in_ok-second-in-LogicalOr.ensures in
-    or_emits _ _ _ _ _ _ _ _ _ _ _ _ c.in_ok-truth-in-LogicalOr.truth _ _ _ _ c.in_ok-second_code-in-LogicalOr.second_code (spot c.args.after) _
-    (ap typed_expression_of c.in-Binary.is) c.in-LogicalOr.ensures.form (ap typed_expression_of c.deref-in-LogicalOr-2.ensures)
-    (ap typed_expression_of c.deref-in-LogicalOr.ensures) c.with_no.ensures
+    or_emits _ _ _ _ _ _ _ _ _ _ _ _ c.in_ok-truth-in-LogicalOr.truth _ _ _ _ c.in_ok-second_code-in-LogicalOr.second_code (spot c.args.aim.after) _
+    refl c.in-LogicalOr.ensures.form refl
+    refl c.with_no.ensures
     (record { grows = truth.grows; count = truth.count; sound = truth.sound; likely = truth.is_likely; truth = truth.truth })
     (record {
       emits = c.in_ok-second_code-in-LogicalOr.ensures;
@@ -80,16 +80,16 @@ value_into-returns-in_ok-second-in-LogicalOr t c =
       at = second.at;
     }) c.condition-in-LogicalOr-2.ensures
 
-pub value_into-returns-in_ok-middle-in-Plain : goal.value_into-returns-in_ok-middle-in-Plain
-value_into-returns-in_ok-middle-in-Plain t c =
+pub binary_into-returns-in_ok-middle-in-Plain : goal.binary_into-returns-in_ok-middle-in-Plain
+binary_into-returns-in_ok-middle-in-Plain t c =
     let values = c.in_ok-values-in-Plain.ensures in
     operator_emits _ _ _ _ _ _ _ _ _ _ _ _ _ _ _ _ _ c.opened-code.result c.in_ok-values-in-Plain.values.code c.in_ok-middle-in-Plain.middle
-    (spot c.args.after) _ (ap typed_expression_of c.in-Binary.is) c.in-Plain.ensures.form c.in-Plain.ensures.branches
-    (ap typed_expression_of c.deref-in-Plain-4.ensures) (ap typed_expression_of c.deref-in-Plain-3.ensures) c.opened-code.ensures values.is values.sound
+    (spot c.args.aim.after) _ refl c.in-Plain.ensures.form c.in-Plain.ensures.branches
+    refl refl c.opened-code.ensures values.is values.sound
     (two_operands _ _ _ _ _ _ _ _ _ _ _ _ _ c.in_ok-values-in-Plain.values.code c.in_ok-middle-in-Plain.middle
-    (ap typed_expression_of c.deref-in-Plain-4.ensures) (ap typed_expression_of c.deref-in-Plain-3.ensures)
-    (ap typed_expression_of c.deref-in-Plain.ensures) (ap typed_expression_of c.deref-in-Plain-2.ensures) values.first values.second values.room
-    c.in_ok-middle-in-Plain.ensures) c.operand_into-in-Plain-2.ensures
+    refl refl
+    refl refl values.first values.second values.room
+    c.in_ok-middle-in-Plain.ensures) c.operand_into-in-Plain.ensures
 
 pub value_into-returns-in_ok-no-in-Conditional : goal.value_into-returns-in_ok-no-in-Conditional
 value_into-returns-in_ok-no-in-Conditional t c =

@@ -1,0 +1,13 @@
+-- What becomes less from call to call of the functions that emit expressions and conditions.
+use Rattle.std.proofs.Common.{ℕ, ◌+◌}
+use Rattle.c_typed.specs.Trees.{TypedExpression, constant, local, global, element, unary, binary, conditional}
+
+-- five for each operator, so that the calls for one expression have numbers of their own
+abbrev pub weight : TypedExpression → ℕ
+weight (constant c) = 0
+weight (local x k) = 0
+weight (global x k) = 0
+weight (element x k i) = weight i + 5
+weight (unary o k e) = weight e + 5
+weight (binary o k l r) = weight l + weight r + 5
+weight (conditional k c a b) = weight c + weight a + weight b + 5
