@@ -43,7 +43,11 @@ test_size e likely free = record {
 }
 
 abbrev pub condition_size : TypedExpression → (likely : Bool) (free : ℕ) → Size
-condition_size e likely free = record { registers = condition_registers e likely free; blocks = condition_blocks e; globals = globals_named e }
+condition_size e likely free = record {
+  registers = condition_registers e likely free;
+  blocks = condition_blocks e;
+  globals = globals_named e;
+}
 
 abbrev pub values_size : List TypedExpression → (free : ℕ) → Size
 values_size es free = record { registers = values_registers es free; blocks = arguments_blocks es; globals = globals_named_in es }

@@ -1,16 +1,15 @@
 -- From the blocks of functions to those of a program.
-use Rattle.std.proofs.Common.{◌≡◌, ◌≢◌, ℕ, zero, suc, ◌+◌, ◌-◌, ◌<◌, ◌≤◌, List, [], ◌∷◌, ◌++◌, Some, None, refl, sym, ◌∙◌, ap, subst, arith, length}
-use Rattle.std.proofs.Common.{get_or, take, drop}
+use Rattle.std.proofs.Common.{◌≡◌, ◌≢◌, ℕ, zero, suc, ◌+◌, ◌<◌, ◌≤◌, List, [], ◌∷◌, ◌++◌, Some, None, refl, sym, ◌∙◌, ap, subst, arith, length}
+use Rattle.std.proofs.Common.{get_or, take}
 use Rattle.std.specs.Prelude.{slice_get, map, replicate}
 use Rattle.std.proofs.lemmas.List.{length-replicate}
-use Rattle.std.proofs.Math.Seq.{take-suc, drop-cons}
+use Rattle.std.proofs.Math.Seq.{take-suc}
 use Rattle.words.specs.Words.{wrap}
 use Rattle.words.specs.Widths.{kept}
 use Rattle.words.specs.declared.width.Width.{Width}
 use Rattle.c_typed.specs.declared.tree.Function.{Function}
 use Rattle.c_typed.specs.declared.tree.Global.{Global}
-use Rattle.c_typed.specs.declared.tree.TypedStatement.{TypedStatement}
-use Rattle.c_typed.specs.Shape.{function_of, functions_of, statement_of, statements_of}
+use Rattle.c_typed.specs.Shape.{function_of, functions_of}
 use Rattle.c_typed.specs.Trees.{TypedFunction, TypedProgram, TypedStatements}
 use Rattle.c_typed.specs.Meaning.{first_words}
 use Rattle.c_typed.specs.WellFormed.{IsWellFormed, FitsFunction}
@@ -21,45 +20,13 @@ use Rattle.rtl.specs.Meaning.{Code, first_values}
 use Rattle.rtl.specs.declared.block.RBlock.{RBlock}
 use Rattle.rtl.specs.declared.block.RFunc.{RFunc}
 use Rattle.rtl.specs.declared.block.RGlobal.{RGlobal}
-use Rattle.rtl_emit.specs.Blocks.{Spot, Line, line_of, At, Grows, Reserves, Fills}
+use Rattle.rtl_emit.specs.Blocks.{Spot, Line, line_of, At, Reserves, Fills}
 use Rattle.rtl_emit.specs.Sound.{Scope, AreSound}
 use Rattle.rtl_lower.specs.Sound.{Suits}
 use Rattle.rtl_lower.specs.Correct.{KeepsRuns}
 use Rattle.rtl_lower.specs.Coded.{IsCodeOf, IsGlobalOf, AreCodesOf, AreGlobalsOf, CodedAll}
-use Rattle.rtl_lower.proofs.Statements.{Makes, MakesAll, more_code}
+use Rattle.rtl_lower.proofs.Statements.{MakesAll}
 use Rattle.rtl_lower.proofs.Simulation.{keeps_runs}
-
--- the statements of a list, from the last one on
-
-drop_all : {A : Type 0} (xs : List A) → drop (length xs) xs ≡ []
-drop_all [] = refl
-drop_all (x ∷ xs) = drop_all xs
-
-pub none_done : (bs : List RBlock) (free : ℕ) (all : List TypedStatement) (n leave : ℕ) (next : _) (after : Spot) → n ≡ length all
-    → CodedAll bs free (statements_of (drop n all)) leave next after after
-none_done bs free all n leave next after is =
-    let e : drop n all ≡ [] = ap (λ n. drop n all) is ∙ drop_all all in
-    subst (λ xs. CodedAll bs free (statements_of xs) leave next after after) (sym e) refl
-
-pub one_done : (b0 b1 b2 : List RBlock) (free : ℕ) (all : List TypedStatement) (s : TypedStatement) (k k' j leave : ℕ) (next : _) (from middle after : Spot)
-    → k < length all → k' ≡ k → s ≡ get_or all k' s → j ≡ suc k → Grows b0 b1 → Grows b1 b2
-    → MakesAll b0 b1 free (statements_of (drop j all)) leave next middle after
-    → Makes b1 b2 free (statement_of s) leave next from middle → MakesAll b0 b2 free (statements_of (drop k all)) leave next from after
-one_done b0 b1 b2 free all s k k' j leave next from middle after lt ik is ij g1 g2 mr ms =
-    let cut : drop k all ≡ s ∷ drop j all = drop-cons all k s lt ∙ ap (λ x. x ∷ drop (suc k) all) (sym (is ∙ ap (λ n. get_or all n s) ik))
-    ∙ ap (λ n. s ∷ drop n all) (sym ij) in
-    more_code b0 b1 b2 free (statements_of (drop k all)) (statement_of s) (statements_of (drop j all)) leave next from middle after
-    (ap statements_of cut) g1 g2 mr ms
-
-pub grows_same : (b : List RBlock) → Grows b b
-grows_same b = record { longer = omega arith; kept = λ i lt. refl }
-
-pub all_done : (b0 b1 : List RBlock) (free : ℕ) (all : List TypedStatement) (done leave : ℕ) (next : _) (from after : Spot) → length all ≤ done
-    → MakesAll b0 b1 free (statements_of (drop (length all - done) all)) leave next from after
-    → MakesAll b0 b1 free (statements_of all) leave next from after
-all_done b0 b1 free all done leave next from after past m bs h =
-    let none : length all - done ≡ 0 = omega arith in
-    subst (λ n. CodedAll bs free (statements_of (drop n all)) leave next from after) none (m bs h)
 
 pub function_code : (f : TypedFunction) (r : RFunc) (b0 b1 b2 : List RBlock) (free entry : ℕ) (all : TypedStatements) (filled end : Code) (from : Spot)
     → free ≡ f.locals → r.parameters ≡ f.parameters → all ≡ f.body → b0 ≡ [] → Reserves b0 b1 entry → MakesAll b1 b2 free all 0 None from (Line end)

@@ -6,3 +6,4 @@ pub mod Functions
 pub mod Sizes
 pub mod Fitted
 pub mod Sound
+pub mod Emitting

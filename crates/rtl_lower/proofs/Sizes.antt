@@ -1,27 +1,22 @@
 -- The sizes of lists of statements, taken from the last one on.
-use Rattle.std.proofs.Common.{◌≡◌, ℕ, zero, suc, ◌+◌, ◌-◌, ◌<◌, ◌≤◌, max, Bool, true, false, List, [], ◌∷◌, ◌++◌, Some, None, refl, sym, ◌∙◌, ap, subst}
+use Rattle.std.proofs.Common.{◌≡◌, ℕ, zero, suc, ◌+◌, ◌-◌, ◌<◌, ◌≤◌, Bool, true, false, List, [], ◌∷◌, ◌++◌, Some, None, refl, sym, ◌∙◌, ap, subst}
 use Rattle.std.proofs.Common.{arith, length, get_or, take, drop}
 use Rattle.std.specs.Prelude.{◌||◌, slice_get}
 use Rattle.std.proofs.lemmas.Option.{none-some}
 use Rattle.std.proofs.Math.Seq.{take-suc, drop-cons}
-use Rattle.std.specs.declared.vec.Vec.{Vec}
-use Rattle.std.specs.declared.alloc.Global.{Global}
-use Rattle.c_typed.specs.declared.tree.TypedStatement.{TypedStatement, Block}
-use Rattle.c_typed.proofs.Shapes.{block-is}
+use Rattle.c_typed.specs.declared.tree.TypedStatement.{TypedStatement}
 use Rattle.c_typed.specs.Shape.{statement_of, statements_of}
 use Rattle.c_typed.specs.Trees as Trees
 use Rattle.c_typed.specs.Trees.{TypedStatements, no_statements, more_statements}
-use Rattle.rtl.specs.declared.limits.TheConstants.{MAX_REGISTERS}
-use Rattle.rtl_emit.specs.Sizes.{Beyond}
-use Rattle.rtl_lower.specs.Sizes.{continues, any_continues, stays, last_stays, statement_joint, statements_joint, statement_blocks, statements_blocks}
-use Rattle.rtl_lower.specs.Sizes.{statement_registers, statements_registers, numbers_named, numbers_named_in}
+use Rattle.rtl_lower.specs.Sizes.{continues, any_continues, stays, last_stays, statements_blocks}
+use Rattle.rtl_lower.specs.Sizes.{statements_registers, numbers_named_in}
 
 -- a measure of statements
 abbrev mutual
   pub weight : Trees.TypedStatement → ℕ
   weight (Trees.block all) = weight_all all + 1
-  weight (Trees.if_else e a b) = weight a + weight b + 1
-  weight (Trees.loop e last body) = weight last + weight body + 1
+  weight (Trees.if_else e a b) = weight a + weight b + 3
+  weight (Trees.loop e last body) = weight last + weight body + 3
   weight _ = 1
 
   pub weight_all : TypedStatements → ℕ
@@ -66,10 +61,6 @@ pub any_of : (all : List TypedStatement) (k : ℕ) (s : TypedStatement) → k < 
     → any_continues (statements_of all) ≡ true
 any_of all k s lt is e = any_at all k s lt (ap (λ s. continues (statement_of s)) (sym is) ∙ e)
 
-pub continues_block : (v : Vec TypedStatement Global) (all : List TypedStatement) → all ≡ v.items → any_continues (statements_of all) ≡ true
-    → continues (statement_of (Block v)) ≡ true
-continues_block v all is e = ap continues (block-is v) ∙ ap (λ l. any_continues (statements_of l)) (sym is) ∙ e
-
 none_append : (xs : List TypedStatement) (s : TypedStatement) → any_continues (statements_of xs) ≡ false → continues (statement_of s) ≡ false
     → any_continues (statements_of (xs ++ s ∷ [])) ≡ false
 none_append [] s e f = or_none (continues (statement_of s)) false f refl
@@ -112,62 +103,22 @@ one_left all s k k' j lt ik is ij =
     ∙ ap (λ n. s ∷ drop n all) (sym ij) in
     ap statements_of cut
 
--- the sizes of a rest that is emitted: blocks from b0 to b, and n for what comes before
-pub record Measured (b0 b : ℕ) (rest : TypedStatements) (free n0 n : ℕ) : Type 0 where
-  pub blocks : b ≡ b0 + statements_blocks rest n0
-  pub joint : n ≡ statements_joint rest n0
-  pub room : statements_registers rest free ≤ MAX_REGISTERS
-
-pub measured_none : (b0 : ℕ) (rest : TypedStatements) (free n0 : ℕ) → rest ≡ no_statements → Measured b0 b0 rest free n0 n0
-measured_none b0 rest free n0 e = subst (λ r. Measured b0 b0 r free n0 n0) (sym e) (record { blocks = omega arith; joint = refl; room = omega arith })
-
-pub measured_more : (b0 b1 b2 : ℕ) (rest' : TypedStatements) (s : Trees.TypedStatement) (rest : TypedStatements) (free n0 n1 n2 : ℕ)
-    → rest' ≡ more_statements s rest → Measured b0 b1 rest free n0 n1 → b2 ≡ b1 + statement_blocks s n1 → n2 ≡ statement_joint s n1
-    → statement_registers s free ≤ MAX_REGISTERS → Measured b0 b2 rest' free n0 n2
-measured_more b0 b1 b2 rest' s rest free n0 n1 n2 e m eb ej r =
-    let same : statement_blocks s n1 ≡ statement_blocks s (statements_joint rest n0) = ap (statement_blocks s) m.joint in
-    subst (λ r. Measured b0 b2 r free n0 n2) (sym e) (record {
-      blocks = omega (arith, m.blocks, eb, same);
-      joint = ej ∙ ap (statement_joint s) m.joint;
-      room = omega (arith, m.room, r);
-    })
-
-pub measured_all : (b0 b : ℕ) (all : List TypedStatement) (k free n0 n : ℕ) → k ≡ 0 → Measured b0 b (statements_of (drop k all)) free n0 n
-    → Measured b0 b (statements_of all) free n0 n
-measured_all b0 b all k free n0 n e m = subst (λ k. Measured b0 b (statements_of (drop k all)) free n0 n) e m
-
 -- a rest takes no more than the whole
-rest_blocks : (k : ℕ) (all : List TypedStatement) (n : ℕ) → statements_blocks (statements_of (drop k all)) n ≤ statements_blocks (statements_of all) n
+pub rest_blocks : (k : ℕ) (all : List TypedStatement) (n : ℕ) → statements_blocks (statements_of (drop k all)) n ≤ statements_blocks (statements_of all) n
 rest_blocks zero all n = omega arith
 rest_blocks (suc k) [] n = omega arith
 rest_blocks (suc k) (s ∷ all) n = let r = rest_blocks k all n in omega (arith, r)
 
-rest_registers : (k : ℕ) (all : List TypedStatement) (free : ℕ)
+pub rest_registers : (k : ℕ) (all : List TypedStatement) (free : ℕ)
     → statements_registers (statements_of (drop k all)) free ≤ statements_registers (statements_of all) free
 rest_registers zero all free = omega arith
 rest_registers (suc k) [] free = omega arith
 rest_registers (suc k) (s ∷ all) free = let r = rest_registers k all free in omega (arith, r)
 
-rest_numbers : (k : ℕ) (all : List TypedStatement) → numbers_named_in (statements_of (drop k all)) ≤ numbers_named_in (statements_of all)
+pub rest_numbers : (k : ℕ) (all : List TypedStatement) → numbers_named_in (statements_of (drop k all)) ≤ numbers_named_in (statements_of all)
 rest_numbers zero all = omega arith
 rest_numbers (suc k) [] = omega arith
 rest_numbers (suc k) (s ∷ all) = let r = rest_numbers k all in omega (arith, r)
-
-pub beyond_one : (b0 b1 : ℕ) (all : List TypedStatement) (k : ℕ) (s : Trees.TypedStatement) (rest : TypedStatements) (free n0 n1 : ℕ)
-    → statements_of (drop k all) ≡ more_statements s rest → Measured b0 b1 rest free n0 n1
-    → Beyond (statement_registers s free) (b1 + statement_blocks s n1) (numbers_named s)
-    → Beyond (statements_registers (statements_of all) free) (b0 + statements_blocks (statements_of all) n0) (numbers_named_in (statements_of all))
-beyond_one b0 b1 all k s rest free n0 n1 e m b =
-    let same : statement_blocks s n1 ≡ statement_blocks s (statements_joint rest n0) = ap (statement_blocks s) m.joint in
-    let eb : statements_blocks (statements_of (drop k all)) n0 ≡ statements_blocks rest n0 + statement_blocks s (statements_joint rest n0) =
-    ap (λ l. statements_blocks l n0) e in
-    let er : statements_registers (statements_of (drop k all)) free ≡ max (statement_registers s free) (statements_registers rest free) =
-    ap (λ l. statements_registers l free) e in
-    let en : numbers_named_in (statements_of (drop k all)) ≡ max (numbers_named s) (numbers_named_in rest) = ap numbers_named_in e in
-    let lb = rest_blocks k all n0 in
-    let lr = rest_registers k all free in
-    let ln = rest_numbers k all in
-    omega (arith, b, m.blocks, same, eb, er, en, lb, lr, ln)
 
 -- the last statement of a list
 last_below : (all : List TypedStatement) (x s : TypedStatement) → slice_get (x ∷ all) (length all) ≡ Some s

@@ -1,7 +1,7 @@
 -- What a well-formed program's statements name is there.
-use Rattle.std.proofs.Common.{◌≡◌, ℕ, suc, zero, ◌+◌, ◌*◌, ◌<◌, ◌≤◌, ◌^◌, List, [], ◌∷◌, Option, Some, refl, sym, ◌∙◌, ap, subst}
-use Rattle.std.proofs.Common.{arith, length, drop, get_or, Bool}
-use Rattle.std.specs.Prelude.{All, IfSome, slice_get, sum_by, map}
+use Rattle.std.proofs.Common.{◌≡◌, ℕ, suc, zero, ◌+◌, ◌*◌, ◌<◌, ◌≤◌, ◌^◌, List, [], ◌∷◌, Some, refl, sym, ◌∙◌, ap, subst}
+use Rattle.std.proofs.Common.{arith, length, get_or, Bool}
+use Rattle.std.specs.Prelude.{All, slice_get, sum_by, map}
 use Rattle.std.proofs.lemmas.List.Sums.{sum_by-cons}
 use Rattle.std.proofs.lemmas.Option.{slice_get_within}
 use Rattle.std.proofs.lemmas.List.Elements.{All-nil, All-cons, All-head, All-tail}
@@ -10,12 +10,11 @@ use Rattle.words.specs.declared.width.Width.{Width}
 use Rattle.words.specs.declared.width.Width.TheVariants.{Word, Byte}
 use Rattle.c_typed.specs.declared.tree.Global.{Global}
 use Rattle.c_typed.specs.declared.limits.TheConstants.{MAX_GLOBAL_WORDS}
-use Rattle.c_typed.specs.declared.tree.TypedStatement as Tree
 use Rattle.c_typed.specs.declared.tree.Function.{Function}
 use Rattle.c_types.specs.Shape.{TypedParts, program_of}
-use Rattle.c_typed.specs.Shape.{functions_of, statements_of}
-use Rattle.c_typed.specs.Trees.{TypedExpression, TypedStatement, TypedStatements, TypedFunction, TypedProgram, more_statements}
-use Rattle.c_typed.specs.WellFormed.{FitsExpression, FitsAll, FitsStatement, FitsStatements, FitsFunction, IsWellFormed, words_in}
+use Rattle.c_typed.specs.Shape.{functions_of}
+use Rattle.c_typed.specs.Trees.{TypedExpression, TypedStatement, TypedFunction, TypedProgram}
+use Rattle.c_typed.specs.WellFormed.{FitsExpression, FitsAll, FitsStatement, FitsFunction, IsWellFormed, words_in}
 use Rattle.rtl.specs.Programs as Programs
 use Rattle.rtl.specs.Programs.{IsRegister, IsCallee, IsBlock, IsFunction, IsGlobal, IsProgram, block_count, word_count}
 use Rattle.rtl.specs.Meaning.{Code}
@@ -23,14 +22,13 @@ use Rattle.rtl.specs.declared.block.RBlock.{RBlock}
 use Rattle.rtl.specs.declared.block.RFunc.{RFunc}
 use Rattle.rtl.specs.declared.block.RGlobal.{RGlobal}
 use Rattle.rtl_emit.specs.Sizes.{globals_named, globals_named_in}
-use Rattle.rtl_emit.specs.Blocks.{Spot, Grows, Reserves, Fills}
-use Rattle.rtl_emit.specs.Sound.{Scope, IsSoundSpot, AreSound}
+use Rattle.rtl_emit.specs.Blocks.{Reserves, Fills}
+use Rattle.rtl_emit.specs.Sound.{Scope, AreSound}
 use Rattle.rtl_emit.specs.Expressions.{ArePlaces}
 use Rattle.rtl_emit.specs.declared.place.Place.{Place}
 use Rattle.rtl_lower.specs.Coded.{IsCodeOf, AreCodesOf, AreGlobalsOf}
 use Rattle.rtl_lower.specs.Sizes.{HaveRoom, function_blocks}
-use Rattle.rtl_lower.specs.Sound.{Suits, KeepsFit, KeepsFitAll}
-use Rattle.rtl_emit.proofs.Blocks.{within}
+use Rattle.rtl_lower.specs.Sound.{Suits}
 use Rattle.rtl_lower.proofs.Fitted.{expression_numbers, list_numbers}
 use Rattle.rtl_lower.proofs.Functions.{codes_at}
 
@@ -178,24 +176,6 @@ reserved_within r le = let e = r.number in let l = r.longer in omega (arith, e, 
 
 pub some_within : {old new : List RBlock} {b n : ℕ} → Reserves old new b → length new ≤ n → 0 < n
 some_within r le = let l = r.longer in omega (arith, l, le)
-
--- what was emitted for a list of statements
-abbrev pub SoundAll : List RBlock → List RBlock → TypedStatements → (leave : ℕ) (next : Option ℕ) → Spot → Spot → Type 0
-SoundAll old new all leave next from after =
-    KeepsFitAll all old new (λ s. (leave < s.blocks) × (IfSome next (λ b. b < s.blocks) × IsSoundSpot s after)) (λ s. IsSoundSpot s from)
-
-pub sound_more : (b0 b1 b2 : List RBlock) (all : TypedStatements) (t : TypedStatement) (rest : TypedStatements) (leave : ℕ) (next : Option ℕ)
-    (from middle after : Spot) → all ≡ more_statements t rest → Grows b1 b2 → SoundAll b0 b1 rest leave next middle after
-    → KeepsFit t b1 b2 (λ s. (leave < s.blocks) × (IfSome next (λ b. b < s.blocks) × IsSoundSpot s middle)) (λ s. IsSoundSpot s from)
-    → SoundAll b0 b2 all leave next from after
-sound_more b0 b1 b2 all t rest leave next from middle after is grows mr mt p n gives inside f s l g h =
-    let f' = subst (λ all. FitsStatements p n gives inside all) is f in
-    let r = mr p n gives inside f'.1 s (within grows l) g h in
-    mt p n gives inside f'.0 s l r.0 (h.0, (h.1.0, (h.1.1.0, r.1)))
-
-pub sound_all : (b0 b1 : List RBlock) (all : List Tree.TypedStatement) (k leave : ℕ) (next : Option ℕ) (from after : Spot) → k ≡ 0
-    → SoundAll b0 b1 (statements_of (drop k all)) leave next from after → SoundAll b0 b1 (statements_of all) leave next from after
-sound_all b0 b1 all k leave next from after e m = subst (λ k. SoundAll b0 b1 (statements_of (drop k all)) leave next from after) e m
 
 -- the same of parts that are equal
 pub parts_program : (parts : TypedParts) (fs : List Function) (gs : List Global) (rfs : List RFunc) (rgs : List RGlobal) (m : ℕ) → m ≡ parts.main

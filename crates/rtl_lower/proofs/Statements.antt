@@ -1,18 +1,17 @@
--- From what the parts of a statement have emitted to the whole: one lemma for each kind.
+-- The code of stores and calls from that of their parts, and a block that was filled behind others.
 use Rattle.std.proofs.Common.{Vec, Global, ◌≡◌, ◌≢◌, ℕ, ◌<◌, ◌≤◌, List, [], ◌∷◌, ◌++◌, Option, Some, refl, sym, ◌∙◌, ap, subst, arith, length}
 use Rattle.std.specs.Prelude.{map, slice_get}
 use Rattle.runs.specs.Runs.{with_value}
 use Rattle.c_typed.specs.declared.tree.Destination.{Destination}
-use Rattle.c_typed.specs.Trees.{TypedExpression, TypedStatement, TypedStatements, block, store, call, if_else, loop}
-use Rattle.c_typed.specs.Trees.{more_statements}
+use Rattle.c_typed.specs.Trees.{TypedExpression, TypedStatement, TypedStatements, store, call}
 use Rattle.rtl.specs.declared.instruction.RInst.TheVariants as I
 use Rattle.rtl.specs.declared.instruction.RExit.TheVariants as X
 use Rattle.rtl.specs.declared.block.RBlock.{RBlock}
 use Rattle.rtl.specs.Meaning.{Code, code_of, words_in, state_after_call}
-use Rattle.rtl_emit.specs.Blocks.{exit_code, first, Spot, Block, Line, line_of, Lands, Grows, Has, At, Reserves, Fills}
-use Rattle.rtl_emit.specs.Expressions.{IsPlace, AddPlaces, Fetches, Decides, FetchAll}
+use Rattle.rtl_emit.specs.Blocks.{exit_code, first, Spot, Block, Line, line_of, Lands, Grows, Has, At, Fills}
+use Rattle.rtl_emit.specs.Expressions.{IsPlace, AddPlaces, Fetches, FetchAll}
 use Rattle.rtl_emit.specs.declared.place.Place.{Place}
-use Rattle.rtl_emit.proofs.Blocks.{grows_then, split2, split5, split6}
+use Rattle.rtl_emit.proofs.Blocks.{split2}
 use Rattle.rtl_emit.proofs.Emitted.{Over, Joins, finds_to}
 use Rattle.rtl_lower.specs.Coded.{Receives, IsTurn, Coded, CodedAll}
 use Rattle.rtl_lower.proofs.Spots.{comes_join}
@@ -20,9 +19,6 @@ use Rattle.rtl_lower.proofs.Spots.{comes_join}
 -- what was emitted for an operand, and for a condition
 abbrev Finds : List RBlock → List RBlock → TypedExpression → (free p : ℕ) → Code → Code → Type 0
 Finds old new e free p from after = Over old new (λ bs. Fetches bs e free p from after)
-
-abbrev Ways : List RBlock → List RBlock → TypedExpression → (free y n : ℕ) → Code → Type 0
-Ways old new e free y n from = Over old new (λ bs. Decides bs e free y n from)
 
 -- what was emitted for a statement
 abbrev pub Makes : List RBlock → List RBlock → ℕ → TypedStatement → (leave : ℕ) (next : Option ℕ) → Spot → Spot → Type 0
@@ -38,23 +34,6 @@ MakesSimply old new free s from after = (leave : ℕ) (next : Option ℕ) → Ma
 pub coded_equal : (bs : List RBlock) (free : ℕ) (s s' : TypedStatement) (leave : ℕ) (next : Option ℕ) (from after : Spot) → s ≡ s'
     → Coded bs free s' leave next from after → Coded bs free s leave next from after
 coded_equal bs free s s' leave next from after e c = subst (λ s. Coded bs free s leave next from after) (sym e) c
-
-pub simply_code : (b0 b1 : List RBlock) (free : ℕ) (s s' : TypedStatement) (leave : ℕ) (next : Option ℕ) (from after : Spot) → s ≡ s'
-    → MakesSimply b0 b1 free s' from after → Makes b0 b1 free s leave next from after
-simply_code b0 b1 free s s' leave next from after e m bs h = coded_equal bs free s s' leave next from after e (m leave next bs h)
-
-pub block_code : (b0 b1 : List RBlock) (free : ℕ) (s : TypedStatement) (all all' : TypedStatements) (leave : ℕ) (next : Option ℕ) (from after : Spot)
-    → s ≡ block all → all' ≡ all → MakesAll b0 b1 free all' leave next from after → Makes b0 b1 free s leave next from after
-block_code b0 b1 free s all all' leave next from after e ia m bs h =
-    coded_equal bs free s (block all') leave next from after (e ∙ ap block (sym ia)) (m bs h)
-
--- one more statement in front
-pub more_code : (b0 b1 b2 : List RBlock) (free : ℕ) (all : TypedStatements) (s : TypedStatement) (rest : TypedStatements) (leave : ℕ) (next : Option ℕ)
-    (from middle after : Spot) → all ≡ more_statements s rest → Grows b0 b1 → Grows b1 b2 → MakesAll b0 b1 free rest leave next middle after
-    → Makes b1 b2 free s leave next from middle → MakesAll b0 b2 free all leave next from after
-more_code b0 b1 b2 free all s rest leave next from middle after is g1 g2 mr ms bs h =
-    let sp = split2 bs b0 b1 b2 g1 g2 h in
-    subst (λ all. CodedAll bs free all leave next from after) (sym is) (middle, ms bs sp.1, mr bs sp.0)
 
 pub store_code : (b0 b1 b2 : List RBlock) (free : ℕ) (a a' : ℕ) (i e : TypedExpression) (p next_free q last : ℕ) (code middle after' : Code) (after : Spot)
     → a' ≡ a → after' ≡ first (I.Store a' p q) (line_of after) → IsPlace i free p next_free → IsPlace e next_free q last → Grows b0 b1 → Grows b1 b2
@@ -107,31 +86,6 @@ call_code b0 b1 b2 free place f f' to es places0 places ps1 ps2 args code end af
       values = values;
     })
 
-pub if_code : (b0 b1 b2 b3 b4 b5 b6 : List RBlock) (free : ℕ) (s : TypedStatement) (e : TypedExpression) (a b a' b' : TypedStatement) (leave : ℕ)
-    (next : Option ℕ)
-    (code : Code) (after a_spot b_spot : Spot) (join a_block b_block : ℕ) → s ≡ if_else e a b → a' ≡ a → b' ≡ b
-    → Grows b0 b1 → Grows b1 b2 → Grows b2 b3 → Grows b3 b4 → Grows b4 b5 → Grows b5 b6
-    → Joins b0 b1 join after → Makes b1 b2 free a' leave next a_spot (Block join) → Joins b2 b3 a_block a_spot
-    → Makes b3 b4 free b' leave next b_spot (Block join)
-    → Joins b4 b5 b_block b_spot → Ways b5 b6 e free a_block b_block code → Makes b0 b6 free s leave next (Line code) after
-if_code b0 b1 b2 b3 b4 b5 b6 free s e a b a' b' leave next code after a_spot b_spot join a_block b_block is ia ib g1 g2 g3 g4 g5 g6 s1 ma s3 mb s5 ge bs h =
-    let sp = split6 bs b0 b1 b2 b3 b4 b5 b6 g1 g2 g3 g4 g5 g6 h in
-    coded_equal bs free s (if_else e a b) leave next (Line code) after is (record {
-      code = code;
-      is = refl;
-      join = join;
-      joined = s1 bs sp.0;
-      a = a_block;
-      a_spot = a_spot;
-      a_lands = s3 bs sp.2;
-      a_for = coded_equal bs free a a' leave next a_spot (Block join) (sym ia) (ma bs sp.1);
-      b = b_block;
-      b_spot = b_spot;
-      b_lands = s5 bs sp.4;
-      b_for = coded_equal bs free b b' leave next b_spot (Block join) (sym ib) (mb bs sp.3);
-      test = ge bs sp.5;
-    })
-
 -- the end of a turn
 pub turn_block : (b0 b1 : List RBlock) (b : ℕ) (last : Spot) → Joins b0 b1 b last → Over b0 b1 (λ bs. IsTurn bs (Some b) (Block b) last)
 turn_block b0 b1 b last l bs h = record {
@@ -141,7 +95,7 @@ turn_block b0 b1 b last l bs h = record {
 }
 
 -- before the block that was filled
-has_before : (bs b0 b1 b7 b8 : List RBlock) (head : ℕ) (c : Code) → Grows b1 b7 → length b1 ≤ head → Fills b7 b8 head c → Has bs b0 b8 → Has bs b0 b1
+pub has_before : (bs b0 b1 b7 b8 : List RBlock) (head : ℕ) (c : Code) → Grows b1 b7 → length b1 ≤ head → Fills b7 b8 head c → Has bs b0 b8 → Has bs b0 b1
 has_before bs b0 b1 b7 b8 head c g le f h = record {
   by = λ i low high.
       let ne : i ≢ head = omega arith in
@@ -149,7 +103,7 @@ has_before bs b0 b1 b7 b8 head c g le f h = record {
 }
 
 -- after it
-has_past : (bs b0 b2 b7 b8 : List RBlock) (head : ℕ) (c : Code) → length b0 ≤ length b2 → head < length b2 → Fills b7 b8 head c → Has bs b0 b8
+pub has_past : (bs b0 b2 b7 b8 : List RBlock) (head : ℕ) (c : Code) → length b0 ≤ length b2 → head < length b2 → Fills b7 b8 head c → Has bs b0 b8
     → Has bs b2 b7
 has_past bs b0 b2 b7 b8 head c le lt f h = record {
   by = λ i low high.
@@ -157,42 +111,5 @@ has_past bs b0 b2 b7 b8 head c le lt f h = record {
       h.by i (omega arith) (omega (arith, f.same_length)) ∙ f.others i ne;
 }
 
-at_filled : (bs b0 b7 b8 : List RBlock) (head : ℕ) (c : Code) → length b0 ≤ head → head < length b8 → Fills b7 b8 head c → Has bs b0 b8 → At bs head c
+pub at_filled : (bs b0 b7 b8 : List RBlock) (head : ℕ) (c : Code) → length b0 ≤ head → head < length b8 → Fills b7 b8 head c → Has bs b0 b8 → At bs head c
 at_filled bs b0 b7 b8 head c le lt f h = let a = f.at in record { block = a.block; there = h.by head le lt ∙ a.there; is = a.is }
-
-pub loop_code : (b0 b1 b2 b3 b4 b5 b6 b7 b8 : List RBlock) (free : ℕ) (s : TypedStatement) (e : TypedExpression) (l b l' b' : TypedStatement) (leave : ℕ)
-    (next next' : Option ℕ) (top bottom filled : Code) (after last_spot turn body_spot : Spot) (left head : ℕ)
-    → s ≡ loop e l b → l' ≡ l → b' ≡ b → filled ≡ line_of body_spot
-    → Grows b0 b1 → Reserves b1 b2 head → Grows b2 b3 → Grows b3 b4 → Grows b4 b5 → Grows b5 b6 → Grows b6 b7 → Fills b7 b8 head filled
-    → Joins b0 b1 left after → Ways b2 b3 e free head left bottom → Makes b3 b4 free l' leave next last_spot (Line bottom)
-    → Over b4 b5 (λ bs. IsTurn bs next' turn last_spot) → Makes b5 b6 free b' left next' body_spot turn → Ways b6 b7 e free head left top
-    → Makes b0 b8 free s leave next (Line top) after
-loop_code b0 b1 b2 b3 b4 b5 b6 b7 b8 free s e l b l' b' leave next next' top bottom filled after last_spot turn body_spot left head is il ib e1 g1 r
-    g3 g4 g5 g6 g7 f s1 wb ml tu mb wt bs h =
-    let g67 = grows_then b5 b6 b7 g6 g7 in
-    let g57 = grows_then b4 b5 b7 g5 g67 in
-    let g47 = grows_then b3 b4 b7 g4 g57 in
-    let g37 = grows_then b2 b3 b7 g3 g47 in
-    let g27 = grows_then b1 b2 b7 r.grows g37 in
-    let low : length b0 ≤ head = omega (arith, g1.longer, r.number) in
-    let in_b2 : head < length b2 = omega (arith, r.number, r.longer) in
-    let h2 = has_past bs b0 b2 b7 b8 head filled (omega (arith, g1.longer, r.longer)) in_b2 f h in
-    let sp = split5 bs b2 b3 b4 b5 b6 b7 g3 g4 g5 g6 g7 h2 in
-    coded_equal bs free s (loop e l b) leave next (Line top) after is (record {
-      leave = left;
-      left = s1 bs (has_before bs b0 b1 b7 b8 head filled g27 (omega (arith, r.number)) f h);
-      next = next';
-      body = head;
-      body_spot = body_spot;
-      body_at = subst (λ c. At bs head c) e1 (at_filled bs b0 b7 b8 head filled low (omega (arith, f.same_length, g37.longer)) f h);
-      turn = turn;
-      body_for = coded_equal bs free b b' left next' body_spot turn (sym ib) (mb bs sp.3);
-      last_spot = last_spot;
-      is_turn = tu bs sp.2;
-      bottom = bottom;
-      last_for = coded_equal bs free l l' leave next last_spot (Line bottom) (sym il) (ml bs sp.1);
-      again = wb bs sp.0;
-      top = top;
-      is = refl;
-      test = wt bs sp.4;
-    })

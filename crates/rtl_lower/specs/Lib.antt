@@ -4,3 +4,4 @@ pub mod Sizes
 -- words of private functions
 pub mod Sound
 pub mod Coded
+pub mod Emits

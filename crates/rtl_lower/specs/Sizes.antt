@@ -6,7 +6,8 @@ use Rattle.c_typed.specs.declared.tree.Destination.{Destination}
 use Rattle.c_typed.specs.declared.tree.Destination.TheVariants.{Local, Global as Variable}
 use Rattle.c_tree.specs.declared.tree.UnaryOp.TheVariants.{Not}
 use Rattle.c_tree.specs.declared.tree.BinaryOp.TheVariants.{Equal}
-use Rattle.c_typed.specs.Trees.{TypedExpression, unary, binary, TypedStatement, TypedStatements, TypedFunction, empty, block, unset, assign, store, call}
+use Rattle.c_typed.specs.Trees.{TypedExpression, unary, binary, TypedStatement, TypedStatements, TypedFunction, empty, block, unset}
+use Rattle.c_typed.specs.Trees.{assign, store, call}
 use Rattle.c_typed.specs.Trees.{output, if_else, loop, break_loop, continue_loop, return_with, no_statements, more_statements}
 use Rattle.rtl.specs.declared.limits.TheConstants.{MAX_REGISTERS, MAX_BLOCKS}
 use Rattle.rtl_emit.specs.Sizes.{value_blocks, condition_blocks, arguments_blocks, value_registers, condition_registers, place_registers}

@@ -6,6 +6,7 @@ ghost use Rattle.rtl_emit.specs.Sizes.{Beyond};
 ghost use Rattle.rtl_lower.specs.Coded.{IsCodeOf, IsGlobalOf};
 ghost use Rattle.rtl_lower.specs.Sizes.{function_blocks, function_registers, IsPlain};
 
+use crate::context::Context;
 use crate::statement::statements;
 use c_typed::{Function, Global as TypedGlobal};
 use rtl::{RExit, RFunc, RGlobal};
@@ -26,7 +27,13 @@ pub(crate) fn function(alloc: Global, f: &Function) -> Result<RFunc, LowerFault>
     let mut blocks = Vec::new(alloc);
     let entry = reserve(alloc, &mut blocks)?;
     let end = Continuation::Made(leaving(alloc, RExit::Return(None)));
-    let code = statements(alloc, &mut blocks, f.body.as_slice(), free, 0, None, end)?;
+    let context = Context {
+        alloc,
+        free,
+        leave: 0,
+        next: None,
+    };
+    let code = statements(context, &mut blocks, f.body.as_slice(), end)?;
     fill(&mut blocks, entry, opened(alloc, code));
     Ok(RFunc { parameters, blocks })
 }

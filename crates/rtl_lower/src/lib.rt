@@ -17,8 +17,11 @@
 //!   each of the source; so do the deepest texts of `if`, of loops and of expressions.
 #![tactic(auto)]
 
+mod context;
 mod function;
 mod program;
+mod shape;
+mod simple;
 mod statement;
 
 pub use program::lower;

@@ -1,24 +1,28 @@
-use Rattle.std.proofs.Common.{◌-◌, length, drop}
+use Rattle.std.proofs.Common.{◌+◌, ◌-◌, length, drop, Ok}
 use Rattle.c_typed.specs.Shape.{statement_of, statements_of}
-use Rattle.rtl_emit.specs.Blocks.{spot, Grows}
-use Rattle.rtl_emit.specs.Sizes.{joint}
-use Rattle.rtl_lower.proofs.Sizes.{Measured, weight, weight_all}
-use Rattle.rtl_lower.proofs.Statements.{MakesAll}
-use Rattle.rtl_lower.proofs.Sound.{SoundAll}
+use Rattle.rtl_emit.specs.Blocks.{spot}
+use Rattle.rtl_lower.specs.Emits.{EmitsStatements}
+use Rattle.rtl_lower.proofs.Sizes.{weight, weight_all}
 use Rattle.rtl_lower.proofs.statement.+statements.Given as goal
 
 abbrev pub invariant-statements-loop-done : goal.invariant-statements-loop-done
 invariant-statements-loop-done l =
-    Grows l.initial.blocks.items l.blocks.items
-    × MakesAll l.initial.blocks.items l.blocks.items l.free (statements_of (drop (length l.all - l.done) l.all)) l.leave l.next (spot l.code)
-    (spot l.initial.code)
-    × Measured (length l.initial.blocks.items) (length l.blocks.items) (statements_of (drop (length l.all - l.done) l.all)) l.free
-    (joint (spot l.initial.code)) (joint (spot l.code))
-    × SoundAll l.initial.blocks.items l.blocks.items (statements_of (drop (length l.all - l.done) l.all)) l.leave l.next (spot l.code)
-    (spot l.initial.code)
+    EmitsStatements (statements_of (drop (length l.all - l.done) l.all)) l.context (spot l.initial.code) l.initial.blocks.items l.blocks.items (Ok l.code)
 
 abbrev pub decreases-statement : goal.decreases-statement
 decreases-statement l = weight (statement_of l.s.now)
 
 abbrev pub decreases-statements : goal.decreases-statements
 decreases-statements l = weight_all (statements_of l.all.now)
+
+abbrev pub decreases-side : goal.decreases-side
+decreases-side l = weight (statement_of l.s.now) + 1
+
+abbrev pub decreases-if_statement : goal.decreases-if_statement
+decreases-if_statement l = weight (statement_of l.yes.now) + weight (statement_of l.no.now) + 2
+
+abbrev pub decreases-turn_of : goal.decreases-turn_of
+decreases-turn_of l = weight (statement_of l.last.now) + 1
+
+abbrev pub decreases-loop_statement : goal.decreases-loop_statement
+decreases-loop_statement l = weight (statement_of l.last.now) + weight (statement_of l.body.now) + 2

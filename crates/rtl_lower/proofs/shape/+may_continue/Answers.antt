@@ -3,7 +3,7 @@ use Rattle.c_typed.specs.Shape.{statement_of, statements_of}
 use Rattle.c_typed.proofs.Shapes.{block-is}
 use Rattle.rtl_lower.specs.Sizes.{continues, any_continues}
 use Rattle.rtl_lower.proofs.Sizes.{any_at, none_more, none_all}
-use Rattle.rtl_lower.proofs.statement.+may_continue.Goals as goal
+use Rattle.rtl_lower.proofs.shape.+may_continue.Goals as goal
 
 pub returns-then-may_continue : goal.returns-then-may_continue
 returns-then-may_continue t c =

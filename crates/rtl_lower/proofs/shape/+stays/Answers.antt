@@ -3,7 +3,7 @@ use Rattle.c_typed.specs.Shape.{statement_of}
 use Rattle.c_typed.proofs.Shapes.{block-is}
 use Rattle.rtl_lower.specs.Sizes as Sizes
 use Rattle.rtl_lower.proofs.Sizes.{last_of, last_none}
-use Rattle.rtl_lower.proofs.statement.+stays.Goals as goal
+use Rattle.rtl_lower.proofs.shape.+stays.Goals as goal
 
 pub returns-in-Some : goal.returns-in-Some
 returns-in-Some t c =

@@ -1,0 +1,616 @@
+-- What the call for a statement promises (`Emits`), from what the calls for its parts did: one lemma for each kind.
+use Rattle.std.proofs.Common.{Vec, Global, ◌≡◌, ◌≢◌, ℕ, ◌+◌, ◌<◌, ◌≤◌, Bool, true, false, List, [], ◌++◌, Option, Some, None, ◌⊎◌, inl, inr, Ok, Err}
+use Rattle.std.proofs.Common.{Result, refl, sym, ◌∙◌, ap, subst, arith, length, drop}
+use Rattle.std.specs.Prelude.{◌&&◌, not, IfSome, IfOk, IfErr, OnOk, map, if◌then◌else◌}
+use Rattle.c_typed.specs.declared.tree.Destination.{Destination}
+use Rattle.c_typed.specs.declared.tree.Destination.TheVariants.{Local, Global as Variable}
+use Rattle.c_typed.specs.declared.tree.TypedStatement as Tree
+use Rattle.c_typed.specs.Shape.{statement_of, statements_of}
+use Rattle.c_typed.specs.Trees.{TypedExpression, TypedStatement, TypedStatements, block, assign, store, call, output, if_else, loop}
+use Rattle.c_typed.specs.Trees.{break_loop, continue_loop, return_with, no_statements, more_statements}
+use Rattle.rtl.specs.declared.instruction.RInst.TheVariants as I
+use Rattle.rtl.specs.declared.instruction.RExit.TheVariants as X
+use Rattle.rtl.specs.declared.block.RBlock.{RBlock}
+use Rattle.rtl.specs.declared.limits.TheConstants.{MAX_REGISTERS, MAX_BLOCKS}
+use Rattle.rtl.specs.Meaning.{Code}
+use Rattle.rtl_emit.specs.Blocks.{Spot, Block, Line, Lands, Grows, Has, Reserves, Fills, open_code, exit_code, first, spot, line_of}
+use Rattle.rtl_emit.specs.Emits.{Size, Emits, value_size, condition_size, values_size, EmitsValue, EmitsOperand, EmitsBranch, EmitsOperands}
+use Rattle.rtl_emit.specs.Expressions.{IsPlace, AddPlaces}
+use Rattle.rtl_emit.specs.Sizes.{joint, place_registers, places_registers, next_free, value_registers, value_blocks, condition_blocks}
+use Rattle.rtl_emit.specs.Sound.{Scope, IsSound, IsSoundSpot, AreSound, KeepsSound}
+use Rattle.rtl_emit.specs.declared.block.OpenBlock.{OpenBlock}
+use Rattle.rtl_emit.specs.declared.block.Continuation.{Continuation}
+use Rattle.rtl_emit.specs.declared.block.Continuation.TheVariants.{Jump, Made}
+use Rattle.rtl_emit.specs.declared.fault.LowerFault.{LowerFault}
+use Rattle.rtl_emit.specs.declared.fault.LowerFault.TheVariants.{Limit}
+use Rattle.rtl_emit.specs.declared.place.Place.{Place}
+use Rattle.rtl_emit.specs.declared.targets.Targets.{Targets}
+use Rattle.rtl_emit.proofs.Blocks.{grows_then, within, split2, split3, split4}
+use Rattle.rtl_emit.proofs.Emitted.{Over, Joins, finds_to}
+use Rattle.rtl_emit.proofs.Emitting.{ended, beyond_more, grows_same}
+use Rattle.rtl_emit.proofs.Sound.{sound_along, sound_first, sound_exit, sound_line}
+use Rattle.rtl_lower.specs.Emits.{statement_size, statements_size, EmitsCode, EmitsStatement, EmitsStatements, made_of, EmitsSide}
+use Rattle.rtl_lower.specs.Emits.{EmitsReceiver, turn_end, IsEnd, EndsTurn, turn_size, EmitsTurn}
+use Rattle.rtl_lower.specs.Sizes.{stays, is_equality, continues, receiver_blocks, statement_joint, statements_joint}
+use Rattle.rtl_lower.specs.Sizes.{statement_blocks, statements_blocks, statement_registers, statements_registers}
+use Rattle.rtl_lower.specs.declared.context.Context.{Context}
+use Rattle.rtl_lower.specs.declared.simple.Receiver.{Receiver}
+use Rattle.rtl_lower.specs.declared.statement.Turn.{Turn}
+use Rattle.rtl_lower.proofs.Sizes.{rest_blocks, rest_registers, rest_numbers}
+use Rattle.rtl_lower.proofs.Sound.{named, named_all, in_scope, callee_sound, place_registers_sound, within_filled, reserved_within}
+use Rattle.rtl_lower.proofs.Statements.{store_code, call_code, turn_block, has_before, has_past, at_filled}
+use Rattle.rtl_lower.proofs.Spots.{comes_equal}
+
+-- the same size, and less told
+meant : {A : Type 0} (size : Size) (old new : List RBlock) (Keeps Keeps' : A → Type 0) (Does Does' : A → List RBlock → Type 0)
+    (r : Result A LowerFault) → ((x : A) → Keeps x → Keeps' x) → ((x : A) → Over old new (Does x) → Over old new (Does' x))
+    → Emits size old new Keeps Does r → Emits size old new Keeps' Does' r
+meant size old new Keeps Keeps' Does Does' (Ok x) keeps does e = record {
+  grows = e.grows;
+  count = e.count;
+  room = e.room;
+  limit = tt;
+  sound = keeps x e.sound;
+  does = does x e.does;
+}
+meant size old new Keeps Keeps' Does Does' (Err f) keeps does e = record {
+  grows = e.grows;
+  count = tt;
+  room = tt;
+  limit = e.limit;
+  sound = tt;
+  does = tt;
+}
+
+-- code as what other code goes on at
+made_emits : (size : Size) (old new : List RBlock) (Keeps : Continuation → Type 0) (Does : Continuation → List RBlock → Type 0)
+    (r : Result OpenBlock LowerFault) → Emits size old new (λ from. Keeps (Made from)) (λ from. Does (Made from)) r
+    → Emits size old new Keeps Does (made_of r)
+made_emits size old new Keeps Does (Ok from) e = record {
+  grows = e.grows;
+  count = e.count;
+  room = e.room;
+  limit = tt;
+  sound = e.sound;
+  does = e.does;
+}
+made_emits size old new Keeps Does (Err f) e = record {
+  grows = e.grows;
+  count = tt;
+  room = tt;
+  limit = e.limit;
+  sound = tt;
+  does = tt;
+}
+
+-- where a part fails behind k blocks, the whole does
+pub stopped : {A B : Type 0} (part whole : Size) (k : ℕ) (old mid new : List RBlock) (Keeps : A → Type 0) (Keeps' : B → Type 0)
+    (Does : A → List RBlock → Type 0) (Does' : B → List RBlock → Type 0) (f : LowerFault) → part.registers ≤ whole.registers
+    → k + part.blocks ≤ whole.blocks → part.globals ≤ whole.globals → Grows old mid → length mid ≡ length old + k
+    → Emits part mid new Keeps Does (Err f) → Emits whole old new Keeps' Does' (Err f)
+stopped part whole k old mid new Keeps Keeps' Does Does' f lr lb lg g n e = record {
+  grows = grows_then old mid new g e.grows;
+  count = tt;
+  room = tt;
+  limit = λ is. beyond_more part.registers (length mid + part.blocks) part.globals whole.registers (length old + whole.blocks) whole.globals
+      lr (omega (arith, n, lb)) lg (e.limit is);
+  sound = tt;
+  does = tt;
+}
+
+-- a block that was sealed
+pub record Sealing (old new : List RBlock) (block : ℕ) (after : Spot) : Type 0 where
+  pub grows : Grows old new
+  pub count : length new ≡ length old + joint after
+  pub sound : KeepsSound old new (λ s. IsSoundSpot s after) (λ s. block < s.blocks)
+  pub lands : Joins old new block after
+
+-- statements that go on behind themselves alone
+
+pub simple_emits : (old new : List RBlock) (s s' : TypedStatement) (c : Context) (after : Spot) (code : Result OpenBlock LowerFault)
+    (r : Result Continuation LowerFault) → s ≡ s' → ((n : ℕ) → statement_joint s' n ≡ 1) → r ≡ made_of code → EmitsCode s' c.free after old new code
+    → EmitsStatement s c after old new r
+simple_emits old new s s' c after code r is one ir e =
+    subst (λ r. EmitsStatement s c after old new r) (sym ir) (subst (λ s. EmitsStatement s c after old new (made_of code)) (sym is)
+    (made_emits (statement_size s' c.free (joint after)) old new _ _ code
+    (meant (statement_size s' c.free (joint after)) old new _ _ _ _ code
+    (λ from keeps. (sym (one (joint after)), λ p n gives inside f s l g h. keeps p n gives inside f s l g (h.0, h.1.1.1)))
+    (λ from does bs h. does bs h c.leave c.next) e)))
+
+pub whole_emits : (old new : List RBlock) (s s' : TypedStatement) (c : Context) (after : Spot) (code : Result OpenBlock LowerFault)
+    (r : Result Continuation LowerFault) → s ≡ s' → r ≡ made_of code → EmitsStatement s' c after old new (made_of code)
+    → EmitsStatement s c after old new r
+whole_emits old new s s' c after code r is ir e =
+    subst (λ r. EmitsStatement s c after old new r) (sym ir) (subst (λ s. EmitsStatement s c after old new (made_of code)) (sym is) e)
+
+pub local_emits : (old new : List RBlock) (to : Destination) (x local : ℕ) (e : TypedExpression) (free : ℕ) (after : Spot)
+    (r : Result OpenBlock LowerFault) → to ≡ Local x → local ≡ x → local < MAX_REGISTERS → EmitsValue e local free after old new r
+    → EmitsCode (assign to e) free after old new r
+local_emits old new to x local e free after r it il lt v =
+    subst (λ to. EmitsCode (assign to e) free after old new r) (sym (it ∙ ap Local (sym il)))
+    (ended (value_size e free (joint after)) (statement_size (assign (Local local) e) free (joint after)) 0 old old new _ _ _ _ r
+    (record { blocks = omega arith; registers = omega arith; room = λ le. omega (arith, le, lt); globals = omega arith })
+    (grows_same old) (omega arith)
+    (λ from keeps p n gives inside f s l g h. keeps s l g (lt, (named p s n e h.0 f.1, h.1)))
+    (λ from does bs h leave next. record { code = open_code from; is = refl; value = does bs h }) v)
+
+pub variable_emits : (old new : List RBlock) (to : Destination) (x g : ℕ) (e : TypedExpression) (free p next z : ℕ) (last middle : OpenBlock)
+    (after : Spot) (r : Result OpenBlock LowerFault) → to ≡ Variable x → g ≡ x → IsPlace e free p next → place_registers e free ≤ MAX_REGISTERS
+    → z ≡ next → z < MAX_REGISTERS → open_code last ≡ first (I.Store g z p) (line_of after) → open_code middle ≡ first (I.Const z 0) (open_code last)
+    → EmitsOperand e p free middle old new r → EmitsCode (assign to e) free after old new r
+variable_emits old new to x g e free p next z last middle after r it ig pl room iz lt fl fm o =
+    let next_is : z ≡ next_free e free = iz ∙ pl.next_is in
+    let code : open_code middle ≡ first (I.Const z 0) (first (I.Store g z p) (line_of after)) = fm ∙ ap (first (I.Const z 0)) fl in
+    subst (λ to. EmitsCode (assign to e) free after old new r) (sym (it ∙ ap Variable (sym ig)))
+    (ended (value_size e free 1) (statement_size (assign (Variable g) e) free (joint after)) 0 old old new _ _ _ _ r
+    (record { blocks = omega arith; registers = omega arith; room = λ le. omega (arith, le, room, lt, next_is); globals = omega arith })
+    (grows_same old) (omega arith)
+    (λ from keeps p' n gives inside f s l g' h.
+    let there = in_scope p' s _ _ h.0 refl f.0 in
+    keeps s l g' (named p' s n e h.0 f.1, sound_first _ fm lt (sound_first _ fl (there, (lt, pl.within)) (sound_line _ h.1))))
+    (λ from does bs h leave next'. record {
+      code = open_code from;
+      is = refl;
+      p = p;
+      next = next;
+      z = z;
+      is_place = pl;
+      spare = omega (arith, iz);
+      value = finds_to code (does bs h);
+    }) o)
+
+pub store_emits : (old mid new : List RBlock) (a a' : ℕ) (i e : TypedExpression) (free p next q last : ℕ) (code middle : OpenBlock) (after : Spot)
+    (r : Result OpenBlock LowerFault) → a' ≡ a → IsPlace i free p next → place_registers i free ≤ MAX_REGISTERS → IsPlace e next q last
+    → place_registers e next ≤ MAX_REGISTERS → open_code code ≡ first (I.Store a' p q) (line_of after)
+    → EmitsOperand e q next code old mid (Ok middle) → EmitsOperand i p free middle mid new r → EmitsCode (store a i e) free after old new r
+store_emits old mid new a a' i e free p next q last code middle after r ia pi ri pe re fe second one =
+    let values : value_registers e (next_free i free) ≤ MAX_REGISTERS = subst (λ n. value_registers e n ≤ MAX_REGISTERS) pi.next_is second.room in
+    let places : place_registers e (next_free i free) ≤ MAX_REGISTERS = subst (λ n. place_registers e n ≤ MAX_REGISTERS) pi.next_is re in
+    let c1 : length mid ≡ length old + value_blocks e 1 = second.count in
+    ended (value_size i free 1) (statement_size (store a i e) free (joint after)) (value_blocks e 1) old mid new _ _ _ _ r
+    (record { blocks = omega arith; registers = omega arith; room = λ le. omega (arith, le, ri, places, values); globals = omega arith })
+    second.grows c1
+    (λ from keeps p' n gives inside f s l g h.
+    let there = in_scope p' s _ _ h.0 ia f.0 in
+    let end = sound_first _ fe (there, (pi.within, pe.within)) (sound_line _ h.1) in
+    let m = second.sound s (within one.grows l) g (named p' s n e h.0 f.1.1, end) in
+    keeps s l m.0 (named p' s n i h.0 f.1.0, m.1))
+    (λ from does bs h leave next'. store_code old mid new free a a' i e p next q last (open_code from) (open_code middle) (open_code code) after
+    ia fe pi pe second.grows one.grows second.does does leave next' bs h) one
+
+pub output_emits : (old mid new : List RBlock) (e : TypedExpression) (free b p next : ℕ) (end : OpenBlock) (after : Spot)
+    (r : Result OpenBlock LowerFault) → Sealing old mid b after → IsPlace e free p next → place_registers e free ≤ MAX_REGISTERS
+    → open_code end ≡ exit_code (X.Out p b) → EmitsOperand e p free end mid new r → EmitsCode (output e) free after old new r
+output_emits old mid new e free b p next end after r sealing pl room fe o =
+    ended (value_size e free 1) (statement_size (output e) free (joint after)) (joint after) old mid new _ _ _ _ r
+    (record { blocks = omega arith; registers = omega arith; room = λ le. omega (arith, le, room); globals = omega arith })
+    sealing.grows sealing.count
+    (λ from keeps p' n gives inside f s l g h.
+    let j = sealing.sound s (within o.grows l) g h.1 in
+    keeps s l j.0 (named p' s n e h.0 f, sound_exit _ fe (pl.within, j.1)))
+    (λ from does bs h leave next'.
+    let sp = split2 bs old mid new sealing.grows o.grows h in
+    record {
+      block = b;
+      lands = sealing.lands bs sp.0;
+      leaves = record { code = open_code from; is = refl; p = p; next = next; is_place = pl; value = finds_to fe (does bs sp.1) };
+    }) o
+
+-- calls
+
+pub nowhere_emits : (old new : List RBlock) (to : Option Destination) (free b : ℕ) (after : Spot) → to ≡ None → Sealing old new b after
+    → EmitsReceiver to free after old new (Ok (record { to = None; block = b }))
+nowhere_emits old new to free b after it sealing =
+    subst (λ to. EmitsReceiver to free after old new (Ok (record { to = None; block = b }))) (sym it) (record {
+      grows = sealing.grows;
+      count = sealing.count;
+      room = omega arith;
+      limit = tt;
+      sound = λ p n f s l g h. let j = sealing.sound s l g h.1 in (j.0, (tt, j.1));
+      does = λ bs h. (refl, sealing.lands bs h);
+    })
+
+pub to_local_emits : (old new : List RBlock) (to : Option Destination) (x local free b : ℕ) (after : Spot) → to ≡ Some (Local x) → local ≡ x
+    → local < MAX_REGISTERS → Sealing old new b after → EmitsReceiver to free after old new (Ok (record { to = Some local; block = b }))
+to_local_emits old new to x local free b after it il lt sealing =
+    subst (λ to. EmitsReceiver to free after old new (Ok (record { to = Some local; block = b }))) (sym (it ∙ ap (λ x. Some (Local x)) (sym il)))
+    (record {
+      grows = sealing.grows;
+      count = sealing.count;
+      room = omega (arith, lt);
+      limit = tt;
+      sound = λ p n f s l g h. let j = sealing.sound s l g h.1 in (j.0, (lt, j.1));
+      does = λ bs h. (refl, sealing.lands bs h);
+    })
+
+pub to_variable_emits : (old new : List RBlock) (to : Option Destination) (x g free t z b : ℕ) (last code : OpenBlock) (after : Spot)
+    → to ≡ Some (Variable x) → g ≡ x → t ≡ free → t < MAX_REGISTERS → z ≡ t + 1 → z < MAX_REGISTERS
+    → open_code last ≡ first (I.Store g z t) (line_of after)
+    → open_code code ≡ first (I.Const z 0) (open_code last) → Sealing old new b (Line (open_code code))
+    → EmitsReceiver to free after old new (Ok (record { to = Some t; block = b }))
+to_variable_emits old new to x g free t z b last code after it ig ift lt iz ltz fl fc sealing =
+    let both : open_code code ≡ first (I.Const z 0) (first (I.Store g z t) (line_of after)) = fc ∙ ap (first (I.Const z 0)) fl in
+    subst (λ to. EmitsReceiver to free after old new (Ok (record { to = Some t; block = b }))) (sym (it ∙ ap (λ x. Some (Variable x)) (sym ig)))
+    (record {
+      grows = sealing.grows;
+      count = sealing.count;
+      room = omega (arith, ltz, iz, ift);
+      limit = tt;
+      sound = λ p n f s l g' h.
+          let there = in_scope p s _ _ h.0 refl f in
+          let j = sealing.sound s l g' (sound_first _ fc ltz (sound_first _ fl (there, (ltz, lt)) (sound_line _ h.1))) in
+          (j.0, (lt, j.1));
+      does = λ bs h. record {
+        t = t;
+        z = z;
+        is = refl;
+        low = omega (arith, ift);
+        apart = omega (arith, iz);
+        there = subst (λ c. Lands bs b (Line c)) both (sealing.lands bs h);
+      };
+    })
+
+pub call_emits : (old mid new : List RBlock) (to : Option Destination) (f f' : ℕ) (es : List TypedExpression) (free : ℕ) (x : Receiver)
+    (places0 places ps1 ps2 : List Place) (args : Vec ℕ Global) (end : OpenBlock) (after : Spot) (r : Result OpenBlock LowerFault)
+    → f' ≡ f → EmitsReceiver to free after old mid (Ok x) → places0 ≡ [] → AddPlaces es free places0 places → places_registers es free ≤ MAX_REGISTERS
+    → ps1 ≡ places → ps2 ≡ places → args.items ≡ map (λ p. p.register) ps1 → open_code end ≡ exit_code (X.Call f' args x.to x.block)
+    → EmitsOperands es ps2 free end mid new r → EmitsCode (call to f es) free after old new r
+call_emits old mid new to f f' es free x places0 places ps1 ps2 args end after r ig receiver i0 add room i1 i2 ia fe values =
+    ended (values_size es free) (statement_size (call to f es) free (joint after)) (receiver_blocks to (joint after)) old mid new _ _ _ _ r
+    (record { blocks = omega arith; registers = omega arith; room = λ le. omega (arith, le, room, receiver.room); globals = omega arith })
+    receiver.grows receiver.count
+    (λ from keeps p n gives inside fits s l g h.
+    let j = receiver.sound p n fits.0 s (within values.grows l) g h in
+    let all : places ≡ add.0 = add.1 ∙ ap (λ l. l ++ add.0) i0 in
+    let registers = ia ∙ ap (map (λ p. p.register)) (i1 ∙ all) in
+    let named_call = fits.1.0 in
+    let callee = callee_sound p s _ _ named_call.callee _ _ _ _ h.0 ig named_call.there named_call.count registers add.2 in
+    let exit = sound_exit _ fe (callee, (place_registers_sound _ _ _ _ registers add.2, j.1)) in
+    keeps s l j.0 (named_all p s n es h.0 fits.1.1, exit))
+    (λ from does bs h leave next. call_code old mid new free to f f' x.to es places0 places ps1 ps2 args (open_code from) (open_code end) after x.block
+    ig i0 add i1 i2 ia fe receiver.grows values.grows receiver.does does leave next bs h) values
+
+-- returns
+
+pub nothing_returned : (old : List RBlock) (given : Option TypedExpression) (free : ℕ) (code : OpenBlock) (after : Spot) → given ≡ None
+    → open_code code ≡ exit_code (X.Return None) → EmitsCode (return_with given) free after old old (Ok code)
+nothing_returned old given free code after ig fe = subst (λ given. EmitsCode (return_with given) free after old old (Ok code)) (sym ig) (record {
+  grows = grows_same old;
+  count = omega arith;
+  room = omega arith;
+  limit = tt;
+  sound = λ p n gives inside f s l g h. (g, sound_exit _ fe tt);
+  does = λ bs h leave next. ap Line fe;
+})
+
+pub value_returned : (old new : List RBlock) (given : Option TypedExpression) (e : TypedExpression) (free p next : ℕ) (end : OpenBlock) (after : Spot)
+    (r : Result OpenBlock LowerFault) → given ≡ Some e → IsPlace e free p next → place_registers e free ≤ MAX_REGISTERS
+    → open_code end ≡ exit_code (X.Return (Some p)) → EmitsOperand e p free end old new r → EmitsCode (return_with given) free after old new r
+value_returned old new given e free p next end after r ig pl room fe o =
+    subst (λ given. EmitsCode (return_with given) free after old new r) (sym ig)
+    (ended (value_size e free 1) (statement_size (return_with (Some e)) free (joint after)) 0 old old new _ _ _ _ r
+    (record { blocks = omega arith; registers = omega arith; room = λ le. omega (arith, le, room); globals = omega arith })
+    (grows_same old) (omega arith)
+    (λ from keeps p' n gives inside f s l g h. keeps s l g (named p' s n e h.0 f.1, sound_exit _ fe pl.within))
+    (λ from does bs h leave next'. record {
+      code = open_code from;
+      is = refl;
+      p = p;
+      next = next;
+      is_place = pl;
+      value = finds_to fe (does bs h);
+    }) o)
+
+-- statements that are no code of their own
+
+pub nothing_emits : (old : List RBlock) (s : Tree.TypedStatement) (c : Context) (after : Continuation)
+    → (s ≡ Tree.Empty) ⊎ ((x : ℕ) × s ≡ Tree.Unset x) → EmitsStatement (statement_of s) c (spot after) old old (Ok after)
+nothing_emits old s c after (inl is) = subst (λ s. EmitsStatement (statement_of s) c (spot after) old old (Ok after)) (sym is) (record {
+  grows = grows_same old;
+  count = omega arith;
+  room = omega arith;
+  limit = tt;
+  sound = (refl, λ p n gives inside f s l g h. (g, h.1.1.1));
+  does = λ bs h. refl;
+})
+nothing_emits old s c after (inr is) = subst (λ s. EmitsStatement (statement_of s) c (spot after) old old (Ok after)) (sym is.1) (record {
+  grows = grows_same old;
+  count = omega arith;
+  room = omega arith;
+  limit = tt;
+  sound = (refl, λ p n gives inside f s l g h. (g, h.1.1.1));
+  does = λ bs h. refl;
+})
+
+pub break_emits : (old : List RBlock) (s : TypedStatement) (c : Context) (after : Spot) → s ≡ break_loop
+    → EmitsStatement s c after old old (Ok (Jump c.leave))
+break_emits old s c after is = subst (λ s. EmitsStatement s c after old old (Ok (Jump c.leave))) (sym is) (record {
+  grows = grows_same old;
+  count = omega arith;
+  room = omega arith;
+  limit = tt;
+  sound = (refl, λ p n gives inside f s l g h. (g, h.1.0));
+  does = λ bs h. refl;
+})
+
+pub continue_emits : (old : List RBlock) (s : TypedStatement) (c : Context) (b : ℕ) (after : Spot) → s ≡ continue_loop → c.next ≡ Some b
+    → EmitsStatement s c after old old (Ok (Jump b))
+continue_emits old s c b after is ib = subst (λ s. EmitsStatement s c after old old (Ok (Jump b))) (sym is) (record {
+  grows = grows_same old;
+  count = omega arith;
+  room = omega arith;
+  limit = tt;
+  sound = (refl, λ p n gives inside f s l g h. (g, subst (λ next. IfSome next (λ b. b < s.blocks)) ib h.1.1.0));
+  does = λ bs h. (b, ib, refl);
+})
+
+-- lists of statements
+
+pub block_emits : (old new : List RBlock) (s : TypedStatement) (all : TypedStatements) (c : Context) (after : Spot)
+    (r : Result Continuation LowerFault) → s ≡ block all → EmitsStatements all c after old new r → EmitsStatement s c after old new r
+block_emits old new s all c after r is e = subst (λ s. EmitsStatement s c after old new r) (sym is)
+    (meant (statements_size all c.free (joint after)) old new _ _ _ _ r (λ from keeps. keeps) (λ from does. does) e)
+
+pub none_emits : (old : List RBlock) (all : TypedStatements) (c : Context) (after : Continuation) → all ≡ no_statements
+    → EmitsStatements all c (spot after) old old (Ok after)
+none_emits old all c after is = subst (λ all. EmitsStatements all c (spot after) old old (Ok after)) (sym is) (record {
+  grows = grows_same old;
+  count = omega arith;
+  room = omega arith;
+  limit = tt;
+  sound = (refl, λ p n gives inside f s l g h. (g, h.1.1.1));
+  does = λ bs h. refl;
+})
+
+pub more_emits : (old mid new : List RBlock) (all : TypedStatements) (s : TypedStatement) (rest : TypedStatements) (c : Context) (after : Spot)
+    (middle : Continuation) (r : Result Continuation LowerFault) → all ≡ more_statements s rest → EmitsStatements rest c after old mid (Ok middle)
+    → EmitsStatement s c (spot middle) mid new r → EmitsStatements all c after old new r
+more_emits old mid new all s rest c after middle r is others one =
+    let same : joint (spot middle) ≡ statements_joint rest (joint after) = others.sound.0 in
+    let blocks : statement_blocks s (joint (spot middle)) ≡ statement_blocks s (statements_joint rest (joint after)) = ap (statement_blocks s) same in
+    let c1 : length mid ≡ length old + statements_blocks rest (joint after) = others.count in
+    let room1 : statements_registers rest c.free ≤ MAX_REGISTERS = others.room in
+    subst (λ all. EmitsStatements all c after old new r) (sym is)
+    (ended (statement_size s c.free (joint (spot middle))) (statements_size (more_statements s rest) c.free (joint after))
+    (statements_blocks rest (joint after)) old mid new _ _ _ _ r
+    (record {
+      blocks = omega (arith, blocks);
+      registers = omega arith;
+      room = λ le. omega (arith, le, room1);
+      globals = omega arith;
+    }) others.grows c1
+    (λ from keeps. (
+      keeps.0 ∙ ap (statement_joint s) same,
+      λ p n gives inside f s' l g h.
+          let m = others.sound.1 p n gives inside f.1 s' (within one.grows l) g h in
+          keeps.1 p n gives inside f.0 s' l m.0 (h.0, (h.1.0, (h.1.1.0, m.1))),
+    ))
+    (λ from does bs h.
+    let sp = split2 bs old mid new others.grows one.grows h in
+    (spot middle, does bs sp.1, others.does bs sp.0)) one)
+
+-- where one statement of a list fails, and the last ones are made
+pub list_stopped : (old new : List RBlock) (all : List Tree.TypedStatement) (k : ℕ) (c : Context) (after : Spot) (f : LowerFault)
+    (r : Result Continuation LowerFault) → r ≡ Err f → EmitsStatements (statements_of (drop k all)) c after old new (Err f)
+    → EmitsStatements (statements_of all) c after old new r
+list_stopped old new all k c after f r ir e = subst (λ r. EmitsStatements (statements_of all) c after old new r) (sym ir)
+    (stopped (statements_size (statements_of (drop k all)) c.free (joint after)) (statements_size (statements_of all) c.free (joint after)) 0 old old new
+    _ _ _ _ f (rest_registers k all c.free) (omega (arith, rest_blocks k all (joint after))) (rest_numbers k all) (grows_same old) (omega arith) e)
+
+pub all_emitted : (old new : List RBlock) (all : List Tree.TypedStatement) (k : ℕ) (c : Context) (after : Spot) (r : Result Continuation LowerFault)
+    → k ≡ 0 → EmitsStatements (statements_of (drop k all)) c after old new r → EmitsStatements (statements_of all) c after old new r
+all_emitted old new all k c after r ik e = subst (λ k. EmitsStatements (statements_of (drop k all)) c after old new r) ik e
+
+-- `if`
+
+pub if_is : {s : TypedStatement} {e : TypedExpression} {a b a' b' : TypedStatement} → s ≡ if_else e a b → a' ≡ a → b' ≡ b → s ≡ if_else e a' b'
+if_is {s} {e} {a} {b} {a'} is ia ib = is ∙ ap (λ a. if_else e a b) (sym ia) ∙ ap (λ b. if_else e a' b) (sym ib)
+
+pub side_emits : (old mid new : List RBlock) (s : TypedStatement) (c : Context) (join : ℕ) (code : Continuation) (r : Result ℕ LowerFault)
+    → EmitsStatement s c (Block join) old mid (Ok code) → Grows mid new → OnOk r (length new ≡ length mid + joint (spot code))
+    → IfErr r (λ f. f ≡ Limit → MAX_BLOCKS < length mid + joint (spot code))
+    → IfOk r (λ b. KeepsSound mid new (λ s. IsSoundSpot s (spot code)) (λ s. b < s.blocks))
+    → IfOk r (λ b. (bs : List RBlock) → Has bs mid new → Lands bs b (spot code)) → EmitsSide s c join old new r
+side_emits old mid new s c join code (Ok b) e g count limit sound lands =
+    let c1 : length mid ≡ length old + statement_blocks s 0 = e.count in
+    let same : joint (spot code) ≡ statement_joint s 0 = e.sound.0 in
+    record {
+      grows = grows_then old mid new e.grows g;
+      count = omega (arith, c1, count, same);
+      room = e.room;
+      limit = tt;
+      sound = λ p n gives inside f s' l g0 h.
+          let m = e.sound.1 p n gives inside f s' (within g l) g0 h in
+          sound s' l m.0 m.1;
+      does = λ bs h.
+          let sp = split2 bs old mid new e.grows g h in
+          (spot code, lands bs sp.1, e.does bs sp.0);
+    }
+side_emits old mid new s c join code (Err f) e g count limit sound lands =
+    let c1 : length mid ≡ length old + statement_blocks s 0 = e.count in
+    let same : joint (spot code) ≡ statement_joint s 0 = e.sound.0 in
+    record {
+      grows = grows_then old mid new e.grows g;
+      count = tt;
+      room = tt;
+      limit = λ is. let much = limit is in omega (arith, c1, same, much);
+      sound = tt;
+      does = tt;
+    }
+
+pub if_emits : (b0 b1 b2 b3 b4 : List RBlock) (e : TypedExpression) (a b : TypedStatement) (c : Context) (join y n : ℕ) (likely : Bool)
+    (after : Spot) (r : Result OpenBlock LowerFault) → likely ≡ (stays a && not (is_equality e)) → Sealing b0 b1 join after
+    → EmitsSide a c join b1 b2 (Ok y) → EmitsSide b c join b2 b3 (Ok n)
+    → EmitsBranch (condition_size e likely c.free) e (record { yes = y; no = n; likely = likely }) c.free b3 b4 r
+    → EmitsStatement (if_else e a b) c after b0 b4 (made_of r)
+if_emits b0 b1 b2 b3 b4 e a b c join y n likely after r il sealing one other test =
+    let likely' = stays a && not (is_equality e) in
+    let test' = subst (λ l. EmitsBranch (condition_size e l c.free) e (record { yes = y; no = n; likely = l }) c.free b3 b4 r) il test in
+    let g13 = grows_then b1 b2 b3 one.grows other.grows in
+    let c1 : length b2 ≡ length b1 + (statement_blocks a 0 + statement_joint a 0) = one.count in
+    let c2 : length b3 ≡ length b2 + (statement_blocks b 0 + statement_joint b 0) = other.count in
+    let r1 : statement_registers a c.free ≤ MAX_REGISTERS = one.room in
+    let r2 : statement_registers b c.free ≤ MAX_REGISTERS = other.room in
+    let sides = statement_blocks a 0 + statement_joint a 0 + statement_blocks b 0 + statement_joint b 0 in
+    made_emits (statement_size (if_else e a b) c.free (joint after)) b0 b4 _ _ r
+    (ended (condition_size e likely' c.free) (statement_size (if_else e a b) c.free (joint after)) (joint after + sides) b0 b3 b4 _ _ _ _ r
+    (record { blocks = omega arith; registers = omega arith; room = λ le. omega (arith, le, r1, r2); globals = omega arith })
+    (grows_then b0 b1 b3 sealing.grows g13) (omega (arith, sealing.count, c1, c2))
+    (λ from keeps. (
+      refl,
+      λ p k gives inside f s l g h.
+          let l3 = within test'.grows l in
+          let l2 = within other.grows l3 in
+          let j = sealing.sound s (within one.grows l2) g h.1.1.1 in
+          let x = one.sound p k gives inside f.1.0 s l2 j.0 (h.0, (h.1.0, (h.1.1.0, j.1))) in
+          let z = other.sound p k gives inside f.1.1 s l3 x.0 (h.0, (h.1.0, (h.1.1.0, j.1))) in
+          keeps s l z.0 (named p s k e h.0 f.0, (x.1, z.1)),
+    ))
+    (λ from does bs h.
+    let sp = split4 bs b0 b1 b2 b3 b4 sealing.grows one.grows other.grows test'.grows h in
+    let x = one.does bs sp.1 in
+    let z = other.does bs sp.2 in
+    record {
+      code = open_code from;
+      is = refl;
+      join = join;
+      joined = sealing.lands bs sp.0;
+      a = y;
+      a_spot = x.0;
+      a_lands = x.1;
+      a_for = x.2;
+      b = n;
+      b_spot = z.0;
+      b_lands = z.1;
+      b_for = z.2;
+      test = does bs sp.3;
+    }) test')
+
+-- loops
+
+pub loop_is : {s : TypedStatement} {e : TypedExpression} {a b a' b' : TypedStatement} → s ≡ loop e a b → a' ≡ a → b' ≡ b → s ≡ loop e a' b'
+loop_is {s} {e} {a} {b} {a'} is ia ib = is ∙ ap (λ a. loop e a b) (sym ia) ∙ ap (λ b. loop e a' b) (sym ib)
+
+pub block_ends : (old new : List RBlock) (many : Bool) (last : Spot) (b : ℕ) → many ≡ true → Sealing old new b last
+    → EndsTurn many last old new (Ok (record { next = Some b; after = Jump b }))
+block_ends old new many last b im sealing =
+    subst (λ many. EndsTurn many last old new (Ok (record { next = Some b; after = Jump b }))) (sym im) (record {
+      grows = sealing.grows;
+      count = sealing.count;
+      room = omega arith;
+      limit = tt;
+      sound = ((refl, refl), λ s l g h. let j = sealing.sound s l g h in (j.0, (j.1, j.1)));
+      does = turn_block old new b last sealing.lands;
+    })
+
+pub line_ends : (old : List RBlock) (many : Bool) (last : Continuation) → many ≡ false
+    → EndsTurn many (spot last) old old (Ok (record { next = None; after = last }))
+line_ends old many last im =
+    subst (λ many. EndsTurn many (spot last) old old (Ok (record { next = None; after = last }))) (sym im) (record {
+      grows = grows_same old;
+      count = omega arith;
+      room = omega arith;
+      limit = tt;
+      sound = ((refl, refl), λ s l g h. (g, (tt, h)));
+      does = λ bs h. record { comes = comes_equal bs (spot last) (spot last) refl; continues = λ b e. cc };
+    })
+
+pub turn_emits : (b0 b1 b2 b3 : List RBlock) (e : TypedExpression) (last : TypedStatement) (c : Context) (many : Bool) (again : Targets)
+    (bottom : OpenBlock) (code : Continuation) (r : Result Turn LowerFault)
+    → EmitsBranch (condition_size e again.likely c.free) e again c.free b0 b1 (Ok bottom)
+    → EmitsStatement last c (Line (open_code bottom)) b1 b2 (Ok code) → EndsTurn many (spot code) b2 b3 r → EmitsTurn e last c many again b0 b3 r
+turn_emits b0 b1 b2 b3 e last c many again bottom code r test part end =
+    let same : joint (spot code) ≡ statement_joint last 1 = part.sound.0 in
+    let blocks : (if many then joint (spot code) else 0) ≡ (if many then statement_joint last 1 else 0) = ap (λ n. if many then n else 0) same in
+    let c1 : length b1 ≡ length b0 + condition_blocks e = test.count in
+    let c2 : length b2 ≡ length b1 + statement_blocks last 1 = part.count in
+    let r1 : (condition_size e again.likely c.free).registers ≤ MAX_REGISTERS = test.room in
+    let r2 : statement_registers last c.free ≤ MAX_REGISTERS = part.room in
+    ended (turn_end many (joint (spot code))) (turn_size e last many again.likely c.free) (condition_blocks e + statement_blocks last 1) b0 b2 b3 _ _ _ _ r
+    (record { blocks = omega (arith, blocks); registers = omega arith; room = λ le. omega (arith, r1, r2); globals = omega arith })
+    (grows_then b0 b1 b2 test.grows part.grows) (omega (arith, c1, c2))
+    (λ t keeps. (
+      subst (λ n. IsEnd many t n) same keeps.0,
+      λ p n gives fe fl s l g h.
+          let l2 = within end.grows l in
+          let x = test.sound s (within part.grows l2) g (named p s n e h.0 fe, h.1.1.1) in
+          let y = part.sound.1 p n gives false fl s l2 x.0 (h.0, (h.1.0, (h.1.1.0, x.1))) in
+          keeps.1 s l y.0 y.1,
+    ))
+    (λ t does bs h.
+    let sp = split3 bs b0 b1 b2 b3 test.grows part.grows end.grows h in
+    record { from = spot code; is_turn = does bs sp.2; bottom = open_code bottom; coded = part.does bs sp.1; test = test.does bs sp.0 }) end
+
+grows_filled : (b0 b5 b6 : List RBlock) (head : ℕ) (c : Code) → Grows b0 b5 → length b0 ≤ head → Fills b5 b6 head c → Grows b0 b6
+grows_filled b0 b5 b6 head c g low f = record {
+  longer = omega (arith, g.longer, f.same_length);
+  kept = λ i lt. let ne : i ≢ head = omega arith in f.others i ne ∙ g.kept i lt;
+}
+
+pub loop_emits : (b0 b1 b2 b3 b4 b5 b6 : List RBlock) (e : TypedExpression) (last body : TypedStatement) (c inner : Context) (many : Bool)
+    (left head : ℕ) (turn : Turn) (code : Continuation) (top : OpenBlock) (filled : Code) (after : Spot) → many ≡ continues body
+    → inner ≡ record { alloc = c.alloc; free = c.free; leave = left; next = turn.next } → Sealing b0 b1 left after → Reserves b1 b2 head
+    → ((s : Scope) → AreSound s b1 → AreSound s b2) → EmitsTurn e last c many (record { yes = head; no = left; likely = true }) b2 b3 (Ok turn)
+    → EmitsStatement body inner (spot turn.after) b3 b4 (Ok code)
+    → EmitsBranch (condition_size e true c.free) e (record { yes = head; no = left; likely = true }) c.free b4 b5 (Ok top)
+    → filled ≡ line_of (spot code) → Fills b5 b6 head filled → ((s : Scope) → AreSound s b5 → IsSound s filled → AreSound s b6)
+    → EmitsStatement (loop e last body) c after b0 b6 (Ok (Made top))
+loop_emits b0 b1 b2 b3 b4 b5 b6 e last body c inner many left head turn code top filled after im ii sealing res kept turns inside test ie f sound =
+    let body_emits = subst (λ inner. EmitsStatement body inner (spot turn.after) b3 b4 (Ok code)) ii inside in
+    let turn_emits' =
+    subst (λ many. EmitsTurn e last c many (record { yes = head; no = left; likely = true }) b2 b3 (Ok turn)) im turns in
+    let g35 = grows_then b3 b4 b5 body_emits.grows test.grows in
+    let g25 = grows_then b2 b3 b5 turn_emits'.grows g35 in
+    let g15 = grows_then b1 b2 b5 res.grows g25 in
+    let g05 = grows_then b0 b1 b5 sealing.grows g15 in
+    let low : length b0 ≤ head = omega (arith, sealing.grows.longer, res.number) in
+    let in_b2 : head < length b2 = omega (arith, res.number, res.longer) in
+    let same : joint (spot turn.after) ≡ (if continues body then 0 else statement_joint last 1) = turn_emits'.sound.0.1 in
+    let body_blocks = ap (statement_blocks body) same in
+    let c2 : length b3 ≡ length b2 + (turn_size e last (continues body) true c.free).blocks = turn_emits'.count in
+    let c3 : length b4 ≡ length b3 + statement_blocks body (joint (spot turn.after)) = body_emits.count in
+    let c4 : length b5 ≡ length b4 + condition_blocks e = test.count in
+    let r2 : (turn_size e last (continues body) true c.free).registers ≤ MAX_REGISTERS = turn_emits'.room in
+    let r3 : statement_registers body c.free ≤ MAX_REGISTERS = body_emits.room in
+    record {
+      grows = grows_filled b0 b5 b6 head filled g05 low f;
+      count = omega (arith, sealing.count, res.longer, c2, c3, c4, body_blocks, f.same_length);
+      room = omega (arith, r2, r3);
+      limit = tt;
+      sound = (
+        refl,
+        λ p n gives inside f' s l g h.
+            let l5 = within_filled f l in
+            let l4 = within test.grows l5 in
+            let l3 = within body_emits.grows l4 in
+            let l2 = within turn_emits'.grows l3 in
+            let j = sealing.sound s (within res.grows l2) g h.1.1.1 in
+            let at : head < s.blocks = reserved_within res l2 in
+            let x = turn_emits'.sound.1 p n gives f'.0 f'.1.0 s l3 (kept s j.0) (h.0, (h.1.0, (h.1.1.0, (at, j.1)))) in
+            let y = body_emits.sound.1 p n gives true f'.1.1 s l4 x.0 (h.0, (j.1, x.1)) in
+            let z = test.sound s l5 y.0 (named p s n e h.0 f'.0, (at, j.1)) in
+            (sound s z.0 (sound_along ie (sound_line _ y.1)), z.1),
+      );
+      does = λ bs h.
+          let h2 = has_past bs b0 b2 b5 b6 head filled (omega (arith, sealing.grows.longer, res.longer)) in_b2 f h in
+          let sp = split3 bs b2 b3 b4 b5 turn_emits'.grows body_emits.grows test.grows h2 in
+          let t = turn_emits'.does bs sp.0 in
+          record {
+            leave = left;
+            left = sealing.lands bs (has_before bs b0 b1 b5 b6 head filled g15 (omega (arith, res.number)) f h);
+            next = turn.next;
+            body = head;
+            body_spot = spot code;
+            body_at = subst (λ c. Lands bs head (Line c)) ie (at_filled bs b0 b5 b6 head filled low (omega (arith, f.same_length, g25.longer)) f h);
+            turn = spot turn.after;
+            body_for = body_emits.does bs sp.1;
+            last_spot = t.from;
+            is_turn = t.is_turn;
+            bottom = t.bottom;
+            last_for = t.coded;
+            again = t.test;
+            top = open_code top;
+            is = refl;
+            test = test.does bs sp.2;
+          };
+    }

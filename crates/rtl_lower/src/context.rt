@@ -1,0 +1,51 @@
+// Where a statement stands.
+ghost use Rattle.std.specs.Prelude.{◌≡◌, ◌+◌, ◌<◌, ◌^◌, IfOk, IfErr};
+ghost use Rattle.rtl_lower.specs.Emits.{made_of};
+
+use rtl::{BlockNumber, Register};
+use rtl_emit::{Continuation, LowerFault, OpenBlock};
+use std::alloc::Global;
+
+/// Where a statement stands: the first register that is free, the block that `break` leads to, and the one that `continue` does.
+#[derive(Clone, Copy)]
+pub(crate) struct Context {
+    pub(crate) alloc: Global,
+    pub(crate) free: Register,
+    pub(crate) leave: BlockNumber,
+    pub(crate) next: Option<BlockNumber>,
+}
+
+impl Context {
+    // The context of a loop's body.
+    pub(crate) fn inside(self, leave: BlockNumber, next: Option<BlockNumber>) -> Context
+        ensures { result ≡ record { alloc = self.alloc; free = self.free; leave = leave; next = next } }
+    {
+        Context {
+            alloc: self.alloc,
+            free: self.free,
+            leave,
+            next,
+        }
+    }
+}
+
+// The code as one that other code goes on at.
+pub(crate) fn made(code: Result<OpenBlock, LowerFault>) -> Result<Continuation, LowerFault>
+    ensures { result ≡ made_of code }
+{
+    match code {
+        Ok(code) => Ok(Continuation::Made(code)),
+        Err(fault) => Err(fault),
+    }
+}
+
+// A number of RTL; a Limit where it has none.
+pub(crate) fn number(n: usize) -> Result<u32, LowerFault>
+    ensures is { IfOk result (λ r. r ≡ n) }
+    ensures limit { IfErr result (λ f. f ≡ LowerFault.Limit → 2 ^ 32 < n + 1) }
+{
+    if n > u32::MAX as usize {
+        return Err(LowerFault::Limit);
+    }
+    Ok(n as u32)
+}

@@ -1,0 +1,191 @@
+// The code of statements that lead only to what comes behind them, and of `return`.
+ghost use Rattle.std.specs.Prelude.{◌≡◌};
+ghost use Rattle.c_typed.specs.Shape.{typed_expression_of, typed_expressions_of, maybe_typed_expression_of};
+ghost use Rattle.c_typed.specs.Trees.{assign, store, call, output, return_with};
+ghost use Rattle.rtl_emit.specs.Blocks.{Spot, spot};
+ghost use Rattle.rtl_lower.specs.Emits.{EmitsCode, EmitsReceiver};
+
+use crate::context::{Context, number};
+use c_typed::{Destination, TypedExpression};
+use rtl::{BlockNumber, RBlock, RExit, RInst, Register};
+use rtl_emit::{
+    Continuation, LowerFault, OpenBlock, leaving, operand_into, operands_into, place_of, places_of,
+    put_before, put_first, register_of, registers_of, sealed, spare, value_into,
+};
+
+// The value of an expression to a local or a global variable.
+pub(crate) fn assignment(
+    context: Context,
+    blocks: &mut Vec<RBlock>,
+    to: Destination,
+    e: &TypedExpression,
+    after: Continuation,
+) -> Result<OpenBlock, LowerFault>
+    ensures { EmitsCode (assign to (typed_expression_of e.now)) context.free (spot after) blocks.old.items blocks.new.items result }
+{
+    match to {
+        Destination::Local(x) => {
+            let local = register_of(x)?;
+            value_into(context.alloc, blocks, e, local, context.free, after)
+        }
+        Destination::Global(x) => {
+            let global = number(x)?;
+            let place = place_of(e, context.free)?;
+            let index = spare(place.free)?;
+            let store = RInst::Store(global, index, place.register);
+            let last = put_before(context.alloc, store, after)?;
+            let middle = put_first(RInst::Const(index, 0), last)?;
+            operand_into(
+                context.alloc,
+                blocks,
+                e,
+                place.register,
+                context.free,
+                middle,
+            )
+        }
+    }
+}
+
+// The value of an expression to an element of an array.
+pub(crate) fn element_store(
+    context: Context,
+    blocks: &mut Vec<RBlock>,
+    array: usize,
+    index: &TypedExpression,
+    e: &TypedExpression,
+    after: Continuation,
+) -> Result<OpenBlock, LowerFault>
+    ensures { EmitsCode (store array (typed_expression_of index.now) (typed_expression_of e.now)) context.free (spot after)
+        blocks.old.items blocks.new.items result }
+{
+    let global = number(array)?;
+    let index_place = place_of(index, context.free)?;
+    let value = place_of(e, index_place.free)?;
+    let store = RInst::Store(global, index_place.register, value.register);
+    let last = put_before(context.alloc, store, after)?;
+    let middle = operand_into(
+        context.alloc,
+        blocks,
+        e,
+        value.register,
+        index_place.free,
+        last,
+    )?;
+    operand_into(
+        context.alloc,
+        blocks,
+        index,
+        index_place.register,
+        context.free,
+        middle,
+    )
+}
+
+// The value of an expression to the output.
+pub(crate) fn written(
+    context: Context,
+    blocks: &mut Vec<RBlock>,
+    e: &TypedExpression,
+    after: Continuation,
+) -> Result<OpenBlock, LowerFault>
+    ensures { EmitsCode (output (typed_expression_of e.now)) context.free (spot after) blocks.old.items blocks.new.items result }
+{
+    let block = sealed(blocks, after)?;
+    let value = place_of(e, context.free)?;
+    let end = leaving(context.alloc, RExit::Out(value.register, block));
+    operand_into(context.alloc, blocks, e, value.register, context.free, end)
+}
+
+/// Where a call's result goes, and the block where its caller goes on.
+#[derive(Clone, Copy)]
+pub(crate) struct Receiver {
+    pub(crate) to: Option<Register>,
+    pub(crate) block: BlockNumber,
+}
+
+// The result of a call that goes nowhere, to a local, or by way of a free register to a global variable.
+fn receiver_of(
+    context: Context,
+    blocks: &mut Vec<RBlock>,
+    to: Option<Destination>,
+    after: Continuation,
+) -> Result<Receiver, LowerFault>
+    ensures { EmitsReceiver to context.free (spot after) blocks.old.items blocks.new.items result }
+{
+    match to {
+        None => {
+            let block = sealed(blocks, after)?;
+            Ok(Receiver { to: None, block })
+        }
+        Some(Destination::Local(x)) => {
+            let local = register_of(x)?;
+            let block = sealed(blocks, after)?;
+            Ok(Receiver {
+                to: Some(local),
+                block,
+            })
+        }
+        Some(Destination::Global(x)) => {
+            let global = number(x)?;
+            let result = spare(context.free)?;
+            let index = spare(result + 1)?;
+            let store = RInst::Store(global, index, result);
+            let last = put_before(context.alloc, store, after)?;
+            let code = put_first(RInst::Const(index, 0), last)?;
+            let block = sealed(blocks, Continuation::Made(code))?;
+            Ok(Receiver {
+                to: Some(result),
+                block,
+            })
+        }
+    }
+}
+
+// A call of a function.
+pub(crate) fn called(
+    context: Context,
+    blocks: &mut Vec<RBlock>,
+    to: Option<Destination>,
+    function: usize,
+    arguments: &[TypedExpression],
+    after: Continuation,
+) -> Result<OpenBlock, LowerFault>
+    ensures { EmitsCode (call to function (typed_expressions_of arguments.now)) context.free (spot after)
+        blocks.old.items blocks.new.items result }
+{
+    let callee = number(function)?;
+    let receiver = receiver_of(context, blocks, to, after)?;
+    let mut places = Vec::new(context.alloc);
+    places_of(arguments, context.free, &mut places)?;
+    let registers = registers_of(context.alloc, places.as_slice())?;
+    let call = RExit::Call(callee, registers, receiver.to, receiver.block);
+    let end = leaving(context.alloc, call);
+    operands_into(
+        context.alloc,
+        blocks,
+        arguments,
+        places.as_slice(),
+        context.free,
+        end,
+    )
+}
+
+// A return with a value, or without.
+pub(crate) fn returned(
+    context: Context,
+    blocks: &mut Vec<RBlock>,
+    given: &Option<TypedExpression>,
+) -> Result<OpenBlock, LowerFault>
+    ensures { (after : Spot) → EmitsCode (return_with (maybe_typed_expression_of given.now)) context.free after
+        blocks.old.items blocks.new.items result }
+{
+    match given {
+        None => Ok(leaving(context.alloc, RExit::Return(None))),
+        Some(e) => {
+            let value = place_of(e, context.free)?;
+            let end = leaving(context.alloc, RExit::Return(Some(value.register)));
+            operand_into(context.alloc, blocks, e, value.register, context.free, end)
+        }
+    }
+}
