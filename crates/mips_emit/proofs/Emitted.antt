@@ -1,5 +1,5 @@
 -- Code that is being made.
-use Rattle.std.proofs.Common.{◌≡◌, ℕ, zero, suc, ◌+◌, ◌-◌, ◌<◌, List, [], ◌∷◌, ◌++◌, drop, get_or, length, Option, None, refl, sym, ap, ap₂, ◌∙◌}
+use Rattle.std.proofs.Common.{◌≡◌, ℕ, zero, suc, ◌+◌, ◌-◌, ◌<◌, List, [], ◌∷◌, ◌++◌, drop, get_or, length, Option, refl, sym, ap, ap₂, ◌∙◌}
 use Rattle.std.proofs.Common.{arith, nat_eq, eq-eqb, ne_eqb}
 use Rattle.std.specs.Prelude.{if◌then◌else◌}
 use Rattle.std.proofs.lemmas.List.{append_assoc, at_drop_more}
@@ -33,7 +33,7 @@ last_asked : (asked : Asked) (xs : List RInst) (left : ℕ) → left ≡ suc (le
 last_asked asked [] left e = ap (λ b. if b then asked else Nothing) (eq-eqb (left - 1) 0 (omega (arith, e)))
 last_asked asked (x ∷ xs) left e = ap (λ b. if b then asked else Nothing) (ne_eqb (left - 1) 0 (omega (arith, e)))
 
-asks_last : (asked : Asked) (insts : List RInst) (i left : ℕ) → i < length insts → left + i ≡ length insts
+pub asks_last : (asked : Asked) (insts : List RInst) (i left : ℕ) → i < length insts → left + i ≡ length insts
     → (if nat_eq (left - 1) 0 then asked else Nothing) ≡ asked_last asked (drop (i + 1) insts)
 asks_last asked [] i left lt e = absurd (omega (arith, lt))
 asks_last asked (x ∷ xs) zero left lt e = last_asked asked xs left (omega (arith, e))

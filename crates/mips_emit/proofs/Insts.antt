@@ -1,16 +1,12 @@
 -- Each instruction's code does what the instruction does.
 use Rattle.std.proofs.Common.{◌≡◌, ◌≢◌, ℕ, ℤ, zero, suc, ◌+◌, ◌^◌, ◌<◌, ◌≤◌, Bool, true, false, List, [], ◌∷◌, ◌++◌, take, map}
-use Rattle.std.proofs.Common.{length, Option, Some, None, refl, sym, ap, ap₂, ◌∙◌, subst, arith, nat_eq, ltb-true, ne_eqb, eq-eqb, eqb-true}
-use Rattle.std.proofs.Common.{true≢false}
+use Rattle.std.proofs.Common.{length, Option, Some, None, refl, sym, ap, ◌∙◌, subst, arith, nat_eq, ltb-true, eqb-true}
 use Rattle.std.specs.Prelude.{if◌then◌else◌, slice_get, nat_lt}
-use Rattle.std.proofs.lemmas.Bool.{eqb-false}
 use Rattle.std.proofs.lemmas.Option.{same_Some, none-some}
-use Rattle.words.specs.declared.operator.Operator.TheVariants as operators
 use Rattle.words.specs.declared.width.Width.{Width}
 use Rattle.words.specs.declared.width.Width.TheVariants as widths
 use Rattle.words.specs.Words.{wrap}
-use Rattle.words.specs.Operators.{op_value, slt}
-use Rattle.runs.specs.Stores.{Places, places_with, chain, Arrays, element_at, arrays_with}
+use Rattle.runs.specs.Stores.{Places, places_with, Arrays, element_at, arrays_with}
 use Rattle.mips_isa.specs.declared.inst.Plain.{Plain}
 use Rattle.mips_isa.specs.declared.inst.LogicOp.TheVariants.{Xori}
 use Rattle.mips_isa.specs.declared.inst.Plain.TheVariants.{Logic}
@@ -19,18 +15,16 @@ use Rattle.mips_isa.specs.Actions.{action_of}
 use Rattle.mblock.specs.declared.limits.TheConstants.{UNIT_BYTES}
 use Rattle.mblock.proofs.StateWords.{run_words}
 use Rattle.rtl.specs.declared.operator.Op.{Op}
-use Rattle.rtl.specs.declared.operator.Op.TheVariants.{Add, Sub, Mul, DivS, DivU, RemS, RemU, And, Or, Xor, Shl, ShrU, ShrS, Eq, Ne, LtS, LtU, LeS, LeU}
 use Rattle.rtl.specs.declared.instruction.RInst.{RInst}
 use Rattle.rtl.specs.declared.instruction.RInst.TheVariants.{Const, Move, Bin, Load, Store}
 use Rattle.rtl.specs.declared.block.RGlobal.{RGlobal}
 use Rattle.rtl.specs.Operators.{op_result}
 use Rattle.rtl.specs.Meaning.{kept_in}
 use Rattle.rtl.proofs.Results.{result-word}
-use Rattle.mips_homes.specs.HomedRun.{in_home, Run, Failed, with_value, read_home, with_inst}
+use Rattle.mips_homes.specs.HomedRun.{Run, Failed, with_value, read_home, with_inst}
 use Rattle.mips_homes.specs.declared.homed.Home.{Home}
 use Rattle.mips_homes.specs.declared.homed.Home.TheVariants.{Reg, Slot}
 use Rattle.mips_emit.specs.declared.limits.TheConstants.{KEPT_FACTS}
-use Rattle.mips_emit.specs.declared.location.Location.{Location}
 use Rattle.mips_emit.specs.declared.location.Location.TheVariants.{Held, InSlot}
 use Rattle.mips_emit.specs.declared.location.Source.{Source}
 use Rattle.mips_emit.specs.declared.location.Source.TheVariants.{Zero, Word, From}
@@ -45,7 +39,7 @@ use Rattle.mips_emit.specs.Code.{code_by_right, op_code, element_code, element_l
 use Rattle.mips_emit.proofs.Runs.{RunsTo, runs_none, runs_then}
 use Rattle.mips_emit.proofs.View.{shown_at, word_of_offset, shown_below, set, set_at, put_here, put_other, IsTarget, loads_at, stores_at, near_word, based}
 use Rattle.mips_emit.proofs.Stands.{Stored, with_slots, Stands}
-use Rattle.mips_emit.proofs.Homes.{IsLast, none_last, known_with, known_without, regs_kept, IsKnown, Denotes, IsAway, seat_kept, longer_behind, Ends, hidden, hide, IsLazy, tells}
+use Rattle.mips_emit.proofs.Homes.{IsLast, none_last, known_with, known_without, regs_kept, IsKnown, Denotes, IsAway, seat_kept, longer_behind, Ends, hide, IsLazy, tells}
 use Rattle.mips_emit.proofs.Homes.{operand_below, operand_means, fetches, finishes, puts}
 use Rattle.mips_emit.proofs.Globals.{kept_is, data_open, data_written, stored_at}
 use Rattle.mips_emit.proofs.Operations.{Gives, operation_gives, immediate_gives, less_gives, symmetric}

@@ -7,4 +7,6 @@ pub mod Operations
 pub mod Insts
 pub mod Comparing
 pub mod Tables
+pub mod Left
 pub mod Emitted
+pub mod Stopping

@@ -1,6 +1,6 @@
 -- The machine code of each instruction, and of arguments. Registers 1 to 3 are free between instructions.
 use Rattle.std.specs.Prelude.{ℕ, ℤ, pos, negsuc, suc, ◌-◌, ◌*◌, ◌/◌, ◌%◌, ◌^◌, Bool, true, false, ◌||◌, nat_eq, nat_lt}
-use Rattle.std.specs.Prelude.{◌+◌, if◌then◌else◌, List, [], ◌∷◌, ◌++◌, Option, Some, None, slice_index}
+use Rattle.std.specs.Prelude.{◌+◌, if◌then◌else◌, List, [], ◌∷◌, ◌++◌, Option, Some, None}
 use Rattle.std.specs.Int.{w32, trailing_zeros}
 use Rattle.words.specs.declared.sign.Sign.TheVariants.{Signed, Unsigned}
 use Rattle.words.specs.declared.width.Width.{Width}
@@ -14,10 +14,6 @@ use Rattle.mips_isa.specs.declared.inst.HiLo.TheVariants.{Hi, Lo}
 use Rattle.mips_isa.specs.declared.inst.Plain.{Plain}
 use Rattle.mips_isa.specs.declared.inst.Plain.TheVariants as plain
 use Rattle.mips_isa.specs.declared.inst.Plain.TheVariants.{Shift, ShiftBy, Alu, Imm, Logic, LoadUpper, MoveFrom, Multiply, Divide}
-use Rattle.mips_isa.specs.declared.inst.PairTest.TheVariants.{NotEqual}
-use Rattle.mips_isa.specs.declared.inst.ZeroTest.TheVariants.{AboveZero}
-use Rattle.mblock.specs.declared.exit.Exit.{Exit}
-use Rattle.mblock.specs.declared.exit.Exit.TheVariants.{BranchPair, BranchZero}
 use Rattle.rtl.specs.declared.operator.Op.{Op}
 use Rattle.rtl.specs.declared.operator.Op.TheVariants.{Add, Sub, Mul, DivS, DivU, RemS, RemU, And, Or, Xor, Shl, ShrU, ShrS, Eq, Ne, LtS}
 use Rattle.rtl.specs.declared.operator.Op.TheVariants.{LtU, LeS, LeU}
@@ -25,12 +21,11 @@ use Rattle.rtl.specs.declared.instruction.RInst.{RInst}
 use Rattle.rtl.specs.declared.instruction.RInst.TheVariants.{Const, Move, Bin, Load, Store}
 use Rattle.rtl.specs.declared.block.RGlobal.{RGlobal}
 use Rattle.mips_homes.specs.HomedRun.{is_lasting}
-use Rattle.mips_homes.specs.declared.homed.Frame.{Frame}
 use Rattle.mips_emit.specs.declared.location.Location.{Location}
 use Rattle.mips_emit.specs.declared.location.Location.TheVariants.{Held, InSlot}
 use Rattle.mips_emit.specs.declared.location.Source.{Source}
 use Rattle.mips_emit.specs.declared.location.Source.TheVariants.{Zero, Word, From}
-use Rattle.mips_emit.specs.Locations.{Locations, Facts, locations, known_in, learned, operand, word_source}
+use Rattle.mips_emit.specs.Locations.{Locations, Facts, known_in, operand, word_source}
 use Rattle.mips_emit.specs.Elements.{width_of, direct, base_code, element_base, element_offset}
 
 -- ---- words and frames

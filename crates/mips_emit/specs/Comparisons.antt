@@ -47,10 +47,12 @@ abbrev pub form_of : Op → (left right : Option ℕ) → Option Form
 form_of Eq l r = Some (OnPair Equal)
 form_of Ne l r = Some (OnPair NotEqual)
 form_of LtS l r =
-    Some (if is_known_zero l then OnRight AboveZero else if is_known_zero r then OnLeft BelowZero else opposite_if (is_immediate LeS l))
+    Some (if is_known_zero l then OnRight AboveZero else if is_known_zero r then OnLeft BelowZero
+    else opposite_if (is_immediate LeS l))
 form_of LtU l r = Some (opposite_if (is_immediate LeU l))
 form_of LeS l r =
-    Some (if is_known_zero r then OnLeft AtMostZero else if is_known_zero l then OnRight AtLeastZero else opposite_if (not (is_immediate LeS r)))
+    Some (if is_known_zero r then OnLeft AtMostZero else if is_known_zero l then OnRight AtLeastZero
+    else opposite_if (not (is_immediate LeS r)))
 form_of LeU l r = Some (opposite_if (not (is_immediate LeU r)))
 form_of _ l r = None
 
@@ -119,7 +121,8 @@ comparison_of at facts asked (Const d w) = None
 comparison_of at facts asked (Move d a) = None
 comparison_of at facts asked (Bin op d a b) =
     if is_asked asked d && is_passing (at d)
-    then compared d op (known_in facts a) (known_in facts b) (operand at facts a) (operand at facts b) (form_for asked op (known_in facts a) (known_in facts b))
+    then compared d op (known_in facts a) (known_in facts b) (operand at facts a) (operand at facts b)
+    (form_for asked op (known_in facts a) (known_in facts b))
     else None
 comparison_of at facts asked (Load d a i) = None
 comparison_of at facts asked (Store a i b) = None

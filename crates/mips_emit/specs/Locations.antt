@@ -1,5 +1,5 @@
 -- Where pseudo-registers are, and which words they are known to hold.
-use Rattle.std.specs.Prelude.{◌≡◌, length, ℕ, ◌*◌, ◌≤◌, Bool, true, false, Option, Some, None, List, [], ◌∷◌, take, nat_eq, if◌then◌else◌}
+use Rattle.std.specs.Prelude.{◌≡◌, length, ℕ, ◌*◌, ◌≤◌, Option, Some, None, List, [], ◌∷◌, take, nat_eq, if◌then◌else◌}
 use Rattle.std.specs.Prelude.{slice_get}
 use Rattle.words.specs.Words.{wrap}
 use Rattle.runs.specs.Stores.{Places, places_with, chain}

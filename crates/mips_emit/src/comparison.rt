@@ -1,12 +1,16 @@
 // Operators that are one with the exit behind them: comparisons with a branch on their result, any with a return of it.
 
-ghost use Rattle.std.specs.Prelude.{◌≡◌, ◌++◌, Some, OnOk};
+#![tactic(auto, using(crate::proofs::Left::some_behind, crate::proofs::Left::some_among))]
+
+ghost use Rattle.std.specs.Prelude.{◌≡◌, ◌++◌, Some};
 ghost use Rattle.mblock.specs.declared.exit.Exit.TheVariants.{BranchPair, BranchZero};
 ghost use Rattle.rtl.specs.declared.operator.Op.TheVariants.{LtS, LeS};
 ghost use Rattle.mips_emit.specs.Frames.{IsReachable};
 ghost use Rattle.mips_emit.specs.Locations.{facts_of, locations, known_in, operand, FitsSource};
-ghost use Rattle.mips_emit.specs.Comparisons.{is_known_zero, is_immediate, opposite_if, form_of, opposite_op, comparison_code, comparison_exit};
-ghost use Rattle.mips_emit.specs.Comparisons.{is_asked, form_for, is_passing, is_result, returned, compared, comparison_of, FitsComparison, tested};
+ghost use Rattle.mips_emit.specs.Comparisons.{is_known_zero, is_immediate, opposite_if, form_of, opposite_op};
+ghost use Rattle.mips_emit.specs.Comparisons.{comparison_code, comparison_exit, is_asked, form_for, is_passing, is_result, returned};
+ghost use Rattle.mips_emit.specs.Comparisons.{compared, comparison_of, FitsComparison, tested};
+ghost use Rattle.mips_emit.specs.Left.{Emits};
 
 use crate::facts::{Knowledge, is_lasting, known_word, operand};
 use crate::location::{Location, Source, locate, register};
@@ -148,7 +152,7 @@ fn opposite_op(op: Op) -> Op
 pub(crate) fn emit_comparison(code: &mut Vec<Plain>, m: &Comparison) -> Result<(), AllocError>
     requires left { FitsSource m.now.x }
     requires right { FitsSource m.now.y }
-    ensures { OnOk result (code.new.items ≡ code.old.items ++ comparison_code m.now) }
+    ensures { Emits result code.old.items (comparison_code m.now) code.new.items }
 {
     let rd = register(3).reg();
     match m.form {

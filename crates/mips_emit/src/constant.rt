@@ -1,8 +1,11 @@
 // Words and words of the frame, into registers.
 
-ghost use Rattle.std.specs.Prelude.{◌≡◌, ◌≤◌, ◌<◌, ◌++◌, ◌∷◌, [], true, OnOk};
+#![tactic(auto, using(crate::proofs::Left::some_behind, crate::proofs::Left::some_among))]
+
+ghost use Rattle.std.specs.Prelude.{◌≡◌, ◌≤◌, ◌<◌, ◌++◌, ◌∷◌, [], true};
 ghost use Rattle.mips_emit.specs.declared.limits.TheConstants.{FRAME_BYTES};
 ghost use Rattle.mips_emit.specs.Code.{constant, is_small, half, li, load_word_at, store_word_at, move_code};
+ghost use Rattle.mips_emit.specs.Left.{Emits};
 
 use mips_isa::{AluOp, ImmOp, LogicOp, NonzeroReg, Plain, Reg};
 use std::alloc::AllocError;
@@ -11,7 +14,7 @@ use words::Width;
 /// A word of the frame into a register; an Err is refused memory.
 pub fn emit_load_word(code: &mut Vec<Plain>, rt: NonzeroReg, offset: u32) -> Result<(), AllocError>
     requires { offset ≤ FRAME_BYTES }
-    ensures { OnOk result (code.new.items ≡ code.old.items ++ load_word_at rt offset ∷ []) }
+    ensures { Emits result code.old.items (load_word_at rt offset ∷ []) code.new.items }
 {
     code.push(Plain::Load {
         width: Width::Word,
@@ -25,7 +28,7 @@ pub fn emit_load_word(code: &mut Vec<Plain>, rt: NonzeroReg, offset: u32) -> Res
 /// A register into a word of the frame; an Err is refused memory.
 pub fn emit_store_word(code: &mut Vec<Plain>, rt: Reg, offset: u32) -> Result<(), AllocError>
     requires { offset ≤ FRAME_BYTES }
-    ensures { OnOk result (code.new.items ≡ code.old.items ++ store_word_at rt offset ∷ []) }
+    ensures { Emits result code.old.items (store_word_at rt offset ∷ []) code.new.items }
 {
     code.push(Plain::Store {
         width: Width::Word,
@@ -38,7 +41,7 @@ pub fn emit_store_word(code: &mut Vec<Plain>, rt: Reg, offset: u32) -> Result<()
 
 // One register into another.
 pub(crate) fn emit_move(code: &mut Vec<Plain>, rd: Reg, rs: Reg) -> Result<(), AllocError>
-    ensures { OnOk result (code.new.items ≡ code.old.items ++ move_code rd rs ∷ []) }
+    ensures { Emits result code.old.items (move_code rd rs ∷ []) code.new.items }
 {
     code.push(Plain::Alu {
         op: AluOp::Addu,
@@ -70,7 +73,7 @@ pub(crate) fn half(word: u32) -> i16
 
 /// A word into a register, in two instructions; an Err is refused memory.
 pub fn emit_constant(code: &mut Vec<Plain>, rt: Reg, word: u32) -> Result<(), AllocError>
-    ensures { OnOk result (code.new.items ≡ code.old.items ++ constant rt word) }
+    ensures { Emits result code.old.items (constant rt word) code.new.items }
 {
     code.push(Plain::LoadUpper {
         rt,
@@ -87,7 +90,7 @@ pub fn emit_constant(code: &mut Vec<Plain>, rt: Reg, word: u32) -> Result<(), Al
 
 // A word into a register, as short as it can be.
 pub(crate) fn emit_li(code: &mut Vec<Plain>, rt: Reg, word: u32) -> Result<(), AllocError>
-    ensures { OnOk result (code.new.items ≡ code.old.items ++ li rt word) }
+    ensures { Emits result code.old.items (li rt word) code.new.items }
 {
     if is_small(word) {
         code.push(Plain::Imm {

@@ -1,12 +1,15 @@
 // Elements of globals: how they are reached.
 
-ghost use Rattle.std.specs.Prelude.{◌≡◌, ◌≤◌, ◌<◌, ◌++◌, ◌∷◌, [], OnOk};
+#![tactic(auto, using(crate::proofs::Left::some_behind, crate::proofs::Left::some_among))]
+
+ghost use Rattle.std.specs.Prelude.{◌≡◌, ◌≤◌, ◌<◌, ◌++◌, ◌∷◌, []};
 ghost use Rattle.mblock.specs.declared.limits.TheConstants.{UNIT_BYTES};
 ghost use Rattle.mips_emit.specs.Locations.{FitsSource};
 ghost use Rattle.mips_emit.specs.Elements.{width_bytes, element_place, address_of_place, direct, IsNear, near, page, low, scaled};
 ghost use Rattle.mips_emit.specs.Elements.{scaled_seat};
 ghost use Rattle.mips_emit.specs.Elements.{base_sum, base_code, base_offset, element_base, element_offset};
 ghost use Rattle.mips_emit.specs.Code.{element_code, element_load, element_store};
+ghost use Rattle.mips_emit.specs.Left.{Emits};
 
 use crate::location::{Source, register};
 use crate::transfer::{emit_fetch, seat};
@@ -78,7 +81,7 @@ fn page_of(start: u32) -> u16
 
 // An index in a register, times the width.
 fn emit_scaled(code: &mut Vec<Plain>, width: Width, index: Reg) -> Result<(), AllocError>
-    ensures { OnOk result (code.new.items ≡ code.old.items ++ scaled width index) }
+    ensures { Emits result code.old.items (scaled width index) code.new.items }
 {
     match width {
         Width::Word => code.push(Plain::Shift {
@@ -105,7 +108,7 @@ fn scaled_seat(width: Width, index: Reg) -> Reg
 // From a scaled index to a base for the element, in register 1.
 fn emit_sum(code: &mut Vec<Plain>, start: u32, index: Reg) -> Result<(), AllocError>
     requires { start ≤ UNIT_BYTES }
-    ensures { OnOk result (code.new.items ≡ code.old.items ++ base_sum start index) }
+    ensures { Emits result code.old.items (base_sum start index) code.new.items }
 {
     let base = Reg::masked(if start < 65_536 { 28 } else { 2 });
     if start < 65_536 {
@@ -152,7 +155,7 @@ pub(crate) fn emit_element(
 ) -> Result<(), AllocError>
     requires few { start ≤ UNIT_BYTES }
     requires fits { FitsSource x.now }
-    ensures { OnOk result (code.new.items ≡ code.old.items ++ element_code width start place x.now) }
+    ensures { Emits result code.old.items (element_code width start place x.now) code.new.items }
 {
     if place.is_none() {
         let index = seat(register(1), x);

@@ -1,9 +1,12 @@
 // What stands before an exit.
 
-ghost use Rattle.std.specs.Prelude.{◌≡◌, ◌≤◌, ◌++◌, length, OnOk};
+#![tactic(auto, using(crate::proofs::Left::some_behind, crate::proofs::Left::some_among))]
+
+ghost use Rattle.std.specs.Prelude.{◌≡◌, ◌≤◌, ◌++◌, length};
 ghost use Rattle.mips_emit.specs.Frames.{IsReachable};
 ghost use Rattle.mips_emit.specs.Locations.{facts_of, locations, operand, last_operand};
 ghost use Rattle.mips_emit.specs.Code.{arrive, carry, arguments_code};
+ghost use Rattle.mips_emit.specs.Left.{Emits};
 
 use crate::facts::{Knowledge, last_operand, operand};
 use crate::location::{locate, register};
@@ -21,7 +24,7 @@ pub fn emit_arrival(
     x: Register,
 ) -> Result<(), AllocError>
     requires { IsReachable frame.now }
-    ensures { OnOk result (code.new.items ≡ code.old.items ++ arrive (locations frame.now x) t) }
+    ensures { Emits result code.old.items (arrive (locations frame.now x) t) code.new.items }
 {
     emit_arrive(code, locate(frame, x), t)?;
     Ok(())
@@ -37,8 +40,9 @@ pub fn emit_departure(
     x: Register,
 ) -> Result<(), AllocError>
     requires { IsReachable frame.now }
-    ensures { OnOk result (code.new.items ≡ code.old.items
-        ++ carry t (last_operand (locations frame.now) (facts_of facts.now) fresh x)) }
+    ensures { Emits result code.old.items
+        (carry t (last_operand (locations frame.now) (facts_of facts.now) fresh x))
+        code.new.items }
 {
     emit_carry(code, t, &last_operand(facts, fresh, frame, x))?;
     Ok(())
@@ -53,7 +57,9 @@ fn emit_argument(
     x: Register,
 ) -> Result<(), AllocError>
     requires { IsReachable frame.now }
-    ensures { OnOk result (code.new.items ≡ code.old.items ++ carry t (operand (locations frame.now) (facts_of facts.now) x)) }
+    ensures { Emits result code.old.items
+        (carry t (operand (locations frame.now) (facts_of facts.now) x))
+        code.new.items }
 {
     emit_carry(code, t, &operand(facts, frame, x))?;
     Ok(())
@@ -68,7 +74,9 @@ pub fn emit_arguments(
 ) -> Result<(), AllocError>
     requires frame { IsReachable frame.now }
     requires few { length arguments.now ≤ 4 }
-    ensures { OnOk result (code.new.items ≡ code.old.items ++ arguments_code (locations frame.now) (facts_of facts.now) 4 arguments.now) }
+    ensures { Emits result code.old.items
+        (arguments_code (locations frame.now) (facts_of facts.now) 4 arguments.now)
+        code.new.items }
 {
     let mut t: u8 = 4;
     for x in arguments {

@@ -1,6 +1,6 @@
 // Words that pseudo-registers are known to hold, and what the last instruction leaves for an exit.
 
-ghost use Rattle.std.specs.Prelude.{◌≡◌, ◌++◌, ◌∷◌, [], None, OnOk, IfOk, Some, length};
+ghost use Rattle.std.specs.Prelude.{◌≡◌, ◌++◌, ◌∷◌, [], None, OnOk, OnErr, IfOk, Some, length};
 ghost use Rattle.mips_emit.specs.Frames.{IsReachable};
 ghost use Rattle.runs.specs.Stores.{places_with};
 ghost use Rattle.mips_homes.specs.HomedRun.{is_lasting};
@@ -175,33 +175,35 @@ fn clear_lazy(table: &mut Vec<Option<u32>>, place: Option<Location>)
 
 // One more fact, the newest first; the oldest are forgotten.
 fn put_fact(facts: &mut Vec<Fact>, register: Register, word: Option<u32>) -> Result<(), AllocError>
-    ensures { OnOk result (facts.new.items ≡ with_fact register word facts.old.items) }
+    ensures is { OnOk result (facts.new.items ≡ with_fact register word facts.old.items) }
+    ensures kept { OnErr result (facts.new.items ≡ facts.old.items) }
 {
     facts.insert(0, Fact { register, word })?;
     facts.truncate(KEPT_FACTS);
     Ok(())
 }
 
-/// What is known after an instruction.
+/// What is known after an instruction; an Err is refused memory, and leaves what was known.
 pub(crate) fn learn(facts: &mut Knowledge, frame: &Frame, inst: &RInst) -> Result<(), AllocError>
     requires frame { IsReachable frame.now }
     requires long { length facts.old.lazy.items ≡ 32 }
-    ensures long { OnOk result (length facts.new.lazy.items ≡ 32) }
+    ensures long { length facts.new.lazy.items ≡ 32 }
+    ensures kept { OnErr result (facts_of facts.new ≡ facts_of facts.old) }
     ensures is { OnOk result (facts_of facts.new ≡ learned (locations frame.now) inst.now (facts_of facts.old)) }
 {
     match inst {
         RInst::Const(d, word) => {
-            tell_lazy(&mut facts.lazy, locate(frame, *d), *word);
             put_fact(&mut facts.known, *d, Some(*word))?;
+            tell_lazy(&mut facts.lazy, locate(frame, *d), *word);
         }
         RInst::Move(d, a) => {
             let word = known_word(facts, *a);
-            clear_lazy(&mut facts.lazy, locate(frame, *d));
             put_fact(&mut facts.known, *d, word)?;
+            clear_lazy(&mut facts.lazy, locate(frame, *d));
         }
         RInst::Bin(_, d, _, _) | RInst::Load(d, _, _) => {
-            clear_lazy(&mut facts.lazy, locate(frame, *d));
             put_fact(&mut facts.known, *d, None)?;
+            clear_lazy(&mut facts.lazy, locate(frame, *d));
         }
         RInst::Store(_, _, _) => {}
     }

@@ -1,6 +1,8 @@
 // The code of instructions.
 
-ghost use Rattle.std.specs.Prelude.{◌≡◌, ◌<◌, ◌≤◌, ◌++◌, All, length, slice_index, if◌then◌else◌, OnOk, IfOk, Some, None};
+#![tactic(auto, using(crate::proofs::Left::some_behind, crate::proofs::Left::some_among))]
+
+ghost use Rattle.std.specs.Prelude.{◌≡◌, ◌<◌, ◌≤◌, ◌++◌, All, length, slice_index, if◌then◌else◌, OnOk, OnErr, IfOk, Some, None};
 ghost use Rattle.mblock.specs.declared.limits.TheConstants.{UNIT_BYTES};
 ghost use Rattle.words.specs.Words.{wrap};
 ghost use Rattle.rtl.specs.Programs.{IsInst};
@@ -11,6 +13,7 @@ ghost use Rattle.mips_emit.specs.Locations.{facts_of, locations, word_source, op
 ghost use Rattle.mips_emit.specs.Comparisons.{FitsComparison, next_code, last_after, no_last, code_of_insts};
 ghost use Rattle.mips_emit.specs.Elements.{AreStarts, width_of};
 ghost use Rattle.mips_emit.specs.Code.{const_code, put_at, bin_code, load_code, store_code, inst_code};
+ghost use Rattle.mips_emit.specs.Left.{Emits, StopsAmong};
 
 use crate::comparison::{Asked, Comparison, comparison_of, emit_comparison};
 use crate::element::{direct, element_load, element_store, emit_element};
@@ -26,7 +29,7 @@ use words::Width;
 
 // A word into a register, or nothing yet.
 fn emit_held(code: &mut Vec<Plain>, r: NonzeroReg, word: u32) -> Result<(), AllocError>
-    ensures { OnOk result (code.new.items ≡ code.old.items ++ const_code (Some (Held r)) word) }
+    ensures { Emits result code.old.items (const_code (Some (Held r)) word) code.new.items }
 {
     if is_lasting(r) {
         emit_bring(code, r, &word_source(word))?;
@@ -44,7 +47,7 @@ fn emit_const(
     word: u32,
 ) -> Result<(), AllocError>
     requires { IsReachable frame.now }
-    ensures { OnOk result (code.new.items ≡ code.old.items ++ const_code (locations frame.now d) (wrap word)) }
+    ensures { Emits result code.old.items (const_code (locations frame.now d) (wrap word)) code.new.items }
 {
     match locate(frame, d) {
         None => {}
@@ -65,8 +68,9 @@ fn emit_move(
     a: Register,
 ) -> Result<(), AllocError>
     requires { IsReachable frame.now }
-    ensures { OnOk result (code.new.items ≡ code.old.items
-        ++ put_at (locations frame.now d) (operand (locations frame.now) (facts_of facts.now) a)) }
+    ensures { Emits result code.old.items
+        (put_at (locations frame.now d) (operand (locations frame.now) (facts_of facts.now) a))
+        code.new.items }
 {
     emit_put(code, locate(frame, d), &operand(facts, frame, a))?;
     Ok(())
@@ -83,7 +87,9 @@ fn emit_bin(
     b: Register,
 ) -> Result<(), AllocError>
     requires { IsReachable frame.now }
-    ensures { OnOk result (code.new.items ≡ code.old.items ++ bin_code (locations frame.now) (facts_of facts.now) op d a b) }
+    ensures { Emits result code.old.items
+        (bin_code (locations frame.now) (facts_of facts.now) op d a b)
+        code.new.items }
 {
     let left = known_word(facts, a);
     let right = known_word(facts, b);
@@ -107,7 +113,9 @@ fn emit_load(
 ) -> Result<(), AllocError>
     requires frame { IsReachable frame.now }
     requires few { start ≤ UNIT_BYTES }
-    ensures { OnOk result (code.new.items ≡ code.old.items ++ load_code (locations frame.now) (facts_of facts.now) width start d i) }
+    ensures { Emits result code.old.items
+        (load_code (locations frame.now) (facts_of facts.now) width start d i)
+        code.new.items }
 {
     let x = operand(facts, frame, i);
     let place = direct(width, start, known_word(facts, i));
@@ -130,7 +138,9 @@ fn emit_store(
 ) -> Result<(), AllocError>
     requires frame { IsReachable frame.now }
     requires few { start ≤ UNIT_BYTES }
-    ensures { OnOk result (code.new.items ≡ code.old.items ++ store_code (locations frame.now) (facts_of facts.now) width start i b) }
+    ensures { Emits result code.old.items
+        (store_code (locations frame.now) (facts_of facts.now) width start i b)
+        code.new.items }
 {
     let x = operand(facts, frame, i);
     let y = operand(facts, frame, b);
@@ -173,8 +183,9 @@ fn emit_inst(
     requires frame { IsReachable frame.now }
     requires few { AreStarts starts.now }
     requires named { IsInst (length starts.now) inst.now }
-    ensures { OnOk result (code.new.items ≡ code.old.items
-        ++ inst_code globals.now (slice_index starts.now) (locations frame.now) (facts_of facts.now) inst.now) }
+    ensures { Emits result code.old.items
+        (inst_code globals.now (slice_index starts.now) (locations frame.now) (facts_of facts.now) inst.now)
+        code.new.items }
 {
     match inst {
         RInst::Const(d, word) => emit_const(code, frame, *d, *word)?,
@@ -206,8 +217,9 @@ fn emit_next(
     requires few { AreStarts starts.now }
     requires named { IsInst (length starts.now) inst.now }
     requires fits { FitsComparison comparison.now }
-    ensures { OnOk result (code.new.items ≡ code.old.items
-        ++ next_code globals.now (slice_index starts.now) (locations frame.now) (facts_of facts.now) comparison.now inst.now) }
+    ensures { Emits result code.old.items
+        (next_code globals.now (slice_index starts.now) (locations frame.now) (facts_of facts.now) comparison.now inst.now)
+        code.new.items }
 {
     match comparison {
         None => emit_inst(code, globals, starts, facts, frame, inst)?,
@@ -224,7 +236,7 @@ fn asked_if(is_last: bool, asked: Asked) -> Asked
 }
 
 /// Several instructions, and what is known after them and left for an exit, where that goes by the pseudo-register
-/// asked for; an Err is refused memory.
+/// asked for; an Err is refused memory: then what is known is what is known behind the instructions that are there whole.
 pub fn emit_insts(
     code: &mut Vec<Plain>,
     facts: &mut Knowledge,
@@ -242,6 +254,9 @@ pub fn emit_insts(
         ++ code_of_insts globals.now starts.now frame.now asked (facts_of facts.old) insts.now) }
     ensures last { IfOk result (λ l. l ≡ last_after (locations frame.now) asked (facts_of facts.old) insts.now no_last) }
     ensures known { OnOk result (facts_of facts.new ≡ known_after (locations frame.now) insts.now (facts_of facts.old)) }
+    ensures long { length facts.new.lazy.items ≡ 32 }
+    ensures left { OnErr result (StopsAmong globals.now starts.now frame.now asked insts.now (facts_of facts.old)
+        (facts_of facts.new) code.old.items code.new.items) }
 {
     let mut last = Last::NONE;
     let mut left = insts.len();

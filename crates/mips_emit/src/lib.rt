@@ -13,7 +13,7 @@
 //!
 //! Definitions, in an order to read: `specs/Frames.antt` (frames within reach), `specs/Locations.antt` (where
 //! pseudo-registers are, what is known, what operands are), `specs/Elements.antt` (elements of globals), `specs/Code.antt`,
-//! `specs/Comparisons.antt` (comparisons that are one with the branch behind them).
+//! `specs/Comparisons.antt` (comparisons that are one with the branch behind them), `specs/Left.antt` (what refused memory leaves).
 //! What is known is a window of the latest facts, so emitting takes constant time for each instruction.
 //!
 //! What is promised:
@@ -23,6 +23,9 @@
 //! - A comparison at the end of a block whose result only the branch behind it reads is one with that branch: its code
 //!   (`comparison_code`) leaves what the branch (`comparison_exit`) tests, and no result. The result of an operator that
 //!   only the return behind it reads is computed into register 2 (`compares`, a lemma likewise).
+//! - An Err is refused memory. Then code is what it was, and behind it a beginning of what the call emits at Ok (`Emits`). Of several
+//!   instructions (`StopsAmong`) it is the code of the first ones and a beginning of the next one's, and what is known is what is
+//!   known behind the first ones.
 //! - Each limit is the number that `specs/Numbers.antt` tells (`limits_are_these_numbers`).
 #![tactic(auto)]
 

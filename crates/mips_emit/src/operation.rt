@@ -1,6 +1,8 @@
 // Operators: on two registers, and on a register and a word.
 
-ghost use Rattle.std.specs.Prelude.{◌≡◌, ◌%◌, ◌++◌, ◌∷◌, [], true, nat_lt, if◌then◌else◌, Some, None, OnOk};
+#![tactic(auto, using(crate::proofs::Left::some_behind, crate::proofs::Left::some_among))]
+
+ghost use Rattle.std.specs.Prelude.{◌≡◌, ◌%◌, ◌++◌, ◌∷◌, [], true, nat_lt, if◌then◌else◌, Some, None};
 ghost use Rattle.mips_isa.specs.declared.inst.LogicOp.TheVariants.{Xori};
 ghost use Rattle.rtl.specs.declared.operator.Op.TheVariants.{Mul, Xor, Eq, Ne};
 ghost use Rattle.mips_isa.specs.declared.inst.Plain.TheVariants.{Shift, ShiftBy, Alu, Imm, Logic, MoveFrom, Divide};
@@ -8,6 +10,7 @@ ghost use Rattle.mips_emit.specs.Locations.{FitsSource};
 ghost use Rattle.mips_emit.specs.Code.{is_small, half, fetch, operation, opposite, is_power, immediate, immediate_of, is_symmetric};
 ghost use Rattle.mips_emit.specs.Code.{turned_immediate_of};
 ghost use Rattle.mips_emit.specs.Code.{turned_less_of, code_by_less, code_by_left, code_by_right, op_code};
+ghost use Rattle.mips_emit.specs.Left.{Emits};
 
 use crate::constant::{half, is_small};
 use crate::location::{Source, register};
@@ -85,7 +88,7 @@ fn if_half(op: LogicOp, rt: Reg, rs: Reg, word: u32) -> Option<Plain>
 
 // A product, whose lower half goes to rd.
 fn emit_product(code: &mut Vec<Plain>, rd: Reg, rs: Reg, rt: Reg) -> Result<(), AllocError>
-    ensures { OnOk result (code.new.items ≡ code.old.items ++ operation Mul rd rs rt) }
+    ensures { Emits result code.old.items (operation Mul rd rs rt) code.new.items }
 {
     code.push(Plain::Multiply {
         sign: Sign::Unsigned,
@@ -108,7 +111,7 @@ fn emit_division(
     rs: Reg,
     rt: Reg,
 ) -> Result<(), AllocError>
-    ensures { OnOk result (code.new.items ≡ code.old.items ++ Divide sign rs rt ∷ MoveFrom place rd ∷ []) }
+    ensures { Emits result code.old.items (Divide sign rs rt ∷ MoveFrom place rd ∷ []) code.new.items }
 {
     code.push(Plain::Divide { sign, rs, rt })?;
     code.push(Plain::MoveFrom { place, rd })?;
@@ -117,7 +120,7 @@ fn emit_division(
 
 // A test of equality: the difference, and then whether it is 0.
 fn emit_equal(code: &mut Vec<Plain>, rd: Reg, rs: Reg, rt: Reg) -> Result<(), AllocError>
-    ensures { OnOk result (code.new.items ≡ code.old.items ++ operation Eq rd rs rt) }
+    ensures { Emits result code.old.items (operation Eq rd rs rt) code.new.items }
 {
     code.push(alu(AluOp::Subu, rd, rs, rt))?;
     code.push(imm(ImmOp::Sltiu, rd, rd, 1))?;
@@ -126,7 +129,7 @@ fn emit_equal(code: &mut Vec<Plain>, rd: Reg, rs: Reg, rt: Reg) -> Result<(), Al
 
 // The same turned.
 fn emit_unequal(code: &mut Vec<Plain>, rd: Reg, rs: Reg, rt: Reg) -> Result<(), AllocError>
-    ensures { OnOk result (code.new.items ≡ code.old.items ++ operation Ne rd rs rt) }
+    ensures { Emits result code.old.items (operation Ne rd rs rt) code.new.items }
 {
     code.push(alu(AluOp::Subu, rd, rs, rt))?;
     code.push(alu(AluOp::Sltu, rd, Reg::ZERO, rd))?;
@@ -141,7 +144,7 @@ fn emit_not_above(
     rs: Reg,
     rt: Reg,
 ) -> Result<(), AllocError>
-    ensures { OnOk result (code.new.items ≡ code.old.items ++ Alu less rd rt rs ∷ Logic Xori rd rd 1 ∷ []) }
+    ensures { Emits result code.old.items (Alu less rd rt rs ∷ Logic Xori rd rd 1 ∷ []) code.new.items }
 {
     code.push(alu(less, rd, rt, rs))?;
     code.push(Plain::Logic {
@@ -161,7 +164,7 @@ fn emit_operation(
     rs: Reg,
     rt: Reg,
 ) -> Result<(), AllocError>
-    ensures { OnOk result (code.new.items ≡ code.old.items ++ operation op rd rs rt) }
+    ensures { Emits result code.old.items (operation op rd rs rt) code.new.items }
 {
     match op {
         Op::Add => code.push(alu(AluOp::Addu, rd, rs, rt))?,
@@ -284,7 +287,7 @@ fn emit_by_less(
 ) -> Result<(), AllocError>
     requires left { FitsSource x.now }
     requires right { FitsSource y.now }
-    ensures { OnOk result (code.new.items ≡ code.old.items ++ code_by_less op rd less x.now y.now) }
+    ensures { Emits result code.old.items (code_by_less op rd less x.now y.now) code.new.items }
 {
     if let Some(inst) = less {
         emit_fetch(code, register(2), y)?;
@@ -315,7 +318,7 @@ pub(crate) fn emit_op(
 ) -> Result<(), AllocError>
     requires left { FitsSource x.now }
     requires right { FitsSource y.now }
-    ensures { OnOk result (code.new.items ≡ code.old.items ++ op_code op rd left right x.now y.now) }
+    ensures { Emits result code.old.items (op_code op rd left right x.now y.now) code.new.items }
 {
     if let Some(inst) = immediate_of(op, rd, seat(register(1), x), right) {
         emit_fetch(code, register(1), x)?;

@@ -1,8 +1,11 @@
 // Operands into registers, and results into locations.
 
-ghost use Rattle.std.specs.Prelude.{◌≡◌, ◌++◌, OnOk};
+#![tactic(auto, using(crate::proofs::Left::some_behind, crate::proofs::Left::some_among))]
+
+ghost use Rattle.std.specs.Prelude.{◌≡◌, ◌++◌};
 ghost use Rattle.mips_emit.specs.Locations.{FitsPlace, FitsSource};
 ghost use Rattle.mips_emit.specs.Code.{fetch, seat, bring, stays, carry, into, finish, put_at, arrive};
+ghost use Rattle.mips_emit.specs.Left.{Emits};
 
 use crate::constant::{emit_li, emit_load_word, emit_move, emit_store_word};
 use crate::location::{Location, Source, register};
@@ -12,7 +15,7 @@ use std::alloc::AllocError;
 /// What stands before an operand is used; an Err is refused memory.
 pub fn emit_fetch(code: &mut Vec<Plain>, t: NonzeroReg, x: &Source) -> Result<(), AllocError>
     requires { FitsSource x.now }
-    ensures { OnOk result (code.new.items ≡ code.old.items ++ fetch t x.now) }
+    ensures { Emits result code.old.items (fetch t x.now) code.new.items }
 {
     match x {
         Source::Zero => {}
@@ -42,7 +45,7 @@ pub fn seat(t: NonzeroReg, x: &Source) -> Reg
 /// An operand into a register of its own; an Err is refused memory.
 pub(crate) fn emit_bring(code: &mut Vec<Plain>, t: NonzeroReg, x: &Source) -> Result<(), AllocError>
     requires { FitsSource x.now }
-    ensures { OnOk result (code.new.items ≡ code.old.items ++ bring t x.now) }
+    ensures { Emits result code.old.items (bring t x.now) code.new.items }
 {
     match x {
         Source::Zero => emit_move(code, t.reg(), Reg::ZERO)?,
@@ -58,7 +61,7 @@ pub(crate) fn emit_bring(code: &mut Vec<Plain>, t: NonzeroReg, x: &Source) -> Re
 /// An operand into a register of its own, but where it is there already; an Err is refused memory.
 pub(crate) fn emit_carry(code: &mut Vec<Plain>, t: NonzeroReg, x: &Source) -> Result<(), AllocError>
     requires { FitsSource x.now }
-    ensures { OnOk result (code.new.items ≡ code.old.items ++ carry t x.now) }
+    ensures { Emits result code.old.items (carry t x.now) code.new.items }
 {
     if !stays(t, x) {
         emit_bring(code, t, x)?;
@@ -100,7 +103,7 @@ pub(crate) fn emit_finish(
     place: Option<Location>,
 ) -> Result<(), AllocError>
     requires { FitsPlace place }
-    ensures { OnOk result (code.new.items ≡ code.old.items ++ finish t place) }
+    ensures { Emits result code.old.items (finish t place) code.new.items }
 {
     match place {
         None => {}
@@ -120,7 +123,7 @@ pub(crate) fn emit_put(
 ) -> Result<(), AllocError>
     requires place { FitsPlace place }
     requires source { FitsSource x.now }
-    ensures { OnOk result (code.new.items ≡ code.old.items ++ put_at place x.now) }
+    ensures { Emits result code.old.items (put_at place x.now) code.new.items }
 {
     match place {
         None => {}
@@ -142,7 +145,7 @@ pub(crate) fn emit_arrive(
     t: NonzeroReg,
 ) -> Result<(), AllocError>
     requires { FitsPlace place }
-    ensures { OnOk result (code.new.items ≡ code.old.items ++ arrive place t) }
+    ensures { Emits result code.old.items (arrive place t) code.new.items }
 {
     match place {
         None => {}

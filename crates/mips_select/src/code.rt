@@ -88,17 +88,8 @@ fn block_for(
     )?;
     let fresh = last.fresh;
     let comparison: Option<Comparison> = last.comparison;
-    let exit = emit_exit(
-        &mut insts,
-        &facts,
-        &Last { fresh, comparison },
-        linkage.entries,
-        plan.places,
-        frame,
-        plan.leaf,
-        next,
-        &block.exit,
-    )?;
+    let last = Last { fresh, comparison };
+    let exit = emit_exit(&mut insts, &facts, &last, linkage, plan, next, &block.exit)?;
     Ok(LongBlock::new(insts, exit))
 }
 

@@ -12,6 +12,7 @@ ghost use Rattle.mips_select.specs.Whole.{next_of};
 
 use crate::heads::{Naming, head_at, resumes};
 use crate::numbers::{number, number_at};
+use crate::plan::{Linkage, Plan};
 use crate::prologue::emit_epilogue;
 use mblock::{BlockNumber, Exit};
 use mips_emit::{
@@ -112,52 +113,51 @@ fn emit_returned(
     Ok(())
 }
 
-// How a block is left, where functions begin at `entries` and blocks stand at `places`, and a call goes on at `next`: what
-// stands before the exit, and the exit.
+// How a block is left, where a call goes on at `next`: what stands before the exit, and the exit.
 pub(crate) fn emit_exit(
     code: &mut Vec<Plain>,
     facts: &Knowledge,
     last: &Last,
-    entries: &[BlockNumber],
-    places: &[BlockNumber],
-    frame: &Frame,
-    leaf: bool,
+    linkage: &Linkage<'_>,
+    plan: &Plan<'_>,
     next: BlockNumber,
     exit: &RExit,
 ) -> Result<Exit, AllocError>
-    requires frame { IsReachable frame.now }
+    requires frame { IsReachable plan.now.frame.now }
     requires few { HasFewArguments exit.now }
-    ensures code { OnOk result (code.new.items ≡ code.old.items ++ exit_code leaf frame.now (facts_of facts.now) last.now exit.now) }
-    ensures exit { IfOk result (λ x. x ≡ exit_of (λ g. slice_index entries.now g) (λ b. slice_index places.now b) frame.now
-        (facts_of facts.now) last.now next exit.now) }
+    ensures code { OnOk result (code.new.items ≡ code.old.items
+        ++ exit_code plan.now.leaf plan.now.frame.now (facts_of facts.now) last.now exit.now) }
+    ensures exit { IfOk result (λ x. x ≡ exit_of (λ g. slice_index linkage.now.entries.now g)
+        (λ b. slice_index plan.now.places.now b) plan.now.frame.now (facts_of facts.now) last.now next exit.now) }
 {
+    let frame = plan.frame;
     match exit {
-        RExit::Goto(b) => Ok(Exit::Goto(number_at(places, *b))),
+        RExit::Goto(b) => Ok(Exit::Goto(number_at(plan.places, *b))),
         RExit::Branch(c, then, other) => {
-            let then = number_at(places, *then);
-            let other = number_at(places, *other);
+            let then = number_at(plan.places, *then);
+            let other = number_at(plan.places, *other);
             let branch = emit_branch(code, facts, last, frame, *c, then, other)?;
             Ok(branch)
         }
         RExit::Call(g, xs, _, _) => {
             emit_arguments(code, facts, frame, xs.as_slice())?;
             Ok(Exit::Call {
-                function: number_at(entries, *g),
+                function: number_at(linkage.entries, *g),
                 next,
             })
         }
         RExit::Return(None) => {
-            emit_epilogue(code, frame, leaf)?;
+            emit_epilogue(code, frame, plan.leaf)?;
             Ok(Exit::Return)
         }
         RExit::Return(Some(x)) => {
             emit_returned(code, facts, last, frame, *x)?;
-            emit_epilogue(code, frame, leaf)?;
+            emit_epilogue(code, frame, plan.leaf)?;
             Ok(Exit::Return)
         }
         RExit::Out(x, next) => {
             emit_departure(code, facts, last.fresh, frame, register(4), *x)?;
-            Ok(Exit::Out(number_at(places, *next)))
+            Ok(Exit::Out(number_at(plan.places, *next)))
         }
     }
 }

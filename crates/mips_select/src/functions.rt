@@ -40,8 +40,8 @@ fn emit_blocks(
     requires inside { AreInside linkage.now.starts.now UNIT_BYTES }
     requires blocks { AreEmittable (length linkage.now.starts.now) blocks.now }
     ensures { OnOk result (out.new.items ≡ out.old.items ++ blocks_from linkage.now.globals.now (slice_index linkage.now.starts.now)
-        (slice_index linkage.now.entries.now)
-        (slice_index plan.now.places.now) plan.now.leaf (heads_in plan.now.table.now) plan.now.frame.now plan.now.parameters first 0 blocks.now) }
+        (slice_index linkage.now.entries.now) (slice_index plan.now.places.now) plan.now.leaf (heads_in plan.now.table.now)
+        plan.now.frame.now plan.now.parameters first 0 blocks.now) }
 {
     let mut k = first;
     for j in 0..blocks.len() {

@@ -1,4 +1,4 @@
-use Rattle.std.proofs.Common.{◌≡◌, ◌++◌, ◌+◌, drop}
+use Rattle.std.proofs.Common.{◌≡◌, ◌++◌, ◌+◌, ◌≤◌, length, drop}
 use Rattle.mips_emit.specs.Locations.{facts_of, locations}
 use Rattle.mips_emit.specs.Code.{arguments_code}
 use Rattle.mips_emit.proofs.exit.emit_arguments.Given as goal
@@ -8,3 +8,4 @@ invariant-loop-x l =
     (l.t ≡ 4 + l.x-index)
     × (l.code.items ++ arguments_code (locations l.frame) (facts_of l.facts) l.t (drop l.x-index l.arguments)
     ≡ l.fn.code.items ++ arguments_code (locations l.frame) (facts_of l.facts) 4 l.arguments)
+    × (length l.fn.code.items ≤ length l.code.items)

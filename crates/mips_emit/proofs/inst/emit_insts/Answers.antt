@@ -1,4 +1,8 @@
 use Rattle.mips_emit.proofs.Emitted.{insts_step}
+use Rattle.std.proofs.Common.{sym, subst}
+use Rattle.mips_emit.specs.Locations.{Facts, facts_of}
+use Rattle.mips_emit.specs.Left.{StopsAmong}
+use Rattle.mips_emit.proofs.Stopping.{known_step, stops, at_err, some_all}
 use Rattle.mips_emit.proofs.inst.emit_insts.Goals as goal
 
 pub loop-inst-preserved : goal.loop-inst-preserved
@@ -8,4 +12,22 @@ loop-inst-preserved c =
     c.loop-inst-test.true c.asked_if-asks.ensures c.comparison_of-comparison.ensures.value c.fresh_of-fresh.ensures c.in_ok-emit_next.ensures
     c.in_ok-learn.ensures.is c.last_with-last.ensures
     (c.loop-inst.invariant.1, c.loop-inst.invariant.2, c.loop-inst.invariant.3, c.loop-inst.invariant.4) in
-    (c.in_ok-learn.ensures.long, z.0, z.1, z.2, z.3)
+    let k = known_step _ c.loop-inst.inst-index c.args.insts.now _ _ _ _ c.loop-inst-test.true c.in_ok-learn.ensures.is c.loop-inst.invariant.5 in
+    (c.in_ok-learn.ensures.long, z.0, z.1, z.2, z.3, k)
+
+pub returns-in_err-emit_next-clause-left : goal.returns-in_err-emit_next-clause-left
+returns-in_err-emit_next-clause-left c =
+    at_err c.from_residual.result (stops c.args.globals.now c.args.starts.now c.args.frame.now c.args.asked c.args.insts.now
+    (facts_of c.args.facts.now) c.args.code.now.items c.loop-inst.inst-index c.loop-inst.left _ c.asked_if-asks.result
+    c.comparison_of-comparison.result _ _ _ c.loop-inst-test.true c.loop-inst.invariant.1 c.loop-inst.invariant.5 c.loop-inst.invariant.2
+    c.asked_if-asks.ensures c.comparison_of-comparison.ensures.value c.in_err-emit_next.ensures)
+
+pub returns-in_err-learn-clause-left : goal.returns-in_err-learn-clause-left
+returns-in_err-learn-clause-left c =
+    at_err c.from_residual-in_err-learn.result (subst (λ (left : Facts). StopsAmong c.args.globals.now c.args.starts.now c.args.frame.now
+    c.args.asked c.args.insts.now (facts_of c.args.facts.now) left c.args.code.now.items c.emit_next.new.code.items)
+    (sym c.in_err-learn.ensures.kept)
+    (stops c.args.globals.now c.args.starts.now c.args.frame.now c.args.asked c.args.insts.now
+    (facts_of c.args.facts.now) c.args.code.now.items c.loop-inst.inst-index c.loop-inst.left _ c.asked_if-asks.result
+    c.comparison_of-comparison.result _ _ _ c.loop-inst-test.true c.loop-inst.invariant.1 c.loop-inst.invariant.5 c.loop-inst.invariant.2
+    c.asked_if-asks.ensures c.comparison_of-comparison.ensures.value (some_all _ _ _ c.in_ok-emit_next.ensures)))

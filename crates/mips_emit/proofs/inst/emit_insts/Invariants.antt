@@ -1,4 +1,4 @@
-use Rattle.std.proofs.Common.{◌≡◌, ◌+◌, ◌++◌, drop, length, []}
+use Rattle.std.proofs.Common.{◌≡◌, ◌+◌, ◌++◌, drop, take, length, []}
 use Rattle.std.specs.Prelude.{slice_index}
 use Rattle.mips_emit.specs.Locations.{facts_of, locations, known_after}
 use Rattle.mips_emit.specs.Comparisons.{insts_code, last_after, no_last}
@@ -13,3 +13,4 @@ invariant-loop-inst l =
     × (known_after (locations l.frame) (drop l.inst-index l.insts) (facts_of l.facts) ≡ known_after (locations l.frame) l.insts (facts_of l.fn.facts))
     × (last_after (locations l.frame) l.asked (facts_of l.facts) (drop l.inst-index l.insts) l.last
     ≡ last_after (locations l.frame) l.asked (facts_of l.fn.facts) l.insts no_last)
+    × (facts_of l.facts ≡ known_after (locations l.frame) (take l.inst-index l.insts) (facts_of l.fn.facts))
