@@ -2,7 +2,8 @@
 //!
 //! `source` writes the code words as instructions, with labels where branches and jumps lead, and the data behind them. Assembled for
 //! MIPS I, big-endian, and linked with code at 0x00400000 and data at 0x10000000 the source has the image's words. A word that is
-//! no instruction, one that leads out of the code, and a division, which the two assemblers write in two ways, are `.word`.
+//! no instruction, one that leads out of the code, and a division, which the two assemblers write in two ways, are `.word`. The word 0
+//! is `sll $0,$0,0`.
 //!
 //! What is promised:
 //! - `asm_text::source` answers in printable ASCII and line ends (`IsShown` of block_text). Only tested: that the source has the
@@ -133,10 +134,18 @@ fn put_word(out: &mut String, word: u32) -> Result<(), AllocError> {
     put_digits(out, word)
 }
 
+/// An instruction's text. The word 0 is `sll $0,$0,0`, since SPIM on a bare machine knows no `nop`.
+fn put_plain(out: &mut String, plain: Plain) -> Result<(), AllocError> {
+    if plain.is_nop() {
+        return out.push_str("sll $0,$0,0");
+    }
+    write!(out, "{plain}")
+}
+
 fn put_form(alloc: Global, out: &mut String, form: Form, address: u32) -> Result<(), AllocError> {
     out.push_str("    ")?;
     match form {
-        Form::Plain(plain) => write!(out, "{plain}")?,
+        Form::Plain(plain) => put_plain(out, plain)?,
         Form::Control(control) => put_control(alloc, out, control, address)?,
         Form::Word(word) => put_word(out, word)?,
     }
