@@ -213,7 +213,7 @@ module _ (most total : ℕ) (gs : List RGlobal) (starts : ℕ → ℕ) where
 
       by_result : (op : Op) → op_result op v w ≡ Some u → Given op ByResult
       by_result op e =
-          let z = computes most total gs starts registers g top fs s h op 3 v w u k l x y t3 x_away x_means y_means kv lw vb wb e in
+          let z = computes most total gs starts registers g top fs s h op 3 v w u k l x y t3 x_away y_away x_means y_means kv lw vb wb e in
           let regs = (z.ends).regs in
           record {
             to = record z.to { regs = (z.ends).regs };
@@ -226,7 +226,7 @@ module _ (most total : ℕ) (gs : List RGlobal) (starts : ℕ → ℕ) where
 
       by_opposite : (op : Op) (t : ℕ) → op_result (opposite_op op) w v ≡ Some t → nat_eq t 0 ≡ not (nat_eq u 0) → Given op ByOpposite
       by_opposite op t e turned =
-          let z = computes most total gs starts registers g top fs s h (opposite_op op) 3 w v t l k y x t3 y_away y_means x_means lw kv wb vb e in
+          let z = computes most total gs starts registers g top fs s h (opposite_op op) 3 w v t l k y x t3 y_away x_away y_means x_means lw kv wb vb e in
           let regs = (z.ends).regs in
           record {
             to = record z.to { regs = (z.ends).regs };
@@ -239,7 +239,7 @@ module _ (most total : ℕ) (gs : List RGlobal) (starts : ℕ → ℕ) where
 
       in_result : (op : Op) → op_result op v w ≡ Some u → Given op InResult
       in_result op e =
-          let z = computes most total gs starts registers g top fs s h op 2 v w u k l x y t2 x_away x_means y_means kv lw vb wb e in
+          let z = computes most total gs starts registers g top fs s h op 2 v w u k l x y t2 x_away y_away x_means y_means kv lw vb wb e in
           let regs = (z.ends).regs in
           record {
             to = record z.to { regs = (z.ends).regs };

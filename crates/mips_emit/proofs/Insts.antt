@@ -3,13 +3,16 @@ use Rattle.std.proofs.Common.{◌≡◌, ◌≢◌, ℕ, ℤ, zero, suc, ◌+◌
 use Rattle.std.proofs.Common.{length, Option, Some, None, refl, sym, ap, ◌∙◌, subst, arith, nat_eq, ltb-true, eqb-true}
 use Rattle.std.specs.Prelude.{if◌then◌else◌, slice_get, nat_lt}
 use Rattle.std.proofs.lemmas.Option.{same_Some, none-some}
+use Rattle.words.specs.declared.operator.Operator.TheVariants as operators
 use Rattle.words.specs.declared.width.Width.{Width}
 use Rattle.words.specs.declared.width.Width.TheVariants as widths
 use Rattle.words.specs.Words.{wrap}
+use Rattle.words.specs.Operators.{op_value}
 use Rattle.runs.specs.Stores.{Places, places_with, Arrays, element_at, arrays_with}
 use Rattle.mips_isa.specs.declared.inst.Plain.{Plain}
 use Rattle.mips_isa.specs.declared.inst.LogicOp.TheVariants.{Xori}
-use Rattle.mips_isa.specs.declared.inst.Plain.TheVariants.{Logic}
+use Rattle.mips_isa.specs.declared.inst.ShiftOp.TheVariants.{Sll}
+use Rattle.mips_isa.specs.declared.inst.Plain.TheVariants.{Alu, Logic, Shift}
 use Rattle.mips_isa.specs.States.{State, IsWords, is_open, read}
 use Rattle.mips_isa.specs.Actions.{action_of}
 use Rattle.mblock.specs.declared.limits.TheConstants.{UNIT_BYTES}
@@ -27,6 +30,7 @@ use Rattle.mips_homes.specs.declared.homed.Home.TheVariants.{Reg, Slot}
 use Rattle.mips_emit.specs.declared.limits.TheConstants.{KEPT_FACTS}
 use Rattle.mips_emit.specs.declared.location.Location.TheVariants.{Held, InSlot}
 use Rattle.mips_emit.specs.declared.location.Source.{Source}
+use Rattle.mips_emit.specs.declared.product.ShiftedSum.{ShiftedSum}
 use Rattle.mips_emit.specs.declared.location.Source.TheVariants.{Zero, Word, From}
 use Rattle.mips_emit.specs.declared.facts.Fact.{Fact}
 use Rattle.mips_emit.specs.Frames.{AreFrameHomes}
@@ -35,14 +39,16 @@ use Rattle.mips_emit.specs.Locations.{last_of, word_source, operand}
 use Rattle.mips_emit.specs.Elements.{width_of, width_bytes, element_place, place_in, address_of_place, data_middle, direct, near, base_code}
 use Rattle.mips_emit.specs.Elements.{base_offset, element_base, element_offset}
 use Rattle.mips_emit.specs.Code.{fetch, seat, into, operation, immediate_of, is_symmetric, turned_immediate_of, turned_less_of, code_by_less, code_by_left}
+use Rattle.mips_emit.specs.Code.{multiple_of, multiple_code, code_by_multiple, code_by_word}
 use Rattle.mips_emit.specs.Code.{code_by_right, op_code, element_code, element_load, element_store, inst_code}
 use Rattle.mips_emit.proofs.Runs.{RunsTo, runs_none, runs_then}
-use Rattle.mips_emit.proofs.View.{shown_at, word_of_offset, shown_below, set, set_at, put_here, put_other, IsTarget, loads_at, stores_at, near_word, based}
+use Rattle.mips_emit.proofs.View.{shown_at, word_of_offset, shown_below, set, set_at, set_sets, read_register, put_here, put_other, IsTarget, loads_at, stores_at, near_word, based}
 use Rattle.mips_emit.proofs.Stands.{Stored, with_slots, Stands}
 use Rattle.mips_emit.proofs.Homes.{IsLast, none_last, known_with, known_without, regs_kept, IsKnown, Denotes, IsAway, seat_kept, longer_behind, Ends, hide, IsLazy, tells}
-use Rattle.mips_emit.proofs.Homes.{operand_below, operand_means, fetches, finishes, puts}
+use Rattle.mips_emit.proofs.Homes.{operand_below, operand_means, fetches, sets_kept, finishes, puts}
 use Rattle.mips_emit.proofs.Globals.{kept_is, data_open, data_written, stored_at}
-use Rattle.mips_emit.proofs.Operations.{Gives, operation_gives, immediate_gives, less_gives, symmetric}
+use Rattle.mips_emit.proofs.Operations.{Gives, alu_gives, operation_gives, immediate_gives, less_gives, symmetric}
+use Rattle.mips_emit.proofs.Products.{IsMultiple, multiplied, turned_multiplied}
 
 -- ---- facts
 
@@ -223,10 +229,28 @@ module _ (most total : ℕ) (gs : List RGlobal) (starts : ℕ → ℕ) where
           stands = b.stands;
         }
 
-    pub computes : (op : Op) (d v w u : ℕ) (k l : Option ℕ) (x y : Source) → IsTarget d → IsAway x → Means x v → Means y w → ((c : ℕ) → k ≡ Some c → c ≡ v)
-        → ((c : ℕ) → l ≡ Some c → c ≡ w) → v < 2 ^ 32 → w < 2 ^ 32 → op_result op v w ≡ Some u
+    -- a multiple of an operand
+    times : (d v u : ℕ) (x : Source) (m : ShiftedSum) → IsTarget d → IsAway x → Means x v → u < 2 ^ 32 → IsMultiple m v u → Computed (multiple_code d m x) d u
+    times d v u x m ok away mx lt is =
+        let a = fetches most total gs starts registers g top fs s h 1 v x (omega arith) (omega arith) (mx s h) in
+        let s1 : State = record s { regs = a.regs } in
+        let q = seat 1 x in
+        let shift = Shift Sll 2 q m.amount in
+        let sum = Alu m.op d 2 q in
+        let two : IsTarget 2 = record { low = omega arith; high = omega arith } in
+        let c = set_sets (shift ∷ []) s1 2 (op_value operators.Sll (read 0 a.regs q) (wrap m.amount)) is.shown two
+        (ap (λ v. op_value operators.Sll v (wrap m.amount)) a.here ∙ is.shifts) (record { ends = refl }) in
+        let s2 : State = record s1 { regs = c.regs } in
+        let left : read 0 c.regs 2 ≡ is.shown = read_register c.regs 2 (omega arith) ∙ c.here in
+        let right : read 0 c.regs q ≡ v = seat_kept x 1 2 a.regs c.regs away (λ e. absurd (omega (arith, e))) (omega arith) c.others ∙ a.here in
+        computed (sum ∷ []) (multiple_code d m x) s2 d u (sets_kept most total gs starts registers g top fs s1 a.stands (shift ∷ []) 2 is.shown (omega arith) c)
+        (λ t e. runs_then a.runs (runs_then c.runs e)) (λ some. longer_behind (fetch 1 x) (shift ∷ sum ∷ []) (omega arith)) lt
+        (alu_gives m.op s2 d 2 q is.shown v u ok left right is.sums)
+
+    pub computes : (op : Op) (d v w u : ℕ) (k l : Option ℕ) (x y : Source) → IsTarget d → IsAway x → IsAway y → Means x v → Means y w
+        → ((c : ℕ) → k ≡ Some c → c ≡ v) → ((c : ℕ) → l ≡ Some c → c ≡ w) → v < 2 ^ 32 → w < 2 ^ 32 → op_result op v w ≡ Some u
         → Computed (op_code op d k l x y) d u
-    computes op d v w u k l x y ok away mx my kv lw vb wb e = by_right l lw (immediate_of op d (seat 1 x) l) refl
+    computes op d v w u k l x y ok away y_away mx my kv lw vb wb e = by_multiple (multiple_of op l) (multiple_of op k) refl refl
       where
         below : u < 2 ^ 32
         below = result-word op v w u vb wb e
@@ -268,6 +292,12 @@ module _ (most total : ℕ) (gs : List RGlobal) (starts : ℕ → ℕ) where
             let same : c ≡ w = said c refl in
             one_operand 1 d v u x (i ∷ []) (omega arith) (omega arith) mx below
             (λ s at. immediate_gives s d (seat 1 x) c v u i ok at vb (omega (arith, same, wb)) op is (ap (op_result op v) same ∙ e))
+
+        by_multiple : (a b : Option ShiftedSum) → multiple_of op l ≡ a → multiple_of op k ≡ b
+            → Computed (code_by_multiple d a b x y (code_by_word op d k l x y)) d u
+        by_multiple (Some m) b is _ = times d v u x m ok away mx below (multiplied op l m v w u lw vb wb is e)
+        by_multiple None (Some m) _ is = times d w u y m ok y_away my below (turned_multiplied op k m v w u kv vb wb is e)
+        by_multiple None None _ _ = by_right l lw (immediate_of op d (seat 1 x) l) refl
 
     -- an element of a global
     pub elements : (known : Option ℕ) (x : Source) (a i v : ℕ) → IsAway x → Means x i → ((w : ℕ) → known ≡ Some w → w ≡ i) → element_at g a i ≡ Some v
@@ -337,6 +367,7 @@ module _ (most total : ℕ) (gs : List RGlobal) (starts : ℕ → ℕ) where
         let z = computes (hide facts.lazy registers) g top fs s h op (into 1 (locations_of hs d)) v w u (known_in facts a) (known_in facts b)
         (operand (locations_of hs) facts a) (operand (locations_of hs) facts b) (into_target hs top.count d ok)
         (operand_means most total gs starts facts.lazy registers g top fs s h lz known hs a v ok k ev).1
+        (operand_means most total gs starts facts.lazy registers g top fs s h lz known hs b w ok k ew).1
         (λ s h. (operand_means most total gs starts facts.lazy registers g top fs s h lz known hs a v ok k ev).0)
         (λ s h. (operand_means most total gs starts facts.lazy registers g top fs s h lz known hs b w ok k ew).0)
         (λ c is. same_Some c v (sym (k.by a c is) ∙ ev))

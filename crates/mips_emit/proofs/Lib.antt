@@ -4,6 +4,7 @@ pub mod Stands
 pub mod Homes
 pub mod Globals
 pub mod Operations
+pub mod Products
 pub mod Insts
 pub mod Comparing
 pub mod Tables

@@ -77,7 +77,7 @@ direct : (op : Operator) (v w u : ℕ) → value_of op v w ≡ Some u → op_val
 unfolding op_value
 direct op v w u e = ap or_zero e
 
-alu_gives : (op : AluOp) (s : State) (d a b v w u : ℕ) → IsTarget d → read 0 s.regs a ≡ v → read 0 s.regs b ≡ w → value_of (alu_operator op) v w ≡ Some u
+pub alu_gives : (op : AluOp) (s : State) (d a b v w u : ℕ) → IsTarget d → read 0 s.regs a ≡ v → read 0 s.regs b ≡ w → value_of (alu_operator op) v w ≡ Some u
     → Gives (Alu op d a b ∷ []) s d u
 alu_gives op s d a b v w u ok left right e =
     one (Alu op d a b) s d (op_value (alu_operator op) (read 0 s.regs a) (read 0 s.regs b)) u ok (alu_runs s op d a b)
@@ -323,7 +323,7 @@ sum_turned v c lt = omega (arith, lt)
 low_bits : (n : ℕ) → wrap (n % 32) % 32 ≡ n % 32
 low_bits n = omega arith
 
-shifted : (op : ShiftOp) (v c : ℕ) → op_value (shift_operator op) v (wrap (c % 32)) ≡ op_value (shift_operator op) v c
+pub shifted : (op : ShiftOp) (v c : ℕ) → op_value (shift_operator op) v (wrap (c % 32)) ≡ op_value (shift_operator op) v c
 unfolding op_value
 shifted Sll v c = ap (λ k. wrap (v * 2 ^ k)) (low_bits c)
 shifted Srl v c = ap (λ k. v / 2 ^ k) (low_bits c)

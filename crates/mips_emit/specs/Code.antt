@@ -24,6 +24,7 @@ use Rattle.mips_homes.specs.HomedRun.{is_lasting}
 use Rattle.mips_emit.specs.declared.location.Location.{Location}
 use Rattle.mips_emit.specs.declared.location.Location.TheVariants.{Held, InSlot}
 use Rattle.mips_emit.specs.declared.location.Source.{Source}
+use Rattle.mips_emit.specs.declared.product.ShiftedSum.{ShiftedSum}
 use Rattle.mips_emit.specs.declared.location.Source.TheVariants.{Zero, Word, From}
 use Rattle.mips_emit.specs.Locations.{Locations, Facts, known_in, operand, word_source}
 use Rattle.mips_emit.specs.Elements.{width_of, direct, base_code, element_base, element_offset}
@@ -215,10 +216,36 @@ abbrev pub code_by_right : Op → ℕ → (right left less : Option Plain) → S
 code_by_right op d None left less x y = code_by_left op d left less x y
 code_by_right op d (Some i) left less x y = fetch 1 x ++ i ∷ []
 
-abbrev pub op_code : Op → ℕ → (left right : Option ℕ) → Source → Source → List Plain
-op_code op d left right x y =
+abbrev pub code_by_word : Op → ℕ → (left right : Option ℕ) → Source → Source → List Plain
+code_by_word op d left right x y =
     code_by_right op d (immediate_of op d (seat 1 x) right) (turned_immediate_of op d (seat 2 y) left)
     (turned_less_of op d (seat 2 y) left) x y
+
+-- a product by one more or one less than a power of 2, and by no power itself: the other operand is shifted, and then added to that or
+-- taken from it, modulo 2^32
+abbrev pub multiple : ℕ → Option ShiftedSum
+multiple c =
+    if is_power c then None
+    else if is_power (c - 1) then Some (record { op = alu.Addu; amount = exponent (c - 1) % 32 })
+    else if is_power (next_word c) then Some (record { op = alu.Subu; amount = exponent (next_word c) % 32 })
+    else None
+
+abbrev pub multiple_of : Op → (known : Option ℕ) → Option ShiftedSum
+multiple_of Mul None = None
+multiple_of Mul (Some c) = multiple c
+multiple_of _ known = None
+
+abbrev pub multiple_code : ℕ → ShiftedSum → Source → List Plain
+multiple_code d m x = fetch 1 x ++ Shift Sll 2 (seat 1 x) m.amount ∷ Alu m.op d 2 (seat 1 x) ∷ []
+
+abbrev pub code_by_multiple : ℕ → (right left : Option ShiftedSum) → Source → Source → (other : List Plain) → List Plain
+code_by_multiple d (Some m) left x y other = multiple_code d m x
+code_by_multiple d None (Some m) x y other = multiple_code d m y
+code_by_multiple d None None x y other = other
+
+-- an operator into register d, from operands and what is known of them
+abbrev pub op_code : Op → ℕ → (left right : Option ℕ) → Source → Source → List Plain
+op_code op d left right x y = code_by_multiple d (multiple_of op right) (multiple_of op left) x y (code_by_word op d left right x y)
 
 -- ---- instructions
 

@@ -19,7 +19,8 @@
 //! What is promised:
 //! - The code of an instruction is exactly `inst_code`, and does what the instruction does over homes (`performs`, a
 //!   lemma over every state that holds homes, frames and data): pseudo-registers are read and written in place, words
-//!   that are known in the block become immediates, and register 28 reaches the first 65,536 bytes of data.
+//!   that are known in the block become immediates, and register 28 reaches the first 65,536 bytes of data. A product by one more
+//!   or one less than a power of 2 is a shift and a sum or difference (`multiple`).
 //! - A comparison at the end of a block whose result only the branch behind it reads is one with that branch: its code
 //!   (`comparison_code`) leaves what the branch (`comparison_exit`) tests, and no result. The result of an operator that
 //!   only the return behind it reads is computed into register 2 (`compares`, a lemma likewise).
@@ -38,6 +39,7 @@ mod inst;
 mod limits;
 mod location;
 mod operation;
+mod product;
 mod transfer;
 
 pub use comparison::{Asked, Comparison, Form, comparison_exit, returned, tested};

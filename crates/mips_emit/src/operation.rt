@@ -9,11 +9,12 @@ ghost use Rattle.mips_isa.specs.declared.inst.Plain.TheVariants.{Shift, ShiftBy,
 ghost use Rattle.mips_emit.specs.Locations.{FitsSource};
 ghost use Rattle.mips_emit.specs.Code.{is_small, half, fetch, operation, opposite, is_power, immediate, immediate_of, is_symmetric};
 ghost use Rattle.mips_emit.specs.Code.{turned_immediate_of};
-ghost use Rattle.mips_emit.specs.Code.{turned_less_of, code_by_less, code_by_left, code_by_right, op_code};
+ghost use Rattle.mips_emit.specs.Code.{turned_less_of, code_by_less, code_by_left, code_by_right, code_by_word, op_code};
 ghost use Rattle.mips_emit.specs.Left.{Emits};
 
 use crate::constant::{half, is_small};
 use crate::location::{Source, register};
+use crate::product::{emit_multiple, multiple_of};
 use crate::transfer::{emit_fetch, seat};
 use mips_isa::{AluOp, Amount, HiLo, ImmOp, LogicOp, Plain, Reg, ShiftOp};
 use rtl::Op;
@@ -201,8 +202,8 @@ fn xor_with(rd: Reg, rs: Reg, word: u32) -> Option<Plain>
     }
 }
 
-// Whether a word is a power of 2.
-fn is_power(word: u32) -> bool
+/// Whether a word is a power of 2.
+pub(crate) fn is_power(word: u32) -> bool
     ensures { result ≡ is_power word }
 {
     1 << (word.trailing_zeros() % 32) == word
@@ -306,6 +307,35 @@ fn emit_by_less(
     Ok(())
 }
 
+// An operator into a register, by a word in its instruction if it can be.
+fn emit_by_word(
+    code: &mut Vec<Plain>,
+    op: Op,
+    rd: Reg,
+    left: Option<u32>,
+    right: Option<u32>,
+    x: &Source,
+    y: &Source,
+) -> Result<(), AllocError>
+    requires left { FitsSource x.now }
+    requires right { FitsSource y.now }
+    ensures { Emits result code.old.items (code_by_word op rd left right x.now y.now) code.new.items }
+{
+    if let Some(inst) = immediate_of(op, rd, seat(register(1), x), right) {
+        emit_fetch(code, register(1), x)?;
+        code.push(inst)?;
+        return Ok(());
+    }
+    let rt = seat(register(2), y);
+    if let Some(inst) = turned_immediate_of(op, rd, rt, left) {
+        emit_fetch(code, register(2), y)?;
+        code.push(inst)?;
+        return Ok(());
+    }
+    emit_by_less(code, op, rd, turned_less_of(op, rd, rt, left), x, y)?;
+    Ok(())
+}
+
 /// An operator into a register, from operands and what is known of them; an Err is refused memory.
 pub(crate) fn emit_op(
     code: &mut Vec<Plain>,
@@ -320,17 +350,14 @@ pub(crate) fn emit_op(
     requires right { FitsSource y.now }
     ensures { Emits result code.old.items (op_code op rd left right x.now y.now) code.new.items }
 {
-    if let Some(inst) = immediate_of(op, rd, seat(register(1), x), right) {
-        emit_fetch(code, register(1), x)?;
-        code.push(inst)?;
+    if let Some(m) = multiple_of(op, right) {
+        emit_multiple(code, rd, m, x)?;
         return Ok(());
     }
-    let rt = seat(register(2), y);
-    if let Some(inst) = turned_immediate_of(op, rd, rt, left) {
-        emit_fetch(code, register(2), y)?;
-        code.push(inst)?;
+    if let Some(m) = multiple_of(op, left) {
+        emit_multiple(code, rd, m, y)?;
         return Ok(());
     }
-    emit_by_less(code, op, rd, turned_less_of(op, rd, rt, left), x, y)?;
+    emit_by_word(code, op, rd, left, right, x, y)?;
     Ok(())
 }

@@ -1,0 +1,111 @@
+-- Products by one more or one less than a power of 2.
+use Rattle.std.proofs.Common.{◌≡◌, ℕ, suc, ◌+◌, ◌-◌, ◌*◌, ◌%◌, ◌^◌, ◌<◌, Bool, true, false, Option, Some, None, refl, sym, ap, ◌∙◌, subst, arith}
+use Rattle.std.proofs.Common.{eqb-true}
+use Rattle.std.specs.Prelude.{if◌then◌else◌}
+use Rattle.std.proofs.Math.Nat.{mul-suc}
+use Rattle.std.proofs.lemmas.Nat.{pow_pos}
+use Rattle.std.proofs.lemmas.Option.{same_Some, none-some}
+use Rattle.words.specs.declared.operator.Operator.TheVariants as operators
+use Rattle.words.specs.Words.{wrap}
+use Rattle.words.specs.Operators.{value_of, op_value}
+use Rattle.mips_isa.specs.declared.inst.ShiftOp.TheVariants.{Sll}
+use Rattle.mips_isa.specs.declared.inst.AluOp.TheVariants.{Addu, Subu}
+use Rattle.mips_isa.specs.Actions.{alu_operator}
+use Rattle.rtl.specs.declared.operator.Op.{Op}
+use Rattle.rtl.specs.declared.operator.Op.TheVariants.{Add, Sub, Mul, DivS, DivU, RemS, RemU, And, Or, Xor, Shl, ShrU, ShrS, Eq, Ne, LtS, LtU, LeS, LeU}
+use Rattle.rtl.specs.Operators.{op_result}
+use Rattle.mips_emit.specs.declared.product.ShiftedSum.{ShiftedSum}
+use Rattle.mips_emit.specs.Code.{next_word, exponent, is_power, is_symmetric, multiple, multiple_of}
+use Rattle.mips_emit.proofs.Operations.{shifted, symmetric}
+
+-- a word shifted, and then its sum with the word or the difference
+pub record IsMultiple (m : ShiftedSum) (v u : ℕ) : Type 0 where
+  pub shown : ℕ
+  pub shifts : op_value operators.Sll v (wrap m.amount) ≡ shown
+  pub sums : value_of (alu_operator m.op) shown v ≡ Some u
+
+shift_value : (v n : ℕ) → op_value operators.Sll v (wrap (n % 32)) ≡ wrap (v * 2 ^ (n % 32))
+unfolding op_value
+shift_value v n = shifted Sll v n
+
+one_more : (v p c u : ℕ) → p ≡ c - 1 → 0 < p → wrap (v * c) ≡ u → wrap (wrap (v * p) + v) ≡ u
+one_more v p c u e low is =
+    let next : c ≡ suc p = omega (arith, e, low) in
+    let times : v * c ≡ v * p + v = ap (λ n. v * n) next ∙ mul-suc v p in
+    omega (arith, times, is)
+
+one_less : (v p c u : ℕ) → v < 2 ^ 32 → c < 2 ^ 32 → p ≡ next_word c → 0 < p → wrap (v * c) ≡ u → wrap (wrap (v * p) + (2 ^ 32 - v)) ≡ u
+one_less v p c u lv lc e low is =
+    let next : p ≡ suc c = omega (arith, e, low, lc) in
+    let times : v * p ≡ v * c + v = ap (λ n. v * n) next ∙ mul-suc v c in
+    omega (arith, times, is, lv)
+
+-- what is multiplied so is the product
+pub multiple_is : (m : ShiftedSum) (c v u : ℕ) → v < 2 ^ 32 → c < 2 ^ 32 → multiple c ≡ Some m → wrap (v * c) ≡ u → IsMultiple m v u
+multiple_is m c v u lv lc is e = by (is_power c) (is_power (c - 1)) (is_power (next_word c)) refl refl is
+  where
+    more : ShiftedSum
+    more = record { op = Addu; amount = exponent (c - 1) % 32 }
+
+    less : ShiftedSum
+    less = record { op = Subu; amount = exponent (next_word c) % 32 }
+
+    by : (a b d : Bool) → is_power (c - 1) ≡ b → is_power (next_word c) ≡ d
+        → (if a then None else if b then Some more else if d then Some less else None) ≡ Some m → IsMultiple m v u
+    by true b d eb ed is = absurd (none-some m is)
+    by false true d eb ed is =
+        let power : 2 ^ (exponent (c - 1) % 32) ≡ c - 1 = eqb-true (2 ^ (exponent (c - 1) % 32)) (c - 1) eb in
+        subst (λ m. IsMultiple m v u) (same_Some more m is) (record {
+          shown = wrap (v * 2 ^ (exponent (c - 1) % 32));
+          shifts = shift_value v (exponent (c - 1));
+          sums = ap Some (one_more v (2 ^ (exponent (c - 1) % 32)) c u power (pow_pos (exponent (c - 1) % 32)) e);
+        })
+    by false false true eb ed is =
+        let power : 2 ^ (exponent (next_word c) % 32) ≡ next_word c = eqb-true (2 ^ (exponent (next_word c) % 32)) (next_word c) ed in
+        subst (λ m. IsMultiple m v u) (same_Some less m is) (record {
+          shown = wrap (v * 2 ^ (exponent (next_word c) % 32));
+          shifts = shift_value v (exponent (next_word c));
+          sums = ap Some (one_less v (2 ^ (exponent (next_word c) % 32)) c u lv lc power (pow_pos (exponent (next_word c) % 32)) e);
+        })
+    by false false false eb ed is = absurd (none-some m is)
+
+-- it is done for products alone
+is_product : (op : Op) (o : Option ℕ) (m : ShiftedSum) → multiple_of op o ≡ Some m → op ≡ Mul
+is_product Mul o m is = refl
+is_product Add o m is = absurd (none-some m is)
+is_product Sub o m is = absurd (none-some m is)
+is_product DivS o m is = absurd (none-some m is)
+is_product DivU o m is = absurd (none-some m is)
+is_product RemS o m is = absurd (none-some m is)
+is_product RemU o m is = absurd (none-some m is)
+is_product And o m is = absurd (none-some m is)
+is_product Or o m is = absurd (none-some m is)
+is_product Xor o m is = absurd (none-some m is)
+is_product Shl o m is = absurd (none-some m is)
+is_product ShrU o m is = absurd (none-some m is)
+is_product ShrS o m is = absurd (none-some m is)
+is_product Eq o m is = absurd (none-some m is)
+is_product Ne o m is = absurd (none-some m is)
+is_product LtS o m is = absurd (none-some m is)
+is_product LtU o m is = absurd (none-some m is)
+is_product LeS o m is = absurd (none-some m is)
+is_product LeU o m is = absurd (none-some m is)
+
+-- of a word and one that is known
+pub multiplied : (op : Op) (o : Option ℕ) (m : ShiftedSum) (v w u : ℕ) → ((c : ℕ) → o ≡ Some c → c ≡ w) → v < 2 ^ 32 → w < 2 ^ 32 → multiple_of op o ≡ Some m
+    → op_result op v w ≡ Some u → IsMultiple m v u
+multiplied op o m v w u said lv lw is e =
+    let product : op ≡ Mul = is_product op o m is in
+    by o said (ap (λ op. multiple_of op o) (sym product) ∙ is) (same_Some (wrap (v * w)) u (ap (λ op. op_result op v w) (sym product) ∙ e))
+  where
+    by : (o : Option ℕ) → ((c : ℕ) → o ≡ Some c → c ≡ w) → multiple_of Mul o ≡ Some m → wrap (v * w) ≡ u → IsMultiple m v u
+    by None said is e = absurd (none-some m is)
+    by (Some c) said is e =
+        let same : c ≡ w = said c refl in
+        multiple_is m c v u lv (omega (arith, same, lw)) is (ap (λ c. wrap (v * c)) same ∙ e)
+
+pub turned_multiplied : (op : Op) (o : Option ℕ) (m : ShiftedSum) (v w u : ℕ) → ((c : ℕ) → o ≡ Some c → c ≡ v) → v < 2 ^ 32 → w < 2 ^ 32
+    → multiple_of op o ≡ Some m → op_result op v w ≡ Some u → IsMultiple m w u
+turned_multiplied op o m v w u said lv lw is e =
+    let product : op ≡ Mul = is_product op o m is in
+    multiplied op o m w v u said lw lv is (symmetric op w v (ap is_symmetric product) ∙ e)

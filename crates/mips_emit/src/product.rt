@@ -1,0 +1,93 @@
+// Products by a word that is one more or one less than a power of 2: a shift, and a sum or a difference.
+
+#![tactic(auto, using(crate::proofs::Left::some_behind, crate::proofs::Left::some_among))]
+
+ghost use Rattle.std.specs.Prelude.{◌≡◌, ◌%◌, ◌++◌, ◌∷◌, []};
+ghost use Rattle.mips_emit.specs.Locations.{FitsSource};
+ghost use Rattle.mips_emit.specs.Code.{multiple, multiple_of, multiple_code, exponent};
+ghost use Rattle.mips_emit.specs.Left.{Emits};
+
+use crate::location::{Source, register};
+use crate::operation::is_power;
+use crate::transfer::{emit_fetch, seat};
+use mips_isa::{AluOp, Amount, Plain, Reg, ShiftOp};
+use rtl::Op;
+use std::alloc::AllocError;
+
+/// How an operand is multiplied: it is shifted by an amount, and then an instruction adds it to that or takes it from that.
+#[derive(Clone, Copy, Debug, PartialEq, Eq)]
+pub(crate) struct ShiftedSum {
+    pub(crate) op: AluOp,
+    pub(crate) amount: Amount,
+}
+
+// The exponent of a power of 2.
+fn exponent(word: u32) -> Amount
+    ensures { result ≡ exponent word % 32 }
+{
+    Amount::masked((word.trailing_zeros() % 32) as u8)
+}
+
+// A product by this word, where one more or one less is a power of 2 and the word itself isn't.
+fn multiple(word: u32) -> Option<ShiftedSum>
+    ensures { result ≡ multiple word }
+{
+    let below = word.saturating_sub(1);
+    let above = word.wrapping_add(1);
+    if is_power(word) {
+        None
+    } else if is_power(below) {
+        Some(ShiftedSum {
+            op: AluOp::Addu,
+            amount: exponent(below),
+        })
+    } else if is_power(above) {
+        Some(ShiftedSum {
+            op: AluOp::Subu,
+            amount: exponent(above),
+        })
+    } else {
+        None
+    }
+}
+
+/// How a product by what is known of one operand is made, where it takes a shift and a sum.
+pub(crate) fn multiple_of(op: Op, known: Option<u32>) -> Option<ShiftedSum>
+    ensures { result ≡ multiple_of op known }
+{
+    match op {
+        Op::Mul => match known {
+            Some(word) => multiple(word),
+            None => None,
+        },
+        _ => None,
+    }
+}
+
+/// Such a product of an operand into a register; an Err is refused memory.
+pub(crate) fn emit_multiple(
+    code: &mut Vec<Plain>,
+    rd: Reg,
+    m: ShiftedSum,
+    x: &Source,
+) -> Result<(), AllocError>
+    requires { FitsSource x.now }
+    ensures { Emits result code.old.items (multiple_code rd m x.now) code.new.items }
+{
+    let shifted = Reg::masked(2);
+    let operand = seat(register(1), x);
+    emit_fetch(code, register(1), x)?;
+    code.push(Plain::Shift {
+        op: ShiftOp::Sll,
+        rd: shifted,
+        rt: operand,
+        amount: m.amount,
+    })?;
+    code.push(Plain::Alu {
+        op: m.op,
+        rd,
+        rs: shifted,
+        rt: operand,
+    })?;
+    Ok(())
+}
