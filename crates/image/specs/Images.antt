@@ -2,6 +2,7 @@
 use Rattle.std.specs.Prelude.{◌≡◌, ℕ, zero, suc, ◌+◌, ◌-◌, ◌*◌, ◌/◌, ◌%◌, ◌^◌, ◌<◌, ◌≤◌, Bool, true, not, ◌&&◌, nat_lt, nat_le, ◌==◌, List}
 use Rattle.std.specs.Prelude.{[], ◌∷◌, ◌++◌, length, drop, slice_index, All, Option, Some, None, if◌then◌else◌}
 use Rattle.std.specs.Int.{w32, to_be_bytes}
+pub use Rattle.mips_isa.specs.MemoryMap.{code_base}
 use Rattle.image.specs.declared.limits.TheConstants.{CODE_WORDS, COUNTED_BLOCKS, DATA_BYTES}
 use Rattle.image.specs.declared.fault.ImageFault.{ImageFault}
 use Rattle.image.specs.declared.fault.ImageFault.TheVariants.{Magic, Version as OtherVersion, Length, Entry, Counts, NoMemory}
@@ -25,10 +26,6 @@ pub record ImageParts : Type 0 where
   pub entry : ℕ
   pub code : List ℕ
   pub bytes : List ℕ
-
--- where the code stands
-abbrev pub code_base : ℕ
-code_base = 4194304
 
 -- the address of one of so many code words
 abbrev pub is_entry : ℕ → ℕ → Bool

@@ -9,12 +9,11 @@ ghost use Rattle.image.specs.declared.fault.ImageFault.{ImageFault as Fault};
 use crate::fault::ImageFault;
 use crate::image::{Counts, Image};
 use crate::limits::{CODE_WORDS, COUNTED_BLOCKS, DATA_BYTES};
+use mips_isa::CODE_BASE;
 use std::alloc::{AllocError, Global};
 
 /// The four bytes `MCCI`.
 const MAGIC: u32 = 0x4d43_4349;
-
-const CODE_BASE: u32 = 0x0040_0000;
 
 fn put_words(out: &mut Vec<u8>, words: &[u32]) -> Result<(), AllocError>
     ensures { OnOk result (out.new.items ≡ out.old.items ++ words_bytes words.now) }

@@ -48,7 +48,8 @@ impl Model for Image {
 
     ghost view = { λ i. record { version = version_of i.counts; entry = i.entry; code = i.code.items; bytes = i.bytes.items } };
 
-    ghost invariant = { λ i. IsImage (record { version = version_of i.counts; entry = i.entry; code = i.code.items; bytes = i.bytes.items }) };
+    ghost invariant = { λ i.
+        IsImage (record { version = version_of i.counts; entry = i.entry; code = i.code.items; bytes = i.bytes.items }) };
 }
 
 impl Image {
@@ -84,7 +85,7 @@ impl Image {
         self.entry
     }
 
-    /// The code words, the first one at 0x00400000.
+    /// The code words, the first one at `CODE_BASE`.
     pub fn code(&self) -> &[u32]
         ensures value { result.now ≡ self.now.code }
         ensures fits { IsImage self.now }
@@ -92,7 +93,7 @@ impl Image {
         self.code.as_slice()
     }
 
-    /// The data bytes, the first one at 0x10000000.
+    /// The data bytes, the first one at `DATA_BASE`.
     pub fn bytes(&self) -> &[u8]
         ensures value { result.now ≡ self.now.bytes }
         ensures fits { IsImage self.now }

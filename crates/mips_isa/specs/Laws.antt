@@ -4,6 +4,8 @@ use Rattle.words.specs.declared.width.Width.{Width}
 use Rattle.mips_isa.specs.declared.action.Action.{Action}
 use Rattle.mips_isa.specs.declared.rule.Rule.{Rule}
 use Rattle.mips_isa.specs.declared.rule.Rule.TheVariants.{M4, M5, M6}
+use Rattle.mips_isa.specs.declared.memory_map.TheConstants.{CODE_BASE, DATA_BASE, STACK_BASE, STACK_END}
+use Rattle.mips_isa.specs.MemoryMap.{code_base, data_base, stack_base, stack_end}
 use Rattle.mips_isa.specs.States.{AreApart, load_at, store_at}
 use Rattle.mips_isa.specs.Actions.{is_safe, touches, reads, writes}
 use Rattle.mips_isa.specs.Flows.{Flow}
@@ -35,3 +37,8 @@ LoadsPassStores = (w v : Width) (mapped : ℕ → Bool) (memory : ℕ → ℕ) (
 abbrev pub StoresCommute : Type 0
 StoresCommute = (w v : Width) (mapped : ℕ → Bool) (memory : ℕ → ℕ) (a first b second : ℕ) → AreApart w a v b
     → store_at v mapped (store_at w mapped memory a first) b second ≡ store_at w mapped (store_at v mapped memory b second) a first
+
+-- the constants of src/memory_map.rt are the addresses of the memory map
+abbrev pub AddressesAreTheMemoryMap : Type 0
+AddressesAreTheMemoryMap =
+    (CODE_BASE ≡ code_base) × (DATA_BASE ≡ data_base) × (STACK_BASE ≡ stack_base) × (STACK_END ≡ stack_end)

@@ -5,7 +5,7 @@
 //! actions alone.
 //! The definitions: `specs/Ranges.antt` (each field's range), `specs/Texts.antt` (the text),
 //! `specs/Actions.antt` (what an instruction does), `specs/States.antt` (registers and memory),
-//! `specs/Starting.antt` (the state in which a program starts),
+//! `specs/MemoryMap.antt` (where code, data and stack lie), `specs/Starting.antt` (the state in which a program starts),
 //! `specs/Flows.antt` (the machine between two words), `specs/Controls.antt` (branches, jumps and calls
 //! to the system), `specs/Rules.antt` (the rules M1 to M9 that make it stuck), `specs/Steps.antt` (one word).
 //!
@@ -20,12 +20,14 @@
 //!   (`reads_and_writes_are_touched`).
 //! - Memory is bytes, which `lw`, `sw`, `lbu` and `sb` reach. Where two accesses, of words or bytes, share no byte, a
 //!   load doesn't see the store (`loads_pass_stores`) and two stores may be exchanged (`stores_commute`).
+//! - Code, data and stack lie where `specs/MemoryMap.antt` says (`addresses_are_the_memory_map`).
 #![tactic(auto)]
 
 mod action;
 mod control;
 mod inst;
 mod laws;
+mod memory_map;
 mod reg;
 mod rule;
 mod targets;
@@ -41,6 +43,7 @@ pub use laws::{
     each_broken_rule_is_least, loads_pass_stores, reads_and_writes_are_touched,
     safe_actions_keep_their_rules, stores_commute, stuck_actions_break_a_rule,
 };
+pub use memory_map::{CODE_BASE, DATA_BASE, STACK_BASE, STACK_END, addresses_are_the_memory_map};
 pub use reg::{Amount, JumpTarget, NonzeroReg, Reg};
 pub use rule::Rule;
 pub use targets::{branch_target, jump_target};

@@ -1,18 +1,16 @@
 // Data and stack, kept as words.
 ghost use Rattle.std.specs.Prelude.{replicate, IfOk, ◌≡◌, ℕ, ◌<◌, ◌≤◌, ◌+◌, ◌*◌, ◌-◌, ◌/◌, ◌^◌, slice_set, slice_index, Some, None, true};
 ghost use Rattle.std.specs.Prelude.{length, if◌then◌else◌, ◌==◌};
+ghost use Rattle.mips_isa.specs.MemoryMap.{stack_base, stack_end};
 ghost use Rattle.mips_isa.specs.States.{is_open, byte_of, load_at, store_at};
 ghost use Rattle.mips_isa.specs.Starting.{words_mapped, first_bytes};
 ghost use Rattle.mips_machine.specs.Places.{bytes_in, word_holding, with_word, word_in};
 
+use mips_isa::{DATA_BASE, STACK_BASE, STACK_END};
 use std::alloc::{AllocError, Global};
 use words::Width;
 
-const DATA_BASE: u32 = 0x1000_0000;
-
-const STACK_BASE: u32 = 0x6f00_0000;
-
-const STACK_WORDS: usize = 0x40_0000;
+const STACK_WORDS: usize = ((STACK_END - STACK_BASE) / 4) as usize;
 
 /// The words of data and stack.
 #[derive(Drop)]
@@ -20,7 +18,7 @@ pub struct Memory {
     pub globals: Vec<u32>,
     pub stack: Vec<u32>,
     ghost globals_fit: { length globals.items ≤ 262144 },
-    ghost stack_fits: { length stack.items ≡ 4194304 },
+    ghost stack_fits: { stack_base + 4 * length stack.items ≡ stack_end },
 }
 
 fn word_of(words: &[u32], place: usize) -> u32
@@ -55,7 +53,7 @@ impl Memory {
         ensures { result ≡ words_mapped (length self.now.globals.items) a }
     {
         (DATA_BASE <= a && u64::from(a) < u64::from(DATA_BASE) + 4 * self.globals.len() as u64)
-            || (STACK_BASE <= a && a < 0x7000_0000)
+            || (STACK_BASE <= a && a < STACK_END)
     }
 
     // The word that holds the byte at an address.

@@ -1,6 +1,7 @@
 // Registers, HI, LO, and the load under way.
 ghost use Rattle.std.specs.Prelude.{◌≡◌, ℕ, None, true, slice_index, IfOk, IfErr};
 ghost use Rattle.words.specs.Operators.{op_value, has_quotient};
+ghost use Rattle.mips_isa.specs.MemoryMap.{stack_end};
 ghost use Rattle.mips_isa.specs.States.{read, put, is_aligned, is_open, load_at, store_at};
 ghost use Rattle.mips_isa.specs.Actions.{operand, address};
 ghost use Rattle.mips_isa.specs.Flows.{shown_state, pending_of, state_with_pending};
@@ -9,8 +10,8 @@ ghost use Rattle.mips_machine.specs.Views.{state_of, pending_in};
 
 use crate::memory::Memory;
 use mips_isa::{
-    Action, NonzeroReg, Operand, Reg, Rule, product_high, product_low, quotient_operator,
-    remainder_operator,
+    Action, NonzeroReg, Operand, Reg, Rule, STACK_END, product_high, product_low,
+    quotient_operator, remainder_operator,
 };
 use words::{Operator, Width};
 
@@ -193,9 +194,9 @@ impl Registers {
 
 /// The registers at the start: register 29 is the end of the stack, the others are 0.
 pub fn first_registers() -> [u32; 32]
-    ensures { slice_index result ≡ put (λ r. 0) 29 1879048192 }
+    ensures { slice_index result ≡ put (λ r. 0) 29 stack_end }
 {
     let mut regs = [0; 32];
-    regs[29] = 0x7000_0000;
+    regs[29] = STACK_END;
     regs
 }
