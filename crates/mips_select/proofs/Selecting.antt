@@ -26,7 +26,7 @@ use Rattle.mips_select.specs.Code.{start_block, end_block}
 use Rattle.mips_select.specs.Emittable.{HasFewArguments, IsEmittable, AreFunctionsEmittable}
 use Rattle.mips_select.specs.Limits.{FramesFit, HaveRoom}
 use Rattle.mips_select.specs.Whole.{functions_size, entries_from, entry_of, owners_for, functions_blocks, program_blocks, unit_for}
-use Rattle.mips_select.specs.Laws.{KeepsRuns, IsBeyond}
+use Rattle.mips_select.specs.Laws.{KeepsRuns, IsSelected, IsBeyond}
 use Rattle.mips_select.proofs.Lists.{all_at}
 use Rattle.mips_select.proofs.DataPlaces.{have_values, data_fits}
 use Rattle.mips_select.proofs.DataEnds.{data_ends}
@@ -142,18 +142,29 @@ blocks_well h p blocks blocks' owners owners' funcs lent program ok is is' f_is 
     subst (λ bs. AreLinked bs × AreOwners bs owners') (sym (is' ∙ is)) (subst (λ os. AreLinked (program_blocks h) × AreOwners (program_blocks h) os) (sym os)
     well)
 
-pub unit_keeps : (h : Homed) (p : Program) (depth : ℕ) (u : UnitParts) (blocks blocks' : List BlockParts) (owners bytes : List ℕ) (globals : List RGlobal)
-    → h.rtl.now ≡ p → IsProgram p → ArePlaced h → FramesFit p depth → blocks ≡ program_blocks h → blocks' ≡ blocks
-    → globals ≡ p.globals → bytes ≡ data_bytes globals → u ≡ unit_parts (split_blocks blocks') (split_owners blocks' owners) bytes → KeepsRuns p depth u
-unit_keeps h p depth u blocks blocks' owners bytes globals lent program ok fit is is' g_is b_is u_is =
-    let same : split_blocks blocks' ≡ (unit_for h).blocks = ap split_blocks (is' ∙ is) in
-    let bytes_are : bytes ≡ data_bytes (h.rtl.now).globals = b_is ∙ ap data_bytes g_is ∙ ap (λ (p : Program). data_bytes p.globals) (sym lent) in
-    let keeps : KeepsRuns p depth (unit_for h) = subst (λ (p : Program). KeepsRuns p depth (unit_for h)) lent
-    (each_unit h depth (subst IsProgram (sym lent) program) ok (subst (λ (p : Program). FramesFit p depth) (sym lent) fit)) in
-    λ r right.
-    subst (λ (u : UnitParts). ComesTo u.blocks (start_state u.globals) r (rtl_run p depth r)) (sym u_is)
-    (subst (λ (bytes : List ℕ). ComesTo (split_blocks blocks') (start_state bytes) r (rtl_run p depth r)) (sym bytes_are)
-    (subst (λ (bs : List BlockParts). ComesTo bs (start_state (data_bytes (h.rtl.now).globals)) r (rtl_run p depth r)) (sym same) (keeps r right)))
+-- what `select` puts together is the unit of the program over its homes
+pub selected : (h : Homed) (p : Program) (u : UnitParts) (blocks blocks' : List BlockParts) (owners owners' bytes : List ℕ) (funcs : List RFunc)
+    (globals : List RGlobal) → h.rtl.now ≡ p → ArePlaced h → blocks ≡ program_blocks h → blocks' ≡ blocks → funcs ≡ p.functions
+    → owners ≡ owners_for funcs → owners' ≡ owners → globals ≡ p.globals → bytes ≡ data_bytes globals
+    → u ≡ unit_parts (split_blocks blocks') (split_owners blocks' owners') bytes → IsSelected p u
+selected h p u blocks blocks' owners owners' bytes funcs globals lent ok is is' f_is o_is o_is' g_is b_is u_is =
+    let os : owners' ≡ owners_for (h.rtl.now).functions = o_is' ∙ o_is ∙ ap owners_for f_is ∙ ap (λ (p : Program). owners_for p.functions) (sym lent) in
+    let data : bytes ≡ data_bytes (h.rtl.now).globals = b_is ∙ ap data_bytes g_is ∙ ap (λ (p : Program). data_bytes p.globals) (sym lent) in
+    record {
+      homed = h;
+      lent = lent;
+      places = ok;
+      unit = u_is ∙ ap (λ bs. unit_parts (split_blocks bs) (split_owners bs owners') bytes) (is' ∙ is)
+          ∙ ap (λ os. unit_parts (split_blocks (program_blocks h)) (split_owners (program_blocks h) os) bytes) os
+          ∙ ap (unit_parts (split_blocks (program_blocks h)) (split_owners (program_blocks h) (owners_for (h.rtl.now).functions))) data;
+    }
+
+pub unit_keeps : (p : Program) (depth : ℕ) (u : UnitParts) → IsProgram p → FramesFit p depth → IsSelected p u → KeepsRuns p depth u
+unit_keeps p depth u program fit s =
+    let h : Homed = s.homed in
+    let keeps : KeepsRuns p depth (unit_for h) = subst (λ (p : Program). KeepsRuns p depth (unit_for h)) s.lent
+    (each_unit h depth (subst IsProgram (sym s.lent) program) s.places (subst (λ (p : Program). FramesFit p depth) (sym s.lent) fit)) in
+    subst (KeepsRuns p depth) (sym s.unit) keeps
 
 pub bytes_fit : (p : Program) (bytes : List ℕ) (globals : List RGlobal) → IsProgram p → globals ≡ p.globals → bytes ≡ data_bytes globals
     → length bytes ≤ UNIT_BYTES

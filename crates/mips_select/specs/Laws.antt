@@ -22,6 +22,13 @@ abbrev pub EachUnitKeepsRuns : Type 0
 EachUnitKeepsRuns = (h : Homed) (depth : ℕ) → IsProgram h.rtl.now → ArePlaced h → FramesFit h.rtl.now depth
     → KeepsRuns h.rtl.now depth (unit_for h)
 
+-- the unit of a program over its homes: its blocks, whose each one is, and its data
+pub record IsSelected (p : Program) (u : UnitParts) : Type 0 where
+  pub homed : Homed
+  pub lent : homed.rtl.now ≡ p
+  pub places : ArePlaced homed
+  pub unit : u ≡ unit_for homed
+
 -- the unit of a program over its homes would have too many blocks
 pub record IsBeyond (p : Program) : Type 0 where
   pub homed : Homed

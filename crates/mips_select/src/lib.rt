@@ -22,8 +22,9 @@
 //! What is promised:
 //! - `mips_select::select` gives a unit of blocks that does what the program does (`KeepsRuns`): at every bound at
 //!   which the program isn't wrong, the unit comes to the same end and output in as many items or more, whatever words
-//!   the links of its calls are. Its data are exactly the globals' bytes, each global at a multiple of 4
-//!   (`data_bytes`). Ok comes only where each frame has at most 32,000 bytes and the depth times the largest at most
+//!   the links of its calls are. It is the unit of the program over homes that are placed as `place` places them
+//!   (`IsSelected`): its blocks, the function that owns each of them, and its data, which are exactly the globals' bytes,
+//!   each global at a multiple of 4 (`data_bytes`). Ok comes only where each frame has at most 32,000 bytes and the depth times the largest at most
 //!   16,777,216 (`FramesFit`, said of the RTL program alone); Limit only where they have not, or where the unit of the
 //!   program over its homes would have more than 1,048,576 blocks (`IsBeyond`).
 //! - Law: so does the unit of every program whose frames fit, over homes that are placed as `place` of mips_homes places

@@ -7,7 +7,7 @@ ghost use Rattle.mips_select.specs.Data.{data_bytes};
 ghost use Rattle.mips_select.specs.Emittable.{AreReachable};
 ghost use Rattle.mips_select.specs.Limits.{FramesFit};
 ghost use Rattle.mips_select.specs.Whole.{functions_size, entries_from, program_blocks};
-ghost use Rattle.mips_select.specs.Laws.{KeepsRuns, IsBeyond};
+ghost use Rattle.mips_select.specs.Laws.{KeepsRuns, IsSelected, IsBeyond};
 
 use crate::code::push_block;
 use crate::functions::{emit_functions, end_block, start_block};
@@ -57,6 +57,7 @@ fn emit_program(
 /// `depth` of the largest frames more than 16 MiB, or the unit more than 1,048,576 blocks.
 pub fn select(alloc: Global, rtl: &Rtl, depth: u32) -> Result<Unit, SelectFault>
     ensures runs { IfOk result (λ u. KeepsRuns rtl.now depth u) }
+    ensures unit { IfOk result (λ u. IsSelected rtl.now u) }
     ensures data { IfOk result (λ u. u.globals ≡ data_bytes rtl.now.globals) }
     ensures within { IfOk result (λ _. FramesFit rtl.now depth) }
     ensures limit { IfErr result (λ e. e ≡ SelectFault.Limit → (FramesFit rtl.now depth → IsBeyond rtl.now)) }

@@ -1,6 +1,6 @@
 use Rattle.std.proofs.lemmas.Result.{err_from_is_err_and}
 use Rattle.mips_select.proofs.FrameSizes.{reachable}
-use Rattle.mips_select.proofs.Selecting.{function_blocks_few, blocks_well, bytes_fit, unit_keeps, beyond, beyond_pieces, room_told, fit_told, no_room}
+use Rattle.mips_select.proofs.Selecting.{function_blocks_few, blocks_well, bytes_fit, unit_keeps, beyond, beyond_pieces, selected, room_told, fit_told, no_room}
 use Rattle.mips_select.proofs.program.select.Goals as goal
 
 pub returns-then-not-have_room-clause-limit : goal.returns-then-not-have_room-clause-limit
@@ -34,10 +34,11 @@ pub split_unit-requires-clause-few : goal.split_unit-requires-clause-few
 split_unit-requires-clause-few c = bytes_fit c.args.rtl.now _ _ c.globals.ensures.sound c.globals.ensures.value c.in_ok-bytes.ensures
 
 pub returns-clause-runs : goal.returns-clause-runs
-returns-clause-runs c = unit_keeps c.in_ok-homed.homed c.args.rtl.now c.args.depth _ _ _ _ _ _ c.in_ok-homed.ensures.lent c.globals.ensures.sound
-    c.in_ok-homed.ensures.places (fit_told c.in_ok-homed.homed c.args.rtl.now _ c.args.depth _ c.have_room.ensures.0 c.if-not-have_room.false
-    c.as_slice.ensures.value c.in_ok-homed.ensures.lent c.in_ok-homed.ensures.places) c.in_ok-blocks.ensures c.as_slice-3.ensures.value
-    c.globals.ensures.value c.in_ok-bytes.ensures c.in_ok-unit.ensures.unit
+returns-clause-runs c = unit_keeps c.args.rtl.now c.args.depth _ c.globals.ensures.sound (fit_told c.in_ok-homed.homed c.args.rtl.now _ c.args.depth _
+    c.have_room.ensures.0 c.if-not-have_room.false c.as_slice.ensures.value c.in_ok-homed.ensures.lent c.in_ok-homed.ensures.places)
+    (selected c.in_ok-homed.homed c.args.rtl.now _ _ _ _ _ _ _ _ c.in_ok-homed.ensures.lent
+    c.in_ok-homed.ensures.places c.in_ok-blocks.ensures c.as_slice-3.ensures.value c.functions.ensures.value c.in_ok-numbers.ensures.owners
+    c.as_slice-owners.ensures.value c.globals.ensures.value c.in_ok-bytes.ensures c.in_ok-unit.ensures.unit)
 
 pub returns-clause-within : goal.returns-clause-within
 returns-clause-within c = fit_told c.in_ok-homed.homed c.args.rtl.now _ c.args.depth _ c.have_room.ensures.0 c.if-not-have_room.false
@@ -48,3 +49,8 @@ returns-in_err-unit-clause-limit c =
     let p = err_from_is_err_and c.from_residual-in_err-unit.result c.from_residual-in_err-unit.ensures.1 in
     rw (p.1, p.2) (λ e fit. beyond_pieces c.in_ok-homed.homed c.args.rtl.now _ _ c.in_ok-homed.ensures.lent c.in_ok-homed.ensures.places
     c.in_ok-blocks.ensures c.as_slice-3.ensures.value (c.in_err-unit.ensures.limit e))
+
+pub returns-clause-unit : goal.returns-clause-unit
+returns-clause-unit c = selected c.in_ok-homed.homed c.args.rtl.now _ _ _ _ _ _ _ _ c.in_ok-homed.ensures.lent
+    c.in_ok-homed.ensures.places c.in_ok-blocks.ensures c.as_slice-3.ensures.value c.functions.ensures.value c.in_ok-numbers.ensures.owners
+    c.as_slice-owners.ensures.value c.globals.ensures.value c.in_ok-bytes.ensures c.in_ok-unit.ensures.unit
