@@ -1,0 +1,17 @@
+// The ranges of a table.
+
+ghost use Rattle.term_table.specs.Numbers.{LimitsAreTheseNumbers};
+
+/// How many passes a table has at most.
+pub const MAX_PASSES: u64 = 64;
+
+/// How many terms each of them may link at most.
+pub const MAX_NODES: u64 = 1_048_576;
+
+/// How many chains a table has at most.
+pub const MAX_HEADS: u64 = 65_536;
+
+/// Each limit is the number that specs/Numbers.antt tells, so a change of one is a change there. A law: it computes nothing.
+pub fn limits_are_these_numbers()
+    ensures { LimitsAreTheseNumbers }
+{}
