@@ -2,6 +2,9 @@
 // leaves the memory in the middle of a call, so the instance is made anew.
 const VIEW_BYTES = 288;
 const ROOM = 1 << 16;
+// An answer is written at once where it has room; it has to be computed anew where it turns out longer. So a long input has much.
+const MOST_ROOM = 1 << 26;
+const roomFor = length => Math.min(ROOM + 24 * length, MOST_ROOM);
 
 export const BROKEN = 'This nests too deep for the page, or its memory ran out.';
 
@@ -42,8 +45,9 @@ export class Mcc {
   }
 
   // Calls an export that takes the input, `more`, and where its answer goes; again with more room where the answer needs it.
-  call(name, input, more = [], room = ROOM) {
+  call(name, input, more = []) {
     return this.guarded(() => {
+      let room = roomFor(input.length);
       const { exports } = this;
       const text = this.lend(input);
       const status = this.take(1);
@@ -62,8 +66,8 @@ export class Mcc {
     });
   }
 
-  text(name, input, more, room) {
-    const { status, bytes } = this.call(name, input, more, room);
+  text(name, input, more) {
+    const { status, bytes } = this.call(name, input, more);
     return { status, text: new TextDecoder().decode(bytes) };
   }
 
@@ -71,12 +75,26 @@ export class Mcc {
     return this.text('mcc_web_check', text);
   }
 
+  explain(text) {
+    return this.text('mcc_web_explain', text);
+  }
+
+  // A stage of the function of this name, or of all where there is no name.
+  show(text, stage, name = '') {
+    return this.guarded(() => {
+      const lent = [stage, name].map(word => new TextEncoder().encode(word)).map(word => [this.lend(word), BigInt(word.length)]);
+      const shown = this.text('mcc_web_show', text, lent.flat());
+      for (const [at] of lent) if (shown.status >= 0) this.exports.mcc_give(at);
+      return shown;
+    });
+  }
+
   interp(text, steps, depth = 256) {
     return this.text('mcc_web_interp', text, [depth, BigInt(steps)]);
   }
 
   orders(text, depth = 256) {
-    return this.text('mcc_web_orders', text, [depth], 1 << 20);
+    return this.text('mcc_web_orders', text, [depth]);
   }
 
   run(image, steps) {
@@ -84,12 +102,12 @@ export class Mcc {
   }
 
   list(image) {
-    return this.text('mcc_web_list', image, [], 1 << 20);
+    return this.text('mcc_web_list', image);
   }
 
   // The line that is printed, or what is told; and the image.
   build(text, plain = false, depth = 256) {
-    const { status, bytes } = this.call('mcc_web_build', text, [plain ? 1 : 0, depth], 1 << 20);
+    const { status, bytes } = this.call('mcc_web_build', text, [plain ? 1 : 0, depth]);
     if (status !== 0) return { status, text: new TextDecoder().decode(bytes), image: null };
     const end = bytes.indexOf(10) + 1;
     return { status, text: new TextDecoder().decode(bytes.subarray(0, end)), image: bytes.slice(end) };

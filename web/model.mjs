@@ -2,10 +2,6 @@
 // The module decides everything that matters (verdicts, images, runs); this is how it is shown.
 
 export const RULES = {
-  U1: 'U1: an instruction reads or writes the register that the instruction just before it loads.',
-  U2: 'U2: fewer than two words stand between an mfhi or mflo and a multiplication or division behind it.',
-  U3: 'U3: a load, mfhi or mflo is in the slot.',
-  U4: 'U4: the last instruction loads a register that the first word of the exit reads or writes.',
   M1: 'M1: the word after a load reads or writes the loaded register.',
   M2: 'M2: a multiplication or division with fewer than two words since HI or LO was read.',
   M3: 'M3: a branch or jump in a delay slot.',
@@ -17,7 +13,6 @@ export const RULES = {
   M9: 'M9: a call to the system with another number than 1 and 10.',
 };
 
-const PLACES = { hi: 'HI', lo: 'LO', mem: 'memory', exit: 'the exit', guards: 'the loads and divisions that may go wrong' };
 const EXIT_WORDS = { goto: 2, call: 4, return: 2, out: 4, halt: 2 };
 const SLOTLESS = ['out', 'halt'];
 
@@ -82,9 +77,24 @@ export function plainOrder(block) {
   return { insts, exit: block.exit, slot: hasSlot(block.exit) ? 'nop' : null };
 }
 
+// A text with spaces for its comments.
+const codeOf = text => text.replace(/\/\*[\s\S]*?\*\/|\/\/.*/g, found => found.replace(/[^\n]/g, ' '));
+
+// The lines of a function from which a block's exit comes: those that have `out`, a call of the same function, or `return`, and the
+// function's end. The compiler keeps no lines, so where there are several no one can tell which of them it is.
+export function exitLines(text, group, block, groups) {
+  const [word, operands = ''] = block.block.exit.split(' ');
+  const name = word === 'call' ? groups.find(g => g.owner === parseInt(operands, 10))?.name : word;
+  if (!group.lines || !['out', 'call', 'return'].includes(word)) return [];
+  const sought = new RegExp(`\\b${name}\\b`);
+  const { from, to } = group.lines;
+  const lines = codeOf(text).split('\n').slice(from - 1, to);
+  return lines.flatMap((line, k) => ((k > 0 || from === to) && sought.test(line)) || (word === 'return' && k + from === to) ? [k + from] : []);
+}
+
 // The functions that a C text defines, in order, with their lines; what isn't code is left out.
 export function functionsOf(text) {
-  const code = text.replace(/\/\*[\s\S]*?\*\/|\/\/.*/g, found => found.replace(/[^\n]/g, ' '));
+  const code = codeOf(text);
   const found = [];
   let depth = 0, start = 0, head = '';
   for (let at = 0, line = 1; at < code.length; at++) {
@@ -110,12 +120,11 @@ export function functionsOf(text) {
 
 // The functions of a build: the start, and those of the text in their order; each with the numbers of its blocks.
 export function groupBlocks(blocks, functions) {
-  const owners = [...new Set(blocks.map(b => b.owner))];
-  return owners.map((owner, k) => ({
+  return [...Map.groupBy(blocks, b => b.owner)].map(([owner, own], k) => ({
     owner,
     name: k === 0 ? 'start' : functions[k - 1]?.name ?? 'block ' + owner,
     lines: k === 0 ? null : functions[k - 1] ?? null,
-    blocks: blocks.filter(b => b.owner === owner),
+    blocks: own,
   }));
 }
 
@@ -134,48 +143,26 @@ export function parseTold(text) {
   return told;
 }
 
-// ---- what instructions touch, to mark the two that a rule is about
+// ---- what is said of a verdict
 
-const registersIn = text => (text.match(/\$\d+/g) ?? []).map(r => Number(r.slice(1)));
-const isLoad = inst => ['lw', 'lbu'].includes(mnemonic(inst));
-const isMove = inst => ['mfhi', 'mflo'].includes(mnemonic(inst));
-const isProduct = inst => ['mult', 'multu', 'div', 'divu'].includes(mnemonic(inst));
-
-function exitTouches(exit) {
-  const word = mnemonic(exit);
-  if (word === 'call' || word === 'return') return [31];
-  if (word === 'out' || word === 'halt') return [2];
-  return registersIn(exit);
-}
-
-// The places of an order (0.., 'exit', 'slot') that a delay rule is about.
-export function marked(order, rule) {
-  const { insts, exit, slot } = order;
-  const last = insts.length - 1;
-  if (rule === 'U1') {
-    const at = insts.findIndex((inst, k) => k < last && isLoad(inst) && registersIn(insts[k + 1]).includes(registersIn(inst)[0]));
-    return at < 0 ? [] : [at, at + 1];
-  }
-  if (rule === 'U2') {
-    const words = [...insts, '', slot ?? ''];
-    for (const [k, inst] of words.entries()) {
-      const next = isMove(inst) ? [k + 1, k + 2].find(n => isProduct(words[n] ?? '')) : undefined;
-      if (next !== undefined) return [k, next === insts.length + 1 ? 'slot' : next];
+// The places of an order (0.., 'exit', 'slot') of the two words that `mcc check --explain` names behind a rule.
+export function marked(order, said) {
+  const [verdict, , ...named] = said.split('\n').map(line => line.trim());
+  if (!verdict.startsWith('unclean ')) return [];
+  const words = [...order.insts, order.exit, order.slot];
+  const places = [...order.insts.keys(), 'exit', 'slot'];
+  for (const k of places.keys()) {
+    for (const n of verdict === 'unclean U2' ? [k + 1, k + 2] : [k + 1]) {
+      if (words[k] === named[0] && words[n] === named[1]) return [places[k], places[n]];
     }
-    return [];
   }
-  if (rule === 'U3') return ['slot'];
-  if (rule === 'U4') return exitTouches(exit).includes(registersIn(insts[last] ?? '')[0]) ? [last, 'exit'] : ['exit'];
   return [];
 }
 
-export function explain(verdict) {
-  const [kind, what] = verdict.trim().split(' ');
-  if (kind === 'same') return 'The order means the block: it may stand for it.';
-  if (kind === 'unclean') return RULES[what];
-  if (kind === 'differs') return `Not shown to mean the block: ${PLACES[what] ?? 'register ' + what} may end otherwise.`;
-  if (kind === 'full') return 'The table of terms was full: nothing is decided.';
-  return '';
+// What a stage of `mcc show` has of a block, without its margin.
+export function blockOf(stage, number) {
+  const found = new RegExp(`^  block ${number}\\b.*\\n((?: {4}.*\\n)*)`, 'm').exec(stage);
+  return found ? found[1].replace(/^ {4}/gm, '') : '';
 }
 
 // ---- changes of an order; each gives a new one
@@ -318,14 +305,10 @@ function ranks(count, edges, layer) {
 
 // ---- listings
 
-// The lines of a listing that have an address, as { address, word, text, isCode }.
-export function parseListing(text) {
-  return text.split('\n').flatMap(line => {
-    const parts = /^([0-9a-f]{8}) {2}([0-9a-f]+) {2}(.*)$/.exec(line);
-    if (!parts) return [];
-    const address = parseInt(parts[1], 16);
-    return [{ address, word: parts[2], text: parts[3], isCode: address < 0x10000000 }];
-  });
+// The lines of the code in a listing, a word each.
+export function codeLines(text) {
+  const start = text.indexOf('00400000  ');
+  return start < 0 ? [] : text.slice(start).split(/\n(?!00)/, 1)[0].split('\n');
 }
 
 // The address that a load or store reaches, by the registers before it.

@@ -1,6 +1,6 @@
 // The page: what is typed goes to the worker, and what it answers is shown.
 import {
-  RULES, addNop, blockAt, explain, functionsOf, graphOf, groupBlocks, hasSlot, hex, marked, move, orderWords, pairText, parseListing,
+  RULES, addNop, blockAt, blockOf, codeLines, exitLines, functionsOf, graphOf, groupBlocks, hex, marked, move, orderWords, pairText,
   parseOrders, parsePair, parseTold, plainOrder, reached, removeNop,
 } from './model.mjs';
 
@@ -9,6 +9,8 @@ const SHORT_RUN = 1_000_000;
 const LONG_RUN = 1_000_000_000_000;
 const LINES = 400;
 const SHOWN = 100_000;
+const DRAWN = 300;
+const SHORT_TEXT = 200_000;
 const NO_MEMORY64 = 'This browser lacks WebAssembly with 64-bit memories. Chromium or Chrome from 133 on has it, and Firefox from 134 on.';
 
 const element = (tag, text, ...classes) => {
@@ -58,36 +60,46 @@ class Client {
 
 let client = null;
 const page = {
-  text: '', image: null, blocks: [], groups: [], group: null, chosen: null, order: null, at: 0, verdict: '', told: null,
-  listing: [], from: 0, cursor: 0, view: null, before: null, breakpoint: null, touched: null, texts: {}, isBusy: false, isStale: false,
+  text: '', lines: [], marks: {}, scroll: { top: 0, left: 0 }, image: null, blocks: [], groups: [], group: null, chosen: null, order: null, at: 0, said: '', told: null, stages: new Map(),
+  listing: [], view: null, before: null, breakpoint: null, touched: null, isBusy: false, isStale: false,
 };
 
 // ---- the C text
 
+const LINE = 13 * 1.45;
+
+// The lines that are marked: that of a fault, else those of the function that is shown and of the chosen block's exit.
 function showGutter() {
-  const bad = page.told?.line ?? null;
-  const held = bad === null ? page.group?.lines ?? null : null;
-  $('gutter').replaceChildren(...page.text.split('\n').flatMap((_, k) => {
-    const line = k + 1;
-    const isHeld = held && held.from <= line && line <= held.to;
-    return [element('span', String(line), line === bad && 'bad', isHeld && 'held'), '\n'];
-  }));
+  const { group, chosen, told } = page;
+  const bad = told?.line ?? null;
+  const held = bad === null && chosen?.number != null ? group?.lines : null;
+  page.lines = page.text.split('\n');
+  page.marks = { bad, held, left: held ? exitLines(page.text, group, chosen, page.groups) : [] };
   const behind = $('behind');
   behind.replaceChildren();
   if (bad !== null) {
-    const lines = page.text.split('\n');
-    const start = lines.slice(0, bad - 1).reduce((sum, line) => sum + line.length + 1, 0) + page.told.column - 1;
-    const rest = page.text.slice(start);
-    const length = /^(\w+|.)/.exec(rest)?.[0].length ?? 0;
-    behind.append(page.text.slice(0, start), element('mark', rest.slice(0, length) || ' '), rest.slice(length) + '\n');
+    const line = page.lines[bad - 1] ?? '';
+    const start = told.column - 1;
+    const length = /^(\w+|.)/.exec(line.slice(start))?.[0].length ?? 0;
+    behind.style.top = `${bad - 1}lh`;
+    behind.append(line.slice(0, start), element('mark', line.slice(start, start + length) || ' '), line.slice(start + length));
   }
   follow();
 }
 
+// The numbers of the lines that are seen, and the marked place, where the text stands.
 function follow() {
-  const { scrollTop, scrollLeft } = $('source');
-  $('gutter').scrollTop = scrollTop;
-  $('behind').scrollTo(scrollLeft, scrollTop);
+  const { top, left } = page.scroll;
+  const { bad, held, left: exits } = page.marks;
+  const first = Math.max(1, Math.floor(top / LINE) - 10);
+  const count = Math.max(0, Math.min(120, page.lines.length - first + 1));
+  $('numbers').replaceChildren(...Array.from({ length: count }, (_, k) => {
+    const line = first + k;
+    const isHeld = held && held.from <= line && line <= held.to;
+    return element('div', String(line), line === bad ? 'bad' : exits.includes(line) ? 'left' : isHeld && 'held');
+  }));
+  $('numbers').style.transform = `translateY(calc(${first - 1}lh - ${top}px))`;
+  $('behind').style.transform = `translate(${-left}px, ${-top}px)`;
 }
 
 function showFault(told) {
@@ -148,35 +160,42 @@ function showProgram({ interp, build, run, list, orders }, isPlain, time) {
   const blocks = orders.status === 0 ? parseOrders(orders.text, isPlain) : [];
   page.blocks = blocks;
   page.groups = groupBlocks(blocks, functionsOf(page.text));
-  page.listing = parseListing(list.text).filter(line => line.isCode);
-  page.texts = stageTexts(blocks, build.text + list.text);
+  page.listing = codeLines(list.text);
+  page.stages.clear();
   showFault(null);
   say('state', `${build.text.trim().split(' ').slice(0, 4).join(' ')} · ${time.toFixed(0)} ms`);
   showFunctions();
-  showStage();
   page.breakpoint = null;
   goTo(0);
 }
 
-function stageTexts(blocks, listing) {
-  const head = b => `block ${b.number}, of the function at block ${b.owner}, at ${hex(b.address)}`;
-  const part = lines => lines.map(line => '    ' + line).join('\n') + '\n';
-  return {
-    'Blocks, as they are selected': blocks.map(b => head(b) + '\n' + part([...b.block.insts, b.block.exit])).join('\n'),
-    'Orders, as they run': blocks.map(b => {
-      const slot = b.order.slot === null ? [] : ['slot ' + b.order.slot];
-      return head(b) + '\n' + part([...b.order.insts, b.order.exit, ...slot]);
-    }).join('\n'),
-    'Listing of the image': listing,
-  };
+// What `mcc show` prints of a stage, of a function or of all, asked for once.
+function stageOf(stage, group) {
+  const name = group && group !== page.groups[0] ? group.name : '';
+  const key = `${stage} ${name}`;
+  if (!page.stages.has(key)) {
+    const asked = client.ask('show', { text: page.text, stage, name }).then(shown => shown.text, error => error.message + '\n');
+    page.stages.set(key, asked);
+  }
+  return page.stages.get(key);
 }
 
-function showStage() {
-  const names = Object.keys(page.texts);
-  const chosen = names.includes($('stage').value) ? $('stage').value : names.at(0);
-  $('stage').replaceChildren(...names.map(name => element('option', name)));
-  if (chosen) $('stage').value = chosen;
-  say('stage-text', cut(page.texts[chosen] ?? ''));
+async function showStage() {
+  if ($('stages').hidden || !page.group) return;
+  const { text } = page;
+  const shown = await stageOf($('stage').value, $('whole').checked ? null : page.group);
+  if (text === page.text) say('stage-text', cut(shown));
+}
+
+// RTL and the terms of the chosen block.
+async function showParts() {
+  const { chosen, group } = page;
+  const isShort = page.text.length <= SHORT_TEXT && group?.blocks.length <= DRAWN;
+  const parts = chosen.number !== null && isShort ? await Promise.all(['rtl', 'terms'].map(stage => stageOf(stage, group))) : ['', ''];
+  if (chosen !== page.chosen) return;
+  const [rtl, terms] = parts.map(part => blockOf(part, chosen.number));
+  say('rtl', rtl || 'none');
+  say('terms', terms || (isShort ? 'none' : 'The text is long: they stand under Stages as text.'));
 }
 
 // ---- the graph of a function
@@ -194,8 +213,10 @@ function chooseGroup(k, number) {
   page.group = page.groups[k] ?? null;
   $('functions').value = k;
   if (!page.group) return;
+  page.chosen = page.group.blocks.find(b => b.number === number) ?? page.group.blocks[0];
   showGraph();
-  chooseBlock(page.group.blocks.find(b => b.number === number) ?? page.group.blocks[0]);
+  chooseBlock(page.chosen);
+  showStage();
 }
 
 const NODE = { width: 92, height: 34, across: 116, down: 62, pad: 30 };
@@ -207,7 +228,10 @@ const svg = (tag, attributes, text = null) => {
 };
 
 function showGraph() {
-  const { blocks } = page.group;
+  const all = page.group.blocks;
+  const first = Math.max(0, Math.min(all.indexOf(page.chosen) - DRAWN / 2, all.length - DRAWN));
+  const blocks = all.slice(first, first + DRAWN);
+  say('drawn', blocks.length < all.length ? `${DRAWN} of ${all.length} blocks are drawn` : '');
   const { edges, layer, rank } = graphOf(blocks);
   const least = Math.min(...rank);
   const widest = Math.max(...rank) - least;
@@ -287,7 +311,17 @@ function chooseBlock(block) {
   markNodes();
   showListing();
   showGutter();
+  showParts();
   judge();
+}
+
+// The block of a word of the image.
+function chooseAt(address) {
+  const block = blockAt(page.blocks, address);
+  const k = page.groups.findIndex(g => g.owner === block?.owner);
+  if (!block || block === page.chosen) return;
+  if (page.groups[k] === page.group) chooseBlock(block);
+  else chooseGroup(k, block.number);
 }
 
 const classOf = line => (line === 'nop' ? 'nop' : null);
@@ -303,8 +337,7 @@ const placesOf = order => [...order.insts.keys(), 'exit', ...(order.slot === nul
 
 function showOrder() {
   const { order } = page;
-  const rule = page.verdict.startsWith('unclean ') ? page.verdict.slice(8) : null;
-  const broken = rule ? marked(order, rule) : [];
+  const broken = marked(order, page.said);
   const places = placesOf(order);
   if (!places.includes(page.at)) page.at = places.includes(page.at - 1) ? page.at - 1 : places[0];
   $('order').replaceChildren(...places.map(place => {
@@ -324,14 +357,16 @@ const focusOrder = () => $('order').querySelector('[tabindex="0"]')?.focus();
 let asked = 0;
 async function judge() {
   const mine = ++asked;
-  page.verdict = '';
+  page.said = '';
   const pair = pairText(page.chosen.block, page.order);
-  const { text } = await client.ask('check', { text: pair }).catch(error => ({ text: error.message }));
+  const { text } = await client.ask('explain', { text: pair }).catch(error => ({ text: error.message }));
   if (mine !== asked) return;
-  page.verdict = text.trim().split('\n')[0];
-  const isSame = page.verdict === 'same';
+  page.said = text;
+  const [verdict, ...why] = text.trimEnd().split('\n');
+  const isSame = verdict === 'same';
   $('verdict').className = isSame ? 'same' : 'other';
-  $('verdict').replaceChildren(page.verdict, element('div', explain(page.verdict), 'help'));
+  say('verdict', verdict);
+  say('why', isSame ? 'The order means the block: it may stand for it.' : why.join('\n'));
   const hadFocus = $('order').contains(document.activeElement);
   showOrder();
   if (hadFocus) focusOrder();
@@ -340,7 +375,7 @@ async function judge() {
 function change(order, at) {
   page.order = order;
   page.at = at;
-  page.verdict = '';
+  page.said = '';
   showOrder();
   focusOrder();
   judge();
@@ -439,15 +474,16 @@ async function goTo(from, { most = 0, stop = 0 } = {}) {
 function step() {
   const { view } = page;
   if (!view || view.next.status !== 4) return;
-  const at = reached(lineAt(view.pc)?.text ?? '', view.registers);
+  const at = reached(lineAt(view.pc), view.registers);
   if (at !== null && at < 0x6f000000) page.touched = at - (at % 4) - Math.min(16, at - (at % 4) - 0x10000000);
   if (at !== null) page.last = at;
   goTo(view.words + 1);
 }
 
-const lineAt = pc => page.listing[(pc - 0x00400000) / 4];
+const lineAt = pc => page.listing[(pc - 0x00400000) / 4]?.slice(20) ?? '';
 
 function showListing() {
+  if ($('steps').hidden) return;
   const list = $('listing');
   const here = page.view ? (page.view.pc - 0x00400000) / 4 : 0;
   const count = page.listing.length;
@@ -457,9 +493,10 @@ function showListing() {
   const { chosen, view } = page;
   const isIn = address => chosen?.number != null && chosen.address <= address && address < chosen.address + 4 * orderWords(chosen.order);
   const after = view ? view.target ?? (view.next.status === 4 ? view.pc + 4 : null) : null;
-  list.replaceChildren(...page.listing.slice(near, upTo).map(({ address, text }) => {
+  list.replaceChildren(...page.listing.slice(near, upTo).map((_, k) => {
+    const address = 0x00400000 + 4 * (near + k);
     const number = begins.get(address);
-    const label = (number === undefined ? '' : String(number)).padStart(4) + '  ' + address.toString(16).padStart(8, '0') + '  ' + text;
+    const label = (number === undefined ? '' : String(number)).padStart(4) + '  ' + address.toString(16).padStart(8, '0') + '  ' + lineAt(address);
     const item = element('li', label, number !== undefined && 'block', address === view?.pc && 'here', isIn(address) && 'chosen',
       address === after && 'next', address === page.breakpoint && 'breakpoint');
     item.dataset.address = address;
@@ -529,7 +566,12 @@ function listenToMachine() {
   $('back').onclick = () => goTo(Math.max(0, (page.view?.words ?? 0) - 1));
   $('reset').onclick = () => { page.last = undefined; page.touched = null; goTo(0); };
   $('run').onclick = () => goTo((page.view?.words ?? 0) + 1, { most: SHORT_RUN, stop: page.breakpoint ?? 0 });
-  $('listing').onclick = event => { if (event.target.dataset.address) setBreakpoint(Number(event.target.dataset.address)); };
+  $('listing').onclick = event => {
+    const { address } = event.target.dataset;
+    if (!address) return;
+    chooseAt(Number(address));
+    setBreakpoint(Number(address));
+  };
   $('steps').onkeydown = event => {
     if (event.target.closest('button, select, input')) return;
     const name = { ArrowRight: 'step', ' ': 'step', ArrowLeft: 'back', Home: 'reset', r: 'run' }[event.key];
@@ -606,7 +648,8 @@ function chooseTab(name) {
     $('tab-' + tab).tabIndex = tab === name ? 0 : -1;
     $(tab).hidden = tab !== name;
   }
-  $('listing').querySelector('.here')?.scrollIntoView({ block: 'nearest' });
+  showListing();
+  showStage();
 }
 
 function listenToTabs() {
@@ -660,11 +703,14 @@ async function main() {
   listExamples(texts);
   const source = $('source');
   source.oninput = typed;
-  source.onscroll = follow;
+  source.onscroll = () => {
+    page.scroll = { top: source.scrollTop, left: source.scrollLeft };
+    follow();
+  };
   source.onkeyup = source.onclick = followCaret;
   $('plain').onchange = refresh;
   $('functions').onchange = () => chooseGroup(Number($('functions').value));
-  $('stage').onchange = showStage;
+  $('stage').onchange = $('whole').onchange = showStage;
   $('link').onclick = copyLink;
   $('run-on').onclick = runOn;
   $('stop').onclick = stop;

@@ -6,7 +6,8 @@ let mcc = null;
 
 const WORK = {
   start: async ({ wasm }) => {
-    mcc = new Mcc(await WebAssembly.compile(wasm));
+    const unpacked = new Response(new Blob([wasm]).stream().pipeThrough(new DecompressionStream('deflate')));
+    mcc = new Mcc(await WebAssembly.compile(await unpacked.arrayBuffer()));
     return {};
   },
   // All that the page shows of a C text.
@@ -18,7 +19,8 @@ const WORK = {
     return { interp, build, run: mcc.run(build.image, steps), list: mcc.list(build.image), orders: mcc.orders(bytes) };
   },
   runs: ({ text, image, steps }) => ({ interp: mcc.interp(ENCODER.encode(text), steps), run: mcc.run(image, steps) }),
-  check: ({ text }) => mcc.check(ENCODER.encode(text)),
+  explain: ({ text }) => mcc.explain(ENCODER.encode(text)),
+  show: ({ text, stage, name }) => mcc.show(ENCODER.encode(text), stage, name),
   // The machine, what it wrote until then and how its next word ends, if it does; and the words of the stack.
   machine: ({ image, from, most, stop, address }) => {
     const view = mcc.machine(image, { from, most, stop, address });

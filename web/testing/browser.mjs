@@ -58,8 +58,21 @@ export class Browser {
   }
 }
 
-class Page {
+// What each browser's pages have.
+export class Waiting {
+  // Waits until an expression holds, and tells whether it did.
+  async until(expression, seconds = 20) {
+    for (const end = Date.now() + seconds * 1000; Date.now() < end;) {
+      if (await this.value(expression).catch(() => false)) return true;
+      await new Promise(resolve => setTimeout(resolve, 50));
+    }
+    return false;
+  }
+}
+
+class Page extends Waiting {
   constructor(browser, session) {
+    super();
     Object.assign(this, { browser, session, requests: [], errors: [] });
     browser.listeners.push(({ method, params, sessionId }) => {
       if (sessionId !== session) return;
@@ -80,13 +93,13 @@ class Page {
     return result.value;
   }
 
-  // Waits until an expression holds, and tells whether it did.
-  async until(expression, seconds = 20) {
-    for (const end = Date.now() + seconds * 1000; Date.now() < end;) {
-      if (await this.value(expression).catch(() => false)) return true;
-      await new Promise(resolve => setTimeout(resolve, 50));
-    }
-    return false;
+  // What was asked for, and what went wrong.
+  async asked() {
+    return this.requests;
+  }
+
+  async wrong() {
+    return this.errors;
   }
 
   async key(key, { alt = false, code = key } = {}) {

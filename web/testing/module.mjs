@@ -1,10 +1,11 @@
 // The module of a built page.
 import fs from 'node:fs';
+import zlib from 'node:zlib';
 import { Mcc } from '../mcc.mjs';
 
 export function moduleOf(file) {
   const [, text] = /<script type="application\/octet-stream" id="wasm">([^<]*)<\/script>/.exec(fs.readFileSync(file, 'latin1'));
-  return new WebAssembly.Module(Buffer.from(text, 'base64'));
+  return new WebAssembly.Module(zlib.inflateSync(Buffer.from(text, 'base64')));
 }
 
 export const mccOf = file => new Mcc(moduleOf(file));

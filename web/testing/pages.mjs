@@ -1,9 +1,10 @@
-// The page in headless Chromium, from its file: node pages.mjs PAGE [FOLDER for pictures]
+// The page in a headless browser, from its file: node pages.mjs chromium|firefox PAGE [FOLDER for pictures]
 import path from 'node:path';
 import { pathToFileURL } from 'node:url';
 import { Browser } from './browser.mjs';
+import { Firefox } from './firefox.mjs';
 
-const [, , file, pictures] = process.argv;
+const [, , name, file, pictures] = process.argv;
 const address = pathToFileURL(path.resolve(file)).href;
 const ENDLESS = 'int main(void) {\n    int i;\n    i = 0;\n    while (1) {\n        i = i + 1;\n        if (i < 0) { i = 0; }\n        i = i & 1023;\n    }\n}\n';
 const text = id => `document.getElementById('${id}').textContent`;
@@ -17,7 +18,7 @@ const judge = (what, isSo, more = '') => {
   if (isSo) passed++;
   else {
     failed++;
-    console.log(`pages: ${what}`, more);
+    console.log(`pages: ${name}: ${what}`, more);
   }
 };
 
@@ -29,6 +30,18 @@ async function stepTo(page, condition, most = 300) {
     if (!(await page.until(`${text('count')} !== ${JSON.stringify(before)}`, 5))) return false;
   }
   return false;
+}
+
+// A text of 1 MiB: 250 functions, with some 20,000 blocks.
+function long() {
+  const part = k => `    for (i = 0; i < n; i = i + 1) {\n        if (a[i & 15] < s) { s = s + i * ${k} - (n ^ m); } else { a[(i + m) & 15] = s; s = s - m; }\n`
+    + `        /* nothing of this block is kept, but for one word of the array and the sum */\n        s = (s << 1) + (i & ${k}) - a[(i + 7) & 15] + (m | ${k});\n`
+    + `        a[(s + i) & 15] = (a[i & 15] >> 2) + (s ^ n) - (m & 255) + (i << 3);\n    }\n`;
+  const one = k => `int f${k}(int n, int m) {\n    int i;\n    int s;\n    s = 0;\n${part(k).repeat(11)}    return s;\n}\n`;
+  let made = 'int a[16];\n';
+  for (let k = 0; k < 250; k++) made += one(k);
+  made += 'int main(void) {\n    int r;\n    r = f1(0, 3);\n    out(r);\n    return 0;\n}\n';
+  return made + ' '.repeat((1 << 20) - made.length);
 }
 
 const contrast = `(() => {
@@ -57,17 +70,17 @@ async function looks(page, name) {
 }
 
 async function main() {
-  const browser = new Browser();
+  const browser = name === 'firefox' ? new Firefox() : new Browser();
   const page = await browser.open(address);
   judge('the page is ready', await page.until(READY));
-  judge('nothing is asked of a server', page.requests.every(url => url === address || url.startsWith('blob:') || url.startsWith('data:')), page.requests);
+  judge('nothing is asked of a server', (await page.asked()).every(url => url === address || url.startsWith('blob:') || url.startsWith('data:')), await page.asked());
   judge('both print the same', await page.until(`${text('agree')} === 'Both print the same.'`));
   judge('the interpreter prints', (await page.value(text('interp'))).startsWith('0\n1\n4\n9\n16\ndone 0'));
-  console.log(`pages: ready after ${await page.value('document.documentElement.dataset.ready')} ms; ${await page.value(text('state'))}`);
+  console.log(`pages: ${name}: ready after ${await page.value('document.documentElement.dataset.ready')} ms; ${await page.value(text('state'))}`);
   await looks(page, 'orders');
 
   // a changed order changes its verdict: by the keyboard, and by dragging
-  await page.value(`[...document.querySelectorAll('#functions option')].length`);
+  judge('RTL and terms of the block', await page.until(`${text('rtl')}.includes('goto 4') && ${text('terms')}.includes('guards:')`));
   await page.value(`document.querySelector('#order li').focus()`);
   judge('the order of the build is the block', (await page.value(text('verdict'))).startsWith('same'));
   await page.key('ArrowDown', { alt: true });
@@ -83,7 +96,13 @@ async function main() {
   await page.drag('#order li[data-place="0"]', '#order li.exit');
   judge('a dragged line changes the verdict', await page.until(`!${text('verdict')}.startsWith('same') && ${text('verdict')} !== ''`),
     await page.value(text('order')));
-  if (pictures) await page.picture(path.join(pictures, 'dragged.png'));
+  judge('with both terms', /^block: .*\norder: /.test(await page.value(text('why'))), await page.value(text('why')));
+  if (pictures) await page.picture(path.join(pictures, 'differs.png'));
+  await page.value(`(() => { const s = document.getElementById('examples'); s.value = 'load-used-too-soon.check'; s.onchange(); })()`);
+  judge('an unclean order', await page.until(`${text('verdict')} === 'unclean U1'`));
+  judge('with its rule in words', (await page.value(text('why'))).startsWith('an instruction reads or writes'));
+  judge('and its two words marked', await page.until(`document.querySelectorAll('#order .broken').length === 2`));
+  if (pictures) await page.picture(path.join(pictures, 'unclean.png'));
 
   // the machine, up to a load under way
   await page.value(typed('int a[4];\n\nint main(void) {\n    int i;\n    i = 3;\n    a[i] = 7;\n    out(a[i] + 1);\n    return 0;\n}\n'));
@@ -98,7 +117,13 @@ async function main() {
   await page.value(click('run'));
   judge('runs to the breakpoint', await page.until(`document.querySelector('#listing .here.breakpoint') !== null`));
   await page.value(click('tab-stages'));
-  judge('the stages', (await page.value(text('stage-text'))).includes('block 0'));
+  judge('the stages', await page.until(`${text('stage-text')}.startsWith('function main\\n  block 2\\n    i = 3')`));
+  await page.value(`(() => { document.getElementById('whole').checked = true; const s = document.getElementById('stage'); s.value = 'listing'; s.onchange(); })()`);
+  judge('of all functions', await page.until(`${text('stage-text')}.startsWith('start\\n  block 0 (calls main)')`));
+  await looks(page, 'stages');
+  await page.value(click('tab-orders'));
+  await page.value(`document.querySelector('#graph [data-block="2"]').dispatchEvent(new Event('click'))`);
+  judge('a block marks the line of its exit', await page.until(`document.querySelector('#gutter .left')?.textContent === '7'`));
 
   // a fault at its place
   await page.value(typed('int main(void) {\n    int i = 0;\n    i++;\n    return 0;\n}\n'));
@@ -118,7 +143,15 @@ async function main() {
   await page.value(typed('int main(void) {\n    out(5);\n    return 0;\n}\n'));
   judge('the page works on', await page.until(`${text('interp')}.startsWith('5\\ndone 0')`));
 
-  // texts that are too much
+  // long texts, and texts that are too much
+  await page.value(typed(long()));
+  const began = Date.now();
+  await page.value(`document.getElementById('verdict').textContent = ''`);
+  judge('1 MiB is built', await page.until(`/^blocks/.test(${text('state')}) && ${READY}`, 60), await page.value(text('state')));
+  const seconds = (Date.now() - began) / 1000;
+  console.log(`pages: ${name}: 1 MiB is built and drawn after ${seconds} s; ${await page.value(text('state'))}`);
+  judge('within 5 seconds on an idle machine, 20 beside other work', seconds < 20, seconds);
+
   const deep = n => 'int main(void) { int x; x = 1; ' + '{'.repeat(n) + '}'.repeat(n) + ' out(' + '('.repeat(n) + '1' + ')'.repeat(n) + '); return 0; }';
   for (const [what, value] of [['the deepest nest', deep(120)], ['a deeper one', deep(100_000)], ['20 MiB', ' '.repeat(20 << 20)],
     ['bytes', String.fromCharCode(...Array.from({ length: 4000 }, (_, k) => (k * 7919) % 251))]]) {
@@ -131,7 +164,8 @@ async function main() {
 
   const linked = await browser.open(address + '#' + encodeURIComponent('int main(void) {\n    out(42);\n    return 0;\n}\n'));
   judge('a link opens its text', await linked.until(`${text('interp')}.startsWith('42\\ndone 0')`));
-  judge('no error on the console', page.errors.length + linked.errors.length === 0, [...page.errors, ...linked.errors]);
+  const wrong = [...(await page.wrong()), ...(await linked.wrong())];
+  judge('no error on the console', wrong.length === 0, wrong);
   await browser.close();
   console.log(`${passed} passed, ${failed} failed`);
 }

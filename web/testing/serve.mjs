@@ -10,11 +10,13 @@ const mcc = mccOf(page);
 const STEPS = 100_000_000;
 
 function wordsOf(words) {
-  const options = { depth: 256, steps: STEPS, plain: false };
+  const options = { depth: 256, steps: STEPS, plain: false, explain: false, stage: '', function: '' };
   const files = [];
   for (let k = 1; k < words.length; k++) {
-    if (words[k] === '--plain') options.plain = true;
-    else if (words[k].startsWith('--')) options[words[k].slice(2)] = Number(words[++k]);
+    const name = words[k].slice(2);
+    if (['--plain', '--explain'].includes(words[k])) options[name] = true;
+    else if (['--stage', '--function'].includes(words[k])) options[name] = words[++k];
+    else if (words[k].startsWith('--')) options[name] = Number(words[++k]);
     else files.push(words[k]);
   }
   return { command: words[0], files, options };
@@ -25,7 +27,8 @@ function answer(words, folder) {
   const [file, image] = files.map(name => path.resolve(folder, name));
   const bytes = fs.readFileSync(file);
   switch (command) {
-    case 'check': return mcc.check(bytes);
+    case 'check': return options.explain ? mcc.explain(bytes) : mcc.check(bytes);
+    case 'show': return mcc.show(bytes, options.stage, options.function);
     case 'interp': return mcc.interp(bytes, options.steps, options.depth);
     case 'run': return mcc.run(bytes, options.steps);
     case 'list': return mcc.list(bytes);
@@ -44,16 +47,21 @@ function told({ status, text }, words, folder) {
   return { status, out: '', err: text.replace(/^(program\.c|order\.check)(?=:\d+:\d+:)/m, wordsOf(words).files[0]) };
 }
 
+// The status, the length of standard output's bytes, and these before those of standard error.
+function send(stream, { status, out, err }) {
+  stream.end(`${status} ${Buffer.byteLength(out)} ${out}${err}`);
+}
+
 net.createServer(stream => {
   let asked = '';
   stream.setEncoding('utf8').on('data', text => {
     asked += text;
     if (!asked.endsWith('\n')) return;
-    const { words, folder } = JSON.parse(asked);
+    const [folder, ...words] = asked.slice(0, -1).split('\0');
     try {
-      stream.end(JSON.stringify(told(answer(words, folder), words, folder)));
+      send(stream, told(answer(words, folder), words, folder));
     } catch (error) {
-      stream.end(JSON.stringify({ status: 99, out: '', err: String(error) + '\n' }));
+      send(stream, { status: 99, out: '', err: String(error) + '\n' });
     }
   });
 }).listen(socket);

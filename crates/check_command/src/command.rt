@@ -76,7 +76,7 @@ fn print_more<W: Output>(out: &mut W, answer: &CheckAnswer, more: &[u8]) -> io::
 }
 
 /// The answer and why it isn't `same`, printed; its status.
-fn print_explained<W: Output>(
+pub fn print_explained<W: Output>(
     alloc: Global,
     out: &mut W,
     text: &[u8],

@@ -3,8 +3,8 @@
 //! `check` is its whole path: the answer is the verdict of the block and the order that the text spells, or the fault of the
 //! text (`specs/Checks.antt`). `check_file` is the command over files and streams: all that it asks of them, prints and ends by
 //! (`specs/Command.antt`); `explain_file` is the same with `--explain`, which says behind the answer why it isn't `same`, and
-//! `print_answer` and `tell_check` are its two ends, over a stream alone. What answers and faults print, and the status of a
-//! verdict, stand in `specs/Texts.antt`.
+//! `print_answer`, `print_explained` and `tell_check` are their ends, over a stream alone. What answers and faults print, and the
+//! status of a verdict, stand in `specs/Texts.antt`.
 //!
 //! What is promised:
 //! - `check_command::check`, which `driver` exports too: the answer is the verdict on every block and order that the
@@ -23,5 +23,5 @@ mod lines;
 mod texts;
 mod verdicts;
 
-pub use command::{check_file, explain_file, print_answer, tell_check};
+pub use command::{check_file, explain_file, print_answer, print_explained, tell_check};
 pub use verdicts::{CheckAnswer, CheckFault, check};

@@ -7,8 +7,8 @@
 //! check_command, `mcc show` the crate show, and what commands share is the crate commands. `mcc` is the whole program,
 //! which `main` calls with the real files and streams: all that it asks of them, prints and ends by
 //! (`specs/Program.antt`). It takes the words of the command line by the crate command_line. How answers and faults
-//! print stands in `specs/Texts.antt`; `print_run` and `print_built` print them, `tell_interp` and `tell_build` tell
-//! faults, over a stream alone, for hosts without files.
+//! print stands in `specs/Texts.antt`; `print_run` and `print_built` print them, `tell_interp`, `tell_build` and
+//! `tell_stages` tell faults, over a stream alone, for hosts without files; `stages` is what `mcc show` prints.
 //!
 //! What is promised:
 //! - `driver::interp`: where it is Ok, the text spells a program, the program has no fault, and the answer is what so
@@ -82,5 +82,6 @@ pub use image_commands::ending_status;
 pub use image_runs::{list_image, run_image};
 pub use program::{end_status, mcc, tell_interp};
 pub use scheduled_builds::{BuildOpts, build, build_one};
+pub use show_commands::{StagesFault, stages, tell_stages};
 pub use source_runs::{InterpFault, interp};
 pub use texts::{EndLine, EndingLine, print_run};

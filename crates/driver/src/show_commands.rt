@@ -22,7 +22,7 @@ use std::{fmt, io};
 
 /// Why nothing of a text is shown.
 #[derive(Clone, Copy, Debug, PartialEq, Eq)]
-pub(crate) enum StagesFault {
+pub enum StagesFault {
     /// A build of the text ends by this fault.
     Build(BuildFault),
     /// 18: there is no stage of this name.
@@ -94,7 +94,7 @@ fn shown_of(
 }
 
 /// What is asked for of the program that the text spells.
-fn stages(alloc: Global, text: &[u8], asked: &Asked<'_>) -> Result<Vec<u8>, StagesFault>
+pub fn stages(alloc: Global, text: &[u8], asked: &Asked<'_>) -> Result<Vec<u8>, StagesFault>
     ensures spelled { IfOk result (λ _. IsFaultless text.now) }
     ensures shown { IfOk result (λ page. All IsShown page.items) }
     ensures fault { IfErr result (IsStagesFault text.now) }
@@ -110,7 +110,7 @@ fn stages(alloc: Global, text: &[u8], asked: &Asked<'_>) -> Result<Vec<u8>, Stag
 }
 
 /// The fault's line, and below it what is known of it.
-fn tell_stages<E: Complaints>(
+pub fn tell_stages<E: Complaints>(
     alloc: Global,
     err: &mut E,
     source: &str,

@@ -1,10 +1,11 @@
 -- What the exports give their host.
-use Rattle.std.specs.Prelude.{◌≡◌, ◌≤◌, ℕ, List, [], ◌∷◌, ◌++◌, Bool, true, false, length, take}
+use Rattle.std.specs.Prelude.{◌≡◌, ◌≤◌, ℕ, List, [], ◌∷◌, ◌++◌, Bool, true, false, All, length, take}
 use Rattle.runs.specs.Runs.{Outcome}
 use Rattle.mips_steps.specs.Machines.{MachineOutcome}
 use Rattle.image.specs.Images.{IsImageFault}
 use Rattle.image.specs.Texts.{image_fault_text}
 use Rattle.image.specs.declared.fault.ImageFault.{ImageFault}
+use Rattle.block_text.specs.Shown.{IsShown}
 use Rattle.check_command.specs.Checks.{IsAnswerTo, IsCheckFault}
 use Rattle.check_command.specs.Texts.{answer_text, check_fault_text, exit_status}
 use Rattle.check_command.specs.declared.verdicts.CheckAnswer.{CheckAnswer}
@@ -15,10 +16,12 @@ use Rattle.driver.specs.Texts.{build_fault_text, end_status, end_text, ending_st
 use Rattle.driver.specs.Interps.{IsInterpFault, IsRun}
 use Rattle.driver.specs.ImageRuns.{IsImageRun, IsListing}
 use Rattle.driver.specs.Builds.{IsPlain, IsScheduledBuild}
-use Rattle.driver.specs.BuildFaults.{IsBuildFault}
+use Rattle.driver.specs.BuildFaults.{IsBuildFault, IsFaultless}
 use Rattle.driver.specs.Follows.{FollowsText}
+use Rattle.driver.specs.Stages.{IsStagesFault, stages_fault_text}
 use Rattle.driver.specs.declared.builds.Built.{Built}
 use Rattle.driver.specs.declared.builds.BuildFault.{BuildFault}
+use Rattle.driver.specs.declared.show_commands.StagesFault.{StagesFault}
 use Rattle.driver.specs.declared.source_runs.InterpFault.{InterpFault}
 
 -- a text of this length, at the front of what the host lent, where it fits
@@ -40,6 +43,15 @@ pub record SaysCheckFault (text : List ℕ) (said : ℕ) (old new : List ℕ) : 
   pub fault : CheckFault
   pub is : IsCheckFault text fault
   pub gives : GivesLine (check_fault_text fault) said old new
+
+-- `check --explain`: the same, and behind it lines of printable ASCII
+pub record SaysExplained (text : List ℕ) (status said : ℕ) (old new : List ℕ) : Type 0 where
+  pub answer : CheckAnswer
+  pub answered : IsAnswerTo text answer
+  pub ends : status ≡ exit_status answer
+  pub more : List ℕ
+  pub shown : All IsShown more
+  pub gives : Gives ((answer_text answer ++ 10 ∷ []) ++ more) said old new
 
 -- `interp`: the run of the program that the text spells
 pub record SaysRun (text : List ℕ) (depth steps : ℕ) (status said : ℕ) (old new : List ℕ) : Type 0 where
@@ -88,3 +100,16 @@ pub record SaysImageFault (bytes : List ℕ) (said : ℕ) (old new : List ℕ) :
   pub fault : ImageFault
   pub is : IsImageFault bytes fault
   pub gives : GivesLine (image_fault_text fault) said old new
+
+-- `show`: lines of printable ASCII, and the text spells a program without faults
+pub record SaysStages (text : List ℕ) (status said : ℕ) (old new : List ℕ) : Type 0 where
+  pub faultless : IsFaultless text
+  pub page : List ℕ
+  pub shown : All IsShown page
+  pub ends : status ≡ 0
+  pub gives : Gives page said old new
+
+pub record SaysStagesFault (text : List ℕ) (said : ℕ) (old new : List ℕ) : Type 0 where
+  pub fault : StagesFault
+  pub is : IsStagesFault text fault
+  pub gives : GivesLine (stages_fault_text fault) said old new

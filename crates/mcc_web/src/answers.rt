@@ -1,18 +1,21 @@
 // The exports that print what a command prints.
 
 ghost use Rattle.std.specs.Prelude.{◌≡◌, ◌≢◌};
-ghost use Rattle.mcc_web.specs.Answers.{SaysCheckFault, SaysImageFault, SaysInterpFault, SaysListing, SaysMachine, SaysRun, SaysVerdict};
+ghost use Rattle.check_command.specs.Checks.{IsCheckFault};
+ghost use Rattle.mcc_web.specs.Answers.{SaysCheckFault, SaysExplained, SaysImageFault, SaysInterpFault, SaysListing, SaysMachine, SaysRun, SaysStages, SaysStagesFault, SaysVerdict};
 ghost use Rattle.mcc_web.specs.declared.told.TheConstants.{REFUSED};
 
 pub use crate::told::REFUSED;
 use crate::told::{Told, put};
-use check_command::{print_answer, tell_check};
+use check_command::{print_answer, print_explained, tell_check};
 use commands::tell;
 use driver::{
-    EndLine, EndingLine, check, end_status, ending_status, interp, list_image, print_run,
-    run_image, tell_interp,
+    CheckFault, EndLine, EndingLine, check, end_status, ending_status, interp, list_image,
+    print_run, run_image, stages, tell_interp, tell_stages,
 };
+use show::Asked;
 use std::alloc::Global;
+use std::str;
 
 /// Memory was refused to the text of an answer.
 fn refused(status: &mut u8) -> usize
@@ -20,6 +23,23 @@ fn refused(status: &mut u8) -> usize
 {
     *status = REFUSED;
     0
+}
+
+/// The fault of a check text, told to the host; a status of 1, unless memory was refused.
+fn give_check_fault(
+    alloc: Global,
+    text: &[u8],
+    fault: CheckFault,
+    out: &mut [u8],
+    status: &mut u8,
+) -> usize
+    requires { IsCheckFault text.now fault }
+    ensures ends { status.new ≢ 1 → status.new ≡ REFUSED }
+    ensures faulty { status.new ≡ 1 → SaysCheckFault text.now result out.old out.new }
+{
+    let mut told = Told::new(alloc);
+    *status = tell_check(alloc, &mut told, "order.check", text, fault);
+    told.give(out, status)
 }
 
 /// The verdict on the block and the order that the text spells: what `mcc check order.check` prints or tells, and its status.
@@ -44,11 +64,33 @@ pub extern "C" fn mcc_web_check(
                 Err(_) => refused(status),
             }
         }
-        Err(fault) => {
-            let mut told = Told::new(alloc);
-            *status = tell_check(alloc, &mut told, "order.check", text, fault);
-            told.give(out, status)
+        Err(fault) => give_check_fault(alloc, text, fault, out, status),
+    }
+}
+
+/// The verdict, and why it isn't `same`: what `mcc check --explain order.check` prints or tells, and its status.
+#[unsafe(no_mangle)]
+pub extern "C" fn mcc_web_explain(
+    alloc: Global,
+    text: &[u8],
+    out: &mut [u8],
+    status: &mut u8,
+) -> usize
+    ensures answered { status.new ≢ 1 → status.new ≢ REFUSED → SaysExplained text.now status.new result out.old out.new }
+    ensures faulty { status.new ≡ 1 → SaysCheckFault text.now result out.old out.new }
+{
+    match check(alloc, text) {
+        Ok(answer) => {
+            let mut printed = Vec::new(alloc);
+            match print_explained(alloc, &mut printed, text, &answer) {
+                Ok(ended) => {
+                    *status = ended;
+                    put(out, printed.as_slice())
+                }
+                Err(_) => refused(status),
+            }
         }
+        Err(fault) => give_check_fault(alloc, text, fault, out, status),
     }
 }
 
@@ -134,6 +176,47 @@ pub extern "C" fn mcc_web_list(
         Err(fault) => {
             let mut told = Told::new(alloc);
             *status = tell(&mut told, &fault);
+            told.give(out, status)
+        }
+    }
+}
+
+/// A name, if there is one. What isn't UTF-8 is no name of anything.
+fn named(bytes: &[u8]) -> Option<&str> {
+    if bytes.is_empty() {
+        None
+    } else {
+        Some(str::from_utf8(bytes).unwrap_or("?"))
+    }
+}
+
+/// The stage of this name, or RTL, blocks and orders where there is none, of the function of this name or of all: what
+/// `mcc show program.c --stage STAGE --function NAME` prints or tells, and its status.
+#[unsafe(no_mangle)]
+pub extern "C" fn mcc_web_show(
+    alloc: Global,
+    text: &[u8],
+    stage: &[u8],
+    function: &[u8],
+    out: &mut [u8],
+    status: &mut u8,
+) -> usize
+    ensures answered { status.new ≢ 1 → status.new ≢ REFUSED → SaysStages text.now status.new result out.old out.new }
+    ensures faulty { status.new ≡ 1 → SaysStagesFault text.now result out.old out.new }
+{
+    let asked = Asked {
+        stage: named(stage),
+        function: named(function),
+        dot: false,
+    };
+    match stages(alloc, text, &asked) {
+        Ok(page) => {
+            *status = 0;
+            put(out, page.as_slice())
+        }
+        Err(fault) => {
+            let mut told = Told::new(alloc);
+            *status = tell_stages(alloc, &mut told, "program.c", text, fault);
             told.give(out, status)
         }
     }

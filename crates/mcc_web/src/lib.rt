@@ -2,8 +2,9 @@
 //!
 //! A static library, whose exports call what the program calls: `mcc_web_check`, `mcc_web_interp`, `mcc_web_build` (by
 //! `driver::build_one`, or plainly), `mcc_web_run` and `mcc_web_list` give the text that the program prints, and where it
-//! ends by a fault the lines that it tells, with its status. `mcc_web_orders` gives each block of a build with the order
-//! that it has, as a check text. `mcc_web_machine` shows the machine of an image behind any number of words.
+//! ends by a fault the lines that it tells, with its status; so do `mcc_web_explain`, for `mcc check --explain`, and
+//! `mcc_web_show`, for `mcc show`. `mcc_web_orders` gives each block of a build with the order that it has, as a check
+//! text. `mcc_web_machine` shows the machine of an image behind any number of words.
 //!
 //! An export writes its text into `out`, which the host lends, and answers how long it is; where that is more than `out`
 //! holds, `out` is as it was (`Gives` of `specs/Answers.antt`). The host calls one export at a time. Each descends into its
@@ -16,6 +17,9 @@
 //!   an image that follows the program (`SaysImage`), of the image's run and its listing (`SaysMachine`, `SaysListing`).
 //!   Where it is 1, the first line is that of a fault which the call may tell. A status of 2 comes from `mcc_web_build` and
 //!   `mcc_web_orders` alone, where the depth is 0.
+//! - `mcc_web_explain`: the same as of `mcc_web_check`, with lines of printable ASCII behind the verdict (`SaysExplained`).
+//!   `mcc_web_show`: unless the status is 1, the text spells a program without faults, and what is given is lines of
+//!   printable ASCII (`SaysStages`). No more is stated of such lines than driver and check_command state of them.
 //! - `mcc_web_machine`: what it shows is what the machine of the image holds behind so many words (`Shows`); none of these
 //!   ended the run.
 //! - `mcc_web_orders`: unless the status is 1, 2 or `REFUSED`, each block and order that it lists is one of a unit of the
@@ -30,7 +34,10 @@ mod machines;
 mod orders;
 mod told;
 
-pub use answers::{REFUSED, mcc_web_check, mcc_web_interp, mcc_web_list, mcc_web_run};
+pub use answers::{
+    REFUSED, mcc_web_check, mcc_web_explain, mcc_web_interp, mcc_web_list, mcc_web_run,
+    mcc_web_show,
+};
 pub use builds::mcc_web_build;
 pub use machines::{View, mcc_web_machine};
 pub use orders::mcc_web_orders;
