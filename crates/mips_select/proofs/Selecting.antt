@@ -149,14 +149,14 @@ pub selected : (h : Homed) (p : Program) (u : UnitParts) (blocks blocks' : List 
     → u ≡ unit_parts (split_blocks blocks') (split_owners blocks' owners') bytes → IsSelected p u
 selected h p u blocks blocks' owners owners' bytes funcs globals lent ok is is' f_is o_is o_is' g_is b_is u_is =
     let os : owners' ≡ owners_for (h.rtl.now).functions = o_is' ∙ o_is ∙ ap owners_for f_is ∙ ap (λ (p : Program). owners_for p.functions) (sym lent) in
-    let data : bytes ≡ data_bytes (h.rtl.now).globals = b_is ∙ ap data_bytes g_is ∙ ap (λ (p : Program). data_bytes p.globals) (sym lent) in
+    let bytes_are : bytes ≡ data_bytes (h.rtl.now).globals = b_is ∙ ap data_bytes g_is ∙ ap (λ (p : Program). data_bytes p.globals) (sym lent) in
     record {
       homed = h;
       lent = lent;
       places = ok;
       unit = u_is ∙ ap (λ bs. unit_parts (split_blocks bs) (split_owners bs owners') bytes) (is' ∙ is)
           ∙ ap (λ os. unit_parts (split_blocks (program_blocks h)) (split_owners (program_blocks h) os) bytes) os
-          ∙ ap (unit_parts (split_blocks (program_blocks h)) (split_owners (program_blocks h) (owners_for (h.rtl.now).functions))) data;
+          ∙ ap (unit_parts (split_blocks (program_blocks h)) (split_owners (program_blocks h) (owners_for (h.rtl.now).functions))) bytes_are;
     }
 
 pub unit_keeps : (p : Program) (depth : ℕ) (u : UnitParts) → IsProgram p → FramesFit p depth → IsSelected p u → KeepsRuns p depth u
