@@ -89,7 +89,8 @@ export function exitLines(text, group, block, groups) {
   const sought = new RegExp(`\\b${name}\\b`);
   const { from, to } = group.lines;
   const lines = codeOf(text).split('\n').slice(from - 1, to);
-  return lines.flatMap((line, k) => ((k > 0 || from === to) && sought.test(line)) || (word === 'return' && k + from === to) ? [k + from] : []);
+  const isOne = (line, k) => ((k > 0 || from === to) && sought.test(line)) || (word === 'return' && k + from === to);
+  return lines.flatMap((line, k) => (isOne(line, k) ? [k + from] : []));
 }
 
 // The functions that a C text defines, in order, with their lines; what isn't code is left out.

@@ -60,7 +60,8 @@ class Client {
 
 let client = null;
 const page = {
-  text: '', lines: [], marks: {}, scroll: { top: 0, left: 0 }, image: null, blocks: [], groups: [], group: null, chosen: null, order: null, at: 0, said: '', told: null, stages: new Map(),
+  text: '', lines: [], marks: {}, scroll: { top: 0, left: 0 }, told: null, image: null, blocks: [], groups: [], group: null,
+  chosen: null, order: null, at: 0, said: '', stages: new Map(),
   listing: [], view: null, before: null, breakpoint: null, touched: null, isBusy: false, isStale: false,
 };
 
@@ -496,7 +497,7 @@ function showListing() {
   list.replaceChildren(...page.listing.slice(near, upTo).map((_, k) => {
     const address = 0x00400000 + 4 * (near + k);
     const number = begins.get(address);
-    const label = (number === undefined ? '' : String(number)).padStart(4) + '  ' + address.toString(16).padStart(8, '0') + '  ' + lineAt(address);
+    const label = [String(number ?? '').padStart(4), address.toString(16).padStart(8, '0'), lineAt(address)].join('  ');
     const item = element('li', label, number !== undefined && 'block', address === view?.pc && 'here', isIn(address) && 'chosen',
       address === after && 'next', address === page.breakpoint && 'breakpoint');
     item.dataset.address = address;
