@@ -1,8 +1,7 @@
 -- Each instruction's code does what the instruction does.
 use Rattle.std.proofs.Common.{◌≡◌, ◌≢◌, ℕ, ℤ, zero, suc, ◌+◌, ◌^◌, ◌<◌, ◌≤◌, Bool, true, false, List, [], ◌∷◌, ◌++◌, take, map}
-use Rattle.std.proofs.Common.{length, Option, Some, None, refl, sym, ap, ◌∙◌, subst, arith, nat_eq, ltb-true, eqb-true, ne_eqb}
+use Rattle.std.proofs.Common.{length, Option, Some, None, refl, sym, ap, ◌∙◌, subst, arith, nat_eq, ltb-true, eqb-true}
 use Rattle.std.specs.Prelude.{if◌then◌else◌, slice_get, nat_lt}
-use Rattle.std.proofs.lemmas.Bool.{eqb-false}
 use Rattle.std.proofs.lemmas.Option.{same_Some, none-some}
 use Rattle.words.specs.declared.operator.Operator.TheVariants as operators
 use Rattle.words.specs.declared.width.Width.{Width}
@@ -43,9 +42,9 @@ use Rattle.mips_emit.specs.Code.{fetch, seat, into, operation, immediate_of, is_
 use Rattle.mips_emit.specs.Code.{multiple_of, multiple_code, code_by_multiple, code_by_word}
 use Rattle.mips_emit.specs.Code.{code_by_right, op_code, element_code, element_load, element_store, inst_code}
 use Rattle.mips_emit.proofs.Runs.{RunsTo, runs_none, runs_then}
-use Rattle.mips_emit.proofs.View.{shown_at, word_of_offset, shown_below, set, set_at, set_sets, read_register, put_here, put_other, IsTarget, IsBase, loads_at, stores_at, near_word, based}
+use Rattle.mips_emit.proofs.View.{shown_at, word_of_offset, shown_below, set, set_at, set_sets, read_register, put_here, put_other, IsTarget, loads_at, stores_at, near_word, based}
 use Rattle.mips_emit.proofs.Stands.{Stored, with_slots, Stands}
-use Rattle.mips_emit.proofs.Homes.{IsLast, none_last, known_with, known_without, words_kept, regs_kept, IsKnown, Denotes, IsAway, seat_kept, longer_behind, Ends, hide, IsLazy, tells}
+use Rattle.mips_emit.proofs.Homes.{IsLast, none_last, known_with, known_without, regs_kept, IsKnown, Denotes, IsAway, seat_kept, longer_behind, Ends, hide, IsLazy, tells}
 use Rattle.mips_emit.proofs.Homes.{operand_below, operand_means, fetches, sets_kept, finishes, puts}
 use Rattle.mips_emit.proofs.Globals.{kept_is, data_open, data_written, stored_at}
 use Rattle.mips_emit.proofs.Operations.{Gives, alu_gives, operation_gives, immediate_gives, less_gives, symmetric}
@@ -78,42 +77,28 @@ pub value_or_failed : {A : Type 0} (P : Run → Type 0) (o : Option A) (out : Li
 value_or_failed P None out go failed f = failed
 value_or_failed P (Some v) out go failed f = f v refl
 
--- registers that are as they became, but one as it was
-abbrev saved : State → (ℕ → ℕ) → ℕ → State
-saved s f t = record s { regs = λ r. if nat_eq r t then s.regs r else f r }
-
-ends_over : (is : List Plain) (s : State) (f : ℕ → ℕ) (d v w : ℕ) → IsTarget d → RunsTo is s (set (record s { regs = f }) d v) → v ≡ w → w < 2 ^ 32
-    → Ends is s (saved s f d) d w
-ends_over is s f d v w ok run e lt = record {
-  regs = (set (record s { regs = f }) d v).regs;
+ends_set : (is : List Plain) (s m : State) (d v w : ℕ) → IsTarget d → RunsTo is s (set m d v) → v ≡ w → w < 2 ^ 32 → Ends is s m d w
+ends_set is s m d v w ok run e lt = record {
+  regs = put' m.regs d v;
   runs = run;
-  here = put_here f d v ok ∙ e;
-  others = λ r ne. put_other f d v r ne ∙ sym (ap (λ b. if b then s.regs r else f r) (ne_eqb r d ne));
+  here = put_here m.regs d v ok ∙ e;
+  others = λ r ne. put_other m.regs d v r ne;
   below = lt;
 }
+  where
+    put' : (ℕ → ℕ) → ℕ → ℕ → ℕ → ℕ
+    put' = Rattle.mips_isa.specs.States.put
 
 t1 : IsTarget 1
 t1 = record { low = omega arith; high = omega arith }
 
-b1 : IsBase 1
-b1 = record { target = t1; apart = λ e. absurd (omega (arith, e)); middle = λ e. absurd (omega (arith, e)) }
-
--- a result is computed into a register that a base may be in
-into_base : (hs : List Home) (count x : ℕ) → AreFrameHomes hs count → IsBase (into 1 (location_at (slice_get hs x)))
-into_base hs count x ok = go (slice_get hs x) refl
-  where
-    go : (o : Option Home) → slice_get hs x ≡ o → IsBase (into 1 (location_at o))
-    go None e = b1
-    go (Some (Reg r)) e = let range = ok.by x (Reg r) e in
-        record {
-          target = record { low = omega (arith, range.0); high = omega (arith, range.1) };
-          apart = λ e. absurd (omega (arith, range.0, e));
-          middle = λ e. absurd (omega (arith, range.1, e));
-        }
-    go (Some (Slot k)) e = b1
-
 into_target : (hs : List Home) (count x : ℕ) → AreFrameHomes hs count → IsTarget (into 1 (location_at (slice_get hs x)))
-into_target hs count x ok = (into_base hs count x ok).target
+into_target hs count x ok = go (slice_get hs x) refl
+  where
+    go : (o : Option Home) → slice_get hs x ≡ o → IsTarget (into 1 (location_at o))
+    go None e = t1
+    go (Some (Reg r)) e = (let range = ok.by x (Reg r) e in record { low = omega (arith, range.0); high = omega (arith, range.1) })
+    go (Some (Slot k)) e = t1
 
 word_means : (count w v : ℕ) (s : State) → w ≡ v → w < 2 ^ 32 → Denotes count s (word_source w) v
 word_means count w v s e lt = go (nat_eq w 0) refl
@@ -122,7 +107,7 @@ word_means count w v s e lt = go (nat_eq w 0) refl
     go true t = sym e ∙ eqb-true w 0 t
     go false t = (e, lt)
 
-base_kept : (o : Option ℕ) (f f' : ℕ → ℕ) → ((r : ℕ) → r ≢ 2 → f' r ≡ f r) → read 0 f' (element_base 1 o) ≡ read 0 f (element_base 1 o)
+base_kept : (o : Option ℕ) (f f' : ℕ → ℕ) → ((r : ℕ) → r ≢ 2 → f' r ≡ f r) → read 0 f' (element_base o) ≡ read 0 f (element_base o)
 base_kept None f f' same = same 1 (λ e. absurd (omega (arith, e)))
 base_kept (Some p) f f' same = same 28 (λ e. absurd (omega (arith, e)))
 
@@ -153,13 +138,13 @@ module _ (most total : ℕ) (gs : List RGlobal) (starts : ℕ → ℕ) where
     gp = h.gp;
   }
 
-  -- a state in which a register and an offset lead to a place of the data; of the registers from 4 on only t may have changed
-  pub record AtElement (s : State) (is : List Plain) (w : Width) (t b : ℕ) (z : ℤ) (p : ℕ) : Type 0 where
-    pub regs : ℕ → ℕ
-    pub runs : RunsTo is s (record s { regs = regs })
-    pub here : wrap (read 0 regs b + word_of_offset z) ≡ address_of_place p
-    pub ok : is_open w s.mapped (address_of_place p) ≡ true
-    pub others : (r : ℕ) → 4 ≤ r → r < 32 → r ≢ t → regs r ≡ s.regs r
+  -- a state in which a register and an offset lead to a place of the data
+  pub record AtElement (registers : Places) (g : Arrays) (fs : List Stored) (s : State) (is : List Plain) (w : Width) (b : ℕ) (z : ℤ) (p : ℕ) : Type 0 where
+    pub to : State
+    pub runs : RunsTo is s to
+    pub here : wrap (read 0 to.regs b + word_of_offset z) ≡ address_of_place p
+    pub ok : is_open w to.mapped (address_of_place p) ≡ true
+    pub stands : Stands most total gs starts registers g fs to
 
   -- an element lies below the greatest place
   element_few : (registers : Places) (g : Arrays) (fs : List Stored) (s : State) (a i v : ℕ) → element_at g a i ≡ Some v
@@ -170,36 +155,19 @@ module _ (most total : ℕ) (gs : List RGlobal) (starts : ℕ → ℕ) where
       by widths.Word p le few = omega (arith, le, few)
       by widths.Byte p le few = omega (arith, le, few)
 
-  points : (registers : Places) (g : Arrays) (fs : List Stored) (s : State) (t q a i v : ℕ) → IsBase t → read 0 s.regs q ≡ i → q ≢ 2
-      → element_at g a i ≡ Some v → Stands most total gs starts registers g fs s
-      → AtElement s (base_code (width_of gs a) (starts a) t q) (width_of gs a) t t (base_offset (starts a)) (place_in gs starts a i)
-  points registers g fs s t q a i v base is apart there h =
-      let c = based (width_of gs a) s t q (starts a) i base is apart h.gp (element_few registers g fs s a i v there h) in
+  points : (registers : Places) (g : Arrays) (fs : List Stored) (s : State) (q a i v : ℕ) → read 0 s.regs q ≡ i → q ≢ 2 → element_at g a i ≡ Some v
+      → Stands most total gs starts registers g fs s
+      → AtElement registers g fs s (base_code (width_of gs a) (starts a) q) (width_of gs a) 1 (base_offset (starts a)) (place_in gs starts a i)
+  points registers g fs s q a i v is apart there h =
+      let c = based (width_of gs a) s q (starts a) i is apart h.gp (element_few registers g fs s a i v there h) in
       record {
-        regs = c.regs;
+        to = record s { regs = c.regs };
         runs = c.runs;
         here = c.here;
         ok = data_open most total gs starts registers g fs s a i v there h;
-        others = λ r low high ne. c.others r ne (λ e. absurd (omega (arith, e, low)));
+        stands = regs_kept most total gs starts registers g fs (base_code (width_of gs a) (starts a) q) s c.regs c.runs
+            (λ r low high. c.others r (λ e. absurd (omega (arith, e, low))) (λ e. absurd (omega (arith, e, low)))) h;
       }
-
-  -- a register that is loaded over has what it had, or the base: what stood stands
-  saved_stands : (registers : Places) (g : Arrays) (fs : List Stored) (is : List Plain) (s : State) (f : ℕ → ℕ) (t : ℕ) → RunsTo is s (record s { regs = f })
-      → ((r : ℕ) → 4 ≤ r → r < 32 → r ≢ t → f r ≡ s.regs r) → Stands most total gs starts registers g fs s
-      → Stands most total gs starts registers g fs (saved s f t)
-  saved_stands registers g fs is s f t e same h =
-      let after = run_words (map action_of is) s (record s { regs = f }) h.words e.ends in
-      words_kept most total gs starts registers g fs s (saved s f t).regs
-      (record { regs = λ r. below after r (nat_eq r t); hi = (h.words).hi; lo = (h.words).lo; memory = (h.words).memory })
-      (λ r low high. as_it_was r low high (nat_eq r t) refl) h
-    where
-      below : IsWords (record s { regs = f }) → (r : ℕ) (b : Bool) → (if b then s.regs r else f r) < 2 ^ 32
-      below after r true = (h.words).regs r
-      below after r false = after.regs r
-
-      as_it_was : (r : ℕ) → 4 ≤ r → r < 32 → (b : Bool) → nat_eq r t ≡ b → (if b then s.regs r else f r) ≡ s.regs r
-      as_it_was r low high true is = refl
-      as_it_was r low high false is = same r low high (eqb-false r t is)
 
   module _ (registers : Places) (g : Arrays) (top : Stored) (fs : List Stored) (s : State) (h : Stands most total gs starts registers g (top ∷ fs) s) where
     -- instructions that compute a word in register d
@@ -332,41 +300,34 @@ module _ (most total : ℕ) (gs : List RGlobal) (starts : ℕ → ℕ) where
         by_multiple None None _ _ = by_right l lw (immediate_of op d (seat 1 x) l) refl
 
     -- an element of a global
-    pub elements : (known : Option ℕ) (x : Source) (t a i v : ℕ) → IsBase t → IsAway x → Means x i → ((w : ℕ) → known ≡ Some w → w ≡ i)
-        → element_at g a i ≡ Some v
-        → AtElement s (element_code (width_of gs a) (starts a) t (direct (width_of gs a) (starts a) known) x) (width_of gs a) t
-        (element_base t (direct (width_of gs a) (starts a) known)) (element_offset (starts a) (direct (width_of gs a) (starts a) known)) (place_in gs starts a i)
-    elements known x t a i v base away mx said there = by known said
+    pub elements : (known : Option ℕ) (x : Source) (a i v : ℕ) → IsAway x → Means x i → ((w : ℕ) → known ≡ Some w → w ≡ i) → element_at g a i ≡ Some v
+        → AtElement registers g (top ∷ fs) s (element_code (width_of gs a) (starts a) (direct (width_of gs a) (starts a) known) x) (width_of gs a)
+        (element_base (direct (width_of gs a) (starts a) known)) (element_offset (starts a) (direct (width_of gs a) (starts a) known)) (place_in gs starts a i)
+    elements known x a i v away mx said there = by known said
       where
         E : Option ℕ → Type 0
-        E o = AtElement s (element_code (width_of gs a) (starts a) t o x) (width_of gs a) t (element_base t o) (element_offset (starts a) o)
+        E o = AtElement registers g (top ∷ fs) s (element_code (width_of gs a) (starts a) o x) (width_of gs a) (element_base o) (element_offset (starts a) o)
             (place_in gs starts a i)
 
-        far : AtElement s (fetch 1 x ++ base_code (width_of gs a) (starts a) t (seat 1 x)) (width_of gs a) t t (base_offset (starts a))
+        far : AtElement registers g (top ∷ fs) s (fetch 1 x ++ base_code (width_of gs a) (starts a) (seat 1 x)) (width_of gs a) 1 (base_offset (starts a))
             (place_in gs starts a i)
         far =
             let c = fetches most total gs starts registers g top fs s h 1 i x (omega arith) (omega arith) (mx s h) in
-            let p = points registers g (top ∷ fs) (record s { regs = c.regs }) t (seat 1 x) a i v base c.here (seat_apart x away) there c.stands in
-            record {
-              regs = p.regs;
-              runs = runs_then c.runs p.runs;
-              here = p.here;
-              ok = p.ok;
-              others = λ r low high ne. p.others r low high ne ∙ c.others r (λ e. absurd (omega (arith, e, low)));
-            }
+            let p = points registers g (top ∷ fs) (record s { regs = c.regs }) (seat 1 x) a i v c.here (seat_apart x away) there c.stands in
+            record { to = p.to; runs = runs_then c.runs p.runs; here = p.here; ok = p.ok; stands = p.stands }
 
         close : (p : ℕ) → p ≡ place_in gs starts a i → nat_lt p 65536 ≡ true
-            → AtElement s [] (width_of gs a) t 28 (near p) (place_in gs starts a i)
+            → AtElement registers g (top ∷ fs) s [] (width_of gs a) 28 (near p) (place_in gs starts a i)
         close p same lt =
             let below : p < 65536 = ltb-true p 65536 lt in
             let none : p + 0 ≡ p = omega arith in
             let from : wrap (0 + data_middle + word_of_offset (near p)) ≡ address_of_place (p + 0) = near_word p 0 below (omega (arith, below)) in
             record {
-              regs = s.regs;
+              to = s;
               runs = runs_none s;
               here = ap (λ x. wrap (x + word_of_offset (near p))) h.gp ∙ from ∙ ap address_of_place (none ∙ same);
               ok = data_open most total gs starts registers g (top ∷ fs) s a i v there h;
-              others = λ r low high ne. refl;
+              stands = h;
             }
 
         by : (o : Option ℕ) → ((w : ℕ) → o ≡ Some w → w ≡ i) → E (direct (width_of gs a) (starts a) o)
@@ -427,22 +388,18 @@ module _ (most total : ℕ) (gs : List RGlobal) (starts : ℕ → ℕ) where
         let x = operand (locations_of hs) facts i in
         let width = width_of gs a in
         let o = direct width (starts a) (known_in facts i) in
-        let d' = into 1 (locations_of hs d) in
-        let p = elements (hide facts.lazy registers) g top fs s h (known_in facts i) x d' a v w (into_base hs top.count d ok) (operand_means most total gs starts facts.lazy registers g top fs s h lz known hs i v ok k ev).1
+        let p = elements (hide facts.lazy registers) g top fs s h (known_in facts i) x a v w (operand_means most total gs starts facts.lazy registers g top fs s h lz known hs i v ok k ev).1
         (λ s h. (operand_means most total gs starts facts.lazy registers g top fs s h lz known hs i v ok k ev).0) (λ u is. same_Some u v (sym (k.by i u is) ∙ ev)) there in
-        let to : State = record s { regs = p.regs } in
+        let to = p.to in
         let at = address_of_place (place_in gs starts a v) in
-        let load = loads_at width to d' (element_base d' o) (element_offset (starts a) o) at p.here p.ok in
-        let value : shown_at width s at ≡ w = h.elements a v w there in
-        let below : w < 2 ^ 32 = subst (λ w. w < 2 ^ 32) value (shown_below width s at h.words) in
-        let code = element_code width (starts a) d' o x in
-        let is = code ++ element_load width d' (starts a) o ∷ [] in
-        let m = saved s p.regs d' in
-        finishes most total gs starts facts.lazy registers g top fs m
-        (saved_stands (hide facts.lazy registers) g (top ∷ fs) code s p.regs d' p.runs p.others h) lz P (λ r s. go r s g) hs d w None
-        out known is s
-        (ends_over is s p.regs d' (shown_at width s at) w (into_target hs top.count d ok) (runs_then p.runs load) value below)
-        (longer_behind code _ (omega arith)) (λ w e. absurd (none-some w e)) ok k failed
+        let d' = into 1 (locations_of hs d) in
+        let load = loads_at width to d' (element_base o) (element_offset (starts a) o) at p.here p.ok in
+        let value : shown_at width to at ≡ w = (p.stands).elements a v w there in
+        let below : w < 2 ^ 32 = subst (λ w. w < 2 ^ 32) value (shown_below width to at (p.stands).words) in
+        let is = element_code width (starts a) o x ++ element_load width d' (starts a) o ∷ [] in
+        finishes most total gs starts facts.lazy registers g top fs to p.stands lz P (λ r s. go r s g) hs d w None out known is s
+        (ends_set is s to d' (shown_at width to at) w (into_target hs top.count d ok) (runs_then p.runs load) value below)
+        (longer_behind (element_code width (starts a) o x) _ (omega arith)) (λ w e. absurd (none-some w e)) ok k failed
         (λ r' s' to some e st lz' kn new. f r' s' g to some e st lz' (fact_known hs r' s' facts d None kn)
         (record { fresh = new; comparison = λ m v' is. absurd (none-some m is); result = λ m v' is. absurd (none-some m is) }))))
     performs (Store a i b) facts registers top s go ok k lz h f =
@@ -456,23 +413,20 @@ module _ (most total : ℕ) (gs : List RGlobal) (starts : ℕ → ℕ) where
         let x = operand (locations_of hs) facts i in
         let y = operand (locations_of hs) facts b in
         let o = direct width (starts a) (known_in facts i) in
-        let p = elements (hide facts.lazy registers) g top fs s h (known_in facts i) x 1 a v at_g.old b1
+        let p = elements (hide facts.lazy registers) g top fs s h (known_in facts i) x a v at_g.old
         (operand_means most total gs starts facts.lazy registers g top fs s h lz known hs i v ok k ev).1
         (λ s h. (operand_means most total gs starts facts.lazy registers g top fs s h lz known hs i v ok k ev).0) (λ u is. same_Some u v (sym (k.by i u is) ∙ ev)) at_g.was in
-        let code = element_code width (starts a) 1 o x in
-        let m : State = record s { regs = p.regs } in
-        let stands = regs_kept most total gs starts (hide facts.lazy registers) g (top ∷ fs) code s p.regs p.runs
-        (λ r low high. p.others r low high (λ e. absurd (omega (arith, e, low)))) h in
+        let m = p.to in
         let at = address_of_place (place_in gs starts a v) in
-        let z = fetches most total gs starts (hide facts.lazy registers) g top fs m stands 2 w y (omega arith) (omega arith)
-        (operand_means most total gs starts facts.lazy registers g top fs m stands lz known hs b w ok k ew).0 in
+        let z = fetches most total gs starts (hide facts.lazy registers) g top fs m p.stands 2 w y (omega arith) (omega arith)
+        (operand_means most total gs starts facts.lazy registers g top fs m p.stands lz known hs b w ok k ew).0 in
         let to : State = record m { regs = z.regs } in
-        let here : wrap (read 0 z.regs (element_base 1 o) + word_of_offset (element_offset (starts a) o)) ≡ at =
+        let here : wrap (read 0 z.regs (element_base o) + word_of_offset (element_offset (starts a) o)) ≡ at =
         ap (λ r. wrap (r + word_of_offset (element_offset (starts a) o))) (base_kept o m.regs z.regs z.others) ∙ p.here in
         let last = element_store width (seat 2 y) (starts a) o in
-        let store = stores_at width to (seat 2 y) (element_base 1 o) (element_offset (starts a) o) at here p.ok in
+        let store = stores_at width to (seat 2 y) (element_base o) (element_offset (starts a) o) at here p.ok in
         let store' : RunsTo (last ∷ []) to (set_at width to at w) = subst (λ w. RunsTo (last ∷ []) to (set_at width to at w)) z.here store in
-        f registers top.slots g' (set_at width to at w) (longer_behind code _
+        f registers top.slots g' (set_at width to at w) (longer_behind (element_code width (starts a) o x) _
         (longer_behind (fetch 2 y) (last ∷ []) (omega arith))) (runs_then p.runs (runs_then z.runs store'))
         (data_written most total gs starts (hide facts.lazy registers) g (top ∷ fs) to a v w g' (operand_below most total gs starts facts.lazy registers g top fs s h lz hs b w ok ew)
         (ap (arrays_with g a v) (sym (kept_is gs a w c ec)) ∙ eg) z.stands) lz k

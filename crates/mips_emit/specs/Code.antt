@@ -249,32 +249,31 @@ op_code op d left right x y = code_by_multiple d (multiple_of op right) (multipl
 
 -- ---- instructions
 
--- what stands before an element is used, from the operand that is its index: its base goes to register t
-abbrev pub element_code : Width → (start t : ℕ) → Option ℕ → Source → List Plain
-element_code w start t None x = fetch 1 x ++ base_code w start t (seat 1 x)
-element_code w start t (Some p) x = []
+-- what stands before an element is used, from the operand that is its index
+abbrev pub element_code : Width → (start : ℕ) → Option ℕ → Source → List Plain
+element_code w start None x = fetch 1 x ++ base_code w start (seat 1 x)
+element_code w start (Some p) x = []
 
 abbrev pub bin_code : Locations → Facts → Op → (d a b : ℕ) → List Plain
 bin_code at facts op d a b =
     op_code op (into 1 (at d)) (known_in facts a) (known_in facts b) (operand at facts a) (operand at facts b) ++ finish 1 (at d)
 
--- an element into a register that has its base, and a register into an element whose base is in register 1
+-- an element into a register, and back
 abbrev pub element_load : Width → ℕ → (start : ℕ) → Option ℕ → Plain
-element_load w t start place = plain.Load w t (element_base t place) (element_offset start place)
+element_load w t start place = plain.Load w t (element_base place) (element_offset start place)
 
 abbrev pub element_store : Width → ℕ → (start : ℕ) → Option ℕ → Plain
-element_store w t start place = plain.Store w t (element_base 1 place) (element_offset start place)
+element_store w t start place = plain.Store w t (element_base place) (element_offset start place)
 
--- a load's base is computed in the register that it loads, so that no load waits for the base of another
 abbrev pub load_code : Locations → Facts → Width → (start d i : ℕ) → List Plain
 load_code at facts w start d i =
-    (element_code w start (into 1 (at d)) (direct w start (known_in facts i)) (operand at facts i)
+    (element_code w start (direct w start (known_in facts i)) (operand at facts i)
     ++ element_load w (into 1 (at d)) start (direct w start (known_in facts i)) ∷ [])
     ++ finish 1 (at d)
 
 abbrev pub store_code : Locations → Facts → Width → (start i b : ℕ) → List Plain
 store_code at facts w start i b =
-    element_code w start 1 (direct w start (known_in facts i)) (operand at facts i)
+    element_code w start (direct w start (known_in facts i)) (operand at facts i)
     ++ (fetch 2 (operand at facts b)
     ++ element_store w (seat 2 (operand at facts b)) start (direct w start (known_in facts i)) ∷ [])
 

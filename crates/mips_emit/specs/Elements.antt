@@ -73,30 +73,30 @@ page at = (at + 32768) / 65536
 abbrev pub low : ℕ → ℤ
 low at = if nat_lt (at % 65536) 32768 then pos (at % 65536) else negsuc (65535 - at % 65536)
 
--- an index in register q, times the width, by way of register t
-abbrev pub scaled : Width → (t q : ℕ) → List Plain
-scaled Word t q = Shift Sll t q 2 ∷ []
-scaled Byte t q = []
+-- an index in a register, times the width
+abbrev pub scaled : Width → ℕ → List Plain
+scaled Word q = Shift Sll 1 q 2 ∷ []
+scaled Byte q = []
 
-abbrev pub scaled_seat : Width → (t q : ℕ) → ℕ
-scaled_seat Word t q = t
-scaled_seat Byte t q = q
+abbrev pub scaled_seat : Width → ℕ → ℕ
+scaled_seat Word q = 1
+scaled_seat Byte q = q
 
--- from an index in a register to a base for the element, in register t, and the offset from it
-abbrev pub base_sum : (start t q : ℕ) → List Plain
-base_sum start t q =
-    if nat_lt start 65536 then Alu Addu t q 28 ∷ [] else LoadUpper 2 (page (address_of_place start)) ∷ Alu Addu t q 2 ∷ []
+-- from an index in a register to a base for the element, in register 1, and the offset from it
+abbrev pub base_sum : (start q : ℕ) → List Plain
+base_sum start q =
+    if nat_lt start 65536 then Alu Addu 1 q 28 ∷ [] else LoadUpper 2 (page (address_of_place start)) ∷ Alu Addu 1 q 2 ∷ []
 
-abbrev pub base_code : Width → (start t q : ℕ) → List Plain
-base_code w start t q = scaled w t q ++ base_sum start t (scaled_seat w t q)
+abbrev pub base_code : Width → (start q : ℕ) → List Plain
+base_code w start q = scaled w q ++ base_sum start (scaled_seat w q)
 
 abbrev pub base_offset : ℕ → ℤ
 base_offset start = if nat_lt start 65536 then near start else low (address_of_place start)
 
--- the base of an element, register t if none else, and the offset from it, by its place if register 28 reaches that
-abbrev pub element_base : ℕ → Option ℕ → ℕ
-element_base t None = t
-element_base t (Some p) = 28
+-- the base of an element and the offset from it, by its place if register 28 reaches that
+abbrev pub element_base : Option ℕ → ℕ
+element_base None = 1
+element_base (Some p) = 28
 
 abbrev pub element_offset : (start : ℕ) → Option ℕ → ℤ
 element_offset start None = base_offset start

@@ -79,19 +79,14 @@ fn page_of(start: u32) -> u16
     ((0x1000_0000 + start + 32_768) / 65_536) as u16
 }
 
-// An index in a register, times the width, by way of register t.
-fn emit_scaled(
-    code: &mut Vec<Plain>,
-    width: Width,
-    t: NonzeroReg,
-    index: Reg,
-) -> Result<(), AllocError>
-    ensures { Emits result code.old.items (scaled width t index) code.new.items }
+// An index in a register, times the width.
+fn emit_scaled(code: &mut Vec<Plain>, width: Width, index: Reg) -> Result<(), AllocError>
+    ensures { Emits result code.old.items (scaled width index) code.new.items }
 {
     match width {
         Width::Word => code.push(Plain::Shift {
             op: ShiftOp::Sll,
-            rd: t.reg(),
+            rd: Reg::masked(1),
             rt: index,
             amount: Amount::masked(2),
         })?,
@@ -101,30 +96,25 @@ fn emit_scaled(
 }
 
 // The register that shows it then.
-fn scaled_seat(width: Width, t: NonzeroReg, index: Reg) -> Reg
-    ensures { result ≡ scaled_seat width t index }
+fn scaled_seat(width: Width, index: Reg) -> Reg
+    ensures { result ≡ scaled_seat width index }
 {
     match width {
-        Width::Word => t.reg(),
+        Width::Word => Reg::masked(1),
         Width::Byte => index,
     }
 }
 
-// From a scaled index to a base for the element, in register t.
-fn emit_sum(
-    code: &mut Vec<Plain>,
-    start: u32,
-    t: NonzeroReg,
-    index: Reg,
-) -> Result<(), AllocError>
+// From a scaled index to a base for the element, in register 1.
+fn emit_sum(code: &mut Vec<Plain>, start: u32, index: Reg) -> Result<(), AllocError>
     requires { start ≤ UNIT_BYTES }
-    ensures { Emits result code.old.items (base_sum start t index) code.new.items }
+    ensures { Emits result code.old.items (base_sum start index) code.new.items }
 {
     let base = Reg::masked(if start < 65_536 { 28 } else { 2 });
     if start < 65_536 {
         code.push(Plain::Alu {
             op: AluOp::Addu,
-            rd: t.reg(),
+            rd: Reg::masked(1),
             rs: index,
             rt: base,
         })?;
@@ -135,7 +125,7 @@ fn emit_sum(
         })?;
         code.push(Plain::Alu {
             op: AluOp::Addu,
-            rd: t.reg(),
+            rd: Reg::masked(1),
             rs: index,
             rt: base,
         })?;
@@ -155,34 +145,33 @@ fn base_offset(start: u32) -> i16
     }
 }
 
-/// What stands before an element is used: its base goes to register t. An Err is refused memory.
+/// What stands before an element is used; an Err is refused memory.
 pub(crate) fn emit_element(
     code: &mut Vec<Plain>,
     width: Width,
     start: u32,
-    t: NonzeroReg,
     place: Option<u32>,
     x: &Source,
 ) -> Result<(), AllocError>
     requires few { start ≤ UNIT_BYTES }
     requires fits { FitsSource x.now }
-    ensures { Emits result code.old.items (element_code width start t place x.now) code.new.items }
+    ensures { Emits result code.old.items (element_code width start place x.now) code.new.items }
 {
     if place.is_none() {
         let index = seat(register(1), x);
         emit_fetch(code, register(1), x)?;
-        emit_scaled(code, width, t, index)?;
-        emit_sum(code, start, t, scaled_seat(width, t, index))?;
+        emit_scaled(code, width, index)?;
+        emit_sum(code, start, scaled_seat(width, index))?;
     }
     Ok(())
 }
 
 // The register from which an element is reached.
-fn element_base(t: NonzeroReg, place: Option<u32>) -> Reg
-    ensures { result ≡ element_base t place }
+fn element_base(place: Option<u32>) -> Reg
+    ensures { result ≡ element_base place }
 {
     match place {
-        None => t.reg(),
+        None => Reg::masked(1),
         Some(_) => Reg::masked(28),
     }
 }
@@ -199,7 +188,7 @@ fn element_offset(start: u32, place: Option<u32>) -> i16
     }
 }
 
-/// A load of an element into the register that has its base.
+/// A load of an element.
 pub(crate) fn element_load(width: Width, rt: NonzeroReg, start: u32, place: Option<u32>) -> Plain
     requires few { start ≤ UNIT_BYTES }
     requires near { IsNear place }
@@ -208,12 +197,12 @@ pub(crate) fn element_load(width: Width, rt: NonzeroReg, start: u32, place: Opti
     Plain::Load {
         width,
         rt,
-        base: element_base(rt, place),
+        base: element_base(place),
         offset: element_offset(start, place),
     }
 }
 
-/// A store to an element whose base is in register 1.
+/// A store to an element.
 pub(crate) fn element_store(width: Width, rt: Reg, start: u32, place: Option<u32>) -> Plain
     requires few { start ≤ UNIT_BYTES }
     requires near { IsNear place }
@@ -222,7 +211,7 @@ pub(crate) fn element_store(width: Width, rt: Reg, start: u32, place: Option<u32
     Plain::Store {
         width,
         rt,
-        base: element_base(register(1), place),
+        base: element_base(place),
         offset: element_offset(start, place),
     }
 }

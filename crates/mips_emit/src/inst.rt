@@ -120,7 +120,7 @@ fn emit_load(
     let x = operand(facts, frame, i);
     let place = direct(width, start, known_word(facts, i));
     let rt = into_of(register(1), locate(frame, d));
-    emit_element(code, width, start, rt, place, &x)?;
+    emit_element(code, width, start, place, &x)?;
     code.push(element_load(width, rt, start, place))?;
     emit_finish(code, register(1), locate(frame, d))?;
     Ok(())
@@ -145,7 +145,7 @@ fn emit_store(
     let x = operand(facts, frame, i);
     let y = operand(facts, frame, b);
     let place = direct(width, start, known_word(facts, i));
-    emit_element(code, width, start, register(1), place, &x)?;
+    emit_element(code, width, start, place, &x)?;
     emit_fetch(code, register(2), &y)?;
     code.push(element_store(width, seat(register(2), &y), start, place))?;
     Ok(())
