@@ -71,13 +71,12 @@ export class Mcc {
     return { status, text: new TextDecoder().decode(bytes) };
   }
 
-  check(text) {
-    return this.text('mcc_web_check', text);
-  }
-
-  explain(text) {
-    return this.text('mcc_web_explain', text);
-  }
+  check(text) { return this.text('mcc_web_check', text); }
+  explain(text) { return this.text('mcc_web_explain', text); }
+  interp(text, steps, depth = 256) { return this.text('mcc_web_interp', text, [depth, BigInt(steps)]); }
+  orders(text, depth = 256) { return this.text('mcc_web_orders', text, [depth]); }
+  run(image, steps) { return this.text('mcc_web_run', image, [BigInt(steps)]); }
+  list(image) { return this.text('mcc_web_list', image); }
 
   // A stage of the function of this name, or of all where there is no name.
   show(text, stage, name = '') {
@@ -87,22 +86,6 @@ export class Mcc {
       for (const [at] of lent) if (shown.status >= 0) this.exports.mcc_give(at);
       return shown;
     });
-  }
-
-  interp(text, steps, depth = 256) {
-    return this.text('mcc_web_interp', text, [depth, BigInt(steps)]);
-  }
-
-  orders(text, depth = 256) {
-    return this.text('mcc_web_orders', text, [depth]);
-  }
-
-  run(image, steps) {
-    return this.text('mcc_web_run', image, [BigInt(steps)]);
-  }
-
-  list(image) {
-    return this.text('mcc_web_list', image);
   }
 
   // The line that is printed, or what is told; and the image.

@@ -14,13 +14,12 @@ export const RULES = {
 };
 
 const EXIT_WORDS = { goto: 2, call: 4, return: 2, out: 4, halt: 2 };
-const SLOTLESS = ['out', 'halt'];
 
 export const hex = word => '0x' + word.toString(16).padStart(8, '0');
 
 const mnemonic = line => line.split(' ')[0];
 export const exitWords = exit => EXIT_WORDS[mnemonic(exit)] ?? 4;
-export const hasSlot = exit => !SLOTLESS.includes(mnemonic(exit));
+export const hasSlot = exit => !['out', 'halt'].includes(mnemonic(exit));
 
 // The numbers of the blocks to which an exit goes inside its function, the first one where a condition holds.
 export function targets(exit) {
@@ -186,17 +185,8 @@ export function move(order, from, to) {
   return next;
 }
 
-export function addNop(order, at) {
-  const next = copy(order);
-  next.insts.splice(at, 0, 'nop');
-  return next;
-}
-
-export function removeNop(order, at) {
-  const next = copy(order);
-  if (next.insts[at] === 'nop') next.insts.splice(at, 1);
-  return next;
-}
+export const addNop = (order, at) => ({ ...order, insts: order.insts.toSpliced(at, 0, 'nop') });
+export const removeNop = (order, at) => ({ ...order, insts: order.insts.toSpliced(at, 1) });
 
 // ---- the graph of a function: blocks in layers, and its edges
 
@@ -209,7 +199,6 @@ export function graphOf(blocks) {
       if (numbers.has(t)) edges.push({ from, to: numbers.get(t), kind: all.length < 2 ? '' : k === 0 ? 'yes' : 'no', isBack: false });
     });
   }
-  markBackEdges(blocks.length, edges);
   const layer = layers(blocks.length, edges);
   const steps = stepsOf(edges, layer);
   return { edges, layer, rank: ranks(layer.length, steps, layer) };
@@ -233,42 +222,28 @@ function stepsOf(edges, layer) {
   return steps;
 }
 
-function markBackEdges(count, edges) {
+// The layer of each block, below all from which an edge comes down; marks the edges that go back.
+function layers(count, edges) {
   const out = Array.from({ length: count }, () => []);
   for (const edge of edges) out[edge.from].push(edge);
   const state = new Array(count).fill(0);
+  const ended = [];
   for (let root = 0; root < count; root++) {
-    if (state[root]) continue;
-    const stack = [[root, 0]];
-    state[root] = 1;
+    const stack = state[root] ? [] : [[root, 0]];
     while (stack.length) {
       const top = stack.at(-1);
+      state[top[0]] = 1;
       const edge = out[top[0]][top[1]++];
       if (!edge) {
         state[top[0]] = 2;
-        stack.pop();
+        ended.push(stack.pop()[0]);
       } else if (state[edge.to] === 1) edge.isBack = true;
-      else if (state[edge.to] === 0) {
-        state[edge.to] = 1;
-        stack.push([edge.to, 0]);
-      }
+      else if (state[edge.to] === 0) stack.push([edge.to, 0]);
     }
   }
-}
-
-// Each block below all from which an edge comes down.
-function layers(count, edges) {
   const layer = new Array(count).fill(0);
-  const forward = edges.filter(e => !e.isBack);
-  for (let round = 0; round < count; round++) {
-    let isDone = true;
-    for (const { from, to } of forward) {
-      if (layer[to] <= layer[from]) {
-        layer[to] = layer[from] + 1;
-        isDone = false;
-      }
-    }
-    if (isDone) break;
+  for (const from of ended.reverse()) {
+    for (const { to, isBack } of out[from]) if (!isBack) layer[to] = Math.max(layer[to], layer[from] + 1);
   }
   return layer;
 }

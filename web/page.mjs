@@ -62,7 +62,7 @@ let client = null;
 const page = {
   text: '', lines: [], marks: {}, scroll: { top: 0, left: 0 }, told: null, image: null, blocks: [], groups: [], group: null,
   chosen: null, order: null, at: 0, said: '', stages: new Map(),
-  listing: [], view: null, before: null, breakpoint: null, touched: null, isBusy: false, isStale: false,
+  listing: [], view: null, before: null, breakpoint: null, cursor: null, touched: null, isBusy: false, isStale: false,
 };
 
 // ---- the C text
@@ -242,10 +242,10 @@ function showGraph() {
   const right = NODE.pad + NODE.width + widest * NODE.across;
   const width = right + 26 + 12 * back;
   const height = NODE.pad * 2 + NODE.height + Math.max(...layer) * NODE.down;
-  const graph = $('graph');
-  graph.replaceChildren(arrowHeads());
-  graph.setAttribute('viewBox', `0 0 ${width} ${height}`);
-  Object.assign(graph.style, { width: width + 'px', height: height + 'px', minWidth: width + 'px' });
+  $('graph').setAttribute('viewBox', `0 0 ${width} ${height}`);
+  Object.assign($('graph').style, { width: width + 'px', height: height + 'px', minWidth: width + 'px' });
+  const graph = $('shapes');
+  graph.replaceChildren();
   let lane = right + 8;
   for (const { from, to, by, kind, isBack } of edges) {
     const side = kind === 'yes' ? -14 : kind === 'no' ? 14 : 0;
@@ -268,27 +268,14 @@ function showGraph() {
     if (kind) graph.append(svg('text', { x: x + (side < 0 ? -26 : 10), y: y + 12, class: 'kind' }, kind));
   }
   blocks.forEach((b, k) => {
-    const node = svg('g', { class: 'node', tabindex: 0, role: 'button', 'data-block': b.number, 'aria-label': `block ${b.number}` });
+    const node = svg('g', { class: 'node', tabindex: -1, role: 'button', 'data-block': b.number, 'aria-label': `block ${b.number}` });
     node.append(svg('rect', { x: middle(k) - NODE.width / 2, y: top(k), width: NODE.width, height: NODE.height }));
     const [word] = b.block.exit.split(' ');
     node.append(svg('text', { x: middle(k), y: top(k) + 14, 'text-anchor': 'middle' }, String(b.number)));
     node.append(svg('text', { x: middle(k), y: top(k) + 28, 'text-anchor': 'middle', class: 'kind' }, `${b.block.insts.length} · ${word}`));
     node.onclick = () => chooseBlock(b);
-    node.onkeydown = event => {
-      if (event.key === 'Enter' || event.key === ' ') { event.preventDefault(); chooseBlock(b); }
-    };
     graph.append(node);
   });
-}
-
-function arrowHeads() {
-  const heads = svg('defs', {});
-  for (const [id, colour] of [['arrow', '--soft'], ['arrow-back', '--back']]) {
-    const head = svg('marker', { id, viewBox: '0 0 8 8', refX: 7, refY: 4, markerWidth: 7, markerHeight: 7, orient: 'auto' });
-    head.append(svg('path', { d: 'M 0 0 L 8 4 L 0 8 z', style: `fill: var(${colour}); stroke: none` }));
-    heads.append(head);
-  }
-  return heads;
 }
 
 function markNodes() {
@@ -297,7 +284,20 @@ function markNodes() {
     const number = Number(node.dataset.block);
     node.classList.toggle('chosen', number === page.chosen?.number);
     node.classList.toggle('pointed', number === here?.number);
+    node.setAttribute('tabindex', number === page.chosen?.number ? 0 : -1);
   }
+}
+
+// Tab reaches the chosen block alone; arrows lead to the others, Enter chooses one.
+function graphKey(event) {
+  const nodes = [...document.querySelectorAll('#graph .node')];
+  const at = nodes.indexOf(document.activeElement);
+  const next = { ArrowDown: at + 1, ArrowRight: at + 1, ArrowUp: at - 1, ArrowLeft: at - 1, Home: 0, End: nodes.length - 1 }[event.key];
+  const isChosen = event.key === 'Enter' || event.key === ' ';
+  if (at < 0 || (next === undefined && !isChosen)) return;
+  event.preventDefault();
+  if (isChosen) nodes[at].dispatchEvent(new Event('click'));
+  else nodes[next]?.focus();
 }
 
 // ---- a block and its order
@@ -469,6 +469,7 @@ async function goTo(from, { most = 0, stop = 0 } = {}) {
   if (image !== page.image || !view || view.status !== 0) return;
   page.before = page.view && view.words === page.view.words + 1 ? page.view : null;
   page.view = view;
+  page.cursor = null;
   showMachine();
 }
 
@@ -501,9 +502,35 @@ function showListing() {
     const item = element('li', label, number !== undefined && 'block', address === view?.pc && 'here', isIn(address) && 'chosen',
       address === after && 'next', address === page.breakpoint && 'breakpoint');
     item.dataset.address = address;
+    item.id = 'word-' + address;
+    item.role = 'option';
     return item;
   }));
   list.querySelector('.here')?.scrollIntoView({ block: 'nearest' });
+  pointAt(page.cursor ?? view?.pc ?? null);
+}
+
+// The word of the listing on which one stands: that of the next step, until arrows lead to another one.
+function pointAt(address) {
+  const list = $('listing');
+  const item = address === null ? null : $('word-' + address);
+  list.querySelector('.cursor')?.classList.remove('cursor');
+  item?.classList.add('cursor');
+  list.setAttribute('aria-activedescendant', item?.id ?? '');
+  return item;
+}
+
+function moveCursor(by) {
+  const to = (page.cursor ?? page.view?.pc ?? 0) + by;
+  const item = $('word-' + to) && pointAt(to);
+  if (!item) return;
+  page.cursor = to;
+  item.scrollIntoView({ block: 'nearest' });
+}
+
+function clickWord(address) {
+  chooseAt(address);
+  setBreakpoint(address);
 }
 
 function showMachine() {
@@ -570,17 +597,21 @@ function listenToMachine() {
   $('listing').onclick = event => {
     const { address } = event.target.dataset;
     if (!address) return;
-    chooseAt(Number(address));
-    setBreakpoint(Number(address));
+    page.cursor = Number(address);
+    clickWord(page.cursor);
   };
-  $('steps').onkeydown = event => {
-    if (event.target.closest('button, select, input')) return;
-    const name = { ArrowRight: 'step', ' ': 'step', ArrowLeft: 'back', Home: 'reset', r: 'run' }[event.key];
-    if (name) {
-      event.preventDefault();
-      $(name).click();
-    } else if (event.key === 'Enter' && page.view) setBreakpoint(page.view.pc);
-  };
+  $('steps').onkeydown = machineKey;
+}
+
+function machineKey(event) {
+  if (event.target.closest('button, select, input') || event.altKey || event.ctrlKey || event.metaKey) return;
+  const name = { ArrowRight: 'step', ' ': 'step', ArrowLeft: 'back', Home: 'reset', r: 'run' }[event.key];
+  const by = event.target === $('listing') ? { ArrowUp: -4, ArrowDown: 4 }[event.key] : undefined;
+  if (!name && !by && event.key !== 'Enter') return;
+  event.preventDefault();
+  if (name) $(name).click();
+  else if (by) moveCursor(by);
+  else if (page.view) clickWord(page.cursor ?? page.view.pc);
 }
 
 // ---- examples, links, themes, tabs
@@ -700,6 +731,7 @@ async function main() {
   listenToTabs();
   listenToOrder();
   listenToMachine();
+  $('graph').onkeydown = graphKey;
   const texts = JSON.parse($('example-texts').textContent);
   listExamples(texts);
   const source = $('source');

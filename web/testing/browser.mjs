@@ -4,6 +4,8 @@ import fs from 'node:fs';
 import os from 'node:os';
 import path from 'node:path';
 
+// The codes that Chromium wants of keys which do something by themselves.
+const CODES = { Tab: 9, Enter: 13, ' ': 32, End: 35, Home: 36, ArrowLeft: 37, ArrowUp: 38, ArrowRight: 39, ArrowDown: 40, Delete: 46 };
 const FLAGS = ['--headless=new', '--no-sandbox', '--disable-gpu', '--disable-dev-shm-usage', '--no-first-run', '--remote-debugging-pipe'];
 
 export class Browser {
@@ -103,8 +105,8 @@ class Page extends Waiting {
   }
 
   async key(key, { alt = false, code = key } = {}) {
-    const text = key.length === 1 ? key : undefined;
-    const words = { key, code, text, modifiers: alt ? 1 : 0 };
+    const text = key === 'Enter' ? '\r' : key.length === 1 ? key : undefined;
+    const words = { key, code, text, modifiers: alt ? 1 : 0, windowsVirtualKeyCode: CODES[key] };
     await this.send('Input.dispatchKeyEvent', { type: text ? 'keyDown' : 'rawKeyDown', ...words });
     await this.send('Input.dispatchKeyEvent', { type: 'keyUp', ...words, text: undefined });
   }

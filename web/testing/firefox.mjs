@@ -7,7 +7,10 @@ import path from 'node:path';
 import { Waiting } from './browser.mjs';
 
 const FLAGS = ['--headless', '--no-remote', '--marionette', '--remote-allow-system-access', '--profile'];
-const KEYS = { ArrowUp: '\uE013', ArrowDown: '\uE015', Delete: '\uE017' };
+const KEYS = {
+  Tab: '\uE004', Enter: '\uE007', End: '\uE010', Home: '\uE011', ArrowLeft: '\uE012', ArrowUp: '\uE013', ArrowRight: '\uE014',
+  ArrowDown: '\uE015', Delete: '\uE017',
+};
 const ALT = '\uE00A';
 export class Firefox {
   constructor(command = 'firefox-esr') {

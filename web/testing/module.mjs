@@ -3,9 +3,9 @@ import fs from 'node:fs';
 import zlib from 'node:zlib';
 import { Mcc } from '../mcc.mjs';
 
-export function moduleOf(file) {
+export function bytesOf(file) {
   const [, text] = /<script type="application\/octet-stream" id="wasm">([^<]*)<\/script>/.exec(fs.readFileSync(file, 'latin1'));
-  return new WebAssembly.Module(zlib.inflateSync(Buffer.from(text, 'base64')));
+  return zlib.inflateSync(Buffer.from(text, 'base64'));
 }
 
-export const mccOf = file => new Mcc(moduleOf(file));
+export const mccOf = file => new Mcc(new WebAssembly.Module(bytesOf(file)));

@@ -69,9 +69,59 @@ async function looks(page, name) {
   }
 }
 
+// All that can be reached by Tab and is seen, each with a number of its own.
+const CONTROLS = `(() => {
+  const all = [...document.querySelectorAll('a, button, select, input, textarea, summary, [tabindex]')];
+  const seen = all.filter(e => e.tabIndex >= 0 && !e.disabled && e.checkVisibility());
+  seen.forEach((e, k) => { e.dataset.control = k; });
+  return seen.map(e => e.id || e.tagName + ' ' + e.textContent.slice(0, 20)); })()`;
+const IS_SEEN = `(() => { const e = document.activeElement.closest('.editor') ?? document.activeElement; const style = getComputedStyle(e);
+  return style.outlineStyle !== 'none' || e instanceof SVGElement; })()`;
+
+// By the keyboard alone: Tab reaches each control, and keys choose a block, an order's line, a view, a word and its breakpoint.
+async function byKeys(page) {
+  const controls = await page.value(CONTROLS);
+  await page.value(`document.getElementById('examples').focus()`);
+  const reached = new Set();
+  let isShown = true;
+  for (let k = 0; k < controls.length; k++) {
+    reached.add(Number(await page.value('document.activeElement.dataset.control ?? -1')));
+    isShown &&= await page.value(IS_SEEN);
+    await page.key('Tab');
+  }
+  judge('Tab reaches each control', reached.size === controls.length && !reached.has(-1), controls.filter((_, k) => !reached.has(k)));
+  judge('in a few steps', controls.length < 40, controls);
+  judge('what has the focus is seen', isShown);
+  await page.value(`document.querySelector('#graph .node.chosen').focus()`);
+  const title = await page.value(text('block-title'));
+  await page.key('ArrowDown');
+  await page.key('Enter');
+  judge('arrows and Enter choose a block', await page.until(`${text('block-title')} !== ${JSON.stringify(title)}`));
+  await page.value(`document.getElementById('tab-orders').focus()`);
+  await page.key('ArrowRight');
+  judge('an arrow chooses a view', await page.until(`document.activeElement.id === 'tab-steps' && !document.getElementById('steps').hidden`));
+  await page.value(`document.getElementById('listing').focus()`);
+  for (const key of ['ArrowRight', 'ArrowDown', 'ArrowDown', 'ArrowDown', 'Enter']) {
+    await page.key(key);
+    await page.until(`${text('count')}.startsWith('1 words')`);
+  }
+  judge('arrows lead to a word, Enter sets a breakpoint', await page.until(`${text('count')}.endsWith('breakpoint 0x00400010')`),
+    await page.value(text('count')));
+  await page.key('r');
+  judge('R runs to it', await page.until(`document.querySelector('#listing .here.breakpoint') !== null`));
+  await page.key('Home');
+  judge('Home leads back to the start', await page.until(`${text('count')}.startsWith('0 words')`));
+}
+
 async function main() {
   const browser = name === 'firefox' ? new Firefox() : new Browser();
-  const page = await browser.open(address);
+  const late = new Promise(resolve => setTimeout(resolve, 120_000, null).unref());
+  const page = await Promise.race([browser.open(address), late]).catch(() => null);
+  if (page === null) {
+    browser.child.kill('SIGKILL');
+    console.log(`pages: skipped: ${name} doesn't start here\n0 passed, 0 failed`);
+    process.exit(0);
+  }
   judge('the page is ready', await page.until(READY));
   judge('nothing is asked of a server', (await page.asked()).every(url => url === address || url.startsWith('blob:') || url.startsWith('data:')), await page.asked());
   judge('both print the same', await page.until(`${text('agree')} === 'Both print the same.'`));
@@ -164,7 +214,10 @@ async function main() {
 
   const linked = await browser.open(address + '#' + encodeURIComponent('int main(void) {\n    out(42);\n    return 0;\n}\n'));
   judge('a link opens its text', await linked.until(`${text('interp')}.startsWith('42\\ndone 0')`));
-  const wrong = [...(await page.wrong()), ...(await linked.wrong())];
+  const keyed = await browser.open(address);
+  judge('a page for the keyboard', await keyed.until(READY));
+  await byKeys(keyed);
+  const wrong = [...(await page.wrong()), ...(await linked.wrong()), ...(await keyed.wrong())];
   judge('no error on the console', wrong.length === 0, wrong);
   await browser.close();
   console.log(`${passed} passed, ${failed} failed`);

@@ -16,10 +16,8 @@ ghost use Rattle.block_text.specs.Shown.{IsShown};
 use block_text::{WIDTH, page_of};
 use image::Image;
 use mips_code::decode;
-use mips_isa::{Control, Inst, ListedControl, Plain, branch_target, jump_target};
+use mips_isa::{CODE_BASE, Control, Inst, ListedControl, Plain, branch_target, jump_target};
 use std::alloc::{AllocError, Global};
-
-const CODE_BASE: u32 = 0x0040_0000;
 
 const HEAD: &str = "\
 # An image of mcc: code at 0x00400000, data at 0x10000000, MIPS I, big-endian.

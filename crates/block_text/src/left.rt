@@ -3,8 +3,8 @@
 use crate::reader::{Left, ReadFault, block_left, order_left};
 use crate::text::{pair_sign, root_text, width_name, zero_sign};
 use block_validator::Place;
-use mblock::{Block, Order};
-use mips_isa::NonzeroReg;
+use mblock::{Block, BlockNumber, Order};
+use mips_isa::{NonzeroReg, PairTest};
 use std::alloc::{AllocError, Global};
 use sym_exec::{Guard, TermExit};
 use sym_terms::{Label, Origin};
@@ -28,26 +28,43 @@ fn operands_of(exit: &TermExit) -> usize {
     }
 }
 
+/// A text behind some words.
+fn put_text(out: &mut String, before: &str, text: &str) -> Result<(), AllocError> {
+    out.push_str(before)?;
+    out.push_str(text)
+}
+
+/// The number of a block behind some words.
+fn put_block(out: &mut String, before: &str, block: BlockNumber) -> Result<(), AllocError> {
+    out.push_str(before)?;
+    let number = block.number();
+    write!(out, "{number}")
+}
+
+/// The two targets of a branch.
+fn put_sides(out: &mut String, then: BlockNumber, other: BlockNumber) -> Result<(), AllocError> {
+    put_block(out, " ? ", then)?;
+    put_block(out, " : ", other)
+}
+
+/// The test of two terms.
+fn put_test(out: &mut String, first: &str, test: PairTest, second: &str) -> Result<(), AllocError> {
+    out.push_str(first)?;
+    put_text(out, pair_sign(test), second)
+}
+
 /// The exit by the terms that it reads and its targets.
-fn exit_words(
-    alloc: Global,
-    exit: TermExit,
-    first: &str,
-    second: &str,
-) -> Result<String, AllocError> {
+fn put_exit(out: &mut String, exit: TermExit, first: &str, second: &str) -> Result<(), AllocError> {
     match exit {
-        TermExit::Goto(target) => {
-            let target = target.number();
-            format!(in alloc; "goto {target}")
-        }
+        TermExit::Goto(target) => put_block(out, "goto ", target),
         TermExit::BranchPair {
             test,
             then,
             other,
             ..
         } => {
-            let (sign, then, other) = (pair_sign(test), then.number(), other.number());
-            format!(in alloc; "{first} {sign} {second} ? {then} : {other}")
+            put_test(out, first, test, second)?;
+            put_sides(out, then, other)
         }
         TermExit::BranchZero {
             test,
@@ -55,19 +72,19 @@ fn exit_words(
             other,
             ..
         } => {
-            let (sign, then, other) = (zero_sign(test), then.number(), other.number());
-            format!(in alloc; "{first} {sign} ? {then} : {other}")
+            put_text(out, first, zero_sign(test))?;
+            put_sides(out, then, other)
         }
         TermExit::Call { function, next } => {
-            let (function, next) = (function.number(), next.number());
-            format!(in alloc; "call {function}, then {next}")
+            put_block(out, "call ", function)?;
+            put_block(out, ", then ", next)
         }
-        TermExit::Return(_) => format!(in alloc; "return to {first}"),
+        TermExit::Return(_) => put_text(out, "return to ", first),
         TermExit::Out { next, .. } => {
-            let next = next.number();
-            format!(in alloc; "out {first}, then {next}")
+            put_text(out, "out ", first)?;
+            put_block(out, ", then ", next)
         }
-        TermExit::Halt(_) => format!(in alloc; "halt with {first}"),
+        TermExit::Halt(_) => put_text(out, "halt with ", first),
     }
 }
 
@@ -75,7 +92,9 @@ fn exit_text(alloc: Global, left: &mut Left, depth: u32) -> Result<String, Alloc
     let exit = left.exit;
     let first = root_text(alloc, &mut left.reader, OPERANDS, depth)?;
     let second = root_text(alloc, &mut left.reader, OPERANDS + 1, depth)?;
-    exit_words(alloc, exit, first.as_str(), second.as_str())
+    let mut out = String::new(alloc);
+    put_exit(&mut out, exit, first.as_str(), second.as_str())?;
+    Ok(out)
 }
 
 /// A guard, the first of whose roots has this number.
@@ -88,16 +107,21 @@ fn guard_text(
 ) -> Result<String, AllocError> {
     let first = root_text(alloc, &mut left.reader, root, depth)?;
     match guard {
-        Guard::Address { width, .. } => {
-            let name = width_name(*width);
-            format!(in alloc; "{name} at {first}")
-        }
+        Guard::Address { width, .. } => joined(alloc, width_name(*width), " at ", first.as_str()),
         Guard::Division { sign, .. } => {
             let second = root_text(alloc, &mut left.reader, root.saturating_add(1), depth)?;
-            let name = division_name(*sign);
-            format!(in alloc; "{name} {first} by {second}")
+            let mut out = joined(alloc, division_name(*sign), " ", first.as_str())?;
+            put_text(&mut out, " by ", second.as_str())?;
+            Ok(out)
         }
     }
+}
+
+/// Two texts with this between them.
+fn joined(alloc: Global, first: &str, between: &str, second: &str) -> Result<String, AllocError> {
+    let mut out = String::from_str(alloc, first)?;
+    put_text(&mut out, between, second)?;
+    Ok(out)
 }
 
 fn division_name(sign: Sign) -> &'static str {
@@ -114,13 +138,15 @@ fn roots_of(guard: &Guard) -> usize {
     }
 }
 
-fn contains(texts: &[String], text: &str) -> bool {
-    for other in texts {
-        if other.as_str() == text {
-            return true;
+/// One more text, unless it is there.
+fn add(texts: &mut Vec<String>, text: String) -> Result<(), AllocError> {
+    for other in texts.iter() {
+        if other.as_str() == text.as_str() {
+            return Ok(());
         }
     }
-    false
+    texts.push(text)?;
+    Ok(())
 }
 
 /// All guards, each of them once.
@@ -131,27 +157,29 @@ fn guard_texts(alloc: Global, left: &mut Left, depth: u32) -> Result<Vec<String>
         let Some(guard) = left.guards.get(k).copied() else {
             break;
         };
-        let text = guard_text(alloc, left, &guard, root, depth)?;
-        if !contains(texts.as_slice(), text.as_str()) {
-            texts.push(text)?;
-        }
+        add(&mut texts, guard_text(alloc, left, &guard, root, depth)?)?;
         root = root.saturating_add(roots_of(&guard));
     }
     Ok(texts)
 }
 
+/// Texts one behind another.
+fn put_all(out: &mut String, texts: &[String]) -> Result<(), AllocError> {
+    let mut between = "";
+    for text in texts {
+        put_text(out, between, text.as_str())?;
+        between = "; ";
+    }
+    Ok(())
+}
+
 fn guards_text(alloc: Global, left: &mut Left, depth: u32) -> Result<String, AllocError> {
     let texts = guard_texts(alloc, left, depth)?;
-    let mut out = String::new(alloc);
-    for (k, text) in texts.iter().enumerate() {
-        if k > 0 {
-            out.push_str("; ")?;
-        }
-        out.push_str(text.as_str())?;
-    }
     if texts.is_empty() {
-        out.push_str("none")?;
+        return String::from_str(alloc, "none");
     }
+    let mut out = String::new(alloc);
+    put_all(&mut out, texts.as_slice())?;
     Ok(out)
 }
 

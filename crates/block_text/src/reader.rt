@@ -12,10 +12,14 @@ use sym_exec::{Guard, RunRoom, SymState, TermExit, TermPlaces, run_block, run_or
 use sym_terms::Label;
 use term_table::{Node, Pass, TermTable, Ticket};
 
-/// The terms of the table, and its chains.
-const NODES: u64 = 65536;
-
-const HEADS: u64 = 1024;
+/// How many terms a table has room for.
+#[derive(Clone, Copy)]
+pub enum Room {
+    /// 4,096, more than most blocks have.
+    Few,
+    /// 65,536.
+    Many,
+}
 
 /// Why there is nothing to read.
 #[derive(Clone, Copy, Debug, PartialEq, Eq)]
@@ -59,17 +63,22 @@ impl Model for TermReader {
     ghost invariant = { λ r. IsReader r.open };
 }
 
-/// A table for one pass.
-fn tables(alloc: Global) -> Option<(TermTable, Vec<Pass>)>
+/// A table of so many terms and chains, for one pass.
+fn tables(alloc: Global, nodes: u64, heads: u64) -> Option<(TermTable, Vec<Pass>)>
     ensures { IfSome result (λ t. All (IsOf t.0) t.1.items) }
 {
-    TermTable::open(alloc, 1, NODES, HEADS).ok()
+    TermTable::open(alloc, 1, nodes, heads).ok()
 }
 
-fn opened(alloc: Global) -> Option<(TermTable, Pass)>
+/// A table for one pass, and its pass; none where memory is refused.
+pub fn table_of(alloc: Global, room: Room) -> Option<(TermTable, Pass)>
     ensures { IfSome result (λ t. IsOf t.0 t.1) }
 {
-    let (table, mut passes) = tables(alloc)?;
+    let (nodes, heads) = match room {
+        Room::Few => (4096, 64),
+        Room::Many => (65536, 1024),
+    };
+    let (table, mut passes) = tables(alloc, nodes, heads)?;
     let pass = passes.pop()?;
     Some((table, pass))
 }
@@ -185,10 +194,10 @@ fn left_by(alloc: Global, table: TermTable, pass: Pass, state: SymState) -> Resu
     })
 }
 
-/// What a block leaves.
-pub(crate) fn block_left(alloc: Global, block: &Block) -> Result<Left, ReadFault> {
+/// What a block leaves, over a table of some room.
+fn block_left_in(alloc: Global, block: &Block, size: Room) -> Result<Left, ReadFault> {
     let room = RunRoom::new(alloc)?;
-    let Some((table, mut pass)) = opened(alloc) else {
+    let Some((table, mut pass)) = table_of(alloc, size) else {
         return Err(ReadFault::NoMemory);
     };
     match run_block(&table, &mut pass, block, room) {
@@ -197,15 +206,31 @@ pub(crate) fn block_left(alloc: Global, block: &Block) -> Result<Left, ReadFault
     }
 }
 
-/// What an order leaves.
-pub(crate) fn order_left(alloc: Global, order: &Order) -> Result<Left, ReadFault> {
+/// What an order leaves, over a table of some room.
+fn order_left_in(alloc: Global, order: &Order, size: Room) -> Result<Left, ReadFault> {
     let room = RunRoom::new(alloc)?;
-    let Some((table, mut pass)) = opened(alloc) else {
+    let Some((table, mut pass)) = table_of(alloc, size) else {
         return Err(ReadFault::NoMemory);
     };
     match run_order(&table, &mut pass, order, room) {
         Ok(state) => left_by(alloc, table, pass, state),
         Err(_) => Err(ReadFault::Full),
+    }
+}
+
+/// What a block leaves.
+pub(crate) fn block_left(alloc: Global, block: &Block) -> Result<Left, ReadFault> {
+    match block_left_in(alloc, block, Room::Few) {
+        Err(ReadFault::Full) => block_left_in(alloc, block, Room::Many),
+        left => left,
+    }
+}
+
+/// What an order leaves.
+pub(crate) fn order_left(alloc: Global, order: &Order) -> Result<Left, ReadFault> {
+    match order_left_in(alloc, order, Room::Few) {
+        Err(ReadFault::Full) => order_left_in(alloc, order, Room::Many),
+        left => left,
     }
 }
 

@@ -35,17 +35,17 @@ pub(crate) fn width_name(width: Width) -> &'static str {
 
 pub(crate) fn pair_sign(test: PairTest) -> &'static str {
     match test {
-        PairTest::Equal => "==",
-        PairTest::NotEqual => "!=",
+        PairTest::Equal => " == ",
+        PairTest::NotEqual => " != ",
     }
 }
 
 pub(crate) fn zero_sign(test: ZeroTest) -> &'static str {
     match test {
-        ZeroTest::AtMostZero => "<= 0",
-        ZeroTest::AboveZero => "> 0",
-        ZeroTest::BelowZero => "< 0",
-        ZeroTest::AtLeastZero => ">= 0",
+        ZeroTest::AtMostZero => " <= 0",
+        ZeroTest::AboveZero => " > 0",
+        ZeroTest::BelowZero => " < 0",
+        ZeroTest::AtLeastZero => " >= 0",
     }
 }
 
@@ -137,23 +137,19 @@ fn put_operands(out: &mut String, operands: &[String], between: &str) -> Result<
     out.push_str(")")
 }
 
+/// What stands before the operands of a term: nothing where a sign stands between them.
+fn start_text(alloc: Global, label: &Label) -> Result<String, AllocError> {
+    match infix(label) {
+        Some(_) => Ok(String::new(alloc)),
+        None => leaf_text(alloc, label),
+    }
+}
+
 /// A term of a label and its operands, the last of which stands first.
 fn joined(alloc: Global, label: &Label, operands: &[String]) -> Result<String, AllocError> {
-    if operands.is_empty() {
-        return leaf_text(alloc, label);
-    }
-    match infix(label) {
-        Some(sign) => {
-            let mut out = String::new(alloc);
-            put_operands(&mut out, operands, sign)?;
-            Ok(out)
-        }
-        None => {
-            let mut out = leaf_text(alloc, label)?;
-            put_operands(&mut out, operands, ", ")?;
-            Ok(out)
-        }
-    }
+    let mut out = start_text(alloc, label)?;
+    put_operands(&mut out, operands, infix(label).unwrap_or(", "))?;
+    Ok(out)
 }
 
 /// The text of the term that is next, cut at a depth, and where so many parts were shown.

@@ -3,7 +3,7 @@ use Rattle.std.proofs.Common.{◌≡◌, List, [], ◌∷◌, ◌++◌, Some, sy
 use Rattle.c_tokens.specs.declared.token.Identifier.{Identifier}
 use Rattle.c_tokens.specs.declared.token.Token.{Token}
 use Rattle.c_tokens.specs.declared.token.Mark.{Mark}
-use Rattle.c_front.specs.Grammar.{a_name, a_constant, the, Nonterminal, Symbol, T, N, PhraseTree, SortTree, PhraseTrees, Rule, first, second, IsToken, is_name}
+use Rattle.c_front.specs.Grammar.{Sort, a_name, a_constant, the, Nonterminal, Symbol, T, N, PhraseTree, SortTree, PhraseTrees, Rule, first, second, IsToken, is_name}
 use Rattle.c_front.specs.Grammar.{is_constant, is_the}
 use Rattle.c_front.specs.Reading.{Reads, read_nothing, read_token, read_phrase, Stuck, stuck_token, stuck_past, stuck_inside}
 use Rattle.c_front.specs.Choosing.{chosen_rule, Peeks}
@@ -21,43 +21,44 @@ missing-first u more ts (Syntax rest) h = λ symbols.
     subst P (sym h.0) (missing-stuck u ts h.1 (more ++ symbols))
 missing-first u more ts NoMemory h = tt
 
+-- a token of another sort stands first
+not-there : {k : Sort} (more : List Symbol) (ts rest : List Token) → rest ≡ ts
+    → ((t : Token) (v : SortTree k) → first ts ≡ Some t → IsToken k t v → ⊥) → (symbols : List Symbol) → Stuck (T k ∷ more ++ symbols) ts rest
+not-there {k = k} more ts rest same none symbols =
+    let P : List Token → Type 0 = λ x. Stuck (T k ∷ more ++ symbols) ts x in
+    subst P (sym same) (stuck_token none)
+
 pub name-missing-first : (more : List Symbol) (ts : List Token) (s : ParseStop) → IsNameMissing ts s → AreStuck (T a_name ∷ more) ts s
-name-missing-first more ts (Syntax rest) h = λ symbols.
-    let P : List Token → Type 0 = λ x. Stuck (T a_name ∷ more ++ symbols) ts x in
-    subst P (sym h.0) (stuck_token (λ t v e i. go t v e i))
+name-missing-first more ts (Syntax rest) h = not-there more ts rest.now h.0 go
   where
     go : (t : Token) (v : SortTree a_name) → first ts ≡ Some t → IsToken a_name t v → ⊥
     go t v e is_name = h.1 v e
 name-missing-first more ts NoMemory h = tt
 
 pub constant-missing-first : (more : List Symbol) (ts : List Token) (s : ParseStop) → IsConstantMissing ts s → AreStuck (T a_constant ∷ more) ts s
-constant-missing-first more ts (Syntax rest) h = λ symbols.
-    let P : List Token → Type 0 = λ x. Stuck (T a_constant ∷ more ++ symbols) ts x in
-    subst P (sym h.0) (stuck_token (λ t v e i. go t v e i))
+constant-missing-first more ts (Syntax rest) h = not-there more ts rest.now h.0 go
   where
     go : (t : Token) (v : SortTree a_constant) → first ts ≡ Some t → IsToken a_constant t v → ⊥
     go t v e is_constant = h.1 v e
 constant-missing-first more ts NoMemory h = tt
 
+past-token : {k : Sort} {t : Token} {v : SortTree k} (more : List Symbol) (ts a : List Token) (s : ParseStop) → IsToken k t v → ts ≡ t ∷ a
+    → AreStuck more a s → AreStuck (T k ∷ more) ts s
+past-token {k = k} more ts a (Syntax rest) is e h = λ symbols.
+    let P : List Token → Type 0 = λ x. Stuck (T k ∷ more ++ symbols) x rest.now in
+    subst P (sym e) (stuck_past is (h symbols))
+past-token more ts a NoMemory is e h = tt
+
 pub past-mark : (u : Mark) (more : List Symbol) (ts a : List Token) (s : ParseStop) → StartsWith u ts a → AreStuck more a s → AreStuck (T (the u) ∷ more) ts s
-past-mark u more ts a (Syntax rest) e h = λ symbols.
-    let P : List Token → Type 0 = λ x. Stuck (T (the u) ∷ more ++ symbols) x rest.now in
-    subst P (sym e) (stuck_past is_the (h symbols))
-past-mark u more ts a NoMemory e h = tt
+past-mark u more ts a s e h = past-token more ts a s is_the e h
 
 pub past-name : (more : List Symbol) (ts a : List Token) (x : Identifier) (s : ParseStop) → StartsWithName ts x a → AreStuck more a s
     → AreStuck (T a_name ∷ more) ts s
-past-name more ts a x (Syntax rest) e h = λ symbols.
-    let P : List Token → Type 0 = λ y. Stuck (T a_name ∷ more ++ symbols) y rest.now in
-    subst P (sym e) (stuck_past is_name (h symbols))
-past-name more ts a x NoMemory e h = tt
+past-name more ts a x s e h = past-token more ts a s is_name e h
 
 pub past-constant : (more : List Symbol) (ts a : List Token) (k : Literal) (s : ParseStop) → StartsWithConstant ts k a → AreStuck more a s
     → AreStuck (T a_constant ∷ more) ts s
-past-constant more ts a k (Syntax rest) e h = λ symbols.
-    let P : List Token → Type 0 = λ y. Stuck (T a_constant ∷ more ++ symbols) y rest.now in
-    subst P (sym e) (stuck_past is_constant (h symbols))
-past-constant more ts a k NoMemory e h = tt
+past-constant more ts a k s e h = past-token more ts a s is_constant e h
 
 pub past-phrase : (n : Nonterminal) (more : List Symbol) (ts a : List Token) (v : PhraseTree n) (s : ParseStop) → IsRead n ts a v → AreStuck more a s
     → AreStuck (N n ∷ more) ts s

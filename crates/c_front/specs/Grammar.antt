@@ -369,7 +369,8 @@ pub data Derives : (symbols : List Symbol) → List Token → List Token → Phr
   nothing : {ts : List Token} → Derives [] ts ts tt
   token : {s : Sort} {symbols : List Symbol} {t : Token} {ts rest : List Token} {v : SortTree s} {m : PhraseTrees symbols} →
       IsToken s t v → Derives symbols ts rest m → Derives (T s ∷ symbols) (t ∷ ts) rest (v, m)
-  phrase : {n : Nonterminal} {inner symbols : List Symbol} {ts middle rest : List Token} {v : PhraseTrees inner} {w : PhraseTree n} {m : PhraseTrees symbols} →
+  phrase : {n : Nonterminal} {inner symbols : List Symbol} {ts middle rest : List Token} {v : PhraseTrees inner} {w : PhraseTree n}
+      {m : PhraseTrees symbols} →
       (r : Rule n inner) → Derives inner ts middle v → MayPrecede r (first middle) → w ≡ tree_of r v →
       Derives symbols middle rest m → Derives (N n ∷ symbols) ts rest (w, m)
 

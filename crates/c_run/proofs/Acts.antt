@@ -8,7 +8,7 @@ use Rattle.c_typed.specs.Shape.{statement_of}
 use Rattle.c_typed.specs.Meaning.{Do}
 use Rattle.c_run.specs.Interpreter.{Does, DoesAtAnyDepth, state_after_step, state_at, todos}
 use Rattle.c_run.specs.declared.interpreter.Interpreter.{Interpreter}
-use Rattle.c_run.specs.declared.interpreter.Reached.{Reached}
+use Rattle.runs.specs.declared.reached.Reached.{Reached}
 
 pub acted-here : {E : Type 0} (p : TypedProgram) (depth : ℕ) (s : TypedStatement) (t : Trees.TypedStatement) (before after : Interpreter)
     (result : Result Reached E) → statement_of s ≡ t → IfOk result (λ r. DoesAtAnyDepth p t before r after) → IfOk result

@@ -1,17 +1,17 @@
 -- Calls of functions.
-use Rattle.std.proofs.Common.{◌≡◌, ℕ, zero, suc, ◌+◌, ◌<◌, ◌≤◌, List, [], ◌∷◌, ◌++◌, Option, Some, None, refl, sym, ◌∙◌, ap, subst, true, false, length, nat_lt}
+use Rattle.std.proofs.Common.{◌≡◌, ℕ, zero, suc, ◌+◌, ◌<◌, ◌≤◌, List, [], ◌∷◌, ◌++◌, Option, Some, None, refl, sym, ◌∙◌, ap, length, nat_lt}
 use Rattle.std.proofs.Common.{get_or, map, Bor, arith}
 use mathlib.Core.Path.{fun_ext}
-use Rattle.std.specs.Prelude.{if◌then◌else◌, is_some, IfSome}
+use Rattle.std.specs.Prelude.{if◌then◌else◌}
 use Rattle.std.specs.List.{slice_get}
 use Rattle.std.specs.Option.{option_map}
 use Rattle.std.specs.declared.vec.Vec.{Vec}
 use Rattle.std.specs.declared.alloc.Global.{Global}
-use Rattle.std.proofs.lemmas.List.{reverse-append, length-map, length-reverse}
 use Rattle.std.proofs.lemmas.Bool.{lt-ltb, le-ltb}
 use Rattle.c_run.proofs.Turns.{popped}
-use Rattle.std.proofs.lemmas.Option.{slice_get_past, slice_get_read, same_Some}
 use Rattle.runs.specs.Stores.{Places, Arrays, unset_places}
+use Rattle.runs.proofs.Kept.{places-set_to}
+use Rattle.runs.proofs.Waiting.{waiting-length, waiting-push}
 use Rattle.runs.specs.Runs.{Running, Failed, with_value}
 use Rattle.c_typed.specs.declared.tree.Destination.{Destination}
 use Rattle.c_typed.specs.declared.tree.Function.{Function}
@@ -21,7 +21,8 @@ use Rattle.c_typed.specs.Shape.{function_of, functions_of, statements_of}
 use Rattle.c_types.specs.Shape.{TypedParts, program_of}
 use Rattle.c_typed.specs.Meaning as Meaning
 use Rattle.c_typed.specs.Meaning.{Todo, Run, argument_places, state_after_call, before_all, first_words, source_start}
-use Rattle.c_run.specs.Interpreter.{places, arrays, todos, frame_of, frames_of}
+use Rattle.runs.specs.Kept.{places, arrays}
+use Rattle.c_run.specs.Interpreter.{todos, frame_of, frames_of}
 use Rattle.c_run.specs.declared.interpreter.Frame.{Frame}
 use Rattle.c_run.specs.declared.pending.Pending.{Pending}
 use Rattle.c_run.specs.declared.pending.Pending.TheVariants.{Rest}
@@ -33,39 +34,10 @@ called_frame f vs to frames g out =
 abbrev failed : List ℕ → Run
 failed out = Failed out
 
-arguments-at : (vs : List ℕ) (x : ℕ) → get_or (map Some vs) x None ≡ slice_get vs x
-arguments-at [] zero = refl
-arguments-at [] (suc x) = refl
-arguments-at (v ∷ vs) zero = refl
-arguments-at (v ∷ vs) (suc x) = arguments-at vs x
-
-pub arguments-places : (vs : List ℕ) → places (map Some vs) ≡ argument_places vs
-arguments-places vs = fun_ext (λ x. arguments-at vs x)
-
 pub function-get : (fs : List Function) (i : ℕ) → slice_get (functions_of fs) i ≡ option_map function_of (slice_get fs i)
 function-get [] i = refl
 function-get (f ∷ fs) zero = refl
 function-get (f ∷ fs) (suc i) = function-get fs i
-
--- what a function's number finds
-found-in : (fs : List Function) (i : ℕ) (r : Option (Bor Function)) (x : Bor Function) → is_some r ≡ nat_lt i (length fs)
-    → IfSome r (λ y. y.now ≡ get_or fs i y.now) → r ≡ Some x → slice_get fs i ≡ Some x.now
-found-in fs i None x b h e = cc
-found-in fs i (Some y) x b h e =
-    let here : nat_lt i (length fs) ≡ true = sym b in
-    slice_get_read fs (length fs) i x.now refl (grind (arith, here)) (subst (λ (z : Bor Function). z.now ≡ get_or fs i z.now) (same_Some _ _ e) h)
-
-pub found : (all fs : List Function) (i : ℕ) (r : Option (Bor Function)) (x : Bor Function) → fs ≡ all → is_some r ≡ nat_lt i (length fs)
-    → IfSome r (λ y. y.now ≡ get_or fs i y.now) → r ≡ Some x → slice_get all i ≡ Some x.now
-found all fs i r x same b h e = ap (λ (l : List Function). slice_get l i) (sym same) ∙ found-in fs i r x b h e
-
-pub past-last : (fs : List Function) (i : ℕ) (r : Option (Bor Function)) → is_some r ≡ nat_lt i (length fs) → r ≡ None → length fs ≤ i
-past-last fs i r b e =
-    let none : nat_lt i (length fs) ≡ false = sym b ∙ ap (λ (x : Option (Bor Function)). is_some x) e in
-    grind (arith, none)
-
-pub frames-push : (calls : List Frame) (c : Frame) → frames_of (calls ++ c ∷ []) ≡ frame_of c ∷ frames_of calls
-frames-push calls c = ap (map frame_of) (reverse-append calls (c ∷ []))
 
 pub called-there : (p : TypedParts) (depth i : ℕ) (vs : List ℕ) (to : Option Destination) (frames : List Meaning.Frame) (g : Arrays) (out : List ℕ)
     (x : Function) → slice_get p.functions i ≡ Some x → length frames < depth
@@ -77,10 +49,10 @@ called-there p depth i vs to frames g out x there lt =
     ∙ ap (λ b. if b then called_frame (function_of x) vs to frames g out else Failed out) (lt-ltb (length frames) depth lt)
 
 pub called-nowhere : (p : TypedParts) (depth i : ℕ) (vs : List ℕ) (to : Option Destination) (frames : List Meaning.Frame) (g : Arrays) (out : List ℕ)
-    → length p.functions ≤ i → state_after_call (program_of p) depth i vs to frames g out ≡ Failed out
+    → slice_get p.functions i ≡ None → state_after_call (program_of p) depth i vs to frames g out ≡ Failed out
 called-nowhere p depth i vs to frames g out past =
     ap (λ o. with_value o out (λ (f : TypedFunction). if nat_lt (length frames) depth then called_frame f vs to frames g out else Failed out))
-    (function-get p.functions i ∙ ap (option_map function_of) (slice_get_past p.functions i past))
+    (function-get p.functions i ∙ ap (option_map function_of) past)
 
 fails : (o : Option TypedFunction) (out : List ℕ) → with_value o out (λ (f : TypedFunction). failed out) ≡ Failed out
 fails None out = refl
@@ -102,28 +74,22 @@ pub new-frame : (frame : Frame) (values : Vec (Option ℕ) Global) (todo : Vec P
     → frame_of frame ≡ record { locals = argument_places vs; todo = before_all (statements_of x.body.items) []; result_to = to }
 new-frame frame values todo fresh slice x to vs made values-are pushed empty-first body =
     ap frame_of made
-    ∙ ap (λ l. frame_with l (todos todo.items) to) (ap places values-are ∙ arguments-places vs)
+    ∙ ap (λ l. frame_with l (todos todo.items) to) (ap places values-are ∙ places-set_to vs)
     ∙ ap (λ k. frame_with (argument_places vs) k to) (popped todo.items fresh (Rest slice) pushed
     ∙ ap (λ k. before_all (statements_of slice.now) (todos k)) empty-first ∙ ap (λ all. before_all (statements_of all) []) body)
-
-pub frames-length : (calls : List Frame) → length (frames_of calls) ≡ length calls
-frames-length calls = simp (length-map, length-reverse)
-
-pub pushed-frames : (calls new : List Frame) (c waits : Frame) → new ≡ calls ++ waits ∷ [] → waits ≡ c → frames_of new ≡ frame_of c ∷ frames_of calls
-pushed-frames calls new c waits e is = ap frames_of e ∙ frames-push calls waits ∙ ap (λ c. frame_of c ∷ frames_of calls) is
 
 pub entered : (p : TypedParts) (depth i : ℕ) (vs : List ℕ) (to : Option Destination) (g : Arrays) (out : List ℕ) (x : Function) (calls new : List Frame)
     (c waits frame : Frame) → slice_get p.functions i ≡ Some x → length calls + 1 < depth → new ≡ calls ++ waits ∷ [] → waits ≡ c
     → frame_of frame ≡ record { locals = argument_places vs; todo = before_all (statements_of x.body.items) []; result_to = to }
     → state_after_call (program_of p) depth i vs to (frame_of c ∷ frames_of calls) g out ≡ Running (frame_of frame ∷ frames_of new) g out
 entered p depth i vs to g out x calls new c waits frame there lt e is f =
-    called-there p depth i vs to (frame_of c ∷ frames_of calls) g out x there (omega (arith, frames-length calls))
+    called-there p depth i vs to (frame_of c ∷ frames_of calls) g out x there (omega (arith, waiting-length frame_of calls))
     ∙ ap (λ f. Running (f ∷ frame_of c ∷ frames_of calls) g out) (sym f)
-    ∙ ap (λ fs. Running (frame_of frame ∷ fs) g out) (sym (pushed-frames calls new c waits e is))
+    ∙ ap (λ fs. Running (frame_of frame ∷ fs) g out) (sym (waiting-push frame_of calls new c waits e is))
 
 pub refused : (p : TypedParts) (depth i : ℕ) (vs : List ℕ) (to : Option Destination) (g : Arrays) (out : List ℕ) (calls : List Frame) (c : Frame)
     → depth ≤ length calls + 1 → state_after_call (program_of p) depth i vs to (frame_of c ∷ frames_of calls) g out ≡ Failed out
-refused p depth i vs to g out calls c le = called-deep p depth i vs to (frame_of c ∷ frames_of calls) g out (omega (arith, frames-length calls))
+refused p depth i vs to g out calls c le = called-deep p depth i vs to (frame_of c ∷ frames_of calls) g out (omega (arith, waiting-length frame_of calls))
 
 none_set : (x : ℕ) → get_or {A = Option ℕ} [] x None ≡ None
 none_set zero = refl

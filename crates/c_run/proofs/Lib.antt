@@ -1,6 +1,4 @@
 pub mod Acts
 pub mod Calls
-pub mod Running
 pub mod Sizes
-pub mod Stores
 pub mod Turns

@@ -1,9 +1,10 @@
 -- What the interpreter keeps, and the state that it stands for.
-use Rattle.std.specs.Prelude.{◌≡◌, ℕ, List, [], ◌∷◌, Option, None, map, reverse, slice_index_or}
-use Rattle.std.specs.declared.vec.Vec.{Vec}
-use Rattle.std.specs.declared.alloc.Global.{Global}
+use Rattle.std.specs.Prelude.{◌≡◌, ℕ, List, [], ◌∷◌, Option, map, reverse}
 use Rattle.runs.specs.Stores.{Places, Arrays}
-use Rattle.runs.specs.Runs.{Running, Ended, Failed}
+use Rattle.runs.specs.Runs.{Running}
+use Rattle.runs.specs.Kept.{places, arrays}
+use Rattle.runs.specs.Steps.{after_step}
+use Rattle.runs.specs.declared.reached.Reached.{Reached}
 use Rattle.c_typed.specs.Trees.{TypedStatement, TypedProgram}
 use Rattle.c_typed.specs.declared.tree.Destination.{Destination}
 use Rattle.c_typed.specs.declared.tree.Global as Variable
@@ -17,16 +18,6 @@ use Rattle.c_run.specs.declared.pending.Head.{Head}
 use Rattle.c_run.specs.declared.pending.Head.TheVariants as Heads
 use Rattle.c_run.specs.declared.interpreter.Frame.{Frame}
 use Rattle.c_run.specs.declared.interpreter.Interpreter.{Interpreter}
-use Rattle.c_run.specs.declared.interpreter.Reached.{Reached}
-use Rattle.c_run.specs.declared.interpreter.Reached.TheVariants as Reach
-
--- the locals, None outside
-abbrev pub places : List (Option ℕ) → Places
-places locals = λ x. slice_index_or locals x None
-
--- the words of each global
-abbrev pub arrays : List (Vec ℕ Global) → Arrays
-arrays globals = map (λ a. a.items) globals
 
 -- one that is pending, taken apart before the others
 abbrev pub with_pending : Pending → List Todo → List Todo
@@ -66,9 +57,7 @@ state_of m = Running (frame_of m.frame ∷ frames_of m.waiting.items) (arrays m.
 
 -- the state that a step has come to
 abbrev pub state_at : Reached → Interpreter → Run
-state_at Reach.Going m = state_of m
-state_at (Reach.Ended w) m = Ended w m.output.items
-state_at Reach.Failed m = Failed m.output.items
+state_at r m = after_step r (state_of m) m.output.items
 
 -- the same interpreter with other locals and globals
 abbrev pub state_with : Interpreter → Places → Arrays → Run

@@ -1,3 +1,4 @@
 pub mod Turns
 pub mod Interpreter
 pub mod Sizes
+pub mod Reasons

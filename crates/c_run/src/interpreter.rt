@@ -1,17 +1,18 @@
 // A program under way: active calls, variables at file scope and output.
-ghost use Rattle.std.specs.Prelude.{◌≡◌, ℕ, ◌<◌, ◌∷◌, [], length, Option, IfOk, OnOk, None, Some, if◌then◌else◌, List, map};
-ghost use Rattle.runs.specs.Stores.{Places, Arrays, places_with, arrays_with};
+ghost use Rattle.std.specs.Prelude.{◌≡◌, ℕ, IfOk, None, Some, if◌then◌else◌, List, map};
+ghost use Rattle.runs.specs.Kept.{arrays};
 ghost use Rattle.c_typed.specs.Meaning.{kept_in, elements_with};
 ghost use Rattle.c_typed.specs.Shape.{statement_of, typed_expression_of, typed_expressions_of, maybe_typed_expression_of};
 ghost use Rattle.c_typed.specs.Trees.{assign, store, call, output, if_else, loop, return_with};
 ghost use Rattle.c_types.specs.Shape.{program_of};
 ghost use Rattle.c_typed.specs.Meaning.{source_step};
-ghost use Rattle.c_run.specs.Interpreter.{places, arrays, state_of, state_at, Assigns, Calls, Returns, Does, DoesAtAnyDepth, DoesIn};
+ghost use Rattle.c_run.specs.Interpreter.{state_of, state_at, Assigns, Calls, Returns, Does, DoesAtAnyDepth, DoesIn};
 
 use crate::pending::{Head, Pending, put, settle};
 use crate::value::{arguments, value};
 use c_typed::{Destination, TypedExpression, TypedStatement};
 use c_types::Typed;
+use runs::{Reached, set_word, store};
 use std::alloc::{AllocError, Global};
 use std::mem;
 
@@ -30,48 +31,6 @@ pub struct Interpreter<'a> {
     pub waiting: Vec<Frame<'a>>,
     pub globals: Vec<Vec<u32>>,
     pub output: Vec<u32>,
-}
-
-/// What a step has come to.
-#[derive(Clone, Copy)]
-pub enum Reached {
-    Going,
-    Ended(u32),
-    Failed,
-}
-
-// Locals up to a number, the new ones unset.
-fn make_room(locals: &mut Vec<Option<u32>>, number: usize) -> Result<(), AllocError>
-    ensures same { OnOk result (places locals.new.items ≡ places locals.old.items) }
-    ensures room { OnOk result (number < length locals.new.items) }
-{
-    while locals.len() <= number {
-        locals.push(None)?;
-    }
-    Ok(())
-}
-
-// A local is set.
-fn set(locals: &mut Vec<Option<u32>>, number: usize, v: u32) -> Result<(), AllocError>
-    ensures { OnOk result (places locals.new.items ≡ places_with (places locals.old.items) number (Some v)) }
-{
-    make_room(locals, number)?;
-    locals[number] = Some(v);
-    Ok(())
-}
-
-// A word of a global is written; false outside.
-fn store(globals: &mut [Vec<u32>], array: usize, index: usize, v: u32) -> bool
-    ensures { arrays_with (arrays globals.old) array index v ≡ (if result then Some (arrays globals.new) else None) }
-{
-    if array < globals.len() {
-        let words = &mut globals[array];
-        if index < words.len() {
-            words[index] = v;
-            return true;
-        }
-    }
-    false
 }
 
 // What an element of a global keeps of a word; None where there is no such global.
@@ -109,7 +68,7 @@ fn put_at(
 {
     match place {
         Destination::Local(number) => {
-            set(&mut interpreter.frame.locals, number, v)?;
+            set_word(&mut interpreter.frame.locals, number, v)?;
             Ok(Reached::Going)
         }
         Destination::Global(number) => {
@@ -318,7 +277,7 @@ fn return_word(
 }
 
 // A statement that was first is done.
-fn act<'a>(
+pub(crate) fn act<'a>(
     alloc: Global,
     program: &'a Typed,
     depth: u32,

@@ -2,7 +2,8 @@
 ghost use Rattle.std.specs.Prelude.{◌≡◌, ℕ, ◌++◌, ◌∷◌, [], OnOk, IfOk, None, length, ◌+◌, ◌≤◌};
 ghost use Rattle.runs.specs.Stores.{places_with};
 ghost use Rattle.c_typed.specs.Meaning.{next_point, Going};
-ghost use Rattle.c_run.specs.Interpreter.{places, point_at, todos, with_head, with_part};
+ghost use Rattle.runs.specs.Kept.{places};
+ghost use Rattle.c_run.specs.Interpreter.{point_at, todos, with_head, with_part};
 ghost use Rattle.c_run.specs.Sizes.{weights, head_size};
 ghost use Rattle.c_run.specs.Turns.{past_turn, at_turn};
 

@@ -3,9 +3,10 @@ ghost use Rattle.std.specs.Prelude.{◌≡◌, IfOk, map};
 ghost use Rattle.runs.specs.Runs.{outcome_of};
 ghost use Rattle.c_types.specs.Shape.{program_of};
 ghost use Rattle.c_typed.specs.Meaning.{first_words, source_start, source_run};
-ghost use Rattle.c_run.specs.Interpreter.{arrays, state_of};
+ghost use Rattle.runs.specs.Kept.{arrays};
+ghost use Rattle.c_run.specs.Interpreter.{state_of};
 
-use crate::interpreter::{Frame, Interpreter, Reached, step};
+use crate::interpreter::{Frame, Interpreter, step};
 use crate::pending::{Pending, put};
 use c_types::Typed;
 use runs::{End, Ran};
@@ -25,7 +26,7 @@ fn first_globals(alloc: Global, program: &Typed) -> Result<Vec<Vec<u32>>, AllocE
 }
 
 // The run before its first step.
-fn start<'a>(alloc: Global, program: &'a Typed) -> Result<Interpreter<'a>, AllocError>
+pub(crate) fn start<'a>(alloc: Global, program: &'a Typed) -> Result<Interpreter<'a>, AllocError>
     ensures { IfOk result (λ r. source_start (program_of program.now) ≡ state_of r) }
 {
     let main = &program.functions()[program.main()];
@@ -53,16 +54,11 @@ pub fn run(alloc: Global, program: &Typed, depth: u32, steps: u64) -> Result<Ran
     let mut interpreter = start(alloc, program)?;
     for _ in 0..steps {
         let reached = step(alloc, program, depth, &mut interpreter)?;
-        match reached {
-            Reached::Going => {}
-            Reached::Ended(w) => return Ok(Ran {
-                end: End::Done(w),
+        if let Some(end) = reached.end() {
+            return Ok(Ran {
+                end,
                 output: interpreter.output,
-            }),
-            Reached::Failed => return Ok(Ran {
-                end: End::Wrong,
-                output: interpreter.output,
-            }),
+            });
         }
     }
     Ok(Ran {

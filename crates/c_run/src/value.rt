@@ -3,13 +3,13 @@ ghost use Rattle.std.specs.Prelude.{◌≡◌, ℕ, Option, Some, IfOk, map};
 ghost use Rattle.std.specs.Option.{option_map};
 ghost use Rattle.c_typed.specs.Shape.{typed_expression_of, typed_expressions_of};
 ghost use Rattle.words.specs.Words.{wrap};
-ghost use Rattle.runs.specs.Stores.{element_at};
+ghost use Rattle.runs.specs.Kept.{places, arrays};
 ghost use Rattle.c_typed.specs.Values.{sign_of, truth, unary_of, binary_of, value_of, values_of};
-ghost use Rattle.c_run.specs.Interpreter.{places, arrays};
 
 use c_tokens::IntegerType;
 use c_tree::{BinaryOp, UnaryOp};
 use c_typed::TypedExpression;
+use runs::{element, word_at};
 use std::alloc::{AllocError, Global};
 use words::Sign;
 
@@ -32,35 +32,9 @@ fn constant(value: u32) -> u32
     value
 }
 
-/// The word of a global at an index; None outside.
-#[inline]
-pub(crate) fn word(globals: &[Vec<u32>], array: usize, index: usize) -> Option<u32>
-    ensures { result ≡ element_at (arrays globals.now) array index }
-{
-    if array < globals.len() {
-        let words = &globals[array];
-        if index < words.len() {
-            return Some(words[index]);
-        }
-    }
-    None
-}
-
-/// The word of a local; None where it isn't set.
-#[inline]
-fn local(locals: &[Option<u32>], number: usize) -> Option<u32>
-    ensures { result ≡ places locals.now number }
-{
-    if number < locals.len() {
-        locals[number]
-    } else {
-        None
-    }
-}
-
 /// A prefix operator on a word.
 #[inline]
-fn prefixed(operator: UnaryOp, integer_type: IntegerType, x: u32) -> Option<u32>
+pub(crate) fn prefixed(operator: UnaryOp, integer_type: IntegerType, x: u32) -> Option<u32>
     ensures { result ≡ unary_of operator (sign_of integer_type) x }
 {
     match operator {
@@ -73,7 +47,7 @@ fn prefixed(operator: UnaryOp, integer_type: IntegerType, x: u32) -> Option<u32>
 
 /// An operator on two words, both of which are evaluated.
 #[inline(always)]
-fn computed(operator: BinaryOp, integer_type: IntegerType, x: u32, y: u32) -> Option<u32>
+pub(crate) fn computed(operator: BinaryOp, integer_type: IntegerType, x: u32, y: u32) -> Option<u32>
     ensures { result ≡ binary_of operator (sign_of integer_type) x y }
 {
     match operator {
@@ -105,7 +79,7 @@ fn operand(e: &TypedExpression, locals: &[Option<u32>], globals: &[Vec<u32>]) ->
 {
     match e {
         TypedExpression::Constant(literal) => Some(constant(literal.value)),
-        TypedExpression::Local(number, _) => local(locals, *number),
+        TypedExpression::Local(number, _) => word_at(locals, *number),
         _ => value(e, locals, globals),
     }
 }
@@ -121,11 +95,11 @@ pub(crate) fn value(
 {
     match e {
         TypedExpression::Constant(literal) => Some(constant(literal.value)),
-        TypedExpression::Local(number, _) => local(locals, *number),
-        TypedExpression::Global(number, _) => word(globals, *number, 0),
+        TypedExpression::Local(number, _) => word_at(locals, *number),
+        TypedExpression::Global(number, _) => element(globals, *number, 0),
         TypedExpression::Element(number, _, index) => {
             let index = operand(index, locals, globals)?;
-            word(globals, *number, index as usize)
+            element(globals, *number, index as usize)
         }
         TypedExpression::Unary(operator, integer_type, part) => {
             let x = operand(part, locals, globals)?;

@@ -1,15 +1,22 @@
 -- Uses of a name: the one fault that each has.
-use Rattle.std.proofs.Common.{◌≡◌, ◌≤◌, ℕ, Option, Some, None, inr, refl, sym, subst, arith}
+use Rattle.std.proofs.Common.{◌≡◌, ◌≤◌, ℕ, Option, Some, None, Err, inr, refl, sym, subst, arith}
 use Rattle.c_tokens.specs.declared.token.Identifier.{Identifier}
 use Rattle.c_tokens.specs.declared.token.IntegerType.{IntegerType}
 use Rattle.c_statements.specs.declared.names.Named.{Named}
 use Rattle.c_statements.specs.declared.names.Named.TheVariants.{Local, Global, Array, Function, Out}
 use Rattle.c_statements.specs.declared.fault.TypeFaultKind.{TypeFaultKind}
 use Rattle.c_statements.specs.declared.fault.TypeFaultKind.TheVariants.{Undeclared, Kind as KindFault, Count}
-use Rattle.c_statements.specs.Faults.{number_of, IsFirstFault}
+use Rattle.c_statements.specs.declared.fault.TypeStop.{TypeStop}
+use Rattle.c_statements.specs.declared.fault.TypeStop.TheVariants.{Fault}
+use Rattle.c_statements.specs.Faults.{number_of, Faults, IsFirstFault, StopsAtFirst, Answers}
 use Rattle.c_statements.specs.Names.{Environment}
 use Rattle.c_statements.specs.Uses.{Use, as_value, with_index, IsWrong, Misused, not_declared, array_alone, function_alone, out_alone}
 use Rattle.c_statements.specs.Uses.{local_indexed, global_indexed, function_indexed, out_indexed}
+
+-- the answer that tells of the first fault
+pub told-first : {A : Type 0} (IsRight : A → Type 0) (faults : Faults) (s : TypeStop) (k : TypeFaultKind) (at : ℕ)
+    → s ≡ Fault (record { kind = k; at = at }) → IsFirstFault faults k at → Answers IsRight faults (Err s)
+told-first IsRight faults s k at e h = record { ok = tt; none = tt; err = subst (StopsAtFirst faults) (sym e) h }
 
 -- a use whose faults have no lesser number
 pub first-misuse : (scope : Environment) (x : Identifier) (u : Use) (k : TypeFaultKind) → IsWrong (scope x) u k

@@ -13,7 +13,6 @@ use Rattle.words.specs.Widths.{kept}
 use Rattle.runs.specs.Stores.{Places, Arrays, unset_places, places_with, element_at, arrays_with, chain}
 use Rattle.runs.specs.Runs.{Running, Ended, Failed, with_value}
 use Rattle.runs.proofs.Words.{chain-some, at-index}
-use Rattle.runs.proofs.Steps.{steps-keep}
 use Rattle.c_tokens.specs.declared.token.IntegerType.{IntegerType}
 use Rattle.c_typed.specs.declared.tree.Destination.{Destination}
 use Rattle.c_typed.specs.declared.tree.Destination.TheVariants.{Local, Global as Variable}
@@ -21,7 +20,7 @@ use Rattle.c_typed.specs.declared.tree.Global.{Global}
 use Rattle.c_typed.specs.Trees.{TypedExpression, TypedFunction, TypedProgram, element, assign, store, call, output, if_else, loop, return_with}
 use Rattle.c_typed.specs.Values.{value_of, values_of}
 use Rattle.c_typed.specs.Meaning.{Todo, Do, Next, Going, Frame, Run, before, before_all, next_point, kept_in, elements_with, with_assignment}
-use Rattle.c_typed.specs.Meaning.{argument_places, state_after_call, state_after_return, todo_of_test, step_at, source_step, source_steps, source_start}
+use Rattle.c_typed.specs.Meaning.{argument_places, state_after_call, state_after_return, todo_of_test, step_at, source_step, source_start}
 use Rattle.c_typed.specs.Meaning.{first_words}
 use Rattle.c_typed.specs.Laws.{ElementsFit, RunFits}
 
@@ -152,9 +151,6 @@ source-start-fits p =
     with-fits p.globals (slice_get p.functions p.main) []
     (λ main. Running (record { locals = unset_places; todo = before_all main.body []; result_to = None } ∷ []) (map first_words p.globals) [])
     (λ main e. first-fits p.globals)
-
-pub source-steps-fit : (p : TypedProgram) (depth n : ℕ) → RunFits p.globals (source_steps p depth n (source_start p))
-source-steps-fit p depth n = steps-keep (RunFits p.globals) (source_step p depth) (source-step-fits p depth) n (source_start p) (source-start-fits p)
 
 byte-below : (w : Width) (v : ℕ) → w ≡ Byte → kept w v ≡ v → v < 2 ^ 8
 byte-below Byte v e f = omega (arith, f)

@@ -1,14 +1,15 @@
 -- What is true of every run of a typed program, also of one that no C text gives.
-use Rattle.std.specs.Prelude.{◌≡◌, ◌+◌, ◌<◌, ◌^◌, ℕ, List, Some, All, slice_get}
+use Rattle.std.specs.Prelude.{◌≡◌, ◌<◌, ◌^◌, ℕ, List, Some, All, slice_get}
 use Rattle.words.specs.declared.width.Width.TheVariants.{Byte}
 use Rattle.words.specs.Widths.{kept}
 use Rattle.c_tokens.specs.declared.token.IntegerType.{IntegerType}
 use Rattle.runs.specs.Stores.{Places, Arrays, IsWord, PlacesHoldWords, ArraysHoldWords}
 use Rattle.runs.specs.Runs.{Running, Ended, Failed, HoldsWords}
+use Rattle.runs.specs.Steps.{IsKept, GoesOnFromWhereItIs}
 use Rattle.c_typed.specs.declared.tree.Global.{Global}
 use Rattle.c_typed.specs.Trees.{TypedExpression, TypedProgram, element}
 use Rattle.c_typed.specs.Values.{value_of}
-use Rattle.c_typed.specs.Meaning.{Frame, Run, source_start, source_step, source_steps}
+use Rattle.c_typed.specs.Meaning.{Frame, Run, source_start, source_step}
 
 abbrev pub FrameHoldsWords : Frame → Type 0
 FrameHoldsWords f = PlacesHoldWords f.locals
@@ -20,16 +21,11 @@ RunHoldsWords s = HoldsWords FrameHoldsWords s
 pub record ValuesAreWords : Type 0 where
   pub value : (e : TypedExpression) (l : Places) (g : Arrays) (v : ℕ) → PlacesHoldWords l → ArraysHoldWords g → value_of e l g ≡ Some v
       → IsWord v
-  pub start : (p : TypedProgram) → RunHoldsWords (source_start p)
-  pub step : (p : TypedProgram) (depth : ℕ) (s : Run) → RunHoldsWords s → RunHoldsWords (source_step p depth s)
-  pub reached : (p : TypedProgram) (depth n : ℕ) → RunHoldsWords (source_steps p depth n (source_start p))
+  pub run : (p : TypedProgram) (depth : ℕ) → IsKept RunHoldsWords (source_step p depth) (source_start p)
 
 -- a number of steps is taken in two parts, and a run that ended or failed stays so
-pub record RunsGoOnFromWhereTheyAre : Type 0 where
-  pub sum : (p : TypedProgram) (depth a b : ℕ) (s : Run)
-      → source_steps p depth (a + b) s ≡ source_steps p depth b (source_steps p depth a s)
-  pub ended : (p : TypedProgram) (depth n w : ℕ) (out : List ℕ) → source_steps p depth n (Ended w out) ≡ Ended w out
-  pub failed : (p : TypedProgram) (depth n : ℕ) (out : List ℕ) → source_steps p depth n (Failed out) ≡ Failed out
+abbrev pub RunsGoOnFromWhereTheyAre : Type 0
+RunsGoOnFromWhereTheyAre = (p : TypedProgram) (depth : ℕ) → GoesOnFromWhereItIs (source_step p depth)
 
 -- each global's elements are words that its width keeps as they are
 abbrev pub ElementsFit : List Global → Arrays → Type 0
@@ -44,9 +40,7 @@ RunFits globals (Failed out) = Unit {0}
 -- a run begins with elements that fit their widths, and each step keeps to them; so an element of an array of bytes is read
 -- as a number from 0 to 255 (C99 6.2.5, 6.3.1.1)
 pub record ElementsFitTheirWidths : Type 0 where
-  pub start : (p : TypedProgram) → RunFits p.globals (source_start p)
-  pub step : (p : TypedProgram) (depth : ℕ) (s : Run) → RunFits p.globals s → RunFits p.globals (source_step p depth s)
-  pub reached : (p : TypedProgram) (depth n : ℕ) → RunFits p.globals (source_steps p depth n (source_start p))
+  pub run : (p : TypedProgram) (depth : ℕ) → IsKept (RunFits p.globals) (source_step p depth) (source_start p)
   pub read : (globals : List Global) (l : Places) (g : Arrays) (a : ℕ) (x : Global) (k : IntegerType) (i : TypedExpression) (v : ℕ)
       → ElementsFit globals g
       → slice_get globals a ≡ Some x → x.width ≡ Byte → value_of (element a k i) l g ≡ Some v → v < 2 ^ 8

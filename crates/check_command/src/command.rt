@@ -4,15 +4,15 @@ ghost use Rattle.std.specs.Prelude.{◌≡◌, ◌≢◌, ◌≤◌, [], ◌∷�
 ghost use Rattle.std.specs.Io.KnownBytes.{Appends};
 ghost use Rattle.check_command.specs.Command.{Checks, Explains, StopsCheck, TookExplained};
 ghost use Rattle.check_command.specs.Texts.{answer_text, check_fault_text, exit_status};
-ghost use Rattle.commands.specs.Requests.{Asks, Does, IsSent, TellsLine};
-ghost use Rattle.commands.specs.declared.fault.HostFault.TheVariants.{CannotWrite};
+ghost use Rattle.commands.specs.Requests.{Asks, Does, IsNothing, IsSent, TellsLine};
+ghost use Rattle.commands.specs.declared.fault.HostFault.TheVariants.{CannotRead, CannotWrite};
 
 use crate::explain::explained;
 use crate::lines::explain_line;
 use crate::verdicts::{CheckAnswer, CheckFault, check};
 use commands::{
-    Complaints, Explanation, Files, HostFault, Output, Place, line_offset, read_file, tell,
-    tell_placed,
+    Complaints, Explanation, FileCommand, Files, HostFault, Output, Place, answer_file,
+    line_offset, tell_placed,
 };
 use std::alloc::Global;
 use std::io;
@@ -25,8 +25,9 @@ fn print<W: Output>(out: &mut W, line: &CheckAnswer) -> io::Result<()>
     out.send()
 }
 
-fn status_of(answer: &CheckAnswer) -> u8
+pub(crate) fn status_of(answer: &CheckAnswer) -> u8
     ensures status { result ≡ exit_status answer.now }
+    ensures most { result ≤ 3 }
     ensures not_wrong_words { result ≢ 2 }
 {
     match answer {
@@ -40,6 +41,7 @@ pub fn print_answer<W: Output>(out: &mut W, answer: &CheckAnswer) -> Result<u8, 
     ensures line { OnOk result (Appends (W.contents out.old) (W.contents out.new) (answer_text answer.now ++ 10 ∷ [])) }
     ensures sent { OnOk result (IsSent W.sends out.new) }
     ensures status { IfOk result (λ s. s ≡ exit_status answer.now) }
+    ensures most { IfOk result (λ s. s ≤ 3) }
     ensures not_wrong_words { IfOk result (λ s. s ≢ 2) }
     ensures fault { IfErr result (λ e. e ≡ CannotWrite) }
 {
@@ -85,7 +87,9 @@ pub fn print_explained<W: Output>(
     ensures took { OnOk result (TookExplained (W.contents out.old) (W.contents out.new) answer.now) }
     ensures sent { OnOk result (IsSent W.sends out.new) }
     ensures status { IfOk result (λ s. s ≡ exit_status answer.now) }
+    ensures most { IfOk result (λ s. s ≤ 3) }
     ensures not_wrong_words { IfOk result (λ s. s ≢ 2) }
+    ensures fault { IfErr result (λ e. e ≢ CannotRead) }
 {
     let Ok(more) = explained(alloc, text, answer) else {
         return Err(HostFault::NoMemory);
@@ -116,6 +120,77 @@ pub fn tell_check<E: Complaints>(
     tell_placed(alloc, err, &fault, &place)
 }
 
+/// `mcc check` over one file, with or without `--explain`.
+#[derive(Clone, Copy)]
+struct CheckCommand {
+    explain: bool,
+}
+
+impl FileCommand for CheckCommand {
+    ghost use Rattle.check_command.specs.Checks.{IsAnswerTo, IsCheckFault};
+    ghost use Rattle.check_command.specs.Command.{IsUnprinted, PrintsAnswer};
+
+    type Answer = CheckAnswer;
+
+    type Fault = CheckFault;
+
+    ghost answers = { λ s text answer. IsAnswerTo text answer };
+
+    ghost faults = { λ s text fault. IsCheckFault text fault };
+
+    ghost prints = { λ s answer printed. PrintsAnswer s.explain answer printed };
+
+    ghost status = { exit_status };
+
+    ghost most = { 3 };
+
+    ghost line = { check_fault_text };
+
+    ghost unprinted = { IsUnprinted };
+
+    ghost remarks = { λ status told. IsNothing told };
+
+    fn work(&self, alloc: Global, bytes: &[u8]) -> Result<CheckAnswer, CheckFault> {
+        match check(alloc, bytes) {
+            Ok(answer) => Ok(answer),
+            Err(fault) => Err(fault),
+        }
+    }
+
+    fn print<W: Output>(
+        &self,
+        alloc: Global,
+        bytes: &[u8],
+        answer: &CheckAnswer,
+        out: &mut W,
+    ) -> Result<u8, HostFault> {
+        if self.explain {
+            print_explained(alloc, out, bytes, answer)
+        } else {
+            print_answer(out, answer)
+        }
+    }
+
+    fn remark<E: Complaints>(
+        &self,
+        _alloc: Global,
+        _bytes: &[u8],
+        _answer: &CheckAnswer,
+        _err: &mut E,
+    ) {}
+
+    fn tell<E: Complaints>(
+        &self,
+        alloc: Global,
+        file: &str,
+        bytes: &[u8],
+        fault: CheckFault,
+        err: &mut E,
+    ) -> u8 {
+        tell_check(alloc, err, file, bytes, fault)
+    }
+}
+
 /// The verdict on the text of a file, printed; the answer is the exit status.
 pub fn check_file<F: Files, W: Output, E: Complaints>(
     alloc: Global,
@@ -132,17 +207,14 @@ pub fn check_file<F: Files, W: Output, E: Complaints>(
     ensures quiet { result ≢ 1 → err.new ≡ err.old }
     ensures stopped { result ≡ 1 → Asks F.answers files.old files.new E.tells err.old err.new (StopsCheck file.now) }
 {
-    let text = match read_file(alloc, file, files) {
-        Ok(text) => text,
-        Err(fault) => return tell(err, &fault),
-    };
-    match check(alloc, text.as_slice()) {
-        Ok(answer) => match print_answer(out, &answer) {
-            Ok(status) => status,
-            Err(fault) => tell(err, &fault),
-        },
-        Err(fault) => tell_check(alloc, err, file, text.as_slice(), fault),
-    }
+    answer_file(
+        alloc,
+        &CheckCommand { explain: false },
+        file,
+        files,
+        out,
+        err,
+    )
 }
 
 /// The verdict on the text of a file, printed, and behind it why it isn't `same`; the answer is the exit status.
@@ -161,15 +233,12 @@ pub fn explain_file<F: Files, W: Output, E: Complaints>(
     ensures quiet { result ≢ 1 → err.new ≡ err.old }
     ensures stopped { result ≡ 1 → Asks F.answers files.old files.new E.tells err.old err.new (StopsCheck file.now) }
 {
-    let text = match read_file(alloc, file, files) {
-        Ok(text) => text,
-        Err(fault) => return tell(err, &fault),
-    };
-    match check(alloc, text.as_slice()) {
-        Ok(answer) => match print_explained(alloc, out, text.as_slice(), &answer) {
-            Ok(status) => status,
-            Err(fault) => tell(err, &fault),
-        },
-        Err(fault) => tell_check(alloc, err, file, text.as_slice(), fault),
-    }
+    answer_file(
+        alloc,
+        &CheckCommand { explain: true },
+        file,
+        files,
+        out,
+        err,
+    )
 }

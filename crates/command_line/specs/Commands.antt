@@ -1,15 +1,19 @@
 -- The command line of `mcc`, and what its words ask for.
-use Rattle.std.specs.Prelude.{◌≡◌, ◌<◌, ◌≤◌, ◌^◌, ℕ, List, Option, Some, None, Bool, true, false, codes, option_map}
+use Rattle.std.specs.Prelude.{◌≡◌, ◌<◌, ◌≤◌, ◌^◌, ℕ, List, [], ◌∷◌, length, map, Option, Some, None, Bool, true, false, codes, option_map}
 use Rattle.std.specs.Str.Parse.{IsNumeral, digits_value, without_leading_plus}
-use Rattle.clap.specs.Words.{App, Row, Rule, Text, first_of, one_of, new_app, new_rule, subcommand_of, with_rule, with_subcommand}
-use Rattle.clap.specs.declared.builder.ArgAction.TheVariants.{Set, SetTrue}
+use Rattle.clap.specs.Words.{App, Row, Rule, Text, all_of, first_of, one_of, new_app, new_rule, subcommand_of, with_rule, with_subcommand}
+use Rattle.clap.specs.declared.builder.ArgAction.TheVariants.{Append, Set, SetTrue}
 use Rattle.clap.specs.declared.builder.value_parser.ValueParser.TheVariants as parsers
 use Rattle.command_line.specs.declared.command.Command.{Command}
-use Rattle.command_line.specs.declared.command.Command.TheVariants.{Check, Interp, Build, Run, List as Listing, Show}
+use Rattle.command_line.specs.declared.command.Command.TheVariants.{Check, CheckEach, Interp, Build, Run, List as Listing, Show}
 
 -- an argument by its place, which must be there
 abbrev pub required_rule : Text → Rule
 required_rule id = record (new_rule id) { required = true; action = Some Set }
+
+-- arguments by their place, one or more
+abbrev pub several_rule : Text → Rule
+several_rule id = record (new_rule id) { required = true; action = Some Append }
 
 -- `--id N` with N from low to high
 abbrev pub number_rule : Text → ℕ → ℕ → Rule
@@ -33,7 +37,7 @@ with_version a = record a { top = record a.top { has_version = true } }
 
 -- `check` before its option
 abbrev pub file_app : App
-file_app = with_rule (new_app (codes "check")) (required_rule (codes "FILE"))
+file_app = with_rule (new_app (codes "check")) (several_rule (codes "FILE"))
 
 abbrev pub check_app : App
 check_app = with_rule file_app (flag_rule (codes "explain"))
@@ -105,7 +109,10 @@ IsFlag given b = (given ≡ None → b ≡ false) × (given ≡ Some (codes "tru
 -- the command's name, and the values that its arguments have
 abbrev pub HasValues : Text → List Row → Command → Type 0
 HasValues name rows (Check file explain) =
-    (name ≡ codes "check") × (first_of (codes "FILE") rows ≡ Some file.now) × IsFlag (one_of (codes "explain") rows) explain
+    (name ≡ codes "check") × (all_of (codes "FILE") rows ≡ Some (file.now ∷ [])) × IsFlag (one_of (codes "explain") rows) explain
+HasValues name rows (CheckEach files explain) =
+    (name ≡ codes "check") × (all_of (codes "FILE") rows ≡ Some (map (λ s. s.now) files.items)) × (2 ≤ length files.items)
+    × IsFlag (one_of (codes "explain") rows) explain
 HasValues name rows (Interp source depth steps) =
     (name ≡ codes "interp") × (first_of (codes "SOURCE") rows ≡ Some source.now)
     × IsNumber (one_of (codes "depth") rows) 256 depth × (1 ≤ depth) × (depth ≤ 4096)

@@ -1,9 +1,14 @@
 /// A command of the program with its values.
-#[derive(Clone, Copy)]
+#[derive(Drop)]
 pub enum Command<'a> {
     /// The verdict on the check text of a file; `explain` asks why it isn't `same`.
     Check {
         file: &'a str,
+        explain: bool,
+    },
+    /// The same of several files, two at least, in the order of the words.
+    CheckEach {
+        files: Vec<&'a str>,
         explain: bool,
     },
     /// A run of the C program of a file, with `depth` active calls at most (1 to 4096) and `steps` steps (below 2^32).

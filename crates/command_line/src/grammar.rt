@@ -24,7 +24,11 @@ FILE spells a block and an order for it, one instruction a line:
 Of this text the answer is `same`: the order breaks no delay rule and leaves each register, HI, LO,
 memory and the exit as the block does. Other answers: `unclean U1` (to U4, the least delay rule that
 is broken), `differs P` (the first place whose terms differ), `full` (the table of terms is full).
-`mcc check /dev/stdin` reads standard input.";
+`mcc check /dev/stdin` reads standard input.
+
+Of several files each has a line, in the order of the words: `FILE: same`, another answer, or the fault's line;
+lines of --explain stand behind it. The status is the worst one: 1 where a file had a fault, else 3 where
+an answer isn't `same`, else 0.";
 
 const EXPLAIN_HELP: &str =
     "Say why: the two terms that differ, or the rule and the words that break it";
@@ -142,7 +146,7 @@ fn file_command<'a, C: CommandBuilder<'a>>(alloc: Global) -> Result<C, AllocErro
         "Says whether an order may stand for a block",
         CHECK_HELP,
     );
-    command.required(alloc, "FILE", "The check text")
+    command.several(alloc, "FILE", "The check text, or several")
 }
 
 fn check_command<'a, C: CommandBuilder<'a>>(alloc: Global) -> Result<C, AllocError>

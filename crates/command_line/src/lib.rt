@@ -5,7 +5,7 @@
 //! memory alone.
 //!
 //! What is promised:
-//! - `command_line::words`: where it is Ok, the files and numbers are those that clap's matches of the words have, in
+//! - `command_line::words`: where it is Ok, the files (of `check` one or more) and numbers are those that clap's matches of the words have, in
 //!   their range, or their defaults.
 #![tactic(auto)]
 

@@ -3,7 +3,7 @@
 ghost use Rattle.std.specs.Prelude.{◌≡◌, Bool, false, IfOk};
 ghost use Rattle.clap.specs.declared.builder.command.Command.TheViews.{out-Command};
 ghost use Rattle.clap.specs.Words.{App, app_of, new_app, rule_of, with_rule, with_subcommand};
-ghost use Rattle.command_line.specs.Commands.{flag_rule, number_rule, required_rule, text_rule, with_required_subcommand, with_version};
+ghost use Rattle.command_line.specs.Commands.{flag_rule, number_rule, required_rule, several_rule, text_rule, with_required_subcommand, with_version};
 
 use clap::builder::ValueParser;
 use clap::{Arg, ArgAction, Command as CommandLine};
@@ -24,6 +24,11 @@ pub trait CommandBuilder<'a>: Sized + Drop {
     /// With an argument by its place, which must be there.
     fn required(self, alloc: Global, id: &'a str, about: &'a str) -> Result<Self, AllocError>
         ensures app { IfOk result (λ c. app c ≡ with_rule (app self) (required_rule id.entry.now)) }
+        ensures local { has_globals self ≡ false → IfOk result (λ c. has_globals c ≡ false) };
+
+    /// With arguments by their place, one or more.
+    fn several(self, alloc: Global, id: &'a str, about: &'a str) -> Result<Self, AllocError>
+        ensures app { IfOk result (λ c. app c ≡ with_rule (app self) (several_rule id.entry.now)) }
         ensures local { has_globals self ≡ false → IfOk result (λ c. has_globals c ≡ false) };
 
     /// With the option `--id N` with N from low to high.
@@ -75,6 +80,10 @@ impl<'a> CommandBuilder<'a> for CommandLine<'a> {
         self.arg(required(alloc, id, about))
     }
 
+    fn several(self, alloc: Global, id: &'a str, about: &'a str) -> Result<Self, AllocError> {
+        self.arg(several(alloc, id, about))
+    }
+
     fn number(
         self,
         alloc: Global,
@@ -115,6 +124,17 @@ fn required<'a>(alloc: Global, id: &'a str, about: &'a str) -> Arg<'a>
     Arg::new(alloc, id)
         .required(true)
         .action(ArgAction::Set)
+        .help(about)
+}
+
+/// Arguments by their place, one or more.
+fn several<'a>(alloc: Global, id: &'a str, about: &'a str) -> Arg<'a>
+    ensures rule { rule_of result ≡ several_rule id.entry.now }
+    ensures local { result.global ≡ false }
+{
+    Arg::new(alloc, id)
+        .required(true)
+        .action(ArgAction::Append)
         .help(about)
 }
 

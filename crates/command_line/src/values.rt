@@ -16,12 +16,25 @@ fn flag(values: &ArgMatches<'_>, id: &str) -> bool
     values.get_flag(id)
 }
 
-fn entered_check<'a>(values: &ArgMatches<'a>) -> Option<Command<'a>>
+/// A check of one file or of several; None also where memory is refused to their list.
+fn entered_check<'a>(alloc: Global, values: &ArgMatches<'a>) -> Option<Command<'a>>
     ensures { IfSome result (HasValues (codes "check") (rows_of (found_of values.now))) }
 {
-    let file = values.get_str("FILE")?;
+    let files = values.get_strs("FILE")?;
     let explain = flag(values, "explain");
-    Some(Command::Check { file, explain })
+    match files {
+        [] => None,
+        [file] => Some(Command::Check {
+            file: *file,
+            explain,
+        }),
+        _ => {
+            let Ok(files) = Vec::from_slice(alloc, files) else {
+                return None;
+            };
+            Some(Command::CheckEach { files, explain })
+        }
+    }
 }
 
 /// The value of an option, or the number that stands for it; None where its text is no number.
@@ -116,11 +129,11 @@ fn entered_show<'a>(values: &ArgMatches<'a>) -> Option<Command<'a>>
 }
 
 /// The command of this name, with its values.
-fn named<'a>(name: &str, values: &ArgMatches<'a>) -> Option<Command<'a>>
+fn named<'a>(alloc: Global, name: &str, values: &ArgMatches<'a>) -> Option<Command<'a>>
     ensures { IfSome result (HasValues name.now (rows_of (found_of values.now))) }
 {
     if name == "check" {
-        entered_check(values)
+        entered_check(alloc, values)
     } else if name == "interp" {
         entered_interp(values)
     } else if name == "build" {
@@ -136,11 +149,11 @@ fn named<'a>(name: &str, values: &ArgMatches<'a>) -> Option<Command<'a>>
     }
 }
 
-fn entered<'a>(matches: &ArgMatches<'a>) -> Option<Command<'a>>
+fn entered<'a>(alloc: Global, matches: &ArgMatches<'a>) -> Option<Command<'a>>
     ensures { IfSome result (λ w. (name : _) × (rows : _) × (subcommand_rows_of matches.now ≡ Some (name, rows)) × HasValues name rows w) }
 {
     let (name, values) = matches.subcommand()?;
-    named(name, values)
+    named(alloc, name, values)
 }
 
 /// clap's matches of the words.
@@ -159,5 +172,5 @@ pub fn words<'a>(alloc: Global, words: &'a [&'a str]) -> Result<Command<'a>, Err
     ensures refused { IfErr result (λ e. takes mcc_app (map (λ s. s.now) words.entry.now) ≡ true → kind_of e ≡ OutOfMemory) }
 {
     let matches = matched(alloc, words)?;
-    entered(&matches).ok_or(Error::from(AllocError))
+    entered(alloc, &matches).ok_or(Error::from(AllocError))
 }

@@ -1,5 +1,5 @@
 -- What a program asks of its files and its streams.
-use Rattle.std.specs.Prelude.{ℕ, List, [], ◌∷◌, ◌++◌, Option}
+use Rattle.std.specs.Prelude.{◌≡◌, ℕ, List, [], ◌∷◌, ◌++◌, Option}
 use Rattle.std.specs.List.{FoldsTo}
 use Rattle.std.specs.Io.KnownBytes.{Appends}
 use Rattle.commands.specs.declared.files.FileFault.{FileFault}
@@ -44,6 +44,14 @@ TellsLine tells old text new = (more : List (List ℕ)) × FoldsTo tells old ((t
 -- something was told, or nothing
 abbrev pub TellsOn : {E : Type 0} → (E → List ℕ → E → Type 0) → E → E → Type 0
 TellsOn tells old new = (more : List (List ℕ)) × FoldsTo tells old more new
+
+-- what was told, piece by piece, is so
+abbrev pub TellsBeside : {E : Type 0} → (E → List ℕ → E → Type 0) → E → (List (List ℕ) → Type 0) → E → Type 0
+TellsBeside tells old Remarks new = (told : List (List ℕ)) × FoldsTo tells old told new × Remarks told
+
+-- nothing
+abbrev pub IsNothing : List (List ℕ) → Type 0
+IsNothing told = told ≡ []
 
 -- what a command did that ended by a fault: all that it asked of its files, and the line that it told
 pub record Asks {F E : Type 0} (answers : F → Request → F → Type 0) (old new : F) (tells : E → List ℕ → E → Type 0) (err_old err_new : E)

@@ -1,7 +1,7 @@
 // What is said of a fault below its line: what is wrong, and what to write in its place.
 
-ghost use Rattle.std.specs.Prelude.{◌≤◌, All, IfOk};
-ghost use Rattle.commands.specs.Texts.{IsPrintable, IsPrintableExplanation};
+ghost use Rattle.std.specs.Prelude.{◌≡◌, ◌≤◌, All, IfOk};
+ghost use Rattle.commands.specs.Texts.{IsPrintable, IsPrintableExplanation, shown_byte};
 
 use std::alloc::{AllocError, Global};
 
@@ -15,8 +15,9 @@ pub struct Explanation {
 }
 
 /// The byte itself if it is printable, else `?`.
-fn printable(byte: u8) -> u8
-    ensures { IsPrintable result }
+pub(crate) fn printable(byte: u8) -> u8
+    ensures exact { result ≡ shown_byte byte }
+    ensures printable { IsPrintable result }
 {
     match byte {
         b' '..=b'~' => byte,

@@ -1,27 +1,34 @@
 -- What the program does with its words: what it asks of its files, what its standard output takes, and its status.
-use Rattle.std.specs.Prelude.{◌≡◌, ◌⊎◌, ℕ, ◌+◌, List, [], ◌∷◌, ◌++◌, Bool, true, false, codes, decimal, ⊤, All}
+use Rattle.std.specs.Prelude.{◌≡◌, ◌⊎◌, ℕ, ◌+◌, List, [], ◌∷◌, ◌++◌, Bool, true, false, codes, decimal, ⊤, All, Option, String, map}
+use Rattle.std.specs.declared.vec.Vec.{Vec}
+use Rattle.std.specs.declared.alloc.Global.{Global}
+use Rattle.std.specs.Borrow.{Bor}
+use Rattle.std.specs.String.{string_bytes}
 use Rattle.std.specs.List.{flat_map}
-use Rattle.runs.specs.Runs.{Outcome}
+use Rattle.runs.specs.Runs.{outcome_of}
+use Rattle.runs.specs.declared.ran.Ran.{Ran}
 use Rattle.mblock.specs.Parts.{BlockParts, OrderParts}
 use Rattle.mblock.specs.declared.limits.TheConstants.{BLOCK_INSTS}
 use Rattle.image.specs.Texts.{counts_text, image_fault_text}
 use Rattle.image.specs.Views.{counts_of}
-use Rattle.image.specs.Images.{ImageParts, IsImage, IsImageFault, image_bytes}
-use Rattle.image.specs.declared.fault.ImageFault.{ImageFault}
-use Rattle.mips_steps.specs.Machines.{MachineOutcome}
+use Rattle.image.specs.Images.{IsImageFault}
+use Rattle.mips_machine.specs.Views.{outcome_of as machine_outcome_of}
+use Rattle.mips_machine.specs.declared.machine.MachineRan.{MachineRan}
 use Rattle.sched_phase.specs.Phases.{IsPhase}
 use Rattle.commands.specs.Requests.{Request, reading_fault, writing_fault}
 use Rattle.commands.specs.declared.files.FileFault.{FileFault}
 use Rattle.commands.specs.Requests.Request.{Read, NotRead, Written, NotWritten}
+use Rattle.commands.specs.OneFile.{AnswersFile, StopsFile}
 use Rattle.commands.specs.Texts.{host_fault_text}
 use Rattle.commands.specs.declared.fault.HostFault.{HostFault}
 use Rattle.commands.specs.declared.fault.HostFault.TheVariants.{CannotWrite, NoMemory}
 use Rattle.block_text.specs.Shown.{IsShown}
 use Rattle.check_command.specs.Command.{Checks, Explains, StopsCheck}
+use Rattle.check_command.specs.Several.{BreaksOff, ChecksAll, ChecksEach}
 use Rattle.clap.specs.Words.{takes}
 use Rattle.command_line.specs.Commands.{IsCommand, mcc_app}
 use Rattle.command_line.specs.declared.command.Command.{Command}
-use Rattle.command_line.specs.declared.command.Command.TheVariants.{Check, Interp, Build, Run, List as Listing, Show}
+use Rattle.command_line.specs.declared.command.Command.TheVariants.{Check, CheckEach, Interp, Build, Run, List as Listing, Show}
 use Rattle.driver.specs.Texts.{build_fault_text, end_text, end_status, ending_text, ending_status, interp_fault_text}
 use Rattle.driver.specs.Interps.{IsRun, IsInterpFault}
 use Rattle.driver.specs.ImageRuns.{IsImageRun, IsListing, IsOfImage}
@@ -29,9 +36,7 @@ use Rattle.driver.specs.Builds.{IsScheduledBuild, IsPlain}
 use Rattle.driver.specs.Follows.{FollowsText}
 use Rattle.driver.specs.BuildFaults.{IsBuildFault, IsFaultless}
 use Rattle.driver.specs.Stages.{IsStagesFault, stages_fault_text}
-use Rattle.driver.specs.declared.show_commands.StagesFault.{StagesFault}
 use Rattle.driver.specs.declared.builds.Built.{Built}
-use Rattle.driver.specs.declared.source_runs.InterpFault.{InterpFault}
 use Rattle.driver.specs.declared.builds.BuildFault.{BuildFault}
 
 -- the program's own scheduler may propose any order
@@ -81,75 +86,74 @@ pub data StopsBuild (source image : List ℕ) (depth : ℕ) (plain : Bool) : Lis
 abbrev pub words_text : List ℕ → List ℕ
 words_text words = flat_map (λ w. decimal w ++ 10 ∷ []) words
 
+-- what is printed of a run: its output, and how it ended
+abbrev pub PrintsRun : Ran → List ℕ → Type 0
+PrintsRun ran printed = printed ≡ words_text ran.output.items ++ (end_text ran.end ++ 10 ∷ [])
+
+-- the same of an image's
+abbrev pub PrintsMachine : MachineRan → List ℕ → Type 0
+PrintsMachine ran printed = printed ≡ words_text ran.output.items ++ (ending_text ran.end ++ 10 ∷ [])
+
 -- `mcc interp SOURCE`
-pub record Interps (source : List ℕ) (depth steps : ℕ) (status : ℕ) (requests : List Request) (printed : List ℕ) : Type 0 where
-  pub text : List ℕ
-  pub asked : requests ≡ Read source text ∷ []
-  pub outcome : Outcome
-  pub run : IsRun text depth steps outcome
-  pub lines : printed ≡ words_text outcome.output ++ (end_text outcome.end ++ 10 ∷ [])
-  pub ends : status ≡ end_status outcome.end
+abbrev pub Interps : (source : List ℕ) → (depth steps : ℕ) → (status : ℕ) → List Request → List ℕ → Type 0
+Interps source depth steps =
+    AnswersFile (λ text ran. IsRun text depth steps (outcome_of ran)) PrintsRun (λ ran. end_status ran.end) source
 
 -- `mcc run IMAGE`
-pub record Runs (image : List ℕ) (steps : ℕ) (status : ℕ) (requests : List Request) (printed : List ℕ) : Type 0 where
-  pub bytes : List ℕ
-  pub asked : requests ≡ Read image bytes ∷ []
-  pub outcome : MachineOutcome
-  pub run : IsImageRun bytes steps outcome
-  pub lines : printed ≡ words_text outcome.output ++ (ending_text outcome.end ++ 10 ∷ [])
-  pub ends : status ≡ ending_status outcome.end
+abbrev pub Runs : (image : List ℕ) → (steps : ℕ) → (status : ℕ) → List Request → List ℕ → Type 0
+Runs image steps =
+    AnswersFile (λ bytes ran. IsImageRun bytes steps (machine_outcome_of ran)) PrintsMachine (λ ran. ending_status ran.end) image
 
 -- `mcc list IMAGE`
-pub record Lists (image : List ℕ) (status : ℕ) (requests : List Request) (printed : List ℕ) : Type 0 where
-  pub bytes : List ℕ
-  pub asked : requests ≡ Read image bytes ∷ []
-  pub listed : IsListing bytes printed
-  pub ends : status ≡ 0
+abbrev pub Lists : (image : List ℕ) → (status : ℕ) → List Request → List ℕ → Type 0
+Lists image =
+    AnswersFile (λ bytes (text : String Global). IsListing bytes (string_bytes text)) (λ text printed. printed ≡ string_bytes text) (λ _. 0)
+    image
+
+-- lines of printable ASCII
+abbrev pub IsPage : Vec ℕ Global → Type 0
+IsPage page = All IsShown page.items
+
+abbrev pub PrintsPage : Vec ℕ Global → List ℕ → Type 0
+PrintsPage page printed = printed ≡ page.items
 
 -- `mcc list IMAGE --asm`. Of the source no more is said than that it is lines of printable ASCII
-pub record Assembles (image : List ℕ) (status : ℕ) (requests : List Request) (printed : List ℕ) : Type 0 where
-  pub bytes : List ℕ
-  pub asked : requests ≡ Read image bytes ∷ []
-  pub of : IsOfImage bytes
-  pub shown : All IsShown printed
-  pub ends : status ≡ 0
+abbrev pub Assembles : (image : List ℕ) → (status : ℕ) → List Request → List ℕ → Type 0
+Assembles image = AnswersFile (λ bytes page. IsOfImage bytes × IsPage page) PrintsPage (λ _. 0) image
 
 -- `mcc show SOURCE`: the text spells a program without faults. Of what is printed no more is said than that it is lines of
 -- printable ASCII
-pub record Shows (source : List ℕ) (status : ℕ) (requests : List Request) (printed : List ℕ) : Type 0 where
-  pub text : List ℕ
-  pub asked : requests ≡ Read source text ∷ []
-  pub faultless : IsFaultless text
-  pub shown : All IsShown printed
-  pub ends : status ≡ 0
+abbrev pub Shows : (source : List ℕ) → (status : ℕ) → List Request → List ℕ → Type 0
+Shows source = AnswersFile (λ text page. IsFaultless text × IsPage page) PrintsPage (λ _. 0) source
 
--- the first two where they ended by a fault: of the file, of its text or bytes, or of standard output
-pub data StopsInterp (source : List ℕ) : List Request → List ℕ → Type 0 where
-  unread : (fault : FileFault) → StopsInterp source (NotRead source fault ∷ []) (host_fault_text (reading_fault fault))
-  faulty : (text : List ℕ) (fault : InterpFault) → IsInterpFault text fault
-      → StopsInterp source (Read source text ∷ []) (interp_fault_text fault)
-  untold : (text : List ℕ) (depth steps : ℕ) (outcome : Outcome) → IsRun text depth steps outcome
-      → StopsInterp source (Read source text ∷ []) (host_fault_text CannotWrite)
+-- standard output was refused
+abbrev pub IsRefused : HostFault → Type 0
+IsRefused fault = fault ≡ CannotWrite
 
--- `run` and `list`
-pub data StopsImage (image : List ℕ) : List Request → List ℕ → Type 0 where
-  unread : (fault : FileFault) → StopsImage image (NotRead image fault ∷ []) (host_fault_text (reading_fault fault))
-  faulty : (bytes : List ℕ) (fault : ImageFault) → IsImageFault bytes fault
-      → StopsImage image (Read image bytes ∷ []) (image_fault_text fault)
-  untold : (bytes : List ℕ) (parts : ImageParts) → IsImage parts → image_bytes parts ≡ bytes
-      → StopsImage image (Read image bytes ∷ []) (host_fault_text CannotWrite)
+-- these where they ended by a fault
+abbrev pub StopsInterp : (source : List ℕ) → (depth steps : ℕ) → List Request → List ℕ → Type 0
+StopsInterp source depth steps =
+    StopsFile (λ text ran. IsRun text depth steps (outcome_of ran)) IsInterpFault interp_fault_text IsRefused source
 
--- `show`
-pub data StopsShow (source : List ℕ) : List Request → List ℕ → Type 0 where
-  unread : (fault : FileFault) → StopsShow source (NotRead source fault ∷ []) (host_fault_text (reading_fault fault))
-  faulty : (text : List ℕ) (fault : StagesFault) → IsStagesFault text fault
-      → StopsShow source (Read source text ∷ []) (stages_fault_text fault)
-  untold : (text : List ℕ) → IsFaultless text → StopsShow source (Read source text ∷ []) (host_fault_text CannotWrite)
+abbrev pub StopsRun : (image : List ℕ) → (steps : ℕ) → List Request → List ℕ → Type 0
+StopsRun image steps =
+    StopsFile (λ bytes ran. IsImageRun bytes steps (machine_outcome_of ran)) IsImageFault image_fault_text IsRefused image
+
+abbrev pub StopsList : (image : List ℕ) → List Request → List ℕ → Type 0
+StopsList image =
+    StopsFile (λ bytes (text : String Global). IsListing bytes (string_bytes text)) IsImageFault image_fault_text IsRefused image
+
+abbrev pub StopsAssembly : (image : List ℕ) → List Request → List ℕ → Type 0
+StopsAssembly image = StopsFile (λ bytes page. IsOfImage bytes × IsPage page) IsImageFault image_fault_text IsRefused image
+
+abbrev pub StopsShow : (source : List ℕ) → List Request → List ℕ → Type 0
+StopsShow source = StopsFile (λ text page. IsFaultless text × IsPage page) IsStagesFault stages_fault_text IsRefused source
 
 -- a command that has its answer
 abbrev pub Answers : Command → ℕ → List Request → List ℕ → Type 0
 Answers (Check file false) status requests printed = Checks file.now status requests printed
 Answers (Check file true) status requests printed = Explains file.now status requests printed
+Answers (CheckEach files explain) status requests printed = ChecksEach explain (map (λ s. s.now) files.items) status requests printed
 Answers (Interp source depth steps) status requests printed = Interps source.now depth steps status requests printed
 Answers (Build source image plain depth workers nodes heads) status requests printed =
     Builds source.now image.now depth plain status requests printed
@@ -161,11 +165,27 @@ Answers (Show source stage function dot) status requests printed = Shows source.
 -- a command that ended by a fault
 abbrev pub Stops : Command → List Request → List ℕ → Type 0
 Stops (Check file explain) requests told = StopsCheck file.now requests told
-Stops (Interp source depth steps) requests told = StopsInterp source.now requests told
+Stops (CheckEach files explain) requests told = BreaksOff explain (map (λ s. s.now) files.items) requests told
+Stops (Interp source depth steps) requests told = StopsInterp source.now depth steps requests told
 Stops (Build source image plain depth workers nodes heads) requests told = StopsBuild source.now image.now depth plain requests told
-Stops (Run image steps) requests told = StopsImage image.now requests told
-Stops (Listing image asm) requests told = StopsImage image.now requests told
+Stops (Run image steps) requests told = StopsRun image.now steps requests told
+Stops (Listing image false) requests told = StopsList image.now requests told
+Stops (Listing image true) requests told = StopsAssembly image.now requests told
 Stops (Show source stage function dot) requests told = StopsShow source.now requests told
+
+-- what is told beside a run that is wrong or stuck: why, in lines of printable ASCII; beside any other nothing
+abbrev pub IsReason : (status : ℕ) → List (List ℕ) → Type 0
+IsReason status told = All (All IsShown) told × ((status ≡ 3 → ⊥) → told ≡ [])
+
+-- what a command tells beside its answer
+abbrev pub Remarks : Command → (status : ℕ) → List (List ℕ) → Type 0
+Remarks (Interp source depth steps) status told = IsReason status told
+Remarks (Run image steps) status told = IsReason status told
+Remarks _ status told = told ≡ []
+
+-- the program: its words are a command, and this is told beside its answer
+abbrev pub IsRemark : List (List ℕ) → (status : ℕ) → List (List ℕ) → Type 0
+IsRemark words status told = (command : Command) × IsCommand words command × Remarks command status told
 
 -- the program: its words are a command, which has its answer
 pub record IsAnswered (words : List (List ℕ)) (status : ℕ) (requests : List Request) (printed : List ℕ) : Type 0 where
@@ -179,3 +199,11 @@ abbrev pub IsStopped : List (List ℕ) → List Request → List ℕ → Type 0
 IsStopped words requests told =
     ((requests ≡ []) × ((fault : HostFault) × (told ≡ host_fault_text fault) × (takes mcc_app words ≡ true → fault ≡ NoMemory)))
     ⊎ ((command : Command) × IsCommand words command × Stops command requests told)
+
+-- the program: its words ask for a check of several files, of which one had a fault, and all have their lines
+pub record HasFaultyFile {F E : Type 0} (answers : F → Request → F → Type 0) (old new : F) (out_old out_new : Option (List ℕ))
+    (tells : E → List ℕ → E → Type 0) (err_old err_new : E) (words : List (List ℕ)) : Type 0 where
+  pub files : Vec (Bor (List ℕ)) Global
+  pub explain : Bool
+  pub entered : IsCommand words (CheckEach files explain)
+  pub checked : ChecksAll answers old new out_old out_new tells err_old err_new explain (map (λ s. s.now) files.items) 1

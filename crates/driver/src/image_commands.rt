@@ -1,28 +1,32 @@
 // The commands on images.
 
-ghost use Rattle.std.specs.Prelude.{◌≡◌, ◌≢◌, ◌≤◌, All, IfErr, IfOk, OnOk};
-ghost use Rattle.std.specs.Io.KnownBytes.{Appends};
-ghost use Rattle.commands.specs.Requests.{Asks, Does, IsSent};
+ghost use Rattle.std.specs.Prelude.{◌≡◌, ◌≢◌, ◌≤◌, All, IfErr, IfOk};
+ghost use Rattle.std.specs.String.{string_bytes};
+ghost use Rattle.commands.specs.Requests.{IsNothing};
 ghost use Rattle.block_text.specs.Shown.{IsShown};
-ghost use Rattle.driver.specs.ImageRuns.{IsOfImage};
-ghost use Rattle.driver.specs.Program.{Assembles, Lists, Runs, StopsImage};
+ghost use Rattle.driver.specs.ImageRuns.{IsListing, IsOfImage};
+ghost use Rattle.driver.specs.Program.{IsPage, IsRefused, PrintsPage};
 ghost use Rattle.image.specs.Images.{IsImageFault};
+ghost use Rattle.image.specs.Texts.{image_fault_text};
 ghost use Rattle.driver.specs.Texts.{ending_status};
 
 use crate::image_runs::{list_image, run_image};
+use crate::reasons::{stuck_page, tell_page};
 use crate::show_commands::print_page;
 use crate::texts::{EndingLine, print_run};
 use asm_text::source;
-use commands::{Complaints, Files, HostFault, Output, read_file, tell};
+use commands::{Complaints, FileCommand, HostFault, Output, tell};
 use image::{ImageFault, read_image};
+use mips_machine::MachineRan;
 use mips_steps::Ending;
 use std::alloc::Global;
-use std::io;
 
 /// The status of an image's run.
 pub fn ending_status(end: Ending) -> u8
     ensures status { result ≡ ending_status end }
+    ensures most { result ≤ 4 }
     ensures not_wrong_words { result ≢ 2 }
+    ensures no_fault { result ≢ 1 }
 {
     match end {
         Ending::Halt(_) => 0,
@@ -31,69 +35,132 @@ pub fn ending_status(end: Ending) -> u8
     }
 }
 
-/// Runs the image of a file.
-pub(crate) fn run_file<F: Files, W: Output, E: Complaints>(
-    alloc: Global,
-    image: &str,
-    steps: u64,
-    files: &mut F,
-    out: &mut W,
-    err: &mut E,
-) -> u8
-    ensures most { result ≤ 4 }
-    ensures not_wrong_words { result ≢ 2 }
-    ensures answered { result ≢ 1
-        → Does F.answers files.old files.new (W.contents out.old) (W.contents out.new) (Runs image.now steps result) }
-    ensures sent { result ≢ 1 → IsSent W.sends out.new }
-    ensures quiet { result ≢ 1 → err.new ≡ err.old }
-    ensures stopped { result ≡ 1 → Asks F.answers files.old files.new E.tells err.old err.new (StopsImage image.now) }
-{
-    let bytes = match read_file(alloc, image, files) {
-        Ok(bytes) => bytes,
-        Err(fault) => return tell(err, &fault),
-    };
-    match run_image(alloc, bytes.as_slice(), steps) {
-        Ok(ran) => match print_run(out, ran.output.as_slice(), &EndingLine(ran.end)) {
-            Ok(()) => ending_status(ran.end),
-            Err(_) => tell(err, &HostFault::CannotWrite),
-        },
-        Err(fault) => tell(err, &fault),
+/// `mcc run`, for so many words.
+#[derive(Clone, Copy)]
+pub(crate) struct RunCommand {
+    pub(crate) steps: u64,
+}
+
+impl FileCommand for RunCommand {
+    ghost use Rattle.mips_machine.specs.Views.{outcome_of};
+    ghost use Rattle.driver.specs.ImageRuns.{IsImageRun};
+    ghost use Rattle.driver.specs.Program.{IsReason, IsRefused, PrintsMachine};
+
+    type Answer = MachineRan;
+
+    type Fault = ImageFault;
+
+    ghost answers = { λ s bytes ran. IsImageRun bytes s.steps (outcome_of ran) };
+
+    ghost faults = { λ s bytes fault. IsImageFault bytes fault };
+
+    ghost prints = { λ s ran printed. PrintsMachine ran printed };
+
+    ghost status = { λ ran. ending_status ran.end };
+
+    ghost most = { 4 };
+
+    ghost line = { image_fault_text };
+
+    ghost unprinted = { IsRefused };
+
+    ghost remarks = { IsReason };
+
+    fn work(&self, alloc: Global, bytes: &[u8]) -> Result<MachineRan, ImageFault> {
+        run_image(alloc, bytes, self.steps)
+    }
+
+    fn print<W: Output>(
+        &self,
+        _alloc: Global,
+        _bytes: &[u8],
+        answer: &MachineRan,
+        out: &mut W,
+    ) -> Result<u8, HostFault> {
+        match print_run(out, answer.output.as_slice(), &EndingLine(answer.end)) {
+            Ok(()) => Ok(ending_status(answer.end)),
+            Err(_) => Err(HostFault::CannotWrite),
+        }
+    }
+
+    fn remark<E: Complaints>(&self, alloc: Global, bytes: &[u8], answer: &MachineRan, err: &mut E) {
+        match answer.end {
+            Ending::Stuck(_) => tell_page(err, stuck_page(alloc, bytes, self.steps)),
+            Ending::Halt(_) | Ending::More => {}
+        }
+    }
+
+    fn tell<E: Complaints>(
+        &self,
+        _alloc: Global,
+        _file: &str,
+        _bytes: &[u8],
+        fault: ImageFault,
+        err: &mut E,
+    ) -> u8 {
+        tell(err, &fault)
     }
 }
 
-fn print_listing<W: Output>(out: &mut W, text: &str) -> io::Result<()>
-    ensures sent { OnOk result (IsSent W.sends out.new) }
-    ensures text { OnOk result (Appends (W.contents out.old) (W.contents out.new) text.now) }
-{
-    out.write_all(text.as_bytes())?;
-    out.send()
-}
+/// `mcc list`.
+#[derive(Clone, Copy)]
+pub(crate) struct ListCommand;
 
-/// Prints the listing of the image of a file.
-pub(crate) fn list_file<F: Files, W: Output, E: Complaints>(
-    alloc: Global,
-    image: &str,
-    files: &mut F,
-    out: &mut W,
-    err: &mut E,
-) -> u8
-    ensures most { result ≤ 1 }
-    ensures answered { result ≢ 1
-        → Does F.answers files.old files.new (W.contents out.old) (W.contents out.new) (Lists image.now result) }
-    ensures sent { result ≢ 1 → IsSent W.sends out.new }
-    ensures quiet { result ≢ 1 → err.new ≡ err.old }
-    ensures stopped { result ≡ 1 → Asks F.answers files.old files.new E.tells err.old err.new (StopsImage image.now) }
-{
-    let bytes = match read_file(alloc, image, files) {
-        Ok(bytes) => bytes,
-        Err(fault) => return tell(err, &fault),
-    };
-    match list_image(alloc, bytes.as_slice()) {
-        Ok(text) => match print_listing(out, text.as_str()) {
-            Ok(()) => 0,
-            Err(_) => tell(err, &HostFault::CannotWrite),
-        },
-        Err(fault) => tell(err, &fault),
+impl FileCommand for ListCommand {
+    type Answer = String;
+
+    type Fault = ImageFault;
+
+    ghost answers = { λ s bytes text. IsListing bytes (string_bytes text) };
+
+    ghost faults = { λ s bytes fault. IsImageFault bytes fault };
+
+    ghost prints = { λ s text printed. printed ≡ string_bytes text };
+
+    ghost status = { λ _. 0 };
+
+    ghost most = { 0 };
+
+    ghost line = { image_fault_text };
+
+    ghost unprinted = { IsRefused };
+
+    ghost remarks = { λ status told. IsNothing told };
+
+    fn work(&self, alloc: Global, bytes: &[u8]) -> Result<String, ImageFault> {
+        list_image(alloc, bytes)
+    }
+
+    fn print<W: Output>(
+        &self,
+        _alloc: Global,
+        _bytes: &[u8],
+        answer: &String,
+        out: &mut W,
+    ) -> Result<u8, HostFault> {
+        match print_page(out, answer.as_bytes()) {
+            Ok(()) => Ok(0),
+            Err(_) => Err(HostFault::CannotWrite),
+        }
+    }
+
+    fn remark<E: Complaints>(
+        &self,
+        _alloc: Global,
+        _bytes: &[u8],
+        _answer: &String,
+        _err: &mut E,
+    ) {}
+
+    fn tell<E: Complaints>(
+        &self,
+        _alloc: Global,
+        _file: &str,
+        _bytes: &[u8],
+        fault: ImageFault,
+        err: &mut E,
+    ) -> u8 {
+        tell(err, &fault)
     }
 }
 
@@ -113,30 +180,64 @@ fn source_of(alloc: Global, bytes: &[u8]) -> Result<Vec<u8>, ImageFault>
     }
 }
 
-/// Prints the assembler source of the image of a file.
-pub(crate) fn assemble_file<F: Files, W: Output, E: Complaints>(
-    alloc: Global,
-    image: &str,
-    files: &mut F,
-    out: &mut W,
-    err: &mut E,
-) -> u8
-    ensures most { result ≤ 1 }
-    ensures answered { result ≢ 1
-        → Does F.answers files.old files.new (W.contents out.old) (W.contents out.new) (Assembles image.now result) }
-    ensures sent { result ≢ 1 → IsSent W.sends out.new }
-    ensures quiet { result ≢ 1 → err.new ≡ err.old }
-    ensures stopped { result ≡ 1 → Asks F.answers files.old files.new E.tells err.old err.new (StopsImage image.now) }
-{
-    let bytes = match read_file(alloc, image, files) {
-        Ok(bytes) => bytes,
-        Err(fault) => return tell(err, &fault),
-    };
-    match source_of(alloc, bytes.as_slice()) {
-        Ok(page) => match print_page(out, page.as_slice()) {
-            Ok(()) => 0,
-            Err(_) => tell(err, &HostFault::CannotWrite),
-        },
-        Err(fault) => tell(err, &fault),
+/// `mcc list --asm`.
+#[derive(Clone, Copy)]
+pub(crate) struct AssembleCommand;
+
+impl FileCommand for AssembleCommand {
+    type Answer = Vec<u8>;
+
+    type Fault = ImageFault;
+
+    ghost answers = { λ s bytes page. IsOfImage bytes × IsPage page };
+
+    ghost faults = { λ s bytes fault. IsImageFault bytes fault };
+
+    ghost prints = { λ s page printed. PrintsPage page printed };
+
+    ghost status = { λ _. 0 };
+
+    ghost most = { 0 };
+
+    ghost line = { image_fault_text };
+
+    ghost unprinted = { IsRefused };
+
+    ghost remarks = { λ status told. IsNothing told };
+
+    fn work(&self, alloc: Global, bytes: &[u8]) -> Result<Vec<u8>, ImageFault> {
+        source_of(alloc, bytes)
+    }
+
+    fn print<W: Output>(
+        &self,
+        _alloc: Global,
+        _bytes: &[u8],
+        answer: &Vec<u8>,
+        out: &mut W,
+    ) -> Result<u8, HostFault> {
+        match print_page(out, answer.as_slice()) {
+            Ok(()) => Ok(0),
+            Err(_) => Err(HostFault::CannotWrite),
+        }
+    }
+
+    fn remark<E: Complaints>(
+        &self,
+        _alloc: Global,
+        _bytes: &[u8],
+        _answer: &Vec<u8>,
+        _err: &mut E,
+    ) {}
+
+    fn tell<E: Complaints>(
+        &self,
+        _alloc: Global,
+        _file: &str,
+        _bytes: &[u8],
+        fault: ImageFault,
+        err: &mut E,
+    ) -> u8 {
+        tell(err, &fault)
     }
 }

@@ -34,8 +34,9 @@
 //! - `driver::mcc`, over any files and any standard error, where clap takes the words: unless the status is 1, the
 //!   words are a command, all that was asked of the files, what standard output took and the status are those of an
 //!   answer that the command's own call may give, with the words' depth, steps and `--plain` (`answered`: `IsAnswered`
-//!   of specs/Program.antt), and nothing was told (`quiet`). A status of 1 comes with the line of a fault that the
-//!   command's own contract allows; IMAGE is asked to be nothing but the bytes of an image of what was read from
+//!   of specs/Program.antt), and nothing was told, but beside a run that is wrong or stuck lines of printable ASCII, which say why
+//!   (`quiet`: `IsRemark`). A status of 1 comes with the line of a fault that the command's own contract allows, or, of several
+//!   check texts, where one has a fault and each has its line (`HasFaultyFile`); IMAGE is asked to be nothing but the bytes of an image of what was read from
 //!   SOURCE, and SOURCE is only read (`stopped`: `IsStopped`). `check_command::check_file` promises the same of
 //!   `check`. Of what `show`, `list --asm` and (behind the answer) `check --explain` print no more is promised than that
 //!   the source has no fault, or the file is an image, and that it is printable ASCII in lines (`Shows`, `Assembles`,
@@ -55,7 +56,8 @@
 //!   `build` with two workers, `build_one`, `build_plain`, `check`, the words of the command line, a machine's steps,
 //!   and to `mcc build --plain`, `run`, `list` and `interp`. `.ci/refuse` refuses each growth of each command of the
 //!   built program in turn, by number (not a part of the gate; docs/GATE.md has its last run).
-//! - Only tested: the lines below a fault, as the place (`FILE:LINE:COLUMN: error:`, the line of the text, cut where it
+//! - Only tested: that the reasons of `wrong` and `stuck` are those of the run (tests/c/reasons, tests/images/reasons); the lines below
+//!   a fault, as the place (`FILE:LINE:COLUMN: error:`, the line of the text, cut where it
 //!   is long, and the caret), what is wrong there and the hint (tests/messages); files that can't be read or written;
 //!   `mcc interp` at each limit of a text's sizes; check texts, their verdicts, and the line of what spells nothing;
 //!   wrong words, and the text of help; and (tests/examples) what each file of crates/example_files/data prints, and its
@@ -68,6 +70,7 @@ mod image_commands;
 mod image_runs;
 mod offsets;
 mod program;
+mod reasons;
 mod scheduled_builds;
 mod show_commands;
 mod source_runs;

@@ -1,23 +1,26 @@
 // The whole program: its words, its files and its streams.
-ghost use Rattle.std.specs.Prelude.{◌≡◌, ◌≢◌, ◌≤◌, map, true};
+ghost use Rattle.std.specs.Prelude.{◌≡◌, ◌≢◌, ◌≤◌, ◌⊎◌, map, true};
 ghost use Rattle.clap.specs.Words.{takes};
 ghost use Rattle.command_line.specs.Commands.{mcc_app};
-ghost use Rattle.commands.specs.Requests.{Asks, Does, IsSent, TellsLine};
-ghost use Rattle.driver.specs.Program.{Interps, IsAnswered, IsStopped, StopsInterp};
+ghost use Rattle.commands.specs.Requests.{Asks, Does, IsSent, TellsBeside, TellsLine};
+ghost use Rattle.driver.specs.Program.{HasFaultyFile, IsAnswered, IsRemark, IsStopped};
 ghost use Rattle.driver.specs.Texts.{end_status, interp_fault_text};
 ghost use Rattle.term_table.specs.Passes.{InRange};
 
 use crate::build_commands::{Asked as AskedBuild, build_file};
-use crate::image_commands::{assemble_file, list_file, run_file};
+use crate::image_commands::{AssembleCommand, ListCommand, RunCommand};
 use crate::offsets::{interp_source_fault, place_of};
+use crate::reasons::{tell_page, wrong_page};
 use crate::scheduled_builds::BuildOpts;
-use crate::show_commands::show_file;
+use crate::show_commands::ShowCommand;
 use crate::source_runs::{InterpFault, interp};
 use crate::texts::{EndLine, print_run};
-use check_command::{check_file, explain_file};
+use check_command::{check_file, check_files, explain_file};
 use command_line::{Command, words};
-use commands::{Complaints, Files, HostFault, Output, read_file, tell, tell_placed, tell_words};
-use runs::End;
+use commands::{
+    Complaints, FileCommand, Files, HostFault, Output, answer_file, tell_placed, tell_words,
+};
+use runs::{End, Ran};
 use sched_phase::PhaseOpts;
 use show::Asked;
 use std::alloc::Global;
@@ -27,7 +30,9 @@ use std::thread::Threads;
 /// The status of a program's run.
 pub fn end_status(end: End) -> u8
     ensures status { result ≡ end_status end }
+    ensures most { result ≤ 4 }
     ensures not_wrong_words { result ≢ 2 }
+    ensures no_fault { result ≢ 1 }
 {
     match end {
         End::Done(_) => 0,
@@ -51,39 +56,71 @@ pub fn tell_interp<E: Complaints>(
     tell_placed(alloc, err, &fault, &place)
 }
 
-/// How far a program runs.
-#[derive(Clone, Copy, Debug)]
-struct Bounds {
+/// `mcc interp`, with its bounds.
+#[derive(Clone, Copy)]
+struct InterpCommand {
     depth: u32,
     steps: u64,
 }
 
-fn interp_file<F: Files, W: Output, E: Complaints>(
-    alloc: Global,
-    source: &str,
-    bounds: Bounds,
-    files: &mut F,
-    out: &mut W,
-    err: &mut E,
-) -> u8
-    ensures most { result ≤ 4 }
-    ensures not_wrong_words { result ≢ 2 }
-    ensures answered { result ≢ 1 → Does F.answers files.old files.new (W.contents out.old) (W.contents out.new)
-        (Interps source.now bounds.depth bounds.steps result) }
-    ensures sent { result ≢ 1 → IsSent W.sends out.new }
-    ensures quiet { result ≢ 1 → err.new ≡ err.old }
-    ensures stopped { result ≡ 1 → Asks F.answers files.old files.new E.tells err.old err.new (StopsInterp source.now) }
-{
-    let text = match read_file(alloc, source, files) {
-        Ok(text) => text,
-        Err(fault) => return tell(err, &fault),
-    };
-    match interp(alloc, text.as_slice(), bounds.depth, bounds.steps) {
-        Ok(ran) => match print_run(out, ran.output.as_slice(), &EndLine(ran.end)) {
-            Ok(()) => end_status(ran.end),
-            Err(_) => tell(err, &HostFault::CannotWrite),
-        },
-        Err(fault) => tell_interp(alloc, err, source, text.as_slice(), fault),
+impl FileCommand for InterpCommand {
+    ghost use Rattle.runs.specs.Runs.{outcome_of};
+    ghost use Rattle.driver.specs.Interps.{IsInterpFault, IsRun};
+    ghost use Rattle.driver.specs.Program.{IsReason, IsRefused, PrintsRun};
+
+    type Answer = Ran;
+
+    type Fault = InterpFault;
+
+    ghost answers = { λ s text ran. IsRun text s.depth s.steps (outcome_of ran) };
+
+    ghost faults = { λ s text fault. IsInterpFault text fault };
+
+    ghost prints = { λ s ran printed. PrintsRun ran printed };
+
+    ghost status = { λ ran. end_status ran.end };
+
+    ghost most = { 4 };
+
+    ghost line = { interp_fault_text };
+
+    ghost unprinted = { IsRefused };
+
+    ghost remarks = { IsReason };
+
+    fn work(&self, alloc: Global, bytes: &[u8]) -> Result<Ran, InterpFault> {
+        interp(alloc, bytes, self.depth, self.steps)
+    }
+
+    fn print<W: Output>(
+        &self,
+        _alloc: Global,
+        _bytes: &[u8],
+        answer: &Ran,
+        out: &mut W,
+    ) -> Result<u8, HostFault> {
+        match print_run(out, answer.output.as_slice(), &EndLine(answer.end)) {
+            Ok(()) => Ok(end_status(answer.end)),
+            Err(_) => Err(HostFault::CannotWrite),
+        }
+    }
+
+    fn remark<E: Complaints>(&self, alloc: Global, bytes: &[u8], answer: &Ran, err: &mut E) {
+        match answer.end {
+            End::Wrong => tell_page(err, wrong_page(alloc, bytes, self.depth, self.steps)),
+            End::Done(_) | End::More => {}
+        }
+    }
+
+    fn tell<E: Complaints>(
+        &self,
+        alloc: Global,
+        file: &str,
+        bytes: &[u8],
+        fault: InterpFault,
+        err: &mut E,
+    ) -> u8 {
+        tell_interp(alloc, err, file, bytes, fault)
     }
 }
 
@@ -98,7 +135,7 @@ fn phase_of(workers: u32, nodes: u32, heads: u32) -> PhaseOpts
 
 /// The whole program over its words (the first is its name), its files and two writers; a build starts threads. The answer is
 /// the exit status: 0 for `same`, `done`, a build, a listing, stages and help, 1 for a fault, 2 for wrong words, 4 for `more`, 3
-/// for any other answer.
+/// for any other answer; of several check texts the worst.
 pub fn mcc<T: Threads + Wait + Sync, F: Files, W: Output, E: Complaints>(
     rt: &T,
     alloc: Global,
@@ -113,9 +150,12 @@ pub fn mcc<T: Threads + Wait + Sync, F: Files, W: Output, E: Complaints>(
         → Does F.answers files.old files.new (W.contents out.old) (W.contents out.new)
         (IsAnswered (map (λ s. s.now) args.entry.now) result) }
     ensures sent { result ≢ 1 → result ≢ 2 → IsSent W.sends out.new }
-    ensures quiet { takes mcc_app (map (λ s. s.now) args.entry.now) ≡ true → result ≢ 1 → err.new ≡ err.old }
+    ensures quiet { takes mcc_app (map (λ s. s.now) args.entry.now) ≡ true → result ≢ 1
+        → TellsBeside E.tells err.old (IsRemark (map (λ s. s.now) args.entry.now) result) err.new }
     ensures stopped { result ≡ 1
-        → Asks F.answers files.old files.new E.tells err.old err.new (IsStopped (map (λ s. s.now) args.entry.now)) }
+        → Asks F.answers files.old files.new E.tells err.old err.new (IsStopped (map (λ s. s.now) args.entry.now))
+        ⊎ HasFaultyFile F.answers files.old files.new (W.contents out.old) (W.contents out.new) E.tells err.old err.new
+        (map (λ s. s.now) args.entry.now) }
 {
     match words(alloc, args) {
         Ok(Command::Check { file, explain }) => {
@@ -126,12 +166,25 @@ pub fn mcc<T: Threads + Wait + Sync, F: Files, W: Output, E: Complaints>(
             }
         }
         Ok(
+            Command::CheckEach {
+                files: names,
+                explain,
+            },
+        ) => { check_files(alloc, names.as_slice(), explain, files, out, err) }
+        Ok(
             Command::Interp {
                 source,
                 depth,
                 steps,
             },
-        ) => interp_file(alloc, source, Bounds { depth, steps }, files, out, err),
+        ) => answer_file(
+            alloc,
+            &InterpCommand { depth, steps },
+            source,
+            files,
+            out,
+            err,
+        ),
         Ok(
             Command::Build {
                 source,
@@ -152,12 +205,14 @@ pub fn mcc<T: Threads + Wait + Sync, F: Files, W: Output, E: Complaints>(
             };
             build_file(rt, alloc, &asked, files, out, err)
         }
-        Ok(Command::Run { image, steps }) => run_file(alloc, image, steps, files, out, err),
+        Ok(Command::Run { image, steps }) => {
+            answer_file(alloc, &RunCommand { steps }, image, files, out, err)
+        }
         Ok(Command::List { image, asm }) => {
             if asm {
-                assemble_file(alloc, image, files, out, err)
+                answer_file(alloc, &AssembleCommand, image, files, out, err)
             } else {
-                list_file(alloc, image, files, out, err)
+                answer_file(alloc, &ListCommand, image, files, out, err)
             }
         }
         Ok(
@@ -173,7 +228,7 @@ pub fn mcc<T: Threads + Wait + Sync, F: Files, W: Output, E: Complaints>(
                 function,
                 dot,
             };
-            show_file(alloc, source, &asked, files, out, err)
+            answer_file(alloc, &ShowCommand { asked }, source, files, out, err)
         }
         Err(error) => tell_words(&error, out, err),
     }

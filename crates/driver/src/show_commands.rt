@@ -1,24 +1,26 @@
 // The command that shows what becomes of a program, stage by stage.
 
-ghost use Rattle.std.specs.Prelude.{◌≡◌, ◌≢◌, ◌≤◌, ◌⊎◌, All, IfErr, IfOk, OnOk, Some};
+ghost use Rattle.std.specs.Prelude.{◌≡◌, ◌⊎◌, All, IfErr, IfOk, OnOk, Some};
 ghost use Rattle.std.specs.Io.KnownBytes.{Appends};
-ghost use Rattle.commands.specs.Requests.{Asks, Does, IsSent, TellsLine};
+ghost use Rattle.commands.specs.Requests.{IsSent, TellsLine};
 ghost use Rattle.block_text.specs.Shown.{IsShown};
 ghost use Rattle.driver.specs.BuildFaults.{IsBuildFault, IsFaultless};
-ghost use Rattle.driver.specs.Program.{Shows, StopsShow};
 ghost use Rattle.driver.specs.Stages.{IsStagesFault, stages_fault_text};
 
 use crate::build_commands::tell_build;
 use crate::builds::{BuildFault, Limit, typed_of};
-use commands::{Complaints, Files, HostFault, Output, read_file, tell};
+use crate::reasons::{page, tell_page};
+use c_front::read;
+use c_tree::{Declaration, Program};
+use commands::{Complaints, FileCommand, HostFault, Output, tell};
 use mblock::Unit;
 use mips_select::{SelectFault, select};
 use rtl::Rtl;
 use rtl_lower::{LowerFault, lower};
 use show::{Asked, ShowFault, Shown, show};
-use std::alloc::Global;
+use std::alloc::{AllocError, Global};
 use std::error::Error;
-use std::{fmt, io};
+use std::{fmt, io, str};
 
 /// Why nothing of a text is shown.
 #[derive(Clone, Copy, Debug, PartialEq, Eq)]
@@ -109,6 +111,85 @@ pub fn stages(alloc: Global, text: &[u8], asked: &Asked<'_>) -> Result<Vec<u8>, 
     }
 }
 
+/// What is said of a stage that isn't there.
+fn stage_lines(alloc: Global, stage: Option<&str>) -> Result<String, AllocError> {
+    let hint = "hint: stages are rtl, homes, blocks, orders, terms and listing\n";
+    match stage {
+        Some(name) => format!(in alloc; "error: there is no stage '{name}'\n{hint}"),
+        None => format!(in alloc; "error: there is no stage of this name\n{hint}"),
+    }
+}
+
+/// The functions of the program that the text spells, as `f, g, main`.
+fn put_functions(out: &mut String, program: &Program) -> Result<(), AllocError> {
+    let mut before = "";
+    for declaration in &program.declarations {
+        if let Declaration::Function(function) = declaration {
+            out.push_str(before)?;
+            out.push_str(str::from_utf8(program.spelling(function.name)).unwrap_or("?"))?;
+            before = ", ";
+        }
+    }
+    Ok(())
+}
+
+/// What is said of a function that isn't there.
+fn function_lines(
+    alloc: Global,
+    text: &[u8],
+    function: Option<&str>,
+) -> Result<String, AllocError> {
+    let mut lines = match function {
+        Some(name) => format!(in alloc; "error: the program has no function '{name}'\n")?,
+        None => String::from_str(alloc, "error: the program has no function of this name\n")?,
+    };
+    if let Ok(program) = read(alloc, text) {
+        lines.push_str("hint: it has ")?;
+        put_functions(&mut lines, &program)?;
+        lines.push_str("\n")?;
+    }
+    Ok(lines)
+}
+
+/// The line of a fault, and lines below it, if there are some.
+fn tell_with<E: Complaints>(
+    alloc: Global,
+    err: &mut E,
+    fault: StagesFault,
+    lines: Result<String, AllocError>,
+) -> u8
+    ensures status { result ≡ 1 }
+    ensures told { TellsLine E.tells err.old (stages_fault_text fault) err.new }
+{
+    let status = tell(err, &fault);
+    tell_page(err, page(alloc, lines));
+    status
+}
+
+/// The fault's line, and below it what is said of it, with the names that were asked for, if they are known.
+fn tell_asked<E: Complaints>(
+    alloc: Global,
+    err: &mut E,
+    source: &str,
+    text: &[u8],
+    fault: StagesFault,
+    asked: &Asked<'_>,
+) -> u8
+    ensures status { result ≡ 1 }
+    ensures told { TellsLine E.tells err.old (stages_fault_text fault) err.new }
+{
+    match fault {
+        StagesFault::Build(fault) => tell_build(alloc, err, source, text, fault),
+        StagesFault::NoStage => tell_with(alloc, err, fault, stage_lines(alloc, asked.stage)),
+        StagesFault::NoFunction => tell_with(
+            alloc,
+            err,
+            fault,
+            function_lines(alloc, text, asked.function),
+        ),
+    }
+}
+
 /// The fault's line, and below it what is known of it.
 pub fn tell_stages<E: Complaints>(
     alloc: Global,
@@ -120,11 +201,12 @@ pub fn tell_stages<E: Complaints>(
     ensures status { result ≡ 1 }
     ensures told { TellsLine E.tells err.old (stages_fault_text fault) err.new }
 {
-    match fault {
-        StagesFault::Build(fault) => tell_build(alloc, err, source, text, fault),
-        StagesFault::NoStage => tell(err, &fault),
-        StagesFault::NoFunction => tell(err, &fault),
-    }
+    let unknown = Asked {
+        stage: None,
+        function: None,
+        dot: false,
+    };
+    tell_asked(alloc, err, source, text, fault, &unknown)
 }
 
 /// Text that may be printed.
@@ -136,31 +218,69 @@ pub(crate) fn print_page<W: Output>(out: &mut W, page: &[u8]) -> io::Result<()>
     out.send()
 }
 
-/// Shows stages of the C program of a file.
-pub(crate) fn show_file<F: Files, W: Output, E: Complaints>(
-    alloc: Global,
-    source: &str,
-    asked: &Asked<'_>,
-    files: &mut F,
-    out: &mut W,
-    err: &mut E,
-) -> u8
-    ensures most { result ≤ 1 }
-    ensures answered { result ≢ 1
-        → Does F.answers files.old files.new (W.contents out.old) (W.contents out.new) (Shows source.now result) }
-    ensures sent { result ≢ 1 → IsSent W.sends out.new }
-    ensures quiet { result ≢ 1 → err.new ≡ err.old }
-    ensures stopped { result ≡ 1 → Asks F.answers files.old files.new E.tells err.old err.new (StopsShow source.now) }
-{
-    let text = match read_file(alloc, source, files) {
-        Ok(text) => text,
-        Err(fault) => return tell(err, &fault),
-    };
-    match stages(alloc, text.as_slice(), asked) {
-        Ok(page) => match print_page(out, page.as_slice()) {
-            Ok(()) => 0,
-            Err(_) => tell(err, &HostFault::CannotWrite),
-        },
-        Err(fault) => tell_stages(alloc, err, source, text.as_slice(), fault),
+/// `mcc show`, with what is asked for.
+#[derive(Clone, Copy)]
+pub(crate) struct ShowCommand<'a> {
+    pub(crate) asked: Asked<'a>,
+}
+
+impl<'a> FileCommand for ShowCommand<'a> {
+    ghost use Rattle.commands.specs.Requests.{IsNothing};
+    ghost use Rattle.driver.specs.Program.{IsPage, IsRefused, PrintsPage};
+
+    type Answer = Vec<u8>;
+
+    type Fault = StagesFault;
+
+    ghost answers = { λ s text page. IsFaultless text × IsPage page };
+
+    ghost faults = { λ s text fault. IsStagesFault text fault };
+
+    ghost prints = { λ s page printed. PrintsPage page printed };
+
+    ghost status = { λ _. 0 };
+
+    ghost most = { 0 };
+
+    ghost line = { stages_fault_text };
+
+    ghost unprinted = { IsRefused };
+
+    ghost remarks = { λ status told. IsNothing told };
+
+    fn work(&self, alloc: Global, bytes: &[u8]) -> Result<Vec<u8>, StagesFault> {
+        stages(alloc, bytes, &self.asked)
+    }
+
+    fn print<W: Output>(
+        &self,
+        _alloc: Global,
+        _bytes: &[u8],
+        answer: &Vec<u8>,
+        out: &mut W,
+    ) -> Result<u8, HostFault> {
+        match print_page(out, answer.as_slice()) {
+            Ok(()) => Ok(0),
+            Err(_) => Err(HostFault::CannotWrite),
+        }
+    }
+
+    fn remark<E: Complaints>(
+        &self,
+        _alloc: Global,
+        _bytes: &[u8],
+        _answer: &Vec<u8>,
+        _err: &mut E,
+    ) {}
+
+    fn tell<E: Complaints>(
+        &self,
+        alloc: Global,
+        file: &str,
+        bytes: &[u8],
+        fault: StagesFault,
+        err: &mut E,
+    ) -> u8 {
+        tell_asked(alloc, err, file, bytes, fault, &self.asked)
     }
 }

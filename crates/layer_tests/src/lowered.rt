@@ -146,7 +146,8 @@ const PROGRAMS: &[Row] = &[
         ],
     ),
     (
-        "int g = 9; int f(int n) { int r; if (n == 0) return 0; r = f(n - 1); return n; } int main(void) { out(7); g = f(3); out(g); return 5; }",
+        "int g = 9; int f(int n) { int r; if (n == 0) return 0; r = f(n - 1); return n; } \
+         int main(void) { out(7); g = f(3); out(g); return 5; }",
         &[
             (5, 1000, End::Done(5), &[7, 3]),
             (4, 1000, End::Wrong, &[7]),

@@ -5,7 +5,7 @@
 ghost use Rattle.std.specs.Prelude.{◌≡◌, ◌≢◌, ◌≤◌, map};
 ghost use Rattle.mcc_check.specs.Words.{AreOfCheck};
 
-use check_command::{check_file, explain_file};
+use check_command::{check_file, check_files, explain_file};
 use command_line::{Command, words};
 use commands::{Files, HostFault, tell, tell_words};
 use disk::{Disk, owned_words, tell_no_words};
@@ -44,6 +44,12 @@ fn answer<F: Files, W: Write, E: Write>(
                 check_file(alloc, file, files, out, err)
             }
         }
+        Ok(
+            Command::CheckEach {
+                files: names,
+                explain,
+            },
+        ) => { check_files(alloc, names.as_slice(), explain, files, out, err) }
         Ok(_) => tell_others(err),
         Err(error) => tell_words(&error, out, err),
     }

@@ -2,7 +2,8 @@
 
 ghost use Rattle.std.specs.Prelude.{◌≡◌, ◌≢◌};
 ghost use Rattle.check_command.specs.Checks.{IsCheckFault};
-ghost use Rattle.mcc_web.specs.Answers.{SaysCheckFault, SaysExplained, SaysImageFault, SaysInterpFault, SaysListing, SaysMachine, SaysRun, SaysStages, SaysStagesFault, SaysVerdict};
+ghost use Rattle.mcc_web.specs.Answers.{SaysCheckFault, SaysExplained, SaysImageFault, SaysInterpFault, SaysListing, SaysMachine};
+ghost use Rattle.mcc_web.specs.Answers.{SaysRun, SaysStages, SaysStagesFault, SaysVerdict};
 ghost use Rattle.mcc_web.specs.declared.told.TheConstants.{REFUSED};
 
 pub use crate::told::REFUSED;

@@ -14,6 +14,7 @@ use list_scheduler::ListOrder;
 use sched_phase::PhaseOpts;
 use std::alloc::Global;
 use std::io;
+use term_table::{MAX_HEADS, MAX_NODES};
 
 /// Texts up to so many bytes have the table that the program has by default, longer ones the largest.
 const SHORT: usize = 65536;
@@ -23,7 +24,7 @@ pub(crate) fn phase_for(length: usize) -> PhaseOpts {
     let (nodes, heads) = if length <= SHORT {
         (65536, 1024)
     } else {
-        (1048576, 65536)
+        (MAX_NODES, MAX_HEADS)
     };
     match PhaseOpts::new(1, nodes, heads) {
         Some(phase) => phase,

@@ -47,7 +47,8 @@ struct Stretch {
 
 /// Runs words, and tells how many ran; none of them ended the run.
 fn advance(machine: &mut Machine<'_>, stretch: Stretch) -> Result<u64, AllocError>
-    ensures ran { IfOk result (λ k. behind (words_code machine.old.code.words.now) k (machine_of machine.old) ≡ Some (machine_of machine.new)) }
+    ensures ran { let code = words_code machine.old.code.words.now in
+        IfOk result (λ k. behind code k (machine_of machine.old) ≡ Some (machine_of machine.new)) }
     ensures far { IfOk result (λ k. IsFar (words_code machine.old.code.words.now) stretch.from k (machine_of machine.new)) }
 {
     let end = stretch.from.saturating_add(stretch.most);

@@ -8,6 +8,7 @@ use Rattle.mips_layout.specs.Layout.{size}
 use Rattle.mips_layout.specs.Functions.{AreFunctions, words_owned}
 use Rattle.mips_layout.proofs.Within.{owner_low}
 use Rattle.mips_asm.specs.Limits.{FunctionsFit}
+use Rattle.mips_layout.specs.declared.limits.TheConstants.{FUNCTION_WORDS}
 
 module _ (owner : ℕ → ℕ) (f : ℕ) where
   owned_both : (a b : List OrderParts) (k : ℕ) → words_owned owner f k (a ++ b) ≡ words_owned owner f k a + words_owned owner f (k + length a) b
@@ -31,9 +32,9 @@ module _ (owner : ℕ → ℕ) (f : ℕ) where
 
 -- what the loop keeps, after so many blocks and with a count
 pub record Counts (owner : ℕ → ℕ) (done : List OrderParts) (words : ℕ) : Type 0 where
-  pub each : (f : ℕ) → words_owned owner f 0 done ≤ 32000
+  pub each : (f : ℕ) → words_owned owner f 0 done ≤ FUNCTION_WORDS
   pub last : (j : ℕ) → suc j ≡ length done → words ≡ words_owned owner (owner j) 0 done
-  pub small : words ≤ 32000
+  pub small : words ≤ FUNCTION_WORDS
 
 pub no_counts : (owner : ℕ → ℕ) → Counts owner [] 0
 no_counts owner = record { each = λ f. omega arith; last = λ j e. absurd (omega arith); small = omega arith }
@@ -67,12 +68,12 @@ module _ (n : ℕ) (owner : ℕ → ℕ) (h : AreFunctions n owner) (done : List
       owned_both owner (owner (length done)) done (o ∷ []) 0 ∙ ap₂ (λ x y. x + y) s one
 
   pub counts_on : (words start : ℕ) → Counts owner done words → start ≡ cond (owner (length done) == length done) 0 words
-      → start + size o ≤ 32000 → Counts owner (done ++ o ∷ []) (start + size o)
+      → start + size o ≤ FUNCTION_WORDS → Counts owner (done ++ o ∷ []) (start + size o)
   counts_on words start c es le =
       let mine = with_one words start c es in
       record {
         each = λ f. elim (cases_eq f (owner (length done))) [
-          | inl e ↦ subst (λ g. words_owned owner g 0 (done ++ o ∷ []) ≤ 32000) (sym e) (omega arith)
+          | inl e ↦ subst (λ g. words_owned owner g 0 (done ++ o ∷ []) ≤ FUNCTION_WORDS) (sym e) (omega arith)
           | inr ne ↦
               let one = owned_one owner f o (0 + length done) false (ne_eqb (owner (0 + length done)) f (λ e. ne (sym e ∙ ap owner (omega arith)))) in
               let both = owned_both owner f done (o ∷ []) 0 in
@@ -87,7 +88,7 @@ module _ (n : ℕ) (owner : ℕ → ℕ) (h : AreFunctions n owner) (done : List
       }
 
   pub too_many : (words start : ℕ) (rest : List OrderParts) → Counts owner done words
-      → start ≡ cond (owner (length done) == length done) 0 words → 32000 < start + size o → FunctionsFit owner ((done ++ o ∷ []) ++ rest) → ⊥
+      → start ≡ cond (owner (length done) == length done) 0 words → FUNCTION_WORDS < start + size o → FunctionsFit owner ((done ++ o ∷ []) ++ rest) → ⊥
   too_many words start rest c es gt fit =
       let mine = with_one words start c es in
       let both = owned_both owner (owner (length done)) (done ++ o ∷ []) rest 0 in
@@ -109,12 +110,12 @@ module _ (n : ℕ) (owner : ℕ → ℕ) (h : AreFunctions n owner) (os : List O
   inside : length (take k os) < n
   inside = let l = done_long in omega arith
 
-  pub step_counts : (words start : ℕ) → Counts owner (take k os) words → start ≡ cond (owner k == k) 0 words → start + size o ≤ 32000
+  pub step_counts : (words start : ℕ) → Counts owner (take k os) words → start ≡ cond (owner k == k) 0 words → start + size o ≤ FUNCTION_WORDS
       → Counts owner (take (k + 1) os) (start + size o)
   step_counts words start c es le =
       subst (λ d. Counts owner d (start + size o)) (sym next) (counts_on n owner h (take k os) o inside words start c (started words start es) le)
 
-  pub step_too_many : (words start : ℕ) → Counts owner (take k os) words → start ≡ cond (owner k == k) 0 words → 32000 < start + size o
+  pub step_too_many : (words start : ℕ) → Counts owner (take k os) words → start ≡ cond (owner k == k) 0 words → FUNCTION_WORDS < start + size o
       → FunctionsFit owner os → ⊥
   step_too_many words start c es gt fit =
       let whole : (take k os ++ o ∷ []) ++ drop (k + 1) os ≡ os = ap (λ d. d ++ drop (k + 1) os) (sym next) ∙ take-append-drop (k + 1) os in

@@ -24,6 +24,7 @@ use Rattle.mips_layout.specs.Functions.{AreFunctions}
 use Rattle.mips_layout.proofs.Fits.{offset_near}
 use Rattle.mips_asm.specs.Limits.{FunctionsFit}
 use Rattle.mips_asm.specs.Emitted.{Fit, AreThere, AllThere, IsNear, AllNear, IsOwn, AreUnits, places_from, start_of}
+use Rattle.mips_layout.specs.declared.limits.TheConstants.{CODE_WORDS}
 
 place_in : (os : List OrderParts) (here k : ℕ) → k < length os → slice_index (places_from here os) k ≡ here + place os k
 place_in [] here k lt = absurd (omega arith)
@@ -69,8 +70,8 @@ got (x ∷ os) (suc k) o lt e = got os k o (omega arith) e
 pub place_step : (os : List OrderParts) (k : ℕ) (o : OrderParts) → k < length os → o ≡ get_or os k o → place os (k + 1) ≡ place os k + size o
 place_step os k o lt e = let one : k + 1 ≡ suc k = omega arith in ap (place os) one ∙ place_next os k o (got os k o lt e)
 
-pub place_room : (os : List OrderParts) (k : ℕ) (o : OrderParts) → k < length os → o ≡ get_or os k o → place os (length os) ≤ 1048576
-    → place os k + size o ≤ 1048576
+pub place_room : (os : List OrderParts) (k : ℕ) (o : OrderParts) → k < length os → o ≡ get_or os k o → place os (length os) ≤ CODE_WORDS
+    → place os k + size o ≤ CODE_WORDS
 place_room os k o lt e room =
     let step = place_step os k o lt e in
     let most = place_mono os (k + 1) (length os) (omega arith) in
@@ -80,12 +81,12 @@ pub first_place : (os : List OrderParts) → 0 ≡ place os 0
 first_place [] = refl
 first_place (o ∷ os) = refl
 
-places_small : (os : List OrderParts) (here : ℕ) → here + place os (length os) ≤ 1048576 → AllByRecursion (λ p. p ≤ 1048576) (places_from here os)
+places_small : (os : List OrderParts) (here : ℕ) → here + place os (length os) ≤ CODE_WORDS → AllByRecursion (λ p. p ≤ CODE_WORDS) (places_from here os)
 places_small [] here le = tt
 places_small (o ∷ os) here le = (omega arith, places_small os (here + size o) (omega arith))
 
-pub all_small : (os : List OrderParts) → place os (length os) ≤ 1048576 → All (λ p. p ≤ 1048576) (places_from 0 os)
-all_small os le = All-from_recursion (λ p. p ≤ 1048576) (places_from 0 os) (places_small os 0 (omega arith))
+pub all_small : (os : List OrderParts) → place os (length os) ≤ CODE_WORDS → All (λ p. p ≤ CODE_WORDS) (places_from 0 os)
+all_small os le = All-from_recursion (λ p. p ≤ CODE_WORDS) (places_from 0 os) (places_small os 0 (omega arith))
 
 near_exit : (owner : ℕ → ℕ) (os : List OrderParts) → AreFunctions (length os) owner → FunctionsFit owner os → (k : ℕ) (o : OrderParts)
     → slice_get os k ≡ Some o → (x : Exit) → AreThere (length os) x → IsOwn owner k x → IsNear (start_of (places_from 0 os)) (place os k + length o.insts) x

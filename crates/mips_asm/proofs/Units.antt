@@ -26,6 +26,8 @@ use Rattle.mips_layout.proofs.Composed.{each_layout_runs, each_layout_tells_call
 use Rattle.mips_layout.proofs.PlainRuns.{each_plain_layout_runs}
 use Rattle.mips_asm.specs.Emitted.{AreThere, IsOwn, AreUnits}
 use Rattle.mips_asm.specs.Assembled.{EachAssembledImageRuns}
+use Rattle.mips_layout.specs.declared.limits.TheConstants.{CODE_WORDS}
+use Rattle.mips_isa.specs.MemoryMap.{code_base}
 
 -- ---- targets, by the shape of an exit alone
 
@@ -159,13 +161,13 @@ as_many : (l : List Inst) → length (map inst_word l) ≡ length l
 as_many [] = refl
 as_many (i ∷ l) = ap suc (as_many l)
 
-is_first : (n : ℕ) → 1 ≤ n → is_entry n 4194304 ≡ true
+is_first : (n : ℕ) → 1 ≤ n → is_entry n code_base ≡ true
 is_first n lt = lt-ltb 0 n (omega arith)
 
 pub image_made : (u : UnitParts) (orders : List OrderParts) (v : Version) (code bytes : List ℕ) → IsUnit u → AreOrders u.blocks orders
-    → place orders (length orders) ≤ 1048576
+    → place orders (length orders) ≤ CODE_WORDS
     → FitsVersion v u.globals → code ≡ map inst_word (layout orders) → bytes ≡ u.globals → All IsInst (layout orders)
-    → IsImage (record { version = v; entry = 4194304; code = code; bytes = bytes })
+    → IsImage (record { version = v; entry = code_base; code = code; bytes = bytes })
 image_made u orders v code bytes is h room fits code_is bytes_is fit = record {
   some = omega (arith, long, some);
   code_fits = omega (arith, long);
@@ -187,7 +189,7 @@ each_assembled_image_runs u orders i h made image fit =
     let many = as_many (layout orders) in
     let code = ap (λ (w : List ℕ). length w) made.code in
     let most = image.code_fits in
-    let room : length (layout orders) ≤ 1048576 = omega arith in
+    let room : length (layout orders) ≤ CODE_WORDS = omega arith in
     let over : List ℕ → Type 0 = λ w. RunsAs 513 u.blocks orders w in
     record {
       apart = each_layout_tells_calls_apart u.blocks orders h room;
@@ -196,9 +198,9 @@ each_assembled_image_runs u orders i h made image fit =
     }
   where
     Plain : List OrderParts → Type 0
-    Plain os = AreOrders u.blocks os → length (layout os) ≤ 1048576 → All IsInst (layout os) → RunsAs 1 u.blocks os (map inst_word (layout os))
+    Plain os = AreOrders u.blocks os → length (layout os) ≤ CODE_WORDS → All IsInst (layout os) → RunsAs 1 u.blocks os (map inst_word (layout os))
 
-    plain_runs : orders ≡ map plain_order_of u.blocks → length (layout orders) ≤ 1048576 → RunsAs 1 u.blocks orders i.code
+    plain_runs : orders ≡ map plain_order_of u.blocks → length (layout orders) ≤ CODE_WORDS → RunsAs 1 u.blocks orders i.code
     plain_runs plain room =
         let all = subst Plain (sym plain) (each_plain_layout_runs u.blocks) in
         let over : List ℕ → Type 0 = λ w. RunsAs 1 u.blocks orders w in

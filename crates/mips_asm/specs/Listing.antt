@@ -4,18 +4,11 @@ use Rattle.std.specs.Prelude.{ℕ, ◌+◌, ◌*◌, ◌/◌, ◌%◌, ◌^◌, 
 use Rattle.mips_isa.specs.declared.inst.Inst.{Inst}
 use Rattle.mips_isa.specs.declared.inst.Inst.TheVariants as insts
 use Rattle.mips_isa.specs.Starting.{data_base}
-use Rattle.mips_isa.specs.Texts.{hex_digit, half_text, instruction_text, control_text}
+use Rattle.mips_isa.specs.Texts.{instruction_text, control_text}
+use Rattle.mips_isa.specs.Digits.{word_text, byte_text}
 use Rattle.mips_code.specs.Decoding.{instruction_of}
 use Rattle.image.specs.Images.{ImageParts, Version, First, Second, code_base, words_of}
 use Rattle.image.specs.Texts.{counts_text}
-
--- eight hexadecimal digits
-abbrev pub word_text : ℕ → List ℕ
-word_text w = half_text (w / 2 ^ 16) ++ half_text (w % 2 ^ 16)
-
--- two of them
-abbrev pub byte_text : ℕ → List ℕ
-byte_text b = hex_digit b 16 ++ hex_digit b 1
 
 abbrev pub decoded_text : Option Inst → (address : ℕ) → List ℕ
 decoded_text None address = codes ".word"

@@ -11,11 +11,9 @@ use crate::emit::code_of;
 use crate::fault::AsmFault;
 use image::{Counts, Image};
 use mblock::{Order, Unit};
+use mips_isa::CODE_BASE;
 use sched_phase::Scheduled;
 use std::alloc::Global;
-
-/// Where the code begins, with block 0.
-const ENTRY: u32 = 0x0040_0000;
 
 /// The image of a unit whose blocks have these orders: their words, one order behind another, and the unit's data. It runs
 /// as the unit. `Limit` exactly where a function has more than 32,000 words, or the code more than 1,048,576.
@@ -36,7 +34,7 @@ pub fn image_of(
 {
     let code = code_of(alloc, unit.owner(), orders)?;
     let bytes = Vec::from_slice(alloc, unit.globals())?;
-    Ok(Image::of(counts, ENTRY, code, bytes))
+    Ok(Image::of(counts, CODE_BASE, code, bytes))
 }
 
 /// The image of version 2 of a unit whose blocks are scheduled, with its counts. It runs as the unit. `Limit` exactly where a

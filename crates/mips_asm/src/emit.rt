@@ -17,7 +17,7 @@ use crate::limits::functions_fit;
 use crate::places::{places, size, total};
 use mblock::{BlockNumber, Exit, Order};
 use mips_code::encode;
-use mips_isa::{Control, ImmOp, Inst, JumpOp, JumpTarget, Plain, Reg};
+use mips_isa::{CODE_BASE, Control, ImmOp, Inst, JumpOp, JumpTarget, Plain, Reg};
 use mips_layout::CODE_WORDS;
 use std::alloc::{AllocError, Global};
 
@@ -35,7 +35,7 @@ fn jump_to(place: u32) -> Inst
 {
     Inst::Control(Control::JumpTo {
         op: JumpOp::Jump,
-        target: JumpTarget::masked(1_048_576 + place),
+        target: JumpTarget::masked(CODE_BASE / 4 + place),
     })
 }
 
@@ -164,7 +164,7 @@ fn put_exit(
         Exit::Call { function, next } => {
             let control = Control::JumpTo {
                 op: JumpOp::JumpAndLink,
-                target: JumpTarget::masked(1_048_576 + place_at(places, function)),
+                target: JumpTarget::masked(CODE_BASE / 4 + place_at(places, function)),
             };
             put_jump(code, control, slot, place_at(places, next))
         }

@@ -3,67 +3,18 @@
 ghost use Rattle.std.specs.Prelude.{◌≡◌, ℕ, ◌+◌, ◌*◌, ◌^◌, ◌<◌, ◌≤◌, ◌++◌, length, OnOk, IfOk, Some, codes};
 ghost use Rattle.std.specs.String.{string_bytes};
 ghost use Rattle.mips_isa.specs.Starting.{data_base};
-ghost use Rattle.mips_isa.specs.Texts.{half_text};
 ghost use Rattle.mips_code.specs.Decoding.{instruction_of};
 ghost use Rattle.image.specs.Images.{code_base, word_at_byte, words_of};
 ghost use Rattle.image.specs.Views.{version_of};
 ghost use Rattle.image.specs.declared.limits.TheConstants as image_limits;
-ghost use Rattle.mips_asm.specs.Listing.{byte_line, byte_text, code_line, data_lines, decoded_text, lines_at, listing, report_line};
-ghost use Rattle.mips_asm.specs.Listing.{word_line, word_text};
+ghost use Rattle.mips_asm.specs.Listing.{byte_line, code_line, data_lines, decoded_text, lines_at, listing, report_line};
+ghost use Rattle.mips_asm.specs.Listing.{word_line};
 
 use image::{Counts, Image};
 use mips_code::decode;
-use mips_isa::{Inst, ListedControl};
+use mips_isa::{ByteDigits, CODE_BASE, DATA_BASE, Inst, ListedControl, WordDigits};
 use std::alloc::{AllocError, Global};
 use std::fmt;
-
-const CODE_BASE: u32 = 0x0040_0000;
-
-const DATA_BASE: u32 = 0x1000_0000;
-
-// 16 bits in four hexadecimal digits.
-#[derive(Clone, Copy)]
-struct HalfDigits(u16);
-
-impl fmt::Display for HalfDigits {
-    ghost output = { λ h. Some (half_text h.0) };
-
-    fn fmt<W: fmt::Write>(&self, f: &mut fmt::Formatter<W>) -> fmt::Result {
-        let first = self.0 / 0x1000 % 16;
-        let second = self.0 / 0x100 % 16;
-        let third = self.0 / 0x10 % 16;
-        let last = self.0 % 16;
-        write!(f, "{first:x}{second:x}{third:x}{last:x}")
-    }
-}
-
-// A word in eight.
-#[derive(Clone, Copy)]
-struct WordDigits(u32);
-
-impl fmt::Display for WordDigits {
-    ghost output = { λ w. Some (word_text w.0) };
-
-    fn fmt<W: fmt::Write>(&self, f: &mut fmt::Formatter<W>) -> fmt::Result {
-        let high = HalfDigits((self.0 / 0x1_0000) as u16);
-        let low = HalfDigits((self.0 % 0x1_0000) as u16);
-        write!(f, "{high}{low}")
-    }
-}
-
-// A byte in two.
-#[derive(Clone, Copy)]
-struct ByteDigits(u8);
-
-impl fmt::Display for ByteDigits {
-    ghost output = { λ b. Some (byte_text b.0) };
-
-    fn fmt<W: fmt::Write>(&self, f: &mut fmt::Formatter<W>) -> fmt::Result {
-        let first = self.0 / 16 % 16;
-        let last = self.0 % 16;
-        write!(f, "{first:x}{last:x}")
-    }
-}
 
 // What a word of code says.
 #[derive(Clone, Copy)]

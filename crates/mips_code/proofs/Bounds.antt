@@ -22,6 +22,7 @@ use Rattle.mips_isa.specs.declared.inst.Control.TheVariants.{BranchPair, BranchZ
 use Rattle.mips_isa.specs.declared.inst.Inst.{Inst}
 use Rattle.mips_isa.specs.declared.inst.Inst.TheVariants as insts
 use Rattle.mips_isa.specs.Ranges.{IsPlain, IsControl, IsInst}
+use Rattle.mips_code.proofs.Codes.{shift-fits, shift_by-fits, alu-fits, imm-fits, logic-fits, move-fits, multiply-fits, divide-fits, load-fits, store-fits, pair-fits, half-fits}
 use Rattle.mips_code.specs.Words.{register_word, immediate_word, inst_word, word_of_plain, word_of_control, half, shift_code, shift_by_code}
 use Rattle.mips_code.specs.Words.{alu_code, move_code, multiply_code, divide_code, imm_code, logic_code, load_code, store_code, pair_code}
 use Rattle.mips_code.specs.Words.{zero_code, zero_field}
@@ -32,61 +33,48 @@ register_below rs rt rd amount funct a b c d e = omega arith
 immediate_below : (op rs rt imm : ℕ) → op < 64 → rs < 32 → rt < 32 → imm < 2 ^ 16 → immediate_word op rs rt imm < 2 ^ 32
 immediate_below op rs rt imm a b c d = omega arith
 
-half_small : (imm : ℤ) → FitsSigned w16 imm → half imm < 2 ^ 16
-half_small imm h = omega (arith, ints)
-
 plain_below : (i : Plain) → IsPlain i → word_of_plain i < 2 ^ 32
 plain_below (Shift op rd rt amount) h =
     register_below 0 rt rd amount (shift_code op) (omega arith) h.1 h.0 h.2
-    (elim op as (λ o. shift_code o < 64) [ Sll ↦ omega arith | Srl ↦ omega arith | Sra ↦ omega arith ])
+    (shift-fits op)
 plain_below (ShiftBy op rd rt rs) h =
     register_below rs rt rd 0 (shift_by_code op) h.2 h.1 h.0 (omega arith)
-    (elim op as (λ o. shift_by_code o < 64) [ Sll ↦ omega arith | Srl ↦ omega arith | Sra ↦ omega arith ])
+    (shift_by-fits op)
 plain_below (Alu op rd rs rt) h =
     register_below rs rt rd 0 (alu_code op) h.1 h.2 h.0 (omega arith)
-    (elim op as (λ o. alu_code o < 64) [
-      | Addu ↦ omega arith
-      | Subu ↦ omega arith
-      | And ↦ omega arith
-      | Or ↦ omega arith
-      | Xor ↦ omega arith
-      | Nor ↦ omega arith
-      | Slt ↦
-          omega arith
-      | Sltu ↦ omega arith
-    ])
+    (alu-fits op)
 plain_below (Imm op rt rs imm) h =
     immediate_below (imm_code op) rs rt (half imm)
-    (elim op as (λ o. imm_code o < 64) [ Addiu ↦ omega arith | Slti ↦ omega arith | Sltiu ↦ omega arith ]) h.1 h.0 (half_small imm h.2)
+    (imm-fits op) h.1 h.0 (half-fits imm h.2)
 plain_below (Logic op rt rs imm) h =
-    immediate_below (logic_code op) rs rt imm (elim op as (λ o. logic_code o < 64) [ Andi ↦ omega arith | Ori ↦ omega arith | Xori ↦ omega arith ]) h.1 h.0 h.2
+    immediate_below (logic_code op) rs rt imm (logic-fits op) h.1 h.0 h.2
 plain_below (LoadUpper rt imm) h = immediate_below 15 0 rt imm (omega arith) (omega arith) h.0 h.1
 plain_below (MoveFrom place rd) h =
     register_below 0 0 rd 0 (move_code place) (omega arith) (omega arith) h (omega arith)
-    (elim place as (λ o. move_code o < 64) [ Hi ↦ omega arith | Lo ↦ omega arith ])
+    (move-fits place)
 plain_below (Multiply sign rs rt) h =
     register_below rs rt 0 0 (multiply_code sign) h.0 h.1 (omega arith) (omega arith)
-    (elim sign as (λ o. multiply_code o < 64) [ Signed ↦ omega arith | Unsigned ↦ omega arith ])
+    (multiply-fits sign)
 plain_below (Divide sign rs rt) h =
     register_below rs rt 0 0 (divide_code sign) h.0 h.1 (omega arith) (omega arith)
-    (elim sign as (λ o. divide_code o < 64) [ Signed ↦ omega arith | Unsigned ↦ omega arith ])
+    (divide-fits sign)
 plain_below (Load w rt base offset) h =
-    immediate_below (load_code w) base rt (half offset) (elim w as (λ o. load_code o < 64) [ Word ↦ omega arith | Byte ↦ omega arith ]) h.2 h.1
-    (half_small offset h.3)
+    immediate_below (load_code w) base rt (half offset) (load-fits w) h.2 h.1
+    (half-fits offset h.3)
 plain_below (Store w rt base offset) h =
-    immediate_below (store_code w) base rt (half offset) (elim w as (λ o. store_code o < 64) [ Word ↦ omega arith | Byte ↦ omega arith ]) h.1 h.0
-    (half_small offset h.2)
+    immediate_below (store_code w) base rt (half offset) (store-fits w) h.1 h.0
+    (half-fits offset h.2)
 
 control_below : (i : Control) → IsControl i → word_of_control i < 2 ^ 32
 control_below (BranchPair test rs rt offset) h =
     immediate_below (pair_code test) rs rt (half offset)
-    (elim test as (λ o. pair_code o < 64) [ Equal ↦ omega arith | NotEqual ↦ omega arith ]) h.0 h.1 (half_small offset h.2)
+    (pair-fits test) h.0 h.1 (half-fits offset h.2)
 control_below (BranchZero test rs offset) h =
     immediate_below (zero_code test) rs (zero_field test) (half offset)
     (elim test as (λ o. zero_code o < 64) [ AtMostZero ↦ omega arith | AboveZero ↦ omega arith | BelowZero ↦ omega arith | AtLeastZero ↦ omega arith ]) h.0
     (elim test as
     (λ o. zero_field o < 32)
-    [ AtMostZero ↦ omega arith | AboveZero ↦ omega arith | BelowZero ↦ omega arith | AtLeastZero ↦ omega arith ]) (half_small offset h.1)
+    [ AtMostZero ↦ omega arith | AboveZero ↦ omega arith | BelowZero ↦ omega arith | AtLeastZero ↦ omega arith ]) (half-fits offset h.1)
 control_below (JumpTo Jump target) h = omega arith
 control_below (JumpTo JumpAndLink target) h = omega arith
 control_below (JumpRegister rs) h = register_below rs 0 0 0 8 h (omega arith) (omega arith) (omega arith) (omega arith)

@@ -21,6 +21,7 @@ use Rattle.mips_isa.specs.declared.inst.Control.TheVariants.{BranchPair, BranchZ
 use Rattle.mips_isa.specs.declared.inst.Inst.{Inst}
 use Rattle.mips_isa.specs.declared.inst.Inst.TheVariants as insts
 use Rattle.mips_isa.specs.Ranges.{IsPlain, IsControl, IsInst}
+use Rattle.mips_code.proofs.Codes.{shift-fits, shift_by-fits, alu-fits, imm-fits, logic-fits, move-fits, multiply-fits, divide-fits, load-fits, store-fits, pair-fits, jump-fits, half-fits}
 use Rattle.mips_code.specs.Words.{register_word, immediate_word, jump_word, inst_word, word_of_plain, word_of_control, half, shift_code}
 use Rattle.mips_code.specs.Words.{shift_by_code, alu_code, move_code, multiply_code, divide_code, imm_code, logic_code, pair_code}
 use Rattle.mips_code.specs.Words.{load_code, store_code, jump_code}
@@ -65,9 +66,6 @@ jump_gives op target a b i gives =
 half_back : (imm : ℤ) → FitsSigned w16 imm → cast_signed w16 (half imm) ≡ imm
 half_back imm h = grind (arith, to_z-of_z)
 
-half_small : (imm : ℤ) → FitsSigned w16 imm → half imm < 2 ^ 16
-half_small imm h = omega (arith, ints)
-
 not_zero : (n : ℕ) → 0 < n → (n == 0) ≡ false
 not_zero n h = go (n == 0) refl
   where
@@ -79,33 +77,23 @@ not_zero n h = go (n == 0) refl
 pub candidate-word_of_plain : (i : Plain) → IsPlain i → candidate_of (word_of_plain i) ≡ Some (insts.Plain i)
 candidate-word_of_plain (Shift op rd rt amount) h =
     register_gives 0 rt rd amount (shift_code op) (omega arith) h.1 h.0 h.2
-    (elim op as (λ o. shift_code o < 64) [ Sll ↦ omega arith | Srl ↦ omega arith | Sra ↦ omega arith ]) _
+    (shift-fits op) _
     (λ imm target. elim op as
     (λ o. inst_of_fields 0 0 rt rd amount (shift_code o) imm target ≡ Some (insts.Plain (Shift o rd rt amount))) [ Sll ↦ refl | Srl ↦ refl | Sra ↦ refl ])
 candidate-word_of_plain (ShiftBy op rd rt rs) h =
     register_gives rs rt rd 0 (shift_by_code op) h.2 h.1 h.0 (omega arith)
-    (elim op as (λ o. shift_by_code o < 64) [ Sll ↦ omega arith | Srl ↦ omega arith | Sra ↦ omega arith ]) _
+    (shift_by-fits op) _
     (λ imm target. elim op as
     (λ o. inst_of_fields 0 rs rt rd 0 (shift_by_code o) imm target ≡ Some (insts.Plain (ShiftBy o rd rt rs))) [ Sll ↦ refl | Srl ↦ refl | Sra ↦ refl ])
 candidate-word_of_plain (Alu op rd rs rt) h =
     register_gives rs rt rd 0 (alu_code op) h.1 h.2 h.0 (omega arith)
-    (elim op as (λ o. alu_code o < 64) [
-      | Addu ↦ omega arith
-      | Subu ↦ omega arith
-      | And ↦ omega arith
-      | Or ↦ omega arith
-      | Xor ↦ omega arith
-      | Nor ↦ omega arith
-      | Slt ↦
-          omega arith
-      | Sltu ↦ omega arith
-    ]) _
+    (alu-fits op) _
     (λ imm target. elim op as
     (λ o. inst_of_fields 0 rs rt rd 0 (alu_code o) imm target ≡ Some (insts.Plain (Alu o rd rs rt)))
     [ Addu ↦ refl | Subu ↦ refl | And ↦ refl | Or ↦ refl | Xor ↦ refl | Nor ↦ refl | Slt ↦ refl | Sltu ↦ refl ])
 candidate-word_of_plain (Imm op rt rs imm) h =
     immediate_gives (imm_code op) rs rt (half imm)
-    (elim op as (λ o. imm_code o < 64) [ Addiu ↦ omega arith | Slti ↦ omega arith | Sltiu ↦ omega arith ]) h.1 h.0 (half_small imm h.2) _
+    (imm-fits op) h.1 h.0 (half-fits imm h.2) _
     (λ rd amount funct target. elim op as
     (λ o. inst_of_fields (imm_code o) rs rt rd amount funct (half imm) target ≡ Some (insts.Plain (Imm o rt rs imm))) [
       | Addiu ↦ ap (λ z. Some (insts.Plain (Imm Addiu rt rs z)))
@@ -116,28 +104,28 @@ candidate-word_of_plain (Imm op rt rs imm) h =
     ])
 candidate-word_of_plain (Logic op rt rs imm) h =
     immediate_gives (logic_code op) rs rt imm
-    (elim op as (λ o. logic_code o < 64) [ Andi ↦ omega arith | Ori ↦ omega arith | Xori ↦ omega arith ]) h.1 h.0 h.2 _
+    (logic-fits op) h.1 h.0 h.2 _
     (λ rd amount funct target. elim op as
     (λ o. inst_of_fields (logic_code o) rs rt rd amount funct imm target ≡ Some (insts.Plain (Logic o rt rs imm)))
     [ Andi ↦ refl | Ori ↦ refl | Xori ↦ refl ])
 candidate-word_of_plain (LoadUpper rt imm) h = immediate_gives 15 0 rt imm (omega arith) (omega arith) h.0 h.1 _ (λ rd amount funct target. refl)
 candidate-word_of_plain (MoveFrom place rd) h =
     register_gives 0 0 rd 0 (move_code place) (omega arith) (omega arith) h (omega arith)
-    (elim place as (λ o. move_code o < 64) [ Hi ↦ omega arith | Lo ↦ omega arith ]) _
+    (move-fits place) _
     (λ imm target. elim place as (λ o. inst_of_fields 0 0 0 rd 0 (move_code o) imm target ≡ Some (insts.Plain (MoveFrom o rd))) [ Hi ↦ refl | Lo ↦ refl ])
 candidate-word_of_plain (Multiply sign rs rt) h =
     register_gives rs rt 0 0 (multiply_code sign) h.0 h.1 (omega arith) (omega arith)
-    (elim sign as (λ o. multiply_code o < 64) [ Signed ↦ omega arith | Unsigned ↦ omega arith ]) _
+    (multiply-fits sign) _
     (λ imm target. elim sign as
     (λ o. inst_of_fields 0 rs rt 0 0 (multiply_code o) imm target ≡ Some (insts.Plain (Multiply o rs rt))) [ Signed ↦ refl | Unsigned ↦ refl ])
 candidate-word_of_plain (Divide sign rs rt) h =
     register_gives rs rt 0 0 (divide_code sign) h.0 h.1 (omega arith) (omega arith)
-    (elim sign as (λ o. divide_code o < 64) [ Signed ↦ omega arith | Unsigned ↦ omega arith ]) _
+    (divide-fits sign) _
     (λ imm target. elim sign as
     (λ o. inst_of_fields 0 rs rt 0 0 (divide_code o) imm target ≡ Some (insts.Plain (Divide o rs rt))) [ Signed ↦ refl | Unsigned ↦ refl ])
 candidate-word_of_plain (Load w rt base offset) h =
-    immediate_gives (load_code w) base rt (half offset) (elim w as (λ o. load_code o < 64) [ Word ↦ omega arith | Byte ↦ omega arith ]) h.2 h.1
-    (half_small offset h.3) _
+    immediate_gives (load_code w) base rt (half offset) (load-fits w) h.2 h.1
+    (half-fits offset h.3) _
     (λ rd amount funct target.
     elim w as
     (λ o. inst_of_fields (load_code o) base rt rd amount funct (half offset) target ≡ Some (insts.Plain (Load o rt base offset)))
@@ -151,8 +139,8 @@ candidate-word_of_plain (Load w rt base offset) h =
         ap (λ b. found (cond b None (Some (Load o rt base (cast_signed w16 (half offset)))))) (not_zero rt h.0)
         ∙ ap (λ z. Some (insts.Plain (Load o rt base z))) (half_back offset h.3)
 candidate-word_of_plain (Store w rt base offset) h =
-    immediate_gives (store_code w) base rt (half offset) (elim w as (λ o. store_code o < 64) [ Word ↦ omega arith | Byte ↦ omega arith ]) h.1 h.0
-    (half_small offset h.2) _
+    immediate_gives (store_code w) base rt (half offset) (store-fits w) h.1 h.0
+    (half-fits offset h.2) _
     (λ rd amount funct target.
     elim w as
     (λ o. inst_of_fields (store_code o) base rt rd amount funct (half offset) target ≡ Some (insts.Plain (Store o rt base offset))) [
@@ -164,7 +152,7 @@ candidate-word_of_plain (Store w rt base offset) h =
 pub candidate-word_of_control : (i : Control) → IsControl i → candidate_of (word_of_control i) ≡ Some (insts.Control i)
 candidate-word_of_control (BranchPair test rs rt offset) h =
     immediate_gives (pair_code test) rs rt (half offset)
-    (elim test as (λ o. pair_code o < 64) [ Equal ↦ omega arith | NotEqual ↦ omega arith ]) h.0 h.1 (half_small offset h.2) _
+    (pair-fits test) h.0 h.1 (half-fits offset h.2) _
     (λ rd amount funct target. elim test as
     (λ o. inst_of_fields (pair_code o) rs rt rd amount funct (half offset) target ≡ Some (insts.Control (BranchPair o rs rt offset))) [
       | Equal ↦ ap (λ z. Some (insts.Control (BranchPair Equal rs rt z)))
@@ -172,19 +160,19 @@ candidate-word_of_control (BranchPair test rs rt offset) h =
       | NotEqual ↦ ap (λ z. Some (insts.Control (BranchPair NotEqual rs rt z))) (half_back offset h.2)
     ])
 candidate-word_of_control (BranchZero AtMostZero rs offset) h =
-    immediate_gives 6 rs 0 (half offset) (omega arith) h.0 (omega arith) (half_small offset h.1) _
+    immediate_gives 6 rs 0 (half offset) (omega arith) h.0 (omega arith) (half-fits offset h.1) _
     (λ rd amount funct target. ap (λ z. Some (insts.Control (BranchZero AtMostZero rs z))) (half_back offset h.1))
 candidate-word_of_control (BranchZero AboveZero rs offset) h =
-    immediate_gives 7 rs 0 (half offset) (omega arith) h.0 (omega arith) (half_small offset h.1) _
+    immediate_gives 7 rs 0 (half offset) (omega arith) h.0 (omega arith) (half-fits offset h.1) _
     (λ rd amount funct target. ap (λ z. Some (insts.Control (BranchZero AboveZero rs z))) (half_back offset h.1))
 candidate-word_of_control (BranchZero BelowZero rs offset) h =
-    immediate_gives 1 rs 0 (half offset) (omega arith) h.0 (omega arith) (half_small offset h.1) _
+    immediate_gives 1 rs 0 (half offset) (omega arith) h.0 (omega arith) (half-fits offset h.1) _
     (λ rd amount funct target. ap (λ z. Some (insts.Control (BranchZero BelowZero rs z))) (half_back offset h.1))
 candidate-word_of_control (BranchZero AtLeastZero rs offset) h =
-    immediate_gives 1 rs 1 (half offset) (omega arith) h.0 (omega arith) (half_small offset h.1) _
+    immediate_gives 1 rs 1 (half offset) (omega arith) h.0 (omega arith) (half-fits offset h.1) _
     (λ rd amount funct target. ap (λ z. Some (insts.Control (BranchZero AtLeastZero rs z))) (half_back offset h.1))
 candidate-word_of_control (JumpTo op target) h =
-    jump_gives (jump_code op) target (elim op as (λ o. jump_code o < 64) [ Jump ↦ omega arith | JumpAndLink ↦ omega arith ]) h _
+    jump_gives (jump_code op) target (jump-fits op) h _
     (λ rs rt rd amount funct imm. elim op as
     (λ o. inst_of_fields (jump_code o) rs rt rd amount funct imm target ≡ Some (insts.Control (JumpTo o target))) [ Jump ↦ refl | JumpAndLink ↦ refl ])
 candidate-word_of_control (JumpRegister rs) h = register_gives rs 0 0 0 8 h (omega arith) (omega arith) (omega arith) (omega arith) _ (λ imm target. refl)

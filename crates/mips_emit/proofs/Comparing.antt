@@ -40,7 +40,7 @@ use Rattle.mips_emit.proofs.View.{IsTarget, read_register}
 use Rattle.mips_emit.proofs.Stands.{Stored, Stands}
 use Rattle.mips_emit.proofs.Homes.{passes, IsLast, none_fresh, IsKnown, Denotes, IsAway, seat_kept, longer_behind, runs_nop, hide, IsLazy, lazy_told, shown_told, fewer_stand}
 use Rattle.mips_emit.proofs.Homes.{operand_below, operand_means, fetches, ends_stands}
-use Rattle.mips_emit.proofs.Insts.{value_or_failed, computes}
+use Rattle.mips_emit.proofs.Insts.{Computed, value_or_failed, computes}
 
 -- ---- truth words
 
@@ -185,70 +185,59 @@ module _ (most total : ℕ) (gs : List RGlobal) (starts : ℕ → ℕ) where
             result = λ e. absurd (true≢false (sym e));
           }
 
-      on_left : (test : ZeroTest) → zero_passes test v ≡ not (nat_eq u 0) → Decided (fetch 3 x ++ nop ∷ []) (OnLeft test) x y u
-      on_left test e =
-          let c = fetches most total gs starts registers g top fs s h 3 v x (omega arith) (omega arith) (x_means s h) in
-          let s1 : State = record s { regs = c.regs } in
+      -- one operand alone, in register 3
+      on_one : (z : Source) (c : ℕ) → Means z c → (form : Form) → is_result form ≡ false
+          → ((m : State) → read 0 m.regs (seat 3 z) ≡ c → passes form x y m ≡ not (nat_eq u 0)) → Decided (fetch 3 z ++ nop ∷ []) form x y u
+      on_one z c z_means form plain tells =
+          let a = fetches most total gs starts registers g top fs s h 3 c z (omega arith) (omega arith) (z_means s h) in
+          let s1 : State = record s { regs = a.regs } in
           record {
             to = s1;
-            runs = runs_then c.runs (runs_nop s1);
-            some = longer_behind (fetch 3 x) (nop ∷ []) (omega arith);
-            stands = c.stands;
-            tells = ap (zero_passes test) c.here ∙ e;
-            result = λ e. absurd (true≢false (sym e));
+            runs = runs_then a.runs (runs_nop s1);
+            some = longer_behind (fetch 3 z) (nop ∷ []) (omega arith);
+            stands = a.stands;
+            tells = tells s1 a.here;
+            result = λ e. absurd (true≢false (sym e ∙ plain));
           }
 
+      on_left : (test : ZeroTest) → zero_passes test v ≡ not (nat_eq u 0) → Decided (fetch 3 x ++ nop ∷ []) (OnLeft test) x y u
+      on_left test e = on_one x v x_means (OnLeft test) refl (λ m here. ap (zero_passes test) here ∙ e)
+
       on_right : (test : ZeroTest) → zero_passes test w ≡ not (nat_eq u 0) → Decided (fetch 3 y ++ nop ∷ []) (OnRight test) x y u
-      on_right test e =
-          let c = fetches most total gs starts registers g top fs s h 3 w y (omega arith) (omega arith) (y_means s h) in
-          let s1 : State = record s { regs = c.regs } in
+      on_right test e = on_one y w y_means (OnRight test) refl (λ m here. ap (zero_passes test) here ∙ e)
+
+      -- the result of an operator, in register t
+      from_result : (is : List Plain) (form : Form) (t c : ℕ) → t < 4 → Computed most total gs starts registers g top fs s h is t c
+          → ((m : State) → m.regs t ≡ c → passes form x y m ≡ not (nat_eq u 0)) → ((m : State) → m.regs t ≡ c → is_result form ≡ true → m.regs 2 ≡ u)
+          → Decided is form x y u
+      from_result is form t c low z tells result =
+          let m : State = record z.to { regs = (z.ends).regs } in
           record {
-            to = s1;
-            runs = runs_then c.runs (runs_nop s1);
-            some = longer_behind (fetch 3 y) (nop ∷ []) (omega arith);
-            stands = c.stands;
-            tells = ap (zero_passes test) c.here ∙ e;
-            result = λ e. absurd (true≢false (sym e));
+            to = m;
+            runs = (z.ends).runs;
+            some = z.some;
+            stands = ends_stands most total gs starts registers g top fs z.to z.stands is s t c low z.ends;
+            tells = tells m (z.ends).here;
+            result = result m (z.ends).here;
           }
 
       by_result : (op : Op) → op_result op v w ≡ Some u → Given op ByResult
       by_result op e =
-          let z = computes most total gs starts registers g top fs s h op 3 v w u k l x y t3 x_away y_away x_means y_means kv lw vb wb e in
-          let regs = (z.ends).regs in
-          record {
-            to = record z.to { regs = (z.ends).regs };
-            runs = (z.ends).runs;
-            some = z.some;
-            stands = ends_stands most total gs starts registers g top fs z.to z.stands (op_code op 3 k l x y) s 3 u (omega arith) z.ends;
-            tells = ap (λ c. not (c == 0)) (read_register regs 3 (omega arith) ∙ (z.ends).here);
-            result = λ e. absurd (true≢false (sym e));
-          }
+          from_result (op_code op 3 k l x y) ByResult 3 u (omega arith)
+          (computes most total gs starts registers g top fs s h op 3 v w u k l x y t3 x_away y_away x_means y_means kv lw vb wb e)
+          (λ m here. ap (λ c. not (c == 0)) (read_register m.regs 3 (omega arith) ∙ here)) (λ m here e. absurd (true≢false (sym e)))
 
       by_opposite : (op : Op) (t : ℕ) → op_result (opposite_op op) w v ≡ Some t → nat_eq t 0 ≡ not (nat_eq u 0) → Given op ByOpposite
       by_opposite op t e turned =
-          let z = computes most total gs starts registers g top fs s h (opposite_op op) 3 w v t l k y x t3 y_away x_away y_means x_means lw kv wb vb e in
-          let regs = (z.ends).regs in
-          record {
-            to = record z.to { regs = (z.ends).regs };
-            runs = (z.ends).runs;
-            some = z.some;
-            stands = ends_stands most total gs starts registers g top fs z.to z.stands (op_code (opposite_op op) 3 l k y x) s 3 t (omega arith) z.ends;
-            tells = ap (λ c. c == 0) (read_register regs 3 (omega arith) ∙ (z.ends).here) ∙ turned;
-            result = λ e. absurd (true≢false (sym e));
-          }
+          from_result (op_code (opposite_op op) 3 l k y x) ByOpposite 3 t (omega arith)
+          (computes most total gs starts registers g top fs s h (opposite_op op) 3 w v t l k y x t3 y_away x_away y_means x_means lw kv wb vb e)
+          (λ m here. ap (λ c. c == 0) (read_register m.regs 3 (omega arith) ∙ here) ∙ turned) (λ m here e. absurd (true≢false (sym e)))
 
       in_result : (op : Op) → op_result op v w ≡ Some u → Given op InResult
       in_result op e =
-          let z = computes most total gs starts registers g top fs s h op 2 v w u k l x y t2 x_away y_away x_means y_means kv lw vb wb e in
-          let regs = (z.ends).regs in
-          record {
-            to = record z.to { regs = (z.ends).regs };
-            runs = (z.ends).runs;
-            some = z.some;
-            stands = ends_stands most total gs starts registers g top fs z.to z.stands (op_code op 2 k l x y) s 2 u (omega arith) z.ends;
-            tells = ap (λ c. not (c == 0)) (read_register regs 2 (omega arith) ∙ (z.ends).here);
-            result = λ _. (z.ends).here;
-          }
+          from_result (op_code op 2 k l x y) InResult 2 u (omega arith)
+          (computes most total gs starts registers g top fs s h op 2 v w u k l x y t2 x_away y_away x_means y_means kv lw vb wb e)
+          (λ m here. ap (λ c. not (c == 0)) (read_register m.regs 2 (omega arith) ∙ here)) (λ m here _. here)
 
       -- the result is a truth word
       said : (b : Bool) → Some (truth_word b) ≡ Some u → b ≡ not (nat_eq u 0)

@@ -304,70 +304,50 @@ pub frame_homes : (most : ℕ) (f : Frame) → IsFrame most f → AreFrameHomes 
 frame_homes most f ok = ok.homes
 
 module _ (most total : ℕ) (gs : List RGlobal) (starts : ℕ → ℕ) where
-  -- fewer registers are known
-  pub fewer_stand : (registers registers' : Places) (g : Arrays) (fs : List Stored) (s : State)
-      → ((q v : ℕ) → registers' q ≡ Some v → registers q ≡ Some v) → Stands most total gs starts registers g fs s
-      → Stands most total gs starts registers' g fs s
-  fewer_stand registers registers' g fs s some h = record {
-    words = h.words;
+  -- registers, HI and LO change, but not 28 and 29
+  pub stands_with : (registers registers' : Places) (g : Arrays) (fs : List Stored) (s : State) (f : ℕ → ℕ) (hi lo : ℕ)
+      → IsWords (record s { regs = f; hi = hi; lo = lo }) → Linked fs (f 31) → f 29 ≡ s.regs 29 → f 28 ≡ s.regs 28
+      → ((r v : ℕ) → 4 ≤ r → r < 28 → registers' r ≡ Some v → f r ≡ v) → Stands most total gs starts registers g fs s
+      → Stands most total gs starts registers' g fs (record s { regs = f; hi = hi; lo = lo })
+  stands_with registers registers' g fs s f hi lo words linked pointer middle held h = record {
+    words = words;
     mapped = h.mapped;
-    held = λ r v low high is. h.held r v low high (some r v is);
-    stack = h.stack;
-    room = h.room;
-    aligned = h.aligned;
+    held = held;
+    stack = subst (λ at. StackHolds most (word_at s) at fs) (sym pointer) h.stack;
+    room = subst (λ at. stack_base ≤ at) (sym pointer) h.room;
+    aligned = ap (λ at. at % 4) pointer ∙ h.aligned;
     elements = h.elements;
     inside = h.inside;
     apart = h.apart;
     even = h.even;
     few = h.few;
-    linked = h.linked;
-    gp = h.gp;
+    linked = linked;
+    gp = middle ∙ h.gp;
   }
+
+  -- fewer registers are known
+  pub fewer_stand : (registers registers' : Places) (g : Arrays) (fs : List Stored) (s : State)
+      → ((q v : ℕ) → registers' q ≡ Some v → registers q ≡ Some v) → Stands most total gs starts registers g fs s
+      → Stands most total gs starts registers' g fs s
+  fewer_stand registers registers' g fs s some h =
+      stands_with registers registers' g fs s s.regs s.hi s.lo h.words h.linked refl refl (λ r v low high is. h.held r v low high (some r v is)) h
 
   -- registers that are no homes change
   pub call_kept : (registers : Places) (g : Arrays) (fs : List Stored) (s : State) (f : ℕ → ℕ) → IsWords (record s { regs = f }) → Linked fs (f 31)
       → ((r : ℕ) → 4 ≤ r → r < 30 → f r ≡ s.regs r) → Stands most total gs starts registers g fs s
       → Stands most total gs starts registers g fs (record s { regs = f })
   call_kept registers g fs s f words linked same h =
-      let pointer : f 29 ≡ s.regs 29 = same 29 (omega arith) (omega arith) in
-      record {
-        words = words;
-        mapped = h.mapped;
-        held = λ r v low high is. same r low (omega (arith, high)) ∙ h.held r v low high is;
-        stack = subst (λ at. StackHolds most (word_at s) at fs) (sym pointer) h.stack;
-        room = subst (λ at. stack_base ≤ at) (sym pointer) h.room;
-        aligned = ap (λ at. at % 4) pointer ∙ h.aligned;
-        elements = h.elements;
-        inside = h.inside;
-        apart = h.apart;
-        even = h.even;
-        few = h.few;
-        linked = linked;
-        gp = same 28 (omega arith) (omega arith) ∙ h.gp;
-      }
+      stands_with registers registers g fs s f s.hi s.lo words linked (same 29 (omega arith) (omega arith)) (same 28 (omega arith) (omega arith))
+      (λ r v low high is. same r low (omega (arith, high)) ∙ h.held r v low high is) h
 
   -- passing registers change where nothing is known of those below 8
   pub passing_kept : (registers : Places) (g : Arrays) (fs : List Stored) (is : List Plain) (s : State) (t v : ℕ)
       → ((q w : ℕ) → registers q ≡ Some w → 8 ≤ q) → t < 8 → (c : Sets is s t v) → Stands most total gs starts registers g fs s
       → Stands most total gs starts registers g fs (record s { regs = c.regs })
   passing_kept registers g fs is s t v above low c h =
-      let f = c.regs in
-      let pointer : c.regs 29 ≡ s.regs 29 = c.others 29 (omega (arith, low)) in
-      record {
-        words = run_words (map action_of is) s (record s { regs = c.regs }) h.words (c.runs).ends;
-        mapped = h.mapped;
-        held = λ r w ql qh at. (let up = above r w at in c.others r (omega (arith, low, up))) ∙ h.held r w ql qh at;
-        stack = subst (λ at. StackHolds most (word_at s) at fs) (sym pointer) h.stack;
-        room = subst (λ at. stack_base ≤ at) (sym pointer) h.room;
-        aligned = ap (λ at. at % 4) pointer ∙ h.aligned;
-        elements = h.elements;
-        inside = h.inside;
-        apart = h.apart;
-        even = h.even;
-        few = h.few;
-        linked = subst (Linked fs) (sym (c.others 31 (omega (arith, low)))) h.linked;
-        gp = c.others 28 (omega (arith, low)) ∙ h.gp;
-      }
+      stands_with registers registers g fs s c.regs s.hi s.lo (run_words (map action_of is) s (record s { regs = c.regs }) h.words (c.runs).ends)
+      (subst (Linked fs) (sym (c.others 31 (omega (arith, low)))) h.linked) (c.others 29 (omega (arith, low))) (c.others 28 (omega (arith, low)))
+      (λ r w ql qh at. (let up = above r w at in c.others r (omega (arith, low, up))) ∙ h.held r w ql qh at) h
 
   pub words_kept : (registers : Places) (g : Arrays) (fs : List Stored) (s : State) (f : ℕ → ℕ) → IsWords (record s { regs = f })
       → ((r : ℕ) → 4 ≤ r → r < 32 → f r ≡ s.regs r) → Stands most total gs starts registers g fs s
@@ -451,22 +431,11 @@ module _ (most total : ℕ) (gs : List RGlobal) (starts : ℕ → ℕ) where
     pub register_written : (r v : ℕ) (regs : ℕ → ℕ) → 4 ≤ r → r < 28 → v < 2 ^ 32 → regs r ≡ v → ((q : ℕ) → q ≢ r → regs q ≡ s.regs q)
         → Stands most total gs starts (places_with registers r (Some v)) g (top ∷ fs) (record s { regs = regs })
     register_written r v regs low high below is others =
-        let pointer : regs 29 ≡ s.regs 29 = (let ne : 29 ≢ r = omega (arith, high) in others 29 ne) in
-        record {
-          words = record { regs = λ q. word q (nat_eq q r) refl; hi = (h.words).hi; lo = (h.words).lo; memory = (h.words).memory };
-          mapped = h.mapped;
-          held = λ q w ql qh at. by q w ql qh (nat_eq q r) refl at;
-          stack = subst (λ at. StackHolds most (word_at s) at (top ∷ fs)) (sym pointer) h.stack;
-          room = subst (λ at. stack_base ≤ at) (sym pointer) h.room;
-          aligned = ap (λ at. at % 4) pointer ∙ h.aligned;
-          elements = h.elements;
-          inside = h.inside;
-          apart = h.apart;
-          even = h.even;
-          few = h.few;
-          linked = λ leaf. (let ne : 31 ≢ r = omega (arith, high) in others 31 ne) ∙ h.linked leaf;
-          gp = (let ne : 28 ≢ r = omega (arith, high) in others 28 ne) ∙ h.gp;
-        }
+        stands_with registers (places_with registers r (Some v)) g (top ∷ fs) s regs s.hi s.lo
+        (record { regs = λ q. word q (nat_eq q r) refl; hi = (h.words).hi; lo = (h.words).lo; memory = (h.words).memory })
+        (λ leaf. (let ne : 31 ≢ r = omega (arith, high) in others 31 ne) ∙ h.linked leaf)
+        (let ne : 29 ≢ r = omega (arith, high) in others 29 ne) (let ne : 28 ≢ r = omega (arith, high) in others 28 ne)
+        (λ q w ql qh at. by q w ql qh (nat_eq q r) refl at) h
       where
         word : (q : ℕ) (b : Bool) → nat_eq q r ≡ b → regs q < 2 ^ 32
         word q true e = subst (λ v. v < 2 ^ 32) (sym (ap regs (eqb-true q r e) ∙ is)) below

@@ -45,7 +45,7 @@ use Rattle.mips_emit.proofs.Runs.{RunsTo, runs_none, runs_then}
 use Rattle.mips_emit.proofs.View.{shown_at, word_of_offset, shown_below, set, set_at, set_sets, read_register, put_here, put_other, IsTarget, loads_at, stores_at, near_word, based}
 use Rattle.mips_emit.proofs.Stands.{Stored, with_slots, Stands}
 use Rattle.mips_emit.proofs.Homes.{IsLast, none_last, known_with, known_without, regs_kept, IsKnown, Denotes, IsAway, seat_kept, longer_behind, Ends, hide, IsLazy, tells}
-use Rattle.mips_emit.proofs.Homes.{operand_below, operand_means, fetches, sets_kept, finishes, puts}
+use Rattle.mips_emit.proofs.Homes.{operand_below, operand_means, fetches, sets_kept, finishes, puts, stands_with}
 use Rattle.mips_emit.proofs.Globals.{kept_is, data_open, data_written, stored_at}
 use Rattle.mips_emit.proofs.Operations.{Gives, alu_gives, operation_gives, immediate_gives, less_gives, symmetric}
 use Rattle.mips_emit.proofs.Products.{IsMultiple, multiplied, turned_multiplied}
@@ -122,21 +122,8 @@ module _ (most total : ℕ) (gs : List RGlobal) (starts : ℕ → ℕ) where
   -- HI and LO change
   product_kept : (registers : Places) (g : Arrays) (fs : List Stored) (s : State) (hi lo : ℕ) → IsWords (record s { hi = hi; lo = lo })
       → Stands most total gs starts registers g fs s → Stands most total gs starts registers g fs (record s { hi = hi; lo = lo })
-  product_kept registers g fs s hi lo words h = record {
-    words = words;
-    mapped = h.mapped;
-    held = h.held;
-    stack = h.stack;
-    room = h.room;
-    aligned = h.aligned;
-    elements = h.elements;
-    inside = h.inside;
-    apart = h.apart;
-    even = h.even;
-    few = h.few;
-    linked = h.linked;
-    gp = h.gp;
-  }
+  product_kept registers g fs s hi lo words h =
+      stands_with most total gs starts registers registers g fs s s.regs hi lo words h.linked refl refl h.held h
 
   -- a state in which a register and an offset lead to a place of the data
   pub record AtElement (registers : Places) (g : Arrays) (fs : List Stored) (s : State) (is : List Plain) (w : Width) (b : ℕ) (z : ℤ) (p : ℕ) : Type 0 where

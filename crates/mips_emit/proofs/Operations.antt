@@ -21,6 +21,7 @@ use Rattle.mips_isa.specs.declared.inst.ImmOp.{ImmOp}
 use Rattle.mips_isa.specs.declared.inst.ImmOp.TheVariants.{Addiu, Slti, Sltiu}
 use Rattle.mips_isa.specs.declared.inst.LogicOp.{LogicOp}
 use Rattle.mips_isa.specs.declared.inst.LogicOp.TheVariants.{Andi, Ori, Xori}
+use Rattle.mips_isa.specs.declared.inst.HiLo.{HiLo}
 use Rattle.mips_isa.specs.declared.inst.HiLo.TheVariants.{Hi, Lo}
 use Rattle.mips_isa.specs.declared.inst.Plain.{Plain}
 use Rattle.mips_isa.specs.declared.inst.Plain.TheVariants.{Shift, ShiftBy, Alu, Imm, Logic, MoveFrom, Divide}
@@ -133,41 +134,39 @@ quotient_in sign s a b = op_value (quotient_operator sign) (read 0 s.regs a) (re
 abbrev remainder_in : Sign → State → (a b : ℕ) → ℕ
 remainder_in sign s a b = op_value (remainder_operator sign) (read 0 s.regs a) (read 0 s.regs b)
 
+abbrev divided_state : Sign → State → (a b : ℕ) → State
+divided_state sign s a b = record s { hi = remainder_in sign s a b; lo = quotient_in sign s a b }
+
 division_runs : (sign : Sign) (s : State) (a b v w : ℕ) → read 0 s.regs a ≡ v → read 0 s.regs b ≡ w → has_quotient sign v w ≡ true
-    → RunsTo (Divide sign a b ∷ []) s (record s { hi = remainder_in sign s a b; lo = quotient_in sign s a b })
+    → RunsTo (Divide sign a b ∷ []) s (divided_state sign s a b)
 division_runs sign s a b v w left right fits =
-    let m : State = record s { hi = remainder_in sign s a b; lo = quotient_in sign s a b } in
-    record { ends = ap (λ b. if b then Some m else None) (ap₂ (has_quotient sign) left right ∙ fits) }
+    record { ends = ap (λ t. if t then Some (divided_state sign s a b) else None) (ap₂ (has_quotient sign) left right ∙ fits) }
+
+-- a part of the result, which is moved out of HI or LO
+part_gives : (place : HiLo) (sign : Sign) (operator : Operator) (s : State) (d a b v w u : ℕ)
+    → RunsTo (MoveFrom place d ∷ []) (divided_state sign s a b)
+    (set (divided_state sign s a b) d (op_value operator (read 0 s.regs a) (read 0 s.regs b)))
+    → IsTarget d → read 0 s.regs a ≡ v → read 0 s.regs b ≡ w → has_quotient sign v w ≡ true → op_value operator v w ≡ u
+    → Gives (Divide sign a b ∷ MoveFrom place d ∷ []) s d u
+part_gives place sign operator s d a b v w u moved ok left right fits e =
+    let x = op_value operator (read 0 s.regs a) (read 0 s.regs b) in
+    record {
+      regs = put s.regs d x;
+      hi = remainder_in sign s a b;
+      lo = quotient_in sign s a b;
+      runs = runs_then (division_runs sign s a b v w left right fits) moved;
+      here = put_here s.regs d x ok ∙ ap₂ (op_value operator) left right ∙ e;
+      others = λ r ne. put_other s.regs d x r ne;
+      some = omega arith;
+    }
 
 quotient_gives : (sign : Sign) (s : State) (d a b v w u : ℕ) → IsTarget d → read 0 s.regs a ≡ v → read 0 s.regs b ≡ w → has_quotient sign v w ≡ true
     → op_value (quotient_operator sign) v w ≡ u → Gives (Divide sign a b ∷ MoveFrom Lo d ∷ []) s d u
-quotient_gives sign s d a b v w u ok left right fits e =
-    let m : State = record s { hi = remainder_in sign s a b; lo = quotient_in sign s a b } in
-    let second : RunsTo (MoveFrom Lo d ∷ []) m (set m d (quotient_in sign s a b)) = record { ends = refl } in
-    record {
-      regs = put s.regs d (quotient_in sign s a b);
-      hi = remainder_in sign s a b;
-      lo = quotient_in sign s a b;
-      runs = runs_then (division_runs sign s a b v w left right fits) second;
-      here = put_here s.regs d (quotient_in sign s a b) ok ∙ ap₂ (op_value (quotient_operator sign)) left right ∙ e;
-      others = λ r ne. put_other s.regs d (quotient_in sign s a b) r ne;
-      some = omega arith;
-    }
+quotient_gives sign s d a b v w u = part_gives Lo sign (quotient_operator sign) s d a b v w u (record { ends = refl })
 
 remainder_gives : (sign : Sign) (s : State) (d a b v w u : ℕ) → IsTarget d → read 0 s.regs a ≡ v → read 0 s.regs b ≡ w → has_quotient sign v w ≡ true
     → op_value (remainder_operator sign) v w ≡ u → Gives (Divide sign a b ∷ MoveFrom Hi d ∷ []) s d u
-remainder_gives sign s d a b v w u ok left right fits e =
-    let m : State = record s { hi = remainder_in sign s a b; lo = quotient_in sign s a b } in
-    let second : RunsTo (MoveFrom Hi d ∷ []) m (set m d (remainder_in sign s a b)) = record { ends = refl } in
-    record {
-      regs = put s.regs d (remainder_in sign s a b);
-      hi = remainder_in sign s a b;
-      lo = quotient_in sign s a b;
-      runs = runs_then (division_runs sign s a b v w left right fits) second;
-      here = put_here s.regs d (remainder_in sign s a b) ok ∙ ap₂ (op_value (remainder_operator sign)) left right ∙ e;
-      others = λ r ne. put_other s.regs d (remainder_in sign s a b) r ne;
-      some = omega arith;
-    }
+remainder_gives sign s d a b v w u = part_gives Hi sign (remainder_operator sign) s d a b v w u (record { ends = refl })
 
 -- ---- tests
 

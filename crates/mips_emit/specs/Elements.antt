@@ -50,7 +50,7 @@ address_of_place p = data_base + p
 
 -- what register 28 always holds: the middle of the first 65,536 bytes of data
 abbrev pub data_middle : ℕ
-data_middle = 268468224
+data_middle = data_base + 32768
 
 -- the place of an element whose index is known, where register 28 reaches it
 abbrev pub direct : Width → (start : ℕ) → Option ℕ → Option ℕ

@@ -13,7 +13,7 @@ ghost use Rattle.mips_emit.specs.Left.{Emits};
 
 use crate::location::{Source, register};
 use crate::transfer::{emit_fetch, seat};
-use mips_isa::{AluOp, Amount, NonzeroReg, Plain, Reg, ShiftOp};
+use mips_isa::{AluOp, Amount, DATA_BASE, NonzeroReg, Plain, Reg, ShiftOp};
 use std::alloc::AllocError;
 use words::Width;
 
@@ -76,7 +76,7 @@ fn page_of(start: u32) -> u16
     requires { start ≤ UNIT_BYTES }
     ensures { result ≡ page (address_of_place start) }
 {
-    ((0x1000_0000 + start + 32_768) / 65_536) as u16
+    ((DATA_BASE + start + 32_768) / 65_536) as u16
 }
 
 // An index in a register, times the width.
@@ -141,7 +141,7 @@ fn base_offset(start: u32) -> i16
     if start < 65_536 {
         near(start)
     } else {
-        low(0x1000_0000 + start)
+        low(DATA_BASE + start)
     }
 }
 

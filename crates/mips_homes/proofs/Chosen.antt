@@ -234,29 +234,3 @@ all_serve h is = record {
 
 pub choice_keeps_runs : (h : Homed) → AreChoices h → KeepsRtlRuns h
 choice_keeps_runs h is = each_homed_run h (all_serve h is)
-
--- the loop over the functions
-pub frames_step : (funcs funcs' : List RFunc) (frames frames' : List Frame) (i : ℕ) (func : RFunc) (frame : Frame) → funcs' ≡ funcs
-    → i < length funcs' → func ≡ get_or funcs' i func → frames' ≡ frames ++ frame ∷ [] → IsChoice func frame
-    → (length frames ≡ i) × ((j : ℕ) (func : RFunc) (frame : Frame) → slice_get funcs j ≡ Some func → slice_get frames j ≡ Some frame → IsChoice func frame)
-    → (length frames' ≡ i + 1)
-    × ((j : ℕ) (func : RFunc) (frame : Frame) → slice_get funcs j ≡ Some func → slice_get frames' j ≡ Some frame → IsChoice func frame)
-frames_step funcs funcs' frames frames' i func frame same lt is e one before =
-    let long = ap length e ∙ length_one frames frame in
-    let old = before.0 in (
-      omega (arith, long, old),
-      λ j func' frame' got there.
-          ⊎_elim (λ a. before.1 j func' frame' got a)
-          (λ a. subst (λ f. IsChoice func' f) (sym a.1)
-          (subst (λ f. IsChoice f frame) (same_Some func func' (sym here ∙ sym (ap (λ k. slice_get funcs k) (a.0 ∙ old)) ∙ got)) one))
-          (got_push frames frame j frame' (sym (ap (λ l. slice_get l j) e) ∙ there)),
-    )
-  where
-    here : slice_get funcs i ≡ Some func
-    here = sym (ap (λ l. slice_get l i) same) ∙ slice_get_read funcs' (length funcs') i func refl lt is
-
-pub frames_end : (h : Homed) (i : ℕ) (funcs : List RFunc) → funcs ≡ (h.rtl.now).functions → length funcs ≤ i → i ≤ length funcs
-    → (length h.frames.items ≡ i)
-    × ((j : ℕ) (func : RFunc) (frame : Frame) → slice_get (h.rtl.now).functions j ≡ Some func → slice_get h.frames.items j ≡ Some frame
-    → IsChoice func frame) → AreChoices h
-frames_end h i funcs same low high before = record { long = (let e = before.0 in let f = ap length same in omega (arith, e, f, low, high)); by = before.1 }

@@ -4,7 +4,7 @@ use Rattle.std.specs.Prelude.{slice_get}
 use Rattle.rtl.specs.Names.{optional}
 use Rattle.rtl.specs.declared.block.RBlock.{RBlock}
 use Rattle.rtl.specs.declared.block.RFunc.{RFunc}
-use Rattle.mips_homes.specs.Choice.{IsChoice}
+use Rattle.mips_homes.specs.Choice.{IsChoice, HaveFrames}
 use Rattle.mips_homes.specs.HomedRun.{is_in}
 use Rattle.mips_homes.specs.Locals.{is_local}
 use Rattle.mips_homes.specs.Hints.{hint}
@@ -76,7 +76,5 @@ pub record IsPlacedFor (func : RFunc) (f : Frame) : Type 0 where
   pub placed : IsPlaced func.parameters func.blocks.items choice f
 
 -- each function has its frame, and there are no others
-pub record ArePlaced (h : Homed) : Type 0 where
-  pub long : length h.frames.items ≡ length (h.rtl.now).functions
-  pub by : (i : ℕ) (func : RFunc) (frame : Frame) → slice_get (h.rtl.now).functions i ≡ Some func → slice_get h.frames.items i ≡ Some frame
-      → IsPlacedFor func frame
+abbrev pub ArePlaced : Homed → Type 0
+ArePlaced h = HaveFrames IsPlacedFor h

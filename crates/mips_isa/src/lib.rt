@@ -12,7 +12,7 @@
 //! What is promised:
 //! - `Plain::action` is exactly `action_of`, the table of the instruction set in eight kinds of action. `Display` and
 //!   `Debug` write exactly `instruction_text`, and `Display` of a branch or jump at an address (`ListedControl`)
-//!   exactly `control_text`. `reads` and `writes` are exact.
+//!   exactly `control_text`; that of `WordDigits` and `ByteDigits` exactly the hexadecimal digits. `reads` and `writes` are exact.
 //! - `Reg::new`, `NonzeroReg::new`, `Amount::new` and `JumpTarget::new` are Some exactly within their range.
 //! - The rules M1 to M9 are one table (`action_breaks`, `control_breaks` of `specs/Rules.antt`); laws: an action is
 //!   stuck exactly where it breaks a rule (`safe_actions_keep_their_rules`, `stuck_actions_break_a_rule`), the rule
@@ -25,6 +25,7 @@
 
 mod action;
 mod control;
+mod digits;
 mod inst;
 mod laws;
 mod memory_map;
@@ -36,6 +37,7 @@ mod text;
 pub use action::{
     Action, Operand, product_high, product_low, quotient_operator, remainder_operator,
 };
+pub use digits::{ByteDigits, WordDigits};
 pub use inst::{
     AluOp, Control, HiLo, ImmOp, Inst, JumpOp, LogicOp, PairTest, Plain, ShiftOp, ZeroTest,
 };

@@ -4,8 +4,9 @@ ghost use Rattle.std.specs.Prelude.{◌≡◌, ◌++◌, Some, codes, decimal};
 ghost use Rattle.std.specs.Fmt.{DisplaysOnOk, signed_decimal};
 ghost use Rattle.mips_isa.specs.Actions.{nop};
 ghost use Rattle.mips_isa.specs.Texts.{address_text, is_nop, mnemonic_of, mnemonic_text, operands_text, instruction_text, register_text};
-ghost use Rattle.mips_isa.specs.Texts.{control_name, control_operands, control_text, half_text, target_text};
+ghost use Rattle.mips_isa.specs.Texts.{control_name, control_operands, control_text, target_text};
 
+use crate::digits::WordDigits;
 use crate::inst::{
     AluOp, Control, HiLo, ImmOp, JumpOp, LogicOp, PairTest, Plain, ShiftOp, ZeroTest,
 };
@@ -283,22 +284,6 @@ fn control_name(control: &Control) -> &'static str
     }
 }
 
-// 16 bits in four hexadecimal digits.
-#[derive(Clone, Copy)]
-struct Half(u16);
-
-impl fmt::Display for Half {
-    ghost output = { λ h. Some (half_text h.0) };
-
-    fn fmt<W: fmt::Write>(&self, f: &mut fmt::Formatter<W>) -> fmt::Result {
-        let first = self.0 / 0x1000 % 16;
-        let second = self.0 / 0x100 % 16;
-        let third = self.0 / 0x10 % 16;
-        let last = self.0 % 16;
-        write!(f, "{first:x}{second:x}{third:x}{last:x}")
-    }
-}
-
 // Where a branch or jump leads: `0x` and eight hexadecimal digits.
 #[derive(Clone, Copy)]
 struct Target(u32);
@@ -307,9 +292,8 @@ impl fmt::Display for Target {
     ghost output = { λ t. Some (target_text t.0) };
 
     fn fmt<W: fmt::Write>(&self, f: &mut fmt::Formatter<W>) -> fmt::Result {
-        let high = Half((self.0 / 0x1_0000) as u16);
-        let low = Half((self.0 % 0x1_0000) as u16);
-        write!(f, "0x{high}{low}")
+        let digits = WordDigits(self.0);
+        write!(f, "0x{digits}")
     }
 }
 

@@ -41,6 +41,7 @@ use Rattle.mips_layout.proofs.Places.{HasAt, has_back, layout_has, words_length,
 use Rattle.mips_layout.proofs.Steps.{machine_at, at, Leads, leads_on, fewer, hop}
 use Rattle.mips_layout.proofs.OrderSteps.{Arrives, Placed, order_arrives}
 use Rattle.mblock.proofs.StateWords.{run_words, leave_words}
+use Rattle.mips_layout.specs.declared.limits.TheConstants.{CODE_WORDS}
 
 -- ---- ends
 
@@ -83,7 +84,7 @@ pub record IsScheduled (blocks : List BlockParts) (orders : List OrderParts) : T
   pub fits : (k : ℕ) (o : OrderParts) → slice_get orders k ≡ Some o → FitsSlot o
   pub exits : (k : ℕ) (b : BlockParts) (o : OrderParts) → slice_get blocks k ≡ Some b → slice_get orders k ≡ Some o → exit_shape b.exit ≡ exit_shape o.exit
   pub means : (k : ℕ) (b : BlockParts) (o : OrderParts) → slice_get blocks k ≡ Some b → slice_get orders k ≡ Some o → Means b o
-  pub room : length (layout orders) ≤ 1048576
+  pub room : length (layout orders) ≤ CODE_WORDS
 
 -- ---- the items of one block
 
@@ -373,7 +374,7 @@ from_start blocks orders sch P e measure s words i w = go (slice_get blocks 0) r
         let f = follows blocks orders sch P e measure i i (omega arith) 0 b s [] ex words h in
         (f.0, f.1, agrees_by (sym (ap (λ p. machine_run (insts_code (layout orders)) f.0 (machine_at p s [])) (first_place orders))) f.2)
 
-pub scheduled : (blocks : List BlockParts) (orders : List OrderParts) → AreOrders blocks orders → length (layout orders) ≤ 1048576 → IsScheduled blocks orders
+pub scheduled : (blocks : List BlockParts) (orders : List OrderParts) → AreOrders blocks orders → length (layout orders) ≤ CODE_WORDS → IsScheduled blocks orders
 scheduled blocks orders h room = record { long = h.long; short = h.short; fits = h.fits; exits = h.exits; means = h.means; room = room }
 
 -- over words
@@ -408,7 +409,7 @@ shape_size Return y e c = absurd (true≢false (sym c))
 shape_size (Out n) y e c = absurd (true≢false (sym c))
 shape_size Halt y e c = absurd (true≢false (sym c))
 
-module _ (blocks : List BlockParts) (orders : List OrderParts) (h : AreOrders blocks orders) (room : length (layout orders) ≤ 1048576) where
+module _ (blocks : List BlockParts) (orders : List OrderParts) (h : AreOrders blocks orders) (room : length (layout orders) ≤ CODE_WORDS) where
   -- a call before another has the lesser link
   before : (i j : ℕ) (a b : BlockParts) → slice_get blocks i ≡ Some a → slice_get blocks j ≡ Some b → is_call a.exit ≡ true → i < j
       → links_of orders i < links_of orders j

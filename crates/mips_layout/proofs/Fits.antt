@@ -18,6 +18,7 @@ use Rattle.mblock.specs.Parts.{OrderParts}
 use Rattle.mips_layout.specs.Layout.{exit_size, size, place, address_of_place, slot_insts, hop, branch_offset, exit_insts, order_insts, insts_of, layout}
 use Rattle.mips_layout.specs.Functions.{AreFunctions, words_owned, StaysInside, IsLaidOut, EachLayoutFits}
 use Rattle.mips_layout.proofs.Within.{one_function, place_next, place_grows, place_mono}
+use Rattle.mips_layout.specs.declared.limits.TheConstants.{CODE_WORDS, FUNCTION_WORDS}
 
 abbrev Fit : List Inst → Type 0
 Fit is = AllByRecursion IsInst is
@@ -34,18 +35,18 @@ slot_fits : (slot : Option Plain) → IfSome slot IsPlain → Fit (slot_insts sl
 slot_fits None h = tt
 slot_fits (Some p) h = (h, tt)
 
-jump_fits : (p : ℕ) → p ≤ 1048576 → address_of_place p / 4 < 2 ^ 26
+jump_fits : (p : ℕ) → p ≤ CODE_WORDS → address_of_place p / 4 < 2 ^ 26
 jump_fits p le = omega arith
 
-hop_fits : (p : ℕ) → p ≤ 1048576 → Fit (hop p)
+hop_fits : (p : ℕ) → p ≤ CODE_WORDS → Fit (hop p)
 hop_fits p le = (jump_fits p le, ((omega arith, omega arith, omega arith), tt))
 
-near : (here to : ℕ) → to ≤ here + 32000 → here ≤ to + 32000 → FitsSigned w16 (branch_offset here to)
+near : (here to : ℕ) → to ≤ here + FUNCTION_WORDS → here ≤ to + FUNCTION_WORDS → FitsSigned w16 (branch_offset here to)
 near here to a b = omega (arith, ints)
 
 -- an exit whose places are small, and whose branch isn't far
 exit_fits : (owner start : ℕ → ℕ) (here n k : ℕ) (exit : Exit) (slot : Option Plain) → IfSome slot IsPlain → StaysInside owner n k exit
-    → ((t : ℕ) → t < n → start t ≤ 1048576)
+    → ((t : ℕ) → t < n → start t ≤ CODE_WORDS)
     → ((t : ℕ) → exit_size exit ≡ 4 → t < n → owner t ≡ owner k → FitsSigned w16 (branch_offset here (start t)))
     → Fit (exit_insts start here exit slot)
 exit_fits owner start here n k (Goto t) slot hs s low off = (jump_fits (start t) (low t s), slot_fits slot hs)
@@ -70,7 +71,7 @@ all_fit start (o ∷ rest) here h =
     (all_fit start rest (here + size o) (λ j x e. subst (λ n. Fit (order_insts start n x)) (next j) (h (suc j) x e)))
 
 -- a branch from the end of block k to a block of its function
-pub offset_near : (owner : ℕ → ℕ) (os : List OrderParts) → AreFunctions (length os) owner → ((f : ℕ) → words_owned owner f 0 os ≤ 32000)
+pub offset_near : (owner : ℕ → ℕ) (os : List OrderParts) → AreFunctions (length os) owner → ((f : ℕ) → words_owned owner f 0 os ≤ FUNCTION_WORDS)
     → (k t : ℕ) (o : OrderParts) → slice_get os k ≡ Some o → t < length os → owner t ≡ owner k
     → FitsSigned w16 (branch_offset (place os k + length o.insts) (place os t))
 offset_near owner os functions few k t o e there same =
@@ -90,7 +91,7 @@ offset_near owner os functions few k t o e there same =
     ]
 
 module _ (owner : ℕ → ℕ) (os : List OrderParts) (h : IsLaidOut owner os) where
-  start_small : (t : ℕ) → t < length os → place os t ≤ 1048576
+  start_small : (t : ℕ) → t < length os → place os t ≤ CODE_WORDS
   start_small t lt = let g = place_grows os t (omega arith) in let r = h.code_fits in omega arith
 
   order_fits : (k : ℕ) (o : OrderParts) → slice_get os k ≡ Some o → Fit (order_insts (place os) (place os k) o)

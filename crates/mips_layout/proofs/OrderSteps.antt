@@ -40,8 +40,9 @@ use Rattle.mips_layout.specs.Layout.{address_of_place, jump_to, branch_offset, e
 use Rattle.mips_layout.proofs.Unbroken.{system_goes}
 use Rattle.mips_layout.proofs.Places.{HasAt, map_length, has_front, has_back, jump_lands}
 use Rattle.mips_layout.proofs.Steps.{machine_at, at, Leads, leads_on, goes, at_place, fewer, plain_step, words_lead, within, control_step, slot_step, hop}
+use Rattle.mips_layout.specs.declared.limits.TheConstants.{CODE_WORDS}
 
-branch_lands : (p q : ℕ) → p < 1048576 → q ≤ 1048576 → branch_target (address_of_place p + 4) (branch_offset p q) ≡ address_of_place q
+branch_lands : (p q : ℕ) → p < CODE_WORDS → q ≤ CODE_WORDS → branch_target (address_of_place p + 4) (branch_offset p q) ≡ address_of_place q
 branch_lands p q lp lq = omega (arith, ints)
 
 -- ---- what a word keeps
@@ -178,11 +179,11 @@ module _ (code : List Inst) (start : ℕ → ℕ) where
       subst (λ g. Leads code 2 (at p f out) (record { flow = g; pc = t; target = None; output = out })) still (leads_on code 1 1 _ _ _ first second)
 
   pub record Placed : Type 0 where
-    pub room : length code ≤ 1048576
-    pub starts : (u : ℕ) → start u ≤ 1048576
+    pub room : length code ≤ CODE_WORDS
+    pub starts : (u : ℕ) → start u ≤ CODE_WORDS
 
   -- a branch leads where its test says
-  branch_arrives : (t e p q : ℕ) (m : Machine) (s : State) (out : List ℕ) → Placed → p < 1048576 → p + 2 ≡ q
+  branch_arrives : (t e p q : ℕ) (m : Machine) (s : State) (out : List ℕ) → Placed → p < CODE_WORDS → p + 2 ≡ q
       → HasAt code q (jump_to (start e) ∷ I.Plain nop ∷ []) → (b : Bool)
       → Leads code 2 m
       (record {

@@ -16,6 +16,7 @@ use Rattle.mips_isa.specs.Controls.{jump_target}
 use Rattle.mips_steps.specs.Machines.{code_base}
 use Rattle.mips_layout.specs.Fetching.{of_inst, insts_code}
 use Rattle.mips_layout.specs.Layout.{exit_size, size, place, address_of_place, slot_insts, exit_insts, order_insts, insts_of, layout}
+use Rattle.mips_layout.specs.declared.limits.TheConstants.{CODE_WORDS}
 
 -- the instructions stand in the code at this place
 abbrev pub HasAt : List Inst → ℕ → List Inst → Type 0
@@ -108,7 +109,7 @@ fetch_at code p i e =
     ap₂ (λ x y. cond (x && y) (of_inst (slice_get code ((address_of_place p - code_base) / 4))) NoWord) low even
     ∙ ap (λ n. of_inst (slice_get code n)) where_at ∙ ap of_inst e
 
-pub jump_lands : (p q : ℕ) → p < 1048576 → jump_target (address_of_place p + 4) (address_of_place q / 4) ≡ address_of_place q
+pub jump_lands : (p q : ℕ) → p < CODE_WORDS → jump_target (address_of_place p + 4) (address_of_place q / 4) ≡ address_of_place q
 jump_lands p q lt =
     let high : (address_of_place p + 4) / 2 ^ 28 ≡ 0 = omega arith in
     let low : address_of_place q / 4 * 4 ≡ address_of_place q = omega arith in

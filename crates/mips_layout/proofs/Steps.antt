@@ -21,6 +21,7 @@ use Rattle.mips_isa.specs.Actions.{nop}
 use Rattle.mips_layout.specs.Layout.{address_of_place, jump_to}
 use Rattle.mips_layout.proofs.Unbroken.{plain_goes, control_goes}
 use Rattle.mips_layout.proofs.Places.{HasAt, fetch_at, jump_lands}
+use Rattle.mips_layout.specs.declared.limits.TheConstants.{CODE_WORDS}
 
 abbrev pub machine_at : ℕ → State → List ℕ → Machine
 machine_at p s out = record { flow = quiet s; pc = address_of_place p; target = None; output = out }
@@ -84,7 +85,7 @@ module _ (code : List Inst) where
 
   -- ---- jumps
 
-  pub within : (p : ℕ) (i : Inst) → length code ≤ 1048576 → slice_get code p ≡ Some i → p < 1048576
+  pub within : (p : ℕ) (i : Inst) → length code ≤ CODE_WORDS → slice_get code p ≡ Some i → p < CODE_WORDS
   within p i room e = let lt = slice_get_within code p i e in omega (arith, lt)
 
   -- in a slot, on the way to an address
@@ -110,7 +111,7 @@ module _ (code : List Inst) where
       goes (slot_at p t f out) _ (at_place p (I.Plain i) (slot_at p t f out) e refl ∙ plain_goes i (slot_at p t f out) ok)
 
   -- a jump that nothing holds up, with a slot that does nothing
-  pub hop : (p q : ℕ) (s : State) (out : List ℕ) → length code ≤ 1048576 → HasAt code p (jump_to q ∷ I.Plain nop ∷ [])
+  pub hop : (p q : ℕ) (s : State) (out : List ℕ) → length code ≤ CODE_WORDS → HasAt code p (jump_to q ∷ I.Plain nop ∷ [])
       → Leads code 2 (machine_at p s out) (machine_at q s out)
   hop p q s out room h =
       let lands = jump_lands p q (within p _ room h.0) in

@@ -50,10 +50,15 @@ fn checks_tell_refused_memory_alone(rt: HostRuntime) -> Result<(), Fail> {
 
 // Whether the words are refused for want of memory; None where they are wrong.
 fn is_refused(alloc: Global) -> Option<bool> {
-    match words(alloc, ["mcc", "check", "x"].as_slice()) {
-        Ok(_) => Some(false),
-        Err(error) if error.kind() == ErrorKind::OutOfMemory => Some(true),
-        Err(_) => None,
+    let args = ["mcc", "check", "x"];
+    let error = match words(alloc, args.as_slice()) {
+        Ok(_command) => return Some(false),
+        Err(error) => error,
+    };
+    if error.kind() == ErrorKind::OutOfMemory {
+        Some(true)
+    } else {
+        None
     }
 }
 

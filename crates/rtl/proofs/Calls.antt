@@ -1,15 +1,15 @@
 -- Calls of functions.
-use Rattle.std.proofs.Common.{◌≡◌, ℕ, zero, suc, ◌+◌, ◌<◌, List, [], ◌∷◌, ◌++◌, Option, Some, None, refl, sym, ◌∙◌, ap, true, length, nat_lt}
-use Rattle.std.proofs.Common.{get_or, map, Bor, arith}
-use mathlib.Core.Path.{fun_ext}
+use Rattle.std.proofs.Common.{◌≡◌, ℕ, ◌+◌, ◌<◌, List, [], ◌∷◌, ◌++◌, Option, Some, sym, ◌∙◌, ap, true, length, nat_lt}
+use Rattle.std.proofs.Common.{map, Bor, arith}
 use Rattle.std.specs.Prelude.{if◌then◌else◌, ◌&&◌, ◌==◌}
 use Rattle.std.specs.List.{slice_get}
 use Rattle.std.specs.Option.{option_map}
 use Rattle.std.specs.declared.vec.Vec.{Vec}
 use Rattle.std.specs.declared.alloc.Global.{Global}
-use Rattle.std.proofs.lemmas.List.{reverse-append, length-map, length-reverse}
 use Rattle.std.proofs.lemmas.Bool.{lt-ltb}
 use Rattle.runs.specs.Stores.{Places, Arrays}
+use Rattle.runs.proofs.Kept.{places-set_to}
+use Rattle.runs.proofs.Waiting.{waiting-length, waiting-push}
 use Rattle.runs.specs.Runs.{Running, Failed, with_value}
 use Rattle.rtl.specs.declared.instruction.RInst.{RInst}
 use Rattle.rtl.specs.declared.instruction.RExit.{RExit}
@@ -18,17 +18,9 @@ use Rattle.rtl.specs.declared.block.RFunc.{RFunc}
 use Rattle.rtl.specs.Programs.{Program}
 use Rattle.rtl.specs.Meaning as Meaning
 use Rattle.rtl.specs.Meaning.{Run, Code, code_of, argument_registers, state_at_block, state_after_call}
-use Rattle.rtl.specs.Interpreter.{places, frame_of, frames_of}
+use Rattle.runs.specs.Kept.{places}
+use Rattle.rtl.specs.Interpreter.{frame_of, frames_of}
 use Rattle.rtl.specs.declared.interpreter.Frame.{Frame}
-
-arguments-at : (vs : List ℕ) (x : ℕ) → get_or (map Some vs) x None ≡ slice_get vs x
-arguments-at [] zero = refl
-arguments-at [] (suc x) = refl
-arguments-at (v ∷ vs) zero = refl
-arguments-at (v ∷ vs) (suc x) = arguments-at vs x
-
-pub arguments-places : (vs : List ℕ) → places (map Some vs) ≡ argument_registers vs
-arguments-places vs = fun_ext (λ x. arguments-at vs x)
 
 abbrev frame_with : List RBlock → Places → Code → Option ℕ → Meaning.Frame
 frame_with bs r code to = record { blocks = bs; registers = r; code = code; result_to = to }
@@ -44,7 +36,7 @@ pub new-frame : (frame : Frame) (blocks : Bor (List RBlock)) (values : Vec (Opti
 new-frame frame blocks values insts exit x entry to vs made words all first last =
     ap frame_of made
     ∙ ap (λ bs. frame_with bs (places values.items) (record { insts = insts.now; exit = exit.now }) to) all
-    ∙ ap (λ r. frame_with x.blocks.items r (record { insts = insts.now; exit = exit.now }) to) (ap places words ∙ arguments-places vs)
+    ∙ ap (λ r. frame_with x.blocks.items r (record { insts = insts.now; exit = exit.now }) to) (ap places words ∙ places-set_to vs)
     ∙ ap (λ is. frame_with x.blocks.items (argument_registers vs) (record { insts = is; exit = exit.now }) to) first
     ∙ ap (λ e. frame_with x.blocks.items (argument_registers vs) (record { insts = entry.insts.items; exit = e }) to) last
 
@@ -60,21 +52,14 @@ called-there p depth i vs to frames out g x entry there lt count first =
     ∙ ap (λ b. if b then state_at_block x.blocks.items 0 (argument_registers vs) to frames g out else Failed out) same
     ∙ ap (λ o. with_value o out (λ (block : RBlock). Running (frame_with x.blocks.items (argument_registers vs) (code_of block) to ∷ frames) g out)) first
 
-frames-length : (frames : List Frame) → length (frames_of frames) ≡ length frames
-frames-length frames = simp (length-map, length-reverse)
-
-pub pushed-frames : (frames new : List Frame) (f waits : Frame) → new ≡ frames ++ waits ∷ [] → waits ≡ f → frames_of new ≡ frame_of f ∷ frames_of frames
-pushed-frames frames new f waits e is =
-    ap frames_of e ∙ ap (map frame_of) (reverse-append frames (waits ∷ [])) ∙ ap (λ f. frame_of f ∷ frames_of frames) is
-
 pub entered : (p : Program) (depth i : ℕ) (vs : List ℕ) (to : Option ℕ) (g : Arrays) (out : List ℕ) (x : RFunc) (entry : RBlock) (frames new : List Frame)
     (f waits frame : Frame) → slice_get p.functions i ≡ Some x → length frames + 1 < depth → length vs ≡ x.parameters
     → slice_get x.blocks.items 0 ≡ Some entry → new ≡ frames ++ waits ∷ [] → waits ≡ f → frame_of frame ≡ entry_frame x entry vs to
     → state_after_call p depth i vs to (frame_of f ∷ frames_of frames) g out ≡ Running (frame_of frame ∷ frames_of new) g out
 entered p depth i vs to g out x entry frames new f waits frame there lt count first e is made =
-    called-there p depth i vs to (frame_of f ∷ frames_of frames) out g x entry there (omega (arith, lt, frames-length frames)) count first
+    called-there p depth i vs to (frame_of f ∷ frames_of frames) out g x entry there (omega (arith, lt, waiting-length frame_of frames)) count first
     ∙ ap (λ t. Running (t ∷ frame_of f ∷ frames_of frames) g out) (sym made)
-    ∙ ap (λ fs. Running (frame_of frame ∷ fs) g out) (sym (pushed-frames frames new f waits e is))
+    ∙ ap (λ fs. Running (frame_of frame ∷ fs) g out) (sym (waiting-push frame_of frames new f waits e is))
 
 pub some-block : (bs : List RBlock) (i : ℕ) (r : Option (Bor RBlock)) (b : Bor RBlock) → option_map (λ (b : Bor RBlock). b.now) r ≡ slice_get bs i → r ≡ Some b
     → slice_get bs i ≡ Some b.now

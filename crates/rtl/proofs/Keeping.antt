@@ -1,5 +1,5 @@
 -- Each step of a run keeps to words.
-use Rattle.std.proofs.Common.{◌≡◌, ℕ, ◌∷◌, ◌++◌, List, [], Bool, true, false, Option, Some, None, refl, subst, length, nat_lt, arith}
+use Rattle.std.proofs.Common.{◌≡◌, ℕ, ◌∷◌, ◌++◌, List, [], Bool, true, false, Option, Some, None, subst, length, nat_lt}
 use Rattle.std.specs.Prelude.{All, map, if◌then◌else◌, ◌&&◌, ◌==◌}
 use Rattle.std.specs.List.{slice_get}
 use Rattle.std.proofs.lemmas.Option.{same_Some, none-some}
@@ -8,8 +8,9 @@ use Rattle.words.specs.Words.{wrap}
 use Rattle.words.specs.Widths.{kept}
 use Rattle.runs.specs.Stores.{Places, Arrays, chain, unset_places, places_with, element_at, arrays_with, IsWord, PlacesHoldWords, ArraysHoldWords}
 use Rattle.runs.specs.Runs.{Running, Ended, Failed, with_value}
-use Rattle.runs.proofs.Words.{chain-some, at-index, element-at, unset-words, written-words, stored-words}
-use Rattle.runs.proofs.Steps.{steps-keep}
+use Rattle.runs.proofs.Words.{chain-some, at-index, element-at, unset-words, stored-words}
+use Rattle.runs.proofs.Keeping.{with-words, running-words, set-words}
+use Rattle.words.proofs.Widths.{wrap_below, kept_below}
 use Rattle.rtl.specs.declared.instruction.RInst.{RInst}
 use Rattle.rtl.specs.declared.instruction.RInst.TheVariants.{Const, Move, Bin, Load, Store}
 use Rattle.rtl.specs.declared.instruction.RExit.{RExit}
@@ -18,58 +19,38 @@ use Rattle.rtl.specs.declared.block.RBlock.{RBlock}
 use Rattle.rtl.specs.declared.block.RFunc.{RFunc}
 use Rattle.rtl.specs.declared.block.RGlobal.{RGlobal}
 use Rattle.words.specs.declared.width.Width.{Width}
-use Rattle.words.specs.declared.width.Width.TheVariants.{Word, Byte}
 use Rattle.rtl.specs.Operators.{op_result}
 use Rattle.rtl.specs.Programs.{Program}
 use Rattle.rtl.specs.Meaning.{Frame, Run, code_of, words_in, argument_registers, kept_in, with_inst, state_at_block, state_after_return}
-use Rattle.rtl.specs.Meaning.{state_after_call, state_after_exit, step_at, rtl_step, rtl_steps, rtl_start, first_values}
+use Rattle.rtl.specs.Meaning.{state_after_call, state_after_exit, step_at, rtl_step, rtl_start, first_values}
 use Rattle.rtl.specs.Laws.{FrameHoldsWords, RunHoldsWords}
 use Rattle.rtl.proofs.Results.{result-word}
-
-with-words : {A : Type 0} (o : Option A) (out : List ℕ) (go : A → Run) → All IsWord out → ((a : A) → o ≡ Some a → RunHoldsWords (go a))
-    → RunHoldsWords (with_value o out go)
-with-words None out go h k = h
-with-words (Some a) out go h k = k a refl
-
-running : (f : Frame) (frames : List Frame) (g : Arrays) (out : List ℕ) → PlacesHoldWords f.registers → All FrameHoldsWords frames → ArraysHoldWords g
-    → All IsWord out → RunHoldsWords (Running (f ∷ frames) g out)
-running f frames g out a b c d = (All-cons FrameHoldsWords f frames a b, (c, d))
-
-set-words : (r : Places) (x v : ℕ) → PlacesHoldWords r → IsWord v → PlacesHoldWords (places_with r x (Some v))
-set-words r x v h w = written-words r x (Some v) h (λ u e. subst IsWord (same_Some v u e) w)
-
-wrapped : (n : ℕ) → IsWord (wrap n)
-wrapped n = omega arith
-
-kept-word : (w : Width) (v : ℕ) → IsWord v → IsWord (kept w v)
-kept-word Word v h = h
-kept-word Byte v h = omega arith
 
 kept-in-word : (globals : List RGlobal) (a v w : ℕ) → IsWord v → kept_in globals a v ≡ Some w → IsWord w
 kept-in-word globals a v w h e =
     let s = chain-some (slice_get globals a) (λ (global : RGlobal). Some (kept global.width v)) w e in
-    subst IsWord (same_Some (kept s.0.width v) w s.2) (kept-word s.0.width v h)
+    subst IsWord (same_Some (kept s.0.width v) w s.2) (kept_below s.0.width v h)
 
 inst-words : (globals : List RGlobal) (i : RInst) (r : Places) (g : Arrays) (out : List ℕ) (go : Places → Arrays → Run) → PlacesHoldWords r
     → ArraysHoldWords g → All IsWord out → ((r : Places) (g : Arrays) → PlacesHoldWords r → ArraysHoldWords g → RunHoldsWords (go r g))
     → RunHoldsWords (with_inst globals i r g out go)
-inst-words globals (Const d w) r g out go a b c k = k (places_with r d (Some (wrap w))) g (set-words r d (wrap w) a (wrapped w)) b
+inst-words globals (Const d w) r g out go a b c k = k (places_with r d (Some (wrap w))) g (set-words r d (wrap w) a (wrap_below w)) b
 inst-words globals (Move d x) r g out go a b c k =
-    with-words (r x) out (λ v. go (places_with r d (Some v)) g) c (λ v e. k (places_with r d (Some v)) g (set-words r d v a (a x v e)) b)
+    with-words FrameHoldsWords (r x) out (λ v. go (places_with r d (Some v)) g) c (λ v e. k (places_with r d (Some v)) g (set-words r d v a (a x v e)) b)
 inst-words globals (Bin op d x y) r g out go a b c k =
-    with-words (r x) out (λ v. with_value (r y) out (λ w. with_value (op_result op v w) out (λ u. go (places_with r d (Some u)) g))) c
-    (λ v e. with-words (r y) out (λ w. with_value (op_result op v w) out (λ u. go (places_with r d (Some u)) g)) c
-    (λ w f. with-words (op_result op v w) out (λ u. go (places_with r d (Some u)) g) c
+    with-words FrameHoldsWords (r x) out (λ v. with_value (r y) out (λ w. with_value (op_result op v w) out (λ u. go (places_with r d (Some u)) g))) c
+    (λ v e. with-words FrameHoldsWords (r y) out (λ w. with_value (op_result op v w) out (λ u. go (places_with r d (Some u)) g)) c
+    (λ w f. with-words FrameHoldsWords (op_result op v w) out (λ u. go (places_with r d (Some u)) g) c
     (λ u is. k (places_with r d (Some u)) g (set-words r d u a (result-word op v w u (a x v e) (a y w f) is)) b)))
 inst-words globals (Load d x i) r g out go a b c k =
-    with-words (r i) out (λ j. with_value (element_at g x j) out (λ v. go (places_with r d (Some v)) g)) c
-    (λ j e. with-words (element_at g x j) out (λ v. go (places_with r d (Some v)) g) c
+    with-words FrameHoldsWords (r i) out (λ j. with_value (element_at g x j) out (λ v. go (places_with r d (Some v)) g)) c
+    (λ j e. with-words FrameHoldsWords (element_at g x j) out (λ v. go (places_with r d (Some v)) g) c
     (λ v is. k (places_with r d (Some v)) g (set-words r d v a (element-at g x j v b is)) b))
 inst-words globals (Store x i y) r g out go a b c k =
-    with-words (r i) out (λ j. with_value (r y) out (λ v. with_value (kept_in globals x v) out (λ w. with_value (arrays_with g x j w) out (λ g'. go r g')))) c
-    (λ j e. with-words (r y) out (λ v. with_value (kept_in globals x v) out (λ w. with_value (arrays_with g x j w) out (λ g'. go r g'))) c
-    (λ v f. with-words (kept_in globals x v) out (λ w. with_value (arrays_with g x j w) out (λ g'. go r g')) c
-    (λ w is. with-words (arrays_with g x j w) out (λ g'. go r g') c
+    with-words FrameHoldsWords (r i) out (λ j. with_value (r y) out (λ v. with_value (kept_in globals x v) out (λ w. with_value (arrays_with g x j w) out (λ g'. go r g')))) c
+    (λ j e. with-words FrameHoldsWords (r y) out (λ v. with_value (kept_in globals x v) out (λ w. with_value (arrays_with g x j w) out (λ g'. go r g'))) c
+    (λ v f. with-words FrameHoldsWords (kept_in globals x v) out (λ w. with_value (arrays_with g x j w) out (λ g'. go r g')) c
+    (λ w is. with-words FrameHoldsWords (arrays_with g x j w) out (λ g'. go r g') c
     (λ g' s. k r g' a (stored-words g x j w g' b (kept-in-word globals x v w (a y v f) is) s)))))
 
 read-words : (r : Places) (xs vs : List ℕ) → PlacesHoldWords r → words_in r xs ≡ Some vs → All IsWord vs
@@ -82,14 +63,14 @@ read-words r (x ∷ xs) vs h e =
 block-words : (bs : List RBlock) (b : ℕ) (r : Places) (to : Option ℕ) (frames : List Frame) (g : Arrays) (out : List ℕ) → PlacesHoldWords r
     → All FrameHoldsWords frames → ArraysHoldWords g → All IsWord out → RunHoldsWords (state_at_block bs b r to frames g out)
 block-words bs b r to frames g out a h c d =
-    with-words (slice_get bs b) out (λ block. Running (record { blocks = bs; registers = r; code = code_of block; result_to = to } ∷ frames) g out) d
-    (λ block e. running (record { blocks = bs; registers = r; code = code_of block; result_to = to }) frames g out a h c d)
+    with-words FrameHoldsWords (slice_get bs b) out (λ block. Running (record { blocks = bs; registers = r; code = code_of block; result_to = to } ∷ frames) g out) d
+    (λ block e. running-words FrameHoldsWords (record { blocks = bs; registers = r; code = code_of block; result_to = to }) frames g out a h c d)
 
 called-words : (p : Program) (depth f : ℕ) (vs : List ℕ) (to : Option ℕ) (frames : List Frame) (g : Arrays) (out : List ℕ) → All IsWord vs
     → All FrameHoldsWords frames → ArraysHoldWords g → All IsWord out
     → RunHoldsWords (state_after_call p depth f vs to frames g out)
 called-words p depth f vs to frames g out a b c d =
-    with-words (slice_get p.functions f) out (λ function. if nat_lt (length frames) depth && (length vs == function.parameters)
+    with-words FrameHoldsWords (slice_get p.functions f) out (λ function. if nat_lt (length frames) depth && (length vs == function.parameters)
     then state_at_block function.blocks.items 0 (argument_registers vs) to frames g out else Failed out) d
     (λ function e. by function (nat_lt (length frames) depth && (length vs == function.parameters)))
   where
@@ -100,12 +81,12 @@ called-words p depth f vs to frames g out a b c d =
 
 returned-words : (v to : Option ℕ) (frames : List Frame) (g : Arrays) (out : List ℕ) → ((w : ℕ) → v ≡ Some w → IsWord w)
     → All FrameHoldsWords frames → ArraysHoldWords g → All IsWord out → RunHoldsWords (state_after_return v to frames g out)
-returned-words v to [] g out a b c d = with-words v out (λ w. Ended w out) d (λ w e. (a w e, d))
+returned-words v to [] g out a b c d = with-words FrameHoldsWords v out (λ w. Ended w out) d (λ w e. (a w e, d))
 returned-words v None (f ∷ frames) g out a b c d = (b, (c, d))
 returned-words v (Some x) (f ∷ frames) g out a b c d =
-    with-words v out (λ w. Running (record { blocks = f.blocks; registers = places_with f.registers x (Some w); code = f.code; result_to = f.result_to } ∷ frames)
+    with-words FrameHoldsWords v out (λ w. Running (record { blocks = f.blocks; registers = places_with f.registers x (Some w); code = f.code; result_to = f.result_to } ∷ frames)
     g out) d
-    (λ w e. running (record { blocks = f.blocks; registers = places_with f.registers x (Some w); code = f.code; result_to = f.result_to }) frames g out
+    (λ w e. running-words FrameHoldsWords (record { blocks = f.blocks; registers = places_with f.registers x (Some w); code = f.code; result_to = f.result_to }) frames g out
     (set-words f.registers x w (All-head FrameHoldsWords f frames b) (a w e)) (All-tail FrameHoldsWords f frames b) c d)
 
 exit-words : (p : Program) (depth : ℕ) (exit : RExit) (bs : List RBlock) (r : Places) (to : Option ℕ) (frames : List Frame) (g : Arrays) (out : List ℕ)
@@ -113,22 +94,22 @@ exit-words : (p : Program) (depth : ℕ) (exit : RExit) (bs : List RBlock) (r : 
     → RunHoldsWords (state_after_exit p depth exit bs r to frames g out)
 exit-words p depth (Goto b) bs r to frames g out a h c d = block-words bs b r to frames g out a h c d
 exit-words p depth (Branch x t e) bs r to frames g out a h c d =
-    with-words (r x) out (λ v. state_at_block bs (if v == 0 then e else t) r to frames g out) d
+    with-words FrameHoldsWords (r x) out (λ v. state_at_block bs (if v == 0 then e else t) r to frames g out) d
     (λ v is. block-words bs (if v == 0 then e else t) r to frames g out a h c d)
 exit-words p depth (Call f args x next) bs r to frames g out a h c d =
-    with-words (words_in r args.items) out (λ vs. with_value (slice_get bs next) out (λ block.
+    with-words FrameHoldsWords (words_in r args.items) out (λ vs. with_value (slice_get bs next) out (λ block.
     state_after_call p depth f vs x (record { blocks = bs; registers = r; code = code_of block; result_to = to } ∷ frames) g out)) d
-    (λ vs is. with-words (slice_get bs next) out (λ block.
+    (λ vs is. with-words FrameHoldsWords (slice_get bs next) out (λ block.
     state_after_call p depth f vs x (record { blocks = bs; registers = r; code = code_of block; result_to = to } ∷ frames) g out) d
     (λ block there. called-words p depth f vs x (record { blocks = bs; registers = r; code = code_of block; result_to = to } ∷ frames) g out
     (read-words r args.items vs a is)
     (All-cons FrameHoldsWords (record { blocks = bs; registers = r; code = code_of block; result_to = to }) frames a h) c d))
 exit-words p depth (Return None) bs r to frames g out a h c d = returned-words None to frames g out (λ w e. absurd (none-some w e)) h c d
 exit-words p depth (Return (Some x)) bs r to frames g out a h c d =
-    with-words (r x) out (λ v. state_after_return (Some v) to frames g out) d
+    with-words FrameHoldsWords (r x) out (λ v. state_after_return (Some v) to frames g out) d
     (λ v is. returned-words (Some v) to frames g out (λ w same. subst IsWord (same_Some v w same) (a x v is)) h c d)
 exit-words p depth (Out x next) bs r to frames g out a h c d =
-    with-words (r x) out (λ v. state_at_block bs next r to frames g (out ++ v ∷ [])) d
+    with-words FrameHoldsWords (r x) out (λ v. state_at_block bs next r to frames g (out ++ v ∷ [])) d
     (λ v is. block-words bs next r to frames g (out ++ v ∷ []) a h c (All-push IsWord out v d (a x v is)))
 
 at-words : (p : Program) (depth : ℕ) (insts : List RInst) (exit : RExit) (bs : List RBlock) (r : Places) (to : Option ℕ) (frames : List Frame) (g : Arrays)
@@ -138,7 +119,7 @@ at-words p depth [] exit bs r to frames g out a h c d = exit-words p depth exit 
 at-words p depth (i ∷ rest) exit bs r to frames g out a h c d =
     inst-words p.globals i r g out (λ r' g'.
     Running (record { blocks = bs; registers = r'; code = record { insts = rest; exit = exit }; result_to = to } ∷ frames) g' out) a c d
-    (λ r' g' a' c'. running (record { blocks = bs; registers = r'; code = record { insts = rest; exit = exit }; result_to = to }) frames g' out a' h c' d)
+    (λ r' g' a' c'. running-words FrameHoldsWords (record { blocks = bs; registers = r'; code = record { insts = rest; exit = exit }; result_to = to }) frames g' out a' h c' d)
 
 pub step-words : (p : Program) (depth : ℕ) (s : Run) → RunHoldsWords s → RunHoldsWords (rtl_step p depth s)
 step-words p depth (Running [] g out) h = h.1.1
@@ -150,7 +131,7 @@ step-words p depth (Failed out) h = h
 
 elements-words : (w : Width) (vs : List ℕ) → All IsWord (map (λ v. kept w (wrap v)) vs)
 elements-words w [] = All-nil IsWord
-elements-words w (v ∷ vs) = All-cons IsWord (kept w (wrap v)) (map (λ v. kept w (wrap v)) vs) (kept-word w (wrap v) (wrapped v)) (elements-words w vs)
+elements-words w (v ∷ vs) = All-cons IsWord (kept w (wrap v)) (map (λ v. kept w (wrap v)) vs) (kept_below w (wrap v) (wrap_below v)) (elements-words w vs)
 
 globals-words : (all : List RGlobal) → ArraysHoldWords (map first_values all)
 globals-words [] = All-nil (All IsWord)
@@ -158,10 +139,7 @@ globals-words (a ∷ rest) = All-cons (All IsWord) (first_values a) (map first_v
 
 pub start-words : (p : Program) → RunHoldsWords (rtl_start p)
 start-words p =
-    with-words (slice_get p.functions p.main) [] (λ main. state_at_block main.blocks.items 0 unset_places None [] (map first_values p.globals) [])
+    with-words FrameHoldsWords (slice_get p.functions p.main) [] (λ main. state_at_block main.blocks.items 0 unset_places None [] (map first_values p.globals) [])
     (All-nil IsWord)
     (λ main e. block-words main.blocks.items 0 unset_places None [] (map first_values p.globals) [] unset-words (All-nil FrameHoldsWords)
     (globals-words p.globals) (All-nil IsWord))
-
-pub steps-words : (p : Program) (depth n : ℕ) → RunHoldsWords (rtl_steps p depth n (rtl_start p))
-steps-words p depth n = steps-keep RunHoldsWords (rtl_step p depth) (step-words p depth) n (rtl_start p) (start-words p)

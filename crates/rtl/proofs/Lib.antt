@@ -3,6 +3,4 @@ pub mod Computing
 pub mod Keeping
 pub mod Lookups
 pub mod Loops
-pub mod Placing
 pub mod Results
-pub mod Running

@@ -1,9 +1,10 @@
 -- What the interpreter keeps, and the state that it stands for.
-use Rattle.std.specs.Prelude.{◌≡◌, ℕ, List, ◌∷◌, Option, None, Some, map, reverse, slice_get, slice_index_or}
-use Rattle.std.specs.declared.vec.Vec.{Vec}
-use Rattle.std.specs.declared.alloc.Global.{Global}
+use Rattle.std.specs.Prelude.{◌≡◌, ℕ, List, ◌∷◌, Option, Some, map, reverse, slice_get}
 use Rattle.runs.specs.Stores.{Places, Arrays, chain, element_at, places_with}
-use Rattle.runs.specs.Runs.{Running, Ended, Failed, with_value}
+use Rattle.runs.specs.Runs.{Running, with_value}
+use Rattle.runs.specs.Kept.{places, arrays}
+use Rattle.runs.specs.Steps.{after_step}
+use Rattle.runs.specs.declared.reached.Reached.{Reached}
 use Rattle.rtl.specs.declared.operator.Op.{Op}
 use Rattle.rtl.specs.declared.instruction.RInst.{RInst}
 use Rattle.rtl.specs.declared.instruction.RExit.{RExit}
@@ -15,16 +16,6 @@ use Rattle.rtl.specs.Meaning as Meaning
 use Rattle.rtl.specs.Meaning.{Run, Code, code_of, with_inst, state_at_block, state_after_call, state_after_return, state_after_exit}
 use Rattle.rtl.specs.declared.interpreter.Frame.{Frame}
 use Rattle.rtl.specs.declared.interpreter.Interpreter.{Interpreter}
-use Rattle.rtl.specs.declared.interpreter.Reached.{Reached}
-use Rattle.rtl.specs.declared.interpreter.Reached.TheVariants as Reach
-
--- the registers, None outside
-abbrev pub places : List (Option ℕ) → Places
-places registers = λ x. slice_index_or registers x None
-
--- the elements of each global
-abbrev pub arrays : List (Vec ℕ Global) → Arrays
-arrays globals = map (λ a. a.items) globals
 
 -- the result of an operator at two registers, or none
 abbrev pub result_at : Op → Places → ℕ → ℕ → Option ℕ
@@ -51,9 +42,7 @@ state_of m = Running (frame_of m.frame ∷ frames_of m.waiting.items) (arrays m.
 
 -- the state that a step has come to
 abbrev pub state_at : Reached → Interpreter → Run
-state_at Reach.Going m = state_of m
-state_at (Reach.Ended w) m = Ended w m.output.items
-state_at Reach.Failed m = Failed m.output.items
+state_at r m = after_step r (state_of m) m.output.items
 
 -- the same interpreter with other registers and globals
 abbrev pub state_with : Interpreter → Places → Arrays → Run

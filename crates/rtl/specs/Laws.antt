@@ -1,16 +1,17 @@
 -- What is true of every run of a program, and of the operators beside those of C.
-use Rattle.std.specs.Prelude.{◌≡◌, ◌+◌, ◌-◌, ◌^◌, ℕ, List, Some, not}
+use Rattle.std.specs.Prelude.{◌≡◌, ◌-◌, ◌^◌, ℕ, Some, not}
 use Rattle.words.specs.declared.sign.Sign.{Sign}
 use Rattle.words.specs.declared.sign.Sign.TheVariants.{Signed, Unsigned}
 use Rattle.words.specs.Operators.{quotient_of, remainder_of}
 use Rattle.words.specs.C.{sum_of, difference_of, times_of, negation_of, left_shift_of, right_shift_of, is_below}
 use Rattle.runs.specs.Stores.{IsWord, PlacesHoldWords}
-use Rattle.runs.specs.Runs.{Ended, Failed, HoldsWords}
+use Rattle.runs.specs.Runs.{HoldsWords}
+use Rattle.runs.specs.Steps.{IsKept, GoesOnFromWhereItIs}
 use Rattle.rtl.specs.declared.operator.Op.{Op}
 use Rattle.rtl.specs.declared.operator.Op.TheVariants.{Add, Sub, Mul, DivS, DivU, RemS, RemU, Xor, Shl, ShrU, ShrS, LtS, LtU, LeS, LeU}
 use Rattle.rtl.specs.Operators.{truth_word, op_result}
 use Rattle.rtl.specs.Programs.{Program}
-use Rattle.rtl.specs.Meaning.{Frame, Run, rtl_start, rtl_step, rtl_steps}
+use Rattle.rtl.specs.Meaning.{Frame, Run, rtl_start, rtl_step}
 
 abbrev pub FrameHoldsWords : Frame → Type 0
 FrameHoldsWords f = PlacesHoldWords f.registers
@@ -19,16 +20,12 @@ abbrev pub RunHoldsWords : Run → Type 0
 RunHoldsWords s = HoldsWords FrameHoldsWords s
 
 -- a run begins with words, and each step keeps to them
-pub record ValuesAreWords : Type 0 where
-  pub start : (p : Program) → RunHoldsWords (rtl_start p)
-  pub step : (p : Program) (depth : ℕ) (s : Run) → RunHoldsWords s → RunHoldsWords (rtl_step p depth s)
-  pub reached : (p : Program) (depth n : ℕ) → RunHoldsWords (rtl_steps p depth n (rtl_start p))
+abbrev pub ValuesAreWords : Type 0
+ValuesAreWords = (p : Program) (depth : ℕ) → IsKept RunHoldsWords (rtl_step p depth) (rtl_start p)
 
 -- a number of steps is taken in two parts, and a run that ended or failed stays so
-pub record RunsGoOnFromWhereTheyAre : Type 0 where
-  pub sum : (p : Program) (depth a b : ℕ) (s : Run) → rtl_steps p depth (a + b) s ≡ rtl_steps p depth b (rtl_steps p depth a s)
-  pub ended : (p : Program) (depth n w : ℕ) (out : List ℕ) → rtl_steps p depth n (Ended w out) ≡ Ended w out
-  pub failed : (p : Program) (depth n : ℕ) (out : List ℕ) → rtl_steps p depth n (Failed out) ≡ Failed out
+abbrev pub RunsGoOnFromWhereTheyAre : Type 0
+RunsGoOnFromWhereTheyAre = (p : Program) (depth : ℕ) → GoesOnFromWhereItIs (rtl_step p depth)
 
 -- the operators that compute in a type of C, by its sign
 abbrev pub quotient_op : Sign → Op

@@ -3,14 +3,16 @@ ghost use Rattle.std.specs.Prelude.{◌≡◌, ℕ, List, IfOk, Some, None, map,
 ghost use Rattle.std.specs.Option.{option_map};
 ghost use Rattle.rtl.specs.declared.instruction.RInst.TheVariants.{Store};
 ghost use Rattle.rtl.specs.Meaning.{rtl_step, words_in};
-ghost use Rattle.rtl.specs.Interpreter.{places, arrays, result_at, load_at, state_of, state_at, frame_of, frame_at};
+ghost use Rattle.runs.specs.Kept.{places, arrays};
+ghost use Rattle.rtl.specs.Interpreter.{result_at, load_at, state_of, state_at, frame_of, frame_at};
 ghost use Rattle.rtl.specs.Interpreter.{Puts, Performs, Jumps, Calls, CallsFrom, Returns, Leaves};
 
 use crate::block::{RBlock, RGlobal};
 use crate::instruction::{BlockNumber, FunctionNumber, GlobalNumber, RExit, RInst, Register};
 use crate::operator::Op;
 use crate::program::Rtl;
-use crate::stores::{constant, element, kept_by, register, set, store};
+use crate::stores::{constant, kept_by, register};
+use runs::{Reached, element, set_word, store};
 use std::alloc::{AllocError, Global};
 use std::mem;
 
@@ -34,14 +36,6 @@ pub struct Interpreter<'a> {
     pub output: Vec<u32>,
 }
 
-/// What a step has come to.
-#[derive(Clone, Copy)]
-pub enum Reached {
-    Going,
-    Ended(u32),
-    Failed,
-}
-
 // The result of an operator at two registers.
 fn result_of(registers: &[Option<u32>], op: Op, left: Register, right: Register) -> Option<u32>
     ensures { result ≡ result_at op (places registers.now) left right }
@@ -61,7 +55,7 @@ fn element_of(
     ensures { result ≡ load_at (places registers.now) (arrays globals.now) global index }
 {
     let index = register(registers, index)?;
-    element(globals, global, index)
+    element(globals, global as usize, index as usize)
 }
 
 // A value, if there is one, goes to a register.
@@ -75,7 +69,7 @@ fn put(
     let Some(v) = value else {
         return Ok(Reached::Failed);
     };
-    set(&mut interpreter.frame.registers, to, v)?;
+    set_word(&mut interpreter.frame.registers, to as usize, v)?;
     Ok(Reached::Going)
 }
 

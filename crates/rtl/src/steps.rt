@@ -2,10 +2,11 @@
 ghost use Rattle.std.specs.Prelude.{◌≡◌, IfOk, map};
 ghost use Rattle.runs.specs.Runs.{outcome_of};
 ghost use Rattle.rtl.specs.Meaning.{first_values, rtl_start, rtl_run};
-ghost use Rattle.rtl.specs.Interpreter.{arrays, state_of};
+ghost use Rattle.runs.specs.Kept.{arrays};
+ghost use Rattle.rtl.specs.Interpreter.{state_of};
 
 use crate::block::RGlobal;
-use crate::interpreter::{Frame, Interpreter, Reached, step};
+use crate::interpreter::{Frame, Interpreter, step};
 use crate::program::Rtl;
 use crate::stores::constant;
 use runs::{End, Ran};
@@ -64,16 +65,11 @@ pub fn run(alloc: Global, program: &Rtl, depth: u32, steps: u64) -> Result<Ran, 
     let mut interpreter = start(alloc, program)?;
     for _ in 0..steps {
         let reached = step(alloc, program, depth, &mut interpreter)?;
-        match reached {
-            Reached::Going => {}
-            Reached::Ended(w) => return Ok(Ran {
-                end: End::Done(w),
+        if let Some(end) = reached.end() {
+            return Ok(Ran {
+                end,
                 output: interpreter.output,
-            }),
-            Reached::Failed => return Ok(Ran {
-                end: End::Wrong,
-                output: interpreter.output,
-            }),
+            });
         }
     }
     Ok(Ran {

@@ -3,7 +3,7 @@ use Rattle.std.proofs.Common.{◌≡◌, ℕ, List, sym, ◌∙◌, ap, subst, a
 use Rattle.c_tokens.specs.declared.token.IntegerType.{IntegerType}
 use Rattle.c_tree.specs.declared.tree.BinaryOp.{BinaryOp}
 use Rattle.c_tree.specs.declared.tree.UnaryOp.{UnaryOp}
-use Rattle.c_typed.specs.Trees.{TypedExpression, unary, binary, conditional}
+use Rattle.c_typed.specs.Trees.{TypedExpression, element, unary, binary, conditional}
 use Rattle.rtl.specs.declared.operator.Op.TheVariants as O
 use Rattle.rtl.specs.declared.instruction.RInst.{RInst}
 use Rattle.rtl.specs.declared.instruction.RInst.TheVariants as I
@@ -45,6 +45,9 @@ pub at_equal : {bs : List RBlock} {b : ℕ} {c c' : Code} → c ≡ c' → At bs
 at_equal {bs} {b} e a = subst (λ c. At bs b c) e a
 
 -- an expression whose operator and parts are these
+pub element_is : {e : TypedExpression} (a : ℕ) (k : IntegerType) (i i' : TypedExpression) → e ≡ element a k i → i' ≡ i → e ≡ element a k i'
+element_is a k i i' is ii = is ∙ ap (element a k) (sym ii)
+
 pub unary_is : {e : TypedExpression} (o o' : UnaryOp) (k : IntegerType) (a a' : TypedExpression) → e ≡ unary o k a → o ≡ o' → a' ≡ a → e ≡ unary o' k a'
 unary_is o o' k a a' is io ia = is ∙ ap (λ o. unary o k a) io ∙ ap (λ a. unary o' k a) (sym ia)
 

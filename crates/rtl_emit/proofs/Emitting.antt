@@ -1,6 +1,6 @@
 -- What the call for an expression promises (`Emits`), from what the calls for its parts did: one lemma for each kind.
 use Rattle.std.proofs.Common.{◌≡◌, ◌≢◌, ℕ, ◌+◌, ◌<◌, ◌≤◌, max, Bool, true, false, List, ◌∷◌, length, Ok, Err, Result, refl, sym, ◌∙◌, ap, subst, arith, nat_eq}
-use Rattle.std.specs.Prelude.{if◌then◌else◌, not}
+use Rattle.std.specs.Prelude.{if◌then◌else◌, not, IfOk, IfErr, OnOk}
 use Rattle.c_tokens.specs.declared.token.IntegerType.{IntegerType}
 use Rattle.c_tokens.specs.declared.token.Literal.{Literal}
 use Rattle.c_tree.specs.declared.tree.BinaryOp.{BinaryOp}
@@ -14,24 +14,29 @@ use Rattle.rtl.specs.declared.instruction.RInst.TheVariants as I
 use Rattle.rtl.specs.declared.instruction.RExit.TheVariants as X
 use Rattle.words.specs.Words.{wrap}
 use Rattle.rtl.specs.Meaning.{Code}
-use Rattle.rtl.specs.declared.limits.TheConstants.{MAX_REGISTERS}
-use Rattle.rtl_emit.specs.Blocks.{open_code, exit_code, goto, first, line_of, Spot, Block, Line, Grows, At, Lands}
-use Rattle.rtl_emit.specs.Emits.{Size, Emits, value_size, condition_size, test_size, values_size, EmitsValue, EmitsOperand, EmitsBranch, EmitsOperands}
+use Rattle.rtl.specs.declared.limits.TheConstants.{MAX_REGISTERS, MAX_BLOCKS}
+use Rattle.rtl_emit.specs.Blocks.{open_code, exit_code, goto, first, line_of, Spot, Line, Grows, At, Lands}
+use Rattle.rtl_emit.specs.Emits.{Size, Emits, value_size, condition_size, test_size, values_size, both_size, logical_of, left_targets}
+use Rattle.rtl_emit.specs.Emits.{EmitsValue, EmitsOperand, EmitsBranch, EmitsOperands, EmitsBoth, EmitsBlock, EmitsValueBlock, EmitsBranchBlock}
 use Rattle.rtl_emit.specs.Expressions.{IsPlace, ArePlaces, IsTruth, Decides, Evaluates, Fetches, Combines}
-use Rattle.rtl_emit.specs.Operations.{ComputesPrefix, ComputesContrary, Computes, inst_of}
+use Rattle.rtl_emit.specs.Operations.{IsPrefix, ComputesContrary, Computes, inst_of}
 use Rattle.rtl_emit.specs.Sizes.{joint, Beyond, by_branches, is_logical, place_registers, next_free, value_registers, value_blocks, globals_named}
-use Rattle.rtl_emit.specs.Sizes.{combined_registers, test_registers, has_contrary, arguments_blocks, values_registers, globals_named_in}
+use Rattle.rtl_emit.specs.Sizes.{condition_registers, condition_blocks, combined_registers, test_registers, has_contrary, arguments_blocks, values_registers, globals_named_in}
 use Rattle.rtl_emit.specs.Sound.{Scope, IsSound, IsSoundSpot, KeepsSound}
 use Rattle.rtl_emit.specs.declared.block.OpenBlock.{OpenBlock}
 use Rattle.rtl_emit.specs.declared.fault.LowerFault.{LowerFault}
+use Rattle.rtl_emit.specs.declared.fault.LowerFault.TheVariants.{Limit}
 use Rattle.rtl_emit.specs.declared.operation.Combination.{Combination}
 use Rattle.rtl_emit.specs.declared.operation.Operation.{Operation}
+use Rattle.rtl_emit.specs.declared.operation.Prefix.TheVariants as P
 use Rattle.rtl_emit.specs.declared.place.Place.{Place}
 use Rattle.rtl_emit.specs.declared.targets.Targets.{Targets}
-use Rattle.rtl_emit.proofs.Blocks.{grows_then, within, split2, split3, split4}
+use Rattle.rtl_emit.specs.declared.waiting.Waiting.{Waiting}
+use Rattle.rtl_emit.specs.declared.waiting.WaitingForTwo.{WaitingForTwo}
+use Rattle.rtl_emit.proofs.Blocks.{grows_then, within, split2, split3}
 use Rattle.rtl_emit.proofs.Conditions.{not_decides, and_decides, or_decides, not_tests, and_tests, or_tests, IsTest, told}
 use Rattle.rtl_emit.proofs.Conditions.{constant_decides, contrary_decides, conditional_decides, conditional_value}
-use Rattle.rtl_emit.proofs.Emitted.{gives_from, finds_to, place_along, unary_is, binary_is, conditional_is, Over}
+use Rattle.rtl_emit.proofs.Emitted.{gives_from, finds_to, unary_is, Over}
 use Rattle.rtl_emit.proofs.Sound.{sound_along, sound_first, sound_exit, sound_line}
 use Rattle.rtl_emit.proofs.Values.{number, local_value, global_value, element_value, prefix_value, identity_value}
 use Rattle.rtl_emit.proofs.Values.{operates, operator_value, fetched}
@@ -73,6 +78,95 @@ ended last whole k old mid new Keeps Keeps' Does Does' (Err f) sizes g n keeps d
   does = tt;
 }
 
+-- nothing was added, and a size is beyond a limit or memory was refused
+pub refused : {A : Type 0} (size : Size) (old new : List RBlock) (Keeps : A → Type 0) (Does : A → List RBlock → Type 0) (f : LowerFault)
+    (r : Result A LowerFault) → r ≡ Err f → new ≡ old → (f ≡ Limit → Beyond size.registers (length old + size.blocks) size.globals)
+    → Emits size old new Keeps Does r
+refused size old new Keeps Does f r is same limit =
+    subst (λ r. Emits size old new Keeps Does r) (sym is) (record {
+      grows = subst (λ new. Grows old new) (sym same) (grows_same old);
+      count = tt;
+      room = tt;
+      limit = limit;
+      sound = tt;
+      does = tt;
+    })
+
+-- a part that comes behind k blocks is refused, and with it the whole
+pub part_refused : {A B : Type 0} (part whole : Size) (k : ℕ) (old mid new : List RBlock) (Keeps : A → Type 0) (Keeps' : B → Type 0)
+    (Does : A → List RBlock → Type 0) (Does' : B → List RBlock → Type 0) (f : LowerFault) (r : Result B LowerFault) → r ≡ Err f
+    → part.registers ≤ whole.registers → k + part.blocks ≤ whole.blocks → part.globals ≤ whole.globals → Grows old mid
+    → length mid ≡ length old + k → Emits part mid new Keeps Does (Err f) → Emits whole old new Keeps' Does' r
+part_refused part whole k old mid new Keeps Keeps' Does Does' f r is lr lb lg g n e =
+    subst (λ r. Emits whole old new Keeps' Does' r) (sym is) (record {
+      grows = grows_then old mid new g e.grows;
+      count = tt;
+      room = tt;
+      limit = λ l. beyond_more part.registers (length mid + part.blocks) part.globals whole.registers (length old + whole.blocks) whole.globals
+          lr (omega (arith, n, lb)) lg (e.limit l);
+      sound = tt;
+      does = tt;
+    })
+
+-- sizes of tests
+
+test_least : (b : Bool) (free p n v : ℕ) → v ≤ test_registers b free p n v
+test_least true free p n v = omega arith
+test_least false free p n v = omega arith
+
+test_both : (b : Bool) (free p n v : ℕ) → test_registers b free p n 0 ≤ MAX_REGISTERS → v ≤ MAX_REGISTERS → test_registers b free p n v ≤ MAX_REGISTERS
+test_both true free p n v lt lv = omega (arith, lt, lv)
+test_both false free p n v lt lv = omega (arith, lt, lv)
+
+test_beyond : (b : Bool) (free p n v blocks globals : ℕ) → MAX_REGISTERS < test_registers b free p n 0
+    → Beyond (test_registers b free p n v) blocks globals
+test_beyond true free p n v blocks globals more = omega (arith, more)
+test_beyond false free p n v blocks globals more = omega (arith, more)
+
+contrary_ends : (likely : Bool) → likely ≡ false → (o : BinaryOp) (k : IntegerType) (l r : TypedExpression) (free next : ℕ) → is_logical o ≡ false
+    → has_contrary o ≡ true → next ≡ next_free l free
+    → max (free + 1) (max (place_registers l free) (place_registers r (next_free l free))) ≤ MAX_REGISTERS
+    → Ends (both_size l r free next) (condition_size (binary o k l r) likely free) 0
+contrary_ends true it o k l r free next plain has is room = absurd (cc)
+contrary_ends false it o k l r free next plain has is room =
+    subst (λ next. Ends (both_size l r free next) (condition_size (binary o k l r) false free) 0) (sym is) (record {
+      blocks = rw plain (omega arith);
+      registers = rw (plain, has) (omega arith);
+      room = λ le. rw (plain, has) (omega (arith, le, room));
+      globals = omega arith;
+    })
+
+contrary_beyond : (likely : Bool) → likely ≡ false → (o : BinaryOp) (k : IntegerType) (l r : TypedExpression) (free b : ℕ) → is_logical o ≡ false
+    → has_contrary o ≡ true → MAX_REGISTERS < max (free + 1) (max (place_registers l free) (place_registers r (next_free l free)))
+    → Beyond (condition_registers (binary o k l r) likely free) b (globals_named (binary o k l r))
+contrary_beyond true it o k l r free b plain has more = absurd (cc)
+contrary_beyond false it o k l r free b plain has more = rw (plain, has) (omega (arith, more))
+
+-- `&&` and `||`, whose two blocks are behind what comes there
+told_size : (both : Bool) (k : IntegerType) (l r : TypedExpression) (free n : ℕ) → value_size (binary (logical_of both) k l r) free n ≡ record {
+  registers = condition_registers (binary (logical_of both) k l r) true free;
+  blocks = n + 2 + condition_blocks (binary (logical_of both) k l r);
+  globals = globals_named (binary (logical_of both) k l r);
+}
+told_size true k l r free n =
+    let s = condition_size (binary B.LogicalAnd k l r) true free in
+    let b : (value_size (binary B.LogicalAnd k l r) free n).blocks ≡ n + 2 + s.blocks = omega arith in
+    ap (λ (b : ℕ). let z : Size = record { registers = s.registers; blocks = b; globals = s.globals } in z) b
+told_size false k l r free n =
+    let s = condition_size (binary B.LogicalOr k l r) true free in
+    let b : (value_size (binary B.LogicalOr k l r) free n).blocks ≡ n + 2 + s.blocks = omega arith in
+    ap (λ (b : ℕ). let z : Size = record { registers = s.registers; blocks = b; globals = s.globals } in z) b
+
+-- an expression that is another one
+
+pub value_along : (old new : List RBlock) (e e' : TypedExpression) (d free : ℕ) (after : Spot) (x : Result OpenBlock LowerFault) → e ≡ e'
+    → EmitsValue e' d free after old new x → EmitsValue e d free after old new x
+value_along old new e e' d free after x is v = subst (λ e. EmitsValue e d free after old new x) (sym is) v
+
+pub branch_along : (old new : List RBlock) (e e' : TypedExpression) (t : Targets) (free : ℕ) (x : Result OpenBlock LowerFault) → e ≡ e'
+    → EmitsBranch (condition_size e' t.likely free) e' t free old new x → EmitsBranch (condition_size e t.likely free) e t free old new x
+branch_along old new e e' t free x is v = subst (λ e. EmitsBranch (condition_size e t.likely free) e t free old new x) (sym is) v
+
 -- values
 
 pub number_emits : (old : List RBlock) (e : TypedExpression) (c : Literal) (d free : ℕ) (from : OpenBlock) (after : Spot) → e ≡ constant c
@@ -99,122 +193,99 @@ local_emits old e x x' k d free from after is ix lt fe =
       does = λ bs h. gives_from fe (local_value bs x' k d free (line_of after));
     })
 
-pub global_emits : (old : List RBlock) (e : TypedExpression) (a : ℕ) (k : IntegerType) (d free : ℕ) (from : OpenBlock) (after : Spot)
-    → e ≡ global a k → free < MAX_REGISTERS
-    → open_code from ≡ first (I.Const free 0) (first (I.Load d a free) (line_of after)) → EmitsValue e d free after old old (Ok from)
-global_emits old e a k d free from after is lt fe = subst (λ e. EmitsValue e d free after old old (Ok from)) (sym is) (record {
+pub global_emits : (old : List RBlock) (a a' : ℕ) (k : IntegerType) (d free z : ℕ) (load from : OpenBlock) (after : Spot)
+    → a' ≡ a → z ≡ free → z < MAX_REGISTERS → open_code load ≡ first (I.Load d a' z) (line_of after)
+    → open_code from ≡ first (I.Const z 0) (open_code load) → EmitsValue (global a k) d free after old old (Ok from)
+global_emits old a a' k d free z load from after ia iz lt fl fe = record {
   grows = grows_same old;
   count = omega arith;
-  room = omega (arith, lt);
+  room = omega (arith, iz, lt);
   limit = tt;
   sound = λ s n g h.
-      let there : a < s.globals = omega (arith, h.1.0) in
-      (g, sound_first _ fe lt (sound_first _ refl (h.0, (there, lt)) (sound_line _ h.1.1)));
-  does = λ bs h. gives_from fe (global_value bs a k d free free (line_of after) (omega arith));
-})
+      let there : a' < s.globals = omega (arith, ia, h.1.0) in
+      (g, sound_first _ fe lt (sound_first _ fl (h.0, (there, lt)) (sound_line _ h.1.1)));
+  does = λ bs h.
+      subst (λ a. Evaluates bs (global a k) free d (open_code from) (line_of after)) ia (gives_from (fe ∙ ap (first (I.Const z 0)) fl)
+      (global_value bs a' k d z free (line_of after) (omega (arith, iz))));
+}
 
-pub element_emits : (old new : List RBlock) (e : TypedExpression) (a : ℕ) (k : IntegerType) (i i' i1 : TypedExpression) (d free p next : ℕ)
-    (load : OpenBlock) (after : Spot) (r : Result OpenBlock LowerFault) → e ≡ element a k i → i' ≡ i → i1 ≡ i → IsPlace i1 free p next
-    → open_code load ≡ first (I.Load d a p) (line_of after) → place_registers i1 free ≤ MAX_REGISTERS
-    → EmitsOperand i' p free load old new r → EmitsValue e d free after old new r
-element_emits old new e a k i i' i1 d free p next load after r is ii i1e pl1 fe room1 o =
-    let pl = place_along (ii ∙ sym i1e) pl1 in
-    let room = subst (λ i. place_registers i free ≤ MAX_REGISTERS) (i1e ∙ sym ii) room1 in
-    subst (λ e. EmitsValue e d free after old new r) (sym (is ∙ ap (element a k) (sym ii)))
-    (ended (value_size i' free 1) (value_size (element a k i') free 0) 0 old old new _ _ _ _ r
+pub element_emits : (old new : List RBlock) (a : ℕ) (k : IntegerType) (i : TypedExpression) (d free : ℕ) (after : Spot) (w : Result Waiting LowerFault)
+    (r : Result OpenBlock LowerFault) → IfOk w (λ w. IsPlace i free w.place.register w.place.free)
+    → IfOk w (λ w. open_code w.code ≡ first (I.Load d a w.place.register) (line_of after)) → OnOk w (place_registers i free ≤ MAX_REGISTERS)
+    → IfErr w (λ f. f ≡ Limit → Beyond (place_registers i free) 0 (a + 1)) → IfOk w (λ w. EmitsOperand i w.place.register free w.code old new r)
+    → IfErr w (λ f. (r ≡ Err f) × (new ≡ old)) → EmitsValue (element a k i) d free after old new r
+element_emits old new a k i d free after (Ok w) r pl fe room limit o err =
+    ended (value_size i free 1) (value_size (element a k i) free 0) 0 old old new _ _ _ _ r
     (record { blocks = omega arith; registers = omega arith; room = λ le. omega (arith, le, room); globals = omega arith })
     (grows_same old) (omega arith)
     (λ from keeps s n g h.
     let there : a < s.globals = omega (arith, h.1.0) in
-    let named : globals_named i' ≤ s.globals = omega (arith, h.1.0) in
+    let named : globals_named i ≤ s.globals = omega (arith, h.1.0) in
     keeps s n g (named, sound_first _ fe (h.0, (there, pl.within)) (sound_line _ h.1.1)))
-    (λ from does bs h. element_value bs a k i' d free p next (open_code from) (line_of after) pl (finds_to fe (does bs h))) o)
+    (λ from does bs h. element_value bs a k i d free w.place.register w.place.free (open_code from) (line_of after) pl (finds_to fe (does bs h))) o
+element_emits old new a k i d free after (Err f) r pl fe room limit o err =
+    refused (value_size (element a k i) free (joint after)) old new _ _ f r err.0 err.1
+    (λ is. beyond_more (place_registers i free) 0 (a + 1) (value_size (element a k i) free (joint after)).registers _
+    (value_size (element a k i) free (joint after)).globals (omega arith) (omega arith) (omega arith) (limit is))
 
 -- a prefix operator that is computed by one operation
+abbrev combined_size : TypedExpression → (free : ℕ) → Size
+combined_size a free = record {
+  registers = combined_registers (place_registers a free) (next_free a free) (value_registers a free);
+  blocks = value_blocks a 1;
+  globals = globals_named a;
+}
+
 prefix_size : (o : UnaryOp) (k : IntegerType) (a : TypedExpression) (free n : ℕ) → o ≢ U.Identity
-    → (o ≡ U.Not → by_branches a ≡ false) → value_size (unary o k a) free n ≡ record {
-      registers = combined_registers (place_registers a free) (next_free a free) (value_registers a free);
-      blocks = value_blocks a 1;
-      globals = globals_named a;
-    }
+    → (o ≡ U.Not → by_branches a ≡ false) → value_size (unary o k a) free n ≡ combined_size a free
 prefix_size U.Identity k a free n ne plain = absurd (ne refl)
 prefix_size U.Negate k a free n ne plain = refl
 prefix_size U.Complement k a free n ne plain = refl
 prefix_size U.Not k a free n ne plain = rw (plain refl)
 
-pub prefix_emits : (old new : List RBlock) (e : TypedExpression) (o : UnaryOp) (with : Combination) (k : IntegerType) (a a' a1 a2 : TypedExpression)
-    (b : Bool) (d free p : ℕ) (code opened : OpenBlock) (after : Spot) (x : Result OpenBlock LowerFault) → e ≡ unary o k a → a' ≡ a → a1 ≡ a → a2 ≡ a
-    → o ≢ U.Identity → (o ≡ U.Not → b ≡ false) → b ≡ by_branches a2 → ComputesPrefix o with
-    → open_code opened ≡ line_of after
-    → max (place_registers a1 free) (next_free a1 free + 1) ≤ MAX_REGISTERS
-    → ((bs : List RBlock) (from : Code) → Fetches bs a1 free p from (open_code code)
-    → Combines bs with.operation a1 with.word free d from (open_code opened))
-    → ((s : Scope) → d < MAX_REGISTERS → IsSound s (open_code opened) → IsSound s (open_code code))
-    → EmitsOperand a' p free code old new x → EmitsValue e d free after old new x
-prefix_emits old new e o with k a a' a1 a2 b d free p code opened after x is ia i1 i2 ne plain ib prefix fe room1 does1 sound v =
-    let e1 : a1 ≡ a' = i1 ∙ sym ia in
-    let room = subst (λ a. max (place_registers a free) (next_free a free + 1) ≤ MAX_REGISTERS) e1 room1 in
-    let does = subst (λ a. (bs : List RBlock) (from : Code) → Fetches bs a free p from (open_code code)
-    → Combines bs with.operation a with.word free d from (open_code opened)) e1 does1 in
-    let plain' : o ≡ U.Not → by_branches a' ≡ false = λ io. ap by_branches (ia ∙ sym i2) ∙ sym ib ∙ plain io in
-    subst (λ e. EmitsValue e d free after old new x) (sym (is ∙ ap (unary o k) (sym ia)))
-    (subst (λ size. Emits size old new (λ from. KeepsSound old new (λ s. (d < MAX_REGISTERS)
-    × ((globals_named a' ≤ s.globals) × IsSoundSpot s after)) (λ s. IsSound s (open_code from)))
-    (λ from bs. Evaluates bs (unary o k a') free d (open_code from) (line_of after)) x) (sym (prefix_size o k a' free (joint after) ne plain'))
-    (ended (value_size a' free 1) (record {
-      registers = combined_registers (place_registers a' free) (next_free a' free) (value_registers a' free);
-      blocks = value_blocks a' 1;
-      globals = globals_named a';
-    }) 0 old old new _ _ _ _ x
-    (record { blocks = omega arith; registers = omega arith; room = λ le. omega (arith, le, room); globals = omega arith })
-    (grows_same old) (omega arith)
-    (λ from keeps s n g h. keeps s n g (h.1.0, sound s h.0 (sound_along fe (sound_line _ h.1.1))))
-    (λ from made bs h. prefix_value bs o k with a' d free (open_code from) (line_of after) prefix
-    (subst (λ c. Combines bs with.operation a' with.word free d (open_code from) c) fe (does bs (open_code from) (made bs h)))) v))
+pub prefix_emits : (old new : List RBlock) (o : UnaryOp) (with : Combination) (k : IntegerType) (a : TypedExpression)
+    (b : Bool) (d free : ℕ) (opened : OpenBlock) (after : Spot) (w : Result Waiting LowerFault) (x : Result OpenBlock LowerFault)
+    → IsPrefix o b (P.Combined with) → b ≡ by_branches a → open_code opened ≡ line_of after
+    → OnOk w (max (place_registers a free) (next_free a free + 1) ≤ MAX_REGISTERS)
+    → IfOk w (λ w. (bs : List RBlock) (from : Code) → Fetches bs a free w.place.register from (open_code w.code)
+    → Combines bs with.operation a with.word free d from (open_code opened))
+    → IfOk w (λ w. (s : Scope) → d < MAX_REGISTERS → IsSound s (open_code opened) → IsSound s (open_code w.code))
+    → IfErr w (λ f. f ≡ Limit → MAX_REGISTERS < max (place_registers a free) (next_free a free + 1))
+    → IfOk w (λ w. EmitsOperand a w.place.register free w.code old new x) → IfErr w (λ f. (x ≡ Err f) × (new ≡ old))
+    → EmitsValue (unary o k a) d free after old new x
+prefix_emits old new o with k a b d free opened after w x prefix ib fe room does sound limit v err =
+    subst (λ size. Emits size old new (λ from. KeepsSound old new (λ s. (d < MAX_REGISTERS)
+    × ((globals_named a ≤ s.globals) × IsSoundSpot s after)) (λ s. IsSound s (open_code from)))
+    (λ from bs. Evaluates bs (unary o k a) free d (open_code from) (line_of after)) x)
+    (sym (prefix_size o k a free (joint after) prefix.0 (λ io. sym ib ∙ prefix.1.0 io))) (sized w room does sound limit v err)
+  where
+    sized : (w : Result Waiting LowerFault) → OnOk w (max (place_registers a free) (next_free a free + 1) ≤ MAX_REGISTERS)
+        → IfOk w (λ w. (bs : List RBlock) (from : Code) → Fetches bs a free w.place.register from (open_code w.code)
+        → Combines bs with.operation a with.word free d from (open_code opened))
+        → IfOk w (λ w. (s : Scope) → d < MAX_REGISTERS → IsSound s (open_code opened) → IsSound s (open_code w.code))
+        → IfErr w (λ f. f ≡ Limit → MAX_REGISTERS < max (place_registers a free) (next_free a free + 1))
+        → IfOk w (λ w. EmitsOperand a w.place.register free w.code old new x) → IfErr w (λ f. (x ≡ Err f) × (new ≡ old))
+        → Emits (combined_size a free) old new (λ from. KeepsSound old new (λ s. (d < MAX_REGISTERS)
+        × ((globals_named a ≤ s.globals) × IsSoundSpot s after)) (λ s. IsSound s (open_code from)))
+        (λ from bs. Evaluates bs (unary o k a) free d (open_code from) (line_of after)) x
+    sized (Ok w) room does sound limit v err =
+        ended (value_size a free 1) (combined_size a free) 0 old old new _ _ _ _ x
+        (record { blocks = omega arith; registers = omega arith; room = λ le. omega (arith, le, room); globals = omega arith })
+        (grows_same old) (omega arith)
+        (λ from keeps s n g h. keeps s n g (h.1.0, sound s h.0 (sound_along fe (sound_line _ h.1.1))))
+        (λ from made bs h. prefix_value bs o k with a d free (open_code from) (line_of after) prefix.1.1
+        (subst (λ c. Combines bs with.operation a with.word free d (open_code from) c) fe (does bs (open_code from) (made bs h)))) v
+    sized (Err f) room does sound limit v err =
+        refused (combined_size a free) old new _ _ f x err.0 err.1 (λ is. let more = limit is in omega (arith, more))
 
-pub identity_emits : (old new : List RBlock) (e : TypedExpression) (o : UnaryOp) (k : IntegerType) (a a' : TypedExpression) (d free : ℕ) (after : Spot)
-    (x : Result OpenBlock LowerFault) → e ≡ unary o k a → a' ≡ a → o ≡ U.Identity → EmitsValue a' d free after old new x
-    → EmitsValue e d free after old new x
-identity_emits old new e o k a a' d free after x is ia io v =
-    subst (λ e. EmitsValue e d free after old new x) (sym (unary_is o U.Identity k a a' is io ia))
-    (ended (value_size a' free (joint after)) (value_size (unary U.Identity k a') free (joint after)) 0 old old new _ _ _ _ x
+pub identity_emits : (old new : List RBlock) (o : UnaryOp) (k : IntegerType) (a : TypedExpression) (d free : ℕ) (after : Spot)
+    (x : Result OpenBlock LowerFault) → o ≡ U.Identity → EmitsValue a d free after old new x → EmitsValue (unary o k a) d free after old new x
+identity_emits old new o k a d free after x io v =
+    subst (λ o. EmitsValue (unary o k a) d free after old new x) (sym io)
+    (ended (value_size a free (joint after)) (value_size (unary U.Identity k a) free (joint after)) 0 old old new _ _ _ _ x
     (record { blocks = omega arith; registers = omega arith; room = λ le. le; globals = omega arith })
     (grows_same old) (omega arith) (λ from keeps. keeps)
-    (λ from does bs h. identity_value bs k a' d free (open_code from) (line_of after) (does bs h)) v)
-
-pub not_emits : (old mid new : List RBlock) (e : TypedExpression) (o : UnaryOp) (k : IntegerType) (a a' a2 : TypedExpression) (b : Bool)
-    (d free y n : ℕ) (t : Targets) (after : Spot) (r : Result OpenBlock LowerFault) → e ≡ unary o k a → o ≡ U.Not → a' ≡ a → a2 ≡ a
-    → b ≡ by_branches a2 → b ≡ true → t ≡ record { yes = n; no = y; likely = true } → Grows old mid → length mid ≡ length old + (joint after + 2)
-    → KeepsSound old mid (λ s. (d < MAX_REGISTERS) × IsSoundSpot s after) (λ s. (y < s.blocks) × (n < s.blocks))
-    → Over old mid (λ bs. IsTruth bs d y n after)
-    → EmitsBranch (condition_size a' t.likely free) a' t free mid new r → EmitsValue e d free after old new r
-not_emits old mid new e o k a a' a2 b d free y n t after r is io ia i2 ib itb it g count sound truth last =
-    let by : by_branches a' ≡ true = ap by_branches (ia ∙ sym i2) ∙ sym ib ∙ itb in
-    let last' = subst (λ t. EmitsBranch (condition_size a' t.likely free) a' t free mid new r) it last in
-    subst (λ e. EmitsValue e d free after old new r) (sym (unary_is o U.Not k a a' is io ia))
-    (ended (condition_size a' true free) (value_size (unary U.Not k a') free (joint after)) (joint after + 2) old mid new _ _ _ _ r
-    (record {
-      blocks = rw by refl;
-      registers = rw by (omega arith);
-      room = rw by (λ le. le);
-      globals = omega arith;
-    })
-    g count
-    (λ from keeps s l gs h.
-    let m = sound s (within last'.grows l) gs (h.0, h.1.1) in
-    keeps s l m.0 (h.1.0, (m.1.1, m.1.0)))
-    (λ from does bs h.
-    let t = split2 bs old mid new g last'.grows h in
-    told bs (unary U.Not k a') d y n free (open_code from) after (not_tests k a') (truth bs t.0)
-    (not_decides bs k a' y n free (open_code from) (does bs t.1))) last')
-
--- the right operand of `&&` and `||` as a block of its own
-pub record Second (b0 b1 b2 : List RBlock) (e : TypedExpression) (t : Targets) (free : ℕ) (code : OpenBlock) (block : ℕ) : Type 0 where
-  pub emits : EmitsBranch (condition_size e t.likely free) e t free b0 b1 (Ok code)
-  pub grows : Grows b1 b2
-  pub count : length b2 ≡ length b1 + 1
-  pub sound : KeepsSound b1 b2 (λ s. IsSound s (open_code code)) (λ s. block < s.blocks)
-  pub at : Over b1 b2 (λ bs. At bs block (open_code code))
+    (λ from does bs h. identity_value bs k a d free (open_code from) (line_of after) (does bs h)) v)
 
 -- the two blocks of a truth value
 pub record Truth (old new : List RBlock) (d : ℕ) (t : Targets) (after : Spot) : Type 0 where
@@ -224,52 +295,76 @@ pub record Truth (old new : List RBlock) (d : ℕ) (t : Targets) (after : Spot) 
   pub likely : t.likely ≡ true
   pub truth : Over old new (λ bs. IsTruth bs d t.yes t.no after)
 
--- the branches of `&&` and `||`
-pub and_branches : (b0 b1 b2 new : List RBlock) (k : IntegerType) (l r : TypedExpression) (t : Targets) (free block : ℕ) (code : OpenBlock)
-    (x : Result OpenBlock LowerFault) → Second b0 b1 b2 r t free code block
-    → EmitsBranch (condition_size l t.likely free) l (record { yes = block; no = t.no; likely = t.likely }) free b2 new x
-    → EmitsBranch (condition_size (binary B.LogicalAnd k l r) t.likely free) (binary B.LogicalAnd k l r) t free b0 new x
-and_branches b0 b1 b2 new k l r t free block code x two last =
-    let e = two.emits in
-    let c1 : length b1 ≡ length b0 + (condition_size r t.likely free).blocks = e.count in
-    let room : (condition_size r t.likely free).registers ≤ MAX_REGISTERS = e.room in
-    ended (condition_size l t.likely free) (condition_size (binary B.LogicalAnd k l r) t.likely free) ((condition_size r t.likely free).blocks + 1) b0 b2 new
+pub not_emits : (old mid new : List RBlock) (o : UnaryOp) (k : IntegerType) (a : TypedExpression) (b : Bool) (d free : ℕ) (tr t : Targets) (after : Spot)
+    (r : Result OpenBlock LowerFault) → IsPrefix o b P.Branches → b ≡ by_branches a → t ≡ record { yes = tr.no; no = tr.yes; likely = true }
+    → Truth old mid d tr after → EmitsBranch (condition_size a t.likely free) a t free mid new r → EmitsValue (unary o k a) d free after old new r
+not_emits old mid new o k a b d free tr t after r prefix ib it truth last =
+    let by : by_branches a ≡ true = sym ib ∙ prefix.1 in
+    let last' = subst (λ t. EmitsBranch (condition_size a t.likely free) a t free mid new r) it last in
+    subst (λ o. EmitsValue (unary o k a) d free after old new r) (sym prefix.0)
+    (ended (condition_size a true free) (value_size (unary U.Not k a) free (joint after)) (joint after + 2) old mid new _ _ _ _ r
+    (record { blocks = rw by refl; registers = rw by (omega arith); room = rw by (λ le. le); globals = omega arith })
+    truth.grows truth.count
+    (λ from keeps s l gs h.
+    let m = truth.sound s (within last'.grows l) gs (h.0, h.1.1) in
+    keeps s l m.0 (h.1.0, (m.1.1, m.1.0)))
+    (λ from does bs h.
+    let p = split2 bs old mid new truth.grows last'.grows h in
+    told bs (unary U.Not k a) d tr.yes tr.no free (open_code from) after (not_tests k a) (truth.truth bs p.0)
+    (not_decides bs k a tr.yes tr.no free (open_code from) (does bs p.1))) last')
+
+-- the branches of `&&` and `||`, the right operand of which is a block of its own
+pub logical_branches : (both : Bool) (b0 b1 new : List RBlock) (k : IntegerType) (l r : TypedExpression) (t t' : Targets) (free block : ℕ)
+    (x : Result OpenBlock LowerFault) → t' ≡ left_targets both t block → EmitsBranchBlock r t free b0 b1 (Ok block)
+    → EmitsBranch (condition_size l t'.likely free) l t' free b1 new x
+    → EmitsBranch (condition_size (binary (logical_of both) k l r) t.likely free) (binary (logical_of both) k l r) t free b0 new x
+logical_branches true b0 b1 new k l r t t' free block x it second last' =
+    let last = subst (λ t. EmitsBranch (condition_size l t.likely free) l t free b1 new x) it last' in
+    let c1 : length b1 ≡ length b0 + ((condition_size r t.likely free).blocks + 1) = second.count in
+    let room : (condition_size r t.likely free).registers ≤ MAX_REGISTERS = second.room in
+    ended (condition_size l t.likely free) (condition_size (binary B.LogicalAnd k l r) t.likely free) ((condition_size r t.likely free).blocks + 1) b0 b1 new
     _ _ _ _ x
     (record { blocks = omega arith; registers = omega arith; room = λ le. omega (arith, le, room); globals = omega arith })
-    (grows_then b0 b1 b2 e.grows two.grows) (omega (arith, c1, two.count))
+    second.grows c1
     (λ from keeps s n g h.
     let right : globals_named r ≤ s.globals = omega (arith, h.0) in
     let left : globals_named l ≤ s.globals = omega (arith, h.0) in
-    let n2 = within last.grows n in
-    let a = e.sound s (within two.grows n2) g (right, h.1) in
-    let b = two.sound s n2 a.0 a.1 in
+    let b = second.sound s (within last.grows n) g (right, h.1) in
     keeps s n b.0 (left, (b.1, h.1.1)))
     (λ from does bs h.
-    let p = split3 bs b0 b1 b2 new e.grows two.grows last.grows h in
-    and_decides bs k l r t.yes t.no block free (open_code from) (open_code code) (does bs p.2) (two.at bs p.1) (e.does bs p.0)) last
-
-pub or_branches : (b0 b1 b2 new : List RBlock) (k : IntegerType) (l r : TypedExpression) (t : Targets) (free block : ℕ) (code : OpenBlock)
-    (x : Result OpenBlock LowerFault) → Second b0 b1 b2 r t free code block
-    → EmitsBranch (condition_size l t.likely free) l (record { yes = t.yes; no = block; likely = t.likely }) free b2 new x
-    → EmitsBranch (condition_size (binary B.LogicalOr k l r) t.likely free) (binary B.LogicalOr k l r) t free b0 new x
-or_branches b0 b1 b2 new k l r t free block code x two last =
-    let e = two.emits in
-    let c1 : length b1 ≡ length b0 + (condition_size r t.likely free).blocks = e.count in
-    let room : (condition_size r t.likely free).registers ≤ MAX_REGISTERS = e.room in
-    ended (condition_size l t.likely free) (condition_size (binary B.LogicalOr k l r) t.likely free) ((condition_size r t.likely free).blocks + 1) b0 b2 new
+    let p = split2 bs b0 b1 new second.grows last.grows h in
+    let d = second.does bs p.0 in
+    and_decides bs k l r t.yes t.no block free (open_code from) d.0 (does bs p.1) d.1 d.2) last
+logical_branches false b0 b1 new k l r t t' free block x it second last' =
+    let last = subst (λ t. EmitsBranch (condition_size l t.likely free) l t free b1 new x) it last' in
+    let c1 : length b1 ≡ length b0 + ((condition_size r t.likely free).blocks + 1) = second.count in
+    let room : (condition_size r t.likely free).registers ≤ MAX_REGISTERS = second.room in
+    ended (condition_size l t.likely free) (condition_size (binary B.LogicalOr k l r) t.likely free) ((condition_size r t.likely free).blocks + 1) b0 b1 new
     _ _ _ _ x
     (record { blocks = omega arith; registers = omega arith; room = λ le. omega (arith, le, room); globals = omega arith })
-    (grows_then b0 b1 b2 e.grows two.grows) (omega (arith, c1, two.count))
+    second.grows c1
     (λ from keeps s n g h.
     let right : globals_named r ≤ s.globals = omega (arith, h.0) in
     let left : globals_named l ≤ s.globals = omega (arith, h.0) in
-    let n2 = within last.grows n in
-    let a = e.sound s (within two.grows n2) g (right, h.1) in
-    let b = two.sound s n2 a.0 a.1 in
+    let b = second.sound s (within last.grows n) g (right, h.1) in
     keeps s n b.0 (left, (h.1.0, b.1)))
     (λ from does bs h.
-    let p = split3 bs b0 b1 b2 new e.grows two.grows last.grows h in
-    or_decides bs k l r t.yes t.no block free (open_code from) (open_code code) (does bs p.2) (two.at bs p.1) (e.does bs p.0)) last
+    let p = split2 bs b0 b1 new second.grows last.grows h in
+    let d = second.does bs p.0 in
+    or_decides bs k l r t.yes t.no block free (open_code from) d.0 (does bs p.1) d.1 d.2) last
+
+-- the block of its right operand is refused
+pub logical_stops : (both : Bool) (old new : List RBlock) (k : IntegerType) (l r : TypedExpression) (t : Targets) (free : ℕ) (f : LowerFault)
+    (x : Result OpenBlock LowerFault) → x ≡ Err f → EmitsBranchBlock r t free old new (Err f)
+    → EmitsBranch (condition_size (binary (logical_of both) k l r) t.likely free) (binary (logical_of both) k l r) t free old new x
+logical_stops true old new k l r t free f x is e =
+    part_refused (record { registers = condition_registers r t.likely free; blocks = condition_blocks r + 1; globals = globals_named r })
+    (condition_size (binary B.LogicalAnd k l r) t.likely free) 0 old old new _ _ _ _ f x is (omega arith) (omega arith) (omega arith) (grows_same old)
+    (omega arith) e
+logical_stops false old new k l r t free f x is e =
+    part_refused (record { registers = condition_registers r t.likely free; blocks = condition_blocks r + 1; globals = globals_named r })
+    (condition_size (binary B.LogicalOr k l r) t.likely free) 0 old old new _ _ _ _ f x is (omega arith) (omega arith) (omega arith) (grows_same old)
+    (omega arith) e
 
 -- a value that branches tell
 told_value : (old b0 new : List RBlock) (e : TypedExpression) (t : Targets) (d free : ℕ) (after : Spot) (x : Result OpenBlock LowerFault)
@@ -295,203 +390,272 @@ told_value old b0 new e t d free after x tr tests size last =
     let p = split2 bs old b0 new tr.grows last.grows h in
     told bs e d t.yes t.no free (open_code from) after tests (tr.truth bs p.0) (does bs p.1)) last'
 
-pub and_emits : (old b0 b1 b2 new : List RBlock) (e : TypedExpression) (o : BinaryOp) (k : IntegerType) (l r l' r' : TypedExpression) (t t' : Targets)
-    (d free block : ℕ) (code : OpenBlock) (after : Spot) (x : Result OpenBlock LowerFault) → e ≡ binary o k l r → o ≡ B.LogicalAnd → l' ≡ l → r' ≡ r
-    → t' ≡ record { yes = block; no = t.no; likely = t.likely } → Truth old b0 d t after → Second b0 b1 b2 r' t free code block
-    → EmitsBranch (condition_size l' t'.likely free) l' t' free b2 new x → EmitsValue e d free after old new x
-and_emits old b0 b1 b2 new e o k l r l' r' t t' d free block code after x is io il ir it tr two last =
-    subst (λ e. EmitsValue e d free after old new x) (sym (binary_is o B.LogicalAnd k l r l' r' is io il ir))
-    (told_value old b0 new (binary B.LogicalAnd k l' r') t d free after x tr (and_tests k l' r') (and_size k l' r' free (joint after))
-    (and_branches b0 b1 b2 new k l' r' t free block code x two
-    (subst (λ t. EmitsBranch (condition_size l' t.likely free) l' t free b2 new x) it last)))
-  where
-    and_size : (k : IntegerType) (l r : TypedExpression) (free n : ℕ) → value_size (binary B.LogicalAnd k l r) free n ≡ record {
-      registers = (condition_size (binary B.LogicalAnd k l r) true free).registers;
-      blocks = n + 2 + (condition_size (binary B.LogicalAnd k l r) true free).blocks;
-      globals = globals_named (binary B.LogicalAnd k l r);
-    }
-    and_size k l r free n =
-        let s = condition_size (binary B.LogicalAnd k l r) true free in
-        let b : (value_size (binary B.LogicalAnd k l r) free n).blocks ≡ n + 2 + s.blocks = omega arith in
-        ap (λ (b : ℕ). let z : Size = record { registers = s.registers; blocks = b; globals = s.globals } in z) b
+-- the two blocks of a truth value are refused
+pub truth_stops : (old new : List RBlock) (e : TypedExpression) (d free : ℕ) (after : Spot) (f : LowerFault) (x : Result OpenBlock LowerFault)
+    → x ≡ Err f → Grows old new → joint after + 2 ≤ value_blocks e (joint after)
+    → (f ≡ Limit → MAX_BLOCKS < length old + (joint after + 2)) → EmitsValue e d free after old new x
+truth_stops old new e d free after f x is g more limit =
+    subst (λ r. EmitsValue e d free after old new r) (sym is) (record {
+      grows = g;
+      count = tt;
+      room = tt;
+      limit = λ l. let beyond = limit l in omega (arith, more, beyond);
+      sound = tt;
+      does = tt;
+    })
 
-pub or_emits : (old b0 b1 b2 new : List RBlock) (e : TypedExpression) (o : BinaryOp) (k : IntegerType) (l r l' r' : TypedExpression) (t t' : Targets)
-    (d free block : ℕ) (code : OpenBlock) (after : Spot) (x : Result OpenBlock LowerFault) → e ≡ binary o k l r → o ≡ B.LogicalOr → l' ≡ l → r' ≡ r
-    → t' ≡ record { yes = t.yes; no = block; likely = t.likely } → Truth old b0 d t after → Second b0 b1 b2 r' t free code block
-    → EmitsBranch (condition_size l' t'.likely free) l' t' free b2 new x → EmitsValue e d free after old new x
-or_emits old b0 b1 b2 new e o k l r l' r' t t' d free block code after x is io il ir it tr two last =
-    subst (λ e. EmitsValue e d free after old new x) (sym (binary_is o B.LogicalOr k l r l' r' is io il ir))
-    (told_value old b0 new (binary B.LogicalOr k l' r') t d free after x tr (or_tests k l' r') (or_size k l' r' free (joint after))
-    (or_branches b0 b1 b2 new k l' r' t free block code x two
-    (subst (λ t. EmitsBranch (condition_size l' t.likely free) l' t free b2 new x) it last)))
-  where
-    or_size : (k : IntegerType) (l r : TypedExpression) (free n : ℕ) → value_size (binary B.LogicalOr k l r) free n ≡ record {
-      registers = (condition_size (binary B.LogicalOr k l r) true free).registers;
-      blocks = n + 2 + (condition_size (binary B.LogicalOr k l r) true free).blocks;
-      globals = globals_named (binary B.LogicalOr k l r);
-    }
-    or_size k l r free n =
-        let s = condition_size (binary B.LogicalOr k l r) true free in
-        let b : (value_size (binary B.LogicalOr k l r) free n).blocks ≡ n + 2 + s.blocks = omega arith in
-        ap (λ (b : ℕ). let z : Size = record { registers = s.registers; blocks = b; globals = s.globals } in z) b
+pub told_emits : (both : Bool) (old b0 new : List RBlock) (k : IntegerType) (l r : TypedExpression) (t : Targets) (d free : ℕ) (after : Spot)
+    (x : Result OpenBlock LowerFault) → Truth old b0 d t after
+    → EmitsBranch (condition_size (binary (logical_of both) k l r) t.likely free) (binary (logical_of both) k l r) t free b0 new x
+    → EmitsValue (binary (logical_of both) k l r) d free after old new x
+told_emits true old b0 new k l r t d free after x tr last =
+    told_value old b0 new (binary B.LogicalAnd k l r) t d free after x tr (and_tests k l r) (told_size true k l r free (joint after)) last
+told_emits false old b0 new k l r t d free after x tr last =
+    told_value old b0 new (binary B.LogicalOr k l r) t d free after x tr (or_tests k l r) (told_size false k l r free (joint after)) last
 
--- the places of two operands, what waits for both, and the code of the second
-pub record Operands (old mid : List RBlock) (l r : TypedExpression) (free p next q last : ℕ) (waiting middle : OpenBlock) : Type 0 where
-  pub first : IsPlace l free p next
-  pub second : IsPlace r next q last
-  pub room : max (place_registers l free) (place_registers r (next_free l free)) ≤ MAX_REGISTERS
-  pub emits : EmitsOperand r q next waiting old mid (Ok middle)
-
-pub two_operands : (old mid : List RBlock) (l r l' r' l1 r1 : TypedExpression) (free p next q last : ℕ) (waiting middle : OpenBlock)
-    → l' ≡ l → r' ≡ r → l1 ≡ l → r1 ≡ r → IsPlace l1 free p next → IsPlace r1 next q last
-    → max (place_registers l1 free) (place_registers r1 (next_free l1 free)) ≤ MAX_REGISTERS
-    → EmitsOperand r' q next waiting old mid (Ok middle) → Operands old mid l' r' free p next q last waiting middle
-two_operands old mid l r l' r' l1 r1 free p next q last waiting middle il ir il1 ir1 pl pr room e = record {
-  first = place_along (il ∙ sym il1) pl;
-  second = place_along (ir ∙ sym ir1) pr;
-  room = subst (λ l. max (place_registers l free) (place_registers r' (next_free l free)) ≤ MAX_REGISTERS) (il1 ∙ sym il)
-      (subst (λ r. max (place_registers l1 free) (place_registers r (next_free l1 free)) ≤ MAX_REGISTERS) (ir1 ∙ sym ir) room);
-  emits = e;
-}
-
-pub operator_emits : (old mid new : List RBlock) (e : TypedExpression) (o : BinaryOp) (k : IntegerType) (op : Operation) (l r l' r' : TypedExpression)
-    (d free p next q last : ℕ) (code waiting middle : OpenBlock) (after : Spot) (x : Result OpenBlock LowerFault)
-    → e ≡ binary o k l r → Computes o (sign_of k) op → is_logical o ≡ false → l' ≡ l → r' ≡ r → open_code code ≡ line_of after
-    → open_code waiting ≡ first (inst_of op d p q) (open_code code)
-    → ((s : Scope) → d < MAX_REGISTERS → IsSound s (open_code code) → IsSound s (open_code waiting))
-    → Operands old mid l' r' free p next q last waiting middle → EmitsOperand l' p free middle mid new x → EmitsValue e d free after old new x
-operator_emits old mid new e o k op l r l' r' d free p next q last code waiting middle after x is computes plain il ir fe fw sound two left =
-    let e2 = two.emits in
-    let c1 : length mid ≡ length old + value_blocks r' 1 = e2.count in
-    let room : value_registers r' next ≤ MAX_REGISTERS = e2.room in
-    let next_is : next ≡ next_free l' free = two.first.next_is in
-    subst (λ e. EmitsValue e d free after old new x) (sym (binary_is o o k l r l' r' is refl il ir))
-    (ended (value_size l' free 1) (value_size (binary o k l' r') free (joint after)) (value_blocks r' 1) old mid new _ _ _ _ x
-    (operator_ends o k l' r' free next (joint after) plain next_is two.room room) e2.grows c1
+-- two operands
+pub both_emits : (old mid new : List RBlock) (l r : TypedExpression) (free p next q : ℕ) (waiting middle : OpenBlock) (x : Result OpenBlock LowerFault)
+    → EmitsOperand r q next waiting old mid (Ok middle) → EmitsOperand l p free middle mid new x → EmitsBoth l r free p next q waiting old new x
+both_emits old mid new l r free p next q waiting middle x second left =
+    let c1 : length mid ≡ length old + value_blocks r 1 = second.count in
+    let room : value_registers r next ≤ MAX_REGISTERS = second.room in
+    ended (value_size l free 1) (both_size l r free next) (value_blocks r 1) old mid new _ _ _ _ x
+    (record { blocks = omega arith; registers = omega arith; room = λ le. omega (arith, le, room); globals = omega arith }) second.grows c1
     (λ from keeps s n g h.
-    let right : globals_named r' ≤ s.globals = omega (arith, h.1.0) in
-    let named : globals_named l' ≤ s.globals = omega (arith, h.1.0) in
-    let m = e2.sound s (within left.grows n) g (right, sound s h.0 (sound_along fe (sound_line _ h.1.1))) in
+    let right : globals_named r ≤ s.globals = omega (arith, h.0) in
+    let named : globals_named l ≤ s.globals = omega (arith, h.0) in
+    let m = second.sound s (within left.grows n) g (right, h.1) in
     keeps s n m.0 (named, m.1))
     (λ from does bs h.
-    let parts = split2 bs old mid new e2.grows left.grows h in
-    operator_value bs o k op l' r' d free (open_code from) (line_of after) computes
-    (operates bs op l' r' d free p next q last (open_code from) (open_code middle) (line_of after) two.first two.second (does bs parts.1)
-    (finds_to (fw ∙ ap (first (inst_of op d p q)) fe) (e2.does bs parts.0)))) left)
-  where
-    operator_ends : (o : BinaryOp) (k : IntegerType) (l r : TypedExpression) (free next n : ℕ) → is_logical o ≡ false → next ≡ next_free l free
-        → max (place_registers l free) (place_registers r (next_free l free)) ≤ MAX_REGISTERS → value_registers r next ≤ MAX_REGISTERS
-        → Ends (value_size l free 1) (value_size (binary o k l r) free n) (value_blocks r 1)
-    operator_ends o k l r free next n plain is places right =
-        let right' : value_registers r (next_free l free) ≤ MAX_REGISTERS = subst (λ n. value_registers r n ≤ MAX_REGISTERS) is right in
-        record {
-          blocks = rw plain refl;
-          registers = rw plain (omega arith);
-          room = λ le. rw plain (omega (arith, le, places, right'));
-          globals = omega arith;
-        }
+    let parts = split2 bs old mid new second.grows left.grows h in
+    (open_code middle, does bs parts.1, second.does bs parts.0)) left
+
+pub both_stops : (old new : List RBlock) (l r : TypedExpression) (free p next q : ℕ) (waiting : OpenBlock) (f : LowerFault) (x : Result OpenBlock LowerFault)
+    → x ≡ Err f → EmitsOperand r q next waiting old new (Err f) → EmitsBoth l r free p next q waiting old new x
+both_stops old new l r free p next q waiting f x is e =
+    part_refused (value_size r next 1) (both_size l r free next) 0 old old new _ _ _ _ f x is (omega arith) (omega arith) (omega arith) (grows_same old) (omega arith) e
+
+-- the sizes of an operator whose operands are in their places
+operator_ends : (o : BinaryOp) (k : IntegerType) (l r : TypedExpression) (free next n : ℕ) → is_logical o ≡ false → next ≡ next_free l free
+    → max (place_registers l free) (place_registers r (next_free l free)) ≤ MAX_REGISTERS
+    → Ends (both_size l r free next) (value_size (binary o k l r) free n) 0
+operator_ends o k l r free next n plain is places = subst (λ next. Ends (both_size l r free next) (value_size (binary o k l r) free n) 0) (sym is) (record {
+  blocks = rw plain (omega arith);
+  registers = rw plain (omega arith);
+  room = λ le. rw plain (omega (arith, le, places));
+  globals = omega arith;
+})
+
+operator_beyond : (o : BinaryOp) (k : IntegerType) (l r : TypedExpression) (free n b : ℕ) → is_logical o ≡ false
+    → MAX_REGISTERS < max (place_registers l free) (place_registers r (next_free l free))
+    → Beyond (value_size (binary o k l r) free n).registers b (globals_named (binary o k l r))
+operator_beyond o k l r free n b plain more = rw plain (omega (arith, more))
+
+pub operator_emits : (old new : List RBlock) (o : BinaryOp) (k : IntegerType) (op : Operation) (l r : TypedExpression)
+    (d free : ℕ) (code : OpenBlock) (after : Spot) (w : Result WaitingForTwo LowerFault) (x : Result OpenBlock LowerFault)
+    → Computes o (sign_of k) op → is_logical o ≡ false → open_code code ≡ line_of after
+    → IfOk w (λ w. IsPlace l free w.first.register w.first.free) → IfOk w (λ w. IsPlace r w.first.free w.second.register w.second.free)
+    → IfOk w (λ w. open_code w.code ≡ first (inst_of op d w.first.register w.second.register) (open_code code))
+    → IfOk w (λ w. (s : Scope) → d < MAX_REGISTERS → IsSound s (open_code code) → IsSound s (open_code w.code))
+    → OnOk w (max (place_registers l free) (place_registers r (next_free l free)) ≤ MAX_REGISTERS)
+    → IfErr w (λ f. f ≡ Limit → MAX_REGISTERS < max (place_registers l free) (place_registers r (next_free l free)))
+    → IfOk w (λ w. EmitsBoth l r free w.first.register w.first.free w.second.register w.code old new x)
+    → IfErr w (λ f. (x ≡ Err f) × (new ≡ old)) → EmitsValue (binary o k l r) d free after old new x
+operator_emits old new o k op l r d free code after (Ok w) x computes plain fe pl pr fw sound room limit two err =
+    ended (both_size l r free w.first.free) (value_size (binary o k l r) free (joint after)) 0 old old new _ _ _ _ x
+    (operator_ends o k l r free w.first.free (joint after) plain pl.next_is room) (grows_same old) (omega arith)
+    (λ from keeps s n g h. keeps s n g (h.1.0, sound s h.0 (sound_along fe (sound_line _ h.1.1))))
+    (λ from does bs h.
+    let m = does bs h in
+    operator_value bs o k op l r d free (open_code from) (line_of after) computes
+    (operates bs op l r d free w.first.register w.first.free w.second.register w.second.free (open_code from) m.0 (line_of after) pl pr m.1
+    (finds_to (fw ∙ ap (first (inst_of op d w.first.register w.second.register)) fe) m.2))) two
+operator_emits old new o k op l r d free code after (Err f) x computes plain fe pl pr fw sound room limit two err =
+    refused (value_size (binary o k l r) free (joint after)) old new _ _ f x err.0 err.1
+    (λ is. operator_beyond o k l r free (joint after) (length old + (value_size (binary o k l r) free (joint after)).blocks) plain (limit is))
+
+pub told_stops : (both : Bool) (old new : List RBlock) (k : IntegerType) (l r : TypedExpression) (d free : ℕ) (after : Spot) (f : LowerFault)
+    (x : Result OpenBlock LowerFault) → x ≡ Err f → Grows old new → (f ≡ Limit → MAX_BLOCKS < length old + (joint after + 2))
+    → EmitsValue (binary (logical_of both) k l r) d free after old new x
+told_stops true old new k l r d free after f x is g limit = truth_stops old new (binary B.LogicalAnd k l r) d free after f x is g (omega arith) limit
+told_stops false old new k l r d free after f x is g limit = truth_stops old new (binary B.LogicalOr k l r) d free after f x is g (omega arith) limit
+
+pub not_stops : (old new : List RBlock) (o : UnaryOp) (k : IntegerType) (a : TypedExpression) (b : Bool) (d free : ℕ) (after : Spot) (f : LowerFault)
+    (x : Result OpenBlock LowerFault) → x ≡ Err f → IsPrefix o b P.Branches → b ≡ by_branches a → Grows old new
+    → (f ≡ Limit → MAX_BLOCKS < length old + (joint after + 2)) → EmitsValue (unary o k a) d free after old new x
+not_stops old new o k a b d free after f x is prefix ib g limit =
+    let by : by_branches a ≡ true = sym ib ∙ prefix.1 in
+    subst (λ o. EmitsValue (unary o k a) d free after old new x) (sym prefix.0)
+    (truth_stops old new (unary U.Not k a) d free after f x is g (rw by (omega arith)) limit)
+
+-- code as a block of its own
+pub block_emits : (old mid new : List RBlock) (size : Size) (Needs Needs' : Scope → Type 0) (Is : List RBlock → Code → Type 0) (code : OpenBlock)
+    (x : Result ℕ LowerFault) → Emits size old mid (λ from. KeepsSound old mid Needs' (λ s. IsSound s (open_code from)))
+    (λ from bs. Is bs (open_code from)) (Ok code) → ((s : Scope) → size.globals ≤ s.globals → Needs s → Needs' s)
+    → Grows mid new → OnOk x (length new ≡ length mid + 1) → IfErr x (λ f. f ≡ Limit → MAX_BLOCKS < length mid + 1)
+    → IfOk x (λ b. KeepsSound mid new (λ s. IsSound s (open_code code)) (λ s. b < s.blocks))
+    → IfOk x (λ b. Over mid new (λ bs. At bs b (open_code code))) → EmitsBlock size Needs Is old new x
+block_emits old mid new size Needs Needs' Is code (Ok b) e needs g n limit sound ats =
+    let c : length mid ≡ length old + size.blocks = e.count in
+    record {
+      grows = grows_then old mid new e.grows g;
+      count = omega (arith, c, n);
+      room = e.room;
+      limit = tt;
+      sound = λ s l gs h.
+          let m = e.sound s (within g l) gs (needs s h.0 h.1) in
+          sound s l m.0 m.1;
+      does = λ bs h.
+          let p = split2 bs old mid new e.grows g h in
+          (open_code code, ats bs p.1, e.does bs p.0);
+    }
+block_emits old mid new size Needs Needs' Is code (Err f) e needs g n limit sound ats =
+    let c : length mid ≡ length old + size.blocks = e.count in
+    record {
+      grows = grows_then old mid new e.grows g;
+      count = tt;
+      room = tt;
+      limit = λ is. let more = limit is in omega (arith, c, more);
+      sound = tt;
+      does = tt;
+    }
+
+-- its code is refused
+pub block_stops : {A : Type 0} (old new : List RBlock) (size : Size) (Keeps : A → Type 0) (Does : A → List RBlock → Type 0) (Needs : Scope → Type 0)
+    (Is : List RBlock → Code → Type 0) (f : LowerFault) (x : Result ℕ LowerFault) → x ≡ Err f → Emits size old new Keeps Does (Err f)
+    → EmitsBlock size Needs Is old new x
+block_stops old new size Keeps Does Needs Is f x is e =
+    part_refused size (record { registers = size.registers; blocks = size.blocks + 1; globals = size.globals }) 0 old old new Keeps _ Does _ f x is (omega arith)
+    (omega arith) (omega arith) (grows_same old) (omega arith) e
 
 -- both sides of `?:` as blocks of their own
-pub record Sides (b0 b1 b2 b3 b4 : List RBlock) (registers blocks globals : ℕ) (Needs : Scope → Type 0) (P Q : List RBlock → Code → Type 0)
-    (first_code second_code : OpenBlock) (yes_block no_block : ℕ) : Type 0 where
-  pub grows : Grows b0 b4
-  pub count : length b4 ≡ length b0 + (blocks + 2)
+pub record Sides (b0 b2 : List RBlock) (registers blocks globals : ℕ) (Needs : Scope → Type 0) (IsYes IsNo : List RBlock → Code → Type 0)
+    (yes_block no_block : ℕ) : Type 0 where
+  pub grows : Grows b0 b2
+  pub count : length b2 ≡ length b0 + (blocks + 2)
   pub room : registers ≤ MAX_REGISTERS
-  pub sound : KeepsSound b0 b4 (λ s. (globals ≤ s.globals) × Needs s) (λ s. (yes_block < s.blocks) × (no_block < s.blocks))
-  pub does : Over b0 b4 (λ bs. (P bs (open_code first_code) × At bs yes_block (open_code first_code))
-      × (Q bs (open_code second_code) × At bs no_block (open_code second_code)))
+  pub sound : KeepsSound b0 b2 (λ s. (globals ≤ s.globals) × Needs s) (λ s. (yes_block < s.blocks) × (no_block < s.blocks))
+  pub does : Over b0 b2 (λ bs. ((from : Code) × At bs yes_block from × IsYes bs from) × ((from : Code) × At bs no_block from × IsNo bs from))
 
-pub sides : (b0 b1 b2 b3 b4 : List RBlock) (s1 s2 : Size) (Needs : Scope → Type 0) (P Q : List RBlock → Code → Type 0)
-    (first_code second_code : OpenBlock) (yes_block no_block : ℕ)
-    → Emits s1 b0 b1 (λ from. KeepsSound b0 b1 (λ s. (s1.globals ≤ s.globals) × Needs s) (λ s. IsSound s (open_code from)))
-    (λ from bs. P bs (open_code from)) (Ok first_code)
-    → Grows b1 b2 → length b2 ≡ length b1 + 1 → KeepsSound b1 b2 (λ s. IsSound s (open_code first_code)) (λ s. yes_block < s.blocks)
-    → Over b1 b2 (λ bs. At bs yes_block (open_code first_code))
-    → Emits s2 b2 b3 (λ from. KeepsSound b2 b3 (λ s. (s2.globals ≤ s.globals) × Needs s) (λ s. IsSound s (open_code from)))
-    (λ from bs. Q bs (open_code from)) (Ok second_code)
-    → Grows b3 b4 → length b4 ≡ length b3 + 1 → KeepsSound b3 b4 (λ s. IsSound s (open_code second_code)) (λ s. no_block < s.blocks)
-    → Over b3 b4 (λ bs. At bs no_block (open_code second_code))
-    → Sides b0 b1 b2 b3 b4 (max s1.registers s2.registers) (s1.blocks + s2.blocks) (max s1.globals s2.globals) Needs P Q first_code second_code yes_block no_block
-sides b0 b1 b2 b3 b4 s1 s2 Needs P Q first_code second_code yes_block no_block e1 g2 c2 k2 a2 e3 g4 c4 k4 a4 =
-    let c1 : length b1 ≡ length b0 + s1.blocks = e1.count in
-    let c3 : length b3 ≡ length b2 + s2.blocks = e3.count in
+pub sides : (b0 b1 b2 : List RBlock) (s1 s2 : Size) (Needs : Scope → Type 0) (IsYes IsNo : List RBlock → Code → Type 0) (yes_block no_block : ℕ)
+    → EmitsBlock s1 Needs IsYes b0 b1 (Ok yes_block) → EmitsBlock s2 Needs IsNo b1 b2 (Ok no_block)
+    → Sides b0 b2 (max s1.registers s2.registers) (s1.blocks + s2.blocks) (max s1.globals s2.globals) Needs IsYes IsNo yes_block no_block
+sides b0 b1 b2 s1 s2 Needs IsYes IsNo yes_block no_block e1 e2 =
+    let c1 : length b1 ≡ length b0 + (s1.blocks + 1) = e1.count in
+    let c2 : length b2 ≡ length b1 + (s2.blocks + 1) = e2.count in
     let r1 : s1.registers ≤ MAX_REGISTERS = e1.room in
-    let r3 : s2.registers ≤ MAX_REGISTERS = e3.room in
+    let r2 : s2.registers ≤ MAX_REGISTERS = e2.room in
     record {
-      grows = grows_then b0 b1 b4 e1.grows (grows_then b1 b2 b4 g2 (grows_then b2 b3 b4 e3.grows g4));
-      count = omega (arith, c1, c2, c3, c4);
-      room = omega (arith, r1, r3);
+      grows = grows_then b0 b1 b2 e1.grows e2.grows;
+      count = omega (arith, c1, c2);
+      room = omega (arith, r1, r2);
       sound = λ s n g h.
           let left : s1.globals ≤ s.globals = omega (arith, h.0) in
           let right : s2.globals ≤ s.globals = omega (arith, h.0) in
-          let n3 = within g4 n in
-          let n2 = within e3.grows n3 in
-          let n1 = within g2 n2 in
-          let a = e1.sound s n1 g (left, h.1) in
-          let ab = k2 s n2 a.0 a.1 in
-          let b = e3.sound s n3 ab.0 (right, h.1) in
-          let bb = k4 s n b.0 b.1 in
-          (bb.0, (ab.1, bb.1));
+          let a = e1.sound s (within e2.grows n) g (left, h.1) in
+          let b = e2.sound s n a.0 (right, h.1) in
+          (b.0, (a.1, b.1));
       does = λ bs h.
-          let t = split4 bs b0 b1 b2 b3 b4 e1.grows g2 e3.grows g4 h in
-          ((e1.does bs t.0, a2 bs t.1), (e3.does bs t.2, a4 bs t.3));
+          let p = split2 bs b0 b1 b2 e1.grows e2.grows h in
+          (e1.does bs p.0, e2.does bs p.1);
     }
 
-pub conditional_branches : (b0 b1 b2 b3 b4 new : List RBlock) (e : TypedExpression) (k : IntegerType) (c a b c' a' b' : TypedExpression) (t t' : Targets)
-    (free yes_block no_block : ℕ) (first_code second_code : OpenBlock) (x : Result OpenBlock LowerFault)
-    → e ≡ conditional k c a b → c' ≡ c → a' ≡ a → b' ≡ b → t' ≡ record { yes = yes_block; no = no_block; likely = true }
-    → Sides b0 b1 b2 b3 b4 (max (condition_size a' t.likely free).registers (condition_size b' t.likely free).registers)
-    ((condition_size a' t.likely free).blocks + (condition_size b' t.likely free).blocks) (max (globals_named a') (globals_named b'))
-    (λ s. (t.yes < s.blocks) × (t.no < s.blocks)) (λ bs. Decides bs a' free t.yes t.no) (λ bs. Decides bs b' free t.yes t.no)
-    first_code second_code yes_block no_block
-    → EmitsBranch (condition_size c' t'.likely free) c' t' free b4 new x
-    → EmitsBranch (condition_size e t.likely free) e t free b0 new x
-conditional_branches b0 b1 b2 b3 b4 new e k c a b c' a' b' t t' free yes_block no_block first_code second_code x is ic ia ib it two last =
-    let last' = subst (λ t. EmitsBranch (condition_size c' t.likely free) c' t free b4 new x) it last in
-    subst (λ e. EmitsBranch (condition_size e t.likely free) e t free b0 new x) (sym (conditional_is k c a b c' a' b' is ic ia ib))
-    (ended (condition_size c' true free) (condition_size (conditional k c' a' b') t.likely free)
-    ((condition_size a' t.likely free).blocks + (condition_size b' t.likely free).blocks + 2) b0 b4 new _ _ _ _ x
+pub conditional_branches : (b0 b2 new : List RBlock) (k : IntegerType) (c a b : TypedExpression) (t t' : Targets) (free yes_block no_block : ℕ)
+    (x : Result OpenBlock LowerFault) → t' ≡ record { yes = yes_block; no = no_block; likely = true }
+    → Sides b0 b2 (max (condition_size a t.likely free).registers (condition_size b t.likely free).registers)
+    ((condition_size a t.likely free).blocks + (condition_size b t.likely free).blocks) (max (globals_named a) (globals_named b))
+    (λ s. (t.yes < s.blocks) × (t.no < s.blocks)) (λ bs from. Decides bs a free t.yes t.no from) (λ bs from. Decides bs b free t.yes t.no from)
+    yes_block no_block → EmitsBranch (condition_size c t'.likely free) c t' free b2 new x
+    → EmitsBranch (condition_size (conditional k c a b) t.likely free) (conditional k c a b) t free b0 new x
+conditional_branches b0 b2 new k c a b t t' free yes_block no_block x it two last =
+    let last' = subst (λ t. EmitsBranch (condition_size c t.likely free) c t free b2 new x) it last in
+    ended (condition_size c true free) (condition_size (conditional k c a b) t.likely free)
+    ((condition_size a t.likely free).blocks + (condition_size b t.likely free).blocks + 2) b0 b2 new _ _ _ _ x
     (record { blocks = omega arith; registers = omega arith; room = λ le. omega (arith, le, two.room); globals = omega arith })
     two.grows two.count
     (λ from keeps s n g h.
-    let sides : max (globals_named a') (globals_named b') ≤ s.globals = omega (arith, h.0) in
-    let test : globals_named c' ≤ s.globals = omega (arith, h.0) in
+    let sides : max (globals_named a) (globals_named b) ≤ s.globals = omega (arith, h.0) in
+    let test : globals_named c ≤ s.globals = omega (arith, h.0) in
     let m = two.sound s (within last'.grows n) g (sides, h.1) in
     keeps s n m.0 (test, m.1))
     (λ from does bs h.
-    let p = split2 bs b0 b4 new two.grows last'.grows h in
+    let p = split2 bs b0 b2 new two.grows last'.grows h in
     let d = two.does bs p.0 in
-    conditional_decides bs k c' a' b' t.yes t.no yes_block no_block free (open_code from) (open_code first_code) (open_code second_code) (does bs p.1)
-    d.0.1 d.1.1 d.0.0 d.1.0) last')
+    conditional_decides bs k c a b t.yes t.no yes_block no_block free (open_code from) d.0.0 d.1.0 (does bs p.1)
+    d.0.1 d.1.1 d.0.2 d.1.2) last'
 
-pub conditional_emits : (old b0 b1 b2 b3 b4 new : List RBlock) (e : TypedExpression) (k : IntegerType) (c a b c' a' b' : TypedExpression) (t' : Targets)
-    (d free join yes_block no_block : ℕ) (first_code second_code : OpenBlock) (after : Spot) (x : Result OpenBlock LowerFault)
-    → e ≡ conditional k c a b → c' ≡ c → a' ≡ a → b' ≡ b → t' ≡ record { yes = yes_block; no = no_block; likely = true }
-    → Grows old b0 → length b0 ≡ length old + joint after → KeepsSound old b0 (λ s. IsSoundSpot s after) (λ s. join < s.blocks)
-    → Over old b0 (λ bs. Lands bs join after)
-    → Sides b0 b1 b2 b3 b4 (max (value_registers a' free) (value_registers b' free)) (value_blocks a' 0 + value_blocks b' 0)
-    (max (globals_named a') (globals_named b')) (λ s. (d < MAX_REGISTERS) × (join < s.blocks))
-    (λ bs from. Evaluates bs a' free d from (goto join)) (λ bs from. Evaluates bs b' free d from (goto join)) first_code second_code yes_block no_block
-    → EmitsBranch (condition_size c' t'.likely free) c' t' free b4 new x → EmitsValue e d free after old new x
-conditional_emits old b0 b1 b2 b3 b4 new e k c a b c' a' b' t' d free join yes_block no_block first_code second_code after x is ic ia ib it g1 c1 k1 j1 two last =
-    let last' = subst (λ t. EmitsBranch (condition_size c' t.likely free) c' t free b4 new x) it last in
-    subst (λ e. EmitsValue e d free after old new x) (sym (conditional_is k c a b c' a' b' is ic ia ib))
-    (ended (condition_size c' true free) (value_size (conditional k c' a' b') free (joint after)) (joint after + (value_blocks a' 0 + value_blocks b' 0 + 2))
-    old b4 new _ _ _ _ x
-    (record { blocks = omega arith; registers = omega arith; room = λ le. omega (arith, le, two.room); globals = omega arith })
-    (grows_then old b0 b4 g1 two.grows) (omega (arith, c1, two.count))
+-- a side is refused, the first one, or the second one behind it
+pub side_stops : (b0 b1 b2 : List RBlock) (k : IntegerType) (c a b : TypedExpression) (t : Targets) (free yes_block : ℕ) (f : LowerFault)
+    (x : Result OpenBlock LowerFault) → x ≡ Err f → EmitsBranchBlock a t free b0 b1 (Ok yes_block) → EmitsBranchBlock b t free b1 b2 (Err f)
+    → EmitsBranch (condition_size (conditional k c a b) t.likely free) (conditional k c a b) t free b0 b2 x
+side_stops b0 b1 b2 k c a b t free yes_block f x is e1 e2 =
+    let c1 : length b1 ≡ length b0 + (condition_blocks a + 1) = e1.count in
+    part_refused (record { registers = condition_registers b t.likely free; blocks = condition_blocks b + 1; globals = globals_named b })
+    (condition_size (conditional k c a b) t.likely free) (condition_blocks a + 1) b0 b1 b2 _ _ _ _ f x is (omega arith) (omega arith) (omega arith) e1.grows c1 e2
+
+pub first_side_stops : (b0 b1 : List RBlock) (k : IntegerType) (c a b : TypedExpression) (t : Targets) (free : ℕ) (f : LowerFault)
+    (x : Result OpenBlock LowerFault) → x ≡ Err f → EmitsBranchBlock a t free b0 b1 (Err f)
+    → EmitsBranch (condition_size (conditional k c a b) t.likely free) (conditional k c a b) t free b0 b1 x
+first_side_stops b0 b1 k c a b t free f x is e =
+    part_refused (record { registers = condition_registers a t.likely free; blocks = condition_blocks a + 1; globals = globals_named a })
+    (condition_size (conditional k c a b) t.likely free) 0 b0 b0 b1 _ _ _ _ f x is (omega arith) (omega arith) (omega arith) (grows_same b0) (omega arith) e
+
+-- where a value goes on, as a block
+pub record Joined (old new : List RBlock) (after : Spot) (join : ℕ) : Type 0 where
+  pub grows : Grows old new
+  pub count : length new ≡ length old + joint after
+  pub sound : KeepsSound old new (λ s. IsSoundSpot s after) (λ s. join < s.blocks)
+  pub lands : Over old new (λ bs. Lands bs join after)
+
+pub conditional_emits : (old b0 b1 b2 new : List RBlock) (k : IntegerType) (c a b : TypedExpression) (t' : Targets) (d free join yes_block no_block : ℕ)
+    (after : Spot) (x : Result OpenBlock LowerFault) → t' ≡ record { yes = yes_block; no = no_block; likely = true } → Joined old b0 after join
+    → EmitsValueBlock a d free join b0 b1 (Ok yes_block) → EmitsValueBlock b d free join b1 b2 (Ok no_block)
+    → EmitsBranch (condition_size c t'.likely free) c t' free b2 new x → EmitsValue (conditional k c a b) d free after old new x
+conditional_emits old b0 b1 b2 new k c a b t' d free join yes_block no_block after x it j yes_side no_side last =
+    let two = sides b0 b1 b2 (value_size a free 0) (value_size b free 0) (λ s. (d < MAX_REGISTERS) × (join < s.blocks))
+    (λ bs from. Evaluates bs a free d from (goto join)) (λ bs from. Evaluates bs b free d from (goto join)) yes_block no_block yes_side no_side in
+    let c2 : length b2 ≡ length b0 + (value_blocks a 0 + value_blocks b 0 + 2) = two.count in
+    let room : max (value_registers a free) (value_registers b free) ≤ MAX_REGISTERS = two.room in
+    let last' = subst (λ t. EmitsBranch (condition_size c t.likely free) c t free b2 new x) it last in
+    ended (condition_size c true free) (value_size (conditional k c a b) free (joint after)) (joint after + (value_blocks a 0 + value_blocks b 0 + 2))
+    old b2 new _ _ _ _ x
+    (record { blocks = omega arith; registers = omega arith; room = λ le. omega (arith, le, room); globals = omega arith })
+    (grows_then old b0 b2 j.grows two.grows) (omega (arith, j.count, c2))
     (λ from keeps s n g h.
-    let sides : max (globals_named a') (globals_named b') ≤ s.globals = omega (arith, h.1.0) in
-    let test : globals_named c' ≤ s.globals = omega (arith, h.1.0) in
-    let n4 = within last'.grows n in
-    let j = k1 s (within two.grows n4) g h.1.1 in
-    let m = two.sound s n4 j.0 (sides, (h.0, j.1)) in
+    let sides : max (globals_named a) (globals_named b) ≤ s.globals = omega (arith, h.1.0) in
+    let test : globals_named c ≤ s.globals = omega (arith, h.1.0) in
+    let n2 = within last'.grows n in
+    let at = j.sound s (within two.grows n2) g h.1.1 in
+    let m = two.sound s n2 at.0 (sides, (h.0, at.1)) in
     keeps s n m.0 (test, m.1))
     (λ from does bs h.
-    let p = split3 bs old b0 b4 new g1 two.grows last'.grows h in
+    let p = split3 bs old b0 b2 new j.grows two.grows last'.grows h in
     let m = two.does bs p.1 in
-    conditional_value bs k c' a' b' d join yes_block no_block free (open_code from) after (open_code first_code) (open_code second_code) (j1 bs p.0)
-    m.0.1 m.1.1 (does bs p.2) m.0.0 m.1.0) last')
+    conditional_value bs k c a b d join yes_block no_block free (open_code from) after m.0.0 m.1.0 (j.lands bs p.0)
+    m.0.1 m.1.1 (does bs p.2) m.0.2 m.1.2) last'
+
+-- of its value: where it goes on is refused, or a side
+pub join_stops : (old new : List RBlock) (k : IntegerType) (c a b : TypedExpression) (d free : ℕ) (after : Spot) (f : LowerFault)
+    (x : Result OpenBlock LowerFault) → x ≡ Err f → new ≡ old → (f ≡ Limit → MAX_BLOCKS < length old + joint after)
+    → EmitsValue (conditional k c a b) d free after old new x
+join_stops old new k c a b d free after f x is same limit =
+    refused (value_size (conditional k c a b) free (joint after)) old new _ _ f x is same (λ l. let more = limit l in omega (arith, more))
+
+pub first_value_stops : (old b0 b1 : List RBlock) (k : IntegerType) (c a b : TypedExpression) (d free join : ℕ) (after : Spot) (f : LowerFault)
+    (x : Result OpenBlock LowerFault) → x ≡ Err f → Joined old b0 after join → EmitsValueBlock a d free join b0 b1 (Err f)
+    → EmitsValue (conditional k c a b) d free after old b1 x
+first_value_stops old b0 b1 k c a b d free join after f x is j e =
+    part_refused (record { registers = value_registers a free; blocks = value_blocks a 0 + 1; globals = globals_named a })
+    (value_size (conditional k c a b) free (joint after)) (joint after) old b0 b1 _ _ _ _ f x is (omega arith) (omega arith) (omega arith) j.grows j.count e
+
+pub value_stops : (old b0 b1 b2 : List RBlock) (k : IntegerType) (c a b : TypedExpression) (d free join yes_block : ℕ) (after : Spot) (f : LowerFault)
+    (x : Result OpenBlock LowerFault) → x ≡ Err f → Joined old b0 after join → EmitsValueBlock a d free join b0 b1 (Ok yes_block)
+    → EmitsValueBlock b d free join b1 b2 (Err f) → EmitsValue (conditional k c a b) d free after old b2 x
+value_stops old b0 b1 b2 k c a b d free join yes_block after f x is j e1 e2 =
+    let c1 : length b1 ≡ length b0 + (value_blocks a 0 + 1) = e1.count in
+    part_refused (record { registers = value_registers b free; blocks = value_blocks b 0 + 1; globals = globals_named b })
+    (value_size (conditional k c a b) free (joint after)) (joint after + (value_blocks a 0 + 1)) old b1 b2 _ _ _ _ f x is (omega arith) (omega arith)
+    (omega arith) (grows_then old b0 b1 j.grows e1.grows) (omega (arith, j.count, c1)) e2
 
 -- conditions
 
@@ -525,88 +689,49 @@ not_branches old new e o k a a' t t' free x is io ia it v =
     (λ from keeps s n g h. keeps s n g (h.0, (h.1.1, h.1.0)))
     (λ from does bs h. not_decides bs k a' t.yes t.no free (open_code from) (does bs h)) v')
 
-pub both_branches : (b0 b1 b2 new : List RBlock) (e : TypedExpression) (o : BinaryOp) (k : IntegerType) (l r l' r' : TypedExpression) (t t' : Targets)
-    (free block : ℕ) (code : OpenBlock) (x : Result OpenBlock LowerFault) → e ≡ binary o k l r → o ≡ B.LogicalAnd → l' ≡ l → r' ≡ r
-    → t' ≡ record { yes = block; no = t.no; likely = t.likely } → Second b0 b1 b2 r' t free code block
-    → EmitsBranch (condition_size l' t'.likely free) l' t' free b2 new x → EmitsBranch (condition_size e t.likely free) e t free b0 new x
-both_branches b0 b1 b2 new e o k l r l' r' t t' free block code x is io il ir it two last =
-    subst (λ e. EmitsBranch (condition_size e t.likely free) e t free b0 new x) (sym (binary_is o B.LogicalAnd k l r l' r' is io il ir))
-    (and_branches b0 b1 b2 new k l' r' t free block code x two
-    (subst (λ t. EmitsBranch (condition_size l' t.likely free) l' t free b2 new x) it last))
-
-pub either_branches : (b0 b1 b2 new : List RBlock) (e : TypedExpression) (o : BinaryOp) (k : IntegerType) (l r l' r' : TypedExpression) (t t' : Targets)
-    (free block : ℕ) (code : OpenBlock) (x : Result OpenBlock LowerFault) → e ≡ binary o k l r → o ≡ B.LogicalOr → l' ≡ l → r' ≡ r
-    → t' ≡ record { yes = t.yes; no = block; likely = t.likely } → Second b0 b1 b2 r' t free code block
-    → EmitsBranch (condition_size l' t'.likely free) l' t' free b2 new x → EmitsBranch (condition_size e t.likely free) e t free b0 new x
-either_branches b0 b1 b2 new e o k l r l' r' t t' free block code x is io il ir it two last =
-    subst (λ e. EmitsBranch (condition_size e t.likely free) e t free b0 new x) (sym (binary_is o B.LogicalOr k l r l' r' is io il ir))
-    (or_branches b0 b1 b2 new k l' r' t free block code x two
-    (subst (λ t. EmitsBranch (condition_size l' t.likely free) l' t free b2 new x) it last))
-
-pub contrary_emits : (old mid new : List RBlock) (e : TypedExpression) (o : BinaryOp) (k : IntegerType) (op : Operation) (l r l' r' : TypedExpression)
-    (b : Bool) (t : Targets) (free p next q last : ℕ) (waiting middle : OpenBlock) (x : Result OpenBlock LowerFault)
-    → e ≡ binary o k l r → ComputesContrary o (sign_of k) op → is_logical o ≡ false → b ≡ has_contrary o → b ≡ true → t.likely ≡ false → l' ≡ l → r' ≡ r
-    → open_code waiting ≡ first (inst_of op free p q) (exit_code (X.Branch free t.no t.yes)) → free + 1 ≤ MAX_REGISTERS
-    → ((s : Scope) → t.yes < s.blocks → t.no < s.blocks → IsSound s (open_code waiting))
-    → Operands old mid l' r' free p next q last waiting middle → EmitsOperand l' p free middle mid new x
-    → EmitsBranch (condition_size e t.likely free) e t free old new x
-contrary_emits old mid new e o k op l r l' r' b t free p next q last waiting middle x is tests plain ib itb unlikely il ir fw fits sound two left =
-    let e2 = two.emits in
-    let c1 : length mid ≡ length old + value_blocks r' 1 = e2.count in
-    let room : value_registers r' next ≤ MAX_REGISTERS = e2.room in
-    subst (λ e. EmitsBranch (condition_size e t.likely free) e t free old new x) (sym (binary_is o o k l r l' r' is refl il ir))
-    (ended (value_size l' free 1) (condition_size (binary o k l' r') t.likely free) (value_blocks r' 1) old mid new _ _ _ _ x
-    (contrary_ends t.likely unlikely o k l' r' free next plain (sym ib ∙ itb) two.first.next_is two.room room fits) e2.grows c1
-    (λ from keeps s n g h.
-    let right : globals_named r' ≤ s.globals = omega (arith, h.0) in
-    let named : globals_named l' ≤ s.globals = omega (arith, h.0) in
-    let m = e2.sound s (within left.grows n) g (right, sound s h.1.0 h.1.1) in
-    keeps s n m.0 (named, m.1))
+pub contrary_emits : (old new : List RBlock) (o : BinaryOp) (k : IntegerType) (op : Operation) (l r : TypedExpression) (t : Targets) (free : ℕ)
+    (w : Result WaitingForTwo LowerFault) (x : Result OpenBlock LowerFault)
+    → ComputesContrary o (sign_of k) op → is_logical o ≡ false → has_contrary o ≡ true → t.likely ≡ false
+    → IfOk w (λ w. IsPlace l free w.first.register w.first.free) → IfOk w (λ w. IsPlace r w.first.free w.second.register w.second.free)
+    → IfOk w (λ w. open_code w.code ≡ first (inst_of op free w.first.register w.second.register) (exit_code (X.Branch free t.no t.yes)))
+    → IfOk w (λ w. (s : Scope) → t.yes < s.blocks → t.no < s.blocks → IsSound s (open_code w.code))
+    → OnOk w (max (free + 1) (max (place_registers l free) (place_registers r (next_free l free))) ≤ MAX_REGISTERS)
+    → IfErr w (λ f. f ≡ Limit → MAX_REGISTERS < max (free + 1) (max (place_registers l free) (place_registers r (next_free l free))))
+    → IfOk w (λ w. EmitsBoth l r free w.first.register w.first.free w.second.register w.code old new x)
+    → IfErr w (λ f. (x ≡ Err f) × (new ≡ old)) → EmitsBranch (condition_size (binary o k l r) t.likely free) (binary o k l r) t free old new x
+contrary_emits old new o k op l r t free (Ok w) x tests plain has unlikely pl pr fw sound room limit two err =
+    ended (both_size l r free w.first.free) (condition_size (binary o k l r) t.likely free) 0 old old new _ _ _ _ x
+    (contrary_ends t.likely unlikely o k l r free w.first.free plain has pl.next_is room) (grows_same old) (omega arith)
+    (λ from keeps s n g h. keeps s n g (h.0, sound s h.1.0 h.1.1))
     (λ from does bs h.
-    let parts = split2 bs old mid new e2.grows left.grows h in
-    contrary_decides bs o k op l' r' free t.yes t.no free (open_code from) tests (omega arith)
-    (operates bs op l' r' free free p next q last (open_code from) (open_code middle) _ two.first two.second (does bs parts.1)
-    (finds_to fw (e2.does bs parts.0)))) left)
-  where
-    contrary_ends : (likely : Bool) → likely ≡ false → (o : BinaryOp) (k : IntegerType) (l r : TypedExpression) (free next : ℕ) → is_logical o ≡ false
-        → has_contrary o ≡ true → next ≡ next_free l free
-        → max (place_registers l free) (place_registers r (next_free l free)) ≤ MAX_REGISTERS → value_registers r next ≤ MAX_REGISTERS
-        → free + 1 ≤ MAX_REGISTERS
-        → Ends (value_size l free 1) (condition_size (binary o k l r) likely free) (value_blocks r 1)
-    contrary_ends true it o k l r free next plain has is places right fits = absurd (cc)
-    contrary_ends false it o k l r free next plain has is places right fits =
-        let right' : value_registers r (next_free l free) ≤ MAX_REGISTERS = subst (λ n. value_registers r n ≤ MAX_REGISTERS) is right in
-        record {
-          blocks = rw plain refl;
-          registers = rw (plain, has) (omega arith);
-          room = λ le. rw (plain, has) (omega (arith, le, places, right', fits));
-          globals = omega arith;
-        }
+    let m = does bs h in
+    contrary_decides bs o k op l r free t.yes t.no free (open_code from) tests (omega arith)
+    (operates bs op l r free free w.first.register w.first.free w.second.register w.second.free (open_code from) m.0 _ pl pr m.1 (finds_to fw m.2))) two
+contrary_emits old new o k op l r t free (Err f) x tests plain has unlikely pl pr fw sound room limit two err =
+    refused (condition_size (binary o k l r) t.likely free) old new _ _ f x err.0 err.1
+    (λ is. contrary_beyond t.likely unlikely o k l r free (length old + condition_blocks (binary o k l r)) plain has (limit is))
 
-pub test_emits : (old new : List RBlock) (e : TypedExpression) (t : Targets) (free p : ℕ) (waiting : OpenBlock) (x : Result OpenBlock LowerFault)
-    → test_registers t.likely free (place_registers e free) (next_free e free) 0 ≤ MAX_REGISTERS
-    → ((bs : List RBlock) (from : Code) → Fetches bs e free p from (open_code waiting) → Decides bs e free t.yes t.no from)
-    → ((s : Scope) → t.yes < s.blocks → t.no < s.blocks → IsSound s (open_code waiting))
-    → EmitsOperand e p free waiting old new x → EmitsBranch (test_size e t.likely free) e t free old new x
-test_emits old new e t free p waiting x room does sound v =
+pub test_emits : (old new : List RBlock) (e : TypedExpression) (t : Targets) (free : ℕ) (w : Result Waiting LowerFault) (x : Result OpenBlock LowerFault)
+    → OnOk w (test_registers t.likely free (place_registers e free) (next_free e free) 0 ≤ MAX_REGISTERS)
+    → IfOk w (λ w. (bs : List RBlock) (from : Code) → Fetches bs e free w.place.register from (open_code w.code) → Decides bs e free t.yes t.no from)
+    → IfOk w (λ w. (s : Scope) → t.yes < s.blocks → t.no < s.blocks → IsSound s (open_code w.code))
+    → IfErr w (λ f. f ≡ Limit → MAX_REGISTERS < test_registers t.likely free (place_registers e free) (next_free e free) 0)
+    → IfOk w (λ w. EmitsOperand e w.place.register free w.code old new x) → IfErr w (λ f. (x ≡ Err f) × (new ≡ old))
+    → EmitsBranch (test_size e t.likely free) e t free old new x
+test_emits old new e t free (Ok w) x room does sound limit v err =
     ended (value_size e free 1) (test_size e t.likely free) 0 old old new _ _ _ _ x
     (record {
       blocks = omega arith;
-      registers = least t.likely free (place_registers e free) (next_free e free) (value_registers e free);
-      room = λ le. both t.likely free (place_registers e free) (next_free e free) (value_registers e free) room le;
+      registers = test_least t.likely free (place_registers e free) (next_free e free) (value_registers e free);
+      room = λ le. test_both t.likely free (place_registers e free) (next_free e free) (value_registers e free) room le;
       globals = omega arith;
     })
     (grows_same old) (omega arith)
     (λ from keeps s n g h. keeps s n g (h.0, sound s h.1.0 h.1.1))
     (λ from made bs h. does bs (open_code from) (made bs h)) v
-  where
-    least : (b : Bool) (free p n v : ℕ) → v ≤ test_registers b free p n v
-    least true free p n v = omega arith
-    least false free p n v = omega arith
-
-    both : (b : Bool) (free p n v : ℕ) → test_registers b free p n 0 ≤ MAX_REGISTERS → v ≤ MAX_REGISTERS → test_registers b free p n v ≤ MAX_REGISTERS
-    both true free p n v lt lv = omega (arith, lt, lv)
-    both false free p n v lt lv = omega (arith, lt, lv)
+test_emits old new e t free (Err f) x room does sound limit v err =
+    refused (test_size e t.likely free) old new _ _ f x err.0 err.1
+    (λ is. test_beyond t.likely free (place_registers e free) (next_free e free) (value_registers e free) (length old + value_blocks e 1) (globals_named e) (limit is))
 
 pub operand_emits : (old new : List RBlock) (e : TypedExpression) (p free : ℕ) (after : OpenBlock) (x : Result OpenBlock LowerFault)
     → p < MAX_REGISTERS → EmitsValue e p free (Line (open_code after)) old new x → EmitsOperand e p free after old new x
@@ -616,57 +741,6 @@ operand_emits old new e p free after x lt v =
     (grows_same old) (omega arith)
     (λ from keeps s n g h. keeps s n g (lt, h))
     (λ from does bs h. fetched bs e free p (open_code from) (open_code after) (does bs h)) v
-
--- a block that was sealed
-pub record Sealed (old new : List RBlock) (code : OpenBlock) (block : ℕ) : Type 0 where
-  pub grows : Grows old new
-  pub count : length new ≡ length old + 1
-  pub sound : KeepsSound old new (λ s. IsSound s (open_code code)) (λ s. block < s.blocks)
-  pub at : Over old new (λ bs. At bs block (open_code code))
-
-pub value_sides : (b0 b1 b2 b3 b4 : List RBlock) (a b : TypedExpression) (d free join y n : ℕ) (first_code second_code : OpenBlock)
-    → EmitsValue a d free (Block join) b0 b1 (Ok first_code) → Sealed b1 b2 first_code y
-    → EmitsValue b d free (Block join) b2 b3 (Ok second_code) → Sealed b3 b4 second_code n
-    → Sides b0 b1 b2 b3 b4 (max (value_registers a free) (value_registers b free)) (value_blocks a 0 + value_blocks b 0)
-    (max (globals_named a) (globals_named b)) (λ s. (d < MAX_REGISTERS) × (join < s.blocks))
-    (λ bs from. Evaluates bs a free d from (goto join)) (λ bs from. Evaluates bs b free d from (goto join)) first_code second_code y n
-value_sides b0 b1 b2 b3 b4 a b d free join y n first_code second_code e1 s2 e3 s4 =
-    sides b0 b1 b2 b3 b4 (value_size a free 0) (value_size b free 0) (λ s. (d < MAX_REGISTERS) × (join < s.blocks))
-    (λ bs from. Evaluates bs a free d from (goto join)) (λ bs from. Evaluates bs b free d from (goto join)) first_code second_code y n
-    (record {
-      grows = e1.grows;
-      count = e1.count;
-      room = e1.room;
-      limit = tt;
-      sound = λ s m g h. e1.sound s m g (h.1.0, (h.0, h.1.1));
-      does = e1.does;
-    }) s2.grows s2.count s2.sound s2.at
-    (record {
-      grows = e3.grows;
-      count = e3.count;
-      room = e3.room;
-      limit = tt;
-      sound = λ s m g h. e3.sound s m g (h.1.0, (h.0, h.1.1));
-      does = e3.does;
-    }) s4.grows s4.count s4.sound s4.at
-
-pub branch_sides : (b0 b1 b2 b3 b4 : List RBlock) (a b : TypedExpression) (t : Targets) (free y n : ℕ) (first_code second_code : OpenBlock)
-    → EmitsBranch (condition_size a t.likely free) a t free b0 b1 (Ok first_code) → Sealed b1 b2 first_code y
-    → EmitsBranch (condition_size b t.likely free) b t free b2 b3 (Ok second_code) → Sealed b3 b4 second_code n
-    → Sides b0 b1 b2 b3 b4 (max (condition_size a t.likely free).registers (condition_size b t.likely free).registers)
-    ((condition_size a t.likely free).blocks + (condition_size b t.likely free).blocks) (max (globals_named a) (globals_named b))
-    (λ s. (t.yes < s.blocks) × (t.no < s.blocks)) (λ bs. Decides bs a free t.yes t.no) (λ bs. Decides bs b free t.yes t.no)
-    first_code second_code y n
-branch_sides b0 b1 b2 b3 b4 a b t free y n first_code second_code e1 s2 e3 s4 =
-    sides b0 b1 b2 b3 b4 (condition_size a t.likely free) (condition_size b t.likely free) (λ s. (t.yes < s.blocks) × (t.no < s.blocks))
-    (λ bs. Decides bs a free t.yes t.no) (λ bs. Decides bs b free t.yes t.no) first_code second_code y n
-    e1 s2.grows s2.count s2.sound s2.at e3 s4.grows s4.count s4.sound s4.at
-
-pub before : (a b : ℕ) → max a b ≤ MAX_REGISTERS → a ≤ MAX_REGISTERS
-before a b le = omega (arith, le)
-
-pub behind : (a b : ℕ) → max a b ≤ MAX_REGISTERS → b ≤ MAX_REGISTERS
-behind a b le = omega (arith, le)
 
 -- the operands of a list
 pub operands_emits : (old mid new : List RBlock) (all es : List TypedExpression) (e : TypedExpression) (ps ps2 : List Place) (p : Place) (free : ℕ)

@@ -2,12 +2,12 @@
 use Rattle.std.proofs.Common.{ℕ, ◌+◌}
 use Rattle.c_typed.specs.Trees.{TypedExpression, constant, local, global, element, unary, binary, conditional}
 
--- five for each operator, so that the calls for one expression have numbers of their own
+-- nine for each operator, so that the calls for one expression have numbers of their own
 abbrev pub weight : TypedExpression → ℕ
 weight (constant c) = 0
 weight (local x k) = 0
 weight (global x k) = 0
-weight (element x k i) = weight i + 5
-weight (unary o k e) = weight e + 5
-weight (binary o k l r) = weight l + weight r + 5
-weight (conditional k c a b) = weight c + weight a + weight b + 5
+weight (element x k i) = weight i + 9
+weight (unary o k e) = weight e + 9
+weight (binary o k l r) = weight l + weight r + 9
+weight (conditional k c a b) = weight c + weight a + weight b + 9

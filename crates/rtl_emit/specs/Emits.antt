@@ -1,13 +1,16 @@
 -- What each call promises that emits code and adds blocks to a function's list, whatever the code is for.
-use Rattle.std.specs.Prelude.{◌≡◌, ℕ, ◌+◌, ◌<◌, ◌≤◌, Bool, List, length, Result, IfOk, IfErr, OnOk}
+use Rattle.std.specs.Prelude.{◌≡◌, ℕ, ◌+◌, ◌<◌, ◌≤◌, max, Bool, true, false, List, length, Result, IfOk, IfErr, OnOk}
+use Rattle.c_tree.specs.declared.tree.BinaryOp.{BinaryOp}
+use Rattle.c_tree.specs.declared.tree.BinaryOp.TheVariants.{LogicalAnd, LogicalOr}
 use Rattle.c_typed.specs.Trees.{TypedExpression}
 use Rattle.rtl.specs.declared.block.RBlock.{RBlock}
 use Rattle.rtl.specs.declared.limits.TheConstants.{MAX_REGISTERS}
-use Rattle.rtl_emit.specs.Blocks.{open_code, line_of, Spot, Grows, Has}
+use Rattle.rtl.specs.Meaning.{Code}
+use Rattle.rtl_emit.specs.Blocks.{open_code, goto, line_of, Spot, Grows, Has, At}
 use Rattle.rtl_emit.specs.Expressions.{Evaluates, Fetches, Decides, FetchAll}
 use Rattle.rtl_emit.specs.Sizes.{joint, Beyond, value_registers, value_blocks, condition_registers, condition_blocks, globals_named}
 use Rattle.rtl_emit.specs.Sizes.{values_registers, arguments_blocks, globals_named_in, test_registers, place_registers, next_free}
-use Rattle.rtl_emit.specs.Sound.{IsSound, IsSoundSpot, KeepsSound}
+use Rattle.rtl_emit.specs.Sound.{Scope, IsSound, IsSoundSpot, KeepsSound}
 use Rattle.rtl_emit.specs.declared.block.OpenBlock.{OpenBlock}
 use Rattle.rtl_emit.specs.declared.fault.LowerFault.{LowerFault}
 use Rattle.rtl_emit.specs.declared.fault.LowerFault.TheVariants.{Limit}
@@ -78,3 +81,44 @@ abbrev pub EmitsOperands : List TypedExpression → List Place → (free : ℕ) 
 EmitsOperands es places free after old new r = Emits (values_size es free) old new
     (λ from. KeepsSound old new (λ s. (globals_named_in es ≤ s.globals) × IsSound s (open_code after)) (λ s. IsSound s (open_code from)))
     (λ from bs. FetchAll bs es free places (open_code from) (open_code after)) r
+
+-- code that puts the values of two operands into their places, the second of which is found while the first is held
+abbrev pub both_size : (left right : TypedExpression) (free next : ℕ) → Size
+both_size l r free next = record {
+  registers = max (value_registers r next) (value_registers l free);
+  blocks = value_blocks r 1 + value_blocks l 1;
+  globals = max (globals_named l) (globals_named r);
+}
+
+abbrev pub EmitsBoth : (left right : TypedExpression) (free p next q : ℕ) → OpenBlock → (old new : List RBlock)
+    → Result OpenBlock LowerFault → Type 0
+EmitsBoth l r free p next q after old new x = Emits (both_size l r free next) old new
+    (λ from. KeepsSound old new (λ s. (max (globals_named l) (globals_named r) ≤ s.globals) × IsSound s (open_code after))
+    (λ s. IsSound s (open_code from)))
+    (λ from bs. (middle : Code) × Fetches bs l free p (open_code from) middle × Fetches bs r next q middle (open_code after)) x
+
+-- code in a block of its own
+abbrev pub EmitsBlock : Size → (Needs : Scope → Type 0) (Is : List RBlock → Code → Type 0) → (old new : List RBlock)
+    → Result ℕ LowerFault → Type 0
+EmitsBlock size Needs Is old new r =
+    Emits (record { registers = size.registers; blocks = size.blocks + 1; globals = size.globals }) old new
+    (λ b. KeepsSound old new (λ s. (size.globals ≤ s.globals) × Needs s) (λ s. b < s.blocks))
+    (λ b bs. (from : Code) × At bs b from × Is bs from) r
+
+abbrev pub EmitsValueBlock : TypedExpression → (to free join : ℕ) → (old new : List RBlock) → Result ℕ LowerFault → Type 0
+EmitsValueBlock e to free join old new r = EmitsBlock (value_size e free 0) (λ s. (to < MAX_REGISTERS) × (join < s.blocks))
+    (λ bs from. Evaluates bs e free to from (goto join)) old new r
+
+abbrev pub EmitsBranchBlock : TypedExpression → Targets → (free : ℕ) → (old new : List RBlock) → Result ℕ LowerFault → Type 0
+EmitsBranchBlock e t free old new r = EmitsBlock (condition_size e t.likely free) (λ s. (t.yes < s.blocks) × (t.no < s.blocks))
+    (λ bs from. Decides bs e free t.yes t.no from) old new r
+
+-- `&&`, or `||`
+abbrev pub logical_of : (both : Bool) → BinaryOp
+logical_of true = LogicalAnd
+logical_of false = LogicalOr
+
+-- the targets of its left operand, where the right one is tested in a block
+abbrev pub left_targets : (both : Bool) → Targets → (block : ℕ) → Targets
+left_targets true t b = record { yes = b; no = t.no; likely = t.likely }
+left_targets false t b = record { yes = t.yes; no = b; likely = t.likely }

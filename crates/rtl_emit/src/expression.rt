@@ -1,24 +1,32 @@
-// The code of expressions and conditions, by cases over their kinds.
-ghost use Rattle.std.specs.Prelude.{◌≡◌, ◌<◌};
+// The code of expressions and conditions, by cases over their kinds. A function that calls itself hands the answers of its parts
+// on to one that reads them, so that it has few ways out.
+ghost use Rattle.std.specs.Prelude.{◌≡◌, ◌<◌, true, false, IfOk, IfErr, Err};
 ghost use Rattle.rtl.specs.declared.limits.TheConstants.{MAX_REGISTERS};
 ghost use Rattle.words.specs.Words.{wrap};
+ghost use Rattle.c_tokens.specs.declared.token.IntegerType.{IntegerType};
+ghost use Rattle.c_tree.specs.declared.tree.BinaryOp.{BinaryOp};
 ghost use Rattle.c_typed.specs.Shape.{typed_expression_of, typed_expressions_of};
-ghost use Rattle.c_typed.specs.Trees.{binary};
+ghost use Rattle.c_typed.specs.Trees.{element, unary, binary, conditional};
+ghost use Rattle.c_typed.specs.Values.{sign_of};
 ghost use Rattle.rtl_emit.specs.Blocks.{spot};
 ghost use Rattle.rtl_emit.specs.Expressions.{ArePlaces};
-ghost use Rattle.rtl_emit.specs.Sizes.{by_branches};
+ghost use Rattle.rtl_emit.specs.Operations.{ComputesContrary};
+ghost use Rattle.rtl_emit.specs.Sizes as Sizes;
+ghost use Rattle.rtl_emit.specs.Sizes.{by_branches, has_contrary};
 ghost use Rattle.rtl_emit.specs.Emits.{test_size, condition_size, EmitsValue, EmitsOperand, EmitsBranch, EmitsOperands};
+ghost use Rattle.rtl_emit.specs.Emits.{logical_of, EmitsBoth, EmitsValueBlock, EmitsBranchBlock};
 
-use crate::block::{Continuation, OpenBlock, opened, put_before, seal, sealed};
+use crate::block::{Continuation, OpenBlock, opened, seal, sealed};
 use crate::fault::LowerFault;
-use crate::operation::{Form, Prefix, contrary_of, form_of, prefix_of};
-use crate::place::{Place, register_of};
+use crate::operation::{Form, Operation, Prefix, contrary_of, form_of, prefix_of};
+use crate::place::Place;
+use crate::simple::{Aim, global_into, local_into, number_into};
 use crate::targets::{Targets, decided, likely, truth_blocks};
-use crate::waiting::{combined, contrary, global_into, load_at, operated, tested};
+use crate::waiting::{Waiting, WaitingForTwo, combined, contrary, load_at, operated, tested};
 use c_tokens::IntegerType;
 use c_tree::{BinaryOp, UnaryOp};
 use c_typed::TypedExpression;
-use rtl::{RBlock, RInst, Register};
+use rtl::{BlockNumber, RBlock, Register};
 use std::alloc::Global;
 
 // The word that a constant means.
@@ -53,71 +61,71 @@ pub fn value_into(
 ) -> Result<OpenBlock, LowerFault>
     ensures { EmitsValue (typed_expression_of e.now) to free (spot after) blocks.old.items blocks.new.items result }
 {
+    let aim = Aim {
+        alloc,
+        to,
+        free,
+        after,
+    };
     match e {
-        TypedExpression::Constant(literal) => {
-            let from = put_before(alloc, RInst::Const(to, literal.value), after)?;
-            Ok(from)
-        }
-        TypedExpression::Local(number, _) => {
-            let local = register_of(*number)?;
-            let from = put_before(alloc, RInst::Move(to, local), after)?;
-            Ok(from)
-        }
-        TypedExpression::Global(number, _) => {
-            let from = global_into(alloc, *number, to, free, after)?;
-            Ok(from)
-        }
-        TypedExpression::Element(number, _, index) => {
-            let load = load_at(alloc, *number, index, to, free, after)?;
-            operand_into(alloc, blocks, index, load.place.register, free, load.code)
-        }
-        TypedExpression::Unary(operator, _, part) => {
-            match prefix_of(*operator, is_logical(part)) {
-                Prefix::Same => value_into(alloc, blocks, part, to, free, after),
-                Prefix::Branches => {
-                    let truth = truth_blocks(alloc, blocks, to, after)?;
-                    condition(alloc, blocks, part, likely(truth.no, truth.yes), free)
-                }
-                Prefix::Combined(with) => {
-                    let value = combined(with, part, to, free, opened(alloc, after))?;
-                    operand_into(alloc, blocks, part, value.place.register, free, value.code)
-                }
-            }
-        }
+        TypedExpression::Constant(literal) => number_into(aim, *literal),
+        TypedExpression::Local(number, _) => local_into(aim, *number),
+        TypedExpression::Global(number, _) => global_into(aim, *number),
+        TypedExpression::Element(number, _, index) => element_into(aim, blocks, *number, index),
+        TypedExpression::Unary(operator, _, part) => unary_into(aim, blocks, *operator, part),
         TypedExpression::Binary(operator, integer_type, left, right) => {
-            let aim = Aim {
-                alloc,
-                to,
-                free,
-                after,
-            };
             binary_into(aim, blocks, *operator, *integer_type, left, right)
         }
         TypedExpression::Conditional(_, test, first, second) => {
-            let join = sealed(blocks, after)?;
-            let first_code = value_into(alloc, blocks, first, to, free, Continuation::Jump(join))?;
-            let yes = seal(blocks, first_code)?;
-            let second_code = value_into(
-                alloc,
-                blocks,
-                second,
-                to,
-                free,
-                Continuation::Jump(join),
-            )?;
-            let no = seal(blocks, second_code)?;
-            condition(alloc, blocks, test, likely(yes, no), free)
+            conditional_into(aim, blocks, test, first, second)
         }
     }
 }
 
-// What becomes of a value: the register that takes it, the first that is free, and where code goes on.
-#[derive(Drop)]
-struct Aim {
-    alloc: Global,
-    to: Register,
-    free: Register,
-    after: Continuation,
+// The value of an element of an array.
+#[cycle(expressions)]
+fn element_into(
+    aim: Aim,
+    blocks: &mut Vec<RBlock>,
+    array: usize,
+    index: &TypedExpression,
+) -> Result<OpenBlock, LowerFault>
+    ensures { (k : IntegerType) → EmitsValue (element array k (typed_expression_of index.now)) aim.to aim.free (spot aim.after)
+        blocks.old.items blocks.new.items result }
+{
+    let (alloc, free) = (aim.alloc, aim.free);
+    let load = load_at(aim, array, index);
+    awaited(alloc, blocks, index, free, load)
+}
+
+// The value of a prefix operator.
+#[cycle(expressions)]
+fn unary_into(
+    aim: Aim,
+    blocks: &mut Vec<RBlock>,
+    operator: UnaryOp,
+    part: &TypedExpression,
+) -> Result<OpenBlock, LowerFault>
+    ensures { (k : IntegerType) → EmitsValue (unary operator k (typed_expression_of part.now)) aim.to aim.free (spot aim.after)
+        blocks.old.items blocks.new.items result }
+{
+    let Aim {
+        alloc,
+        to,
+        free,
+        after,
+    } = aim;
+    match prefix_of(operator, is_logical(part)) {
+        Prefix::Same => value_into(alloc, blocks, part, to, free, after),
+        Prefix::Branches => {
+            let truth = truth_blocks(alloc, blocks, to, after)?;
+            condition(alloc, blocks, part, likely(truth.no, truth.yes), free)
+        }
+        Prefix::Combined(with) => {
+            let value = combined(with, part, to, free, opened(alloc, after));
+            awaited(alloc, blocks, part, free, value)
+        }
+    }
 }
 
 // The value of an operator with two operands.
@@ -133,40 +141,76 @@ fn binary_into(
     ensures { EmitsValue (binary operator integer_type (typed_expression_of left.now) (typed_expression_of right.now)) aim.to aim.free
         (spot aim.after) blocks.old.items blocks.new.items result }
 {
+    match form_of(operator, integer_type) {
+        Form::LogicalAnd => told_into(aim, blocks, true, left, right),
+        Form::LogicalOr => told_into(aim, blocks, false, left, right),
+        Form::Plain(operation) => {
+            let Aim {
+                alloc,
+                to,
+                free,
+                after,
+            } = aim;
+            let values = operated(operation, left, right, to, free, opened(alloc, after));
+            both_awaited(alloc, blocks, left, right, free, values)
+        }
+    }
+}
+
+// The value of `&&` or `||`, which its branches tell.
+#[cycle(expressions)]
+fn told_into(
+    aim: Aim,
+    blocks: &mut Vec<RBlock>,
+    both: bool,
+    left: &TypedExpression,
+    right: &TypedExpression,
+) -> Result<OpenBlock, LowerFault>
+    ensures { (k : IntegerType) → EmitsValue (binary (logical_of both) k (typed_expression_of left.now) (typed_expression_of right.now))
+        aim.to aim.free (spot aim.after) blocks.old.items blocks.new.items result }
+{
+    let truth = truth_blocks(aim.alloc, blocks, aim.to, aim.after)?;
+    logical(aim.alloc, blocks, both, left, right, truth, aim.free)
+}
+
+// The value of a conditional expression, each side of which is a block of its own.
+#[cycle(expressions)]
+fn conditional_into(
+    aim: Aim,
+    blocks: &mut Vec<RBlock>,
+    test: &TypedExpression,
+    first: &TypedExpression,
+    second: &TypedExpression,
+) -> Result<OpenBlock, LowerFault>
+    ensures { (k : IntegerType) → EmitsValue (conditional k (typed_expression_of test.now) (typed_expression_of first.now)
+        (typed_expression_of second.now)) aim.to aim.free (spot aim.after) blocks.old.items blocks.new.items result }
+{
     let Aim {
         alloc,
         to,
         free,
         after,
     } = aim;
-    match form_of(operator, integer_type) {
-        Form::LogicalAnd => {
-            let truth = truth_blocks(alloc, blocks, to, after)?;
-            let second_code = condition(alloc, blocks, right, truth, free)?;
-            let second = seal(blocks, second_code)?;
-            condition(alloc, blocks, left, truth.with_yes(second), free)
-        }
-        Form::LogicalOr => {
-            let truth = truth_blocks(alloc, blocks, to, after)?;
-            let second_code = condition(alloc, blocks, right, truth, free)?;
-            let second = seal(blocks, second_code)?;
-            condition(alloc, blocks, left, truth.with_no(second), free)
-        }
-        Form::Plain(operation) => {
-            let code = opened(alloc, after);
-            let values = operated(operation, left, right, to, free, code)?;
-            let (first, second) = (values.first, values.second);
-            let middle = operand_into(
-                alloc,
-                blocks,
-                right,
-                second.register,
-                first.free,
-                values.code,
-            )?;
-            operand_into(alloc, blocks, left, first.register, free, middle)
-        }
-    }
+    let join = sealed(blocks, after)?;
+    let yes = value_block(alloc, blocks, first, to, free, join)?;
+    let no = value_block(alloc, blocks, second, to, free, join)?;
+    condition(alloc, blocks, test, likely(yes, no), free)
+}
+
+// A value as a block of its own, which goes on at a block that is there.
+#[cycle(expressions)]
+fn value_block(
+    alloc: Global,
+    blocks: &mut Vec<RBlock>,
+    e: &TypedExpression,
+    to: Register,
+    free: Register,
+    join: BlockNumber,
+) -> Result<BlockNumber, LowerFault>
+    ensures { EmitsValueBlock (typed_expression_of e.now) to free join blocks.old.items blocks.new.items result }
+{
+    let code = value_into(alloc, blocks, e, to, free, Continuation::Jump(join))?;
+    seal(blocks, code)
 }
 
 /// The value of an operand in its place: no code for a local that is there.
@@ -190,6 +234,53 @@ pub fn operand_into(
     value_into(alloc, blocks, e, register, free, Continuation::Made(after))
 }
 
+// The value of an operand in its place, before code that waits for it there, if there is such code.
+#[cycle(expressions)]
+fn awaited(
+    alloc: Global,
+    blocks: &mut Vec<RBlock>,
+    e: &TypedExpression,
+    free: Register,
+    waiting: Result<Waiting, LowerFault>,
+) -> Result<OpenBlock, LowerFault>
+    requires within { IfOk waiting (λ w. w.place.register < MAX_REGISTERS) }
+    ensures ok { IfOk waiting (λ w. EmitsOperand (typed_expression_of e.now) w.place.register free w.code
+        blocks.old.items blocks.new.items result) }
+    ensures err { IfErr waiting (λ f. (result ≡ Err f) × (blocks.new.items ≡ blocks.old.items)) }
+{
+    let value = waiting?;
+    operand_into(alloc, blocks, e, value.place.register, free, value.code)
+}
+
+// The same of two operands, the first of which is held while the second is found.
+#[cycle(expressions)]
+fn both_awaited(
+    alloc: Global,
+    blocks: &mut Vec<RBlock>,
+    left: &TypedExpression,
+    right: &TypedExpression,
+    free: Register,
+    waiting: Result<WaitingForTwo, LowerFault>,
+) -> Result<OpenBlock, LowerFault>
+    requires first { IfOk waiting (λ w. w.first.register < MAX_REGISTERS) }
+    requires second { IfOk waiting (λ w. w.second.register < MAX_REGISTERS) }
+    ensures ok { IfOk waiting (λ w. EmitsBoth (typed_expression_of left.now) (typed_expression_of right.now) free
+        w.first.register w.first.free w.second.register w.code blocks.old.items blocks.new.items result) }
+    ensures err { IfErr waiting (λ f. (result ≡ Err f) × (blocks.new.items ≡ blocks.old.items)) }
+{
+    let values = waiting?;
+    let (first, second) = (values.first, values.second);
+    let middle = operand_into(
+        alloc,
+        blocks,
+        right,
+        second.register,
+        first.free,
+        values.code,
+    )?;
+    operand_into(alloc, blocks, left, first.register, free, middle)
+}
+
 // A branch by a value.
 #[cycle(expressions)]
 fn test(
@@ -202,8 +293,7 @@ fn test(
     ensures { EmitsBranch (test_size (typed_expression_of e.now) targets.likely free) (typed_expression_of e.now) targets free
         blocks.old.items blocks.new.items result }
 {
-    let value = tested(alloc, e, targets, free)?;
-    operand_into(alloc, blocks, e, value.place.register, free, value.code)
+    awaited(alloc, blocks, e, free, tested(alloc, e, targets, free))
 }
 
 /// The branches of a condition to its targets.
@@ -227,16 +317,8 @@ pub fn condition(
         },
         TypedExpression::Binary(operator, integer_type, left, right) => {
             match form_of(*operator, *integer_type) {
-                Form::LogicalAnd => {
-                    let second_code = condition(alloc, blocks, right, targets, free)?;
-                    let second = seal(blocks, second_code)?;
-                    condition(alloc, blocks, left, targets.with_yes(second), free)
-                }
-                Form::LogicalOr => {
-                    let second_code = condition(alloc, blocks, right, targets, free)?;
-                    let second = seal(blocks, second_code)?;
-                    condition(alloc, blocks, left, targets.with_no(second), free)
-                }
+                Form::LogicalAnd => logical(alloc, blocks, true, left, right, targets, free),
+                Form::LogicalOr => logical(alloc, blocks, false, left, right, targets, free),
                 Form::Plain(_) => {
                     let Some(operation) = contrary_of(*operator, *integer_type) else {
                         return test(alloc, blocks, e, targets, free);
@@ -244,29 +326,89 @@ pub fn condition(
                     if targets.likely {
                         return test(alloc, blocks, e, targets, free);
                     }
-                    let values = contrary(alloc, operation, left, right, targets, free)?;
-                    let (first, second) = (values.first, values.second);
-                    let middle = operand_into(
-                        alloc,
-                        blocks,
-                        right,
-                        second.register,
-                        first.free,
-                        values.code,
-                    )?;
-                    operand_into(alloc, blocks, left, first.register, free, middle)
+                    compared(alloc, blocks, operation, left, right, targets, free)
                 }
             }
         }
         TypedExpression::Conditional(_, test, first, second) => {
-            let first_code = condition(alloc, blocks, first, targets, free)?;
-            let yes = seal(blocks, first_code)?;
-            let second_code = condition(alloc, blocks, second, targets, free)?;
-            let no = seal(blocks, second_code)?;
-            condition(alloc, blocks, test, likely(yes, no), free)
+            sides(alloc, blocks, test, first, second, targets, free)
         }
         _ => test(alloc, blocks, e, targets, free),
     }
+}
+
+// A branch by the contrary of a comparison, with the block `no` first.
+#[cycle(expressions)]
+fn compared(
+    alloc: Global,
+    blocks: &mut Vec<RBlock>,
+    operation: Operation,
+    left: &TypedExpression,
+    right: &TypedExpression,
+    targets: Targets,
+    free: Register,
+) -> Result<OpenBlock, LowerFault>
+    ensures { (o : BinaryOp) (k : IntegerType) → ComputesContrary o (sign_of k) operation → Sizes.is_logical o ≡ false
+        → has_contrary o ≡ true → targets.likely ≡ false
+        → EmitsBranch (condition_size (binary o k (typed_expression_of left.now) (typed_expression_of right.now)) targets.likely free)
+        (binary o k (typed_expression_of left.now) (typed_expression_of right.now)) targets free blocks.old.items blocks.new.items result }
+{
+    let values = contrary(alloc, operation, left, right, targets, free);
+    both_awaited(alloc, blocks, left, right, free, values)
+}
+
+// The branches of `&&` or `||`: of the left operand, and in a block of its own of the right one.
+#[cycle(expressions)]
+fn logical(
+    alloc: Global,
+    blocks: &mut Vec<RBlock>,
+    both: bool,
+    left: &TypedExpression,
+    right: &TypedExpression,
+    targets: Targets,
+    free: Register,
+) -> Result<OpenBlock, LowerFault>
+    ensures { (k : IntegerType) → EmitsBranch (condition_size (binary (logical_of both) k (typed_expression_of left.now)
+        (typed_expression_of right.now)) targets.likely free) (binary (logical_of both) k (typed_expression_of left.now)
+        (typed_expression_of right.now)) targets free blocks.old.items blocks.new.items result }
+{
+    let second = branch_block(alloc, blocks, right, targets, free)?;
+    condition(alloc, blocks, left, targets.of_left(both, second), free)
+}
+
+// The branches of a conditional expression, each side of which is a block of its own.
+#[cycle(expressions)]
+fn sides(
+    alloc: Global,
+    blocks: &mut Vec<RBlock>,
+    test: &TypedExpression,
+    first: &TypedExpression,
+    second: &TypedExpression,
+    targets: Targets,
+    free: Register,
+) -> Result<OpenBlock, LowerFault>
+    ensures { (k : IntegerType) → EmitsBranch (condition_size (conditional k (typed_expression_of test.now) (typed_expression_of first.now)
+        (typed_expression_of second.now)) targets.likely free) (conditional k (typed_expression_of test.now) (typed_expression_of first.now)
+        (typed_expression_of second.now)) targets free blocks.old.items blocks.new.items result }
+{
+    let yes = branch_block(alloc, blocks, first, targets, free)?;
+    let no = branch_block(alloc, blocks, second, targets, free)?;
+    condition(alloc, blocks, test, likely(yes, no), free)
+}
+
+// The branches of a condition as a block of its own.
+#[cycle(expressions)]
+fn branch_block(
+    alloc: Global,
+    blocks: &mut Vec<RBlock>,
+    e: &TypedExpression,
+    targets: Targets,
+    free: Register,
+) -> Result<BlockNumber, LowerFault>
+    ensures { EmitsBranchBlock (typed_expression_of e.now) targets free blocks.old.items blocks.new.items result }
+{
+    let code = condition(alloc, blocks, e, targets, free)?;
+    seal(blocks, code)
 }
 
 /// The values of a list in their places, from the first on. A Limit where there are fewer places than values.

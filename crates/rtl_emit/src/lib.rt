@@ -36,6 +36,7 @@ mod expression;
 mod fault;
 mod operation;
 mod place;
+mod simple;
 mod targets;
 mod waiting;
 

@@ -22,6 +22,8 @@ pub struct Targets {
 }
 
 impl Targets {
+    ghost use Rattle.rtl_emit.specs.Emits.{left_targets};
+
     // Those of the contrary condition.
     pub(crate) fn turned(self) -> Targets
         ensures { result ≡ record { yes = self.no; no = self.yes; likely = not self.likely } }
@@ -33,25 +35,22 @@ impl Targets {
         }
     }
 
-    // The same but where the condition isn't 0.
-    pub(crate) fn with_yes(self, yes: BlockNumber) -> Targets
-        ensures { result ≡ record { yes = yes; no = self.no; likely = self.likely } }
+    // Those of the left operand of `&&` (`both`) or `||`, where the right one is tested in a block of its own.
+    pub(crate) fn of_left(self, both: bool, second: BlockNumber) -> Targets
+        ensures { result ≡ left_targets both self second }
     {
-        Targets {
-            yes,
-            no: self.no,
-            likely: self.likely,
-        }
-    }
-
-    // The same but where the condition is 0.
-    pub(crate) fn with_no(self, no: BlockNumber) -> Targets
-        ensures { result ≡ record { yes = self.yes; no = no; likely = self.likely } }
-    {
-        Targets {
-            yes: self.yes,
-            no,
-            likely: self.likely,
+        if both {
+            Targets {
+                yes: second,
+                no: self.no,
+                likely: self.likely,
+            }
+        } else {
+            Targets {
+                yes: self.yes,
+                no: second,
+                likely: self.likely,
+            }
         }
     }
 }

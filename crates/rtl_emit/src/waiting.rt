@@ -1,5 +1,5 @@
 // Code that waits for the values of operands in their places, from where on it does what they are for.
-ghost use Rattle.std.specs.Prelude.{◌≡◌, ◌<◌, ◌≤◌, ◌+◌, ◌^◌, max, List, IfOk, IfErr, OnOk};
+ghost use Rattle.std.specs.Prelude.{◌≡◌, ◌<◌, ◌≤◌, ◌+◌, max, List, IfOk, IfErr, OnOk};
 ghost use Rattle.c_typed.specs.Shape.{typed_expression_of};
 ghost use Rattle.rtl.specs.Meaning.{Code};
 ghost use Rattle.rtl.specs.declared.block.RBlock.{RBlock};
@@ -12,13 +12,14 @@ ghost use Rattle.rtl_emit.specs.Operations.{inst_of};
 ghost use Rattle.rtl_emit.specs.Sizes.{place_registers, next_free, test_registers, Beyond};
 ghost use Rattle.rtl_emit.specs.Sound.{Scope, IsSound};
 
-use crate::block::{Continuation, OpenBlock, leaving, put_before, put_first};
+use crate::block::{OpenBlock, leaving, put_before, put_first};
 use crate::fault::LowerFault;
 use crate::operation::{Combination, Operation, straight};
 use crate::place::{Place, place_of, spare};
+use crate::simple::{Aim, global_of};
 use crate::targets::Targets;
 use c_typed::TypedExpression;
-use rtl::{GlobalNumber, Op, RExit, RInst, Register};
+use rtl::{Op, RExit, RInst, Register};
 use std::alloc::Global;
 
 /// An operand's place, and the code that waits for its value there.
@@ -36,54 +37,22 @@ pub(crate) struct WaitingForTwo {
     pub(crate) code: OpenBlock,
 }
 
-// The number of a global in RTL; a Limit where it has none.
-fn global_of(global: usize) -> Result<GlobalNumber, LowerFault>
-    ensures is { IfOk result (λ g. g ≡ global) }
-    ensures limit { IfErr result (λ f. f ≡ LowerFault.Limit → 2 ^ 32 < global + 1) }
-{
-    if global > u32::MAX as usize {
-        return Err(LowerFault::Limit);
-    }
-    Ok(global as u32)
-}
-
-// The value of a global variable, before what comes there.
-pub(crate) fn global_into(
-    alloc: Global,
-    global: usize,
-    to: Register,
-    free: Register,
-    after: Continuation,
-) -> Result<OpenBlock, LowerFault>
-    ensures is { IfOk result (λ c. open_code c ≡ first (Const free 0) (first (Load to global free) (line_of (spot after)))) }
-    ensures room { OnOk result (free < MAX_REGISTERS) }
-    ensures limit { IfErr result (λ f. f ≡ LowerFault.Limit → Beyond (free + 1) 0 (global + 1)) }
-{
-    let number = global_of(global)?;
-    let index = spare(free)?;
-    let load = put_before(alloc, RInst::Load(to, number, index), after)?;
-    let from = put_first(RInst::Const(index, 0), load)?;
-    Ok(from)
-}
-
 // The load of an element of an array, whose index is an operand.
 pub(crate) fn load_at(
-    alloc: Global,
+    aim: Aim,
     array: usize,
     index: &TypedExpression,
-    to: Register,
-    free: Register,
-    after: Continuation,
 ) -> Result<Waiting, LowerFault>
-    ensures place { IfOk result (λ w. IsPlace (typed_expression_of index.now) free w.place.register w.place.free) }
-    ensures is { IfOk result (λ w. open_code w.code ≡ first (Load to array w.place.register) (line_of (spot after))) }
-    ensures room { OnOk result (place_registers (typed_expression_of index.now) free ≤ MAX_REGISTERS) }
+    ensures place { IfOk result (λ w. IsPlace (typed_expression_of index.now) aim.free w.place.register w.place.free) }
+    ensures is { IfOk result (λ w. open_code w.code ≡ first (Load aim.to array w.place.register) (line_of (spot aim.after))) }
+    ensures room { OnOk result (place_registers (typed_expression_of index.now) aim.free ≤ MAX_REGISTERS) }
     ensures limit { IfErr result (λ f. f ≡ LowerFault.Limit
-        → Beyond (place_registers (typed_expression_of index.now) free) 0 (array + 1)) }
+        → Beyond (place_registers (typed_expression_of index.now) aim.free) 0 (array + 1)) }
 {
     let number = global_of(array)?;
-    let place = place_of(index, free)?;
-    let code = put_before(alloc, RInst::Load(to, number, place.register), after)?;
+    let place = place_of(index, aim.free)?;
+    let load = RInst::Load(aim.to, number, place.register);
+    let code = put_before(aim.alloc, load, aim.after)?;
     Ok(Waiting { place, code })
 }
 

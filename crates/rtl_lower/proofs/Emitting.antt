@@ -27,9 +27,9 @@ use Rattle.rtl_emit.specs.declared.place.Place.{Place}
 use Rattle.rtl_emit.specs.declared.targets.Targets.{Targets}
 use Rattle.rtl_emit.proofs.Blocks.{grows_then, within, split2, split3, split4}
 use Rattle.rtl_emit.proofs.Emitted.{Over, Joins, finds_to}
-use Rattle.rtl_emit.proofs.Emitting.{ended, beyond_more, grows_same}
+use Rattle.rtl_emit.proofs.Emitting.{ended, part_refused, refused, grows_same}
 use Rattle.rtl_emit.proofs.Sound.{sound_along, sound_first, sound_exit, sound_line}
-use Rattle.rtl_lower.specs.Emits.{statement_size, statements_size, EmitsCode, EmitsStatement, EmitsStatements, made_of, EmitsSide}
+use Rattle.rtl_lower.specs.Emits.{statement_size, statements_size, EmitsCode, EmitsStatement, EmitsStatements, made_of, side_size, EmitsSide}
 use Rattle.rtl_lower.specs.Emits.{EmitsReceiver, turn_end, IsEnd, EndsTurn, turn_size, EmitsTurn}
 use Rattle.rtl_lower.specs.Sizes.{stays, is_equality, continues, receiver_blocks, statement_joint, statements_joint}
 use Rattle.rtl_lower.specs.Sizes.{statement_blocks, statements_blocks, statement_registers, statements_registers}
@@ -79,21 +79,6 @@ made_emits size old new Keeps Does (Err f) e = record {
   count = tt;
   room = tt;
   limit = e.limit;
-  sound = tt;
-  does = tt;
-}
-
--- where a part fails behind k blocks, the whole does
-pub stopped : {A B : Type 0} (part whole : Size) (k : ℕ) (old mid new : List RBlock) (Keeps : A → Type 0) (Keeps' : B → Type 0)
-    (Does : A → List RBlock → Type 0) (Does' : B → List RBlock → Type 0) (f : LowerFault) → part.registers ≤ whole.registers
-    → k + part.blocks ≤ whole.blocks → part.globals ≤ whole.globals → Grows old mid → length mid ≡ length old + k
-    → Emits part mid new Keeps Does (Err f) → Emits whole old new Keeps' Does' (Err f)
-stopped part whole k old mid new Keeps Keeps' Does Does' f lr lb lg g n e = record {
-  grows = grows_then old mid new g e.grows;
-  count = tt;
-  room = tt;
-  limit = λ is. beyond_more part.registers (length mid + part.blocks) part.globals whole.registers (length old + whole.blocks) whole.globals
-      lr (omega (arith, n, lb)) lg (e.limit is);
   sound = tt;
   does = tt;
 }
@@ -393,9 +378,10 @@ more_emits old mid new all s rest c after middle r is others one =
 pub list_stopped : (old new : List RBlock) (all : List Tree.TypedStatement) (k : ℕ) (c : Context) (after : Spot) (f : LowerFault)
     (r : Result Continuation LowerFault) → r ≡ Err f → EmitsStatements (statements_of (drop k all)) c after old new (Err f)
     → EmitsStatements (statements_of all) c after old new r
-list_stopped old new all k c after f r ir e = subst (λ r. EmitsStatements (statements_of all) c after old new r) (sym ir)
-    (stopped (statements_size (statements_of (drop k all)) c.free (joint after)) (statements_size (statements_of all) c.free (joint after)) 0 old old new
-    _ _ _ _ f (rest_registers k all c.free) (omega (arith, rest_blocks k all (joint after))) (rest_numbers k all) (grows_same old) (omega arith) e)
+list_stopped old new all k c after f r ir e =
+    part_refused (statements_size (statements_of (drop k all)) c.free (joint after)) (statements_size (statements_of all) c.free (joint after)) 0
+    old old new _ _ _ _ f r ir (rest_registers k all c.free) (omega (arith, rest_blocks k all (joint after))) (rest_numbers k all) (grows_same old)
+    (omega arith) e
 
 pub all_emitted : (old new : List RBlock) (all : List Tree.TypedStatement) (k : ℕ) (c : Context) (after : Spot) (r : Result Continuation LowerFault)
     → k ≡ 0 → EmitsStatements (statements_of (drop k all)) c after old new r → EmitsStatements (statements_of all) c after old new r
@@ -485,6 +471,37 @@ if_emits b0 b1 b2 b3 b4 e a b c join y n likely after r il sealing one other tes
       b_for = z.2;
       test = does bs sp.3;
     }) test')
+
+-- what is told where a part of an `if` is refused: where it goes on, a side, or the side behind it
+
+pub side_stops : (old new : List RBlock) (s : TypedStatement) (c : Context) (join : ℕ) (f : LowerFault) (r : Result ℕ LowerFault) → r ≡ Err f
+    → EmitsStatement s c (Block join) old new (Err f) → EmitsSide s c join old new r
+side_stops old new s c join f r is e =
+    part_refused (statement_size s c.free 0) (side_size s c.free) 0 old old new _ _ _ _ f r is (omega arith) (omega arith) (omega arith) (grows_same old)
+    (omega arith) e
+
+pub if_join_stops : (old new : List RBlock) (e : TypedExpression) (a b : TypedStatement) (c : Context) (after : Spot) (f : LowerFault)
+    (r : Result OpenBlock LowerFault) → r ≡ Err f → new ≡ old → (f ≡ Limit → MAX_BLOCKS < length old + joint after)
+    → EmitsStatement (if_else e a b) c after old new (made_of r)
+if_join_stops old new e a b c after f r is same limit =
+    refused (statement_size (if_else e a b) c.free (joint after)) old new _ _ f (made_of r) (ap made_of is) same
+    (λ l. let more = limit l in omega (arith, more))
+
+pub if_first_stops : (b0 b1 b2 : List RBlock) (e : TypedExpression) (a b : TypedStatement) (c : Context) (join : ℕ) (after : Spot) (f : LowerFault)
+    (r : Result OpenBlock LowerFault) → r ≡ Err f → Sealing b0 b1 join after → EmitsSide a c join b1 b2 (Err f)
+    → EmitsStatement (if_else e a b) c after b0 b2 (made_of r)
+if_first_stops b0 b1 b2 e a b c join after f r is sealing one =
+    part_refused (side_size a c.free) (statement_size (if_else e a b) c.free (joint after)) (joint after) b0 b1 b2 _ _ _ _ f (made_of r) (ap made_of is)
+    (omega arith) (omega arith) (omega arith) sealing.grows sealing.count one
+
+pub if_second_stops : (b0 b1 b2 b3 : List RBlock) (e : TypedExpression) (a b : TypedStatement) (c : Context) (join y : ℕ) (after : Spot)
+    (f : LowerFault) (r : Result OpenBlock LowerFault) → r ≡ Err f → Sealing b0 b1 join after → EmitsSide a c join b1 b2 (Ok y)
+    → EmitsSide b c join b2 b3 (Err f) → EmitsStatement (if_else e a b) c after b0 b3 (made_of r)
+if_second_stops b0 b1 b2 b3 e a b c join y after f r is sealing one other =
+    let c1 : length b2 ≡ length b1 + (statement_blocks a 0 + statement_joint a 0) = one.count in
+    part_refused (side_size b c.free) (statement_size (if_else e a b) c.free (joint after)) (joint after + (statement_blocks a 0 + statement_joint a 0))
+    b0 b2 b3 _ _ _ _ f (made_of r) (ap made_of is) (omega arith) (omega arith) (omega arith) (grows_then b0 b1 b2 sealing.grows one.grows)
+    (omega (arith, sealing.count, c1)) other
 
 -- loops
 
@@ -614,3 +631,94 @@ loop_emits b0 b1 b2 b3 b4 b5 b6 e last body c inner many left head turn code top
             test = test.does bs sp.2;
           };
     }
+
+-- what is told where a part of a loop's turn is refused
+
+pub bottom_stops : (old new : List RBlock) (e : TypedExpression) (last : TypedStatement) (c : Context) (many : Bool) (again : Targets)
+    (f : LowerFault) (r : Result Turn LowerFault) → r ≡ Err f → EmitsBranch (condition_size e again.likely c.free) e again c.free old new (Err f)
+    → EmitsTurn e last c many again old new r
+bottom_stops old new e last c many again f r is test =
+    part_refused (condition_size e again.likely c.free) (turn_size e last many again.likely c.free) 0 old old new _ _ _ _ f r is (omega arith) (omega arith)
+    (omega arith) (grows_same old) (omega arith) test
+
+pub last_stops : (b0 b1 b2 : List RBlock) (e : TypedExpression) (last : TypedStatement) (c : Context) (many : Bool) (again : Targets)
+    (bottom : OpenBlock) (f : LowerFault) (r : Result Turn LowerFault) → r ≡ Err f
+    → EmitsBranch (condition_size e again.likely c.free) e again c.free b0 b1 (Ok bottom)
+    → EmitsStatement last c (Line (open_code bottom)) b1 b2 (Err f) → EmitsTurn e last c many again b0 b2 r
+last_stops b0 b1 b2 e last c many again bottom f r is test part =
+    part_refused (statement_size last c.free 1) (turn_size e last many again.likely c.free) (condition_blocks e) b0 b1 b2 _ _ _ _ f r is (omega arith)
+    (omega arith) (omega arith) test.grows test.count part
+
+-- and of a loop
+
+pub loop_join_stops : (old new : List RBlock) (e : TypedExpression) (last body : TypedStatement) (c : Context) (after : Spot) (f : LowerFault)
+    (r : Result OpenBlock LowerFault) → r ≡ Err f → new ≡ old → (f ≡ Limit → MAX_BLOCKS < length old + joint after)
+    → EmitsStatement (loop e last body) c after old new (made_of r)
+loop_join_stops old new e last body c after f r is same limit =
+    refused (statement_size (loop e last body) c.free (joint after)) old new _ _ f (made_of r) (ap made_of is) same
+    (λ l. let more = limit l in omega (arith, more))
+
+pub loop_head_stops : (b0 b1 b2 : List RBlock) (e : TypedExpression) (last body : TypedStatement) (c : Context) (left : ℕ) (after : Spot)
+    (f : LowerFault) (r : Result OpenBlock LowerFault) → r ≡ Err f → Sealing b0 b1 left after → b2 ≡ b1
+    → (f ≡ Limit → MAX_BLOCKS < length b1 + 1) → EmitsStatement (loop e last body) c after b0 b2 (made_of r)
+loop_head_stops b0 b1 b2 e last body c left after f r is sealing same limit =
+    subst (λ r. EmitsStatement (loop e last body) c after b0 b2 r) (sym (ap made_of is)) (record {
+      grows = subst (λ b. Grows b0 b) (sym same) sealing.grows;
+      count = tt;
+      room = tt;
+      limit = λ l. let more = limit l in omega (arith, more, sealing.count);
+      sound = tt;
+      does = tt;
+    })
+
+-- the blocks before the turn of a loop
+pub record Heading (b0 b1 b2 : List RBlock) (left head : ℕ) (after : Spot) : Type 0 where
+  pub sealing : Sealing b0 b1 left after
+  pub reserves : Reserves b1 b2 head
+
+pub loop_turn_stops : (b0 b1 b2 b3 : List RBlock) (e : TypedExpression) (last body : TypedStatement) (c : Context) (many : Bool) (left head : ℕ)
+    (after : Spot) (f : LowerFault) (r : Result OpenBlock LowerFault) → r ≡ Err f → many ≡ continues body → Heading b0 b1 b2 left head after
+    → EmitsTurn e last c many (record { yes = head; no = left; likely = true }) b2 b3 (Err f)
+    → EmitsStatement (loop e last body) c after b0 b3 (made_of r)
+loop_turn_stops b0 b1 b2 b3 e last body c many left head after f r is im h turns =
+    let turn = subst (λ many. EmitsTurn e last c many (record { yes = head; no = left; likely = true }) b2 b3 (Err f)) im turns in
+    part_refused (turn_size e last (continues body) true c.free) (statement_size (loop e last body) c.free (joint after)) (joint after + 1) b0 b2 b3 _ _ _ _ f
+    (made_of r) (ap made_of is) (omega arith) (omega arith) (omega arith) (grows_then b0 b1 b2 h.sealing.grows h.reserves.grows)
+    (omega (arith, h.sealing.count, h.reserves.longer)) turn
+
+pub loop_body_stops : (b0 b1 b2 b3 b4 : List RBlock) (e : TypedExpression) (last body : TypedStatement) (c inner : Context) (many : Bool)
+    (left head : ℕ) (turn : Turn) (after : Spot) (f : LowerFault) (r : Result OpenBlock LowerFault) → r ≡ Err f → many ≡ continues body
+    → inner ≡ record { alloc = c.alloc; free = c.free; leave = left; next = turn.next } → Heading b0 b1 b2 left head after
+    → EmitsTurn e last c many (record { yes = head; no = left; likely = true }) b2 b3 (Ok turn)
+    → EmitsStatement body inner (spot turn.after) b3 b4 (Err f) → EmitsStatement (loop e last body) c after b0 b4 (made_of r)
+loop_body_stops b0 b1 b2 b3 b4 e last body c inner many left head turn after f r is im ii h turns inside =
+    let body_emits = subst (λ inner. EmitsStatement body inner (spot turn.after) b3 b4 (Err f)) ii inside in
+    let turns' = subst (λ many. EmitsTurn e last c many (record { yes = head; no = left; likely = true }) b2 b3 (Ok turn)) im turns in
+    let same : joint (spot turn.after) ≡ (if continues body then 0 else statement_joint last 1) = turns'.sound.0.1 in
+    let blocks = ap (statement_blocks body) same in
+    let c2 : length b3 ≡ length b2 + (turn_size e last (continues body) true c.free).blocks = turns'.count in
+    part_refused (statement_size body c.free (joint (spot turn.after))) (statement_size (loop e last body) c.free (joint after))
+    (joint after + 1 + (turn_size e last (continues body) true c.free).blocks) b0 b3 b4 _ _ _ _ f (made_of r) (ap made_of is) (omega arith)
+    (omega (arith, blocks)) (omega arith)
+    (grows_then b0 b1 b3 h.sealing.grows (grows_then b1 b2 b3 h.reserves.grows turns'.grows))
+    (omega (arith, h.sealing.count, h.reserves.longer, c2)) body_emits
+
+pub loop_top_stops : (b0 b1 b2 b3 b4 b5 : List RBlock) (e : TypedExpression) (last body : TypedStatement) (c inner : Context) (many : Bool)
+    (left head : ℕ) (turn : Turn) (code : Continuation) (after : Spot) (f : LowerFault) (r : Result OpenBlock LowerFault) → r ≡ Err f
+    → many ≡ continues body → inner ≡ record { alloc = c.alloc; free = c.free; leave = left; next = turn.next } → Heading b0 b1 b2 left head after
+    → EmitsTurn e last c many (record { yes = head; no = left; likely = true }) b2 b3 (Ok turn)
+    → EmitsStatement body inner (spot turn.after) b3 b4 (Ok code)
+    → EmitsBranch (condition_size e true c.free) e (record { yes = head; no = left; likely = true }) c.free b4 b5 (Err f)
+    → EmitsStatement (loop e last body) c after b0 b5 (made_of r)
+loop_top_stops b0 b1 b2 b3 b4 b5 e last body c inner many left head turn code after f r is im ii h turns inside test =
+    let body_emits = subst (λ inner. EmitsStatement body inner (spot turn.after) b3 b4 (Ok code)) ii inside in
+    let turns' = subst (λ many. EmitsTurn e last c many (record { yes = head; no = left; likely = true }) b2 b3 (Ok turn)) im turns in
+    let same : joint (spot turn.after) ≡ (if continues body then 0 else statement_joint last 1) = turns'.sound.0.1 in
+    let blocks = ap (statement_blocks body) same in
+    let c2 : length b3 ≡ length b2 + (turn_size e last (continues body) true c.free).blocks = turns'.count in
+    let c3 : length b4 ≡ length b3 + statement_blocks body (joint (spot turn.after)) = body_emits.count in
+    part_refused (condition_size e true c.free) (statement_size (loop e last body) c.free (joint after))
+    (joint after + 1 + (turn_size e last (continues body) true c.free).blocks + statement_blocks body (joint (spot turn.after))) b0 b4 b5 _ _ _ _ f
+    (made_of r) (ap made_of is) (omega arith) (omega (arith, blocks)) (omega arith)
+    (grows_then b0 b1 b4 h.sealing.grows (grows_then b1 b2 b4 h.reserves.grows (grows_then b2 b3 b4 turns'.grows body_emits.grows)))
+    (omega (arith, h.sealing.count, h.reserves.longer, c2, c3)) test

@@ -1,3 +1,5 @@
 pub mod Stores
+pub mod Kept
 pub mod Runs
+pub mod Steps
 pub mod Refines

@@ -4,6 +4,7 @@ ghost use Rattle.std.specs.Prelude.{◌≡◌};
 ghost use Rattle.term_table.specs.Passes.{InRange};
 
 use std::marker::Model;
+use term_table::{MAX_HEADS, MAX_NODES, MAX_PASSES};
 
 /// How many workers a phase has, and the table that they share: nodes for each worker, and chains.
 #[derive(Clone, Copy, Debug, PartialEq, Eq)]
@@ -27,17 +28,17 @@ impl Model for PhaseOpts {
 }
 
 impl PhaseOpts {
-    /// These options, where a table can be opened by them: 1 to 64 workers, 1 to 1,048,576 nodes for each, 1 to 65,536
-    /// chains.
+    /// These options, where a table can be opened by them: 1 to `MAX_PASSES` workers, 1 to `MAX_NODES` nodes for each, 1 to
+    /// `MAX_HEADS` chains.
     pub fn new(workers: u64, nodes: u64, heads: u64) -> Option<PhaseOpts>
         ensures { SomeIff result (InRange workers nodes heads) (record { workers = workers; nodes = nodes; heads = heads }) }
     {
         let is_in_range = workers >= 1
-            && workers <= 64
+            && workers <= MAX_PASSES
             && nodes >= 1
-            && nodes <= 1_048_576
+            && nodes <= MAX_NODES
             && heads >= 1
-            && heads <= 65_536;
+            && heads <= MAX_HEADS;
         if is_in_range {
             Some(PhaseOpts {
                 workers,

@@ -2,6 +2,7 @@
 ghost use Rattle.std.specs.Prelude.{◌≡◌, ◌≢◌, ℕ, ◌<◌, ◌≤◌, All, IfOk, IfErr, IfSome, Some, vec_len, length, slice_get};
 ghost use Rattle.image.specs.Images.{total};
 ghost use Rattle.steal_pool.specs.Places.{EachPlace};
+ghost use Rattle.term_table.specs.declared.limits.TheConstants.{MAX_PASSES};
 ghost use Rattle.term_table.specs.Passes.{IsOf};
 ghost use Rattle.sched_phase.specs.Phases.{IsPhase, IsRightFor};
 
@@ -25,7 +26,7 @@ fn opened(
     workers: u64,
     options: PhaseOpts,
 ) -> Result<(TermTable, Vec<Pass>), AllocError>
-    requires { (0 < workers) × (workers ≤ 64) }
+    requires { (0 < workers) × (workers ≤ MAX_PASSES) }
     ensures count { IfOk result (λ t. vec_len t.1 ≡ workers) }
     ensures own { IfOk result (λ t. All (IsOf t.0) t.1.items) }
 {

@@ -4,7 +4,7 @@ ghost use Rattle.std.specs.Prelude.{◌≡◌, IfOk};
 ghost use Rattle.sched_phase.specs.Schedules.{ArePlain, no_counts};
 
 use crate::scheduled::Scheduled;
-use image::Counts;
+use crate::settle::none_counted;
 use mblock::{Unit, plain_orders};
 use std::alloc::{AllocError, Global};
 
@@ -15,13 +15,5 @@ pub fn schedule_plain<'a>(alloc: Global, unit: &'a Unit) -> Result<Scheduled<'a>
     ensures report { IfOk result (λ s. s.report ≡ no_counts) }
 {
     let orders = plain_orders(alloc, unit)?;
-    let report = Counts {
-        same: 0,
-        unclean: 0,
-        differs: 0,
-        full: 0,
-        no_memory: 0,
-        missed: 0,
-    };
-    Ok(Scheduled::of(unit, orders, report))
+    Ok(Scheduled::of(unit, orders, none_counted()))
 }

@@ -79,6 +79,20 @@ fn settled<'a, R: Reorder>(
     }
 }
 
+/// The counts before the first block.
+pub(crate) fn none_counted() -> Counts
+    ensures { result ≡ record { same = 0; unclean = 0; differs = 0; full = 0; no_memory = 0; missed = 0 } }
+{
+    Counts {
+        same: 0,
+        unclean: 0,
+        differs: 0,
+        full: 0,
+        no_memory: 0,
+        missed: 0,
+    }
+}
+
 /// The orders of the first blocks of a unit, and what these blocks came to.
 #[derive(Drop)]
 pub(crate) struct Progress {
@@ -95,17 +109,9 @@ impl Progress {
     {
         let _ = reorder;
         let _ = unit;
-        let report = Counts {
-            same: 0,
-            unclean: 0,
-            differs: 0,
-            full: 0,
-            no_memory: 0,
-            missed: 0,
-        };
         Progress {
             orders: Vec::new(alloc),
-            report,
+            report: none_counted(),
         }
     }
 

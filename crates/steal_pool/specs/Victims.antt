@@ -7,7 +7,8 @@ use Rattle.steal_pool.specs.Rule.{after_taking}
 
 -- its pass is one of the stealer's deque, which is first in, first out, and it has no other part
 abbrev pub IsVictim : {K : Type 0} → Victim K → Type 0
-IsVictim l = IsPassOf (stealer_deque l.stealer) l.pass × (stealer_flavor l.stealer ≡ 0) × (l ≡ record { stealer = l.stealer; pass = l.pass })
+IsVictim l =
+    IsPassOf (stealer_deque l.stealer) l.pass × (stealer_flavor l.stealer ≡ 0) × (l ≡ record { stealer = l.stealer; pass = l.pass })
 
 -- the task joined what one of the passes took, and nothing else changed
 abbrev pub TookOne : ℕ → List View → List View → Type 0

@@ -1,6 +1,7 @@
 //! The deques at the start.
 ghost use Rattle.std.specs.Prelude.{◌≡◌, ◌<◌, ◌≤◌, [], ◌∷◌, All, IfOk, OnOk, true, map, length, ℕ, Some, slice_get, vec_len};
 ghost use Rattle.crossbeam_deque.specs.Handles.{view, worker_view, worker_flavor, worker_deque, stealer_deque};
+ghost use Rattle.term_table.specs.declared.limits.TheConstants.{MAX_PASSES};
 ghost use Rattle.steal_pool.specs.Rule.{maker, shared, after_putting, KeptByPutting, KeptBySharing};
 ghost use Rattle.steal_pool.specs.Victims.{IsVictim};
 ghost use Rattle.steal_pool.specs.Shares.{Begins};
@@ -59,7 +60,7 @@ pub(crate) fn victims_of<K: Fact>(
     w: usize,
     n: usize,
 ) -> Result<Vec<Victim<K>>, AllocError>
-    requires count { (w < vec_len workers.old) × (vec_len workers.old ≤ 64) }
+    requires count { (w < vec_len workers.old) × (vec_len workers.old ≤ MAX_PASSES) }
     requires filled { AreFilled (vec_len workers.old) n workers.old.items }
     requires shares { KeptBySharing K.real }
     ensures same { OnOk result ((vec_len workers.new ≡ vec_len workers.old)

@@ -1,5 +1,6 @@
 //! Workers that steal: a task whose worker couldn't start is done by another.
 ghost use Rattle.std.specs.Prelude.{◌≡◌, ◌<◌, ◌≤◌, ℕ, All, None, vec_len, []};
+ghost use Rattle.term_table.specs.declared.limits.TheConstants.{MAX_PASSES};
 ghost use Rattle.steal_pool.specs.Places.{EachPlace};
 ghost use Rattle.steal_pool.specs.Members.{IsMember};
 
@@ -34,7 +35,7 @@ pub fn run<R: Threads + Wait + Sync, J: Job + Sync, G: Gate + Sync>(
     job: &J,
     gate: &G,
 ) -> Vec<Option<J::Out>>
-    requires workers { (0 < vec_len passes) × (vec_len passes ≤ 64) }
+    requires workers { (0 < vec_len passes) × (vec_len passes ≤ MAX_PASSES) }
     requires suits { All (J.suits job.now) passes.items }
     ensures len { vec_len result ≤ n }
     ensures right { EachPlace (J.right job.now) result.items }

@@ -1,5 +1,6 @@
 //! The members of a pool at the start.
 ghost use Rattle.std.specs.Prelude.{◌≡◌, ℕ, ◌<◌, ◌≤◌, [], ◌∷◌, All, IfOk, Some, slice_get};
+ghost use Rattle.term_table.specs.declared.limits.TheConstants.{MAX_PASSES};
 ghost use Rattle.steal_pool.specs.declared.member.Member.{Member};
 ghost use Rattle.steal_pool.specs.Rule.{maker, KeptByPutting, KeptBySharing};
 ghost use Rattle.steal_pool.specs.Members.{IsMember};
@@ -14,7 +15,7 @@ use std::alloc::{AllocError, Global};
 /// The members of a pool, each with a deque of its own and a way to all others. Task i below n lies on the deque of the
 /// member i % count; an Err is refused memory. Each deque begins with a task.
 pub fn members<K: Fact>(alloc: Global, count: usize, n: usize) -> Result<Vec<Member<K>>, AllocError>
-    requires count { (0 < count) × (count ≤ 64) × (count ≤ n) }
+    requires count { (0 < count) × (count ≤ MAX_PASSES) × (count ≤ n) }
     requires begins { K.real [] (maker ∷ []) }
     requires puts { KeptByPutting K.real }
     requires shares { KeptBySharing K.real }

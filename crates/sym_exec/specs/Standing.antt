@@ -1,5 +1,6 @@
 -- Tickets that stand for trees in what a pass has seen.
 use Rattle.std.specs.Prelude.{◌≡◌, ℕ, ◌<◌, List, [], ◌∷◌, slice_index, slice_set, Contains, ◌==◌, if◌then◌else◌, Result, OnErr}
+use Rattle.words.specs.declared.operator.Operator.{Operator}
 use Rattle.words.specs.declared.operator.Operator.TheVariants.{Addu}
 use Rattle.sym_terms.specs.declared.label.Label.TheVariants.{Op}
 use Rattle.sym_terms.specs.Trees.{Tree, binary}
@@ -7,7 +8,7 @@ use Rattle.term_table.specs.Passes.{TableState, PassState, IsOf, linked}
 use Rattle.sym_exec.specs.MipsTerms.{HasSeen, HasTree}
 use Rattle.term_table.specs.Trees.{Extends, HasLegalHistory}
 use Rattle.mblock.specs.BlockMeaning.{Shape, Goes, ChoosesPair, ChoosesZero, Calls, Returns, Prints, Halts}
-use Rattle.sym_terms.specs.NormalForms.{Address as TreeAddress}
+use Rattle.sym_terms.specs.NormalForms.{Address as TreeAddress, op_tree}
 use Rattle.sym_exec.specs.declared.address.TermAddress.{TermAddress}
 use Rattle.sym_exec.specs.declared.state.Guard.{Guard}
 use Rattle.sym_exec.specs.declared.state.Guard.TheVariants.{Address, Division}
@@ -115,3 +116,8 @@ pub record StandsFor (p : PassState) (s : TermPlaces) (e : TermExit) (gs : List 
 -- a write, which register 0 loses
 abbrev pub with_reg : TermRegisters → ℕ → ℕ → TermRegisters
 with_reg s d v = record s { regs = if d == 0 then s.regs else slice_set s.regs d v }
+
+-- HI and LO hold the results of two operators at the same registers
+abbrev pub with_halves : (high low : Operator) → (a b : ℕ) → TreeState → TreeState
+with_halves high low a b t =
+    record t { hi = op_tree high (register_tree t a) (register_tree t b); lo = op_tree low (register_tree t a) (register_tree t b) }

@@ -6,7 +6,7 @@ ghost use Rattle.sym_terms.specs.Trees.{Tree, leaf};
 ghost use Rattle.term_table.specs.Passes.{IsOf};
 ghost use Rattle.sym_exec.specs.MipsTerms.{HasSeen, HasTree};
 ghost use Rattle.sym_exec.specs.Symbolic.{TreeState, register_tree, operand_tree, address_tree, trees_after};
-ghost use Rattle.sym_exec.specs.Standing.{AfterInterns, Known, Hold, with_reg};
+ghost use Rattle.sym_exec.specs.Standing.{AfterInterns, Known, Hold, with_reg, with_halves};
 
 use crate::address::{address_at, plus_term};
 use crate::stores::{StoreChain, Stored};
@@ -39,7 +39,7 @@ impl TermRegisters {
     ghost use Rattle.mblock.specs.declared.limits.TheConstants.{ORDER_INSTS};
     ghost use Rattle.term_table.specs.Trees.{HasLegalHistory};
     ghost use Rattle.sym_exec.specs.MipsTerms.{HasTree};
-    ghost use Rattle.sym_exec.specs.Standing.{AfterInterns, Known, Hold, with_reg};
+    ghost use Rattle.sym_exec.specs.Standing.{AfterInterns, Known, Hold, with_reg, with_halves};
     ghost use Rattle.sym_exec.specs.Stores.{MakeMemory, IsChain, HasStoreRoom};
 
     pub(crate) fn get(&self, r: Reg) -> Ticket
@@ -208,6 +208,30 @@ impl TermRegisters {
         Ok(address)
     }
 
+    // HI and LO hold the results of two operators at the same registers.
+    fn put_halves(
+        &mut self,
+        table: &TermTable,
+        pass: &mut Pass,
+        high: Operator,
+        low: Operator,
+        a: Reg,
+        b: Reg,
+    ) -> Result<(), TableFull>
+        requires table { IsOf table.now pass.old }
+        requires known { Known pass.old self.old }
+        ensures known { OnOk result (Known pass.new self.new) }
+        ensures hold { (t : TreeState) → Hold pass.old self.old t → OnOk result (Hold pass.new self.new (with_halves high low a b t)) }
+        ensures pass { AfterInterns table.now pass.old result pass.new }
+    {
+        let (x, y) = (self.get(a), self.get(b));
+        let hi = op_term(table, pass, high, x, y)?;
+        let lo = op_term(table, pass, low, x, y)?;
+        self.hi = hi;
+        self.lo = lo;
+        Ok(())
+    }
+
     pub(crate) fn multiplies(
         &mut self,
         table: &TermTable,
@@ -223,11 +247,7 @@ impl TermRegisters {
             → OnOk result (Hold pass.new self.new (trees_after (Multiplies sign a b) t)) }
         ensures pass { AfterInterns table.now pass.old result pass.new }
     {
-        let (x, y) = (self.get(a), self.get(b));
-        let hi = op_term(table, pass, product_high(sign), x, y)?;
-        let lo = op_term(table, pass, product_low(sign), x, y)?;
-        self.hi = hi;
-        self.lo = lo;
+        self.put_halves(table, pass, product_high(sign), product_low(sign), a, b)?;
         Ok(())
     }
 
@@ -246,11 +266,14 @@ impl TermRegisters {
             → OnOk result (Hold pass.new self.new (trees_after (Divides sign a b) t)) }
         ensures pass { AfterInterns table.now pass.old result pass.new }
     {
-        let (x, y) = (self.get(a), self.get(b));
-        let hi = op_term(table, pass, remainder_operator(sign), x, y)?;
-        let lo = op_term(table, pass, quotient_operator(sign), x, y)?;
-        self.hi = hi;
-        self.lo = lo;
+        self.put_halves(
+            table,
+            pass,
+            remainder_operator(sign),
+            quotient_operator(sign),
+            a,
+            b,
+        )?;
         Ok(())
     }
 }

@@ -170,7 +170,8 @@ others_of s w i by (some v) ne = others_if s w i by (step_start s i.choice v) (i
 pub others_stand : OthersStand
 others_stand s items i by ne = others_of s (world_of s items) i by (get_elem? (world_of s items).passes i.by) ne
 
-of_two : (h x y : List Entry) → StartsWith h x → StartsWith h y → length x ≤ length y → StartsWith y x
+-- of two beginnings of one list, the longer begins with the shorter
+pub of_two : (h x y : List Entry) → StartsWith h x → StartsWith h y → length x ≤ length y → StartsWith y x
 of_two h [] y p q le = (y, refl)
 of_two h (a ∷ xs) [] p q le = absurd (omega arith)
 of_two h (a ∷ xs) (b ∷ ys) p q le =

@@ -27,7 +27,7 @@ use Rattle.term_core.proofs.Replay.{IsThere, One, one_of, there_from, tree_later
 use Rattle.term_core.proofs.Chains.{Mem, mem_here, mem_cases, Linked, end_of, end_cases, end_snoc, linked_rest, linked_none, linked_some}
 use Rattle.term_core.proofs.Chains.{linked_frame, at_same, at_other, set_itself}
 use Rattle.term_core.proofs.Kept.{word, SameAs, home, Shared, Walk, OnLink, OnContent, OnWriting, OnLinking, OnReading, Spot, Stands, Inv}
-use Rattle.term_core.proofs.Kept.{Change, Searches, chain_of, label_of, kids_of}
+use Rattle.term_core.proofs.Kept.{Change, Searches, Interns, chain_of, label_of, kids_of}
 use Rattle.term_core.proofs.Keys.{content_is, matched, missing, over, tree_of}
 use Rattle.term_core.proofs.Turns.{combine, no_change, quiet, loaded, loaded_end, ended}
 use Rattle.term_core.proofs.Joining.{linked_step}
@@ -107,16 +107,7 @@ module _ (s : Shape) (ok : IsShape s) (w : World) (inv : Inv s w) (p : ℕ) (v :
           move a (Linking (Intern l ks) a) (suc b.probes) (omega arith) (record {
             pre = k.pre;
             post = k.post;
-            walk = record {
-              searches = k.walk.searches;
-              trees = k.walk.trees;
-              known = k.walk.known;
-              three =
-                  k.walk.three;
-              split = k.walk.split;
-              differ = k.walk.differ;
-              wrote = k.walk.wrote;
-            };
+            walk = k.walk;
             place_is = k.place_is;
             probes = (let g = k.probes in omega arith);
           })
@@ -124,16 +115,7 @@ module _ (s : Shape) (ok : IsShape s) (w : World) (inv : Inv s w) (p : ℕ) (v :
           move a (Writing (Intern l ks) a 0) (suc b.probes) (omega arith) (record {
             pre = k.pre;
             post = k.post;
-            walk = record {
-              searches = k.walk.searches;
-              trees = k.walk.trees;
-              known = k.walk.known;
-              three =
-                  k.walk.three;
-              split = k.walk.split;
-              differ = k.walk.differ;
-              wrote = k.walk.wrote;
-            };
+            walk = k.walk;
             place_is = k.place_is;
             interns = tt;
             room = r;
@@ -152,7 +134,7 @@ module _ (s : Shape) (ok : IsShape s) (w : World) (inv : Inv s w) (p : ℕ) (v :
   chain_low : (c : Call) → chain_of s c < s.heads
   chain_low c = ok.1 (label_of c) (kids_of c)
 
-  rest_linked : (c : Call) (wr : Bool) (pre post : List ℕ) (a : ℕ) → Walk s w.words ps chains b c wr pre post
+  rest_linked : (c : Call) (wr : Bool) (pre post : List ℕ) (a : ℕ) → Walk s w.words ps chains b.own b.room c wr pre post
       → a ≡ end_of s (chain_of s c) pre → Linked s w.words a post
   rest_linked c wr pre post a k e =
       subst (λ (x : ℕ). Linked s w.words x post) (sym e)
@@ -168,16 +150,7 @@ module _ (s : Shape) (ok : IsShape s) (w : World) (inv : Inv s w) (p : ℕ) (v :
       move a (AtContent c wr m 0) (suc b.probes) (omega arith) (record {
         pre = k.pre;
         post = r.0;
-        walk = record {
-          searches = k.walk.searches;
-          trees = k.walk.trees;
-          known = k.walk.known;
-          three =
-              k.walk.three;
-          split = k.walk.split ∙ ap (λ (l : List ℕ). k.pre ++ l) r.1;
-          differ = k.walk.differ;
-          wrote = k.walk.wrote;
-        };
+        walk = subst (λ (l : List ℕ). Walk s w.words ps chains b.own b.room c wr k.pre l) r.1 k.walk;
         below = omega arith;
         alike = λ j lt. absurd (omega arith);
         probes = (let g = k.probes in omega arith);
@@ -204,7 +177,7 @@ module _ (s : Shape) (ok : IsShape s) (w : World) (inv : Inv s w) (p : ℕ) (v :
       (let lt = o.below in move a (AtContent c wr k (suc i)) b.probes st.probes (record {
         pre = o.pre;
         post = o.post;
-        walk = same_walk;
+        walk = o.walk;
         below = omega arith;
         alike = λ j l. dite (ℕ_discrete j i) (λ q. subst (λ (x : ℕ). word s w.words k x ≡ slice_index (content c) x) (sym q) e) (λ ne. o.alike j (omega arith));
         probes = o.probes;
@@ -238,18 +211,6 @@ module _ (s : Shape) (ok : IsShape s) (w : World) (inv : Inv s w) (p : ℕ) (v :
 
       no_turn : Turn
       no_turn = goes b (AtLink c wr (link_of s k))
-
-      same_walk : Walk s w.words ps chains (record b { stage = AtContent c wr k (suc i); probes = b.probes }) c wr o.pre (k ∷ o.post)
-      same_walk = record {
-        searches = o.walk.searches;
-        trees = o.walk.trees;
-        known = o.walk.known;
-        three =
-            o.walk.three;
-        split = o.walk.split;
-        differ = o.walk.differ;
-        wrote = o.walk.wrote;
-      }
 
       is_over : tree_over ps (label_of c) (kids_of c) ≡ Some (tree_of s w.words ps chains inv.shared b c wr o.pre (k ∷ o.post) o.walk)
       is_over = over s w.words ps chains inv.shared b c wr o.pre (k ∷ o.post) o.walk
@@ -343,41 +304,35 @@ module _ (s : Shape) (ok : IsShape s) (w : World) (inv : Inv s w) (p : ℕ) (v :
         (λ q. subst (λ (x : ℕ). word s words' b.own x ≡ slice_index (content c) x) (sym q) (at_same w.words here (slice_index (content c) i) room_there))
         (λ ne. at_other w.words here (link_of s b.own + 1 + j) (slice_index (content c) i) (λ q. ne (omega arith)) ∙ k.alike j (omega arith))
 
+    -- the walk, also where the node has all its words
+    walk' : (x : Bool) → (x ≡ true → Interns c × (0 < b.room) × SameAs s words' b.own (content c))
+        → Walk s words' ps chains b.own b.room c x k.pre k.post
+    walk' x wrote = record {
+      searches = k.walk.searches;
+      trees = k.walk.trees;
+      known = k.walk.known;
+      three = k.walk.three;
+      split = k.walk.split;
+      differ = λ t m same. k.walk.differ t m
+          (λ j lt. sym (elsewhere t j lt
+          (not_own t ((inv.shared.back (chain_of s c) t
+          (subst (λ (l : List ℕ). Mem t l) (sym k.walk.split) (Rattle.term_core.proofs.Chains.mem_left t k.pre k.post m))).1))) ∙ same j lt);
+      wrote = wrote;
+    }
+
     next_stage : (x : Bool) → (i == 3) ≡ x
         → Spot s words' ps chains (record b { stage = cond x (Linking c a) (Writing c a (suc i)) }) (cond x (Linking c a) (Writing c a (suc i)))
     next_stage true e = record {
       pre = k.pre;
       post = k.post;
-      walk = record {
-        searches = k.walk.searches;
-        trees = k.walk.trees;
-        known = k.walk.known;
-        three = k.walk.three;
-        split = k.walk.split;
-        differ = λ t m same. k.walk.differ t m
-            (λ j lt. sym (elsewhere t j lt
-            (not_own t ((inv.shared.back (chain_of s c) t
-            (subst (λ (l : List ℕ). Mem t l) (sym k.walk.split) (Rattle.term_core.proofs.Chains.mem_left t k.pre k.post m))).1))) ∙ same j lt);
-        wrote = λ _. (k.interns, k.room, (λ j lt. let q = Rattle.term_core.proofs.Replay.eqb_eq i 3 e in alike' j (omega arith)));
-      };
+      walk = walk' true (λ _. (k.interns, k.room, (λ j lt. let q = Rattle.term_core.proofs.Replay.eqb_eq i 3 e in alike' j (omega arith))));
       place_is = k.place_is;
       probes = k.probes;
     }
     next_stage false e = record {
       pre = k.pre;
       post = k.post;
-      walk = record {
-        searches = k.walk.searches;
-        trees = k.walk.trees;
-        known = k.walk.known;
-        three = k.walk.three;
-        split = k.walk.split;
-        differ = λ t m same. k.walk.differ t m
-            (λ j lt. sym (elsewhere t j lt
-            (not_own t ((inv.shared.back (chain_of s c) t
-            (subst (λ (l : List ℕ). Mem t l) (sym k.walk.split) (Rattle.term_core.proofs.Chains.mem_left t k.pre k.post m))).1))) ∙ same j lt);
-        wrote = λ q. absurd (let f : false ≡ true = q in cc);
-      };
+      walk = walk' false (λ q. absurd (let f : false ≡ true = q in cc));
       place_is = k.place_is;
       interns = k.interns;
       room = k.room;
@@ -416,16 +371,7 @@ module _ (s : Shape) (ok : IsShape s) (w : World) (inv : Inv s w) (p : ℕ) (v :
       (subst (λ (x : ℕ). Next a t x) e (move a (AtContent c true m 0) b.probes st.probes (record {
         pre = k.pre;
         post = r.0;
-        walk = record {
-          searches = k.walk.searches;
-          trees = k.walk.trees;
-          known = k.walk.known;
-          three =
-              k.walk.three;
-          split = k.walk.split ∙ ap (λ (l : List ℕ). k.pre ++ l) r.1;
-          differ = k.walk.differ;
-          wrote = k.walk.wrote;
-        };
+        walk = subst (λ (l : List ℕ). Walk s w.words ps chains b.own b.room c true k.pre l) r.1 k.walk;
         below = omega arith;
         alike = λ j lt. absurd (omega arith);
         probes = k.probes;

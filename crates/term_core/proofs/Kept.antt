@@ -70,27 +70,27 @@ Interns (Read t) = ⊥
 abbrev pub chain_of : Shape → Call → ℕ
 chain_of s c = s.chain (label_of c) (kids_of c)
 
--- the nodes pre of the chain were compared and differ, and post is the rest
-pub record Walk (s : Shape) (words : List ℕ) (ps : List Pair) (chains : ℕ → List ℕ) (v : Walker) (c : Call) (w : Bool) (pre post : List ℕ) : Type 0 where
+-- the nodes pre of the chain were compared and differ, and post is the rest; of its own node and room
+pub record Walk (s : Shape) (words : List ℕ) (ps : List Pair) (chains : ℕ → List ℕ) (own room : ℕ) (c : Call) (w : Bool) (pre post : List ℕ) : Type 0 where
   pub searches : Searches c
   pub trees : Trees
   pub known : trees_at ps (kids_of c) ≡ Some trees
   pub three : at_most_three (kids_of c) ≡ true
   pub split : chains (chain_of s c) ≡ pre ++ post
   pub differ : (t : ℕ) → Mem t pre → SameAs s words t (content c) → ⊥
-  pub wrote : w ≡ true → Interns c × (0 < v.room) × SameAs s words v.own (content c)
+  pub wrote : w ≡ true → Interns c × (0 < room) × SameAs s words own (content c)
 
 pub record OnLink (s : Shape) (words : List ℕ) (ps : List Pair) (chains : ℕ → List ℕ) (v : Walker) (c : Call) (w : Bool) (a : ℕ) : Type 0 where
   pub pre : List ℕ
   pub post : List ℕ
-  pub walk : Walk s words ps chains v c w pre post
+  pub walk : Walk s words ps chains v.own v.room c w pre post
   pub place_is : a ≡ end_of s (chain_of s c) pre
   pub probes : v.probes ≤ length pre
 
 pub record OnContent (s : Shape) (words : List ℕ) (ps : List Pair) (chains : ℕ → List ℕ) (v : Walker) (c : Call) (w : Bool) (k i : ℕ) : Type 0 where
   pub pre : List ℕ
   pub post : List ℕ
-  pub walk : Walk s words ps chains v c w pre (k ∷ post)
+  pub walk : Walk s words ps chains v.own v.room c w pre (k ∷ post)
   pub below : i < 4
   pub alike : (j : ℕ) → j < i → word s words k j ≡ slice_index (content c) j
   pub probes : v.probes ≤ length pre + 1
@@ -98,7 +98,7 @@ pub record OnContent (s : Shape) (words : List ℕ) (ps : List Pair) (chains : �
 pub record OnWriting (s : Shape) (words : List ℕ) (ps : List Pair) (chains : ℕ → List ℕ) (v : Walker) (c : Call) (a i : ℕ) : Type 0 where
   pub pre : List ℕ
   pub post : List ℕ
-  pub walk : Walk s words ps chains v c false pre post
+  pub walk : Walk s words ps chains v.own v.room c false pre post
   pub place_is : a ≡ end_of s (chain_of s c) pre
   pub interns : Interns c
   pub room : 0 < v.room
@@ -109,7 +109,7 @@ pub record OnWriting (s : Shape) (words : List ℕ) (ps : List Pair) (chains : �
 pub record OnLinking (s : Shape) (words : List ℕ) (ps : List Pair) (chains : ℕ → List ℕ) (v : Walker) (c : Call) (a : ℕ) : Type 0 where
   pub pre : List ℕ
   pub post : List ℕ
-  pub walk : Walk s words ps chains v c true pre post
+  pub walk : Walk s words ps chains v.own v.room c true pre post
   pub place_is : a ≡ end_of s (chain_of s c) pre
   pub probes : v.probes ≤ length pre + 1
 
@@ -140,6 +140,24 @@ pub record Stands (s : Shape) (words : List ℕ) (h : List Entry) (chains : ℕ 
   pub base : by * s.nodes ≤ v.own
   pub free : (k : ℕ) → v.own ≤ k → k < v.own + v.room → (slice_index words (link_of s k) ≡ 0) × (tree_at (pairs_of h) k ≡ None)
   pub spot : Spot s words (pairs_of h) chains v v.stage
+
+-- the same pass at another place of its call
+pub at_stage : (s : Shape) (words : List ℕ) (h : List Entry) (chains : ℕ → List ℕ) (by : ℕ) (v : Walker) (g : Stage) (q : ℕ)
+    → q ≤ length (pairs_of h) + 1 → Spot s words (pairs_of h) chains (record v { stage = g; probes = q }) g → Stands s words h chains by v
+    → Stands s words h chains by (record v { stage = g; probes = q })
+at_stage s words h chains by v g q few k st = record {
+  number = st.number;
+  low = st.low;
+  begins = st.begins;
+  own_calls = st.own_calls;
+  all_calls = st.all_calls;
+  count = st.count;
+  probes = few;
+  range = st.range;
+  base = st.base;
+  free = st.free;
+  spot = k;
+}
 
 abbrev pub rooms : List Walker → ℕ
 rooms [] = 0
@@ -190,8 +208,8 @@ module _ (s : Shape) (p : ℕ) (words words' : List ℕ) (h h' : List Entry) (ch
     (d : Change s p words words' h h' chains chains') (sh : Shared s words (pairs_of h) chains) where
   -- a walk goes on, if its own node stays
   pub walk_stays : (v : Walker) (c : Call) (w : Bool) (pre post : List ℕ)
-      → (w ≡ true → (i : ℕ) → i < 4 → word s words' v.own i ≡ word s words v.own i) → Walk s words (pairs_of h) chains v c w pre post
-      → Walk s words' (pairs_of h') chains' v c w pre (post ++ (d.grows (chain_of s c)).0)
+      → (w ≡ true → (i : ℕ) → i < 4 → word s words' v.own i ≡ word s words v.own i) → Walk s words (pairs_of h) chains v.own v.room c w pre post
+      → Walk s words' (pairs_of h') chains' v.own v.room c w pre (post ++ (d.grows (chain_of s c)).0)
   walk_stays v c w pre post own k = record {
     searches = k.searches;
     trees = k.trees;

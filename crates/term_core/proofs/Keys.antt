@@ -40,7 +40,7 @@ module _ (s : Shape) (words : List ℕ) (t : ℕ) (l : ℕ) (ks : List ℕ) (thr
   home_is = λ i. s.chain (label_is i) (kids_is i)
 
 module _ (s : Shape) (words : List ℕ) (ps : List Pair) (chains : ℕ → List ℕ) (sh : Shared s words ps chains) (v : Walker) (c : Call)
-    (w : Bool) (pre post : List ℕ) (k : Walk s words ps chains v c w pre post) where
+    (w : Bool) (pre post : List ℕ) (k : Walk s words ps chains v.own v.room c w pre post) where
   abbrev pub tree_of : Tree
   tree_of = node (label_of c) k.trees
 

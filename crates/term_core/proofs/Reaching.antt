@@ -22,7 +22,7 @@ use Rattle.term_core.specs.Law.{Sees, Lawful}
 use Rattle.term_core.proofs.Replay.{IsThere, One, one_of, there_from, tree_later, pairs_append, pairs_more, same_from, legal_front, tree_more}
 use Rattle.term_core.proofs.Chains.{Mem, mem_here, mem_cases, Linked, end_of, end_cases, end_snoc, linked_rest, linked_none, linked_some}
 use Rattle.term_core.proofs.Chains.{linked_frame, at_same, at_other, set_itself}
-use Rattle.term_core.proofs.Kept.{OnLink, Spot, Stands, Inv}
+use Rattle.term_core.proofs.Kept.{OnLink, Spot, Stands, at_stage, Inv}
 use Rattle.term_core.proofs.Kept.{Searches, chain_of, label_of, kids_of, rooms}
 use Rattle.term_core.proofs.EachStep.{each}
 
@@ -57,20 +57,7 @@ module _ (s : Shape) (ok : IsShape s) (w : World) (inv : Inv s w) (p : ℕ) (v :
 
   with_spot : (g : Stage) (q : ℕ) → q ≤ length (pairs_of w.history) + 1 → Spot s w.words (pairs_of w.history) inv.chains (With g q) g
       → Stands s w.words w.history inv.chains p (With g q)
-  with_spot g q few k =
-      record {
-        number = st.number;
-        low = st.low;
-        begins = st.begins;
-        own_calls = st.own_calls;
-        all_calls = st.all_calls;
-        count = st.count;
-        probes = few;
-        range = st.range;
-        base = st.base;
-        free = st.free;
-        spot = k;
-      }
+  with_spot g q few k = at_stage s w.words w.history inv.chains p v g q few k st
 
   at_start : (c : Call) → Searches c → at_most_three (kids_of c) && all_occur v.seen (kids_of c) ≡ true
       → OnLink s w.words (pairs_of w.history) inv.chains (With (AtLink c false (chain_of s c)) 0) c false (chain_of s c)
@@ -102,20 +89,7 @@ module _ (s : Shape) (ok : IsShape s) (w : World) (inv : Inv s w) (p : ℕ) (v :
       with_spot (Reading t []) 0 (omega arith) (record { there = known t e; below = omega arith; alike = λ j lt. absurd (omega arith); probes = refl })
 
   looking : (n : ℕ) → Stands s w.words w.history inv.chains p (record v { stage = Looking n })
-  looking n = record {
-    number = st.number;
-    low = st.low;
-    begins = st.begins;
-    own_calls = st.own_calls;
-    all_calls = st.all_calls;
-    count =
-        st.count;
-    probes = st.probes;
-    range = st.range;
-    base = st.base;
-    free = st.free;
-    spot = tt;
-  }
+  looking n = with_spot (Looking n) v.probes st.probes tt
 
   call_or : (c : Call) (x : Bool) → may_begin v.seen c ≡ x
       → Stands s w.words w.history inv.chains p (cond x (record v { stage = first_stage s c; probes = 0 }) v)

@@ -1,6 +1,6 @@
 use Rattle.std.proofs.Common.{◌∙◌}
 use Rattle.c_typed.specs.declared.tree.TypedStatement.{Break, Continue}
-use Rattle.c_run.specs.Interpreter.{places}
+use Rattle.runs.specs.Kept.{places}
 use Rattle.c_run.proofs.Turns.{at-head, break_settles, continue_settles, break-shorter, continue-shorter}
 use Rattle.c_run.proofs.pending.settle.Goals as goal
 

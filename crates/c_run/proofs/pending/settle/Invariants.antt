@@ -1,6 +1,7 @@
 use Rattle.std.proofs.Common.{◌≡◌, length}
 use Rattle.c_typed.specs.Meaning.{next_point, Going}
-use Rattle.c_run.specs.Interpreter.{todos, places}
+use Rattle.runs.specs.Kept.{places}
+use Rattle.c_run.specs.Interpreter.{todos}
 use Rattle.c_run.proofs.pending.settle.Given as goal
 
 abbrev pub invariant-loop-head : goal.invariant-loop-head

@@ -1,6 +1,6 @@
 use Rattle.std.proofs.Common.{◌≡◌, map, take}
 use Rattle.c_typed.specs.Meaning.{first_words}
-use Rattle.c_run.specs.Interpreter.{arrays}
+use Rattle.runs.specs.Kept.{arrays}
 use Rattle.c_run.proofs.steps.first_globals.Given as goal
 
 abbrev pub invariant-loop-global : goal.invariant-loop-global

@@ -2,7 +2,7 @@ use Rattle.std.proofs.Common.{◌≡◌, ◌++◌, Some, map, drop}
 use Rattle.std.specs.Option.{option_map}
 use Rattle.c_typed.specs.Shape.{typed_expressions_of}
 use Rattle.c_typed.specs.Values.{values_of}
-use Rattle.c_run.specs.Interpreter.{places, arrays}
+use Rattle.runs.specs.Kept.{places, arrays}
 use Rattle.c_run.proofs.value.arguments.Given as goal
 
 abbrev pub invariant-loop-expression : goal.invariant-loop-expression

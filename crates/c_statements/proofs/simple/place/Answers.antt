@@ -3,16 +3,13 @@ use Rattle.c_statements.specs.declared.names.Named.{Named}
 use Rattle.c_statements.specs.Types.{local_place, global_place}
 use Rattle.c_statements.specs.Names.{environment_in}
 use Rattle.c_statements.specs.Shape.{scopes_of}
-use Rattle.c_statements.proofs.Uses.{undeclared-first, value-first}
+use Rattle.c_statements.proofs.Uses.{told-first, undeclared-first, value-first}
 use Rattle.c_statements.proofs.simple.place.Goals as goal
 
 pub returns-in_default : goal.returns-in_default
-returns-in_default c = record {
-  ok = tt;
-  none = tt;
-  err = rw c.misuse.ensures
-      (undeclared-first (environment_in c.args.program.now.text.items (scopes_of c.args.scopes.now)) c.args.name _ (sym c.in_default.ensures));
-}
+returns-in_default c =
+    told-first _ _ _ _ _ c.misuse.ensures
+    (undeclared-first (environment_in c.args.program.now.text.items (scopes_of c.args.scopes.now)) c.args.name _ (sym c.in_default.ensures))
 
 pub returns-in-Local : goal.returns-in-Local
 returns-in-Local c = record {
@@ -30,11 +27,5 @@ returns-in-Global c = record {
 
 pub returns-in_default-named : goal.returns-in_default-named
 returns-in_default-named c =
-    record {
-      ok = tt;
-      none = tt;
-      err =
-          rw c.misuse-in_default-named.ensures
-          (value-first (environment_in c.args.program.now.text.items (scopes_of c.args.scopes.now)) c.args.name _
-          (sym c.in-Some.ensures) c.in_default-named.not-Local c.in_default-named.not-Global);
-    }
+    told-first _ _ _ _ _ c.misuse-in_default-named.ensures
+    (value-first (environment_in c.args.program.now.text.items (scopes_of c.args.scopes.now)) c.args.name _ (sym c.in-Some.ensures) c.in_default-named.not-Local c.in_default-named.not-Global)

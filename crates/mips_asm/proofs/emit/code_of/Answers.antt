@@ -5,6 +5,7 @@ use Rattle.mips_layout.specs.Layout.{insts_of, layout}
 use Rattle.mips_asm.specs.Emitted.{Fit, AllNear, start_of}
 use Rattle.mips_asm.proofs.Starts.{same_layout, all_fit, all_small, all_near}
 use Rattle.mips_asm.proofs.emit.code_of.Goals as goal
+use Rattle.mips_layout.specs.declared.limits.TheConstants.{CODE_WORDS}
 
 pub returns-clause-word : goal.returns-clause-word
 returns-clause-word c =
@@ -27,7 +28,7 @@ put_orders-requires-clause-places c =
     let at = c.deref.ensures.value ∙ c.in_ok-places.ensures in
     let total = c.total.ensures in
     let le = c.if-total-gt-CODE_WORDS.false in
-    subst (λ (p : List ℕ). All (λ q. q ≤ 1048576) p) (sym at) (all_small c.args.orders.now (omega arith))
+    subst (λ (p : List ℕ). All (λ q. q ≤ CODE_WORDS) p) (sym at) (all_small c.args.orders.now (omega arith))
 
 pub put_orders-requires-clause-near : goal.put_orders-requires-clause-near
 put_orders-requires-clause-near c =

@@ -1,15 +1,17 @@
-use Rattle.mips_homes.proofs.Chosen.{frames_step, frames_end, choice_keeps_runs}
+use Rattle.mips_homes.specs.Choice.{IsChoice}
+use Rattle.mips_homes.proofs.Framing.{frames_step, frames_end}
+use Rattle.mips_homes.proofs.Chosen.{choice_keeps_runs}
 use Rattle.mips_homes.specs.declared.homed.Homed.{Homed}
 use Rattle.mips_homes.proofs.frames.homes.Goals as goal
 
 pub loop-func-preserved : goal.loop-func-preserved
 loop-func-preserved c =
-    frames_step _ c.functions-func-items.result.now _ _ c.loop-func.func-index c.func-item.result c.in_ok-frame.frame
+    frames_step IsChoice _ c.functions-func-items.result.now _ _ c.loop-func.func-index c.func-item.result c.in_ok-frame.frame
     c.functions-func-items.ensures.value c.loop-func-test.true c.func-item.is c.in_ok-push.ensures.items c.in_ok-frame.ensures.choice c.loop-func.invariant
 
 pub returns-clause-runs : goal.returns-clause-runs
 returns-clause-runs c =
     let h : Homed = record { rtl = c.args.rtl; frames = c.loop-func.frames } in
     choice_keeps_runs h
-    (frames_end h c.loop-func.func-index c.functions-func-items.result.now c.functions-func-items.ensures.value c.loop-func-test.false
+    (frames_end IsChoice h c.loop-func.func-index c.functions-func-items.result.now c.functions-func-items.ensures.value c.loop-func-test.false
     c.loop-func.auto.func-index-end c.loop-func.invariant)

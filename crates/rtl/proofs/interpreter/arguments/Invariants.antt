@@ -1,7 +1,7 @@
 use Rattle.std.proofs.Common.{◌≡◌, ◌++◌, Some, map, drop}
 use Rattle.std.specs.Option.{option_map}
 use Rattle.rtl.specs.Meaning.{words_in}
-use Rattle.rtl.specs.Interpreter.{places}
+use Rattle.runs.specs.Kept.{places}
 use Rattle.rtl.proofs.interpreter.arguments.Given as goal
 
 abbrev pub invariant-loop-x : goal.invariant-loop-x

@@ -1,7 +1,7 @@
 use Rattle.std.proofs.Common.{◌≡◌, ◌+◌, ◌<◌, length, refl, sym, rules, arith}
 use Rattle.std.proofs.lemmas.List.{length-map}
-use Rattle.rtl.specs.Interpreter.{arrays}
-use Rattle.rtl.proofs.Lookups.{found}
+use Rattle.runs.specs.Kept.{arrays}
+use Rattle.runs.proofs.Lookups.{found}
 use Rattle.rtl.proofs.Calls.{new-frame, entered, some-block}
 use Rattle.rtl.proofs.interpreter.enter.Goals as goal
 

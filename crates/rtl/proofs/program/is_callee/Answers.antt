@@ -1,4 +1,5 @@
-use Rattle.rtl.proofs.Lookups.{found, past, callee-there, callee-nowhere}
+use Rattle.runs.proofs.Lookups.{found, past}
+use Rattle.rtl.proofs.Lookups.{callee-there, callee-nowhere}
 use Rattle.rtl.proofs.program.is_callee.Goals as goal
 
 pub returns-in-Some : goal.returns-in-Some

@@ -1,6 +1,6 @@
 use Rattle.std.proofs.Common.{◌≡◌, map, take}
 use Rattle.rtl.specs.Meaning.{first_values}
-use Rattle.rtl.specs.Interpreter.{arrays}
+use Rattle.runs.specs.Kept.{arrays}
 use Rattle.rtl.proofs.steps.first_globals.Given as goal
 
 abbrev pub invariant-loop-global : goal.invariant-loop-global

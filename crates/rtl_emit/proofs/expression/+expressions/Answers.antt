@@ -1,119 +1,161 @@
-use Rattle.std.proofs.Common.{ap, refl}
+use Rattle.std.proofs.Common.{ap, refl, rules, sym}
 use Rattle.c_typed.specs.Shape.{typed_expression_of}
+use Rattle.c_typed.specs.Trees.{binary}
 use Rattle.rtl_emit.specs.Blocks.{spot}
-use Rattle.rtl_emit.proofs.Emitting.{number_emits, local_emits, global_emits, element_emits, prefix_emits, identity_emits, not_emits, and_emits, or_emits}
-use Rattle.rtl_emit.proofs.Emitting.{operator_emits, two_operands, value_sides, branch_sides, before, behind, conditional_emits, constant_emits, not_branches, both_branches, either_branches}
-use Rattle.rtl_emit.proofs.Emitting.{contrary_emits, conditional_branches, test_emits, operand_emits}
+use Rattle.rtl_emit.specs.Emits.{value_size, condition_size}
+use Rattle.rtl_emit.proofs.Emitted.{element_is, unary_is, binary_is, conditional_is}
+use Rattle.rtl_emit.proofs.Emitting.{value_along, branch_along, element_emits, prefix_emits, identity_emits, not_emits, not_stops, told_emits, told_stops}
+use Rattle.rtl_emit.proofs.Emitting.{both_emits, both_stops, operator_emits, block_emits, block_stops, join_stops, first_value_stops, value_stops}
+use Rattle.rtl_emit.proofs.Emitting.{conditional_emits, constant_emits, not_branches, logical_branches, logical_stops, conditional_branches, sides}
+use Rattle.rtl_emit.proofs.Emitting.{first_side_stops, side_stops, contrary_emits, test_emits, operand_emits}
 use Rattle.rtl_emit.proofs.expression.+expressions.Goals as goal
 
-pub value_into-returns-in_ok-from-in-Constant : goal.value_into-returns-in_ok-from-in-Constant
-value_into-returns-in_ok-from-in-Constant t c =
-    number_emits _ _ _ _ _ c.in_ok-from-in-Constant.from (spot c.args.after) (ap typed_expression_of c.in-Constant.is) c.in_ok-from-in-Constant.ensures
+pub value_into-returns-in-Constant : goal.value_into-returns-in-Constant
+value_into-returns-in-Constant t c =
+    value_along _ _ _ _ c.args.to c.args.free (spot c.args.after) _ (ap typed_expression_of c.in-Constant.is) (c.number_into.ensures _)
 
-pub value_into-returns-in_ok-from-in-Local : goal.value_into-returns-in_ok-from-in-Local
-value_into-returns-in_ok-from-in-Local t c =
-    local_emits _ _ _ _ _ _ _ c.in_ok-from-in-Local.from (spot c.args.after) (ap typed_expression_of c.in-Local.is) c.in_ok-local-in-Local.ensures.is
-    c.in_ok-local-in-Local.ensures.within c.in_ok-from-in-Local.ensures
+pub value_into-returns-in-Local : goal.value_into-returns-in-Local
+value_into-returns-in-Local t c =
+    value_along _ _ _ _ c.args.to c.args.free (spot c.args.after) _ (ap typed_expression_of c.in-Local.is) (c.local_into.ensures _ _)
 
-pub value_into-returns-in_ok-from-in-Global : goal.value_into-returns-in_ok-from-in-Global
-value_into-returns-in_ok-from-in-Global t c =
-    global_emits _ _ _ _ _ _ c.in_ok-from-in-Global.from (spot c.args.after) (ap typed_expression_of c.in-Global.is)
-    c.in_ok-from-in-Global.ensures.room c.in_ok-from-in-Global.ensures.is
+pub value_into-returns-in-Global : goal.value_into-returns-in-Global
+value_into-returns-in-Global t c =
+    value_along _ _ _ _ c.args.to c.args.free (spot c.args.after) _ (ap typed_expression_of c.in-Global.is) (c.global_into.ensures _ _)
 
-pub value_into-returns-in_ok-load-in-Element : goal.value_into-returns-in_ok-load-in-Element
-value_into-returns-in_ok-load-in-Element t c =
-    let load = c.in_ok-load-in-Element.ensures in
-    element_emits _ _ _ _ _ _ _ _ _ _ _ _ c.in_ok-load-in-Element.load.code (spot c.args.after) _ (ap typed_expression_of c.in-Element.is)
-    (ap typed_expression_of c.deref-in-Element.ensures) (ap typed_expression_of c.deref.ensures) load.place load.is load.room c.operand_into.ensures
+pub value_into-returns-in-Element : goal.value_into-returns-in-Element
+value_into-returns-in-Element t c =
+    value_along _ _ _ _ c.args.to c.args.free (spot c.args.after) _
+    (element_is _ _ _ _ (ap typed_expression_of c.in-Element.is) (ap typed_expression_of c.deref.ensures)) (c.element_into.ensures _)
 
-pub value_into-returns-in-Same : goal.value_into-returns-in-Same
-value_into-returns-in-Same t c =
-    identity_emits _ _ _ _ _ _ _ _ _ (spot c.args.after) _ (ap typed_expression_of c.in-Unary.is) (ap typed_expression_of c.deref-in-Same.ensures)
-    c.in-Same.ensures c.value_into.ensures
+pub value_into-returns-in-Unary : goal.value_into-returns-in-Unary
+value_into-returns-in-Unary t c =
+    value_along _ _ _ _ c.args.to c.args.free (spot c.args.after) _
+    (unary_is _ _ _ _ _ (ap typed_expression_of c.in-Unary.is) refl (ap typed_expression_of c.deref-in-Unary.ensures)) (c.unary_into.ensures _)
 
-pub value_into-returns-in_ok-truth-in-Branches : goal.value_into-returns-in_ok-truth-in-Branches
-value_into-returns-in_ok-truth-in-Branches t c =
+pub value_into-returns-in-Binary : goal.value_into-returns-in-Binary
+value_into-returns-in-Binary t c =
+    value_along _ _ _ _ c.args.to c.args.free (spot c.args.after) _
+    (binary_is _ _ _ _ _ _ _ (ap typed_expression_of c.in-Binary.is) refl (ap typed_expression_of c.deref-in-Binary.ensures)
+    (ap typed_expression_of c.deref-in-Binary-2.ensures)) c.binary_into.ensures
+
+pub value_into-returns-in-Conditional : goal.value_into-returns-in-Conditional
+value_into-returns-in-Conditional t c =
+    value_along _ _ _ _ c.args.to c.args.free (spot c.args.after) _
+    (conditional_is _ _ _ _ _ _ _ (ap typed_expression_of c.in-Conditional.is) (ap typed_expression_of c.deref-in-Conditional.ensures)
+    (ap typed_expression_of c.deref-in-Conditional-2.ensures) (ap typed_expression_of c.deref-in-Conditional-3.ensures)) (c.conditional_into.ensures _)
+
+pub element_into-returns : goal.element_into-returns
+element_into-returns t c = λ k.
+    let load = c.load_at-load.ensures in
+    element_emits _ _ _ k _ c.args.aim.to c.args.aim.free (spot c.args.aim.after) c.load_at-load.result _ load.place load.is load.room load.limit
+    c.awaited.ensures.ok c.awaited.ensures.err
+
+pub unary_into-returns-in-Same : goal.unary_into-returns-in-Same
+unary_into-returns-in-Same t c = λ k.
+    identity_emits _ _ _ k _ c.args.aim.to c.args.aim.free (spot c.args.aim.after) _ c.in-Same.ensures c.value_into.ensures
+
+pub unary_into-returns-in_err-truth-in-Branches : goal.unary_into-returns-in_err-truth-in-Branches
+unary_into-returns-in_err-truth-in-Branches t c = λ k.
+    let truth = c.in_err-truth-in-Branches.ensures in
+    not_stops _ _ _ k _ _ c.args.aim.to c.args.aim.free (spot c.args.aim.after) c.in_err-truth-in-Branches.field-0.0 _ (search rules) c.in-Branches.ensures
+    c.is_logical.ensures truth.grows truth.limit
+
+pub unary_into-returns-in_ok-truth-in-Branches : goal.unary_into-returns-in_ok-truth-in-Branches
+unary_into-returns-in_ok-truth-in-Branches t c = λ k.
     let truth = c.in_ok-truth-in-Branches.ensures in
-    not_emits _ _ _ _ _ _ _ _ _ _ _ _ _ _ _ (spot c.args.after) _ (ap typed_expression_of c.in-Unary.is) c.in-Branches.ensures.0
-    (ap typed_expression_of c.deref-in-Branches.ensures) (ap typed_expression_of c.deref-in-Unary.ensures) c.is_logical.ensures c.in-Branches.ensures.1
-    c.likely.ensures truth.grows truth.count truth.sound truth.truth c.condition.ensures
+    not_emits _ _ _ _ k _ _ c.args.aim.to c.args.aim.free c.in_ok-truth-in-Branches.truth _ (spot c.args.aim.after) _ c.in-Branches.ensures c.is_logical.ensures
+    c.likely.ensures
+    (record { grows = truth.grows; count = truth.count; sound = truth.sound; likely = truth.is_likely; truth = truth.truth }) c.condition.ensures
 
-pub value_into-returns-in_ok-value-in-Combined : goal.value_into-returns-in_ok-value-in-Combined
-value_into-returns-in_ok-value-in-Combined t c =
-    let value = c.in_ok-value-in-Combined.ensures in
-    let prefix = c.in-Combined.ensures in
-    prefix_emits _ _ _ _ _ _ _ _ _ _ _ _ _ _ c.in_ok-value-in-Combined.value.code c.opened.result (spot c.args.after) _
-    (ap typed_expression_of c.in-Unary.is)
-    (ap typed_expression_of c.deref-in-Combined-2.ensures) (ap typed_expression_of c.deref-in-Combined.ensures)
-    (ap typed_expression_of c.deref-in-Unary.ensures) prefix.0 prefix.1.0 c.is_logical.ensures prefix.1.1 c.opened.ensures value.room value.does value.sound
-    c.operand_into-in-Combined.ensures
+pub unary_into-returns-in-Combined : goal.unary_into-returns-in-Combined
+unary_into-returns-in-Combined t c = λ k.
+    let value = c.combined-value.ensures in
+    prefix_emits _ _ _ _ k _ _ c.args.aim.to c.args.aim.free c.opened.result (spot c.args.aim.after) c.combined-value.result _ c.in-Combined.ensures
+    c.is_logical.ensures c.opened.ensures value.room value.does value.sound value.limit c.awaited.ensures.ok c.awaited.ensures.err
 
-pub binary_into-returns-in_ok-second-in-LogicalAnd : goal.binary_into-returns-in_ok-second-in-LogicalAnd
-binary_into-returns-in_ok-second-in-LogicalAnd t c =
-    let truth = c.in_ok-truth-in-LogicalAnd.ensures in
-    let second = c.in_ok-second-in-LogicalAnd.ensures in
-    and_emits _ _ _ _ _ _ _ _ _ _ _ _ c.in_ok-truth-in-LogicalAnd.truth _ _ _ _ c.in_ok-second_code-in-LogicalAnd.second_code (spot c.args.aim.after) _
-    refl c.in-LogicalAnd.ensures.form refl
-    refl c.with_yes.ensures
-    (record { grows = truth.grows; count = truth.count; sound = truth.sound; likely = truth.is_likely; truth = truth.truth })
-    (record {
-      emits = c.in_ok-second_code-in-LogicalAnd.ensures;
-      grows = second.grows;
-      count = second.count;
-      sound = second.sound;
-      at = second.at;
-    }) c.condition-in-LogicalAnd.ensures
+pub binary_into-returns-in-LogicalAnd : goal.binary_into-returns-in-LogicalAnd
+binary_into-returns-in-LogicalAnd t c =
+    value_along _ _ _ _ c.args.aim.to c.args.aim.free (spot c.args.aim.after) _
+    (ap (λ o. binary o c.args.integer_type (typed_expression_of c.args.left.now) (typed_expression_of c.args.right.now)) c.in-LogicalAnd.ensures.form)
+    (c.told_into.ensures _)
 
-pub binary_into-returns-in_ok-second-in-LogicalOr : goal.binary_into-returns-in_ok-second-in-LogicalOr
-binary_into-returns-in_ok-second-in-LogicalOr t c =
-    let truth = c.in_ok-truth-in-LogicalOr.ensures in
-    let second = c.in_ok-second-in-LogicalOr.ensures in
-    or_emits _ _ _ _ _ _ _ _ _ _ _ _ c.in_ok-truth-in-LogicalOr.truth _ _ _ _ c.in_ok-second_code-in-LogicalOr.second_code (spot c.args.aim.after) _
-    refl c.in-LogicalOr.ensures.form refl
-    refl c.with_no.ensures
-    (record { grows = truth.grows; count = truth.count; sound = truth.sound; likely = truth.is_likely; truth = truth.truth })
-    (record {
-      emits = c.in_ok-second_code-in-LogicalOr.ensures;
-      grows = second.grows;
-      count = second.count;
-      sound = second.sound;
-      at = second.at;
-    }) c.condition-in-LogicalOr-2.ensures
+pub binary_into-returns-in-LogicalOr : goal.binary_into-returns-in-LogicalOr
+binary_into-returns-in-LogicalOr t c =
+    value_along _ _ _ _ c.args.aim.to c.args.aim.free (spot c.args.aim.after) _
+    (ap (λ o. binary o c.args.integer_type (typed_expression_of c.args.left.now) (typed_expression_of c.args.right.now)) c.in-LogicalOr.ensures.form)
+    (c.told_into-in-LogicalOr.ensures _)
 
-pub binary_into-returns-in_ok-middle-in-Plain : goal.binary_into-returns-in_ok-middle-in-Plain
-binary_into-returns-in_ok-middle-in-Plain t c =
-    let values = c.in_ok-values-in-Plain.ensures in
-    operator_emits _ _ _ _ _ _ _ _ _ _ _ _ _ _ _ _ _ c.opened-code.result c.in_ok-values-in-Plain.values.code c.in_ok-middle-in-Plain.middle
-    (spot c.args.aim.after) _ refl c.in-Plain.ensures.form c.in-Plain.ensures.branches
-    refl refl c.opened-code.ensures values.is values.sound
-    (two_operands _ _ _ _ _ _ _ _ _ _ _ _ _ c.in_ok-values-in-Plain.values.code c.in_ok-middle-in-Plain.middle
-    refl refl
-    refl refl values.first values.second values.room
-    c.in_ok-middle-in-Plain.ensures) c.operand_into-in-Plain.ensures
+pub binary_into-returns-in-Plain : goal.binary_into-returns-in-Plain
+binary_into-returns-in-Plain t c =
+    let values = c.operated-values.ensures in
+    operator_emits _ _ _ _ _ _ _ c.args.aim.to c.args.aim.free c.opened.result (spot c.args.aim.after) c.operated-values.result _
+    c.in-Plain.ensures.form c.in-Plain.ensures.branches c.opened.ensures values.first values.second values.is values.sound values.room values.limit
+    c.both_awaited.ensures.ok c.both_awaited.ensures.err
 
-pub value_into-returns-in_ok-no-in-Conditional : goal.value_into-returns-in_ok-no-in-Conditional
-value_into-returns-in_ok-no-in-Conditional t c =
-    let join = c.in_ok-join-in-Conditional.ensures in
-    let yes_side = c.in_ok-yes-in-Conditional.ensures in
-    let no_side = c.in_ok-no-in-Conditional.ensures in
-    conditional_emits _ _ _ _ _ _ _ _ _ _ _ _ _ _ _ _ _ _ _ _ _ c.in_ok-first_code-in-Conditional.first_code c.in_ok-second_code-in-Conditional.second_code
-    (spot c.args.after) _ (ap typed_expression_of c.in-Conditional.is) (ap typed_expression_of c.deref-in-Conditional-3.ensures)
-    (ap typed_expression_of c.deref-in-Conditional.ensures) (ap typed_expression_of c.deref-in-Conditional-2.ensures) c.likely-in-Conditional.ensures
-    join.grows join.count join.sound join.lands
-    (value_sides _ _ _ _ _ (typed_expression_of c.deref-in-Conditional.result.now) (typed_expression_of c.deref-in-Conditional-2.result.now) c.args.to
-    c.args.free c.in_ok-join-in-Conditional.join _ _
-    c.in_ok-first_code-in-Conditional.first_code c.in_ok-second_code-in-Conditional.second_code c.in_ok-first_code-in-Conditional.ensures
-    (record { grows = yes_side.grows; count = yes_side.count; sound = yes_side.sound; at = yes_side.at })
-    c.in_ok-second_code-in-Conditional.ensures (record { grows = no_side.grows; count = no_side.count; sound = no_side.sound; at = no_side.at }))
-    c.condition-in-Conditional.ensures
+pub told_into-returns-in_err-truth : goal.told_into-returns-in_err-truth
+told_into-returns-in_err-truth t c = λ k.
+    let truth = c.in_err-truth.ensures in
+    told_stops c.args.both _ _ k _ _ c.args.aim.to c.args.aim.free (spot c.args.aim.after) c.in_err-truth.field-0.0 _ (search rules) truth.grows truth.limit
+
+pub told_into-returns : goal.told_into-returns
+told_into-returns t c = λ k.
+    let truth = c.in_ok-truth.ensures in
+    told_emits c.args.both _ _ _ k _ _ c.in_ok-truth.truth c.args.aim.to c.args.aim.free (spot c.args.aim.after) _
+    (record { grows = truth.grows; count = truth.count; sound = truth.sound; likely = truth.is_likely; truth = truth.truth }) (c.logical.ensures k)
+
+pub conditional_into-returns-in_err-join : goal.conditional_into-returns-in_err-join
+conditional_into-returns-in_err-join t c = λ k.
+    join_stops _ _ k _ _ _ c.args.aim.to c.args.aim.free (spot c.args.aim.after) c.in_err-join.field-0.0 _ (search rules) c.in_err-join.ensures.left
+    c.in_err-join.ensures.limit
+
+pub conditional_into-returns-in_err-yes : goal.conditional_into-returns-in_err-yes
+conditional_into-returns-in_err-yes t c = λ k.
+    let join = c.in_ok-join.ensures in
+    first_value_stops _ _ _ k _ _ _ c.args.aim.to c.args.aim.free c.in_ok-join.join (spot c.args.aim.after) c.in_err-yes.field-0.0 _ (search rules)
+    (record { grows = join.grows; count = join.count; sound = join.sound; lands = join.lands }) c.in_err-yes.ensures
+
+pub conditional_into-returns-in_err-no : goal.conditional_into-returns-in_err-no
+conditional_into-returns-in_err-no t c = λ k.
+    let join = c.in_ok-join.ensures in
+    value_stops _ _ _ _ k _ _ _ c.args.aim.to c.args.aim.free c.in_ok-join.join c.in_ok-yes.yes (spot c.args.aim.after) c.in_err-no.field-0.0 _
+    (search rules) (record { grows = join.grows; count = join.count; sound = join.sound; lands = join.lands }) c.in_ok-yes.ensures c.in_err-no.ensures
+
+pub conditional_into-returns : goal.conditional_into-returns
+conditional_into-returns t c = λ k.
+    let join = c.in_ok-join.ensures in
+    conditional_emits _ _ _ _ _ k _ _ _ _ c.args.aim.to c.args.aim.free c.in_ok-join.join c.in_ok-yes.yes c.in_ok-no.no (spot c.args.aim.after) _
+    c.likely.ensures (record { grows = join.grows; count = join.count; sound = join.sound; lands = join.lands }) c.in_ok-yes.ensures c.in_ok-no.ensures
+    c.condition.ensures
+
+pub value_block-returns-in_err-code : goal.value_block-returns-in_err-code
+value_block-returns-in_err-code t c =
+    block_stops _ _ (value_size (typed_expression_of c.args.e.now) c.args.free 0) _ _ _ _ c.in_err-code.field-0.0 _ (search rules) c.in_err-code.ensures
+
+pub value_block-returns : goal.value_block-returns
+value_block-returns t c =
+    let made = c.seal.ensures in
+    block_emits _ _ _ (value_size (typed_expression_of c.args.e.now) c.args.free 0) _ _ _ c.in_ok-code.code _ c.in_ok-code.ensures
+    (λ s named h. (h.0, (named, h.1))) made.grows made.count made.limit made.sound made.at
 
 pub operand_into-returns : goal.operand_into-returns
 operand_into-returns t c = operand_emits _ _ _ _ _ c.args.after _ c.requires.within c.value_into.ensures
 
+pub both_awaited-returns-in_err-middle : goal.both_awaited-returns-in_err-middle
+both_awaited-returns-in_err-middle t c = record {
+  ok = rw c.in_ok-values.was (both_stops _ _ _ _ _ _ _ _ c.in_ok-values.values.code c.in_err-middle.field-0.0 _ (search rules) c.in_err-middle.ensures);
+  err = rw c.in_ok-values.was tt;
+}
+
+pub both_awaited-returns : goal.both_awaited-returns
+both_awaited-returns t c = record {
+  ok = rw c.in_ok-values.was (both_emits _ _ _ _ _ _ _ _ _ c.in_ok-values.values.code c.in_ok-middle.middle _ c.in_ok-middle.ensures c.operand_into-2.ensures);
+  err = rw c.in_ok-values.was tt;
+}
+
 pub test-returns : goal.test-returns
 test-returns t c =
-    let value = c.in_ok-value.ensures in
-    test_emits _ _ _ c.args.targets _ _ c.in_ok-value.value.code _ value.room value.does value.sound c.operand_into.ensures
+    let value = c.tested.ensures in
+    test_emits _ _ _ c.args.targets _ c.tested.result _ value.room value.does value.sound value.limit c.awaited.ensures.ok c.awaited.ensures.err
 
 pub condition-returns-in-Constant : goal.condition-returns-in-Constant
 condition-returns-in-Constant t c =
@@ -124,57 +166,69 @@ condition-returns-in-Not t c =
     not_branches _ _ _ _ _ _ _ c.args.targets _ _ _ (ap typed_expression_of c.in-Unary.is) c.in-Not.is (ap typed_expression_of c.deref-in-Not.ensures)
     c.turned.ensures c.condition-in-Not.ensures
 
-pub condition-returns-in_ok-second-in-LogicalAnd : goal.condition-returns-in_ok-second-in-LogicalAnd
-condition-returns-in_ok-second-in-LogicalAnd t c =
-    let second = c.in_ok-second-in-LogicalAnd.ensures in
-    both_branches _ _ _ _ _ _ _ _ _ _ _ c.args.targets _ _ _ c.in_ok-second_code-in-LogicalAnd.second_code _
-    (ap typed_expression_of c.in-Binary.is) c.in-LogicalAnd.ensures.form (ap typed_expression_of c.deref-in-LogicalAnd-2.ensures)
-    (ap typed_expression_of c.deref-in-LogicalAnd.ensures) c.with_yes.ensures
-    (record {
-      emits = c.in_ok-second_code-in-LogicalAnd.ensures;
-      grows = second.grows;
-      count = second.count;
-      sound = second.sound;
-      at = second.at;
-    }) c.condition-in-LogicalAnd-2.ensures
+pub condition-returns-in-LogicalAnd : goal.condition-returns-in-LogicalAnd
+condition-returns-in-LogicalAnd t c =
+    branch_along _ _ _ _ c.args.targets _ _
+    (binary_is _ _ _ _ _ _ _ (ap typed_expression_of c.in-Binary.is) c.in-LogicalAnd.ensures.form (ap typed_expression_of c.deref-in-LogicalAnd.ensures)
+    (ap typed_expression_of c.deref-in-LogicalAnd-2.ensures)) (c.logical.ensures _)
 
-pub condition-returns-in_ok-second-in-LogicalOr : goal.condition-returns-in_ok-second-in-LogicalOr
-condition-returns-in_ok-second-in-LogicalOr t c =
-    let second = c.in_ok-second-in-LogicalOr.ensures in
-    either_branches _ _ _ _ _ _ _ _ _ _ _ c.args.targets _ _ _ c.in_ok-second_code-in-LogicalOr.second_code _
-    (ap typed_expression_of c.in-Binary.is) c.in-LogicalOr.ensures.form (ap typed_expression_of c.deref-in-LogicalOr-2.ensures)
-    (ap typed_expression_of c.deref-in-LogicalOr.ensures) c.with_no.ensures
-    (record {
-      emits = c.in_ok-second_code-in-LogicalOr.ensures;
-      grows = second.grows;
-      count = second.count;
-      sound = second.sound;
-      at = second.at;
-    }) c.condition-in-LogicalOr-2.ensures
+pub condition-returns-in-LogicalOr : goal.condition-returns-in-LogicalOr
+condition-returns-in-LogicalOr t c =
+    branch_along _ _ _ _ c.args.targets _ _
+    (binary_is _ _ _ _ _ _ _ (ap typed_expression_of c.in-Binary.is) c.in-LogicalOr.ensures.form (ap typed_expression_of c.deref-in-LogicalOr.ensures)
+    (ap typed_expression_of c.deref-in-LogicalOr-2.ensures)) (c.logical-in-LogicalOr.ensures _)
 
-pub condition-returns-in_ok-middle-in-Plain : goal.condition-returns-in_ok-middle-in-Plain
-condition-returns-in_ok-middle-in-Plain t c =
-    let values = c.in_ok-values-in-Plain.ensures in
-    let places = two_operands _ _ _ _ _ _ _ _ _ _ _ _ _ c.in_ok-values-in-Plain.values.code c.in_ok-middle-in-Plain.middle
-    (ap typed_expression_of c.deref-in-Plain-4.ensures) (ap typed_expression_of c.deref-in-Plain-3.ensures)
-    (ap typed_expression_of c.deref-in-Plain.ensures) (ap typed_expression_of c.deref-in-Plain-2.ensures) values.first values.second
-    (behind _ _ values.room)
-    c.in_ok-middle-in-Plain.ensures in
-    contrary_emits _ _ _ _ _ _ _ _ _ _ _ _ c.args.targets _ _ _ _ _ c.in_ok-values-in-Plain.values.code c.in_ok-middle-in-Plain.middle _
-    (ap typed_expression_of c.in-Binary.is) c.in-Some.ensures.computes c.in-Plain.ensures.branches c.in-Some.ensures.is refl c.if-targets.false
-    (ap typed_expression_of c.deref-in-Plain-4.ensures) (ap typed_expression_of c.deref-in-Plain-3.ensures) values.is (before _ _ values.room) values.sound
-    places c.operand_into-in-Plain.ensures
+pub condition-returns-else-targets : goal.condition-returns-else-targets
+condition-returns-else-targets t c =
+    branch_along _ _ _ _ c.args.targets _ _
+    (binary_is _ _ _ _ _ _ _ (ap typed_expression_of c.in-Binary.is) refl (ap typed_expression_of c.deref-in-Plain.ensures)
+    (ap typed_expression_of c.deref-in-Plain-2.ensures))
+    (c.compared.ensures _ _ c.in-Some.ensures.computes c.in-Plain.ensures.branches (sym c.in-Some.ensures.is) c.if-targets.false)
 
-pub condition-returns-in_ok-no-in-Conditional : goal.condition-returns-in_ok-no-in-Conditional
-condition-returns-in_ok-no-in-Conditional t c =
-    let yes_side = c.in_ok-yes-in-Conditional.ensures in
-    let no_side = c.in_ok-no-in-Conditional.ensures in
-    conditional_branches _ _ _ _ _ _ _ _ _ _ _ _ _ _ c.args.targets _ _ _ _ c.in_ok-first_code-in-Conditional.first_code
-    c.in_ok-second_code-in-Conditional.second_code _ (ap typed_expression_of c.in-Conditional.is) (ap typed_expression_of c.deref-in-Conditional-3.ensures)
-    (ap typed_expression_of c.deref-in-Conditional.ensures) (ap typed_expression_of c.deref-in-Conditional-2.ensures) c.likely.ensures
-    (branch_sides _ _ _ _ _ (typed_expression_of c.deref-in-Conditional.result.now) (typed_expression_of c.deref-in-Conditional-2.result.now) c.args.targets
-    c.args.free _ _
-    c.in_ok-first_code-in-Conditional.first_code c.in_ok-second_code-in-Conditional.second_code c.in_ok-first_code-in-Conditional.ensures
-    (record { grows = yes_side.grows; count = yes_side.count; sound = yes_side.sound; at = yes_side.at })
-    c.in_ok-second_code-in-Conditional.ensures (record { grows = no_side.grows; count = no_side.count; sound = no_side.sound; at = no_side.at }))
-    c.condition-in-Conditional-3.ensures
+pub condition-returns-in-Conditional : goal.condition-returns-in-Conditional
+condition-returns-in-Conditional t c =
+    branch_along _ _ _ _ c.args.targets _ _
+    (conditional_is _ _ _ _ _ _ _ (ap typed_expression_of c.in-Conditional.is) (ap typed_expression_of c.deref-in-Conditional.ensures)
+    (ap typed_expression_of c.deref-in-Conditional-2.ensures) (ap typed_expression_of c.deref-in-Conditional-3.ensures)) (c.sides.ensures _)
+
+pub compared-returns : goal.compared-returns
+compared-returns t c = λ o k computes plain has unlikely.
+    let values = c.contrary-values.ensures in
+    contrary_emits _ _ o k _ _ _ c.args.targets _ c.contrary-values.result _ computes plain has unlikely values.first values.second values.is
+    values.sound values.room values.limit c.both_awaited.ensures.ok c.both_awaited.ensures.err
+
+pub logical-returns-in_err-second : goal.logical-returns-in_err-second
+logical-returns-in_err-second t c = λ k.
+    logical_stops c.args.both _ _ k _ _ c.args.targets _ c.in_err-second.field-0.0 _ (search rules) c.in_err-second.ensures
+
+pub logical-returns : goal.logical-returns
+logical-returns t c = λ k.
+    logical_branches c.args.both _ _ _ k _ _ c.args.targets _ _ c.in_ok-second.second _ c.of_left.ensures c.in_ok-second.ensures c.condition.ensures
+
+pub sides-returns-in_err-yes : goal.sides-returns-in_err-yes
+sides-returns-in_err-yes t c = λ k.
+    first_side_stops _ _ k _ _ _ c.args.targets _ c.in_err-yes.field-0.0 _ (search rules) c.in_err-yes.ensures
+
+pub sides-returns-in_err-no : goal.sides-returns-in_err-no
+sides-returns-in_err-no t c = λ k.
+    side_stops _ _ _ k _ _ _ c.args.targets _ c.in_ok-yes.yes c.in_err-no.field-0.0 _ (search rules) c.in_ok-yes.ensures c.in_err-no.ensures
+
+pub sides-returns : goal.sides-returns
+sides-returns t c = λ k.
+    let first = typed_expression_of c.args.first.now in
+    let second = typed_expression_of c.args.second.now in
+    let likely = c.args.targets.likely in
+    conditional_branches _ _ _ k _ first second c.args.targets _ _ c.in_ok-yes.yes c.in_ok-no.no _ c.likely.ensures
+    (sides _ _ _ (condition_size first likely c.args.free) (condition_size second likely c.args.free) _ _ _ c.in_ok-yes.yes c.in_ok-no.no
+    c.in_ok-yes.ensures c.in_ok-no.ensures) c.condition.ensures
+
+pub branch_block-returns-in_err-code : goal.branch_block-returns-in_err-code
+branch_block-returns-in_err-code t c =
+    block_stops _ _ (condition_size (typed_expression_of c.args.e.now) c.args.targets.likely c.args.free) _ _ _ _ c.in_err-code.field-0.0 _ (search rules)
+    c.in_err-code.ensures
+
+pub branch_block-returns : goal.branch_block-returns
+branch_block-returns t c =
+    let made = c.seal.ensures in
+    block_emits _ _ _ (condition_size (typed_expression_of c.args.e.now) c.args.targets.likely c.args.free) _ _ _ c.in_ok-code.code _ c.in_ok-code.ensures
+    (λ s named h. (named, h)) made.grows made.count made.limit made.sound made.at

@@ -9,11 +9,46 @@ decreases-value_into l = weight (typed_expression_of l.e.now)
 abbrev pub decreases-operand_into : goal.decreases-operand_into
 decreases-operand_into l = weight (typed_expression_of l.e.now) + 1
 
+abbrev pub decreases-value_block : goal.decreases-value_block
+decreases-value_block l = weight (typed_expression_of l.e.now) + 1
+
+abbrev pub decreases-awaited : goal.decreases-awaited
+decreases-awaited l = weight (typed_expression_of l.e.now) + 2
+
 abbrev pub decreases-test : goal.decreases-test
-decreases-test l = weight (typed_expression_of l.e.now) + 2
+decreases-test l = weight (typed_expression_of l.e.now) + 3
 
 abbrev pub decreases-condition : goal.decreases-condition
-decreases-condition l = weight (typed_expression_of l.e.now) + 3
+decreases-condition l = weight (typed_expression_of l.e.now) + 4
+
+abbrev pub decreases-branch_block : goal.decreases-branch_block
+decreases-branch_block l = weight (typed_expression_of l.e.now) + 5
+
+abbrev pub decreases-element_into : goal.decreases-element_into
+decreases-element_into l = weight (typed_expression_of l.index.now) + 6
+
+abbrev pub decreases-unary_into : goal.decreases-unary_into
+decreases-unary_into l = weight (typed_expression_of l.part.now) + 6
+
+abbrev pub decreases-both_awaited : goal.decreases-both_awaited
+decreases-both_awaited l = weight (typed_expression_of l.left.now) + weight (typed_expression_of l.right.now) + 6
+
+abbrev pub decreases-logical : goal.decreases-logical
+decreases-logical l = weight (typed_expression_of l.left.now) + weight (typed_expression_of l.right.now) + 6
+
+abbrev pub decreases-compared : goal.decreases-compared
+decreases-compared l = weight (typed_expression_of l.left.now) + weight (typed_expression_of l.right.now) + 7
+
+abbrev pub decreases-told_into : goal.decreases-told_into
+decreases-told_into l = weight (typed_expression_of l.left.now) + weight (typed_expression_of l.right.now) + 7
 
 abbrev pub decreases-binary_into : goal.decreases-binary_into
-decreases-binary_into l = weight (typed_expression_of l.left.now) + weight (typed_expression_of l.right.now) + 4
+decreases-binary_into l = weight (typed_expression_of l.left.now) + weight (typed_expression_of l.right.now) + 8
+
+abbrev pub decreases-sides : goal.decreases-sides
+decreases-sides l =
+    weight (typed_expression_of l.test.now) + weight (typed_expression_of l.first.now) + weight (typed_expression_of l.second.now) + 6
+
+abbrev pub decreases-conditional_into : goal.decreases-conditional_into
+decreases-conditional_into l =
+    weight (typed_expression_of l.test.now) + weight (typed_expression_of l.first.now) + weight (typed_expression_of l.second.now) + 6

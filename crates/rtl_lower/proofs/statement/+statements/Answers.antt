@@ -7,6 +7,8 @@ use Rattle.rtl_lower.specs.Sizes.{continues}
 use Rattle.rtl_lower.proofs.Sizes.{any_of, weight, weight_within, none_left, one_left}
 use Rattle.rtl_lower.proofs.Emitting.{nothing_emits, break_emits, continue_emits, simple_emits, whole_emits, block_emits, none_emits}
 use Rattle.rtl_lower.proofs.Emitting.{more_emits, all_emitted, list_stopped, side_emits, if_is, if_emits, turn_emits, loop_is, loop_emits}
+use Rattle.rtl_lower.proofs.Emitting.{side_stops, if_join_stops, if_first_stops, if_second_stops, bottom_stops, last_stops, loop_join_stops}
+use Rattle.rtl_lower.proofs.Emitting.{loop_head_stops, loop_turn_stops, loop_body_stops, loop_top_stops}
 use Rattle.rtl_lower.proofs.statement.+statements.Goals as goal
 
 pub statement-returns-in-Empty : goal.statement-returns-in-Empty
@@ -124,3 +126,75 @@ statement-statements-requires t c =
     let is = (ap statement_of c.in-Block.is) ∙ block-is c.in-Block.all ∙ ap (λ l. block (statements_of l)) (sym c.as_slice.ensures.value) in
     let w = ap weight is in
     (omega (arith, w), λ e. c.requires.next (ap continues is ∙ e))
+
+pub side-returns-in_err-code : goal.side-returns-in_err-code
+side-returns-in_err-code t c = side_stops _ _ _ c.args.context c.args.join c.in_err-code.field-0.0 _ (search rules) c.in_err-code.ensures
+
+pub if_statement-returns-in_err-join : goal.if_statement-returns-in_err-join
+if_statement-returns-in_err-join t c =
+    if_join_stops _ _ _ _ _ c.args.context (spot c.args.after) c.in_err-join.field-0.0 c.from_residual.result (search rules) c.in_err-join.ensures.left
+    c.in_err-join.ensures.limit
+
+pub if_statement-returns-in_err-yes_block : goal.if_statement-returns-in_err-yes_block
+if_statement-returns-in_err-yes_block t c =
+    let join = c.in_ok-join.ensures in
+    if_first_stops _ _ _ _ _ _ c.args.context c.in_ok-join.join (spot c.args.after) c.in_err-yes_block.field-0.0
+    c.from_residual-in_err-yes_block.result (search rules)
+    (record { grows = join.grows; count = join.count; sound = join.sound; lands = join.lands }) c.in_err-yes_block.ensures
+
+pub if_statement-returns-in_err-no_block : goal.if_statement-returns-in_err-no_block
+if_statement-returns-in_err-no_block t c =
+    let join = c.in_ok-join.ensures in
+    if_second_stops _ _ _ _ _ _ _ c.args.context c.in_ok-join.join c.in_ok-yes_block.yes_block (spot c.args.after) c.in_err-no_block.field-0.0
+    c.from_residual-in_err-no_block.result (search rules)
+    (record { grows = join.grows; count = join.count; sound = join.sound; lands = join.lands }) c.in_ok-yes_block.ensures c.in_err-no_block.ensures
+
+pub turn_of-returns-in_err-bottom : goal.turn_of-returns-in_err-bottom
+turn_of-returns-in_err-bottom t c =
+    bottom_stops _ _ _ _ c.args.context c.args.many c.args.again c.in_err-bottom.field-0.0 _ (search rules) c.in_err-bottom.ensures
+
+pub turn_of-returns-in_err-code : goal.turn_of-returns-in_err-code
+turn_of-returns-in_err-code t c =
+    last_stops _ _ _ _ _ c.args.context c.args.many c.args.again c.in_ok-bottom.bottom c.in_err-code.field-0.0 _ (search rules) c.in_ok-bottom.ensures
+    c.in_err-code.ensures
+
+pub loop_statement-returns-in_err-left : goal.loop_statement-returns-in_err-left
+loop_statement-returns-in_err-left t c =
+    loop_join_stops _ _ _ _ _ c.args.context (spot c.args.after) c.in_err-left.field-0.0 c.from_residual.result (search rules) c.in_err-left.ensures.left
+    c.in_err-left.ensures.limit
+
+pub loop_statement-returns-in_err-head : goal.loop_statement-returns-in_err-head
+loop_statement-returns-in_err-head t c =
+    let join = c.in_ok-left.ensures in
+    loop_head_stops _ _ _ _ _ _ c.args.context c.in_ok-left.left (spot c.args.after) c.in_err-head.field-0.0 c.from_residual-in_err-head.result (search rules)
+    (record { grows = join.grows; count = join.count; sound = join.sound; lands = join.lands }) c.in_err-head.ensures.left c.in_err-head.ensures.limit
+
+pub loop_statement-returns-in_err-turn : goal.loop_statement-returns-in_err-turn
+loop_statement-returns-in_err-turn t c =
+    let join = c.in_ok-left.ensures in
+    loop_turn_stops _ _ _ _ _ _ _ c.args.context _ c.in_ok-left.left c.in_ok-head.head (spot c.args.after) c.in_err-turn.field-0.0
+    c.from_residual-in_err-turn.result (search rules) c.may_continue.ensures
+    (record {
+      sealing = record { grows = join.grows; count = join.count; sound = join.sound; lands = join.lands };
+      reserves = c.in_ok-head.ensures.reserves;
+    }) c.in_err-turn.ensures
+
+pub loop_statement-returns-in_err-body_code : goal.loop_statement-returns-in_err-body_code
+loop_statement-returns-in_err-body_code t c =
+    let join = c.in_ok-left.ensures in
+    loop_body_stops _ _ _ _ _ _ _ _ c.args.context _ _ c.in_ok-left.left c.in_ok-head.head c.in_ok-turn.turn (spot c.args.after)
+    c.in_err-body_code.field-0.0 c.from_residual-in_err-body_code.result (search rules) c.may_continue.ensures c.inside-inner.ensures
+    (record {
+      sealing = record { grows = join.grows; count = join.count; sound = join.sound; lands = join.lands };
+      reserves = c.in_ok-head.ensures.reserves;
+    }) c.in_ok-turn.ensures c.in_err-body_code.ensures
+
+pub loop_statement-returns-in_err-top : goal.loop_statement-returns-in_err-top
+loop_statement-returns-in_err-top t c =
+    let join = c.in_ok-left.ensures in
+    loop_top_stops _ _ _ _ _ _ _ _ _ c.args.context _ _ c.in_ok-left.left c.in_ok-head.head c.in_ok-turn.turn c.in_ok-body_code.body_code
+    (spot c.args.after) c.in_err-top.field-0.0 c.from_residual-in_err-top.result (search rules) c.may_continue.ensures c.inside-inner.ensures
+    (record {
+      sealing = record { grows = join.grows; count = join.count; sound = join.sound; lands = join.lands };
+      reserves = c.in_ok-head.ensures.reserves;
+    }) c.in_ok-turn.ensures c.in_ok-body_code.ensures c.in_err-top.ensures

@@ -1,0 +1,213 @@
+// Why a run is wrong: the part of the statement at which it ended that has no value.
+ghost use Rattle.std.specs.Prelude.{IfOk, IfSome};
+ghost use Rattle.c_run.specs.Reasons.{IsReason};
+
+use crate::interpreter::{Interpreter, act};
+use crate::pending::{Head, settle};
+use crate::steps::start;
+use crate::value::{computed, prefixed, value};
+use c_tokens::IntegerType;
+use c_tree::{BinaryOp, UnaryOp};
+use c_typed::{TypedExpression, TypedStatement};
+use c_types::Typed;
+use runs::Reached;
+use std::alloc::{AllocError, Global};
+
+/// What has no meaning (C99 3.4.3).
+#[derive(Clone, Copy)]
+pub enum Reason {
+    /// A local is read that isn't set.
+    Unset,
+    /// The index, read as its type says, is outside its array, which has so many elements.
+    Outside {
+        index: u32,
+        integer_type: IntegerType,
+        length: usize,
+    },
+    /// The operator has no value at this word, read as its type says.
+    Prefix {
+        operator: UnaryOp,
+        integer_type: IntegerType,
+        operand: u32,
+    },
+    /// The operator has no value at these words, read as its type says.
+    Operation {
+        operator: BinaryOp,
+        integer_type: IntegerType,
+        left: u32,
+        right: u32,
+    },
+    /// One call too many is active.
+    TooDeep,
+    /// A function ended without the word that it has to return.
+    NoResult,
+}
+
+/// Whether the right side isn't evaluated behind this word on the left.
+fn is_decided(operator: BinaryOp, left: u32) -> bool {
+    match operator {
+        BinaryOp::LogicalAnd => left == 0,
+        BinaryOp::LogicalOr => left != 0,
+        _ => false,
+    }
+}
+
+/// Why there is no element at this index, if there is none.
+fn outside(
+    globals: &[Vec<u32>],
+    array: usize,
+    index: u32,
+    integer_type: IntegerType,
+) -> Option<Reason>
+    ensures { IfSome result IsReason }
+{
+    let length = globals.get(array)?.len();
+    if (index as usize) < length {
+        return None;
+    }
+    Some(Reason::Outside {
+        index,
+        integer_type,
+        length,
+    })
+}
+
+/// The first part of an expression, in the order in which they are evaluated, that has no value; None where it has one.
+fn missing(e: &TypedExpression, locals: &[Option<u32>], globals: &[Vec<u32>]) -> Option<Reason>
+    ensures { IfSome result IsReason }
+{
+    match e {
+        TypedExpression::Constant(_) | TypedExpression::Global(_, _) => None,
+        TypedExpression::Local(_, _) => match value(e, locals, globals) {
+            Some(_) => None,
+            None => Some(Reason::Unset),
+        },
+        TypedExpression::Element(array, _, index) => match value(index, locals, globals) {
+            Some(at) => outside(globals, *array, at, index.integer_type()),
+            None => missing(index, locals, globals),
+        },
+        TypedExpression::Unary(operator, integer_type, part) => {
+            let Some(operand) = value(part, locals, globals) else {
+                return missing(part, locals, globals);
+            };
+            match prefixed(*operator, *integer_type, operand) {
+                Some(_) => None,
+                None => Some(Reason::Prefix {
+                    operator: *operator,
+                    integer_type: *integer_type,
+                    operand,
+                }),
+            }
+        }
+        TypedExpression::Binary(operator, integer_type, left, right) => {
+            let Some(x) = value(left, locals, globals) else {
+                return missing(left, locals, globals);
+            };
+            if is_decided(*operator, x) {
+                return None;
+            }
+            let Some(y) = value(right, locals, globals) else {
+                return missing(right, locals, globals);
+            };
+            match computed(*operator, *integer_type, x, y) {
+                Some(_) => None,
+                None => Some(Reason::Operation {
+                    operator: *operator,
+                    integer_type: *integer_type,
+                    left: x,
+                    right: y,
+                }),
+            }
+        }
+        TypedExpression::Conditional(_, test, first, second) => match value(test, locals, globals) {
+            None => missing(test, locals, globals),
+            Some(0) => missing(second, locals, globals),
+            Some(_) => missing(first, locals, globals),
+        },
+    }
+}
+
+/// Why an assignment to an element can't be done.
+fn missing_of_store(
+    interpreter: &Interpreter,
+    array: usize,
+    index: &TypedExpression,
+    e: &TypedExpression,
+) -> Option<Reason>
+    ensures { IfSome result IsReason }
+{
+    let (locals, globals) = (
+        interpreter.frame.locals.as_slice(),
+        interpreter.globals.as_slice(),
+    );
+    let Some(at) = value(index, locals, globals) else {
+        return missing(index, locals, globals);
+    };
+    match missing(e, locals, globals) {
+        Some(reason) => Some(reason),
+        None => outside(globals, array, at, index.integer_type()),
+    }
+}
+
+/// Why a call can't be done.
+fn missing_of_call(interpreter: &Interpreter, arguments: &[TypedExpression]) -> Reason
+    ensures { IsReason result }
+{
+    let (locals, globals) = (
+        interpreter.frame.locals.as_slice(),
+        interpreter.globals.as_slice(),
+    );
+    for argument in arguments {
+        if let Some(reason) = missing(argument, locals, globals) {
+            return reason;
+        }
+    }
+    Reason::TooDeep
+}
+
+/// Why a statement can't be done.
+fn missing_of_statement(interpreter: &Interpreter, s: &TypedStatement) -> Option<Reason>
+    ensures { IfSome result IsReason }
+{
+    let (locals, globals) = (
+        interpreter.frame.locals.as_slice(),
+        interpreter.globals.as_slice(),
+    );
+    match s {
+        TypedStatement::Assign(_, e)
+        | TypedStatement::Output(e)
+        | TypedStatement::If(e, _, _)
+        | TypedStatement::Loop(e, _, _)
+        | TypedStatement::Return(Some(e)) => missing(e, locals, globals),
+        TypedStatement::Store(array, index, e) => missing_of_store(interpreter, *array, index, e),
+        TypedStatement::Call(_, _, arguments) => Some(missing_of_call(interpreter, arguments)),
+        _ => None,
+    }
+}
+
+/// Why so many steps of a program end wrong, with at most `depth` calls active at once; None where they don't. The steps are
+/// done anew, so that a run needn't keep what only a wrong one is asked for. `Err` only where memory is refused.
+pub fn reason_of(
+    alloc: Global,
+    program: &Typed,
+    depth: u32,
+    steps: u64,
+) -> Result<Option<Reason>, AllocError>
+    ensures { IfOk result (λ reason. IfSome reason IsReason) }
+{
+    let mut interpreter = start(alloc, program)?;
+    for _ in 0..steps {
+        let frame = &mut interpreter.frame;
+        let head = settle(&mut frame.todo, &mut frame.locals)?;
+        let Head::Statement(s) = head else {
+            return Ok(Some(Reason::NoResult));
+        };
+        let reached = act(alloc, program, depth, &mut interpreter, s)?;
+        match reached {
+            Reached::Going => {}
+            Reached::Ended(_) => return Ok(None),
+            Reached::Failed => return Ok(missing_of_statement(&interpreter, s)),
+        }
+    }
+    Ok(None)
+}

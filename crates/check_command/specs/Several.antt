@@ -1,0 +1,102 @@
+-- What `mcc check FILE FILE ..` asks of its files, prints and ends by.
+use Rattle.std.specs.Prelude.{◌≡◌, ◌==◌, ◌||◌, if◌then◌else◌, ℕ, List, [], ◌∷◌, ◌++◌, All, Bool, true, Option, ⊤, map, fold, max, codes}
+use Rattle.std.specs.List.{FoldsTo, flat_map}
+use Rattle.std.specs.Io.KnownBytes.{Appends}
+use Rattle.commands.specs.Requests.{Request, TellsLine, reading_fault}
+use Rattle.commands.specs.Requests.Request.{Read, NotRead}
+use Rattle.commands.specs.Texts.{host_fault_text, shown_name}
+use Rattle.commands.specs.declared.files.FileFault.{FileFault}
+use Rattle.commands.specs.declared.fault.HostFault.TheVariants.{CannotWrite, NoMemory}
+use Rattle.check_command.specs.Checks.{IsAnswerTo, IsCheckFault}
+use Rattle.check_command.specs.Command.{IsMore}
+use Rattle.check_command.specs.Texts.{answer_text, check_fault_text, exit_status}
+use Rattle.check_command.specs.declared.verdicts.CheckAnswer.{CheckAnswer}
+use Rattle.check_command.specs.declared.verdicts.CheckFault.{CheckFault}
+
+-- what became of one of the files: its text has an answer, with the lines behind that, or an answer for whose lines memory was
+-- refused, or a fault; or it couldn't be read
+pub data CheckedFile : Type 0 where
+  Answered : (name text : List ℕ) (answer : CheckAnswer) (more : List ℕ) → CheckedFile
+  Unexplained : (name text : List ℕ) (answer : CheckAnswer) → CheckedFile
+  Faulty : (name text : List ℕ) (fault : CheckFault) → CheckedFile
+  Unread : (name : List ℕ) (fault : FileFault) → CheckedFile
+
+abbrev pub IsRight : (explain : Bool) → CheckedFile → Type 0
+IsRight explain (Answered name text answer more) = IsAnswerTo text answer × IsMore explain more
+IsRight explain (Unexplained name text answer) = IsAnswerTo text answer × (explain ≡ true)
+IsRight explain (Faulty name text fault) = IsCheckFault text fault
+IsRight explain (Unread name fault) = ⊤
+
+abbrev pub name_of : CheckedFile → List ℕ
+name_of (Answered name text answer more) = name
+name_of (Unexplained name text answer) = name
+name_of (Faulty name text fault) = name
+name_of (Unread name fault) = name
+
+abbrev pub request_of : CheckedFile → Request
+request_of (Answered name text answer more) = Read name text
+request_of (Unexplained name text answer) = Read name text
+request_of (Faulty name text fault) = Read name text
+request_of (Unread name fault) = NotRead name fault
+
+-- the answer's text, or the fault's
+abbrev pub said_of : CheckedFile → List ℕ
+said_of (Answered name text answer more) = answer_text answer
+said_of (Unexplained name text answer) = host_fault_text NoMemory
+said_of (Faulty name text fault) = check_fault_text fault
+said_of (Unread name fault) = host_fault_text (reading_fault fault)
+
+abbrev pub more_of : CheckedFile → List ℕ
+more_of (Answered name text answer more) = more
+more_of (Unexplained name text answer) = []
+more_of (Faulty name text fault) = []
+more_of (Unread name fault) = []
+
+abbrev pub status_of : CheckedFile → ℕ
+status_of (Answered name text answer more) = exit_status answer
+status_of (Unexplained name text answer) = 1
+status_of (Faulty name text fault) = 1
+status_of (Unread name fault) = 1
+
+-- the lines of faults that are told of it
+abbrev pub faults_of : CheckedFile → List (List ℕ)
+faults_of (Answered name text answer more) = []
+faults_of (Unexplained name text answer) = host_fault_text NoMemory ∷ []
+faults_of (Faulty name text fault) = check_fault_text fault ∷ []
+faults_of (Unread name fault) = host_fault_text (reading_fault fault) ∷ []
+
+-- its lines on standard output
+abbrev pub lines_of : CheckedFile → List ℕ
+lines_of file = shown_name (name_of file) ++ (codes ": " ++ (said_of file ++ 10 ∷ more_of file))
+
+-- the worse of two statuses: a fault's 1 before any other, else the greater
+abbrev pub worse : ℕ → ℕ → ℕ
+worse a b = if a == 1 || b == 1 then 1 else max a b
+
+-- each of the files was read, in order; standard output took the lines of each, and standard error was told its fault, if it has
+-- one; the status is the worst
+pub record ChecksAll {F E : Type 0} (answers : F → Request → F → Type 0) (old new : F) (out_old out_new : Option (List ℕ))
+    (tells : E → List ℕ → E → Type 0) (err_old err_new : E) (explain : Bool) (names : List (List ℕ)) (status : ℕ) : Type 0 where
+  pub files : List CheckedFile
+  pub right : All (IsRight explain) files
+  pub named : map name_of files ≡ names
+  pub asked : FoldsTo answers old (map request_of files) new
+  pub took : Appends out_old out_new (flat_map lines_of files)
+  pub told : FoldsTo (TellsLine tells) err_old (flat_map faults_of files) err_new
+  pub ends : status ≡ fold worse 0 (map status_of files)
+
+-- the same as an answer: what was asked and printed
+abbrev pub ChecksEach : (explain : Bool) → (names : List (List ℕ)) → (status : ℕ) → List Request → List ℕ → Type 0
+ChecksEach explain names status requests printed = (files : List CheckedFile) × All (IsRight explain) files × (map name_of files ≡ names)
+    × (requests ≡ map request_of files) × (printed ≡ flat_map lines_of files) × (status ≡ fold worse 0 (map status_of files))
+
+-- the first line that was told
+abbrev pub first_told : List (List ℕ) → List ℕ
+first_told [] = host_fault_text CannotWrite
+first_told (line ∷ lines) = line
+
+-- standard output was refused behind some of the files: these were read, and the first line that was told is that of their first
+-- fault, or of that refusal
+pub data BreaksOff (explain : Bool) (names : List (List ℕ)) : List Request → List ℕ → Type 0 where
+  breaks : (files : List CheckedFile) (rest : List (List ℕ)) → All (IsRight explain) files → map name_of files ++ rest ≡ names
+      → BreaksOff explain names (map request_of files) (first_told (flat_map faults_of files))

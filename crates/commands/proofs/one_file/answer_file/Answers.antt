@@ -1,0 +1,64 @@
+use Rattle.std.proofs.Common.{refl}
+use Rattle.commands.specs.Requests.{reading_fault}
+use Rattle.commands.specs.Requests.Request.{Read, NotRead}
+use Rattle.commands.specs.OneFile.StopsFile.{unread, faulty, untold}
+use Rattle.commands.specs.Texts.{host_fault_text}
+use Rattle.commands.proofs.Told.{told_as}
+use Rattle.commands.proofs.Asked.{asked_once, read_as}
+use Rattle.commands.proofs.one_file.answer_file.Goals as goal
+
+pub returns-in-Err-clause-stopped : goal.returns-in-Err-clause-stopped
+returns-in-Err-clause-stopped g c = λ one. record {
+  requests = _;
+  text = host_fault_text (reading_fault c.in-Err.ensures.asked.0);
+  told = told_as _ _ _ _ _ c.in-Err.ensures.asked.1 c.tell.ensures.told;
+  asked = asked_once g.F.Files.answers _ _ (NotRead c.args.file.now c.in-Err.ensures.asked.0) c.in-Err.ensures.asked.2;
+  means = unread c.in-Err.ensures.asked.0;
+}
+
+pub returns-in-Err-work-clause-stopped : goal.returns-in-Err-work-clause-stopped
+returns-in-Err-work-clause-stopped g c = λ one.
+    let answers = g.F.Files.answers in
+    let bytes = c.as_slice.result.now in
+    record {
+      requests = _;
+      text = g.C.FileCommand.line c.in-Err-work.fault;
+      told = c.tell-in-Err-work.ensures.told;
+      asked = asked_once answers _ _ (Read c.args.file.now bytes) (read_as answers _ _ _ _ bytes c.as_slice.ensures.value c.in-Ok.ensures.asked);
+      means = faulty bytes c.in-Err-work.fault c.in-Err-work.ensures.fault;
+    }
+
+pub returns-in-Ok-print-clause-answered : goal.returns-in-Ok-print-clause-answered
+returns-in-Ok-print-clause-answered g c = λ other.
+    let answers = g.F.Files.answers in
+    let bytes = c.as_slice.result.now in
+    let took = c.in-Ok-print.ensures.took in
+    record {
+      requests = _;
+      printed = took.0;
+      asked = asked_once answers _ _ (Read c.args.file.now bytes) (read_as answers _ _ _ _ bytes c.as_slice.ensures.value c.in-Ok.ensures.asked);
+      took = took.1;
+      means = record {
+        bytes = bytes;
+        asked = refl;
+        answer = c.in-Ok-work.answer;
+        answered = c.in-Ok-work.ensures.answer;
+        prints = took.2;
+        ends = c.in-Ok-print.ensures.status;
+      };
+    }
+
+pub returns-in-Ok-print-clause-stopped : goal.returns-in-Ok-print-clause-stopped
+returns-in-Ok-print-clause-stopped g c = λ one. absurd (c.in-Ok-print.ensures.neither.0 one)
+
+pub returns-clause-stopped : goal.returns-clause-stopped
+returns-clause-stopped g c = λ one.
+    let answers = g.F.Files.answers in
+    let bytes = c.as_slice.result.now in
+    record {
+      requests = _;
+      text = host_fault_text c.in-Err-print.fault;
+      told = c.tell-in-Err-print.ensures.told;
+      asked = asked_once answers _ _ (Read c.args.file.now bytes) (read_as answers _ _ _ _ bytes c.as_slice.ensures.value c.in-Ok.ensures.asked);
+      means = untold bytes c.in-Ok-work.answer c.in-Ok-work.ensures.answer c.in-Err-print.fault c.in-Err-print.ensures.fault;
+    }

@@ -1,0 +1,33 @@
+-- What a command over one file asks of its files, prints and tells. Its own parts: the answers and the faults that the file's bytes
+-- may have, what is printed of an answer, its status, and the line of a fault.
+use Rattle.std.specs.Prelude.{◌≡◌, ℕ, List, [], ◌∷◌, Option}
+use Rattle.std.specs.Io.KnownBytes.{Appends}
+use Rattle.commands.specs.Requests.{Request, reading_fault}
+use Rattle.commands.specs.Requests.Request.{Read, NotRead}
+use Rattle.commands.specs.Texts.{host_fault_text}
+use Rattle.commands.specs.declared.files.FileFault.{FileFault}
+use Rattle.commands.specs.declared.fault.HostFault.{HostFault}
+
+-- standard output took what is printed of an answer
+abbrev pub TookPrint : Option (List ℕ) → Option (List ℕ) → (List ℕ → Type 0) → Type 0
+TookPrint old new Prints = (printed : List ℕ) × Appends old new printed × Prints printed
+
+-- once it has an answer: the file was read and nothing else asked, and what is printed and the status are the answer's
+pub record AnswersFile {A : Type 0} (Answers : List ℕ → A → Type 0) (Prints : A → List ℕ → Type 0) (status_of : A → ℕ)
+    (file : List ℕ) (status : ℕ) (requests : List Request) (printed : List ℕ) : Type 0 where
+  pub bytes : List ℕ
+  pub asked : requests ≡ Read file bytes ∷ []
+  pub answer : A
+  pub answered : Answers bytes answer
+  pub prints : Prints answer printed
+  pub ends : status ≡ status_of answer
+
+-- the same where it ended by a fault, with the text that was told: of the file, of its bytes, or of what an answer was printed on
+pub data StopsFile {A B : Type 0} (Answers : List ℕ → A → Type 0) (Faults : List ℕ → B → Type 0) (line : B → List ℕ)
+    (Unprinted : HostFault → Type 0) (file : List ℕ) : List Request → List ℕ → Type 0 where
+  unread : (fault : FileFault)
+      → StopsFile Answers Faults line Unprinted file (NotRead file fault ∷ []) (host_fault_text (reading_fault fault))
+  faulty : (bytes : List ℕ) (fault : B) → Faults bytes fault
+      → StopsFile Answers Faults line Unprinted file (Read file bytes ∷ []) (line fault)
+  untold : (bytes : List ℕ) (answer : A) → Answers bytes answer → (fault : HostFault) → Unprinted fault
+      → StopsFile Answers Faults line Unprinted file (Read file bytes ∷ []) (host_fault_text fault)

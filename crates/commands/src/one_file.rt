@@ -1,0 +1,110 @@
+// A command over one file: it reads it, works out an answer or a fault, and prints the one or tells the other.
+
+ghost use Rattle.std.specs.Prelude.{◌≡◌, ◌≢◌, ◌≤◌, ℕ, List, max, IfErr, IfOk, OnOk};
+ghost use Rattle.commands.specs.declared.fault.HostFault.{HostFault};
+ghost use Rattle.commands.specs.OneFile.{AnswersFile, StopsFile, TookPrint};
+ghost use Rattle.commands.specs.Requests.{Asks, Does, IsSent, TellsBeside, TellsLine};
+
+use crate::fault::{Complaints, HostFault, tell};
+use crate::files::{Files, read_file};
+use crate::output::Output;
+use std::alloc::Global;
+
+/// What a command does with the bytes of its file.
+pub trait FileCommand {
+    type Answer: Drop;
+
+    type Fault: Drop;
+
+    // the answers and the faults that the bytes may have
+    ghost answers: { Self → List ℕ → Self.Answer → Type 0 };
+
+    ghost faults: { Self → List ℕ → Self.Fault → Type 0 };
+
+    // what is printed of an answer, its status, and the greatest status
+    ghost prints: { Self → Self.Answer → List ℕ → Type 0 };
+
+    ghost status: { Self.Answer → ℕ };
+
+    ghost most: { ℕ };
+
+    // the line of a fault
+    ghost line: { Self.Fault → List ℕ };
+
+    // why an answer may be left unprinted
+    ghost unprinted: { HostFault → Type 0 };
+
+    // what may be told beside an answer of this status
+    ghost remarks: { ℕ → List (List ℕ) → Type 0 };
+
+    /// The answer to these bytes, or their fault.
+    fn work(&self, alloc: Global, bytes: &[u8]) -> Result<Self::Answer, Self::Fault>
+        ensures answer { IfOk result (answers self.now bytes.now) }
+        ensures fault { IfErr result (faults self.now bytes.now) };
+
+    /// The answer, printed; its status.
+    fn print<W: Output>(
+        &self,
+        alloc: Global,
+        bytes: &[u8],
+        answer: &Self::Answer,
+        out: &mut W,
+    ) -> Result<u8, HostFault>
+        ensures took { OnOk result (TookPrint (W.contents out.old) (W.contents out.new) (prints self.now answer.now)) }
+        ensures sent { OnOk result (IsSent W.sends out.new) }
+        ensures status { IfOk result (λ s. s ≡ status answer.now) }
+        ensures most { IfOk result (λ s. s ≤ most) }
+        ensures neither { IfOk result (λ s. (s ≢ 1) × (s ≢ 2)) }
+        ensures fault { IfErr result unprinted };
+
+    /// What is told beside an answer that was printed.
+    fn remark<E: Complaints>(&self, alloc: Global, bytes: &[u8], answer: &Self::Answer, err: &mut E)
+        ensures { TellsBeside E.tells err.old (remarks (status answer.now)) err.new };
+
+    /// The line of a fault, and below it what is known of it.
+    fn tell<E: Complaints>(
+        &self,
+        alloc: Global,
+        file: &str,
+        bytes: &[u8],
+        fault: Self::Fault,
+        err: &mut E,
+    ) -> u8
+        ensures status { result ≡ 1 }
+        ensures told { TellsLine E.tells err.old (line fault) err.new };
+}
+
+/// A command over its file and the streams. The answer is the exit status: 1 where it ended by a fault.
+pub fn answer_file<C: FileCommand, F: Files, W: Output, E: Complaints>(
+    alloc: Global,
+    command: &C,
+    file: &str,
+    files: &mut F,
+    out: &mut W,
+    err: &mut E,
+) -> u8
+    ensures most { result ≤ max 1 C.most }
+    ensures not_wrong_words { result ≢ 2 }
+    ensures answered { result ≢ 1 → Does F.answers files.old files.new (W.contents out.old) (W.contents out.new)
+        (AnswersFile (C.answers command.now) (C.prints command.now) C.status file.now result) }
+    ensures sent { result ≢ 1 → IsSent W.sends out.new }
+    ensures beside { result ≢ 1 → TellsBeside E.tells err.old (C.remarks result) err.new }
+    ensures stopped { result ≡ 1 → Asks F.answers files.old files.new E.tells err.old err.new
+        (StopsFile (C.answers command.now) (C.faults command.now) C.line C.unprinted file.now) }
+{
+    let text = match read_file(alloc, file, files) {
+        Ok(text) => text,
+        Err(fault) => return tell(err, &fault),
+    };
+    let answer = match command.work(alloc, text.as_slice()) {
+        Ok(answer) => answer,
+        Err(fault) => return command.tell(alloc, file, text.as_slice(), fault, err),
+    };
+    match command.print(alloc, text.as_slice(), &answer, out) {
+        Ok(status) => {
+            command.remark(alloc, text.as_slice(), &answer, err);
+            status
+        }
+        Err(fault) => tell(err, &fault),
+    }
+}

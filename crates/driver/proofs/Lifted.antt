@@ -1,0 +1,121 @@
+-- What a command did, as what the program did with its words.
+use Rattle.std.proofs.Common.{◌≡◌, ◌≢◌, ◌⊎◌, ℕ, List, [], ◌∷◌, ◌==◌, ◌||◌, if◌then◌else◌, Bool, true, false, Option, map, fold, max, refl, sym, subst, inl, inr}
+use Rattle.std.specs.declared.vec.Vec.{Vec}
+use Rattle.std.specs.declared.alloc.Global.{Global}
+use Rattle.std.specs.Borrow.{Bor}
+use Rattle.std.specs.List.{FoldsTo, flat_map}
+use Rattle.commands.specs.Requests.{Request, Asks, Does, TellsBeside, TellsLine}
+use Rattle.check_command.specs.Several.{BreaksOff, CheckedFile, ChecksAll, ChecksEach, worse, status_of, faults_of, lines_of, request_of}
+use Rattle.check_command.specs.Several.CheckedFile.{Answered, Unexplained, Faulty, Unread}
+use Rattle.command_line.specs.Commands.{IsCommand}
+use Rattle.command_line.specs.declared.command.Command.{Command}
+use Rattle.command_line.specs.declared.command.Command.TheVariants.{CheckEach}
+use Rattle.driver.specs.Program.{Answers, HasFaultyFile, IsAnswered, IsRemark, IsStopped, Remarks, Stops}
+
+module _ {E : Type 0} (tells : E → List ℕ → E → Type 0) (words : List (List ℕ)) (status : ℕ) (command : Command) (entered : IsCommand words command) where
+  -- what was told beside its answer
+  pub remarked : (p q : E) → TellsBeside tells p (Remarks command status) q → TellsBeside tells p (IsRemark words status) q
+  remarked p q told = (told.0, told.1, (command, entered, told.2))
+
+  -- nothing was
+  pub silent : (p q : E) → Remarks command status [] → q ≡ p → TellsBeside tells p (IsRemark words status) q
+  silent p q nothing same = ([], sym same, (command, entered, nothing))
+
+-- it has its answer
+pub answered_by : {F : Type 0} (answers : F → Request → F → Type 0) (words : List (List ℕ)) (status : ℕ) (command : Command) → IsCommand words command
+    → (f g : F) (o r : Option (List ℕ)) → Does answers f g o r (Answers command status) → Does answers f g o r (IsAnswered words status)
+answered_by answers words status command entered f g o r does = record {
+  requests = does.requests;
+  printed = does.printed;
+  asked = does.asked;
+  took = does.took;
+  means = record { command = command; entered = entered; answered = does.means };
+}
+
+-- it ended by a fault
+pub stopped_by : {F E : Type 0} (answers : F → Request → F → Type 0) (tells : E → List ℕ → E → Type 0) (words : List (List ℕ)) (command : Command)
+    → IsCommand words command → (f g : F) (p q : E) → Asks answers f g tells p q (Stops command) → Asks answers f g tells p q (IsStopped words)
+stopped_by answers tells words command entered f g p q asks = record {
+  requests = asks.requests;
+  text = asks.text;
+  asked = asks.asked;
+  told = asks.told;
+  means = inr (command, entered, asks.means);
+}
+
+one_or : (b : Bool) (n : ℕ) → (if b || true then 1 else n) ≡ 1
+one_or true n = refl
+one_or false n = refl
+
+-- a fault is the worst
+worse_one : (a : ℕ) → worse a 1 ≡ 1
+worse_one a = one_or (a == 1) (max a 1)
+
+stays_one : (xs : List ℕ) → fold worse 1 xs ≡ 1
+stays_one [] = refl
+stays_one (x ∷ xs) = stays_one xs
+
+fault_shows : (a : ℕ) (xs : List ℕ) → fold worse (worse a 1) xs ≡ 1
+fault_shows a xs = subst (λ (s : ℕ). fold worse s xs ≡ 1) (sym (worse_one a)) (stays_one xs)
+
+-- without the worst status no file had a fault
+no_faults : (a : ℕ) (files : List CheckedFile) → fold worse a (map status_of files) ≢ 1 → flat_map faults_of files ≡ []
+no_faults a [] other = refl
+no_faults a (Answered name text answer more ∷ files) other = no_faults (worse a (status_of (Answered name text answer more))) files other
+no_faults a (Unexplained name text answer ∷ files) other = absurd (other (fault_shows a (map status_of files)))
+no_faults a (Faulty name text fault ∷ files) other = absurd (other (fault_shows a (map status_of files)))
+no_faults a (Unread name fault ∷ files) other = absurd (other (fault_shows a (map status_of files)))
+
+module _ {F E : Type 0} (answers : F → Request → F → Type 0) (tells : E → List ℕ → E → Type 0) (explain : Bool) (names : List (List ℕ)) (status : ℕ)
+    (f g : F) (o r : Option (List ℕ)) (p q : E) (all : ChecksAll answers f g o r tells p q explain names status) where
+  -- several files, as an answer
+  pub each_answered : Does answers f g o r (ChecksEach explain names status)
+  each_answered = record {
+    requests = map request_of all.files;
+    printed = flat_map lines_of all.files;
+    asked = all.asked;
+    took = all.took;
+    means = (all.files, all.right, all.named, refl, refl, all.ends);
+  }
+
+  -- nothing is told where none has a fault
+  pub each_silent : status ≢ 1 → q ≡ p
+  each_silent other =
+      let none = no_faults 0 all.files (λ one. other (subst (λ (s : ℕ). s ≡ 1) (sym all.ends) one)) in
+      sym (subst (λ (lines : List (List ℕ)). FoldsTo (TellsLine tells) p lines q) none all.told)
+
+-- several files, which all have their lines, or which broke off
+module _ {F E : Type 0} (answers : F → Request → F → Type 0) (tells : E → List ℕ → E → Type 0) (explain : Bool) (status : ℕ)
+    (f g : F) (o r : Option (List ℕ)) (p q : E) (Sent : Type 0) where
+  abbrev pub Each : List (Bor (List ℕ)) → Type 0
+  Each ns = (ChecksAll answers f g o r tells p q explain (map (λ s. s.now) ns) status × Sent)
+      ⊎ ((status ≡ 1) × Asks answers f g tells p q (BreaksOff explain (map (λ s. s.now) ns)))
+
+  module _ (files : Vec (Bor (List ℕ)) Global) (ns : List (Bor (List ℕ))) (same : ns ≡ files.items) where
+    answered_of : Each files.items → status ≢ 1 → Does answers f g o r (ChecksEach explain (map (λ s. s.now) files.items) status)
+    answered_of (inl all) other = each_answered answers tells explain (map (λ s. s.now) files.items) status f g o r p q all.0
+    answered_of (inr stop) other = absurd (other stop.0)
+
+    silent_of : Each files.items → status ≢ 1 → q ≡ p
+    silent_of (inl all) other = each_silent answers tells explain (map (λ s. s.now) files.items) status f g o r p q all.0 other
+    silent_of (inr stop) other = absurd (other stop.0)
+
+    stopped_of : (words : List (List ℕ)) → IsCommand words (CheckEach files explain) → Each files.items → status ≡ 1
+        → Asks answers f g tells p q (IsStopped words) ⊎ HasFaultyFile answers f g o r tells p q words
+    stopped_of words entered (inl all) one = inr (record {
+      files = files;
+      explain = explain;
+      entered = entered;
+      checked = subst (λ (s : ℕ). ChecksAll answers f g o r tells p q explain (map (λ t. t.now) files.items) s) one all.0;
+    })
+    stopped_of words entered (inr stop) one = inl (stopped_by answers tells words (CheckEach files explain) entered f g p q stop.1)
+
+    pub all_answered : Each ns → status ≢ 1 → Does answers f g o r (ChecksEach explain (map (λ s. s.now) files.items) status)
+    all_answered each = answered_of (subst Each same each)
+
+    pub all_silent : Each ns → status ≢ 1 → q ≡ p
+    all_silent each = silent_of (subst Each same each)
+
+    pub all_stopped : (words : List (List ℕ)) → IsCommand words (CheckEach files explain) → Each ns → status ≡ 1
+        → Asks answers f g tells p q (IsStopped words) ⊎ HasFaultyFile answers f g o r tells p q words
+    all_stopped words entered each = stopped_of words entered (subst Each same each)

@@ -1,0 +1,18 @@
+use Rattle.std.proofs.Common.{get_or, refl, arith}
+use Rattle.runs.proofs.Kept.{stored-there, stored-outside, stored-nowhere}
+use Rattle.runs.proofs.stores.store.Goals as goal
+
+pub returns-then-index-len : goal.returns-then-index-len
+returns-then-index-len c =
+    let words = get_or c.args.globals.now c.args.global c.index-globals-global.result in
+    stored-there c.args.globals.now c.args.global c.args.index c.args.v c.index-globals-global.result _ c.if-global-globals.true
+    (omega (arith, c.if-index-len.true, c.len.ensures, words.ok.0)) refl
+
+pub returns-else-index-len : goal.returns-else-index-len
+returns-else-index-len c =
+    let words = get_or c.args.globals.now c.args.global c.index-globals-global.result in
+    stored-outside c.args.globals.now c.args.global c.args.index c.args.v c.index-globals-global.result c.if-global-globals.true
+    (omega (arith, c.if-index-len.false, c.len.ensures, words.ok.0))
+
+pub returns-else-global-globals : goal.returns-else-global-globals
+returns-else-global-globals c = stored-nowhere c.args.globals.now c.args.global c.args.index c.args.v c.if-global-globals.false

@@ -1,0 +1,31 @@
+// What one step of a run comes to.
+ghost use Rattle.std.specs.Prelude.{◌≡◌};
+
+use crate::ran::End;
+
+/// What a step has come to.
+#[derive(Clone, Copy)]
+pub enum Reached {
+    /// The run goes on.
+    Going,
+    /// The program ended with this word.
+    Ended(u32),
+    /// It did what has no meaning.
+    Failed,
+}
+
+impl Reached {
+    ghost use Rattle.runs.specs.Steps.{end_of};
+
+    /// How the run ended; None where it goes on.
+    #[inline]
+    pub fn end(self) -> Option<End>
+        ensures { result ≡ end_of self }
+    {
+        match self {
+            Reached::Going => None,
+            Reached::Ended(word) => Some(End::Done(word)),
+            Reached::Failed => Some(End::Wrong),
+        }
+    }
+}
