@@ -4,6 +4,7 @@ use Rattle.std.specs.Str.Parse.{IsNumeral, digits_value, without_leading_plus}
 use Rattle.clap.specs.Words.{App, Row, Rule, Text, all_of, first_of, one_of, new_app, new_rule, subcommand_of, with_rule, with_subcommand}
 use Rattle.clap.specs.declared.builder.ArgAction.TheVariants.{Append, Set, SetTrue}
 use Rattle.clap.specs.declared.builder.value_parser.ValueParser.TheVariants as parsers
+use Rattle.term_table.specs.declared.limits.TheConstants.{MAX_PASSES, MAX_NODES, MAX_HEADS}
 use Rattle.command_line.specs.declared.command.Command.{Command}
 use Rattle.command_line.specs.declared.command.Command.TheVariants.{Check, CheckEach, Interp, Build, Run, List as Listing, Show}
 
@@ -58,8 +59,8 @@ abbrev pub plain_app : App
 plain_app = with_rule (with_rule files_app (flag_rule (codes "plain"))) (number_rule (codes "depth") 1 4096)
 
 abbrev pub build_app : App
-build_app = with_rule (with_rule (with_rule plain_app (number_rule (codes "workers") 1 64)) (number_rule (codes "nodes") 1 1048576))
-    (number_rule (codes "heads") 1 65536)
+build_app = with_rule (with_rule (with_rule plain_app (number_rule (codes "workers") 1 MAX_PASSES)) (number_rule (codes "nodes") 1 MAX_NODES))
+    (number_rule (codes "heads") 1 MAX_HEADS)
 
 abbrev pub run_app : App
 run_app = with_rule (with_rule (new_app (codes "run")) (required_rule (codes "IMAGE"))) (number_rule (codes "steps") 0 4294967295)
@@ -121,9 +122,9 @@ HasValues name rows (Build source image plain depth workers nodes heads) =
     (name ≡ codes "build") × (first_of (codes "SOURCE") rows ≡ Some source.now) × (first_of (codes "IMAGE") rows ≡ Some image.now)
     × IsFlag (one_of (codes "plain") rows) plain
     × IsNumber (one_of (codes "depth") rows) 256 depth × (1 ≤ depth) × (depth ≤ 4096)
-    × IsNumber (one_of (codes "workers") rows) 4 workers × (1 ≤ workers) × (workers ≤ 64)
-    × IsNumber (one_of (codes "nodes") rows) 65536 nodes × (1 ≤ nodes) × (nodes ≤ 1048576)
-    × IsNumber (one_of (codes "heads") rows) 1024 heads × (1 ≤ heads) × (heads ≤ 65536)
+    × IsNumber (one_of (codes "workers") rows) 4 workers × (1 ≤ workers) × (workers ≤ MAX_PASSES)
+    × IsNumber (one_of (codes "nodes") rows) 65536 nodes × (1 ≤ nodes) × (nodes ≤ MAX_NODES)
+    × IsNumber (one_of (codes "heads") rows) 1024 heads × (1 ≤ heads) × (heads ≤ MAX_HEADS)
 HasValues name rows (Run image steps) =
     (name ≡ codes "run") × (first_of (codes "IMAGE") rows ≡ Some image.now)
     × IsNumber (one_of (codes "steps") rows) 1000000 steps × (steps < 2 ^ 32)

@@ -18,8 +18,8 @@ pub enum Command<'a> {
         steps: u64,
     },
     /// The image of the C program of a file, made for `depth` active calls at most (1 to 4096). `plain` leaves every block in
-    /// its own order; else `workers` (1 to 64) put the blocks in order, over a table with `nodes` terms for each (1 to
-    /// 1,048,576) and `heads` chains (1 to 65,536).
+    /// its own order; else `workers` (1 to `MAX_PASSES`) put the blocks in order, over a table with `nodes` terms for each (1 to
+    /// `MAX_NODES`) and `heads` chains (1 to `MAX_HEADS`), as term_table has them.
     Build {
         source: &'a str,
         image: &'a str,

@@ -10,6 +10,7 @@ ghost use Rattle.command_line.specs.Commands.{run_app, running_app, show_app, sh
 use crate::parts::CommandBuilder;
 use clap::Command as CommandLine;
 use std::alloc::{AllocError, Global};
+use term_table::{MAX_HEADS, MAX_NODES, MAX_PASSES};
 
 const CHECK_HELP: &str = "\
 FILE spells a block and an order for it, one instruction a line:
@@ -207,9 +208,9 @@ fn build_command<'a, C: CommandBuilder<'a>>(alloc: Global) -> Result<C, AllocErr
     ensures local { IfOk result (λ c. C.has_globals c ≡ false) }
 {
     let command: C = plain_command(alloc)?;
-    let command = command.number(alloc, "workers", 1, 64, WORKERS_HELP)?;
-    let command = command.number(alloc, "nodes", 1, 1048576, NODES_HELP)?;
-    command.number(alloc, "heads", 1, 65536, HEADS_HELP)
+    let command = command.number(alloc, "workers", 1, MAX_PASSES, WORKERS_HELP)?;
+    let command = command.number(alloc, "nodes", 1, MAX_NODES, NODES_HELP)?;
+    command.number(alloc, "heads", 1, MAX_HEADS, HEADS_HELP)
 }
 
 fn run_command<'a, C: CommandBuilder<'a>>(alloc: Global) -> Result<C, AllocError>

@@ -5,8 +5,8 @@
 //! memory alone.
 //!
 //! What is promised:
-//! - `command_line::words`: where it is Ok, the files (of `check` one or more) and numbers are those that clap's matches of the words have, in
-//!   their range, or their defaults.
+//! - `command_line::words`: where it is Ok, the files (of `check` one or more) and numbers are those that clap's matches
+//!   of the words have, in their range, or their defaults; the table's ranges are those of term_table.
 #![tactic(auto)]
 
 mod command;

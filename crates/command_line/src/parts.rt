@@ -3,7 +3,8 @@
 ghost use Rattle.std.specs.Prelude.{◌≡◌, Bool, false, IfOk};
 ghost use Rattle.clap.specs.declared.builder.command.Command.TheViews.{out-Command};
 ghost use Rattle.clap.specs.Words.{App, app_of, new_app, rule_of, with_rule, with_subcommand};
-ghost use Rattle.command_line.specs.Commands.{flag_rule, number_rule, required_rule, several_rule, text_rule, with_required_subcommand, with_version};
+ghost use Rattle.command_line.specs.Commands.{flag_rule, number_rule, required_rule, several_rule, text_rule};
+ghost use Rattle.command_line.specs.Commands.{with_required_subcommand, with_version};
 
 use clap::builder::ValueParser;
 use clap::{Arg, ArgAction, Command as CommandLine};

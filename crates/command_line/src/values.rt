@@ -9,6 +9,7 @@ use crate::command::Command;
 use crate::grammar::grammar;
 use clap::{ArgMatches, Error};
 use std::alloc::{AllocError, Global};
+use term_table::{MAX_HEADS, MAX_NODES, MAX_PASSES};
 
 fn flag(values: &ArgMatches<'_>, id: &str) -> bool
     ensures { IsFlag (one_of id.now (rows_of (found_of values.now))) result }
@@ -80,9 +81,9 @@ fn entered_build<'a>(values: &ArgMatches<'a>) -> Option<Command<'a>>
     let image = values.get_str("IMAGE")?;
     let plain = flag(values, "plain");
     let depth = bounded(values, "depth", 256, 1, 4096)?;
-    let workers = bounded(values, "workers", 4, 1, 64)?;
-    let nodes = bounded(values, "nodes", 65536, 1, 1048576)?;
-    let heads = bounded(values, "heads", 1024, 1, 65536)?;
+    let workers = bounded(values, "workers", 4, 1, MAX_PASSES as u32)?;
+    let nodes = bounded(values, "nodes", 65536, 1, MAX_NODES as u32)?;
+    let heads = bounded(values, "heads", 1024, 1, MAX_HEADS as u32)?;
     Some(Command::Build {
         source,
         image,

@@ -4,7 +4,7 @@
 ghost use Rattle.std.specs.Prelude.{◌≤◌, length, ◌++◌, Some, codes, decimal};
 ghost use Rattle.commands.specs.Requests.{TellsOn};
 
-use crate::explanation::Explanation;
+use crate::explanation::{Explanation, printable, printable_bytes};
 use crate::fault::Complaints;
 use std::alloc::{AllocError, Global};
 use std::fmt;
@@ -143,9 +143,9 @@ pub struct Place<'a> {
 /// The line with the place and the message, the line of the text with its caret, which isn't there at the text's end, and
 /// the hint.
 fn lines_below(alloc: Global, place: &Place<'_>, at: usize) -> Result<Vec<u8>, AllocError> {
-    let mut lines = Vec::new(alloc);
-    let site = site_of(place, at).to_string(alloc)?;
-    lines.extend_from_slice(site.as_bytes())?;
+    let mut lines = printable_bytes(alloc, place.source)?;
+    let behind = BehindName(spot_of(place.text, at)).to_string(alloc)?;
+    lines.extend_from_slice(behind.as_bytes())?;
     if let Some(about) = &place.about {
         lines.extend_from_slice(b" error: ")?;
         lines.extend_from_slice(about.message.as_slice())?;
@@ -171,32 +171,29 @@ pub(crate) fn show_place<E: Complaints>(alloc: Global, err: &mut E, place: &Plac
 {
     match lines_below(alloc, place, at) {
         Ok(lines) => err.bytes(lines.as_slice()),
-        Err(_) => err.line(&site_of(place, at)),
+        Err(_) => tell_site(err, place, at),
     }
 }
 
-fn site_of<'a>(place: &Place<'a>, at: usize) -> Site<'a> {
-    let Spot { line, column } = spot_of(place.text, at);
-    Site {
-        source: place.source,
-        line,
-        column,
+/// Where a fault lies alone, which takes no memory.
+fn tell_site<E: Complaints>(err: &mut E, place: &Place<'_>, at: usize)
+    ensures { TellsOn E.tells err.old err.new }
+{
+    for byte in place.source.as_bytes() {
+        err.bytes(&[printable(*byte)]);
     }
+    err.line(&BehindName(spot_of(place.text, at)));
 }
 
-/// As editors read a place.
-#[derive(Drop)]
-struct Site<'a> {
-    source: &'a str,
-    line: usize,
-    column: usize,
-}
+/// A place as editors read it behind the name of its file.
+#[derive(Clone, Copy)]
+struct BehindName(Spot);
 
-impl<'a> fmt::Display for Site<'a> {
-    ghost output = { λ s. Some (s.source.now ++ (codes ":" ++ (decimal s.line ++ (codes ":" ++ (decimal s.column ++ codes ":"))))) };
+impl fmt::Display for BehindName {
+    ghost output = { λ s. Some (codes ":" ++ (decimal s.0.line ++ (codes ":" ++ (decimal s.0.column ++ codes ":")))) };
 
     fn fmt<W: fmt::Write>(&self, f: &mut fmt::Formatter<W>) -> fmt::Result {
-        let (source, line, column) = (self.source, self.line, self.column);
-        write!(f, "{source}:{line}:{column}:")
+        let Spot { line, column } = self.0;
+        write!(f, ":{line}:{column}:")
     }
 }

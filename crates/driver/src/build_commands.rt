@@ -26,7 +26,8 @@ fn limit_text(limit: Limit) -> &'static str {
             "a function has more than 8000 values, or the program more than 1048575 branches and calls"
         }
         Limit::Selection => {
-            "a call takes more than 32000 bytes of stack, all calls of --depth more than 16777216, or the program has more than 1048576 blocks"
+            "a call takes more than 32000 bytes of stack, all calls of --depth more than 16777216, \
+             or the program has more than 1048576 blocks"
         }
         Limit::Assembly => {
             "a function has more than 32000 words of code, or the program more than 1048576"

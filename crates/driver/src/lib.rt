@@ -34,11 +34,11 @@
 //! - `driver::mcc`, over any files and any standard error, where clap takes the words: unless the status is 1, the
 //!   words are a command, all that was asked of the files, what standard output took and the status are those of an
 //!   answer that the command's own call may give, with the words' depth, steps and `--plain` (`answered`: `IsAnswered`
-//!   of specs/Program.antt), and nothing was told, but beside a run that is wrong or stuck lines of printable ASCII, which say why
-//!   (`quiet`: `IsRemark`). A status of 1 comes with the line of a fault that the command's own contract allows, or, of several
-//!   check texts, where one has a fault and each has its line (`HasFaultyFile`); IMAGE is asked to be nothing but the bytes of an image of what was read from
-//!   SOURCE, and SOURCE is only read (`stopped`: `IsStopped`). `check_command::check_file` promises the same of
-//!   `check`. Of what `show`, `list --asm` and (behind the answer) `check --explain` print no more is promised than that
+//!   of specs/Program.antt), and nothing was told, but beside a run that is wrong or stuck lines of printable ASCII, which
+//!   say why (`quiet`: `IsRemark`). A status of 1 comes with the line of a fault that the command's own contract allows,
+//!   or, of several check texts, where one has a fault and each has its line (`HasFaultyFile`); IMAGE is asked to be
+//!   nothing but the bytes of an image of what was read from SOURCE, and SOURCE is only read (`stopped`: `IsStopped`).
+//!   `check_command::check_file` promises the same of `check`. Of what `show`, `list --asm` and (behind the answer) `check --explain` print no more is promised than that
 //!   the source has no fault, or the file is an image, and that it is printable ASCII in lines (`Shows`, `Assembles`,
 //!   `Explains`). Not promised: that refused memory, which is told by status 1 before any file is read, was really refused;
 //!   what stands below a fault's line, and clap's texts.

@@ -3,6 +3,3 @@ use Rattle.commands.proofs.place.show_place.Goals as goal
 
 pub returns-in-Ok : goal.returns-in-Ok
 returns-in-Ok g c = (_ ∷ [], (c.bytes.new.self, c.bytes.ensures, refl))
-
-pub returns-in-Err : goal.returns-in-Err
-returns-in-Err g c = (_ ∷ [], (c.line.new.self, c.line.ensures, refl))
