@@ -4,7 +4,7 @@
 // declaration that is open there doesn't matter to it. So a token can stand there exactly where that declaration up to
 // the place, followed by the token, has no fault at the token.
 
-use crate::source::{Source, back, front};
+use crate::source::{Source, Told, back, front};
 use c_front::{FrontFaultKind, read};
 use c_tokens::Mark;
 use std::alloc::{AllocError, Global};
@@ -24,36 +24,66 @@ enum Cover {
     Type,
 }
 
-/// A token: as it is tried, as it is told, and what covers it where that can stand too.
-type Candidate = (&'static [u8], &'static str, &'static [Cover]);
+impl Cover {
+    const ALL: &'static [Cover] = &[
+        Cover::Statement,
+        Cover::Expression,
+        Cover::Operator,
+        Cover::Type,
+    ];
 
-/// A word for many tokens, and one that can stand exactly where all of them can.
-const COVERS: &[(Cover, &[u8], &str)] = &[
-    (Cover::Statement, b"if", "a statement"),
-    (Cover::Expression, b"!", "an expression"),
-    (Cover::Operator, b"*", "an operator"),
-    (Cover::Type, b"unsigned", "a type"),
+    /// A token that can stand exactly where all that it covers can.
+    fn token(self) -> &'static [u8] {
+        match self {
+            Cover::Statement => b"if",
+            Cover::Expression => b"!",
+            Cover::Operator => b"*",
+            Cover::Type => b"unsigned",
+        }
+    }
+
+    fn told(self) -> &'static str {
+        match self {
+            Cover::Statement => "a statement",
+            Cover::Expression => "an expression",
+            Cover::Operator => "an operator",
+            Cover::Type => "a type",
+        }
+    }
+}
+
+/// Tokens, as they are tried and as they are told.
+const CANDIDATES: &[Told] = &[
+    (b";", "';'"),
+    (b"{", "'{'"),
+    (b"x", "a name"),
+    (b"1", "a constant"),
+    (b"(", "'('"),
+    (b"-", "'-'"),
+    (b"int", "'int'"),
+    (b"void", "'void'"),
+    (b"char", "'char'"),
+    (b"else", "'else'"),
+    (b"=", "'='"),
+    (b",", "','"),
+    (b":", "':'"),
+    (b"[", "'['"),
+    (b")", "')'"),
+    (b"]", "']'"),
+    (b"}", "'}'"),
 ];
 
-const CANDIDATES: &[Candidate] = &[
-    (b";", "';'", &[Cover::Statement]),
-    (b"{", "'{'", &[Cover::Statement]),
-    (b"x", "a name", &[Cover::Statement, Cover::Expression]),
-    (b"1", "a constant", &[Cover::Expression]),
-    (b"(", "'('", &[Cover::Expression]),
-    (b"-", "'-'", &[Cover::Expression, Cover::Operator]),
-    (b"int", "'int'", &[Cover::Type]),
-    (b"void", "'void'", &[]),
-    (b"char", "'char'", &[]),
-    (b"else", "'else'", &[]),
-    (b"=", "'='", &[]),
-    (b",", "','", &[]),
-    (b":", "':'", &[]),
-    (b"[", "'['", &[]),
-    (b")", "')'", &[]),
-    (b"]", "']'", &[]),
-    (b"}", "'}'", &[]),
-];
+/// What covers a token where that can stand too.
+fn covers_of(token: &[u8]) -> &'static [Cover] {
+    match token {
+        b";" | b"{" => &[Cover::Statement],
+        b"x" => &[Cover::Statement, Cover::Expression],
+        b"1" | b"(" => &[Cover::Expression],
+        b"-" => &[Cover::Expression, Cover::Operator],
+        b"int" => &[Cover::Type],
+        _ => &[],
+    }
+}
 
 /// The bytes before a token from the beginning of the declaration that is open there.
 fn open_declaration<'t>(source: &Source<'t>, k: usize) -> &'t [u8] {
@@ -93,21 +123,12 @@ fn can_stand(alloc: Global, piece: &[u8], token: &[u8]) -> Result<bool, AllocErr
 /// The words for many tokens that can stand.
 fn covers(alloc: Global, piece: &[u8]) -> Result<Vec<Cover>, AllocError> {
     let mut all = Vec::new(alloc);
-    for (cover, token, _) in COVERS {
-        if can_stand(alloc, piece, *token)? {
+    for cover in Cover::ALL {
+        if can_stand(alloc, piece, cover.token())? {
             all.push(*cover)?;
         }
     }
     Ok(all)
-}
-
-fn told_by(cover: Cover) -> &'static str {
-    for (other, _, told) in COVERS {
-        if *other == cover {
-            return *told;
-        }
-    }
-    "a token"
 }
 
 /// Whether a token can stand that nothing covers.
@@ -115,13 +136,28 @@ fn is_news(
     alloc: Global,
     piece: &[u8],
     covers: &[Cover],
-    candidate: &Candidate,
+    token: &[u8],
 ) -> Result<bool, AllocError> {
-    let (token, _, covered) = candidate;
-    if covers.iter().any(|cover| covered.contains(cover)) {
+    let others = covers_of(token);
+    if covers.iter().any(|cover| others.contains(cover)) {
         return Ok(false);
     }
-    can_stand(alloc, piece, *token)
+    can_stand(alloc, piece, token)
+}
+
+/// The tokens that can stand and that nothing covers, as they are told.
+fn add_tokens(
+    alloc: Global,
+    all: &mut Vec<&'static str>,
+    piece: &[u8],
+    covers: &[Cover],
+) -> Result<(), AllocError> {
+    for (token, told) in CANDIDATES {
+        if is_news(alloc, piece, covers, *token)? {
+            all.push(*told)?;
+        }
+    }
+    Ok(())
 }
 
 /// What can stand behind these bytes, in the words of a message.
@@ -129,14 +165,21 @@ fn all_expected(alloc: Global, piece: &[u8]) -> Result<Vec<&'static str>, AllocE
     let covers = covers(alloc, piece)?;
     let mut all = Vec::new(alloc);
     for cover in covers.iter() {
-        all.push(told_by(*cover))?;
+        all.push(cover.told())?;
     }
-    for candidate in CANDIDATES {
-        if is_news(alloc, piece, covers.as_slice(), candidate)? {
-            all.push(candidate.1)?;
-        }
-    }
+    add_tokens(alloc, &mut all, piece, covers.as_slice())?;
     Ok(all)
+}
+
+/// Words in one list, as `a, b or c`.
+fn put_list(list: &mut String, words: &[&str]) -> Result<(), AllocError> {
+    for (n, word) in words.iter().enumerate() {
+        if n > 0 {
+            list.push_str(if n + 1 == words.len() { " or " } else { ", " })?;
+        }
+        list.push_str(*word)?;
+    }
+    Ok(())
 }
 
 /// What can stand in a token's place, as `';', ',' or an operator`; none where that is more than four things, or the
@@ -155,12 +198,6 @@ pub(crate) fn expected(
         return Ok(None);
     }
     let mut list = String::new(alloc);
-    let last = all.len() - 1;
-    for (n, told) in all.iter().enumerate() {
-        if n > 0 {
-            list.push_str(if n == last { " or " } else { ", " })?;
-        }
-        list.push_str(*told)?;
-    }
+    put_list(&mut list, all.as_slice())?;
     Ok(Some(list))
 }

@@ -87,21 +87,6 @@ const DIRECTIVES: &[Told] = &[
     ),
 ];
 
-/// Characters behind a backslash, and their numbers (C99 5.2.2, 6.4.4.4).
-const ESCAPES: &[(u8, u8)] = &[
-    (b'n', 10),
-    (b't', 9),
-    (b'0', 0),
-    (b'r', 13),
-    (b'a', 7),
-    (b'b', 8),
-    (b'f', 12),
-    (b'v', 11),
-    (b'\\', 92),
-    (b'\'', 39),
-    (b'"', 34),
-];
-
 /// What is said of a byte that no text may have.
 pub(crate) fn bad_byte(alloc: Global, text: &[u8], at: usize) -> Result<Explanation, AllocError>
     ensures { IfOk result IsPrintableExplanation }
@@ -112,20 +97,30 @@ pub(crate) fn bad_byte(alloc: Global, text: &[u8], at: usize) -> Result<Explanat
     Explanation::new(alloc, message.as_str(), Some(hint))
 }
 
+/// The number of a character behind a backslash (C99 5.2.2, 6.4.4.4).
+fn escaped(letter: u8) -> Option<u8> {
+    match letter {
+        b'n' => Some(10),
+        b't' => Some(9),
+        b'0' => Some(0),
+        b'r' => Some(13),
+        b'a' => Some(7),
+        b'b' => Some(8),
+        b'f' => Some(12),
+        b'v' => Some(11),
+        b'\\' | b'\'' | b'"' => Some(letter),
+        _ => None,
+    }
+}
+
 /// The number of the character behind a quote.
 fn character(quoted: &[u8]) -> Option<u8> {
-    let mut bytes = quoted.iter().copied().skip(1);
-    let first = bytes.next()?;
-    if first != b'\\' {
-        return Some(first);
+    match quoted {
+        [_, b'\\', letter, ..] => escaped(*letter),
+        [_, b'\\'] => None,
+        [_, first, ..] => Some(*first),
+        _ => None,
     }
-    let escaped = bytes.next()?;
-    for (letter, number) in ESCAPES {
-        if escaped == *letter {
-            return Some(*number);
-        }
-    }
-    None
 }
 
 /// The name before `++` or behind it, or `i`.

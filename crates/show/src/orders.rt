@@ -11,21 +11,35 @@ use mblock::{Block, Order, plain};
 use std::alloc::{AllocError, Global};
 use term_table::{Pass, TermTable};
 
-/// The terms of the table, and its chains.
-const NODES: u64 = 65536;
-
-const HEADS: u64 = 1024;
-
-fn tables(alloc: Global) -> Option<(TermTable, Vec<Pass>)>
-    ensures { IfSome result (λ t. All (IsOf t.0) t.1.items) }
-{
-    TermTable::open(alloc, 1, NODES, HEADS).ok()
+/// How many terms a table has, and how many chains.
+#[derive(Clone, Copy)]
+struct Size {
+    nodes: u64,
+    heads: u64,
 }
 
-fn opened(alloc: Global) -> Option<(TermTable, Pass)>
+/// Opened in no time, and enough for all but the longest blocks.
+const SMALL: Size = Size {
+    nodes: 4096,
+    heads: 256,
+};
+
+/// As `mcc build` has it for each worker, if nothing else is said.
+const LARGE: Size = Size {
+    nodes: 65536,
+    heads: 1024,
+};
+
+fn tables(alloc: Global, size: Size) -> Option<(TermTable, Vec<Pass>)>
+    ensures { IfSome result (λ t. All (IsOf t.0) t.1.items) }
+{
+    TermTable::open(alloc, 1, size.nodes, size.heads).ok()
+}
+
+fn opened(alloc: Global, size: Size) -> Option<(TermTable, Pass)>
     ensures { IfSome result (λ t. IsOf t.0 t.1) }
 {
-    let (table, mut passes) = tables(alloc)?;
+    let (table, mut passes) = tables(alloc, size)?;
     let pass = passes.pop()?;
     Some((table, pass))
 }
@@ -41,17 +55,30 @@ fn put_place(out: &mut String, place: Place) -> Result<(), AllocError> {
     }
 }
 
-/// What a block comes to with an order: its verdict in the words of `mcc check`, and the order that is taken, if it is.
-fn settled(
-    alloc: Global,
-    out: &mut String,
-    block: &Block,
-    order: Order,
-) -> Result<Option<Order>, AllocError> {
-    let Some((table, mut pass)) = opened(alloc) else {
+fn proposed(alloc: Global, block: &Block) -> Result<Order, AllocError> {
+    FilledOrder(ListOrder).reorder(alloc, block)
+}
+
+/// The verdict on the order that is proposed for a block, by a table of this size.
+fn verdict_by<'a>(alloc: Global, block: &'a Block, size: Size) -> Result<Verdict<'a>, AllocError> {
+    let order = proposed(alloc, block)?;
+    let Some((table, mut pass)) = opened(alloc, size) else {
         return Err(AllocError);
     };
-    match validate(alloc, &table, &mut pass, block, order) {
+    Ok(validate(alloc, &table, &mut pass, block, order))
+}
+
+/// The verdict on the order that is proposed for a block.
+fn verdict_on<'a>(alloc: Global, block: &'a Block) -> Result<Verdict<'a>, AllocError> {
+    match verdict_by(alloc, block, SMALL)? {
+        Verdict::Full => verdict_by(alloc, block, LARGE),
+        verdict => Ok(verdict),
+    }
+}
+
+/// A verdict in the words of `mcc check`; the order that is taken, if it is.
+fn put_verdict(out: &mut String, verdict: Verdict<'_>) -> Result<Option<Order>, AllocError> {
+    match verdict {
         Verdict::Same(checked) => {
             out.push_str("same")?;
             return Ok(Some(checked.into_order()));
@@ -65,10 +92,6 @@ fn settled(
         Verdict::NoMemory => return Err(AllocError),
     }
     Ok(None)
-}
-
-fn proposed(alloc: Global, block: &Block) -> Result<Order, AllocError> {
-    FilledOrder(ListOrder).reorder(alloc, block)
 }
 
 /// The order that was refused, and the plain one, which stands in its place.
@@ -86,9 +109,9 @@ pub(crate) fn put_settled(
     out: &mut String,
     block: &Block,
 ) -> Result<(), AllocError> {
-    let order = proposed(alloc, block)?;
+    let verdict = verdict_on(alloc, block)?;
     out.push_str(": ")?;
-    let taken = settled(alloc, out, block, order)?;
+    let taken = put_verdict(out, verdict)?;
     out.push_str("\n")?;
     match taken {
         Some(order) => put_order(out, &order, "    ", "\n"),
