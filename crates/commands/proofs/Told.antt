@@ -1,8 +1,8 @@
 -- What was told, and then more.
-use Rattle.std.proofs.Common.{◌≡◌, ℕ, List, [], ◌∷◌, ◌++◌, Option, Some, None, IfSome, sym, subst}
+use Rattle.std.proofs.Common.{◌≡◌, ℕ, List, [], ◌∷◌, ◌++◌, Option, Some, None, IfSome, All, sym, subst}
 use Rattle.std.specs.List.{FoldsTo}
-use Rattle.commands.specs.Requests.{TellsBeside, TellsLine, TellsOn, IsNothing}
-use Rattle.commands.specs.Texts.{host_fault_text}
+use Rattle.commands.specs.Requests.{TellsBeside, TellsLine, TellsOn, TellsPlaced, IsNothing}
+use Rattle.commands.specs.Texts.{IsShown, host_fault_text}
 use Rattle.commands.specs.declared.fault.HostFault.{HostFault}
 
 -- steps, and then more of them
@@ -14,10 +14,15 @@ module _ {E : Type 0} (tells : E → List ℕ → E → Type 0) where
   pub line_on : (p q r : E) (text : List ℕ) → TellsLine tells p text q → TellsOn tells q r → TellsLine tells p text r
   line_on p q r text a b = (a.0 ++ b.0, folds_on tells p q r ((text ++ 10 ∷ []) ∷ a.0) b.0 a.1 b.1)
 
-  pub told_on : (o : Option (List ℕ)) (p q r : E) → IfSome o (λ text. TellsLine tells p text q) → TellsOn tells q r
-      → IfSome o (λ text. TellsLine tells p text r)
-  told_on None p q r a b = tt
-  told_on (Some text) p q r a b = line_on p q r text a b
+  -- the line of a fault, and what stands below it
+  pub placed_on : (o : Option (List ℕ)) (p q r : E) → IfSome o (λ text. tells p (text ++ 10 ∷ []) q) → TellsBeside tells q (All (All IsShown)) r
+      → IfSome o (λ text. TellsPlaced tells p text r)
+  placed_on None p q r a b = tt
+  placed_on (Some text) p q r a b = (b.0, (q, a, b.1), b.2)
+
+  pub line_of : (o : Option (List ℕ)) (p r : E) → IfSome o (λ text. TellsPlaced tells p text r) → IfSome o (λ text. TellsLine tells p text r)
+  line_of None p r a = tt
+  line_of (Some text) p r a = (a.0, a.1)
 
   -- the line of a fault that is equal
   pub told_as : (p q : E) (fault fault' : HostFault) → fault ≡ fault' → TellsLine tells p (host_fault_text fault) q

@@ -1,11 +1,12 @@
 -- What a program asks of its files and its streams.
-use Rattle.std.specs.Prelude.{◌≡◌, ℕ, List, [], ◌∷◌, ◌++◌, Option}
+use Rattle.std.specs.Prelude.{◌≡◌, ℕ, List, [], ◌∷◌, ◌++◌, All, Option}
 use Rattle.std.specs.List.{FoldsTo}
 use Rattle.std.specs.Io.KnownBytes.{Appends}
 use Rattle.commands.specs.declared.files.FileFault.{FileFault}
 use Rattle.commands.specs.declared.files.FileFault.TheVariants as file_faults
 use Rattle.commands.specs.declared.fault.HostFault.{HostFault}
 use Rattle.commands.specs.declared.fault.HostFault.TheVariants as host_faults
+use Rattle.commands.specs.Texts.{IsShown}
 
 -- one request with its answer: the bytes that were read, or that were written; or why it was refused
 pub data Request : Type 0 where
@@ -40,6 +41,10 @@ IsSent {W} sends out = (kept : W) × sends kept out
 -- a line was told, and maybe more behind it
 abbrev pub TellsLine : {E : Type 0} → (E → List ℕ → E → Type 0) → E → List ℕ → E → Type 0
 TellsLine tells old text new = (more : List (List ℕ)) × FoldsTo tells old ((text ++ 10 ∷ []) ∷ more) new
+
+-- a line was told, and maybe more behind it that steers no terminal
+abbrev pub TellsPlaced : {E : Type 0} → (E → List ℕ → E → Type 0) → E → List ℕ → E → Type 0
+TellsPlaced tells old text new = (more : List (List ℕ)) × FoldsTo tells old ((text ++ 10 ∷ []) ∷ more) new × All (All IsShown) more
 
 -- something was told, or nothing
 abbrev pub TellsOn : {E : Type 0} → (E → List ℕ → E → Type 0) → E → E → Type 0

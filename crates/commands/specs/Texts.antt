@@ -1,5 +1,5 @@
 -- What the faults of files and memory print, and what may be said of a fault.
-use Rattle.std.specs.Prelude.{ℕ, ◌≤◌, ◌&&◌, nat_le, if◌then◌else◌, List, All, IfSome, codes, map}
+use Rattle.std.specs.Prelude.{◌≡◌, ◌⊎◌, ℕ, ◌≤◌, ◌&&◌, nat_le, if◌then◌else◌, List, All, IfSome, codes, map}
 use Rattle.commands.specs.declared.explanation.Explanation.{Explanation}
 use Rattle.commands.specs.declared.fault.HostFault.{HostFault}
 use Rattle.commands.specs.declared.fault.HostFault.TheVariants as faults
@@ -12,6 +12,10 @@ host_fault_text faults.NoMemory = codes "fault 30 NoMemory"
 -- a byte that steers no terminal: from the space to `~`
 abbrev pub IsPrintable : ℕ → Type 0
 IsPrintable byte = (32 ≤ byte) × (byte ≤ 126)
+
+-- a byte of the lines below a fault: such a one, a tab, or a line feed
+abbrev pub IsShown : ℕ → Type 0
+IsShown byte = IsPrintable byte ⊎ (byte ≡ 9) ⊎ (byte ≡ 10)
 
 -- an explanation in such bytes alone, so each part of it is one line
 abbrev pub IsPrintableExplanation : Explanation → Type 0

@@ -26,7 +26,7 @@ pub(crate) fn printable(byte: u8) -> u8
 }
 
 /// The text with `?` for what isn't printable ASCII.
-pub(crate) fn printable_bytes(alloc: Global, text: &str) -> Result<Vec<u8>, AllocError>
+fn printable_bytes(alloc: Global, text: &str) -> Result<Vec<u8>, AllocError>
     ensures { IfOk result (λ bytes. All IsPrintable bytes.items) }
 {
     let mut bytes = Vec::new(alloc);

@@ -1,6 +1,6 @@
 // What keeps a command from its answer, and where it is told.
 ghost use Rattle.std.specs.Prelude.{◌≡◌, ℕ, List, [], ◌∷◌, ◌++◌, Some, IfSome, ⊤};
-ghost use Rattle.commands.specs.Requests.{TellsLine};
+ghost use Rattle.commands.specs.Requests.{TellsLine, TellsPlaced};
 ghost use Rattle.commands.specs.Texts.{host_fault_text};
 
 use crate::place::{Place, show_place};
@@ -82,10 +82,11 @@ pub fn tell_placed<E: Complaints, F: fmt::Display>(
 ) -> u8
     ensures status { result ≡ 1 }
     ensures told { IfSome (F.output fault.now) (λ text. TellsLine E.tells err.old text err.new) }
+    ensures below { IfSome (F.output fault.now) (λ text. TellsPlaced E.tells err.old text err.new) }
 {
-    let status = tell(err, fault);
+    err.line(fault);
     if let Some(at) = place.at {
         show_place(alloc, err, place, at);
     }
-    status
+    1
 }

@@ -15,6 +15,8 @@
 //!   command prints of an answer to its bytes, and beside that what it may remark was told; else the line was told of a fault
 //!   of the file, its bytes, or standard output (`AnswersFile`, `StopsFile`).
 //! - `commands::print_name`: a name has `?` for each byte that isn't printable ASCII (`shown_name`).
+//! - `commands::tell_placed`: what is told below a fault's line, the name of the file, the line of its text, message and
+//!   hint, has printable ASCII, tabs and line feeds alone (`TellsPlaced`), so that no file steers a terminal.
 //! - `commands::Output`: where answers go may keep what is written; that it was asked to send all on, last, is a fact of
 //!   its own relation (`IsSent`), so no body can leave it out.
 //! - `commands::Explanation::new` has printable ASCII alone, so that what is said of a text of others steers no terminal

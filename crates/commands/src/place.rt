@@ -1,10 +1,11 @@
 // Where a fault lies in its file, as editors and readers want it: the line `FILE:LINE:COLUMN: error: MESSAGE`, below it the
 // line of the text around the place with a caret, and a line with a hint.
 
-ghost use Rattle.std.specs.Prelude.{◌≤◌, length, ◌++◌, Some, codes, decimal};
-ghost use Rattle.commands.specs.Requests.{TellsOn};
+ghost use Rattle.std.specs.Prelude.{◌<◌, ◌^◌, ◌≤◌, length, ◌++◌, All, IfOk, OnOk, Some, codes, decimal};
+ghost use Rattle.commands.specs.Requests.{TellsBeside};
+ghost use Rattle.commands.specs.Texts.{IsShown};
 
-use crate::explanation::{Explanation, printable, printable_bytes};
+use crate::explanation::{Explanation, printable};
 use crate::fault::Complaints;
 use std::alloc::{AllocError, Global};
 use std::fmt;
@@ -77,7 +78,9 @@ pub fn line_offset(text: &[u8], line: u32) -> usize
 
 /// The byte that stands for a byte of the text: itself if it is printable or a tab, since others could
 /// move the mark or steer a terminal.
-fn shown(byte: u8) -> u8 {
+fn shown(byte: u8) -> u8
+    ensures { IsShown result }
+{
     match byte {
         b'\t' => b'\t',
         b'\r' => b' ',
@@ -87,7 +90,9 @@ fn shown(byte: u8) -> u8 {
 }
 
 /// The byte of the line below that keeps the caret under its place, however wide tabs are.
-fn blank(byte: u8) -> u8 {
+fn blank(byte: u8) -> u8
+    ensures { IsShown result }
+{
     if byte == b'\t' { b'\t' } else { b' ' }
 }
 
@@ -101,31 +106,65 @@ fn window(start: usize, end: usize, at: usize) -> (usize, usize) {
     (from, from.saturating_add(SHOWN).min(end))
 }
 
-/// The line of the text in which the offset lies, at most 160 bytes of it, and below it a line with a
-/// caret under the offset.
-pub(crate) fn place_lines(alloc: Global, text: &[u8], at: usize) -> Result<Vec<u8>, AllocError> {
+/// Adds bytes of the text as they are shown.
+fn add_shown(line: &mut Vec<u8>, bytes: &[u8]) -> Result<(), AllocError>
+    ensures { OnOk result (All IsShown line.old.items → All IsShown line.new.items) }
+{
+    for byte in bytes {
+        line.push(shown(*byte))?;
+    }
+    Ok(())
+}
+
+/// Adds as many blanks as there are bytes.
+fn add_blanks(line: &mut Vec<u8>, bytes: &[u8]) -> Result<(), AllocError>
+    ensures { OnOk result (All IsShown line.old.items → All IsShown line.new.items) }
+{
+    for byte in bytes {
+        line.push(blank(*byte))?;
+    }
+    Ok(())
+}
+
+/// Adds a text of our own, or of a file's name: `?` for what isn't printable.
+fn add(lines: &mut Vec<u8>, text: &[u8]) -> Result<(), AllocError>
+    ensures { OnOk result (All IsShown lines.old.items → All IsShown lines.new.items) }
+{
+    for byte in text {
+        lines.push(printable(*byte))?;
+    }
+    Ok(())
+}
+
+fn end_line(lines: &mut Vec<u8>) -> Result<(), AllocError>
+    ensures { OnOk result (All IsShown lines.old.items → All IsShown lines.new.items) }
+{
+    lines.push(b'\n')?;
+    Ok(())
+}
+
+/// What stands for a part of a line that is left out.
+fn dots(is_cut: bool) -> &'static [u8] {
+    if is_cut { DOTS } else { b"" }
+}
+
+/// Adds the line of the text in which the offset lies, at most 160 bytes of it, and below it a line with a caret under the
+/// offset.
+fn add_place(lines: &mut Vec<u8>, text: &[u8], at: usize) -> Result<(), AllocError>
+    ensures { OnOk result (All IsShown lines.old.items → All IsShown lines.new.items) }
+{
     let start = line_start(text, at);
     let end = line_end(text, at);
     let (from, to) = window(start, end, at);
-    let mut line = Vec::new(alloc);
-    let mut mark = Vec::new(alloc);
-    if start < from {
-        line.extend_from_slice(DOTS)?;
-        mark.extend_from_slice(b"   ")?;
-    }
-    for (k, byte) in text.iter().enumerate().take(to).skip(from) {
-        line.push(shown(*byte))?;
-        if k < at {
-            mark.push(blank(*byte))?;
-        }
-    }
-    if to < end {
-        line.extend_from_slice(DOTS)?;
-    }
-    line.push(b'\n')?;
-    line.extend_from_slice(mark.as_slice())?;
-    line.extend_from_slice(b"^\n")?;
-    Ok(line)
+    add(lines, dots(start < from))?;
+    add_shown(lines, text.get(from..to).unwrap_or(b""))?;
+    add(lines, dots(to < end))?;
+    end_line(lines)?;
+    add_blanks(lines, dots(start < from))?;
+    add_blanks(lines, text.get(from..at).unwrap_or(b""))?;
+    add(lines, b"^")?;
+    end_line(lines)?;
+    Ok(())
 }
 
 /// Where a fault lies, and what is said of it.
@@ -140,34 +179,84 @@ pub struct Place<'a> {
     pub about: Option<Explanation>,
 }
 
-/// The line with the place and the message, the line of the text with its caret, which isn't there at the text's end, and
-/// the hint.
-fn lines_below(alloc: Global, place: &Place<'_>, at: usize) -> Result<Vec<u8>, AllocError> {
-    let mut lines = printable_bytes(alloc, place.source)?;
-    let behind = BehindName(spot_of(place.text, at)).to_string(alloc)?;
-    lines.extend_from_slice(behind.as_bytes())?;
-    if let Some(about) = &place.about {
-        lines.extend_from_slice(b" error: ")?;
-        lines.extend_from_slice(about.message.as_slice())?;
+/// Adds the name of the file and the place in it.
+fn add_site(
+    lines: &mut Vec<u8>,
+    alloc: Global,
+    place: &Place<'_>,
+    at: usize,
+) -> Result<(), AllocError>
+    ensures { OnOk result (All IsShown lines.old.items → All IsShown lines.new.items) }
+{
+    let behind = behind_name(place.text, at).to_string(alloc)?;
+    add(lines, place.source.as_bytes())?;
+    add(lines, behind.as_bytes())?;
+    Ok(())
+}
+
+/// Adds the message, if there is one.
+fn add_message(lines: &mut Vec<u8>, about: Option<&Explanation>) -> Result<(), AllocError>
+    ensures { OnOk result (All IsShown lines.old.items → All IsShown lines.new.items) }
+{
+    if let Some(about) = about {
+        add(lines, b" error: ")?;
+        add(lines, about.message.as_slice())?;
     }
-    lines.push(b'\n')?;
-    if at < place.text.len() {
-        let shown = place_lines(alloc, place.text, at)?;
-        lines.extend_from_slice(shown.as_slice())?;
-    }
-    if let Some(about) = &place.about
+    Ok(())
+}
+
+/// Adds the hint, if there is one.
+fn add_hint(lines: &mut Vec<u8>, about: Option<&Explanation>) -> Result<(), AllocError>
+    ensures { OnOk result (All IsShown lines.old.items → All IsShown lines.new.items) }
+{
+    if let Some(about) = about
         && let Some(hint) = &about.hint
     {
-        lines.extend_from_slice(b"hint: ")?;
-        lines.extend_from_slice(hint.as_slice())?;
-        lines.push(b'\n')?;
+        add(lines, b"hint: ")?;
+        add(lines, hint.as_slice())?;
+        end_line(lines)?;
     }
+    Ok(())
+}
+
+/// Adds the line of the text with its caret, which isn't there at the text's end.
+fn add_source(lines: &mut Vec<u8>, text: &[u8], at: usize) -> Result<(), AllocError>
+    ensures { OnOk result (All IsShown lines.old.items → All IsShown lines.new.items) }
+{
+    if at < text.len() {
+        add_place(lines, text, at)?;
+    }
+    Ok(())
+}
+
+/// Adds the line with the place and the message, the line of the text with its caret, and the hint.
+fn add_lines(
+    lines: &mut Vec<u8>,
+    alloc: Global,
+    place: &Place<'_>,
+    at: usize,
+) -> Result<(), AllocError>
+    ensures { OnOk result (All IsShown lines.old.items → All IsShown lines.new.items) }
+{
+    add_site(lines, alloc, place, at)?;
+    add_message(lines, place.about.as_ref())?;
+    end_line(lines)?;
+    add_source(lines, place.text, at)?;
+    add_hint(lines, place.about.as_ref())?;
+    Ok(())
+}
+
+fn lines_below(alloc: Global, place: &Place<'_>, at: usize) -> Result<Vec<u8>, AllocError>
+    ensures { IfOk result (λ lines. All IsShown lines.items) }
+{
+    let mut lines = Vec::new(alloc);
+    add_lines(&mut lines, alloc, place, at)?;
     Ok(lines)
 }
 
 /// Below a fault's line: where it lies and what is said of it; where memory is refused only where it lies.
 pub(crate) fn show_place<E: Complaints>(alloc: Global, err: &mut E, place: &Place<'_>, at: usize)
-    ensures { TellsOn E.tells err.old err.new }
+    ensures { TellsBeside E.tells err.old (All (All IsShown)) err.new }
 {
     match lines_below(alloc, place, at) {
         Ok(lines) => err.bytes(lines.as_slice()),
@@ -177,23 +266,33 @@ pub(crate) fn show_place<E: Complaints>(alloc: Global, err: &mut E, place: &Plac
 
 /// Where a fault lies alone, which takes no memory.
 fn tell_site<E: Complaints>(err: &mut E, place: &Place<'_>, at: usize)
-    ensures { TellsOn E.tells err.old err.new }
+    ensures { TellsBeside E.tells err.old (All (All IsShown)) err.new }
 {
     for byte in place.source.as_bytes() {
         err.bytes(&[printable(*byte)]);
     }
-    err.line(&BehindName(spot_of(place.text, at)));
+    err.line(&behind_name(place.text, at));
 }
 
 /// A place as editors read it behind the name of its file.
 #[derive(Clone, Copy)]
-struct BehindName(Spot);
+struct BehindName {
+    line: usize,
+    column: usize,
+}
+
+fn behind_name(text: &[u8], at: usize) -> BehindName
+    ensures { (result.line < 2 ^ 64) × (result.column < 2 ^ 64) }
+{
+    let Spot { line, column } = spot_of(text, at);
+    BehindName { line, column }
+}
 
 impl fmt::Display for BehindName {
-    ghost output = { λ s. Some (codes ":" ++ (decimal s.0.line ++ (codes ":" ++ (decimal s.0.column ++ codes ":")))) };
+    ghost output = { λ s. Some (codes ":" ++ (decimal s.line ++ (codes ":" ++ (decimal s.column ++ codes ":")))) };
 
     fn fmt<W: fmt::Write>(&self, f: &mut fmt::Formatter<W>) -> fmt::Result {
-        let Spot { line, column } = self.0;
+        let (line, column) = (self.line, self.column);
         write!(f, ":{line}:{column}:")
     }
 }

@@ -1,13 +1,9 @@
-use Rattle.std.proofs.Common.{[], ◌∷◌, ◌++◌, refl}
-use Rattle.commands.proofs.Told.{folds_on}
+use Rattle.commands.proofs.Shown.{one, place_line, told_too}
 use Rattle.commands.proofs.place.tell_site.Goals as goal
 
 pub loop-byte-preserved : goal.loop-byte-preserved
-loop-byte-preserved g c =
-    (c.loop-byte.invariant.0 ++ _ ∷ [], folds_on g.E.Complaints.tells _ _ _ c.loop-byte.invariant.0 (_ ∷ []) c.loop-byte.invariant.1
-    (c.bytes.new.self, c.bytes.ensures, refl))
+loop-byte-preserved g c = told_too g.E.Complaints.tells _ _ _ _ c.loop-byte.invariant c.bytes.ensures (one _ c.printable.ensures.printable)
 
 pub returns : goal.returns
-returns g c =
-    (c.loop-byte.invariant.0 ++ _ ∷ [], folds_on g.E.Complaints.tells _ _ _ c.loop-byte.invariant.0 (_ ∷ []) c.loop-byte.invariant.1
-    (c.line.new.self, c.line.ensures, refl))
+returns g c = told_too g.E.Complaints.tells _ _ _ _ c.loop-byte.invariant c.line.ensures
+    (place_line _ _ c.behind_name.ensures.0 c.behind_name.ensures.1)
