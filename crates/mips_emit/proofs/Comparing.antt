@@ -36,7 +36,7 @@ use Rattle.mips_emit.specs.Code.{nop, fetch, seat, op_code}
 use Rattle.mips_emit.specs.Comparisons.{is_known_zero, is_immediate, opposite_if, form_of, opposite_op, code_by_form, comparison_code, is_asked, is_passing}
 use Rattle.mips_emit.specs.Comparisons.{form_for, compared, comparison_of, last_with, is_result, returned}
 use Rattle.mips_emit.proofs.Runs.{RunsTo, runs_then}
-use Rattle.mips_emit.proofs.View.{IsTarget, read_register}
+use Rattle.mips_emit.proofs.View.{IsTarget, first_inner, read_register}
 use Rattle.mips_emit.proofs.Stands.{Stored, Stands}
 use Rattle.mips_emit.proofs.Homes.{passes, IsLast, none_fresh, IsKnown, Denotes, IsAway, seat_kept, longer_behind, runs_nop, hide, IsLazy, lazy_told, shown_told, fewer_stand}
 use Rattle.mips_emit.proofs.Homes.{operand_below, operand_means, fetches, ends_stands}
@@ -223,20 +223,20 @@ module _ (most total : ℕ) (gs : List RGlobal) (starts : ℕ → ℕ) where
 
       by_result : (op : Op) → op_result op v w ≡ Some u → Given op ByResult
       by_result op e =
-          from_result (op_code op 3 k l x y) ByResult 3 u (omega arith)
-          (computes most total gs starts registers g top fs s h op 3 v w u k l x y t3 x_away y_away x_means y_means kv lw vb wb e)
+          from_result (op_code op 1 3 k l x y) ByResult 3 u (omega arith)
+          (computes most total gs starts registers g top fs s h op 1 3 v w u k l x y first_inner t3 x_away y_away x_means y_means kv lw vb wb e)
           (λ m here. ap (λ c. not (c == 0)) (read_register m.regs 3 (omega arith) ∙ here)) (λ m here e. absurd (true≢false (sym e)))
 
       by_opposite : (op : Op) (t : ℕ) → op_result (opposite_op op) w v ≡ Some t → nat_eq t 0 ≡ not (nat_eq u 0) → Given op ByOpposite
       by_opposite op t e turned =
-          from_result (op_code (opposite_op op) 3 l k y x) ByOpposite 3 t (omega arith)
-          (computes most total gs starts registers g top fs s h (opposite_op op) 3 w v t l k y x t3 y_away x_away y_means x_means lw kv wb vb e)
+          from_result (op_code (opposite_op op) 1 3 l k y x) ByOpposite 3 t (omega arith)
+          (computes most total gs starts registers g top fs s h (opposite_op op) 1 3 w v t l k y x first_inner t3 y_away x_away y_means x_means lw kv wb vb e)
           (λ m here. ap (λ c. c == 0) (read_register m.regs 3 (omega arith) ∙ here) ∙ turned) (λ m here e. absurd (true≢false (sym e)))
 
       in_result : (op : Op) → op_result op v w ≡ Some u → Given op InResult
       in_result op e =
-          from_result (op_code op 2 k l x y) InResult 2 u (omega arith)
-          (computes most total gs starts registers g top fs s h op 2 v w u k l x y t2 x_away y_away x_means y_means kv lw vb wb e)
+          from_result (op_code op 1 2 k l x y) InResult 2 u (omega arith)
+          (computes most total gs starts registers g top fs s h op 1 2 v w u k l x y first_inner t2 x_away y_away x_means y_means kv lw vb wb e)
           (λ m here. ap (λ c. not (c == 0)) (read_register m.regs 2 (omega arith) ∙ here)) (λ m here _. here)
 
       -- the result is a truth word

@@ -34,11 +34,11 @@ use Rattle.mips_emit.specs.Frames.{IsHome, AreFrameHomes, IsFrame}
 use Rattle.mips_emit.specs.Comparisons.{no_last, is_result}
 use Rattle.mips_emit.specs.Locations.{known_in, no_facts, location_at, in_slot, fresh_source, source}
 use Rattle.mips_emit.specs.declared.location.Location.{Location}
-use Rattle.mips_emit.specs.Locations.{lazy_const, lazy_none, lazy_at, lazy_source, word_source}
+use Rattle.mips_emit.specs.Locations.{inner_of, lazy_const, lazy_none, lazy_at, lazy_source, word_source}
 use Rattle.mips_emit.specs.Elements.{width_of, width_bytes, place_in, address_of_place}
 use Rattle.mips_emit.specs.Code.{nop, const_code, is_small, half, constant, li, load_word_at, store_word_at, move_code, fetch, seat, bring, carry, into, finish, put_at, arrive}
 use Rattle.mips_emit.proofs.Runs.{RunsTo, runs_none, runs_then}
-use Rattle.mips_emit.proofs.View.{word_at, set_word, shown_other, word_here, word_other, word_below, set_at_words, IsTarget, read_register}
+use Rattle.mips_emit.proofs.View.{word_at, set_word, shown_other, word_here, word_other, word_below, set_at_words, IsTarget, inner_is, read_register}
 use Rattle.mips_emit.proofs.View.{read_other, moves, loads_word, stores_word, Sets, set_sets, li_sets}
 use Rattle.mips_emit.proofs.Stands.{Stored, size_of, with_slots, StackHolds, stack_same, stack_top, Linked, Stands, open_stack}
 
@@ -170,9 +170,9 @@ known_slot known hs count registers slots x k v o ok there is h = record { by = 
         ∙ ap (λ b. if b then Some v else slots k) (eq-eqb k k refl) ∙ ap Some (sym (is w e))
     by y w false t e = other y w (eqb-false y x t) (slice_get hs y) refl (h.by y w e)
 
--- the word of a pseudo-register is in register 1
+-- the word of a pseudo-register is in its inner temporary
 pub record IsFresh (fresh : Option ℕ) (hs : List Home) (registers slots : Places) (s : State) : Type 0 where
-  pub by : (x w : ℕ) → fresh ≡ Some x → read_home hs registers slots x ≡ Some w → s.regs 1 ≡ w
+  pub by : (x w : ℕ) → fresh ≡ Some x → read_home hs registers slots x ≡ Some w → s.regs (inner_of (location_at (slice_get hs x))) ≡ w
 
 pub none_fresh : (hs : List Home) (registers slots : Places) (s : State) → IsFresh None hs registers slots s
 none_fresh hs registers slots s = record { by = λ x w e. absurd (none-some x e) }
@@ -560,20 +560,23 @@ module _ (most total : ℕ) (gs : List RGlobal) (starts : ℕ → ℕ) where
     -- an operand of an exit
     pub last_means : (known : Places) (fresh : Option ℕ) (hs : List Home) (x v : ℕ) → AreFrameHomes hs top.count → IsKnown known hs registers top.slots
         → IsFresh fresh hs registers top.slots s → read_home hs registers top.slots x ≡ Some v
-        → Denotes top.count s (fresh_source fresh x (lazy_source (lazy_at lazy (location_at (slice_get hs x)))
-        (source (known x) (location_at (slice_get hs x))))) v
+        → Denotes top.count s (fresh_source fresh x (inner_of (location_at (slice_get hs x)))
+        (lazy_source (lazy_at lazy (location_at (slice_get hs x))) (source (known x) (location_at (slice_get hs x))))) v
     last_means known fresh hs x v ok k f e = go fresh refl
       where
         other : Source
         other = lazy_source (lazy_at lazy (location_at (slice_get hs x))) (source (known x) (location_at (slice_get hs x)))
 
-        go : (o : Option ℕ) → fresh ≡ o → Denotes top.count s (fresh_source o x other) v
+        t : ℕ
+        t = inner_of (location_at (slice_get hs x))
+
+        go : (o : Option ℕ) → fresh ≡ o → Denotes top.count s (fresh_source o x t other) v
         go None is = (operand_means known hs x v ok k e).0
         go (Some y) is = test (nat_eq y x) refl
           where
-            test : (b : Bool) → nat_eq y x ≡ b → Denotes top.count s (if b then From (Held 1) else other) v
-            test true t = f.by x v (is ∙ ap Some (eqb-true y x t)) e
-            test false t = (operand_means known hs x v ok k e).0
+            test : (b : Bool) → nat_eq y x ≡ b → Denotes top.count s (if b then From (Held t) else other) v
+            test true same = read_register s.regs t (inner_is (location_at (slice_get hs x))).low ∙ f.by x v (is ∙ ap Some (eqb-true y x same)) e
+            test false same = (operand_means known hs x v ok k e).0
 
   module _ (registers : Places) (g : Arrays) (top : Stored) (fs : List Stored) (s : State) (h : Stands most total gs starts registers g (top ∷ fs) s) where
     pub ends_stands : (is : List Plain) (s0 : State) (t v : ℕ) → t < 4 → (e : Ends is s0 s t v)
@@ -601,7 +604,7 @@ module _ (most total : ℕ) (gs : List RGlobal) (starts : ℕ → ℕ) where
         → IsLazy (lazy_none l lazy) registers' → IsKnown (places_with known x o) hs registers' slots'
         → P (go registers' slots')
 
-    -- and that a result for a slot is still in register 1
+    -- and that a result for a slot is still in the slot's inner temporary
     abbrev pub GoOn : (P : Run → Type 0) (go : Places → Places → Run) (is : List Plain) (s0 : State) (known : Places) (x : ℕ) (o : Option ℕ) (hs : List Home)
         (l : Option Location) (fresh : Option ℕ) → Type 0
     GoOn P go is s0 known x o hs l fresh = (registers' slots' : Places) (s' : State) → 1 ≤ length is → RunsTo is s0 s'
@@ -611,9 +614,9 @@ module _ (most total : ℕ) (gs : List RGlobal) (starts : ℕ → ℕ) where
 
     -- a result, computed into the register for its location
     pub finishes : (P : Run → Type 0) (go : Places → Places → Run) (hs : List Home) (x v : ℕ) (o : Option ℕ) (out : List ℕ) (known : Places)
-        (is : List Plain) (s0 : State) → Ends is s0 s (into 1 (location_at (slice_get hs x))) v → 1 ≤ length is → ((w : ℕ) → o ≡ Some w → w ≡ v)
+        (is : List Plain) (s0 : State) → Ends is s0 s (into (location_at (slice_get hs x))) v → 1 ≤ length is → ((w : ℕ) → o ≡ Some w → w ≡ v)
         → AreFrameHomes hs top.count → IsKnown known hs registers top.slots → P (Failed out)
-        → GoOn P go (is ++ finish 1 (location_at (slice_get hs x))) s0 known x o hs (location_at (slice_get hs x)) (in_slot (location_at (slice_get hs x)) x)
+        → GoOn P go (is ++ finish (location_at (slice_get hs x))) s0 known x o hs (location_at (slice_get hs x)) (in_slot (location_at (slice_get hs x)) x)
         → P (write_home hs registers top.slots x v out go)
     finishes P go hs x v o out known is s0 e some said ok k failed f = by (slice_get hs x) refl e f
       where
@@ -621,8 +624,11 @@ module _ (most total : ℕ) (gs : List RGlobal) (starts : ℕ → ℕ) where
         slot_read j at = ap (λ p. chain p (in_home registers (places_with top.slots j (Some v)))) at
             ∙ ap (λ b. if b then Some v else top.slots j) (eq-eqb j j refl)
 
-        by : (p : Option Home) → slice_get hs x ≡ p → Ends is s0 s (into 1 (location_at p)) v
-            → GoOn P go (is ++ finish 1 (location_at p)) s0 known x o hs (location_at p) (in_slot (location_at p) x)
+        slot_inner : (j c : ℕ) → slice_get hs x ≡ Some (Slot j) → x ≡ c → inner_of (location_at (slice_get hs c)) ≡ inner_of (Some (InSlot j))
+        slot_inner j c at same = ap (λ y. inner_of (location_at (slice_get hs y))) (sym same) ∙ ap (λ p. inner_of (location_at p)) at
+
+        by : (p : Option Home) → slice_get hs x ≡ p → Ends is s0 s (into (location_at p)) v
+            → GoOn P go (is ++ finish (location_at p)) s0 known x o hs (location_at p) (in_slot (location_at p) x)
             → P (with_value p out (λ h. write_at h registers top.slots v go))
         by None at e f = failed
         by (Some (Reg r)) at e f =
@@ -636,16 +642,19 @@ module _ (most total : ℕ) (gs : List RGlobal) (starts : ℕ → ℕ) where
         by (Some (Slot j)) at e f =
             let lt = ok.by x (Slot j) at in
             let s1 : State = record s { regs = e.regs } in
-            let st = ends_stands (hide lazy registers) g top fs s h is s0 1 v (omega arith) e in
+            let t = inner_of (Some (InSlot j)) in
+            let is_inner = inner_is (Some (InSlot j)) in
+            let st = ends_stands (hide lazy registers) g top fs s h is s0 t v is_inner.high e in
             let place = frame_open (hide lazy registers) g top fs s1 st (4 * j) (omega arith) (omega (arith, lt)) in
-            let store : RunsTo (store_word_at 1 (4 * j) ∷ []) s1 (set_word s1 (s1.regs 29 + 4 * j) v) =
-            subst (λ u. RunsTo (store_word_at 1 (4 * j) ∷ []) s1 (set_word s1 (s1.regs 29 + 4 * j) u)) e.here (stores_word s1 1 (4 * j) place.0 place.1) in
-            f registers (places_with top.slots j (Some v)) (set_word s1 (s1.regs 29 + 4 * j) v) (longer is (store_word_at 1 (4 * j) ∷ []) some)
+            let store : RunsTo (store_word_at t (4 * j) ∷ []) s1 (set_word s1 (s1.regs 29 + 4 * j) v) =
+            subst (λ u. RunsTo (store_word_at t (4 * j) ∷ []) s1 (set_word s1 (s1.regs 29 + 4 * j) u))
+            (read_register e.regs t is_inner.low ∙ e.here) (stores_word s1 t (4 * j) place.0 place.1) in
+            f registers (places_with top.slots j (Some v)) (set_word s1 (s1.regs 29 + 4 * j) v) (longer is (store_word_at t (4 * j) ∷ []) some)
             (runs_then e.runs store)
             (slot_written (hide lazy registers) g top fs s1 st j v lt e.below) is_lazy
             (known_slot known hs top.count registers top.slots x j v o ok at said k)
             (record {
-              by = λ c w is there. e.here ∙ same_Some v w (sym (slot_read j at)
+              by = λ c w is there. ap e.regs (slot_inner j c at (same_Some x c is)) ∙ e.here ∙ same_Some v w (sym (slot_read j at)
                   ∙ ap (read_home hs registers (places_with top.slots j (Some v))) (same_Some x c is) ∙ there);
             })
 
@@ -670,14 +679,16 @@ module _ (most total : ℕ) (gs : List RGlobal) (starts : ℕ → ℕ) where
             (known_register known hs top.count registers top.slots x r v o ok at said k)
         by (Some (Slot j)) at f =
             let lt = ok.by x (Slot j) at in
-            let c = fetches (hide lazy registers) g top fs s h 1 v y (omega arith) (omega arith) d in
+            let t = inner_of (Some (InSlot j)) in
+            let is_inner = inner_is (Some (InSlot j)) in
+            let c = fetches (hide lazy registers) g top fs s h t v y is_inner.low is_inner.high d in
             let s1 : State = record s { regs = c.regs } in
             let place = frame_open (hide lazy registers) g top fs s1 c.stands (4 * j) (omega arith) (omega (arith, lt)) in
-            let store : RunsTo (store_word_at (seat 1 y) (4 * j) ∷ []) s1 (set_word s1 (s1.regs 29 + 4 * j) v) =
-            subst (λ u. RunsTo (store_word_at (seat 1 y) (4 * j) ∷ []) s1 (set_word s1 (s1.regs 29 + 4 * j) u)) c.here
-            (stores_word s1 (seat 1 y) (4 * j) place.0 place.1) in
+            let store : RunsTo (store_word_at (seat t y) (4 * j) ∷ []) s1 (set_word s1 (s1.regs 29 + 4 * j) v) =
+            subst (λ u. RunsTo (store_word_at (seat t y) (4 * j) ∷ []) s1 (set_word s1 (s1.regs 29 + 4 * j) u)) c.here
+            (stores_word s1 (seat t y) (4 * j) place.0 place.1) in
             f registers (places_with top.slots j (Some v)) (set_word s1 (s1.regs 29 + 4 * j) v)
-            (longer_behind (fetch 1 y) (store_word_at (seat 1 y) (4 * j) ∷ []) (omega arith)) (runs_then c.runs store)
+            (longer_behind (fetch t y) (store_word_at (seat t y) (4 * j) ∷ []) (omega arith)) (runs_then c.runs store)
             (slot_written (hide lazy registers) g top fs s1 c.stands j v lt below) is_lazy
             (known_slot known hs top.count registers top.slots x j v o ok at said k)
 
@@ -767,13 +778,15 @@ module _ (most total : ℕ) (gs : List RGlobal) (starts : ℕ → ℕ) where
         by (Some (Slot j)) at f =
             let lt = ok.by x (Slot j) at in
             let y = word_source v in
-            let c = fetches (hide lazy registers) g top fs s h 1 v y (omega arith) (omega arith) (word (nat_eq v 0) refl) in
+            let t = inner_of (Some (InSlot j)) in
+            let is_inner = inner_is (Some (InSlot j)) in
+            let c = fetches (hide lazy registers) g top fs s h t v y is_inner.low is_inner.high (word (nat_eq v 0) refl) in
             let s1 : State = record s { regs = c.regs } in
             let place = frame_open (hide lazy registers) g top fs s1 c.stands (4 * j) (omega arith) (omega (arith, lt)) in
-            let store : RunsTo (store_word_at (seat 1 y) (4 * j) ∷ []) s1 (set_word s1 (s1.regs 29 + 4 * j) v) =
-            subst (λ u. RunsTo (store_word_at (seat 1 y) (4 * j) ∷ []) s1 (set_word s1 (s1.regs 29 + 4 * j) u)) c.here
-            (stores_word s1 (seat 1 y) (4 * j) place.0 place.1) in
+            let store : RunsTo (store_word_at (seat t y) (4 * j) ∷ []) s1 (set_word s1 (s1.regs 29 + 4 * j) v) =
+            subst (λ u. RunsTo (store_word_at (seat t y) (4 * j) ∷ []) s1 (set_word s1 (s1.regs 29 + 4 * j) u)) c.here
+            (stores_word s1 (seat t y) (4 * j) place.0 place.1) in
             f registers (places_with top.slots j (Some v)) (set_word s1 (s1.regs 29 + 4 * j) v)
-            (longer_behind (fetch 1 y) (store_word_at (seat 1 y) (4 * j) ∷ []) (omega arith)) (runs_then c.runs store)
+            (longer_behind (fetch t y) (store_word_at (seat t y) (4 * j) ∷ []) (omega arith)) (runs_then c.runs store)
             (slot_written (hide lazy registers) g top fs s1 c.stands j v lt below) is_lazy
             (known_slot known hs top.count registers top.slots x j v (Some v) ok at said k)

@@ -35,14 +35,14 @@ use Rattle.mips_emit.specs.declared.location.Source.TheVariants.{Zero, Word, Fro
 use Rattle.mips_emit.specs.declared.facts.Fact.{Fact}
 use Rattle.mips_emit.specs.Frames.{AreFrameHomes}
 use Rattle.mips_emit.specs.Locations.{Facts, known_of, known_in, with_fact, learned, location_at, locations_of}
-use Rattle.mips_emit.specs.Locations.{last_of, word_source, operand}
+use Rattle.mips_emit.specs.Locations.{last_of, inner_of, word_source, operand}
 use Rattle.mips_emit.specs.Elements.{width_of, width_bytes, element_place, place_in, address_of_place, data_middle, direct, near, base_code}
 use Rattle.mips_emit.specs.Elements.{base_offset, element_base, element_offset}
 use Rattle.mips_emit.specs.Code.{fetch, seat, into, operation, immediate_of, is_symmetric, turned_immediate_of, turned_less_of, code_by_less, code_by_left}
 use Rattle.mips_emit.specs.Code.{multiple_of, multiple_code, code_by_multiple, code_by_word}
 use Rattle.mips_emit.specs.Code.{code_by_right, op_code, element_code, element_load, element_store, inst_code}
 use Rattle.mips_emit.proofs.Runs.{RunsTo, runs_none, runs_then}
-use Rattle.mips_emit.proofs.View.{shown_at, word_of_offset, shown_below, set, set_at, set_sets, read_register, put_here, put_other, IsTarget, loads_at, stores_at, near_word, based}
+use Rattle.mips_emit.proofs.View.{shown_at, word_of_offset, shown_below, set, set_at, set_sets, read_register, put_here, put_other, IsTarget, IsInner, inner_is, inner_target, loads_at, stores_at, near_word, based}
 use Rattle.mips_emit.proofs.Stands.{Stored, with_slots, Stands}
 use Rattle.mips_emit.proofs.Homes.{IsLast, none_last, known_with, known_without, regs_kept, IsKnown, Denotes, IsAway, seat_kept, longer_behind, Ends, hide, IsLazy, tells}
 use Rattle.mips_emit.proofs.Homes.{operand_below, operand_means, fetches, sets_kept, finishes, puts, stands_with}
@@ -89,16 +89,13 @@ ends_set is s m d v w ok run e lt = record {
     put' : (ℕ → ℕ) → ℕ → ℕ → ℕ → ℕ
     put' = Rattle.mips_isa.specs.States.put
 
-t1 : IsTarget 1
-t1 = record { low = omega arith; high = omega arith }
-
-into_target : (hs : List Home) (count x : ℕ) → AreFrameHomes hs count → IsTarget (into 1 (location_at (slice_get hs x)))
+into_target : (hs : List Home) (count x : ℕ) → AreFrameHomes hs count → IsTarget (into (location_at (slice_get hs x)))
 into_target hs count x ok = go (slice_get hs x) refl
   where
-    go : (o : Option Home) → slice_get hs x ≡ o → IsTarget (into 1 (location_at o))
-    go None e = t1
+    go : (o : Option Home) → slice_get hs x ≡ o → IsTarget (into (location_at o))
+    go None e = inner_target None
     go (Some (Reg r)) e = (let range = ok.by x (Reg r) e in record { low = omega (arith, range.0); high = omega (arith, range.1) })
-    go (Some (Slot k)) e = t1
+    go (Some (Slot k)) e = inner_target (Some (InSlot k))
 
 word_means : (count w v : ℕ) (s : State) → w ≡ v → w < 2 ^ 32 → Denotes count s (word_source w) v
 word_means count w v s e lt = go (nat_eq w 0) refl
@@ -196,32 +193,33 @@ module _ (most total : ℕ) (gs : List RGlobal) (starts : ℕ → ℕ) where
         computed is (fetch t x ++ is) s1 d u a.stands (λ m e. runs_then a.runs e) (λ some. longer_behind (fetch t x) is some) lt (gives s1 a.here)
 
     -- both operands
-    record Both (x y : Source) (v w : ℕ) : Type 0 where
+    record Both (t : ℕ) (x y : Source) (v w : ℕ) : Type 0 where
       to : State
-      runs : (is : List Plain) (m : State) → RunsTo is to m → RunsTo (fetch 1 x ++ (fetch 2 y ++ is)) s m
-      left : read 0 to.regs (seat 1 x) ≡ v
+      runs : (is : List Plain) (m : State) → RunsTo is to m → RunsTo (fetch t x ++ (fetch 2 y ++ is)) s m
+      left : read 0 to.regs (seat t x) ≡ v
       right : read 0 to.regs (seat 2 y) ≡ w
       stands : Stands most total gs starts registers g (top ∷ fs) to
 
-    both : (x y : Source) (v w : ℕ) → IsAway x → Means x v → Means y w → Both x y v w
-    both x y v w away mx my =
-        let a = fetches most total gs starts registers g top fs s h 1 v x (omega arith) (omega arith) (mx s h) in
+    both : (t : ℕ) (x y : Source) (v w : ℕ) → IsInner t → IsAway x → Means x v → Means y w → Both t x y v w
+    both t x y v w is_inner away mx my =
+        let a = fetches most total gs starts registers g top fs s h t v x is_inner.low is_inner.high (mx s h) in
         let s1 : State = record s { regs = a.regs } in
         let b = fetches most total gs starts registers g top fs s1 a.stands 2 w y (omega arith) (omega arith) (my s1 a.stands) in
         record {
           to = record s1 { regs = b.regs };
           runs = λ is m e. runs_then a.runs (runs_then b.runs e);
-          left = seat_kept x 1 2 a.regs b.regs away (λ e. absurd (omega (arith, e))) (omega arith) b.others ∙ a.here;
+          left = seat_kept x t 2 a.regs b.regs away is_inner.apart (omega arith) b.others ∙ a.here;
           right = b.here;
           stands = b.stands;
         }
 
     -- a multiple of an operand
-    times : (d v u : ℕ) (x : Source) (m : ShiftedSum) → IsTarget d → IsAway x → Means x v → u < 2 ^ 32 → IsMultiple m v u → Computed (multiple_code d m x) d u
-    times d v u x m ok away mx lt is =
-        let a = fetches most total gs starts registers g top fs s h 1 v x (omega arith) (omega arith) (mx s h) in
+    times : (t d v u : ℕ) (x : Source) (m : ShiftedSum) → IsInner t → IsTarget d → IsAway x → Means x v → u < 2 ^ 32 → IsMultiple m v u
+        → Computed (multiple_code t d m x) d u
+    times t d v u x m is_inner ok away mx lt is =
+        let a = fetches most total gs starts registers g top fs s h t v x is_inner.low is_inner.high (mx s h) in
         let s1 : State = record s { regs = a.regs } in
-        let q = seat 1 x in
+        let q = seat t x in
         let shift = Shift Sll 2 q m.amount in
         let sum = Alu m.op d 2 q in
         let two : IsTarget 2 = record { low = omega arith; high = omega arith } in
@@ -229,26 +227,26 @@ module _ (most total : ℕ) (gs : List RGlobal) (starts : ℕ → ℕ) where
         (ap (λ v. op_value operators.Sll v (wrap m.amount)) a.here ∙ is.shifts) (record { ends = refl }) in
         let s2 : State = record s1 { regs = c.regs } in
         let left : read 0 c.regs 2 ≡ is.shown = read_register c.regs 2 (omega arith) ∙ c.here in
-        let right : read 0 c.regs q ≡ v = seat_kept x 1 2 a.regs c.regs away (λ e. absurd (omega (arith, e))) (omega arith) c.others ∙ a.here in
-        computed (sum ∷ []) (multiple_code d m x) s2 d u (sets_kept most total gs starts registers g top fs s1 a.stands (shift ∷ []) 2 is.shown (omega arith) c)
-        (λ t e. runs_then a.runs (runs_then c.runs e)) (λ some. longer_behind (fetch 1 x) (shift ∷ sum ∷ []) (omega arith)) lt
+        let right : read 0 c.regs q ≡ v = seat_kept x t 2 a.regs c.regs away is_inner.apart (omega arith) c.others ∙ a.here in
+        computed (sum ∷ []) (multiple_code t d m x) s2 d u (sets_kept most total gs starts registers g top fs s1 a.stands (shift ∷ []) 2 is.shown (omega arith) c)
+        (λ m e. runs_then a.runs (runs_then c.runs e)) (λ some. longer_behind (fetch t x) (shift ∷ sum ∷ []) (omega arith)) lt
         (alu_gives m.op s2 d 2 q is.shown v u ok left right is.sums)
 
-    pub computes : (op : Op) (d v w u : ℕ) (k l : Option ℕ) (x y : Source) → IsTarget d → IsAway x → IsAway y → Means x v → Means y w
+    pub computes : (op : Op) (t d v w u : ℕ) (k l : Option ℕ) (x y : Source) → IsInner t → IsTarget d → IsAway x → IsAway y → Means x v → Means y w
         → ((c : ℕ) → k ≡ Some c → c ≡ v) → ((c : ℕ) → l ≡ Some c → c ≡ w) → v < 2 ^ 32 → w < 2 ^ 32 → op_result op v w ≡ Some u
-        → Computed (op_code op d k l x y) d u
-    computes op d v w u k l x y ok away y_away mx my kv lw vb wb e = by_multiple (multiple_of op l) (multiple_of op k) refl refl
+        → Computed (op_code op t d k l x y) d u
+    computes op t d v w u k l x y is_inner ok away y_away mx my kv lw vb wb e = by_multiple (multiple_of op l) (multiple_of op k) refl refl
       where
         below : u < 2 ^ 32
         below = result-word op v w u vb wb e
 
-        plainly : Computed (fetch 1 x ++ (fetch 2 y ++ operation op d (seat 1 x) (seat 2 y))) d u
+        plainly : Computed (fetch t x ++ (fetch 2 y ++ operation op d (seat t x) (seat 2 y))) d u
         plainly =
-            let c = both x y v w away mx my in
-            let last = operation op d (seat 1 x) (seat 2 y) in
-            computed last (fetch 1 x ++ (fetch 2 y ++ last)) c.to d u c.stands (c.runs last)
-            (λ some. longer_behind (fetch 1 x) (fetch 2 y ++ last) (longer_behind (fetch 2 y) last some)) below
-            (operation_gives op c.to d (seat 1 x) (seat 2 y) v w u ok c.left c.right vb wb e)
+            let c = both t x y v w is_inner away mx my in
+            let last = operation op d (seat t x) (seat 2 y) in
+            computed last (fetch t x ++ (fetch 2 y ++ last)) c.to d u c.stands (c.runs last)
+            (λ some. longer_behind (fetch t x) (fetch 2 y ++ last) (longer_behind (fetch 2 y) last some)) below
+            (operation_gives op c.to d (seat t x) (seat 2 y) v w u ok c.left c.right vb wb e)
 
         on_left : (i : Plain) → (o : Option ℕ) → ((c : ℕ) → o ≡ Some c → c ≡ v) → is_symmetric op ≡ true → immediate_of op d (seat 2 y) o ≡ Some i
             → Computed (fetch 2 y ++ i ∷ []) d u
@@ -258,12 +256,12 @@ module _ (most total : ℕ) (gs : List RGlobal) (starts : ℕ → ℕ) where
             one_operand 2 d w u y (i ∷ []) (omega arith) (omega arith) my below
             (λ s at. immediate_gives s d (seat 2 y) c w u i ok at wb (omega (arith, same, vb)) op is (ap (op_result op w) same ∙ symmetric op w v turns ∙ e))
 
-        by_less : (o : Option Plain) → turned_less_of op d (seat 2 y) k ≡ o → Computed (code_by_less op d o x y) d u
+        by_less : (o : Option Plain) → turned_less_of op d (seat 2 y) k ≡ o → Computed (code_by_less op t d o x y) d u
         by_less None is = plainly
         by_less (Some i) is = one_operand 2 d w u y (i ∷ Logic Xori d d 1 ∷ []) (omega arith) (omega arith) my below
             (λ s at. less_gives op s d (seat 2 y) v w u i k ok at vb wb kv is e)
 
-        by_left : (o : Option Plain) → turned_immediate_of op d (seat 2 y) k ≡ o → Computed (code_by_left op d o (turned_less_of op d (seat 2 y) k) x y) d u
+        by_left : (o : Option Plain) → turned_immediate_of op d (seat 2 y) k ≡ o → Computed (code_by_left op t d o (turned_less_of op d (seat 2 y) k) x y) d u
         by_left None is = by_less (turned_less_of op d (seat 2 y) k) refl
         by_left (Some i) is = go (is_symmetric op) refl is
           where
@@ -271,20 +269,20 @@ module _ (most total : ℕ) (gs : List RGlobal) (starts : ℕ → ℕ) where
             go true t is = on_left i k kv t is
             go false t is = absurd (none-some i is)
 
-        by_right : (o : Option ℕ) → ((c : ℕ) → o ≡ Some c → c ≡ w) → (p : Option Plain) → immediate_of op d (seat 1 x) o ≡ p
-            → Computed (code_by_right op d p (turned_immediate_of op d (seat 2 y) k) (turned_less_of op d (seat 2 y) k) x y) d u
+        by_right : (o : Option ℕ) → ((c : ℕ) → o ≡ Some c → c ≡ w) → (p : Option Plain) → immediate_of op d (seat t x) o ≡ p
+            → Computed (code_by_right op t d p (turned_immediate_of op d (seat 2 y) k) (turned_less_of op d (seat 2 y) k) x y) d u
         by_right o said None is = by_left (turned_immediate_of op d (seat 2 y) k) refl
         by_right None said (Some i) is = absurd (none-some i is)
         by_right (Some c) said (Some i) is =
             let same : c ≡ w = said c refl in
-            one_operand 1 d v u x (i ∷ []) (omega arith) (omega arith) mx below
-            (λ s at. immediate_gives s d (seat 1 x) c v u i ok at vb (omega (arith, same, wb)) op is (ap (op_result op v) same ∙ e))
+            one_operand t d v u x (i ∷ []) is_inner.low is_inner.high mx below
+            (λ s at. immediate_gives s d (seat t x) c v u i ok at vb (omega (arith, same, wb)) op is (ap (op_result op v) same ∙ e))
 
         by_multiple : (a b : Option ShiftedSum) → multiple_of op l ≡ a → multiple_of op k ≡ b
-            → Computed (code_by_multiple d a b x y (code_by_word op d k l x y)) d u
-        by_multiple (Some m) b is _ = times d v u x m ok away mx below (multiplied op l m v w u lw vb wb is e)
-        by_multiple None (Some m) _ is = times d w u y m ok y_away my below (turned_multiplied op k m v w u kv vb wb is e)
-        by_multiple None None _ _ = by_right l lw (immediate_of op d (seat 1 x) l) refl
+            → Computed (code_by_multiple t d a b x y (code_by_word op t d k l x y)) d u
+        by_multiple (Some m) b is _ = times t d v u x m is_inner ok away mx below (multiplied op l m v w u lw vb wb is e)
+        by_multiple None (Some m) _ is = times t d w u y m is_inner ok y_away my below (turned_multiplied op k m v w u kv vb wb is e)
+        by_multiple None None _ _ = by_right l lw (immediate_of op d (seat t x) l) refl
 
     -- an element of a global
     pub elements : (known : Option ℕ) (x : Source) (a i v : ℕ) → IsAway x → Means x i → ((w : ℕ) → known ≡ Some w → w ≡ i) → element_at g a i ≡ Some v
@@ -351,8 +349,8 @@ module _ (most total : ℕ) (gs : List RGlobal) (starts : ℕ → ℕ) where
         value_or_failed P (read_home hs registers top.slots b) out _ failed (λ w ew.
         value_or_failed P (op_result op v w) out _ failed (λ u eu.
         let known = known_in facts in
-        let z = computes (hide facts.lazy registers) g top fs s h op (into 1 (locations_of hs d)) v w u (known_in facts a) (known_in facts b)
-        (operand (locations_of hs) facts a) (operand (locations_of hs) facts b) (into_target hs top.count d ok)
+        let z = computes (hide facts.lazy registers) g top fs s h op (inner_of (locations_of hs d)) (into (locations_of hs d)) v w u (known_in facts a)
+        (known_in facts b) (operand (locations_of hs) facts a) (operand (locations_of hs) facts b) (inner_is (locations_of hs d)) (into_target hs top.count d ok)
         (operand_means most total gs starts facts.lazy registers g top fs s h lz known hs a v ok k ev).1
         (operand_means most total gs starts facts.lazy registers g top fs s h lz known hs b w ok k ew).1
         (λ s h. (operand_means most total gs starts facts.lazy registers g top fs s h lz known hs a v ok k ev).0)
@@ -362,8 +360,8 @@ module _ (most total : ℕ) (gs : List RGlobal) (starts : ℕ → ℕ) where
         (operand_below most total gs starts facts.lazy registers g top fs s h lz hs a v ok ev)
         (operand_below most total gs starts facts.lazy registers g top fs s h lz hs b w ok ew) eu in
         finishes most total gs starts facts.lazy registers g top fs z.to z.stands lz P (λ r s. go r s g) hs d u (Some u) out (places_with known b (Some w))
-        (op_code op (into 1 (locations_of hs d)) (known_in facts a) (known_in facts b) (operand (locations_of hs) facts a)
-        (operand (locations_of hs) facts b)) s z.ends z.some
+        (op_code op (inner_of (locations_of hs d)) (into (locations_of hs d)) (known_in facts a) (known_in facts b)
+        (operand (locations_of hs) facts a) (operand (locations_of hs) facts b)) s z.ends z.some
         (λ c is. sym (same_Some u c is)) ok (known_with known hs registers top.slots b w ew k) failed
         (λ r' s' to some e st lz' kn new. f r' s' g to some e st lz' (fact_known hs r' s' facts d None
         (known_without known hs r' s' b w d u (λ c is. same_Some c w (sym (k.by b c is) ∙ ew)) kn))
@@ -379,7 +377,7 @@ module _ (most total : ℕ) (gs : List RGlobal) (starts : ℕ → ℕ) where
         (λ s h. (operand_means most total gs starts facts.lazy registers g top fs s h lz known hs i v ok k ev).0) (λ u is. same_Some u v (sym (k.by i u is) ∙ ev)) there in
         let to = p.to in
         let at = address_of_place (place_in gs starts a v) in
-        let d' = into 1 (locations_of hs d) in
+        let d' = into (locations_of hs d) in
         let load = loads_at width to d' (element_base o) (element_offset (starts a) o) at p.here p.ok in
         let value : shown_at width to at ≡ w = (p.stands).elements a v w there in
         let below : w < 2 ^ 32 = subst (λ w. w < 2 ^ 32) value (shown_below width to at (p.stands).words) in

@@ -1,6 +1,6 @@
 -- Registers and words of a state, and what single instructions do to them.
 use Rattle.std.proofs.Common.{◌≡◌, ◌≢◌, ℕ, ℤ, pos, negsuc, zero, suc, ◌+◌, ◌-◌, ◌*◌, ◌/◌, ◌%◌, ◌^◌, ◌<◌, ◌≤◌, Bool, true, false, cond, ◌&&◌}
-use Rattle.std.proofs.Common.{List, [], ◌∷◌, Some, None, refl, sym, ap, ap₂, ◌∙◌, arith, eq-eqb, eqb-true, ne_eqb, lt-ltb, ltb-true}
+use Rattle.std.proofs.Common.{List, [], ◌∷◌, Option, Some, None, refl, sym, ap, ap₂, ◌∙◌, arith, eq-eqb, eqb-true, ne_eqb, lt-ltb, ltb-true}
 use Rattle.std.specs.Prelude.{if◌then◌else◌, nat_eq, nat_lt, bit_or}
 use Rattle.std.proofs.lemmas.Bool.{ltb-false}
 use Rattle.std.proofs.lemmas.Nat.{or_shifted}
@@ -21,6 +21,9 @@ use Rattle.mips_isa.specs.States.{State, IsWords, AreApart, is_register, read, p
 use Rattle.mips_isa.specs.Actions.{sign_extension, imm_operator, alu_operator, address}
 use Rattle.mips_isa.proofs.Memory.{load_same, load-past-store}
 use Rattle.mips_isa.proofs.StateWords as words
+use Rattle.mips_emit.specs.declared.location.Location.{Location}
+use Rattle.mips_emit.specs.declared.location.Location.TheVariants.{Held, InSlot}
+use Rattle.mips_emit.specs.Locations.{inner_of}
 use Rattle.mips_emit.specs.Elements.{width_bytes, element_place, address_of_place, data_middle, near, page, low, scaled, scaled_seat, base_sum}
 use Rattle.mips_emit.specs.Elements.{base_code, base_offset}
 use Rattle.mips_emit.specs.Code.{is_small, half, constant, li, load_word_at, store_word_at, move_code}
@@ -53,6 +56,23 @@ word_of_offset z = wrap (sign_extension z)
 pub record IsTarget (t : ℕ) : Type 0 where
   pub low : 0 < t
   pub high : t < 32
+
+-- an inner temporary: a register below 4, and not the right operand's
+pub record IsInner (t : ℕ) : Type 0 where
+  pub low : 0 < t
+  pub high : t < 4
+  pub apart : t ≢ 2
+
+pub first_inner : IsInner 1
+first_inner = record { low = omega arith; high = omega arith; apart = λ e. absurd (omega (arith, e)) }
+
+pub inner_is : (l : Option Location) → IsInner (inner_of l)
+inner_is None = first_inner
+inner_is (Some (Held r)) = record { low = omega arith; high = omega arith; apart = λ e. absurd (omega (arith, e)) }
+inner_is (Some (InSlot k)) = record { low = omega arith; high = omega arith; apart = λ e. absurd (omega (arith, e)) }
+
+pub inner_target : (l : Option Location) → IsTarget (inner_of l)
+inner_target l = (let is = inner_is l in record { low = is.low; high = omega (arith, is.high) })
 
 target : (t : ℕ) → IsTarget t → is_register t ≡ true
 target t h = ap₂ (λ x y. x && y) (lt-ltb 0 t h.low) (lt-ltb t 32 h.high)

@@ -26,7 +26,7 @@ use Rattle.mips_emit.specs.declared.location.Location.TheVariants.{Held, InSlot}
 use Rattle.mips_emit.specs.declared.location.Source.{Source}
 use Rattle.mips_emit.specs.declared.product.ShiftedSum.{ShiftedSum}
 use Rattle.mips_emit.specs.declared.location.Source.TheVariants.{Zero, Word, From}
-use Rattle.mips_emit.specs.Locations.{Locations, Facts, known_in, operand, word_source}
+use Rattle.mips_emit.specs.Locations.{Locations, inner_of, Facts, known_in, operand, word_source}
 use Rattle.mips_emit.specs.Elements.{width_of, direct, base_code, element_base, element_offset}
 
 -- ---- words and frames
@@ -94,21 +94,21 @@ abbrev pub carry : ℕ → Source → List Plain
 carry t x = if stays t x then [] else bring t x
 
 -- a result: the register into which it is computed, and what stands behind
-abbrev pub into : ℕ → Option Location → ℕ
-into t None = t
-into t (Some (Held r)) = r
-into t (Some (InSlot k)) = t
+abbrev pub into : Option Location → ℕ
+into None = inner_of None
+into (Some (Held r)) = r
+into (Some (InSlot k)) = inner_of (Some (InSlot k))
 
-abbrev pub finish : ℕ → Option Location → List Plain
-finish t None = []
-finish t (Some (Held r)) = []
-finish t (Some (InSlot k)) = store_word_at t (4 * k) ∷ []
+abbrev pub finish : Option Location → List Plain
+finish None = []
+finish (Some (Held r)) = []
+finish (Some (InSlot k)) = store_word_at (inner_of (Some (InSlot k))) (4 * k) ∷ []
 
 -- an operand into a location
 abbrev pub put_at : Option Location → Source → List Plain
 put_at None x = []
 put_at (Some (Held r)) x = bring r x
-put_at (Some (InSlot k)) x = fetch 1 x ++ store_word_at (seat 1 x) (4 * k) ∷ []
+put_at (Some (InSlot k)) x = fetch (inner_of (Some (InSlot k))) x ++ store_word_at (seat (inner_of (Some (InSlot k))) x) (4 * k) ∷ []
 
 -- a register into a location
 abbrev pub arrive : Option Location → ℕ → List Plain
@@ -203,22 +203,22 @@ turned_less_of LeU d q known = immediate_of LtU d q known
 turned_less_of _ d q known = None
 
 -- an operator into register d: with a word on the right, or on the left, or with a word on the left of a test that is then
--- turned, or on two registers
-abbrev pub code_by_less : Op → ℕ → (less : Option Plain) → Source → Source → List Plain
-code_by_less op d None x y = fetch 1 x ++ (fetch 2 y ++ operation op d (seat 1 x) (seat 2 y))
-code_by_less op d (Some i) x y = fetch 2 y ++ i ∷ Logic Xori d d 1 ∷ []
+-- turned, or on two registers. The left operand goes through register t, the right one through 2
+abbrev pub code_by_less : Op → (t d : ℕ) → (less : Option Plain) → Source → Source → List Plain
+code_by_less op t d None x y = fetch t x ++ (fetch 2 y ++ operation op d (seat t x) (seat 2 y))
+code_by_less op t d (Some i) x y = fetch 2 y ++ i ∷ Logic Xori d d 1 ∷ []
 
-abbrev pub code_by_left : Op → ℕ → (left less : Option Plain) → Source → Source → List Plain
-code_by_left op d None less x y = code_by_less op d less x y
-code_by_left op d (Some i) less x y = fetch 2 y ++ i ∷ []
+abbrev pub code_by_left : Op → (t d : ℕ) → (left less : Option Plain) → Source → Source → List Plain
+code_by_left op t d None less x y = code_by_less op t d less x y
+code_by_left op t d (Some i) less x y = fetch 2 y ++ i ∷ []
 
-abbrev pub code_by_right : Op → ℕ → (right left less : Option Plain) → Source → Source → List Plain
-code_by_right op d None left less x y = code_by_left op d left less x y
-code_by_right op d (Some i) left less x y = fetch 1 x ++ i ∷ []
+abbrev pub code_by_right : Op → (t d : ℕ) → (right left less : Option Plain) → Source → Source → List Plain
+code_by_right op t d None left less x y = code_by_left op t d left less x y
+code_by_right op t d (Some i) left less x y = fetch t x ++ i ∷ []
 
-abbrev pub code_by_word : Op → ℕ → (left right : Option ℕ) → Source → Source → List Plain
-code_by_word op d left right x y =
-    code_by_right op d (immediate_of op d (seat 1 x) right) (turned_immediate_of op d (seat 2 y) left)
+abbrev pub code_by_word : Op → (t d : ℕ) → (left right : Option ℕ) → Source → Source → List Plain
+code_by_word op t d left right x y =
+    code_by_right op t d (immediate_of op d (seat t x) right) (turned_immediate_of op d (seat 2 y) left)
     (turned_less_of op d (seat 2 y) left) x y
 
 -- a product by one more or one less than a power of 2, and by no power itself: the other operand is shifted, and then added to that or
@@ -235,17 +235,18 @@ multiple_of Mul None = None
 multiple_of Mul (Some c) = multiple c
 multiple_of _ known = None
 
-abbrev pub multiple_code : ℕ → ShiftedSum → Source → List Plain
-multiple_code d m x = fetch 1 x ++ Shift Sll 2 (seat 1 x) m.amount ∷ Alu m.op d 2 (seat 1 x) ∷ []
+abbrev pub multiple_code : (t d : ℕ) → ShiftedSum → Source → List Plain
+multiple_code t d m x = fetch t x ++ Shift Sll 2 (seat t x) m.amount ∷ Alu m.op d 2 (seat t x) ∷ []
 
-abbrev pub code_by_multiple : ℕ → (right left : Option ShiftedSum) → Source → Source → (other : List Plain) → List Plain
-code_by_multiple d (Some m) left x y other = multiple_code d m x
-code_by_multiple d None (Some m) x y other = multiple_code d m y
-code_by_multiple d None None x y other = other
+abbrev pub code_by_multiple : (t d : ℕ) → (right left : Option ShiftedSum) → Source → Source → (other : List Plain) → List Plain
+code_by_multiple t d (Some m) left x y other = multiple_code t d m x
+code_by_multiple t d None (Some m) x y other = multiple_code t d m y
+code_by_multiple t d None None x y other = other
 
 -- an operator into register d, from operands and what is known of them
-abbrev pub op_code : Op → ℕ → (left right : Option ℕ) → Source → Source → List Plain
-op_code op d left right x y = code_by_multiple d (multiple_of op right) (multiple_of op left) x y (code_by_word op d left right x y)
+abbrev pub op_code : Op → (t d : ℕ) → (left right : Option ℕ) → Source → Source → List Plain
+op_code op t d left right x y =
+    code_by_multiple t d (multiple_of op right) (multiple_of op left) x y (code_by_word op t d left right x y)
 
 -- ---- instructions
 
@@ -256,7 +257,8 @@ element_code w start (Some p) x = []
 
 abbrev pub bin_code : Locations → Facts → Op → (d a b : ℕ) → List Plain
 bin_code at facts op d a b =
-    op_code op (into 1 (at d)) (known_in facts a) (known_in facts b) (operand at facts a) (operand at facts b) ++ finish 1 (at d)
+    op_code op (inner_of (at d)) (into (at d)) (known_in facts a) (known_in facts b) (operand at facts a) (operand at facts b)
+    ++ finish (at d)
 
 -- an element into a register, and back
 abbrev pub element_load : Width → ℕ → (start : ℕ) → Option ℕ → Plain
@@ -268,8 +270,8 @@ element_store w t start place = plain.Store w t (element_base place) (element_of
 abbrev pub load_code : Locations → Facts → Width → (start d i : ℕ) → List Plain
 load_code at facts w start d i =
     (element_code w start (direct w start (known_in facts i)) (operand at facts i)
-    ++ element_load w (into 1 (at d)) start (direct w start (known_in facts i)) ∷ [])
-    ++ finish 1 (at d)
+    ++ element_load w (into (at d)) start (direct w start (known_in facts i)) ∷ [])
+    ++ finish (at d)
 
 abbrev pub store_code : Locations → Facts → Width → (start i b : ℕ) → List Plain
 store_code at facts w start i b =

@@ -66,15 +66,15 @@ opposite_op op = op
 
 -- ---- code and exits
 
--- what stands before the branch; a nop where that would be nothing. Register 3 is for this alone, so that what stands before
--- may be done behind it
+-- what stands before the branch; a nop where that would be nothing. It is in register 3 and not in 1, so that what stands before may
+-- be done behind it
 abbrev pub code_by_form : Form → Op → (left right : Option ℕ) → Source → Source → List Plain
 code_by_form (OnPair test) op l r x y = fetch 1 x ++ (fetch 3 y ++ nop ∷ [])
 code_by_form (OnLeft test) op l r x y = fetch 3 x ++ nop ∷ []
 code_by_form (OnRight test) op l r x y = fetch 3 y ++ nop ∷ []
-code_by_form ByResult op l r x y = op_code op 3 l r x y
-code_by_form ByOpposite op l r x y = op_code (opposite_op op) 3 r l y x
-code_by_form InResult op l r x y = op_code op 2 l r x y
+code_by_form ByResult op l r x y = op_code op 1 3 l r x y
+code_by_form ByOpposite op l r x y = op_code (opposite_op op) 1 3 r l y x
+code_by_form InResult op l r x y = op_code op 1 2 l r x y
 
 abbrev pub comparison_code : Comparison → List Plain
 comparison_code m = code_by_form m.form m.op m.left m.right m.x m.y

@@ -1,5 +1,5 @@
 -- Where pseudo-registers are, and which words they are known to hold.
-use Rattle.std.specs.Prelude.{◌≡◌, length, ℕ, ◌*◌, ◌≤◌, Option, Some, None, List, [], ◌∷◌, take, nat_eq, if◌then◌else◌}
+use Rattle.std.specs.Prelude.{◌≡◌, length, ℕ, ◌+◌, ◌-◌, ◌*◌, ◌%◌, ◌≤◌, Option, Some, None, List, [], ◌∷◌, take, nat_eq, if◌then◌else◌}
 use Rattle.std.specs.Prelude.{slice_get}
 use Rattle.words.specs.Words.{wrap}
 use Rattle.runs.specs.Stores.{Places, places_with, chain}
@@ -37,6 +37,14 @@ locations_of homes x = location_at (slice_get homes x)
 
 abbrev pub locations : Frame → Locations
 locations f = locations_of f.homes.items
+
+-- the inner temporary of a location: the register in which the left operand is fetched of what goes there, and in which that is computed
+-- if it goes to a slot. It is 1 and 3 in turn, so that code for one location needn't wait for that of the one before. Register 1 also has
+-- the bases of elements, so the first passing register, which is 8, has 3
+abbrev pub inner_of : Option Location → ℕ
+inner_of None = 1
+inner_of (Some (Held r)) = 3 - 2 * (r % 2)
+inner_of (Some (InSlot k)) = 1 + 2 * (k % 2)
 
 -- ---- words that are known
 
@@ -104,7 +112,7 @@ no_facts = record { known = []; lazy = λ q. None }
 
 -- ---- what an exit can use of the last instruction
 
--- a pseudo-register in a slot, whose word is in register 1 when it has been written
+-- a pseudo-register in a slot, whose word is in its inner temporary when it has been written
 abbrev pub in_slot : Option Location → ℕ → Option ℕ
 in_slot None x = None
 in_slot (Some (Held r)) x = None
@@ -151,13 +159,13 @@ lazy_source (Some w) x = word_source w
 abbrev pub operand : Locations → Facts → ℕ → Source
 operand at facts x = lazy_source (lazy_at facts.lazy (at x)) (source (known_in facts x) (at x))
 
--- an operand of an exit: what the last instruction left in register 1, or any other
-abbrev pub fresh_source : Option ℕ → ℕ → Source → Source
-fresh_source None x other = other
-fresh_source (Some y) x other = if nat_eq y x then From (Held 1) else other
+-- an operand of an exit: what the last instruction left in its inner temporary, or any other
+abbrev pub fresh_source : Option ℕ → (x inner : ℕ) → Source → Source
+fresh_source None x inner other = other
+fresh_source (Some y) x inner other = if nat_eq y x then From (Held inner) else other
 
 abbrev pub last_operand : Locations → Facts → Option ℕ → ℕ → Source
-last_operand at facts fresh x = fresh_source fresh x (operand at facts x)
+last_operand at facts fresh x = fresh_source fresh x (inner_of (at x)) (operand at facts x)
 
 -- ---- within reach of the stack pointer
 

@@ -154,10 +154,11 @@ pub(crate) fn emit_comparison(code: &mut Vec<Plain>, m: &Comparison) -> Result<(
     requires right { FitsSource m.now.y }
     ensures { Emits result code.old.items (comparison_code m.now) code.new.items }
 {
+    let inner = register(1);
     let rd = register(3).reg();
     match m.form {
         Form::OnPair(_) => {
-            emit_fetch(code, register(1), &m.x)?;
+            emit_fetch(code, inner, &m.x)?;
             emit_fetch(code, register(3), &m.y)?;
             code.push(Plain::nop())?;
         }
@@ -169,12 +170,14 @@ pub(crate) fn emit_comparison(code: &mut Vec<Plain>, m: &Comparison) -> Result<(
             emit_fetch(code, register(3), &m.y)?;
             code.push(Plain::nop())?;
         }
-        Form::ByResult => emit_op(code, m.op, rd, m.left, m.right, &m.x, &m.y)?,
+        Form::ByResult => emit_op(code, m.op, inner, rd, m.left, m.right, &m.x, &m.y)?,
         Form::ByOpposite => {
             let op = opposite_op(m.op);
-            emit_op(code, op, rd, m.right, m.left, &m.y, &m.x)?;
+            emit_op(code, op, inner, rd, m.right, m.left, &m.y, &m.x)?;
         }
-        Form::InResult => emit_op(code, m.op, Reg::RESULT, m.left, m.right, &m.x, &m.y)?,
+        Form::InResult => {
+            emit_op(code, m.op, inner, Reg::RESULT, m.left, m.right, &m.x, &m.y)?;
+        }
     }
     Ok(())
 }

@@ -11,7 +11,7 @@ ghost use Rattle.mips_emit.specs.Locations.{locations, operand, last_operand, Fi
 
 use crate::comparison::Comparison;
 use crate::limits::KEPT_FACTS;
-use crate::location::{Location, Source, locate, register, source_of, word_source};
+use crate::location::{Location, Source, inner_of, locate, source_of, word_source};
 use mips_homes::Frame;
 use mips_isa::NonzeroReg;
 use rtl::{RInst, Register};
@@ -24,8 +24,8 @@ pub struct Fact {
     pub word: Option<u32>,
 }
 
-/// What an exit can use of the last instruction: the pseudo-register whose word is still in register 1, and a comparison
-/// that is one with the branch.
+/// What an exit can use of the last instruction: the pseudo-register whose word is still in its inner temporary, and a
+/// comparison that is one with the branch.
 #[derive(Clone, Copy, Debug, PartialEq, Eq)]
 pub struct Last {
     pub fresh: Option<Register>,
@@ -232,7 +232,7 @@ fn in_slot(place: Option<Location>, x: Register) -> Option<Register>
     }
 }
 
-/// The pseudo-register whose word an instruction leaves in register 1.
+/// The pseudo-register whose word an instruction leaves in its inner temporary.
 pub(crate) fn fresh_of(frame: &Frame, inst: &RInst) -> Option<Register>
     requires { IsReachable frame.now }
     ensures { result ≡ fresh_of (locations frame.now) inst.now }
@@ -243,7 +243,7 @@ pub(crate) fn fresh_of(frame: &Frame, inst: &RInst) -> Option<Register>
     }
 }
 
-/// What an exit can use of an instruction: the comparison that is one with it, or the word that is still in register 1.
+/// What an exit can use of an instruction: the comparison that is one with it, or the word that is still in an inner temporary.
 pub(crate) fn last_with(comparison: &Option<Comparison>, fresh: Option<Register>) -> Last
     ensures { result ≡ last_with comparison.now fresh }
 {
@@ -274,7 +274,7 @@ pub fn last_operand(
         None => operand(facts, frame, x),
         Some(y) => {
             if y == x {
-                Source::From(Location::Held(register(1)))
+                Source::From(Location::Held(inner_of(locate(frame, x))))
             } else {
                 operand(facts, frame, x)
             }

@@ -18,7 +18,7 @@ ghost use Rattle.mips_emit.specs.Left.{Emits, StopsAmong};
 use crate::comparison::{Asked, Comparison, comparison_of, emit_comparison};
 use crate::element::{direct, element_load, element_store, emit_element};
 use crate::facts::{Knowledge, Last, fresh_of, is_lasting, known_word, last_with, learn, operand};
-use crate::location::{Location, locate, register, word_source};
+use crate::location::{Location, inner_of, locate, register, word_source};
 use crate::operation::emit_op;
 use crate::transfer::{emit_bring, emit_fetch, emit_finish, emit_put, into_of, seat};
 use mips_homes::Frame;
@@ -95,9 +95,10 @@ fn emit_bin(
     let right = known_word(facts, b);
     let x = operand(facts, frame, a);
     let y = operand(facts, frame, b);
-    let rd = into_of(register(1), locate(frame, d));
-    emit_op(code, op, rd.reg(), left, right, &x, &y)?;
-    emit_finish(code, register(1), locate(frame, d))?;
+    let inner = inner_of(locate(frame, d));
+    let rd = into_of(locate(frame, d)).reg();
+    emit_op(code, op, inner, rd, left, right, &x, &y)?;
+    emit_finish(code, locate(frame, d))?;
     Ok(())
 }
 
@@ -119,10 +120,10 @@ fn emit_load(
 {
     let x = operand(facts, frame, i);
     let place = direct(width, start, known_word(facts, i));
-    let rt = into_of(register(1), locate(frame, d));
+    let rt = into_of(locate(frame, d));
     emit_element(code, width, start, place, &x)?;
     code.push(element_load(width, rt, start, place))?;
-    emit_finish(code, register(1), locate(frame, d))?;
+    emit_finish(code, locate(frame, d))?;
     Ok(())
 }
 

@@ -2,8 +2,9 @@
 //!
 //! A pseudo-register is used where it is (`Location`: a register, or a slot of the frame), an operand also as a word that
 //! is known within the block (`Source`, `Fact`); registers 1 to 3 are free between instructions, and register 28 stands in
-//! the middle of the first 65,536 bytes of data. Each instruction has at least one item of code at its own place, so that
-//! a block takes no fewer steps than RTL.
+//! the middle of the first 65,536 bytes of data. A left operand is fetched into register 1 or 3, by the number of the
+//! location to which the result goes (`inner_of`), so that code for one location needn't wait for that of the one before.
+//! Each instruction has at least one item of code at its own place, so that a block takes no fewer steps than RTL.
 //!
 //! The code is a pure function, `insts_code` of `specs/Comparisons.antt`, and `emit_insts` emits exactly that; likewise
 //! `emit_arguments`, `emit_arrival` and `emit_departure` for what stands before exits and behind calls. That the code of an

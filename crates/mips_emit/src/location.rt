@@ -3,7 +3,8 @@
 ghost use Rattle.std.specs.Prelude.{◌≡◌, ◌*◌, ◌≤◌, ◌<◌};
 ghost use Rattle.mips_emit.specs.declared.limits.TheConstants.{FRAME_BYTES};
 ghost use Rattle.mips_emit.specs.Frames.{IsHome, IsReachable};
-ghost use Rattle.mips_emit.specs.Locations.{location_of, locations, known_source, source, word_source, FitsLocation, FitsPlace, FitsSource};
+ghost use Rattle.mips_emit.specs.Locations.{location_of, locations, inner_of, known_source, source, word_source};
+ghost use Rattle.mips_emit.specs.Locations.{FitsLocation, FitsPlace, FitsSource};
 
 use mips_homes::{Frame, Home};
 use mips_isa::NonzeroReg;
@@ -63,6 +64,19 @@ pub(crate) fn locate(frame: &Frame, x: Register) -> Option<Location>
     match frame.homes.get(x as usize) {
         Some(home) => Some(location_of(*home, frame.slots)),
         None => None,
+    }
+}
+
+/// The inner temporary of a location: register 1 or 3, in turn.
+pub(crate) fn inner_of(place: Option<Location>) -> NonzeroReg
+    ensures { result ≡ inner_of place }
+{
+    match place {
+        None => register(1),
+        Some(location) => match location {
+            Location::Held(r) => register(3 - 2 * (r.index() % 2)),
+            Location::InSlot(k) => register(1 + 2 * (k % 2) as u8),
+        },
     }
 }
 

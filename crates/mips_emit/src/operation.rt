@@ -16,7 +16,7 @@ use crate::constant::{half, is_small};
 use crate::location::{Source, register};
 use crate::product::{emit_multiple, multiple_of};
 use crate::transfer::{emit_fetch, seat};
-use mips_isa::{AluOp, Amount, HiLo, ImmOp, LogicOp, Plain, Reg, ShiftOp};
+use mips_isa::{AluOp, Amount, HiLo, ImmOp, LogicOp, NonzeroReg, Plain, Reg, ShiftOp};
 use rtl::Op;
 use std::alloc::AllocError;
 use words::Sign;
@@ -281,6 +281,7 @@ fn turned_less_of(op: Op, rd: Reg, rt: Reg, known: Option<u32>) -> Option<Plain>
 fn emit_by_less(
     code: &mut Vec<Plain>,
     op: Op,
+    inner: NonzeroReg,
     rd: Reg,
     less: Option<Plain>,
     x: &Source,
@@ -288,7 +289,7 @@ fn emit_by_less(
 ) -> Result<(), AllocError>
     requires left { FitsSource x.now }
     requires right { FitsSource y.now }
-    ensures { Emits result code.old.items (code_by_less op rd less x.now y.now) code.new.items }
+    ensures { Emits result code.old.items (code_by_less op inner rd less x.now y.now) code.new.items }
 {
     if let Some(inst) = less {
         emit_fetch(code, register(2), y)?;
@@ -301,9 +302,9 @@ fn emit_by_less(
         })?;
         return Ok(());
     }
-    emit_fetch(code, register(1), x)?;
+    emit_fetch(code, inner, x)?;
     emit_fetch(code, register(2), y)?;
-    emit_operation(code, op, rd, seat(register(1), x), seat(register(2), y))?;
+    emit_operation(code, op, rd, seat(inner, x), seat(register(2), y))?;
     Ok(())
 }
 
@@ -311,6 +312,7 @@ fn emit_by_less(
 fn emit_by_word(
     code: &mut Vec<Plain>,
     op: Op,
+    inner: NonzeroReg,
     rd: Reg,
     left: Option<u32>,
     right: Option<u32>,
@@ -319,10 +321,10 @@ fn emit_by_word(
 ) -> Result<(), AllocError>
     requires left { FitsSource x.now }
     requires right { FitsSource y.now }
-    ensures { Emits result code.old.items (code_by_word op rd left right x.now y.now) code.new.items }
+    ensures { Emits result code.old.items (code_by_word op inner rd left right x.now y.now) code.new.items }
 {
-    if let Some(inst) = immediate_of(op, rd, seat(register(1), x), right) {
-        emit_fetch(code, register(1), x)?;
+    if let Some(inst) = immediate_of(op, rd, seat(inner, x), right) {
+        emit_fetch(code, inner, x)?;
         code.push(inst)?;
         return Ok(());
     }
@@ -332,14 +334,17 @@ fn emit_by_word(
         code.push(inst)?;
         return Ok(());
     }
-    emit_by_less(code, op, rd, turned_less_of(op, rd, rt, left), x, y)?;
+    let less = turned_less_of(op, rd, rt, left);
+    emit_by_less(code, op, inner, rd, less, x, y)?;
     Ok(())
 }
 
-/// An operator into a register, from operands and what is known of them; an Err is refused memory.
+/// An operator into a register, from operands and what is known of them, the left one by way of the inner temporary; an Err is
+/// refused memory.
 pub(crate) fn emit_op(
     code: &mut Vec<Plain>,
     op: Op,
+    inner: NonzeroReg,
     rd: Reg,
     left: Option<u32>,
     right: Option<u32>,
@@ -348,16 +353,16 @@ pub(crate) fn emit_op(
 ) -> Result<(), AllocError>
     requires left { FitsSource x.now }
     requires right { FitsSource y.now }
-    ensures { Emits result code.old.items (op_code op rd left right x.now y.now) code.new.items }
+    ensures { Emits result code.old.items (op_code op inner rd left right x.now y.now) code.new.items }
 {
     if let Some(m) = multiple_of(op, right) {
-        emit_multiple(code, rd, m, x)?;
+        emit_multiple(code, inner, rd, m, x)?;
         return Ok(());
     }
     if let Some(m) = multiple_of(op, left) {
-        emit_multiple(code, rd, m, y)?;
+        emit_multiple(code, inner, rd, m, y)?;
         return Ok(());
     }
-    emit_by_word(code, op, rd, left, right, x, y)?;
+    emit_by_word(code, op, inner, rd, left, right, x, y)?;
     Ok(())
 }

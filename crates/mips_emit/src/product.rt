@@ -7,10 +7,10 @@ ghost use Rattle.mips_emit.specs.Locations.{FitsSource};
 ghost use Rattle.mips_emit.specs.Code.{multiple, multiple_of, multiple_code, exponent};
 ghost use Rattle.mips_emit.specs.Left.{Emits};
 
-use crate::location::{Source, register};
+use crate::location::Source;
 use crate::operation::is_power;
 use crate::transfer::{emit_fetch, seat};
-use mips_isa::{AluOp, Amount, Plain, Reg, ShiftOp};
+use mips_isa::{AluOp, Amount, NonzeroReg, Plain, Reg, ShiftOp};
 use rtl::Op;
 use std::alloc::AllocError;
 
@@ -64,19 +64,20 @@ pub(crate) fn multiple_of(op: Op, known: Option<u32>) -> Option<ShiftedSum>
     }
 }
 
-/// Such a product of an operand into a register; an Err is refused memory.
+/// Such a product of an operand into a register, by way of another; an Err is refused memory.
 pub(crate) fn emit_multiple(
     code: &mut Vec<Plain>,
+    inner: NonzeroReg,
     rd: Reg,
     m: ShiftedSum,
     x: &Source,
 ) -> Result<(), AllocError>
     requires { FitsSource x.now }
-    ensures { Emits result code.old.items (multiple_code rd m x.now) code.new.items }
+    ensures { Emits result code.old.items (multiple_code inner rd m x.now) code.new.items }
 {
     let shifted = Reg::masked(2);
-    let operand = seat(register(1), x);
-    emit_fetch(code, register(1), x)?;
+    let operand = seat(inner, x);
+    emit_fetch(code, inner, x)?;
     code.push(Plain::Shift {
         op: ShiftOp::Sll,
         rd: shifted,

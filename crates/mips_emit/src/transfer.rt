@@ -8,7 +8,7 @@ ghost use Rattle.mips_emit.specs.Code.{fetch, seat, bring, stays, carry, into, f
 ghost use Rattle.mips_emit.specs.Left.{Emits};
 
 use crate::constant::{emit_li, emit_load_word, emit_move, emit_store_word};
-use crate::location::{Location, Source, register};
+use crate::location::{Location, Source, inner_of};
 use mips_isa::{NonzeroReg, Plain, Reg};
 use std::alloc::AllocError;
 
@@ -84,32 +84,30 @@ fn stays(t: NonzeroReg, x: &Source) -> bool
 }
 
 // The register into which a result is computed.
-pub(crate) fn into_of(t: NonzeroReg, place: Option<Location>) -> NonzeroReg
-    ensures { result ≡ into t place }
+pub(crate) fn into_of(place: Option<Location>) -> NonzeroReg
+    ensures { result ≡ into place }
 {
     match place {
-        None => t,
+        None => inner_of(None),
         Some(location) => match location {
             Location::Held(r) => r,
-            Location::InSlot(_) => t,
+            Location::InSlot(_) => inner_of(Some(location)),
         },
     }
 }
 
 // What stands behind a result.
-pub(crate) fn emit_finish(
-    code: &mut Vec<Plain>,
-    t: NonzeroReg,
-    place: Option<Location>,
-) -> Result<(), AllocError>
+pub(crate) fn emit_finish(code: &mut Vec<Plain>, place: Option<Location>) -> Result<(), AllocError>
     requires { FitsPlace place }
-    ensures { Emits result code.old.items (finish t place) code.new.items }
+    ensures { Emits result code.old.items (finish place) code.new.items }
 {
     match place {
         None => {}
         Some(location) => match location {
             Location::Held(_) => {}
-            Location::InSlot(k) => emit_store_word(code, t.reg(), 4 * k)?,
+            Location::InSlot(k) => {
+                emit_store_word(code, inner_of(Some(location)).reg(), 4 * k)?;
+            }
         },
     }
     Ok(())
@@ -130,8 +128,9 @@ pub(crate) fn emit_put(
         Some(location) => match location {
             Location::Held(r) => emit_bring(code, r, x)?,
             Location::InSlot(k) => {
-                emit_fetch(code, register(1), x)?;
-                emit_store_word(code, seat(register(1), x), 4 * k)?;
+                let inner = inner_of(Some(location));
+                emit_fetch(code, inner, x)?;
+                emit_store_word(code, seat(inner, x), 4 * k)?;
             }
         },
     }
