@@ -14,7 +14,7 @@ ghost use Rattle.mips_emit.specs.Left.{Emits};
 
 use crate::facts::{Knowledge, is_lasting, known_word, operand};
 use crate::location::{Location, Source, locate, register};
-use crate::operation::{emit_op, immediate_of};
+use crate::operation::{Operand, emit_op, immediate_of};
 use crate::transfer::{emit_fetch, seat};
 use mblock::{BlockNumber, Exit};
 use mips_homes::Frame;
@@ -148,6 +148,24 @@ fn opposite_op(op: Op) -> Op
     }
 }
 
+fn left_of(m: &Comparison) -> Operand
+    ensures { (result.known ≡ m.now.left) × (result.source ≡ m.now.x) }
+{
+    Operand {
+        known: m.left,
+        source: m.x,
+    }
+}
+
+fn right_of(m: &Comparison) -> Operand
+    ensures { (result.known ≡ m.now.right) × (result.source ≡ m.now.y) }
+{
+    Operand {
+        known: m.right,
+        source: m.y,
+    }
+}
+
 /// What stands before the branch; an Err is refused memory.
 pub(crate) fn emit_comparison(code: &mut Vec<Plain>, m: &Comparison) -> Result<(), AllocError>
     requires left { FitsSource m.now.x }
@@ -170,14 +188,11 @@ pub(crate) fn emit_comparison(code: &mut Vec<Plain>, m: &Comparison) -> Result<(
             emit_fetch(code, register(3), &m.y)?;
             code.push(Plain::nop())?;
         }
-        Form::ByResult => emit_op(code, m.op, inner, rd, m.left, m.right, &m.x, &m.y)?,
+        Form::ByResult => emit_op(code, m.op, inner, rd, &left_of(m), &right_of(m))?,
         Form::ByOpposite => {
-            let op = opposite_op(m.op);
-            emit_op(code, op, inner, rd, m.right, m.left, &m.y, &m.x)?;
+            emit_op(code, opposite_op(m.op), inner, rd, &right_of(m), &left_of(m))?;
         }
-        Form::InResult => {
-            emit_op(code, m.op, inner, Reg::RESULT, m.left, m.right, &m.x, &m.y)?;
-        }
+        Form::InResult => emit_op(code, m.op, inner, Reg::RESULT, &left_of(m), &right_of(m))?,
     }
     Ok(())
 }

@@ -9,7 +9,7 @@ ghost use Rattle.rtl.specs.Programs.{IsInst};
 ghost use Rattle.mips_emit.specs.declared.location.Location.TheVariants.{Held};
 ghost use Rattle.mips_emit.specs.Frames.{IsReachable};
 ghost use Rattle.mips_emit.specs.declared.comparison.Asked.TheVariants.{Nothing};
-ghost use Rattle.mips_emit.specs.Locations.{facts_of, locations, word_source, operand, known_after};
+ghost use Rattle.mips_emit.specs.Locations.{facts_of, known_in, locations, word_source, operand, known_after, FitsSource};
 ghost use Rattle.mips_emit.specs.Comparisons.{FitsComparison, next_code, last_after, no_last, code_of_insts};
 ghost use Rattle.mips_emit.specs.Elements.{AreStarts, width_of};
 ghost use Rattle.mips_emit.specs.Code.{const_code, put_at, bin_code, load_code, store_code, inst_code};
@@ -19,7 +19,7 @@ use crate::comparison::{Asked, Comparison, comparison_of, emit_comparison};
 use crate::element::{direct, element_load, element_store, emit_element};
 use crate::facts::{Knowledge, Last, fresh_of, is_lasting, known_word, last_with, learn, operand};
 use crate::location::{Location, inner_of, locate, register, word_source};
-use crate::operation::emit_op;
+use crate::operation::{Operand, emit_op};
 use crate::transfer::{emit_bring, emit_fetch, emit_finish, emit_put, into_of, seat};
 use mips_homes::Frame;
 use mips_isa::{NonzeroReg, Plain};
@@ -76,6 +76,19 @@ fn emit_move(
     Ok(())
 }
 
+// A pseudo-register as an operand, with what is known of it.
+fn operand_with(facts: &Knowledge, frame: &Frame, x: Register) -> Operand
+    requires { IsReachable frame.now }
+    ensures known { result.known ≡ known_in (facts_of facts.now) x }
+    ensures source { result.source ≡ operand (locations frame.now) (facts_of facts.now) x }
+    ensures fits { FitsSource result.source }
+{
+    Operand {
+        known: known_word(facts, x),
+        source: operand(facts, frame, x),
+    }
+}
+
 // An operator on pseudo-registers.
 fn emit_bin(
     code: &mut Vec<Plain>,
@@ -91,13 +104,11 @@ fn emit_bin(
         (bin_code (locations frame.now) (facts_of facts.now) op d a b)
         code.new.items }
 {
-    let left = known_word(facts, a);
-    let right = known_word(facts, b);
-    let x = operand(facts, frame, a);
-    let y = operand(facts, frame, b);
+    let x = operand_with(facts, frame, a);
+    let y = operand_with(facts, frame, b);
     let inner = inner_of(locate(frame, d));
     let rd = into_of(locate(frame, d)).reg();
-    emit_op(code, op, inner, rd, left, right, &x, &y)?;
+    emit_op(code, op, inner, rd, &x, &y)?;
     emit_finish(code, locate(frame, d))?;
     Ok(())
 }

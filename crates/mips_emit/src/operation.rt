@@ -308,61 +308,63 @@ fn emit_by_less(
     Ok(())
 }
 
+/// An operand with what is known of it.
+#[derive(Clone, Copy)]
+pub(crate) struct Operand {
+    pub(crate) known: Option<u32>,
+    pub(crate) source: Source,
+}
+
 // An operator into a register, by a word in its instruction if it can be.
 fn emit_by_word(
     code: &mut Vec<Plain>,
     op: Op,
     inner: NonzeroReg,
     rd: Reg,
-    left: Option<u32>,
-    right: Option<u32>,
-    x: &Source,
-    y: &Source,
+    x: &Operand,
+    y: &Operand,
 ) -> Result<(), AllocError>
-    requires left { FitsSource x.now }
-    requires right { FitsSource y.now }
-    ensures { Emits result code.old.items (code_by_word op inner rd left right x.now y.now) code.new.items }
+    requires left { FitsSource x.now.source }
+    requires right { FitsSource y.now.source }
+    ensures { Emits result code.old.items (code_by_word op inner rd x.now.known y.now.known x.now.source y.now.source) code.new.items }
 {
-    if let Some(inst) = immediate_of(op, rd, seat(inner, x), right) {
-        emit_fetch(code, inner, x)?;
+    if let Some(inst) = immediate_of(op, rd, seat(inner, &x.source), y.known) {
+        emit_fetch(code, inner, &x.source)?;
         code.push(inst)?;
         return Ok(());
     }
-    let rt = seat(register(2), y);
-    if let Some(inst) = turned_immediate_of(op, rd, rt, left) {
-        emit_fetch(code, register(2), y)?;
+    let rt = seat(register(2), &y.source);
+    if let Some(inst) = turned_immediate_of(op, rd, rt, x.known) {
+        emit_fetch(code, register(2), &y.source)?;
         code.push(inst)?;
         return Ok(());
     }
-    let less = turned_less_of(op, rd, rt, left);
-    emit_by_less(code, op, inner, rd, less, x, y)?;
+    let less = turned_less_of(op, rd, rt, x.known);
+    emit_by_less(code, op, inner, rd, less, &x.source, &y.source)?;
     Ok(())
 }
 
-/// An operator into a register, from operands and what is known of them, the left one by way of the inner temporary; an Err is
-/// refused memory.
+/// An operator into a register, the left operand by way of the inner temporary; an Err is refused memory.
 pub(crate) fn emit_op(
     code: &mut Vec<Plain>,
     op: Op,
     inner: NonzeroReg,
     rd: Reg,
-    left: Option<u32>,
-    right: Option<u32>,
-    x: &Source,
-    y: &Source,
+    x: &Operand,
+    y: &Operand,
 ) -> Result<(), AllocError>
-    requires left { FitsSource x.now }
-    requires right { FitsSource y.now }
-    ensures { Emits result code.old.items (op_code op inner rd left right x.now y.now) code.new.items }
+    requires left { FitsSource x.now.source }
+    requires right { FitsSource y.now.source }
+    ensures { Emits result code.old.items (op_code op inner rd x.now.known y.now.known x.now.source y.now.source) code.new.items }
 {
-    if let Some(m) = multiple_of(op, right) {
-        emit_multiple(code, inner, rd, m, x)?;
+    if let Some(m) = multiple_of(op, y.known) {
+        emit_multiple(code, inner, rd, m, &x.source)?;
         return Ok(());
     }
-    if let Some(m) = multiple_of(op, left) {
-        emit_multiple(code, inner, rd, m, y)?;
+    if let Some(m) = multiple_of(op, x.known) {
+        emit_multiple(code, inner, rd, m, &y.source)?;
         return Ok(());
     }
-    emit_by_word(code, op, inner, rd, left, right, x, y)?;
+    emit_by_word(code, op, inner, rd, x, y)?;
     Ok(())
 }
