@@ -17,13 +17,13 @@ use crate::prologue::emit_prologue;
 use mblock::{BlockNumber, Exit};
 use mips_emit::emit_constant;
 use mips_homes::Frame;
-use mips_isa::{AluOp, Plain, Reg};
+use mips_isa::{AluOp, DATA_BASE, Plain, Reg};
 use mips_split::LongBlock;
 use rtl::{RBlock, RFunc};
 use std::alloc::{AllocError, Global};
 
 // What register 28 always holds: the middle of the first 65,536 bytes of data.
-const DATA_MIDDLE: u32 = 0x1000_8000;
+const DATA_MIDDLE: u32 = DATA_BASE + 32_768;
 
 // The blocks for some blocks, the first of which has the number `first`.
 fn emit_blocks(

@@ -7,6 +7,7 @@ ghost use Rattle.rtl.specs.declared.block.RFunc.{RFunc};
 ghost use Rattle.rtl.specs.declared.limits.TheConstants.{MAX_BLOCKS};
 ghost use Rattle.mips_select.specs.Heads.{heads_in};
 ghost use Rattle.mips_select.specs.Whole.{size_of_blocks, numbers, function_size, functions_size, entries_from, owners_for};
+ghost use Rattle.mips_select.specs.Whole.{numbers_in, numbers_from};
 
 use crate::heads::{Naming, all_namings, count_of, lead_in};
 use mblock::{BlockNumber, UNIT_BLOCKS};
@@ -137,4 +138,44 @@ pub(crate) fn number_functions(alloc: Global, functions: &[RFunc]) -> Result<Num
         k += size;
     }
     Ok(Numbers { entries, owners })
+}
+
+// The numbers of a function's blocks behind others, that of its first one being k, and how many blocks stand for it.
+fn push_numbers(
+    alloc: Global,
+    out: &mut Vec<BlockNumber>,
+    k: usize,
+    func: &RFunc,
+) -> Result<usize, AllocError>
+    requires few { length func.now.blocks.items ≤ MAX_BLOCKS }
+    requires number { k + function_size func.now ≤ UNIT_BLOCKS }
+    ensures numbers { OnOk result (out.new.items ≡ out.old.items ++ numbers_in k func.now.blocks.items) }
+    ensures size { IfOk result (λ n. n ≡ function_size func.now) }
+{
+    let blocks = func.blocks.as_slice();
+    let namings = all_namings(alloc, blocks)?;
+    let table = namings.as_slice();
+    let lead = lead_in(table);
+    let numbers = number_blocks(alloc, table, k + lead, blocks)?;
+    out.extend_from_slice(numbers.as_slice())?;
+    let size = count_blocks(table, blocks);
+    Ok(lead + size)
+}
+
+// The numbers of the blocks of functions, from 2 on, one function behind another.
+pub(crate) fn number_each(
+    alloc: Global,
+    functions: &[RFunc],
+) -> Result<Vec<BlockNumber>, AllocError>
+    requires few { (g : ℕ) (func : RFunc) → slice_get functions.now g ≡ Some func → length func.blocks.items ≤ MAX_BLOCKS }
+    requires number { 2 + functions_size functions.now ≤ UNIT_BLOCKS }
+    ensures { IfOk result (λ ns. ns.items ≡ numbers_from 2 functions.now) }
+{
+    let mut numbers = Vec::new(alloc);
+    let mut k: usize = 2;
+    for func in functions {
+        let size = push_numbers(alloc, &mut numbers, k, func)?;
+        k += size;
+    }
+    Ok(numbers)
 }

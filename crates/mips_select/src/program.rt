@@ -1,19 +1,19 @@
 // Programs to units.
 
-ghost use Rattle.std.specs.Prelude.{◌≡◌, ◌+◌, ◌≤◌, IfOk, IfErr};
+ghost use Rattle.std.specs.Prelude.{◌≡◌, ℕ, ◌+◌, ◌<◌, ◌≤◌, length, IfOk, IfErr};
 ghost use Rattle.mblock.specs.declared.limits.TheConstants.{UNIT_BLOCKS};
 ghost use Rattle.mips_homes.specs.Places.{ArePlaced};
 ghost use Rattle.mips_select.specs.Data.{data_bytes};
 ghost use Rattle.mips_select.specs.Emittable.{AreReachable};
 ghost use Rattle.mips_select.specs.Limits.{FramesFit};
-ghost use Rattle.mips_select.specs.Whole.{functions_size, entries_from, program_blocks};
+ghost use Rattle.mips_select.specs.Whole.{functions_size, entries_from, owners_for, program_blocks, unit_for};
 ghost use Rattle.mips_select.specs.Laws.{KeepsRuns, IsSelected, IsBeyond};
 
 use crate::code::push_block;
 use crate::functions::{emit_functions, end_block, start_block};
 use crate::globals::{globals_bytes, globals_starts};
 use crate::limits::have_room;
-use crate::numbers::{number_at, number_functions};
+use crate::numbers::{Numbers, number_at, number_functions};
 use crate::plan::Linkage;
 use mblock::{BlockNumber, Unit};
 use mips_homes::{Homed, place};
@@ -52,6 +52,63 @@ fn emit_program(
     Ok(out)
 }
 
+// The homes of a program, if each frame is within reach and `depth` of the largest ones have room.
+pub(crate) fn homes_with_room<'a>(
+    alloc: Global,
+    rtl: &'a Rtl,
+    depth: u32,
+) -> Result<Homed<'a>, SelectFault>
+    ensures lent { IfOk result (λ h. h.rtl.now ≡ rtl.now) }
+    ensures places { IfOk result (λ h. ArePlaced h) }
+    ensures frames { IfOk result (λ h. AreReachable h.frames.items) }
+    ensures within { IfOk result (λ _. FramesFit rtl.now depth) }
+    ensures limit { IfErr result (λ e. e ≡ SelectFault.Limit → (FramesFit rtl.now depth → IsBeyond rtl.now)) }
+{
+    let homed = place(alloc, rtl)?;
+    if !have_room(homed.frames.as_slice(), depth) {
+        return Err(SelectFault::Limit);
+    }
+    Ok(homed)
+}
+
+// The blocks for a program, of any length, and the first block of each one's function.
+#[derive(Drop)]
+pub(crate) struct LongUnit {
+    pub(crate) blocks: Vec<LongBlock>,
+    pub(crate) owners: Vec<BlockNumber>,
+}
+
+// Those over homes.
+pub(crate) fn long_unit(alloc: Global, homed: &Homed) -> Result<LongUnit, SelectFault>
+    requires places { ArePlaced homed.now }
+    requires frames { AreReachable homed.now.frames.items }
+    ensures blocks { IfOk result (λ l. l.blocks.items ≡ program_blocks homed.now) }
+    ensures owners { IfOk result (λ l. l.owners.items ≡ owners_for (homed.now.rtl.now).functions) }
+    ensures few { IfOk result (λ _. 2 + functions_size (homed.now.rtl.now).functions ≤ UNIT_BLOCKS) }
+    ensures limit { IfErr result (λ e. e ≡ SelectFault.Limit → UNIT_BLOCKS < length (unit_for homed.now).blocks) }
+{
+    let numbers = number_functions(alloc, homed.rtl.functions())?;
+    let blocks = emit_program(alloc, homed, numbers.entries.as_slice())?;
+    let Numbers { owners, .. } = numbers;
+    Ok(LongUnit { blocks, owners })
+}
+
+// The unit over homes, of its long blocks.
+pub(crate) fn unit_of(alloc: Global, homed: &Homed, long: &LongUnit) -> Result<Unit, SelectFault>
+    requires places { ArePlaced homed.now }
+    requires blocks { long.now.blocks.items ≡ program_blocks homed.now }
+    requires owners { long.now.owners.items ≡ owners_for (homed.now.rtl.now).functions }
+    ensures unit { IfOk result (λ u. u ≡ unit_for homed.now) }
+    ensures runs { IfOk result (λ u. (depth : ℕ) → FramesFit homed.now.rtl.now depth → KeepsRuns homed.now.rtl.now depth u) }
+    ensures limit { IfErr result (λ e. e ≡ SelectFault.Limit → UNIT_BLOCKS < length (unit_for homed.now).blocks) }
+{
+    let bytes = globals_bytes(alloc, homed.rtl.globals())?;
+    let blocks = long.blocks.as_slice();
+    let owners = long.owners.as_slice();
+    let unit = split_unit(alloc, blocks, owners, bytes)?;
+    Ok(unit)
+}
+
 /// The unit of a program, whose stack holds `depth` activations: wherever the program isn't wrong, the unit comes to the same
 /// end and output. Its data are the globals' bytes, each global at a multiple of 4. Limit where a frame would have more than 32,000 bytes,
 /// `depth` of the largest frames more than 16 MiB, or the unit more than 1,048,576 blocks.
@@ -62,14 +119,8 @@ pub fn select(alloc: Global, rtl: &Rtl, depth: u32) -> Result<Unit, SelectFault>
     ensures within { IfOk result (λ _. FramesFit rtl.now depth) }
     ensures limit { IfErr result (λ e. e ≡ SelectFault.Limit → (FramesFit rtl.now depth → IsBeyond rtl.now)) }
 {
-    let homed = place(alloc, rtl)?;
-    if !have_room(homed.frames.as_slice(), depth) {
-        return Err(SelectFault::Limit);
-    }
-    let bytes = globals_bytes(alloc, rtl.globals())?;
-    let numbers = number_functions(alloc, rtl.functions())?;
-    let blocks = emit_program(alloc, &homed, numbers.entries.as_slice())?;
-    let owners = numbers.owners.as_slice();
-    let unit = split_unit(alloc, blocks.as_slice(), owners, bytes)?;
+    let homed = homes_with_room(alloc, rtl, depth)?;
+    let long = long_unit(alloc, &homed)?;
+    let unit = unit_of(alloc, &homed, &long)?;
     Ok(unit)
 }
