@@ -4,17 +4,14 @@ use Rattle.std.proofs.Common.{ap₂, ◌∙◌, subst, arith}
 use Rattle.std.specs.Prelude.{All, IsTrue, map, slice_get, slice_index, sum_by}
 use Rattle.std.proofs.lemmas.List.Sums.{sum_by-cons}
 use Rattle.std.proofs.lemmas.Option.{same_Some, none-some}
-use Rattle.mips_isa.specs.Starting.{start_state}
 use Rattle.mblock.specs.declared.limits.TheConstants.{UNIT_BLOCKS, UNIT_BYTES, BLOCK_INSTS}
 use Rattle.mblock.specs.Parts.{BlockParts}
-use Rattle.mblock.specs.UnitRuns.{ComesTo}
 use Rattle.mblock.specs.Units.{UnitParts, unit_parts, AreLinked, AreOwners}
 use Rattle.rtl.specs.declared.instruction.RExit.{RExit}
 use Rattle.rtl.specs.declared.instruction.RExit.TheVariants.{Goto, Branch, Call, Return, Out}
 use Rattle.rtl.specs.declared.block.RFunc.{RFunc}
 use Rattle.rtl.specs.declared.block.RGlobal.{RGlobal}
 use Rattle.rtl.specs.declared.limits.TheConstants.{MAX_BLOCKS}
-use Rattle.rtl.specs.Meaning.{rtl_run}
 use Rattle.rtl.specs.Programs.{Program, IsExit, IsBlock, IsFunction, IsProgram, block_count}
 use Rattle.mips_homes.specs.declared.homed.Frame.{Frame}
 use Rattle.mips_homes.specs.declared.homed.Homed.{Homed}
@@ -126,11 +123,11 @@ pub many_cut : (h : Homed) (blocks blocks' : List BlockParts) → blocks ≡ pro
     → UNIT_BLOCKS < length (unit_for h).blocks
 many_cut h blocks blocks' is is' many = subst (λ bs. UNIT_BLOCKS < length (split_blocks bs)) (is' ∙ is) many
 
-pub many_counted : (h : Homed) (blocks blocks' : List BlockParts) → blocks ≡ program_blocks h → blocks' ≡ blocks → UNIT_BLOCKS < total BLOCK_INSTS blocks'
+pub many_counted : (h : Homed) (blocks : List BlockParts) → blocks ≡ program_blocks h → UNIT_BLOCKS < total BLOCK_INSTS blocks
     → UNIT_BLOCKS < length (unit_for h).blocks
-many_counted h blocks blocks' is is' many =
+many_counted h blocks is many =
     let pieces = length-split_from BLOCK_INSTS (place_of BLOCK_INSTS (program_blocks h)) 0 (program_blocks h) in
-    let same = ap (total BLOCK_INSTS) (is' ∙ is) in
+    let same = ap (total BLOCK_INSTS) is in
     omega (arith, pieces, same, many)
 
 pub beyond : (h : Homed) (p : Program) → h.rtl.now ≡ p → ArePlaced h → UNIT_BLOCKS < length (unit_for h).blocks → IsBeyond p
@@ -171,19 +168,19 @@ selected h p u lent ok is = record { homed = h; lent = lent; places = ok; unit =
 
 -- ---- the numbers of its blocks
 
-pub numbers_found : (long : List BlockParts) (funcs : List RFunc) (pieces table numbers numbers' found : List ℕ) → pieces ≡ firsts BLOCK_INSTS 0 long
-    → table ≡ pieces → numbers ≡ numbers_from 2 funcs → numbers' ≡ numbers → found ≡ map (slice_index table) numbers'
+pub numbers_found : (long long' : List BlockParts) (funcs : List RFunc) (pieces table numbers numbers' found : List ℕ) → long' ≡ long
+    → pieces ≡ firsts BLOCK_INSTS 0 long' → table ≡ pieces → numbers ≡ numbers_from 2 funcs → numbers' ≡ numbers → found ≡ map (slice_index table) numbers'
     → found ≡ map (place_of BLOCK_INSTS long) (numbers_from 2 funcs)
-numbers_found long funcs pieces table numbers numbers' found p_is t_is n_is n_is' is =
-    is ∙ ap (λ (t : List ℕ). map (slice_index t) numbers') (t_is ∙ p_is) ∙ ap (map (place_of BLOCK_INSTS long)) (n_is' ∙ n_is)
+numbers_found long long' funcs pieces table numbers numbers' found l_is p_is t_is n_is n_is' is =
+    is ∙ ap (λ (t : List ℕ). map (slice_index t) numbers') (t_is ∙ p_is ∙ ap (firsts BLOCK_INSTS 0) l_is) ∙ ap (map (place_of BLOCK_INSTS long)) (n_is' ∙ n_is)
 
-pub numbered : (h : Homed) (p : Program) (u : UnitParts) (blocks blocks' : List BlockParts) (funcs : List RFunc) (numbers : List ℕ) → h.rtl.now ≡ p
-    → ArePlaced h → u ≡ unit_for h → blocks ≡ program_blocks h → blocks' ≡ blocks → funcs ≡ (h.rtl.now).functions
-    → numbers ≡ map (place_of BLOCK_INSTS blocks') (numbers_from 2 funcs) → IsNumbered p u numbers
+pub numbered : (h : Homed) (p : Program) (u : UnitParts) (blocks : List BlockParts) (funcs : List RFunc) (numbers : List ℕ) → h.rtl.now ≡ p
+    → ArePlaced h → u ≡ unit_for h → blocks ≡ program_blocks h → funcs ≡ (h.rtl.now).functions
+    → numbers ≡ map (place_of BLOCK_INSTS blocks) (numbers_from 2 funcs) → IsNumbered p u numbers
 unfolding selected
-numbered h p u blocks blocks' funcs numbers lent ok u_is is is' f_is n_is = record {
+numbered h p u blocks funcs numbers lent ok u_is is f_is n_is = record {
   selected = selected h p u lent ok u_is;
-  begin = n_is ∙ ap (λ bs. map (place_of BLOCK_INSTS bs) (numbers_from 2 funcs)) (is' ∙ is)
+  begin = n_is ∙ ap (λ bs. map (place_of BLOCK_INSTS bs) (numbers_from 2 funcs)) is
       ∙ ap (λ fs. map (place_of BLOCK_INSTS (program_blocks h)) (numbers_from 2 fs)) f_is;
 }
 

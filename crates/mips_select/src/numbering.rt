@@ -5,14 +5,15 @@ ghost use Rattle.mblock.specs.declared.limits.TheConstants.{BLOCK_INSTS, UNIT_BL
 ghost use Rattle.rtl.specs.declared.block.RFunc.{RFunc};
 ghost use Rattle.rtl.specs.declared.limits.TheConstants.{MAX_BLOCKS};
 ghost use Rattle.mips_split.specs.Split.{total, place_of};
+ghost use Rattle.mips_select.specs.Heads.{AreNamed};
 ghost use Rattle.mips_select.specs.Limits.{FramesFit};
 ghost use Rattle.mips_select.specs.Whole.{functions_size, numbers_from};
 ghost use Rattle.mips_select.specs.Laws.{IsNumbered, IsBeyond};
 
 use crate::numbers::{number_at, number_each};
-use crate::program::{homes_with_room, long_unit, unit_of};
+use crate::program::{LongUnit, homes_with_room, long_unit, unit_of};
 use mblock::{BlockNumber, Unit};
-use mips_split::{LongBlock, SelectFault, first_pieces};
+use mips_split::{SelectFault, first_pieces};
 use rtl::{RFunc, Rtl};
 use std::alloc::{AllocError, Global};
 
@@ -41,16 +42,19 @@ fn all_at(
 // Where the blocks of functions begin, of these blocks of any length: at their first pieces.
 fn block_numbers(
     alloc: Global,
-    long: &[LongBlock],
+    long: &LongUnit,
     functions: &[RFunc],
 ) -> Result<Vec<BlockNumber>, SelectFault>
+    requires named { AreNamed long.now.namings.items functions.now }
     requires small { (g : ℕ) (func : RFunc) → slice_get functions.now g ≡ Some func → length func.blocks.items ≤ MAX_BLOCKS }
     requires number { 2 + functions_size functions.now ≤ UNIT_BLOCKS }
-    ensures numbers { IfOk result (λ ns. ns.items ≡ map (place_of BLOCK_INSTS long.now) (numbers_from 2 functions.now)) }
-    ensures limit { IfErr result (λ e. e ≡ SelectFault.Limit → UNIT_BLOCKS < total BLOCK_INSTS long.now) }
+    ensures numbers { IfOk result (λ ns. ns.items ≡ map (place_of BLOCK_INSTS long.now.blocks.items) (numbers_from 2 functions.now)) }
+    ensures limit { IfErr result (λ e. e ≡ SelectFault.Limit → UNIT_BLOCKS < total BLOCK_INSTS long.now.blocks.items) }
 {
-    let pieces = first_pieces(alloc, long)?;
-    let numbers = number_each(alloc, functions)?;
+    let blocks = long.blocks.as_slice();
+    let pieces = first_pieces(alloc, blocks)?;
+    let namings = long.namings.as_slice();
+    let numbers = number_each(alloc, namings, functions)?;
     let found = all_at(alloc, pieces.as_slice(), numbers.as_slice())?;
     Ok(found)
 }
@@ -64,6 +68,6 @@ pub fn select_numbered(alloc: Global, rtl: &Rtl, depth: u32) -> Result<Numbered,
     let homed = homes_with_room(alloc, rtl, depth)?;
     let long = long_unit(alloc, &homed)?;
     let unit = unit_of(alloc, &homed, &long)?;
-    let numbers = block_numbers(alloc, long.blocks.as_slice(), homed.rtl.functions())?;
+    let numbers = block_numbers(alloc, &long, homed.rtl.functions())?;
     Ok(Numbered { unit, numbers })
 }

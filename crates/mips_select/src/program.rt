@@ -5,6 +5,7 @@ ghost use Rattle.mblock.specs.declared.limits.TheConstants.{UNIT_BLOCKS};
 ghost use Rattle.mips_homes.specs.Places.{ArePlaced};
 ghost use Rattle.mips_select.specs.Data.{data_bytes};
 ghost use Rattle.mips_select.specs.Emittable.{AreReachable};
+ghost use Rattle.mips_select.specs.Heads.{AreNamed};
 ghost use Rattle.mips_select.specs.Limits.{FramesFit};
 ghost use Rattle.mips_select.specs.Whole.{functions_size, entries_from, owners_for, program_blocks, unit_for};
 ghost use Rattle.mips_select.specs.Laws.{KeepsRuns, IsSelected, IsBeyond};
@@ -12,6 +13,7 @@ ghost use Rattle.mips_select.specs.Laws.{KeepsRuns, IsSelected, IsBeyond};
 use crate::code::push_block;
 use crate::functions::{emit_functions, end_block, start_block};
 use crate::globals::{globals_bytes, globals_starts};
+use crate::heads::Naming;
 use crate::limits::have_room;
 use crate::numbers::{Numbers, number_at, number_functions};
 use crate::plan::Linkage;
@@ -21,15 +23,17 @@ use mips_split::{LongBlock, SelectFault, split_unit};
 use rtl::Rtl;
 use std::alloc::{AllocError, Global};
 
-// The blocks for a program, of any length, where functions begin at `entries`.
+// The blocks for a program, of any length. Its functions begin at `entries`, and their blocks are named as in `namings`.
 fn emit_program(
     alloc: Global,
     homed: &Homed,
     entries: &[BlockNumber],
+    namings: &[Vec<Naming>],
 ) -> Result<Vec<LongBlock>, AllocError>
     requires choices { ArePlaced homed.now }
     requires frames { AreReachable homed.now.frames.items }
     requires entries { entries.now ≡ entries_from 2 (homed.now.rtl.now).functions }
+    requires named { AreNamed namings.now (homed.now.rtl.now).functions }
     requires number { 2 + functions_size (homed.now.rtl.now).functions ≤ UNIT_BLOCKS }
     ensures { IfOk result (λ blocks. blocks.items ≡ program_blocks homed.now) }
 {
@@ -48,7 +52,7 @@ fn emit_program(
     let mut out = Vec::new(alloc);
     push_block(&mut out, first)?;
     push_block(&mut out, second)?;
-    emit_functions(alloc, &mut out, &linkage, functions, frames)?;
+    emit_functions(alloc, &mut out, &linkage, namings, functions, frames)?;
     Ok(out)
 }
 
@@ -71,11 +75,12 @@ pub(crate) fn homes_with_room<'a>(
     Ok(homed)
 }
 
-// The blocks for a program, of any length, and the first block of each one's function.
+// The blocks for a program, of any length, the first block of each one's function, and how the program's blocks are named.
 #[derive(Drop)]
 pub(crate) struct LongUnit {
     pub(crate) blocks: Vec<LongBlock>,
     pub(crate) owners: Vec<BlockNumber>,
+    pub(crate) namings: Vec<Vec<Naming>>,
 }
 
 // Those over homes.
@@ -84,13 +89,23 @@ pub(crate) fn long_unit(alloc: Global, homed: &Homed) -> Result<LongUnit, Select
     requires frames { AreReachable homed.now.frames.items }
     ensures blocks { IfOk result (λ l. l.blocks.items ≡ program_blocks homed.now) }
     ensures owners { IfOk result (λ l. l.owners.items ≡ owners_for (homed.now.rtl.now).functions) }
+    ensures namings { IfOk result (λ l. AreNamed l.namings.items (homed.now.rtl.now).functions) }
     ensures few { IfOk result (λ _. 2 + functions_size (homed.now.rtl.now).functions ≤ UNIT_BLOCKS) }
     ensures limit { IfErr result (λ e. e ≡ SelectFault.Limit → UNIT_BLOCKS < length (unit_for homed.now).blocks) }
 {
     let numbers = number_functions(alloc, homed.rtl.functions())?;
-    let blocks = emit_program(alloc, homed, numbers.entries.as_slice())?;
-    let Numbers { owners, .. } = numbers;
-    Ok(LongUnit { blocks, owners })
+    let entries = numbers.entries.as_slice();
+    let blocks = emit_program(alloc, homed, entries, numbers.namings.as_slice())?;
+    let Numbers {
+        owners,
+        namings,
+        ..
+    } = numbers;
+    Ok(LongUnit {
+        blocks,
+        owners,
+        namings,
+    })
 }
 
 // The unit over homes, of its long blocks.

@@ -29,8 +29,8 @@ pub returns-in_err-numbers-clause-limit : goal.returns-in_err-numbers-clause-lim
 returns-in_err-numbers-clause-limit c =
     let p = err_from_is_err_and c.from_residual-in_err-numbers.result c.from_residual-in_err-numbers.ensures.1 in
     rw (p.1, p.2) (λ e fit. beyond c.in_ok-homed.homed c.args.rtl.now c.in_ok-homed.ensures.lent c.in_ok-homed.ensures.places
-    (many_counted c.in_ok-homed.homed _ _ c.in_ok-long.ensures.blocks c.as_slice.ensures.value (c.in_err-numbers.ensures.limit e)))
+    (many_counted c.in_ok-homed.homed _ c.in_ok-long.ensures.blocks (c.in_err-numbers.ensures.limit e)))
 
 pub returns-clause-numbered : goal.returns-clause-numbered
-returns-clause-numbered c = numbered c.in_ok-homed.homed c.args.rtl.now _ _ _ _ _ c.in_ok-homed.ensures.lent c.in_ok-homed.ensures.places
-    c.in_ok-unit.ensures.unit c.in_ok-long.ensures.blocks c.as_slice.ensures.value c.functions.ensures.value c.in_ok-numbers.ensures.numbers
+returns-clause-numbered c = numbered c.in_ok-homed.homed c.args.rtl.now _ _ _ _ c.in_ok-homed.ensures.lent c.in_ok-homed.ensures.places
+    c.in_ok-unit.ensures.unit c.in_ok-long.ensures.blocks c.functions.ensures.value c.in_ok-numbers.ensures.numbers
