@@ -7,7 +7,7 @@ use rtl::{RBlock, RExit};
 use std::alloc::AllocError;
 
 /// What an edge is for: where a branch's condition holds, where it doesn't, and all others.
-#[derive(Clone, Copy, PartialEq, Eq, Debug)]
+#[derive(Clone, Copy)]
 enum Way {
     Taken,
     Falls,

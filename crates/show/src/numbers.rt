@@ -5,7 +5,7 @@ use rtl::RFunc;
 use std::alloc::{AllocError, Global};
 
 /// The blocks of one function among all: from this number up to this one, which isn't one of them.
-#[derive(Clone, Copy, Debug)]
+#[derive(Clone, Copy)]
 pub(crate) struct Range {
     pub(crate) from: usize,
     pub(crate) to: usize,
