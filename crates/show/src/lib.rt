@@ -9,7 +9,7 @@
 //! What is promised:
 //! - `show::show` answers in bytes that steer no terminal: lines of printable ASCII (`IsShown` of block_text). Its faults are a
 //!   stage or a function that isn't there, a `Limit` of the listing, and refused memory. Nothing else is stated of the text.
-//! - Only tested (tests/show): each stage of three programs, and graphs.
+//! - Only tested (tests/show): each stage of three programs, graphs, and the numbers behind a block of 512 instructions.
 #![tactic(auto)]
 
 mod blocks;
