@@ -13,8 +13,7 @@ use crate::reasons::{page, tell_page};
 use c_front::read;
 use c_tree::{Declaration, Program};
 use commands::{Complaints, FileCommand, HostFault, Output, tell};
-use mblock::Unit;
-use mips_select::{SelectFault, select};
+use mips_select::{Numbered, SelectFault, select_numbered};
 use rtl::Rtl;
 use rtl_lower::{LowerFault, lower};
 use show::{Asked, ShowFault, Shown, show};
@@ -63,12 +62,12 @@ fn rtl_of(alloc: Global, text: &[u8]) -> Result<Rtl, BuildFault>
     }
 }
 
-/// The blocks of a program, of which one call is active at most: nothing is run.
-fn blocks_of(alloc: Global, rtl: &Rtl) -> Result<Unit, BuildFault>
+/// The numbered blocks of a program, of which one call is active at most: nothing is run.
+fn blocks_of(alloc: Global, rtl: &Rtl) -> Result<Numbered, BuildFault>
     ensures { IfErr result (λ e. (e ≡ BuildFault.Limit Limit.Selection) ⊎ (e ≡ BuildFault.NoMemory)) }
 {
-    match select(alloc, rtl, 1) {
-        Ok(unit) => Ok(unit),
+    match select_numbered(alloc, rtl, 1) {
+        Ok(numbered) => Ok(numbered),
         Err(SelectFault::Limit) => Err(BuildFault::Limit(Limit::Selection)),
         Err(SelectFault::NoMemory) => Err(BuildFault::NoMemory),
     }
@@ -79,14 +78,22 @@ fn shown_of(
     alloc: Global,
     text: &[u8],
     rtl: &Rtl,
-    unit: &Unit,
+    numbered: &Numbered,
     asked: &Asked<'_>,
 ) -> Result<Vec<u8>, StagesFault>
     requires { IsFaultless text.now }
     ensures shown { IfOk result (λ page. All IsShown page.items) }
     ensures fault { IfErr result (IsStagesFault text.now) }
 {
-    match show(alloc, Shown { text, rtl, unit }, asked) {
+    let unit = &numbered.unit;
+    let numbers = numbered.numbers.as_slice();
+    let shown = Shown {
+        text,
+        rtl,
+        unit,
+        numbers,
+    };
+    match show(alloc, shown, asked) {
         Ok(page) => Ok(page),
         Err(ShowFault::NoStage) => Err(StagesFault::NoStage),
         Err(ShowFault::NoFunction) => Err(StagesFault::NoFunction),
@@ -106,7 +113,7 @@ pub fn stages(alloc: Global, text: &[u8], asked: &Asked<'_>) -> Result<Vec<u8>, 
         Err(fault) => return Err(StagesFault::Build(fault)),
     };
     match blocks_of(alloc, &rtl) {
-        Ok(unit) => shown_of(alloc, text, &rtl, &unit, asked),
+        Ok(numbered) => shown_of(alloc, text, &rtl, &numbered, asked),
         Err(fault) => Err(StagesFault::Build(fault)),
     }
 }

@@ -1,8 +1,10 @@
 -- Loops over blocks.
 use Rattle.std.proofs.Common.{◌≡◌, ℕ, zero, suc, ◌+◌, ◌<◌, ◌≤◌, Bool, List, [], ◌∷◌, ◌++◌, drop, get_or, length, length-append, refl, sym, ap, ap₂, ◌∙◌, arith}
 use Rattle.std.specs.Prelude.{Some, slice_get, slice_index}
-use Rattle.std.proofs.lemmas.List.{append_assoc, at_drop_more}
-use Rattle.std.proofs.lemmas.Option.{slice_get_read}
+use Rattle.std.proofs.lemmas.List.{append_assoc, at_drop_more, length-map}
+use Rattle.std.proofs.lemmas.Option.{same_Some, none-some, slice_get_read}
+use Rattle.std.specs.declared.alloc.Global.{Global}
+use Rattle.std.specs.declared.vec.Vec.{Vec}
 use Rattle.mblock.specs.Parts.{BlockParts}
 use Rattle.rtl.specs.declared.block.RFunc.{RFunc}
 use Rattle.rtl.specs.declared.block.RGlobal.{RGlobal}
@@ -11,10 +13,10 @@ use Rattle.rtl.specs.declared.block.RBlock.{RBlock}
 use Rattle.mips_select.specs.declared.heads.Naming.{Naming}
 use Rattle.mips_select.specs.declared.heads.Naming.TheVariants.{Unnamed}
 use Rattle.mips_select.specs.declared.heads.Head.{Head}
-use Rattle.mips_select.specs.Heads.{is_leaf, namings, unnamed, heads_in, heads_of, count, lead_in}
+use Rattle.mips_select.specs.Heads.{is_leaf, unnamed, namings_of, AreNamed, heads_in, heads_of, count, lead_in}
 use Rattle.mips_select.specs.Code.{head_code, own_block}
 use Rattle.mips_select.specs.Whole.{size_of_blocks, numbers, next_of, behind, blocks_from, place_in, lead_blocks, function_blocks, function_size}
-use Rattle.mips_select.specs.Whole.{functions_size, functions_blocks}
+use Rattle.mips_select.specs.Whole.{functions_size, numbers_in, numbers_from, functions_blocks}
 use Rattle.mips_select.proofs.Linked.{function_length}
 
 -- one more block that nothing names
@@ -66,18 +68,30 @@ blocks_step globals starts entry place leaf heads f n k c i bound blocks b out o
           ∙ before.1,
     )
 
+-- the table of a function
+pub named_long : (tables : List (Vec Naming Global)) (funcs : List RFunc) → AreNamed tables funcs → length tables ≡ length funcs
+named_long tables funcs named = sym (length-map tables (λ (t : Vec Naming Global). t.items)) ∙ ap length named ∙ length-map funcs namings_of
+
+pub named_at : (tables : List (Vec Naming Global)) (funcs : List RFunc) (g : ℕ) (func : RFunc) (table : Vec Naming Global) → AreNamed tables funcs
+    → slice_get funcs g ≡ Some func → slice_get tables g ≡ Some table → table.items ≡ namings_of func
+named_at [] funcs g func table named there at = absurd (none-some table at)
+named_at (t ∷ tables) [] g func table named there at = absurd (none-some func there)
+named_at (t ∷ tables) (x ∷ funcs) zero func table named there at =
+    ap (λ (t : Vec Naming Global). t.items) (sym (same_Some t table at)) ∙ ap (λ l. get_or l 0 []) named ∙ ap namings_of (same_Some x func there)
+named_at (t ∷ tables) (x ∷ funcs) (suc g) func table named there at = named_at tables funcs g func table (ap (drop 1) named) there at
+
 -- a function, from the parts of what was made
 pub function_made : (globals : List RGlobal) (starts entry : ℕ → ℕ) (k : ℕ) (func : RFunc) (f : Frame) (leaf : Bool) (blocks : List RBlock)
-    (table table' : List Naming) (places numbers' : List ℕ) (m first : ℕ) (head : Head) (out out1 out2 : List BlockParts)
-    → blocks ≡ func.blocks.items → leaf ≡ is_leaf blocks → table ≡ namings blocks (unnamed blocks) → table' ≡ table → first ≡ lead_in (heads_in table')
+    (table' : List Naming) (places numbers' : List ℕ) (m first : ℕ) (head : Head) (out out1 out2 : List BlockParts)
+    → blocks ≡ func.blocks.items → leaf ≡ is_leaf blocks → table' ≡ namings_of func → first ≡ lead_in (heads_in table')
     → numbers' ≡ numbers (heads_in table') (k + first) blocks → places ≡ numbers'
     → head ≡ heads_in table' 0 → m ≡ slice_index places 0 → out1 ≡ out ++ lead_blocks leaf head f func.parameters m
     → out2 ≡ out1 ++ blocks_from globals starts entry (λ b. slice_index places b) leaf (heads_in table') f func.parameters (k + first) 0 blocks
     → out2 ≡ out ++ function_blocks globals starts entry k func f
-function_made globals starts entry k func f leaf blocks table table' places numbers' m first head out out1 out2 is leaf_is t_is t' first_is n_is p_is head_is
+function_made globals starts entry k func f leaf blocks table' places numbers' m first head out out1 out2 is leaf_is t_is first_is n_is p_is head_is
     m_is e1 e2 =
     let bs = func.blocks.items in
-    let heads : heads_in table' ≡ heads_of func.blocks.items = ap heads_in (t' ∙ t_is) ∙ ap (λ bs. heads_of bs) is in
+    let heads : heads_in table' ≡ heads_of func.blocks.items = ap heads_in t_is in
     let start : k + first ≡ k + lead_in (heads_of func.blocks.items) = ap (λ n. k + n) (first_is ∙ ap lead_in heads) in
     let place : (λ b. slice_index places b) ≡ place_in k func.blocks.items = ap (λ (l : List ℕ). λ b. slice_index l b) (p_is ∙ n_is
     ∙ ap (λ h. numbers h (k + first) blocks) heads ∙ ap (λ n. numbers (heads_of func.blocks.items) n blocks) start
@@ -103,11 +117,11 @@ function_made globals starts entry k func f leaf blocks table table' places numb
     k' = k
 
 -- room for the blocks of a function, and behind what stands before them
-pub function_room : (k first bound : ℕ) (func : RFunc) (blocks : List RBlock) (table table' : List Naming) → blocks ≡ func.blocks.items
-    → table ≡ namings blocks (unnamed blocks) → table' ≡ table → first ≡ lead_in (heads_in table') → k + function_size func ≤ bound
-    → k + first + size_of_blocks (heads_in table') blocks ≤ bound
-function_room k first bound func blocks table table' is t_is t' first_is le =
-    let heads : heads_in table' ≡ heads_of func.blocks.items = ap heads_in (t' ∙ t_is) ∙ ap (λ bs. heads_of bs) is in
+pub function_room : (k first bound : ℕ) (func : RFunc) (blocks : List RBlock) (table : List Naming) → blocks ≡ func.blocks.items
+    → table ≡ namings_of func → first ≡ lead_in (heads_in table) → k + function_size func ≤ bound
+    → k + first + size_of_blocks (heads_in table) blocks ≤ bound
+function_room k first bound func blocks table is t_is first_is le =
+    let heads : heads_in table ≡ heads_of func.blocks.items = ap heads_in t_is in
     let lead = first_is ∙ ap lead_in heads in
     let size = ap₂ size_of_blocks heads is in
     omega (arith, lead, size, le)
@@ -119,6 +133,23 @@ functions_room out i bound funcs func within func_is same le =
     let e = at_drop_more functions_size funcs i func within in
     let one = ap (λ (f : RFunc). function_size f) func_is in
     omega (arith, e, one, same, le)
+
+pub numbers_step : (k size i total : ℕ) (funcs : List RFunc) (func : RFunc) (out out' all : List ℕ) → i < length funcs → func ≡ get_or funcs i func
+    → size ≡ function_size func → out' ≡ out ++ numbers_in k func.blocks.items
+    → (k + functions_size (drop i funcs) ≡ total) × (out ++ numbers_from k (drop i funcs) ≡ all)
+    → (k + size + functions_size (drop (i + 1) funcs) ≡ total) × (out' ++ numbers_from (k + size) (drop (i + 1) funcs) ≡ all)
+numbers_step k size i total funcs func out out' all within func_is size_is made before =
+    let rest = drop (i + 1) funcs in
+    let sizes = at_drop_more functions_size funcs i func within in
+    let one = ap (λ (f : RFunc). function_size f) func_is in
+    let count = before.0 in (
+      omega (arith, size_is, sizes, one, count),
+      ap₂ (λ l n. l ++ numbers_from n rest) made (ap (λ n. k + n) size_is)
+          ∙ append_assoc out (numbers_in k func.blocks.items) (numbers_from (k + function_size func) rest)
+          ∙ ap (λ (func : RFunc). out ++ numbers_from k (func ∷ rest)) func_is
+          ∙ sym (at_drop_more (λ l. out ++ numbers_from k l) funcs i func within)
+          ∙ before.1,
+    )
 
 pub functions_step : (globals : List RGlobal) (starts entry : ℕ → ℕ) (i total : ℕ) (funcs : List RFunc) (fs : List Frame) (func : RFunc) (f : Frame)
     (out out' all : List BlockParts) (k : ℕ) → i < length funcs → length fs ≡ length funcs → func ≡ get_or funcs i func → f ≡ get_or fs i f → k ≡ length out

@@ -7,6 +7,7 @@ mod Linked
 mod Frames
 mod Emitted
 mod Calls
+mod Departures
 mod Simulation
 mod Theorem
 mod Lists

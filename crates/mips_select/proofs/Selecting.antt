@@ -1,32 +1,29 @@
 -- The parts of a program's unit, put together.
 use Rattle.std.proofs.Common.{◌≡◌, ℕ, zero, suc, ◌+◌, ◌<◌, ◌≤◌, Bool, true, false, true≢false, List, [], ◌∷◌, ◌++◌, length, length-append, Some, sym, ap}
 use Rattle.std.proofs.Common.{ap₂, ◌∙◌, subst, arith}
-use Rattle.std.specs.Prelude.{All, IsTrue, slice_get, slice_index, sum_by}
+use Rattle.std.specs.Prelude.{All, IsTrue, map, slice_get, slice_index, sum_by}
 use Rattle.std.proofs.lemmas.List.Sums.{sum_by-cons}
 use Rattle.std.proofs.lemmas.Option.{same_Some, none-some}
-use Rattle.mips_isa.specs.Starting.{start_state}
 use Rattle.mblock.specs.declared.limits.TheConstants.{UNIT_BLOCKS, UNIT_BYTES, BLOCK_INSTS}
 use Rattle.mblock.specs.Parts.{BlockParts}
-use Rattle.mblock.specs.UnitRuns.{ComesTo}
 use Rattle.mblock.specs.Units.{UnitParts, unit_parts, AreLinked, AreOwners}
 use Rattle.rtl.specs.declared.instruction.RExit.{RExit}
 use Rattle.rtl.specs.declared.instruction.RExit.TheVariants.{Goto, Branch, Call, Return, Out}
 use Rattle.rtl.specs.declared.block.RFunc.{RFunc}
 use Rattle.rtl.specs.declared.block.RGlobal.{RGlobal}
 use Rattle.rtl.specs.declared.limits.TheConstants.{MAX_BLOCKS}
-use Rattle.rtl.specs.Meaning.{rtl_run}
 use Rattle.rtl.specs.Programs.{Program, IsExit, IsBlock, IsFunction, IsProgram, block_count}
 use Rattle.mips_homes.specs.declared.homed.Frame.{Frame}
 use Rattle.mips_homes.specs.declared.homed.Homed.{Homed}
 use Rattle.mips_homes.specs.Places.{ArePlaced}
-use Rattle.mips_split.specs.Split.{split_blocks, split_owners, place_of}
+use Rattle.mips_split.specs.Split.{split_blocks, split_owners, place_of, firsts, total}
 use Rattle.mips_split.proofs.Counts.{total_above, length-split_from}
 use Rattle.mips_select.specs.Data.{zeros, data_bytes, starts_from, start_of}
 use Rattle.mips_select.specs.Code.{start_block, end_block}
 use Rattle.mips_select.specs.Emittable.{HasFewArguments, IsEmittable, AreFunctionsEmittable}
 use Rattle.mips_select.specs.Limits.{FramesFit, HaveRoom}
-use Rattle.mips_select.specs.Whole.{functions_size, entries_from, entry_of, owners_for, functions_blocks, program_blocks, unit_for}
-use Rattle.mips_select.specs.Laws.{KeepsRuns, IsSelected, IsBeyond}
+use Rattle.mips_select.specs.Whole.{functions_size, entries_from, entry_of, numbers_from, owners_for, functions_blocks, program_blocks, unit_for}
+use Rattle.mips_select.specs.Laws.{KeepsRuns, IsSelected, IsNumbered, IsBeyond}
 use Rattle.mips_select.proofs.Lists.{all_at}
 use Rattle.mips_select.proofs.DataPlaces.{have_values, data_fits}
 use Rattle.mips_select.proofs.DataEnds.{data_ends}
@@ -118,53 +115,74 @@ many_pieces h ok =
     let pieces = length-split_from BLOCK_INSTS (place_of BLOCK_INSTS (program_blocks h)) 0 (program_blocks h) in
     omega (arith, long, total, pieces)
 
-pub beyond : (h : Homed) (p : Program) (funcs : List RFunc) → h.rtl.now ≡ p → ArePlaced h → funcs ≡ p.functions → UNIT_BLOCKS < 2 + functions_size funcs
-    → IsBeyond p
-beyond h p funcs lent ok f_is many = (let pieces = many_pieces h ok in let same = ap functions_size f_is
-    ∙ ap (λ (p : Program). functions_size p.functions) (sym lent) in record { homed = h; lent = lent; choices = ok; many = omega (arith, pieces, same, many) })
+pub many_functions : (h : Homed) (funcs : List RFunc) → ArePlaced h → funcs ≡ (h.rtl.now).functions → UNIT_BLOCKS < 2 + functions_size funcs
+    → UNIT_BLOCKS < length (unit_for h).blocks
+many_functions h funcs ok f_is many = (let pieces = many_pieces h ok in let same = ap functions_size f_is in omega (arith, pieces, same, many))
 
-pub beyond_pieces : (h : Homed) (p : Program) (blocks blocks' : List BlockParts) → h.rtl.now ≡ p → ArePlaced h → blocks ≡ program_blocks h
-    → blocks' ≡ blocks → UNIT_BLOCKS < length (split_blocks blocks') → IsBeyond p
-beyond_pieces h p blocks blocks' lent ok is is' many = record {
-  homed = h;
-  lent = lent;
-  choices = ok;
-  many = subst
-      (λ bs. UNIT_BLOCKS < length (split_blocks bs)) (is' ∙ is) many;
+pub many_cut : (h : Homed) (blocks blocks' : List BlockParts) → blocks ≡ program_blocks h → blocks' ≡ blocks → UNIT_BLOCKS < length (split_blocks blocks')
+    → UNIT_BLOCKS < length (unit_for h).blocks
+many_cut h blocks blocks' is is' many = subst (λ bs. UNIT_BLOCKS < length (split_blocks bs)) (is' ∙ is) many
+
+pub many_counted : (h : Homed) (blocks : List BlockParts) → blocks ≡ program_blocks h → UNIT_BLOCKS < total BLOCK_INSTS blocks
+    → UNIT_BLOCKS < length (unit_for h).blocks
+many_counted h blocks is many =
+    let pieces = length-split_from BLOCK_INSTS (place_of BLOCK_INSTS (program_blocks h)) 0 (program_blocks h) in
+    let same = ap (total BLOCK_INSTS) is in
+    omega (arith, pieces, same, many)
+
+pub beyond : (h : Homed) (p : Program) → h.rtl.now ≡ p → ArePlaced h → UNIT_BLOCKS < length (unit_for h).blocks → IsBeyond p
+beyond h p lent ok many = record { homed = h; lent = lent; choices = ok; many = many }
+
+pub blocks_well : (h : Homed) (blocks blocks' : List BlockParts) (owners owners' : List ℕ) → IsProgram h.rtl.now → ArePlaced h → blocks ≡ program_blocks h
+    → blocks' ≡ blocks → owners ≡ owners_for (h.rtl.now).functions → owners' ≡ owners → AreLinked blocks' × AreOwners blocks' owners'
+blocks_well h blocks blocks' owners owners' program ok is is' o_is o_is' =
+    let well = program_well h program ok.long in
+    subst (λ bs. AreLinked bs × AreOwners bs owners') (sym (is' ∙ is))
+    (subst (λ os. AreLinked (program_blocks h) × AreOwners (program_blocks h) os) (sym (o_is' ∙ o_is)) well)
+
+-- what is put together is the unit of the program over its homes
+pub unit_made : (h : Homed) (u : UnitParts) (blocks blocks' : List BlockParts) (owners owners' bytes : List ℕ) (globals : List RGlobal)
+    → blocks ≡ program_blocks h → blocks' ≡ blocks → owners ≡ owners_for (h.rtl.now).functions → owners' ≡ owners → globals ≡ (h.rtl.now).globals
+    → bytes ≡ data_bytes globals → u ≡ unit_parts (split_blocks blocks') (split_owners blocks' owners') bytes → u ≡ unit_for h
+unit_made h u blocks blocks' owners owners' bytes globals is is' o_is o_is' g_is b_is u_is =
+    u_is ∙ ap (λ bs. unit_parts (split_blocks bs) (split_owners bs owners') bytes) (is' ∙ is)
+    ∙ ap (λ os. unit_parts (split_blocks (program_blocks h)) (split_owners (program_blocks h) os) bytes) (o_is' ∙ o_is)
+    ∙ ap (unit_parts (split_blocks (program_blocks h)) (split_owners (program_blocks h) (owners_for (h.rtl.now).functions)))
+    (b_is ∙ ap data_bytes g_is)
+
+pub unit_keeps : (h : Homed) (u : UnitParts) → IsProgram h.rtl.now → ArePlaced h → u ≡ unit_for h → (depth : ℕ) → FramesFit h.rtl.now depth
+    → KeepsRuns h.rtl.now depth u
+unit_keeps h u program ok is depth fit = subst (KeepsRuns h.rtl.now depth) (sym is) (each_unit h depth program ok fit)
+
+-- of the program that was lent
+pub runs_told : (h : Homed) (p : Program) (depth : ℕ) (u : UnitParts) → h.rtl.now ≡ p → FramesFit p depth
+    → ((depth : ℕ) → FramesFit h.rtl.now depth → KeepsRuns h.rtl.now depth u) → KeepsRuns p depth u
+runs_told h p depth u lent fit runs = subst (λ (p : Program). KeepsRuns p depth u) lent
+    (runs depth (subst (λ (p : Program). FramesFit p depth) (sym lent) fit))
+
+pub data_told : (h : Homed) (p : Program) (u : UnitParts) → h.rtl.now ≡ p → u ≡ unit_for h → u.globals ≡ data_bytes p.globals
+data_told h p u lent is = ap (λ (u : UnitParts). u.globals) is ∙ ap (λ (p : Program). data_bytes p.globals) lent
+
+pub selected : (h : Homed) (p : Program) (u : UnitParts) → h.rtl.now ≡ p → ArePlaced h → u ≡ unit_for h → IsSelected p u
+selected h p u lent ok is = record { homed = h; lent = lent; places = ok; unit = is }
+
+-- ---- the numbers of its blocks
+
+pub numbers_found : (long long' : List BlockParts) (funcs : List RFunc) (pieces table numbers numbers' found : List ℕ) → long' ≡ long
+    → pieces ≡ firsts BLOCK_INSTS 0 long' → table ≡ pieces → numbers ≡ numbers_from 2 funcs → numbers' ≡ numbers → found ≡ map (slice_index table) numbers'
+    → found ≡ map (place_of BLOCK_INSTS long) (numbers_from 2 funcs)
+numbers_found long long' funcs pieces table numbers numbers' found l_is p_is t_is n_is n_is' is =
+    is ∙ ap (λ (t : List ℕ). map (slice_index t) numbers') (t_is ∙ p_is ∙ ap (firsts BLOCK_INSTS 0) l_is) ∙ ap (map (place_of BLOCK_INSTS long)) (n_is' ∙ n_is)
+
+pub numbered : (h : Homed) (p : Program) (u : UnitParts) (blocks : List BlockParts) (funcs : List RFunc) (numbers : List ℕ) → h.rtl.now ≡ p
+    → ArePlaced h → u ≡ unit_for h → blocks ≡ program_blocks h → funcs ≡ (h.rtl.now).functions
+    → numbers ≡ map (place_of BLOCK_INSTS blocks) (numbers_from 2 funcs) → IsNumbered p u numbers
+unfolding selected
+numbered h p u blocks funcs numbers lent ok u_is is f_is n_is = record {
+  selected = selected h p u lent ok u_is;
+  begin = n_is ∙ ap (λ bs. map (place_of BLOCK_INSTS bs) (numbers_from 2 funcs)) is
+      ∙ ap (λ fs. map (place_of BLOCK_INSTS (program_blocks h)) (numbers_from 2 fs)) f_is;
 }
-
-pub blocks_well : (h : Homed) (p : Program) (blocks blocks' : List BlockParts) (owners owners' : List ℕ) (funcs : List RFunc) → h.rtl.now ≡ p → IsProgram p
-    → ArePlaced h → blocks ≡ program_blocks h → blocks' ≡ blocks → funcs ≡ p.functions → owners ≡ owners_for funcs → owners' ≡ owners
-    → AreLinked blocks' × AreOwners blocks' owners'
-blocks_well h p blocks blocks' owners owners' funcs lent program ok is is' f_is o_is o_is' =
-    let well = program_well h (subst IsProgram (sym lent) program) ok.long in
-    let os : owners' ≡ owners_for (h.rtl.now).functions = o_is' ∙ o_is ∙ ap owners_for f_is ∙ ap (λ (p : Program). owners_for p.functions) (sym lent) in
-    subst (λ bs. AreLinked bs × AreOwners bs owners') (sym (is' ∙ is)) (subst (λ os. AreLinked (program_blocks h) × AreOwners (program_blocks h) os) (sym os)
-    well)
-
--- what `select` puts together is the unit of the program over its homes
-pub selected : (h : Homed) (p : Program) (u : UnitParts) (blocks blocks' : List BlockParts) (owners owners' bytes : List ℕ) (funcs : List RFunc)
-    (globals : List RGlobal) → h.rtl.now ≡ p → ArePlaced h → blocks ≡ program_blocks h → blocks' ≡ blocks → funcs ≡ p.functions
-    → owners ≡ owners_for funcs → owners' ≡ owners → globals ≡ p.globals → bytes ≡ data_bytes globals
-    → u ≡ unit_parts (split_blocks blocks') (split_owners blocks' owners') bytes → IsSelected p u
-selected h p u blocks blocks' owners owners' bytes funcs globals lent ok is is' f_is o_is o_is' g_is b_is u_is =
-    let os : owners' ≡ owners_for (h.rtl.now).functions = o_is' ∙ o_is ∙ ap owners_for f_is ∙ ap (λ (p : Program). owners_for p.functions) (sym lent) in
-    let bytes_are : bytes ≡ data_bytes (h.rtl.now).globals = b_is ∙ ap data_bytes g_is ∙ ap (λ (p : Program). data_bytes p.globals) (sym lent) in
-    record {
-      homed = h;
-      lent = lent;
-      places = ok;
-      unit = u_is ∙ ap (λ bs. unit_parts (split_blocks bs) (split_owners bs owners') bytes) (is' ∙ is)
-          ∙ ap (λ os. unit_parts (split_blocks (program_blocks h)) (split_owners (program_blocks h) os) bytes) os
-          ∙ ap (unit_parts (split_blocks (program_blocks h)) (split_owners (program_blocks h) (owners_for (h.rtl.now).functions))) bytes_are;
-    }
-
-pub unit_keeps : (p : Program) (depth : ℕ) (u : UnitParts) → IsProgram p → FramesFit p depth → IsSelected p u → KeepsRuns p depth u
-unit_keeps p depth u program fit s =
-    let h : Homed = s.homed in
-    let keeps : KeepsRuns p depth (unit_for h) = subst (λ (p : Program). KeepsRuns p depth (unit_for h)) s.lent
-    (each_unit h depth (subst IsProgram (sym s.lent) program) s.places (subst (λ (p : Program). FramesFit p depth) (sym s.lent) fit)) in
-    subst (KeepsRuns p depth) (sym s.unit) keeps
 
 pub bytes_fit : (p : Program) (bytes : List ℕ) (globals : List RGlobal) → IsProgram p → globals ≡ p.globals → bytes ≡ data_bytes globals
     → length bytes ≤ UNIT_BYTES

@@ -7,7 +7,7 @@ use Rattle.std.proofs.lemmas.Option.{same_Some, none-some, slice_get_within}
 use Rattle.std.proofs.Math.Nat.{mul-le-mul_right}
 use Rattle.runs.specs.declared.ran.End.TheVariants.{Done}
 use Rattle.runs.specs.Runs.{Outcome}
-use Rattle.runs.specs.Stores.{Places, places_with, unset_places, Arrays, chain}
+use Rattle.runs.specs.Stores.{Places, places_with, unset_places, Arrays}
 use Rattle.mips_isa.specs.declared.inst.PairTest.TheVariants.{NotEqual}
 use Rattle.mips_isa.specs.declared.inst.Plain.{Plain}
 use Rattle.mips_isa.specs.States.{State}
@@ -28,16 +28,12 @@ use Rattle.mips_homes.specs.HomedRun.{Activation, new_activation, at_code, Run, 
 use Rattle.mips_homes.specs.HomedRun.{is_lasting, lasting, write_homes, registers_at_entry, registers_at_return, state_at_block, with_result, state_after_return}
 use Rattle.mips_homes.specs.HomedRun.{state_after_exit, step_at, homed_step, homed_steps}
 use Rattle.mips_homes.specs.declared.homed.Frame.{Frame}
-use Rattle.mips_homes.specs.declared.homed.Home.{Home}
 use Rattle.mips_homes.specs.declared.homed.Homed.{Homed}
-use Rattle.mips_emit.specs.declared.comparison.Form.{Form}
-use Rattle.mips_emit.specs.declared.comparison.Form.TheVariants.{OnPair, OnLeft, OnRight, ByResult, ByOpposite, InResult}
 use Rattle.mips_emit.specs.declared.comparison.Asked.{Asked}
-use Rattle.mips_emit.specs.declared.comparison.Asked.TheVariants.{Branched}
 use Rattle.mips_emit.specs.declared.comparison.Comparison.{Comparison}
 use Rattle.mips_emit.specs.declared.facts.Last.{Last}
 use Rattle.mips_emit.specs.declared.location.Source.{Source}
-use Rattle.mips_emit.specs.Locations.{Locations, Facts, no_facts, location_at, known_in, locations, learned, known_after, fresh_of, last_operand}
+use Rattle.mips_emit.specs.Locations.{Facts, no_facts, location_at, known_in, locations, learned, known_after, fresh_of, last_operand}
 use Rattle.mips_emit.specs.Code.{move_code, inst_code, fetch, seat, carry}
 use Rattle.mips_emit.specs.Comparisons.{comparison_code, exit_by_form, comparison_of, asked_last, next_code, last_with, no_last, last_after, insts_code}
 use Rattle.mips_emit.specs.Comparisons.{tested, branch_code, branch_exit, is_result, returned, return_code}
@@ -47,34 +43,19 @@ use Rattle.mips_emit.proofs.View.{word_at, set, set_words, put_here, put_other, 
 use Rattle.mips_emit.proofs.Stands.{Stored, stack_room, Stands}
 use Rattle.mips_emit.proofs.Homes.{passes, hidden, hide, IsLazy, none_lazy, fewer_stand, IsLast, none_last, frame_homes, words_kept, call_kept, IsKnown, nothing_known, last_means, fetches, carries, sets_kept, passing_kept, arrives}
 use Rattle.mips_emit.proofs.Insts.{value_or_failed, performs}
-use Rattle.mips_emit.proofs.Comparing.{none_asked, asked_result, returned_result, waiting, compares}
+use Rattle.mips_emit.proofs.Comparing.{none_asked, waiting, compares}
 use Rattle.mips_select.specs.declared.limits.TheConstants.{STACK_BYTES}
 use Rattle.mips_select.specs.Data.{padded_bytes, start_of}
 use Rattle.mips_select.specs.Code.{saves, frame_bytes, link_save, lowers, parameters_code, prologue, epilogue, asked_of, exit_code, exit_of, code_insts}
 use Rattle.mips_select.specs.Code.{own_block, result_code, after_block, prologue_block, end_block}
 use Rattle.mips_select.specs.Selected.{AreClear, GoesOn, StandsAt, IsPlaced, IsFunction, IsSelected}
+use Rattle.mips_select.proofs.Departures.{read_length, first_true, second_true, branch_words, either, above_passing, goes_by, same_exit, same_code}
 use Rattle.mips_select.proofs.Frames.{all_shown, all_denote, arguments, parameters}
 use Rattle.mips_select.proofs.Returns.{return_found}
 use Rattle.mips_select.proofs.Calls.{stored_frame, frames_of, linked_frames, enters, leaves_frame}
 
 abbrev halted : ℕ → List ℕ → Outcome
 halted w out = record { end = Done w; output = out }
-
--- as many words as are read
-read_length : (homes : List Home) (r slots : Places) (xs vs : List ℕ) → read_homes homes r slots xs ≡ Some vs → length vs ≡ length xs
-read_length homes r slots [] vs e = sym (ap length (same_Some [] vs e))
-read_length homes r slots (x ∷ xs) vs e = first (λ ws e. read_length homes r slots xs ws e) (read_home homes r slots x) e
-  where
-    Again : Type 0
-    Again = (ws : List ℕ) → read_homes homes r slots xs ≡ Some ws → length ws ≡ length xs
-
-    second : Again → (v : ℕ) (o : Option (List ℕ)) → read_homes homes r slots xs ≡ o → chain o (λ vs. Some (v ∷ vs)) ≡ Some vs → length vs ≡ suc (length xs)
-    second again v None is e = absurd (none-some vs e)
-    second again v (Some ws) is e = sym (ap length (same_Some (v ∷ ws) vs e)) ∙ ap suc (again ws is)
-
-    first : Again → (o : Option ℕ) → chain o (λ v. chain (read_homes homes r slots xs) (λ vs. Some (v ∷ vs))) ≡ Some vs → length vs ≡ suc (length xs)
-    first again None e = absurd (none-some vs e)
-    first again (Some v) e = second again v (read_homes homes r slots xs) refl e
 
 module _ (h : Homed) (depth : ℕ) (blocks : List BlockParts) (ok : IsSelected h depth blocks) (links : ℕ → ℕ) (tells : TellsApart links blocks) where
   abbrev pub gs : List RGlobal
@@ -449,22 +430,6 @@ module _ (h : Homed) (depth : ℕ) (blocks : List BlockParts) (ok : IsSelected h
           (λ r' slots' s' e st' same. f r' slots' s' e
           (all_shown ok.most total gs starts (location_at (slice_get w.frame.homes.items x)) r' g (stored_frame false w.frame slots' w.aside l ∷ frames_of ws ls) s' st')))
 
-  first_true : (a b : Bool) → (a && b) ≡ true → a ≡ true
-  first_true true b e = refl
-  first_true false b e = absurd (true≢false (sym e))
-
-  second_true : (a b : Bool) → (a && b) ≡ true → b ≡ true
-  second_true true b e = e
-  second_true false b e = absurd (true≢false (sym e))
-
-  branch_words : (place : ℕ → ℕ) (x y v : ℕ) (b : Bool) → (if not b then place y else place x) ≡ place (if b then x else y)
-  branch_words place x y v true = refl
-  branch_words place x y v false = refl
-
-  either : (head : ℕ → List Plain) (x y : ℕ) (b : Bool) → (head y ≡ []) × (head x ≡ []) → head (if b then x else y) ≡ []
-  either head x y true e = e.1
-  either head x y false e = e.0
-
   -- behind a block only lasting registers are known, and none of them has a word to come
   settled : (lazy r : Places) (g : Arrays) (fs : List Stored) (s : State) → IsLazy lazy r → Stand (hide lazy r) g fs s → Stand (lasting r) g fs s
   settled lazy r g fs s lz st = fewer_stand ok.most total gs starts (hide lazy r) (lasting r) g fs s (λ q v is. was q v (is_lasting q) refl (lazy q) refl is) st
@@ -473,60 +438,6 @@ module _ (h : Homed) (depth : ℕ) (blocks : List BlockParts) (ok : IsSelected h
       was q v false ec o eo e = absurd (none-some v e)
       was q v true ec None eo e = ap (λ o. hidden o (r q)) eo ∙ e
       was q v true ec (Some w) eo e = absurd (true≢false (sym ec ∙ lz.passes q w eo))
-
-  -- a lasting register is none of those in which arguments are passed
-  above_passing : (r : Places) (q w : ℕ) → lasting r q ≡ Some w → 8 ≤ q
-  above_passing r q w e = by (nat_lt 15 q) (nat_lt q 24) refl e
-    where
-      by : (b c : Bool) → nat_lt 15 q ≡ b → (if b && c then r q else None) ≡ Some w → 8 ≤ q
-      by true c eb e = (let low = ltb-true 15 q eb in omega (arith, low))
-      by false c eb e = absurd (none-some w e)
-
-  -- a branch for a comparison
-  goes_by : (form : Form) (x y : Source) (t e : ℕ) (k : ℕ) (s : State) (out : List ℕ) (n : ℕ)
-      → outcome_of_departure blocks links (exit_effect (exit_by_form form x y t e) s (links k)).goes (items blocks links n)
-      (exit_effect (exit_by_form form x y t e) s (links k)).state out
-      ≡ outcome_at_block (if passes form x y s then t else e) (slice_get blocks (if passes form x y s then t else e)) (items blocks links n) s out
-  goes_by (OnPair test) x y t e k s out n = refl
-  goes_by (OnLeft test) x y t e k s out n = refl
-  goes_by (OnRight test) x y t e k s out n = refl
-  goes_by ByResult x y t e k s out n = refl
-  goes_by ByOpposite x y t e k s out n = refl
-  goes_by InResult x y t e k s out n = refl
-
-  -- behind a comparison the exit doesn't go by what is known
-  asked_test : (at : Locations) (facts : Facts) (c : ℕ) (i : RInst) (m : Comparison) → comparison_of at facts (Branched c) i ≡ Some m
-      → tested (Some m) c ≡ Some m
-  asked_test at facts c i m e = ap (λ b. if b then Some m else None) (asked_result at facts c i m e)
-
-  same_exit : (entry place : ℕ → ℕ) (f : Frame) (facts known known' : Facts) (i : RInst) (m : Comparison) (n : ℕ) (x : RExit)
-      → comparison_of (locations f) facts (asked_of x) i ≡ Some m
-      → exit_of entry place f known (last_with (Some m) None) n x ≡ exit_of entry place f known' (last_with (Some m) None) n x
-  same_exit entry place f facts known known' i m n (Branch c t e) is =
-      let test = asked_test (locations f) facts c i m is in
-      ap (λ o. branch_exit o (last_operand (locations f) known None c) (place t) (place e)) test
-      ∙ sym (ap (λ o. branch_exit o (last_operand (locations f) known' None c) (place t) (place e)) test)
-  same_exit entry place f facts known known' i m n (Goto b) is = absurd (none_asked (locations f) facts i m is)
-  same_exit entry place f facts known known' i m n (Call g xs d next) is = absurd (none_asked (locations f) facts i m is)
-  same_exit entry place f facts known known' i m n (Return None) is = absurd (none_asked (locations f) facts i m is)
-  same_exit entry place f facts known known' i m n (Return (Some x)) is = refl
-  same_exit entry place f facts known known' i m n (Out b next) is = absurd (none_asked (locations f) facts i m is)
-
-  same_code : (leaf : Bool) (f : Frame) (facts known known' : Facts) (i : RInst) (m : Comparison) (x : RExit)
-      → comparison_of (locations f) facts (asked_of x) i ≡ Some m
-      → exit_code leaf f known (last_with (Some m) None) x ≡ exit_code leaf f known' (last_with (Some m) None) x
-  same_code leaf f facts known known' i m (Branch c t e) is =
-      let test = asked_test (locations f) facts c i m is in
-      ap (λ o. branch_code o (last_operand (locations f) known None c)) test
-      ∙ sym (ap (λ o. branch_code o (last_operand (locations f) known' None c)) test)
-  same_code leaf f facts known known' i m (Goto b) is = absurd (none_asked (locations f) facts i m is)
-  same_code leaf f facts known known' i m (Call g xs d next) is = absurd (none_asked (locations f) facts i m is)
-  same_code leaf f facts known known' i m (Return None) is = absurd (none_asked (locations f) facts i m is)
-  same_code leaf f facts known known' i m (Return (Some x)) is =
-      let test = returned_result (locations f) facts x i m is in
-      ap (λ b. return_code b (last_operand (locations f) known None x) ++ epilogue leaf f) test
-      ∙ sym (ap (λ b. return_code b (last_operand (locations f) known' None x) ++ epilogue leaf f) test)
-  same_code leaf f facts known known' i m (Out b next) is = absurd (none_asked (locations f) facts i m is)
 
   -- an exit
   exits : (leaf : Bool) (x : RExit) (facts : Facts) (last : Last) (a : Activation) (k : ℕ) (link : ℕ) (below : List ℕ) (place : ℕ → ℕ) (head : ℕ
@@ -593,7 +504,7 @@ module _ (h : Homed) (depth : ℕ) (blocks : List BlockParts) (ok : IsSelected h
           let rest = code_insts gs starts leaf a.frame no_facts no_last (code_of block) in
           let to = At (place b) (head b ++ rest) s out in
           let l2 = departs k c.form (exit_by_form m.form m.x m.y (place y) (place z)) s out to c.there is_exit (λ n.
-          goes_by m.form m.x m.y (place y) (place z) k s out n
+          goes_by blocks links m.form m.x m.y (place y) (place z) k s out n
           ∙ ap (λ t. outcome_at_block (if t then place y else place z) (slice_get blocks (if t then place y else place z)) (items blocks links n) s out) taken
           ∙ ap (λ t. outcome_at_block t (slice_get blocks t) (items blocks links n) s out) (branch_words place z y v (nat_eq v 0))
           ∙ ap (λ o. outcome_at_block (place b) o (items blocks links n) s out) stood.there) in

@@ -1,8 +1,12 @@
 -- What blocks begin with, from how the exits of their function name them.
-use Rattle.std.specs.Prelude.{ℕ, Bool, true, false, List, [], ◌∷◌, Option, Some, None, nat_eq, if◌then◌else◌, slice_get, slice_set}
+use Rattle.std.specs.Prelude.{◌≡◌, ℕ, Bool, true, false, List, [], ◌∷◌, map, Option, Some, None, nat_eq, if◌then◌else◌, slice_get}
+use Rattle.std.specs.Prelude.{slice_set}
+use Rattle.std.specs.declared.alloc.Global.{Global}
+use Rattle.std.specs.declared.vec.Vec.{Vec}
 use Rattle.rtl.specs.declared.instruction.RExit.{RExit}
 use Rattle.rtl.specs.declared.instruction.RExit.TheVariants.{Goto, Branch, Call, Return, Out}
 use Rattle.rtl.specs.declared.block.RBlock.{RBlock}
+use Rattle.rtl.specs.declared.block.RFunc.{RFunc}
 use Rattle.mips_select.specs.declared.heads.Naming.{Naming}
 use Rattle.mips_select.specs.declared.heads.Naming.TheVariants.{Unnamed, Called, Jumped}
 use Rattle.mips_select.specs.declared.heads.Head.{Head}
@@ -29,6 +33,14 @@ namings (b ∷ bs) l = namings bs (note b.exit l)
 abbrev pub unnamed : List RBlock → List Naming
 unnamed [] = []
 unnamed (b ∷ bs) = Unnamed ∷ unnamed bs
+
+-- how the exits of a function name its blocks
+abbrev pub namings_of : RFunc → List Naming
+namings_of func = namings func.blocks.items (unnamed func.blocks.items)
+
+-- tables of that, one for each function
+abbrev pub AreNamed : List (Vec Naming Global) → List RFunc → Type 0
+AreNamed tables funcs = map (λ (t : Vec Naming Global). t.items) tables ≡ map namings_of funcs
 
 -- block 0 begins with the prologue if nothing names it, and a block that one call alone names with the store of its result
 abbrev pub head_at : ℕ → Option Naming → Head

@@ -1,5 +1,5 @@
 -- The theorem of selection.
-use Rattle.std.specs.Prelude.{◌≡◌, ◌≢◌, ◌<◌, ℕ, length}
+use Rattle.std.specs.Prelude.{◌≡◌, ◌≢◌, ◌<◌, ℕ, List, length}
 use Rattle.runs.specs.declared.ran.End.TheVariants.{Wrong}
 use Rattle.mips_isa.specs.Starting.{start_state}
 use Rattle.mblock.specs.declared.limits.TheConstants.{UNIT_BLOCKS}
@@ -10,7 +10,7 @@ use Rattle.rtl.specs.Meaning.{rtl_run}
 use Rattle.mips_homes.specs.declared.homed.Homed.{Homed}
 use Rattle.mips_homes.specs.Places.{ArePlaced}
 use Rattle.mips_select.specs.Limits.{FramesFit}
-use Rattle.mips_select.specs.Whole.{unit_for}
+use Rattle.mips_select.specs.Whole.{unit_for, block_numbers}
 
 -- at every bound after which the program isn't wrong, the unit comes to the same end and output in as many items or more
 abbrev pub KeepsRuns : Program → (depth : ℕ) → UnitParts → Type 0
@@ -28,6 +28,11 @@ pub record IsSelected (p : Program) (u : UnitParts) : Type 0 where
   pub lent : homed.rtl.now ≡ p
   pub places : ArePlaced homed
   pub unit : u ≡ unit_for homed
+
+-- such a unit, and the numbers of its blocks with which the blocks of the program begin
+pub record IsNumbered (p : Program) (u : UnitParts) (numbers : List ℕ) : Type 0 where
+  pub selected : IsSelected p u
+  pub begin : numbers ≡ block_numbers selected.homed
 
 -- the unit of a program over its homes would have too many blocks
 pub record IsBeyond (p : Program) : Type 0 where

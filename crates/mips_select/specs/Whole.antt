@@ -1,6 +1,7 @@
 -- The blocks for a whole program, as a function of the program and its frames: two blocks for start and end, then those of
 -- each function, one function behind another.
-use Rattle.std.specs.Prelude.{ℕ, suc, ◌+◌, Bool, List, [], ◌∷◌, ◌++◌, replicate, slice_index, if◌then◌else◌}
+use Rattle.std.specs.Prelude.{ℕ, suc, ◌+◌, Bool, List, [], ◌∷◌, ◌++◌, map, replicate, slice_index, if◌then◌else◌}
+use Rattle.mblock.specs.declared.limits.TheConstants.{BLOCK_INSTS}
 use Rattle.mblock.specs.Parts.{BlockParts}
 use Rattle.mblock.specs.Units.{UnitParts, unit_parts}
 use Rattle.rtl.specs.declared.instruction.RExit.{RExit}
@@ -10,7 +11,7 @@ use Rattle.rtl.specs.declared.block.RFunc.{RFunc}
 use Rattle.rtl.specs.declared.block.RGlobal.{RGlobal}
 use Rattle.mips_homes.specs.declared.homed.Frame.{Frame}
 use Rattle.mips_homes.specs.declared.homed.Homed.{Homed}
-use Rattle.mips_split.specs.Split.{split_blocks, split_owners}
+use Rattle.mips_split.specs.Split.{place_of, split_blocks, split_owners}
 use Rattle.mips_select.specs.declared.heads.Head.{Head}
 use Rattle.mips_select.specs.declared.heads.Head.TheVariants.{Bare, Enters, Takes}
 use Rattle.mips_select.specs.Heads.{heads_of, is_leaf, resumes, count, lead_in}
@@ -50,9 +51,13 @@ blocks_from globals starts entry place leaf heads f n k j (b ∷ bs) =
     own_block globals starts entry place leaf f (head_code leaf f n (heads j)) (next_of heads place k b.exit) b
     ∷ (behind heads place f b.exit ++ blocks_from globals starts entry place leaf heads f n (k + count heads b.exit) (suc j) bs)
 
--- where a block of the function of number k stands
+-- the numbers of the blocks of a function of number k, before long ones are cut
+abbrev pub numbers_in : ℕ → List RBlock → List ℕ
+numbers_in k bs = numbers (heads_of bs) (k + lead_in (heads_of bs)) bs
+
+-- where a block of a function of number k stands
 abbrev pub place_in : ℕ → List RBlock → ℕ → ℕ
-place_in k bs b = slice_index (numbers (heads_of bs) (k + lead_in (heads_of bs)) bs) b
+place_in k bs b = slice_index (numbers_in k bs) b
 
 -- the prologue's block, where block 0 doesn't begin with it
 abbrev pub lead_blocks : Bool → Head → Frame → (n first : ℕ) → List BlockParts
@@ -87,6 +92,11 @@ entries_from k (func ∷ funcs) = k ∷ entries_from (k + function_size func) fu
 abbrev pub entry_of : List RFunc → ℕ → ℕ
 entry_of funcs g = slice_index (entries_from 2 funcs) g
 
+-- the numbers of the blocks of functions, one function behind another, the first of which has the number k
+abbrev pub numbers_from : ℕ → List RFunc → List ℕ
+numbers_from k [] = []
+numbers_from k (func ∷ funcs) = numbers_in k func.blocks.items ++ numbers_from (k + function_size func) funcs
+
 -- the first block of the function of each block
 abbrev pub owners_from : ℕ → List RFunc → List ℕ
 owners_from k [] = []
@@ -114,3 +124,8 @@ abbrev pub unit_for : Homed → UnitParts
 unit_for h =
     unit_parts (split_blocks (program_blocks h)) (split_owners (program_blocks h) (owners_for (h.rtl.now).functions))
     (data_bytes (h.rtl.now).globals)
+
+-- the number of the unit's block with which each block of the program begins, one function behind another: that of the first
+-- piece where it was cut
+abbrev pub block_numbers : Homed → List ℕ
+block_numbers h = map (place_of BLOCK_INSTS (program_blocks h)) (numbers_from 2 (h.rtl.now).functions)

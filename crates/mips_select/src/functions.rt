@@ -3,27 +3,27 @@
 ghost use Rattle.std.specs.Prelude.{◌≡◌, ◌+◌, ◌≤◌, ◌++◌, ◌∷◌, [], length, IfOk, OnOk, slice_index};
 ghost use Rattle.mblock.specs.declared.limits.TheConstants.{UNIT_BLOCKS, UNIT_BYTES};
 ghost use Rattle.mips_emit.specs.Frames.{IsReachable};
-ghost use Rattle.mips_select.specs.Heads.{heads_in};
+ghost use Rattle.mips_select.specs.Heads.{heads_in, namings_of, AreNamed};
 ghost use Rattle.mips_select.specs.Code.{prologue_block, start_block, end_block};
 ghost use Rattle.mips_select.specs.Emittable.{AreEmittable, AreInside, AreReachable, IsFunctionEmittable, AreFunctionsEmittable};
 ghost use Rattle.mips_select.specs.Whole.{size_of_blocks, blocks_from, lead_blocks, function_size, functions_size, function_blocks};
 ghost use Rattle.mips_select.specs.Whole.{functions_blocks};
 
 use crate::code::{emit_block, push_block};
-use crate::heads::{Head, all_namings, count_of, head_at, is_leaf, lead_in};
+use crate::heads::{Head, Naming, count_of, head_at, is_leaf, lead_in};
 use crate::numbers::{number, number_at, number_blocks};
 use crate::plan::{Linkage, Plan};
 use crate::prologue::emit_prologue;
 use mblock::{BlockNumber, Exit};
 use mips_emit::emit_constant;
 use mips_homes::Frame;
-use mips_isa::{AluOp, Plain, Reg};
+use mips_isa::{AluOp, DATA_BASE, Plain, Reg};
 use mips_split::LongBlock;
 use rtl::{RBlock, RFunc};
 use std::alloc::{AllocError, Global};
 
 // What register 28 always holds: the middle of the first 65,536 bytes of data.
-const DATA_MIDDLE: u32 = 0x1000_8000;
+const DATA_MIDDLE: u32 = DATA_BASE + 32_768;
 
 // The blocks for some blocks, the first of which has the number `first`.
 fn emit_blocks(
@@ -99,9 +99,11 @@ fn emit_function(
     out: &mut Vec<LongBlock>,
     linkage: &Linkage<'_>,
     frame: &Frame,
+    table: &[Naming],
     k: usize,
     func: &RFunc,
 ) -> Result<(), AllocError>
+    requires named { table.now ≡ namings_of func.now }
     requires number { k + function_size func.now ≤ UNIT_BLOCKS }
     requires frame { IsReachable frame.now }
     requires inside { AreInside linkage.now.starts.now UNIT_BYTES }
@@ -113,8 +115,6 @@ fn emit_function(
     let blocks = func.blocks.as_slice();
     let n = func.parameters;
     let leaf = is_leaf(blocks);
-    let namings = all_namings(alloc, blocks)?;
-    let table = namings.as_slice();
     let first = k + lead_in(table);
     let numbers = number_blocks(alloc, table, first, blocks)?;
     let places = numbers.as_slice();
@@ -136,9 +136,11 @@ pub(crate) fn emit_functions(
     alloc: Global,
     out: &mut Vec<LongBlock>,
     linkage: &Linkage<'_>,
+    namings: &[Vec<Naming>],
     functions: &[RFunc],
     frames: &[Frame],
 ) -> Result<(), AllocError>
+    requires named { AreNamed namings.now functions.now }
     requires behind { length out.now.items ≡ 2 }
     requires number { 2 + functions_size functions.now ≤ UNIT_BLOCKS }
     requires lengths { length frames.now ≡ length functions.now }
@@ -152,8 +154,9 @@ pub(crate) fn emit_functions(
     for i in 0..functions.len() {
         let func = &functions[i];
         let frame = &frames[i];
+        let table = namings[i].as_slice();
         let k = out.len();
-        emit_function(alloc, out, linkage, frame, k, func)?;
+        emit_function(alloc, out, linkage, frame, table, k, func)?;
     }
     Ok(())
 }

@@ -24,9 +24,11 @@
 //!   which the program isn't wrong, the unit comes to the same end and output in as many items or more, whatever words
 //!   the links of its calls are. It is the unit of the program over homes that are placed as `place` places them
 //!   (`IsSelected`): its blocks, the function that owns each of them, and its data, which are exactly the globals' bytes,
-//!   each global at a multiple of 4 (`data_bytes`). Ok comes only where each frame has at most 32,000 bytes and the depth times the largest at most
-//!   16,777,216 (`FramesFit`, said of the RTL program alone); Limit only where they have not, or where the unit of the
-//!   program over its homes would have more than 1,048,576 blocks (`IsBeyond`).
+//!   each global at a multiple of 4 (`data_bytes`). Ok comes only where each frame has at most 32,000 bytes and the depth
+//!   times the largest at most 16,777,216 (`FramesFit`, said of the RTL program alone); Limit only where they have not, or
+//!   where the unit of the program over its homes would have more than 1,048,576 blocks (`IsBeyond`).
+//! - `mips_select::select_numbered` gives such a unit with the numbers of the blocks with which the program's blocks begin
+//!   there, one function behind another (`IsNumbered`), within the same limits.
 //! - Law: so does the unit of every program whose frames fit, over homes that are placed as `place` of mips_homes places
 //!   them (`ArePlaced`, `each_unit_keeps_runs`).
 //! - Only tested: units assembled, run and compared with `rtl::run` and with words worked by hand: up to 40 live
@@ -42,6 +44,7 @@ mod globals;
 mod heads;
 mod laws;
 mod limits;
+mod numbering;
 mod numbers;
 mod plan;
 mod program;
@@ -50,4 +53,5 @@ mod prologue;
 pub use laws::{each_unit_keeps_runs, limits_are_these_numbers};
 pub use limits::STACK_BYTES;
 pub use mips_split::SelectFault;
+pub use numbering::{Numbered, select_numbered};
 pub use program::select;

@@ -5,8 +5,9 @@ ghost use Rattle.std.specs.Prelude.{replicate};
 ghost use Rattle.mblock.specs.declared.limits.TheConstants.{UNIT_BLOCKS};
 ghost use Rattle.rtl.specs.declared.block.RFunc.{RFunc};
 ghost use Rattle.rtl.specs.declared.limits.TheConstants.{MAX_BLOCKS};
-ghost use Rattle.mips_select.specs.Heads.{heads_in};
+ghost use Rattle.mips_select.specs.Heads.{heads_in, namings_of, AreNamed};
 ghost use Rattle.mips_select.specs.Whole.{size_of_blocks, numbers, function_size, functions_size, entries_from, owners_for};
+ghost use Rattle.mips_select.specs.Whole.{numbers_in, numbers_from};
 
 use crate::heads::{Naming, all_namings, count_of, lead_in};
 use mblock::{BlockNumber, UNIT_BLOCKS};
@@ -86,23 +87,31 @@ fn count_blocks(table: &[Naming], blocks: &[RBlock]) -> usize
     n
 }
 
-// How many blocks stand for a function.
-fn count_function(alloc: Global, func: &RFunc) -> Result<usize, AllocError>
-    requires { length func.now.blocks.items ≤ MAX_BLOCKS }
-    ensures { IfOk result (λ n. n ≡ function_size func.now) }
+// How many blocks stand for a function, whose blocks are named as in the table.
+fn count_function(table: &[Naming], func: &RFunc) -> usize
+    requires few { length func.now.blocks.items ≤ MAX_BLOCKS }
+    requires named { table.now ≡ namings_of func.now }
+    ensures value { result ≡ function_size func.now }
+    ensures small { result ≤ 1 + MAX_BLOCKS + MAX_BLOCKS }
 {
-    let blocks = func.blocks.as_slice();
-    let namings = all_namings(alloc, blocks)?;
-    let table = namings.as_slice();
-    let size = count_blocks(table, blocks);
-    Ok(lead_in(table) + size)
+    let size = count_blocks(table, func.blocks.as_slice());
+    lead_in(table) + size
 }
 
-// Where functions begin, and the first block of each block's function.
+// How the blocks of each function are named, where functions begin, and the first block of each block's function.
 #[derive(Drop)]
 pub(crate) struct Numbers {
+    pub(crate) namings: Vec<Vec<Naming>>,
     pub(crate) entries: Vec<BlockNumber>,
     pub(crate) owners: Vec<BlockNumber>,
+}
+
+// One more table.
+fn push_table(tables: &mut Vec<Vec<Naming>>, table: Vec<Naming>) -> Result<(), AllocError>
+    ensures { OnOk result (tables.new.items ≡ tables.old.items ++ table ∷ []) }
+{
+    tables.push(table)?;
+    Ok(())
 }
 
 // The owners of the two blocks for start and end.
@@ -118,23 +127,73 @@ fn first_owners(alloc: Global) -> Result<Vec<BlockNumber>, AllocError>
 // The numbers of functions, from 2 on.
 pub(crate) fn number_functions(alloc: Global, functions: &[RFunc]) -> Result<Numbers, SelectFault>
     requires { (g : ℕ) (func : RFunc) → slice_get functions.now g ≡ Some func → length func.blocks.items ≤ MAX_BLOCKS }
+    ensures namings { IfOk result (λ n. AreNamed n.namings.items functions.now) }
     ensures entries { IfOk result (λ n. n.entries.items ≡ entries_from 2 functions.now) }
     ensures owners { IfOk result (λ n. n.owners.items ≡ owners_for functions.now) }
     ensures few { IfOk result (λ _. 2 + functions_size functions.now ≤ UNIT_BLOCKS) }
     ensures limit { IfErr result (λ e. e ≡ SelectFault.Limit → UNIT_BLOCKS < 2 + functions_size functions.now) }
 {
+    let mut namings = Vec::new(alloc);
     let mut entries = Vec::new(alloc);
     let mut owners = first_owners(alloc)?;
     let mut k: usize = 2;
     for func in functions {
-        let size = count_function(alloc, func)?;
+        let table = all_namings(alloc, func.blocks.as_slice())?;
+        let size = count_function(table.as_slice(), func);
         if size > UNIT_BLOCKS - k {
             return Err(SelectFault::Limit);
         }
         let entry = number(k);
         push_number(&mut entries, entry)?;
         push_copies(&mut owners, entry, size)?;
+        push_table(&mut namings, table)?;
         k += size;
     }
-    Ok(Numbers { entries, owners })
+    Ok(Numbers {
+        namings,
+        entries,
+        owners,
+    })
+}
+
+// The numbers of a function's blocks behind others, that of its first one being k, and how many blocks stand for it.
+fn push_numbers(
+    alloc: Global,
+    out: &mut Vec<BlockNumber>,
+    table: &[Naming],
+    k: usize,
+    func: &RFunc,
+) -> Result<usize, AllocError>
+    requires few { length func.now.blocks.items ≤ MAX_BLOCKS }
+    requires named { table.now ≡ namings_of func.now }
+    requires number { k + function_size func.now ≤ UNIT_BLOCKS }
+    ensures numbers { OnOk result (out.new.items ≡ out.old.items ++ numbers_in k func.now.blocks.items) }
+    ensures size { IfOk result (λ n. n ≡ function_size func.now) }
+{
+    let first = k + lead_in(table);
+    let numbers = number_blocks(alloc, table, first, func.blocks.as_slice())?;
+    out.extend_from_slice(numbers.as_slice())?;
+    Ok(count_function(table, func))
+}
+
+// The numbers of the blocks of functions, from 2 on, one function behind another.
+pub(crate) fn number_each(
+    alloc: Global,
+    namings: &[Vec<Naming>],
+    functions: &[RFunc],
+) -> Result<Vec<BlockNumber>, AllocError>
+    requires named { AreNamed namings.now functions.now }
+    requires few { (g : ℕ) (func : RFunc) → slice_get functions.now g ≡ Some func → length func.blocks.items ≤ MAX_BLOCKS }
+    requires number { 2 + functions_size functions.now ≤ UNIT_BLOCKS }
+    ensures { IfOk result (λ ns. ns.items ≡ numbers_from 2 functions.now) }
+{
+    let mut numbers = Vec::new(alloc);
+    let mut k: usize = 2;
+    for i in 0..functions.len() {
+        let func = &functions[i];
+        let table = namings[i].as_slice();
+        let size = push_numbers(alloc, &mut numbers, table, k, func)?;
+        k += size;
+    }
+    Ok(numbers)
 }

@@ -1,19 +1,21 @@
 // Programs to units.
 
-ghost use Rattle.std.specs.Prelude.{◌≡◌, ◌+◌, ◌≤◌, IfOk, IfErr};
+ghost use Rattle.std.specs.Prelude.{◌≡◌, ℕ, ◌+◌, ◌<◌, ◌≤◌, length, IfOk, IfErr};
 ghost use Rattle.mblock.specs.declared.limits.TheConstants.{UNIT_BLOCKS};
 ghost use Rattle.mips_homes.specs.Places.{ArePlaced};
 ghost use Rattle.mips_select.specs.Data.{data_bytes};
 ghost use Rattle.mips_select.specs.Emittable.{AreReachable};
+ghost use Rattle.mips_select.specs.Heads.{AreNamed};
 ghost use Rattle.mips_select.specs.Limits.{FramesFit};
-ghost use Rattle.mips_select.specs.Whole.{functions_size, entries_from, program_blocks};
+ghost use Rattle.mips_select.specs.Whole.{functions_size, entries_from, owners_for, program_blocks, unit_for};
 ghost use Rattle.mips_select.specs.Laws.{KeepsRuns, IsSelected, IsBeyond};
 
 use crate::code::push_block;
 use crate::functions::{emit_functions, end_block, start_block};
 use crate::globals::{globals_bytes, globals_starts};
+use crate::heads::Naming;
 use crate::limits::have_room;
-use crate::numbers::{number_at, number_functions};
+use crate::numbers::{Numbers, number_at, number_functions};
 use crate::plan::Linkage;
 use mblock::{BlockNumber, Unit};
 use mips_homes::{Homed, place};
@@ -21,15 +23,17 @@ use mips_split::{LongBlock, SelectFault, split_unit};
 use rtl::Rtl;
 use std::alloc::{AllocError, Global};
 
-// The blocks for a program, of any length, where functions begin at `entries`.
+// The blocks for a program, of any length. Its functions begin at `entries`, and their blocks are named as in `namings`.
 fn emit_program(
     alloc: Global,
     homed: &Homed,
     entries: &[BlockNumber],
+    namings: &[Vec<Naming>],
 ) -> Result<Vec<LongBlock>, AllocError>
     requires choices { ArePlaced homed.now }
     requires frames { AreReachable homed.now.frames.items }
     requires entries { entries.now ≡ entries_from 2 (homed.now.rtl.now).functions }
+    requires named { AreNamed namings.now (homed.now.rtl.now).functions }
     requires number { 2 + functions_size (homed.now.rtl.now).functions ≤ UNIT_BLOCKS }
     ensures { IfOk result (λ blocks. blocks.items ≡ program_blocks homed.now) }
 {
@@ -48,8 +52,76 @@ fn emit_program(
     let mut out = Vec::new(alloc);
     push_block(&mut out, first)?;
     push_block(&mut out, second)?;
-    emit_functions(alloc, &mut out, &linkage, functions, frames)?;
+    emit_functions(alloc, &mut out, &linkage, namings, functions, frames)?;
     Ok(out)
+}
+
+// The homes of a program, if each frame is within reach and `depth` of the largest ones have room.
+pub(crate) fn homes_with_room<'a>(
+    alloc: Global,
+    rtl: &'a Rtl,
+    depth: u32,
+) -> Result<Homed<'a>, SelectFault>
+    ensures lent { IfOk result (λ h. h.rtl.now ≡ rtl.now) }
+    ensures places { IfOk result (λ h. ArePlaced h) }
+    ensures frames { IfOk result (λ h. AreReachable h.frames.items) }
+    ensures within { IfOk result (λ _. FramesFit rtl.now depth) }
+    ensures limit { IfErr result (λ e. e ≡ SelectFault.Limit → (FramesFit rtl.now depth → IsBeyond rtl.now)) }
+{
+    let homed = place(alloc, rtl)?;
+    if !have_room(homed.frames.as_slice(), depth) {
+        return Err(SelectFault::Limit);
+    }
+    Ok(homed)
+}
+
+// The blocks for a program, of any length, the first block of each one's function, and how the program's blocks are named.
+#[derive(Drop)]
+pub(crate) struct LongUnit {
+    pub(crate) blocks: Vec<LongBlock>,
+    pub(crate) owners: Vec<BlockNumber>,
+    pub(crate) namings: Vec<Vec<Naming>>,
+}
+
+// Those over homes.
+pub(crate) fn long_unit(alloc: Global, homed: &Homed) -> Result<LongUnit, SelectFault>
+    requires places { ArePlaced homed.now }
+    requires frames { AreReachable homed.now.frames.items }
+    ensures blocks { IfOk result (λ l. l.blocks.items ≡ program_blocks homed.now) }
+    ensures owners { IfOk result (λ l. l.owners.items ≡ owners_for (homed.now.rtl.now).functions) }
+    ensures namings { IfOk result (λ l. AreNamed l.namings.items (homed.now.rtl.now).functions) }
+    ensures few { IfOk result (λ _. 2 + functions_size (homed.now.rtl.now).functions ≤ UNIT_BLOCKS) }
+    ensures limit { IfErr result (λ e. e ≡ SelectFault.Limit → UNIT_BLOCKS < length (unit_for homed.now).blocks) }
+{
+    let numbers = number_functions(alloc, homed.rtl.functions())?;
+    let entries = numbers.entries.as_slice();
+    let blocks = emit_program(alloc, homed, entries, numbers.namings.as_slice())?;
+    let Numbers {
+        owners,
+        namings,
+        ..
+    } = numbers;
+    Ok(LongUnit {
+        blocks,
+        owners,
+        namings,
+    })
+}
+
+// The unit over homes, of its long blocks.
+pub(crate) fn unit_of(alloc: Global, homed: &Homed, long: &LongUnit) -> Result<Unit, SelectFault>
+    requires places { ArePlaced homed.now }
+    requires blocks { long.now.blocks.items ≡ program_blocks homed.now }
+    requires owners { long.now.owners.items ≡ owners_for (homed.now.rtl.now).functions }
+    ensures unit { IfOk result (λ u. u ≡ unit_for homed.now) }
+    ensures runs { IfOk result (λ u. (depth : ℕ) → FramesFit homed.now.rtl.now depth → KeepsRuns homed.now.rtl.now depth u) }
+    ensures limit { IfErr result (λ e. e ≡ SelectFault.Limit → UNIT_BLOCKS < length (unit_for homed.now).blocks) }
+{
+    let bytes = globals_bytes(alloc, homed.rtl.globals())?;
+    let blocks = long.blocks.as_slice();
+    let owners = long.owners.as_slice();
+    let unit = split_unit(alloc, blocks, owners, bytes)?;
+    Ok(unit)
 }
 
 /// The unit of a program, whose stack holds `depth` activations: wherever the program isn't wrong, the unit comes to the same
@@ -62,14 +134,8 @@ pub fn select(alloc: Global, rtl: &Rtl, depth: u32) -> Result<Unit, SelectFault>
     ensures within { IfOk result (λ _. FramesFit rtl.now depth) }
     ensures limit { IfErr result (λ e. e ≡ SelectFault.Limit → (FramesFit rtl.now depth → IsBeyond rtl.now)) }
 {
-    let homed = place(alloc, rtl)?;
-    if !have_room(homed.frames.as_slice(), depth) {
-        return Err(SelectFault::Limit);
-    }
-    let bytes = globals_bytes(alloc, rtl.globals())?;
-    let numbers = number_functions(alloc, rtl.functions())?;
-    let blocks = emit_program(alloc, &homed, numbers.entries.as_slice())?;
-    let owners = numbers.owners.as_slice();
-    let unit = split_unit(alloc, blocks.as_slice(), owners, bytes)?;
+    let homed = homes_with_room(alloc, rtl, depth)?;
+    let long = long_unit(alloc, &homed)?;
+    let unit = unit_of(alloc, &homed, &long)?;
     Ok(unit)
 }

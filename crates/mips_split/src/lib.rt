@@ -7,6 +7,7 @@
 //! What is promised:
 //! - `mips_split::split_unit` cuts blocks at 512 instructions exactly as `specs/Split.antt` says, Limit only above
 //!   1,048,576 pieces; whatever the long blocks come to, the unit comes to (`each_split_unit_comes_to`).
+//!   `first_pieces` gives the number of each block's first piece.
 #![tactic(auto)]
 
 mod fault;
@@ -20,4 +21,4 @@ pub use laws::{
     each_split_unit_runs,
 };
 pub use long::LongBlock;
-pub use pieces::{split, split_unit};
+pub use pieces::{first_pieces, split, split_unit};

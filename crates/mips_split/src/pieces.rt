@@ -52,8 +52,8 @@ fn is_beyond(k: usize, more: usize) -> bool
     more >= UNIT_BLOCKS - k
 }
 
-// The number of each block's first piece.
-fn number_pieces(alloc: Global, long: &[LongBlock]) -> Result<Vec<BlockNumber>, SelectFault>
+/// The number of each block's first piece.
+pub fn first_pieces(alloc: Global, long: &[LongBlock]) -> Result<Vec<BlockNumber>, SelectFault>
     ensures numbers { IfOk result (λ ns. ns.items ≡ firsts BLOCK_INSTS 0 long.now) }
     ensures few { IfOk result (λ _. total BLOCK_INSTS long.now ≤ UNIT_BLOCKS) }
     ensures limit { IfErr result (λ e. e ≡ SelectFault.Limit → UNIT_BLOCKS < total BLOCK_INSTS long.now) }
@@ -196,7 +196,7 @@ pub fn split(alloc: Global, long: &[LongBlock]) -> Result<Vec<Block>, SelectFaul
     ensures few { IfOk result (λ blocks. length blocks.items ≤ UNIT_BLOCKS) }
     ensures limit { IfErr result (λ e. e ≡ SelectFault.Limit → UNIT_BLOCKS < length (split_blocks long.now)) }
 {
-    let numbers = number_pieces(alloc, long)?;
+    let numbers = first_pieces(alloc, long)?;
     let blocks = pieces_of(alloc, numbers.as_slice(), long)?;
     Ok(blocks)
 }
@@ -248,7 +248,7 @@ pub fn split_unit(
     ensures runs { IfOk result (λ u. (s : State) (r : ℕ) (end : Outcome) → ComesTo long.now s r end → ComesTo u.blocks s r end) }
     ensures limit { IfErr result (λ e. e ≡ SelectFault.Limit → UNIT_BLOCKS < length (split_blocks long.now)) }
 {
-    let numbers = number_pieces(alloc, long)?;
+    let numbers = first_pieces(alloc, long)?;
     let blocks = pieces_of(alloc, numbers.as_slice(), long)?;
     let owners = owners_of(alloc, numbers.as_slice(), long, owner)?;
     Ok(Unit::of(blocks, owners, globals))

@@ -21,11 +21,8 @@ pub(crate) fn put_heading(
     number: usize,
     called: Option<&str>,
 ) -> Result<(), AllocError> {
-    write!(out, "  block {number}")?;
-    if let Some(name) = called {
-        out.push_str(" (calls ")?;
-        out.push_str(name)?;
-        out.push_str(")")?;
+    match called {
+        Some(name) => write!(out, "  block {number} (calls {name})"),
+        None => write!(out, "  block {number}"),
     }
-    Ok(())
 }

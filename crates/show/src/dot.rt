@@ -7,7 +7,7 @@ use rtl::{RBlock, RExit};
 use std::alloc::AllocError;
 
 /// What an edge is for: where a branch's condition holds, where it doesn't, and all others.
-#[derive(Clone, Copy, PartialEq, Eq, Debug)]
+#[derive(Clone, Copy)]
 enum Way {
     Taken,
     Falls,
@@ -50,12 +50,26 @@ fn put_edges(out: &mut String, from: usize, exit: Exit) -> Result<(), AllocError
 }
 
 /// A block of the unit, and its edges.
-pub(crate) fn put_block(out: &mut String, number: usize, block: &Block) -> Result<(), AllocError> {
+fn put_block(out: &mut String, number: usize, block: &Block) -> Result<(), AllocError> {
     put_node(out, number)?;
     put_insts(out, block.insts(), "", "\\l")?;
     put_exit(out, block.exit())?;
     out.push_str("\\l\"];\n")?;
     put_edges(out, number, block.exit())
+}
+
+/// Blocks of the unit, from this number on.
+pub(crate) fn put_blocks(
+    out: &mut String,
+    first: usize,
+    blocks: &[Block],
+) -> Result<(), AllocError> {
+    let mut k = first;
+    for block in blocks {
+        put_block(out, k, block)?;
+        k = k.saturating_add(1);
+    }
+    Ok(())
 }
 
 fn put_rtl_edges(
@@ -77,7 +91,7 @@ fn put_rtl_edges(
 }
 
 /// A block of RTL, and its edges.
-pub(crate) fn put_rtl_block(
+fn put_rtl_block(
     out: &mut String,
     view: &RtlView<'_>,
     number: usize,
@@ -87,4 +101,18 @@ pub(crate) fn put_rtl_block(
     view.lines(out, block, "", "\\l")?;
     out.push_str("\"];\n")?;
     put_rtl_edges(out, view, number, &block.exit)
+}
+
+/// The blocks of a function of RTL.
+pub(crate) fn put_rtl_blocks(
+    out: &mut String,
+    view: &RtlView<'_>,
+    blocks: &[RBlock],
+) -> Result<(), AllocError> {
+    let mut k = 0u32;
+    for block in blocks {
+        put_rtl_block(out, view, view.number(k), block)?;
+        k = k.saturating_add(1);
+    }
+    Ok(())
 }

@@ -73,13 +73,15 @@ impl<'a> ListingView<'a> {
         if is_shown {
             put_title(out, self.names, number)?;
         }
-        for (k, order) in orders.iter().enumerate().take(range.to).skip(range.from) {
+        let mut k = range.from;
+        for order in range.of(orders) {
             if is_shown {
                 put_heading(out, k, callee(self.names, self.ranges, order.exit()))?;
                 out.push_str("\n")?;
             }
             let words = order.insts().len().saturating_add(exit_words(order.exit()));
             put_words(out, lines, words, is_shown)?;
+            k = k.saturating_add(1);
         }
         Ok(())
     }

@@ -4,11 +4,11 @@ ghost use Rattle.std.specs.Prelude.{All, IfOk};
 ghost use Rattle.block_text.specs.Shown.{IsShown};
 
 use crate::blocks::{callee, put_heading};
-use crate::dot::{put_block, put_rtl_block};
+use crate::dot::{put_blocks, put_rtl_blocks};
 use crate::homes::put_homes;
 use crate::listing::{ListingView, put_title};
 use crate::names::Names;
-use crate::numbers::{Range, functions_of, numbers_of};
+use crate::numbers::{Range, functions_of, rtl_blocks_of};
 use crate::orders::put_settled;
 use crate::rtl_text::RtlView;
 use crate::stage::Stage;
@@ -16,9 +16,9 @@ use crate::terms::put_terms;
 use block_text::{WIDTH, page_of, put_order};
 use delay_filler::FilledOrder;
 use list_scheduler::ListOrder;
-use mblock::{Block, Unit, plain};
+use mblock::{Block, BlockNumber, Unit, plain};
 use mips_asm::{AsmFault, assemble, list};
-use mips_homes::place;
+use mips_homes::{Frame, Homed, place};
 use rtl::{RFunc, Rtl};
 use sched_phase::{PhaseOpts, schedule_one};
 use std::alloc::{AllocError, Global};
@@ -29,6 +29,8 @@ pub struct Shown<'a> {
     pub text: &'a [u8],
     pub rtl: &'a Rtl,
     pub unit: &'a Unit,
+    /// The number of the unit's block with which each block of RTL begins, one function behind another.
+    pub numbers: &'a [BlockNumber],
 }
 
 /// What is asked for.
@@ -70,22 +72,67 @@ struct Wanted {
     dot: bool,
 }
 
-/// A program with its names and the numbers of its blocks.
+impl Wanted {
+    /// What is asked for, if it is there.
+    fn of(names: &Names<'_>, asked: &Asked<'_>) -> Result<Wanted, ShowFault> {
+        let stage = match asked.stage {
+            None => None,
+            Some(name) => match Stage::named(name) {
+                Some(stage) => Some(stage),
+                None => return Err(ShowFault::NoStage),
+            },
+        };
+        let only = match asked.function {
+            None => None,
+            Some(name) => match names.function_named(name) {
+                Some(number) => Some(number.saturating_add(1)),
+                None => return Err(ShowFault::NoFunction),
+            },
+        };
+        Ok(Wanted {
+            stage,
+            only,
+            dot: asked.dot,
+        })
+    }
+}
+
+/// The frames of a program's functions, if their homes are wanted: otherwise none.
+fn frames_of(alloc: Global, rtl: &Rtl, wanted: &Wanted) -> Result<Vec<Frame>, AllocError> {
+    if wanted.dot || wanted.stage != Some(Stage::Homes) {
+        return Ok(Vec::new(alloc));
+    }
+    let Homed { frames, .. } = place(alloc, rtl)?;
+    Ok(frames)
+}
+
+/// A program with its names, its functions, and the frames that are wanted.
 #[derive(Drop)]
 struct View<'a> {
     shown: Shown<'a>,
     names: Names<'a>,
     ranges: Vec<Range>,
+    /// The functions' blocks of RTL.
+    rtl_ranges: Vec<Range>,
+    frames: Vec<Frame>,
 }
 
 impl<'a> View<'a> {
-    fn read(alloc: Global, shown: Shown<'a>) -> Result<View<'a>, AllocError> {
-        let names = Names::read(alloc, shown.text)?;
+    fn of(
+        alloc: Global,
+        shown: Shown<'a>,
+        names: Names<'a>,
+        wanted: &Wanted,
+    ) -> Result<View<'a>, AllocError> {
         let ranges = functions_of(alloc, shown.unit)?;
+        let rtl_ranges = rtl_blocks_of(alloc, shown.rtl.functions())?;
+        let frames = frames_of(alloc, shown.rtl, wanted)?;
         Ok(View {
             shown,
             names,
             ranges,
+            rtl_ranges,
+            frames,
         })
     }
 
@@ -102,40 +149,36 @@ impl<'a> View<'a> {
         self.shown.rtl.functions().get(number - 1)
     }
 
-    fn put_rtl(
-        &self,
-        alloc: Global,
-        out: &mut String,
-        number: usize,
-        is_graph: bool,
-    ) -> Result<(), AllocError> {
+    /// The numbers of a function's blocks of RTL.
+    fn numbers(&self, number: usize) -> &'a [BlockNumber] {
+        let none = Range { from: 0, to: 0 };
+        let range = self.rtl_ranges.get(number.saturating_sub(1)).copied();
+        range.unwrap_or(none).of(self.shown.numbers)
+    }
+
+    fn put_rtl(&self, out: &mut String, number: usize, is_graph: bool) -> Result<(), AllocError> {
         let Some(function) = self.function(number) else {
             return Ok(());
         };
-        let blocks = function.blocks.as_slice();
-        let numbers = numbers_of(alloc, self.shown.unit, self.range(number).from, blocks)?;
         let view = RtlView {
             names: &self.names,
             function: number.saturating_sub(1),
             globals: self.shown.rtl.globals(),
-            numbers: numbers.as_slice(),
+            numbers: self.numbers(number),
         };
-        if !is_graph {
-            return view.blocks(out, blocks);
+        let blocks = function.blocks.as_slice();
+        if is_graph {
+            put_rtl_blocks(out, &view, blocks)
+        } else {
+            view.blocks(out, blocks)
         }
-        for (k, block) in blocks.iter().enumerate() {
-            let number = numbers.get(k).copied().unwrap_or(0);
-            put_rtl_block(out, &view, number, block)?;
-        }
-        Ok(())
     }
 
-    fn put_homes(&self, alloc: Global, out: &mut String, number: usize) -> Result<(), AllocError> {
+    fn put_homes(&self, out: &mut String, number: usize) -> Result<(), AllocError> {
         if number == 0 {
             return Ok(());
         }
-        let homed = place(alloc, self.shown.rtl)?;
-        match homed.frames.get(number - 1) {
+        match self.frames.get(number - 1) {
             Some(frame) => put_homes(out, &self.names, number - 1, frame),
             None => Ok(()),
         }
@@ -170,14 +213,12 @@ impl<'a> View<'a> {
         number: usize,
     ) -> Result<(), AllocError> {
         let range = self.range(number);
-        let blocks = self.shown.unit.blocks();
-        for (k, block) in blocks.iter().enumerate().take(range.to).skip(range.from) {
-            put_heading(
-                out,
-                k,
-                callee(&self.names, self.ranges.as_slice(), block.exit()),
-            )?;
+        let mut k = range.from;
+        for block in range.of(self.shown.unit.blocks()) {
+            let called = callee(&self.names, self.ranges.as_slice(), block.exit());
+            put_heading(out, k, called)?;
             self.put_stage(alloc, out, stage, block)?;
+            k = k.saturating_add(1);
         }
         Ok(())
     }
@@ -192,20 +233,14 @@ impl<'a> View<'a> {
     ) -> Result<(), AllocError> {
         put_title(out, &self.names, number)?;
         match stage {
-            Stage::Rtl => self.put_rtl(alloc, out, number, false),
-            Stage::Homes => self.put_homes(alloc, out, number),
+            Stage::Rtl => self.put_rtl(out, number, false),
+            Stage::Homes => self.put_homes(out, number),
             _ => self.put_blocks(alloc, out, stage, number),
         }
     }
 
     /// A function's graph, as a cluster.
-    fn put_graph(
-        &self,
-        alloc: Global,
-        out: &mut String,
-        is_rtl: bool,
-        number: usize,
-    ) -> Result<(), AllocError> {
+    fn put_graph(&self, out: &mut String, is_rtl: bool, number: usize) -> Result<(), AllocError> {
         let name = if number == 0 {
             "start"
         } else {
@@ -214,13 +249,10 @@ impl<'a> View<'a> {
         writeln!(out, "  subgraph cluster_{number} {{")?;
         writeln!(out, "    label=\"{name}\";")?;
         if is_rtl {
-            self.put_rtl(alloc, out, number, true)?;
+            self.put_rtl(out, number, true)?;
         } else {
             let range = self.range(number);
-            let blocks = self.shown.unit.blocks();
-            for (k, block) in blocks.iter().enumerate().take(range.to).skip(range.from) {
-                put_block(out, k, block)?;
-            }
+            put_blocks(out, range.from, range.of(self.shown.unit.blocks()))?;
         }
         out.push_str("  }\n")
     }
@@ -262,7 +294,7 @@ impl<'a> View<'a> {
         number: usize,
     ) -> Result<(), AllocError> {
         if wanted.dot {
-            return self.put_graph(alloc, out, wanted.stage == Some(Stage::Rtl), number);
+            return self.put_graph(out, wanted.stage == Some(Stage::Rtl), number);
         }
         match wanted.stage {
             Some(stage) => self.put_function(alloc, out, stage, number),
@@ -318,29 +350,6 @@ impl<'a> View<'a> {
         }
         Ok(out)
     }
-
-    /// What is asked for, if it is there.
-    fn wanted(&self, asked: &Asked<'_>) -> Result<Wanted, ShowFault> {
-        let stage = match asked.stage {
-            None => None,
-            Some(name) => match Stage::named(name) {
-                Some(stage) => Some(stage),
-                None => return Err(ShowFault::NoStage),
-            },
-        };
-        let only = match asked.function {
-            None => None,
-            Some(name) => match self.names.function_named(name) {
-                Some(number) => Some(number.saturating_add(1)),
-                None => return Err(ShowFault::NoFunction),
-            },
-        };
-        Ok(Wanted {
-            stage,
-            only,
-            dot: asked.dot,
-        })
-    }
 }
 
 /// The first function that is shown: the code that calls main has neither RTL nor homes.
@@ -355,8 +364,9 @@ fn first_of(wanted: &Wanted) -> usize {
 pub fn show(alloc: Global, shown: Shown<'_>, asked: &Asked<'_>) -> Result<Vec<u8>, ShowFault>
     ensures { IfOk result (λ page. All IsShown page.items) }
 {
-    let view = View::read(alloc, shown)?;
-    let wanted = view.wanted(asked)?;
+    let names = Names::read(alloc, shown.text)?;
+    let wanted = Wanted::of(&names, asked)?;
+    let view = View::of(alloc, shown, names, &wanted)?;
     let text = view.text(alloc, &wanted)?;
     let width = if asked.dot { usize::MAX } else { WIDTH };
     let page = page_of(alloc, text.as_bytes(), width)?;

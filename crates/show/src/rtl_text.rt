@@ -1,6 +1,7 @@
 // RTL as text.
 
 use crate::names::Names;
+use mblock::BlockNumber;
 use rtl::{Op, RBlock, RExit, RGlobal, RInst, Register};
 use std::alloc::AllocError;
 
@@ -10,7 +11,7 @@ pub(crate) struct RtlView<'a> {
     pub(crate) names: &'a Names<'a>,
     pub(crate) function: usize,
     pub(crate) globals: &'a [RGlobal],
-    pub(crate) numbers: &'a [usize],
+    pub(crate) numbers: &'a [BlockNumber],
 }
 
 /// An operator's sign; `u` behind it where words are read without a sign.
@@ -99,7 +100,10 @@ impl<'a> RtlView<'a> {
 
     /// The number that a block has in all stages.
     pub(crate) fn number(&self, block: u32) -> usize {
-        self.numbers.get(block as usize).copied().unwrap_or(0)
+        match self.numbers.get(block as usize) {
+            Some(number) => number.number() as usize,
+            None => 0,
+        }
     }
 
     fn to(&self, out: &mut String, before: &str, block: u32) -> Result<(), AllocError> {
@@ -176,10 +180,12 @@ impl<'a> RtlView<'a> {
 
     /// All blocks of a function.
     pub(crate) fn blocks(&self, out: &mut String, blocks: &[RBlock]) -> Result<(), AllocError> {
-        for (k, block) in blocks.iter().enumerate() {
-            let number = self.numbers.get(k).copied().unwrap_or(0);
+        let mut k = 0u32;
+        for block in blocks {
+            let number = self.number(k);
             writeln!(out, "  block {number}")?;
             self.lines(out, block, "    ", "\n")?;
+            k = k.saturating_add(1);
         }
         Ok(())
     }

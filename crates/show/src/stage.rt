@@ -1,7 +1,7 @@
 // The stages by their names.
 
 /// What is shown of a program.
-#[derive(Clone, Copy, Debug, PartialEq, Eq)]
+#[derive(Clone, Copy, PartialEq, Eq)]
 pub(crate) enum Stage {
     Rtl,
     /// Where pseudo-registers live.

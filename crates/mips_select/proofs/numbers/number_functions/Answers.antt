@@ -5,6 +5,6 @@ use Rattle.mips_select.proofs.numbers.number_functions.Goals as goal
 pub number-entry-requires : goal.number-entry-requires
 number-entry-requires c =
     let some = function_some c.func-item.result.blocks.items in
-    let size = c.in_ok-size.ensures in
+    let size = c.count_function-size.ensures.value in
     let room = c.if-size-k.false in
     omega (arith, some, size, room)

@@ -1,6 +1,6 @@
 use Rattle.std.proofs.Common.{◌≡◌, ◌≤◌, ◌+◌, ◌++◌, drop}
 use Rattle.mips_split.specs.Split.{total, firsts}
-use Rattle.mips_split.proofs.pieces.number_pieces.Given as goal
+use Rattle.mips_split.proofs.pieces.first_pieces.Given as goal
 
 abbrev pub invariant-loop-block : goal.invariant-loop-block
 invariant-loop-block l = record {

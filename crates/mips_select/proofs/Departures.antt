@@ -1,0 +1,113 @@
+-- How blocks are left, apart from what the unit does then: branches and comparisons, and what is known there.
+use Rattle.std.proofs.Common.{◌≡◌, ℕ, suc, ◌≤◌, Bool, true, false, ◌&&◌, List, [], ◌∷◌, ◌++◌, length, Option, Some, None, refl, sym, ap, ◌∙◌, arith, nat_lt}
+use Rattle.std.proofs.Common.{true≢false, ltb-true}
+use Rattle.std.specs.Prelude.{if◌then◌else◌, not, slice_get}
+use Rattle.std.proofs.lemmas.Option.{same_Some, none-some}
+use Rattle.runs.specs.Stores.{Places, chain}
+use Rattle.mips_isa.specs.declared.inst.Plain.{Plain}
+use Rattle.mips_isa.specs.States.{State}
+use Rattle.mblock.specs.Parts.{BlockParts}
+use Rattle.mblock.specs.BlockMeaning.{exit_effect}
+use Rattle.mblock.specs.UnitRuns.{items, outcome_at_block, outcome_of_departure}
+use Rattle.rtl.specs.declared.instruction.RInst.{RInst}
+use Rattle.rtl.specs.declared.instruction.RExit.{RExit}
+use Rattle.rtl.specs.declared.instruction.RExit.TheVariants.{Goto, Branch, Call, Return, Out}
+use Rattle.mips_homes.specs.HomedRun.{read_home, read_homes, lasting}
+use Rattle.mips_homes.specs.declared.homed.Frame.{Frame}
+use Rattle.mips_homes.specs.declared.homed.Home.{Home}
+use Rattle.mips_emit.specs.declared.comparison.Form.{Form}
+use Rattle.mips_emit.specs.declared.comparison.Form.TheVariants.{OnPair, OnLeft, OnRight, ByResult, ByOpposite, InResult}
+use Rattle.mips_emit.specs.declared.comparison.Asked.TheVariants.{Branched}
+use Rattle.mips_emit.specs.declared.comparison.Comparison.{Comparison}
+use Rattle.mips_emit.specs.declared.location.Source.{Source}
+use Rattle.mips_emit.specs.Locations.{Locations, Facts, locations, last_operand}
+use Rattle.mips_emit.specs.Comparisons.{exit_by_form, comparison_of, last_with, tested, branch_code, branch_exit, return_code}
+use Rattle.mips_emit.proofs.Homes.{passes}
+use Rattle.mips_emit.proofs.Comparing.{none_asked, asked_result, returned_result}
+use Rattle.mips_select.specs.Code.{epilogue, asked_of, exit_code, exit_of}
+
+-- as many words as are read
+pub read_length : (homes : List Home) (r slots : Places) (xs vs : List ℕ) → read_homes homes r slots xs ≡ Some vs → length vs ≡ length xs
+read_length homes r slots [] vs e = sym (ap length (same_Some [] vs e))
+read_length homes r slots (x ∷ xs) vs e = first (λ ws e. read_length homes r slots xs ws e) (read_home homes r slots x) e
+  where
+    Again : Type 0
+    Again = (ws : List ℕ) → read_homes homes r slots xs ≡ Some ws → length ws ≡ length xs
+
+    second : Again → (v : ℕ) (o : Option (List ℕ)) → read_homes homes r slots xs ≡ o → chain o (λ vs. Some (v ∷ vs)) ≡ Some vs → length vs ≡ suc (length xs)
+    second again v None is e = absurd (none-some vs e)
+    second again v (Some ws) is e = sym (ap length (same_Some (v ∷ ws) vs e)) ∙ ap suc (again ws is)
+
+    first : Again → (o : Option ℕ) → chain o (λ v. chain (read_homes homes r slots xs) (λ vs. Some (v ∷ vs))) ≡ Some vs → length vs ≡ suc (length xs)
+    first again None e = absurd (none-some vs e)
+    first again (Some v) e = second again v (read_homes homes r slots xs) refl e
+
+pub first_true : (a b : Bool) → (a && b) ≡ true → a ≡ true
+first_true true b e = refl
+first_true false b e = absurd (true≢false (sym e))
+
+pub second_true : (a b : Bool) → (a && b) ≡ true → b ≡ true
+second_true true b e = e
+second_true false b e = absurd (true≢false (sym e))
+
+pub branch_words : (place : ℕ → ℕ) (x y v : ℕ) (b : Bool) → (if not b then place y else place x) ≡ place (if b then x else y)
+branch_words place x y v true = refl
+branch_words place x y v false = refl
+
+pub either : (head : ℕ → List Plain) (x y : ℕ) (b : Bool) → (head y ≡ []) × (head x ≡ []) → head (if b then x else y) ≡ []
+either head x y true e = e.1
+either head x y false e = e.0
+
+-- a lasting register is none of those in which arguments are passed
+pub above_passing : (r : Places) (q w : ℕ) → lasting r q ≡ Some w → 8 ≤ q
+above_passing r q w e = by (nat_lt 15 q) (nat_lt q 24) refl e
+  where
+    by : (b c : Bool) → nat_lt 15 q ≡ b → (if b && c then r q else None) ≡ Some w → 8 ≤ q
+    by true c eb e = (let low = ltb-true 15 q eb in omega (arith, low))
+    by false c eb e = absurd (none-some w e)
+
+-- a branch for a comparison
+pub goes_by : (blocks : List BlockParts) (links : ℕ → ℕ) (form : Form) (x y : Source) (t e : ℕ) (k : ℕ) (s : State) (out : List ℕ) (n : ℕ)
+    → outcome_of_departure blocks links (exit_effect (exit_by_form form x y t e) s (links k)).goes (items blocks links n)
+    (exit_effect (exit_by_form form x y t e) s (links k)).state out
+    ≡ outcome_at_block (if passes form x y s then t else e) (slice_get blocks (if passes form x y s then t else e)) (items blocks links n) s out
+goes_by blocks links (OnPair test) x y t e k s out n = refl
+goes_by blocks links (OnLeft test) x y t e k s out n = refl
+goes_by blocks links (OnRight test) x y t e k s out n = refl
+goes_by blocks links ByResult x y t e k s out n = refl
+goes_by blocks links ByOpposite x y t e k s out n = refl
+goes_by blocks links InResult x y t e k s out n = refl
+
+-- behind a comparison the exit doesn't go by what is known
+asked_test : (at : Locations) (facts : Facts) (c : ℕ) (i : RInst) (m : Comparison) → comparison_of at facts (Branched c) i ≡ Some m
+    → tested (Some m) c ≡ Some m
+asked_test at facts c i m e = ap (λ b. if b then Some m else None) (asked_result at facts c i m e)
+
+pub same_exit : (entry place : ℕ → ℕ) (f : Frame) (facts known known' : Facts) (i : RInst) (m : Comparison) (n : ℕ) (x : RExit)
+    → comparison_of (locations f) facts (asked_of x) i ≡ Some m
+    → exit_of entry place f known (last_with (Some m) None) n x ≡ exit_of entry place f known' (last_with (Some m) None) n x
+same_exit entry place f facts known known' i m n (Branch c t e) is =
+    let test = asked_test (locations f) facts c i m is in
+    ap (λ o. branch_exit o (last_operand (locations f) known None c) (place t) (place e)) test
+    ∙ sym (ap (λ o. branch_exit o (last_operand (locations f) known' None c) (place t) (place e)) test)
+same_exit entry place f facts known known' i m n (Goto b) is = absurd (none_asked (locations f) facts i m is)
+same_exit entry place f facts known known' i m n (Call g xs d next) is = absurd (none_asked (locations f) facts i m is)
+same_exit entry place f facts known known' i m n (Return None) is = absurd (none_asked (locations f) facts i m is)
+same_exit entry place f facts known known' i m n (Return (Some x)) is = refl
+same_exit entry place f facts known known' i m n (Out b next) is = absurd (none_asked (locations f) facts i m is)
+
+pub same_code : (leaf : Bool) (f : Frame) (facts known known' : Facts) (i : RInst) (m : Comparison) (x : RExit)
+    → comparison_of (locations f) facts (asked_of x) i ≡ Some m
+    → exit_code leaf f known (last_with (Some m) None) x ≡ exit_code leaf f known' (last_with (Some m) None) x
+same_code leaf f facts known known' i m (Branch c t e) is =
+    let test = asked_test (locations f) facts c i m is in
+    ap (λ o. branch_code o (last_operand (locations f) known None c)) test
+    ∙ sym (ap (λ o. branch_code o (last_operand (locations f) known' None c)) test)
+same_code leaf f facts known known' i m (Goto b) is = absurd (none_asked (locations f) facts i m is)
+same_code leaf f facts known known' i m (Call g xs d next) is = absurd (none_asked (locations f) facts i m is)
+same_code leaf f facts known known' i m (Return None) is = absurd (none_asked (locations f) facts i m is)
+same_code leaf f facts known known' i m (Return (Some x)) is =
+    let test = returned_result (locations f) facts x i m is in
+    ap (λ b. return_code b (last_operand (locations f) known None x) ++ epilogue leaf f) test
+    ∙ sym (ap (λ b. return_code b (last_operand (locations f) known' None x) ++ epilogue leaf f) test)
+same_code leaf f facts known known' i m (Out b next) is = absurd (none_asked (locations f) facts i m is)

@@ -1,0 +1,36 @@
+use Rattle.std.proofs.Common.{ap, arith}
+use Rattle.std.proofs.lemmas.Result.{err_from_is_err_and}
+use Rattle.mips_select.specs.Whole.{functions_size}
+use Rattle.mips_select.proofs.Selecting.{function_blocks_few, beyond, many_counted, numbered}
+use Rattle.mips_select.proofs.numbering.select_numbered.Goals as goal
+
+pub block_numbers-requires-clause-small : goal.block_numbers-requires-clause-small
+block_numbers-requires-clause-small c = λ g func there. function_blocks_few _ _ c.functions.ensures.sound c.functions.ensures.value g func there
+
+pub block_numbers-requires-clause-number : goal.block_numbers-requires-clause-number
+block_numbers-requires-clause-number c =
+    let same = ap functions_size c.functions.ensures.value in
+    let few = c.in_ok-long.ensures.few in
+    omega (arith, same, few)
+
+pub returns-in_err-long-clause-limit : goal.returns-in_err-long-clause-limit
+returns-in_err-long-clause-limit c =
+    let p = err_from_is_err_and c.from_residual-in_err-long.result c.from_residual-in_err-long.ensures.1 in
+    rw (p.1, p.2) (λ e fit. beyond c.in_ok-homed.homed c.args.rtl.now c.in_ok-homed.ensures.lent c.in_ok-homed.ensures.places
+    (c.in_err-long.ensures.limit e))
+
+pub returns-in_err-unit-clause-limit : goal.returns-in_err-unit-clause-limit
+returns-in_err-unit-clause-limit c =
+    let p = err_from_is_err_and c.from_residual-in_err-unit.result c.from_residual-in_err-unit.ensures.1 in
+    rw (p.1, p.2) (λ e fit. beyond c.in_ok-homed.homed c.args.rtl.now c.in_ok-homed.ensures.lent c.in_ok-homed.ensures.places
+    (c.in_err-unit.ensures.limit e))
+
+pub returns-in_err-numbers-clause-limit : goal.returns-in_err-numbers-clause-limit
+returns-in_err-numbers-clause-limit c =
+    let p = err_from_is_err_and c.from_residual-in_err-numbers.result c.from_residual-in_err-numbers.ensures.1 in
+    rw (p.1, p.2) (λ e fit. beyond c.in_ok-homed.homed c.args.rtl.now c.in_ok-homed.ensures.lent c.in_ok-homed.ensures.places
+    (many_counted c.in_ok-homed.homed _ c.in_ok-long.ensures.blocks (c.in_err-numbers.ensures.limit e)))
+
+pub returns-clause-numbered : goal.returns-clause-numbered
+returns-clause-numbered c = numbered c.in_ok-homed.homed c.args.rtl.now _ _ _ _ c.in_ok-homed.ensures.lent c.in_ok-homed.ensures.places
+    c.in_ok-unit.ensures.unit c.in_ok-long.ensures.blocks c.functions.ensures.value c.in_ok-numbers.ensures.numbers

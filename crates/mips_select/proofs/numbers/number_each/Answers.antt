@@ -1,0 +1,25 @@
+use Rattle.std.proofs.Common.{◌∙◌, arith}
+use Rattle.mips_select.proofs.Blocks.{read_at, functions_room, named_at, named_long, numbers_step}
+use Rattle.mips_select.proofs.numbers.number_each.Goals as goal
+
+pub bounds-namings-i : goal.bounds-namings-i
+bounds-namings-i c = (let long = named_long _ _ c.requires.named in let lt = c.loop-i-test.true in omega (arith, long, lt))
+
+pub push_numbers-requires-clause-few : goal.push_numbers-requires-clause-few
+push_numbers-requires-clause-few c = c.requires.few c.loop-i.i c.index-functions-i.result
+    (read_at _ c.loop-i.i _ c.loop-i-test.true c.index-functions-i.is)
+
+pub push_numbers-requires-clause-named : goal.push_numbers-requires-clause-named
+push_numbers-requires-clause-named c =
+    let long = named_long _ _ c.requires.named in
+    let lt = c.loop-i-test.true in
+    c.as_slice-table.ensures.value ∙ named_at _ _ c.loop-i.i c.index-functions-i.result c.index-namings-i.result c.requires.named
+    (read_at _ c.loop-i.i _ lt c.index-functions-i.is) (read_at _ c.loop-i.i _ (omega (arith, long, lt)) c.index-namings-i.is)
+
+pub push_numbers-requires-clause-number : goal.push_numbers-requires-clause-number
+push_numbers-requires-clause-number c = functions_room c.loop-i.k c.loop-i.i _ c.args.functions.now c.index-functions-i.result c.loop-i-test.true
+    c.index-functions-i.is c.loop-i.invariant.0 c.requires.number
+
+pub loop-i-preserved : goal.loop-i-preserved
+loop-i-preserved c = numbers_step c.loop-i.k _ c.loop-i.i _ c.args.functions.now c.index-functions-i.result _ _ _ c.loop-i-test.true c.index-functions-i.is
+    c.in_ok-size.ensures.size c.in_ok-size.ensures.numbers c.loop-i.invariant
