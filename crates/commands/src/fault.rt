@@ -1,10 +1,8 @@
 // What keeps a command from its answer, and where it is told.
 ghost use Rattle.std.specs.Prelude.{◌≡◌, ℕ, List, [], ◌∷◌, ◌++◌, Some, IfSome, ⊤};
-ghost use Rattle.commands.specs.Requests.{TellsLine, TellsPlaced};
+ghost use Rattle.commands.specs.Requests.{TellsLine};
 ghost use Rattle.commands.specs.Texts.{host_fault_text};
 
-use crate::place::{Place, show_place};
-use std::alloc::Global;
 use std::error::Error;
 use std::fmt;
 use std::io::Write;
@@ -70,23 +68,5 @@ pub fn tell<E: Complaints, F: fmt::Display>(err: &mut E, fault: &F) -> u8
     ensures told { IfSome (F.output fault.now) (λ text. TellsLine E.tells err.old text err.new) }
 {
     err.line(fault);
-    1
-}
-
-/// The line of a fault of a text, and below it where it lies and what is said of it, if it has a place.
-pub fn tell_placed<E: Complaints, F: fmt::Display>(
-    alloc: Global,
-    err: &mut E,
-    fault: &F,
-    place: &Place<'_>,
-) -> u8
-    ensures status { result ≡ 1 }
-    ensures told { IfSome (F.output fault.now) (λ text. TellsLine E.tells err.old text err.new) }
-    ensures below { IfSome (F.output fault.now) (λ text. TellsPlaced E.tells err.old text err.new) }
-{
-    err.line(fault);
-    if let Some(at) = place.at {
-        show_place(alloc, err, place, at);
-    }
     1
 }

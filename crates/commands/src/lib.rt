@@ -33,10 +33,10 @@ mod place;
 mod wrong_words;
 
 pub use explanation::Explanation;
-pub use fault::{Complaints, HostFault, tell, tell_placed};
+pub use fault::{Complaints, HostFault, tell};
 pub use files::{FileFault, Files, read_file, write_file};
 pub use names::print_name;
 pub use one_file::{FileCommand, answer_file};
 pub use output::Output;
-pub use place::{Place, Spot, line_offset, spot_of};
+pub use place::{Place, Spot, line_offset, spot_of, tell_placed};
 pub use wrong_words::tell_words;

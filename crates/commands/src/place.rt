@@ -1,8 +1,8 @@
 // Where a fault lies in its file, as editors and readers want it: the line `FILE:LINE:COLUMN: error: MESSAGE`, below it the
 // line of the text around the place with a caret, and a line with a hint.
 
-ghost use Rattle.std.specs.Prelude.{◌<◌, ◌^◌, ◌≤◌, length, ◌++◌, All, IfOk, OnOk, Some, codes, decimal};
-ghost use Rattle.commands.specs.Requests.{TellsBeside};
+ghost use Rattle.std.specs.Prelude.{◌≡◌, ◌<◌, ◌^◌, ◌≤◌, length, ◌++◌, All, IfOk, IfSome, OnOk, Some, codes, decimal};
+ghost use Rattle.commands.specs.Requests.{TellsBeside, TellsLine, TellsPlaced};
 ghost use Rattle.commands.specs.Texts.{IsShown};
 
 use crate::explanation::{Explanation, printable};
@@ -254,8 +254,26 @@ fn lines_below(alloc: Global, place: &Place<'_>, at: usize) -> Result<Vec<u8>, A
     Ok(lines)
 }
 
+/// The line of a fault of a text, and below it where it lies and what is said of it, if it has a place.
+pub fn tell_placed<E: Complaints, F: fmt::Display>(
+    alloc: Global,
+    err: &mut E,
+    fault: &F,
+    place: &Place<'_>,
+) -> u8
+    ensures status { result ≡ 1 }
+    ensures told { IfSome (F.output fault.now) (λ text. TellsLine E.tells err.old text err.new) }
+    ensures below { IfSome (F.output fault.now) (λ text. TellsPlaced E.tells err.old text err.new) }
+{
+    err.line(fault);
+    if let Some(at) = place.at {
+        show_place(alloc, err, place, at);
+    }
+    1
+}
+
 /// Below a fault's line: where it lies and what is said of it; where memory is refused only where it lies.
-pub(crate) fn show_place<E: Complaints>(alloc: Global, err: &mut E, place: &Place<'_>, at: usize)
+fn show_place<E: Complaints>(alloc: Global, err: &mut E, place: &Place<'_>, at: usize)
     ensures { TellsBeside E.tells err.old (All (All IsShown)) err.new }
 {
     match lines_below(alloc, place, at) {
