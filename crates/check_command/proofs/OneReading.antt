@@ -1,5 +1,5 @@
 -- What is known of a file by what was read of it and what is said of that.
-use Rattle.std.proofs.Common.{◌≡◌, ◌<◌, ◌^◌, Bool, List, [], ℕ, ap, inl, inr, length, refl, subst, sym, ◌∙◌}
+use Rattle.std.proofs.Common.{◌≡◌, Bool, List, [], ℕ, ap, inl, inr, refl, subst, sym, ◌∙◌}
 use Rattle.commands.proofs.Told.{told_as}
 use Rattle.commands.specs.Requests.{Request, TellsLine, reading_fault}
 use Rattle.commands.specs.Requests.Request.{Read, NotRead}

@@ -82,4 +82,5 @@ pub record IsChecked {E : Type 0} (request : Request) (tells : E → List ℕ �
 abbrev pub IsAnswerLine : {E : Type 0} → (E → List ℕ → E → Type 0) → E → E → (explain : Bool) → CheckAnswer → FileLine → Type 0
 IsAnswerLine tells err_old err_new explain answer line =
     ((line.said ≡ says.Answer answer) × IsMore explain line.more.items × (err_new ≡ err_old))
-    ⊎ ((line.said ≡ says.Host NoMemory) × (line.more.items ≡ []) × (explain ≡ true) × TellsLine tells err_old (host_fault_text NoMemory) err_new)
+    ⊎ ((line.said ≡ says.Host NoMemory) × (line.more.items ≡ []) × (explain ≡ true)
+    × TellsLine tells err_old (host_fault_text NoMemory) err_new)

@@ -3,7 +3,8 @@
 ghost use Rattle.std.specs.Prelude.{◌≡◌, ◌≢◌, ◌<◌, ◌≤◌, [], ◌∷◌, ◌++◌, length, true, Some, IfErr, IfOk, OnOk};
 ghost use Rattle.std.specs.Io.KnownBytes.{Appends};
 ghost use Rattle.check_command.specs.Command.{IsMore};
-ghost use Rattle.check_command.specs.Line.{AreSaid, IsAnswerLine, IsChecked, IsReading, IsSaid, IsSaidAt, line_text, said_status, said_text};
+ghost use Rattle.check_command.specs.Line.{AreSaid, IsAnswerLine, IsChecked, IsReading, IsSaid, IsSaidAt};
+ghost use Rattle.check_command.specs.Line.{line_text, said_status, said_text};
 ghost use Rattle.commands.specs.Requests.{Request};
 
 use crate::command::{status_of, tell_check};

@@ -1,4 +1,4 @@
-use Rattle.std.proofs.Common.{◌<◌, ◌≤◌, ℕ, List, Bor, arith, length, map, sym}
+use Rattle.std.proofs.Common.{ℕ, List, Bor, arith, map, sym}
 use Rattle.std.proofs.lemmas.List.{get_or-map, length-map}
 use Rattle.check_command.proofs.EachFile.{cut_off, next, whole}
 use Rattle.check_command.proofs.several.show_each.Goals as goal
