@@ -14,7 +14,7 @@ use crate::verdicts::{CheckAnswer, CheckFault, check};
 use commands::{Complaints, HostFault, print_name, tell};
 use std::alloc::{AllocError, Global};
 use std::io::{self, Write};
-use std::thread::Threads;
+use std::thread::{Threads, available_parallelism};
 use std::{fmt, thread};
 
 /// What the line of a file says behind its name.
@@ -72,19 +72,29 @@ fn judged(alloc: Global, reading: &Reading) -> Said
     }
 }
 
-/// The same of each file, by at most so many workers. Where a thread can't be had, one that is there does its work.
+/// As many workers as there are processors, one at least and 64 at most.
+fn workers(threads: &impl Threads) -> usize
+    ensures { (0 < result) × (result ≤ 64) }
+{
+    match available_parallelism(threads) {
+        Ok(count) => count.get().min(64),
+        Err(_) => 1,
+    }
+}
+
+/// What is to be said of each file, by as many workers as there are processors. Where a thread can't be had, one that is there does
+/// its work.
 pub(crate) fn judge_each<T: Threads + Sync>(
     threads: &T,
-    workers: usize,
     alloc: Global,
     readings: &[Reading],
     said: &mut [Said],
 )
-    requires workers { 0 < workers }
-    requires places { length said.old ≡ length readings.now }
+    requires { length said.old ≡ length readings.now }
     ensures places { length said.new ≡ length readings.now }
     ensures each { AreSaid readings.now said.new }
 {
+    let workers = workers(threads);
     thread::for_each_mut(
         threads,
         said,

@@ -12,7 +12,7 @@ use crate::said::{Said, judge_each, line_of, print_line};
 use commands::{Complaints, Files, HostFault, Output, tell};
 use std::alloc::Global;
 use std::array;
-use std::thread::{Threads, available_parallelism};
+use std::thread::Threads;
 
 /// So many files are read before their texts are checked, at most.
 const STRETCH: usize = 64;
@@ -27,23 +27,12 @@ fn worse(a: u8, b: u8) -> u8
     if a == 1 || b == 1 { 1 } else { a.max(b) }
 }
 
-/// As many workers as there are processors, one at least.
-fn workers(threads: &impl Threads) -> usize
-    ensures { (0 < result) × (result ≤ STRETCH) }
-{
-    match available_parallelism(threads) {
-        Ok(count) => count.get().min(STRETCH),
-        Err(_) => 1,
-    }
-}
-
-/// The lines of files of which this was read and this is to be said. The answer is the worst status, the one before them among
-/// these; None where standard output is refused.
+/// The lines of files of which this was read and this is to be said. The answer is the worst status, and None where standard output
+/// is refused.
 fn show_each<W: Output, E: Complaints>(
     alloc: Global,
     names: &[&str],
     explain: bool,
-    before: u8,
     readings: &[Reading],
     said: &[Said],
     out: &mut W,
@@ -52,13 +41,12 @@ fn show_each<W: Output, E: Complaints>(
     requires few { length names.now ≤ STRETCH }
     requires readings { length readings.now ≡ length names.now }
     requires said { (length said.now ≡ length names.now) × AreSaid readings.now said.now }
-    requires before { (before ≤ 3) × (before ≢ 2) }
     ensures status { IfSome result (λ s. (s ≤ 3) × (s ≢ 2)) }
     ensures lines { (rs : List Request) → AreRead (map (λ s. s.now) names.now) readings.now rs → MatchOption result
         (AreCutOff rs E.tells err.old err.new explain (map (λ s. s.now) names.now))
-        (AreChecked rs (W.contents out.old) (W.contents out.new) E.tells err.old err.new explain (map (λ s. s.now) names.now) before) }
+        (AreChecked rs (W.contents out.old) (W.contents out.new) E.tells err.old err.new explain (map (λ s. s.now) names.now)) }
 {
-    let mut status = before;
+    let mut status = 0;
     for i in 0..names.len() {
         let line = line_of(alloc, names[i], explain, &readings[i], said[i], err);
         match print_line(out, names[i], &line) {
@@ -73,24 +61,21 @@ fn show_each<W: Output, E: Complaints>(
 /// A stretch of the files: all are read, their texts are checked by the workers, and then each has its lines.
 fn check_stretch<T: Threads + Sync, F: Files, W: Output, E: Complaints>(
     threads: &T,
-    workers: usize,
     alloc: Global,
     names: &[&str],
     explain: bool,
-    before: u8,
     files: &mut F,
     out: &mut W,
     err: &mut E,
 ) -> Option<u8>
-    requires workers { 0 < workers }
-    requires few { length names.now ≤ STRETCH }
-    requires before { (before ≤ 3) × (before ≢ 2) }
+    requires { length names.now ≤ STRETCH }
     ensures status { IfSome result (λ s. (s ≤ 3) × (s ≢ 2)) }
     ensures each { MatchOption result
         (BreaksStretch F.answers files.old files.new E.tells err.old err.new explain (map (λ s. s.now) names.now))
         (ShowsStretch F.answers files.old files.new (W.contents out.old) (W.contents out.new) E.tells err.old err.new explain
-        (map (λ s. s.now) names.now) before) }
+        (map (λ s. s.now) names.now)) }
 {
+    // places, which are filled below
     let mut readings: [Reading; STRETCH] = array::from_fn(|_| Reading::Failed(
         HostFault::CannotRead,
     ));
@@ -98,8 +83,8 @@ fn check_stretch<T: Threads + Sync, F: Files, W: Output, E: Complaints>(
     read_each(alloc, names, files, readings);
     let mut said = [Said::Host(HostFault::CannotRead); STRETCH];
     let said = &mut said[..names.len()];
-    judge_each(threads, workers, alloc, readings, said);
-    show_each(alloc, names, explain, before, readings, said, out, err)
+    judge_each(threads, alloc, readings, said);
+    show_each(alloc, names, explain, readings, said, out, err)
 }
 
 /// The verdicts on the texts of files, each on a line behind the file's name, and, to explain them, lines behind that. A file with
@@ -122,13 +107,10 @@ pub fn check_files<T: Threads + Sync, F: Files, W: Output, E: Complaints>(
         explain (map (λ s. s.now) names.now) result × IsSent W.sends out.new)
         ⊎ ((result ≡ 1) × Asks F.answers files.old files.new E.tells err.old err.new (BreaksOff explain (map (λ s. s.now) names.now))) }
 {
-    let workers = workers(threads);
     let mut status = 0;
     for stretch in names.chunks(STRETCH) {
-        match check_stretch(
-            threads, workers, alloc, stretch, explain, status, files, out, err,
-        ) {
-            Some(worst) => status = worst,
+        match check_stretch(threads, alloc, stretch, explain, files, out, err) {
+            Some(worst) => status = worse(status, worst),
             None => return tell(err, &HostFault::CannotWrite),
         }
     }

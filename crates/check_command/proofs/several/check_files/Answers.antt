@@ -21,7 +21,7 @@ loop-stretch-init g c =
       tt,
       search rules,
       search rules,
-      ([], ap (map (λ (s : Bor (List ℕ)). s.now)) rest, none_yet g.F.Files.answers g.E.Complaints.tells c.args.explain _ _ _ 0),
+      ([], ap (map (λ (s : Bor (List ℕ)). s.now)) rest, none_yet g.F.Files.answers g.E.Complaints.tells c.args.explain _ _ _),
     )
 
 pub loop-stretch-preserved : goal.loop-stretch-preserved
@@ -32,12 +32,12 @@ loop-stretch-preserved g c =
       search rules,
       tt,
       steps.0 ∙ was.2,
-      c.in-Some-check_stretch.ensures.status,
+      (c.worse-status.ensures.most, c.worse-status.ensures.not_wrong_words),
       (
         was.4.0 ++ stretch,
         append_assoc was.4.0 stretch _ ∙ names_of was.4.0 _ c.in-Some.stretch.now _ _ steps.1.0 was.4.1,
-        on g.F.Files.answers g.E.Complaints.tells c.args.explain _ _ _ _ _ _ _ _ _ was.4.0 stretch 0 c.loop-stretch.status c.in-Some-check_stretch.worst
-            was.4.2 c.in-Some-check_stretch.ensures.each,
+        on g.F.Files.answers g.E.Complaints.tells c.args.explain _ _ _ _ _ _ _ _ _ was.4.0 stretch c.loop-stretch.status c.in-Some-check_stretch.worst c.worse-status.result
+            c.worse-status.ensures.worse was.4.2 c.in-Some-check_stretch.ensures.each,
       ),
     )
 
@@ -47,7 +47,7 @@ returns-in-None-check_stretch-clause-each g c =
     let steps = c.in-Some.ensures.steps in
     inr (
       c.tell.ensures.status,
-      broken g.F.Files.answers g.E.Complaints.tells c.args.explain _ _ _ _ _ _ _ _ _ was.4.0 (map (λ (s : Bor (List ℕ)). s.now) c.in-Some.stretch.now) _ _ 0
+      broken g.F.Files.answers g.E.Complaints.tells c.args.explain _ _ _ _ _ _ _ _ _ was.4.0 (map (λ (s : Bor (List ℕ)). s.now) c.in-Some.stretch.now) _ _
           c.loop-stretch.status (names_of was.4.0 _ c.in-Some.stretch.now _ _ steps.1.0 was.4.1) was.4.2 c.in-None-check_stretch.ensures.each
           c.tell.ensures.told,
     )
@@ -58,5 +58,5 @@ returns-in-Err-clause-each g c =
     let whole = names_end was.4.0 _ _ c.in-None.ensures.steps.1.0 was.4.1 in
     inr (
       c.tell-in-Err.ensures.status,
-      broken_behind g.F.Files.answers g.E.Complaints.tells c.args.explain _ _ _ _ _ _ _ was.4.0 _ 0 c.loop-stretch.status whole was.4.2 c.tell-in-Err.ensures.told,
+      broken_behind g.F.Files.answers g.E.Complaints.tells c.args.explain _ _ _ _ _ _ _ was.4.0 _ c.loop-stretch.status whole was.4.2 c.tell-in-Err.ensures.told,
     )

@@ -11,4 +11,4 @@ invariant-loop-stretch g l =
     × ((l.status ≤ 3) × (l.status ≢ 2))
     × ((names : List (List ℕ)) × (names ++ map (λ (s : Bor (List ℕ)). s.now) (chunks_rest l.stretch-iterator) ≡ map (λ (s : Bor (List ℕ)). s.now) l.fn.names)
     × ShowsStretch g.F.Files.answers l.fn.files l.files (g.W.Write.contents l.fn.out) (g.W.Write.contents l.out) g.E.Complaints.tells l.fn.err l.err
-    l.explain names 0 l.status)
+    l.explain names l.status)

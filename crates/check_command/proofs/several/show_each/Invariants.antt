@@ -9,4 +9,4 @@ invariant-loop-i g l =
     ((l.status ≤ 3) × (l.status ≢ 2))
     × ((rs : List Request) → AreRead (map (λ s. s.now) l.names) l.readings rs
     → AreChecked (take l.i rs) (g.W.Write.contents l.fn.out) (g.W.Write.contents l.out) g.E.Complaints.tells l.fn.err l.err l.explain
-    (take l.i (map (λ s. s.now) l.names)) l.before l.status)
+    (take l.i (map (λ s. s.now) l.names)) l.status)
