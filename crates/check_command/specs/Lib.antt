@@ -4,3 +4,4 @@ pub mod Command
 pub mod Several
 -- words of private functions
 pub mod Line
+pub mod Stretch

@@ -18,12 +18,15 @@
 //!   of which nothing else is stated (`Explains`).
 //! - `check_command::check_files`: each of the files is read, in order, and has its lines, with its answer or its fault; its
 //!   fault is told too, and the status is the worst (`ChecksAll`), unless standard output was refused, by which it ends
-//!   (`BreaksOff`).
+//!   (`BreaksOff`): at most 63 files were read behind the one whose lines were refused. So it is for any number of workers,
+//!   in whatever schedule of threads.
 #![tactic(auto)]
 
 mod command;
 mod explain;
 mod lines;
+mod readings;
+mod said;
 mod several;
 mod texts;
 mod verdicts;

@@ -1,132 +1,21 @@
 // The command over several files: a line each, in their order.
 
-ghost use Rattle.std.specs.Prelude.{◌≡◌, ◌≢◌, ◌≤◌, ◌⊎◌, [], ◌∷◌, ◌++◌, true, codes, map, Some, IfErr, IfOk, OnOk};
-ghost use Rattle.std.specs.Io.KnownBytes.{Appends};
-ghost use Rattle.check_command.specs.Command.{IsMore};
-ghost use Rattle.check_command.specs.Line.{IsChecked, line_text, said_status, said_text};
+ghost use Rattle.std.specs.Prelude.{◌≡◌, ◌≢◌, ◌<◌, ◌≤◌, ◌⊎◌, List, map, length, MatchOption, IfSome};
+ghost use Rattle.std.specs.List.{FoldsTo};
+ghost use Rattle.check_command.specs.Line.{AreRead, AreSaid};
 ghost use Rattle.check_command.specs.Several.{BreaksOff, ChecksAll, worse};
-ghost use Rattle.commands.specs.Requests.{Asks, IsSent};
-ghost use Rattle.commands.specs.Texts.{shown_name};
+ghost use Rattle.check_command.specs.Stretch.{AreChecked, AreCutOff, BreaksStretch, ShowsStretch};
+ghost use Rattle.commands.specs.Requests.{Asks, IsSent, Request};
 
-use crate::command::{status_of, tell_check};
-use crate::explain::explained;
-use crate::verdicts::{CheckAnswer, CheckFault, check};
-use commands::{Complaints, Files, HostFault, Output, print_name, read_file, tell};
-use std::alloc::{AllocError, Global};
-use std::fmt;
-use std::io::{self, Write};
+use crate::readings::{Reading, read_each};
+use crate::said::{Said, judge_each, line_of, print_line};
+use commands::{Complaints, Files, HostFault, Output, tell};
+use std::alloc::Global;
+use std::array;
+use std::thread::Threads;
 
-/// What the line of a file says behind its name.
-#[derive(Clone, Copy)]
-pub enum Said {
-    Answer(CheckAnswer),
-    Text(CheckFault),
-    Host(HostFault),
-}
-
-impl fmt::Display for Said {
-    ghost output = { λ said. Some (said_text said) };
-
-    fn fmt<W: fmt::Write>(&self, f: &mut fmt::Formatter<W>) -> fmt::Result {
-        match self {
-            Said::Answer(answer) => write!(f, "{answer}"),
-            Said::Text(fault) => write!(f, "{fault}"),
-            Said::Host(fault) => write!(f, "{fault}"),
-        }
-    }
-}
-
-/// What is printed of a file: its line, and the lines behind that.
-#[derive(Drop)]
-pub struct FileLine {
-    pub said: Said,
-    pub more: Vec<u8>,
-}
-
-impl Said {
-    /// 1 for a fault, else the answer's.
-    fn status(self) -> u8
-        ensures status { result ≡ said_status self }
-        ensures most { result ≤ 3 }
-        ensures not_wrong_words { result ≢ 2 }
-    {
-        match self {
-            Said::Answer(answer) => status_of(&answer),
-            Said::Text(_) | Said::Host(_) => 1,
-        }
-    }
-}
-
-/// The lines behind an answer; Err where memory is refused to an explanation.
-fn more_of(
-    alloc: Global,
-    explain: bool,
-    text: &[u8],
-    answer: &CheckAnswer,
-) -> Result<Vec<u8>, AllocError>
-    ensures more { IfOk result (λ more. IsMore explain more.items) }
-    ensures refused { IfErr result (λ _. explain ≡ true) }
-{
-    if explain {
-        explained(alloc, text, answer)
-    } else {
-        Ok(Vec::new(alloc))
-    }
-}
-
-/// One of the files: what is printed of it; its fault, if it has one, is told.
-fn check_one<F: Files, E: Complaints>(
-    alloc: Global,
-    name: &str,
-    explain: bool,
-    files: &mut F,
-    err: &mut E,
-) -> FileLine
-    ensures { IsChecked F.answers files.old files.new E.tells err.old err.new explain name.now result }
-{
-    let text = match read_file(alloc, name, files) {
-        Ok(text) => text,
-        Err(fault) => {
-            let _one = tell(err, &fault);
-            return FileLine {
-                said: Said::Host(fault),
-                more: Vec::new(alloc),
-            };
-        }
-    };
-    let answer = match check(alloc, text.as_slice()) {
-        Ok(answer) => answer,
-        Err(fault) => {
-            let _one = tell_check(alloc, err, name, text.as_slice(), fault);
-            return FileLine {
-                said: Said::Text(fault),
-                more: Vec::new(alloc),
-            };
-        }
-    };
-    match more_of(alloc, explain, text.as_slice(), &answer) {
-        Ok(more) => FileLine {
-            said: Said::Answer(answer),
-            more,
-        },
-        Err(_) => {
-            let _one = tell(err, &HostFault::NoMemory);
-            FileLine {
-                said: Said::Host(HostFault::NoMemory),
-                more: Vec::new(alloc),
-            }
-        }
-    }
-}
-
-fn print_line<W: Write>(out: &mut W, name: &str, line: &FileLine) -> io::Result<()>
-    ensures { OnOk result (Appends (W.contents out.old) (W.contents out.new) (line_text name.now line.now)) }
-{
-    print_name(out, name)?;
-    let said = line.said;
-    writeln!(out, ": {said}")?;
-    out.write_all(line.more.as_slice())
-}
+/// So many files are read before their texts are checked, at most.
+const STRETCH: usize = 64;
 
 /// The worse of two statuses: a fault's 1 before any other, else the greater.
 fn worse(a: u8, b: u8) -> u8
@@ -138,11 +27,73 @@ fn worse(a: u8, b: u8) -> u8
     if a == 1 || b == 1 { 1 } else { a.max(b) }
 }
 
+/// The lines of files of which this was read and this is to be said. The answer is the worst status, and None where standard output
+/// is refused.
+fn show_each<W: Output, E: Complaints>(
+    alloc: Global,
+    names: &[&str],
+    explain: bool,
+    readings: &[Reading],
+    said: &[Said],
+    out: &mut W,
+    err: &mut E,
+) -> Option<u8>
+    requires few { length names.now ≤ STRETCH }
+    requires readings { length readings.now ≡ length names.now }
+    requires said { (length said.now ≡ length names.now) × AreSaid readings.now said.now }
+    ensures status { IfSome result (λ s. (s ≤ 3) × (s ≢ 2)) }
+    ensures lines { (rs : List Request) → AreRead (map (λ s. s.now) names.now) readings.now rs → MatchOption result
+        (AreCutOff rs E.tells err.old err.new explain (map (λ s. s.now) names.now))
+        (AreChecked rs (W.contents out.old) (W.contents out.new) E.tells err.old err.new explain (map (λ s. s.now) names.now)) }
+{
+    let mut status = 0;
+    for i in 0..names.len() {
+        let line = line_of(alloc, names[i], explain, &readings[i], said[i], err);
+        match print_line(out, names[i], &line) {
+            Ok(()) => {}
+            Err(_) => return None,
+        }
+        status = worse(status, line.said.status());
+    }
+    Some(status)
+}
+
+/// A stretch of the files: all are read, their texts are checked by the workers, and then each has its lines.
+fn check_stretch<T: Threads + Sync, F: Files, W: Output, E: Complaints>(
+    threads: &T,
+    alloc: Global,
+    names: &[&str],
+    explain: bool,
+    files: &mut F,
+    out: &mut W,
+    err: &mut E,
+) -> Option<u8>
+    requires { length names.now ≤ STRETCH }
+    ensures status { IfSome result (λ s. (s ≤ 3) × (s ≢ 2)) }
+    ensures each { MatchOption result
+        (BreaksStretch F.answers files.old files.new E.tells err.old err.new explain (map (λ s. s.now) names.now))
+        (ShowsStretch F.answers files.old files.new (W.contents out.old) (W.contents out.new) E.tells err.old err.new explain
+        (map (λ s. s.now) names.now)) }
+{
+    // places, which are filled below
+    let mut readings: [Reading; STRETCH] = array::from_fn(|_| Reading::Failed(
+        HostFault::CannotRead,
+    ));
+    let readings = &mut readings[..names.len()];
+    read_each(alloc, names, files, readings);
+    let mut said = [Said::Host(HostFault::CannotRead); STRETCH];
+    let said = &mut said[..names.len()];
+    judge_each(threads, alloc, readings, said);
+    show_each(alloc, names, explain, readings, said, out, err)
+}
+
 /// The verdicts on the texts of files, each on a line behind the file's name, and, to explain them, lines behind that. A file with
 /// a fault has the fault's line there, and standard error is told of it as of one file; the others go on. The answer is the exit
 /// status, the worst: 1 where a file has a fault, else 3 where an answer isn't `same`, else 0. It ends early where standard output
-/// is refused.
-pub fn check_files<F: Files, W: Output, E: Complaints>(
+/// is refused. The texts are checked by as many workers as there are processors, stretch by stretch of the files; what is asked,
+/// printed and told has the order of the names.
+pub fn check_files<T: Threads + Sync, F: Files, W: Output, E: Complaints>(
+    threads: &T,
     alloc: Global,
     names: &[&str],
     explain: bool,
@@ -157,13 +108,11 @@ pub fn check_files<F: Files, W: Output, E: Complaints>(
         ⊎ ((result ≡ 1) × Asks F.answers files.old files.new E.tells err.old err.new (BreaksOff explain (map (λ s. s.now) names.now))) }
 {
     let mut status = 0;
-    for name in names {
-        let line = check_one(alloc, name, explain, files, err);
-        match print_line(out, name, &line) {
-            Ok(()) => {}
-            Err(_) => return tell(err, &HostFault::CannotWrite),
+    for stretch in names.chunks(STRETCH) {
+        match check_stretch(threads, alloc, stretch, explain, files, out, err) {
+            Some(worst) => status = worse(status, worst),
+            None => return tell(err, &HostFault::CannotWrite),
         }
-        status = worse(status, line.said.status());
     }
     match out.send() {
         Ok(()) => status,

@@ -37,6 +37,9 @@ pub enum CheckFault {
     NoMemory,
 }
 
+/// The most bytes of a text that has a verdict.
+pub(crate) const LONGEST: usize = 1_048_576;
+
 /// A table for one pass, of 16,384 nodes and 256 heads.
 fn table(alloc: Global) -> Option<(TermTable, Vec<Pass>)>
     ensures each { IfSome result (λ t. All (IsOf t.0) t.1.items) }
@@ -68,7 +71,7 @@ pub fn check(alloc: Global, text: &[u8]) -> Result<CheckAnswer, CheckFault>
         → MatchResult result (IsAnswer b o) (λ e. e ≡ CheckFault.NoMemory) }
     ensures fault { IfErr result (IsCheckFault text.now) }
 {
-    if text.len() > 1_048_576 {
+    if text.len() > LONGEST {
         return Err(CheckFault::Size);
     }
     let Text { block, order } = match read(alloc, text) {

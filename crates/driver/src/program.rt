@@ -133,9 +133,9 @@ fn phase_of(workers: u32, nodes: u32, heads: u32) -> PhaseOpts
     }
 }
 
-/// The whole program over its words (the first is its name), its files and two writers; a build starts threads. The answer is
-/// the exit status: 0 for `same`, `done`, a build, a listing, stages and help, 1 for a fault, 2 for wrong words, 4 for `more`, 3
-/// for any other answer; of several check texts the worst.
+/// The whole program over its words (the first is its name), its files and two writers; a build and a check of several files
+/// start threads. The answer is the exit status: 0 for `same`, `done`, a build, a listing, stages and help, 1 for a fault, 2 for
+/// wrong words, 4 for `more`, 3 for any other answer; of several check texts the worst.
 pub fn mcc<T: Threads + Wait + Sync, F: Files, W: Output, E: Complaints>(
     rt: &T,
     alloc: Global,
@@ -170,7 +170,7 @@ pub fn mcc<T: Threads + Wait + Sync, F: Files, W: Output, E: Complaints>(
                 files: names,
                 explain,
             },
-        ) => { check_files(alloc, names.as_slice(), explain, files, out, err) }
+        ) => { check_files(rt, alloc, names.as_slice(), explain, files, out, err) }
         Ok(
             Command::Interp {
                 source,

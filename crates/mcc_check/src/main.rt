@@ -13,6 +13,7 @@ use std::alloc::{AllocError, Global};
 use std::io::{self, BufWriter, Write};
 use std::process::ExitCode;
 use std::rt::Files as HostFiles;
+use std::thread::Threads;
 
 /// Where another command than `check` is asked for.
 fn tell_others<E: Write>(err: &mut E) -> u8
@@ -26,7 +27,8 @@ fn tell_others<E: Write>(err: &mut E) -> u8
 
 /// The program over its words (the first is its name), its files and two writers. The answer is the exit status, as `mcc` has
 /// it; 2 also for another command.
-fn answer<F: Files, W: Write, E: Write>(
+fn answer<T: Threads + Sync, F: Files, W: Write, E: Write>(
+    threads: &T,
     alloc: Global,
     args: &[&str],
     files: &mut F,
@@ -49,13 +51,14 @@ fn answer<F: Files, W: Write, E: Write>(
                 files: names,
                 explain,
             },
-        ) => { check_files(alloc, names.as_slice(), explain, files, out, err) }
+        ) => { check_files(threads, alloc, names.as_slice(), explain, files, out, err) }
         Ok(_) => tell_others(err),
         Err(error) => tell_words(&error, out, err),
     }
 }
 
-fn work<R: HostFiles + AllocGlobal + Input, W: Write + Drop, E: Write>(
+fn work<T: Threads + Sync, R: HostFiles + AllocGlobal + Input, W: Write + Drop, E: Write>(
+    threads: &T,
     rt: &R,
     args: &[&str],
     out: W,
@@ -63,7 +66,7 @@ fn work<R: HostFiles + AllocGlobal + Input, W: Write + Drop, E: Write>(
 ) -> u8 {
     let mut disk = Disk { rt };
     match BufWriter::new(rt.alloc(), out) {
-        Ok(mut out) => answer(rt.alloc(), args, &mut disk, &mut out, err),
+        Ok(mut out) => answer(threads, rt.alloc(), args, &mut disk, &mut out, err),
         Err(_) => tell(err, &HostFault::NoMemory),
     }
 }
@@ -88,5 +91,5 @@ fn main(rt: HostRuntime) -> ExitCode {
         Ok(args) => args,
         Err(e) => return ExitCode::from(tell_no_words(&mut err, &io::Error::from(e))),
     };
-    ExitCode::from(work(&rt, args.as_slice(), rt.stdout(), &mut err))
+    ExitCode::from(work(&rt, &rt, args.as_slice(), rt.stdout(), &mut err))
 }

@@ -1,29 +1,62 @@
-use Rattle.std.proofs.Common.{inr}
-use Rattle.check_command.proofs.EachFile.{next, broken_at, broken_behind}
+use Rattle.std.proofs.Common.{◌≡◌, ℕ, List, [], ◌∷◌, ◌++◌, Bor, map, length, ap, arith, inr, rules, sym, ◌∙◌, append-nil, append_assoc}
+use Rattle.std.proofs.lemmas.List.{map-append}
+use Rattle.std.specs.Slice.Iter.{chunks_rest}
+use Rattle.check_command.proofs.EachFile.{broken, broken_behind, none_yet, on}
 use Rattle.check_command.proofs.several.check_files.Goals as goal
 
-pub returns-in-Err-clause-each : goal.returns-in-Err-clause-each
-returns-in-Err-clause-each g c =
+-- the names of a stretch, and of what is left behind it
+names_of : (done : List (List ℕ)) (xs stretch rest : List (Bor (List ℕ))) (all : List (List ℕ)) → xs ≡ stretch ++ rest
+    → done ++ map (λ s. s.now) xs ≡ all → done ++ (map (λ s. s.now) stretch ++ map (λ s. s.now) rest) ≡ all
+names_of done xs stretch rest all cut same =
+    ap (λ (ns : List (List ℕ)). done ++ ns) (sym (ap (map (λ (s : Bor (List ℕ)). s.now)) cut ∙ map-append (λ (s : Bor (List ℕ)). s.now) stretch rest)) ∙ same
+
+names_end : (done : List (List ℕ)) (xs : List (Bor (List ℕ))) (all : List (List ℕ)) → length xs ≡ 0 → done ++ map (λ s. s.now) xs ≡ all → done ≡ all
+names_end done [] all none same = sym (append-nil done) ∙ same
+names_end done (x ∷ xs) all none same = let no : ⊥ = omega arith in absurd no
+
+pub loop-stretch-init : goal.loop-stretch-init
+loop-stretch-init g c =
+    let rest : chunks_rest c.into_iter-stretch-iterator.result ≡ c.args.names.now = search rules in (
+      search rules,
+      tt,
+      search rules,
+      search rules,
+      ([], ap (map (λ (s : Bor (List ℕ)). s.now)) rest, none_yet g.F.Files.answers g.E.Complaints.tells c.args.explain _ _ _),
+    )
+
+pub loop-stretch-preserved : goal.loop-stretch-preserved
+loop-stretch-preserved g c =
+    let was = c.loop-stretch.invariant in
+    let steps = c.in-Some.ensures.steps in
+    let stretch = map (λ (s : Bor (List ℕ)). s.now) c.in-Some.stretch.now in (
+      search rules,
+      tt,
+      steps.0 ∙ was.2,
+      (c.worse-status.ensures.most, c.worse-status.ensures.not_wrong_words),
+      (
+        was.4.0 ++ stretch,
+        append_assoc was.4.0 stretch _ ∙ names_of was.4.0 _ c.in-Some.stretch.now _ _ steps.1.0 was.4.1,
+        on g.F.Files.answers g.E.Complaints.tells c.args.explain _ _ _ _ _ _ _ _ _ was.4.0 stretch c.loop-stretch.status c.in-Some-check_stretch.worst c.worse-status.result
+            c.worse-status.ensures.worse was.4.2 c.in-Some-check_stretch.ensures.each,
+      ),
+    )
+
+pub returns-in-None-check_stretch-clause-each : goal.returns-in-None-check_stretch-clause-each
+returns-in-None-check_stretch-clause-each g c =
+    let was = c.loop-stretch.invariant in
+    let steps = c.in-Some.ensures.steps in
     inr (
       c.tell.ensures.status,
-      broken_at g.F.Files.answers g.E.Complaints.tells c.args.explain _ _ _ _ _ _ _ _ _ c.args.names.now
-          c.loop-name.name-index _ c.loop-name.status c.check_one-line.result c.loop-name-test.true c.loop-name.invariant.0 c.check_one-line.ensures
+      broken g.F.Files.answers g.E.Complaints.tells c.args.explain _ _ _ _ _ _ _ _ _ was.4.0 (map (λ (s : Bor (List ℕ)). s.now) c.in-Some.stretch.now) _ _
+          c.loop-stretch.status (names_of was.4.0 _ c.in-Some.stretch.now _ _ steps.1.0 was.4.1) was.4.2 c.in-None-check_stretch.ensures.each
           c.tell.ensures.told,
     )
 
-pub loop-name-preserved : goal.loop-name-preserved
-loop-name-preserved g c = (
-  next g.F.Files.answers g.E.Complaints.tells c.args.explain _ _ _ _ _ _ _ _ _ c.args.names.now c.loop-name.name-index _ c.loop-name.status
-      c.status.result c.worse-status.result c.check_one-line.result c.loop-name-test.true c.worse-status.ensures.worse c.status.ensures.status
-      c.loop-name.invariant.0 c.check_one-line.ensures c.in-Ok.ensures,
-  c.worse-status.ensures.most,
-  c.worse-status.ensures.not_wrong_words,
-)
-
-pub returns-in-Err-send-clause-each : goal.returns-in-Err-send-clause-each
-returns-in-Err-send-clause-each g c =
+pub returns-in-Err-clause-each : goal.returns-in-Err-clause-each
+returns-in-Err-clause-each g c =
+    let was = c.loop-stretch.invariant in
+    let whole = names_end was.4.0 _ _ c.in-None.ensures.steps.1.0 was.4.1 in
     inr (
-      c.tell-in-Err-send.ensures.status,
-      broken_behind g.F.Files.answers g.E.Complaints.tells c.args.explain _ _ _ _ _ _ _ c.args.names.now
-          c.loop-name.name-index c.loop-name.status c.loop-name.invariant.0 c.tell-in-Err-send.ensures.told,
+      c.tell-in-Err.ensures.status,
+      broken_behind g.F.Files.answers g.E.Complaints.tells c.args.explain _ _ _ _ _ _ _ was.4.0 _ c.loop-stretch.status whole was.4.2 c.tell-in-Err.ensures.told,
     )
