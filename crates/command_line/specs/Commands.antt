@@ -59,8 +59,8 @@ abbrev pub plain_app : App
 plain_app = with_rule (with_rule files_app (flag_rule (codes "plain"))) (number_rule (codes "depth") 1 4096)
 
 abbrev pub build_app : App
-build_app = with_rule (with_rule (with_rule plain_app (number_rule (codes "workers") 1 MAX_PASSES)) (number_rule (codes "nodes") 1 MAX_NODES))
-    (number_rule (codes "heads") 1 MAX_HEADS)
+build_app = with_rule (with_rule (with_rule plain_app (number_rule (codes "workers") 1 MAX_PASSES))
+    (number_rule (codes "nodes") 1 MAX_NODES)) (number_rule (codes "heads") 1 MAX_HEADS)
 
 abbrev pub run_app : App
 run_app = with_rule (with_rule (new_app (codes "run")) (required_rule (codes "IMAGE"))) (number_rule (codes "steps") 0 4294967295)
