@@ -1,5 +1,6 @@
 pub mod Decimals
 pub mod Marks
+pub mod Named
 pub mod Lacking
 pub mod Exits
 pub mod Runs

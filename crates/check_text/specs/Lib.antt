@@ -4,3 +4,4 @@ pub mod Whole
 pub mod StageParts
 pub mod Stages
 pub mod Faults
+pub mod Named

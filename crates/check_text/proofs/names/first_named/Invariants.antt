@@ -1,0 +1,6 @@
+use Rattle.std.proofs.Common.{◌≡◌, drop}
+use Rattle.check_text.specs.Named.{first_named}
+use Rattle.check_text.proofs.names.first_named.Given as goal
+
+abbrev pub invariant-loop-n : goal.invariant-loop-n
+invariant-loop-n l = first_named l.word (drop l.n-index l.all) ≡ first_named l.word l.all
