@@ -190,7 +190,14 @@ pub(crate) fn emit_comparison(code: &mut Vec<Plain>, m: &Comparison) -> Result<(
         }
         Form::ByResult => emit_op(code, m.op, inner, rd, &left_of(m), &right_of(m))?,
         Form::ByOpposite => {
-            emit_op(code, opposite_op(m.op), inner, rd, &right_of(m), &left_of(m))?;
+            emit_op(
+                code,
+                opposite_op(m.op),
+                inner,
+                rd,
+                &right_of(m),
+                &left_of(m),
+            )?;
         }
         Form::InResult => emit_op(code, m.op, inner, Reg::RESULT, &left_of(m), &right_of(m))?,
     }
