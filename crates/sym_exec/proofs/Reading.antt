@@ -10,8 +10,7 @@ use Rattle.sym_terms.specs.NormalForms.{label_constant, constant_of, is_sum, at_
 use Rattle.sym_terms.proofs.Sameness.{operator-is}
 use Rattle.term_table.specs.Passes.{PassState}
 use Rattle.sym_exec.specs.MipsTerms.{HasSeen, HasTree, HaveTrees, IsNode}
-use Rattle.term_table.specs.Trees.{HasLegalHistory}
-use Rattle.sym_exec.proofs.MipsTerms.{still_tree, seen_tree, one_tree}
+use Rattle.sym_exec.proofs.MipsTerms.{still_tree, one_tree}
 use Rattle.sym_exec.specs.declared.address.TermAddress.{TermAddress}
 use Rattle.sym_exec.specs.Standing.{Later, IsAddress, AreSummands}
 
@@ -109,8 +108,7 @@ unfolding op_tree
 address-is x c = refl
 
 -- an address that was read is that of the tree which the ticket has later
-pub address-later : {p q : PassState} {t : ℕ} {a : TermAddress} → HasLegalHistory p → HasSeen p t → Later p q
+pub address-later : {p q : PassState} {t : ℕ} {a : TermAddress} → HasSeen p t → Later p q
     → ((x : Tree) → HasTree p t x → IsAddress q a (address_of x)) → (b : Tree) → HasTree q t b → IsAddress q a (address_of b)
-address-later {p} {q} {t} {a} legal seen on at b h =
-    let x = seen_tree legal seen in
-    subst (λ y. IsAddress q a (address_of y)) (one_tree (still_tree on.extends x.1) h) (at x.0 x.1)
+address-later {p} {q} {t} {a} seen on at b h =
+    subst (λ y. IsAddress q a (address_of y)) (one_tree (still_tree on.extends seen.has) h) (at seen.term seen.has)

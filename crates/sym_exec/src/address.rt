@@ -2,6 +2,7 @@
 ghost use Rattle.std.specs.Prelude.{◌≡◌, IfOk, IfSome, IfNone};
 ghost use Rattle.sym_terms.specs.Trees.{Tree};
 ghost use Rattle.sym_terms.specs.NormalForms.{label_constant, constant_of, is_sum, at_base, address_of, tree_plus};
+ghost use Rattle.term_table.specs.Trees.{HasLegalHistory};
 ghost use Rattle.sym_exec.specs.MipsTerms.{HasSeen, HasTree};
 ghost use Rattle.sym_exec.specs.Standing.{IsAddress, AreSummands};
 ghost use Rattle.sym_exec.specs.Interners.{GoesOn, Interns};
@@ -54,6 +55,7 @@ fn summands(terms: &mut Interner, ticket: Ticket) -> Option<(Ticket, Ticket)>
     requires { HasSeen terms.old.pass.now ticket }
     ensures seen { IfSome result (λ s. HasSeen terms.new.pass.now s.0 × HasSeen terms.new.pass.now s.1) }
     ensures none { (x : Tree) → HasTree terms.old.pass.now ticket x → IfNone result (address_of x ≡ at_base x) }
+    ensures legal { HasLegalHistory terms.new.pass.now }
     ensures some { (x : Tree) → HasTree terms.old.pass.now ticket x → IfSome result (λ s. AreSummands terms.new.pass.now s.0 s.1 x) }
     ensures pass { GoesOn terms.old terms.new }
 {
@@ -70,6 +72,7 @@ fn summands(terms: &mut Interner, ticket: Ticket) -> Option<(Ticket, Ticket)>
 /// The base and the constant of an address.
 pub(crate) fn address_at(terms: &mut Interner, ticket: Ticket) -> TermAddress
     requires { HasSeen terms.old.pass.now ticket }
+    ensures legal { HasLegalHistory terms.new.pass.now }
     ensures seen { HasSeen terms.new.pass.now result.base }
     ensures tree { (x : Tree) → HasTree terms.old.pass.now ticket x → IsAddress terms.new.pass.now result (address_of x) }
     ensures pass { GoesOn terms.old terms.new }

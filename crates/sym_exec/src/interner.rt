@@ -16,7 +16,6 @@ pub(crate) struct Interner<'t> {
 impl<'t> Interner<'t> {
     ghost use Rattle.std.specs.Prelude.{◌≡◌, IfOk};
     ghost use Rattle.sym_terms.specs.Trees.{Tree, leaf, binary, ternary};
-    ghost use Rattle.term_table.specs.Passes.{IsOf};
     ghost use Rattle.term_table.specs.Trees.{HasLegalHistory};
     ghost use Rattle.sym_exec.specs.MipsTerms.{HasSeen, HasTree, HaveSeen, IsNode};
     ghost use Rattle.sym_exec.specs.Interners.{GoesOn, Interns};
@@ -74,6 +73,7 @@ impl<'t> Interner<'t> {
     /// The label of a term, and its children.
     pub(crate) fn read(&mut self, ticket: Ticket) -> Node<Label>
         requires { HasSeen self.old.pass.now ticket }
+        ensures legal { HasLegalHistory self.new.pass.now }
         ensures seen { HaveSeen self.new.pass.now result.children.items }
         ensures tree { (x : Tree) → HasTree self.old.pass.now ticket x → IsNode self.new.pass.now result.label result.children.items x }
         ensures pass { GoesOn self.old self.new }

@@ -38,7 +38,6 @@ pub(crate) struct TermRegisters {
 impl TermRegisters {
     ghost use Rattle.std.specs.Prelude.{◌≡◌, ℕ, ◌<◌, ◌≤◌, ◌+◌, OnOk, IfOk, slice_index, length, vec_len};
     ghost use Rattle.mblock.specs.declared.limits.TheConstants.{ORDER_INSTS};
-    ghost use Rattle.term_table.specs.Trees.{HasLegalHistory};
     ghost use Rattle.sym_exec.specs.MipsTerms.{HasTree};
     ghost use Rattle.sym_exec.specs.Standing.{Known, Hold, with_reg, with_halves};
     ghost use Rattle.sym_exec.specs.Interners.{Interns};
@@ -133,7 +132,6 @@ impl TermRegisters {
         d: NonzeroReg,
         access: Access,
     ) -> Result<Ticket, TableFull>
-        requires legal { HasLegalHistory terms.old.pass.now }
         requires known { Known terms.old.pass.now self.old }
         requires chain { IsChain terms.old.pass.now chain.old }
         requires room { HasStoreRoom chain.old }
@@ -163,7 +161,6 @@ impl TermRegisters {
         r: Reg,
         access: Access,
     ) -> Result<Ticket, TableFull>
-        requires legal { HasLegalHistory terms.old.pass.now }
         requires known { Known terms.old.pass.now self.now }
         requires chain { IsChain terms.old.pass.now chain.old }
         requires room { HasStoreRoom chain.old }

@@ -47,7 +47,6 @@ fn step(
     lists: &mut RunLists,
     action: &Action,
 ) -> Result<(), TableFull>
-    requires legal { HasLegalHistory terms.old.pass.now }
     requires known { Known terms.old.pass.now registers.old }
     requires chain { IsChain terms.old.pass.now lists.old.chain }
     requires room { HasRoom lists.old }
@@ -122,7 +121,6 @@ fn steps(
     lists: &mut RunLists,
     insts: &[Plain],
 ) -> Result<(), TableFull>
-    requires legal { HasLegalHistory terms.old.pass.now }
     requires known { Known terms.old.pass.now registers.old }
     requires chain { IsChain terms.old.pass.now lists.old.chain }
     requires room { HasRoom lists.old }
@@ -261,7 +259,6 @@ fn run_slot(
     lists: &mut RunLists,
     slot: &Option<Plain>,
 ) -> Result<(), TableFull>
-    requires legal { HasLegalHistory terms.old.pass.now }
     requires known { Known terms.old.pass.now registers.old }
     requires chain { IsChain terms.old.pass.now lists.old.chain }
     requires room { HasRoom lists.old }

@@ -1,5 +1,5 @@
 use Rattle.std.proofs.Common.{refl}
-use Rattle.sym_exec.proofs.Tickets.{later_more, hold_on, known_on}
+use Rattle.sym_exec.proofs.Tickets.{hold_on, known_on}
 use Rattle.sym_exec.proofs.Tracking.{chain_start, tracks_start}
 use Rattle.sym_exec.proofs.run.start.Goals as goal
 

@@ -1,4 +1,4 @@
-use Rattle.std.proofs.Common.{rules, ◌≡◌, ℕ, zero, suc, ◌<◌, ◌+◌, length, sym, ap, ◌∙◌, subst, arith, ⊎_elim}
+use Rattle.std.proofs.Common.{◌≡◌, ℕ, zero, suc, ◌<◌, ◌+◌, length, sym, ap, ◌∙◌, subst, arith, ⊎_elim}
 use Rattle.std.specs.Prelude.{slice_index, replicate}
 use Rattle.std.proofs.lemmas.List.{get_or-replicate}
 use Rattle.sym_exec.specs.MipsTerms.{HasSeen, HasTree}

@@ -1,5 +1,4 @@
 use Rattle.sym_exec.proofs.MipsTerms.{still_seen, still_tree}
-use Rattle.std.proofs.Common.{rules}
 use Rattle.sym_exec.proofs.Tickets.{later_more, hold_on, known_on, get_seen, get_tree, known_put, hold_put}
 use Rattle.sym_exec.proofs.registers.TermRegisters.computes.Goals as goal
 

@@ -17,8 +17,7 @@ load_term-requires-clause-address c = still_seen c.address_at-at.ensures.pass.la
 
 pub load_term-requires-clause-at : goal.load_term-requires-clause-at
 load_term-requires-clause-at c =
-    address-later (c.in_ok-address.ensures.pass.later.legal c.requires.legal) c.in_ok-address.ensures.seen c.address_at-at.ensures.pass.later
-    c.address_at-at.ensures.tree
+    address-later c.in_ok-address.ensures.seen c.address_at-at.ensures.pass.later c.address_at-at.ensures.tree
 
 pub returns-clause-known : goal.returns-clause-known
 returns-clause-known c =

@@ -1,4 +1,3 @@
-use Rattle.std.proofs.Common.{rules}
 use Rattle.sym_exec.proofs.MipsTerms.{still_seen, still_tree}
 use Rattle.sym_exec.specs.Standing.{Hold, Known}
 use Rattle.sym_exec.proofs.Tickets.{later_more, hold_on, known_on, get_seen, get_tree}
