@@ -18,9 +18,6 @@ still_seen {p} {q} e t h = terms.still_seen_term e h
 pub tree_seen : {p : PassState} {t : ℕ} {x : Tree} → HasTree p t x → HasSeen p t
 tree_seen {p} {t} {x} h = record { term = x; has = h }
 
-pub seen_tree : {p : PassState} {t : ℕ} → HasLegalHistory p → HasSeen p t → (x : Tree) × HasTree p t x
-seen_tree {p} {t} legal h = (h.term, h.has)
-
 pub one_tree : {p : PassState} {t : ℕ} {x y : Tree} → HasTree p t x → HasTree p t y → x ≡ y
 one_tree {p} {t} {x} {y} h k = terms.one_term label_with-back h k
 

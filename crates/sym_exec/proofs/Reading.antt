@@ -8,19 +8,11 @@ use Rattle.sym_terms.specs.declared.label.Label.TheVariants.{Init, Mem0, Const, 
 use Rattle.sym_terms.specs.Trees.{Tree, Trees, node, none, more, leaf, binary}
 use Rattle.sym_terms.specs.NormalForms.{label_constant, constant_of, is_sum, at_base, sum_address, address_of, tree_plus, const_tree, op_tree}
 use Rattle.sym_terms.proofs.Sameness.{operator-is}
-use Rattle.term_table.specs.Passes.{TableState, PassState, IsOf}
+use Rattle.term_table.specs.Passes.{PassState}
 use Rattle.sym_exec.specs.MipsTerms.{HasSeen, HasTree, HaveTrees, IsNode}
-use Rattle.term_table.specs.Trees.{HasLegalHistory}
-use Rattle.sym_exec.proofs.MipsTerms.{still_tree, seen_tree, one_tree}
+use Rattle.sym_exec.proofs.MipsTerms.{still_tree, one_tree}
 use Rattle.sym_exec.specs.declared.address.TermAddress.{TermAddress}
-use Rattle.sym_exec.specs.Standing.{Later, AfterReads, IsAddress, AreSummands}
-use Rattle.sym_exec.proofs.Tickets.{later_self, later_more}
-
-pub reads-self : {t : TableState} {p : PassState} → IsOf t p → AfterReads t p p
-reads-self {t} {p} h = record { table = h; later = later_self p }
-
-pub reads-more : {t : TableState} {p q r : PassState} → AfterReads t p q → AfterReads t q r → AfterReads t p r
-reads-more {t} {p} {q} {r} e f = record { table = f.table; later = later_more e.later f.later }
+use Rattle.sym_exec.specs.Standing.{Later, IsAddress, AreSummands}
 
 -- a tree without children
 node-leaf : {p : PassState} {l : Label} {x : Tree} → IsNode p l [] x → x ≡ leaf l
@@ -116,8 +108,7 @@ unfolding op_tree
 address-is x c = refl
 
 -- an address that was read is that of the tree which the ticket has later
-pub address-later : {p q : PassState} {t : ℕ} {a : TermAddress} → HasLegalHistory p → HasSeen p t → Later p q
+pub address-later : {p q : PassState} {t : ℕ} {a : TermAddress} → HasSeen p t → Later p q
     → ((x : Tree) → HasTree p t x → IsAddress q a (address_of x)) → (b : Tree) → HasTree q t b → IsAddress q a (address_of b)
-address-later {p} {q} {t} {a} legal seen on at b h =
-    let x = seen_tree legal seen in
-    subst (λ y. IsAddress q a (address_of y)) (one_tree (still_tree on.extends x.1) h) (at x.0 x.1)
+address-later {p} {q} {t} {a} seen on at b h =
+    subst (λ y. IsAddress q a (address_of y)) (one_tree (still_tree on.extends seen.has) h) (at seen.term seen.has)

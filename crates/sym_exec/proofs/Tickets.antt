@@ -8,7 +8,7 @@ use Rattle.mips_isa.proofs.Registers.{put_lost, read-put}
 use Rattle.sym_terms.specs.declared.label.Origin.TheVariants.{Register}
 use Rattle.sym_terms.specs.declared.label.Label.TheVariants.{Init}
 use Rattle.sym_terms.specs.Trees.{Tree, leaf}
-use Rattle.term_table.specs.Passes.{TableState, PassState}
+use Rattle.term_table.specs.Passes.{PassState}
 use Rattle.sym_exec.specs.MipsTerms.{HasSeen, HasTree}
 use Rattle.term_table.proofs.Callers.{extends_more, extends_self}
 use Rattle.sym_exec.proofs.MipsTerms.{still_seen, still_tree}
@@ -20,7 +20,9 @@ use Rattle.sym_exec.specs.declared.state.TermExit.{TermExit}
 use Rattle.sym_exec.specs.declared.state.Guard.{Guard}
 use Rattle.sym_exec.specs.declared.state.Guard.TheVariants.{Address, Division}
 use Rattle.sym_exec.specs.Symbolic.{TreeState, register_tree, start_trees, CodeTrees, GuardTree, AtAddress, AtDivision}
-use Rattle.sym_exec.specs.Standing.{Later, AfterInterns, Known, Hold, Stands, with_reg, IsGuard, GuardsStand, AllHave, LeavesBy, StandsFor, tickets_of}
+use Rattle.sym_exec.specs.declared.interner.Interner.{Interner}
+use Rattle.sym_exec.specs.Interners.{GoesOn, Interns}
+use Rattle.sym_exec.specs.Standing.{Later, Known, Hold, Stands, with_reg, IsGuard, GuardsStand, AllHave, LeavesBy, StandsFor, tickets_of}
 
 pub later_self : (p : PassState) → Later p p
 later_self p = record { extends = extends_self p; legal = λ h. h }
@@ -29,9 +31,15 @@ pub later_more : {p q r : PassState} → Later p q → Later q r → Later p r
 later_more {p} {q} {r} e f = record { extends = extends_more e.extends f.extends; legal = λ h. f.legal (e.legal h) }
 
 -- calls behind calls
-pub calls_more : {A B E F : Type 0} {t : TableState} {p q r : PassState} {x : Result A E} {y : Result B F} → AfterInterns t p x q
-    → AfterInterns t q y r → AfterInterns t p y r
-calls_more {A} {B} {E} {F} {t} {p} {q} {r} {x} {y} e f = record { table = f.table; later = later_more e.later f.later; full = f.full }
+pub goes_on : {A E : Type 0} {i j : Interner} {x : Result A E} → Interns i x j → GoesOn i j
+goes_on {A} {E} {i} {j} {x} h = record { table = h.table; same_reference = h.same_reference; later = h.later }
+
+pub goes_more : {i j k : Interner} → GoesOn i j → GoesOn j k → GoesOn i k
+goes_more {i} {j} {k} e f = record {
+  table = f.table ∙ e.table;
+  same_reference = f.same_reference ∙ e.same_reference;
+  later = later_more e.later f.later;
+}
 
 stands_on : {p q : PassState} {s : TermPlaces} {t : TreeState} → Later p q → Stands p s t → Stands q s t
 stands_on {p} {q} {s} {t} e h = record {

@@ -2,3 +2,4 @@ pub mod Symbolic
 pub mod Standing
 pub mod Stores
 pub mod MipsTerms
+pub mod Interners

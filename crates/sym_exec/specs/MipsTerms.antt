@@ -17,3 +17,6 @@ HasSeen = terms.HasSeenTerm label_coding
 
 abbrev pub IsNode : PassState → Label → List ℕ → Tree → Type 0
 IsNode = terms.IsTermNode label_coding
+
+abbrev pub HaveSeen : PassState → List ℕ → Type 0
+HaveSeen = terms.HasSeenTerms label_coding

@@ -29,11 +29,6 @@ pub record AfterInterns {A E : Type 0} (t : TableState) (p : PassState) (result 
   pub later : Later p q
   pub full : OnErr result (linked q ≡ q.nodes)
 
--- a pass behind some reads: it is the table's and later
-pub record AfterReads (t : TableState) (p q : PassState) : Type 0 where
-  pub table : IsOf t q
-  pub later : Later p q
-
 -- an address by tickets stands for one by trees
 pub record IsAddress (p : PassState) (a : TermAddress) (x : TreeAddress) : Type 0 where
   pub base : HasTree p a.base x.base

@@ -2,13 +2,14 @@
 ghost use Rattle.std.specs.Prelude.{◌≡◌, IfOk, IfSome, IfNone};
 ghost use Rattle.sym_terms.specs.Trees.{Tree};
 ghost use Rattle.sym_terms.specs.NormalForms.{label_constant, constant_of, is_sum, at_base, address_of, tree_plus};
-ghost use Rattle.term_table.specs.Passes.{IsOf};
+ghost use Rattle.term_table.specs.Trees.{HasLegalHistory};
 ghost use Rattle.sym_exec.specs.MipsTerms.{HasSeen, HasTree};
-ghost use Rattle.sym_exec.specs.Standing.{AfterInterns, AfterReads, IsAddress, AreSummands};
+ghost use Rattle.sym_exec.specs.Standing.{IsAddress, AreSummands};
+ghost use Rattle.sym_exec.specs.Interners.{GoesOn, Interns};
 
-use crate::terms::{binary_term, leaf_term};
+use crate::interner::Interner;
 use sym_terms::Label;
-use term_table::{Pass, TableFull, TermTable, Ticket};
+use term_table::{TableFull, Ticket};
 use words::Operator;
 
 /// An address by its terms: a base, and how many bytes behind it.
@@ -28,13 +29,12 @@ fn label_constant(label: Label) -> Option<u32>
 }
 
 /// The constant that a term is.
-pub(crate) fn constant_at(table: &TermTable, pass: &mut Pass, ticket: Ticket) -> Option<u32>
-    requires table { IsOf table.now pass.old }
-    requires seen { HasSeen pass.old ticket }
-    ensures value { (x : Tree) → HasTree pass.old ticket x → result ≡ constant_of x }
-    ensures pass { AfterReads table.now pass.old pass.new }
+pub(crate) fn constant_at(terms: &mut Interner, ticket: Ticket) -> Option<u32>
+    requires { HasSeen terms.old.pass.now ticket }
+    ensures value { (x : Tree) → HasTree terms.old.pass.now ticket x → result ≡ constant_of x }
+    ensures pass { GoesOn terms.old terms.new }
 {
-    let node = table.read(pass, ticket);
+    let node = terms.read(ticket);
     if node.children.len() > 0 {
         return None;
     }
@@ -51,15 +51,15 @@ fn is_sum_label(label: Label) -> bool
 }
 
 // The two terms that a sum is made of.
-fn summands(table: &TermTable, pass: &mut Pass, ticket: Ticket) -> Option<(Ticket, Ticket)>
-    requires table { IsOf table.now pass.old }
-    requires seen { HasSeen pass.old ticket }
-    ensures seen { IfSome result (λ s. HasSeen pass.new s.0 × HasSeen pass.new s.1) }
-    ensures none { (x : Tree) → HasTree pass.old ticket x → IfNone result (address_of x ≡ at_base x) }
-    ensures some { (x : Tree) → HasTree pass.old ticket x → IfSome result (λ s. AreSummands pass.new s.0 s.1 x) }
-    ensures pass { AfterReads table.now pass.old pass.new }
+fn summands(terms: &mut Interner, ticket: Ticket) -> Option<(Ticket, Ticket)>
+    requires { HasSeen terms.old.pass.now ticket }
+    ensures seen { IfSome result (λ s. HasSeen terms.new.pass.now s.0 × HasSeen terms.new.pass.now s.1) }
+    ensures none { (x : Tree) → HasTree terms.old.pass.now ticket x → IfNone result (address_of x ≡ at_base x) }
+    ensures legal { HasLegalHistory terms.new.pass.now }
+    ensures some { (x : Tree) → HasTree terms.old.pass.now ticket x → IfSome result (λ s. AreSummands terms.new.pass.now s.0 s.1 x) }
+    ensures pass { GoesOn terms.old terms.new }
 {
-    let node = table.read(pass, ticket);
+    let node = terms.read(ticket);
     if !is_sum_label(node.label) {
         return None;
     }
@@ -70,20 +70,20 @@ fn summands(table: &TermTable, pass: &mut Pass, ticket: Ticket) -> Option<(Ticke
 }
 
 /// The base and the constant of an address.
-pub(crate) fn address_at(table: &TermTable, pass: &mut Pass, ticket: Ticket) -> TermAddress
-    requires table { IsOf table.now pass.old }
-    requires seen { HasSeen pass.old ticket }
-    ensures seen { HasSeen pass.new result.base }
-    ensures tree { (x : Tree) → HasTree pass.old ticket x → IsAddress pass.new result (address_of x) }
-    ensures pass { AfterReads table.now pass.old pass.new }
+pub(crate) fn address_at(terms: &mut Interner, ticket: Ticket) -> TermAddress
+    requires { HasSeen terms.old.pass.now ticket }
+    ensures legal { HasLegalHistory terms.new.pass.now }
+    ensures seen { HasSeen terms.new.pass.now result.base }
+    ensures tree { (x : Tree) → HasTree terms.old.pass.now ticket x → IsAddress terms.new.pass.now result (address_of x) }
+    ensures pass { GoesOn terms.old terms.new }
 {
-    let Some((base, constant)) = summands(table, pass, ticket) else {
+    let Some((base, constant)) = summands(terms, ticket) else {
         return TermAddress {
             base: ticket,
             offset: 0,
         };
     };
-    match constant_at(table, pass, constant) {
+    match constant_at(terms, constant) {
         Some(offset) => TermAddress { base, offset },
         None => TermAddress {
             base: ticket,
@@ -94,20 +94,18 @@ pub(crate) fn address_at(table: &TermTable, pass: &mut Pass, ticket: Ticket) -> 
 
 /// The term of a base and a constant behind it.
 pub(crate) fn plus_term(
-    table: &TermTable,
-    pass: &mut Pass,
+    terms: &mut Interner,
     base: Ticket,
     offset: u32,
 ) -> Result<Ticket, TableFull>
-    requires table { IsOf table.now pass.old }
-    requires seen { HasSeen pass.old base }
-    ensures seen { IfOk result (λ t. HasSeen pass.new t) }
-    ensures tree { (x : Tree) → HasTree pass.old base x → IfOk result (λ t. HasTree pass.new t (tree_plus x offset)) }
-    ensures pass { AfterInterns table.now pass.old result pass.new }
+    requires { HasSeen terms.old.pass.now base }
+    ensures seen { IfOk result (λ t. HasSeen terms.new.pass.now t) }
+    ensures tree { (x : Tree) → HasTree terms.old.pass.now base x → IfOk result (λ t. HasTree terms.new.pass.now t (tree_plus x offset)) }
+    ensures pass { Interns terms.old result terms.new }
 {
     if offset == 0 {
         return Ok(base);
     }
-    let constant = leaf_term(table, pass, Label::Const(offset))?;
-    binary_term(table, pass, Label::Op(Operator::Addu), base, constant)
+    let constant = terms.leaf(Label::Const(offset))?;
+    terms.binary(Label::Op(Operator::Addu), base, constant)
 }

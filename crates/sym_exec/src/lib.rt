@@ -13,6 +13,7 @@
 #![tactic(auto)]
 
 mod address;
+mod interner;
 mod registers;
 mod room;
 mod run;

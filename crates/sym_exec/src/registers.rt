@@ -3,19 +3,20 @@ ghost use Rattle.std.specs.Prelude.{◌≡◌, ℕ, ◌<◌, ◌+◌, OnOk, IfOk
 ghost use Rattle.mips_isa.specs.declared.action.Action.TheVariants.{Computes, Loads, Stores, Multiplies, Divides};
 ghost use Rattle.mips_isa.specs.States.{put};
 ghost use Rattle.sym_terms.specs.Trees.{Tree, leaf};
-ghost use Rattle.term_table.specs.Passes.{IsOf};
 ghost use Rattle.sym_exec.specs.MipsTerms.{HasSeen, HasTree};
 ghost use Rattle.sym_exec.specs.Symbolic.{TreeState, register_tree, operand_tree, address_tree, trees_after};
-ghost use Rattle.sym_exec.specs.Standing.{AfterInterns, Known, Hold, with_reg, with_halves};
+ghost use Rattle.sym_exec.specs.Standing.{Known, Hold, with_reg, with_halves};
+ghost use Rattle.sym_exec.specs.Interners.{Interns};
 
 use crate::address::{address_at, plus_term};
+use crate::interner::Interner;
 use crate::stores::{StoreChain, Stored};
-use crate::terms::{leaf_term, op_term};
+use crate::terms::op_term;
 use mips_isa::{
     NonzeroReg, Operand, Reg, product_high, product_low, quotient_operator, remainder_operator,
 };
 use sym_terms::Label;
-use term_table::{Pass, TableFull, TermTable, Ticket};
+use term_table::{TableFull, Ticket};
 use words::{Operator, Sign, Width};
 
 /// What a load or a store reaches: how wide, and how many bytes behind a register's word.
@@ -37,9 +38,9 @@ pub(crate) struct TermRegisters {
 impl TermRegisters {
     ghost use Rattle.std.specs.Prelude.{◌≡◌, ℕ, ◌<◌, ◌≤◌, ◌+◌, OnOk, IfOk, slice_index, length, vec_len};
     ghost use Rattle.mblock.specs.declared.limits.TheConstants.{ORDER_INSTS};
-    ghost use Rattle.term_table.specs.Trees.{HasLegalHistory};
     ghost use Rattle.sym_exec.specs.MipsTerms.{HasTree};
-    ghost use Rattle.sym_exec.specs.Standing.{AfterInterns, Known, Hold, with_reg, with_halves};
+    ghost use Rattle.sym_exec.specs.Standing.{Known, Hold, with_reg, with_halves};
+    ghost use Rattle.sym_exec.specs.Interners.{Interns};
     ghost use Rattle.sym_exec.specs.Stores.{MakeMemory, IsChain, HasStoreRoom};
 
     pub(crate) fn get(&self, r: Reg) -> Ticket
@@ -61,59 +62,46 @@ impl TermRegisters {
         }
     }
 
-    fn operand(
-        &self,
-        table: &TermTable,
-        pass: &mut Pass,
-        operand: &Operand,
-    ) -> Result<Ticket, TableFull>
-        requires table { IsOf table.now pass.old }
-        requires known { Known pass.old self.now }
-        ensures seen { IfOk result (λ x. HasSeen pass.new x) }
-        ensures tree { (t : TreeState) → Hold pass.old self.now t → IfOk result (λ x. HasTree pass.new x (operand_tree t operand.now)) }
-        ensures pass { AfterInterns table.now pass.old result pass.new }
+    fn operand(&self, terms: &mut Interner, operand: &Operand) -> Result<Ticket, TableFull>
+        requires { Known terms.old.pass.now self.now }
+        ensures seen { IfOk result (λ x. HasSeen terms.new.pass.now x) }
+        ensures tree { (t : TreeState) → Hold terms.old.pass.now self.now t
+            → IfOk result (λ x. HasTree terms.new.pass.now x (operand_tree t operand.now)) }
+        ensures pass { Interns terms.old result terms.new }
     {
         match *operand {
             Operand::Held(r) => Ok(self.get(r)),
-            Operand::Fixed(word) => leaf_term(table, pass, Label::Const(word)),
+            Operand::Fixed(word) => terms.leaf(Label::Const(word)),
         }
     }
 
-    fn address(
-        &self,
-        table: &TermTable,
-        pass: &mut Pass,
-        base: Reg,
-        offset: u32,
-    ) -> Result<Ticket, TableFull>
-        requires table { IsOf table.now pass.old }
-        requires known { Known pass.old self.now }
-        ensures seen { IfOk result (λ x. HasSeen pass.new x) }
-        ensures tree { (t : TreeState) → Hold pass.old self.now t → IfOk result (λ x. HasTree pass.new x (address_tree t base offset)) }
-        ensures pass { AfterInterns table.now pass.old result pass.new }
+    fn address(&self, terms: &mut Interner, base: Reg, offset: u32) -> Result<Ticket, TableFull>
+        requires { Known terms.old.pass.now self.now }
+        ensures seen { IfOk result (λ x. HasSeen terms.new.pass.now x) }
+        ensures tree { (t : TreeState) → Hold terms.old.pass.now self.now t
+            → IfOk result (λ x. HasTree terms.new.pass.now x (address_tree t base offset)) }
+        ensures pass { Interns terms.old result terms.new }
     {
-        let at = address_at(table, pass, self.get(base));
-        plus_term(table, pass, at.base, at.offset.wrapping_add(offset))
+        let at = address_at(terms, self.get(base));
+        plus_term(terms, at.base, at.offset.wrapping_add(offset))
     }
 
     pub(crate) fn computes(
         &mut self,
-        table: &TermTable,
-        pass: &mut Pass,
+        terms: &mut Interner,
         d: Reg,
         op: Operator,
         a: Reg,
         b: &Operand,
     ) -> Result<(), TableFull>
-        requires table { IsOf table.now pass.old }
-        requires known { Known pass.old self.old }
-        ensures known { OnOk result (Known pass.new self.new) }
-        ensures hold { (t : TreeState) → Hold pass.old self.old t
-            → OnOk result (Hold pass.new self.new (trees_after (Computes d op a b.now) t)) }
-        ensures pass { AfterInterns table.now pass.old result pass.new }
+        requires { Known terms.old.pass.now self.old }
+        ensures known { OnOk result (Known terms.new.pass.now self.new) }
+        ensures hold { (t : TreeState) → Hold terms.old.pass.now self.old t
+            → OnOk result (Hold terms.new.pass.now self.new (trees_after (Computes d op a b.now) t)) }
+        ensures pass { Interns terms.old result terms.new }
     {
-        let y = self.operand(table, pass, b)?;
-        let value = op_term(table, pass, op, self.get(a), y)?;
+        let y = self.operand(terms, b)?;
+        let value = op_term(terms, op, self.get(a), y)?;
         self.set(d, value);
         Ok(())
     }
@@ -121,19 +109,17 @@ impl TermRegisters {
     /// Register `d` gets the term of a label without children.
     pub(crate) fn put_leaf(
         &mut self,
-        table: &TermTable,
-        pass: &mut Pass,
+        terms: &mut Interner,
         d: Reg,
         label: Label,
     ) -> Result<(), TableFull>
-        requires table { IsOf table.now pass.old }
-        requires known { Known pass.old self.old }
-        ensures known { OnOk result (Known pass.new self.new) }
-        ensures hold { (t : TreeState) → Hold pass.old self.old t
-            → OnOk result (Hold pass.new self.new (record t { regs = put t.regs d (leaf label) })) }
-        ensures pass { AfterInterns table.now pass.old result pass.new }
+        requires { Known terms.old.pass.now self.old }
+        ensures known { OnOk result (Known terms.new.pass.now self.new) }
+        ensures hold { (t : TreeState) → Hold terms.old.pass.now self.old t
+            → OnOk result (Hold terms.new.pass.now self.new (record t { regs = put t.regs d (leaf label) })) }
+        ensures pass { Interns terms.old result terms.new }
     {
-        let value = leaf_term(table, pass, label)?;
+        let value = terms.leaf(label)?;
         self.set(d, value);
         Ok(())
     }
@@ -141,31 +127,28 @@ impl TermRegisters {
     /// Answers the ticket of the address.
     pub(crate) fn loads(
         &mut self,
-        table: &TermTable,
-        pass: &mut Pass,
+        terms: &mut Interner,
         chain: &mut StoreChain,
         d: NonzeroReg,
         access: Access,
     ) -> Result<Ticket, TableFull>
-        requires table { IsOf table.now pass.old }
-        requires legal { HasLegalHistory pass.old }
-        requires known { Known pass.old self.old }
-        requires chain { IsChain pass.old chain.old }
+        requires known { Known terms.old.pass.now self.old }
+        requires chain { IsChain terms.old.pass.now chain.old }
         requires room { HasStoreRoom chain.old }
         requires few { vec_len chain.old.stores ≤ ORDER_INSTS + 1 }
-        ensures known { OnOk result (Known pass.new self.new) }
-        ensures hold { (t : TreeState) → Hold pass.old self.old t → MakeMemory pass.old chain.old.stores.items t.memory
-            → OnOk result (Hold pass.new self.new (trees_after (Loads access.width d access.base access.offset) t)) }
-        ensures address { (t : TreeState) → Hold pass.old self.old t
-            → IfOk result (λ x. HasTree pass.new x (address_tree t access.base access.offset)) }
-        ensures chain { OnOk result (IsChain pass.new chain.new) }
+        ensures known { OnOk result (Known terms.new.pass.now self.new) }
+        ensures hold { (t : TreeState) → Hold terms.old.pass.now self.old t → MakeMemory terms.old.pass.now chain.old.stores.items t.memory
+            → OnOk result (Hold terms.new.pass.now self.new (trees_after (Loads access.width d access.base access.offset) t)) }
+        ensures address { (t : TreeState) → Hold terms.old.pass.now self.old t
+            → IfOk result (λ x. HasTree terms.new.pass.now x (address_tree t access.base access.offset)) }
+        ensures chain { OnOk result (IsChain terms.new.pass.now chain.new) }
         ensures stores { OnOk result (chain.new.stores ≡ chain.old.stores) }
         ensures room { OnOk result (HasStoreRoom chain.new) }
-        ensures pass { AfterInterns table.now pass.old result pass.new }
+        ensures pass { Interns terms.old result terms.new }
     {
-        let address = self.address(table, pass, access.base, access.offset)?;
-        let at = address_at(table, pass, address);
-        let value = chain.load_term(table, pass, access.width, &at, address)?;
+        let address = self.address(terms, access.base, access.offset)?;
+        let at = address_at(terms, address);
+        let value = chain.load_term(terms, access.width, &at, address)?;
         self.set(d.reg(), value);
         Ok(address)
     }
@@ -173,30 +156,28 @@ impl TermRegisters {
     /// Answers the ticket of the address.
     pub(crate) fn stores(
         &self,
-        table: &TermTable,
-        pass: &mut Pass,
+        terms: &mut Interner,
         chain: &mut StoreChain,
         r: Reg,
         access: Access,
     ) -> Result<Ticket, TableFull>
-        requires table { IsOf table.now pass.old }
-        requires legal { HasLegalHistory pass.old }
-        requires known { Known pass.old self.now }
-        requires chain { IsChain pass.old chain.old }
+        requires known { Known terms.old.pass.now self.now }
+        requires chain { IsChain terms.old.pass.now chain.old }
         requires room { HasStoreRoom chain.old }
         requires few { vec_len chain.old.stores < ORDER_INSTS + 1 }
-        ensures memory { (t : TreeState) → Hold pass.old self.now t → MakeMemory pass.old chain.old.stores.items t.memory
-            → OnOk result (MakeMemory pass.new chain.new.stores.items
+        ensures memory { (t : TreeState) → Hold terms.old.pass.now self.now t
+            → MakeMemory terms.old.pass.now chain.old.stores.items t.memory
+            → OnOk result (MakeMemory terms.new.pass.now chain.new.stores.items
             (trees_after (Stores access.width r access.base access.offset) t).memory) }
-        ensures address { (t : TreeState) → Hold pass.old self.now t
-            → IfOk result (λ x. HasTree pass.new x (address_tree t access.base access.offset)) }
-        ensures chain { OnOk result (IsChain pass.new chain.new) }
+        ensures address { (t : TreeState) → Hold terms.old.pass.now self.now t
+            → IfOk result (λ x. HasTree terms.new.pass.now x (address_tree t access.base access.offset)) }
+        ensures chain { OnOk result (IsChain terms.new.pass.now chain.new) }
         ensures room { OnOk result (HasStoreRoom chain.new) }
         ensures count { OnOk result (vec_len chain.new.stores ≡ vec_len chain.old.stores + 1) }
-        ensures pass { AfterInterns table.now pass.old result pass.new }
+        ensures pass { Interns terms.old result terms.new }
     {
-        let address = self.address(table, pass, access.base, access.offset)?;
-        let at = address_at(table, pass, address);
+        let address = self.address(terms, access.base, access.offset)?;
+        let at = address_at(terms, address);
         let value = self.get(r);
         chain.store(Stored {
             address,
@@ -211,22 +192,21 @@ impl TermRegisters {
     // HI and LO hold the results of two operators at the same registers.
     fn put_halves(
         &mut self,
-        table: &TermTable,
-        pass: &mut Pass,
+        terms: &mut Interner,
         high: Operator,
         low: Operator,
         a: Reg,
         b: Reg,
     ) -> Result<(), TableFull>
-        requires table { IsOf table.now pass.old }
-        requires known { Known pass.old self.old }
-        ensures known { OnOk result (Known pass.new self.new) }
-        ensures hold { (t : TreeState) → Hold pass.old self.old t → OnOk result (Hold pass.new self.new (with_halves high low a b t)) }
-        ensures pass { AfterInterns table.now pass.old result pass.new }
+        requires { Known terms.old.pass.now self.old }
+        ensures known { OnOk result (Known terms.new.pass.now self.new) }
+        ensures hold { (t : TreeState) → Hold terms.old.pass.now self.old t
+            → OnOk result (Hold terms.new.pass.now self.new (with_halves high low a b t)) }
+        ensures pass { Interns terms.old result terms.new }
     {
         let (x, y) = (self.get(a), self.get(b));
-        let hi = op_term(table, pass, high, x, y)?;
-        let lo = op_term(table, pass, low, x, y)?;
+        let hi = op_term(terms, high, x, y)?;
+        let lo = op_term(terms, low, x, y)?;
         self.hi = hi;
         self.lo = lo;
         Ok(())
@@ -234,41 +214,36 @@ impl TermRegisters {
 
     pub(crate) fn multiplies(
         &mut self,
-        table: &TermTable,
-        pass: &mut Pass,
+        terms: &mut Interner,
         sign: Sign,
         a: Reg,
         b: Reg,
     ) -> Result<(), TableFull>
-        requires table { IsOf table.now pass.old }
-        requires known { Known pass.old self.old }
-        ensures known { OnOk result (Known pass.new self.new) }
-        ensures hold { (t : TreeState) → Hold pass.old self.old t
-            → OnOk result (Hold pass.new self.new (trees_after (Multiplies sign a b) t)) }
-        ensures pass { AfterInterns table.now pass.old result pass.new }
+        requires { Known terms.old.pass.now self.old }
+        ensures known { OnOk result (Known terms.new.pass.now self.new) }
+        ensures hold { (t : TreeState) → Hold terms.old.pass.now self.old t
+            → OnOk result (Hold terms.new.pass.now self.new (trees_after (Multiplies sign a b) t)) }
+        ensures pass { Interns terms.old result terms.new }
     {
-        self.put_halves(table, pass, product_high(sign), product_low(sign), a, b)?;
+        self.put_halves(terms, product_high(sign), product_low(sign), a, b)?;
         Ok(())
     }
 
     pub(crate) fn divides(
         &mut self,
-        table: &TermTable,
-        pass: &mut Pass,
+        terms: &mut Interner,
         sign: Sign,
         a: Reg,
         b: Reg,
     ) -> Result<(), TableFull>
-        requires table { IsOf table.now pass.old }
-        requires known { Known pass.old self.old }
-        ensures known { OnOk result (Known pass.new self.new) }
-        ensures hold { (t : TreeState) → Hold pass.old self.old t
-            → OnOk result (Hold pass.new self.new (trees_after (Divides sign a b) t)) }
-        ensures pass { AfterInterns table.now pass.old result pass.new }
+        requires { Known terms.old.pass.now self.old }
+        ensures known { OnOk result (Known terms.new.pass.now self.new) }
+        ensures hold { (t : TreeState) → Hold terms.old.pass.now self.old t
+            → OnOk result (Hold terms.new.pass.now self.new (trees_after (Divides sign a b) t)) }
+        ensures pass { Interns terms.old result terms.new }
     {
         self.put_halves(
-            table,
-            pass,
+            terms,
             remainder_operator(sign),
             quotient_operator(sign),
             a,

@@ -14,12 +14,13 @@ ghost use Rattle.sym_exec.specs.MipsTerms.{HasTree};
 ghost use Rattle.sym_exec.specs.Symbolic.{TreeState, GuardTree, start_trees, trees_after, all_trees, exit_trees, exit_operands, code_trees};
 ghost use Rattle.sym_exec.specs.Symbolic.{block_trees, order_trees};
 ghost use Rattle.sym_exec.specs.Standing.{AfterInterns, Known, Hold, LeavesBy, StandsFor};
+ghost use Rattle.sym_exec.specs.Interners.{Interns};
 ghost use Rattle.sym_exec.specs.Stores.{IsChain, HasRoom, IsEmpty, Tracks};
 
+use crate::interner::Interner;
 use crate::registers::{Access, TermRegisters};
 use crate::room::{RunLists, RunRoom};
 use crate::state::{Guard, SymState, TermExit, TermPlaces};
-use crate::terms::leaf_term;
 use mblock::{Block, Exit, Order};
 use mips_isa::{Action, NonzeroReg, Plain, Reg};
 use sym_terms::{Label, Origin};
@@ -41,29 +42,26 @@ impl RunLists {
 
 /// What an action does to the trees, done to their tickets.
 fn step(
-    table: &TermTable,
-    pass: &mut Pass,
+    terms: &mut Interner,
     registers: &mut TermRegisters,
     lists: &mut RunLists,
     action: &Action,
 ) -> Result<(), TableFull>
-    requires table { IsOf table.now pass.old }
-    requires legal { HasLegalHistory pass.old }
-    requires known { Known pass.old registers.old }
-    requires chain { IsChain pass.old lists.old.chain }
+    requires known { Known terms.old.pass.now registers.old }
+    requires chain { IsChain terms.old.pass.now lists.old.chain }
     requires room { HasRoom lists.old }
     requires few { vec_len lists.old.guards ≤ ORDER_INSTS }
-    ensures known { OnOk result (Known pass.new registers.new) }
-    ensures chain { OnOk result (IsChain pass.new lists.new.chain) }
-    ensures tracks { (t : TreeState) → Tracks pass.old registers.old lists.old t
-        → OnOk result (Tracks pass.new registers.new lists.new (trees_after action.now t)) }
-    ensures pass { AfterInterns table.now pass.old result pass.new }
+    ensures known { OnOk result (Known terms.new.pass.now registers.new) }
+    ensures chain { OnOk result (IsChain terms.new.pass.now lists.new.chain) }
+    ensures tracks { (t : TreeState) → Tracks terms.old.pass.now registers.old lists.old t
+        → OnOk result (Tracks terms.new.pass.now registers.new lists.new (trees_after action.now t)) }
+    ensures pass { Interns terms.old result terms.new }
     ensures room { OnOk result (HasRoom lists.new) }
     ensures count { OnOk result (vec_len lists.new.guards ≤ vec_len lists.old.guards + 1) }
 {
     match *action {
-        Action::Computes { d, op, a, b } => { registers.computes(table, pass, d, op, a, &b) }
-        Action::Sets { d, word } => { registers.put_leaf(table, pass, d, Label::Const(word)) }
+        Action::Computes { d, op, a, b } => { registers.computes(terms, d, op, a, &b) }
+        Action::Sets { d, word } => { registers.put_leaf(terms, d, Label::Const(word)) }
         Action::Loads {
             width,
             d,
@@ -75,7 +73,7 @@ fn step(
                 base,
                 offset,
             };
-            let address = registers.loads(table, pass, &mut lists.chain, d, access)?;
+            let address = registers.loads(terms, &mut lists.chain, d, access)?;
             lists.push_guard(Guard::Address { width, address });
             Ok(())
         }
@@ -90,15 +88,15 @@ fn step(
                 base,
                 offset,
             };
-            let address = registers.stores(table, pass, &mut lists.chain, r, access)?;
+            let address = registers.stores(terms, &mut lists.chain, r, access)?;
             lists.push_guard(Guard::Address { width, address });
             Ok(())
         }
-        Action::Multiplies { sign, a, b } => { registers.multiplies(table, pass, sign, a, b) }
+        Action::Multiplies { sign, a, b } => { registers.multiplies(terms, sign, a, b) }
         Action::Divides { sign, a, b } => {
             let dividend = registers.get(a);
             let divisor = registers.get(b);
-            registers.divides(table, pass, sign, a, b)?;
+            registers.divides(terms, sign, a, b)?;
             lists.push_guard(Guard::Division {
                 sign,
                 dividend,
@@ -118,84 +116,74 @@ fn step(
 }
 
 fn steps(
-    table: &TermTable,
-    pass: &mut Pass,
+    terms: &mut Interner,
     registers: &mut TermRegisters,
     lists: &mut RunLists,
     insts: &[Plain],
 ) -> Result<(), TableFull>
-    requires table { IsOf table.now pass.old }
-    requires legal { HasLegalHistory pass.old }
-    requires known { Known pass.old registers.old }
-    requires chain { IsChain pass.old lists.old.chain }
+    requires known { Known terms.old.pass.now registers.old }
+    requires chain { IsChain terms.old.pass.now lists.old.chain }
     requires room { HasRoom lists.old }
     requires few { vec_len lists.old.guards + length insts.now ≤ ORDER_INSTS }
-    ensures known { OnOk result (Known pass.new registers.new) }
-    ensures chain { OnOk result (IsChain pass.new lists.new.chain) }
-    ensures tracks { (t : TreeState) → Tracks pass.old registers.old lists.old t
-        → OnOk result (Tracks pass.new registers.new lists.new (all_trees (map action_of insts.now) t)) }
-    ensures pass { AfterInterns table.now pass.old result pass.new }
+    ensures known { OnOk result (Known terms.new.pass.now registers.new) }
+    ensures chain { OnOk result (IsChain terms.new.pass.now lists.new.chain) }
+    ensures tracks { (t : TreeState) → Tracks terms.old.pass.now registers.old lists.old t
+        → OnOk result (Tracks terms.new.pass.now registers.new lists.new (all_trees (map action_of insts.now) t)) }
+    ensures pass { Interns terms.old result terms.new }
     ensures room { OnOk result (HasRoom lists.new) }
     ensures count { OnOk result (vec_len lists.new.guards ≤ vec_len lists.old.guards + length insts.now) }
 {
     for inst in insts {
-        step(table, pass, registers, lists, &inst.action())?;
+        step(terms, registers, lists, &inst.action())?;
     }
     Ok(())
 }
 
 /// What register `r` holds at the start.
-fn start_reg(table: &TermTable, pass: &mut Pass, r: u8) -> Result<Ticket, TableFull>
-    requires table { IsOf table.now pass.old }
+fn start_reg(terms: &mut Interner, r: u8) -> Result<Ticket, TableFull>
     requires nonzero { 0 < r }
     requires low { r < 32 }
-    ensures tree { IfOk result (λ t. HasTree pass.new t (leaf (Init (Register r)))) }
-    ensures legal { HasLegalHistory pass.new }
-    ensures pass { AfterInterns table.now pass.old result pass.new }
+    ensures tree { IfOk result (λ t. HasTree terms.new.pass.now t (leaf (Init (Register r)))) }
+    ensures legal { HasLegalHistory terms.new.pass.now }
+    ensures pass { Interns terms.old result terms.new }
 {
     let Some(reg) = NonzeroReg::new(r) else {
         unreachable!();
     };
-    leaf_term(table, pass, Label::Init(Origin::Register(reg)))
+    terms.leaf(Label::Init(Origin::Register(reg)))
 }
 
 /// What registers, HI and LO hold at the start: the constant 0 in register 0, in any other its own label.
-fn start_registers(table: &TermTable, pass: &mut Pass) -> Result<TermRegisters, TableFull>
-    requires { IsOf table.now pass.old }
-    ensures known { IfOk result (Known pass.new) }
-    ensures hold { IfOk result (λ s. Hold pass.new s start_trees) }
-    ensures legal { HasLegalHistory pass.new }
-    ensures pass { AfterInterns table.now pass.old result pass.new }
+fn start_registers(terms: &mut Interner) -> Result<TermRegisters, TableFull>
+    ensures known { IfOk result (Known terms.new.pass.now) }
+    ensures hold { IfOk result (λ s. Hold terms.new.pass.now s start_trees) }
+    ensures legal { HasLegalHistory terms.new.pass.now }
+    ensures pass { Interns terms.old result terms.new }
 {
-    let zero = leaf_term(table, pass, Label::Const(0))?;
+    let zero = terms.leaf(Label::Const(0))?;
     let mut regs = [zero; 32];
     for r in 1..32u8 {
-        regs[r as usize] = start_reg(table, pass, r)?;
+        regs[r as usize] = start_reg(terms, r)?;
     }
-    let hi = leaf_term(table, pass, Label::Init(Origin::Hi))?;
-    let lo = leaf_term(table, pass, Label::Init(Origin::Lo))?;
+    let hi = terms.leaf(Label::Init(Origin::Hi))?;
+    let lo = terms.leaf(Label::Init(Origin::Lo))?;
     Ok(TermRegisters { regs, hi, lo })
 }
 
 /// The same, with the memory at the start, which begins the chain of stores.
-fn start(
-    table: &TermTable,
-    pass: &mut Pass,
-    lists: &mut RunLists,
-) -> Result<TermRegisters, TableFull>
-    requires table { IsOf table.now pass.old }
+fn start(terms: &mut Interner, lists: &mut RunLists) -> Result<TermRegisters, TableFull>
     requires room { HasRoom lists.old }
     requires empty { IsEmpty lists.old }
-    ensures known { IfOk result (Known pass.new) }
-    ensures chain { OnOk result (IsChain pass.new lists.new.chain) }
+    ensures known { IfOk result (Known terms.new.pass.now) }
+    ensures chain { OnOk result (IsChain terms.new.pass.now lists.new.chain) }
     ensures room { HasRoom lists.new }
     ensures none { vec_len lists.new.guards ≡ 0 }
-    ensures tracks { IfOk result (λ s. Tracks pass.new s lists.new start_trees) }
-    ensures legal { HasLegalHistory pass.new }
-    ensures pass { AfterInterns table.now pass.old result pass.new }
+    ensures tracks { IfOk result (λ s. Tracks terms.new.pass.now s lists.new start_trees) }
+    ensures legal { HasLegalHistory terms.new.pass.now }
+    ensures pass { Interns terms.old result terms.new }
 {
-    let registers = start_registers(table, pass)?;
-    let memory = leaf_term(table, pass, Label::Mem0)?;
+    let registers = start_registers(terms)?;
+    let memory = terms.leaf(Label::Mem0)?;
     lists.chain.memories.push_reserved(memory);
     Ok(registers)
 }
@@ -243,78 +231,72 @@ fn leave(registers: &TermRegisters, exit: &Exit) -> TermExit
 
 /// What the exit itself writes: a call its link, Out and Halt the number of the system call.
 fn put_own(
-    table: &TermTable,
-    pass: &mut Pass,
+    terms: &mut Interner,
     registers: &mut TermRegisters,
     exit: &Exit,
 ) -> Result<(), TableFull>
-    requires table { IsOf table.now pass.old }
-    requires known { Known pass.old registers.old }
-    ensures known { OnOk result (Known pass.new registers.new) }
-    ensures hold { (t : TreeState) → Hold pass.old registers.old t → OnOk result (Hold pass.new registers.new (exit_trees exit.now t)) }
-    ensures pass { AfterInterns table.now pass.old result pass.new }
+    requires { Known terms.old.pass.now registers.old }
+    ensures known { OnOk result (Known terms.new.pass.now registers.new) }
+    ensures hold { (t : TreeState) → Hold terms.old.pass.now registers.old t
+        → OnOk result (Hold terms.new.pass.now registers.new (exit_trees exit.now t)) }
+    ensures pass { Interns terms.old result terms.new }
 {
     match *exit {
         Exit::Call {
             function: _,
             next: _,
-        } => registers.put_leaf(table, pass, Reg::LINK, Label::Init(Origin::Link)),
-        Exit::Out(_) => registers.put_leaf(table, pass, Reg::RESULT, Label::Const(1)),
-        Exit::Halt => registers.put_leaf(table, pass, Reg::RESULT, Label::Const(10)),
+        } => registers.put_leaf(terms, Reg::LINK, Label::Init(Origin::Link)),
+        Exit::Out(_) => registers.put_leaf(terms, Reg::RESULT, Label::Const(1)),
+        Exit::Halt => registers.put_leaf(terms, Reg::RESULT, Label::Const(10)),
         _ => Ok(()),
     }
 }
 
 /// The slot, where there is one.
 fn run_slot(
-    table: &TermTable,
-    pass: &mut Pass,
+    terms: &mut Interner,
     registers: &mut TermRegisters,
     lists: &mut RunLists,
     slot: &Option<Plain>,
 ) -> Result<(), TableFull>
-    requires table { IsOf table.now pass.old }
-    requires legal { HasLegalHistory pass.old }
-    requires known { Known pass.old registers.old }
-    requires chain { IsChain pass.old lists.old.chain }
+    requires known { Known terms.old.pass.now registers.old }
+    requires chain { IsChain terms.old.pass.now lists.old.chain }
     requires room { HasRoom lists.old }
     requires few { vec_len lists.old.guards ≤ ORDER_INSTS }
-    ensures chain { OnOk result (IsChain pass.new lists.new.chain) }
+    ensures chain { OnOk result (IsChain terms.new.pass.now lists.new.chain) }
     ensures room { OnOk result (HasRoom lists.new) }
     ensures count { OnOk result (vec_len lists.new.guards ≤ vec_len lists.old.guards + 1) }
-    ensures tracks { (t : TreeState) → Tracks pass.old registers.old lists.old t
-        → OnOk result (Tracks pass.new registers.new lists.new (all_trees (slot_actions slot.now) t)) }
-    ensures pass { AfterInterns table.now pass.old result pass.new }
+    ensures tracks { (t : TreeState) → Tracks terms.old.pass.now registers.old lists.old t
+        → OnOk result (Tracks terms.new.pass.now registers.new lists.new (all_trees (slot_actions slot.now) t)) }
+    ensures pass { Interns terms.old result terms.new }
 {
     match slot {
-        Some(inst) => step(table, pass, registers, lists, &inst.action()),
+        Some(inst) => step(terms, registers, lists, &inst.action()),
         None => Ok(()),
     }
 }
 
 fn run_code(
-    table: &TermTable,
-    pass: &mut Pass,
+    terms: &mut Interner,
     insts: &[Plain],
     exit: &Exit,
     slot: &Option<Plain>,
     mut lists: RunLists,
 ) -> Result<SymState, TableFull>
-    requires table { IsOf table.now pass.old }
     requires room { HasRoom lists }
     requires empty { IsEmpty lists }
     requires few { length insts.now ≤ ORDER_INSTS }
-    ensures trees { IfOk result (λ s. StandsFor pass.new s.places s.exit s.guards.items
+    ensures trees { IfOk result (λ s. StandsFor terms.new.pass.now s.places s.exit s.guards.items
         (code_trees (map action_of insts.now) exit.now (slot_actions slot.now))) }
-    ensures legal { HasLegalHistory pass.new }
-    ensures pass { AfterInterns table.now pass.old result pass.new }
+    ensures legal { HasLegalHistory terms.new.pass.now }
+    ensures pass { Interns terms.old result terms.new }
 {
-    let mut registers = start(table, pass, &mut lists)?;
-    steps(table, pass, &mut registers, &mut lists, insts)?;
+    let mut registers = start(terms, &mut lists)?;
+    steps(terms, &mut registers, &mut lists, insts)?;
     let left = leave(&registers, exit);
-    put_own(table, pass, &mut registers, exit)?;
-    run_slot(table, pass, &mut registers, &mut lists, slot)?;
-    let memory = lists.chain.memory_term(table, pass)?;
+    put_own(terms, &mut registers, exit)?;
+    run_slot(terms, &mut registers, &mut lists, slot)?;
+    let memory = lists.chain.memory_term(terms)?;
     let TermRegisters { regs, hi, lo } = registers;
     Ok(SymState {
         places: TermPlaces {
@@ -343,9 +325,9 @@ pub fn run_block(
     ensures legal { HasLegalHistory pass.new }
     ensures pass { AfterInterns table.now pass.old result pass.new }
 {
+    let mut terms = Interner::new(table, pass);
     run_code(
-        table,
-        pass,
+        &mut terms,
         block.insts(),
         &block.exit(),
         &None,
@@ -365,9 +347,9 @@ pub fn run_order(
     ensures legal { HasLegalHistory pass.new }
     ensures pass { AfterInterns table.now pass.old result pass.new }
 {
+    let mut terms = Interner::new(table, pass);
     run_code(
-        table,
-        pass,
+        &mut terms,
         order.insts(),
         &order.exit(),
         &order.slot(),

@@ -6,16 +6,17 @@ ghost use Rattle.mblock.specs.declared.limits.TheConstants.{ORDER_INSTS};
 ghost use Rattle.sym_terms.specs.declared.label.Label.TheVariants.{Load, Store};
 ghost use Rattle.sym_terms.specs.Trees.{Tree, binary, ternary};
 ghost use Rattle.sym_terms.specs.NormalForms.{address_of, are_disjoint, load_tree, store_tree};
-ghost use Rattle.term_table.specs.Passes.{PassState, IsOf};
+ghost use Rattle.term_table.specs.Passes.{PassState};
 ghost use Rattle.sym_exec.specs.MipsTerms.{HasSeen, HasTree};
 ghost use Rattle.term_table.specs.Trees.{HasLegalHistory};
-ghost use Rattle.sym_exec.specs.Standing.{AfterInterns, IsAddress};
+ghost use Rattle.sym_exec.specs.Standing.{IsAddress};
+ghost use Rattle.sym_exec.specs.Interners.{Interns};
 ghost use Rattle.sym_exec.specs.Stores.{passes, passes_inward, LeadsTo, MakeMemory, IsChain, HasStoreRoom};
 
 use crate::address::TermAddress;
-use crate::terms::{binary_term, ternary_term};
+use crate::interner::Interner;
 use sym_terms::Label;
-use term_table::{Pass, TableFull, TermTable, Ticket};
+use term_table::{TableFull, Ticket};
 use words::Width;
 
 /// A store that memory is made of: how wide, where and what. The address's base and offset stand beside its ticket, in 32
@@ -116,85 +117,75 @@ impl StoreChain {
     ghost use Rattle.mblock.specs.declared.limits.TheConstants.{ORDER_INSTS};
     ghost use Rattle.sym_terms.specs.Trees.{Tree};
     ghost use Rattle.sym_terms.specs.NormalForms.{address_of, load_tree, store_tree};
-    ghost use Rattle.term_table.specs.Passes.{PassState, IsOf};
+    ghost use Rattle.term_table.specs.Passes.{PassState};
     ghost use Rattle.sym_exec.specs.MipsTerms.{HasSeen, HasTree};
     ghost use Rattle.term_table.specs.Trees.{HasLegalHistory};
-    ghost use Rattle.sym_exec.specs.Standing.{AfterInterns, IsAddress};
+    ghost use Rattle.sym_exec.specs.Standing.{IsAddress};
+    ghost use Rattle.sym_exec.specs.Interners.{Interns};
     ghost use Rattle.sym_exec.specs.Stores.{address_of_store, MakeMemory, IsChain, HasStoreRoom};
 
     /// The term of the memory behind so many stores; those of the memories before it are made with it.
-    fn memory_behind(
-        &mut self,
-        table: &TermTable,
-        pass: &mut Pass,
-        count: usize,
-    ) -> Result<Ticket, TableFull>
-        requires table { IsOf table.now pass.old }
-        requires chain { IsChain pass.old self.old }
+    fn memory_behind(&mut self, terms: &mut Interner, count: usize) -> Result<Ticket, TableFull>
+        requires chain { IsChain terms.old.pass.now self.old }
         requires room { HasStoreRoom self.old }
         requires few { vec_len self.old.stores ≤ ORDER_INSTS + 1 }
         requires count { count ≤ vec_len self.old.stores }
-        ensures chain { IsChain pass.new self.new }
+        ensures chain { IsChain terms.new.pass.now self.new }
         ensures stores { self.new.stores ≡ self.old.stores }
         ensures room { HasStoreRoom self.new }
-        ensures tree { (t : Tree) → MakeMemory pass.old (take count self.old.stores.items) t → IfOk result (λ k. HasTree pass.new k t) }
-        ensures pass { AfterInterns table.now pass.old result pass.new }
+        ensures tree { (t : Tree) → MakeMemory terms.old.pass.now (take count self.old.stores.items) t
+            → IfOk result (λ k. HasTree terms.new.pass.now k t) }
+        ensures pass { Interns terms.old result terms.new }
     {
         while self.memories.len() <= count {
             let made = self.memories.len();
             let stored = self.stores[made - 1];
             let label = Label::Store(stored.width);
             let before = self.memories[made - 1];
-            let memory = ternary_term(table, pass, label, before, stored.address, stored.value)?;
+            let memory = terms.ternary(label, before, stored.address, stored.value)?;
             self.memories.push_reserved(memory);
         }
         Ok(self.memories[count])
     }
 
     /// The term of the memory behind all stores.
-    pub(crate) fn memory_term(
-        &mut self,
-        table: &TermTable,
-        pass: &mut Pass,
-    ) -> Result<Ticket, TableFull>
-        requires table { IsOf table.now pass.old }
-        requires chain { IsChain pass.old self.old }
+    pub(crate) fn memory_term(&mut self, terms: &mut Interner) -> Result<Ticket, TableFull>
+        requires chain { IsChain terms.old.pass.now self.old }
         requires room { HasStoreRoom self.old }
         requires few { vec_len self.old.stores ≤ ORDER_INSTS + 1 }
-        ensures tree { (t : Tree) → MakeMemory pass.old self.old.stores.items t → IfOk result (λ k. HasTree pass.new k t) }
-        ensures pass { AfterInterns table.now pass.old result pass.new }
+        ensures tree { (t : Tree) → MakeMemory terms.old.pass.now self.old.stores.items t
+            → IfOk result (λ k. HasTree terms.new.pass.now k t) }
+        ensures pass { Interns terms.old result terms.new }
     {
         let count = self.stores.len();
-        self.memory_behind(table, pass, count)
+        self.memory_behind(terms, count)
     }
 
     /// The term of a load from the memory that the stores make.
     pub(crate) fn load_term(
         &mut self,
-        table: &TermTable,
-        pass: &mut Pass,
+        terms: &mut Interner,
         width: Width,
         at: &TermAddress,
         address: Ticket,
     ) -> Result<Ticket, TableFull>
-        requires table { IsOf table.now pass.old }
-        requires legal { HasLegalHistory pass.old }
-        requires chain { IsChain pass.old self.old }
+        requires legal { HasLegalHistory terms.old.pass.now }
+        requires chain { IsChain terms.old.pass.now self.old }
         requires room { HasStoreRoom self.old }
         requires few { vec_len self.old.stores ≤ ORDER_INSTS + 1 }
-        requires address { HasSeen pass.old address }
-        requires at { (b : Tree) → HasTree pass.old address b → IsAddress pass.old at.now (address_of b) }
-        ensures chain { IsChain pass.new self.new }
+        requires address { HasSeen terms.old.pass.now address }
+        requires at { (b : Tree) → HasTree terms.old.pass.now address b → IsAddress terms.old.pass.now at.now (address_of b) }
+        ensures chain { IsChain terms.new.pass.now self.new }
         ensures stores { self.new.stores ≡ self.old.stores }
         ensures room { HasStoreRoom self.new }
-        ensures seen { IfOk result (λ t. HasSeen pass.new t) }
-        ensures tree { (m b : Tree) → MakeMemory pass.old self.old.stores.items m → HasTree pass.old address b
-            → IfOk result (λ t. HasTree pass.new t (load_tree width m b)) }
-        ensures pass { AfterInterns table.now pass.old result pass.new }
+        ensures seen { IfOk result (λ t. HasSeen terms.new.pass.now t) }
+        ensures tree { (m b : Tree) → MakeMemory terms.old.pass.now self.old.stores.items m → HasTree terms.old.pass.now address b
+            → IfOk result (λ t. HasTree terms.new.pass.now t (load_tree width m b)) }
+        ensures pass { Interns terms.old result terms.new }
     {
         let count = stores_seen(self.stores.as_slice(), width, at);
-        let memory = self.memory_behind(table, pass, count)?;
-        binary_term(table, pass, Label::Load(width), memory, address)
+        let memory = self.memory_behind(terms, count)?;
+        terms.binary(Label::Load(width), memory, address)
     }
 
     /// A store more. It goes inside those that it doesn't meet and that have greater offsets; the terms of memory behind its

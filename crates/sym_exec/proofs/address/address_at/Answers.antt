@@ -6,7 +6,7 @@ use Rattle.sym_exec.specs.Standing.{IsAddress}
 use Rattle.sym_exec.proofs.address.address_at.Goals as goal
 
 pub returns-in_default-clause-seen : goal.returns-in_default-clause-seen
-returns-in_default-clause-seen c = still_seen c.summands.ensures.pass.later.extends c.args.ticket c.requires.seen
+returns-in_default-clause-seen c = still_seen c.summands.ensures.pass.later.extends c.args.ticket c.requires
 
 pub returns-in_default-clause-tree : goal.returns-in_default-clause-tree
 returns-in_default-clause-tree c = λ x h. address-base c.summands.ensures.pass.later h (c.in_default.ensures.none x h)
@@ -18,12 +18,12 @@ pub returns-in-Some-constant_at-clause-tree : goal.returns-in-Some-constant_at-c
 returns-in-Some-constant_at-clause-tree c = λ x h.
     let s = c.in-Some.ensures.some x h in
     let is = sym (c.constant_at.ensures.value s.b s.has_right) ∙ c.in-Some-constant_at.is in
-    subst (IsAddress c.constant_at.new.pass _) (sym (address-sum s c.in-Some-constant_at.offset (search Rattle.std.proofs.Common.rules) is))
+    subst (IsAddress c.constant_at.new.terms.pass.now _) (sym (address-sum s c.in-Some-constant_at.offset (search Rattle.std.proofs.Common.rules) is))
     (record { base = still_tree c.constant_at.ensures.pass.later.extends s.has_left; offset = Rattle.std.proofs.Common.refl })
 
 pub returns-in-None-clause-seen : goal.returns-in-None-clause-seen
 returns-in-None-clause-seen c =
-    still_seen (later_more c.summands.ensures.pass.later c.constant_at.ensures.pass.later).extends c.args.ticket c.requires.seen
+    still_seen (later_more c.summands.ensures.pass.later c.constant_at.ensures.pass.later).extends c.args.ticket c.requires
 
 pub returns-in-None-clause-tree : goal.returns-in-None-clause-tree
 returns-in-None-clause-tree c = λ x h.

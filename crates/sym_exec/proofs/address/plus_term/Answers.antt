@@ -8,12 +8,12 @@ use Rattle.sym_exec.specs.MipsTerms.{HasTree}
 use Rattle.sym_exec.proofs.MipsTerms.{still_seen, still_tree}
 use Rattle.sym_exec.proofs.address.plus_term.Goals as goal
 
-pub binary_term-requires-clause-a : goal.binary_term-requires-clause-a
-binary_term-requires-clause-a c = still_seen c.in_ok-constant.ensures.pass.later.extends c.args.base c.requires.seen
+pub binary-requires-clause-a : goal.binary-requires-clause-a
+binary-requires-clause-a c = still_seen c.in_ok-constant.ensures.pass.later.extends c.args.base c.requires
 
 pub returns-clause-tree : goal.returns-clause-tree
 returns-clause-tree c = λ x h.
     let sum = binary (Op Addu) x (const_tree c.args.offset) in
-    subst (λ b. IfOk c.binary_term.result (λ t. HasTree c.binary_term.new.pass t (cond b x sum)))
+    subst (λ b. IfOk c.binary.result (λ t. HasTree c.binary.new.self.pass.now t (cond b x sum)))
     (sym (ne_eqb c.args.offset 0 c.if-offset-eq0.false))
-    (c.binary_term.ensures.tree x _ (still_tree c.in_ok-constant.ensures.pass.later.extends h) c.in_ok-constant.ensures.tree)
+    (c.binary.ensures.tree x _ (still_tree c.in_ok-constant.ensures.pass.later.extends h) c.in_ok-constant.ensures.tree)

@@ -1,23 +1,22 @@
-use Rattle.std.proofs.Common.{rules, ◌≡◌, ℕ, zero, suc, ◌<◌, ◌+◌, length, sym, ap, ◌∙◌, subst, arith, ⊎_elim}
+use Rattle.std.proofs.Common.{◌≡◌, ℕ, zero, suc, ◌<◌, ◌+◌, length, sym, ap, ◌∙◌, subst, arith, ⊎_elim}
 use Rattle.std.specs.Prelude.{slice_index, replicate}
 use Rattle.std.proofs.lemmas.List.{get_or-replicate}
 use Rattle.sym_exec.specs.MipsTerms.{HasSeen, HasTree}
 use Rattle.sym_exec.proofs.MipsTerms.{still_seen, still_tree, tree_seen}
 use Rattle.sym_exec.specs.Symbolic.{register_tree, start_trees}
-use Rattle.sym_exec.proofs.Tickets.{later_more, set_place, set_tree, length_set}
+use Rattle.sym_exec.proofs.Tickets.{later_more, goes_on, goes_more, set_place, set_tree, length_set}
 use Rattle.sym_exec.proofs.run.start_registers.Goals as goal
 
 pub loop-r-init : goal.loop-r-init
 loop-r-init c = record {
-  table = c.in_ok-zero.ensures.pass.table;
-  later = c.in_ok-zero.ensures.pass.later;
+  goes = goes_on c.in_ok-zero.ensures.pass;
   count = Rattle.std.proofs.Common.refl;
   seen = λ q lt.
       let e : slice_index (replicate 32 c.in_ok-zero.zero) q ≡ c.in_ok-zero.zero = get_or-replicate 32 q c.in_ok-zero.zero 0 lt in
-      subst (HasSeen c.leaf_term.new.pass) (sym e) (tree_seen c.in_ok-zero.ensures.tree);
+      subst (HasSeen c.leaf.new.self.pass.now) (sym e) (tree_seen c.in_ok-zero.ensures.tree);
   stands = λ q lt.
       let e : 0 ≡ q = omega arith in
-      subst (λ (n : ℕ). HasTree c.leaf_term.new.pass (slice_index (replicate 32 c.in_ok-zero.zero) n) (register_tree start_trees n)) e
+      subst (λ (n : ℕ). HasTree c.leaf.new.self.pass.now (slice_index (replicate 32 c.in_ok-zero.zero) n) (register_tree start_trees n)) e
       c.in_ok-zero.ensures.tree;
 }
 
@@ -28,14 +27,13 @@ loop-r-preserved c =
     let regs = c.loop-r.regs in
     let inside : k < length regs = (let n = c.loop-r.invariant.count in omega (arith, n, c.loop-r-test.true)) in
     record {
-      table = c.in_ok-regs.ensures.pass.table;
-      later = later_more c.loop-r.invariant.later more;
+      goes = goes_more c.loop-r.invariant.goes (goes_on c.in_ok-regs.ensures.pass);
       count = length_set regs k c.in_ok-regs.field-0 ∙ c.loop-r.invariant.count;
       seen = λ q lt.
-          set_place (HasSeen c.start_reg.new.pass) regs k c.in_ok-regs.field-0 q inside (tree_seen c.in_ok-regs.ensures.tree)
+          set_place (HasSeen c.start_reg.new.terms.pass.now) regs k c.in_ok-regs.field-0 q inside (tree_seen c.in_ok-regs.ensures.tree)
           (still_seen more.extends (slice_index regs q) (c.loop-r.invariant.seen q lt));
       stands = λ q lt.
-          set_tree c.start_reg.new.pass regs k c.in_ok-regs.field-0 q inside (c.loop-r.auto.r) c.in_ok-regs.ensures.tree lt
+          set_tree c.start_reg.new.terms.pass.now regs k c.in_ok-regs.field-0 q inside (c.loop-r.auto.r) c.in_ok-regs.ensures.tree lt
           (λ below. still_tree more.extends (c.loop-r.invariant.stands q below));
     }
 
@@ -60,31 +58,3 @@ returns-clause-hold c =
       hi = still_tree e3.extends c.in_ok-hi.ensures.tree;
       lo = c.in_ok-lo.ensures.tree;
     }
-
-pub returns-in_err-hi-clause-pass : goal.returns-in_err-hi-clause-pass
-returns-in_err-hi-clause-pass c = record {
-  table = c.in_err-hi.ensures.pass.table;
-  later = later_more c.loop-r.invariant.later c.in_err-hi.ensures.pass.later;
-  full = search rules;
-}
-
-pub returns-clause-pass : goal.returns-clause-pass
-returns-clause-pass c = record {
-  table = c.in_ok-lo.ensures.pass.table;
-  later = later_more c.loop-r.invariant.later (later_more c.in_ok-hi.ensures.pass.later c.in_ok-lo.ensures.pass.later);
-  full = tt;
-}
-
-pub returns-in_err-regs-clause-pass : goal.returns-in_err-regs-clause-pass
-returns-in_err-regs-clause-pass c = record {
-  table = c.in_err-regs.ensures.pass.table;
-  later = later_more c.loop-r.invariant.later c.in_err-regs.ensures.pass.later;
-  full = search rules;
-}
-
-pub returns-in_err-lo-clause-pass : goal.returns-in_err-lo-clause-pass
-returns-in_err-lo-clause-pass c = record {
-  table = c.in_err-lo.ensures.pass.table;
-  later = later_more c.loop-r.invariant.later (later_more c.in_ok-hi.ensures.pass.later c.in_err-lo.ensures.pass.later);
-  full = search rules;
-}

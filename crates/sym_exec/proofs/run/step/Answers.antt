@@ -13,49 +13,49 @@ use Rattle.sym_exec.proofs.run.step.Goals as goal
 
 pub returns-in-Computes-clause-tracks : goal.returns-in-Computes-clause-tracks
 returns-in-Computes-clause-tracks c = λ t h.
-    let P : Action → Type 0 = λ a. OnOk c.computes.result (Tracks c.computes.new.pass c.computes.new.self c.args.lists.now (trees_after a t)) in
+    let P : Action → Type 0 = λ a. OnOk c.computes.result (Tracks c.computes.new.terms.pass.now c.computes.new.self c.args.lists.now (trees_after a t)) in
     subst P (sym c.in-Computes.is) (on_ok c.computes.result (c.computes.ensures.hold t h.hold) (λ e. tracks_on c.computes.ensures.pass.later h e refl refl))
 
 pub returns-in-Sets-clause-tracks : goal.returns-in-Sets-clause-tracks
 returns-in-Sets-clause-tracks c = λ t h.
-    let P : Action → Type 0 = λ a. OnOk c.put_leaf.result (Tracks c.put_leaf.new.pass c.put_leaf.new.self c.args.lists.now (trees_after a t)) in
+    let P : Action → Type 0 = λ a. OnOk c.put_leaf.result (Tracks c.put_leaf.new.terms.pass.now c.put_leaf.new.self c.args.lists.now (trees_after a t)) in
     subst P (sym c.in-Sets.is) (on_ok c.put_leaf.result (c.put_leaf.ensures.hold t h.hold) (λ e. tracks_on c.put_leaf.ensures.pass.later h e refl refl))
 
 pub returns-in_ok-address-in-Loads-clause-tracks : goal.returns-in_ok-address-in-Loads-clause-tracks
 returns-in_ok-address-in-Loads-clause-tracks c = λ t h.
     let d = c.in_ok-address-in-Loads.ensures in
-    let P : Action → Type 0 = λ a. Tracks c.loads.new.pass c.loads.new.self c.push_guard.new.self (trees_after a t) in
+    let P : Action → Type 0 = λ a. Tracks c.loads.new.terms.pass.now c.loads.new.self c.push_guard.new.self (trees_after a t) in
     let guard = Address c.in-Loads.width c.in_ok-address-in-Loads.address in
     let tree = AtAddress c.in-Loads.width (address_tree t c.in-Loads.base c.in-Loads.offset) in
-    let memory = subst (λ v. MakeMemory c.loads.new.pass v.items t.memory) (sym d.stores)
+    let memory = subst (λ v. MakeMemory c.loads.new.terms.pass.now v.items t.memory) (sym d.stores)
     (memory-on c.args.lists.now.chain.stores.items t.memory d.pass.later h.memory) in
     subst P (sym c.in-Loads.is)
     (tracks_guard guard tree d.pass.later h (d.hold t h.hold h.memory)
-    (subst (λ k. MakeMemory c.loads.new.pass k.stores.items t.memory) (sym c.push_guard.ensures.chain) memory) (refl, d.address t h.hold)
+    (subst (λ k. MakeMemory c.loads.new.terms.pass.now k.stores.items t.memory) (sym c.push_guard.ensures.chain) memory) (refl, d.address t h.hold)
     c.push_guard.ensures.pushed refl)
 
 pub returns-in_ok-address-in-Stores-clause-tracks : goal.returns-in_ok-address-in-Stores-clause-tracks
 returns-in_ok-address-in-Stores-clause-tracks c = λ t h.
     let d = c.in_ok-address-in-Stores.ensures in
-    let P : Action → Type 0 = λ a. Tracks c.stores.new.pass c.args.registers.now c.push_guard-in-Stores.new.self (trees_after a t) in
+    let P : Action → Type 0 = λ a. Tracks c.stores.new.terms.pass.now c.args.registers.now c.push_guard-in-Stores.new.self (trees_after a t) in
     let guard = Address c.in-Stores.width c.in_ok-address-in-Stores.address in
     let tree = AtAddress c.in-Stores.width (address_tree t c.in-Stores.base c.in-Stores.offset) in
     let memory = store_tree c.in-Stores.width t.memory (address_tree t c.in-Stores.base c.in-Stores.offset) (register_tree t c.in-Stores.r) in
     subst P (sym c.in-Stores.is)
     (tracks_guard guard tree d.pass.later h (hold_same (hold_on d.pass.later h.hold) refl refl refl)
-    (subst (λ k. MakeMemory c.stores.new.pass k.stores.items memory) (sym c.push_guard-in-Stores.ensures.chain) (d.memory t h.hold h.memory))
+    (subst (λ k. MakeMemory c.stores.new.terms.pass.now k.stores.items memory) (sym c.push_guard-in-Stores.ensures.chain) (d.memory t h.hold h.memory))
     (refl, d.address t h.hold) c.push_guard-in-Stores.ensures.pushed refl)
 
 pub returns-in-Multiplies-clause-tracks : goal.returns-in-Multiplies-clause-tracks
 returns-in-Multiplies-clause-tracks c = λ t h.
-    let P : Action → Type 0 = λ a. OnOk c.multiplies.result (Tracks c.multiplies.new.pass c.multiplies.new.self c.args.lists.now (trees_after a t)) in
+    let P : Action → Type 0 = λ a. OnOk c.multiplies.result (Tracks c.multiplies.new.terms.pass.now c.multiplies.new.self c.args.lists.now (trees_after a t)) in
     subst P (sym c.in-Multiplies.is)
     (on_ok c.multiplies.result (c.multiplies.ensures.hold t h.hold) (λ e. tracks_on c.multiplies.ensures.pass.later h e refl refl))
 
 pub returns-in_ok-divides-in-Divides-clause-tracks : goal.returns-in_ok-divides-in-Divides-clause-tracks
 returns-in_ok-divides-in-Divides-clause-tracks c = λ t h.
     let later = c.in_ok-divides-in-Divides.ensures.pass.later in
-    let P : Action → Type 0 = λ a. Tracks c.divides.new.pass c.divides.new.self c.push_guard-in-Divides.new.self (trees_after a t) in
+    let P : Action → Type 0 = λ a. Tracks c.divides.new.terms.pass.now c.divides.new.self c.push_guard-in-Divides.new.self (trees_after a t) in
     let x = still_tree later.extends (get_tree {t = t} h.hold c.get-dividend.ensures.value c.get-dividend.ensures.range) in
     let y = still_tree later.extends (get_tree {t = t} h.hold c.get-divisor.ensures.value c.get-divisor.ensures.range) in
     let guard = Division c.in-Divides.sign c.get-dividend.result c.get-divisor.result in
@@ -63,20 +63,20 @@ returns-in_ok-divides-in-Divides-clause-tracks c = λ t h.
     let memory = memory-on c.args.lists.now.chain.stores.items t.memory later h.memory in
     subst P (sym c.in-Divides.is)
     (tracks_guard guard tree later h (c.in_ok-divides-in-Divides.ensures.hold t h.hold)
-    (subst (λ k. MakeMemory c.divides.new.pass k.stores.items t.memory) (sym c.push_guard-in-Divides.ensures.chain) memory) (refl, x, y)
+    (subst (λ k. MakeMemory c.divides.new.terms.pass.now k.stores.items t.memory) (sym c.push_guard-in-Divides.ensures.chain) memory) (refl, x, y)
     c.push_guard-in-Divides.ensures.pushed refl)
 
 pub returns-in-MovesHigh-clause-tracks : goal.returns-in-MovesHigh-clause-tracks
 returns-in-MovesHigh-clause-tracks c = λ t h.
-    let P : Action → Type 0 = λ a. Tracks c.args.pass.now c.set.new.self c.args.lists.now (trees_after a t) in
+    let P : Action → Type 0 = λ a. Tracks c.args.terms.now.pass.now c.set.new.self c.args.lists.now (trees_after a t) in
     subst P (sym c.in-MovesHigh.is)
-    (tracks_on (later_self c.args.pass.now) h (hold_put {t = t} h.hold h.hold.hi c.set.ensures.value c.set.ensures.range c.set.ensures.count) refl refl)
+    (tracks_on (later_self c.args.terms.now.pass.now) h (hold_put {t = t} h.hold h.hold.hi c.set.ensures.value c.set.ensures.range c.set.ensures.count) refl refl)
 
 pub returns-in-MovesLow-clause-tracks : goal.returns-in-MovesLow-clause-tracks
 returns-in-MovesLow-clause-tracks c = λ t h.
-    let P : Action → Type 0 = λ a. Tracks c.args.pass.now c.set-in-MovesLow.new.self c.args.lists.now (trees_after a t) in
+    let P : Action → Type 0 = λ a. Tracks c.args.terms.now.pass.now c.set-in-MovesLow.new.self c.args.lists.now (trees_after a t) in
     subst P (sym c.in-MovesLow.is)
-    (tracks_on (later_self c.args.pass.now) h
+    (tracks_on (later_self c.args.terms.now.pass.now) h
     (hold_put {t = t} h.hold h.hold.lo c.set-in-MovesLow.ensures.value c.set-in-MovesLow.ensures.range c.set-in-MovesLow.ensures.count) refl refl)
 
 pub returns-in-Computes-clause-chain : goal.returns-in-Computes-clause-chain
@@ -93,5 +93,5 @@ returns-in_ok-address-in-Stores-clause-known c = known_on c.in_ok-address-in-Sto
 
 pub returns-in_ok-divides-in-Divides-clause-chain : goal.returns-in_ok-divides-in-Divides-clause-chain
 returns-in_ok-divides-in-Divides-clause-chain c =
-    subst (IsChain c.divides.new.pass) (sym c.push_guard-in-Divides.ensures.chain)
+    subst (IsChain c.divides.new.terms.pass.now) (sym c.push_guard-in-Divides.ensures.chain)
     (chain-on c.in_ok-divides-in-Divides.ensures.pass.later c.requires.chain)

@@ -1,20 +1,19 @@
 use Rattle.std.proofs.Common.{◌≡◌, ◌+◌, ◌≤◌, map, drop, vec_len}
 use Rattle.mips_isa.specs.Actions.{action_of}
-use Rattle.term_table.specs.Passes.{IsOf}
 use Rattle.sym_exec.specs.Symbolic.{TreeState, all_trees}
-use Rattle.sym_exec.specs.Standing.{Later, Known}
+use Rattle.sym_exec.specs.Standing.{Known}
+use Rattle.sym_exec.specs.Interners.{GoesOn}
 use Rattle.sym_exec.specs.Stores.{IsChain, HasRoom, Tracks}
 use Rattle.sym_exec.proofs.run.steps.Given as goal
 
 abbrev pub invariant-loop-inst : goal.invariant-loop-inst
 invariant-loop-inst l = record {
-  table : IsOf l.table l.pass;
-  known : Known l.pass l.registers;
-  later : Later l.fn.pass l.pass;
-  chain : IsChain l.pass l.lists.chain;
+  known : Known l.terms.pass.now l.registers;
+  goes : GoesOn l.fn.terms l.terms;
+  chain : IsChain l.terms.pass.now l.lists.chain;
   room : HasRoom l.lists;
   count : vec_len l.lists.guards ≤ vec_len l.fn.lists.guards + l.inst-index;
-  tracks : (t : TreeState) → Tracks l.fn.pass l.fn.registers l.fn.lists t
-      → (u : TreeState) × Tracks l.pass l.registers l.lists u
+  tracks : (t : TreeState) → Tracks l.fn.terms.pass.now l.fn.registers l.fn.lists t
+      → (u : TreeState) × Tracks l.terms.pass.now l.registers l.lists u
       × (all_trees (map action_of (drop l.inst-index l.insts)) u ≡ all_trees (map action_of l.insts) t);
 }

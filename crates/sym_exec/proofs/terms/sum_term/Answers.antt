@@ -5,25 +5,25 @@ use Rattle.sym_exec.proofs.MipsTerms.{still_seen, still_tree}
 use Rattle.sym_terms.specs.NormalForms.{address_of, tree_plus, sum_tree}
 use Rattle.sym_exec.proofs.terms.sum_term.Goals as goal
 
-pub address_at-at-requires-clause-seen : goal.address_at-at-requires-clause-seen
-address_at-at-requires-clause-seen c = still_seen c.constant_at.ensures.pass.later.extends c.args.a c.requires.a
+pub address_at-at-requires : goal.address_at-at-requires
+address_at-at-requires c = still_seen c.constant_at.ensures.pass.later.extends c.args.a c.requires.a
 
-pub binary_term-requires-clause-a : goal.binary_term-requires-clause-a
-binary_term-requires-clause-a c = still_seen c.constant_at.ensures.pass.later.extends c.args.a c.requires.a
+pub binary-requires-clause-a : goal.binary-requires-clause-a
+binary-requires-clause-a c = still_seen c.constant_at.ensures.pass.later.extends c.args.a c.requires.a
 
-pub binary_term-requires-clause-b : goal.binary_term-requires-clause-b
-binary_term-requires-clause-b c = still_seen c.constant_at.ensures.pass.later.extends c.args.b c.requires.b
+pub binary-requires-clause-b : goal.binary-requires-clause-b
+binary-requires-clause-b c = still_seen c.constant_at.ensures.pass.later.extends c.args.b c.requires.b
 
 pub returns-in-Some-clause-tree : goal.returns-in-Some-clause-tree
 returns-in-Some-clause-tree c = λ x y h k.
     let is = sym (c.constant_at.ensures.value y k) ∙ c.in-Some.is in
     let at = c.address_at-at.ensures.tree x (still_tree c.constant_at.ensures.pass.later.extends h) in
-    subst (λ o. IfOk c.plus_term.result (λ t. HasTree c.plus_term.new.pass t (sum_tree x y o))) (sym is)
-    (subst (λ n. IfOk c.plus_term.result (λ t. HasTree c.plus_term.new.pass t (tree_plus (address_of x).base n))) (search rules)
+    subst (λ o. IfOk c.plus_term.result (λ t. HasTree c.plus_term.new.terms.pass.now t (sum_tree x y o))) (sym is)
+    (subst (λ n. IfOk c.plus_term.result (λ t. HasTree c.plus_term.new.terms.pass.now t (tree_plus (address_of x).base n))) (search rules)
     (c.plus_term.ensures.tree (address_of x).base at.base))
 
 pub returns-in-None-clause-tree : goal.returns-in-None-clause-tree
 returns-in-None-clause-tree c = λ x y h k.
     let is = sym (c.constant_at.ensures.value y k) ∙ c.in-None.is in
-    subst (λ o. IfOk c.binary_term.result (λ t. HasTree c.binary_term.new.pass t (sum_tree x y o))) (sym is)
-    (c.binary_term.ensures.tree x y (still_tree c.constant_at.ensures.pass.later.extends h) (still_tree c.constant_at.ensures.pass.later.extends k))
+    subst (λ o. IfOk c.binary.result (λ t. HasTree c.binary.new.self.pass.now t (sum_tree x y o))) (sym is)
+    (c.binary.ensures.tree x y (still_tree c.constant_at.ensures.pass.later.extends h) (still_tree c.constant_at.ensures.pass.later.extends k))

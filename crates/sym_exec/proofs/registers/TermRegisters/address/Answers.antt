@@ -7,13 +7,13 @@ use Rattle.sym_exec.proofs.Tickets.{get_seen, get_tree}
 use Rattle.sym_exec.proofs.Reading.{address-is}
 use Rattle.sym_exec.proofs.registers.TermRegisters.address.Goals as goal
 
-pub address_at-at-requires-clause-seen : goal.address_at-at-requires-clause-seen
-address_at-at-requires-clause-seen c = get_seen c.requires.known c.get.ensures.value c.get.ensures.range
+pub address_at-at-requires : goal.address_at-at-requires
+address_at-at-requires c = get_seen c.requires c.get.ensures.value c.get.ensures.range
 
 pub returns-clause-tree : goal.returns-clause-tree
 returns-clause-tree c = λ t h.
     let x = register_tree t c.args.base in
     let at = c.address_at-at.ensures.tree x (get_tree {t = t} h c.get.ensures.value c.get.ensures.range) in
-    subst (λ y. IfOk c.plus_term.result (λ k. HasTree c.plus_term.new.pass k y)) (sym (address-is x c.args.offset))
-    (subst (λ n. IfOk c.plus_term.result (λ k. HasTree c.plus_term.new.pass k (tree_plus (address_of x).base n))) (search rules)
+    subst (λ y. IfOk c.plus_term.result (λ k. HasTree c.plus_term.new.terms.pass.now k y)) (sym (address-is x c.args.offset))
+    (subst (λ n. IfOk c.plus_term.result (λ k. HasTree c.plus_term.new.terms.pass.now k (tree_plus (address_of x).base n))) (search rules)
     (c.plus_term.ensures.tree (address_of x).base at.base))

@@ -1,15 +1,14 @@
 use Rattle.sym_exec.proofs.MipsTerms.{still_seen, still_tree}
-use Rattle.std.proofs.Common.{rules}
 use Rattle.sym_exec.proofs.Tickets.{later_more, hold_on, known_on, get_seen, get_tree, known_put, hold_put}
 use Rattle.sym_exec.proofs.registers.TermRegisters.computes.Goals as goal
 
 pub op_term-requires-clause-a : goal.op_term-requires-clause-a
-op_term-requires-clause-a c = still_seen c.in_ok-y.ensures.pass.later.extends c.get.result (get_seen c.requires.known c.get.ensures.value c.get.ensures.range)
+op_term-requires-clause-a c = still_seen c.in_ok-y.ensures.pass.later.extends c.get.result (get_seen c.requires c.get.ensures.value c.get.ensures.range)
 
 pub returns-clause-known : goal.returns-clause-known
 returns-clause-known c =
     known_put c.args.d c.in_ok-value.value
-    (known_on (later_more c.in_ok-y.ensures.pass.later c.in_ok-value.ensures.pass.later) c.requires.known) c.in_ok-value.ensures.seen
+    (known_on (later_more c.in_ok-y.ensures.pass.later c.in_ok-value.ensures.pass.later) c.requires) c.in_ok-value.ensures.seen
     c.set.ensures.value c.set.ensures.range c.set.ensures.count
 
 pub returns-clause-hold : goal.returns-clause-hold
@@ -18,11 +17,3 @@ returns-clause-hold c = λ t h.
     (c.in_ok-value.ensures.tree _ _
     (still_tree c.in_ok-y.ensures.pass.later.extends (get_tree {t = t} h c.get.ensures.value c.get.ensures.range)) (c.in_ok-y.ensures.tree t h))
     c.set.ensures.value c.set.ensures.range c.set.ensures.count
-
-pub returns-in_err-value-clause-pass : goal.returns-in_err-value-clause-pass
-returns-in_err-value-clause-pass c =
-    record { table = c.in_err-value.ensures.pass.table; later = later_more c.in_ok-y.ensures.pass.later c.in_err-value.ensures.pass.later; full = search rules }
-
-pub returns-clause-pass : goal.returns-clause-pass
-returns-clause-pass c =
-    record { table = c.in_ok-value.ensures.pass.table; later = later_more c.in_ok-y.ensures.pass.later c.in_ok-value.ensures.pass.later; full = tt }

@@ -9,6 +9,6 @@ returns-clause-hold c = λ t h.
     let all = c.in_ok-put_halves.ensures.hold t h in
     record {
       regs = all.regs;
-      hi = subst (λ op. HasTree c.put_halves.new.pass c.put_halves.new.self.hi (op_tree op (register_tree t c.args.a) (register_tree t c.args.b))) c.remainder_operator.ensures all.hi;
-      lo = subst (λ op. HasTree c.put_halves.new.pass c.put_halves.new.self.lo (op_tree op (register_tree t c.args.a) (register_tree t c.args.b))) c.quotient_operator.ensures all.lo;
+      hi = subst (λ op. HasTree c.put_halves.new.terms.pass.now c.put_halves.new.self.hi (op_tree op (register_tree t c.args.a) (register_tree t c.args.b))) c.remainder_operator.ensures all.hi;
+      lo = subst (λ op. HasTree c.put_halves.new.terms.pass.now c.put_halves.new.self.lo (op_tree op (register_tree t c.args.a) (register_tree t c.args.b))) c.quotient_operator.ensures all.lo;
     }

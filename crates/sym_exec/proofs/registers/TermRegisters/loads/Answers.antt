@@ -17,8 +17,7 @@ load_term-requires-clause-address c = still_seen c.address_at-at.ensures.pass.la
 
 pub load_term-requires-clause-at : goal.load_term-requires-clause-at
 load_term-requires-clause-at c =
-    address-later (c.in_ok-address.ensures.pass.later.legal c.requires.legal) c.in_ok-address.ensures.seen c.address_at-at.ensures.pass.later
-    c.address_at-at.ensures.tree
+    address-later c.in_ok-address.ensures.seen c.address_at-at.ensures.pass.later c.address_at-at.ensures.tree
 
 pub returns-clause-known : goal.returns-clause-known
 returns-clause-known c =
@@ -33,7 +32,7 @@ returns-clause-hold c = λ t h m.
     let value = c.in_ok-value.ensures.tree t.memory (address_tree t c.args.access.base c.args.access.offset) (memory-on c.args.chain.now.stores.items t.memory before m)
     (still_tree c.address_at-at.ensures.pass.later.extends (c.in_ok-address.ensures.tree t h)) in
     hold_same
-    (subst (λ d. Hold c.load_term.new.pass c.set.new.self
+    (subst (λ d. Hold c.load_term.new.terms.pass.now c.set.new.self
     (record t { regs = put t.regs d (load_tree c.args.access.width t.memory (address_tree t c.args.access.base c.args.access.offset)) })) c.reg.ensures.value
     (hold_put {t = t} (hold_on all h) value c.set.ensures.value c.set.ensures.range c.set.ensures.count)) refl refl refl
 

@@ -1,4 +1,3 @@
-use Rattle.std.proofs.Common.{rules}
 use Rattle.sym_exec.proofs.MipsTerms.{still_seen, still_tree}
 use Rattle.sym_exec.specs.Standing.{Hold, Known}
 use Rattle.sym_exec.proofs.Tickets.{later_more, hold_on, known_on, get_seen, get_tree}
@@ -6,15 +5,15 @@ use Rattle.sym_exec.proofs.registers.TermRegisters.put_halves.Goals as goal
 
 pub op_term-requires-2-clause-a : goal.op_term-requires-2-clause-a
 op_term-requires-2-clause-a c =
-    still_seen c.in_ok-hi.ensures.pass.later.extends c.get-x.result (get_seen c.requires.known c.get-x.ensures.value c.get-x.ensures.range)
+    still_seen c.in_ok-hi.ensures.pass.later.extends c.get-x.result (get_seen c.requires c.get-x.ensures.value c.get-x.ensures.range)
 
 pub op_term-requires-2-clause-b : goal.op_term-requires-2-clause-b
 op_term-requires-2-clause-b c =
-    still_seen c.in_ok-hi.ensures.pass.later.extends c.get-y.result (get_seen c.requires.known c.get-y.ensures.value c.get-y.ensures.range)
+    still_seen c.in_ok-hi.ensures.pass.later.extends c.get-y.result (get_seen c.requires c.get-y.ensures.value c.get-y.ensures.range)
 
 pub returns-clause-known : goal.returns-clause-known
-returns-clause-known c = let all : Known c.op_term-2.new.pass c.args.self.now =
-    known_on (later_more c.in_ok-hi.ensures.pass.later c.in_ok-lo.ensures.pass.later) c.requires.known in
+returns-clause-known c = let all : Known c.op_term-2.new.terms.pass.now c.args.self.now =
+    known_on (later_more c.in_ok-hi.ensures.pass.later c.in_ok-lo.ensures.pass.later) c.requires in
     record {
       regs = all.regs;
       hi = still_seen c.in_ok-lo.ensures.pass.later.extends c.in_ok-hi.hi c.in_ok-hi.ensures.seen;
@@ -24,17 +23,9 @@ returns-clause-known c = let all : Known c.op_term-2.new.pass c.args.self.now =
 
 pub returns-clause-hold : goal.returns-clause-hold
 returns-clause-hold c = λ t h.
-    let all : Hold c.op_term-2.new.pass c.args.self.now t = hold_on (later_more c.in_ok-hi.ensures.pass.later c.in_ok-lo.ensures.pass.later) h in
+    let all : Hold c.op_term-2.new.terms.pass.now c.args.self.now t = hold_on (later_more c.in_ok-hi.ensures.pass.later c.in_ok-lo.ensures.pass.later) h in
     let x = get_tree {t = t} h c.get-x.ensures.value c.get-x.ensures.range in
     let y = get_tree {t = t} h c.get-y.ensures.value c.get-y.ensures.range in
     let hi = still_tree c.in_ok-lo.ensures.pass.later.extends (c.in_ok-hi.ensures.tree _ _ x y) in
     let lo = c.in_ok-lo.ensures.tree _ _ (still_tree c.in_ok-hi.ensures.pass.later.extends x) (still_tree c.in_ok-hi.ensures.pass.later.extends y) in
     record { regs = all.regs; hi = hi; lo = lo }
-
-pub returns-in_err-lo-clause-pass : goal.returns-in_err-lo-clause-pass
-returns-in_err-lo-clause-pass c =
-    record { table = c.in_err-lo.ensures.pass.table; later = later_more c.in_ok-hi.ensures.pass.later c.in_err-lo.ensures.pass.later; full = search rules }
-
-pub returns-clause-pass : goal.returns-clause-pass
-returns-clause-pass c =
-    record { table = c.in_ok-lo.ensures.pass.table; later = later_more c.in_ok-hi.ensures.pass.later c.in_ok-lo.ensures.pass.later; full = tt }

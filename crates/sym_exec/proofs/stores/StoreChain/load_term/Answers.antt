@@ -8,14 +8,14 @@ use Rattle.sym_exec.proofs.stores.StoreChain.load_term.Goals as goal
 
 pub returns-clause-tree : goal.returns-clause-tree
 returns-clause-tree c = λ m b h k.
-    let n = c.stores_seen-count.ensures.tree c.args.pass.now m b c.requires.legal
-    (subst (λ xs. MakeMemory c.args.pass.now xs m) (sym c.as_slice.ensures.value) h) (c.requires.at b k) in
-    let made = subst (λ xs. MakeMemory c.args.pass.now (take c.stores_seen-count.result xs) n.0) c.as_slice.ensures.value n.1 in
-    subst (λ t. IfOk c.binary_term.result (λ x. HasTree c.binary_term.new.pass x t)) (sym n.2)
-    (c.binary_term.ensures.tree n.0 b (c.in_ok-memory.ensures.tree n.0 made) (still_tree c.in_ok-memory.ensures.pass.later.extends k))
+    let n = c.stores_seen-count.ensures.tree c.args.terms.now.pass.now m b c.requires.legal
+    (subst (λ xs. MakeMemory c.args.terms.now.pass.now xs m) (sym c.as_slice.ensures.value) h) (c.requires.at b k) in
+    let made = subst (λ xs. MakeMemory c.args.terms.now.pass.now (take c.stores_seen-count.result xs) n.0) c.as_slice.ensures.value n.1 in
+    subst (λ t. IfOk c.binary.result (λ x. HasTree c.binary.new.self.pass.now x t)) (sym n.2)
+    (c.binary.ensures.tree n.0 b (c.in_ok-memory.ensures.tree n.0 made) (still_tree c.in_ok-memory.ensures.pass.later.extends k))
 
-pub binary_term-requires-clause-b : goal.binary_term-requires-clause-b
-binary_term-requires-clause-b c = still_seen c.in_ok-memory.ensures.pass.later.extends c.args.address c.requires.address
+pub binary-requires-clause-b : goal.binary-requires-clause-b
+binary-requires-clause-b c = still_seen c.in_ok-memory.ensures.pass.later.extends c.args.address c.requires.address
 
 pub returns-clause-chain : goal.returns-clause-chain
-returns-clause-chain c = chain-on c.binary_term.ensures.pass.later c.in_ok-memory.ensures.chain
+returns-clause-chain c = chain-on c.binary.ensures.pass.later c.in_ok-memory.ensures.chain

@@ -3,37 +3,29 @@ use Rattle.std.proofs.lemmas.List.{get_or_default}
 use Rattle.sym_exec.specs.MipsTerms.{HasTree}
 use Rattle.sym_exec.specs.Stores.{MakeMemory}
 use Rattle.sym_exec.proofs.MipsTerms.{tree_seen}
-use Rattle.sym_exec.proofs.Tickets.{later_more}
+use Rattle.sym_exec.proofs.Tickets.{goes_on, goes_more}
 use Rattle.sym_exec.proofs.Chains.{chain-on, chain-memory, chain-store, chain-push, memory-on}
 use Rattle.sym_exec.proofs.stores.StoreChain.memory_behind.Goals as goal
 
-pub ternary_term-requires-clause-a : goal.ternary_term-requires-clause-a
-ternary_term-requires-clause-a c = tree_seen (chain-memory (c.len-made.result - 1) c.loop-self.invariant.chain (search rules) c.index-before.ensures).has
+pub ternary-requires-clause-a : goal.ternary-requires-clause-a
+ternary-requires-clause-a c = tree_seen (chain-memory (c.len-made.result - 1) c.loop-self.invariant.chain (search rules) c.index-before.ensures).has
 
-pub ternary_term-requires-clause-b : goal.ternary_term-requires-clause-b
-ternary_term-requires-clause-b c =
+pub ternary-requires-clause-b : goal.ternary-requires-clause-b
+ternary-requires-clause-b c =
     tree_seen (chain-store (c.len-made.result - 1) c.loop-self.invariant.chain (search rules) c.index-stored.ensures).3.has_address
 
-pub ternary_term-requires-clause-c : goal.ternary_term-requires-clause-c
-ternary_term-requires-clause-c c =
+pub ternary-requires-clause-c : goal.ternary-requires-clause-c
+ternary-requires-clause-c c =
     tree_seen (chain-store (c.len-made.result - 1) c.loop-self.invariant.chain (search rules) c.index-stored.ensures).3.has_value
 
 pub returns-in_err-memory-clause-chain : goal.returns-in_err-memory-clause-chain
 returns-in_err-memory-clause-chain c = chain-on c.in_err-memory.ensures.pass.later c.loop-self.invariant.chain
 
-pub returns-in_err-memory-clause-pass : goal.returns-in_err-memory-clause-pass
-returns-in_err-memory-clause-pass c = record {
-  table = c.in_err-memory.ensures.pass.table;
-  later = later_more c.loop-self.invariant.later c.in_err-memory.ensures.pass.later;
-  full = search rules;
-}
-
 pub loop-self-preserved : goal.loop-self-preserved
 loop-self-preserved c =
     let on = c.in_ok-memory.ensures.pass.later in
     record {
-      table = c.in_ok-memory.ensures.pass.table;
-      later = later_more c.loop-self.invariant.later on;
+      goes = goes_more c.loop-self.invariant.goes (goes_on c.in_ok-memory.ensures.pass);
       chain = chain-push (c.len-made.result - 1) on c.loop-self.invariant.chain (search rules) (search rules) c.index-stored.ensures
           c.index-before.ensures c.in_ok-memory.ensures.tree refl c.push_reserved.ensures.items;
       stores = c.loop-self.invariant.stores;
@@ -45,7 +37,7 @@ returns-clause-tree c = λ t made.
     let i = c.loop-self.invariant in
     let k = c.args.count in
     let inside : k < length c.loop-self.self.memories.items = search rules in
-    let here = memory-on (take k c.args.self.now.stores.items) t i.later made in
-    let there = subst (λ v. MakeMemory c.loop-self.pass (take k v.items) t) (sym i.stores) here in
-    subst (λ n. HasTree c.loop-self.pass n t) (get_or_default c.loop-self.self.memories.items k 0 _ inside ∙ sym c.index.ensures)
+    let here = memory-on (take k c.args.self.now.stores.items) t i.goes.later made in
+    let there = subst (λ v. MakeMemory c.loop-self.terms.pass.now (take k v.items) t) (sym i.stores) here in
+    subst (λ n. HasTree c.loop-self.terms.pass.now n t) (get_or_default c.loop-self.self.memories.items k 0 _ inside ∙ sym c.index.ensures)
     (i.chain.memories k inside t there)

@@ -1,14 +1,12 @@
 use Rattle.std.proofs.Common.{◌≡◌, ◌+◌, ◌-◌, vec_len, vec_capacity}
-use Rattle.term_table.specs.Passes.{IsOf}
-use Rattle.sym_exec.specs.Standing.{Later}
+use Rattle.sym_exec.specs.Interners.{GoesOn}
 use Rattle.sym_exec.specs.Stores.{IsChain}
 use Rattle.sym_exec.proofs.stores.StoreChain.memory_behind.Given as goal
 
 abbrev pub invariant-loop-self : goal.invariant-loop-self
 invariant-loop-self l = record {
-  table : IsOf l.table l.pass;
-  later : Later l.fn.pass l.pass;
-  chain : IsChain l.pass l.self;
+  goes : GoesOn l.fn.terms l.terms;
+  chain : IsChain l.terms.pass.now l.self;
   stores : l.self.stores ≡ l.fn.self.stores;
   room : vec_capacity l.self.memories ≡ vec_capacity l.fn.self.memories;
 }
