@@ -1,10 +1,12 @@
 // What a block or an order leaves, place by place.
 
+use crate::lines::put_block;
 use crate::reader::{Left, ReadFault, block_left, order_left};
 use crate::text::{pair_sign, root_text, width_name, zero_sign};
+use crate::writer::Writer;
 use block_validator::Place;
 use mblock::{Block, BlockNumber, Order};
-use mips_isa::{NonzeroReg, PairTest};
+use mips_isa::NonzeroReg;
 use std::alloc::{AllocError, Global};
 use sym_exec::{Guard, TermExit};
 use sym_terms::{Label, Origin};
@@ -28,33 +30,14 @@ fn operands_of(exit: &TermExit) -> usize {
     }
 }
 
-/// A text behind some words.
-fn put_text(out: &mut String, before: &str, text: &str) -> Result<(), AllocError> {
-    out.push_str(before)?;
-    out.push_str(text)
-}
-
-/// The number of a block behind some words.
-fn put_block(out: &mut String, before: &str, block: BlockNumber) -> Result<(), AllocError> {
-    out.push_str(before)?;
-    let number = block.number();
-    write!(out, "{number}")
-}
-
 /// The two targets of a branch.
-fn put_sides(out: &mut String, then: BlockNumber, other: BlockNumber) -> Result<(), AllocError> {
-    put_block(out, " ? ", then)?;
-    put_block(out, " : ", other)
-}
-
-/// The test of two terms.
-fn put_test(out: &mut String, first: &str, test: PairTest, second: &str) -> Result<(), AllocError> {
-    out.push_str(first)?;
-    put_text(out, pair_sign(test), second)
+fn put_sides(out: &mut Writer, then: BlockNumber, other: BlockNumber) {
+    put_block(out, " ? ", then);
+    put_block(out, " : ", other);
 }
 
 /// The exit by the terms that it reads and its targets.
-fn put_exit(out: &mut String, exit: TermExit, first: &str, second: &str) -> Result<(), AllocError> {
+fn put_exit(out: &mut Writer, exit: TermExit, first: &str, second: &str) {
     match exit {
         TermExit::Goto(target) => put_block(out, "goto ", target),
         TermExit::BranchPair {
@@ -63,8 +46,10 @@ fn put_exit(out: &mut String, exit: TermExit, first: &str, second: &str) -> Resu
             other,
             ..
         } => {
-            put_test(out, first, test, second)?;
-            put_sides(out, then, other)
+            out.text(first);
+            out.text(pair_sign(test));
+            out.text(second);
+            put_sides(out, then, other);
         }
         TermExit::BranchZero {
             test,
@@ -72,29 +57,36 @@ fn put_exit(out: &mut String, exit: TermExit, first: &str, second: &str) -> Resu
             other,
             ..
         } => {
-            put_text(out, first, zero_sign(test))?;
-            put_sides(out, then, other)
+            out.text(first);
+            out.text(zero_sign(test));
+            put_sides(out, then, other);
         }
         TermExit::Call { function, next } => {
-            put_block(out, "call ", function)?;
-            put_block(out, ", then ", next)
+            put_block(out, "call ", function);
+            put_block(out, ", then ", next);
         }
-        TermExit::Return(_) => put_text(out, "return to ", first),
+        TermExit::Return(_) => {
+            out.text("return to ");
+            out.text(first);
+        }
         TermExit::Out { next, .. } => {
-            put_text(out, "out ", first)?;
-            put_block(out, ", then ", next)
+            out.text("out ");
+            out.text(first);
+            put_block(out, ", then ", next);
         }
-        TermExit::Halt(_) => put_text(out, "halt with ", first),
+        TermExit::Halt(_) => {
+            out.text("halt with ");
+            out.text(first);
+        }
     }
 }
 
 fn exit_text(alloc: Global, left: &mut Left, depth: u32) -> Result<String, AllocError> {
-    let exit = left.exit;
     let first = root_text(alloc, &mut left.reader, OPERANDS, depth)?;
     let second = root_text(alloc, &mut left.reader, OPERANDS + 1, depth)?;
-    let mut out = String::new(alloc);
-    put_exit(&mut out, exit, first.as_str(), second.as_str())?;
-    Ok(out)
+    let mut out = Writer::new(alloc);
+    put_exit(&mut out, left.exit, first.as_str(), second.as_str());
+    out.end()
 }
 
 /// A guard, the first of whose roots has this number.
@@ -106,28 +98,28 @@ fn guard_text(
     depth: u32,
 ) -> Result<String, AllocError> {
     let first = root_text(alloc, &mut left.reader, root, depth)?;
+    let mut out = Writer::new(alloc);
     match guard {
-        Guard::Address { width, .. } => joined(alloc, width_name(*width), " at ", first.as_str()),
+        Guard::Address { width, .. } => {
+            out.text(width_name(*width));
+            out.text(" at ");
+            out.text(first.as_str());
+        }
         Guard::Division { sign, .. } => {
             let second = root_text(alloc, &mut left.reader, root.saturating_add(1), depth)?;
-            let mut out = joined(alloc, division_name(*sign), " ", first.as_str())?;
-            put_text(&mut out, " by ", second.as_str())?;
-            Ok(out)
+            out.text(division_name(*sign));
+            out.text(first.as_str());
+            out.text(" by ");
+            out.text(second.as_str());
         }
     }
-}
-
-/// Two texts with this between them.
-fn joined(alloc: Global, first: &str, between: &str, second: &str) -> Result<String, AllocError> {
-    let mut out = String::from_str(alloc, first)?;
-    put_text(&mut out, between, second)?;
-    Ok(out)
+    out.end()
 }
 
 fn division_name(sign: Sign) -> &'static str {
     match sign {
-        Sign::Signed => "div",
-        Sign::Unsigned => "divu",
+        Sign::Signed => "div ",
+        Sign::Unsigned => "divu ",
     }
 }
 
@@ -163,24 +155,24 @@ fn guard_texts(alloc: Global, left: &mut Left, depth: u32) -> Result<Vec<String>
     Ok(texts)
 }
 
-/// Texts one behind another.
-fn put_all(out: &mut String, texts: &[String]) -> Result<(), AllocError> {
+/// Guards one behind another.
+fn put_guards(out: &mut Writer, texts: &[String]) {
+    if texts.is_empty() {
+        out.text("none");
+    }
     let mut between = "";
     for text in texts {
-        put_text(out, between, text.as_str())?;
+        out.text(between);
+        out.text(text.as_str());
         between = "; ";
     }
-    Ok(())
 }
 
 fn guards_text(alloc: Global, left: &mut Left, depth: u32) -> Result<String, AllocError> {
     let texts = guard_texts(alloc, left, depth)?;
-    if texts.is_empty() {
-        return String::from_str(alloc, "none");
-    }
-    let mut out = String::new(alloc);
-    put_all(&mut out, texts.as_slice())?;
-    Ok(out)
+    let mut out = Writer::new(alloc);
+    put_guards(&mut out, texts.as_slice());
+    out.end()
 }
 
 fn place_in(
@@ -237,36 +229,43 @@ fn is_start(left: &mut Left, root: usize, label: Label) -> Result<bool, AllocErr
 /// One place on a line, behind its name, unless it keeps what was there.
 fn put_place(
     alloc: Global,
-    out: &mut String,
+    out: &mut Writer,
     left: &mut Left,
     root: usize,
     label: Label,
     depth: u32,
 ) -> Result<(), AllocError> {
-    if is_start(left, root, label)? {
-        return Ok(());
+    if !is_start(left, root, label)? {
+        put_name(out, root);
+        put_end(out, " = ", root_text(alloc, &mut left.reader, root, depth)?);
     }
-    let text = root_text(alloc, &mut left.reader, root, depth)?;
-    put_line(out, root, text.as_str())
+    Ok(())
 }
 
-/// A line of a root, by its name.
-fn put_line(out: &mut String, root: usize, text: &str) -> Result<(), AllocError> {
+/// The name of a root's place.
+fn put_name(out: &mut Writer, root: usize) {
     match root {
-        HI => out.push_str("hi")?,
-        LO => out.push_str("lo")?,
-        MEMORY => out.push_str("mem")?,
-        _ => write!(out, "${root}")?,
+        HI => out.text("hi"),
+        LO => out.text("lo"),
+        MEMORY => out.text("mem"),
+        _ => {
+            out.text("$");
+            out.put(&root);
+        }
     }
-    out.push_str(" = ")?;
-    out.push_str(text)?;
-    out.push_str("\n")
 }
 
-/// A line for each register, HI, LO and memory that changes, one for the exit and one for the guards.
-fn put_lines(
+/// The end of a line: a text behind some words.
+fn put_end(out: &mut Writer, before: &str, text: String) {
+    out.text(before);
+    out.text(text.as_str());
+    out.text("\n");
+}
+
+/// A line for each register that changes.
+fn put_registers(
     alloc: Global,
-    out: &mut String,
+    out: &mut Writer,
     left: &mut Left,
     depth: u32,
 ) -> Result<(), AllocError> {
@@ -276,20 +275,24 @@ fn put_lines(
             put_place(alloc, out, left, usize::from(r), label, depth)?;
         }
     }
-    put_place(alloc, out, left, HI, Label::Init(Origin::Hi), depth)?;
-    put_place(alloc, out, left, LO, Label::Init(Origin::Lo), depth)?;
-    put_place(alloc, out, left, MEMORY, Label::Mem0, depth)?;
-    let exit = exit_text(alloc, left, depth)?;
-    writeln!(out, "exit: {exit}")?;
-    let guards = guards_text(alloc, left, depth)?;
-    writeln!(out, "guards: {guards}")
+    Ok(())
+}
+
+fn lines_of(alloc: Global, left: &mut Left, depth: u32) -> Result<String, AllocError> {
+    let mut out = Writer::new(alloc);
+    put_registers(alloc, &mut out, left, depth)?;
+    put_place(alloc, &mut out, left, HI, Label::Init(Origin::Hi), depth)?;
+    put_place(alloc, &mut out, left, LO, Label::Init(Origin::Lo), depth)?;
+    put_place(alloc, &mut out, left, MEMORY, Label::Mem0, depth)?;
+    put_end(&mut out, "exit: ", exit_text(alloc, left, depth)?);
+    put_end(&mut out, "guards: ", guards_text(alloc, left, depth)?);
+    out.end()
 }
 
 /// What a block leaves: a line for each register, HI, LO and memory that changes, with its term cut at a depth, one for the
 /// exit and one for the guards.
 pub fn left_lines(alloc: Global, block: &Block, depth: u32) -> Result<String, ReadFault> {
     let mut left = block_left(alloc, block)?;
-    let mut out = String::new(alloc);
-    put_lines(alloc, &mut out, &mut left, depth)?;
-    Ok(out)
+    let lines = lines_of(alloc, &mut left, depth)?;
+    Ok(lines)
 }

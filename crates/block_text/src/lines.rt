@@ -1,37 +1,35 @@
 // Blocks and orders in the lines of a check text.
 
+use crate::writer::Writer;
 use mblock::{BlockNumber, Exit, Order};
 use mips_isa::{PairTest, Plain, ZeroTest};
-use std::alloc::AllocError;
 
 fn pair_name(test: PairTest) -> &'static str {
     match test {
-        PairTest::Equal => "beq",
-        PairTest::NotEqual => "bne",
+        PairTest::Equal => "beq ",
+        PairTest::NotEqual => "bne ",
     }
 }
 
 fn zero_name(test: ZeroTest) -> &'static str {
     match test {
-        ZeroTest::AtMostZero => "blez",
-        ZeroTest::AboveZero => "bgtz",
-        ZeroTest::BelowZero => "bltz",
-        ZeroTest::AtLeastZero => "bgez",
+        ZeroTest::AtMostZero => "blez ",
+        ZeroTest::AboveZero => "bgtz ",
+        ZeroTest::BelowZero => "bltz ",
+        ZeroTest::AtLeastZero => "bgez ",
     }
 }
 
-fn put_targets(out: &mut String, then: BlockNumber, other: BlockNumber) -> Result<(), AllocError> {
-    let (then, other) = (then.number(), other.number());
-    write!(out, ",{then},{other}")
+/// The number of a block behind some words.
+pub(crate) fn put_block(out: &mut Writer, before: &str, block: BlockNumber) {
+    out.text(before);
+    out.put(&block.number());
 }
 
 /// How a block is left, as a check text has it.
-pub fn put_exit(out: &mut String, exit: Exit) -> Result<(), AllocError> {
+pub fn put_exit(out: &mut Writer, exit: Exit) {
     match exit {
-        Exit::Goto(target) => {
-            let target = target.number();
-            write!(out, "goto {target}")
-        }
+        Exit::Goto(target) => put_block(out, "goto ", target),
         Exit::BranchPair {
             test,
             rs,
@@ -39,9 +37,12 @@ pub fn put_exit(out: &mut String, exit: Exit) -> Result<(), AllocError> {
             then,
             other,
         } => {
-            let name = pair_name(test);
-            write!(out, "{name} {rs},{rt}")?;
-            put_targets(out, then, other)
+            out.text(pair_name(test));
+            out.put(&rs);
+            out.text(",");
+            out.put(&rt);
+            put_block(out, ",", then);
+            put_block(out, ",", other);
         }
         Exit::BranchZero {
             test,
@@ -49,53 +50,40 @@ pub fn put_exit(out: &mut String, exit: Exit) -> Result<(), AllocError> {
             then,
             other,
         } => {
-            let name = zero_name(test);
-            write!(out, "{name} {rs}")?;
-            put_targets(out, then, other)
+            out.text(zero_name(test));
+            out.put(&rs);
+            put_block(out, ",", then);
+            put_block(out, ",", other);
         }
         Exit::Call { function, next } => {
-            let (function, next) = (function.number(), next.number());
-            write!(out, "call {function},{next}")
+            put_block(out, "call ", function);
+            put_block(out, ",", next);
         }
-        Exit::Return => out.push_str("return"),
-        Exit::Out(next) => {
-            let next = next.number();
-            write!(out, "out {next}")
-        }
-        Exit::Halt => out.push_str("halt"),
+        Exit::Return => out.text("return"),
+        Exit::Out(next) => put_block(out, "out ", next),
+        Exit::Halt => out.text("halt"),
     }
 }
 
 /// Instructions, each behind a margin and before an end.
-pub fn put_insts(
-    out: &mut String,
-    insts: &[Plain],
-    margin: &str,
-    end: &str,
-) -> Result<(), AllocError> {
+pub fn put_insts(out: &mut Writer, insts: &[Plain], margin: &str, end: &str) {
     for inst in insts {
-        out.push_str(margin)?;
-        write!(out, "{inst}")?;
-        out.push_str(end)?;
+        out.text(margin);
+        out.put(inst);
+        out.text(end);
     }
-    Ok(())
 }
 
 /// An order: its instructions, its exit and its slot.
-pub fn put_order(
-    out: &mut String,
-    order: &Order,
-    margin: &str,
-    end: &str,
-) -> Result<(), AllocError> {
-    put_insts(out, order.insts(), margin, end)?;
-    out.push_str(margin)?;
-    put_exit(out, order.exit())?;
-    out.push_str(end)?;
+pub fn put_order(out: &mut Writer, order: &Order, margin: &str, end: &str) {
+    put_insts(out, order.insts(), margin, end);
+    out.text(margin);
+    put_exit(out, order.exit());
+    out.text(end);
     if let Some(slot) = order.slot() {
-        out.push_str(margin)?;
-        write!(out, "slot {slot}")?;
-        out.push_str(end)?;
+        out.text(margin);
+        out.text("slot ");
+        out.put(&slot);
+        out.text(end);
     }
-    Ok(())
 }

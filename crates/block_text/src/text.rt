@@ -1,6 +1,7 @@
 // The text of a term.
 
 use crate::reader::TermReader;
+use crate::writer::Writer;
 use mips_isa::{PairTest, ZeroTest};
 use std::alloc::{AllocError, Global};
 use sym_terms::{Label, Origin};
@@ -95,61 +96,60 @@ fn operator_name(operator: Operator) -> &'static str {
     }
 }
 
-fn origin_text(alloc: Global, origin: &Origin) -> Result<String, AllocError> {
+fn put_origin(out: &mut Writer, origin: &Origin) {
     match origin {
-        Origin::Register(r) => {
-            let number = r.index();
-            format!(in alloc; "${number}")
+        Origin::Register(register) => {
+            out.text("$");
+            out.put(&register.index());
         }
-        Origin::Hi => String::from_str(alloc, "hi"),
-        Origin::Lo => String::from_str(alloc, "lo"),
-        Origin::Link => String::from_str(alloc, "link"),
+        Origin::Hi => out.text("hi"),
+        Origin::Lo => out.text("lo"),
+        Origin::Link => out.text("link"),
     }
 }
 
-/// A word, as a signed number.
-fn word_text(alloc: Global, word: u32) -> Result<String, AllocError> {
-    let number = word.cast_signed();
-    format!(in alloc; "{number}")
-}
-
-/// The text of the label of a term, where it has no operands.
-fn leaf_text(alloc: Global, label: &Label) -> Result<String, AllocError> {
+/// The label of a term, where it has no operands; a word as a signed number.
+fn put_label(out: &mut Writer, label: &Label) {
     match label {
-        Label::Init(origin) => origin_text(alloc, origin),
-        Label::Mem0 => String::from_str(alloc, "mem"),
-        Label::Const(word) => word_text(alloc, *word),
-        Label::Op(operator) => String::from_str(alloc, operator_name(*operator)),
-        Label::Load(width) => String::from_str(alloc, load_name(*width)),
-        Label::Store(width) => String::from_str(alloc, store_name(*width)),
+        Label::Init(origin) => put_origin(out, origin),
+        Label::Mem0 => out.text("mem"),
+        Label::Const(word) => out.put(&word.cast_signed()),
+        Label::Op(operator) => out.text(operator_name(*operator)),
+        Label::Load(width) => out.text(load_name(*width)),
+        Label::Store(width) => out.text(store_name(*width)),
     }
+}
+
+fn label_text(alloc: Global, label: &Label) -> Result<String, AllocError> {
+    let mut out = Writer::new(alloc);
+    put_label(&mut out, label);
+    out.end()
 }
 
 /// The operands, the last of which stands first, between parentheses and with this between them.
-fn put_operands(out: &mut String, operands: &[String], between: &str) -> Result<(), AllocError> {
-    out.push_str("(")?;
+fn put_operands(out: &mut Writer, operands: &[String], between: &str) {
+    out.text("(");
     for (k, operand) in operands.iter().rev().enumerate() {
         if k > 0 {
-            out.push_str(between)?;
+            out.text(between);
         }
-        out.push_str(operand.as_str())?;
+        out.text(operand.as_str());
     }
-    out.push_str(")")
+    out.text(")");
 }
 
-/// What stands before the operands of a term: nothing where a sign stands between them.
-fn start_text(alloc: Global, label: &Label) -> Result<String, AllocError> {
-    match infix(label) {
-        Some(_) => Ok(String::new(alloc)),
-        None => leaf_text(alloc, label),
-    }
-}
-
-/// A term of a label and its operands, the last of which stands first.
+/// A term of a label and its operands, the last of which stands first. The label stands before them, or as a sign between them.
 fn joined(alloc: Global, label: &Label, operands: &[String]) -> Result<String, AllocError> {
-    let mut out = start_text(alloc, label)?;
-    put_operands(&mut out, operands, infix(label).unwrap_or(", "))?;
-    Ok(out)
+    let mut out = Writer::new(alloc);
+    let between = match infix(label) {
+        Some(sign) => sign,
+        None => {
+            put_label(&mut out, label);
+            ", "
+        }
+    };
+    put_operands(&mut out, operands, between);
+    out.end()
 }
 
 /// The text of the term that is next, cut at a depth, and where so many parts were shown.
@@ -163,7 +163,7 @@ fn next_text(
         return String::from_str(alloc, CUT);
     };
     if count == 0 {
-        return leaf_text(alloc, &label);
+        return label_text(alloc, &label);
     }
     if depth == 0 || *left == 0 {
         reader.skip(count);

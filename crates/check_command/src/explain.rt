@@ -5,7 +5,7 @@ ghost use Rattle.block_text.specs.Shown.{IsShown};
 
 use crate::verdicts::CheckAnswer;
 use block_text::{
-    ReadFault, WIDTH, block_place_text, order_place_text, page_of, put_exit, put_insts,
+    ReadFault, WIDTH, Writer, block_place_text, order_place_text, page_of, put_exit, put_insts,
 };
 use block_validator::Place;
 use check_text::{Text, read};
@@ -91,52 +91,50 @@ fn early_product(order: &Order) -> Option<(usize, usize)> {
     None
 }
 
-fn put_word(out: &mut String, order: &Order, place: usize) -> Result<(), AllocError> {
+fn put_word(out: &mut Writer, order: &Order, place: usize) {
     match word_at(order, place) {
         Some(inst) => put_insts(out, &[inst], "  ", "\n"),
         None => put_left(out, order.exit()),
     }
 }
 
-fn put_left(out: &mut String, exit: Exit) -> Result<(), AllocError> {
-    out.push_str("  ")?;
-    put_exit(out, exit)?;
-    out.push_str("\n")
+fn put_left(out: &mut Writer, exit: Exit) {
+    out.text("  ");
+    put_exit(out, exit);
+    out.text("\n");
 }
 
 /// The words that break a rule.
-fn put_breaking(out: &mut String, rule: Unclean, order: &Order) -> Result<(), AllocError> {
+fn put_breaking(out: &mut Writer, rule: Unclean, order: &Order) {
     let count = order.insts().len();
     match rule {
-        Unclean::LoadUse => match load_use(order.insts()) {
-            Some(k) => {
-                put_word(out, order, k)?;
-                put_word(out, order, k.saturating_add(1))
+        Unclean::LoadUse => {
+            if let Some(k) = load_use(order.insts()) {
+                put_word(out, order, k);
+                put_word(out, order, k.saturating_add(1));
             }
-            None => Ok(()),
-        },
-        Unclean::ProductAfterMove => match early_product(order) {
-            Some((first, second)) => {
-                put_word(out, order, first)?;
-                put_word(out, order, second)
+        }
+        Unclean::ProductAfterMove => {
+            if let Some((first, second)) = early_product(order) {
+                put_word(out, order, first);
+                put_word(out, order, second);
             }
-            None => Ok(()),
-        },
+        }
         Unclean::SlotLoadOrMove => {
-            put_left(out, order.exit())?;
-            put_word(out, order, count.saturating_add(1))
+            put_left(out, order.exit());
+            put_word(out, order, count.saturating_add(1));
         }
         Unclean::ExitLoad => {
-            put_word(out, order, count.saturating_sub(1))?;
-            put_left(out, order.exit())
+            put_word(out, order, count.saturating_sub(1));
+            put_left(out, order.exit());
         }
     }
 }
 
-fn put_unclean(out: &mut String, rule: Unclean, order: &Order) -> Result<(), AllocError> {
-    out.push_str(rule_words(rule))?;
-    out.push_str(":\n")?;
-    put_breaking(out, rule, order)
+fn put_unclean(out: &mut Writer, rule: Unclean, order: &Order) {
+    out.text(rule_words(rule));
+    out.text(":\n");
+    put_breaking(out, rule, order);
 }
 
 /// A text, or what stands for it where there is none.
@@ -161,26 +159,31 @@ fn texts_at(
     Ok((first, second))
 }
 
-fn put_pair(out: &mut String, block: &str, order: &str) -> Result<(), AllocError> {
-    writeln!(out, "block: {block}")?;
-    writeln!(out, "order: {order}")
+fn put_pair(out: &mut Writer, block: &str, order: &str) {
+    out.text("block: ");
+    out.text(block);
+    out.text("\norder: ");
+    out.text(order);
+    out.text("\n");
 }
 
 /// What block and order leave in a place, at the first depth that tells them apart.
 fn put_differing(
     alloc: Global,
-    out: &mut String,
+    out: &mut Writer,
     place: &Place,
     text: &Text,
 ) -> Result<(), AllocError> {
     for depth in DEPTHS {
         let (block, order) = texts_at(alloc, &text.block, &text.order, place, depth)?;
         if block.as_str() != order.as_str() {
-            return put_pair(out, block.as_str(), order.as_str());
+            put_pair(out, block.as_str(), order.as_str());
+            return Ok(());
         }
     }
     let (block, order) = texts_at(alloc, &text.block, &text.order, place, DEEPEST)?;
-    put_pair(out, block.as_str(), order.as_str())
+    put_pair(out, block.as_str(), order.as_str());
+    Ok(())
 }
 
 /// Block and order of a text that has a verdict.
@@ -199,14 +202,14 @@ pub(crate) fn explained(
 ) -> Result<Vec<u8>, AllocError>
     ensures { IfOk result (λ page. All IsShown page.items) }
 {
-    let mut out = String::new(alloc);
+    let mut out = Writer::new(alloc);
     if let Some(spelled) = spelled(alloc, text) {
         match answer {
             CheckAnswer::Same => {}
-            CheckAnswer::Full => out.push_str("the table has no room for more than 16384 terms\n")?,
-            CheckAnswer::Unclean(rule) => put_unclean(&mut out, *rule, &spelled.order)?,
+            CheckAnswer::Full => out.text("the table has no room for more than 16384 terms\n"),
+            CheckAnswer::Unclean(rule) => put_unclean(&mut out, *rule, &spelled.order),
             CheckAnswer::Differs(place) => put_differing(alloc, &mut out, place, &spelled)?,
         }
     }
-    page_of(alloc, out.as_bytes(), WIDTH)
+    page_of(alloc, out.end()?.as_bytes(), WIDTH)
 }

@@ -1,9 +1,9 @@
-// The lines over functions and blocks.
+// The lines over blocks, and in them.
 
 use crate::names::Names;
 use crate::numbers::Range;
+use block_text::Writer;
 use mblock::Exit;
-use std::alloc::AllocError;
 
 /// The name of the function that a call goes to; none where the block is left otherwise.
 pub(crate) fn callee<'t>(names: &Names<'t>, ranges: &[Range], exit: Exit) -> Option<&'t str> {
@@ -16,13 +16,19 @@ pub(crate) fn callee<'t>(names: &Names<'t>, ranges: &[Range], exit: Exit) -> Opt
 }
 
 /// The line over a block: its number, and the function that it calls.
-pub(crate) fn put_heading(
-    out: &mut String,
-    number: usize,
-    called: Option<&str>,
-) -> Result<(), AllocError> {
-    match called {
-        Some(name) => write!(out, "  block {number} (calls {name})"),
-        None => write!(out, "  block {number}"),
+pub(crate) fn put_heading(out: &mut Writer, number: usize, called: Option<&str>) {
+    out.text("  block ");
+    out.put(&number);
+    if let Some(name) = called {
+        out.text(" (calls ");
+        out.text(name);
+        out.text(")");
     }
+}
+
+/// A line of a block, behind a margin.
+pub(crate) fn put_line(out: &mut Writer, line: &str) {
+    out.text("    ");
+    out.text(line);
+    out.text("\n");
 }

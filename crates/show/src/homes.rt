@@ -1,43 +1,46 @@
 // Where the pseudo-registers of a function live.
 
 use crate::names::Names;
+use block_text::Writer;
 use mips_homes::{Frame, Home};
-use std::alloc::AllocError;
 
-fn put_home(out: &mut String, home: Home) -> Result<(), AllocError> {
+fn put_home(out: &mut Writer, home: Home) {
     match home {
-        Home::Reg(number) => writeln!(out, "${number}"),
-        Home::Slot(number) => writeln!(out, "slot {number}"),
+        Home::Reg(number) => {
+            out.text("$");
+            out.put(&number);
+        }
+        Home::Slot(number) => {
+            out.text("slot ");
+            out.put(&number);
+        }
     }
 }
 
-fn put_saved(out: &mut String, saved: &[u8]) -> Result<(), AllocError> {
-    out.push_str("  saved:")?;
+fn put_saved(out: &mut Writer, saved: &[u8]) {
+    out.text("  saved:");
     for number in saved {
-        write!(out, " ${number}")?;
+        out.text(" $");
+        out.put(number);
     }
     if saved.is_empty() {
-        out.push_str(" none")?;
+        out.text(" none");
     }
-    out.push_str("\n")
 }
 
 /// A line for each pseudo-register, and two for the frame.
-pub(crate) fn put_homes(
-    out: &mut String,
-    names: &Names<'_>,
-    function: usize,
-    frame: &Frame,
-) -> Result<(), AllocError> {
+pub(crate) fn put_homes(out: &mut Writer, names: &Names<'_>, function: usize, frame: &Frame) {
     let mut register = 0u32;
     for home in frame.homes.iter() {
-        out.push_str("  ")?;
-        names.put_register(out, function, register)?;
-        out.push_str(" in ")?;
-        put_home(out, *home)?;
+        out.text("  ");
+        names.put_register(out, function, register);
+        out.text(" in ");
+        put_home(out, *home);
+        out.text("\n");
         register = register.saturating_add(1);
     }
-    put_saved(out, frame.saved.as_slice())?;
-    let slots = frame.slots;
-    writeln!(out, "  slots: {slots}")
+    put_saved(out, frame.saved.as_slice());
+    out.text("\n  slots: ");
+    out.put(&frame.slots);
+    out.text("\n");
 }

@@ -1,5 +1,6 @@
 // The names of functions, globals and locals, by their numbers.
 
+use block_text::Writer;
 use c_tokens::{Identifier, MAX_TEXT, Mark, Token, lex};
 use std::alloc::{AllocError, Global};
 use std::str;
@@ -137,19 +138,18 @@ impl<'t> Names<'t> {
 
     /// The pseudo-register of a function: a local by its name, with its number where an earlier one has the name too; any
     /// other by its number alone.
-    pub(crate) fn put_register(
-        &self,
-        out: &mut String,
-        function: usize,
-        register: u32,
-    ) -> Result<(), AllocError> {
-        let Some(name) = self.local(function, register as usize) else {
-            return write!(out, "%{register}");
+    pub(crate) fn put_register(&self, out: &mut Writer, function: usize, register: u32) {
+        let number = register as usize;
+        let is_named = match self.local(function, number) {
+            Some(name) => {
+                out.text(name);
+                !self.is_again(function, number, name)
+            }
+            None => false,
         };
-        out.push_str(name)?;
-        if self.is_again(function, register as usize, name) {
-            return write!(out, "%{register}");
+        if !is_named {
+            out.text("%");
+            out.put(&register);
         }
-        Ok(())
     }
 }

@@ -3,7 +3,7 @@
 ghost use Rattle.std.specs.Prelude.{All, IfSome};
 ghost use Rattle.term_table.specs.Passes.{IsOf};
 
-use block_text::put_order;
+use block_text::{Writer, put_order};
 use block_validator::{Place, Verdict, validate};
 use delay_filler::FilledOrder;
 use list_scheduler::{ListOrder, Reorder};
@@ -44,14 +44,14 @@ fn opened(alloc: Global, size: Size) -> Option<(TermTable, Pass)>
     Some((table, pass))
 }
 
-fn put_place(out: &mut String, place: Place) -> Result<(), AllocError> {
+fn put_place(out: &mut Writer, place: Place) {
     match place {
-        Place::Register(r) => write!(out, "{r}"),
-        Place::Hi => out.push_str("hi"),
-        Place::Lo => out.push_str("lo"),
-        Place::Memory => out.push_str("mem"),
-        Place::Exit => out.push_str("exit"),
-        Place::Guards => out.push_str("guards"),
+        Place::Register(r) => out.put(&r),
+        Place::Hi => out.text("hi"),
+        Place::Lo => out.text("lo"),
+        Place::Memory => out.text("mem"),
+        Place::Exit => out.text("exit"),
+        Place::Guards => out.text("guards"),
     }
 }
 
@@ -77,44 +77,50 @@ fn verdict_on<'a>(alloc: Global, block: &'a Block) -> Result<Verdict<'a>, AllocE
 }
 
 /// A verdict in the words of `mcc check`; the order that is taken, if it is.
-fn put_verdict(out: &mut String, verdict: Verdict<'_>) -> Result<Option<Order>, AllocError> {
+fn put_verdict(out: &mut Writer, verdict: Verdict<'_>) -> Result<Option<Order>, AllocError> {
     match verdict {
         Verdict::Same(checked) => {
-            out.push_str("same")?;
+            out.text("same");
             return Ok(Some(checked.into_order()));
         }
-        Verdict::Unclean(rule) => write!(out, "unclean {rule}")?,
-        Verdict::Differs(place) => {
-            out.push_str("differs ")?;
-            put_place(out, place)?;
+        Verdict::Unclean(rule) => {
+            out.text("unclean ");
+            out.put(&rule);
         }
-        Verdict::Full => out.push_str("full")?,
+        Verdict::Differs(place) => {
+            out.text("differs ");
+            put_place(out, place);
+        }
+        Verdict::Full => out.text("full"),
         Verdict::NoMemory => return Err(AllocError),
     }
     Ok(None)
 }
 
 /// The order that was refused, and the plain one, which stands in its place.
-fn put_refused(alloc: Global, out: &mut String, block: &Block) -> Result<(), AllocError> {
+fn put_refused(alloc: Global, out: &mut Writer, block: &Block) -> Result<(), AllocError> {
     let refused = proposed(alloc, block)?;
-    out.push_str("    proposed:\n")?;
-    put_order(out, &refused, "      ", "\n")?;
-    out.push_str("    taken:\n")?;
-    put_order(out, &plain(alloc, block)?, "      ", "\n")
+    let taken = plain(alloc, block)?;
+    out.text("    proposed:\n");
+    put_order(out, &refused, "      ", "\n");
+    out.text("    taken:\n");
+    put_order(out, &taken, "      ", "\n");
+    Ok(())
 }
 
 /// The verdict on the order that is proposed for a block, and the order that is taken; the one that was refused before it.
 pub(crate) fn put_settled(
     alloc: Global,
-    out: &mut String,
+    out: &mut Writer,
     block: &Block,
 ) -> Result<(), AllocError> {
     let verdict = verdict_on(alloc, block)?;
-    out.push_str(": ")?;
+    out.text(": ");
     let taken = put_verdict(out, verdict)?;
-    out.push_str("\n")?;
+    out.text("\n");
     match taken {
         Some(order) => put_order(out, &order, "    ", "\n"),
-        None => put_refused(alloc, out, block),
+        None => put_refused(alloc, out, block)?,
     }
+    Ok(())
 }

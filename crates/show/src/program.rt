@@ -13,7 +13,7 @@ use crate::orders::put_settled;
 use crate::rtl_text::RtlView;
 use crate::stage::Stage;
 use crate::terms::put_terms;
-use block_text::{WIDTH, page_of, put_order};
+use block_text::{WIDTH, Writer, page_of, put_order};
 use delay_filler::FilledOrder;
 use list_scheduler::ListOrder;
 use mblock::{Block, BlockNumber, Unit, plain};
@@ -156,9 +156,9 @@ impl<'a> View<'a> {
         range.unwrap_or(none).of(self.shown.numbers)
     }
 
-    fn put_rtl(&self, out: &mut String, number: usize, is_graph: bool) -> Result<(), AllocError> {
+    fn put_rtl(&self, out: &mut Writer, number: usize, is_graph: bool) {
         let Some(function) = self.function(number) else {
-            return Ok(());
+            return;
         };
         let view = RtlView {
             names: &self.names,
@@ -168,19 +168,17 @@ impl<'a> View<'a> {
         };
         let blocks = function.blocks.as_slice();
         if is_graph {
-            put_rtl_blocks(out, &view, blocks)
+            put_rtl_blocks(out, &view, blocks);
         } else {
-            view.blocks(out, blocks)
+            view.blocks(out, blocks);
         }
     }
 
-    fn put_homes(&self, out: &mut String, number: usize) -> Result<(), AllocError> {
-        if number == 0 {
-            return Ok(());
-        }
-        match self.frames.get(number - 1) {
-            Some(frame) => put_homes(out, &self.names, number - 1, frame),
-            None => Ok(()),
+    fn put_homes(&self, out: &mut Writer, number: usize) {
+        if number > 0
+            && let Some(frame) = self.frames.get(number - 1)
+        {
+            put_homes(out, &self.names, number - 1, frame);
         }
     }
 
@@ -188,27 +186,28 @@ impl<'a> View<'a> {
     fn put_stage(
         &self,
         alloc: Global,
-        out: &mut String,
+        out: &mut Writer,
         stage: Stage,
         block: &Block,
     ) -> Result<(), AllocError> {
         match stage {
-            Stage::Orders => put_settled(alloc, out, block),
+            Stage::Orders => put_settled(alloc, out, block)?,
             Stage::Terms => {
-                out.push_str("\n")?;
-                put_terms(alloc, out, block)
+                out.text("\n");
+                put_terms(alloc, out, block)?;
             }
             _ => {
-                out.push_str("\n")?;
-                put_order(out, &plain(alloc, block)?, "    ", "\n")
+                out.text("\n");
+                put_order(out, &plain(alloc, block)?, "    ", "\n");
             }
         }
+        Ok(())
     }
 
     fn put_blocks(
         &self,
         alloc: Global,
-        out: &mut String,
+        out: &mut Writer,
         stage: Stage,
         number: usize,
     ) -> Result<(), AllocError> {
@@ -216,7 +215,7 @@ impl<'a> View<'a> {
         let mut k = range.from;
         for block in range.of(self.shown.unit.blocks()) {
             let called = callee(&self.names, self.ranges.as_slice(), block.exit());
-            put_heading(out, k, called)?;
+            put_heading(out, k, called);
             self.put_stage(alloc, out, stage, block)?;
             k = k.saturating_add(1);
         }
@@ -227,40 +226,44 @@ impl<'a> View<'a> {
     fn put_function(
         &self,
         alloc: Global,
-        out: &mut String,
+        out: &mut Writer,
         stage: Stage,
         number: usize,
     ) -> Result<(), AllocError> {
-        put_title(out, &self.names, number)?;
+        put_title(out, &self.names, number);
         match stage {
             Stage::Rtl => self.put_rtl(out, number, false),
             Stage::Homes => self.put_homes(out, number),
-            _ => self.put_blocks(alloc, out, stage, number),
+            _ => self.put_blocks(alloc, out, stage, number)?,
         }
+        Ok(())
     }
 
     /// A function's graph, as a cluster.
-    fn put_graph(&self, out: &mut String, is_rtl: bool, number: usize) -> Result<(), AllocError> {
+    fn put_graph(&self, out: &mut Writer, is_rtl: bool, number: usize) {
         let name = if number == 0 {
             "start"
         } else {
             self.names.function(number - 1)
         };
-        writeln!(out, "  subgraph cluster_{number} {{")?;
-        writeln!(out, "    label=\"{name}\";")?;
+        out.text("  subgraph cluster_");
+        out.put(&number);
+        out.text(" {\n    label=\"");
+        out.text(name);
+        out.text("\";\n");
         if is_rtl {
-            self.put_rtl(out, number, true)?;
+            self.put_rtl(out, number, true);
         } else {
             let range = self.range(number);
-            put_blocks(out, range.from, range.of(self.shown.unit.blocks()))?;
+            put_blocks(out, range.from, range.of(self.shown.unit.blocks()));
         }
-        out.push_str("  }\n")
+        out.text("  }\n");
     }
 
     fn put_listing(
         &self,
         alloc: Global,
-        out: &mut String,
+        out: &mut Writer,
         only: Option<usize>,
     ) -> Result<(), ShowFault> {
         let Some(options) = PhaseOpts::new(1, 65536, 1024) else {
@@ -281,7 +284,19 @@ impl<'a> View<'a> {
             globals: self.shown.rtl.globals(),
             only,
         };
-        view.put(out, scheduled.orders(), listing.as_str())?;
+        view.put(out, scheduled.orders(), listing.as_str());
+        Ok(())
+    }
+
+    /// RTL, blocks and orders of a function.
+    fn put_stages(&self, alloc: Global, out: &mut Writer, number: usize) -> Result<(), AllocError> {
+        for stage in [Stage::Rtl, Stage::Blocks, Stage::Orders] {
+            if number > 0 || stage != Stage::Rtl {
+                out.text(stage.name());
+                out.text(": ");
+                self.put_function(alloc, out, stage, number)?;
+            }
+        }
         Ok(())
     }
 
@@ -289,43 +304,23 @@ impl<'a> View<'a> {
     fn put_asked(
         &self,
         alloc: Global,
-        out: &mut String,
+        out: &mut Writer,
         wanted: &Wanted,
         number: usize,
     ) -> Result<(), AllocError> {
         if wanted.dot {
-            return self.put_graph(out, wanted.stage == Some(Stage::Rtl), number);
+            self.put_graph(out, wanted.stage == Some(Stage::Rtl), number);
+            return Ok(());
         }
         match wanted.stage {
             Some(stage) => self.put_function(alloc, out, stage, number),
-            None => {
-                for stage in [Stage::Rtl, Stage::Blocks, Stage::Orders] {
-                    self.put_staged(alloc, out, stage, number)?;
-                }
-                Ok(())
-            }
+            None => self.put_stages(alloc, out, number),
         }
     }
 
-    /// A stage of a function under the stage's name.
-    fn put_staged(
-        &self,
-        alloc: Global,
-        out: &mut String,
-        stage: Stage,
-        number: usize,
-    ) -> Result<(), AllocError> {
-        if number == 0 && stage == Stage::Rtl {
-            return Ok(());
-        }
-        let name = stage.name();
-        write!(out, "{name}: ")?;
-        self.put_function(alloc, out, stage, number)
-    }
-
-    fn put_all(&self, alloc: Global, out: &mut String, wanted: &Wanted) -> Result<(), AllocError> {
+    fn put_all(&self, alloc: Global, out: &mut Writer, wanted: &Wanted) -> Result<(), AllocError> {
         if wanted.dot {
-            out.push_str("digraph blocks {\n  node [shape=box fontname=monospace];\n")?;
+            out.text("digraph blocks {\n  node [shape=box fontname=monospace];\n");
         }
         let (first, end) = match wanted.only {
             Some(number) => (number, number.saturating_add(1)),
@@ -335,20 +330,21 @@ impl<'a> View<'a> {
             self.put_asked(alloc, out, wanted, number)?;
         }
         if wanted.dot {
-            out.push_str("}\n")?;
+            out.text("}\n");
         }
         Ok(())
     }
 
     /// The text of what is asked for.
     fn text(&self, alloc: Global, wanted: &Wanted) -> Result<String, ShowFault> {
-        let mut out = String::new(alloc);
+        let mut out = Writer::new(alloc);
         if wanted.stage == Some(Stage::Listing) && !wanted.dot {
             self.put_listing(alloc, &mut out, wanted.only)?;
         } else {
             self.put_all(alloc, &mut out, wanted)?;
         }
-        Ok(out)
+        let text = out.end()?;
+        Ok(text)
     }
 }
 

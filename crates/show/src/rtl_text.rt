@@ -1,9 +1,9 @@
 // RTL as text.
 
 use crate::names::Names;
+use block_text::Writer;
 use mblock::BlockNumber;
 use rtl::{Op, RBlock, RExit, RGlobal, RInst, Register};
-use std::alloc::AllocError;
 
 /// A function of RTL as it is shown: its number, its names, the globals, and the numbers of its blocks.
 #[derive(Clone, Copy)]
@@ -40,14 +40,14 @@ fn sign(op: Op) -> &'static str {
 }
 
 impl<'a> RtlView<'a> {
-    fn register(&self, out: &mut String, register: Register) -> Result<(), AllocError> {
-        self.names.put_register(out, self.function, register)
+    fn register(&self, out: &mut Writer, register: Register) {
+        self.names.put_register(out, self.function, register);
     }
 
     /// A register that becomes something.
-    fn becomes(&self, out: &mut String, register: Register) -> Result<(), AllocError> {
-        self.register(out, register)?;
-        out.push_str(" = ")
+    fn becomes(&self, out: &mut Writer, register: Register) {
+        self.register(out, register);
+        out.text(" = ");
     }
 
     fn is_array(&self, global: u32) -> bool {
@@ -58,42 +58,40 @@ impl<'a> RtlView<'a> {
     }
 
     /// An element of a global; a variable by its name alone.
-    fn element(&self, out: &mut String, global: u32, index: Register) -> Result<(), AllocError> {
-        out.push_str(self.names.global(global as usize))?;
-        if !self.is_array(global) {
-            return Ok(());
+    fn element(&self, out: &mut Writer, global: u32, index: Register) {
+        out.text(self.names.global(global as usize));
+        if self.is_array(global) {
+            out.text("[");
+            self.register(out, index);
+            out.text("]");
         }
-        out.push_str("[")?;
-        self.register(out, index)?;
-        out.push_str("]")
     }
 
     /// An instruction.
-    pub(crate) fn inst(&self, out: &mut String, inst: RInst) -> Result<(), AllocError> {
+    fn inst(&self, out: &mut Writer, inst: RInst) {
         match inst {
             RInst::Const(to, word) => {
-                self.becomes(out, to)?;
-                let number = word.cast_signed();
-                write!(out, "{number}")
+                self.becomes(out, to);
+                out.put(&word.cast_signed());
             }
             RInst::Move(to, from) => {
-                self.becomes(out, to)?;
-                self.register(out, from)
+                self.becomes(out, to);
+                self.register(out, from);
             }
             RInst::Bin(op, to, left, right) => {
-                self.becomes(out, to)?;
-                self.register(out, left)?;
-                out.push_str(sign(op))?;
-                self.register(out, right)
+                self.becomes(out, to);
+                self.register(out, left);
+                out.text(sign(op));
+                self.register(out, right);
             }
             RInst::Load(to, global, index) => {
-                self.becomes(out, to)?;
-                self.element(out, global, index)
+                self.becomes(out, to);
+                self.element(out, global, index);
             }
             RInst::Store(global, index, from) => {
-                self.element(out, global, index)?;
-                out.push_str(" = ")?;
-                self.register(out, from)
+                self.element(out, global, index);
+                out.text(" = ");
+                self.register(out, from);
             }
         }
     }
@@ -106,87 +104,73 @@ impl<'a> RtlView<'a> {
         }
     }
 
-    fn to(&self, out: &mut String, before: &str, block: u32) -> Result<(), AllocError> {
-        out.push_str(before)?;
-        let number = self.number(block);
-        write!(out, "{number}")
+    fn to(&self, out: &mut Writer, before: &str, block: u32) {
+        out.text(before);
+        out.put(&self.number(block));
     }
 
-    fn call(
-        &self,
-        out: &mut String,
-        function: u32,
-        arguments: &[Register],
-        to: Option<Register>,
-    ) -> Result<(), AllocError> {
+    fn call(&self, out: &mut Writer, function: u32, arguments: &[Register], to: Option<Register>) {
         if let Some(to) = to {
-            self.becomes(out, to)?;
+            self.becomes(out, to);
         }
-        out.push_str(self.names.function(function as usize))?;
-        out.push_str("(")?;
-        for (k, argument) in arguments.iter().enumerate() {
-            if k > 0 {
-                out.push_str(", ")?;
-            }
-            self.register(out, *argument)?;
+        out.text(self.names.function(function as usize));
+        out.text("(");
+        let mut before = "";
+        for argument in arguments {
+            out.text(before);
+            self.register(out, *argument);
+            before = ", ";
         }
-        out.push_str(")")
+        out.text(")");
     }
 
     /// How a block is left.
-    pub(crate) fn exit(&self, out: &mut String, exit: &RExit) -> Result<(), AllocError> {
+    fn exit(&self, out: &mut Writer, exit: &RExit) {
         match exit {
             RExit::Goto(block) => self.to(out, "goto ", *block),
             RExit::Branch(test, then, other) => {
-                out.push_str("if ")?;
-                self.register(out, *test)?;
-                self.to(out, " goto ", *then)?;
-                self.to(out, " else ", *other)
+                out.text("if ");
+                self.register(out, *test);
+                self.to(out, " goto ", *then);
+                self.to(out, " else ", *other);
             }
             RExit::Call(function, arguments, to, next) => {
-                self.call(out, *function, arguments.as_slice(), *to)?;
-                self.to(out, ", then ", *next)
+                self.call(out, *function, arguments.as_slice(), *to);
+                self.to(out, ", then ", *next);
             }
-            RExit::Return(None) => out.push_str("return"),
+            RExit::Return(None) => out.text("return"),
             RExit::Return(Some(from)) => {
-                out.push_str("return ")?;
-                self.register(out, *from)
+                out.text("return ");
+                self.register(out, *from);
             }
             RExit::Out(from, next) => {
-                out.push_str("out ")?;
-                self.register(out, *from)?;
-                self.to(out, ", then ", *next)
+                out.text("out ");
+                self.register(out, *from);
+                self.to(out, ", then ", *next);
             }
         }
     }
 
     /// The lines of a block, each behind a margin and before an end.
-    pub(crate) fn lines(
-        &self,
-        out: &mut String,
-        block: &RBlock,
-        margin: &str,
-        end: &str,
-    ) -> Result<(), AllocError> {
+    pub(crate) fn lines(&self, out: &mut Writer, block: &RBlock, margin: &str, end: &str) {
         for inst in block.insts.iter() {
-            out.push_str(margin)?;
-            self.inst(out, *inst)?;
-            out.push_str(end)?;
+            out.text(margin);
+            self.inst(out, *inst);
+            out.text(end);
         }
-        out.push_str(margin)?;
-        self.exit(out, &block.exit)?;
-        out.push_str(end)
+        out.text(margin);
+        self.exit(out, &block.exit);
+        out.text(end);
     }
 
     /// All blocks of a function.
-    pub(crate) fn blocks(&self, out: &mut String, blocks: &[RBlock]) -> Result<(), AllocError> {
+    pub(crate) fn blocks(&self, out: &mut Writer, blocks: &[RBlock]) {
         let mut k = 0u32;
         for block in blocks {
-            let number = self.number(k);
-            writeln!(out, "  block {number}")?;
-            self.lines(out, block, "    ", "\n")?;
+            self.to(out, "  block ", k);
+            out.text("\n");
+            self.lines(out, block, "    ", "\n");
             k = k.saturating_add(1);
         }
-        Ok(())
     }
 }
