@@ -40,8 +40,9 @@
 //!   nothing but the bytes of an image of what was read from SOURCE, and SOURCE is only read (`stopped`: `IsStopped`).
 //!   `check_command::check_file` promises the same of `check`. Of what `show`, `list --asm` and (behind the answer)
 //!   `check --explain` print no more is promised than that the source has no fault, or the file is an image, and that it
-//!   is printable ASCII in lines (`Shows`, `Assembles`, `Explains`). Not promised: that refused memory, which is told by status 1 before any file is read, was really refused;
-//!   what stands below a fault's line, and clap's texts.
+//!   is printable ASCII in lines (`Shows`, `Assembles`, `Explains`). Not promised: that refused memory, which is told by
+//!   status 1 before any file is read, was really refused; what stands below a fault's line, but that it steers no
+//!   terminal (`tell_placed` of commands), and clap's texts.
 //! - Only tested: that ten programs print what they should (the eight of crates/c_programs what gcc's builds of them
 //!   print), built plainly and scheduled; that interpreter and images print the same, worked by hand, where up to forty
 //!   locals live in a loop, locals and constants live over calls and a recursion, parameters are passed on in another
