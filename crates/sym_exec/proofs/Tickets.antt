@@ -32,14 +32,10 @@ later_more {p} {q} {r} e f = record { extends = extends_more e.extends f.extends
 
 -- calls behind calls
 pub goes_on : {A E : Type 0} {i j : Interner} {x : Result A E} → Interns i x j → GoesOn i j
-goes_on {A} {E} {i} {j} {x} h = record { table = h.table; same_reference = h.same_reference; later = h.later }
+goes_on {A} {E} {i} {j} {x} h = record { same_reference = h.same_reference; later = h.later }
 
 pub goes_more : {i j k : Interner} → GoesOn i j → GoesOn j k → GoesOn i k
-goes_more {i} {j} {k} e f = record {
-  table = f.table ∙ e.table;
-  same_reference = f.same_reference ∙ e.same_reference;
-  later = later_more e.later f.later;
-}
+goes_more {i} {j} {k} e f = record { same_reference = f.same_reference ∙ e.same_reference; later = later_more e.later f.later }
 
 stands_on : {p q : PassState} {s : TermPlaces} {t : TreeState} → Later p q → Stands p s t → Stands q s t
 stands_on {p} {q} {s} {t} e h = record {

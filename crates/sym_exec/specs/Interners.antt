@@ -4,15 +4,13 @@ use Rattle.term_table.specs.Passes.{linked}
 use Rattle.sym_exec.specs.declared.interner.Interner.{Interner}
 use Rattle.sym_exec.specs.Standing.{Later}
 
--- it goes on: the table is the one that it had, the pass too, and that is later
+-- it goes on: the pass is the one that it had, so the table is too, and it is later
 pub record GoesOn (before after : Interner) : Type 0 where
-  pub table : after.table.now ≡ before.table.now
   pub same_reference : after.pass.ghost_name ≡ before.pass.ghost_name
   pub later : Later before.pass.now after.pass.now
 
 -- behind some calls that make terms it goes on, and the pass has linked all it may where there is no answer
 pub record Interns {A E : Type 0} (before : Interner) (result : Result A E) (after : Interner) : Type 0 where
-  pub table : after.table.now ≡ before.table.now
   pub same_reference : after.pass.ghost_name ≡ before.pass.ghost_name
   pub later : Later before.pass.now after.pass.now
   pub full : OnErr result (linked after.pass.now ≡ after.pass.now.nodes)

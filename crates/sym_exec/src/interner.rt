@@ -22,7 +22,6 @@ impl<'t> Interner<'t> {
 
     pub(crate) fn new(table: &'t TermTable, pass: &'t mut Pass) -> Interner<'t>
         requires { IsOf table.now pass.old }
-        ensures table { result.table.now ≡ table.now }
         ensures pass { result.pass.now ≡ pass.old }
         ensures same_reference { result.pass.ghost_name ≡ pass.entry.ghost_name }
     {
