@@ -278,14 +278,25 @@ fn put_registers(
     Ok(())
 }
 
+/// A line for each of HI, LO and memory that changes, one for the exit and one for the guards.
+fn put_others(
+    alloc: Global,
+    out: &mut Writer,
+    left: &mut Left,
+    depth: u32,
+) -> Result<(), AllocError> {
+    put_place(alloc, out, left, HI, Label::Init(Origin::Hi), depth)?;
+    put_place(alloc, out, left, LO, Label::Init(Origin::Lo), depth)?;
+    put_place(alloc, out, left, MEMORY, Label::Mem0, depth)?;
+    put_end(out, "exit: ", exit_text(alloc, left, depth)?);
+    put_end(out, "guards: ", guards_text(alloc, left, depth)?);
+    Ok(())
+}
+
 fn lines_of(alloc: Global, left: &mut Left, depth: u32) -> Result<String, AllocError> {
     let mut out = Writer::new(alloc);
     put_registers(alloc, &mut out, left, depth)?;
-    put_place(alloc, &mut out, left, HI, Label::Init(Origin::Hi), depth)?;
-    put_place(alloc, &mut out, left, LO, Label::Init(Origin::Lo), depth)?;
-    put_place(alloc, &mut out, left, MEMORY, Label::Mem0, depth)?;
-    put_end(&mut out, "exit: ", exit_text(alloc, left, depth)?);
-    put_end(&mut out, "guards: ", guards_text(alloc, left, depth)?);
+    put_others(alloc, &mut out, left, depth)?;
     out.end()
 }
 

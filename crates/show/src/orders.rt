@@ -97,15 +97,25 @@ fn put_verdict(out: &mut Writer, verdict: Verdict<'_>) -> Result<Option<Order>, 
     Ok(None)
 }
 
+/// A block in its plain order, behind a margin.
+pub(crate) fn put_plain(
+    alloc: Global,
+    out: &mut Writer,
+    block: &Block,
+    margin: &str,
+) -> Result<(), AllocError> {
+    let order = plain(alloc, block)?;
+    put_order(out, &order, margin, "\n");
+    Ok(())
+}
+
 /// The order that was refused, and the plain one, which stands in its place.
 fn put_refused(alloc: Global, out: &mut Writer, block: &Block) -> Result<(), AllocError> {
     let refused = proposed(alloc, block)?;
-    let taken = plain(alloc, block)?;
     out.text("    proposed:\n");
     put_order(out, &refused, "      ", "\n");
     out.text("    taken:\n");
-    put_order(out, &taken, "      ", "\n");
-    Ok(())
+    put_plain(alloc, out, block, "      ")
 }
 
 /// The verdict on the order that is proposed for a block, and the order that is taken; the one that was refused before it.

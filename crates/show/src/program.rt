@@ -9,18 +9,18 @@ use crate::homes::put_homes;
 use crate::listing::{ListingView, put_title};
 use crate::names::Names;
 use crate::numbers::{Range, functions_of, rtl_blocks_of};
-use crate::orders::put_settled;
+use crate::orders::{put_plain, put_settled};
 use crate::rtl_text::RtlView;
 use crate::stage::Stage;
 use crate::terms::put_terms;
-use block_text::{WIDTH, Writer, page_of, put_order};
+use block_text::{WIDTH, Writer, page_of};
 use delay_filler::FilledOrder;
 use list_scheduler::ListOrder;
-use mblock::{Block, BlockNumber, Unit, plain};
+use mblock::{Block, BlockNumber, Unit};
 use mips_asm::{AsmFault, assemble, list};
 use mips_homes::{Frame, Homed, place};
 use rtl::{RFunc, Rtl};
-use sched_phase::{PhaseOpts, schedule_one};
+use sched_phase::{PhaseOpts, Scheduled, schedule_one};
 use std::alloc::{AllocError, Global};
 
 /// A program at its stages, with the text that it is of.
@@ -60,6 +60,15 @@ pub enum ShowFault {
 impl From<AllocError> for ShowFault {
     fn from(_refused: AllocError) -> ShowFault {
         ShowFault::NoMemory
+    }
+}
+
+impl From<AsmFault> for ShowFault {
+    fn from(fault: AsmFault) -> ShowFault {
+        match fault {
+            AsmFault::Limit => ShowFault::Limit,
+            AsmFault::NoMemory => ShowFault::NoMemory,
+        }
     }
 }
 
@@ -104,6 +113,13 @@ fn frames_of(alloc: Global, rtl: &Rtl, wanted: &Wanted) -> Result<Vec<Frame>, Al
     }
     let Homed { frames, .. } = place(alloc, rtl)?;
     Ok(frames)
+}
+
+/// The listing of a program's image.
+fn listing_of(alloc: Global, scheduled: &Scheduled<'_>) -> Result<String, ShowFault> {
+    let image = assemble(alloc, scheduled)?;
+    let listing = list(alloc, &image)?;
+    Ok(listing)
 }
 
 /// A program with its names, its functions, and the frames that are wanted.
@@ -191,17 +207,16 @@ impl<'a> View<'a> {
         block: &Block,
     ) -> Result<(), AllocError> {
         match stage {
-            Stage::Orders => put_settled(alloc, out, block)?,
+            Stage::Orders => put_settled(alloc, out, block),
             Stage::Terms => {
                 out.text("\n");
-                put_terms(alloc, out, block)?;
+                put_terms(alloc, out, block)
             }
             _ => {
                 out.text("\n");
-                put_order(out, &plain(alloc, block)?, "    ", "\n");
+                put_plain(alloc, out, block, "    ")
             }
         }
-        Ok(())
     }
 
     fn put_blocks(
@@ -271,12 +286,7 @@ impl<'a> View<'a> {
         };
         let scheduler = FilledOrder(ListOrder);
         let scheduled = schedule_one(alloc, self.shown.unit, options, &scheduler)?;
-        let image = match assemble(alloc, &scheduled) {
-            Ok(image) => image,
-            Err(AsmFault::Limit) => return Err(ShowFault::Limit),
-            Err(AsmFault::NoMemory) => return Err(ShowFault::NoMemory),
-        };
-        let listing = list(alloc, &image)?;
+        let listing = listing_of(alloc, &scheduled)?;
         let view = ListingView {
             names: &self.names,
             unit: self.shown.unit,
