@@ -1,14 +1,14 @@
 -- Tickets go on standing for their trees, also after a write.
 use Rattle.std.proofs.Common.{◌≡◌, ◌≢◌, ℕ, zero, suc, ◌+◌, ◌<◌, ◌≤◌, ◌==◌, Bool, true, false, cond, ◌&&◌, List, [], ◌∷◌, ◌++◌, length}
 use Rattle.std.proofs.Common.{slice_index_or, slice_set, Contains, refl, sym, ap, ap₂, ◌∙◌, subst, true≢false, eq-eqb, eqb-true, arith}
-use Rattle.std.specs.Prelude.{slice_index, OnOk, IfOk, Result, Ok, Err}
+use Rattle.std.specs.Prelude.{slice_index, OnOk, OnErr, IfOk, Result, Ok, Err}
 use Rattle.std.proofs.lemmas.List.{get_or-set_same, get_or-set_other}
 use Rattle.sym_terms.specs.NormalForms.{const_tree}
 use Rattle.mips_isa.proofs.Registers.{put_lost, read-put}
 use Rattle.sym_terms.specs.declared.label.Origin.TheVariants.{Register}
 use Rattle.sym_terms.specs.declared.label.Label.TheVariants.{Init}
 use Rattle.sym_terms.specs.Trees.{Tree, leaf}
-use Rattle.term_table.specs.Passes.{PassState}
+use Rattle.term_table.specs.Passes.{PassState, linked}
 use Rattle.sym_exec.specs.MipsTerms.{HasSeen, HasTree}
 use Rattle.term_table.proofs.Callers.{extends_more, extends_self}
 use Rattle.sym_exec.proofs.MipsTerms.{still_seen, still_tree}
@@ -36,6 +36,9 @@ goes_on {A} {E} {i} {j} {x} h = record { same_reference = h.same_reference; late
 
 pub goes_more : {i j k : Interner} → GoesOn i j → GoesOn j k → GoesOn i k
 goes_more {i} {j} {k} e f = record { same_reference = f.same_reference ∙ e.same_reference; later = later_more e.later f.later }
+
+pub interns_by : {A E : Type 0} {i j : Interner} {x : Result A E} → GoesOn i j → OnErr x (linked j.pass.now ≡ j.pass.now.nodes) → Interns i x j
+interns_by {A} {E} {i} {j} {x} h full = record { same_reference = h.same_reference; later = h.later; full = full }
 
 stands_on : {p q : PassState} {s : TermPlaces} {t : TreeState} → Later p q → Stands p s t → Stands q s t
 stands_on {p} {q} {s} {t} e h = record {

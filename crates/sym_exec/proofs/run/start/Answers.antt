@@ -1,5 +1,5 @@
 use Rattle.std.proofs.Common.{refl}
-use Rattle.sym_exec.proofs.Tickets.{hold_on, known_on}
+use Rattle.sym_exec.proofs.Tickets.{goes_on, goes_more, interns_by, hold_on, known_on}
 use Rattle.sym_exec.proofs.Tracking.{chain_start, tracks_start}
 use Rattle.sym_exec.proofs.run.start.Goals as goal
 
@@ -11,3 +11,6 @@ returns-clause-chain c = chain_start c.requires.empty c.in_ok-memory.ensures.tre
 
 pub returns-clause-tracks : goal.returns-clause-tracks
 returns-clause-tracks c = tracks_start c.requires.empty (hold_on c.in_ok-memory.ensures.pass.later c.in_ok-registers.ensures.hold) refl refl
+
+pub returns-clause-pass : goal.returns-clause-pass
+returns-clause-pass c = interns_by (goes_more (goes_on c.in_ok-registers.ensures.pass) (goes_on c.in_ok-memory.ensures.pass)) tt

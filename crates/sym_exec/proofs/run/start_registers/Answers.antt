@@ -1,10 +1,10 @@
-use Rattle.std.proofs.Common.{◌≡◌, ℕ, zero, suc, ◌<◌, ◌+◌, length, sym, ap, ◌∙◌, subst, arith, ⊎_elim}
+use Rattle.std.proofs.Common.{rules, ◌≡◌, ℕ, zero, suc, ◌<◌, ◌+◌, length, sym, ap, ◌∙◌, subst, arith, ⊎_elim}
 use Rattle.std.specs.Prelude.{slice_index, replicate}
 use Rattle.std.proofs.lemmas.List.{get_or-replicate}
 use Rattle.sym_exec.specs.MipsTerms.{HasSeen, HasTree}
 use Rattle.sym_exec.proofs.MipsTerms.{still_seen, still_tree, tree_seen}
 use Rattle.sym_exec.specs.Symbolic.{register_tree, start_trees}
-use Rattle.sym_exec.proofs.Tickets.{later_more, goes_on, goes_more, set_place, set_tree, length_set}
+use Rattle.sym_exec.proofs.Tickets.{later_more, goes_on, goes_more, interns_by, set_place, set_tree, length_set}
 use Rattle.sym_exec.proofs.run.start_registers.Goals as goal
 
 pub loop-r-init : goal.loop-r-init
@@ -58,3 +58,16 @@ returns-clause-hold c =
       hi = still_tree e3.extends c.in_ok-hi.ensures.tree;
       lo = c.in_ok-lo.ensures.tree;
     }
+
+pub returns-clause-pass : goal.returns-clause-pass
+returns-clause-pass c =
+    interns_by (goes_more c.loop-r.invariant.goes (goes_more (goes_on c.in_ok-hi.ensures.pass) (goes_on c.in_ok-lo.ensures.pass))) tt
+
+pub returns-in_err-regs-clause-pass : goal.returns-in_err-regs-clause-pass
+returns-in_err-regs-clause-pass c = interns_by (goes_more c.loop-r.invariant.goes (goes_on c.in_err-regs.ensures.pass)) (search rules)
+
+pub returns-in_err-hi-clause-pass : goal.returns-in_err-hi-clause-pass
+returns-in_err-hi-clause-pass c = interns_by (goes_more c.loop-r.invariant.goes (goes_on c.in_err-hi.ensures.pass)) (search rules)
+
+pub returns-in_err-lo-clause-pass : goal.returns-in_err-lo-clause-pass
+returns-in_err-lo-clause-pass c = interns_by (goes_more (goes_more c.loop-r.invariant.goes (goes_on c.in_ok-hi.ensures.pass)) (goes_on c.in_err-lo.ensures.pass)) (search rules)

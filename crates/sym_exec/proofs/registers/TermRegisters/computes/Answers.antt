@@ -1,5 +1,6 @@
+use Rattle.std.proofs.Common.{rules}
 use Rattle.sym_exec.proofs.MipsTerms.{still_seen, still_tree}
-use Rattle.sym_exec.proofs.Tickets.{later_more, hold_on, known_on, get_seen, get_tree, known_put, hold_put}
+use Rattle.sym_exec.proofs.Tickets.{later_more, goes_on, goes_more, interns_by, hold_on, known_on, get_seen, get_tree, known_put, hold_put}
 use Rattle.sym_exec.proofs.registers.TermRegisters.computes.Goals as goal
 
 pub op_term-requires-clause-a : goal.op_term-requires-clause-a
@@ -17,3 +18,9 @@ returns-clause-hold c = λ t h.
     (c.in_ok-value.ensures.tree _ _
     (still_tree c.in_ok-y.ensures.pass.later.extends (get_tree {t = t} h c.get.ensures.value c.get.ensures.range)) (c.in_ok-y.ensures.tree t h))
     c.set.ensures.value c.set.ensures.range c.set.ensures.count
+
+pub returns-clause-pass : goal.returns-clause-pass
+returns-clause-pass c = interns_by (goes_more (goes_on c.in_ok-y.ensures.pass) (goes_on c.in_ok-value.ensures.pass)) tt
+
+pub returns-in_err-value-clause-pass : goal.returns-in_err-value-clause-pass
+returns-in_err-value-clause-pass c = interns_by (goes_more (goes_on c.in_ok-y.ensures.pass) (goes_on c.in_err-value.ensures.pass)) (search rules)

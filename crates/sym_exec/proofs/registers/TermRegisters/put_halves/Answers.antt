@@ -1,6 +1,7 @@
+use Rattle.std.proofs.Common.{rules}
 use Rattle.sym_exec.proofs.MipsTerms.{still_seen, still_tree}
 use Rattle.sym_exec.specs.Standing.{Hold, Known}
-use Rattle.sym_exec.proofs.Tickets.{later_more, hold_on, known_on, get_seen, get_tree}
+use Rattle.sym_exec.proofs.Tickets.{later_more, goes_on, goes_more, interns_by, hold_on, known_on, get_seen, get_tree}
 use Rattle.sym_exec.proofs.registers.TermRegisters.put_halves.Goals as goal
 
 pub op_term-requires-2-clause-a : goal.op_term-requires-2-clause-a
@@ -29,3 +30,9 @@ returns-clause-hold c = λ t h.
     let hi = still_tree c.in_ok-lo.ensures.pass.later.extends (c.in_ok-hi.ensures.tree _ _ x y) in
     let lo = c.in_ok-lo.ensures.tree _ _ (still_tree c.in_ok-hi.ensures.pass.later.extends x) (still_tree c.in_ok-hi.ensures.pass.later.extends y) in
     record { regs = all.regs; hi = hi; lo = lo }
+
+pub returns-clause-pass : goal.returns-clause-pass
+returns-clause-pass c = interns_by (goes_more (goes_on c.in_ok-hi.ensures.pass) (goes_on c.in_ok-lo.ensures.pass)) tt
+
+pub returns-in_err-lo-clause-pass : goal.returns-in_err-lo-clause-pass
+returns-in_err-lo-clause-pass c = interns_by (goes_more (goes_on c.in_ok-hi.ensures.pass) (goes_on c.in_err-lo.ensures.pass)) (search rules)

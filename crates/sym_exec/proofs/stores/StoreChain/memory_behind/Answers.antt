@@ -3,7 +3,7 @@ use Rattle.std.proofs.lemmas.List.{get_or_default}
 use Rattle.sym_exec.specs.MipsTerms.{HasTree}
 use Rattle.sym_exec.specs.Stores.{MakeMemory}
 use Rattle.sym_exec.proofs.MipsTerms.{tree_seen}
-use Rattle.sym_exec.proofs.Tickets.{goes_on, goes_more}
+use Rattle.sym_exec.proofs.Tickets.{goes_on, goes_more, interns_by}
 use Rattle.sym_exec.proofs.Chains.{chain-on, chain-memory, chain-store, chain-push, memory-on}
 use Rattle.sym_exec.proofs.stores.StoreChain.memory_behind.Goals as goal
 
@@ -41,3 +41,6 @@ returns-clause-tree c = λ t made.
     let there = subst (λ v. MakeMemory c.loop-self.terms.pass.now (take k v.items) t) (sym i.stores) here in
     subst (λ n. HasTree c.loop-self.terms.pass.now n t) (get_or_default c.loop-self.self.memories.items k 0 _ inside ∙ sym c.index.ensures)
     (i.chain.memories k inside t there)
+
+pub returns-in_err-memory-clause-pass : goal.returns-in_err-memory-clause-pass
+returns-in_err-memory-clause-pass c = interns_by (goes_more c.loop-self.invariant.goes (goes_on c.in_err-memory.ensures.pass)) (search rules)
