@@ -3,12 +3,12 @@
 ghost use Rattle.std.specs.Prelude.{All, IfOk};
 ghost use Rattle.block_text.specs.Shown.{IsShown};
 
-use crate::verdicts::CheckAnswer;
+use crate::verdicts::{CheckAnswer, LONGEST};
 use block_text::{
     ReadFault, WIDTH, Writer, block_place_text, order_place_text, page_of, put_exit, put_insts,
 };
 use block_validator::Place;
-use check_text::{Text, read};
+use check_text::{PairFault, Text, read};
 use mblock::{Block, Exit, Order, Unclean};
 use mips_isa::{Action, Plain, Reg};
 use std::alloc::{AllocError, Global};
@@ -187,11 +187,15 @@ fn put_differing(
 }
 
 /// Block and order of a text that has a verdict.
-fn spelled(alloc: Global, text: &[u8]) -> Option<Text> {
-    if text.len() > 1_048_576 {
-        return None;
+fn spelled(alloc: Global, text: &[u8]) -> Result<Option<Text>, AllocError> {
+    if text.len() > LONGEST {
+        return Ok(None);
     }
-    read(alloc, text).ok()
+    match read(alloc, text) {
+        Ok(text) => Ok(Some(text)),
+        Err(PairFault::Line(_)) => Ok(None),
+        Err(PairFault::NoMemory) => Err(AllocError),
+    }
 }
 
 /// What is said of a verdict on the text's block and order: printable lines, and none of `same`.
@@ -203,7 +207,7 @@ pub(crate) fn explained(
     ensures { IfOk result (λ page. All IsShown page.items) }
 {
     let mut out = Writer::new(alloc);
-    if let Some(spelled) = spelled(alloc, text) {
+    if let Some(spelled) = spelled(alloc, text)? {
         match answer {
             CheckAnswer::Same => {}
             CheckAnswer::Full => out.text("the table has no room for more than 16384 terms\n"),
