@@ -115,8 +115,12 @@ fn frames_of(alloc: Global, rtl: &Rtl, wanted: &Wanted) -> Result<Vec<Frame>, Al
     Ok(frames)
 }
 
-/// The listing of a program's image.
+/// The listing of a program's image, each block in its order; none where memory was refused to one of them, which would keep
+/// its own.
 fn listing_of(alloc: Global, scheduled: &Scheduled<'_>) -> Result<String, ShowFault> {
+    if scheduled.report().no_memory > 0 {
+        return Err(ShowFault::NoMemory);
+    }
     let image = assemble(alloc, scheduled)?;
     let listing = list(alloc, &image)?;
     Ok(listing)
