@@ -36,48 +36,28 @@ with_required_subcommand a = record a { top = record a.top { subcommand_required
 abbrev pub with_version : App → App
 with_version a = record a { top = record a.top { has_version = true } }
 
--- `check` before its option
-abbrev pub file_app : App
-file_app = with_rule (new_app (codes "check")) (several_rule (codes "FILE"))
-
 abbrev pub check_app : App
-check_app = with_rule file_app (flag_rule (codes "explain"))
-
--- `interp` before its options
-abbrev pub source_app : App
-source_app = with_rule (new_app (codes "interp")) (required_rule (codes "SOURCE"))
+check_app = with_rule (with_rule (new_app (codes "check")) (several_rule (codes "FILE"))) (flag_rule (codes "explain"))
 
 abbrev pub interp_app : App
-interp_app = with_rule (with_rule source_app (number_rule (codes "depth") 1 4096)) (number_rule (codes "steps") 0 4294967295)
-
--- `build` before its options
-abbrev pub files_app : App
-files_app = with_rule (with_rule (new_app (codes "build")) (required_rule (codes "SOURCE"))) (required_rule (codes "IMAGE"))
-
--- `build` before the options of its phase
-abbrev pub plain_app : App
-plain_app = with_rule (with_rule files_app (flag_rule (codes "plain"))) (number_rule (codes "depth") 1 4096)
+interp_app = with_rule (with_rule (with_rule (new_app (codes "interp")) (required_rule (codes "SOURCE")))
+    (number_rule (codes "depth") 1 4096)) (number_rule (codes "steps") 0 4294967295)
 
 abbrev pub build_app : App
-build_app = with_rule (with_rule (with_rule plain_app (number_rule (codes "workers") 1 MAX_PASSES))
+build_app = with_rule (with_rule (with_rule (with_rule (with_rule (with_rule (with_rule (new_app (codes "build"))
+    (required_rule (codes "SOURCE"))) (required_rule (codes "IMAGE"))) (flag_rule (codes "plain")))
+    (number_rule (codes "depth") 1 4096)) (number_rule (codes "workers") 1 MAX_PASSES))
     (number_rule (codes "nodes") 1 MAX_NODES)) (number_rule (codes "heads") 1 MAX_HEADS)
 
 abbrev pub run_app : App
 run_app = with_rule (with_rule (new_app (codes "run")) (required_rule (codes "IMAGE"))) (number_rule (codes "steps") 0 4294967295)
 
--- `list` before its option
-abbrev pub listed_app : App
-listed_app = with_rule (new_app (codes "list")) (required_rule (codes "IMAGE"))
-
 abbrev pub list_app : App
-list_app = with_rule listed_app (flag_rule (codes "asm"))
-
--- `show` before its options
-abbrev pub shown_app : App
-shown_app = with_rule (new_app (codes "show")) (required_rule (codes "SOURCE"))
+list_app = with_rule (with_rule (new_app (codes "list")) (required_rule (codes "IMAGE"))) (flag_rule (codes "asm"))
 
 abbrev pub show_app : App
-show_app = with_rule (with_rule (with_rule shown_app (text_rule (codes "stage"))) (text_rule (codes "function"))) (flag_rule (codes "dot"))
+show_app = with_rule (with_rule (with_rule (with_rule (new_app (codes "show")) (required_rule (codes "SOURCE")))
+    (text_rule (codes "stage"))) (text_rule (codes "function"))) (flag_rule (codes "dot"))
 
 -- `mcc` with its first command, with two, with three, with four, with five
 abbrev pub checking_app : App

@@ -1,1 +1,3 @@
 pub mod Commands
+-- for private functions
+pub mod Parts

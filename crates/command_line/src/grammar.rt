@@ -2,12 +2,10 @@
 
 ghost use Rattle.std.specs.Prelude.{◌≡◌, false, IfOk};
 ghost use Rattle.clap.specs.Words.{app_of};
-ghost use Rattle.command_line.specs.Commands.{build_app, building_app, check_app, checking_app, file_app, files_app};
-ghost use Rattle.command_line.specs.Commands.{interp_app, interpreting_app};
-ghost use Rattle.command_line.specs.Commands.{list_app, listed_app, listing_app, mcc_app, plain_app};
-ghost use Rattle.command_line.specs.Commands.{run_app, running_app, show_app, shown_app, source_app};
+ghost use Rattle.command_line.specs.Commands.{build_app, building_app, check_app, checking_app, interp_app, interpreting_app};
+ghost use Rattle.command_line.specs.Commands.{list_app, listing_app, mcc_app, run_app, running_app, show_app};
 
-use crate::parts::CommandBuilder;
+use crate::parts::{CommandBuilder, Form, Part, command_of};
 use clap::Command as CommandLine;
 use std::alloc::{AllocError, Global};
 use term_table::{MAX_HEADS, MAX_NODES, MAX_PASSES};
@@ -137,128 +135,199 @@ Examples: mcc check crates/example_files/data/slot-filled.check
           mcc interp crates/example_files/data/squares.c
           mcc build crates/example_files/data/squares.c squares.image --plain";
 
-fn file_command<'a, C: CommandBuilder<'a>>(alloc: Global) -> Result<C, AllocError>
-    ensures app { IfOk result (λ c. C.app c ≡ file_app) }
-    ensures local { IfOk result (λ c. C.has_globals c ≡ false) }
-{
-    let command = C::named(
-        alloc,
-        "check",
-        "Says whether an order may stand for a block",
-        CHECK_HELP,
-    );
-    command.several(alloc, "FILE", "The check text, or several")
-}
+const SOURCE: Part<'static> = Part {
+    id: "SOURCE",
+    form: Form::Required,
+    about: "The C program",
+};
+
+const DEPTH: Part<'static> = Part {
+    id: "depth",
+    form: Form::Number { low: 1, high: 4096 },
+    about: DEPTH_HELP,
+};
+
+const CHECK: &[Part<'static>] = &[
+    Part {
+        id: "FILE",
+        form: Form::Several,
+        about: "The check text, or several",
+    },
+    Part {
+        id: "explain",
+        form: Form::Flag,
+        about: EXPLAIN_HELP,
+    },
+];
+
+const INTERP: &[Part<'static>] = &[
+    SOURCE,
+    DEPTH,
+    Part {
+        id: "steps",
+        form: Form::Number {
+            low: 0,
+            high: 4294967295,
+        },
+        about: STEPS_HELP,
+    },
+];
+
+const BUILD: &[Part<'static>] = &[
+    SOURCE,
+    Part {
+        id: "IMAGE",
+        form: Form::Required,
+        about: "The image, which is written",
+    },
+    Part {
+        id: "plain",
+        form: Form::Flag,
+        about: PLAIN_HELP,
+    },
+    DEPTH,
+    Part {
+        id: "workers",
+        form: Form::Number {
+            low: 1,
+            high: MAX_PASSES,
+        },
+        about: WORKERS_HELP,
+    },
+    Part {
+        id: "nodes",
+        form: Form::Number {
+            low: 1,
+            high: MAX_NODES,
+        },
+        about: NODES_HELP,
+    },
+    Part {
+        id: "heads",
+        form: Form::Number {
+            low: 1,
+            high: MAX_HEADS,
+        },
+        about: HEADS_HELP,
+    },
+];
+
+const IMAGE: Part<'static> = Part {
+    id: "IMAGE",
+    form: Form::Required,
+    about: "The image",
+};
+
+const RUN: &[Part<'static>] = &[
+    IMAGE,
+    Part {
+        id: "steps",
+        form: Form::Number {
+            low: 0,
+            high: 4294967295,
+        },
+        about: WORDS_HELP,
+    },
+];
+
+const LIST: &[Part<'static>] = &[
+    IMAGE,
+    Part {
+        id: "asm",
+        form: Form::Flag,
+        about: ASM_HELP,
+    },
+];
+
+const SHOW: &[Part<'static>] = &[
+    SOURCE,
+    Part {
+        id: "stage",
+        form: Form::Text,
+        about: STAGE_HELP,
+    },
+    Part {
+        id: "function",
+        form: Form::Text,
+        about: FUNCTION_HELP,
+    },
+    Part {
+        id: "dot",
+        form: Form::Flag,
+        about: DOT_HELP,
+    },
+];
 
 fn check_command<'a, C: CommandBuilder<'a>>(alloc: Global) -> Result<C, AllocError>
     ensures app { IfOk result (λ c. C.app c ≡ check_app) }
     ensures local { IfOk result (λ c. C.has_globals c ≡ false) }
 {
-    let command: C = file_command(alloc)?;
-    command.flag(alloc, "explain", EXPLAIN_HELP)
-}
-
-fn source_command<'a, C: CommandBuilder<'a>>(alloc: Global) -> Result<C, AllocError>
-    ensures app { IfOk result (λ c. C.app c ≡ source_app) }
-    ensures local { IfOk result (λ c. C.has_globals c ≡ false) }
-{
-    let command = C::named(
+    command_of(
         alloc,
-        "interp",
-        "Runs a C program by its meaning",
-        INTERP_HELP,
-    );
-    command.required(alloc, "SOURCE", "The C program")
+        "check",
+        "Says whether an order may stand for a block",
+        CHECK_HELP,
+        CHECK,
+    )
 }
 
 fn interp_command<'a, C: CommandBuilder<'a>>(alloc: Global) -> Result<C, AllocError>
     ensures app { IfOk result (λ c. C.app c ≡ interp_app) }
     ensures local { IfOk result (λ c. C.has_globals c ≡ false) }
 {
-    let command: C = source_command(alloc)?;
-    let command = command.number(alloc, "depth", 1, 4096, DEPTH_HELP)?;
-    command.number(alloc, "steps", 0, 4294967295, STEPS_HELP)
-}
-
-fn files_command<'a, C: CommandBuilder<'a>>(alloc: Global) -> Result<C, AllocError>
-    ensures app { IfOk result (λ c. C.app c ≡ files_app) }
-    ensures local { IfOk result (λ c. C.has_globals c ≡ false) }
-{
-    let command = C::named(
+    command_of(
         alloc,
-        "build",
-        "Compiles a C program to an image for MIPS I",
-        BUILD_HELP,
-    );
-    let command = command.required(alloc, "SOURCE", "The C program")?;
-    command.required(alloc, "IMAGE", "The image, which is written")
-}
-
-fn plain_command<'a, C: CommandBuilder<'a>>(alloc: Global) -> Result<C, AllocError>
-    ensures app { IfOk result (λ c. C.app c ≡ plain_app) }
-    ensures local { IfOk result (λ c. C.has_globals c ≡ false) }
-{
-    let command: C = files_command(alloc)?;
-    let command = command.flag(alloc, "plain", PLAIN_HELP)?;
-    command.number(alloc, "depth", 1, 4096, DEPTH_HELP)
+        "interp",
+        "Runs a C program by its meaning",
+        INTERP_HELP,
+        INTERP,
+    )
 }
 
 fn build_command<'a, C: CommandBuilder<'a>>(alloc: Global) -> Result<C, AllocError>
     ensures app { IfOk result (λ c. C.app c ≡ build_app) }
     ensures local { IfOk result (λ c. C.has_globals c ≡ false) }
 {
-    let command: C = plain_command(alloc)?;
-    let command = command.number(alloc, "workers", 1, MAX_PASSES, WORKERS_HELP)?;
-    let command = command.number(alloc, "nodes", 1, MAX_NODES, NODES_HELP)?;
-    command.number(alloc, "heads", 1, MAX_HEADS, HEADS_HELP)
+    command_of(
+        alloc,
+        "build",
+        "Compiles a C program to an image for MIPS I",
+        BUILD_HELP,
+        BUILD,
+    )
 }
 
 fn run_command<'a, C: CommandBuilder<'a>>(alloc: Global) -> Result<C, AllocError>
     ensures app { IfOk result (λ c. C.app c ≡ run_app) }
     ensures local { IfOk result (λ c. C.has_globals c ≡ false) }
 {
-    let command = C::named(alloc, "run", "Runs an image on the machine", RUN_HELP);
-    let command = command.required(alloc, "IMAGE", "The image")?;
-    command.number(alloc, "steps", 0, 4294967295, WORDS_HELP)
-}
-
-fn listed_command<'a, C: CommandBuilder<'a>>(alloc: Global) -> Result<C, AllocError>
-    ensures app { IfOk result (λ c. C.app c ≡ listed_app) }
-    ensures local { IfOk result (λ c. C.has_globals c ≡ false) }
-{
-    let command = C::named(alloc, "list", "Prints the listing of an image", LIST_HELP);
-    command.required(alloc, "IMAGE", "The image")
+    command_of(alloc, "run", "Runs an image on the machine", RUN_HELP, RUN)
 }
 
 fn list_command<'a, C: CommandBuilder<'a>>(alloc: Global) -> Result<C, AllocError>
     ensures app { IfOk result (λ c. C.app c ≡ list_app) }
     ensures local { IfOk result (λ c. C.has_globals c ≡ false) }
 {
-    let command: C = listed_command(alloc)?;
-    command.flag(alloc, "asm", ASM_HELP)
-}
-
-fn shown_command<'a, C: CommandBuilder<'a>>(alloc: Global) -> Result<C, AllocError>
-    ensures app { IfOk result (λ c. C.app c ≡ shown_app) }
-    ensures local { IfOk result (λ c. C.has_globals c ≡ false) }
-{
-    let command = C::named(
+    command_of(
         alloc,
-        "show",
-        "Shows what becomes of a C program, stage by stage",
-        SHOW_HELP,
-    );
-    command.required(alloc, "SOURCE", "The C program")
+        "list",
+        "Prints the listing of an image",
+        LIST_HELP,
+        LIST,
+    )
 }
 
 fn show_command<'a, C: CommandBuilder<'a>>(alloc: Global) -> Result<C, AllocError>
     ensures app { IfOk result (λ c. C.app c ≡ show_app) }
     ensures local { IfOk result (λ c. C.has_globals c ≡ false) }
 {
-    let command: C = shown_command(alloc)?;
-    let command = command.text(alloc, "stage", STAGE_HELP)?;
-    let command = command.text(alloc, "function", FUNCTION_HELP)?;
-    command.flag(alloc, "dot", DOT_HELP)
+    command_of(
+        alloc,
+        "show",
+        "Shows what becomes of a C program, stage by stage",
+        SHOW_HELP,
+        SHOW,
+    )
 }
 
 /// `mcc` with its first command.

@@ -1,18 +1,42 @@
 // The parts of a command line, as the grammar puts them together.
 
 ghost use Rattle.std.specs.Prelude.{◌≡◌, Bool, false, IfOk};
-ghost use Rattle.clap.specs.declared.builder.command.Command.TheViews.{out-Command};
 ghost use Rattle.clap.specs.Words.{App, app_of, new_app, rule_of, with_rule, with_subcommand};
+ghost use Rattle.clap.specs.declared.builder.command.Command.TheViews.{out-Command};
 ghost use Rattle.command_line.specs.Commands.{flag_rule, number_rule, required_rule, several_rule, text_rule};
 ghost use Rattle.command_line.specs.Commands.{with_required_subcommand, with_version};
+ghost use Rattle.command_line.specs.Parts.{app_with, rule_for};
 
 use clap::builder::ValueParser;
 use clap::{Arg, ArgAction, Command as CommandLine};
 use std::alloc::{AllocError, Global};
 
+/// How an argument is given.
+#[derive(Clone, Copy)]
+pub(crate) enum Form {
+    /// By its place, once: it must be there.
+    Required,
+    /// By its place, one or more of them.
+    Several,
+    /// `--id N` with N from low to high.
+    Number { low: u64, high: u64 },
+    /// `--id`.
+    Flag,
+    /// `--id TEXT`.
+    Text,
+}
+
+/// An argument with its help.
+#[derive(Clone, Copy)]
+pub(crate) struct Part<'a> {
+    pub(crate) id: &'a str,
+    pub(crate) form: Form,
+    pub(crate) about: &'a str,
+}
+
 /// A command line that is built part by part. The grammar is written over any such type, so that clap's, which has some fifty
 /// fields, is one place for the borrow checker there.
-pub trait CommandBuilder<'a>: Sized + Drop {
+pub(crate) trait CommandBuilder<'a>: Sized + Drop {
     ghost app: { Self → App };
 
     ghost has_globals: { Self → Bool };
@@ -22,36 +46,9 @@ pub trait CommandBuilder<'a>: Sized + Drop {
         ensures app { app result ≡ new_app name.entry.now }
         ensures local { has_globals result ≡ false };
 
-    /// With an argument by its place, which must be there.
-    fn required(self, alloc: Global, id: &'a str, about: &'a str) -> Result<Self, AllocError>
-        ensures app { IfOk result (λ c. app c ≡ with_rule (app self) (required_rule id.entry.now)) }
-        ensures local { has_globals self ≡ false → IfOk result (λ c. has_globals c ≡ false) };
-
-    /// With arguments by their place, one or more.
-    fn several(self, alloc: Global, id: &'a str, about: &'a str) -> Result<Self, AllocError>
-        ensures app { IfOk result (λ c. app c ≡ with_rule (app self) (several_rule id.entry.now)) }
-        ensures local { has_globals self ≡ false → IfOk result (λ c. has_globals c ≡ false) };
-
-    /// With the option `--id N` with N from low to high.
-    fn number(
-        self,
-        alloc: Global,
-        id: &'a str,
-        low: u64,
-        high: u64,
-        about: &'a str,
-    ) -> Result<Self, AllocError>
-        ensures app { IfOk result (λ c. app c ≡ with_rule (app self) (number_rule id.entry.now low high)) }
-        ensures local { has_globals self ≡ false → IfOk result (λ c. has_globals c ≡ false) };
-
-    /// With the option `--id`.
-    fn flag(self, alloc: Global, id: &'a str, about: &'a str) -> Result<Self, AllocError>
-        ensures app { IfOk result (λ c. app c ≡ with_rule (app self) (flag_rule id.entry.now)) }
-        ensures local { has_globals self ≡ false → IfOk result (λ c. has_globals c ≡ false) };
-
-    /// With the option `--id TEXT`.
-    fn text(self, alloc: Global, id: &'a str, about: &'a str) -> Result<Self, AllocError>
-        ensures app { IfOk result (λ c. app c ≡ with_rule (app self) (text_rule id.entry.now)) }
+    /// With an argument.
+    fn with(self, alloc: Global, part: &Part<'a>) -> Result<Self, AllocError>
+        ensures app { IfOk result (λ c. app c ≡ with_rule (app self) (rule_for part.now)) }
         ensures local { has_globals self ≡ false → IfOk result (λ c. has_globals c ≡ false) };
 
     /// The command, which is nothing without a subcommand.
@@ -77,31 +74,8 @@ impl<'a> CommandBuilder<'a> for CommandLine<'a> {
         CommandLine::new(alloc, name).about(about).after_help(help)
     }
 
-    fn required(self, alloc: Global, id: &'a str, about: &'a str) -> Result<Self, AllocError> {
-        self.arg(required(alloc, id, about))
-    }
-
-    fn several(self, alloc: Global, id: &'a str, about: &'a str) -> Result<Self, AllocError> {
-        self.arg(several(alloc, id, about))
-    }
-
-    fn number(
-        self,
-        alloc: Global,
-        id: &'a str,
-        low: u64,
-        high: u64,
-        about: &'a str,
-    ) -> Result<Self, AllocError> {
-        self.arg(number(alloc, id, low, high, about))
-    }
-
-    fn flag(self, alloc: Global, id: &'a str, about: &'a str) -> Result<Self, AllocError> {
-        self.arg(flag(alloc, id, about))
-    }
-
-    fn text(self, alloc: Global, id: &'a str, about: &'a str) -> Result<Self, AllocError> {
-        self.arg(text(alloc, id, about))
+    fn with(self, alloc: Global, part: &Part<'a>) -> Result<Self, AllocError> {
+        self.arg(argument(alloc, part))
     }
 
     fn asking(self) -> Self {
@@ -114,6 +88,39 @@ impl<'a> CommandBuilder<'a> for CommandLine<'a> {
 
     fn over(self, command: Self) -> Result<Self, AllocError> {
         self.subcommand(command)
+    }
+}
+
+/// A command with its arguments.
+pub(crate) fn command_of<'a, C: CommandBuilder<'a>>(
+    alloc: Global,
+    name: &'a str,
+    about: &'a str,
+    help: &'a str,
+    parts: &[Part<'a>],
+) -> Result<C, AllocError>
+    ensures app { IfOk result (λ c. C.app c ≡ app_with (new_app name.entry.now) parts.now) }
+    ensures local { IfOk result (λ c. C.has_globals c ≡ false) }
+{
+    let mut command = C::named(alloc, name, about, help);
+    for part in parts {
+        command = command.with(alloc, part)?;
+    }
+    Ok(command)
+}
+
+/// An argument, as clap has it.
+fn argument<'a>(alloc: Global, part: &Part<'a>) -> Arg<'a>
+    ensures rule { rule_of result ≡ rule_for part.now }
+    ensures local { result.global ≡ false }
+{
+    let (id, about) = (part.id, part.about);
+    match part.form {
+        Form::Required => required(alloc, id, about),
+        Form::Several => several(alloc, id, about),
+        Form::Number { low, high } => number(alloc, id, low, high, about),
+        Form::Flag => flag(alloc, id, about),
+        Form::Text => text(alloc, id, about),
     }
 }
 
