@@ -53,7 +53,7 @@ fn lengths_of(alloc: Global, pieces: &[Block]) -> Result<Vec<usize>, AllocError>
 fn lengths(alloc: Global, count: i16) -> Result<Vec<usize>, SelectFault> {
     let insts = insts(alloc, count)?;
     let blocks = alone(alloc, insts)?;
-    let pieces = split(alloc, blocks.as_slice())?;
+    let pieces = split(alloc, blocks)?;
     Ok(lengths_of(alloc, pieces.as_slice())?)
 }
 
@@ -99,7 +99,7 @@ fn exits_of(alloc: Global, pieces: &[Block]) -> Result<Vec<Exit>, AllocError> {
 #[test]
 fn targets_are_first_pieces(rt: HostRuntime) -> Result<(), Fail> {
     let blocks = three(rt.alloc())?;
-    let pieces = split(rt.alloc(), blocks.as_slice())?;
+    let pieces = split(rt.alloc(), blocks)?;
     let exits = exits_of(rt.alloc(), pieces.as_slice())?;
     let call = Exit::Call {
         function: number(5),
@@ -157,7 +157,7 @@ fn counting(alloc: Global, count: usize) -> Result<Unit, SelectFault> {
     let insts = additions(alloc, count)?;
     let blocks = alone(alloc, insts)?;
     let owner = own(alloc)?;
-    split_unit(alloc, blocks.as_slice(), owner.as_slice(), Vec::new(alloc))
+    split_unit(alloc, blocks, owner.as_slice(), Vec::new(alloc))
 }
 
 // Whether the image has printed nothing by so many words, and has this end.
@@ -178,15 +178,20 @@ fn a_long_block_runs_in_its_pieces(rt: HostRuntime) -> Result<(), Fail> {
     Ok(())
 }
 
+// So many blocks without instructions.
+fn empty_blocks(alloc: Global, count: usize) -> Result<Vec<LongBlock>, AllocError> {
+    let mut blocks = Vec::new(alloc);
+    for _ in 0..count {
+        blocks.push(LongBlock::new(Vec::new(alloc), Exit::Halt))?;
+    }
+    Ok(blocks)
+}
+
 #[test]
 fn more_pieces_than_a_unit_has_are_refused(rt: HostRuntime) -> Result<(), Fail> {
-    let mut blocks = Vec::new(rt.alloc());
-    for _ in 0..1_048_576 {
-        blocks.push(LongBlock::new(Vec::new(rt.alloc()), Exit::Halt))?;
-    }
-    assert!(rt; split(rt.alloc(), blocks.as_slice()).is_ok());
-    blocks.push(LongBlock::new(Vec::new(rt.alloc()), Exit::Halt))?;
-    let fault = split(rt.alloc(), blocks.as_slice()).err();
-    assert!(rt; fault == Some(SelectFault::Limit));
+    let most = empty_blocks(rt.alloc(), 1_048_576)?;
+    assert!(rt; split(rt.alloc(), most).is_ok());
+    let more = empty_blocks(rt.alloc(), 1_048_577)?;
+    assert!(rt; split(rt.alloc(), more).err() == Some(SelectFault::Limit));
     Ok(())
 }

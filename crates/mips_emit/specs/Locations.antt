@@ -1,5 +1,5 @@
 -- Where pseudo-registers are, and which words they are known to hold.
-use Rattle.std.specs.Prelude.{◌≡◌, length, ℕ, ◌+◌, ◌-◌, ◌*◌, ◌%◌, ◌≤◌, Option, Some, None, List, [], ◌∷◌, take, nat_eq, if◌then◌else◌}
+use Rattle.std.specs.Prelude.{ℕ, ◌+◌, ◌-◌, ◌*◌, ◌%◌, ◌≤◌, Option, Some, None, List, [], ◌∷◌, take, nat_eq, if◌then◌else◌}
 use Rattle.std.specs.Prelude.{slice_get}
 use Rattle.words.specs.Words.{wrap}
 use Rattle.runs.specs.Stores.{Places, places_with, chain}
@@ -97,14 +97,9 @@ told (Some o) = o
 abbrev pub word_in : List (Option ℕ) → Places
 word_in table q = told (slice_get table q)
 
--- a table of so many places with no word
-pub record IsEmpty (n : ℕ) (table : List (Option ℕ)) : Type 0 where
-  pub long : length table ≡ n
-  pub none : (q : ℕ) → word_in table q ≡ None
-
 -- the same as the code has it
 abbrev pub facts_of : Knowledge → Facts
-facts_of k = record { known = k.known.items; lazy = word_in k.lazy.items }
+facts_of k = record { known = k.known.items; lazy = word_in k.lazy }
 
 -- at the head of a block
 abbrev pub no_facts : Facts

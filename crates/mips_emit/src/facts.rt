@@ -1,10 +1,10 @@
 // Words that pseudo-registers are known to hold, and what the last instruction leaves for an exit.
 
-ghost use Rattle.std.specs.Prelude.{◌≡◌, ◌++◌, ◌∷◌, [], None, OnOk, OnErr, IfOk, Some, length};
+ghost use Rattle.std.specs.Prelude.{◌≡◌, OnOk, OnErr, IfOk, Some};
 ghost use Rattle.mips_emit.specs.Frames.{IsReachable};
 ghost use Rattle.runs.specs.Stores.{places_with};
 ghost use Rattle.mips_homes.specs.HomedRun.{is_lasting};
-ghost use Rattle.mips_emit.specs.Locations.{known_of, known_in, facts_of, no_facts, word_in, IsEmpty, lazy_at, lazy_const, lazy_none};
+ghost use Rattle.mips_emit.specs.Locations.{known_of, known_in, facts_of, no_facts, word_in, lazy_at, lazy_const, lazy_none};
 ghost use Rattle.mips_emit.specs.Locations.{with_fact, learned, in_slot, fresh_of};
 ghost use Rattle.mips_emit.specs.Comparisons.{last_with};
 ghost use Rattle.mips_emit.specs.Locations.{locations, operand, last_operand, FitsSource};
@@ -37,40 +37,25 @@ pub struct Last {
 #[derive(Drop)]
 pub struct Knowledge {
     pub known: Vec<Fact>,
-    pub lazy: Vec<Option<u32>>,
-}
-
-// One more place with no word.
-fn push_none(table: &mut Vec<Option<u32>>) -> Result<(), AllocError>
-    ensures { OnOk result (table.new.items ≡ table.old.items ++ None ∷ []) }
-{
-    let none: Option<u32> = None;
-    table.push(none)?;
-    Ok(())
-}
-
-// A table of 32 places with no word.
-fn empty_table(alloc: Global) -> Result<Vec<Option<u32>>, AllocError>
-    ensures { IfOk result (λ t. IsEmpty 32 t.items) }
-{
-    let mut table = Vec::new(alloc);
-    for i in 0..32usize {
-        push_none(&mut table)?;
-    }
-    Ok(table)
+    pub lazy: [Option<u32>; 32],
 }
 
 impl Knowledge {
     /// Nothing is known.
     pub fn none(alloc: Global) -> Result<Knowledge, AllocError>
-        ensures long { IfOk result (λ k. length k.lazy.items ≡ 32) }
-        ensures is { IfOk result (λ k. facts_of k ≡ no_facts) }
+        ensures { IfOk result (λ k. facts_of k ≡ no_facts) }
     {
-        let lazy = empty_table(alloc)?;
         Ok(Knowledge {
             known: Vec::new(alloc),
-            lazy,
+            lazy: [None; 32],
         })
+    }
+    /// Nothing is known.any more, as at the head of another block.
+    pub fn clear(&mut self)
+        ensures { facts_of self.new ≡ no_facts }
+    {
+        self.known.clear();
+        self.lazy = [None; 32];
     }
 }
 
@@ -132,19 +117,15 @@ pub(crate) fn is_lasting(r: NonzeroReg) -> bool
 }
 
 // What a register should hold but doesn't yet.
-fn put_lazy(table: &mut Vec<Option<u32>>, r: NonzeroReg, word: Option<u32>)
-    requires { length table.old.items ≡ 32 }
-    ensures long { length table.new.items ≡ 32 }
-    ensures is { word_in table.new.items ≡ places_with (word_in table.old.items) r word }
+fn put_lazy(table: &mut [Option<u32>; 32], r: NonzeroReg, word: Option<u32>)
+    ensures { word_in table.new ≡ places_with (word_in table.old) r word }
 {
     table[r.index() as usize] = word;
 }
 
 // A constant isn't put into a passing register.
-fn tell_lazy(table: &mut Vec<Option<u32>>, place: Option<Location>, word: u32)
-    requires { length table.old.items ≡ 32 }
-    ensures long { length table.new.items ≡ 32 }
-    ensures is { word_in table.new.items ≡ lazy_const place word (word_in table.old.items) }
+fn tell_lazy(table: &mut [Option<u32>; 32], place: Option<Location>, word: u32)
+    ensures { word_in table.new ≡ lazy_const place word (word_in table.old) }
 {
     match place {
         None => {}
@@ -159,10 +140,8 @@ fn tell_lazy(table: &mut Vec<Option<u32>>, place: Option<Location>, word: u32)
 }
 
 // What is put anywhere else is there.
-fn clear_lazy(table: &mut Vec<Option<u32>>, place: Option<Location>)
-    requires { length table.old.items ≡ 32 }
-    ensures long { length table.new.items ≡ 32 }
-    ensures is { word_in table.new.items ≡ lazy_none place (word_in table.old.items) }
+fn clear_lazy(table: &mut [Option<u32>; 32], place: Option<Location>)
+    ensures { word_in table.new ≡ lazy_none place (word_in table.old) }
 {
     match place {
         None => {}
@@ -186,8 +165,6 @@ fn put_fact(facts: &mut Vec<Fact>, register: Register, word: Option<u32>) -> Res
 /// What is known after an instruction; an Err is refused memory, and leaves what was known.
 pub(crate) fn learn(facts: &mut Knowledge, frame: &Frame, inst: &RInst) -> Result<(), AllocError>
     requires frame { IsReachable frame.now }
-    requires long { length facts.old.lazy.items ≡ 32 }
-    ensures long { length facts.new.lazy.items ≡ 32 }
     ensures kept { OnErr result (facts_of facts.new ≡ facts_of facts.old) }
     ensures is { OnOk result (facts_of facts.new ≡ learned (locations frame.now) inst.now (facts_of facts.old)) }
 {
@@ -216,7 +193,7 @@ pub(crate) fn operand(facts: &Knowledge, frame: &Frame, x: Register) -> Source
     ensures value { result ≡ operand (locations frame.now) (facts_of facts.now) x }
     ensures fits { FitsSource result }
 {
-    match lazy_at(facts.lazy.as_slice(), locate(frame, x)) {
+    match lazy_at(&facts.lazy, locate(frame, x)) {
         Some(word) => word_source(word),
         None => source_of(known_word(facts, x), locate(frame, x)),
     }

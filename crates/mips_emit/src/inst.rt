@@ -259,14 +259,12 @@ pub fn emit_insts(
     insts: &[RInst],
 ) -> Result<Last, AllocError>
     requires frame { IsReachable frame.now }
-    requires long { length facts.old.lazy.items ≡ 32 }
     requires few { AreStarts starts.now }
     requires named { All (IsInst (length starts.now)) insts.now }
     ensures code { OnOk result (code.new.items ≡ code.old.items
         ++ code_of_insts globals.now starts.now frame.now asked (facts_of facts.old) insts.now) }
     ensures last { IfOk result (λ l. l ≡ last_after (locations frame.now) asked (facts_of facts.old) insts.now no_last) }
     ensures known { OnOk result (facts_of facts.new ≡ known_after (locations frame.now) insts.now (facts_of facts.old)) }
-    ensures long { length facts.new.lazy.items ≡ 32 }
     ensures left { OnErr result (StopsAmong globals.now starts.now frame.now asked insts.now (facts_of facts.old)
         (facts_of facts.new) code.old.items code.new.items) }
 {

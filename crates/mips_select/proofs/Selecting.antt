@@ -119,9 +119,9 @@ pub many_functions : (h : Homed) (funcs : List RFunc) → ArePlaced h → funcs 
     → UNIT_BLOCKS < length (unit_for h).blocks
 many_functions h funcs ok f_is many = (let pieces = many_pieces h ok in let same = ap functions_size f_is in omega (arith, pieces, same, many))
 
-pub many_cut : (h : Homed) (blocks blocks' : List BlockParts) → blocks ≡ program_blocks h → blocks' ≡ blocks → UNIT_BLOCKS < length (split_blocks blocks')
+pub many_cut : (h : Homed) (blocks : List BlockParts) → blocks ≡ program_blocks h → UNIT_BLOCKS < length (split_blocks blocks)
     → UNIT_BLOCKS < length (unit_for h).blocks
-many_cut h blocks blocks' is is' many = subst (λ bs. UNIT_BLOCKS < length (split_blocks bs)) (is' ∙ is) many
+many_cut h blocks is many = subst (λ bs. UNIT_BLOCKS < length (split_blocks bs)) is many
 
 pub many_counted : (h : Homed) (blocks : List BlockParts) → blocks ≡ program_blocks h → UNIT_BLOCKS < total BLOCK_INSTS blocks
     → UNIT_BLOCKS < length (unit_for h).blocks
@@ -133,19 +133,19 @@ many_counted h blocks is many =
 pub beyond : (h : Homed) (p : Program) → h.rtl.now ≡ p → ArePlaced h → UNIT_BLOCKS < length (unit_for h).blocks → IsBeyond p
 beyond h p lent ok many = record { homed = h; lent = lent; choices = ok; many = many }
 
-pub blocks_well : (h : Homed) (blocks blocks' : List BlockParts) (owners owners' : List ℕ) → IsProgram h.rtl.now → ArePlaced h → blocks ≡ program_blocks h
-    → blocks' ≡ blocks → owners ≡ owners_for (h.rtl.now).functions → owners' ≡ owners → AreLinked blocks' × AreOwners blocks' owners'
-blocks_well h blocks blocks' owners owners' program ok is is' o_is o_is' =
+pub blocks_well : (h : Homed) (blocks : List BlockParts) (owners owners' : List ℕ) → IsProgram h.rtl.now → ArePlaced h → blocks ≡ program_blocks h
+    → owners ≡ owners_for (h.rtl.now).functions → owners' ≡ owners → AreLinked blocks × AreOwners blocks owners'
+blocks_well h blocks owners owners' program ok is o_is o_is' =
     let well = program_well h program ok.long in
-    subst (λ bs. AreLinked bs × AreOwners bs owners') (sym (is' ∙ is))
+    subst (λ bs. AreLinked bs × AreOwners bs owners') (sym is)
     (subst (λ os. AreLinked (program_blocks h) × AreOwners (program_blocks h) os) (sym (o_is' ∙ o_is)) well)
 
 -- what is put together is the unit of the program over its homes
-pub unit_made : (h : Homed) (u : UnitParts) (blocks blocks' : List BlockParts) (owners owners' bytes : List ℕ) (globals : List RGlobal)
-    → blocks ≡ program_blocks h → blocks' ≡ blocks → owners ≡ owners_for (h.rtl.now).functions → owners' ≡ owners → globals ≡ (h.rtl.now).globals
-    → bytes ≡ data_bytes globals → u ≡ unit_parts (split_blocks blocks') (split_owners blocks' owners') bytes → u ≡ unit_for h
-unit_made h u blocks blocks' owners owners' bytes globals is is' o_is o_is' g_is b_is u_is =
-    u_is ∙ ap (λ bs. unit_parts (split_blocks bs) (split_owners bs owners') bytes) (is' ∙ is)
+pub unit_made : (h : Homed) (u : UnitParts) (blocks : List BlockParts) (owners owners' bytes : List ℕ) (globals : List RGlobal)
+    → blocks ≡ program_blocks h → owners ≡ owners_for (h.rtl.now).functions → owners' ≡ owners → globals ≡ (h.rtl.now).globals
+    → bytes ≡ data_bytes globals → u ≡ unit_parts (split_blocks blocks) (split_owners blocks owners') bytes → u ≡ unit_for h
+unit_made h u blocks owners owners' bytes globals is o_is o_is' g_is b_is u_is =
+    u_is ∙ ap (λ bs. unit_parts (split_blocks bs) (split_owners bs owners') bytes) is
     ∙ ap (λ os. unit_parts (split_blocks (program_blocks h)) (split_owners (program_blocks h) os) bytes) (o_is' ∙ o_is)
     ∙ ap (unit_parts (split_blocks (program_blocks h)) (split_owners (program_blocks h) (owners_for (h.rtl.now).functions)))
     (b_is ∙ ap data_bytes g_is)

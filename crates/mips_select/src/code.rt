@@ -57,6 +57,7 @@ fn emit_head(
 // The block for a block.
 fn block_for(
     alloc: Global,
+    facts: &mut Knowledge,
     linkage: &Linkage<'_>,
     plan: &Plan<'_>,
     head: Head,
@@ -73,13 +74,13 @@ fn block_for(
 {
     let body = block.insts.as_slice();
     let mut insts = Vec::new(alloc);
-    let mut facts = Knowledge::none(alloc)?;
+    facts.clear();
     let frame = plan.frame;
     emit_head(&mut insts, frame, plan.leaf, plan.parameters, head)?;
     let asked = asked_of(&block.exit);
     let last = emit_insts(
         &mut insts,
-        &mut facts,
+        facts,
         linkage.globals,
         linkage.starts,
         frame,
@@ -89,7 +90,7 @@ fn block_for(
     let fresh = last.fresh;
     let comparison: Option<Comparison> = last.comparison;
     let last = Last { fresh, comparison };
-    let exit = emit_exit(&mut insts, &facts, &last, linkage, plan, next, &block.exit)?;
+    let exit = emit_exit(&mut insts, facts, &last, linkage, plan, next, &block.exit)?;
     Ok(LongBlock::new(insts, exit))
 }
 
@@ -148,6 +149,7 @@ fn emit_behind(
 pub(crate) fn emit_block(
     alloc: Global,
     out: &mut Vec<LongBlock>,
+    facts: &mut Knowledge,
     linkage: &Linkage<'_>,
     plan: &Plan<'_>,
     k: usize,
@@ -170,7 +172,7 @@ pub(crate) fn emit_block(
 {
     let head = head_at(plan.table, j);
     let next = next_at(plan.table, plan.places, k, &block.exit);
-    let first = block_for(alloc, linkage, plan, head, next, block)?;
+    let first = block_for(alloc, facts, linkage, plan, head, next, block)?;
     push_block(out, first)?;
     emit_behind(alloc, out, plan, &block.exit)?;
     Ok(())

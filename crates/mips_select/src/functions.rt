@@ -15,7 +15,7 @@ use crate::numbers::{number, number_at, number_blocks};
 use crate::plan::{Linkage, Plan};
 use crate::prologue::emit_prologue;
 use mblock::{BlockNumber, Exit};
-use mips_emit::emit_constant;
+use mips_emit::{Knowledge, emit_constant};
 use mips_homes::Frame;
 use mips_isa::{AluOp, DATA_BASE, Plain, Reg};
 use mips_split::LongBlock;
@@ -29,6 +29,7 @@ const DATA_MIDDLE: u32 = DATA_BASE + 32_768;
 fn emit_blocks(
     alloc: Global,
     out: &mut Vec<LongBlock>,
+    facts: &mut Knowledge,
     linkage: &Linkage<'_>,
     plan: &Plan<'_>,
     first: usize,
@@ -46,7 +47,7 @@ fn emit_blocks(
     let mut k = first;
     for j in 0..blocks.len() {
         let block = &blocks[j];
-        emit_block(alloc, out, linkage, plan, k, j, block)?;
+        emit_block(alloc, out, facts, linkage, plan, k, j, block)?;
         k += count_of(plan.table, &block.exit);
     }
     Ok(())
@@ -97,6 +98,7 @@ fn emit_lead(
 fn emit_function(
     alloc: Global,
     out: &mut Vec<LongBlock>,
+    facts: &mut Knowledge,
     linkage: &Linkage<'_>,
     frame: &Frame,
     table: &[Naming],
@@ -127,7 +129,7 @@ fn emit_function(
         table,
         places,
     };
-    emit_blocks(alloc, out, linkage, &plan, first, blocks)?;
+    emit_blocks(alloc, out, facts, linkage, &plan, first, blocks)?;
     Ok(())
 }
 
@@ -151,12 +153,13 @@ pub(crate) fn emit_functions(
         (slice_index linkage.now.entries.now) 2
         functions.now frames.now) }
 {
+    let mut facts = Knowledge::none(alloc)?;
     for i in 0..functions.len() {
         let func = &functions[i];
         let frame = &frames[i];
         let table = namings[i].as_slice();
         let k = out.len();
-        emit_function(alloc, out, linkage, frame, table, k, func)?;
+        emit_function(alloc, out, &mut facts, linkage, frame, table, k, func)?;
     }
     Ok(())
 }

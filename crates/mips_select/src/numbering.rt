@@ -67,7 +67,7 @@ pub fn select_numbered(alloc: Global, rtl: &Rtl, depth: u32) -> Result<Numbered,
 {
     let homed = homes_with_room(alloc, rtl, depth)?;
     let long = long_unit(alloc, &homed)?;
-    let unit = unit_of(alloc, &homed, &long)?;
     let numbers = block_numbers(alloc, &long, homed.rtl.functions())?;
+    let unit = unit_of(alloc, &homed, long)?;
     Ok(Numbered { unit, numbers })
 }

@@ -109,18 +109,17 @@ pub(crate) fn long_unit(alloc: Global, homed: &Homed) -> Result<LongUnit, Select
 }
 
 // The unit over homes, of its long blocks.
-pub(crate) fn unit_of(alloc: Global, homed: &Homed, long: &LongUnit) -> Result<Unit, SelectFault>
+pub(crate) fn unit_of(alloc: Global, homed: &Homed, long: LongUnit) -> Result<Unit, SelectFault>
     requires places { ArePlaced homed.now }
-    requires blocks { long.now.blocks.items ≡ program_blocks homed.now }
-    requires owners { long.now.owners.items ≡ owners_for (homed.now.rtl.now).functions }
+    requires blocks { long.blocks.items ≡ program_blocks homed.now }
+    requires owners { long.owners.items ≡ owners_for (homed.now.rtl.now).functions }
     ensures unit { IfOk result (λ u. u ≡ unit_for homed.now) }
     ensures runs { IfOk result (λ u. (depth : ℕ) → FramesFit homed.now.rtl.now depth → KeepsRuns homed.now.rtl.now depth u) }
     ensures limit { IfErr result (λ e. e ≡ SelectFault.Limit → UNIT_BLOCKS < length (unit_for homed.now).blocks) }
 {
     let bytes = globals_bytes(alloc, homed.rtl.globals())?;
-    let blocks = long.blocks.as_slice();
-    let owners = long.owners.as_slice();
-    let unit = split_unit(alloc, blocks, owners, bytes)?;
+    let LongUnit { blocks, owners, .. } = long;
+    let unit = split_unit(alloc, blocks, owners.as_slice(), bytes)?;
     Ok(unit)
 }
 
@@ -136,6 +135,6 @@ pub fn select(alloc: Global, rtl: &Rtl, depth: u32) -> Result<Unit, SelectFault>
 {
     let homed = homes_with_room(alloc, rtl, depth)?;
     let long = long_unit(alloc, &homed)?;
-    let unit = unit_of(alloc, &homed, &long)?;
+    let unit = unit_of(alloc, &homed, long)?;
     Ok(unit)
 }

@@ -35,32 +35,22 @@ piece_step exit out out' all insts front back next many long front_is back_is ne
           ∙ before,
     )
 
--- one more block
-pub block_step : (place : ℕ → ℕ) (i : ℕ) (long : List BlockParts) (b : BlockParts) (out out' all : List BlockParts) (exit old : Exit)
-    (insts : List Plain) → i < length long → b ≡ get_or long i b
-    → exit ≡ renumbered_exit place old → old ≡ b.exit → insts ≡ b.insts → out' ≡ out ++ pieces 512 exit ((length insts - 1) / 512) (length out) insts
-    → length out + total 512 (drop i long) ≡ total 512 long → out ++ split_from 512 place (length out) (drop i long) ≡ all
-    → (length out' + total 512 (drop (i + 1) long) ≡ total 512 long) × (out' ++ split_from 512 place (length out') (drop (i + 1) long) ≡ all)
-block_step place i long b out out' all exit old insts within b_is exit_is old_is insts_is made count before =
-    let rest = drop (i + 1) long in
-    let more = more_pieces 512 b in
-    let here : out' ≡ out ++ pieces 512 (renumbered_exit place b.exit) more (length out) b.insts =
-    made ∙ ap₂ (λ (x : Exit) (l : List Plain). out ++ pieces 512 x ((length l - 1) / 512) (length out) l)
-    (exit_is ∙ ap (renumbered_exit place) old_is) insts_is in
-    let parts = length-pieces 512 (renumbered_exit place b.exit) more (length out) b.insts in
-    let long_out : length out' ≡ length out + count_of 512 b = ap length here
-    ∙ length-append out (pieces 512 (renumbered_exit place b.exit) more (length out) b.insts) ∙ ap (λ n. length out + n) parts in
-    let counts : total 512 (drop i long) ≡ count_of 512 b + total 512 rest = at_drop_more (total 512) long i b within
-    ∙ ap (λ (b : BlockParts). count_of 512 b + total 512 rest) (sym b_is) in
-    let forms : split_from 512 place (length out) (drop i long) ≡ pieces 512 (renumbered_exit place b.exit) more
-    (length out) b.insts ++ split_from 512 place (length out + count_of 512 b) rest =
-    at_drop_more (split_from 512 place (length out)) long i b within
-    ∙ ap (λ (b : BlockParts). pieces 512 (renumbered_exit place b.exit) (more_pieces 512 b) (length out) b.insts ++ split_from 512 place
-    (length out + count_of 512 b) rest) (sym b_is) in (
-      omega (arith, count, counts, long_out),
-      ap₂ (λ l n. l ++ split_from 512 place n rest) here long_out
-          ∙ append_assoc out (pieces 512 (renumbered_exit place b.exit) more (length out) b.insts) (split_from 512 place (length out + count_of 512 b) rest)
-          ∙ ap (λ l. out ++ l) (sym forms)
+-- one more block, of those that are left
+pub block_step : (place : ℕ → ℕ) (b : BlockParts) (bs bs' out out' all : List BlockParts) (count : ℕ) (exit old : Exit) → bs ≡ b ∷ bs'
+    → exit ≡ renumbered_exit place old → old ≡ b.exit → out' ≡ out ++ pieces 512 exit (more_pieces 512 b) (length out) b.insts
+    → length out + total 512 bs ≡ count → out ++ split_from 512 place (length out) bs ≡ all
+    → (length out' + total 512 bs' ≡ count) × (out' ++ split_from 512 place (length out') bs' ≡ all)
+block_step place b bs bs' out out' all count exit old left exit_is old_is made counted before =
+    let own = pieces 512 (renumbered_exit place b.exit) (more_pieces 512 b) (length out) b.insts in
+    let here : out' ≡ out ++ own = made
+    ∙ ap (λ (x : Exit). out ++ pieces 512 x (more_pieces 512 b) (length out) b.insts) (exit_is ∙ ap (renumbered_exit place) old_is) in
+    let parts = length-pieces 512 (renumbered_exit place b.exit) (more_pieces 512 b) (length out) b.insts in
+    let longer : length out' ≡ length out + count_of 512 b = ap length here ∙ length-append out own ∙ ap (λ n. length out + n) parts in
+    let counts : total 512 bs ≡ count_of 512 b + total 512 bs' = ap (total 512) left in (
+      omega (arith, counted, counts, longer),
+      ap₂ (λ l n. l ++ split_from 512 place n bs') here longer
+          ∙ append_assoc out own (split_from 512 place (length out + count_of 512 b) bs')
+          ∙ ap (λ l. out ++ split_from 512 place (length out) l) (sym left)
           ∙ before,
     )
 

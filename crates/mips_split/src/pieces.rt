@@ -134,7 +134,19 @@ fn copy_insts(alloc: Global, insts: &[Plain]) -> Result<Vec<Plain>, AllocError>
     Ok(copy)
 }
 
-// One more piece.
+// One more block of instructions that are few enough.
+fn push_whole(out: &mut Vec<Block>, insts: Vec<Plain>, exit: Exit) -> Result<(), AllocError>
+    requires { length insts.items ≤ BLOCK_INSTS }
+    ensures { OnOk result (out.new.items ≡ out.old.items ++ piece insts.items exit ∷ []) }
+{
+    match Block::new(insts, exit) {
+        Some(block) => out.push(block)?,
+        None => unreachable!(),
+    }
+    Ok(())
+}
+
+// A copy as one more piece.
 fn push_piece(
     alloc: Global,
     out: &mut Vec<Block>,
@@ -145,11 +157,7 @@ fn push_piece(
     ensures { OnOk result (out.new.items ≡ out.old.items ++ piece insts.now exit ∷ []) }
 {
     let copy = copy_insts(alloc, insts)?;
-    match Block::new(copy, exit) {
-        Some(block) => out.push(block)?,
-        None => unreachable!(),
-    }
-    Ok(())
+    push_whole(out, copy, exit)
 }
 
 // The pieces of a block, the exit having the numbers of pieces.
@@ -173,30 +181,49 @@ fn push_pieces(
     push_piece(alloc, out, rest, exit)
 }
 
+// The pieces of a block, the exit having the numbers of pieces: a short one's instructions aren't copied.
+fn push_block(
+    alloc: Global,
+    out: &mut Vec<Block>,
+    block: LongBlock,
+    exit: Exit,
+) -> Result<(), AllocError>
+    requires { length out.old.items + more_pieces BLOCK_INSTS block < UNIT_BLOCKS }
+    ensures { OnOk result (out.new.items ≡ out.old.items
+        ++ pieces BLOCK_INSTS exit (more_pieces BLOCK_INSTS block) (length out.old.items) block.insts) }
+{
+    if block.insts().len() > BLOCK_INSTS {
+        push_pieces(alloc, out, block.insts(), exit)?;
+    } else {
+        push_whole(out, block.into_insts(), exit)?;
+    }
+    Ok(())
+}
+
 // The pieces of all blocks.
 fn pieces_of(
     alloc: Global,
     numbers: &[BlockNumber],
-    long: &[LongBlock],
+    long: Vec<LongBlock>,
 ) -> Result<Vec<Block>, AllocError>
-    requires { total BLOCK_INSTS long.now ≤ UNIT_BLOCKS }
-    ensures { IfOk result (λ blocks. blocks.items ≡ split_from BLOCK_INSTS (λ n. slice_index numbers.now n) 0 long.now) }
+    requires { total BLOCK_INSTS long.items ≤ UNIT_BLOCKS }
+    ensures { IfOk result (λ blocks. blocks.items ≡ split_from BLOCK_INSTS (λ n. slice_index numbers.now n) 0 long.items) }
 {
     let mut out = Vec::new(alloc);
     for block in long {
         let exit = renumber(numbers, block.exit());
-        push_pieces(alloc, &mut out, block.insts(), exit)?;
+        push_block(alloc, &mut out, block, exit)?;
     }
     Ok(out)
 }
 
 /// The blocks cut into pieces of at most 512 instructions.
-pub fn split(alloc: Global, long: &[LongBlock]) -> Result<Vec<Block>, SelectFault>
-    ensures pieces { IfOk result (λ blocks. blocks.items ≡ split_blocks long.now) }
+pub fn split(alloc: Global, long: Vec<LongBlock>) -> Result<Vec<Block>, SelectFault>
+    ensures pieces { IfOk result (λ blocks. blocks.items ≡ split_blocks long.items) }
     ensures few { IfOk result (λ blocks. length blocks.items ≤ UNIT_BLOCKS) }
-    ensures limit { IfErr result (λ e. e ≡ SelectFault.Limit → UNIT_BLOCKS < length (split_blocks long.now)) }
+    ensures limit { IfErr result (λ e. e ≡ SelectFault.Limit → UNIT_BLOCKS < length (split_blocks long.items)) }
 {
-    let numbers = first_pieces(alloc, long)?;
+    let numbers = first_pieces(alloc, long.as_slice())?;
     let blocks = pieces_of(alloc, numbers.as_slice(), long)?;
     Ok(blocks)
 }
@@ -236,20 +263,20 @@ fn owners_of(
 /// The unit of the pieces of blocks with their owners.
 pub fn split_unit(
     alloc: Global,
-    long: &[LongBlock],
+    long: Vec<LongBlock>,
     owner: &[BlockNumber],
     globals: Vec<u8>,
 ) -> Result<Unit, SelectFault>
-    requires linked { AreLinked long.now }
-    requires owners { AreOwners long.now owner.now }
-    requires some { 0 < length long.now }
+    requires linked { AreLinked long.items }
+    requires owners { AreOwners long.items owner.now }
+    requires some { 0 < length long.items }
     requires few { length globals.items ≤ UNIT_BYTES }
-    ensures unit { IfOk result (λ u. u ≡ unit_parts (split_blocks long.now) (split_owners long.now owner.now) globals.items) }
-    ensures runs { IfOk result (λ u. (s : State) (r : ℕ) (end : Outcome) → ComesTo long.now s r end → ComesTo u.blocks s r end) }
-    ensures limit { IfErr result (λ e. e ≡ SelectFault.Limit → UNIT_BLOCKS < length (split_blocks long.now)) }
+    ensures unit { IfOk result (λ u. u ≡ unit_parts (split_blocks long.items) (split_owners long.items owner.now) globals.items) }
+    ensures runs { IfOk result (λ u. (s : State) (r : ℕ) (end : Outcome) → ComesTo long.items s r end → ComesTo u.blocks s r end) }
+    ensures limit { IfErr result (λ e. e ≡ SelectFault.Limit → UNIT_BLOCKS < length (split_blocks long.items)) }
 {
-    let numbers = first_pieces(alloc, long)?;
+    let numbers = first_pieces(alloc, long.as_slice())?;
+    let owners = owners_of(alloc, numbers.as_slice(), long.as_slice(), owner)?;
     let blocks = pieces_of(alloc, numbers.as_slice(), long)?;
-    let owners = owners_of(alloc, numbers.as_slice(), long, owner)?;
     Ok(Unit::of(blocks, owners, globals))
 }

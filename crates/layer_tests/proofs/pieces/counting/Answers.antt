@@ -7,17 +7,14 @@ use Rattle.layer_tests.proofs.pieces.counting.Goals as goal
 
 pub split_unit-requires-clause-linked : goal.split_unit-requires-clause-linked
 split_unit-requires-clause-linked c =
-    let one : c.as_slice.result.now ≡ halting c.in_ok-insts.insts.items ∷ [] = c.as_slice.ensures.value ∙ c.in_ok-blocks.ensures in
-    subst AreLinked (sym one) (alone_linked c.in_ok-insts.insts.items)
+    subst AreLinked (sym c.in_ok-blocks.ensures) (alone_linked c.in_ok-insts.insts.items)
 
 pub split_unit-requires-clause-owners : goal.split_unit-requires-clause-owners
 split_unit-requires-clause-owners c =
-    let one : c.as_slice.result.now ≡ halting c.in_ok-insts.insts.items ∷ [] = c.as_slice.ensures.value ∙ c.in_ok-blocks.ensures in
-    let own : c.as_slice-2.result.now ≡ 0 ∷ [] = c.as_slice-2.ensures.value ∙ c.in_ok-owner.ensures in
-    subst (λ (l : List BlockParts). AreOwners l c.as_slice-2.result.now) (sym one)
+    let own : c.as_slice.result.now ≡ 0 ∷ [] = c.as_slice.ensures.value ∙ c.in_ok-owner.ensures in
+    subst (λ (l : List BlockParts). AreOwners l c.as_slice.result.now) (sym c.in_ok-blocks.ensures)
     (subst (λ (l : List ℕ). AreOwners (halting c.in_ok-insts.insts.items ∷ []) l) (sym own) (alone_owned c.in_ok-insts.insts.items))
 
 pub split_unit-requires-clause-some : goal.split_unit-requires-clause-some
 split_unit-requires-clause-some c =
-    let one : c.as_slice.result.now ≡ halting c.in_ok-insts.insts.items ∷ [] = c.as_slice.ensures.value ∙ c.in_ok-blocks.ensures in
-    omega (arith, ap length one)
+    omega (arith, ap length c.in_ok-blocks.ensures)

@@ -11,15 +11,15 @@ loop-inst-preserved c =
     c.comparison_of-comparison.result c.fresh_of-fresh.result _ _ _ _ _ _ _ _ _
     c.loop-inst-test.true c.asked_if-asks.ensures c.comparison_of-comparison.ensures.value c.fresh_of-fresh.ensures c.in_ok-emit_next.ensures
     c.in_ok-learn.ensures.is c.last_with-last.ensures
-    (c.loop-inst.invariant.1, c.loop-inst.invariant.2, c.loop-inst.invariant.3, c.loop-inst.invariant.4) in
-    let k = known_step _ c.loop-inst.inst-index c.args.insts.now _ _ _ _ c.loop-inst-test.true c.in_ok-learn.ensures.is c.loop-inst.invariant.5 in
-    (c.in_ok-learn.ensures.long, z.0, z.1, z.2, z.3, k)
+    (c.loop-inst.invariant.0, c.loop-inst.invariant.1, c.loop-inst.invariant.2, c.loop-inst.invariant.3) in
+    let k = known_step _ c.loop-inst.inst-index c.args.insts.now _ _ _ _ c.loop-inst-test.true c.in_ok-learn.ensures.is c.loop-inst.invariant.4 in
+    (z.0, z.1, z.2, z.3, k)
 
 pub returns-in_err-emit_next-clause-left : goal.returns-in_err-emit_next-clause-left
 returns-in_err-emit_next-clause-left c =
     at_err c.from_residual.result (stops c.args.globals.now c.args.starts.now c.args.frame.now c.args.asked c.args.insts.now
     (facts_of c.args.facts.now) c.args.code.now.items c.loop-inst.inst-index c.loop-inst.left _ c.asked_if-asks.result
-    c.comparison_of-comparison.result _ _ _ c.loop-inst-test.true c.loop-inst.invariant.1 c.loop-inst.invariant.5 c.loop-inst.invariant.2
+    c.comparison_of-comparison.result _ _ _ c.loop-inst-test.true c.loop-inst.invariant.0 c.loop-inst.invariant.4 c.loop-inst.invariant.1
     c.asked_if-asks.ensures c.comparison_of-comparison.ensures.value c.in_err-emit_next.ensures)
 
 pub returns-in_err-learn-clause-left : goal.returns-in_err-learn-clause-left
@@ -29,5 +29,5 @@ returns-in_err-learn-clause-left c =
     (sym c.in_err-learn.ensures.kept)
     (stops c.args.globals.now c.args.starts.now c.args.frame.now c.args.asked c.args.insts.now
     (facts_of c.args.facts.now) c.args.code.now.items c.loop-inst.inst-index c.loop-inst.left _ c.asked_if-asks.result
-    c.comparison_of-comparison.result _ _ _ c.loop-inst-test.true c.loop-inst.invariant.1 c.loop-inst.invariant.5 c.loop-inst.invariant.2
+    c.comparison_of-comparison.result _ _ _ c.loop-inst-test.true c.loop-inst.invariant.0 c.loop-inst.invariant.4 c.loop-inst.invariant.1
     c.asked_if-asks.ensures c.comparison_of-comparison.ensures.value (some_all _ _ _ c.in_ok-emit_next.ensures)))

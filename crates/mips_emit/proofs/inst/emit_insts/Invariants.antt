@@ -6,8 +6,7 @@ use Rattle.mips_emit.proofs.inst.emit_insts.Given as goal
 
 abbrev pub invariant-loop-inst : goal.invariant-loop-inst
 invariant-loop-inst l =
-    (length l.facts.lazy.items ≡ 32)
-    × (l.left + l.inst-index ≡ length l.insts)
+    (l.left + l.inst-index ≡ length l.insts)
     × (l.code.items ++ insts_code l.globals (slice_index l.starts) (locations l.frame) l.asked (facts_of l.facts) (drop l.inst-index l.insts) []
     ≡ l.fn.code.items ++ insts_code l.globals (slice_index l.starts) (locations l.frame) l.asked (facts_of l.fn.facts) l.insts [])
     × (known_after (locations l.frame) (drop l.inst-index l.insts) (facts_of l.facts) ≡ known_after (locations l.frame) l.insts (facts_of l.fn.facts))

@@ -4,27 +4,27 @@ use Rattle.mips_select.proofs.program.unit_of.Goals as goal
 
 pub split_unit-requires-clause-linked : goal.split_unit-requires-clause-linked
 split_unit-requires-clause-linked c =
-    (blocks_well c.args.homed.now _ _ _ _ c.globals.ensures.sound c.requires.places c.requires.blocks c.as_slice-blocks.ensures.value
-    c.requires.owners c.as_slice-owners.ensures.value).0
+    (blocks_well c.args.homed.now _ _ _ c.globals.ensures.sound c.requires.places c.requires.blocks
+    c.requires.owners c.as_slice.ensures.value).0
 
 pub split_unit-requires-clause-owners : goal.split_unit-requires-clause-owners
 split_unit-requires-clause-owners c =
-    (blocks_well c.args.homed.now _ _ _ _ c.globals.ensures.sound c.requires.places c.requires.blocks c.as_slice-blocks.ensures.value
-    c.requires.owners c.as_slice-owners.ensures.value).1
+    (blocks_well c.args.homed.now _ _ _ c.globals.ensures.sound c.requires.places c.requires.blocks
+    c.requires.owners c.as_slice.ensures.value).1
 
 pub split_unit-requires-clause-few : goal.split_unit-requires-clause-few
 split_unit-requires-clause-few c = bytes_fit _ _ _ c.globals.ensures.sound c.globals.ensures.value c.in_ok-bytes.ensures
 
 pub returns-clause-unit : goal.returns-clause-unit
-returns-clause-unit c = unit_made c.args.homed.now _ _ _ _ _ _ _ c.requires.blocks c.as_slice-blocks.ensures.value c.requires.owners
-    c.as_slice-owners.ensures.value c.globals.ensures.value c.in_ok-bytes.ensures c.in_ok-unit.ensures.unit
+returns-clause-unit c = unit_made c.args.homed.now _ _ _ _ _ _ c.requires.blocks c.requires.owners
+    c.as_slice.ensures.value c.globals.ensures.value c.in_ok-bytes.ensures c.in_ok-unit.ensures.unit
 
 pub returns-clause-runs : goal.returns-clause-runs
 returns-clause-runs c = unit_keeps c.args.homed.now _ c.globals.ensures.sound c.requires.places
-    (unit_made c.args.homed.now _ _ _ _ _ _ _ c.requires.blocks c.as_slice-blocks.ensures.value c.requires.owners
-    c.as_slice-owners.ensures.value c.globals.ensures.value c.in_ok-bytes.ensures c.in_ok-unit.ensures.unit)
+    (unit_made c.args.homed.now _ _ _ _ _ _ c.requires.blocks c.requires.owners
+    c.as_slice.ensures.value c.globals.ensures.value c.in_ok-bytes.ensures c.in_ok-unit.ensures.unit)
 
 pub returns-in_err-unit-clause-limit : goal.returns-in_err-unit-clause-limit
 returns-in_err-unit-clause-limit c =
     let p = err_from_is_err_and c.from_residual-in_err-unit.result c.from_residual-in_err-unit.ensures.1 in
-    rw (p.1, p.2) (λ e. many_cut c.args.homed.now _ _ c.requires.blocks c.as_slice-blocks.ensures.value (c.in_err-unit.ensures.limit e))
+    rw (p.1, p.2) (λ e. many_cut c.args.homed.now _ c.requires.blocks (c.in_err-unit.ensures.limit e))
