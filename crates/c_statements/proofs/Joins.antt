@@ -124,10 +124,6 @@ parts-last a b c E (Err s) o (inl e) n f = n (ap Err e)
 parts-last a b c E (Err s) o (inr e) n f = n (ap Err (memory-right a (both_of b c) s (memory-both b c f) e))
 
 -- a block of two statements
-pub block-of-two : (new mid v : Vec TypedStatement Global) (first second : TypedStatement) → new.items ≡ []
-    → mid.items ≡ new.items ++ first ∷ [] → v.items ≡ mid.items ++ second ∷ []
+pub block-of-two : (v : Vec TypedStatement Global) (first second : TypedStatement) → v.items ≡ first ∷ second ∷ []
     → statement_of (Block v) ≡ block (more_statements (statement_of first) (more_statements (statement_of second) no_statements))
-block-of-two new mid v first second n m e =
-    let whole : v.items ≡ first ∷ second ∷ [] = e
-    ∙ ap (λ (xs : List TypedStatement). xs ++ second ∷ []) (m ∙ ap (λ (xs : List TypedStatement). xs ++ first ∷ []) n) in
-    block-is v ∙ ap (λ (xs : List TypedStatement). block (statements_of xs)) whole
+block-of-two v first second whole = block-is v ∙ ap (λ (xs : List TypedStatement). block (statements_of xs)) whole

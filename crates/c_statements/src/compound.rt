@@ -9,15 +9,12 @@ use crate::fault::{TypeStop, both};
 use c_typed::{TypedExpression, TypedStatement};
 use std::alloc::{AllocError, AllocFailed, Global};
 
-/// Two statements in boxes.
-fn boxes(
-    alloc: Global,
-    statements: (TypedStatement, TypedStatement),
-) -> Result<(Box<TypedStatement>, Box<TypedStatement>), TypeStop>
-    ensures ok { IfOk result (λ r. (box_value r.0 ≡ statements.0) × (box_value r.1 ≡ statements.1)) }
+/// Two parts in boxes.
+pub fn boxes<T: Drop>(alloc: Global, parts: (T, T)) -> Result<(Box<T>, Box<T>), TypeStop>
+    ensures ok { IfOk result (λ r. (box_value r.0 ≡ parts.0) × (box_value r.1 ≡ parts.1)) }
     ensures err { IfErr result (λ s. s ≡ NoMemory) }
 {
-    let (first, second) = statements;
+    let (first, second) = parts;
     Ok((Box::new(alloc, first)?, Box::new(alloc, second)?))
 }
 
@@ -61,8 +58,6 @@ pub fn sequence(
     ensures err { IfErr result (StopsTwo first second) }
 {
     let (first, second) = both(first, second)?;
-    let mut all = Vec::new(alloc);
-    all.push(first)?;
-    all.push(second)?;
+    let all = Vec::from_array(alloc, [first, second])?;
     Ok(TypedStatement::Block(all))
 }

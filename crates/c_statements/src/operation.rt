@@ -6,6 +6,7 @@ ghost use Rattle.c_statements.specs.Faults.{StopsTwo, both_of};
 ghost use Rattle.c_statements.specs.Made.{IsBinary, IsConditional, IsElement, IsUnary, MadeOfThree, MadeOfTwo};
 ghost use Rattle.c_typed.specs.Trees.{common_type, operation_type, prefix_type};
 
+use crate::compound::boxes;
 use crate::fault::{TypeStop, both};
 use c_tokens::IntegerType;
 use c_tree::{BinaryOp, UnaryOp};
@@ -81,14 +82,14 @@ pub fn binary(
     ensures ok { IfOk result (MadeOfTwo left right (IsBinary operator)) }
     ensures err { IfErr result (StopsTwo left right) }
 {
-    let (left, right) = both(left, right)?;
-    let integer_type = operation(operator, left.integer_type(), right.integer_type());
-    Ok(TypedExpression::Binary(
+    let operands = both(left, right)?;
+    let integer_type = operation(
         operator,
-        integer_type,
-        Box::new(alloc, left)?,
-        Box::new(alloc, right)?,
-    ))
+        operands.0.integer_type(),
+        operands.1.integer_type(),
+    );
+    let (left, right) = boxes(alloc, operands)?;
+    Ok(TypedExpression::Binary(operator, integer_type, left, right))
 }
 
 /// A choice between two values by a test, in the common type of the values.
@@ -101,12 +102,9 @@ pub fn conditional(
     ensures ok { IfOk result (MadeOfThree test yes no IsConditional) }
     ensures err { IfErr result (StopsTwo test (both_of yes no)) }
 {
-    let (test, (yes, no)) = both(test, both(yes, no))?;
-    let integer_type = common(yes.integer_type(), no.integer_type());
-    Ok(TypedExpression::Conditional(
-        integer_type,
-        Box::new(alloc, test)?,
-        Box::new(alloc, yes)?,
-        Box::new(alloc, no)?,
-    ))
+    let (test, values) = both(test, both(yes, no))?;
+    let integer_type = common(values.0.integer_type(), values.1.integer_type());
+    let test = Box::new(alloc, test)?;
+    let (yes, no) = boxes(alloc, values)?;
+    Ok(TypedExpression::Conditional(integer_type, test, yes, no))
 }

@@ -12,6 +12,7 @@ use Rattle.c_tokens.specs.Fronts.{word_length, run_length, line_length, longest,
 use Rattle.c_tokens.specs.Fronts.{constant_at, comment_at, line_at, sign_at}
 use Rattle.c_tokens.specs.Pieces.{IsWord, word_end, word_more, IsRun, run_end, run_more, IsLine, line_end, line_more, IsOpen, open_end, open_more, IsClosed}
 use Rattle.c_tokens.specs.Pieces.{closed_here, closed_later, entry_in, comment_piece}
+use Rattle.c_tokens.proofs.Fitting.{word-within}
 use Rattle.c_tokens.proofs.Shapes.{IsShape, a_byte, a_word, a_number, an_operator, a_line, a_comment, an_open_comment, IsLongestShape, closed_meaning}
 use Rattle.c_tokens.proofs.Shapes.{operator_meaning, or_operator, or_line, or_comment, or_number, or_word, meaning_of, IsShapeNext, at_end, at_piece}
 
@@ -31,6 +32,13 @@ letter-digit b h k = grind (arith, nat_tests)
 letter-word : (b : ℕ) → is_letter b ≡ true → is_word b ≡ true
 letter-word b h = ap (λ (x : Bool). x || is_digit b) h
 
+and-both : (a b : Bool) → a && b ≡ true → (a ≡ true) × (b ≡ true)
+and-both true b h = (refl, h)
+and-both false b h = cc
+
+equal : (x y : ℕ) → nat_eq x y ≡ true → x ≡ y
+equal x y h = grind (arith, nat_tests)
+
 same-is : (xs ys : List ℕ) → same_bytes xs ys ≡ true → xs ≡ ys
 same-is [] [] h = refl
 same-is [] (y ∷ ys) h = cc
@@ -38,13 +46,6 @@ same-is (x ∷ xs) [] h = cc
 same-is (x ∷ xs) (y ∷ ys) h =
     let a = and-both (nat_eq x y) (same_bytes xs ys) h in
     ap (λ (z : ℕ). z ∷ xs) (equal x y a.0) ∙ ap (λ (z : List ℕ). y ∷ z) (same-is xs ys a.1)
-  where
-    and-both : (a b : Bool) → a && b ≡ true → (a ≡ true) × (b ≡ true)
-    and-both true b h = (refl, h)
-    and-both false b h = cc
-
-    equal : (x y : ℕ) → nat_eq x y ≡ true → x ≡ y
-    equal x y h = grind (arith, nat_tests)
 
 -- how the spellings of the table begin
 abbrev begins_well : List ℕ → Bool
@@ -209,14 +210,6 @@ run-within after (b ∷ bs) = go (run-within (is_exponent b) bs) (goes_on after 
     go a true = omega (arith, a)
     go a false = omega arith
 
-pub word-within : (bs : List ℕ) → word_length bs ≤ length bs
-word-within [] = omega arith
-word-within (b ∷ bs) = go (word-within bs) (is_word b)
-  where
-    go : word_length bs ≤ length bs → (x : Bool) → (if x then suc (word_length bs) else 0) ≤ length (b ∷ bs)
-    go a true = omega (arith, a)
-    go a false = omega arith
-
 line-within : (bs : List ℕ) → line_length bs ≤ length bs
 line-within [] = omega arith
 line-within (b ∷ bs) = go (line-within bs) (nat_eq b 10)
@@ -237,13 +230,6 @@ front-pair u v (b ∷ c ∷ cs) h =
     let a = and-both (nat_eq u b) (nat_eq v c && true) h in
     let d = and-both (nat_eq v c) true a.1 in
     (cs, ap (λ (z : ℕ). z ∷ c ∷ cs) (sym (equal u b a.0)) ∙ ap (λ (z : ℕ). u ∷ z ∷ cs) (sym (equal v c d.0)))
-  where
-    and-both : (a b : Bool) → a && b ≡ true → (a ≡ true) × (b ≡ true)
-    and-both true b h = (refl, h)
-    and-both false b h = cc
-
-    equal : (x y : ℕ) → nat_eq x y ≡ true → x ≡ y
-    equal x y h = grind (arith, nat_tests)
 
 front-taken : (p bs : List ℕ) (n : ℕ) → is_front p (take n bs) ≡ true → is_front p bs ≡ true
 front-taken [] bs n h = refl
@@ -379,13 +365,6 @@ front-whole (x ∷ xs) [] h = cc
 front-whole (x ∷ xs) (b ∷ bs) h =
     let a = and-both (nat_eq x b) (is_front xs bs) h in
     ap (λ (z : ℕ). z ∷ take (length xs) bs) (sym (equal x b a.0)) ∙ ap (λ (z : List ℕ). x ∷ z) (front-whole xs bs a.1)
-  where
-    and-both : (a b : Bool) → a && b ≡ true → (a ≡ true) × (b ≡ true)
-    and-both true b h = (refl, h)
-    and-both false b h = cc
-
-    equal : (x y : ℕ) → nat_eq x y ≡ true → x ≡ y
-    equal x y h = grind (arith, nat_tests)
 
 taken-front : (m : ℕ) (bs : List ℕ) → is_front (take m bs) bs ≡ true
 taken-front zero bs = refl

@@ -4,6 +4,10 @@ use Rattle.std.proofs.Common.{if◌then◌else◌, nat_eq, ◌&&◌, ◌||◌, c
 use Rattle.c_tokens.specs.Lexing.{is_word, goes_on, is_exponent, is_front, one_more, comment_length, escape_at}
 use Rattle.c_tokens.specs.Fronts.{word_length, run_length, line_length}
 
+-- a scan after which nothing more counts has come to the length
+no-more : (whole n rest : ℕ) → whole ≡ n + rest → rest ≡ 0 → n ≡ whole
+no-more whole n rest e none = omega (arith, e, none)
+
 pub record Words (text rest : List ℕ) (n : ℕ) : Type 0 where
   pub resumes : word_length text ≡ n + word_length rest
   pub place : n + length rest ≡ length text
@@ -19,16 +23,10 @@ word-on text rest n b bs w e h =
 
 pub word-stops : (text rest : List ℕ) (n b : ℕ) (bs : List ℕ) → Words text rest n → rest ≡ b ∷ bs → is_word b ≡ false → n ≡ word_length text
 word-stops text rest n b bs w e h =
-    let a : word_length (b ∷ bs) ≡ 0 = ap (λ (x : Bool). if x then suc (word_length bs) else 0) h in
-    let c = w.resumes in
-    let d : word_length rest ≡ word_length (b ∷ bs) = ap word_length e in
-    omega (arith, a, c, d)
+    no-more _ n _ w.resumes (ap word_length e ∙ ap (λ (x : Bool). if x then suc (word_length bs) else 0) h)
 
 pub word-ends : (text rest : List ℕ) (n : ℕ) → Words text rest n → rest ≡ [] → n ≡ word_length text
-word-ends text rest n w e =
-    let c = w.resumes in
-    let d : word_length rest ≡ 0 = ap word_length e in
-    omega (arith, c, d)
+word-ends text rest n w e = no-more _ n _ w.resumes (ap word_length e)
 
 pub record Runs (text rest : List ℕ) (after : Bool) (n : ℕ) : Type 0 where
   pub resumes : run_length false text ≡ n + run_length after rest
@@ -47,16 +45,10 @@ run-on text rest after n b bs w e h =
 pub run-stops : (text rest : List ℕ) (after : Bool) (n b : ℕ) (bs : List ℕ) → Runs text rest after n → rest ≡ b ∷ bs → goes_on after b ≡ false
     → n ≡ run_length false text
 run-stops text rest after n b bs w e h =
-    let a : run_length after (b ∷ bs) ≡ 0 = ap (λ (x : Bool). if x then suc (run_length (is_exponent b) bs) else 0) h in
-    let c = w.resumes in
-    let d : run_length after rest ≡ run_length after (b ∷ bs) = ap (run_length after) e in
-    omega (arith, a, c, d)
+    no-more _ n _ w.resumes (ap (run_length after) e ∙ ap (λ (x : Bool). if x then suc (run_length (is_exponent b) bs) else 0) h)
 
 pub run-ends : (text rest : List ℕ) (after : Bool) (n : ℕ) → Runs text rest after n → rest ≡ [] → n ≡ run_length false text
-run-ends text rest after n w e =
-    let c = w.resumes in
-    let d : run_length after rest ≡ 0 = ap (run_length after) e in
-    omega (arith, c, d)
+run-ends text rest after n w e = no-more _ n _ w.resumes (ap (run_length after) e)
 
 pub record Lines (text rest : List ℕ) (n : ℕ) : Type 0 where
   pub resumes : line_length text ≡ n + line_length rest
@@ -73,16 +65,10 @@ line-on text rest n b bs w e h =
 
 pub line-stops : (text rest : List ℕ) (n b : ℕ) (bs : List ℕ) → Lines text rest n → rest ≡ b ∷ bs → nat_eq b 10 ≡ true → n ≡ line_length text
 line-stops text rest n b bs w e h =
-    let a : line_length (b ∷ bs) ≡ 0 = ap (λ (x : Bool). if x then 0 else suc (line_length bs)) h in
-    let c = w.resumes in
-    let d : line_length rest ≡ line_length (b ∷ bs) = ap line_length e in
-    omega (arith, a, c, d)
+    no-more _ n _ w.resumes (ap line_length e ∙ ap (λ (x : Bool). if x then 0 else suc (line_length bs)) h)
 
 pub line-ends : (text rest : List ℕ) (n : ℕ) → Lines text rest n → rest ≡ [] → n ≡ line_length text
-line-ends text rest n w e =
-    let c = w.resumes in
-    let d : line_length rest ≡ 0 = ap line_length e in
-    omega (arith, c, d)
+line-ends text rest n w e = no-more _ n _ w.resumes (ap line_length e)
 
 -- past n bytes
 abbrev pub past : ℕ → Option ℕ → Option ℕ

@@ -17,31 +17,27 @@ pub struct Access {
 
 /// The load or store of an instruction, if it is one.
 pub fn access_of(inst: &Plain) -> Option<Access> {
-    match inst.action() {
+    let (stores, width, base, offset) = match inst.action() {
         Action::Loads {
             width,
             base,
             offset,
             ..
-        } => Some(Access {
-            base,
-            offset,
-            width,
-            stores: false,
-        }),
+        } => (false, width, base, offset),
         Action::Stores {
             width,
             base,
             offset,
             ..
-        } => Some(Access {
-            base,
-            offset,
-            width,
-            stores: true,
-        }),
-        _ => None,
-    }
+        } => (true, width, base, offset),
+        _ => return None,
+    };
+    Some(Access {
+        base,
+        offset,
+        width,
+        stores,
+    })
 }
 
 fn bytes(width: Width) -> u32 {

@@ -35,19 +35,9 @@ fn goes_below(n: usize, exit: Exit) -> bool
     let is_below = |t: BlockNumber| -> bool { (t.number() as usize) < n };
     match exit {
         Exit::Goto(t) => is_below(t),
-        Exit::BranchPair {
-            test: _,
-            rs: _,
-            rt: _,
-            then,
-            other,
-        } => is_below(then) && is_below(other),
-        Exit::BranchZero {
-            test: _,
-            rs: _,
-            then,
-            other,
-        } => is_below(then) && is_below(other),
+        Exit::BranchPair { then, other, .. } | Exit::BranchZero { then, other, .. } => {
+            is_below(then) && is_below(other)
+        }
         Exit::Call { function, next } => is_below(function) && is_below(next),
         Exit::Return => true,
         Exit::Out(next) => is_below(next),
@@ -70,19 +60,9 @@ fn branches_within(owner: &[BlockNumber], o: BlockNumber, exit: Exit) -> bool
     ensures { IsTrue result ↔ BranchesWithin owner.now o exit }
 {
     match exit {
-        Exit::BranchPair {
-            test: _,
-            rs: _,
-            rt: _,
-            then,
-            other,
-        } => has_owner(owner, then, o) && has_owner(owner, other, o),
-        Exit::BranchZero {
-            test: _,
-            rs: _,
-            then,
-            other,
-        } => has_owner(owner, then, o) && has_owner(owner, other, o),
+        Exit::BranchPair { then, other, .. } | Exit::BranchZero { then, other, .. } => {
+            has_owner(owner, then, o) && has_owner(owner, other, o)
+        }
         _ => true,
     }
 }

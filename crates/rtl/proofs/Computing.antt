@@ -1,18 +1,17 @@
 -- Where C gives two words a value, an operator has it as its result.
-use Rattle.std.proofs.Common.{◌≡◌, ℕ, ◌-◌, ◌*◌, ◌^◌, Bool, true, false, cond, rules, ℤ, pos, negsuc, Some, None, refl, sym, ap, ◌∙◌, arith}
+use Rattle.std.proofs.Common.{◌≡◌, ℕ, ◌-◌, ◌*◌, ◌^◌, true, rules, ℤ, pos, negsuc, Some, refl, sym, ap, ◌∙◌, arith}
 use Rattle.std.specs.Prelude.{◌*ℤ◌, not, bit_xor, FitsSigned}
 use Rattle.std.specs.Int.{w32}
 use Rattle.std.specs.Int.Bits.{xor_add_and}
 use Rattle.std.proofs.lemmas.Int.{int_wrap_fits, wrapping_mul-bits, of_z-to_z}
 use Rattle.std.proofs.lemmas.Nat.{and_mask}
 use Rattle.std.proofs.lemmas.Bool.{ltb-true}
-use Rattle.std.proofs.lemmas.Option.{same_Some, none-some}
 use Rattle.words.specs.declared.sign.Sign.{Sign}
 use Rattle.words.specs.declared.sign.Sign.TheVariants.{Signed, Unsigned}
 use Rattle.words.specs.Words.{wrap, signed, word_of_int}
 use Rattle.words.specs.Operators.{op_value, quotient_of, remainder_of}
-use Rattle.words.specs.C.{fits_int, as_int, sum_of, difference_of, times_of, negation_of, left_shift_of, right_shift_of, is_below}
-use Rattle.words.proofs.OfC.{sum_agrees, difference_agrees, negation_agrees, left_shift_agrees, right_shift_agrees}
+use Rattle.words.specs.C.{fits_int, sum_of, difference_of, times_of, negation_of, left_shift_of, right_shift_of, is_below}
+use Rattle.words.proofs.OfC.{sum_agrees, difference_agrees, negation_agrees, left_shift_agrees, right_shift_agrees, int_fits}
 use Rattle.runs.specs.Stores.{IsWord}
 use Rattle.rtl.specs.declared.operator.Op.TheVariants.{Add, Sub, Mul, Xor, Shl}
 use Rattle.rtl.specs.Operators.{truth_word, op_result}
@@ -38,14 +37,6 @@ pub right_shift-is : (s : Sign) (a n v : ℕ) → right_shift_of s a n ≡ Some 
 unfolding op_value
 right_shift-is Signed a n v e = ap Some (sym (right_shift_agrees Signed a n v e))
 right_shift-is Unsigned a n v e = ap Some (sym (right_shift_agrees Unsigned a n v e))
-
--- what the test of a value's range says
-int_fits : (z : ℤ) (v : ℕ) → as_int z ≡ Some v → (v ≡ word_of_int z) × (fits_int z ≡ true)
-int_fits z v e = by (fits_int z) e
-  where
-    by : (b : Bool) → cond b (Some (word_of_int z)) None ≡ Some v → (v ≡ word_of_int z) × (b ≡ true)
-    by true h = (sym (same_Some (word_of_int z) v h), refl)
-    by false h = absurd (none-some v h)
 
 fits-signed : (z : ℤ) → fits_int z ≡ true → FitsSigned w32 z
 fits-signed (pos n) e = let lt = ltb-true n (2 ^ 31) e in search (rules, lt)

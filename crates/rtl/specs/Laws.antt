@@ -1,8 +1,8 @@
 -- What is true of every run of a program, and of the operators beside those of C.
 use Rattle.std.specs.Prelude.{◌≡◌, ◌-◌, ◌^◌, ℕ, Some, not}
 use Rattle.words.specs.declared.sign.Sign.{Sign}
-use Rattle.words.specs.declared.sign.Sign.TheVariants.{Signed, Unsigned}
 use Rattle.words.specs.Operators.{quotient_of, remainder_of}
+use Rattle.words.specs.Signs.{by_sign}
 use Rattle.words.specs.C.{sum_of, difference_of, times_of, negation_of, left_shift_of, right_shift_of, is_below}
 use Rattle.runs.specs.Stores.{IsWord, PlacesHoldWords}
 use Rattle.runs.specs.Runs.{HoldsWords}
@@ -29,24 +29,19 @@ RunsGoOnFromWhereTheyAre = (p : Program) (depth : ℕ) → GoesOnFromWhereItIs (
 
 -- the operators that compute in a type of C, by its sign
 abbrev pub quotient_op : Sign → Op
-quotient_op Signed = DivS
-quotient_op Unsigned = DivU
+quotient_op sign = by_sign sign DivS DivU
 
 abbrev pub remainder_op : Sign → Op
-remainder_op Signed = RemS
-remainder_op Unsigned = RemU
+remainder_op sign = by_sign sign RemS RemU
 
 abbrev pub right_shift_op : Sign → Op
-right_shift_op Signed = ShrS
-right_shift_op Unsigned = ShrU
+right_shift_op sign = by_sign sign ShrS ShrU
 
 abbrev pub below_op : Sign → Op
-below_op Signed = LtS
-below_op Unsigned = LtU
+below_op sign = by_sign sign LtS LtU
 
 abbrev pub not_above_op : Sign → Op
-not_above_op Signed = LeS
-not_above_op Unsigned = LeU
+not_above_op sign = by_sign sign LeS LeU
 
 -- where C gives two words a value, it is the result of an operator here; the complement is that of `xor` with all ones
 pub record ComputesAsC : Type 0 where

@@ -1,9 +1,13 @@
 //! A walk along a chain, which links a node of one's own where the term is not there.
-ghost use Rattle.std.specs.Prelude.{◌≡◌, ℕ, suc, ◌+◌, ◌-◌, ◌*◌, ◌<◌, ◌≤◌, true, false, List, [], ◌∷◌, slice_index};
-ghost use Rattle.term_core.specs.declared.Stage.TheVariants.{Idle, AtLink, AtContent, Writing, Linking};
-ghost use Rattle.term_core.specs.declared.Answer.TheVariants.{Full, Ticket};
-ghost use Rattle.term_core.specs.World.{content, may_begin, link_of, hit, first_stage};
-ghost use Rattle.term_table.specs.Rule.{shape_of};
+//!
+//! Here and in `seek.rt` a parameter whose name begins with an underscore serves the contracts alone: it tells where in
+//! its walk the pass is.
+ghost use Rattle.std.specs.Prelude.{◌≡◌, ℕ, suc, ◌+◌, ◌-◌, ◌<◌, true, false, List, [], slice_index};
+ghost use Rattle.term_core.specs.declared.Stage.TheVariants.{AtLink, AtContent, Writing, Linking};
+ghost use Rattle.term_core.specs.declared.Answer.TheVariants.{Ticket};
+ghost use Rattle.term_core.specs.World.{content, link_of, hit};
+ghost use Rattle.term_table.specs.Rule.{node_count, word_count};
+ghost use Rattle.term_table.specs.Seats.{Serves, IsSameSeat, MayBegin};
 ghost use Rattle.term_table.specs.Calls.{at, inside, Ended, Arrived};
 ghost use Rattle.term_table.specs.Ends.{Done};
 ghost use Rattle.term_core.specs.declared.Call.TheVariants.{Intern};
@@ -24,18 +28,17 @@ impl Nodes {
         _link: u64,
         _probes: u64,
     )
-        requires table { (seat.old.table_id ≡ self.now.table.shared.table_id) × (C.shape ≡ shape_of self.now.size) }
+        requires table { Serves self.now C.shape seat.old }
         requires words { words.now ≡ content C.call }
-        requires own { (own ≡ C.start.own) × (own < self.now.size.workers * self.now.size.nodes) }
+        requires own { (own ≡ C.start.own) × (own < node_count self.now.size) }
         requires before { seat.old.me ≡ at C.start C.told (Writing C.call _link 0) _probes }
         ensures table { seat.new.table_id ≡ seat.old.table_id }
         ensures after { seat.new.me ≡ at C.start C.told (Linking C.call _link) _probes }
     {
-        let first = self.size.heads + 5 * own + 1;
-        self.store::<C>(seat, first, words[0]);
-        self.store::<C>(seat, first + 1, words[1]);
-        self.store::<C>(seat, first + 2, words[2]);
-        self.store::<C>(seat, first + 3, words[3]);
+        self.store::<C>(seat, self.content_place(own, 0), words[0]);
+        self.store::<C>(seat, self.content_place(own, 1), words[1]);
+        self.store::<C>(seat, self.content_place(own, 2), words[2]);
+        self.store::<C>(seat, self.content_place(own, 3), words[3]);
     }
 
     // Compares one content word of a node.
@@ -48,28 +51,28 @@ impl Nodes {
         _written: bool,
         _probes: u64,
     ) -> bool
-        requires table { (seat.old.table_id ≡ self.now.table.shared.table_id) × (C.shape ≡ shape_of self.now.size) }
+        requires table { Serves self.now C.shape seat.old }
         requires word { (expected ≡ slice_index (content C.call) index) × (index < 4) }
-        requires node { node < self.now.size.workers * self.now.size.nodes }
+        requires node { node < node_count self.now.size }
         requires before { seat.old.me ≡ at C.start C.told (AtContent C.call _written node index) _probes }
-        ensures table { (seat.new.table_id ≡ seat.old.table_id) × (seat.new.me.1 ≡ []) }
+        ensures table { IsSameSeat seat.old seat.new }
         ensures more { result ≡ true → index < 3 → seat.new.me ≡ at C.start C.told (AtContent C.call _written node (suc index)) _probes }
         ensures same { result ≡ true → index ≡ 3
             → Ended C.shape C.start C.told C.call (hit C.call node) C.start.own C.start.room _probes seat.new.me.0 }
         ensures differs { result ≡ false → seat.new.me ≡ at C.start C.told (AtLink C.call _written (link_of C.shape node)) _probes }
     {
-        let found = self.load::<C>(seat, self.size.heads + 5 * node + 1 + index);
+        let found = self.load::<C>(seat, self.content_place(node, index));
         found == expected
     }
 
     // Begins an intern: loads the head of its chain.
     pub(crate) fn first_link<C: Act>(&self, seat: &mut Seat<(), View>, chain: u64) -> u64
-        requires table { (seat.old.table_id ≡ self.now.table.shared.table_id) × (C.shape ≡ shape_of self.now.size) }
-        requires link { chain < self.now.size.heads + 5 * (self.now.size.workers * self.now.size.nodes) }
+        requires table { Serves self.now C.shape seat.old }
+        requires link { chain < word_count self.now.size }
         requires call { (l : ℕ) × (ks : List ℕ) × (C.call ≡ Intern l ks) × (chain ≡ C.shape.chain l ks) }
-        requires may { (C.start.stage ≡ Idle) × (may_begin C.start.seen C.call ≡ true) }
+        requires may { MayBegin C.start C.call }
         requires before { seat.old.me ≡ (Walking C.start C.told, []) }
-        ensures table { (seat.new.table_id ≡ seat.old.table_id) × (seat.new.me.1 ≡ []) }
+        ensures table { IsSameSeat seat.old seat.new }
         ensures found { Arrived C.shape C.start C.told C.call false chain result 1 seat.new.me.0 }
     {
         self.load::<C>(seat, chain)
@@ -83,11 +86,11 @@ impl Nodes {
         _written: bool,
         _probes: u64,
     ) -> u64
-        requires table { (seat.old.table_id ≡ self.now.table.shared.table_id) × (C.shape ≡ shape_of self.now.size) }
-        requires link { link < self.now.size.heads + 5 * (self.now.size.workers * self.now.size.nodes) }
+        requires table { Serves self.now C.shape seat.old }
+        requires link { link < word_count self.now.size }
         requires call { (l : ℕ) × (ks : List ℕ) × (C.call ≡ Intern l ks) }
         requires before { seat.old.me ≡ at C.start C.told (AtLink C.call _written link) _probes }
-        ensures table { (seat.new.table_id ≡ seat.old.table_id) × (seat.new.me.1 ≡ []) }
+        ensures table { IsSameSeat seat.old seat.new }
         ensures found { Arrived C.shape C.start C.told C.call _written link result (suc _probes) seat.new.me.0 }
     {
         self.load::<C>(seat, link)
@@ -101,14 +104,14 @@ impl Nodes {
         own: u64,
         _probes: u64,
     ) -> u64
-        requires table { (seat.old.table_id ≡ self.now.table.shared.table_id) × (C.shape ≡ shape_of self.now.size) }
-        requires link { link < self.now.size.heads + 5 * (self.now.size.workers * self.now.size.nodes) }
-        requires own { (own ≡ C.start.own) × (own < self.now.size.workers * self.now.size.nodes) }
+        requires table { Serves self.now C.shape seat.old }
+        requires link { link < word_count self.now.size }
+        requires own { (own ≡ C.start.own) × (own < node_count self.now.size) }
         requires before { seat.old.me ≡ at C.start C.told (Linking C.call link) _probes }
-        ensures table { (seat.new.table_id ≡ seat.old.table_id) × (seat.new.me.1 ≡ []) }
+        ensures table { IsSameSeat seat.old seat.new }
         ensures linked { result ≡ 0 → Ended C.shape C.start C.told C.call (Ticket own) (own + 1) (C.start.room - 1) _probes seat.new.me.0 }
         ensures lost { 0 < result → (seat.new.me.0 ≡ Walking (inside C.start (AtContent C.call true (result - 1) 0) _probes) C.told)
-            × (result - 1 < self.now.size.workers * self.now.size.nodes) }
+            × (result - 1 < node_count self.now.size) }
     {
         self.link::<C>(seat, link, own + 1)
     }
@@ -122,11 +125,11 @@ impl Nodes {
         _written: bool,
         _probes: u64,
     ) -> bool
-        requires table { (seat.old.table_id ≡ self.now.table.shared.table_id) × (C.shape ≡ shape_of self.now.size) }
+        requires table { Serves self.now C.shape seat.old }
         requires words { words.now ≡ content C.call }
-        requires node { node < self.now.size.workers * self.now.size.nodes }
+        requires node { node < node_count self.now.size }
         requires before { seat.old.me ≡ at C.start C.told (AtContent C.call _written node 0) _probes }
-        ensures table { (seat.new.table_id ≡ seat.old.table_id) × (seat.new.me.1 ≡ []) }
+        ensures table { IsSameSeat seat.old seat.new }
         ensures same { result ≡ true
             → Ended C.shape C.start C.told C.call (hit C.call node) C.start.own C.start.room _probes seat.new.me.0 }
         ensures differs { result ≡ false → seat.new.me ≡ at C.start C.told (AtLink C.call _written (link_of C.shape node)) _probes }
@@ -148,14 +151,14 @@ impl Nodes {
         own: u64,
         room: u64,
     ) -> (InternEnd, u64)
-        requires table { (seat.old.table_id ≡ self.now.table.shared.table_id) × (C.shape ≡ shape_of self.now.size) }
-        requires link { chain < self.now.size.heads + 5 * (self.now.size.workers * self.now.size.nodes) }
+        requires table { Serves self.now C.shape seat.old }
+        requires link { chain < word_count self.now.size }
         requires call { (l : ℕ) × (ks : List ℕ) × (C.call ≡ Intern l ks) × (chain ≡ C.shape.chain l ks) }
         requires words { words.now ≡ content C.call }
         requires own { (own ≡ C.start.own) × (room ≡ C.start.room) }
-        requires may { (C.start.stage ≡ Idle) × (may_begin C.start.seen C.call ≡ true) }
+        requires may { MayBegin C.start C.call }
         requires before { seat.old.me ≡ (Walking C.start C.told, []) }
-        ensures table { (seat.new.table_id ≡ seat.old.table_id) × (seat.new.me.1 ≡ []) }
+        ensures table { IsSameSeat seat.old seat.new }
         ensures ended { Done C.shape C.start C.told C.call result.0 result.1 seat.new.me.0 }
     {
         let mut link = chain;
@@ -180,7 +183,7 @@ impl Nodes {
             if self.same_content::<C>(seat, words, node, written, probes) {
                 return (InternEnd::Hit(node), probes);
             }
-            link = self.size.heads + 5 * node;
+            link = self.link_place(node);
             found = self.next_link::<C>(seat, link, written, probes);
             probes += 1;
         }

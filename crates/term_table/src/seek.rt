@@ -1,9 +1,10 @@
 //! A walk along a chain that only looks, and the reading of a node.
-ghost use Rattle.std.specs.Prelude.{◌≡◌, ℕ, suc, ◌+◌, ◌*◌, ◌<◌, true, false, List, [], ◌∷◌, ◌++◌, length};
-ghost use Rattle.term_core.specs.declared.Stage.TheVariants.{Idle, AtLink, Reading};
+ghost use Rattle.std.specs.Prelude.{◌≡◌, ℕ, suc, ◌<◌, false, List, [], ◌∷◌, ◌++◌, length};
+ghost use Rattle.term_core.specs.declared.Stage.TheVariants.{AtLink, Reading};
 ghost use Rattle.term_core.specs.declared.Call.TheVariants.{Find, Read};
-ghost use Rattle.term_core.specs.World.{content, may_begin, answer_of};
-ghost use Rattle.term_table.specs.Rule.{shape_of};
+ghost use Rattle.term_core.specs.World.{content, answer_of};
+ghost use Rattle.term_table.specs.Rule.{node_count, word_count};
+ghost use Rattle.term_table.specs.Seats.{Serves, IsSameSeat, MayBegin};
 ghost use Rattle.term_table.specs.Calls.{at, Ended, Sought};
 ghost use Rattle.term_table.specs.Answers.{sought_answer};
 ghost use Rattle.term_table.specs.declared.view.View.TheVariants.{Walking};
@@ -16,12 +17,12 @@ use atomic_table::Seat;
 impl Nodes {
     // Begins a find: loads the head of its chain.
     pub(crate) fn first_seen<C: Act>(&self, seat: &mut Seat<(), View>, chain: u64) -> u64
-        requires table { (seat.old.table_id ≡ self.now.table.shared.table_id) × (C.shape ≡ shape_of self.now.size) }
-        requires link { chain < self.now.size.heads + 5 * (self.now.size.workers * self.now.size.nodes) }
+        requires table { Serves self.now C.shape seat.old }
+        requires link { chain < word_count self.now.size }
         requires call { (l : ℕ) × (ks : List ℕ) × (C.call ≡ Find l ks) × (chain ≡ C.shape.chain l ks) }
-        requires may { (C.start.stage ≡ Idle) × (may_begin C.start.seen C.call ≡ true) }
+        requires may { MayBegin C.start C.call }
         requires before { seat.old.me ≡ (Walking C.start C.told, []) }
-        ensures table { (seat.new.table_id ≡ seat.old.table_id) × (seat.new.me.1 ≡ []) }
+        ensures table { IsSameSeat seat.old seat.new }
         ensures found { Sought C.shape C.start C.told C.call result 1 seat.new.me.0 }
     {
         self.load::<C>(seat, chain)
@@ -34,11 +35,11 @@ impl Nodes {
         link: u64,
         _probes: u64,
     ) -> u64
-        requires table { (seat.old.table_id ≡ self.now.table.shared.table_id) × (C.shape ≡ shape_of self.now.size) }
-        requires link { link < self.now.size.heads + 5 * (self.now.size.workers * self.now.size.nodes) }
+        requires table { Serves self.now C.shape seat.old }
+        requires link { link < word_count self.now.size }
         requires call { (l : ℕ) × (ks : List ℕ) × (C.call ≡ Find l ks) }
         requires before { seat.old.me ≡ at C.start C.told (AtLink C.call false link) _probes }
-        ensures table { (seat.new.table_id ≡ seat.old.table_id) × (seat.new.me.1 ≡ []) }
+        ensures table { IsSameSeat seat.old seat.new }
         ensures found { Sought C.shape C.start C.told C.call result (suc _probes) seat.new.me.0 }
     {
         self.load::<C>(seat, link)
@@ -51,13 +52,13 @@ impl Nodes {
         words: &[u64; 4],
         chain: u64,
     ) -> (Option<u64>, u64)
-        requires table { (seat.old.table_id ≡ self.now.table.shared.table_id) × (C.shape ≡ shape_of self.now.size) }
-        requires link { chain < self.now.size.heads + 5 * (self.now.size.workers * self.now.size.nodes) }
+        requires table { Serves self.now C.shape seat.old }
+        requires link { chain < word_count self.now.size }
         requires call { (l : ℕ) × (ks : List ℕ) × (C.call ≡ Find l ks) × (chain ≡ C.shape.chain l ks) }
         requires words { words.now ≡ content C.call }
-        requires may { (C.start.stage ≡ Idle) × (may_begin C.start.seen C.call ≡ true) }
+        requires may { MayBegin C.start C.call }
         requires before { seat.old.me ≡ (Walking C.start C.told, []) }
-        ensures table { (seat.new.table_id ≡ seat.old.table_id) × (seat.new.me.1 ≡ []) }
+        ensures table { IsSameSeat seat.old seat.new }
         ensures ended { Ended C.shape C.start C.told C.call (sought_answer result.0) C.start.own C.start.room result.1 seat.new.me.0 }
     {
         let mut probes = 1;
@@ -70,47 +71,47 @@ impl Nodes {
             if self.same_content::<C>(seat, words, node, false, probes) {
                 return (Some(node), probes);
             }
-            found = self.next_seen::<C>(seat, self.size.heads + 5 * node, probes);
+            found = self.next_seen::<C>(seat, self.link_place(node), probes);
             probes += 1;
         }
     }
 
     // Begins a read: loads the first content word of the node.
     pub(crate) fn first_word<C: Act>(&self, seat: &mut Seat<(), View>, node: u64) -> u64
-        requires table { (seat.old.table_id ≡ self.now.table.shared.table_id) × (C.shape ≡ shape_of self.now.size) }
-        requires node { node < self.now.size.workers * self.now.size.nodes }
+        requires table { Serves self.now C.shape seat.old }
+        requires node { node < node_count self.now.size }
         requires call { C.call ≡ Read node }
-        requires may { (C.start.stage ≡ Idle) × (may_begin C.start.seen C.call ≡ true) }
+        requires may { MayBegin C.start C.call }
         requires before { seat.old.me ≡ (Walking C.start C.told, []) }
         ensures table { seat.new.table_id ≡ seat.old.table_id }
         ensures read { seat.new.me ≡ at C.start C.told (Reading node (result ∷ [])) 0 }
     {
-        self.load::<C>(seat, self.size.heads + 5 * node + 1)
+        self.load::<C>(seat, self.content_place(node, 0))
     }
 
     // Loads the next content word, after those that were read.
     pub(crate) fn next_word<C: Act>(&self, seat: &mut Seat<(), View>, node: u64, row: &[u64]) -> u64
-        requires table { (seat.old.table_id ≡ self.now.table.shared.table_id) × (C.shape ≡ shape_of self.now.size) }
-        requires node { node < self.now.size.workers * self.now.size.nodes }
+        requires table { Serves self.now C.shape seat.old }
+        requires node { node < node_count self.now.size }
         requires call { C.call ≡ Read node }
         requires few { length row.now < 4 }
         requires before { seat.old.me ≡ at C.start C.told (Reading node row.now) 0 }
-        ensures table { (seat.new.table_id ≡ seat.old.table_id) × (seat.new.me.1 ≡ []) }
+        ensures table { IsSameSeat seat.old seat.new }
         ensures more { length row.now < 3 → seat.new.me ≡ at C.start C.told (Reading node (row.now ++ result ∷ [])) 0 }
         ensures last { length row.now ≡ 3
             → Ended C.shape C.start C.told C.call (answer_of (row.now ++ result ∷ [])) C.start.own C.start.room 0 seat.new.me.0 }
     {
-        self.load::<C>(seat, self.size.heads + 5 * node + 1 + row.len() as u64)
+        self.load::<C>(seat, self.content_place(node, row.len() as u64))
     }
 
     // The four content words of a node.
     pub(crate) fn read_as<C: Act>(&self, seat: &mut Seat<(), View>, node: u64) -> [u64; 4]
-        requires table { (seat.old.table_id ≡ self.now.table.shared.table_id) × (C.shape ≡ shape_of self.now.size) }
-        requires node { node < self.now.size.workers * self.now.size.nodes }
+        requires table { Serves self.now C.shape seat.old }
+        requires node { node < node_count self.now.size }
         requires call { C.call ≡ Read node }
-        requires may { (C.start.stage ≡ Idle) × (may_begin C.start.seen C.call ≡ true) }
+        requires may { MayBegin C.start C.call }
         requires before { seat.old.me ≡ (Walking C.start C.told, []) }
-        ensures table { (seat.new.table_id ≡ seat.old.table_id) × (seat.new.me.1 ≡ []) }
+        ensures table { IsSameSeat seat.old seat.new }
         ensures ended { Ended C.shape C.start C.told C.call (answer_of result) C.start.own C.start.room 0 seat.new.me.0 }
     {
         let first = self.first_word::<C>(seat, node);

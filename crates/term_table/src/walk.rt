@@ -1,10 +1,10 @@
 //! Whole calls on the nodes, over a pass's seat.
-ghost use Rattle.std.specs.Prelude.{◌≡◌, ℕ, ◌+◌, ◌*◌, ◌^◌, ◌<◌, ◌≤◌, true, List, [], ◌∷◌};
-ghost use Rattle.term_core.specs.declared.Stage.TheVariants.{Idle};
+ghost use Rattle.std.specs.Prelude.{◌≡◌, ◌+◌, ◌*◌, ◌<◌, ◌≤◌, []};
 ghost use Rattle.term_core.specs.declared.Call.TheVariants.{Find, Intern};
-ghost use Rattle.term_core.specs.World.{may_begin, kid_word};
+ghost use Rattle.term_core.specs.World.{kid_word};
 ghost use Rattle.term_table.specs.Rule as spec;
-ghost use Rattle.term_table.specs.Rule.{shape_of, mix, chain_of};
+ghost use Rattle.term_table.specs.Rule.{mix, chain_of};
+ghost use Rattle.term_table.specs.Seats.{Serves, IsSameSeat, MayBegin};
 ghost use Rattle.term_table.specs.Calls.{Ended};
 ghost use Rattle.term_table.specs.Ends.{Done};
 ghost use Rattle.term_table.specs.Answers.{sought_answer};
@@ -66,12 +66,12 @@ impl Nodes {
         own: u64,
         room: u64,
     ) -> (InternEnd, u64)
-        requires table { (seat.old.table_id ≡ self.now.table.shared.table_id) × (C.shape ≡ shape_of self.now.size) }
+        requires table { Serves self.now C.shape seat.old }
         requires call { C.call ≡ Intern word kids.now }
         requires own { (own ≡ C.start.own) × (room ≡ C.start.room) }
-        requires may { (C.start.stage ≡ Idle) × (may_begin C.start.seen C.call ≡ true) }
+        requires may { MayBegin C.start C.call }
         requires before { seat.old.me ≡ (Walking C.start C.told, []) }
-        ensures table { (seat.new.table_id ≡ seat.old.table_id) × (seat.new.me.1 ≡ []) }
+        ensures table { IsSameSeat seat.old seat.new }
         ensures ended { Done C.shape C.start C.told C.call result.0 result.1 seat.new.me.0 }
     {
         let words = [word, kid_at(kids, 0), kid_at(kids, 1), kid_at(kids, 2)];
@@ -90,11 +90,11 @@ impl Nodes {
         word: u64,
         kids: &[Ticket],
     ) -> (Option<u64>, u64)
-        requires table { (seat.old.table_id ≡ self.now.table.shared.table_id) × (C.shape ≡ shape_of self.now.size) }
+        requires table { Serves self.now C.shape seat.old }
         requires call { C.call ≡ Find word kids.now }
-        requires may { (C.start.stage ≡ Idle) × (may_begin C.start.seen C.call ≡ true) }
+        requires may { MayBegin C.start C.call }
         requires before { seat.old.me ≡ (Walking C.start C.told, []) }
-        ensures table { (seat.new.table_id ≡ seat.old.table_id) × (seat.new.me.1 ≡ []) }
+        ensures table { IsSameSeat seat.old seat.new }
         ensures ended { Ended C.shape C.start C.told C.call (sought_answer result.0) C.start.own C.start.room result.1 seat.new.me.0 }
     {
         let words = [word, kid_at(kids, 0), kid_at(kids, 1), kid_at(kids, 2)];

@@ -20,7 +20,7 @@ of_some None v e = absurd (none-some v e)
 of_some (Some w) v e = sym (same_Some w v e)
 
 -- what the test of a value's range says
-int_fits : (z : ℤ) (v : ℕ) → as_int z ≡ Some v → (v ≡ word_of_int z) × (fits_int z ≡ true)
+pub int_fits : (z : ℤ) (v : ℕ) → as_int z ≡ Some v → (v ≡ word_of_int z) × (fits_int z ≡ true)
 int_fits z v e = go (fits_int z) e
   where
     go : (b : Bool) → cond b (Some (word_of_int z)) None ≡ Some v → (v ≡ word_of_int z) × (b ≡ true)

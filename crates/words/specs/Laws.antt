@@ -1,11 +1,11 @@
 -- Laws between the operators of C and those of the machine, on two words: what a compiler from one to the other rests on.
 use Rattle.std.specs.Prelude.{◌≡◌, ◌<◌, ◌-◌, ◌^◌, ℕ, Some}
 use Rattle.words.specs.declared.sign.Sign.{Sign}
-use Rattle.words.specs.declared.sign.Sign.TheVariants.{Signed, Unsigned}
 use Rattle.words.specs.declared.operator.Operator.{Operator}
 use Rattle.words.specs.declared.operator.Operator.TheVariants.{Addu, Subu, Nor, Sll, Srl, Sra, MultLow, MultuLow, DivQuotient}
 use Rattle.words.specs.declared.operator.Operator.TheVariants.{DivRemainder, DivuQuotient, DivuRemainder}
 use Rattle.words.specs.Operators.{op_value, quotient_of, remainder_of}
+use Rattle.words.specs.Signs.{by_sign}
 use Rattle.words.specs.C.{sum_of, difference_of, times_of, negation_of, left_shift_of, right_shift_of}
 
 abbrev pub OperatorsGiveWords : Type 0
@@ -13,20 +13,16 @@ OperatorsGiveWords = (op : Operator) (a b : ℕ) → a < 2 ^ 32 → b < 2 ^ 32 �
 
 -- the machine's operator by the sign of a C type
 abbrev pub product_operator : Sign → Operator
-product_operator Signed = MultLow
-product_operator Unsigned = MultuLow
+product_operator sign = by_sign sign MultLow MultuLow
 
 abbrev pub right_shift_operator : Sign → Operator
-right_shift_operator Signed = Sra
-right_shift_operator Unsigned = Srl
+right_shift_operator sign = by_sign sign Sra Srl
 
 abbrev pub quotient_operator : Sign → Operator
-quotient_operator Signed = DivQuotient
-quotient_operator Unsigned = DivuQuotient
+quotient_operator sign = by_sign sign DivQuotient DivuQuotient
 
 abbrev pub remainder_operator : Sign → Operator
-remainder_operator Signed = DivRemainder
-remainder_operator Unsigned = DivuRemainder
+remainder_operator sign = by_sign sign DivRemainder DivuRemainder
 
 -- each value that C gives is that of the machine's operator, and so a word; the complement is `nor` with 0
 pub record CComputesAsTheMachine : Type 0 where

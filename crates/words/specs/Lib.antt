@@ -2,4 +2,5 @@ pub mod Words
 pub mod Widths
 pub mod Operators
 pub mod C
+pub mod Signs
 pub mod Laws

@@ -7,6 +7,5 @@ returns-clause-ok c = (
   c.in_ok-first.second,
   c.in_ok-first.ensures.ok.0,
   c.in_ok-first.ensures.ok.1,
-  block-of-two c.new-all.result
-      c.push.new.self c.push-2.new.self _ _ c.new-all.ensures.items c.in_ok-push.ensures.items c.in_ok-push-2.ensures.items,
+  block-of-two c.in_ok-all.all _ _ c.in_ok-all.ensures.items,
 )
