@@ -50,7 +50,8 @@ impl Knowledge {
             lazy: [None; 32],
         })
     }
-    /// Nothing is known.any more, as at the head of another block.
+
+    /// Nothing is known any more, as at the head of another block.
     pub fn clear(&mut self)
         ensures { facts_of self.new ≡ no_facts }
     {

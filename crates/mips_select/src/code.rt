@@ -56,7 +56,6 @@ fn emit_head(
 
 // The block for a block.
 fn block_for(
-    alloc: Global,
     facts: &mut Knowledge,
     linkage: &Linkage<'_>,
     plan: &Plan<'_>,
@@ -73,7 +72,7 @@ fn block_for(
         plan.now.leaf plan.now.frame.now (head_code plan.now.leaf plan.now.frame.now plan.now.parameters head) next block.now) }
 {
     let body = block.insts.as_slice();
-    let mut insts = Vec::new(alloc);
+    let mut insts = Vec::new(linkage.alloc);
     facts.clear();
     let frame = plan.frame;
     emit_head(&mut insts, frame, plan.leaf, plan.parameters, head)?;
@@ -147,7 +146,6 @@ fn emit_behind(
 
 // The blocks for block j, the first of which has the number k.
 pub(crate) fn emit_block(
-    alloc: Global,
     out: &mut Vec<LongBlock>,
     facts: &mut Knowledge,
     linkage: &Linkage<'_>,
@@ -172,8 +170,8 @@ pub(crate) fn emit_block(
 {
     let head = head_at(plan.table, j);
     let next = next_at(plan.table, plan.places, k, &block.exit);
-    let first = block_for(alloc, facts, linkage, plan, head, next, block)?;
+    let first = block_for(facts, linkage, plan, head, next, block)?;
     push_block(out, first)?;
-    emit_behind(alloc, out, plan, &block.exit)?;
+    emit_behind(linkage.alloc, out, plan, &block.exit)?;
     Ok(())
 }

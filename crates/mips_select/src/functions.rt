@@ -27,7 +27,6 @@ const DATA_MIDDLE: u32 = DATA_BASE + 32_768;
 
 // The blocks for some blocks, the first of which has the number `first`.
 fn emit_blocks(
-    alloc: Global,
     out: &mut Vec<LongBlock>,
     facts: &mut Knowledge,
     linkage: &Linkage<'_>,
@@ -47,7 +46,7 @@ fn emit_blocks(
     let mut k = first;
     for j in 0..blocks.len() {
         let block = &blocks[j];
-        emit_block(alloc, out, facts, linkage, plan, k, j, block)?;
+        emit_block(out, facts, linkage, plan, k, j, block)?;
         k += count_of(plan.table, &block.exit);
     }
     Ok(())
@@ -96,7 +95,6 @@ fn emit_lead(
 
 // The blocks for a function, the first of which has the number k.
 fn emit_function(
-    alloc: Global,
     out: &mut Vec<LongBlock>,
     facts: &mut Knowledge,
     linkage: &Linkage<'_>,
@@ -118,10 +116,10 @@ fn emit_function(
     let n = func.parameters;
     let leaf = is_leaf(blocks);
     let first = k + lead_in(table);
-    let numbers = number_blocks(alloc, table, first, blocks)?;
+    let numbers = number_blocks(linkage.alloc, table, first, blocks)?;
     let places = numbers.as_slice();
     let start = number_at(places, 0);
-    emit_lead(alloc, out, frame, leaf, n, head_at(table, 0), start)?;
+    emit_lead(linkage.alloc, out, frame, leaf, n, head_at(table, 0), start)?;
     let plan = Plan {
         frame,
         leaf,
@@ -129,13 +127,12 @@ fn emit_function(
         table,
         places,
     };
-    emit_blocks(alloc, out, facts, linkage, &plan, first, blocks)?;
+    emit_blocks(out, facts, linkage, &plan, first, blocks)?;
     Ok(())
 }
 
 // The blocks for all functions, behind the two for start and end.
 pub(crate) fn emit_functions(
-    alloc: Global,
     out: &mut Vec<LongBlock>,
     linkage: &Linkage<'_>,
     namings: &[Vec<Naming>],
@@ -153,13 +150,13 @@ pub(crate) fn emit_functions(
         (slice_index linkage.now.entries.now) 2
         functions.now frames.now) }
 {
-    let mut facts = Knowledge::none(alloc)?;
+    let mut facts = Knowledge::none(linkage.alloc)?;
     for i in 0..functions.len() {
         let func = &functions[i];
         let frame = &frames[i];
         let table = namings[i].as_slice();
         let k = out.len();
-        emit_function(alloc, out, &mut facts, linkage, frame, table, k, func)?;
+        emit_function(out, &mut facts, linkage, frame, table, k, func)?;
     }
     Ok(())
 }

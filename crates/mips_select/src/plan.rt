@@ -4,10 +4,12 @@ use crate::heads::Naming;
 use mblock::BlockNumber;
 use mips_homes::Frame;
 use rtl::RGlobal;
+use std::alloc::Global;
 
-// What all functions name: the globals, where in the data each begins, and at which block each function begins.
+// What all functions share: the allocator, the globals, where in the data each begins, and at which block each function begins.
 #[derive(Clone, Copy)]
 pub(crate) struct Linkage<'a> {
+    pub(crate) alloc: Global,
     pub(crate) globals: &'a [RGlobal],
     pub(crate) starts: &'a [u32],
     pub(crate) entries: &'a [BlockNumber],

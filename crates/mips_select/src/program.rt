@@ -43,6 +43,7 @@ fn emit_program(
     let table = globals_starts(alloc, globals)?;
     let starts = table.as_slice();
     let linkage = Linkage {
+        alloc,
         globals,
         starts,
         entries,
@@ -52,7 +53,7 @@ fn emit_program(
     let mut out = Vec::new(alloc);
     push_block(&mut out, first)?;
     push_block(&mut out, second)?;
-    emit_functions(alloc, &mut out, &linkage, namings, functions, frames)?;
+    emit_functions(&mut out, &linkage, namings, functions, frames)?;
     Ok(out)
 }
 
