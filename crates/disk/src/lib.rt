@@ -5,7 +5,7 @@
 ghost use Rattle.std.specs.Prelude.{◌≡◌, ◌≤◌, ⊤};
 
 use commands::{FileFault, Files, HostFault, tell};
-use std::alloc::Global;
+use std::alloc::{AllocError, Global};
 use std::env::Env;
 use std::io::{Read, Write};
 use std::rt::Files as HostFiles;
@@ -50,6 +50,16 @@ fn fault_of(e: &io::Error) -> FileFault {
 pub fn owned_words<R: Env + AllocGlobal>(rt: &R) -> io::Result<Vec<String>> {
     let words = env::args(rt)?.collect::<Vec<String>>(rt.alloc())?;
     Ok(words)
+}
+
+/// The words of the command line behind `mcc`, as which help and errors name a program that has some of its commands.
+pub fn named_words<'a>(alloc: Global, owned: &'a [String]) -> Result<Vec<&'a str>, AllocError> {
+    let mut args = Vec::new(alloc);
+    args.push("mcc")?;
+    for word in owned.iter().skip(1) {
+        args.push(word.as_str())?;
+    }
+    Ok(args)
 }
 
 /// Why the words could not be had: memory was refused, or one isn't UTF-8. The answer is the exit status.

@@ -1,10 +1,5 @@
 pub mod Interps
 pub mod Texts
-pub mod ImageRuns
-pub mod Follows
-pub mod Builds
-pub mod BuildFaults
+pub mod Listings
 pub mod Stages
 pub mod Program
--- words of private functions
-pub mod Halves

@@ -1,108 +1,40 @@
 -- What the program does with its words: what it asks of its files, what its standard output takes, and its status.
-use Rattle.std.specs.Prelude.{◌≡◌, ◌⊎◌, ℕ, ◌+◌, List, [], ◌∷◌, ◌++◌, Bool, true, false, codes, decimal, ⊤, All, Option, String, map}
+use Rattle.std.specs.Prelude.{◌≡◌, ◌⊎◌, ℕ, List, [], ◌∷◌, ◌++◌, Bool, true, false, All, Option, String, map}
 use Rattle.std.specs.declared.vec.Vec.{Vec}
 use Rattle.std.specs.declared.alloc.Global.{Global}
 use Rattle.std.specs.Borrow.{Bor}
 use Rattle.std.specs.String.{string_bytes}
-use Rattle.std.specs.List.{flat_map}
 use Rattle.runs.specs.Runs.{outcome_of}
 use Rattle.runs.specs.declared.ran.Ran.{Ran}
-use Rattle.mblock.specs.Parts.{BlockParts, OrderParts}
-use Rattle.mblock.specs.declared.limits.TheConstants.{BLOCK_INSTS}
-use Rattle.image.specs.Texts.{counts_text, image_fault_text}
-use Rattle.image.specs.Views.{counts_of}
+use Rattle.image.specs.Texts.{image_fault_text}
 use Rattle.image.specs.Images.{IsImageFault}
-use Rattle.mips_machine.specs.Views.{outcome_of as machine_outcome_of}
-use Rattle.mips_machine.specs.declared.machine.MachineRan.{MachineRan}
-use Rattle.sched_phase.specs.Phases.{IsPhase}
-use Rattle.commands.specs.Requests.{Request, reading_fault, writing_fault}
-use Rattle.commands.specs.declared.files.FileFault.{FileFault}
-use Rattle.commands.specs.Requests.Request.{Read, NotRead, Written, NotWritten}
+use Rattle.commands.specs.Requests.{Request}
 use Rattle.commands.specs.OneFile.{AnswersFile, StopsFile}
 use Rattle.commands.specs.Texts.{host_fault_text}
 use Rattle.commands.specs.declared.fault.HostFault.{HostFault}
-use Rattle.commands.specs.declared.fault.HostFault.TheVariants.{CannotWrite, NoMemory}
+use Rattle.commands.specs.declared.fault.HostFault.TheVariants.{NoMemory}
 use Rattle.block_text.specs.Shown.{IsShown}
 use Rattle.check_command.specs.Command.{Checks, Explains, StopsCheck}
 use Rattle.check_command.specs.Several.{BreaksOff, ChecksAll, ChecksEach}
+use Rattle.build_command.specs.BuildFaults.{IsFaultless}
+use Rattle.build_command.specs.Commands.{Builds, IsReason, IsRefused, Runs, StopsBuild, StopsRun, words_text}
 use Rattle.clap.specs.Words.{takes}
 use Rattle.command_line.specs.Commands.{IsCommand, mcc_app}
 use Rattle.command_line.specs.declared.command.Command.{Command}
 use Rattle.command_line.specs.declared.command.Command.TheVariants.{Check, CheckEach, Interp, Build, Run, List as Listing, Show}
-use Rattle.driver.specs.Texts.{build_fault_text, end_text, end_status, ending_text, ending_status, interp_fault_text}
+use Rattle.driver.specs.Texts.{end_text, end_status, interp_fault_text}
 use Rattle.driver.specs.Interps.{IsRun, IsInterpFault}
-use Rattle.driver.specs.ImageRuns.{IsImageRun, IsListing, IsOfImage}
-use Rattle.driver.specs.Builds.{IsScheduledBuild, IsPlain}
-use Rattle.driver.specs.Follows.{FollowsText}
-use Rattle.driver.specs.BuildFaults.{IsBuildFault, IsFaultless}
+use Rattle.driver.specs.Listings.{IsListing, IsOfImage}
 use Rattle.driver.specs.Stages.{IsStagesFault, stages_fault_text}
-use Rattle.driver.specs.declared.builds.Built.{Built}
-use Rattle.driver.specs.declared.builds.BuildFault.{BuildFault}
-
--- the program's own scheduler may propose any order
-abbrev pub AnyOrder : BlockParts → OrderParts → Type 0
-AnyOrder b o = ⊤
-
--- how many items a word of the image stands for at most: one with --plain
-abbrev pub factor_of : Bool → ℕ
-factor_of true = 1
-factor_of false = BLOCK_INSTS + 1
-
--- with --plain each block in its own order, else checked orders
-abbrev pub IsScheduledAs : Bool → Built → Type 0
-IsScheduledAs true b = IsScheduledBuild IsPlain b
-IsScheduledAs false b = IsScheduledBuild (IsPhase AnyOrder) b
-
-abbrev pub IsBuiltAs : List ℕ → ℕ → Bool → Built → Type 0
-IsBuiltAs text depth plain b = FollowsText text depth (factor_of plain) b.image.items × IsScheduledAs plain b
-
--- the line of a build
-abbrev pub built_text : Bool → Built → List ℕ
-built_text true b = codes "blocks " ++ (decimal b.blocks ++ codes " plain\n")
-built_text false b = codes "blocks " ++ (decimal b.blocks ++ (codes " " ++ (counts_text (counts_of b.report) ++ 10 ∷ [])))
-
--- `mcc build SOURCE IMAGE`: SOURCE was read, and then IMAGE became the bytes of an image of its text
-pub record Builds (source image : List ℕ) (depth : ℕ) (plain : Bool) (status : ℕ) (requests : List Request)
-    (printed : List ℕ) : Type 0 where
-  pub text : List ℕ
-  pub built : Built
-  pub asked : requests ≡ Read source text ∷ (Written image built.image.items ∷ [])
-  pub promised : IsBuiltAs text depth plain built
-  pub line : printed ≡ built_text plain built
-  pub ends : status ≡ 0
-
--- the same where it ended by a fault: IMAGE isn't touched but by the bytes of an image of the text
-pub data StopsBuild (source image : List ℕ) (depth : ℕ) (plain : Bool) : List Request → List ℕ → Type 0 where
-  unread : (fault : FileFault) → StopsBuild source image depth plain (NotRead source fault ∷ []) (host_fault_text (reading_fault fault))
-  faulty : (text : List ℕ) (fault : BuildFault) → IsBuildFault text fault
-      → StopsBuild source image depth plain (Read source text ∷ []) (build_fault_text fault)
-  unwritten : (text : List ℕ) (built : Built) → IsBuiltAs text depth plain built → (fault : FileFault)
-      → StopsBuild source image depth plain (Read source text ∷ (NotWritten image built.image.items fault ∷ []))
-      (host_fault_text (writing_fault fault))
-  untold : (text : List ℕ) (built : Built) → IsBuiltAs text depth plain built
-      → StopsBuild source image depth plain (Read source text ∷ (Written image built.image.items ∷ [])) (host_fault_text CannotWrite)
-
--- each word of output in decimal on a line
-abbrev pub words_text : List ℕ → List ℕ
-words_text words = flat_map (λ w. decimal w ++ 10 ∷ []) words
 
 -- what is printed of a run: its output, and how it ended
 abbrev pub PrintsRun : Ran → List ℕ → Type 0
 PrintsRun ran printed = printed ≡ words_text ran.output.items ++ (end_text ran.end ++ 10 ∷ [])
 
--- the same of an image's
-abbrev pub PrintsMachine : MachineRan → List ℕ → Type 0
-PrintsMachine ran printed = printed ≡ words_text ran.output.items ++ (ending_text ran.end ++ 10 ∷ [])
-
 -- `mcc interp SOURCE`
 abbrev pub Interps : (source : List ℕ) → (depth steps : ℕ) → (status : ℕ) → List Request → List ℕ → Type 0
 Interps source depth steps =
     AnswersFile (λ text ran. IsRun text depth steps (outcome_of ran)) PrintsRun (λ ran. end_status ran.end) source
-
--- `mcc run IMAGE`
-abbrev pub Runs : (image : List ℕ) → (steps : ℕ) → (status : ℕ) → List Request → List ℕ → Type 0
-Runs image steps =
-    AnswersFile (λ bytes ran. IsImageRun bytes steps (machine_outcome_of ran)) PrintsMachine (λ ran. ending_status ran.end) image
 
 -- `mcc list IMAGE`
 abbrev pub Lists : (image : List ℕ) → (status : ℕ) → List Request → List ℕ → Type 0
@@ -126,18 +58,10 @@ Assembles image = AnswersFile (λ bytes page. IsOfImage bytes × IsPage page) Pr
 abbrev pub Shows : (source : List ℕ) → (status : ℕ) → List Request → List ℕ → Type 0
 Shows source = AnswersFile (λ text page. IsFaultless text × IsPage page) PrintsPage (λ _. 0) source
 
--- standard output was refused
-abbrev pub IsRefused : HostFault → Type 0
-IsRefused fault = fault ≡ CannotWrite
-
 -- these where they ended by a fault
 abbrev pub StopsInterp : (source : List ℕ) → (depth steps : ℕ) → List Request → List ℕ → Type 0
 StopsInterp source depth steps =
     StopsFile (λ text ran. IsRun text depth steps (outcome_of ran)) IsInterpFault interp_fault_text IsRefused source
-
-abbrev pub StopsRun : (image : List ℕ) → (steps : ℕ) → List Request → List ℕ → Type 0
-StopsRun image steps =
-    StopsFile (λ bytes ran. IsImageRun bytes steps (machine_outcome_of ran)) IsImageFault image_fault_text IsRefused image
 
 abbrev pub StopsList : (image : List ℕ) → List Request → List ℕ → Type 0
 StopsList image =
@@ -172,10 +96,6 @@ Stops (Run image steps) requests told = StopsRun image.now steps requests told
 Stops (Listing image false) requests told = StopsList image.now requests told
 Stops (Listing image true) requests told = StopsAssembly image.now requests told
 Stops (Show source stage function dot) requests told = StopsShow source.now requests told
-
--- what is told beside a run that is wrong or stuck: why, in lines of printable ASCII; beside any other nothing
-abbrev pub IsReason : (status : ℕ) → List (List ℕ) → Type 0
-IsReason status told = All (All IsShown) told × ((status ≡ 3 → ⊥) → told ≡ [])
 
 -- what a command tells beside its answer
 abbrev pub Remarks : Command → (status : ℕ) → List (List ℕ) → Type 0

@@ -1,106 +1,21 @@
-// The commands on images.
+// The commands that show an image.
 
-ghost use Rattle.std.specs.Prelude.{◌≡◌, ◌≢◌, ◌≤◌, All, IfErr, IfOk};
+ghost use Rattle.std.specs.Prelude.{◌≡◌, ◌≤◌, All, IfErr, IfOk};
 ghost use Rattle.std.specs.String.{string_bytes};
 ghost use Rattle.commands.specs.Requests.{IsNothing};
 ghost use Rattle.block_text.specs.Shown.{IsShown};
-ghost use Rattle.driver.specs.ImageRuns.{IsListing, IsOfImage};
-ghost use Rattle.driver.specs.Program.{IsPage, IsRefused, PrintsPage};
+ghost use Rattle.build_command.specs.Commands.{IsRefused};
+ghost use Rattle.driver.specs.Listings.{IsListing, IsOfImage};
+ghost use Rattle.driver.specs.Program.{IsPage, PrintsPage};
 ghost use Rattle.image.specs.Images.{IsImageFault};
 ghost use Rattle.image.specs.Texts.{image_fault_text};
-ghost use Rattle.driver.specs.Texts.{ending_status};
 
-use crate::image_runs::{list_image, run_image};
-use crate::reasons::{stuck_page, tell_page};
+use crate::listings::list_image;
 use crate::show_commands::print_page;
-use crate::texts::{EndingLine, print_run};
 use asm_text::source;
 use commands::{Complaints, FileCommand, HostFault, Output, tell};
 use image::{ImageFault, read_image};
-use mips_machine::MachineRan;
-use mips_steps::Ending;
 use std::alloc::Global;
-
-/// The status of an image's run.
-pub fn ending_status(end: Ending) -> u8
-    ensures status { result ≡ ending_status end }
-    ensures most { result ≤ 4 }
-    ensures not_wrong_words { result ≢ 2 }
-    ensures no_fault { result ≢ 1 }
-{
-    match end {
-        Ending::Halt(_) => 0,
-        Ending::Stuck(_) => 3,
-        Ending::More => 4,
-    }
-}
-
-/// `mcc run`, for so many words.
-#[derive(Clone, Copy)]
-pub(crate) struct RunCommand {
-    pub(crate) steps: u64,
-}
-
-impl FileCommand for RunCommand {
-    ghost use Rattle.mips_machine.specs.Views.{outcome_of};
-    ghost use Rattle.driver.specs.ImageRuns.{IsImageRun};
-    ghost use Rattle.driver.specs.Program.{IsReason, IsRefused, PrintsMachine};
-
-    type Answer = MachineRan;
-
-    type Fault = ImageFault;
-
-    ghost answers = { λ s bytes ran. IsImageRun bytes s.steps (outcome_of ran) };
-
-    ghost faults = { λ s bytes fault. IsImageFault bytes fault };
-
-    ghost prints = { λ s ran printed. PrintsMachine ran printed };
-
-    ghost status = { λ ran. ending_status ran.end };
-
-    ghost most = { 4 };
-
-    ghost line = { image_fault_text };
-
-    ghost unprinted = { IsRefused };
-
-    ghost remarks = { IsReason };
-
-    fn work(&self, alloc: Global, bytes: &[u8]) -> Result<MachineRan, ImageFault> {
-        run_image(alloc, bytes, self.steps)
-    }
-
-    fn print<W: Output>(
-        &self,
-        _alloc: Global,
-        _bytes: &[u8],
-        answer: &MachineRan,
-        out: &mut W,
-    ) -> Result<u8, HostFault> {
-        match print_run(out, answer.output.as_slice(), &EndingLine(answer.end)) {
-            Ok(()) => Ok(ending_status(answer.end)),
-            Err(_) => Err(HostFault::CannotWrite),
-        }
-    }
-
-    fn remark<E: Complaints>(&self, alloc: Global, bytes: &[u8], answer: &MachineRan, err: &mut E) {
-        match answer.end {
-            Ending::Stuck(_) => tell_page(err, stuck_page(alloc, bytes, self.steps)),
-            Ending::Halt(_) | Ending::More => {}
-        }
-    }
-
-    fn tell<E: Complaints>(
-        &self,
-        _alloc: Global,
-        _file: &str,
-        _bytes: &[u8],
-        fault: ImageFault,
-        err: &mut E,
-    ) -> u8 {
-        tell(err, &fault)
-    }
-}
 
 /// `mcc list`.
 #[derive(Clone, Copy)]

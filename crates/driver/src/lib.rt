@@ -1,36 +1,25 @@
 //! The program's commands over bytes, files and writers.
 //!
 //! `interp` is the whole path of `mcc interp`: the run of the program that the text spells, or its first fault
-//! (`specs/Interps.antt`). `build` is that of `mcc build`, and `build_plain` with `--plain`: the bytes of an image that
-//! follows the program (`specs/Follows.antt`), and the report of its scheduled unit (`specs/Builds.antt`). `run_image`
-//! and `list_image` are those of `mcc run` and `mcc list` (`specs/ImageRuns.antt`). `mcc check` is the crate
-//! check_command, `mcc show` the crate show, and what commands share is the crate commands. `mcc` is the whole program,
-//! which `main` calls with the real files and streams: all that it asks of them, prints and ends by
-//! (`specs/Program.antt`). It takes the words of the command line by the crate command_line. How answers and faults
-//! print stands in `specs/Texts.antt`; `print_run` and `print_built` print them, `tell_interp`, `tell_build` and
-//! `tell_stages` tell faults, over a stream alone, for hosts without files; `stages` is what `mcc show` prints.
+//! (`specs/Interps.antt`), and `list_image` that of `mcc list` (`specs/Listings.antt`). `mcc build` and `mcc run` are the
+//! crate build_command, `mcc check` the crate check_command, `mcc show` the crate show, and what commands share is the
+//! crate commands. `mcc` is the whole program, which `main` calls with the real files and streams: all that it asks of
+//! them, prints and ends by (`specs/Program.antt`). It takes the words of the command line by the crate command_line. How
+//! ends and faults of a text's runs print stands in `specs/Texts.antt`; `tell_interp` and `tell_stages` tell faults, over a
+//! stream alone, for hosts without files; `stages` is what `mcc show` prints. `build`, `run_image`, `check` and their like
+//! are exported here too.
 //!
 //! What is promised:
 //! - `driver::interp`: where it is Ok, the text spells a program, the program has no fault, and the answer is what so
 //!   many steps of its one typed program come to within the depth (`IsRun`); else the fault is the text's own, or the
 //!   first of the program that it spells (`IsInterpFault`). A text spells one program at most and a program has one
 //!   typing at most, so there is no other answer; nor has a text two faults (`one_reading`).
-//! - `driver::build` and `build_one` (without threads), for every scheduler, and `build_plain`: where they are Ok, the
-//!   text spells a program without fault and the bytes are those of an image that follows it (`follows`:
-//!   `FollowsText`): for every number of steps after which the source isn't wrong there is a number of words after
-//!   which the machine has the same output, isn't stuck, and has halted with a word exactly where the source is done
-//!   with it; a word stands for at most 513 steps, in a plain image for one. Image, report and number of blocks are
-//!   those of one scheduled unit (`scheduled`: `IsScheduledBuild`), and bytes are those of one image at most
-//!   (`one_image`). A fault is the text's own, or the first of the program that it spells (`IsBuildFault`). A Limit of
-//!   lowering comes only where the program has too many pseudo-registers or blocks for RTL (`IsTooLongForRtl`). Of those
-//!   of selection and of assembly the contract says no more than that the text spells a program without faults; that
-//!   they aren't told too early is tested. 30 behind the types comes only of such a text too.
-//! - `driver::run_image` is exactly the image's run (`IsImageRun`), and `list_image` its listing, where the bytes are
-//!   an image's, else the first test that fails.
+//! - `driver::list_image` is exactly the image's listing (`IsListing`), where the bytes are an image's, else the first test
+//!   that fails.
 //! - `Display` of answers and faults is exact. The status of a verdict that could be printed is `exit_status` of it,
 //!   and that of a run is that of its end (`end_status`). The status of `driver::mcc` is at most 4, and never 2 (wrong
 //!   words) where clap takes the words; that of `mcc_check` is at most 3, and never 2 where clap takes the words as
-//!   those of `check`.
+//!   those of `check`, and that of `mcc_build` never where it takes them as those of `build` or `run`.
 //! - `driver::mcc`, over any files and any standard error, where clap takes the words: unless the status is 1, the
 //!   words are a command, all that was asked of the files, what standard output took and the status are those of an
 //!   answer that the command's own call may give, with the words' depth, steps and `--plain` (`answered`: `IsAnswered`
@@ -62,30 +51,26 @@
 //!   is long, and the caret), what is wrong there and the hint (tests/messages); files that can't be read or written;
 //!   `mcc interp` at each limit of a text's sizes; check texts, their verdicts, and the line of what spells nothing;
 //!   wrong words, and the text of help; and (tests/examples) what each file of crates/example_files/data prints, and its
-//!   status. `mcc_check` has the same answers.
+//!   status. `mcc_check` and `mcc_build` have the same answers.
 #![tactic(auto)]
 
-mod build_commands;
-mod builds;
 mod image_commands;
-mod image_runs;
-mod offsets;
+mod listings;
 mod program;
 mod reasons;
-mod scheduled_builds;
 mod show_commands;
 mod source_runs;
 mod texts;
 
-pub use build_commands::{print_built, tell_build};
-pub use builds::{BuildFault, Built, Limit, build_plain, unit_of};
+pub use build_command::{
+    BuildFault, BuildOpts, Built, EndingLine, Limit, build, build_one, build_plain, ending_status,
+    print_built, print_run, run_image, tell_build, unit_of,
+};
 pub use check_command::{CheckAnswer, CheckFault, check};
 pub use command_line::{Command, words};
 pub use commands::{FileFault, Files};
-pub use image_commands::ending_status;
-pub use image_runs::{list_image, run_image};
+pub use listings::list_image;
 pub use program::{end_status, mcc, tell_interp};
-pub use scheduled_builds::{BuildOpts, build, build_one};
 pub use show_commands::{StagesFault, stages, tell_stages};
 pub use source_runs::{InterpFault, interp};
-pub use texts::{EndLine, EndingLine, print_run};
+pub use texts::EndLine;

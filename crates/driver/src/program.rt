@@ -5,23 +5,21 @@ ghost use Rattle.command_line.specs.Commands.{mcc_app};
 ghost use Rattle.commands.specs.Requests.{Asks, Does, IsSent, TellsBeside, TellsLine};
 ghost use Rattle.driver.specs.Program.{HasFaultyFile, IsAnswered, IsRemark, IsStopped};
 ghost use Rattle.driver.specs.Texts.{end_status, interp_fault_text};
-ghost use Rattle.term_table.specs.Passes.{InRange};
 
-use crate::build_commands::{Asked as AskedBuild, build_file};
-use crate::image_commands::{AssembleCommand, ListCommand, RunCommand};
-use crate::offsets::{interp_source_fault, place_of};
-use crate::reasons::{tell_page, wrong_page};
-use crate::scheduled_builds::BuildOpts;
+use crate::image_commands::{AssembleCommand, ListCommand};
+use crate::reasons::wrong_page;
 use crate::show_commands::ShowCommand;
-use crate::source_runs::{InterpFault, interp};
-use crate::texts::{EndLine, print_run};
+use crate::source_runs::{InterpFault, interp, source_fault};
+use crate::texts::EndLine;
+use build_command::{
+    AskedBuild, BuildOpts, build_file, phase_of, place_of, print_run, run_file, tell_page,
+};
 use check_command::{check_file, check_files, explain_file};
 use command_line::{Command, words};
 use commands::{
     Complaints, FileCommand, Files, HostFault, Output, answer_file, tell_placed, tell_words,
 };
 use runs::{End, Ran};
-use sched_phase::PhaseOpts;
 use show::Asked;
 use std::alloc::Global;
 use std::sync::Wait;
@@ -52,7 +50,7 @@ pub fn tell_interp<E: Complaints>(
     ensures status { result ≡ 1 }
     ensures told { TellsLine E.tells err.old (interp_fault_text fault) err.new }
 {
-    let place = place_of(alloc, source, text, interp_source_fault(fault));
+    let place = place_of(alloc, source, text, source_fault(fault));
     tell_placed(alloc, err, &fault, &place)
 }
 
@@ -66,7 +64,8 @@ struct InterpCommand {
 impl FileCommand for InterpCommand {
     ghost use Rattle.runs.specs.Runs.{outcome_of};
     ghost use Rattle.driver.specs.Interps.{IsInterpFault, IsRun};
-    ghost use Rattle.driver.specs.Program.{IsReason, IsRefused, PrintsRun};
+    ghost use Rattle.build_command.specs.Commands.{IsReason, IsRefused};
+    ghost use Rattle.driver.specs.Program.{PrintsRun};
 
     type Answer = Ran;
 
@@ -121,15 +120,6 @@ impl FileCommand for InterpCommand {
         err: &mut E,
     ) -> u8 {
         tell_interp(alloc, err, file, bytes, fault)
-    }
-}
-
-fn phase_of(workers: u32, nodes: u32, heads: u32) -> PhaseOpts
-    requires { InRange workers nodes heads }
-{
-    match PhaseOpts::new(workers as u64, nodes as u64, heads as u64) {
-        Some(phase) => phase,
-        None => unreachable!(),
     }
 }
 
@@ -205,9 +195,7 @@ pub fn mcc<T: Threads + Wait + Sync, F: Files, W: Output, E: Complaints>(
             };
             build_file(rt, alloc, &asked, files, out, err)
         }
-        Ok(Command::Run { image, steps }) => {
-            answer_file(alloc, &RunCommand { steps }, image, files, out, err)
-        }
+        Ok(Command::Run { image, steps }) => { run_file(alloc, image, steps, files, out, err) }
         Ok(Command::List { image, asm }) => {
             if asm {
                 answer_file(alloc, &AssembleCommand, image, files, out, err)

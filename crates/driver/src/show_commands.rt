@@ -4,12 +4,11 @@ ghost use Rattle.std.specs.Prelude.{◌≡◌, ◌⊎◌, All, IfErr, IfOk, OnOk
 ghost use Rattle.std.specs.Io.KnownBytes.{Appends};
 ghost use Rattle.commands.specs.Requests.{IsSent, TellsLine};
 ghost use Rattle.block_text.specs.Shown.{IsShown};
-ghost use Rattle.driver.specs.BuildFaults.{IsBuildFault, IsFaultless};
+ghost use Rattle.build_command.specs.BuildFaults.{IsBuildFault, IsFaultless};
 ghost use Rattle.driver.specs.Stages.{IsStagesFault, stages_fault_text};
 
-use crate::build_commands::tell_build;
-use crate::builds::{BuildFault, Limit, typed_of};
-use crate::reasons::{page, tell_page};
+use crate::reasons::page;
+use build_command::{BuildFault, Limit, tell_build, tell_page, typed_of};
 use c_front::read;
 use c_tree::{Declaration, Program};
 use commands::{Complaints, FileCommand, HostFault, Output, tell};
@@ -233,7 +232,8 @@ pub(crate) struct ShowCommand<'a> {
 
 impl<'a> FileCommand for ShowCommand<'a> {
     ghost use Rattle.commands.specs.Requests.{IsNothing};
-    ghost use Rattle.driver.specs.Program.{IsPage, IsRefused, PrintsPage};
+    ghost use Rattle.build_command.specs.Commands.{IsRefused};
+    ghost use Rattle.driver.specs.Program.{IsPage, PrintsPage};
 
     type Answer = Vec<u8>;
 

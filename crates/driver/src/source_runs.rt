@@ -7,6 +7,7 @@ use c_front::{FrontFault, read};
 use c_run::run;
 use c_statements::TypeFault;
 use c_types::check;
+use messages::SourceFault;
 use runs::Ran;
 use std::alloc::Global;
 
@@ -19,6 +20,15 @@ pub enum InterpFault {
     Types(TypeFault),
     /// Memory was refused to the run.
     NoMemory,
+}
+
+/// The fault of a run that lies in its text.
+pub(crate) fn source_fault(fault: InterpFault) -> Option<SourceFault> {
+    match fault {
+        InterpFault::Front(fault) => Some(SourceFault::Front(fault)),
+        InterpFault::Types(fault) => Some(SourceFault::Types(fault)),
+        InterpFault::NoMemory => None,
+    }
 }
 
 /// What the program that the text spells does within so many steps, with so many calls active at most.

@@ -1,18 +1,12 @@
-// How answers and faults print.
+// How the faults and the ends of a C text's runs print.
 
-ghost use Rattle.std.specs.Prelude.{Some, [], ◌∷◌, ◌++◌, IfSome, OnOk};
-ghost use Rattle.std.specs.Io.KnownBytes.{Appends};
-ghost use Rattle.commands.specs.Requests.{IsSent};
-ghost use Rattle.driver.specs.Texts.{build_fault_text, end_text, ending_text, interp_fault_text};
-ghost use Rattle.driver.specs.Program.{words_text};
+ghost use Rattle.std.specs.Prelude.{Some};
+ghost use Rattle.driver.specs.Texts.{end_text, interp_fault_text};
 
-use crate::builds::BuildFault;
 use crate::source_runs::InterpFault;
-use commands::Output;
-use mips_steps::Ending;
 use runs::End;
 use std::error::Error;
-use std::{fmt, io};
+use std::fmt;
 
 impl fmt::Display for InterpFault {
     ghost output = { λ e. Some (interp_fault_text e) };
@@ -28,21 +22,6 @@ impl fmt::Display for InterpFault {
 
 impl Error for InterpFault {}
 
-impl fmt::Display for BuildFault {
-    ghost output = { λ e. Some (build_fault_text e) };
-
-    fn fmt<W: fmt::Write>(&self, f: &mut fmt::Formatter<W>) -> fmt::Result {
-        match self {
-            BuildFault::Front(fault) => write!(f, "{fault}"),
-            BuildFault::Types(fault) => write!(f, "{fault}"),
-            BuildFault::Limit(_) => f.write_str("fault 20 Limit"),
-            BuildFault::NoMemory => f.write_str("fault 30 NoMemory"),
-        }
-    }
-}
-
-impl Error for BuildFault {}
-
 /// The last line of a program's run.
 #[derive(Clone, Copy, Debug)]
 pub struct EndLine(pub End);
@@ -57,33 +36,4 @@ impl fmt::Display for EndLine {
             End::More => f.write_str("more"),
         }
     }
-}
-
-/// The last line of a machine's run.
-#[derive(Clone, Copy, Debug)]
-pub struct EndingLine(pub Ending);
-
-impl fmt::Display for EndingLine {
-    ghost output = { λ e. Some (ending_text e.0) };
-
-    fn fmt<W: fmt::Write>(&self, f: &mut fmt::Formatter<W>) -> fmt::Result {
-        match self.0 {
-            Ending::Halt(word) => write!(f, "done {word}"),
-            Ending::Stuck(rule) => write!(f, "stuck {rule}"),
-            Ending::More => f.write_str("more"),
-        }
-    }
-}
-
-/// Each word of output in unsigned decimal, and how the run ended, each on a line.
-pub fn print_run<W: Output, L: fmt::Display>(out: &mut W, output: &[u32], end: &L) -> io::Result<()>
-    ensures sent { OnOk result (IsSent W.sends out.new) }
-    ensures lines { OnOk result (IfSome (L.output end.now)
-        (λ last. Appends (W.contents out.old) (W.contents out.new) (words_text output.now ++ (last ++ 10 ∷ [])))) }
-{
-    for word in output {
-        writeln!(out, "{word}")?;
-    }
-    writeln!(out, "{end}")?;
-    out.send()
 }

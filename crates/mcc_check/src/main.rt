@@ -8,8 +8,8 @@ ghost use Rattle.mcc_check.specs.Words.{AreOfCheck};
 use check_command::{check_file, check_files, explain_file};
 use command_line::{Command, words};
 use commands::{Files, HostFault, tell, tell_words};
-use disk::{Disk, owned_words, tell_no_words};
-use std::alloc::{AllocError, Global};
+use disk::{Disk, named_words, owned_words, tell_no_words};
+use std::alloc::Global;
 use std::io::{self, BufWriter, Write};
 use std::process::ExitCode;
 use std::rt::Files as HostFiles;
@@ -69,16 +69,6 @@ fn work<T: Threads + Sync, R: HostFiles + AllocGlobal + Input, W: Write + Drop, 
         Ok(mut out) => answer(threads, rt.alloc(), args, &mut disk, &mut out, err),
         Err(_) => tell(err, &HostFault::NoMemory),
     }
-}
-
-/// The words of the command line behind `mcc`, as which help and errors name the program.
-fn named_words<'a>(alloc: Global, owned: &'a [String]) -> Result<Vec<&'a str>, AllocError> {
-    let mut args = Vec::new(alloc);
-    args.push("mcc")?;
-    for word in owned.iter().skip(1) {
-        args.push(word.as_str())?;
-    }
-    Ok(args)
 }
 
 fn main(rt: HostRuntime) -> ExitCode {

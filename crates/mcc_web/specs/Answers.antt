@@ -11,16 +11,18 @@ use Rattle.check_command.specs.Texts.{answer_text, check_fault_text, exit_status
 use Rattle.check_command.specs.declared.verdicts.CheckAnswer.{CheckAnswer}
 use Rattle.check_command.specs.declared.verdicts.CheckFault.{CheckFault}
 use Rattle.sched_phase.specs.Phases.{IsWholePhase}
-use Rattle.driver.specs.Program.{AnyOrder, built_text, factor_of, words_text}
-use Rattle.driver.specs.Texts.{build_fault_text, end_status, end_text, ending_status, ending_text, interp_fault_text}
+use Rattle.build_command.specs.Commands.{AnyOrder, built_text, factor_of, words_text}
+use Rattle.build_command.specs.Texts.{build_fault_text, ending_status, ending_text}
+use Rattle.build_command.specs.ImageRuns.{IsImageRun}
+use Rattle.build_command.specs.Builds.{IsPlain, IsScheduledBuild}
+use Rattle.build_command.specs.BuildFaults.{IsBuildFault, IsFaultless}
+use Rattle.build_command.specs.Follows.{FollowsText}
+use Rattle.build_command.specs.declared.builds.Built.{Built}
+use Rattle.build_command.specs.declared.builds.BuildFault.{BuildFault}
+use Rattle.driver.specs.Texts.{end_status, end_text, interp_fault_text}
 use Rattle.driver.specs.Interps.{IsInterpFault, IsRun}
-use Rattle.driver.specs.ImageRuns.{IsImageRun, IsListing}
-use Rattle.driver.specs.Builds.{IsPlain, IsScheduledBuild}
-use Rattle.driver.specs.BuildFaults.{IsBuildFault, IsFaultless}
-use Rattle.driver.specs.Follows.{FollowsText}
+use Rattle.driver.specs.Listings.{IsListing}
 use Rattle.driver.specs.Stages.{IsStagesFault, stages_fault_text}
-use Rattle.driver.specs.declared.builds.Built.{Built}
-use Rattle.driver.specs.declared.builds.BuildFault.{BuildFault}
 use Rattle.driver.specs.declared.show_commands.StagesFault.{StagesFault}
 use Rattle.driver.specs.declared.source_runs.InterpFault.{InterpFault}
 

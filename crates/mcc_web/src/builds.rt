@@ -1,9 +1,9 @@
 // The export that builds.
 
 ghost use Rattle.std.specs.Prelude.{◌≡◌, ◌≢◌, ◌≤◌, ◌++◌, IfErr, IfOk};
-ghost use Rattle.driver.specs.Program.{built_text, factor_of};
-ghost use Rattle.driver.specs.BuildFaults.{IsBuildFault};
-ghost use Rattle.driver.specs.Follows.{FollowsText};
+ghost use Rattle.build_command.specs.Commands.{built_text, factor_of};
+ghost use Rattle.build_command.specs.BuildFaults.{IsBuildFault};
+ghost use Rattle.build_command.specs.Follows.{FollowsText};
 ghost use Rattle.mcc_web.specs.Answers.{IsScheduledAs, SaysBuildFault, SaysImage};
 ghost use Rattle.mcc_web.specs.declared.told.TheConstants.{REFUSED};
 

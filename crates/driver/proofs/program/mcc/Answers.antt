@@ -1,4 +1,4 @@
-use Rattle.std.proofs.Common.{[], refl, inl, inr, map, subst, true, false}
+use Rattle.std.proofs.Common.{[], refl, inl, map, subst, true, false}
 use Rattle.commands.specs.Texts.{host_fault_text}
 use Rattle.command_line.specs.Commands.{IsCommand}
 use Rattle.command_line.specs.declared.command.Command.TheVariants.{Check, CheckEach, Interp, Build, Run, List as Listing, Show}
@@ -52,9 +52,9 @@ returns-in-Ok-Build-clause-quiet g c = λ taken other.
 
 pub returns-in-Ok-Run-clause-answered : goal.returns-in-Ok-Run-clause-answered
 returns-in-Ok-Run-clause-answered g c = λ taken other.
-    answered_by g.F.Files.answers (map (λ s. s.now) c.args.args.now) c.answer_file-in-Ok-Run.result (Run c.in-Ok-Run.image c.in-Ok-Run.steps)
+    answered_by g.F.Files.answers (map (λ s. s.now) c.args.args.now) c.run_file.result (Run c.in-Ok-Run.image c.in-Ok-Run.steps)
     (subst (IsCommand (map (λ s. s.now) c.args.args.now)) c.in-Ok-Run.field-0-is c.in-Ok-Run.ensures.command)
-    _ _ _ _ (c.answer_file-in-Ok-Run.ensures.answered other)
+    _ _ _ _ (c.run_file.ensures.answered other)
 
 pub returns-then-asm-clause-answered : goal.returns-then-asm-clause-answered
 returns-then-asm-clause-answered g c = λ taken other.

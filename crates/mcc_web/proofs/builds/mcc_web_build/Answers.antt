@@ -1,7 +1,7 @@
 use Rattle.std.proofs.Common.{ℕ, List, refl, subst, ◌∙◌}
 use Rattle.mcc_web.specs.Answers.{Gives}
 use Rattle.mcc_web.proofs.Fronts.{fault_is_told, line_given}
-use Rattle.driver.specs.Texts.{build_fault_text}
+use Rattle.build_command.specs.Texts.{build_fault_text}
 use Rattle.mcc_web.proofs.builds.mcc_web_build.Goals as goal
 
 pub returns-clause-faulty : goal.returns-clause-faulty

@@ -1,5 +1,5 @@
 use Rattle.mcc_web.proofs.Fronts.{fault_is_told, line_given}
-use Rattle.driver.specs.Texts.{build_fault_text}
+use Rattle.build_command.specs.Texts.{build_fault_text}
 use Rattle.mcc_web.proofs.orders.mcc_web_orders.Goals as goal
 
 pub returns-in-Err-clause-faulty : goal.returns-in-Err-clause-faulty

@@ -1,0 +1,46 @@
+-- The two halves of a build, as its private functions see them: up to a unit, and from a scheduled unit on.
+use Rattle.std.specs.Prelude.{◌≡◌, ℕ, List, length, slice_index}
+use Rattle.c_typed.specs.Trees.{TypedProgram}
+use Rattle.c_typed.specs.Meaning.{source_run}
+use Rattle.c_types.specs.Typed.{SpellsTyped}
+use Rattle.mips_isa.specs.Starting.{start_state}
+use Rattle.mblock.specs.Units.{UnitParts}
+use Rattle.mblock.specs.UnitRuns.{unit_run, TellsApart}
+use Rattle.image.specs.Images.{ImageParts, Second, IsImage, image_bytes}
+use Rattle.image.specs.Views.{counts_of}
+use Rattle.sched_phase.specs.Schedules.{ScheduledParts, IsScheduled}
+use Rattle.mips_asm.specs.Assembled.{IsAssembled, RunsAsUnit}
+use Rattle.mips_asm.specs.Emitted.{IsWithin}
+use Rattle.runs.specs.Refines.{Refines, Same, AtLeast}
+use Rattle.build_command.specs.declared.builds.Built.{Built}
+use Rattle.build_command.specs.declared.builds.BuildFault.{BuildFault}
+use Rattle.build_command.specs.declared.builds.BuildFault.TheVariants as faults
+use Rattle.build_command.specs.declared.builds.Limit.TheVariants as limits
+
+-- a unit of the program that the text spells, which refines it whatever words the calls have as links
+pub record IsUnitOf (text : List ℕ) (depth : ℕ) (u : UnitParts) : Type 0 where
+  pub program : TypedProgram
+  pub spelled : SpellsTyped text program
+  pub runs : (links : ℕ → ℕ) → TellsApart links u.blocks
+      → Refines AtLeast Same (source_run program depth) (unit_run u.blocks links (start_state u.globals))
+
+-- the bytes of a scheduled unit's image, which runs as the unit
+pub record IsWritten (s : ScheduledParts) (b : Built) : Type 0 where
+  pub orders : IsScheduled s
+  pub image : ImageParts
+  pub fits : IsImage image
+  pub bytes : b.image.items ≡ image_bytes image
+  pub assembled : IsAssembled s.unit s.orders image
+  pub counted : image.version ≡ Second s.report
+  pub runs : RunsAsUnit s.unit s.orders image
+  pub report : counts_of b.report ≡ s.report
+  pub blocks : b.blocks ≡ length s.unit.blocks
+
+-- why a scheduled unit has no image: it would be too long, or memory was refused
+abbrev pub IsUnwritten : ScheduledParts → BuildFault → Type 0
+IsUnwritten s (faults.Front f) = ⊥
+IsUnwritten s (faults.Types f) = ⊥
+IsUnwritten s (faults.Limit limits.Lowering) = ⊥
+IsUnwritten s (faults.Limit limits.Selection) = ⊥
+IsUnwritten s (faults.Limit limits.Assembly) = IsScheduled s × (IsWithin (slice_index s.unit.owner) s.orders → ⊥)
+IsUnwritten s faults.NoMemory = Unit {0}

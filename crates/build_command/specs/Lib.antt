@@ -1,0 +1,8 @@
+pub mod Texts
+pub mod ImageRuns
+pub mod Follows
+pub mod Builds
+pub mod BuildFaults
+pub mod Commands
+-- words of private functions
+pub mod Halves

@@ -1,0 +1,148 @@
+// The command that makes an image.
+
+ghost use Rattle.std.specs.Prelude.{◌≡◌, ◌≢◌, ◌≤◌, IfErr, IfOk, OnOk};
+ghost use Rattle.std.specs.Io.KnownBytes.{Appends};
+ghost use Rattle.commands.specs.Requests.{Asks, Does, IsSent, TellsLine};
+ghost use Rattle.build_command.specs.Texts.{build_fault_text};
+ghost use Rattle.build_command.specs.BuildFaults.{IsBuildFault};
+ghost use Rattle.build_command.specs.Commands.{Builds, IsBuiltAs, StopsBuild, built_text};
+
+use crate::builds::{BuildFault, Built, Limit, build_plain};
+use crate::places::{place_of, source_fault};
+use crate::scheduled_builds::{BuildOpts, build};
+use commands::{Complaints, Files, HostFault, Output, read_file, tell, tell_placed, write_file};
+use delay_filler::FilledOrder;
+use list_scheduler::ListOrder;
+use std::alloc::Global;
+use std::io;
+use std::sync::Wait;
+use std::thread::Threads;
+use steal_pool::Open;
+
+/// What a limit is about, for the line below its fault.
+fn limit_text(limit: Limit) -> &'static str {
+    match limit {
+        Limit::Lowering => {
+            "a function has more than 8000 values, or the program more than 1048575 branches and calls"
+        }
+        Limit::Selection => {
+            "a call takes more than 32000 bytes of stack, all calls of --depth more than 16777216, \
+             or the program has more than 1048576 blocks"
+        }
+        Limit::Assembly => {
+            "a function has more than 32000 words of code, or the program more than 1048576"
+        }
+    }
+}
+
+/// The line of the fault, and below it where it lies; apart, since what is said of it is let go before a limit's line.
+fn tell_source_fault<E: Complaints>(
+    alloc: Global,
+    err: &mut E,
+    source: &str,
+    text: &[u8],
+    fault: BuildFault,
+) -> u8
+    ensures status { result ≡ 1 }
+    ensures told { TellsLine E.tells err.old (build_fault_text fault) err.new }
+{
+    let place = place_of(alloc, source, text, source_fault(fault));
+    tell_placed(alloc, err, &fault, &place)
+}
+
+/// The line of a build's fault, and below it where it lies and what is said of it, or what the limit is about.
+pub fn tell_build<E: Complaints>(
+    alloc: Global,
+    err: &mut E,
+    source: &str,
+    text: &[u8],
+    fault: BuildFault,
+) -> u8
+    ensures status { result ≡ 1 }
+    ensures told { TellsLine E.tells err.old (build_fault_text fault) err.new }
+{
+    let status = tell_source_fault(alloc, err, source, text, fault);
+    if let BuildFault::Limit(limit) = fault {
+        let about = limit_text(limit);
+        err.line(&about);
+    }
+    status
+}
+
+/// The line of a build: how many blocks there are, and how many of them had which verdict.
+pub fn print_built<W: Output>(out: &mut W, plain: bool, built: &Built) -> io::Result<()>
+    ensures sent { OnOk result (IsSent W.sends out.new) }
+    ensures line { OnOk result (Appends (W.contents out.old) (W.contents out.new) (built_text plain built.now)) }
+{
+    let blocks = built.blocks;
+    if plain {
+        writeln!(out, "blocks {blocks} plain")?;
+    } else {
+        let report = built.report;
+        writeln!(out, "blocks {blocks} {report}")?;
+    }
+    out.send()
+}
+
+/// What is asked of a build.
+#[derive(Clone, Copy, Debug)]
+pub struct AskedBuild<'a> {
+    pub source: &'a str,
+    pub image: &'a str,
+    pub plain: bool,
+    pub options: BuildOpts,
+}
+
+fn built_as_asked<T: Threads + Wait + Sync>(
+    rt: &T,
+    alloc: Global,
+    text: &[u8],
+    asked: &AskedBuild<'_>,
+) -> Result<Built, BuildFault>
+    requires { 1 ≤ asked.now.options.depth }
+    ensures built { IfOk result (IsBuiltAs text.now asked.now.options.depth asked.now.plain) }
+    ensures fault { IfErr result (IsBuildFault text.now) }
+{
+    if asked.plain {
+        build_plain(alloc, text, asked.options.depth)
+    } else {
+        let scheduler = FilledOrder(ListOrder);
+        build(rt, alloc, text, &asked.options, &scheduler, &Open)
+    }
+}
+
+/// Builds the C program of a file. The image's file is written before anything is printed, and isn't touched where the
+/// build fails.
+pub fn build_file<T: Threads + Wait + Sync, F: Files, W: Output, E: Complaints>(
+    rt: &T,
+    alloc: Global,
+    asked: &AskedBuild<'_>,
+    files: &mut F,
+    out: &mut W,
+    err: &mut E,
+) -> u8
+    requires { 1 ≤ asked.now.options.depth }
+    ensures most { result ≤ 1 }
+    ensures answered { result ≢ 1 → Does F.answers files.old files.new (W.contents out.old) (W.contents out.new)
+        (Builds asked.now.source.now asked.now.image.now asked.now.options.depth asked.now.plain result) }
+    ensures sent { result ≢ 1 → IsSent W.sends out.new }
+    ensures quiet { result ≢ 1 → err.new ≡ err.old }
+    ensures stopped { result ≡ 1 → Asks F.answers files.old files.new E.tells err.old err.new
+        (StopsBuild asked.now.source.now asked.now.image.now asked.now.options.depth asked.now.plain) }
+{
+    let text = match read_file(alloc, asked.source, files) {
+        Ok(text) => text,
+        Err(fault) => return tell(err, &fault),
+    };
+    let built = match built_as_asked(rt, alloc, text.as_slice(), asked) {
+        Ok(built) => built,
+        Err(fault) => return tell_build(alloc, err, asked.source, text.as_slice(), fault),
+    };
+    if let Err(fault) = write_file(asked.image, built.image.as_slice(), files) {
+        return tell(err, &fault);
+    }
+    match print_built(out, asked.plain, &built) {
+        Ok(()) => 0,
+        Err(_) => tell(err, &HostFault::CannotWrite),
+    }
+}

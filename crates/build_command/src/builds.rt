@@ -1,0 +1,125 @@
+// Builds without a schedule, and what all builds share.
+ghost use Rattle.std.specs.Prelude.{◌≤◌, IfOk, IfErr};
+ghost use Rattle.c_types.specs.Shape.{program_of};
+ghost use Rattle.c_types.specs.Typed.{SpellsTyped};
+ghost use Rattle.build_command.specs.Builds.{IsPlain, IsScheduledBuild};
+ghost use Rattle.build_command.specs.Follows.{FollowsText};
+ghost use Rattle.build_command.specs.BuildFaults.{IsBuildFault};
+ghost use Rattle.build_command.specs.Halves.{IsUnitOf, IsWritten, IsUnwritten};
+
+use c_front::{FrontFault, read};
+use c_statements::TypeFault;
+use c_types::{Typed, check};
+use image::{Counts, write_image};
+use mblock::Unit;
+use mips_asm::{AsmFault, assemble};
+use mips_select::{SelectFault, select};
+use rtl_lower::{LowerFault, lower};
+use sched_phase::{Scheduled, schedule_plain};
+use std::alloc::Global;
+
+/// Which limit a program exceeds that has no fault.
+#[derive(Clone, Copy, Debug, PartialEq, Eq)]
+pub enum Limit {
+    /// A function would have more than 8,000 pseudo-registers, or the program more than 1,048,575 blocks of them.
+    Lowering,
+    /// A frame would have more than 32,000 bytes, the frames of all calls more than 16,777,216, or the program more than
+    /// 1,048,576 blocks.
+    Selection,
+    /// A function would have more than 32,000 words of code, or the program more than 1,048,576.
+    Assembly,
+}
+
+/// Why a text has no image.
+#[derive(Clone, Copy, Debug, PartialEq, Eq)]
+pub enum BuildFault {
+    /// The text spells no program (faults 1 to 5, and 30).
+    Front(FrontFault),
+    /// A declaration or a use of a name is wrong (faults 10 to 20, and 30).
+    Types(TypeFault),
+    /// 20: the program exceeds a limit.
+    Limit(Limit),
+    /// 30: memory was refused.
+    NoMemory,
+}
+
+/// An image's bytes, how many blocks of it had which verdict, and how many there are.
+#[derive(Debug, Drop)]
+pub struct Built {
+    pub image: Vec<u8>,
+    pub report: Counts,
+    pub blocks: usize,
+}
+
+/// The typed program that the text spells.
+pub fn typed_of(alloc: Global, text: &[u8]) -> Result<Typed, BuildFault>
+    ensures typed { IfOk result (λ t. SpellsTyped text.now (program_of t)) }
+    ensures fault { IfErr result (IsBuildFault text.now) }
+{
+    let program = match read(alloc, text) {
+        Ok(program) => program,
+        Err(fault) => return Err(BuildFault::Front(fault)),
+    };
+    match check(alloc, program) {
+        Ok(typed) => Ok(typed),
+        Err(fault) => Err(BuildFault::Types(fault)),
+    }
+}
+
+/// The unit of the program that the text spells: its blocks, before they are put in order.
+pub fn unit_of(alloc: Global, text: &[u8], depth: u32) -> Result<Unit, BuildFault>
+    requires { 1 ≤ depth }
+    ensures unit { IfOk result (IsUnitOf text.now depth) }
+    ensures fault { IfErr result (IsBuildFault text.now) }
+{
+    let typed = typed_of(alloc, text)?;
+    let rtl = match lower(alloc, &typed) {
+        Ok(rtl) => rtl,
+        Err(LowerFault::Limit) => return Err(BuildFault::Limit(Limit::Lowering)),
+        Err(LowerFault::NoMemory) => return Err(BuildFault::NoMemory),
+    };
+    match select(alloc, &rtl, depth) {
+        Ok(unit) => Ok(unit),
+        Err(SelectFault::Limit) => Err(BuildFault::Limit(Limit::Selection)),
+        Err(SelectFault::NoMemory) => Err(BuildFault::NoMemory),
+    }
+}
+
+/// The bytes of a scheduled unit's image, with its counts.
+pub(crate) fn written(alloc: Global, scheduled: &Scheduled<'_>) -> Result<Built, BuildFault>
+    ensures written { IfOk result (IsWritten scheduled.now) }
+    ensures fault { IfErr result (IsUnwritten scheduled.now) }
+{
+    let report = scheduled.report();
+    let image = match assemble(alloc, scheduled) {
+        Ok(image) => image,
+        Err(AsmFault::Limit) => return Err(BuildFault::Limit(Limit::Assembly)),
+        Err(AsmFault::NoMemory) => return Err(BuildFault::NoMemory),
+    };
+    let Ok(bytes) = write_image(alloc, &image) else {
+        return Err(BuildFault::NoMemory);
+    };
+    Ok(Built {
+        image: bytes,
+        report,
+        blocks: scheduled.count(),
+    })
+}
+
+/// The image of the program that the text spells, every block in its plain order. It descends into the text: run it on a
+/// thread with a large stack where the text may be hostile.
+pub fn build_plain(alloc: Global, text: &[u8], depth: u32) -> Result<Built, BuildFault>
+    requires { 1 ≤ depth }
+    ensures follows { IfOk result (λ b. FollowsText text.now depth 1 b.image.items) }
+    ensures scheduled { IfOk result (IsScheduledBuild IsPlain) }
+    ensures fault { IfErr result (IsBuildFault text.now) }
+{
+    let unit = unit_of(alloc, text, depth)?;
+    let Ok(scheduled) = schedule_plain(alloc, &unit) else {
+        return Err(BuildFault::NoMemory);
+    };
+    match written(alloc, &scheduled) {
+        Ok(built) => Ok(built),
+        Err(fault) => Err(fault),
+    }
+}

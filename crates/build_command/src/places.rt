@@ -1,0 +1,37 @@
+// Where a fault of a C text lies, and what is said of it.
+
+use crate::builds::BuildFault;
+use commands::Place;
+use messages::{SourceFault, explain};
+use std::alloc::Global;
+
+/// The fault of a build that lies in its text.
+pub(crate) fn source_fault(fault: BuildFault) -> Option<SourceFault> {
+    match fault {
+        BuildFault::Front(fault) => Some(SourceFault::Front(fault)),
+        BuildFault::Types(fault) => Some(SourceFault::Types(fault)),
+        BuildFault::Limit(_) | BuildFault::NoMemory => None,
+    }
+}
+
+/// Where the fault of a text lies, and what is said of it.
+pub fn place_of<'a>(
+    alloc: Global,
+    source: &'a str,
+    text: &'a [u8],
+    fault: Option<SourceFault>,
+) -> Place<'a> {
+    let mut place = Place {
+        source,
+        text,
+        at: None,
+        about: None,
+    };
+    if let Some(fault) = fault {
+        place.at = fault.offset();
+        if place.at.is_some() {
+            place.about = explain(alloc, text, fault).ok();
+        }
+    }
+    place
+}
