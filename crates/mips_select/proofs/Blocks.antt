@@ -57,16 +57,11 @@ blocks_step globals starts entry place leaf heads f n k c i bound blocks b out o
     let size = at_drop_more (size_of_blocks heads) blocks i b within in
     let one = ap (λ (b : RBlock). count heads b.exit) b_is in
     let room = before.0 in
-    let first = own_block globals starts entry place leaf f (head_code leaf f n (heads i)) (next_of heads place k b.exit) b in (
+    let own = own_block globals starts entry place leaf f (head_code leaf f n (heads i)) (next_of heads place k b.exit) b ∷ behind heads place f b.exit in (
       omega (arith, room, size, one, c_is),
-      ap (λ l. l ++ blocks_from globals starts entry place leaf heads f n (k + c) (i + 1) rest) e
-          ∙ append_assoc out (first ∷ behind heads place f b.exit) (blocks_from globals starts entry place leaf heads f n (k + c) (i + 1) rest)
-          ∙ ap (λ c. out ++ first ∷ (behind heads place f b.exit ++ blocks_from globals starts entry place leaf heads f n (k + c) (i + 1) rest)) c_is
-          ∙ ap (λ j. out ++ first ∷ (behind heads place f b.exit ++ blocks_from globals starts entry place leaf heads f n (k + count heads b.exit) j rest))
-          next_i
-          ∙ ap (λ (b : RBlock). out ++ blocks_from globals starts entry place leaf heads f n k i (b ∷ rest)) b_is
-          ∙ sym (at_drop_more (λ bs. out ++ blocks_from globals starts entry place leaf heads f n k i bs) blocks i b within)
-          ∙ before.1,
+      made_more (blocks_from globals starts entry place leaf heads f n k i) blocks i b out out' own
+          (blocks_from globals starts entry place leaf heads f n (k + c) (i + 1) rest) all within b_is
+          (ap₂ (λ c j. own ++ blocks_from globals starts entry place leaf heads f n (k + c) j rest) (sym c_is) (sym next_i)) e before.1,
     )
 
 -- the table of a function
@@ -145,11 +140,8 @@ numbers_step k size i total funcs func out out' all within func_is size_is made 
     let one = ap (λ (f : RFunc). function_size f) func_is in
     let count = before.0 in (
       omega (arith, size_is, sizes, one, count),
-      ap₂ (λ l n. l ++ numbers_from n rest) made (ap (λ n. k + n) size_is)
-          ∙ append_assoc out (numbers_in k func.blocks.items) (numbers_from (k + function_size func) rest)
-          ∙ ap (λ (func : RFunc). out ++ numbers_from k (func ∷ rest)) func_is
-          ∙ sym (at_drop_more (λ l. out ++ numbers_from k l) funcs i func within)
-          ∙ before.1,
+      made_more (numbers_from k) funcs i func out out' (numbers_in k func.blocks.items) (numbers_from (k + size) rest) all within func_is
+          (ap (λ n. numbers_in k func.blocks.items ++ numbers_from (k + n) rest) (sym size_is)) made before.1,
     )
 
 pub functions_step : (globals : List RGlobal) (starts entry : ℕ → ℕ) (i total : ℕ) (funcs : List RFunc) (fs : List Frame) (func : RFunc) (f : Frame)
