@@ -1,7 +1,7 @@
 -- Loops over blocks.
 use Rattle.std.proofs.Common.{◌≡◌, ℕ, zero, suc, ◌+◌, ◌<◌, ◌≤◌, Bool, List, [], ◌∷◌, ◌++◌, drop, get_or, length, length-append, refl, sym, ap, ap₂, ◌∙◌, arith}
-use Rattle.std.specs.Prelude.{Some, slice_get, slice_index}
-use Rattle.std.proofs.lemmas.List.{append_assoc, at_drop_more, length-map}
+use Rattle.std.specs.Prelude.{◌-◌, Some, slice_get, slice_index, map, replicate}
+use Rattle.std.proofs.lemmas.List.{append_assoc, at_drop_more, length-map, map-append}
 use Rattle.std.proofs.lemmas.Option.{same_Some, none-some, slice_get_read}
 use Rattle.std.specs.declared.alloc.Global.{Global}
 use Rattle.std.specs.declared.vec.Vec.{Vec}
@@ -16,8 +16,9 @@ use Rattle.mips_select.specs.declared.heads.Head.{Head}
 use Rattle.mips_select.specs.Heads.{is_leaf, unnamed, namings_of, AreNamed, heads_in, heads_of, count, lead_in}
 use Rattle.mips_select.specs.Code.{head_code, own_block}
 use Rattle.mips_select.specs.Whole.{size_of_blocks, numbers, next_of, behind, blocks_from, place_in, lead_blocks, function_blocks, function_size}
-use Rattle.mips_select.specs.Whole.{functions_size, numbers_in, numbers_from, functions_blocks}
+use Rattle.mips_select.specs.Whole.{functions_size, numbers_in, numbers_from, entries_from, owners_from, functions_blocks}
 use Rattle.mips_select.proofs.Linked.{function_length}
+use Rattle.mips_select.proofs.Lists.{made_more}
 
 -- one more block that nothing names
 pub unnamed_more : (blocks : List RBlock) (i : ℕ) (table table' all : List Naming) → i < length blocks → table' ≡ table ++ Unnamed ∷ []
@@ -56,16 +57,11 @@ blocks_step globals starts entry place leaf heads f n k c i bound blocks b out o
     let size = at_drop_more (size_of_blocks heads) blocks i b within in
     let one = ap (λ (b : RBlock). count heads b.exit) b_is in
     let room = before.0 in
-    let first = own_block globals starts entry place leaf f (head_code leaf f n (heads i)) (next_of heads place k b.exit) b in (
+    let own = own_block globals starts entry place leaf f (head_code leaf f n (heads i)) (next_of heads place k b.exit) b ∷ behind heads place f b.exit in (
       omega (arith, room, size, one, c_is),
-      ap (λ l. l ++ blocks_from globals starts entry place leaf heads f n (k + c) (i + 1) rest) e
-          ∙ append_assoc out (first ∷ behind heads place f b.exit) (blocks_from globals starts entry place leaf heads f n (k + c) (i + 1) rest)
-          ∙ ap (λ c. out ++ first ∷ (behind heads place f b.exit ++ blocks_from globals starts entry place leaf heads f n (k + c) (i + 1) rest)) c_is
-          ∙ ap (λ j. out ++ first ∷ (behind heads place f b.exit ++ blocks_from globals starts entry place leaf heads f n (k + count heads b.exit) j rest))
-          next_i
-          ∙ ap (λ (b : RBlock). out ++ blocks_from globals starts entry place leaf heads f n k i (b ∷ rest)) b_is
-          ∙ sym (at_drop_more (λ bs. out ++ blocks_from globals starts entry place leaf heads f n k i bs) blocks i b within)
-          ∙ before.1,
+      made_more (blocks_from globals starts entry place leaf heads f n k i) blocks i b out out' own
+          (blocks_from globals starts entry place leaf heads f n (k + c) (i + 1) rest) all within b_is
+          (ap₂ (λ c j. own ++ blocks_from globals starts entry place leaf heads f n (k + c) j rest) (sym c_is) (sym next_i)) e before.1,
     )
 
 -- the table of a function
@@ -144,11 +140,8 @@ numbers_step k size i total funcs func out out' all within func_is size_is made 
     let one = ap (λ (f : RFunc). function_size f) func_is in
     let count = before.0 in (
       omega (arith, size_is, sizes, one, count),
-      ap₂ (λ l n. l ++ numbers_from n rest) made (ap (λ n. k + n) size_is)
-          ∙ append_assoc out (numbers_in k func.blocks.items) (numbers_from (k + function_size func) rest)
-          ∙ ap (λ (func : RFunc). out ++ numbers_from k (func ∷ rest)) func_is
-          ∙ sym (at_drop_more (λ l. out ++ numbers_from k l) funcs i func within)
-          ∙ before.1,
+      made_more (numbers_from k) funcs i func out out' (numbers_in k func.blocks.items) (numbers_from (k + size) rest) all within func_is
+          (ap (λ n. numbers_in k func.blocks.items ++ numbers_from (k + n) rest) (sym size_is)) made before.1,
     )
 
 pub functions_step : (globals : List RGlobal) (starts entry : ℕ → ℕ) (i total : ℕ) (funcs : List RFunc) (fs : List Frame) (func : RFunc) (f : Frame)
@@ -176,4 +169,48 @@ functions_step globals starts entry i total funcs fs func f out out' all k withi
           ∙ sym (at_drop_more (λ l. out ++ functions_blocks globals starts entry (length out) l (get_or fs i f ∷ fs')) funcs i func within)
           ∙ sym (at_drop_more (λ l. out ++ functions_blocks globals starts entry (length out) (drop i funcs) l) fs i f (omega (arith, within, same)))
           ∙ before.1,
+    )
+
+-- the number of one more block
+pub number_step : (heads : ℕ → Head) (k i bound : ℕ) (blocks : List RBlock) (b : RBlock) (n size : ℕ) (ns ns' all : List ℕ) → i < length blocks
+    → b ≡ get_or blocks i b → n ≡ k → size ≡ count heads b.exit → ns' ≡ ns ++ n ∷ []
+    → (k + size_of_blocks heads (drop i blocks) ≤ bound) × (ns ++ numbers heads k (drop i blocks) ≡ all)
+    → (k + size + size_of_blocks heads (drop (i + 1) blocks) ≤ bound) × (ns' ++ numbers heads (k + size) (drop (i + 1) blocks) ≡ all)
+number_step heads k i bound blocks b n size ns ns' all within is n_is size_is made before =
+    let rest = drop (i + 1) blocks in
+    let sizes = at_drop_more (size_of_blocks heads) blocks i b within
+    ∙ ap (λ (b : RBlock). count heads b.exit + size_of_blocks heads rest) (sym is) in
+    let room = before.0 in (
+      omega (arith, sizes, room, size_is),
+      made_more (numbers heads k) blocks i b ns ns' (k ∷ []) (numbers heads (k + size) rest) all within is
+          (ap (λ n. k ∷ numbers heads (k + n) rest) (sym size_is)) (made ∙ ap (λ n. ns ++ n ∷ []) n_is) before.1,
+    )
+
+-- the numbers of one more function, and how its blocks are named
+pub numbered_step : (k i bound total : ℕ) (funcs : List RFunc) (func : RFunc) (size entry : ℕ) (tables tables' : List (Vec Naming Global))
+    (table : Vec Naming Global) (entries entries' owners owners' : List ℕ) (names : List (List Naming)) (all_entries all_owners : List ℕ)
+    → i < length funcs → func ≡ get_or funcs i func → table.items ≡ namings_of func → size ≡ function_size func → entry ≡ k → size ≤ bound - k
+    → tables' ≡ tables ++ table ∷ [] → entries' ≡ entries ++ entry ∷ [] → owners' ≡ owners ++ replicate size entry
+    → (k ≤ bound) × (k + functions_size (drop i funcs) ≡ total)
+    × (map (λ (t : Vec Naming Global). t.items) tables ++ map namings_of (drop i funcs) ≡ names)
+    × (entries ++ entries_from k (drop i funcs) ≡ all_entries) × (owners ++ owners_from k (drop i funcs) ≡ all_owners)
+    → (k + size ≤ bound) × (k + size + functions_size (drop (i + 1) funcs) ≡ total)
+    × (map (λ (t : Vec Naming Global). t.items) tables' ++ map namings_of (drop (i + 1) funcs) ≡ names)
+    × (entries' ++ entries_from (k + size) (drop (i + 1) funcs) ≡ all_entries) × (owners' ++ owners_from (k + size) (drop (i + 1) funcs) ≡ all_owners)
+numbered_step k i bound total funcs func size entry tables tables' table entries entries' owners owners' names all_entries all_owners within is table_is
+    size_is entry_is room tables_is entries_is owners_is before =
+    let rest = drop (i + 1) funcs in
+    let sizes = at_drop_more functions_size funcs i func within ∙ ap (λ (f : RFunc). function_size f + functions_size rest) (sym is) in
+    let fits = before.0 in
+    let counted = before.1 in (
+      omega (arith, fits, room),
+      omega (arith, counted, sizes, size_is),
+      made_more (map namings_of) funcs i func (map (λ (t : Vec Naming Global). t.items) tables) (map (λ (t : Vec Naming Global). t.items) tables')
+          (namings_of func ∷ []) (map namings_of rest) names within is refl
+          (ap (map (λ (t : Vec Naming Global). t.items)) tables_is ∙ map-append (λ (t : Vec Naming Global). t.items) tables (table ∷ [])
+          ∙ ap (λ l. map (λ (t : Vec Naming Global). t.items) tables ++ l ∷ []) table_is) before.2,
+      made_more (entries_from k) funcs i func entries entries' (k ∷ []) (entries_from (k + size) rest) all_entries within is
+          (ap (λ n. k ∷ entries_from (k + n) rest) (sym size_is)) (entries_is ∙ ap (λ n. entries ++ n ∷ []) entry_is) before.3,
+      made_more (owners_from k) funcs i func owners owners' (replicate size k) (owners_from (k + size) rest) all_owners within is
+          (ap (λ n. replicate n k ++ owners_from (k + n) rest) (sym size_is)) (owners_is ∙ ap (λ n. owners ++ replicate size n) entry_is) before.4,
     )

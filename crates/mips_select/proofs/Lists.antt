@@ -1,6 +1,7 @@
 -- Elements of lists.
-use Rattle.std.proofs.Common.{◌≡◌, ℕ, zero, suc, ◌+◌, List, [], ◌∷◌, ◌++◌, length, Some, ap, subst, ◌∙◌, arith}
+use Rattle.std.proofs.Common.{◌≡◌, ℕ, zero, suc, ◌+◌, ◌<◌, List, [], ◌∷◌, ◌++◌, length, drop, get_or, Some, ap, subst, sym, ◌∙◌, arith}
 use Rattle.std.specs.Prelude.{All, slice_get}
+use Rattle.std.proofs.lemmas.List.{append_assoc, at_drop_more}
 use Rattle.std.proofs.lemmas.Option.{none-some, slice_get_within, get_or_from_slice_get}
 
 pub all_at : {A : Type 0} (P : A → Type 0) (xs : List A) (i : ℕ) (x : A) → All P xs → slice_get xs i ≡ Some x → P x
@@ -14,3 +15,12 @@ pub get_before : {A : Type 0} (a b : List A) (i : ℕ) (x : A) → slice_get a i
 get_before [] b i x e = absurd (none-some x e)
 get_before (y ∷ a) b zero x e = e
 get_before (y ∷ a) b (suc i) x e = get_before a b i x e
+
+-- what is made element by element: behind what one element gives comes what the rest gives
+pub made_more : {A B : Type 0} (f : List A → List B) (xs : List A) (i : ℕ) (x : A) (out out' own rest all : List B) → i < length xs → x ≡ get_or xs i x
+    → f (x ∷ drop (i + 1) xs) ≡ own ++ rest → out' ≡ out ++ own → out ++ f (drop i xs) ≡ all → out' ++ rest ≡ all
+made_more f xs i x out out' own rest all within is step made before =
+    ap (λ l. l ++ rest) made
+    ∙ append_assoc out own rest
+    ∙ ap (λ l. out ++ l) (sym step ∙ ap (λ y. f (y ∷ drop (i + 1) xs)) is ∙ sym (at_drop_more f xs i x within))
+    ∙ before
