@@ -118,6 +118,11 @@ arrive (Some (InSlot k)) t = store_word_at t (4 * k) ∷ []
 
 -- ---- operators
 
+-- an instruction, and a second one behind it, if there is one
+abbrev pub one_or_two : Plain → Option Plain → List Plain
+one_or_two i None = i ∷ []
+one_or_two i (Some j) = i ∷ j ∷ []
+
 -- an operator on registers a and b into register d; a test of equality is one of the difference
 abbrev pub operation : Op → (d a b : ℕ) → List Plain
 operation Add d a b = Alu alu.Addu d a b ∷ []

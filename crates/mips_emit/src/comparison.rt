@@ -2,7 +2,7 @@
 
 #![tactic(auto, using(crate::proofs::Left::some_behind, crate::proofs::Left::some_among))]
 
-ghost use Rattle.std.specs.Prelude.{◌≡◌, ◌++◌, Some};
+ghost use Rattle.std.specs.Prelude.{◌≡◌, ◌++◌, ◌∷◌, [], Some};
 ghost use Rattle.mblock.specs.declared.exit.Exit.TheVariants.{BranchPair, BranchZero};
 ghost use Rattle.rtl.specs.declared.operator.Op.TheVariants.{LtS, LeS};
 ghost use Rattle.mips_emit.specs.Frames.{IsReachable};
@@ -10,6 +10,7 @@ ghost use Rattle.mips_emit.specs.Locations.{facts_of, locations, known_in, opera
 ghost use Rattle.mips_emit.specs.Comparisons.{is_known_zero, is_immediate, opposite_if, form_of, opposite_op};
 ghost use Rattle.mips_emit.specs.Comparisons.{comparison_code, comparison_exit, is_asked, form_for, is_passing, is_result, returned};
 ghost use Rattle.mips_emit.specs.Comparisons.{compared, comparison_of, FitsComparison, tested};
+ghost use Rattle.mips_emit.specs.Code.{fetch, nop};
 ghost use Rattle.mips_emit.specs.Left.{Emits};
 
 use crate::facts::{Knowledge, is_lasting, known_word, operand};
@@ -166,6 +167,16 @@ fn right_of(m: &Comparison) -> Operand
     }
 }
 
+// An operand into register 3, or where it is, before a branch tests it.
+fn emit_tested(code: &mut Vec<Plain>, x: &Source) -> Result<(), AllocError>
+    requires { FitsSource x.now }
+    ensures { Emits result code.old.items (fetch 3 x.now ++ nop ∷ []) code.new.items }
+{
+    emit_fetch(code, register(3), x)?;
+    code.push(Plain::nop())?;
+    Ok(())
+}
+
 /// What stands before the branch; an Err is refused memory.
 pub(crate) fn emit_comparison(code: &mut Vec<Plain>, m: &Comparison) -> Result<(), AllocError>
     requires left { FitsSource m.now.x }
@@ -177,17 +188,10 @@ pub(crate) fn emit_comparison(code: &mut Vec<Plain>, m: &Comparison) -> Result<(
     match m.form {
         Form::OnPair(_) => {
             emit_fetch(code, inner, &m.x)?;
-            emit_fetch(code, register(3), &m.y)?;
-            code.push(Plain::nop())?;
+            emit_tested(code, &m.y)?;
         }
-        Form::OnLeft(_) => {
-            emit_fetch(code, register(3), &m.x)?;
-            code.push(Plain::nop())?;
-        }
-        Form::OnRight(_) => {
-            emit_fetch(code, register(3), &m.y)?;
-            code.push(Plain::nop())?;
-        }
+        Form::OnLeft(_) => emit_tested(code, &m.x)?,
+        Form::OnRight(_) => emit_tested(code, &m.y)?,
         Form::ByResult => emit_op(code, m.op, inner, rd, &left_of(m), &right_of(m))?,
         Form::ByOpposite => {
             emit_op(

@@ -4,10 +4,10 @@
 
 ghost use Rattle.std.specs.Prelude.{◌≡◌, ◌%◌, ◌++◌, ◌∷◌, [], true, nat_lt, if◌then◌else◌, Some, None};
 ghost use Rattle.mips_isa.specs.declared.inst.LogicOp.TheVariants.{Xori};
-ghost use Rattle.rtl.specs.declared.operator.Op.TheVariants.{Mul, Xor, Eq, Ne};
+ghost use Rattle.rtl.specs.declared.operator.Op.TheVariants.{Mul, Xor};
 ghost use Rattle.mips_isa.specs.declared.inst.Plain.TheVariants.{Shift, ShiftBy, Alu, Imm, Logic, MoveFrom, Divide};
 ghost use Rattle.mips_emit.specs.Locations.{FitsSource};
-ghost use Rattle.mips_emit.specs.Code.{is_small, half, fetch, operation, opposite, is_power, immediate, immediate_of, is_symmetric};
+ghost use Rattle.mips_emit.specs.Code.{is_small, half, fetch, one_or_two, operation, opposite, is_power, immediate, immediate_of, is_symmetric};
 ghost use Rattle.mips_emit.specs.Code.{turned_immediate_of};
 ghost use Rattle.mips_emit.specs.Code.{turned_less_of, code_by_less, code_by_left, code_by_right, code_by_word, op_code};
 ghost use Rattle.mips_emit.specs.Left.{Emits};
@@ -87,77 +87,76 @@ fn if_half(op: LogicOp, rt: Reg, rs: Reg, word: u32) -> Option<Plain>
     }
 }
 
-// A product, whose lower half goes to rd.
-fn emit_product(code: &mut Vec<Plain>, rd: Reg, rs: Reg, rt: Reg) -> Result<(), AllocError>
-    ensures { Emits result code.old.items (operation Mul rd rs rt) code.new.items }
-{
-    code.push(Plain::Multiply {
-        sign: Sign::Unsigned,
-        rs,
-        rt,
-    })?;
-    code.push(Plain::MoveFrom {
-        place: HiLo::Lo,
-        rd,
-    })?;
-    Ok(())
-}
-
 // A division, whose quotient or remainder goes to rd.
-fn emit_division(
-    code: &mut Vec<Plain>,
-    sign: Sign,
-    place: HiLo,
-    rd: Reg,
-    rs: Reg,
-    rt: Reg,
-) -> Result<(), AllocError>
-    ensures { Emits result code.old.items (Divide sign rs rt ∷ MoveFrom place rd ∷ []) code.new.items }
+fn division(sign: Sign, place: HiLo, rd: Reg, rs: Reg, rt: Reg) -> (Plain, Option<Plain>)
+    ensures { one_or_two result.0 result.1 ≡ Divide sign rs rt ∷ MoveFrom place rd ∷ [] }
 {
-    code.push(Plain::Divide { sign, rs, rt })?;
-    code.push(Plain::MoveFrom { place, rd })?;
-    Ok(())
-}
-
-// A test of equality: the difference, and then whether it is 0.
-fn emit_equal(code: &mut Vec<Plain>, rd: Reg, rs: Reg, rt: Reg) -> Result<(), AllocError>
-    ensures { Emits result code.old.items (operation Eq rd rs rt) code.new.items }
-{
-    code.push(alu(AluOp::Subu, rd, rs, rt))?;
-    code.push(imm(ImmOp::Sltiu, rd, rd, 1))?;
-    Ok(())
-}
-
-// The same turned.
-fn emit_unequal(code: &mut Vec<Plain>, rd: Reg, rs: Reg, rt: Reg) -> Result<(), AllocError>
-    ensures { Emits result code.old.items (operation Ne rd rs rt) code.new.items }
-{
-    code.push(alu(AluOp::Subu, rd, rs, rt))?;
-    code.push(alu(AluOp::Sltu, rd, Reg::ZERO, rd))?;
-    Ok(())
+    (
+        Plain::Divide { sign, rs, rt },
+        Some(Plain::MoveFrom { place, rd }),
+    )
 }
 
 // Not above: whether the second isn't less than the first.
-fn emit_not_above(
-    code: &mut Vec<Plain>,
-    less: AluOp,
-    rd: Reg,
-    rs: Reg,
-    rt: Reg,
-) -> Result<(), AllocError>
-    ensures { Emits result code.old.items (Alu less rd rt rs ∷ Logic Xori rd rd 1 ∷ []) code.new.items }
+fn not_above(less: AluOp, rd: Reg, rs: Reg, rt: Reg) -> (Plain, Option<Plain>)
+    ensures { one_or_two result.0 result.1 ≡ Alu less rd rt rs ∷ Logic Xori rd rd 1 ∷ [] }
 {
-    code.push(alu(less, rd, rt, rs))?;
-    code.push(Plain::Logic {
+    let turned = Plain::Logic {
         op: LogicOp::Xori,
         rt: rd,
         rs: rd,
         imm: 1,
-    })?;
-    Ok(())
+    };
+    (alu(less, rd, rt, rs), Some(turned))
 }
 
-// An operator on two registers.
+// A product, whose lower half goes to rd.
+fn product(rd: Reg, rs: Reg, rt: Reg) -> (Plain, Option<Plain>)
+    ensures { one_or_two result.0 result.1 ≡ operation Mul rd rs rt }
+{
+    let sign = Sign::Unsigned;
+    let place = HiLo::Lo;
+    (
+        Plain::Multiply { sign, rs, rt },
+        Some(Plain::MoveFrom { place, rd }),
+    )
+}
+
+// An operator on two registers: an instruction, and a second one where it takes two. A test of equality is the difference, and
+// then whether it is 0.
+fn operation(op: Op, rd: Reg, rs: Reg, rt: Reg) -> (Plain, Option<Plain>)
+    ensures { one_or_two result.0 result.1 ≡ operation op rd rs rt }
+{
+    match op {
+        Op::Add => (alu(AluOp::Addu, rd, rs, rt), None),
+        Op::Sub => (alu(AluOp::Subu, rd, rs, rt), None),
+        Op::Mul => product(rd, rs, rt),
+        Op::DivS => division(Sign::Signed, HiLo::Lo, rd, rs, rt),
+        Op::DivU => division(Sign::Unsigned, HiLo::Lo, rd, rs, rt),
+        Op::RemS => division(Sign::Signed, HiLo::Hi, rd, rs, rt),
+        Op::RemU => division(Sign::Unsigned, HiLo::Hi, rd, rs, rt),
+        Op::And => (alu(AluOp::And, rd, rs, rt), None),
+        Op::Or => (alu(AluOp::Or, rd, rs, rt), None),
+        Op::Xor => (alu(AluOp::Xor, rd, rs, rt), None),
+        Op::Shl => (shift_by(ShiftOp::Sll, rd, rs, rt), None),
+        Op::ShrU => (shift_by(ShiftOp::Srl, rd, rs, rt), None),
+        Op::ShrS => (shift_by(ShiftOp::Sra, rd, rs, rt), None),
+        Op::Eq => (
+            alu(AluOp::Subu, rd, rs, rt),
+            Some(imm(ImmOp::Sltiu, rd, rd, 1)),
+        ),
+        Op::Ne => (
+            alu(AluOp::Subu, rd, rs, rt),
+            Some(alu(AluOp::Sltu, rd, Reg::ZERO, rd)),
+        ),
+        Op::LtS => (alu(AluOp::Slt, rd, rs, rt), None),
+        Op::LtU => (alu(AluOp::Sltu, rd, rs, rt), None),
+        Op::LeS => not_above(AluOp::Slt, rd, rs, rt),
+        Op::LeU => not_above(AluOp::Sltu, rd, rs, rt),
+    }
+}
+
+// The same into code.
 fn emit_operation(
     code: &mut Vec<Plain>,
     op: Op,
@@ -167,26 +166,10 @@ fn emit_operation(
 ) -> Result<(), AllocError>
     ensures { Emits result code.old.items (operation op rd rs rt) code.new.items }
 {
-    match op {
-        Op::Add => code.push(alu(AluOp::Addu, rd, rs, rt))?,
-        Op::Sub => code.push(alu(AluOp::Subu, rd, rs, rt))?,
-        Op::Mul => emit_product(code, rd, rs, rt)?,
-        Op::DivS => emit_division(code, Sign::Signed, HiLo::Lo, rd, rs, rt)?,
-        Op::DivU => emit_division(code, Sign::Unsigned, HiLo::Lo, rd, rs, rt)?,
-        Op::RemS => emit_division(code, Sign::Signed, HiLo::Hi, rd, rs, rt)?,
-        Op::RemU => emit_division(code, Sign::Unsigned, HiLo::Hi, rd, rs, rt)?,
-        Op::And => code.push(alu(AluOp::And, rd, rs, rt))?,
-        Op::Or => code.push(alu(AluOp::Or, rd, rs, rt))?,
-        Op::Xor => code.push(alu(AluOp::Xor, rd, rs, rt))?,
-        Op::Shl => code.push(shift_by(ShiftOp::Sll, rd, rs, rt))?,
-        Op::ShrU => code.push(shift_by(ShiftOp::Srl, rd, rs, rt))?,
-        Op::ShrS => code.push(shift_by(ShiftOp::Sra, rd, rs, rt))?,
-        Op::Eq => emit_equal(code, rd, rs, rt)?,
-        Op::Ne => emit_unequal(code, rd, rs, rt)?,
-        Op::LtS => code.push(alu(AluOp::Slt, rd, rs, rt))?,
-        Op::LtU => code.push(alu(AluOp::Sltu, rd, rs, rt))?,
-        Op::LeS => emit_not_above(code, AluOp::Slt, rd, rs, rt)?,
-        Op::LeU => emit_not_above(code, AluOp::Sltu, rd, rs, rt)?,
+    let (first, second) = operation(op, rd, rs, rt);
+    code.push(first)?;
+    if let Some(inst) = second {
+        code.push(inst)?;
     }
     Ok(())
 }

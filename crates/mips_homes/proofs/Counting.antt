@@ -2,7 +2,7 @@
 use Rattle.std.proofs.Common.{◌≡◌, ℕ, zero, suc, ◌+◌, ◌<◌, ◌≤◌, List, [], ◌∷◌, ◌++◌, refl, sym, ap, ◌∙◌, subst, arith, length, drop, get_or, nat_lt}
 use Rattle.std.specs.Prelude.{if◌then◌else◌}
 use Rattle.std.proofs.Math.Seq.{drop-cons}
-use Rattle.std.proofs.lemmas.List.{append_assoc}
+use Rattle.std.proofs.lemmas.List.{append_assoc, drop_all}
 use Rattle.rtl.specs.Names.{occurrences, bound, exit_names, insts_names, blocks_names}
 use Rattle.mips_homes.specs.Counts.{Adds}
 use Rattle.rtl.specs.declared.instruction.RInst.{RInst}
@@ -26,12 +26,6 @@ adds_then us vs ws xs ys a b = record {
   by = λ x. (let p = a.by x in let q = b.by x in let r = occurrences_append xs ys x in omega (arith, p, q, r));
 }
 
-pub drop_end : {X : Type 0} (xs : List X) (i : ℕ) → length xs ≤ i → drop i xs ≡ []
-drop_end [] zero le = refl
-drop_end [] (suc i) le = refl
-drop_end (x ∷ xs) zero le = absurd (omega (arith, le))
-drop_end (x ∷ xs) (suc i) le = drop_end xs i (omega (arith, le))
-
 -- a step of a loop that counts the names of each item, and its end
 pub counts_step : {X : Type 0} (names : List X → List ℕ) (name : X → List ℕ) → ((x : X) (xs : List X) → names (x ∷ xs) ≡ name x ++ names xs)
     → (xs : List X) (i : ℕ) (x d : X) (start us vs : List ℕ) → i < length xs → x ≡ get_or xs i d → Adds us vs (name x)
@@ -45,7 +39,7 @@ counts_step names name split xs i x d start us vs lt is one before ys rest =
 pub counts_end : {X : Type 0} (names : List X → List ℕ) → names [] ≡ [] → (xs : List X) (i : ℕ) (start us : List ℕ) → length xs ≤ i
     → ((ys : List ℕ) → Adds us ys (names (drop i xs)) → Adds start ys (names xs)) → Adds start us (names xs)
 counts_end names none xs i start us le before =
-    before us (subst (λ l. Adds us us l) (sym (ap names (drop_end xs i le) ∙ none)) (adds_none us))
+    before us (subst (λ l. Adds us us l) (sym (ap names (drop_all i xs le) ∙ none)) (adds_none us))
 
 pub blocks_split : (b : RBlock) (bs : List RBlock) → blocks_names (b ∷ bs) ≡ (insts_names b.insts.items ++ exit_names b.exit) ++ blocks_names bs
 blocks_split b bs = sym (append_assoc (insts_names b.insts.items) (exit_names b.exit) (blocks_names bs))

@@ -1,8 +1,16 @@
--- The homes that the best and the others get.
-use Rattle.std.proofs.Common.{◌≡◌, ℕ, suc, ◌+◌, ⊎_elim, true, false, List, [], ◌∷◌, ◌++◌, Some, refl, sym, ap, ◌∙◌, subst, arith}
-use Rattle.std.specs.Prelude.{slice_get}
+-- The homes that the best and the others get, and the places of all.
+use Rattle.std.proofs.Common.{◌≡◌, ℕ, suc, ◌+◌, ◌<◌, ⊎_elim, Bool, true, false, List, [], ◌∷◌, ◌++◌, Option, Some, None, refl, sym, ap, ap₂, ◌∙◌, subst, arith}
+use Rattle.std.proofs.Common.{length, drop, get_or}
+use Rattle.std.specs.Prelude.{slice_get, if◌then◌else◌, not}
+use Rattle.std.proofs.lemmas.List.{append_assoc, at_drop_more}
+use Rattle.std.proofs.lemmas.Option.{none-some}
+use Rattle.rtl.specs.declared.block.RBlock.{RBlock}
 use Rattle.mips_homes.specs.HomedRun.{is_in}
-use Rattle.mips_homes.specs.Best.{IsHome, AreHomesOf}
+use Rattle.mips_homes.specs.Best.{IsHome, AreHomesOf, AreFirst}
+use Rattle.mips_homes.specs.Locals.{is_local}
+use Rattle.mips_homes.specs.Places.{free_register, home_or, also, places_from}
+use Rattle.mips_homes.specs.Walks.{is_read_first}
+use Rattle.mips_homes.specs.declared.locals.Sight.{Sight}
 use Rattle.mips_homes.proofs.Choosing.{one_if, got_push, length_one, is_in_at}
 use Rattle.mips_homes.specs.declared.homed.Home.{Home}
 use Rattle.mips_homes.specs.declared.homed.Home.TheVariants.{Reg, Slot}
@@ -33,3 +41,45 @@ pub home_slot : (best : List ℕ) (x used : ℕ) (homes homes' : List Home) → 
 home_slot best x used homes homes' e out before =
     let none : one_if (is_in best x) ≡ one_if false = ap one_if out in
     subst (λ l. AreHomesOf best (x + 1) l (used + 1)) (sym e) (more best x used (used + 1) homes (Slot used) before (out, before.counted) (omega (arith, none)))
+
+-- the first n registers, and one more
+pub none_first : (saved : List ℕ) → saved ≡ [] → AreFirst 0 saved
+none_first saved e = subst (λ l. AreFirst 0 l) (sym e) (record { long = refl; by = λ j r got. absurd (none-some r got) })
+
+pub one_more_first : (n : ℕ) (saved saved' : List ℕ) → saved' ≡ saved ++ (16 + n) ∷ [] → AreFirst n saved → AreFirst (n + 1) saved'
+one_more_first n saved saved' e before =
+    let long = length_one saved (16 + n) in
+    let old = before.long in
+    subst (λ l. AreFirst (n + 1) l) (sym e) (record {
+      long = omega (arith, long, old);
+      by = λ j r got. ⊎_elim (λ a. before.by j r a) (λ a. a.1 ∙ ap (λ k. 16 + k) (sym (a.0 ∙ old))) (got_push saved (16 + n) j r got);
+    })
+
+-- ---- places
+
+-- what a walk saw of x
+pub local_told : (bs : List RBlock) (x : ℕ) (local : Bool) (seen sights : List Sight) → local ≡ not (is_read_first seen x) → seen ≡ sights
+    → ((y : ℕ) → not (is_read_first sights y) ≡ is_local bs y) → local ≡ is_local bs x
+local_told bs x local seen sights is same all = is ∙ ap (λ l. not (is_read_first l x)) same ∙ all x
+
+pub register_told : (local local' : Bool) (taken taken' : List ℕ) (hint hint' register : Option ℕ)
+    → register ≡ (if local then free_register taken hint else None) → local ≡ local' → taken ≡ taken' → hint ≡ hint'
+    → register ≡ (if local' then free_register taken' hint' else None)
+register_told local local' taken taken' hint hint' register is same same_taken same_hint =
+    is ∙ ap (λ b. if b then free_register taken hint else None) same
+    ∙ ap₂ (λ t h. if local' then free_register t h else None) same_taken same_hint
+
+-- one more place
+pub places_step : (local : ℕ → Bool) (hint : ℕ → Option ℕ) (x : ℕ) (taken taken' : List ℕ) (homes out out' all : List Home) (d h : Home)
+    (register : Option ℕ) → x < length homes → register ≡ (if local x then free_register taken (hint x) else None) → taken' ≡ also taken register
+    → h ≡ home_or register (get_or homes x d) → out' ≡ out ++ h ∷ [] → out ++ places_from local hint x taken (drop x homes) ≡ all
+    → out' ++ places_from local hint (x + 1) taken' (drop (x + 1) homes) ≡ all
+places_step local hint x taken taken' homes out out' all d h register within register_is taken_is h_is out_is before =
+    let rest = drop (x + 1) homes in
+    let next : x + 1 ≡ suc x = omega arith in
+    ap (λ l. l ++ places_from local hint (x + 1) taken' rest) out_is
+    ∙ append_assoc out (h ∷ []) (places_from local hint (x + 1) taken' rest)
+    ∙ ap (λ h. out ++ h ∷ places_from local hint (x + 1) taken' rest) h_is
+    ∙ ap₂ (λ n t. out ++ home_or register (get_or homes x d) ∷ places_from local hint n t rest) next taken_is
+    ∙ ap (λ r. out ++ home_or r (get_or homes x d) ∷ places_from local hint (suc x) (also taken r) rest) register_is
+    ∙ sym (at_drop_more (λ hs. out ++ places_from local hint x taken hs) homes x d within) ∙ before

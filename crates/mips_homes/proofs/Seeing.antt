@@ -3,7 +3,7 @@ use Rattle.std.proofs.Common.{◌≡◌, ℕ, suc, ◌+◌, ◌<◌, ◌≤◌, 
 use Rattle.std.specs.Prelude.{if◌then◌else◌, ◌||◌, not}
 use Rattle.std.proofs.Common.{eqb-true}
 use Rattle.std.proofs.Math.Seq.{drop-cons}
-use Rattle.mips_homes.proofs.Counting.{drop_end}
+use Rattle.std.proofs.lemmas.List.{drop_all}
 use Rattle.rtl.specs.declared.instruction.RInst.{RInst}
 use Rattle.rtl.specs.declared.block.RBlock.{RBlock}
 use Rattle.mips_homes.specs.HomedRun.{is_in}
@@ -74,9 +74,9 @@ seen_start k s block before = record {
         go true e = let same = eqb-true n k e in absurd (omega (arith, same, lt))
         go false e = refl
 
-pub seen_step : (k : ℕ) (s t u : List Sight) (is : List RInst) (j : ℕ) (i : RInst) (block : RBlock) → j < length is → i ≡ get_or is j i
-    → Sees k t u (inst_reads i) (inst_writes i) → IsSeenTo k s t (drop j is) block → IsSeenTo k s u (drop (j + 1) is) block
-seen_step k s t u is j i block lt at one before = record {
+pub seen_step : (k : ℕ) (s t u : List Sight) (is is' : List RInst) (j : ℕ) (i d : RInst) (block : RBlock) → is' ≡ is → j < length is'
+    → i ≡ get_or is' j d → Sees k t u (inst_reads i) (inst_writes i) → IsSeenTo k s t (drop j is) block → IsSeenTo k s u (drop (j + 1) is) block
+seen_step k s t u is is' j i d block same lt at one before = record {
   first = λ x.
       ap₂ (λ f n. f || (n && reads_first (drop (j + 1) is) block.exit x)) (one.first x) (one.unwritten x)
       ∙ step (is_read_first t x) (is_unwritten k t x) (is_in (inst_reads i) x) (is_in (inst_writes i) x) (reads_first (drop (j + 1) is) block.exit x)
@@ -89,7 +89,8 @@ seen_step k s t u is j i block lt at one before = record {
     next = omega arith
 
     here : drop j is ≡ i ∷ drop (j + 1) is
-    here = drop-cons is j i lt ∙ ap (λ y. y ∷ drop (suc j) is) (sym at) ∙ ap (λ k. i ∷ drop k is) (sym next)
+    here = ap (drop j) (sym same) ∙ drop-cons is' j d lt ∙ ap (λ y. y ∷ drop (suc j) is') (sym at) ∙ ap (λ k. i ∷ drop k is') (sym next)
+        ∙ ap (λ l. i ∷ drop (j + 1) l) same
 
     step : (f n r w rest : Bool) → ((f || (n && r)) || ((n && not w) && rest)) ≡ (f || (n && (if r then true else if w then false else rest)))
     step true n r w rest = refl
@@ -115,7 +116,7 @@ all_step k xs i x d start s t lt at one before end rest =
 
 pub all_end : (k : ℕ) (xs : List ℕ) (i : ℕ) (start s : List Sight) → length xs ≤ i
     → ((end : List Sight) → Sees k s end (drop i xs) [] → Sees k start end xs []) → Sees k start s xs []
-all_end k xs i start s le before = before s (subst (λ l. Sees k s s l []) (sym (drop_end xs i le)) (sees_none k s))
+all_end k xs i start s le before = before s (subst (λ l. Sees k s s l []) (sym (drop_all i xs le)) (sees_none k s))
 
 -- ---- blocks
 
@@ -161,7 +162,7 @@ are_seen_step bs i b s t lt at one late before = record {
 pub are_seen_end : (bs : List RBlock) (i : ℕ) (s : List Sight) → length bs ≤ i → AreSeenTo i s (drop i bs) bs
     → (x : ℕ) → not (is_read_first s x) ≡ is_local bs x
 are_seen_end bs i s le before x =
-    all (not (is_read_first s x)) ∙ ap (λ l. not (is_read_first s x) && none_reads_first true l x) (sym (drop_end bs i le)) ∙ before.first x
+    all (not (is_read_first s x)) ∙ ap (λ l. not (is_read_first s x) && none_reads_first true l x) (sym (drop_all i bs le)) ∙ before.first x
   where
     all : (b : Bool) → b ≡ (b && true)
     all true = refl

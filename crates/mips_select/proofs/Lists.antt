@@ -1,7 +1,7 @@
 -- Elements of lists.
-use Rattle.std.proofs.Common.{◌≡◌, ℕ, zero, suc, ◌+◌, ◌<◌, List, [], ◌∷◌, ◌++◌, length, drop, get_or, Some, ap, subst, sym, ◌∙◌, arith}
+use Rattle.std.proofs.Common.{◌≡◌, ℕ, zero, suc, ◌+◌, ◌<◌, ◌≤◌, List, [], ◌∷◌, ◌++◌, length, drop, get_or, Some, ap, subst, sym, ◌∙◌, arith}
 use Rattle.std.specs.Prelude.{All, slice_get}
-use Rattle.std.proofs.lemmas.List.{append_assoc, at_drop_more}
+use Rattle.std.proofs.lemmas.List.{append_assoc, append-nil, at_drop_more, at_drop_all}
 use Rattle.std.proofs.lemmas.Option.{none-some, slice_get_within, get_or_from_slice_get}
 
 pub all_at : {A : Type 0} (P : A → Type 0) (xs : List A) (i : ℕ) (x : A) → All P xs → slice_get xs i ≡ Some x → P x
@@ -24,3 +24,8 @@ made_more f xs i x out out' own rest all within is step made before =
     ∙ append_assoc out own rest
     ∙ ap (λ l. out ++ l) (sym step ∙ ap (λ y. f (y ∷ drop (i + 1) xs)) is ∙ sym (at_drop_more f xs i x within))
     ∙ before
+
+-- behind the last element nothing is left
+pub all_made : {A B : Type 0} (f : List A → List B) (xs : List A) (i : ℕ) (out all : List B) → length xs ≤ i → f [] ≡ [] → out ++ f (drop i xs) ≡ all → out ≡ all
+all_made f xs i out all past none before =
+    sym (ap (λ l. out ++ l) (at_drop_all f xs i past ∙ none) ∙ append-nil out) ∙ before

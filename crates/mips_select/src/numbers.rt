@@ -114,14 +114,38 @@ fn push_table(tables: &mut Vec<Vec<Naming>>, table: Vec<Naming>) -> Result<(), A
     Ok(())
 }
 
-// The owners of the two blocks for start and end.
-fn first_owners(alloc: Global) -> Result<Vec<BlockNumber>, AllocError>
-    ensures { IfOk result (λ os. os.items ≡ 0 ∷ 0 ∷ []) }
+// Those of no functions: the two blocks for start and end.
+fn first_numbers(alloc: Global) -> Result<Numbers, AllocError>
+    ensures namings { IfOk result (λ n. n.namings.items ≡ []) }
+    ensures entries { IfOk result (λ n. n.entries.items ≡ []) }
+    ensures owners { IfOk result (λ n. n.owners.items ≡ 0 ∷ 0 ∷ []) }
 {
+    let namings = Vec::new(alloc);
+    let entries = Vec::new(alloc);
     let mut owners = Vec::new(alloc);
-    push_number(&mut owners, number(0))?;
-    push_number(&mut owners, number(0))?;
-    Ok(owners)
+    push_copies(&mut owners, number(0), 2)?;
+    Ok(Numbers {
+        namings,
+        entries,
+        owners,
+    })
+}
+
+// One more function, of so many blocks, the first of which is `entry`.
+fn push_function(
+    numbers: &mut Numbers,
+    table: Vec<Naming>,
+    entry: BlockNumber,
+    size: usize,
+) -> Result<(), AllocError>
+    ensures namings { OnOk result (numbers.new.namings.items ≡ numbers.old.namings.items ++ table ∷ []) }
+    ensures entries { OnOk result (numbers.new.entries.items ≡ numbers.old.entries.items ++ entry ∷ []) }
+    ensures owners { OnOk result (numbers.new.owners.items ≡ numbers.old.owners.items ++ replicate size entry) }
+{
+    push_number(&mut numbers.entries, entry)?;
+    push_copies(&mut numbers.owners, entry, size)?;
+    push_table(&mut numbers.namings, table)?;
+    Ok(())
 }
 
 // The numbers of functions, from 2 on.
@@ -133,9 +157,7 @@ pub(crate) fn number_functions(alloc: Global, functions: &[RFunc]) -> Result<Num
     ensures few { IfOk result (λ _. 2 + functions_size functions.now ≤ UNIT_BLOCKS) }
     ensures limit { IfErr result (λ e. e ≡ SelectFault.Limit → UNIT_BLOCKS < 2 + functions_size functions.now) }
 {
-    let mut namings = Vec::new(alloc);
-    let mut entries = Vec::new(alloc);
-    let mut owners = first_owners(alloc)?;
+    let mut numbers = first_numbers(alloc)?;
     let mut k: usize = 2;
     for func in functions {
         let table = all_namings(alloc, func.blocks.as_slice())?;
@@ -143,17 +165,10 @@ pub(crate) fn number_functions(alloc: Global, functions: &[RFunc]) -> Result<Num
         if size > UNIT_BLOCKS - k {
             return Err(SelectFault::Limit);
         }
-        let entry = number(k);
-        push_number(&mut entries, entry)?;
-        push_copies(&mut owners, entry, size)?;
-        push_table(&mut namings, table)?;
+        push_function(&mut numbers, table, number(k), size)?;
         k += size;
     }
-    Ok(Numbers {
-        namings,
-        entries,
-        owners,
-    })
+    Ok(numbers)
 }
 
 // The numbers of a function's blocks behind others, that of its first one being k, and how many blocks stand for it.

@@ -1,6 +1,10 @@
 use Rattle.mips_emit.proofs.Emitted.{insts_step}
-use Rattle.std.proofs.Common.{sym, subst}
-use Rattle.mips_emit.specs.Locations.{Facts, facts_of}
+use Rattle.std.proofs.Common.{List, [], ◌++◌, refl, sym, ap, subst, ◌∙◌, arith}
+use Rattle.std.specs.Prelude.{slice_index}
+use Rattle.std.proofs.lemmas.List.{append-nil, at_drop_all}
+use Rattle.rtl.specs.declared.instruction.RInst.{RInst}
+use Rattle.mips_emit.specs.Locations.{Facts, facts_of, locations, known_after}
+use Rattle.mips_emit.specs.Comparisons.{insts_code, last_after}
 use Rattle.mips_emit.specs.Left.{StopsAmong}
 use Rattle.mips_emit.proofs.Stopping.{known_step, stops, at_err, some_all}
 use Rattle.mips_emit.proofs.inst.emit_insts.Goals as goal
@@ -31,3 +35,25 @@ returns-in_err-learn-clause-left c =
     (facts_of c.args.facts.now) c.args.code.now.items c.loop-inst.inst-index c.loop-inst.left _ c.asked_if-asks.result
     c.comparison_of-comparison.result _ _ _ c.loop-inst-test.true c.loop-inst.invariant.0 c.loop-inst.invariant.4 c.loop-inst.invariant.1
     c.asked_if-asks.ensures c.comparison_of-comparison.ensures.value (some_all _ _ _ c.in_ok-emit_next.ensures)))
+
+pub loop-inst-init : goal.loop-inst-init
+loop-inst-init c = (omega arith, refl, refl, refl, refl)
+
+pub returns-clause-code : goal.returns-clause-code
+returns-clause-code c =
+    let at = locations c.args.frame.now in
+    let code_of = λ (is : List RInst). insts_code c.args.globals.now (slice_index c.args.starts.now) at c.args.asked (facts_of c.loop-inst.facts) is [] in
+    sym (ap (λ l. c.loop-inst.code.items ++ l) (at_drop_all code_of c.args.insts.now c.loop-inst.inst-index c.loop-inst-test.false)
+    ∙ append-nil c.loop-inst.code.items) ∙ c.loop-inst.invariant.1
+
+pub returns-clause-last : goal.returns-clause-last
+returns-clause-last c =
+    let at = locations c.args.frame.now in
+    sym (at_drop_all (λ is. last_after at c.args.asked (facts_of c.loop-inst.facts) is c.loop-inst.last) c.args.insts.now c.loop-inst.inst-index
+    c.loop-inst-test.false) ∙ c.loop-inst.invariant.3
+
+pub returns-clause-known : goal.returns-clause-known
+returns-clause-known c =
+    let at = locations c.args.frame.now in
+    sym (at_drop_all (λ is. known_after at is (facts_of c.loop-inst.facts)) c.args.insts.now c.loop-inst.inst-index c.loop-inst-test.false)
+    ∙ c.loop-inst.invariant.2

@@ -1,6 +1,35 @@
+use Rattle.std.proofs.Common.{◌≡◌, subst, arith}
+use Rattle.std.proofs.lemmas.Option.{slice_get_within}
+use Rattle.mips_homes.specs.Best.{AreHomesOf}
 use Rattle.mips_homes.proofs.Placing.{home_register, home_slot}
 use Rattle.mips_homes.proofs.frames.homes_of.Goals as goal
 use Rattle.mips_homes.proofs.frames.homes_of.Goals.{in-Some+in_ok-push-in-Some, in-None+in_ok-push-in-None}
+
+pub overflow_cast-j : goal.overflow_cast-j
+overflow_cast-j c =
+    let lt = slice_get_within c.args.best.now c.in-Some.j c.loop-x.x c.in-Some.ensures in
+    let few = c.requires.few in
+    omega (arith, lt, few)
+
+pub overflow_add-j : goal.overflow_add-j
+overflow_add-j c =
+    let lt = slice_get_within c.args.best.now c.in-Some.j c.loop-x.x c.in-Some.ensures in
+    let few = c.requires.few in
+    omega (arith, lt, few)
+
+pub overflow_cast-slots : goal.overflow_cast-slots
+overflow_cast-slots c =
+    let counted = c.loop-x.invariant.counted in
+    let lt = c.loop-x-test.true in
+    let small = c.requires.small in
+    omega (arith, counted, lt, small)
+
+pub overflow_add-slots : goal.overflow_add-slots
+overflow_add-slots c =
+    let counted = c.loop-x.invariant.counted in
+    let lt = c.loop-x-test.true in
+    let small = c.requires.small in
+    omega (arith, counted, lt, small)
 
 pub loop-x-preserved : goal.loop-x-preserved
 loop-x-preserved c = elim c.match-place_of.branch [
@@ -12,3 +41,10 @@ loop-x-preserved c = elim c.match-place_of.branch [
       (rw w.slots-is
       (home_slot c.args.best.now c.loop-x.x c.loop-x.slots c.loop-x.homes.items _ w.in_ok-push-in-None.ensures.items w.in-None.ensures c.loop-x.invariant))
 ]
+
+pub returns : goal.returns
+returns c =
+    let up = c.loop-x.auto.x-end in
+    let down = c.loop-x-test.false in
+    let all : c.loop-x.x ≡ c.args.n = omega (arith, up, down) in
+    subst (λ n. AreHomesOf c.args.best.now n c.loop-x.homes.items c.loop-x.slots) all c.loop-x.invariant

@@ -1,8 +1,8 @@
-use Rattle.std.proofs.Common.{◌∷◌, [], ◌+◌, ◌*◌, drop, sym, ap, arith}
+use Rattle.std.proofs.Common.{◌∷◌, [], ◌+◌, ◌*◌, drop, refl, sym, ap, arith}
 use Rattle.std.proofs.lemmas.List.Sums.{sum_by-drop_more}
 use Rattle.rtl.specs.Programs.{word_count}
 use Rattle.mips_select.specs.Data.{starts_from}
-use Rattle.mips_select.proofs.Lists.{made_more}
+use Rattle.mips_select.proofs.Lists.{made_more, all_made}
 use Rattle.mips_select.proofs.globals.globals_starts.Goals as goal
 
 pub loop-global-preserved : goal.loop-global-preserved
@@ -19,3 +19,6 @@ loop-global-preserved c =
           c.loop-global-test.true c.global-item.is (ap (λ w. n ∷ starts_from (n + 4 * w) rest) (sym words)) c.in_ok-push_start.ensures
           c.loop-global.invariant.1,
     )
+
+pub returns : goal.returns
+returns c = all_made (starts_from c.loop-global.n) c.args.globals.now c.loop-global.global-index _ _ c.loop-global-test.false refl c.loop-global.invariant.1

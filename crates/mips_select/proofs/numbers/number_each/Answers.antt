@@ -1,5 +1,7 @@
-use Rattle.std.proofs.Common.{◌∙◌, arith}
+use Rattle.std.proofs.Common.{refl, ◌∙◌, arith}
+use Rattle.mips_select.specs.Whole.{numbers_from}
 use Rattle.mips_select.proofs.Blocks.{read_at, functions_room, named_at, named_long, numbers_step}
+use Rattle.mips_select.proofs.Lists.{all_made}
 use Rattle.mips_select.proofs.numbers.number_each.Goals as goal
 
 pub bounds-namings-i : goal.bounds-namings-i
@@ -23,3 +25,13 @@ push_numbers-requires-clause-number c = functions_room c.loop-i.k c.loop-i.i _ c
 pub loop-i-preserved : goal.loop-i-preserved
 loop-i-preserved c = numbers_step c.loop-i.k _ c.loop-i.i _ c.args.functions.now c.index-functions-i.result _ _ _ c.loop-i-test.true c.index-functions-i.is
     c.in_ok-size.ensures.size c.in_ok-size.ensures.numbers c.loop-i.invariant
+
+pub overflow_add-k : goal.overflow_add-k
+overflow_add-k c =
+    let room = functions_room c.loop-i.k c.loop-i.i _ c.args.functions.now c.index-functions-i.result c.loop-i-test.true c.index-functions-i.is
+    c.loop-i.invariant.0 c.requires.number in
+    let size = c.in_ok-size.ensures.size in
+    omega (arith, room, size)
+
+pub returns : goal.returns
+returns c = all_made (numbers_from c.loop-i.k) c.args.functions.now c.loop-i.i _ _ c.loop-i-test.false refl c.loop-i.invariant.1

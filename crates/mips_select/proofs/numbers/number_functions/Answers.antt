@@ -1,19 +1,65 @@
-use Rattle.std.proofs.Common.{◌∙◌, ap, arith}
-use Rattle.mips_select.specs.Heads.{namings, unnamed}
+use Rattle.std.proofs.Common.{List, ◌++◌, map, refl, ap, arith, ◌∙◌}
+use Rattle.std.proofs.lemmas.List.{at_drop_more, at_drop_all}
+use Rattle.std.specs.declared.alloc.Global.{Global}
+use Rattle.std.specs.declared.vec.Vec.{Vec}
+use Rattle.rtl.specs.declared.block.RFunc.{RFunc}
+use Rattle.mips_select.specs.declared.heads.Naming.{Naming}
+use Rattle.mips_select.specs.Heads.{namings, namings_of, unnamed}
+use Rattle.mips_select.specs.Whole.{entries_from, function_size, functions_size, owners_from}
 use Rattle.mips_select.proofs.Blocks.{numbered_step}
 use Rattle.mips_select.proofs.Linked.{function_some}
+use Rattle.mips_select.proofs.Lists.{all_made}
 use Rattle.mips_select.proofs.numbers.number_functions.Goals as goal
 
-pub number-entry-requires : goal.number-entry-requires
-number-entry-requires c =
+pub loop-func-init : goal.loop-func-init
+loop-func-init c =
+    let funcs = c.args.functions.now in
+    let none = c.in_ok-numbers.ensures in (
+      omega arith,
+      refl,
+      ap (λ (ts : List (Vec Naming Global)). map (λ (t : Vec Naming Global). t.items) ts ++ map namings_of funcs) none.namings,
+      ap (λ l. l ++ entries_from 2 funcs) none.entries,
+      ap (λ l. l ++ owners_from 2 funcs) none.owners,
+    )
+
+pub number-requires : goal.number-requires
+number-requires c =
     let some = function_some c.func-item.result.blocks.items in
     let size = c.count_function-size.ensures.value in
     let room = c.if-size-k.false in
     omega (arith, some, size, room)
+
+pub returns-then-size-k-clause-limit : goal.returns-then-size-k-clause-limit
+returns-then-size-k-clause-limit c = λ _.
+    let sizes = at_drop_more functions_size c.args.functions.now c.loop-func.func-index c.func-item.result c.loop-func-test.true in
+    let one = ap (λ (f : RFunc). function_size f) c.func-item.is in
+    let size = c.count_function-size.ensures.value in
+    let counted = c.loop-func.invariant.1 in
+    let over = c.if-size-k.true in
+    omega (arith, sizes, one, size, counted, over)
 
 pub loop-func-preserved : goal.loop-func-preserved
 loop-func-preserved c =
     let room = c.if-size-k.false in
     numbered_step _ c.loop-func.func-index _ _ c.args.functions.now c.func-item.result _ _ _ _ c.in_ok-table.table _ _ _ _ _ _ _ c.loop-func-test.true
     c.func-item.is (c.in_ok-table.ensures ∙ ap (λ bs. namings bs (unnamed bs)) c.as_slice.ensures.value) c.count_function-size.ensures.value
-    c.number-entry.ensures (omega (arith, room)) c.in_ok-push_table.ensures c.in_ok-push_number.ensures c.in_ok-push_copies.ensures c.loop-func.invariant
+    c.number.ensures (omega (arith, room)) c.in_ok-push_function.ensures.namings c.in_ok-push_function.ensures.entries
+    c.in_ok-push_function.ensures.owners c.loop-func.invariant
+
+pub returns-clause-namings : goal.returns-clause-namings
+returns-clause-namings c = all_made (map namings_of) c.args.functions.now c.loop-func.func-index _ _ c.loop-func-test.false refl c.loop-func.invariant.2
+
+pub returns-clause-entries : goal.returns-clause-entries
+returns-clause-entries c = all_made (entries_from c.loop-func.k) c.args.functions.now c.loop-func.func-index _ _ c.loop-func-test.false refl
+    c.loop-func.invariant.3
+
+pub returns-clause-owners : goal.returns-clause-owners
+returns-clause-owners c = all_made (owners_from c.loop-func.k) c.args.functions.now c.loop-func.func-index _ _ c.loop-func-test.false refl
+    c.loop-func.invariant.4
+
+pub returns-clause-few : goal.returns-clause-few
+returns-clause-few c =
+    let none = at_drop_all functions_size c.args.functions.now c.loop-func.func-index c.loop-func-test.false in
+    let room = c.loop-func.invariant.0 in
+    let counted = c.loop-func.invariant.1 in
+    omega (arith, none, room, counted)

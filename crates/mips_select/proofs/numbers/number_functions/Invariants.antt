@@ -11,6 +11,6 @@ abbrev pub invariant-loop-func : goal.invariant-loop-func
 invariant-loop-func l =
     (l.k ≤ UNIT_BLOCKS)
     × (l.k + functions_size (drop l.func-index l.functions) ≡ 2 + functions_size l.functions)
-    × (map (λ (t : Vec Naming Global). t.items) l.namings.items ++ map namings_of (drop l.func-index l.functions) ≡ map namings_of l.functions)
-    × (l.entries.items ++ entries_from l.k (drop l.func-index l.functions) ≡ entries_from 2 l.functions)
-    × (l.owners.items ++ owners_from l.k (drop l.func-index l.functions) ≡ owners_for l.functions)
+    × (map (λ (t : Vec Naming Global). t.items) l.numbers.namings.items ++ map namings_of (drop l.func-index l.functions) ≡ map namings_of l.functions)
+    × (l.numbers.entries.items ++ entries_from l.k (drop l.func-index l.functions) ≡ entries_from 2 l.functions)
+    × (l.numbers.owners.items ++ owners_from l.k (drop l.func-index l.functions) ≡ owners_for l.functions)

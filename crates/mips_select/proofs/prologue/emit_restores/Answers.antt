@@ -2,8 +2,15 @@ use Rattle.std.proofs.Common.{◌∷◌, [], ◌++◌, ◌+◌, drop, get_or, re
 use Rattle.std.proofs.lemmas.List.{get_or_default}
 use Rattle.mips_emit.specs.Code.{load_word_at}
 use Rattle.mips_select.specs.Code.{restores}
-use Rattle.mips_select.proofs.Lists.{made_more}
+use Rattle.mips_select.proofs.Emitted.{saved_number}
+use Rattle.mips_select.proofs.Lists.{made_more, all_made}
 use Rattle.mips_select.proofs.prologue.emit_restores.Goals as goal
+
+pub register-requires-clause-nonzero : goal.register-requires-clause-nonzero
+register-requires-clause-nonzero c = (saved_number c.args.registers.now c.loop-r.r-index c.requires.registers c.loop-r-test.true).0
+
+pub register-requires-clause-range : goal.register-requires-clause-range
+register-requires-clause-range c = (saved_number c.args.registers.now c.loop-r.r-index c.requires.registers c.loop-r-test.true).1
 
 pub loop-r-preserved : goal.loop-r-preserved
 loop-r-preserved c =
@@ -17,3 +24,6 @@ loop-r-preserved c =
           (get_or_default rs i 0 r c.loop-r-test.true) refl
           (c.in_ok-emit_load_word.ensures ∙ ap (λ r. c.loop-r.code.items ++ load_word_at r at ∷ []) c.register.ensures) c.loop-r.invariant.1,
     )
+
+pub returns : goal.returns
+returns c = all_made (restores c.loop-r.place) c.args.registers.now c.loop-r.r-index _ _ c.loop-r-test.false refl c.loop-r.invariant.1

@@ -1,0 +1,22 @@
+use Rattle.std.proofs.Common.{drop, length, refl, ap, arith}
+use Rattle.std.proofs.lemmas.List.{drop_all}
+use Rattle.mips_homes.proofs.Seeing.{seen_start, seen_step, seen_end}
+use Rattle.mips_homes.proofs.locals.see_block.Goals as goal
+
+pub loop-inst-init : goal.loop-inst-init
+loop-inst-init c = seen_start c.args.k c.args.sights.now.items c.args.block.now c.requires
+
+pub loop-inst-preserved : goal.loop-inst-preserved
+loop-inst-preserved c =
+    seen_step c.args.k _ c.loop-inst.sights.items _ c.args.block.now.insts.items _ c.loop-inst.inst-index _ _ c.args.block.now
+    c.as_slice-inst-items.ensures.value c.loop-inst-test.true refl c.in_ok-see_inst.ensures c.loop-inst.invariant
+
+pub returns-clause-first : goal.returns-clause-first
+returns-clause-first c =
+    let long = ap length c.as_slice-inst-items.ensures.value in
+    let past = c.loop-inst-test.false in
+    seen_end c.args.k _ c.loop-inst.sights.items _ (drop c.loop-inst.inst-index c.args.block.now.insts.items) c.args.block.now
+    (drop_all c.loop-inst.inst-index c.args.block.now.insts.items (omega (arith, long, past))) c.in_ok-see_exit.ensures c.loop-inst.invariant
+
+pub returns-clause-late : goal.returns-clause-late
+returns-clause-late c = (c.in_ok-see_exit.ensures).late c.loop-inst.invariant.late
