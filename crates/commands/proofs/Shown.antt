@@ -1,6 +1,5 @@
 -- Bytes that steer no terminal.
 use Rattle.std.proofs.Common.{ℕ, ◌+◌, ◌%◌, ◌^◌, ◌<◌, List, [], ◌∷◌, ◌++◌, All, codes, decimal, refl, arith, inl, inr}
-use Rattle.std.specs.List.{FoldsTo}
 use Rattle.std.proofs.lemmas.Fmt.{decimal_by_steps}
 use Rattle.std.proofs.lemmas.List.Elements.{All-append, All-push}
 use Rattle.commands.specs.Requests.{TellsBeside}

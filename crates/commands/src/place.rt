@@ -76,24 +76,26 @@ pub fn line_offset(text: &[u8], line: u32) -> usize
     text.len()
 }
 
-/// The byte that stands for a byte of the text: itself if it is printable or a tab, since others could
-/// move the mark or steer a terminal.
-fn shown(byte: u8) -> u8
-    ensures { IsShown result }
-{
-    match byte {
-        b'\t' => b'\t',
-        b'\r' => b' ',
-        b' '..=b'~' => byte,
-        _ => b'?',
-    }
+/// How bytes are shown below a fault.
+#[derive(Clone, Copy)]
+enum Way {
+    /// A text of our own, or a file's name: `?` for what isn't printable.
+    Words,
+    /// A line of the text: the same, but for tabs and CR, since others could move the mark or steer a terminal.
+    Line,
+    /// As blanks that keep the caret under its place, however wide tabs are.
+    Blanks,
 }
 
-/// The byte of the line below that keeps the caret under its place, however wide tabs are.
-fn blank(byte: u8) -> u8
+/// The byte that stands for a byte.
+fn shown(byte: u8, way: Way) -> u8
     ensures { IsShown result }
 {
-    if byte == b'\t' { b'\t' } else { b' ' }
+    match (way, byte) {
+        (Way::Line | Way::Blanks, b'\t') => b'\t',
+        (Way::Blanks, _) | (Way::Line, b'\r') => b' ',
+        _ => printable(byte),
+    }
 }
 
 /// The part of a line that is shown: from and to these offsets.
@@ -106,41 +108,56 @@ fn window(start: usize, end: usize, at: usize) -> (usize, usize) {
     (from, from.saturating_add(SHOWN).min(end))
 }
 
-/// Adds bytes of the text as they are shown.
-fn add_shown(line: &mut Vec<u8>, bytes: &[u8]) -> Result<(), AllocError>
-    ensures { OnOk result (All IsShown line.old.items → All IsShown line.new.items) }
-{
-    for byte in bytes {
-        line.push(shown(*byte))?;
-    }
-    Ok(())
+/// Lines as they are written. Where memory was refused once, nothing more is written, and `end` says so: what writes has no
+/// result at each step.
+#[derive(Drop)]
+struct Lines {
+    bytes: Vec<u8>,
+    is_refused: bool,
 }
 
-/// Adds as many blanks as there are bytes.
-fn add_blanks(line: &mut Vec<u8>, bytes: &[u8]) -> Result<(), AllocError>
-    ensures { OnOk result (All IsShown line.old.items → All IsShown line.new.items) }
-{
-    for byte in bytes {
-        line.push(blank(*byte))?;
+impl Lines {
+    fn new(alloc: Global) -> Lines
+        ensures { All IsShown result.bytes.items }
+    {
+        Lines {
+            bytes: Vec::new(alloc),
+            is_refused: false,
+        }
     }
-    Ok(())
-}
 
-/// Adds a text of our own, or of a file's name: `?` for what isn't printable.
-fn add(lines: &mut Vec<u8>, text: &[u8]) -> Result<(), AllocError>
-    ensures { OnOk result (All IsShown lines.old.items → All IsShown lines.new.items) }
-{
-    for byte in text {
-        lines.push(printable(*byte))?;
+    fn push(&mut self, byte: u8)
+        requires { IsShown byte }
+        ensures { All IsShown self.old.bytes.items → All IsShown self.new.bytes.items }
+    {
+        if !self.is_refused {
+            self.is_refused = self.bytes.push(byte).is_err();
+        }
     }
-    Ok(())
-}
 
-fn end_line(lines: &mut Vec<u8>) -> Result<(), AllocError>
-    ensures { OnOk result (All IsShown lines.old.items → All IsShown lines.new.items) }
-{
-    lines.push(b'\n')?;
-    Ok(())
+    fn add(&mut self, bytes: &[u8], way: Way)
+        ensures { All IsShown self.old.bytes.items → All IsShown self.new.bytes.items }
+    {
+        for byte in bytes {
+            self.push(shown(*byte, way));
+        }
+    }
+
+    fn end_line(&mut self)
+        ensures { All IsShown self.old.bytes.items → All IsShown self.new.bytes.items }
+    {
+        self.push(b'\n');
+    }
+
+    /// What was written, unless memory was refused.
+    fn end(self) -> Result<Vec<u8>, AllocError>
+        ensures { All IsShown self.bytes.items → IfOk result (λ lines. All IsShown lines.items) }
+    {
+        if self.is_refused {
+            return Err(AllocError);
+        }
+        Ok(self.bytes)
+    }
 }
 
 /// What stands for a part of a line that is left out.
@@ -149,22 +166,24 @@ fn dots(is_cut: bool) -> &'static [u8] {
 }
 
 /// Adds the line of the text in which the offset lies, at most 160 bytes of it, and below it a line with a caret under the
-/// offset.
-fn add_place(lines: &mut Vec<u8>, text: &[u8], at: usize) -> Result<(), AllocError>
-    ensures { OnOk result (All IsShown lines.old.items → All IsShown lines.new.items) }
+/// offset; nothing at the text's end.
+fn add_place(lines: &mut Lines, text: &[u8], at: usize)
+    ensures { All IsShown lines.old.bytes.items → All IsShown lines.new.bytes.items }
 {
+    if at >= text.len() {
+        return;
+    }
     let start = line_start(text, at);
     let end = line_end(text, at);
     let (from, to) = window(start, end, at);
-    add(lines, dots(start < from))?;
-    add_shown(lines, text.get(from..to).unwrap_or(b""))?;
-    add(lines, dots(to < end))?;
-    end_line(lines)?;
-    add_blanks(lines, dots(start < from))?;
-    add_blanks(lines, text.get(from..at).unwrap_or(b""))?;
-    add(lines, b"^")?;
-    end_line(lines)?;
-    Ok(())
+    lines.add(dots(start < from), Way::Words);
+    lines.add(text.get(from..to).unwrap_or(b""), Way::Line);
+    lines.add(dots(to < end), Way::Words);
+    lines.end_line();
+    lines.add(dots(start < from), Way::Blanks);
+    lines.add(text.get(from..at).unwrap_or(b""), Way::Blanks);
+    lines.add(b"^", Way::Words);
+    lines.end_line();
 }
 
 /// Where a fault lies, and what is said of it.
@@ -179,79 +198,42 @@ pub struct Place<'a> {
     pub about: Option<Explanation>,
 }
 
-/// Adds the name of the file and the place in it.
-fn add_site(
-    lines: &mut Vec<u8>,
-    alloc: Global,
-    place: &Place<'_>,
-    at: usize,
-) -> Result<(), AllocError>
-    ensures { OnOk result (All IsShown lines.old.items → All IsShown lines.new.items) }
-{
-    let behind = behind_name(place.text, at).to_string(alloc)?;
-    add(lines, place.source.as_bytes())?;
-    add(lines, behind.as_bytes())?;
-    Ok(())
-}
-
 /// Adds the message, if there is one.
-fn add_message(lines: &mut Vec<u8>, about: Option<&Explanation>) -> Result<(), AllocError>
-    ensures { OnOk result (All IsShown lines.old.items → All IsShown lines.new.items) }
+fn add_message(lines: &mut Lines, about: Option<&Explanation>)
+    ensures { All IsShown lines.old.bytes.items → All IsShown lines.new.bytes.items }
 {
     if let Some(about) = about {
-        add(lines, b" error: ")?;
-        add(lines, about.message.as_slice())?;
+        lines.add(b" error: ", Way::Words);
+        lines.add(about.message.as_slice(), Way::Words);
     }
-    Ok(())
 }
 
 /// Adds the hint, if there is one.
-fn add_hint(lines: &mut Vec<u8>, about: Option<&Explanation>) -> Result<(), AllocError>
-    ensures { OnOk result (All IsShown lines.old.items → All IsShown lines.new.items) }
+fn add_hint(lines: &mut Lines, about: Option<&Explanation>)
+    ensures { All IsShown lines.old.bytes.items → All IsShown lines.new.bytes.items }
 {
     if let Some(about) = about
         && let Some(hint) = &about.hint
     {
-        add(lines, b"hint: ")?;
-        add(lines, hint.as_slice())?;
-        end_line(lines)?;
+        lines.add(b"hint: ", Way::Words);
+        lines.add(hint.as_slice(), Way::Words);
+        lines.end_line();
     }
-    Ok(())
 }
 
-/// Adds the line of the text with its caret, which isn't there at the text's end.
-fn add_source(lines: &mut Vec<u8>, text: &[u8], at: usize) -> Result<(), AllocError>
-    ensures { OnOk result (All IsShown lines.old.items → All IsShown lines.new.items) }
-{
-    if at < text.len() {
-        add_place(lines, text, at)?;
-    }
-    Ok(())
-}
-
-/// Adds the line with the place and the message, the line of the text with its caret, and the hint.
-fn add_lines(
-    lines: &mut Vec<u8>,
-    alloc: Global,
-    place: &Place<'_>,
-    at: usize,
-) -> Result<(), AllocError>
-    ensures { OnOk result (All IsShown lines.old.items → All IsShown lines.new.items) }
-{
-    add_site(lines, alloc, place, at)?;
-    add_message(lines, place.about.as_ref())?;
-    end_line(lines)?;
-    add_source(lines, place.text, at)?;
-    add_hint(lines, place.about.as_ref())?;
-    Ok(())
-}
-
+/// The line with the place and the message, the line of the text with its caret, and the hint.
 fn lines_below(alloc: Global, place: &Place<'_>, at: usize) -> Result<Vec<u8>, AllocError>
     ensures { IfOk result (λ lines. All IsShown lines.items) }
 {
-    let mut lines = Vec::new(alloc);
-    add_lines(&mut lines, alloc, place, at)?;
-    Ok(lines)
+    let behind = behind_name(place.text, at).to_string(alloc)?;
+    let mut lines = Lines::new(alloc);
+    lines.add(place.source.as_bytes(), Way::Words);
+    lines.add(behind.as_bytes(), Way::Words);
+    add_message(&mut lines, place.about.as_ref());
+    lines.end_line();
+    add_place(&mut lines, place.text, at);
+    add_hint(&mut lines, place.about.as_ref());
+    lines.end()
 }
 
 /// The line of a fault of a text, and below it where it lies and what is said of it, if it has a place.

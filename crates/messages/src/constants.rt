@@ -1,141 +1,145 @@
 // What is said of numbers that are no constants, and of texts beyond a size.
 
-ghost use Rattle.std.specs.Prelude.{IfOk};
-ghost use Rattle.commands.specs.Texts.{IsPrintableExplanation};
-
-use crate::source::{Source, back, front, shown};
-use c_tokens::{MAX_TEXT, Mark};
-use commands::Explanation;
-use std::alloc::{AllocError, Global};
+use crate::said::Said;
+use crate::source::{Source, back, front, is_word, shown, spelled_at};
+use c_tokens::MAX_TEXT;
 
 /// The most tokens in a row without `;`, `{` or `}` (c_tokens).
 const MAX_RUN: usize = 1024;
 
-/// The greatest unsigned number, in decimal.
-const GREATEST: &[u8] = b"4294967295";
+/// Why a number is no constant, and what to write; empty where nothing helps.
+type Reason = (&'static str, &'static str);
+
+const FLOATING: Reason = (
+    "floating point isn't in this subset of C",
+    "write a whole number",
+);
+
+const LONG: Reason = (
+    "int and unsigned are the only types",
+    "leave l and ll out: u is the only suffix",
+);
+
+const BINARY: Reason = (
+    "a number is decimal, octal or hexadecimal",
+    "write it as 0x..",
+);
+
+const OCTAL: Reason = (
+    "a number that begins with 0 is octal",
+    "leave the 0 at its front out",
+);
+
+/// Reasons, with the bytes of which a number has one, of hexadecimal numbers and of others: the first that holds is told.
+const OF_HEXADECIMAL: &[(&[u8], Reason)] = &[(b".pP", FLOATING), (b"lL", LONG)];
+
+const OF_OTHERS: &[(&[u8], Reason)] = &[(b".pPeE", FLOATING), (b"lL", LONG)];
 
 /// The bytes of the preprocessing number at the front (C99 6.4.8).
 fn number<'t>(text: &'t [u8]) -> &'t [u8] {
-    let mut last = b' ';
-    for (n, byte) in text.iter().copied().enumerate() {
-        let is_sign = (byte == b'+' || byte == b'-') && matches!(last, b'e' | b'E' | b'p' | b'P');
-        if !(byte.is_ascii_alphanumeric() || byte == b'_' || byte == b'.' || is_sign) {
+    let mut is_behind_exponent = false;
+    for (n, byte) in text.iter().enumerate() {
+        let is_sign = is_behind_exponent && b"+-".contains(byte);
+        if !is_sign && !is_word(*byte) && *byte != b'.' {
             return front(text, n);
         }
-        last = byte;
+        is_behind_exponent = b"eEpP".contains(byte);
     }
     text
 }
 
 fn has(number: &[u8], bytes: &[u8]) -> bool {
-    number.iter().any(|byte| bytes.contains(byte))
+    for byte in number {
+        if bytes.contains(byte) {
+            return true;
+        }
+    }
+    false
 }
 
-/// Whether the digits spell a number that is at most the greatest unsigned one.
-fn fits(digits: &[u8]) -> bool {
-    if digits.len() != GREATEST.len() {
-        return digits.len() < GREATEST.len();
-    }
-    for (digit, greatest) in digits.iter().zip(GREATEST) {
-        if *digit != *greatest {
-            return *digit < *greatest;
+fn has_only(number: &[u8], bytes: &[u8]) -> bool {
+    for byte in number {
+        if !bytes.contains(byte) {
+            return false;
         }
     }
     true
 }
 
-/// Why a number is no constant, and what to write.
-fn reason(number: &[u8]) -> (&'static str, Option<&'static str>) {
-    let is_hexadecimal = number.starts_with(b"0x") || number.starts_with(b"0X");
-    let is_octal = number.starts_with(b"0") && !is_hexadecimal;
-    if has(number, b".pP") || (!is_hexadecimal && has(number, b"eE")) {
-        return (
-            "floating point isn't in this subset of C",
-            Some("write a whole number"),
-        );
+/// The first reason of a list that a number has a byte for.
+fn reason_of(number: &[u8], reasons: &[(&[u8], Reason)]) -> Option<Reason> {
+    for (bytes, reason) in reasons {
+        if has(number, *bytes) {
+            return Some(*reason);
+        }
     }
-    if has(number, b"lL") {
-        return (
-            "int and unsigned are the only types",
-            Some("leave l and ll out: u is the only suffix"),
-        );
+    None
+}
+
+/// Why digits are no constant.
+fn digits_reason(digits: &[u8]) -> Reason {
+    if has_only(digits, b"0123456789abcdefABCDEFuU") {
+        ("an unsigned goes up to 4294967295", "")
+    } else {
+        ("digits come first, and u may follow", "")
+    }
+}
+
+/// Why a number without a prefix is no constant.
+fn decimal_reason(number: &[u8]) -> Reason {
+    let is_octal = number.starts_with(b"0");
+    if !is_octal && shown(number).parse::<u32>().is_ok() {
+        return ("an int goes up to 2147483647, append u", "");
+    }
+    if is_octal && has(number, b"89") && has_only(number, b"0123456789") {
+        return OCTAL;
+    }
+    digits_reason(number)
+}
+
+/// Why a number is no constant.
+fn reason(number: &[u8]) -> Reason {
+    let is_hexadecimal = number.starts_with(b"0x") || number.starts_with(b"0X");
+    let reasons = if is_hexadecimal {
+        OF_HEXADECIMAL
+    } else {
+        OF_OTHERS
+    };
+    if let Some(reason) = reason_of(number, reasons) {
+        return reason;
+    }
+    if is_hexadecimal {
+        return digits_reason(back(number, 2));
     }
     if number.starts_with(b"0b") || number.starts_with(b"0B") {
-        return (
-            "a number is decimal, octal or hexadecimal",
-            Some("write it as 0x.."),
-        );
+        return BINARY;
     }
-    if number.iter().all(|byte| byte.is_ascii_digit()) {
-        if is_octal && has(number, b"89") {
-            return (
-                "a number that begins with 0 is octal",
-                Some("leave the 0 at its front out"),
-            );
-        }
-        if !is_octal && fits(number) {
-            return ("an int goes up to 2147483647, append u", None);
-        }
-    }
-    let digits = if is_hexadecimal {
-        back(number, 2)
-    } else {
-        number
-    };
-    if digits.iter().all(|byte| byte.is_ascii_hexdigit() || *byte == b'u' || *byte == b'U') {
-        return ("an unsigned goes up to 4294967295", None);
-    }
-    ("digits come first, and u may follow", None)
+    decimal_reason(number)
 }
 
 /// What is said of a number that is no constant.
-pub(crate) fn bad_constant(alloc: Global, text: &[u8], at: usize) -> Result<Explanation, AllocError>
-    ensures { IfOk result IsPrintableExplanation }
-{
+pub(crate) fn say_constant(said: &mut Said, text: &[u8], at: usize) {
     let number = number(back(text, at));
     let (why, hint) = reason(number);
-    let shown = shown(number);
-    let message = format!(in alloc; "{shown} is no constant: {why}")?;
-    Explanation::new(alloc, message.as_str(), hint)
-}
-
-/// How many tokens there are before this one and behind the last `;`, `{` or `}`.
-fn run_before(source: &Source<'_>, k: usize) -> usize {
-    let mut run = 0usize;
-    for token in 0..k.min(source.count()) {
-        run = match source.mark(token) {
-            Some(Mark::Semicolon | Mark::LeftBrace | Mark::RightBrace) => 0,
-            _ => run.saturating_add(1),
-        };
-    }
-    run
+    said.say(shown(number));
+    said.say(" is no constant: ");
+    said.say(why);
+    said.hint(hint);
 }
 
 /// What is said of a text that is too long, or of the token that goes beyond a size.
-pub(crate) fn bad_size(
-    alloc: Global,
-    source: &Source<'_>,
-    length: usize,
-    at: usize,
-) -> Result<Explanation, AllocError>
-    ensures { IfOk result IsPrintableExplanation }
-{
-    if length > MAX_TEXT && at >= MAX_TEXT {
-        return Explanation::new(alloc, "the text has more than 1048576 bytes", None);
+pub(crate) fn say_size(said: &mut Said, source: &Source<'_>, at: usize) {
+    let k = source.index_of(at);
+    if at >= MAX_TEXT {
+        said.say("the text has more than 1048576 bytes");
+    } else if k.saturating_sub(source.first_of(k)) >= MAX_RUN {
+        said.say("more than 1024 tokens stand in a row without ';', '{' or '}'");
+        said.hint("put parts of the expression into locals");
+    } else if spelled_at(source.text, at) == b"{".as_slice() {
+        said.say("more than 128 braces are open");
+        said.hint("put statements inside into a function");
+    } else {
+        said.say("more than 512 'for' and 'else' stand since no brace was open");
+        said.hint("put statements inside into a function");
     }
-    if run_before(source, source.index_of(at)) >= MAX_RUN {
-        let message = "more than 1024 tokens stand in a row without ';', '{' or '}'";
-        let hint = "put parts of the expression into locals";
-        return Explanation::new(alloc, message, Some(hint));
-    }
-    if back(source.text, at).first().copied() == Some(b'{') {
-        let hint = "put statements inside into a function";
-        return Explanation::new(alloc, "more than 128 braces are open", Some(hint));
-    }
-    let message = "more than 512 'for' and 'else' stand since no brace was open";
-    Explanation::new(
-        alloc,
-        message,
-        Some("put statements inside into a function"),
-    )
 }

@@ -1,11 +1,7 @@
 // What is said of bytes that begin no token, and of what C has and this subset leaves out.
 
-ghost use Rattle.std.specs.Prelude.{IfOk, IfSome};
-ghost use Rattle.commands.specs.Texts.{IsPrintableExplanation};
-
-use crate::source::{Source, Told, back, before, front, of_name, shown, spelled_at, told_of};
-use commands::Explanation;
-use std::alloc::{AllocError, Global};
+use crate::said::Said;
+use crate::source::{NO_TOKEN, Source, Told, back, before, front, shown, spelled_at, told_of};
 
 const NO_DIRECTIVES: &str = "there is no preprocessor: leave the line out";
 
@@ -54,6 +50,7 @@ const LEFT_OUT: &[Told] = &[
     (b"_Imaginary", NO_FLOATING),
     (b"_Bool", "write int: 0 is false, and 1 is true"),
     (b"->", NO_MEMBERS),
+    (b".", NO_MEMBERS),
     (b"...", "a function has up to four parameters"),
     (b"##", NO_DIRECTIVES),
     (b"??", "trigraphs aren't read: write the sign itself"),
@@ -87,143 +84,7 @@ const DIRECTIVES: &[Told] = &[
     ),
 ];
 
-/// What is said of a byte that no text may have.
-pub(crate) fn bad_byte(alloc: Global, text: &[u8], at: usize) -> Result<Explanation, AllocError>
-    ensures { IfOk result IsPrintableExplanation }
-{
-    let byte = back(text, at).first().copied().unwrap_or(0);
-    let message = format!(in alloc; "the byte {byte} can't stand in a text")?;
-    let hint = "write ASCII alone: bytes 32 to 126, tab and the ends of lines";
-    Explanation::new(alloc, message.as_str(), Some(hint))
-}
-
-/// The number of a character behind a backslash (C99 5.2.2, 6.4.4.4).
-fn escaped(letter: u8) -> Option<u8> {
-    match letter {
-        b'n' => Some(10),
-        b't' => Some(9),
-        b'0' => Some(0),
-        b'r' => Some(13),
-        b'a' => Some(7),
-        b'b' => Some(8),
-        b'f' => Some(12),
-        b'v' => Some(11),
-        b'\\' | b'\'' | b'"' => Some(letter),
-        _ => None,
-    }
-}
-
-/// The number of the character behind a quote.
-fn character(quoted: &[u8]) -> Option<u8> {
-    match quoted {
-        [_, b'\\', letter, ..] => escaped(*letter),
-        [_, b'\\'] => None,
-        [_, first, ..] => Some(*first),
-        _ => None,
-    }
-}
-
-/// The name before `++` or behind it, or `i`.
-fn counted<'t>(source: &Source<'t>, at: usize) -> &'t str {
-    let k = before(source.index_of(at), 1);
-    if source.is_name(k) {
-        return source.shown(k);
-    }
-    let rest = back(source.text, at.saturating_add(2));
-    let blanks = rest.iter().take_while(|byte| **byte == b' ').count();
-    let name = spelled_at(rest, blanks);
-    match name.first() {
-        Some(byte) if byte.is_ascii_alphabetic() => shown(name),
-        _ => "i",
-    }
-}
-
-/// What is said of a word or a sign that C has and the subset leaves out.
-const LEFT_OUT_HERE: &str = "isn't in this subset of C";
-
-/// A sign that assigns to a name and computes with it.
-fn compound(
-    alloc: Global,
-    sign: &[u8],
-    name: &str,
-    written: &str,
-) -> Result<Explanation, AllocError>
-    ensures { IfOk result IsPrintableExplanation }
-{
-    let hint = format!(in alloc; "write {name} = {name} {written}")?;
-    of_name(alloc, shown(sign), LEFT_OUT_HERE, Some(hint.as_str()))
-}
-
-/// What stands behind `#`.
-fn directive(alloc: Global, text: &[u8], at: usize) -> Result<Explanation, AllocError>
-    ensures { IfOk result IsPrintableExplanation }
-{
-    let rest = back(text, at.saturating_add(1));
-    let blanks = rest.iter().take_while(|byte| **byte == b' ').count();
-    let word = spelled_at(rest, blanks);
-    let hint = told_of(DIRECTIVES, word).unwrap_or(NO_DIRECTIVES);
-    let word = shown(word);
-    let message = format!(in alloc; "'#{word}' isn't in this subset of C")?;
-    Explanation::new(alloc, message.as_str(), Some(hint))
-}
-
-fn quoted(alloc: Global, text: &[u8], at: usize) -> Result<Explanation, AllocError>
-    ensures { IfOk result IsPrintableExplanation }
-{
-    let message = "a character constant isn't in this subset of C";
-    match character(front(back(text, at), 3)) {
-        Some(number) => {
-            let hint = format!(in alloc; "write the character's number: {number}")?;
-            Explanation::new(alloc, message, Some(hint.as_str()))
-        }
-        None => Explanation::new(alloc, message, Some("write the character's number")),
-    }
-}
-
-/// Whether the offset lies inside a comment: behind the last token stands one that isn't closed before it.
-fn is_in_comment(source: &Source<'_>, at: usize) -> bool {
-    let k = before(source.index_of(at), 1);
-    let from = if k < source.count() {
-        source.at(k).saturating_add(source.spelled(k).len())
-    } else {
-        0
-    };
-    let rest = back(front(source.text, at), from);
-    let mut is_inside = false;
-    for pair in rest.windows(2) {
-        match pair {
-            b"/*" | b"//" => is_inside = true,
-            b"*/" => is_inside = false,
-            _ => {}
-        }
-    }
-    is_inside
-}
-
-/// What is said where no token begins.
-pub(crate) fn bad_token(
-    alloc: Global,
-    source: &Source<'_>,
-    at: usize,
-) -> Result<Explanation, AllocError>
-    ensures { IfOk result IsPrintableExplanation }
-{
-    let sign = spelled_at(source.text, at);
-    if matches!(sign, b"\\" | b"??") && is_in_comment(source, at) {
-        let hint = "leave it out: C may read what follows as code";
-        return of_name(alloc, shown(sign), "can't stand in a comment", Some(hint));
-    }
-    if let Some(written) = told_of(COMPOUND, sign) {
-        return compound(alloc, sign, counted(source, at), written);
-    }
-    match sign {
-        b"#" => directive(alloc, source.text, at),
-        b"'" => quoted(alloc, source.text, at),
-        _ => other_sign(alloc, source.text, at),
-    }
-}
-
-/// What begins with a sign that is told by a whole message.
+/// What begins with a sign that is told by a whole message, with what to write.
 const BEGINNINGS: &[(&[u8], &str, &str)] = &[
     (b"/*", "this comment isn't closed", "write */ where it ends"),
     (
@@ -233,29 +94,158 @@ const BEGINNINGS: &[(&[u8], &str, &str)] = &[
     ),
 ];
 
-/// What is written in the place of a sign that the subset leaves out; of a point it depends on what follows.
-fn left_out(text: &[u8], at: usize, sign: &[u8]) -> Option<&'static str> {
-    if !matches!(sign, b".") {
-        return told_of(LEFT_OUT, sign);
+/// The numbers of characters behind a backslash (C99 5.2.2, 6.4.4.4).
+const ESCAPES: &[Told] = &[
+    (b"n", "10"),
+    (b"t", "9"),
+    (b"0", "0"),
+    (b"r", "13"),
+    (b"a", "7"),
+    (b"b", "8"),
+    (b"f", "12"),
+    (b"v", "11"),
+    (b"\\", "92"),
+    (b"'", "39"),
+    (b"\"", "34"),
+];
+
+/// Signs that no comment may have, and how a comment begins and ends.
+const NOT_IN_COMMENTS: &[&[u8]] = &[b"\\", b"??"];
+
+const OPENINGS: &[&[u8]] = &[b"/*", b"//"];
+
+const CLOSING: &[u8] = b"*/";
+
+const DIRECTIVE: &[u8] = b"#";
+
+const QUOTE: &[u8] = b"'";
+
+/// What is said of a word or a sign that C has and the subset leaves out.
+const LEFT_OUT_HERE: &str = "isn't in this subset of C";
+
+/// What is said of a byte that no text may have.
+pub(crate) fn say_byte(said: &mut Said, text: &[u8], at: usize) {
+    said.say("the byte ");
+    said.say_number(text.get(at).copied().unwrap_or(0) as usize);
+    said.say(" can't stand in a text");
+    said.hint("write ASCII alone: bytes 32 to 126, tab and the ends of lines");
+}
+
+/// The word or the sign behind blanks.
+fn behind_blanks<'t>(text: &'t [u8], at: usize) -> &'t [u8] {
+    let rest = back(text, at);
+    for (n, byte) in rest.iter().enumerate() {
+        if *byte != b' ' {
+            return spelled_at(rest, n);
+        }
     }
-    match back(text, at.saturating_add(1)).first() {
-        Some(next) if next.is_ascii_digit() => Some(NO_FLOATING),
-        _ => Some(NO_MEMBERS),
+    b""
+}
+
+/// The name before `++` or behind it, or `i`.
+fn counted<'t>(source: &Source<'t>, at: usize) -> &'t str {
+    let k = before(source.index_of(at), 1);
+    if source.is_name(k) {
+        return source.shown(k);
+    }
+    let name = behind_blanks(source.text, at.saturating_add(2));
+    match name.first() {
+        Some(byte) if byte.is_ascii_alphabetic() => shown(name),
+        _ => "i",
     }
 }
 
-fn other_sign(alloc: Global, text: &[u8], at: usize) -> Result<Explanation, AllocError>
-    ensures { IfOk result IsPrintableExplanation }
-{
-    let sign = spelled_at(text, at);
-    for (beginning, message, hint) in BEGINNINGS {
-        if sign == *beginning {
-            return Explanation::new(alloc, *message, Some(*hint));
+/// A sign that assigns to a name and computes with it.
+fn say_compound(said: &mut Said, name: &str, written: &str) {
+    said.hint("write ");
+    said.hint(name);
+    said.hint(" = ");
+    said.hint(name);
+    said.hint(" ");
+    said.hint(written);
+}
+
+/// What stands behind `#`.
+fn say_directive(said: &mut Said, text: &[u8], at: usize) {
+    let word = behind_blanks(text, at.saturating_add(1));
+    said.say("'#");
+    said.say(shown(word));
+    said.say("' isn't in this subset of C");
+    said.hint(told_of(DIRECTIVES, word).unwrap_or(NO_DIRECTIVES));
+}
+
+fn say_quoted(said: &mut Said, text: &[u8], at: usize) {
+    said.say("a character constant isn't in this subset of C");
+    said.hint("write the character's number");
+    match back(text, at.saturating_add(1)) {
+        [] => {}
+        [b'\\', letter @ ..] => {
+            if let Some(number) = told_of(ESCAPES, front(letter, 1)) {
+                said.hint(": ");
+                said.hint(number);
+            }
+        }
+        [letter, ..] => {
+            said.hint(": ");
+            said.hint_number(*letter as usize);
         }
     }
-    let shown = shown(sign);
-    if let Some(hint) = left_out(text, at, sign) {
-        return of_name(alloc, shown, LEFT_OUT_HERE, Some(hint));
+}
+
+/// Whether the offset lies inside a comment: behind the last token stands one that isn't closed before it.
+fn is_in_comment(source: &Source<'_>, at: usize) -> bool {
+    let last = before(source.index_of(at), 1);
+    let from = if last == NO_TOKEN { 0 } else { source.at(last) };
+    let mut is_inside = false;
+    for pair in back(front(source.text, at), from).windows(2) {
+        if OPENINGS.contains(&pair) {
+            is_inside = true;
+        } else if pair == CLOSING {
+            is_inside = false;
+        }
     }
-    of_name(alloc, shown, "begins nothing in C", None)
+    is_inside
+}
+
+/// What is written in the place of a sign that the subset leaves out; of a point it depends on what follows.
+fn left_out(text: &[u8], at: usize) -> Option<&'static str> {
+    match back(text, at) {
+        [b'.', b'0'..=b'9', ..] => Some(NO_FLOATING),
+        rest => told_of(LEFT_OUT, spelled_at(rest, 0)),
+    }
+}
+
+/// A sign or a word.
+fn say_sign(said: &mut Said, source: &Source<'_>, at: usize) {
+    let sign = spelled_at(source.text, at);
+    if let Some(written) = told_of(COMPOUND, sign) {
+        said.say_name(shown(sign), LEFT_OUT_HERE);
+        say_compound(said, counted(source, at), written);
+    } else if let Some(hint) = left_out(source.text, at) {
+        said.say_name(shown(sign), LEFT_OUT_HERE);
+        said.hint(hint);
+    } else {
+        said.say_name(shown(sign), "begins nothing in C");
+    }
+}
+
+/// What is said where no token begins.
+pub(crate) fn say_token(said: &mut Said, source: &Source<'_>, at: usize) {
+    let sign = spelled_at(source.text, at);
+    for (beginning, message, hint) in BEGINNINGS {
+        if sign == *beginning {
+            said.say(*message);
+            return said.hint(*hint);
+        }
+    }
+    if NOT_IN_COMMENTS.contains(&sign) && is_in_comment(source, at) {
+        said.say_name(shown(sign), "can't stand in a comment");
+        said.hint("leave it out: C may read what follows as code");
+    } else if sign == DIRECTIVE {
+        say_directive(said, source.text, at);
+    } else if sign == QUOTE {
+        say_quoted(said, source.text, at);
+    } else {
+        say_sign(said, source, at);
+    }
 }

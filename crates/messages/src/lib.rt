@@ -13,6 +13,7 @@ mod constants;
 mod expected;
 mod lexical;
 mod names;
+mod said;
 mod source;
 mod syntax;
 mod types;
@@ -20,18 +21,21 @@ mod types;
 ghost use Rattle.std.specs.Prelude.{IfOk};
 ghost use Rattle.commands.specs.Texts.{IsPrintableExplanation};
 
-use crate::constants::{bad_constant, bad_size};
-use crate::lexical::{bad_byte, bad_token};
+use crate::constants::{say_constant, say_size};
+use crate::expected::expected;
+use crate::lexical::{say_byte, say_token};
+use crate::names::{in_sight, names_before};
+use crate::said::Said;
 use crate::source::Source;
-use crate::syntax::bad_syntax;
-use crate::types::explain_types;
+use crate::syntax::say_syntax;
+use crate::types::say_kind;
 use c_front::{FrontFault, FrontFaultKind};
 use c_statements::{TypeFault, TypeFaultKind};
 use commands::Explanation;
 use std::alloc::{AllocError, Global};
 
 /// A fault of a C text.
-#[derive(Clone, Copy, Debug, PartialEq, Eq)]
+#[derive(Clone, Copy)]
 pub enum SourceFault {
     /// The text spells no program.
     Front(FrontFault),
@@ -51,17 +55,54 @@ impl SourceFault {
     }
 }
 
-fn explain_front(alloc: Global, text: &[u8], fault: FrontFault) -> Result<Explanation, AllocError>
-    ensures { IfOk result IsPrintableExplanation }
-{
-    let source = Source::read(alloc, text)?;
+fn say_front(
+    alloc: Global,
+    said: &mut Said,
+    source: &Source<'_>,
+    fault: FrontFault,
+) -> Result<(), AllocError> {
     match fault.kind {
-        FrontFaultKind::Byte => bad_byte(alloc, text, fault.at),
-        FrontFaultKind::Token => bad_token(alloc, &source, fault.at),
-        FrontFaultKind::Syntax => bad_syntax(alloc, &source, fault.at),
-        FrontFaultKind::Constant => bad_constant(alloc, text, fault.at),
-        FrontFaultKind::Size => bad_size(alloc, &source, text.len(), fault.at),
-        FrontFaultKind::NoMemory => Explanation::new(alloc, "memory was refused", None),
+        FrontFaultKind::Byte => say_byte(said, source.text, fault.at),
+        FrontFaultKind::Token => say_token(said, source, fault.at),
+        FrontFaultKind::Syntax => {
+            let k = source.index_of(fault.at);
+            let expected = expected(alloc, source, k)?;
+            say_syntax(said, source, k, expected.as_slice());
+        }
+        FrontFaultKind::Constant => say_constant(said, source.text, fault.at),
+        FrontFaultKind::Size => say_size(said, source, fault.at),
+        FrontFaultKind::NoMemory => said.say("memory was refused"),
+    }
+    Ok(())
+}
+
+fn say_types(
+    alloc: Global,
+    said: &mut Said,
+    source: &Source<'_>,
+    fault: TypeFault,
+) -> Result<(), AllocError> {
+    let k = source.index_of(fault.at);
+    let names = names_before(alloc, source, k)?;
+    say_kind(
+        said,
+        source,
+        fault.kind,
+        k,
+        in_sight(source, names.as_slice(), k),
+    );
+    Ok(())
+}
+
+fn say(
+    alloc: Global,
+    said: &mut Said,
+    source: &Source<'_>,
+    fault: SourceFault,
+) -> Result<(), AllocError> {
+    match fault {
+        SourceFault::Front(fault) => say_front(alloc, said, source, fault),
+        SourceFault::Types(fault) => say_types(alloc, said, source, fault),
     }
 }
 
@@ -70,8 +111,8 @@ fn explain_front(alloc: Global, text: &[u8], fault: FrontFault) -> Result<Explan
 pub fn explain(alloc: Global, text: &[u8], fault: SourceFault) -> Result<Explanation, AllocError>
     ensures { IfOk result IsPrintableExplanation }
 {
-    match fault {
-        SourceFault::Front(fault) => explain_front(alloc, text, fault),
-        SourceFault::Types(fault) => explain_types(alloc, text, fault),
-    }
+    let source = Source::read(alloc, text)?;
+    let mut said = Said::new(alloc);
+    say(alloc, &mut said, &source, fault)?;
+    said.end(alloc)
 }

@@ -1,10 +1,9 @@
 // The tokens of a text, by their numbers, as messages speak of them.
 
-ghost use Rattle.std.specs.Prelude.{◌≤◌, IfOk, length};
-ghost use Rattle.commands.specs.Texts.{IsPrintableExplanation};
+ghost use Rattle.std.specs.Prelude.{◌≤◌, length};
 
 use c_tokens::{LexFault, MAX_TEXT, Mark, Token, lex};
-use commands::{Explanation, Spot, spot_of};
+use commands::{Spot, spot_of};
 use std::alloc::{AllocError, Global};
 use std::str;
 
@@ -20,6 +19,12 @@ const LONG_SIGNS: &[&[u8]] = &[
     b"^=", b"==", b"!=", b"<=", b">=", b"<<", b">>", b"&&", b"||", b"##", b"??", b"/*", b"//",
     b"*/",
 ];
+
+/// `int`, `unsigned`, `char` and `void`.
+pub(crate) const TYPES: &[Mark] = &[Mark::Int, Mark::Unsigned, Mark::Char, Mark::Void];
+
+/// What stands before a statement or a declaration.
+const ENDS: &[Mark] = &[Mark::Semicolon, Mark::LeftBrace, Mark::RightBrace];
 
 /// The first bytes of a text, at most so many.
 pub(crate) fn front<'t>(text: &'t [u8], n: usize) -> &'t [u8]
@@ -58,36 +63,39 @@ pub(crate) fn told_of(table: &[Told], word: &[u8]) -> Option<&'static str> {
     None
 }
 
-/// What is said of a name or a sign, which stands in quotes before it.
-pub(crate) fn of_name(
-    alloc: Global,
-    name: &str,
-    what: &str,
-    hint: Option<&str>,
-) -> Result<Explanation, AllocError>
-    ensures { IfOk result IsPrintableExplanation }
-{
-    let message = format!(in alloc; "'{name}' {what}")?;
-    Explanation::new(alloc, message.as_str(), hint)
+/// Whether a byte can stand in a name.
+pub(crate) fn is_word(byte: u8) -> bool {
+    byte.is_ascii_alphanumeric() || byte == b'_'
 }
 
-fn is_word(byte: u8) -> bool {
-    byte.is_ascii_alphanumeric() || byte == b'_'
+/// How many bytes of a word stand at the front.
+fn word_length(text: &[u8]) -> usize {
+    for (n, byte) in text.iter().enumerate() {
+        if !is_word(*byte) {
+            return n;
+        }
+    }
+    text.len()
+}
+
+/// How many bytes the longest sign at the front has.
+fn sign_length(text: &[u8]) -> usize {
+    for sign in LONG_SIGNS {
+        if text.starts_with(*sign) {
+            return sign.len();
+        }
+    }
+    1
 }
 
 /// The word or the longest sign at an offset.
 pub(crate) fn spelled_at<'t>(text: &'t [u8], at: usize) -> &'t [u8] {
     let rest = back(text, at);
-    let word = rest.iter().take_while(|byte| is_word(**byte)).count();
-    if word > 0 {
-        return front(rest, word);
-    }
-    for sign in LONG_SIGNS {
-        if rest.starts_with(*sign) {
-            return front(rest, sign.len());
-        }
-    }
-    front(rest, 1)
+    let length = match word_length(rest) {
+        0 => sign_length(rest),
+        length => length,
+    };
+    front(rest, length)
 }
 
 /// The tokens of a text, or those before its first refusal.
@@ -139,7 +147,12 @@ impl<'t> Source<'t> {
 
     /// The number of the first token that doesn't begin before the offset.
     pub(crate) fn index_of(&self, at: usize) -> usize {
-        self.places.iter().take_while(|place| **place < at).count()
+        for (k, place) in self.places.iter().enumerate() {
+            if *place >= at {
+                return k;
+            }
+        }
+        self.count()
     }
 
     pub(crate) fn mark(&self, k: usize) -> Option<Mark> {
@@ -153,26 +166,51 @@ impl<'t> Source<'t> {
         self.mark(k) == Some(mark)
     }
 
+    /// Whether a token is one of these.
+    pub(crate) fn is_one(&self, k: usize, marks: &[Mark]) -> bool {
+        match self.token(k) {
+            Some(Token::The(mark)) => marks.contains(&mark),
+            _ => false,
+        }
+    }
+
     pub(crate) fn is_name(&self, k: usize) -> bool {
         matches!(self.token(k), Some(Token::Name(_)))
-    }
-
-    pub(crate) fn is_constant(&self, k: usize) -> bool {
-        matches!(self.token(k), Some(Token::Constant(_)))
-    }
-
-    /// `int`, `unsigned`, `char` or `void`.
-    pub(crate) fn is_type(&self, k: usize) -> bool {
-        matches!(
-            self.mark(k),
-            Some(Mark::Int | Mark::Unsigned | Mark::Char | Mark::Void)
-        )
     }
 
     /// Whether a token is a name that is declared here: in a text that spells a program each such name, and no other, stands
     /// behind its type.
     pub(crate) fn is_declared(&self, k: usize) -> bool {
-        self.is_name(k) && self.is_type(before(k, 1))
+        self.is_name(k) && self.is_one(before(k, 1), TYPES)
+    }
+
+    /// The innermost bracket of a kind that is open before a token, or no token.
+    pub(crate) fn open_before(&self, k: usize, opening: Mark, closing: Mark) -> usize {
+        let mut depth = 0usize;
+        for n in 1..behind(k, 1) {
+            let token = before(k, n);
+            let mark = self.mark(token);
+            if mark == Some(closing) {
+                depth = depth.saturating_add(1);
+            } else if mark == Some(opening) {
+                if depth == 0 {
+                    return token;
+                }
+                depth = depth.saturating_sub(1);
+            }
+        }
+        NO_TOKEN
+    }
+
+    /// The first token of the statement or the declaration that is open before a token.
+    pub(crate) fn first_of(&self, k: usize) -> usize {
+        for n in 1..behind(k, 1) {
+            let token = before(k, n);
+            if self.is_one(token, ENDS) {
+                return behind(token, 1);
+            }
+        }
+        0
     }
 
     /// The bytes of a token.

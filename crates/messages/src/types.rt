@@ -1,16 +1,11 @@
 // What is said of the faults of a program: names used as what they aren't, and what is missing or too much.
 
-ghost use Rattle.std.specs.Prelude.{IfOk};
-ghost use Rattle.commands.specs.Texts.{IsPrintableExplanation};
-
-use crate::names::{Declared, Meaning, Names};
-use crate::source::{Source, Told, behind, of_name, told_of};
-use c_statements::{TypeFault, TypeFaultKind};
+use crate::names::last_function;
+use crate::said::Said;
+use crate::source::{NO_TOKEN, Source, Told, before, behind, told_of};
+use c_statements::TypeFaultKind;
 use c_tokens::{Mark, Token};
-use commands::{Explanation, Spot};
-use std::alloc::{AllocError, Global};
-
-const CALL_HINT: &str = "a call stands alone or behind '=': int r; r = f(1); out(r);";
+use commands::Spot;
 
 /// Names of C's library, and of its headers, with what to write.
 const LIBRARY: &[Told] = &[
@@ -25,176 +20,138 @@ const LIBRARY: &[Told] = &[
     (b"false", "write 0"),
 ];
 
+/// How many arguments a function takes, by how many those are.
+const TAKEN: &[&str] = &[
+    "no arguments",
+    "1 argument",
+    "2 arguments",
+    "3 arguments",
+    "4 arguments",
+];
+
 /// A name that is declared somewhere else in the text.
 fn elsewhere(source: &Source<'_>, k: usize) -> Option<usize> {
-    let name = source.spelled(k);
-    (0..source.count()).find(|other| source.is_declared(*other) && source.spelled(*other) == name)
+    for other in 0..source.count() {
+        if source.is_declared(other) && source.spelled(other) == source.spelled(k) {
+            return Some(other);
+        }
+    }
+    None
 }
 
-fn undeclared(alloc: Global, source: &Source<'_>, k: usize) -> Result<Explanation, AllocError>
-    ensures { IfOk result IsPrintableExplanation }
-{
-    let what = "isn't declared";
-    let name = source.shown(k);
+fn say_undeclared(said: &mut Said, source: &Source<'_>, k: usize) {
+    said.say_name(source.shown(k), "isn't declared");
     let Some(other) = elsewhere(source, k) else {
-        let hint = told_of(LIBRARY, source.spelled(k));
-        return of_name(alloc, name, what, hint);
+        return said.hint(told_of(LIBRARY, source.spelled(k)).unwrap_or(""));
     };
-    let Spot { line, .. } = source.spot(other);
-    let reason = if other < k {
-        "ends with its block: declare it further out"
+    said.hint("'");
+    said.hint(source.shown(k));
+    said.hint("' of line ");
+    said.hint_number(source.spot(other).line);
+    said.hint(if other < k {
+        " ends with its block: declare it further out"
     } else {
-        "comes too late: put it before its first use"
-    };
-    let hint = format!(in alloc; "'{name}' of line {line} {reason}")?;
-    of_name(alloc, name, what, Some(hint.as_str()))
+        " comes too late: put it before its first use"
+    });
 }
 
-/// A name that is declared twice: the first time here.
-fn twice(alloc: Global, name: &str, first: Spot) -> Result<Explanation, AllocError>
-    ensures { IfOk result IsPrintableExplanation }
-{
-    let Spot { line, column } = first;
-    let hint = format!(in alloc; "the first one stands at line {line}, column {column}")?;
-    of_name(
-        alloc,
-        name,
-        "is declared twice in this scope",
-        Some(hint.as_str()),
-    )
-}
-
-fn redeclared(alloc: Global, source: &Source<'_>, k: usize) -> Result<Explanation, AllocError>
-    ensures { IfOk result IsPrintableExplanation }
-{
-    let name = source.shown(k);
-    let names = Names::before(alloc, source, k)?;
-    match names.in_scope(source, k) {
-        Some(first) => twice(alloc, name, source.spot(first.token)),
-        None => of_name(
-            alloc,
-            name,
+fn say_redeclared(said: &mut Said, source: &Source<'_>, k: usize, first: Option<usize>) {
+    let Some(first) = first else {
+        said.say_name(
+            source.shown(k),
             "is there from the beginning: it prints a word",
-            Some("give yours another name"),
-        ),
-    }
-}
-
-/// What the token's name stands for; `out` is a function that is there from the beginning.
-fn meaning_in_sight(names: &Names, source: &Source<'_>, k: usize) -> Meaning {
-    match names.in_sight(source, k) {
-        Some(Declared { meaning, .. }) => meaning,
-        None => Meaning::Function {
-            parameters: 1,
-            has_result: false,
-        },
-    }
+        );
+        return said.hint("give yours another name");
+    };
+    said.say_name(source.shown(k), "is declared twice in this scope");
+    let Spot { line, column } = source.spot(first);
+    said.hint("the first one stands at line ");
+    said.hint_number(line);
+    said.hint(", column ");
+    said.hint_number(column);
 }
 
 /// A `return` that doesn't fit its function.
-fn returned(alloc: Global, source: &Source<'_>, names: &Names) -> Result<Explanation, AllocError>
-    ensures { IfOk result IsPrintableExplanation }
-{
-    let Some(function) = names.last_function() else {
-        return Explanation::new(alloc, "this return doesn't fit its function", None);
-    };
-    let (what, hint) = if matches!(
-        function.meaning,
-        Meaning::Function {
-            has_result: true,
-            ..
-        }
-    ) {
-        (
-            "gives a result: return needs a value",
-            "write return 0; or another value",
-        )
+fn say_return(said: &mut Said, source: &Source<'_>, k: usize) {
+    let function = last_function(source, k);
+    let name = source.shown(function);
+    if source.is(before(function, 1), Mark::Void) {
+        said.say_name(name, "is void: it returns no value");
+        said.hint("write return; or give the function a type");
     } else {
-        (
-            "is void: it returns no value",
-            "write return; or give the function a type",
-        )
-    };
-    of_name(alloc, source.shown(function.token), what, Some(hint))
+        said.say_name(name, "gives a result: return needs a value");
+        said.hint("write return 0; or another value");
+    }
 }
 
 /// A declaration of a `main` that isn't `int main(void)`, or of an array of length 0.
-fn declared_so(alloc: Global, name: &str) -> Result<Explanation, AllocError>
-    ensures { IfOk result IsPrintableExplanation }
-{
-    let what = if name == "main" {
-        "has to be int main(void)"
-    } else {
-        "has length 0: an array has an element at least"
-    };
-    of_name(alloc, name, what, None)
-}
-
-/// A name that is called.
-fn called(alloc: Global, name: &str, meaning: Meaning) -> Result<Explanation, AllocError>
-    ensures { IfOk result IsPrintableExplanation }
-{
-    let Meaning::Function { .. } = meaning else {
-        return of_name(alloc, name, "is no function: it can't be called", None);
-    };
-    let hint = format!(in alloc; "call it alone: {name}(..);")?;
-    let what = "is void: its call has no value";
-    of_name(alloc, name, what, Some(hint.as_str()))
-}
-
-/// A name with an index.
-fn indexed(alloc: Global, name: &str, meaning: Meaning) -> Result<Explanation, AllocError>
-    ensures { IfOk result IsPrintableExplanation }
-{
-    let what = match meaning {
-        Meaning::Function { .. } => "is a function: it has no elements",
-        Meaning::Variable | Meaning::Array => "is no array: it has no elements",
-    };
-    of_name(alloc, name, what, None)
-}
-
-/// A name that stands alone, or before `=`.
-fn alone(
-    alloc: Global,
-    name: &str,
-    meaning: Meaning,
-    is_assigned: bool,
-) -> Result<Explanation, AllocError>
-    ensures { IfOk result IsPrintableExplanation }
-{
-    if let Meaning::Function { .. } = meaning {
-        return if is_assigned {
-            of_name(alloc, name, "is a function: it can't be assigned to", None)
+fn say_declaration(said: &mut Said, name: &str) {
+    said.say_name(
+        name,
+        if name == "main" {
+            "has to be int main(void)"
         } else {
-            of_name(alloc, name, "is a function: call it", Some(CALL_HINT))
-        };
-    }
-    let hint = format!(in alloc; "write {name}[0] or another index")?;
-    let what = "is an array: name one of its elements";
-    of_name(alloc, name, what, Some(hint.as_str()))
+            "has length 0: an array has an element at least"
+        },
+    );
 }
 
-fn other_kind(alloc: Global, source: &Source<'_>, k: usize) -> Result<Explanation, AllocError>
-    ensures { IfOk result IsPrintableExplanation }
-{
-    let names = Names::before(alloc, source, k)?;
+/// A function's name, by what stands behind it.
+fn say_function(said: &mut Said, name: &str, after: Option<Mark>) {
+    match after {
+        Some(Mark::LeftParen) => {
+            said.say_name(name, "is void: its call has no value");
+            said.hint("call it alone: ");
+            said.hint(name);
+            said.hint("(..);");
+        }
+        Some(Mark::LeftBracket) => said.say_name(name, "is a function: it has no elements"),
+        Some(Mark::Assign) => said.say_name(name, "is a function: it can't be assigned to"),
+        _ => {
+            said.say_name(name, "is a function: call it");
+            said.hint("a call stands alone or behind '=': int r; r = f(1); out(r);");
+        }
+    }
+}
+
+/// A variable's name or an array's, by what stands behind it.
+fn say_variable(said: &mut Said, name: &str, after: Option<Mark>) {
+    match after {
+        Some(Mark::LeftParen) => said.say_name(name, "is no function: it can't be called"),
+        Some(Mark::LeftBracket) => said.say_name(name, "is no array: it has no elements"),
+        _ => {
+            said.say_name(name, "is an array: name one of its elements");
+            said.hint("write ");
+            said.hint(name);
+            said.hint("[0] or another index");
+        }
+    }
+}
+
+/// Whether the name is a function's; `out`, which no text declares, is one.
+fn is_function(source: &Source<'_>, declared: Option<usize>) -> bool {
+    match declared {
+        Some(token) => source.is(behind(token, 1), Mark::LeftParen),
+        None => true,
+    }
+}
+
+fn say_other_kind(said: &mut Said, source: &Source<'_>, k: usize, declared: Option<usize>) {
+    let (name, after) = (source.shown(k), source.mark(behind(k, 1)));
     if let Some(Token::Jump(_, _)) = source.token(k) {
-        return returned(alloc, source, &names);
-    }
-    if source.is_declared(k) {
-        return declared_so(alloc, source.shown(k));
-    }
-    let (name, meaning) = (source.shown(k), meaning_in_sight(&names, source, k));
-    match source.mark(behind(k, 1)) {
-        Some(Mark::LeftParen) => called(alloc, name, meaning),
-        Some(Mark::LeftBracket) => indexed(alloc, name, meaning),
-        after => alone(alloc, name, meaning, after == Some(Mark::Assign)),
+        say_return(said, source, k);
+    } else if source.is_declared(k) {
+        say_declaration(said, name);
+    } else if is_function(source, declared) {
+        say_function(said, name, after);
+    } else {
+        say_variable(said, name, after);
     }
 }
 
-/// How many arguments stand between the parentheses that begin at this token.
+/// How many arguments or parameters stand between the parentheses that begin at this token.
 fn arguments(source: &Source<'_>, open: usize) -> usize {
-    if source.is(behind(open, 1), Mark::RightParen) {
+    if source.is_one(behind(open, 1), &[Mark::RightParen, Mark::Void]) {
         return 0;
     }
     let (mut depth, mut count) = (0usize, 1usize);
@@ -210,89 +167,56 @@ fn arguments(source: &Source<'_>, open: usize) -> usize {
     count
 }
 
-/// A function with too many parameters.
-fn too_many(alloc: Global, source: &Source<'_>, names: &Names) -> Result<Explanation, AllocError>
-    ensures { IfOk result IsPrintableExplanation }
-{
-    let name = match names.last_function() {
-        Some(function) => source.shown(function.token),
-        None => "it",
-    };
-    let hint = "more values go through variables at file scope";
-    of_name(alloc, name, "has more than 4 parameters", Some(hint))
-}
-
-/// How many arguments a name takes.
-fn taken(meaning: Meaning) -> &'static str {
-    let Meaning::Function { parameters, .. } = meaning else {
-        return "no arguments";
-    };
-    match parameters {
-        0 => "no arguments",
-        1 => "1 argument",
-        2 => "2 arguments",
-        3 => "3 arguments",
-        _ => "4 arguments",
-    }
-}
-
-fn other_count(alloc: Global, source: &Source<'_>, k: usize) -> Result<Explanation, AllocError>
-    ensures { IfOk result IsPrintableExplanation }
-{
-    let names = Names::before(alloc, source, k)?;
+fn say_other_count(said: &mut Said, source: &Source<'_>, k: usize, declared: Option<usize>) {
     if source.is_declared(k) {
-        return too_many(alloc, source, &names);
+        let function = last_function(source, k);
+        said.say_name(source.shown(function), "has more than 4 parameters");
+        return said.hint("more values go through variables at file scope");
     }
-    let taken = taken(meaning_in_sight(&names, source, k));
-    let given = arguments(source, behind(k, 1));
-    let what = format!(in alloc; "takes {taken}, not {given}")?;
-    of_name(alloc, source.shown(k), what.as_str(), None)
+    let taken = match declared {
+        Some(token) => arguments(source, behind(token, 1)),
+        None => 1,
+    };
+    said.say_name(source.shown(k), "takes ");
+    said.say(TAKEN.get(taken).copied().unwrap_or("4 arguments"));
+    said.say(", not ");
+    said.say_number(arguments(source, behind(k, 1)));
 }
 
-fn beyond_limit(alloc: Global, source: &Source<'_>, k: usize) -> Result<Explanation, AllocError>
-    ensures { IfOk result IsPrintableExplanation }
-{
-    let names = Names::before(alloc, source, k)?;
-    if !names.is_at_file_scope() {
-        let hint = "split the function, or put variables at file scope";
-        return Explanation::new(
-            alloc,
-            "a function has more than 128 locals, parameters counted",
-            Some(hint),
+fn say_limit(said: &mut Said, source: &Source<'_>, k: usize) {
+    let brace = source.open_before(k, Mark::LeftBrace, Mark::RightBrace);
+    if brace != NO_TOKEN {
+        said.say("a function has more than 128 locals, parameters counted");
+        said.hint("split the function, or put variables at file scope");
+    } else if source.is(behind(k, 1), Mark::LeftParen) {
+        said.say("the program has more than 256 functions");
+    } else {
+        said.say("the variables at file scope take more than 262144 words");
+        said.hint(
+            "each variable takes a word, and an array of unsigned char a word for four elements",
         );
     }
-    if source.is(behind(k, 1), Mark::LeftParen) {
-        return Explanation::new(alloc, "the program has more than 256 functions", None);
-    }
-    let hint = "each variable takes a word, and an array of unsigned char a word for four elements";
-    Explanation::new(
-        alloc,
-        "the variables at file scope take more than 262144 words",
-        Some(hint),
-    )
 }
 
-/// What is said of the first fault of a program.
-pub(crate) fn explain_types(
-    alloc: Global,
-    text: &[u8],
-    fault: TypeFault,
-) -> Result<Explanation, AllocError>
-    ensures { IfOk result IsPrintableExplanation }
-{
-    let source = Source::read(alloc, text)?;
-    let k = source.index_of(fault.at);
-    match fault.kind {
-        TypeFaultKind::Undeclared => undeclared(alloc, &source, k),
-        TypeFaultKind::Redeclared => redeclared(alloc, &source, k),
-        TypeFaultKind::Kind => other_kind(alloc, &source, k),
-        TypeFaultKind::Count => other_count(alloc, &source, k),
+/// What is said of the first fault of a program, which lies at this token; its name is declared so.
+pub(crate) fn say_kind(
+    said: &mut Said,
+    source: &Source<'_>,
+    kind: TypeFaultKind,
+    k: usize,
+    declared: Option<usize>,
+) {
+    match kind {
+        TypeFaultKind::Undeclared => say_undeclared(said, source, k),
+        TypeFaultKind::Redeclared => say_redeclared(said, source, k, declared),
+        TypeFaultKind::Kind => say_other_kind(said, source, k, declared),
+        TypeFaultKind::Count => say_other_count(said, source, k, declared),
         TypeFaultKind::NoMain => {
-            let hint = "a program begins at int main(void) { .. }";
-            Explanation::new(alloc, "the program has no 'main'", Some(hint))
+            said.say("the program has no 'main'");
+            said.hint("a program begins at int main(void) { .. }");
         }
-        TypeFaultKind::Outside => of_name(alloc, source.shown(k), "stands in no loop", None),
-        TypeFaultKind::Limit => beyond_limit(alloc, &source, k),
-        TypeFaultKind::NoMemory => Explanation::new(alloc, "memory was refused", None),
+        TypeFaultKind::Outside => said.say_name(source.shown(k), "stands in no loop"),
+        TypeFaultKind::Limit => say_limit(said, source, k),
+        TypeFaultKind::NoMemory => said.say("memory was refused"),
     }
 }

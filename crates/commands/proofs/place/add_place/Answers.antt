@@ -1,5 +1,5 @@
 use Rattle.commands.proofs.place.add_place.Goals as goal
 
 pub returns : goal.returns
-returns c = λ h. c.in_ok-end_line-2.ensures (c.in_ok-add-3.ensures (c.in_ok-add_blanks-2.ensures (c.in_ok-add_blanks.ensures
-    (c.in_ok-end_line.ensures (c.in_ok-add-2.ensures (c.in_ok-add_shown.ensures (c.in_ok-add.ensures h)))))))
+returns c = λ h. c.end_line-2.ensures (c.add-6.ensures (c.add-5.ensures (c.add-4.ensures (c.end_line.ensures (c.add-3.ensures
+    (c.add-2.ensures (c.add.ensures h)))))))
