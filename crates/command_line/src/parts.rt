@@ -3,9 +3,9 @@
 ghost use Rattle.std.specs.Prelude.{◌≡◌, Bool, false, IfOk};
 ghost use Rattle.clap.specs.Words.{App, app_of, new_app, rule_of, with_rule, with_subcommand};
 ghost use Rattle.clap.specs.declared.builder.command.Command.TheViews.{out-Command};
-ghost use Rattle.command_line.specs.Commands.{flag_rule, number_rule, required_rule, several_rule, text_rule};
+ghost use Rattle.command_line.specs.Commands.{number_rule};
 ghost use Rattle.command_line.specs.Commands.{with_required_subcommand, with_version};
-ghost use Rattle.command_line.specs.Parts.{app_with, rule_for};
+ghost use Rattle.command_line.specs.Parts.{app_with, option_rule, placed_rule, rule_for};
 
 use clap::builder::ValueParser;
 use clap::{Arg, ArgAction, Command as CommandLine};
@@ -116,34 +116,31 @@ fn argument<'a>(alloc: Global, part: &Part<'a>) -> Arg<'a>
 {
     let (id, about) = (part.id, part.about);
     match part.form {
-        Form::Required => required(alloc, id, about),
-        Form::Several => several(alloc, id, about),
+        Form::Required => placed(alloc, id, ArgAction::Set, about),
+        Form::Several => placed(alloc, id, ArgAction::Append, about),
         Form::Number { low, high } => number(alloc, id, low, high, about),
-        Form::Flag => flag(alloc, id, about),
-        Form::Text => text(alloc, id, about),
+        Form::Flag => option(alloc, id, ArgAction::SetTrue, about),
+        Form::Text => option(alloc, id, ArgAction::Set, about),
     }
 }
 
 /// An argument by its place, which must be there.
-fn required<'a>(alloc: Global, id: &'a str, about: &'a str) -> Arg<'a>
-    ensures rule { rule_of result ≡ required_rule id.entry.now }
+fn placed<'a>(alloc: Global, id: &'a str, action: ArgAction, about: &'a str) -> Arg<'a>
+    ensures rule { rule_of result ≡ placed_rule id.entry.now action }
     ensures local { result.global ≡ false }
 {
     Arg::new(alloc, id)
         .required(true)
-        .action(ArgAction::Set)
+        .action(action)
         .help(about)
 }
 
-/// Arguments by their place, one or more.
-fn several<'a>(alloc: Global, id: &'a str, about: &'a str) -> Arg<'a>
-    ensures rule { rule_of result ≡ several_rule id.entry.now }
+/// The option `--id`.
+fn option<'a>(alloc: Global, id: &'a str, action: ArgAction, about: &'a str) -> Arg<'a>
+    ensures rule { rule_of result ≡ option_rule id.entry.now action }
     ensures local { result.global ≡ false }
 {
-    Arg::new(alloc, id)
-        .required(true)
-        .action(ArgAction::Append)
-        .help(about)
+    Arg::new(alloc, id).long(id).action(action).help(about)
 }
 
 /// The option `--id N` with N from low to high.
@@ -151,31 +148,5 @@ fn number<'a>(alloc: Global, id: &'a str, low: u64, high: u64, about: &'a str) -
     ensures rule { rule_of result ≡ number_rule id.entry.now low high }
     ensures local { result.global ≡ false }
 {
-    Arg::new(alloc, id)
-        .long(id)
-        .action(ArgAction::Set)
-        .value_parser(ValueParser::unsigned(low, high))
-        .help(about)
-}
-
-/// The option `--id`.
-fn flag<'a>(alloc: Global, id: &'a str, about: &'a str) -> Arg<'a>
-    ensures rule { rule_of result ≡ flag_rule id.entry.now }
-    ensures local { result.global ≡ false }
-{
-    Arg::new(alloc, id)
-        .long(id)
-        .action(ArgAction::SetTrue)
-        .help(about)
-}
-
-/// The option `--id TEXT`.
-fn text<'a>(alloc: Global, id: &'a str, about: &'a str) -> Arg<'a>
-    ensures rule { rule_of result ≡ text_rule id.entry.now }
-    ensures local { result.global ≡ false }
-{
-    Arg::new(alloc, id)
-        .long(id)
-        .action(ArgAction::Set)
-        .help(about)
+    option(alloc, id, ArgAction::Set, about).value_parser(ValueParser::unsigned(low, high))
 }
