@@ -1,13 +1,12 @@
-// The command over files and streams.
+// The command over a file and streams.
 
 ghost use Rattle.std.specs.Prelude.{◌≡◌, ◌≢◌, ◌≤◌, [], ◌∷◌, ◌++◌, IfOk, IfErr, OnOk};
 ghost use Rattle.std.specs.Io.KnownBytes.{Appends};
-ghost use Rattle.check_command.specs.Command.{Checks, Explains, StopsCheck, TookExplained};
+ghost use Rattle.check_command.specs.Command.{Checks, StopsCheck};
 ghost use Rattle.check_command.specs.Texts.{answer_text, check_fault_text, exit_status};
 ghost use Rattle.commands.specs.Requests.{Asks, Does, IsNothing, IsSent, TellsLine};
-ghost use Rattle.commands.specs.declared.fault.HostFault.TheVariants.{CannotRead, CannotWrite};
+ghost use Rattle.commands.specs.declared.fault.HostFault.TheVariants.{CannotWrite};
 
-use crate::explain::explained;
 use crate::lines::explain_line;
 use crate::verdicts::{CheckAnswer, CheckFault, check};
 use commands::{
@@ -25,7 +24,8 @@ fn print<W: Output>(out: &mut W, line: &CheckAnswer) -> io::Result<()>
     out.send()
 }
 
-pub(crate) fn status_of(answer: &CheckAnswer) -> u8
+/// The status of an answer, with which the program ends: 0 for `same`, else 3.
+pub fn status_of(answer: &CheckAnswer) -> u8
     ensures status { result ≡ exit_status answer.now }
     ensures most { result ≤ 3 }
     ensures not_wrong_words { result ≢ 2 }
@@ -67,39 +67,6 @@ fn about(alloc: Global, text: &[u8], fault: CheckFault) -> Option<Explanation> {
     }
 }
 
-/// The answer, and lines behind it.
-fn print_more<W: Output>(out: &mut W, answer: &CheckAnswer, more: &[u8]) -> io::Result<()>
-    ensures sent { OnOk result (IsSent W.sends out.new) }
-    ensures lines { OnOk result (Appends (W.contents out.old) (W.contents out.new) ((answer_text answer.now ++ 10 ∷ []) ++ more.now)) }
-{
-    writeln!(out, "{answer}")?;
-    out.write_all(more)?;
-    out.send()
-}
-
-/// The answer and why it isn't `same`, printed; its status.
-pub fn print_explained<W: Output>(
-    alloc: Global,
-    out: &mut W,
-    text: &[u8],
-    answer: &CheckAnswer,
-) -> Result<u8, HostFault>
-    ensures took { OnOk result (TookExplained (W.contents out.old) (W.contents out.new) answer.now) }
-    ensures sent { OnOk result (IsSent W.sends out.new) }
-    ensures status { IfOk result (λ s. s ≡ exit_status answer.now) }
-    ensures most { IfOk result (λ s. s ≤ 3) }
-    ensures not_wrong_words { IfOk result (λ s. s ≢ 2) }
-    ensures fault { IfErr result (λ e. e ≢ CannotRead) }
-{
-    let Ok(more) = explained(alloc, text, answer) else {
-        return Err(HostFault::NoMemory);
-    };
-    match print_more(out, answer, more.as_slice()) {
-        Ok(()) => Ok(status_of(answer)),
-        Err(_) => Err(HostFault::CannotWrite),
-    }
-}
-
 /// The line of a fault of a text, and below it where it lies and what is said of it.
 pub fn tell_check<E: Complaints>(
     alloc: Global,
@@ -120,11 +87,9 @@ pub fn tell_check<E: Complaints>(
     tell_placed(alloc, err, &fault, &place)
 }
 
-/// `mcc check` over one file, with or without `--explain`.
+/// `mcc check` over one file.
 #[derive(Clone, Copy)]
-struct CheckCommand {
-    explain: bool,
-}
+struct CheckCommand;
 
 impl FileCommand for CheckCommand {
     ghost use Rattle.check_command.specs.Checks.{IsAnswerTo, IsCheckFault};
@@ -138,7 +103,7 @@ impl FileCommand for CheckCommand {
 
     ghost faults = { λ s text fault. IsCheckFault text fault };
 
-    ghost prints = { λ s answer printed. PrintsAnswer s.explain answer printed };
+    ghost prints = { λ s answer printed. PrintsAnswer answer printed };
 
     ghost status = { exit_status };
 
@@ -159,16 +124,12 @@ impl FileCommand for CheckCommand {
 
     fn print<W: Output>(
         &self,
-        alloc: Global,
-        bytes: &[u8],
+        _alloc: Global,
+        _bytes: &[u8],
         answer: &CheckAnswer,
         out: &mut W,
     ) -> Result<u8, HostFault> {
-        if self.explain {
-            print_explained(alloc, out, bytes, answer)
-        } else {
-            print_answer(out, answer)
-        }
+        print_answer(out, answer)
     }
 
     fn remark<E: Complaints>(
@@ -207,38 +168,5 @@ pub fn check_file<F: Files, W: Output, E: Complaints>(
     ensures quiet { result ≢ 1 → err.new ≡ err.old }
     ensures stopped { result ≡ 1 → Asks F.answers files.old files.new E.tells err.old err.new (StopsCheck file.now) }
 {
-    answer_file(
-        alloc,
-        &CheckCommand { explain: false },
-        file,
-        files,
-        out,
-        err,
-    )
-}
-
-/// The verdict on the text of a file, printed, and behind it why it isn't `same`; the answer is the exit status.
-pub fn explain_file<F: Files, W: Output, E: Complaints>(
-    alloc: Global,
-    file: &str,
-    files: &mut F,
-    out: &mut W,
-    err: &mut E,
-) -> u8
-    ensures most { result ≤ 3 }
-    ensures not_wrong_words { result ≢ 2 }
-    ensures answered { result ≢ 1
-        → Does F.answers files.old files.new (W.contents out.old) (W.contents out.new) (Explains file.now result) }
-    ensures sent { result ≢ 1 → IsSent W.sends out.new }
-    ensures quiet { result ≢ 1 → err.new ≡ err.old }
-    ensures stopped { result ≡ 1 → Asks F.answers files.old files.new E.tells err.old err.new (StopsCheck file.now) }
-{
-    answer_file(
-        alloc,
-        &CheckCommand { explain: true },
-        file,
-        files,
-        out,
-        err,
-    )
+    answer_file(alloc, &CheckCommand, file, files, out, err)
 }

@@ -38,7 +38,7 @@ pub enum CheckFault {
 }
 
 /// The most bytes of a text that has a verdict.
-pub(crate) const LONGEST: usize = 1_048_576;
+pub const LONGEST: usize = 1_048_576;
 
 /// A table for one pass, of 16,384 nodes and 256 heads.
 fn table(alloc: Global) -> Option<(TermTable, Vec<Pass>)>

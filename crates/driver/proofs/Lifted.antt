@@ -5,8 +5,8 @@ use Rattle.std.specs.declared.alloc.Global.{Global}
 use Rattle.std.specs.Borrow.{Bor}
 use Rattle.std.specs.List.{FoldsTo, flat_map}
 use Rattle.commands.specs.Requests.{Request, Asks, Does, TellsBeside, TellsLine}
-use Rattle.check_command.specs.Several.{BreaksOff, CheckedFile, ChecksAll, ChecksEach, worse, status_of, faults_of, lines_of, request_of}
-use Rattle.check_command.specs.Several.CheckedFile.{Answered, Unexplained, Faulty, Unread}
+use Rattle.check_report.specs.Several.{BreaksOff, CheckedFile, ChecksAll, ChecksEach, worse, status_of, faults_of, lines_of, request_of}
+use Rattle.check_report.specs.Several.CheckedFile.{Answered, Unexplained, Faulty, Unread}
 use Rattle.command_line.specs.Commands.{IsCommand}
 use Rattle.command_line.specs.declared.command.Command.{Command}
 use Rattle.command_line.specs.declared.command.Command.TheVariants.{CheckEach}

@@ -14,8 +14,9 @@ use Rattle.commands.specs.Texts.{host_fault_text}
 use Rattle.commands.specs.declared.fault.HostFault.{HostFault}
 use Rattle.commands.specs.declared.fault.HostFault.TheVariants.{NoMemory}
 use Rattle.block_text.specs.Shown.{IsShown}
-use Rattle.check_command.specs.Command.{Checks, Explains, StopsCheck}
-use Rattle.check_command.specs.Several.{BreaksOff, ChecksAll, ChecksEach}
+use Rattle.check_command.specs.Command.{Checks, StopsCheck}
+use Rattle.check_report.specs.Command.{Explains}
+use Rattle.check_report.specs.Several.{BreaksOff, ChecksAll, ChecksEach}
 use Rattle.build_command.specs.BuildFaults.{IsFaultless}
 use Rattle.build_command.specs.Commands.{Builds, IsReason, IsRefused, Runs, StopsBuild, StopsRun, words_text}
 use Rattle.clap.specs.Words.{takes}

@@ -2,12 +2,12 @@
 //!
 //! `interp` is the whole path of `mcc interp`: the run of the program that the text spells, or its first fault
 //! (`specs/Interps.antt`), and `list_image` that of `mcc list` (`specs/Listings.antt`). `mcc build` and `mcc run` are the
-//! crate build_command, `mcc check` the crate check_command, `mcc show` the crate show, and what commands share is the
-//! crate commands. `mcc` is the whole program, which `main` calls with the real files and streams: all that it asks of
-//! them, prints and ends by (`specs/Program.antt`). It takes the words of the command line by the crate command_line. How
-//! ends and faults of a text's runs print stands in `specs/Texts.antt`; `tell_interp` and `tell_stages` tell faults, over a
-//! stream alone, for hosts without files; `stages` is what `mcc show` prints. `build`, `run_image`, `check` and their like
-//! are exported here too.
+//! crate build_command, `mcc check` the crates check_command (one file) and check_report (several files, and `--explain`),
+//! `mcc show` the crate show, and what commands share is the crate commands. `mcc` is the whole program, which `main` calls
+//! with the real files and streams: all that it asks of them, prints and ends by (`specs/Program.antt`). It takes the words
+//! of the command line by the crate command_line. How ends and faults of a text's runs print stands in `specs/Texts.antt`;
+//! `tell_interp` and `tell_stages` tell faults, over a stream alone, for hosts without files; `stages` is what `mcc show`
+//! prints. `build`, `run_image`, `check` and their like are exported here too.
 //!
 //! What is promised:
 //! - `driver::interp`: where it is Ok, the text spells a program, the program has no fault, and the answer is what so
@@ -19,7 +19,7 @@
 //! - `Display` of answers and faults is exact. The status of a verdict that could be printed is `exit_status` of it,
 //!   and that of a run is that of its end (`end_status`). The status of `driver::mcc` is at most 4, and never 2 (wrong
 //!   words) where clap takes the words; that of `mcc_check` is at most 3, and never 2 where clap takes the words as
-//!   those of `check`, and that of `mcc_build` never where it takes them as those of `build` or `run`.
+//!   those of `check FILE` without `--explain`, and that of `mcc_build` never where it takes them as those of `build` or `run`.
 //! - `driver::mcc`, over any files and any standard error, where clap takes the words: unless the status is 1, the
 //!   words are a command, all that was asked of the files, what standard output took and the status are those of an
 //!   answer that the command's own call may give, with the words' depth, steps and `--plain` (`answered`: `IsAnswered`
@@ -51,7 +51,7 @@
 //!   is long, and the caret), what is wrong there and the hint (tests/messages); files that can't be read or written;
 //!   `mcc interp` at each limit of a text's sizes; check texts, their verdicts, and the line of what spells nothing;
 //!   wrong words, and the text of help; and (tests/examples) what each file of crates/example_files/data prints, and its
-//!   status. `mcc_check` and `mcc_build` have the same answers.
+//!   status. `mcc_check` and `mcc_build` have the same answers to their words.
 #![tactic(auto)]
 
 mod image_commands;

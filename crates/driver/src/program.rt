@@ -14,7 +14,8 @@ use crate::texts::EndLine;
 use build_command::{
     AskedBuild, BuildOpts, build_file, phase_of, place_of, print_run, run_file, tell_page,
 };
-use check_command::{check_file, check_files, explain_file};
+use check_command::check_file;
+use check_report::{check_files, explain_file};
 use command_line::{Command, words};
 use commands::{
     Complaints, FileCommand, Files, HostFault, Output, answer_file, tell_placed, tell_words,

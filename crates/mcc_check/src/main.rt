@@ -1,11 +1,19 @@
-//! The program `mcc_check`: the command `mcc check` alone, over the real files and streams. It takes the words that `mcc`
-//! takes, so that `./mcc check` can be answered by it before the rest of `mcc` is proved.
+//! The program `mcc_check`: the command `mcc check FILE` alone, of one file and without `--explain`, over the real files and
+//! streams. It takes the words that `mcc` takes, so that `./mcc check FILE` can be answered by it before the rest of `mcc` is
+//! proved.
+//!
+//! What is promised:
+//! - Where clap takes the words as those of `check FILE` without `--explain`, the status is never 2 (`taken`: `AreOfCheck` of
+//!   specs/Words.antt). Where it takes them as any others, the status is 2, or 1 (`others`).
 #![tactic(auto)]
 
-ghost use Rattle.std.specs.Prelude.{◌≡◌, ◌≢◌, ◌≤◌, map};
-ghost use Rattle.mcc_check.specs.Words.{AreOfCheck};
+ghost use Rattle.std.specs.Prelude.{◌≡◌, ◌≢◌, ◌≤◌, MatchOption, false, map, true};
+ghost use Rattle.clap.specs.Words.{takes};
+ghost use Rattle.command_line.specs.Commands.{mcc_app};
+ghost use Rattle.command_line.specs.declared.command.Command.TheVariants.{Check};
+ghost use Rattle.mcc_check.specs.Words.{AreOfCheck, IsCheck, IsOne};
 
-use check_command::{check_file, check_files, explain_file};
+use check_command::check_file;
 use command_line::{Command, words};
 use commands::{Files, HostFault, tell, tell_words};
 use disk::{Disk, named_words, owned_words, tell_no_words};
@@ -13,22 +21,30 @@ use std::alloc::Global;
 use std::io::{self, BufWriter, Write};
 use std::process::ExitCode;
 use std::rt::Files as HostFiles;
-use std::thread::Threads;
 
-/// Where another command than `check` is asked for.
+/// The file of a check of one file, without `--explain`; None of any other command.
+fn file_of<'a>(command: &Command<'a>) -> Option<&'a str>
+    ensures { MatchOption result (IsOne command.now → ⊥) (λ file. command.now ≡ Check file false) }
+{
+    match command {
+        Command::Check { file, explain } => { if *explain { None } else { Some(*file) } }
+        _ => None,
+    }
+}
+
+/// Where anything else than `check FILE` is asked for.
 fn tell_others<E: Write>(err: &mut E) -> u8
     ensures { result ≡ 2 }
 {
     let _ = err.write_all(
-        b"error: this program has the command check alone; ./mcc has the others\n",
+        b"error: this program has check FILE alone; ./mcc has --explain, several files and the other commands\n",
     );
     2
 }
 
 /// The program over its words (the first is its name), its files and two writers. The answer is the exit status, as `mcc` has
-/// it; 2 also for another command.
-fn answer<T: Threads + Sync, F: Files, W: Write, E: Write>(
-    threads: &T,
+/// it; 2 also for another command, for several files and for `--explain`.
+fn answer<F: Files, W: Write, E: Write>(
     alloc: Global,
     args: &[&str],
     files: &mut F,
@@ -37,28 +53,19 @@ fn answer<T: Threads + Sync, F: Files, W: Write, E: Write>(
 ) -> u8
     ensures most { result ≤ 3 }
     ensures taken { AreOfCheck (map (λ s. s.now) args.entry.now) → result ≢ 2 }
+    ensures others { takes mcc_app (map (λ s. s.now) args.entry.now) ≡ true → result ≢ 1 → result ≢ 2
+        → IsCheck (map (λ s. s.now) args.entry.now) }
 {
     match words(alloc, args) {
-        Ok(Command::Check { file, explain }) => {
-            if explain {
-                explain_file(alloc, file, files, out, err)
-            } else {
-                check_file(alloc, file, files, out, err)
-            }
-        }
-        Ok(
-            Command::CheckEach {
-                files: names,
-                explain,
-            },
-        ) => { check_files(threads, alloc, names.as_slice(), explain, files, out, err) }
-        Ok(_) => tell_others(err),
+        Ok(command) => match file_of(&command) {
+            Some(file) => check_file(alloc, file, files, out, err),
+            None => tell_others(err),
+        },
         Err(error) => tell_words(&error, out, err),
     }
 }
 
-fn work<T: Threads + Sync, R: HostFiles + AllocGlobal + Input, W: Write + Drop, E: Write>(
-    threads: &T,
+fn work<R: HostFiles + AllocGlobal + Input, W: Write + Drop, E: Write>(
     rt: &R,
     args: &[&str],
     out: W,
@@ -66,7 +73,7 @@ fn work<T: Threads + Sync, R: HostFiles + AllocGlobal + Input, W: Write + Drop, 
 ) -> u8 {
     let mut disk = Disk { rt };
     match BufWriter::new(rt.alloc(), out) {
-        Ok(mut out) => answer(threads, rt.alloc(), args, &mut disk, &mut out, err),
+        Ok(mut out) => answer(rt.alloc(), args, &mut disk, &mut out, err),
         Err(_) => tell(err, &HostFault::NoMemory),
     }
 }
@@ -81,5 +88,5 @@ fn main(rt: HostRuntime) -> ExitCode {
         Ok(args) => args,
         Err(e) => return ExitCode::from(tell_no_words(&mut err, &io::Error::from(e))),
     };
-    ExitCode::from(work(&rt, &rt, args.as_slice(), rt.stdout(), &mut err))
+    ExitCode::from(work(&rt, args.as_slice(), rt.stdout(), &mut err))
 }

@@ -1,8 +1,8 @@
 use Rattle.std.proofs.Common.{◌≢◌, ◌≤◌, List, map, take}
 use Rattle.commands.specs.Requests.{Request}
-use Rattle.check_command.specs.Line.{AreRead}
-use Rattle.check_command.specs.Stretch.{AreChecked}
-use Rattle.check_command.proofs.several.show_each.Given as goal
+use Rattle.check_report.specs.Line.{AreRead}
+use Rattle.check_report.specs.Stretch.{AreChecked}
+use Rattle.check_report.proofs.several.show_each.Given as goal
 
 abbrev pub invariant-loop-i : goal.invariant-loop-i
 invariant-loop-i g l =

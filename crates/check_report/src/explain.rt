@@ -3,11 +3,11 @@
 ghost use Rattle.std.specs.Prelude.{All, IfOk};
 ghost use Rattle.block_text.specs.Shown.{IsShown};
 
-use crate::verdicts::{CheckAnswer, LONGEST};
 use block_text::{
     ReadFault, WIDTH, Writer, block_place_text, order_place_text, page_of, put_exit, put_insts,
 };
 use block_validator::Place;
+use check_command::{CheckAnswer, LONGEST};
 use check_text::{PairFault, Text, read};
 use mblock::{Block, Exit, Order, Unclean};
 use mips_isa::{Action, Plain, Reg};

@@ -1,5 +1,5 @@
-use Rattle.check_command.proofs.OneReading.{answer_checked, fault_checked, unread_checked}
-use Rattle.check_command.proofs.said.line_of.Goals as goal
+use Rattle.check_report.proofs.OneReading.{answer_checked, fault_checked, unread_checked}
+use Rattle.check_report.proofs.said.line_of.Goals as goal
 
 pub returns-in-Answer : goal.returns-in-Answer
 returns-in-Answer g c =

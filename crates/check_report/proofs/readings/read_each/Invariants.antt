@@ -1,8 +1,8 @@
 use Rattle.std.proofs.Common.{◌≡◌, List, length, map, take}
 use Rattle.std.specs.List.{FoldsTo}
 use Rattle.commands.specs.Requests.{Request}
-use Rattle.check_command.specs.Line.{AreRead}
-use Rattle.check_command.proofs.readings.read_each.Given as goal
+use Rattle.check_report.specs.Line.{AreRead}
+use Rattle.check_report.proofs.readings.read_each.Given as goal
 
 abbrev pub invariant-loop-i : goal.invariant-loop-i
 invariant-loop-i g l =

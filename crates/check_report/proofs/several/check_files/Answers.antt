@@ -1,8 +1,8 @@
 use Rattle.std.proofs.Common.{◌≡◌, ℕ, List, [], ◌∷◌, ◌++◌, Bor, map, length, ap, arith, inr, rules, sym, ◌∙◌, append-nil, append_assoc}
 use Rattle.std.proofs.lemmas.List.{map-append}
 use Rattle.std.specs.Slice.Iter.{chunks_rest}
-use Rattle.check_command.proofs.EachFile.{broken, broken_behind, none_yet, on}
-use Rattle.check_command.proofs.several.check_files.Goals as goal
+use Rattle.check_report.proofs.EachFile.{broken, broken_behind, none_yet, on}
+use Rattle.check_report.proofs.several.check_files.Goals as goal
 
 -- the names of a stretch, and of what is left behind it
 names_of : (done : List (List ℕ)) (xs stretch rest : List (Bor (List ℕ))) (all : List (List ℕ)) → xs ≡ stretch ++ rest

@@ -1,7 +1,7 @@
 use Rattle.std.proofs.Common.{◌∷◌, [], ◌++◌, refl, ◌∙◌, length-set}
 use Rattle.commands.proofs.Told.{folds_on}
-use Rattle.check_command.proofs.EachFile.{read_next}
-use Rattle.check_command.proofs.readings.read_each.Goals as goal
+use Rattle.check_report.proofs.EachFile.{read_next}
+use Rattle.check_report.proofs.readings.read_each.Goals as goal
 
 pub loop-i-preserved : goal.loop-i-preserved
 loop-i-preserved g c =

@@ -1,7 +1,7 @@
 use Rattle.std.proofs.Common.{ℕ, List, Bor, arith, map, sym}
 use Rattle.std.proofs.lemmas.List.{get_or-map, length-map}
-use Rattle.check_command.proofs.EachFile.{cut_off, next, whole}
-use Rattle.check_command.proofs.several.show_each.Goals as goal
+use Rattle.check_report.proofs.EachFile.{cut_off, next, whole}
+use Rattle.check_report.proofs.several.show_each.Goals as goal
 
 pub returns-in-Err-clause-lines : goal.returns-in-Err-clause-lines
 returns-in-Err-clause-lines g c = λ rs read.

@@ -2,9 +2,9 @@
 
 ghost use Rattle.std.specs.Prelude.{◌≡◌, ◌≢◌, ◌<◌, ◌≤◌, ◌⊎◌, List, map, length, MatchOption, IfSome};
 ghost use Rattle.std.specs.List.{FoldsTo};
-ghost use Rattle.check_command.specs.Line.{AreRead, AreSaid};
-ghost use Rattle.check_command.specs.Several.{BreaksOff, ChecksAll, worse};
-ghost use Rattle.check_command.specs.Stretch.{AreChecked, AreCutOff, BreaksStretch, ShowsStretch};
+ghost use Rattle.check_report.specs.Line.{AreRead, AreSaid};
+ghost use Rattle.check_report.specs.Several.{BreaksOff, ChecksAll, worse};
+ghost use Rattle.check_report.specs.Stretch.{AreChecked, AreCutOff, BreaksStretch, ShowsStretch};
 ghost use Rattle.commands.specs.Requests.{Asks, IsSent, Request};
 
 use crate::readings::{Reading, read_each};

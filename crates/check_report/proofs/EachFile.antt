@@ -12,13 +12,13 @@ use Rattle.commands.specs.Requests.Request.{Read}
 use Rattle.commands.specs.Texts.{host_fault_text, shown_name}
 use Rattle.commands.specs.declared.fault.HostFault.TheVariants.{CannotWrite}
 use Rattle.commands.proofs.Told.{folds_on, line_on, lines_on}
-use Rattle.check_command.specs.Line.{AreRead, IsChecked, IsReading, line_text, said_status, said_text}
-use Rattle.check_command.specs.Several.{BreaksOff, IsRight, Reads, faults_of, first_told, lines_of, name_of, request_of, said_of, status_of, worse}
-use Rattle.check_command.specs.Several.BreaksOff.{breaks}
-use Rattle.check_command.specs.Stretch.{AreChecked, AreCutOff, BreaksStretch, ShowsStretch}
-use Rattle.check_command.specs.declared.readings.Reading.{Reading}
-use Rattle.check_command.specs.declared.readings.Reading.TheVariants as reads
-use Rattle.check_command.specs.declared.said.FileLine.{FileLine}
+use Rattle.check_report.specs.Line.{AreRead, IsChecked, IsReading, line_text, said_status, said_text}
+use Rattle.check_report.specs.Several.{BreaksOff, IsRight, Reads, faults_of, first_told, lines_of, name_of, request_of, said_of, status_of, worse}
+use Rattle.check_report.specs.Several.BreaksOff.{breaks}
+use Rattle.check_report.specs.Stretch.{AreChecked, AreCutOff, BreaksStretch, ShowsStretch}
+use Rattle.check_report.specs.declared.readings.Reading.{Reading}
+use Rattle.check_report.specs.declared.readings.Reading.TheVariants as reads
+use Rattle.check_report.specs.declared.said.FileLine.{FileLine}
 
 -- the first of the lines, the last of which was just told
 pub first_line : {E : Type 0} (tells : E → List ℕ → E → Type 0) (p q r : E) (lines : List (List ℕ)) → FoldsTo (TellsLine tells) p lines q

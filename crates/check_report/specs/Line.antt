@@ -7,14 +7,14 @@ use Rattle.commands.specs.Texts.{host_fault_text, shown_name}
 use Rattle.commands.specs.declared.files.FileFault.{FileFault}
 use Rattle.commands.specs.declared.fault.HostFault.TheVariants.{NoMemory}
 use Rattle.check_command.specs.Checks.{IsAnswerTo, IsCheckFault}
-use Rattle.check_command.specs.Command.{IsMore}
-use Rattle.check_command.specs.Several.{CheckedFile, IsRight, name_of, request_of, said_of, more_of, status_of, faults_of}
+use Rattle.check_report.specs.Command.{IsMore}
+use Rattle.check_report.specs.Several.{CheckedFile, IsRight, name_of, request_of, said_of, more_of, status_of, faults_of}
 use Rattle.check_command.specs.Texts.{answer_text, check_fault_text, exit_status}
-use Rattle.check_command.specs.declared.readings.Reading.{Reading}
-use Rattle.check_command.specs.declared.readings.Reading.TheVariants as reads
-use Rattle.check_command.specs.declared.said.Said.{Said}
-use Rattle.check_command.specs.declared.said.Said.TheVariants as says
-use Rattle.check_command.specs.declared.said.FileLine.{FileLine}
+use Rattle.check_report.specs.declared.readings.Reading.{Reading}
+use Rattle.check_report.specs.declared.readings.Reading.TheVariants as reads
+use Rattle.check_report.specs.declared.said.Said.{Said}
+use Rattle.check_report.specs.declared.said.Said.TheVariants as says
+use Rattle.check_report.specs.declared.said.FileLine.{FileLine}
 use Rattle.check_command.specs.declared.verdicts.CheckAnswer.{CheckAnswer}
 use Rattle.check_command.specs.declared.verdicts.CheckFault.TheVariants.{Size}
 

@@ -2,10 +2,10 @@
 
 ghost use Rattle.std.specs.Prelude.{◌≡◌, List, map, length};
 ghost use Rattle.std.specs.List.{FoldsTo};
-ghost use Rattle.check_command.specs.Line.{AreRead, IsReading};
+ghost use Rattle.check_report.specs.Line.{AreRead, IsReading};
 ghost use Rattle.commands.specs.Requests.{Request};
 
-use crate::verdicts::LONGEST;
+use check_command::LONGEST;
 use commands::{Files, HostFault, read_file};
 use std::alloc::Global;
 

@@ -2,15 +2,14 @@
 
 ghost use Rattle.std.specs.Prelude.{◌≡◌, ◌≢◌, ◌<◌, ◌≤◌, [], ◌∷◌, ◌++◌, length, true, Some, IfErr, IfOk, OnOk};
 ghost use Rattle.std.specs.Io.KnownBytes.{Appends};
-ghost use Rattle.check_command.specs.Command.{IsMore};
-ghost use Rattle.check_command.specs.Line.{AreSaid, IsAnswerLine, IsChecked, IsReading, IsSaid, IsSaidAt};
-ghost use Rattle.check_command.specs.Line.{line_text, said_status, said_text};
+ghost use Rattle.check_report.specs.Command.{IsMore};
+ghost use Rattle.check_report.specs.Line.{AreSaid, IsAnswerLine, IsChecked, IsReading, IsSaid, IsSaidAt};
+ghost use Rattle.check_report.specs.Line.{line_text, said_status, said_text};
 ghost use Rattle.commands.specs.Requests.{Request};
 
-use crate::command::{status_of, tell_check};
 use crate::explain::explained;
 use crate::readings::Reading;
-use crate::verdicts::{CheckAnswer, CheckFault, check};
+use check_command::{CheckAnswer, CheckFault, check, status_of, tell_check};
 use commands::{Complaints, HostFault, print_name, tell};
 use std::alloc::{AllocError, Global};
 use std::io::{self, Write};

@@ -3,7 +3,7 @@ use Rattle.std.specs.Prelude.{◌≡◌, ◌≤◌, ℕ, List, ◌++◌, All, Bo
 use Rattle.std.specs.List.{AllZip, FoldsTo, flat_map}
 use Rattle.std.specs.Io.KnownBytes.{Appends}
 use Rattle.commands.specs.Requests.{Request, TellsLine}
-use Rattle.check_command.specs.Several.{CheckedFile, IsRight, Reads, name_of, request_of, lines_of, faults_of, status_of, worse}
+use Rattle.check_report.specs.Several.{CheckedFile, IsRight, Reads, name_of, request_of, lines_of, faults_of, status_of, worse}
 
 -- files that were read by these requests have their lines; the status is the worst
 pub record AreChecked {E : Type 0} (requests : List Request) (out_old out_new : Option (List ℕ)) (tells : E → List ℕ → E → Type 0)

@@ -1,7 +1,7 @@
 use Rattle.std.proofs.Common.{◌≡◌, ◌≢◌, ◌≤◌, ℕ, List, ◌++◌, Bor, map}
 use Rattle.std.specs.Slice.Iter.{chunks_rest, chunks_size}
-use Rattle.check_command.specs.Stretch.{ShowsStretch}
-use Rattle.check_command.proofs.several.check_files.Given as goal
+use Rattle.check_report.specs.Stretch.{ShowsStretch}
+use Rattle.check_report.proofs.several.check_files.Given as goal
 
 abbrev pub invariant-loop-stretch : goal.invariant-loop-stretch
 invariant-loop-stretch g l =

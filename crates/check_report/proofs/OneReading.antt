@@ -7,13 +7,13 @@ use Rattle.commands.specs.Texts.{host_fault_text}
 use Rattle.commands.specs.declared.fault.HostFault.{HostFault}
 use Rattle.commands.specs.declared.files.FileFault.{FileFault}
 use Rattle.check_command.specs.Checks.{IsAnswerTo, IsCheckFault}
-use Rattle.check_command.specs.Line.{IsAnswerLine, IsChecked, IsReading, IsSaid, said_status, said_text}
-use Rattle.check_command.specs.Several.CheckedFile.{Answered, Faulty, Unexplained, Unread}
+use Rattle.check_report.specs.Line.{IsAnswerLine, IsChecked, IsReading, IsSaid, said_status, said_text}
+use Rattle.check_report.specs.Several.CheckedFile.{Answered, Faulty, Unexplained, Unread}
 use Rattle.check_command.specs.Texts.{check_fault_text}
-use Rattle.check_command.specs.declared.readings.Reading.{Reading}
-use Rattle.check_command.specs.declared.readings.Reading.TheVariants as reads
-use Rattle.check_command.specs.declared.said.FileLine.{FileLine}
-use Rattle.check_command.specs.declared.said.Said.TheVariants as says
+use Rattle.check_report.specs.declared.readings.Reading.{Reading}
+use Rattle.check_report.specs.declared.readings.Reading.TheVariants as reads
+use Rattle.check_report.specs.declared.said.FileLine.{FileLine}
+use Rattle.check_report.specs.declared.said.Said.TheVariants as says
 use Rattle.check_command.specs.declared.verdicts.CheckAnswer.{CheckAnswer}
 use Rattle.check_command.specs.declared.verdicts.CheckFault.{CheckFault}
 

@@ -9,7 +9,7 @@ use Rattle.commands.specs.Texts.{host_fault_text, shown_name}
 use Rattle.commands.specs.declared.files.FileFault.{FileFault}
 use Rattle.commands.specs.declared.fault.HostFault.TheVariants.{CannotWrite, NoMemory}
 use Rattle.check_command.specs.Checks.{IsAnswerTo, IsCheckFault}
-use Rattle.check_command.specs.Command.{IsMore}
+use Rattle.check_report.specs.Command.{IsMore}
 use Rattle.check_command.specs.Texts.{answer_text, check_fault_text, exit_status}
 use Rattle.check_command.specs.declared.verdicts.CheckAnswer.{CheckAnswer}
 use Rattle.check_command.specs.declared.verdicts.CheckFault.{CheckFault}

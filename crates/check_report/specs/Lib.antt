@@ -1,0 +1,5 @@
+pub mod Command
+pub mod Several
+-- words of private functions
+pub mod Line
+pub mod Stretch
