@@ -10,7 +10,8 @@ use Rattle.mips_emit.specs.declared.facts.Last.{Last}
 use Rattle.mips_emit.specs.declared.comparison.Comparison.{Comparison}
 use Rattle.mips_emit.specs.declared.comparison.Asked.{Asked}
 use Rattle.mips_emit.specs.declared.comparison.Asked.TheVariants.{Nothing}
-use Rattle.mips_emit.specs.Locations.{Locations, Facts, learned, known_after, fresh_of}
+use Rattle.mips_emit.specs.Locations.{Locations, Facts, learned, known_after, fresh_of, operand}
+use Rattle.mips_emit.specs.Code.{carry, arguments_code}
 use Rattle.mips_emit.specs.Comparisons.{comparison_of, asked_last, next_code, last_with, last_after, insts_code}
 
 -- the code of some instructions stands before what comes behind them
@@ -74,3 +75,16 @@ insts_step gs starts at asked asks i left insts d m fresh facts facts' all_facts
           ∙ ap (λ (inst : RInst). last_after at asked facts (inst ∷ rest) last) is
           ∙ sym (at_drop_more (λ is. last_after at asked facts is last) insts i inst within) ∙ before.3,
     )
+
+-- one more argument
+pub arguments_step : (at : Locations) (facts : Facts) (t t' i d : ℕ) (args : List ℕ) (code code' all : List Plain) → i < length args → t' ≡ t
+    → code' ≡ code ++ carry t' (operand at facts (get_or args i d)) → code ++ arguments_code at facts t (drop i args) ≡ all
+    → code' ++ arguments_code at facts (t + 1) (drop (i + 1) args) ≡ all
+arguments_step at facts t t' i d args code code' all within same made before =
+    let rest = drop (i + 1) args in
+    let first = carry t (operand at facts (get_or args i d)) in
+    let next : t + 1 ≡ suc t = omega arith in
+    ap (λ l. l ++ arguments_code at facts (t + 1) rest) (made ∙ ap (λ t. code ++ carry t (operand at facts (get_or args i d))) same)
+    ∙ append_assoc code first (arguments_code at facts (t + 1) rest)
+    ∙ ap (λ n. code ++ (first ++ arguments_code at facts n rest)) next
+    ∙ sym (at_drop_more (λ xs. code ++ arguments_code at facts t xs) args i d within) ∙ before

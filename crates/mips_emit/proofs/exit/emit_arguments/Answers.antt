@@ -1,4 +1,9 @@
+use Rattle.std.proofs.Common.{length-append, sym, ap, ◌++◌, ◌∙◌, length, arith}
+use Rattle.std.proofs.lemmas.List.{append-nil, at_drop_all}
+use Rattle.mips_isa.specs.declared.inst.Plain.{Plain}
 use Rattle.mips_emit.specs.Locations.{facts_of, locations}
+use Rattle.mips_emit.specs.Code.{arguments_code}
+use Rattle.mips_emit.proofs.Emitted.{arguments_step}
 use Rattle.mips_emit.proofs.Stopping.{emits_err, arguments_stop}
 use Rattle.mips_emit.proofs.exit.emit_arguments.Goals as goal
 
@@ -8,3 +13,19 @@ returns-in_err-emit_argument c =
     (arguments_stop (locations c.args.frame.now) (facts_of c.args.facts.now) c.loop-x.t c.register.result c.loop-x.x-index 0 c.args.arguments.now
     c.args.code.now.items c.loop-x.code.items c.emit_argument.new.code.items c.loop-x-test.true c.register.ensures c.loop-x.invariant.2
     c.loop-x.invariant.1 c.in_err-emit_argument.ensures)
+
+pub loop-x-preserved : goal.loop-x-preserved
+loop-x-preserved c =
+    let at = c.loop-x.invariant.0 in
+    let long = c.loop-x.invariant.2 in
+    let made = c.in_ok-emit_argument.ensures in (
+      omega (arith, at),
+      arguments_step (locations c.args.frame.now) (facts_of c.args.facts.now) c.loop-x.t c.register.result c.loop-x.x-index 0 c.args.arguments.now
+          c.loop-x.code.items _ _ c.loop-x-test.true c.register.ensures made c.loop-x.invariant.1,
+      omega (arith, long, ap length made, length-append {A = Plain}),
+    )
+
+pub returns : goal.returns
+returns c =
+    sym (ap (λ l. c.loop-x.code.items ++ l) (at_drop_all (arguments_code (locations c.args.frame.now) (facts_of c.args.facts.now) c.loop-x.t)
+    c.args.arguments.now c.loop-x.x-index c.loop-x-test.false) ∙ append-nil c.loop-x.code.items) ∙ c.loop-x.invariant.1
