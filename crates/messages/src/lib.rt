@@ -35,7 +35,7 @@ use commands::Explanation;
 use std::alloc::{AllocError, Global};
 
 /// A fault of a C text.
-#[derive(Clone, Copy)]
+#[derive(Clone, Copy, Debug, PartialEq, Eq)]
 pub enum SourceFault {
     /// The text spells no program.
     Front(FrontFault),
