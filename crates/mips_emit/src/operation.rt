@@ -7,8 +7,8 @@ ghost use Rattle.mips_isa.specs.declared.inst.LogicOp.TheVariants.{Xori};
 ghost use Rattle.rtl.specs.declared.operator.Op.TheVariants.{Mul, Xor};
 ghost use Rattle.mips_isa.specs.declared.inst.Plain.TheVariants.{Shift, ShiftBy, Alu, Imm, Logic, MoveFrom, Divide};
 ghost use Rattle.mips_emit.specs.Locations.{FitsSource};
-ghost use Rattle.mips_emit.specs.Code.{is_small, half, fetch, one_or_two, operation, opposite, is_power, immediate, immediate_of, is_symmetric};
-ghost use Rattle.mips_emit.specs.Code.{turned_immediate_of};
+ghost use Rattle.mips_emit.specs.Code.{is_small, half, fetch, operation, opposite, is_power, immediate, immediate_of, is_symmetric};
+ghost use Rattle.mips_emit.specs.Code.{one_or_two, turned_immediate_of};
 ghost use Rattle.mips_emit.specs.Code.{turned_less_of, code_by_less, code_by_left, code_by_right, code_by_word, op_code};
 ghost use Rattle.mips_emit.specs.Left.{Emits};
 
