@@ -1,3 +1,4 @@
 pub mod Bounds
+pub mod Divisions
 pub mod OfC
 pub mod Widths
