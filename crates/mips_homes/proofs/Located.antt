@@ -1,10 +1,10 @@
 -- Places serve, as homes do.
-use Rattle.std.proofs.Common.{◌≡◌, ℕ, zero, suc, ◌+◌, ◌<◌, ◌≤◌, ◌⊎◌, inl, inr, ⊎_elim, Bool, true, false, ◌&&◌, List, [], ◌∷◌, ◌++◌}
-use Rattle.std.proofs.Common.{Some, refl, sym, ap, ap₂, ◌∙◌, subst, arith, length, nat_eq, nat_lt, true≢false, eqb-true, ltb-true, leb-true, eq-eqb, drop, get_or}
+use Rattle.std.proofs.Common.{◌≡◌, ℕ, zero, suc, ◌+◌, ◌<◌, ◌≤◌, ◌⊎◌, inl, inr, Bool, true, false, ◌&&◌, List, [], ◌∷◌, ◌++◌}
+use Rattle.std.proofs.Common.{Some, refl, sym, ap, ap₂, ◌∙◌, subst, arith, length, nat_eq, nat_lt, true≢false, eqb-true, ltb-true, leb-true, eq-eqb, drop}
 use Rattle.std.specs.Prelude.{if◌then◌else◌, ◌||◌, max, Option, None, nat_le, slice_get}
 use Rattle.std.proofs.lemmas.Bool.{ltb-false}
 use Rattle.std.proofs.lemmas.List.{append_assoc}
-use Rattle.std.proofs.lemmas.Option.{slice_get_within, slice_get_read, same_Some, none-some}
+use Rattle.std.proofs.lemmas.Option.{slice_get_within, same_Some, none-some}
 use Rattle.rtl.specs.Names.{blocks_names, how_many, optional}
 use Rattle.mips_homes.specs.HomedRun.{is_in, is_lasting}
 use Rattle.mips_homes.specs.Homes.{Serves}
@@ -12,8 +12,8 @@ use Rattle.mips_homes.specs.Correct.{KeepsRtlRuns}
 use Rattle.mips_homes.specs.Choice.{IsChoice}
 use Rattle.mips_homes.specs.Locals.{is_local, none_reads_first, some_go_to, block_reads_first}
 use Rattle.mips_homes.specs.Hints.{reach_from, exit_reach, blocks_reach, register_of, hint}
-use Rattle.mips_homes.specs.Places.{passing_registers, first_free, free_register, home_or, also, places_from, is_register, lives_in, still_saved, is_slot, some_slot, IsPlaced, IsPlacedFor, ArePlaced}
-use Rattle.mips_homes.proofs.Choosing.{at_index, drop_at, got_push, length_one}
+use Rattle.mips_homes.specs.Places.{passing_registers, first_free, free_register, home_or, also, places_from, is_register, lives_in, still_saved, is_slot, some_slot, IsPlaced, ArePlaced}
+use Rattle.mips_homes.proofs.Choosing.{at_index, drop_at}
 use Rattle.mips_homes.proofs.Chosen.{home_lasts, home_at, bound_least, named_below}
 use Rattle.mips_homes.proofs.Lockstep.{each_homed_run}
 use Rattle.mips_homes.specs.declared.homed.Home.{Home}
@@ -67,7 +67,7 @@ in_also taken (Some q) r e = go taken e
         by true rest e = absurd (true≢false e)
         by false rest e = rest e
 
-also_in : (taken : List ℕ) (r : ℕ) → is_in (also taken (Some r)) r ≡ true
+pub also_in : (taken : List ℕ) (r : ℕ) → is_in (also taken (Some r)) r ≡ true
 also_in [] r = ap (λ c. c || false) (eq-eqb r r refl)
 also_in (x ∷ xs) r = by (nat_eq r x) (also_in xs r)
   where
@@ -130,13 +130,8 @@ place_case local hint x taken (g ∷ hs) (suc j) h e =
           among = sym (ap (λ y. is_in (optional (hint y) ++ passing_registers) p.r) at) ∙ p.among;
         })
 
-register_in : Home → ℕ
-register_in (Reg r) = r
-register_in (Slot k) = 0
-
-same_register : (q r : ℕ) → Reg q ≡ Reg r → q ≡ r
-unfolding register_in
-same_register q r e = ap register_in e
+pub same_register : (q r : ℕ) → Reg q ≡ Reg r → q ≡ r
+same_register q r e = cc
 
 -- registers that are hints: 4 to 7
 abbrev pub AreHints : (ℕ → Option ℕ) → Type 0
