@@ -46,18 +46,6 @@ block_room heads k i bound blocks b within b_is le =
     let one = ap (λ (b : RBlock). count heads b.exit) b_is in
     omega (arith, e, one, le)
 
--- each block takes a number
-pub count_some : (heads : ℕ → Head) (x : RExit) → 1 ≤ count heads x
-count_some heads (Call g xs d next) = by (resumes d (heads next))
-  where
-    by : (b : Bool) → 1 ≤ (if b then 1 else 2)
-    by true = omega arith
-    by false = omega arith
-count_some heads (Goto b) = omega arith
-count_some heads (Branch c t e) = omega arith
-count_some heads (Return o) = omega arith
-count_some heads (Out x next) = omega arith
-
 pub blocks_step : (globals : List RGlobal) (starts entry place : ℕ → ℕ) (leaf : Bool) (heads : ℕ
     → Head) (f : Frame) (n k c i bound : ℕ) (blocks : List RBlock) (b : RBlock) (out out' all : List BlockParts) → c ≡ count heads b.exit
     → i < length blocks → b ≡ get_or blocks i b
@@ -89,6 +77,13 @@ named_at (t ∷ tables) [] g func table named there at = absurd (none-some func 
 named_at (t ∷ tables) (x ∷ funcs) zero func table named there at =
     ap (λ (t : Vec Naming Global). t.items) (sym (same_Some t table at)) ∙ ap (λ l. get_or l 0 []) named ∙ ap namings_of (same_Some x func there)
 named_at (t ∷ tables) (x ∷ funcs) (suc g) func table named there at = named_at tables funcs g func table (ap (drop 1) named) there at
+
+-- the same of what a loop reads of the two lists
+pub named_here : (tables : List (Vec Naming Global)) (funcs : List RFunc) (i : ℕ) (func : RFunc) (table : Vec Naming Global) → AreNamed tables funcs
+    → i < length funcs → func ≡ get_or funcs i func → table ≡ get_or tables i table → table.items ≡ namings_of func
+named_here tables funcs i func table named lt func_is table_is =
+    let long = named_long tables funcs named in
+    named_at tables funcs i func table named (read_at funcs i func lt func_is) (read_at tables i table (omega (arith, long, lt)) table_is)
 
 -- a function, from the parts of what was made
 pub function_made : (globals : List RGlobal) (starts entry : ℕ → ℕ) (k : ℕ) (func : RFunc) (f : Frame) (leaf : Bool) (blocks : List RBlock)
