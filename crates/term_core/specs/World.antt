@@ -1,7 +1,7 @@
 -- Passes and words, and the single steps: S1 loads a link, S2 loads a content word, S3 stores a content word of a node of one's own that
 -- is not linked, S4 exchanges a link from none to one's own node.
 use Rattle.std.specs.Prelude.{ℕ, zero, suc, ◌+◌, ◌-◌, ◌*◌, ◌<◌, ◌==◌, ◌&&◌, Bool, true, false, cond, List, [], ◌∷◌, ◌++◌, length, take, max}
-use Rattle.std.specs.Prelude.{slice_index, slice_set, replicate, Some, None}
+use Rattle.std.specs.Prelude.{slice_index, slice_set, replicate}
 use mathlib.Core.Option.{Option, some, none}
 use lib.ListN.{get_elem?}
 use prog.Atomic.{either}
