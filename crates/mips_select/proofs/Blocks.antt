@@ -1,6 +1,6 @@
 -- Loops over blocks.
-use Rattle.std.proofs.Common.{◌≡◌, ℕ, zero, suc, ◌+◌, ◌<◌, ◌≤◌, Bool, true, false, List, [], ◌∷◌, ◌++◌, drop, get_or, length, length-append, refl, sym, ap, ap₂, ◌∙◌, arith}
-use Rattle.std.specs.Prelude.{◌-◌, Some, slice_get, slice_index, map, replicate, if◌then◌else◌}
+use Rattle.std.proofs.Common.{◌≡◌, ℕ, zero, suc, ◌+◌, ◌<◌, ◌≤◌, Bool, List, [], ◌∷◌, ◌++◌, drop, get_or, length, length-append, refl, sym, ap, ap₂, ◌∙◌, arith}
+use Rattle.std.specs.Prelude.{◌-◌, Some, slice_get, slice_index, map, replicate}
 use Rattle.std.proofs.lemmas.List.{append_assoc, at_drop_more, length-map, map-append}
 use Rattle.std.proofs.lemmas.Option.{same_Some, none-some, slice_get_read}
 use Rattle.std.specs.declared.alloc.Global.{Global}
@@ -10,12 +10,10 @@ use Rattle.rtl.specs.declared.block.RFunc.{RFunc}
 use Rattle.rtl.specs.declared.block.RGlobal.{RGlobal}
 use Rattle.mips_homes.specs.declared.homed.Frame.{Frame}
 use Rattle.rtl.specs.declared.block.RBlock.{RBlock}
-use Rattle.rtl.specs.declared.instruction.RExit.{RExit}
-use Rattle.rtl.specs.declared.instruction.RExit.TheVariants.{Goto, Branch, Call, Return, Out}
 use Rattle.mips_select.specs.declared.heads.Naming.{Naming}
 use Rattle.mips_select.specs.declared.heads.Naming.TheVariants.{Unnamed}
 use Rattle.mips_select.specs.declared.heads.Head.{Head}
-use Rattle.mips_select.specs.Heads.{is_leaf, unnamed, namings_of, AreNamed, heads_in, heads_of, resumes, count, lead_in}
+use Rattle.mips_select.specs.Heads.{is_leaf, unnamed, namings_of, AreNamed, heads_in, heads_of, count, lead_in}
 use Rattle.mips_select.specs.Code.{head_code, own_block}
 use Rattle.mips_select.specs.Whole.{size_of_blocks, numbers, next_of, behind, blocks_from, place_in, lead_blocks, function_blocks, function_size}
 use Rattle.mips_select.specs.Whole.{functions_size, numbers_in, numbers_from, entries_from, owners_from, functions_blocks}
