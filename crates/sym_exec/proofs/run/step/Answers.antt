@@ -58,18 +58,19 @@ returns-in-Multiplies-clause-tracks c = λ t h.
 pub returns-in_ok-put_halves-in-Divides-clause-tracks : goal.returns-in_ok-put_halves-in-Divides-clause-tracks
 returns-in_ok-put_halves-in-Divides-clause-tracks c = λ t h.
     let later = c.in_ok-put_halves-in-Divides.ensures.pass.later in
-    let P : Action → Type 0 = λ a. Tracks c.put_halves-in-Divides.new.terms.pass.now c.put_halves-in-Divides.new.self c.push_guard-in-Divides.new.self (trees_after a t) in
+    let p = c.put_halves-in-Divides.new.terms.pass.now in
+    let P : Action → Type 0 = λ a. Tracks p c.put_halves-in-Divides.new.self c.push_guard-in-Divides.new.self (trees_after a t) in
     let x = still_tree later.extends (get_tree {t = t} h.hold c.get-dividend.ensures.value c.get-dividend.ensures.range) in
     let y = still_tree later.extends (get_tree {t = t} h.hold c.get-divisor.ensures.value c.get-divisor.ensures.range) in
     let guard = Division c.in-Divides.sign c.get-dividend.result c.get-divisor.result in
     let tree = AtDivision c.in-Divides.sign (register_tree t c.in-Divides.a) (register_tree t c.in-Divides.b) in
     let memory = memory-on c.args.lists.now.chain.stores.items t.memory later h.memory in
     let same = ap₂ (λ high low. with_halves high low c.in-Divides.a c.in-Divides.b t) c.remainder_operator.ensures c.quotient_operator.ensures in
-    let held = subst (Hold c.put_halves-in-Divides.new.terms.pass.now c.put_halves-in-Divides.new.self) same
+    let held = subst (Hold p c.put_halves-in-Divides.new.self) same
     (c.in_ok-put_halves-in-Divides.ensures.hold t h.hold) in
     subst P (sym c.in-Divides.is)
     (tracks_guard guard tree later h (hold_same held refl refl refl)
-    (subst (λ k. MakeMemory c.put_halves-in-Divides.new.terms.pass.now k.stores.items t.memory) (sym c.push_guard-in-Divides.ensures.chain) memory) (refl, x, y)
+    (subst (λ k. MakeMemory p k.stores.items t.memory) (sym c.push_guard-in-Divides.ensures.chain) memory) (refl, x, y)
     c.push_guard-in-Divides.ensures.pushed refl)
 
 pub returns-in-MovesHigh-clause-tracks : goal.returns-in-MovesHigh-clause-tracks
