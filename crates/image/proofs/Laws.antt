@@ -155,6 +155,9 @@ sizes_pass : (head most rest : ℕ) (bytes : List ℕ) → 1 ≤ word_at_byte by
     → length bytes ≡ head + 4 * word_at_byte bytes 8 + rest → has_sizes head most rest bytes ≡ true
 sizes_pass head most rest bytes a b c d = and _ _ (le-leb _ _ a) (and _ _ (le-leb _ _ b) (and _ _ (le-leb _ _ c) (eq-eqb _ _ d)))
 
+length-parts : (code bytes : List ℕ) → length (words_bytes code ++ bytes) ≡ 4 * length code + length bytes
+length-parts code bytes = length-append (words_bytes code) bytes ∙ ap (λ k. k + length bytes) (length-words_bytes code)
+
 none : (v : Version) (e : ℕ) (code bytes : List ℕ) → IsImage (record { version = v; entry = e; code = code; bytes = bytes })
     → image_fault (image_bytes (record { version = v; entry = e; code = code; bytes = bytes })) ≡ None
 none First e code bytes h =
@@ -162,12 +165,7 @@ none First e code bytes h =
     let n : word_at_byte all 8 ≡ length code = head_again (length code) (let le = h.code_fits in omega arith) in
     let d : word_at_byte all 16 ≡ length bytes / 4 = head_again (length bytes / 4) (let le = h.bytes_fit in omega arith) in
     let x : word_at_byte all 12 ≡ e = head_again e (entry_below (length code) e h.code_fits h.entry) in
-    let tail : length (words_bytes code ++ bytes) ≡ 4 * length code + length bytes = length-append (words_bytes code) bytes
-    ∙ ap (λ k. k + length bytes) (length-words_bytes code) in
-    let whole = h.version in
-    let s = h.some in
-    let f = h.code_fits in
-    let g = h.bytes_fit in
+    let tail = length-parts code bytes in
     let sizes = sizes_pass 20 (2 ^ 18) (4 * word_at_byte all 16) all (omega arith) (omega arith) (omega arith) (omega arith) in
     let entry : is_entry (word_at_byte all 8) (word_at_byte all 12) ≡ true = rw (n, x) h.entry in
     ap (λ b. cond b (Some Length) (first_version_fault all)) (le-ltb (length all) 20 (omega arith))
@@ -178,18 +176,13 @@ none (Second c) e code bytes h =
     let n : word_at_byte all 8 ≡ length code = head_again (length code) (let le = h.code_fits in omega arith) in
     let d : word_at_byte all 16 ≡ length bytes = head_again (length bytes) (let le = h.bytes_fit in omega arith) in
     let x : word_at_byte all 12 ≡ e = head_again e (entry_below (length code) e h.code_fits h.entry) in
-    let tail : length (words_bytes code ++ bytes) ≡ 4 * length code + length bytes = length-append (words_bytes code) bytes
-    ∙ ap (λ k. k + length bytes) (length-words_bytes code) in
-    let s = h.some in
-    let f = h.code_fits in
-    let g = h.bytes_fit in
-    let v = h.version in
+    let tail = length-parts code bytes in
     let sizes = sizes_pass 44 (2 ^ 20) (word_at_byte all 16) all (omega arith) (omega arith) (omega arith) (omega arith) in
     let entry : is_entry (word_at_byte all 8) (word_at_byte all 12) ≡ true = rw (n, x) h.entry in
     let counts : counts_at all ≡ c = counts_again c (word_at_byte all 20) (word_at_byte all 24) (word_at_byte all 28) (word_at_byte all 32)
     (word_at_byte all 36) (word_at_byte all 40) (head_again c.same (omega arith)) (head_again c.unclean (omega arith))
     (head_again c.differs (omega arith)) (head_again c.full (omega arith)) (head_again c.no_memory (omega arith)) (head_again c.missed (omega arith)) in
-    let few : nat_le (total (counts_at all)) (2 ^ 20) ≡ true = ap (λ k. nat_le (total k) (2 ^ 20)) counts ∙ le-leb _ _ v in
+    let few : nat_le (total (counts_at all)) (2 ^ 20) ≡ true = ap (λ k. nat_le (total k) (2 ^ 20)) counts ∙ le-leb _ _ h.version in
     ap (λ b. cond b (Some Length) (second_version_fault all)) (le-ltb (length all) 20 (omega arith))
     ∙ ap (λ b. cond b (Some Length)
     (cond (not (has_sizes 44 (2 ^ 20) (word_at_byte all 16) all)) (Some Length)

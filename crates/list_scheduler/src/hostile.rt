@@ -5,6 +5,7 @@ use crate::reorder::Reorder;
 use mblock::{Block, Exit, Order, plain};
 use mips_isa::{NonzeroReg, Plain, Reg};
 use std::alloc::{AllocError, Global};
+use std::mem::swap;
 use words::Width;
 
 /// A scheduler that changes a block's plain order, in a way that few blocks stand. It's for those who test a validator, or
@@ -107,55 +108,19 @@ fn renamed(alloc: Global, insts: &[Plain]) -> Result<Vec<Plain>, AllocError> {
 
 // The instruction with the next register in place of one from 1 to 30 that it writes.
 fn to_next(inst: &Plain) -> Option<Plain> {
-    Some(match *inst {
-        Plain::Shift { op, rd, rt, amount } => Plain::Shift {
-            op,
-            rd: next(rd)?,
-            rt,
-            amount,
-        },
-        Plain::ShiftBy { op, rd, rt, rs } => Plain::ShiftBy {
-            op,
-            rd: next(rd)?,
-            rt,
-            rs,
-        },
-        Plain::Alu { op, rd, rs, rt } => Plain::Alu {
-            op,
-            rd: next(rd)?,
-            rs,
-            rt,
-        },
-        Plain::Imm { op, rt, rs, imm } => Plain::Imm {
-            op,
-            rt: next(rt)?,
-            rs,
-            imm,
-        },
-        Plain::Logic { op, rt, rs, imm } => Plain::Logic {
-            op,
-            rt: next(rt)?,
-            rs,
-            imm,
-        },
-        Plain::LoadUpper { rt, imm } => Plain::LoadUpper { rt: next(rt)?, imm },
-        Plain::MoveFrom { place, rd } => Plain::MoveFrom {
-            place,
-            rd: next(rd)?,
-        },
-        Plain::Load {
-            width,
-            rt,
-            base,
-            offset,
-        } => Plain::Load {
-            width,
-            rt: NonzeroReg::new(rt.index() + 1)?,
-            base,
-            offset,
-        },
+    let mut changed = *inst;
+    match &mut changed {
+        Plain::Shift { rd, .. } => *rd = next(*rd)?,
+        Plain::ShiftBy { rd, .. } => *rd = next(*rd)?,
+        Plain::Alu { rd, .. } => *rd = next(*rd)?,
+        Plain::Imm { rt, .. } => *rt = next(*rt)?,
+        Plain::Logic { rt, .. } => *rt = next(*rt)?,
+        Plain::LoadUpper { rt, .. } => *rt = next(*rt)?,
+        Plain::MoveFrom { rd, .. } => *rd = next(*rd)?,
+        Plain::Load { rt, .. } => *rt = NonzeroReg::new(rt.index() + 1)?,
         Plain::Multiply { .. } | Plain::Divide { .. } | Plain::Store { .. } => return None,
-    })
+    }
+    Some(changed)
 }
 
 // The register behind one from 1 to 30.
@@ -166,34 +131,13 @@ fn next(r: Reg) -> Option<Reg> {
     Reg::new(r.index() + 1)
 }
 
-fn turned(exit: Exit) -> Exit {
-    match exit {
-        Exit::BranchPair {
-            test,
-            rs,
-            rt,
-            then,
-            other,
-        } => Exit::BranchPair {
-            test,
-            rs,
-            rt,
-            then: other,
-            other: then,
-        },
-        Exit::BranchZero {
-            test,
-            rs,
-            then,
-            other,
-        } => Exit::BranchZero {
-            test,
-            rs,
-            then: other,
-            other: then,
-        },
-        _ => exit,
+fn turned(mut exit: Exit) -> Exit {
+    match &mut exit {
+        Exit::BranchPair { then, other, .. } => swap(then, other),
+        Exit::BranchZero { then, other, .. } => swap(then, other),
+        _ => {}
     }
+    exit
 }
 
 fn last_in_slot(alloc: Global, block: &Block) -> Result<Option<Order>, AllocError> {

@@ -1,7 +1,7 @@
 -- The words of an order by their places, and the tests of two delay rules there.
 use Rattle.std.proofs.Common.{◌≡◌, ℕ, zero, suc, ◌+◌, ◌-◌, ◌<◌, ◌≤◌, ◌⊎◌, inl, inr, Bool, true, false, ◌&&◌, ◌||◌, ◌==◌, List, [], ◌∷◌}
 use Rattle.std.proofs.Common.{length, slice_get, Option, Some, None, refl, sym, ap, ap₂, ◌∙◌, subst, true≢false, ⊎_elim, not, IsTrue, arith}
-use Rattle.std.proofs.lemmas.Bool.{and_parts, cases_lt}
+use Rattle.std.proofs.lemmas.Bool.{and_parts, cases_lt, or_cases, or_parts}
 use Rattle.std.proofs.lemmas.Option.{same_Some, none-some, slice_get_within}
 use Rattle.mips_isa.specs.declared.inst.Plain.{Plain}
 use Rattle.mips_isa.specs.declared.action.Action.{Action}
@@ -60,18 +60,6 @@ apart_not insts k e apart = go (slice_get insts k) (slice_get insts (k + 1)) ref
         let same : suc k ≡ k + 1 = omega arith in
         conflict_found (action_of a) (touches (action_of b)) h (λ r l. apart k r a b ex (ap (slice_get insts) same ∙ ey) l)
 
-or_either : (a b : Bool) → (a || b) ≡ true → (a ≡ true) ⊎ (b ≡ true)
-or_either true b e = inl refl
-or_either false b e = inr e
-
-or_none_left : (a b : Bool) → (a || b) ≡ false → a ≡ false
-or_none_left true b e = e
-or_none_left false b e = refl
-
-or_none_right : (a b : Bool) → (a || b) ≡ false → b ≡ false
-or_none_right true b e = absurd (true≢false e)
-or_none_right false b e = e
-
 and_false : (a b : Bool) → a ≡ true → (a && b) ≡ false → b ≡ false
 and_false true b t e = e
 and_false false b t e = absurd (true≢false (sym t))
@@ -92,7 +80,7 @@ behind_not words k e behind = moves (slice_get words k) refl parts.0
     moves : (w : Option (Option Action)) → slice_get words k ≡ w → is_move_word w ≡ true → ⊥
     moves None ew h = true≢false (sym h)
     moves (Some None) ew h = true≢false (sym h)
-    moves (Some (Some a)) ew h = either (or_either _ _ parts.1)
+    moves (Some (Some a)) ew h = either (or_cases _ _ parts.1)
       where
         one : suc k ≡ k + 1
         one = omega arith
@@ -124,8 +112,8 @@ behind_is insts slot h i a b ea ma eb = place (cases_lt i (length insts))
         none = and_false (is_move_word (slice_get words i)) _ (ap is_move_word ea ∙ ma) (h i lt)
 
         pick : (slice_get words (suc i) ≡ Some (Some b)) ⊎ (slice_get words (suc (suc i)) ≡ Some (Some b)) → is_product b ≡ false
-        pick (inl e) = ap is_product_word (sym e ∙ ap (slice_get words) one) ∙ or_none_left _ _ none
-        pick (inr e) = ap is_product_word (sym e ∙ ap (slice_get words) two) ∙ or_none_right _ _ none
+        pick (inl e) = ap is_product_word (sym e ∙ ap (slice_get words) one) ∙ (or_parts _ _ none).0
+        pick (inr e) = ap is_product_word (sym e ∙ ap (slice_get words) two) ∙ (or_parts _ _ none).1
 
     beyond : (m : ℕ) → length insts + 2 ≤ m → slice_get words m ≡ Some (Some b) → is_product b ≡ false
     beyond m le e = absurd (none-some (Some b) (sym (kind_beyond insts slot m le) ∙ e))

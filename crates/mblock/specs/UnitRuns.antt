@@ -7,7 +7,7 @@ use Rattle.mips_isa.specs.declared.inst.Plain.{Plain}
 use Rattle.mips_isa.specs.States.{State}
 use Rattle.mips_isa.specs.Actions.{action_of, is_safe, state_after}
 use Rattle.mblock.specs.declared.exit.Exit.{Exit}
-use Rattle.mblock.specs.declared.exit.Exit.TheVariants.{Goto, BranchPair, BranchZero, Call, Return, Out, Halt}
+use Rattle.mblock.specs.declared.exit.Exit.TheVariants.{Call}
 use Rattle.mblock.specs.Parts.{BlockParts}
 use Rattle.mblock.specs.BlockMeaning.{Departure, GoesTo, CallsTo, GoesBack, PrintsTo, HaltsWith, exit_effect}
 
@@ -63,13 +63,8 @@ abbrev pub unit_run : List BlockParts → (ℕ → ℕ) → State → ℕ → Ou
 unit_run blocks links s n = outcome_at_block 0 (slice_get blocks 0) (items blocks links n) s []
 
 abbrev pub is_call : Exit → Bool
-is_call (Goto t) = false
-is_call (BranchPair test a b t e) = false
-is_call (BranchZero test a t e) = false
 is_call (Call f n) = true
-is_call Return = false
-is_call (Out n) = false
-is_call Halt = false
+is_call exit = false
 
 -- a word for each call, and none twice
 pub record TellsApart (links : ℕ → ℕ) (blocks : List BlockParts) : Type 0 where

@@ -2,7 +2,8 @@
 use Rattle.std.proofs.Common.{◌≡◌, ◌≢◌, ℕ, zero, suc, ◌+◌, ◌<◌, ◌≤◌, Bool, true, false, cond, ◌==◌, inl, inr, List, [], ◌∷◌, ◌++◌, length}
 use Rattle.std.proofs.Common.{take, drop, get_or, take-append-drop, length-take-le, refl, sym, ap, ap₂, ◌∙◌, subst, true≢false, arith}
 use Rattle.std.proofs.lemmas.Bool.{ne_eqb, eq-eqb, eqb-true, cases_eq}
-use Rattle.std.proofs.lemmas.List.{take_more}
+use Rattle.std.specs.Prelude.{slice_index}
+use Rattle.std.proofs.lemmas.List.{get_or_default, take_more}
 use Rattle.mblock.specs.Parts.{OrderParts}
 use Rattle.mips_layout.specs.Layout.{size}
 use Rattle.mips_layout.specs.Functions.{AreFunctions, words_owned}
@@ -121,8 +122,8 @@ module _ (n : ℕ) (owner : ℕ → ℕ) (h : AreFunctions n owner) (os : List O
       let whole : (take k os ++ o ∷ []) ++ drop (k + 1) os ≡ os = ap (λ d. d ++ drop (k + 1) os) (sym next) ∙ take-append-drop (k + 1) os in
       too_many n owner h (take k os) o inside words start (drop (k + 1) os) c (started words start es) gt (subst (FunctionsFit owner) (sym whole) fit)
 
-pub reset : (a b start words : ℕ) → a ≡ b → start ≡ 0 → start ≡ cond (a == b) 0 words
-reset a b start words e es = es ∙ sym (ap (λ x. cond x 0 words) (eq-eqb a b e))
-
-pub kept_on : (a b start words : ℕ) → (a ≡ b → ⊥) → start ≡ words → start ≡ cond (a == b) 0 words
-kept_on a b start words ne es = es ∙ sym (ap (λ x. cond x 0 words) (ne_eqb a b ne))
+-- the count at a block, of the owner that is read
+pub read_start : (owners : List ℕ) (k read number words start : ℕ) → k < length owners → read ≡ get_or owners k read → number ≡ read
+    → start ≡ cond (number == k) 0 words → start ≡ cond (slice_index owners k == k) 0 words
+read_start owners k read number words start lt read_is number_is e =
+    e ∙ ap (λ f. cond (f == k) 0 words) (number_is ∙ read_is ∙ get_or_default owners k read 0 lt)

@@ -14,6 +14,7 @@ use Rattle.mips_isa.specs.Ranges.{IsInst}
 use Rattle.mblock.specs.declared.exit.Exit.{Exit}
 use Rattle.mblock.specs.declared.exit.Exit.TheVariants.{Goto, BranchPair, BranchZero, Call, Return, Out, Halt}
 use Rattle.mblock.specs.Parts.{OrderParts}
+use Rattle.mblock.specs.Units.{GoesBelow}
 use Rattle.mips_layout.specs.Layout.{size, place, slot_insts, hop, jump_to, branch_offset, set_number, address_of_place, exit_insts}
 use Rattle.mips_layout.specs.Layout.{insts_of, layout, order_insts}
 use Rattle.mips_layout.proofs.Within.{place_next, place_mono}
@@ -23,7 +24,7 @@ use Rattle.std.specs.List.{AllByRecursion}
 use Rattle.mips_layout.specs.Functions.{AreFunctions}
 use Rattle.mips_layout.proofs.Fits.{offset_near}
 use Rattle.mips_asm.specs.Limits.{FunctionsFit}
-use Rattle.mips_asm.specs.Emitted.{Fit, AreThere, AllThere, IsNear, AllNear, IsOwn, AreUnits, places_from, start_of}
+use Rattle.mips_asm.specs.Emitted.{Fit, AllThere, IsNear, AllNear, IsOwn, AreUnits, places_from, start_of}
 use Rattle.mips_layout.specs.declared.limits.TheConstants.{CODE_WORDS}
 
 place_in : (os : List OrderParts) (here k : ℕ) → k < length os → slice_index (places_from here os) k ≡ here + place os k
@@ -35,7 +36,7 @@ same_starts : (os : List OrderParts) (k : ℕ) → k < length os → start_of (p
 same_starts os k lt = let e = place_in os 0 k lt in omega arith
 
 module _ (n : ℕ) (s s' : ℕ → ℕ) (h : (t : ℕ) → t < n → s t ≡ s' t) where
-  same_exit : (here : ℕ) (exit : Exit) (slot : Option Plain) → AreThere n exit → exit_insts s here exit slot ≡ exit_insts s' here exit slot
+  same_exit : (here : ℕ) (exit : Exit) (slot : Option Plain) → GoesBelow n exit → exit_insts s here exit slot ≡ exit_insts s' here exit slot
   same_exit here (Goto t) slot there = ap (λ p. jump_to p ∷ slot_insts slot) (h t there)
   same_exit here (BranchPair test a b t e) slot there =
       ap₂ (λ p q. I.Control (controls.BranchPair test a b (branch_offset here p)) ∷ (slot_insts slot ++ hop q)) (h t there.0) (h e there.1)
@@ -47,7 +48,7 @@ module _ (n : ℕ) (s s' : ℕ → ℕ) (h : (t : ℕ) → t < n → s t ≡ s' 
   same_exit here (Out m) slot there = ap (λ q. set_number (Rattle.std.specs.Prelude.pos 1) ∷ I.Control controls.SystemCall ∷ hop q) (h m there)
   same_exit here Halt slot there = refl
 
-  same_insts : (os : List OrderParts) (here : ℕ) → ((k : ℕ) (o : OrderParts) → slice_get os k ≡ Some o → AreThere n o.exit)
+  same_insts : (os : List OrderParts) (here : ℕ) → ((k : ℕ) (o : OrderParts) → slice_get os k ≡ Some o → GoesBelow n o.exit)
       → insts_of s here os ≡ insts_of s' here os
   same_insts [] here there = refl
   same_insts (o ∷ os) here there =
@@ -89,7 +90,7 @@ pub all_small : (os : List OrderParts) → place os (length os) ≤ CODE_WORDS �
 all_small os le = All-from_recursion (λ p. p ≤ CODE_WORDS) (places_from 0 os) (places_small os 0 (omega arith))
 
 near_exit : (owner : ℕ → ℕ) (os : List OrderParts) → AreFunctions (length os) owner → FunctionsFit owner os → (k : ℕ) (o : OrderParts)
-    → slice_get os k ≡ Some o → (x : Exit) → AreThere (length os) x → IsOwn owner k x → IsNear (start_of (places_from 0 os)) (place os k + length o.insts) x
+    → slice_get os k ≡ Some o → (x : Exit) → GoesBelow (length os) x → IsOwn owner k x → IsNear (start_of (places_from 0 os)) (place os k + length o.insts) x
 near_exit owner os f fit k o e (Goto t) there own = tt
 near_exit owner os f fit k o e (BranchPair test a b t z) there own =
     subst (λ p. FitsSigned w16 (branch_offset (place os k + length o.insts) p)) (sym (same_starts os t there.0))

@@ -24,7 +24,7 @@ use Rattle.mips_layout.proofs.Within.{place_mono, place_next}
 use Rattle.mips_layout.proofs.Places.{words_length}
 use Rattle.mips_layout.proofs.Composed.{each_layout_runs, each_layout_tells_calls_apart}
 use Rattle.mips_layout.proofs.PlainRuns.{each_plain_layout_runs}
-use Rattle.mips_asm.specs.Emitted.{AreThere, IsOwn, AreUnits}
+use Rattle.mips_asm.specs.Emitted.{IsOwn, AreUnits}
 use Rattle.mips_asm.specs.Assembled.{EachAssembledImageRuns}
 use Rattle.mips_layout.specs.declared.limits.TheConstants.{CODE_WORDS}
 use Rattle.mips_isa.specs.MemoryMap.{code_base}
@@ -40,23 +40,14 @@ BelowShape n Returns = Unit {0}
 BelowShape n (Prints m) = m < n
 BelowShape n Halts = Unit {0}
 
-goes_below : (n : ℕ) (exit : Exit) → GoesBelow n exit → BelowShape n (exit_shape exit)
-goes_below n (Goto t) h = h
-goes_below n (BranchPair x a b t e) h = h
-goes_below n (BranchZero x a t e) h = h
-goes_below n (Call f m) h = h
-goes_below n Return h = h
-goes_below n (Out m) h = h
-goes_below n Halt h = h
-
-are_there : (n : ℕ) (exit : Exit) → BelowShape n (exit_shape exit) → AreThere n exit
-are_there n (Goto t) h = h
-are_there n (BranchPair x a b t e) h = h
-are_there n (BranchZero x a t e) h = h
-are_there n (Call f m) h = h
-are_there n Return h = h
-are_there n (Out m) h = h
-are_there n Halt h = h
+below_shape : (n : ℕ) (exit : Exit) → (GoesBelow n exit → BelowShape n (exit_shape exit)) × (BelowShape n (exit_shape exit) → GoesBelow n exit)
+below_shape n (Goto t) = (λ h. h, λ h. h)
+below_shape n (BranchPair x a b t e) = (λ h. h, λ h. h)
+below_shape n (BranchZero x a t e) = (λ h. h, λ h. h)
+below_shape n (Call f m) = (λ h. h, λ h. h)
+below_shape n Return = (λ h. h, λ h. h)
+below_shape n (Out m) = (λ h. h, λ h. h)
+below_shape n Halt = (λ h. h, λ h. h)
 
 abbrev OwnShape : (ℕ → ℕ) → ℕ → Shape → Type 0
 OwnShape owner k (Goes t) = Unit {0}
@@ -116,8 +107,8 @@ unit_orders u orders is h = record {
   functions = subst (λ n. AreFunctions n (slice_index u.owner)) (sym h.long) (functions_are u.blocks u.owner is.owners is.some);
   there = λ k o e.
       let p = block_at k o e in
-      let below = subst (BelowShape (length u.blocks)) (h.exits k p.0 o p.1 e) (goes_below (length u.blocks) p.0.exit (is.linked.by k p.0 p.1)) in
-      subst (λ n. AreThere n o.exit) (sym h.long) (are_there (length u.blocks) o.exit below);
+      let below = subst (BelowShape (length u.blocks)) (h.exits k p.0 o p.1 e) ((below_shape (length u.blocks) p.0.exit).0 (is.linked.by k p.0 p.1)) in
+      subst (λ n. GoesBelow n o.exit) (sym h.long) ((below_shape (length u.blocks) o.exit).1 below);
   own = λ k o e.
       let p = block_at k o e in
       let q = there_is u.owner k (let lt = slice_get_within u.blocks k p.0 p.1 in omega (arith, is.owners.lengths)) in

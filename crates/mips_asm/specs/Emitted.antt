@@ -1,5 +1,5 @@
 -- What the emitter writes.
-use Rattle.std.specs.Prelude.{◌≤◌, ◌≡◌, Some, slice_get, ℕ, ◌+◌, ◌<◌, List, [], ◌∷◌, length, slice_index}
+use Rattle.std.specs.Prelude.{◌≤◌, ◌≡◌, Some, slice_get, ℕ, ◌+◌, List, [], ◌∷◌, length, slice_index}
 use Rattle.std.specs.List.{AllByRecursion}
 use Rattle.mips_isa.specs.declared.inst.Inst.{Inst}
 use Rattle.mips_isa.specs.Ranges.{IsInst}
@@ -7,6 +7,7 @@ use Rattle.mblock.specs.declared.exit.Exit.{Exit}
 use Rattle.mblock.specs.declared.exit.Exit.TheVariants.{Goto, BranchPair, BranchZero, Call, Return, Out, Halt}
 use Rattle.mblock.specs.declared.limits.TheConstants.{UNIT_BLOCKS}
 use Rattle.mblock.specs.Parts.{OrderParts}
+use Rattle.mblock.specs.Units.{GoesBelow}
 use Rattle.std.specs.Prelude.{FitsSigned}
 use Rattle.std.specs.Int.{w16}
 use Rattle.mips_layout.specs.declared.limits.TheConstants.{CODE_WORDS}
@@ -25,17 +26,8 @@ start_of places t = slice_index places t
 abbrev pub Fit : List Inst → Type 0
 Fit is = AllByRecursion IsInst is
 
-abbrev pub AreThere : ℕ → Exit → Type 0
-AreThere n (Goto t) = t < n
-AreThere n (BranchPair test a b t e) = (t < n) × (e < n)
-AreThere n (BranchZero test a t e) = (t < n) × (e < n)
-AreThere n (Call f m) = (f < n) × (m < n)
-AreThere n Return = Unit {0}
-AreThere n (Out m) = m < n
-AreThere n Halt = Unit {0}
-
 abbrev pub AllThere : List OrderParts → Type 0
-AllThere orders = (k : ℕ) (o : OrderParts) → slice_get orders k ≡ Some o → AreThere (length orders) o.exit
+AllThere orders = (k : ℕ) (o : OrderParts) → slice_get orders k ≡ Some o → GoesBelow (length orders) o.exit
 
 -- the place that a branch takes is near enough for its 16 bits
 abbrev pub IsNear : (ℕ → ℕ) → ℕ → Exit → Type 0

@@ -1,12 +1,19 @@
 // Whether each function is within its limit.
 
-ghost use Rattle.std.specs.Prelude.{◌≡◌, ℕ, ◌≤◌, ◌↔◌, IsTrue, length, slice_index};
+ghost use Rattle.std.specs.Prelude.{◌≡◌, ℕ, ◌≤◌, ◌↔◌, ◌==◌, cond, IsTrue, length, slice_index};
 ghost use Rattle.mips_layout.specs.Functions.{AreFunctions};
 ghost use Rattle.mips_asm.specs.Limits.{FunctionsFit};
 
 use crate::places::size;
 use mblock::{BlockNumber, Order};
 use mips_layout::FUNCTION_WORDS;
+
+// The words so far of the function of block `k`: none where it is the function's first.
+fn words_before(first: usize, k: usize, words: u32) -> u32
+    ensures { result ≡ cond (first == k) 0 words }
+{
+    if first == k { 0 } else { words }
+}
 
 /// Whether no function has more than 32,000 words.
 pub fn functions_fit(owner: &[BlockNumber], orders: &[Order]) -> bool
@@ -17,10 +24,7 @@ pub fn functions_fit(owner: &[BlockNumber], orders: &[Order]) -> bool
     let mut words = 0;
     for (k, order) in orders.iter().enumerate() {
         let first = owner[k].number() as usize;
-        if first == k {
-            words = 0;
-        }
-        words += size(order);
+        words = words_before(first, k, words) + size(order);
         if words > FUNCTION_WORDS {
             return false;
         }

@@ -86,59 +86,49 @@ not_true : (b : Bool) → not b ≡ true → b ≡ false
 not_true true e = absurd (true≢false (sym e))
 not_true false e = refl
 
+-- what is one with an exit is what the exit asks for, in the form that it has there
+asked_for : (at : Locations) (facts : Facts) (asked : Asked) (i : RInst) (m : Comparison) → comparison_of at facts asked i ≡ Some m
+    → (is_asked asked m.result ≡ true) × (form_for asked m.op m.left m.right ≡ Some m.form)
+asked_for at facts asked (Const d w) m e = absurd (none-some m e)
+asked_for at facts asked (Move d a) m e = absurd (none-some m e)
+asked_for at facts asked (Load d a i) m e = absurd (none-some m e)
+asked_for at facts asked (Store a i b) m e = absurd (none-some m e)
+asked_for at facts asked (Bin op d a b) m e = go (is_asked asked d && is_passing (at d)) refl e
+  where
+    l : Option ℕ
+    l = known_in facts a
+
+    r : Option ℕ
+    r = known_in facts b
+
+    by : is_asked asked d ≡ true → (o : Option Form) → form_for asked op l r ≡ o
+        → compared d op l r (operand at facts a) (operand at facts b) o ≡ Some m
+        → (is_asked asked m.result ≡ true) × (form_for asked m.op m.left m.right ≡ Some m.form)
+    by t None is e = absurd (none-some m e)
+    by t (Some form) is e =
+        let x : Comparison = record { result = d; op = op; form = form; left = l; right = r; x = operand at facts a; y = operand at facts b } in
+        subst (λ (m : Comparison). (is_asked asked m.result ≡ true) × (form_for asked m.op m.left m.right ≡ Some m.form)) (same_Some x m e) (t, is)
+
+    go : (t : Bool) → (is_asked asked d && is_passing (at d)) ≡ t
+        → (if t then compared d op l r (operand at facts a) (operand at facts b) (form_for asked op l r) else None) ≡ Some m
+        → (is_asked asked m.result ≡ true) × (form_for asked m.op m.left m.right ≡ Some m.form)
+    go false t e = absurd (none-some m e)
+    go true t e = by (and_first (is_asked asked d) (is_passing (at d)) t) (form_for asked op l r) refl e
+
 -- nothing is one with a branch that doesn't stand behind it
 pub none_asked : (at : Locations) (facts : Facts) (i : RInst) (m : Comparison) → comparison_of at facts Nothing i ≡ Some m → ⊥
-none_asked at facts (Const d w) m e = none-some m e
-none_asked at facts (Move d a) m e = none-some m e
-none_asked at facts (Bin op d a b) m e = none-some m e
-none_asked at facts (Load d a i) m e = none-some m e
-none_asked at facts (Store a i b) m e = none-some m e
-
-compared_result : (d : ℕ) (op : Op) (l r : Option ℕ) (x y : Source) (o : Option Form) (m : Comparison) → compared d op l r x y o ≡ Some m → m.result ≡ d
-compared_result d op l r x y None m e = absurd (none-some m e)
-compared_result d op l r x y (Some form) m e =
-    sym (ap (λ (m : Comparison). m.result)
-    (same_Some (let x : Comparison = record { result = d; op = op; form = form; left = l; right = r; x = x; y = y } in x) m e))
+none_asked at facts i m e = true≢false (sym (asked_for at facts Nothing i m e).0)
 
 -- it is what the branch goes by
 pub asked_result : (at : Locations) (facts : Facts) (c : ℕ) (i : RInst) (m : Comparison) → comparison_of at facts (Branched c) i ≡ Some m → nat_eq m.result c ≡ true
-asked_result at facts c (Const d w) m e = absurd (none-some m e)
-asked_result at facts c (Move d a) m e = absurd (none-some m e)
-asked_result at facts c (Load d a i) m e = absurd (none-some m e)
-asked_result at facts c (Store a i b) m e = absurd (none-some m e)
-asked_result at facts c (Bin op d a b) m e = go (nat_eq c d && is_passing (at d)) refl e
-  where
-    go : (t : Bool) → (nat_eq c d && is_passing (at d)) ≡ t
-        → (if t then compared d op (known_in facts a) (known_in facts b) (operand at facts a) (operand at facts b)
-        (form_of op (known_in facts a) (known_in facts b)) else None) ≡ Some m → nat_eq m.result c ≡ true
-    go false t e = absurd (none-some m e)
-    go true t e =
-        let same : c ≡ d = eqb-true c d (and_first (nat_eq c d) (is_passing (at d)) t) in
-        eq-eqb m.result c (compared_result d op (known_in facts a) (known_in facts b) (operand at facts a) (operand at facts b)
-        (form_of op (known_in facts a) (known_in facts b)) m e ∙ sym same)
-
-closed_form : (d : ℕ) (op : Op) (l r : Option ℕ) (x y : Source) (form : Form) (m : Comparison) → compared d op l r x y (Some form) ≡ Some m → m.form ≡ form
-closed_form d op l r x y form m e =
-    sym (ap (λ (m : Comparison). m.form)
-    (same_Some (let x : Comparison = record { result = d; op = op; form = form; left = l; right = r; x = x; y = y } in x) m e))
+asked_result at facts c i m e = eq-eqb m.result c (sym (eqb-true c m.result (asked_for at facts (Branched c) i m e).0))
 
 -- what a return goes by is in register 2
 pub returned_result : (at : Locations) (facts : Facts) (c : ℕ) (i : RInst) (m : Comparison) → comparison_of at facts (Returned c) i ≡ Some m
     → returned (Some m) c ≡ true
-returned_result at facts c (Const d w) m e = absurd (none-some m e)
-returned_result at facts c (Move d a) m e = absurd (none-some m e)
-returned_result at facts c (Load d a i) m e = absurd (none-some m e)
-returned_result at facts c (Store a i b) m e = absurd (none-some m e)
-returned_result at facts c (Bin op d a b) m e = go (nat_eq c d && is_passing (at d)) refl e
-  where
-    go : (t : Bool) → (nat_eq c d && is_passing (at d)) ≡ t
-        → (if t then compared d op (known_in facts a) (known_in facts b) (operand at facts a) (operand at facts b) (Some InResult) else None) ≡ Some m
-        → returned (Some m) c ≡ true
-    go false t e = absurd (none-some m e)
-    go true t e =
-        let same : c ≡ d = eqb-true c d (and_first (nat_eq c d) (is_passing (at d)) t) in
-        ap₂ (λ form b. is_result form && b) (closed_form d op (known_in facts a) (known_in facts b) (operand at facts a) (operand at facts b) InResult m e)
-        (eq-eqb m.result c (compared_result d op (known_in facts a) (known_in facts b) (operand at facts a) (operand at facts b) (Some InResult) m e ∙ sym same))
+returned_result at facts c i m e =
+    let is = asked_for at facts (Returned c) i m e in
+    ap₂ (λ form b. is_result form && b) (sym (same_Some InResult m.form is.1)) (eq-eqb m.result c (sym (eqb-true c m.result is.0)))
 
 t3 : IsTarget 3
 t3 = record { low = omega arith; high = omega arith }

@@ -658,6 +658,39 @@ module _ (most total : ℕ) (gs : List RGlobal) (starts : ℕ → ℕ) where
                   ∙ ap (read_home hs registers (places_with top.slots j (Some v))) (same_Some x c is) ∙ there);
             })
 
+    module _ (P : Run → Type 0) (go : Places → Places → Run) (hs : List Home) (x v : ℕ) (o : Option ℕ) (known : Places) (y : Source)
+        (d : Denotes top.count s y v) (below : v < 2 ^ 32) (said : (w : ℕ) → o ≡ Some w → w ≡ v) (ok : AreFrameHomes hs top.count)
+        (k : IsKnown known hs registers top.slots) where
+      -- an operand into a register
+      puts_held : (r : ℕ) → slice_get hs x ≡ Some (Reg r) → Go P go (put_at (Some (Held r)) y) s known x o hs (Some (Held r))
+          → P (go (places_with registers r (Some v)) top.slots)
+      puts_held r at f =
+          let range = ok.by x (Reg r) at in
+          let low = range.0 in
+          let c = brings (hide lazy registers) g top fs s h r v y (record { low = omega (arith, low); high = omega (arith, range.1) }) d in
+          f (places_with registers r (Some v)) top.slots (record s { regs = c.regs }) (bring_some r y) c.runs
+          (written r v (record s { regs = c.regs }) (register_written (hide lazy registers) g top fs s h r v c.regs range.0 range.1 below c.here c.others))
+          (lazy_written lazy registers r (Some v) is_lazy)
+          (known_register known hs top.count registers top.slots x r v o ok at said k)
+
+      -- and into a slot
+      puts_slot : (j : ℕ) → slice_get hs x ≡ Some (Slot j) → Go P go (put_at (Some (InSlot j)) y) s known x o hs (Some (InSlot j))
+          → P (go registers (places_with top.slots j (Some v)))
+      puts_slot j at f =
+          let lt = ok.by x (Slot j) at in
+          let t = inner_of (Some (InSlot j)) in
+          let is_inner = inner_is (Some (InSlot j)) in
+          let c = fetches (hide lazy registers) g top fs s h t v y is_inner.low is_inner.high d in
+          let s1 : State = record s { regs = c.regs } in
+          let place = frame_open (hide lazy registers) g top fs s1 c.stands (4 * j) (omega arith) (omega (arith, lt)) in
+          let store : RunsTo (store_word_at (seat t y) (4 * j) ∷ []) s1 (set_word s1 (s1.regs 29 + 4 * j) v) =
+          subst (λ u. RunsTo (store_word_at (seat t y) (4 * j) ∷ []) s1 (set_word s1 (s1.regs 29 + 4 * j) u)) c.here
+          (stores_word s1 (seat t y) (4 * j) place.0 place.1) in
+          f registers (places_with top.slots j (Some v)) (set_word s1 (s1.regs 29 + 4 * j) v)
+          (longer_behind (fetch t y) (store_word_at (seat t y) (4 * j) ∷ []) (omega arith)) (runs_then c.runs store)
+          (slot_written (hide lazy registers) g top fs s1 c.stands j v lt below) is_lazy
+          (known_slot known hs top.count registers top.slots x j v o ok at said k)
+
     -- an operand into a location
     pub puts : (P : Run → Type 0) (go : Places → Places → Run) (hs : List Home) (x v : ℕ) (o : Option ℕ) (out : List ℕ) (known : Places) (y : Source)
         → Denotes top.count s y v → v < 2 ^ 32 → ((w : ℕ) → o ≡ Some w → w ≡ v) → AreFrameHomes hs top.count → IsKnown known hs registers top.slots
@@ -669,28 +702,8 @@ module _ (most total : ℕ) (gs : List RGlobal) (starts : ℕ → ℕ) where
         by : (p : Option Home) → slice_get hs x ≡ p → Go P go (put_at (location_at p) y) s known x o hs (location_at p)
             → P (with_value p out (λ h. write_at h registers top.slots v go))
         by None at f = failed
-        by (Some (Reg r)) at f =
-            let range = ok.by x (Reg r) at in
-            let low = range.0 in
-            let c = brings (hide lazy registers) g top fs s h r v y (record { low = omega (arith, low); high = omega (arith, range.1) }) d in
-            f (places_with registers r (Some v)) top.slots (record s { regs = c.regs }) (bring_some r y) c.runs
-            (written r v (record s { regs = c.regs }) (register_written (hide lazy registers) g top fs s h r v c.regs range.0 range.1 below c.here c.others))
-            (lazy_written lazy registers r (Some v) is_lazy)
-            (known_register known hs top.count registers top.slots x r v o ok at said k)
-        by (Some (Slot j)) at f =
-            let lt = ok.by x (Slot j) at in
-            let t = inner_of (Some (InSlot j)) in
-            let is_inner = inner_is (Some (InSlot j)) in
-            let c = fetches (hide lazy registers) g top fs s h t v y is_inner.low is_inner.high d in
-            let s1 : State = record s { regs = c.regs } in
-            let place = frame_open (hide lazy registers) g top fs s1 c.stands (4 * j) (omega arith) (omega (arith, lt)) in
-            let store : RunsTo (store_word_at (seat t y) (4 * j) ∷ []) s1 (set_word s1 (s1.regs 29 + 4 * j) v) =
-            subst (λ u. RunsTo (store_word_at (seat t y) (4 * j) ∷ []) s1 (set_word s1 (s1.regs 29 + 4 * j) u)) c.here
-            (stores_word s1 (seat t y) (4 * j) place.0 place.1) in
-            f registers (places_with top.slots j (Some v)) (set_word s1 (s1.regs 29 + 4 * j) v)
-            (longer_behind (fetch t y) (store_word_at (seat t y) (4 * j) ∷ []) (omega arith)) (runs_then c.runs store)
-            (slot_written (hide lazy registers) g top fs s1 c.stands j v lt below) is_lazy
-            (known_slot known hs top.count registers top.slots x j v o ok at said k)
+        by (Some (Reg r)) at f = puts_held P go hs x v o known y d below said ok k r at f
+        by (Some (Slot j)) at f = puts_slot P go hs x v o known y d below said ok k j at f
 
     -- a register into a location
     pub arrives : (P : Run → Type 0) (go : Places → Places → Run) (hs : List Home) (x v t : ℕ) (out : List ℕ)
@@ -756,15 +769,7 @@ module _ (most total : ℕ) (gs : List RGlobal) (starts : ℕ → ℕ) where
             → IsLazy (places_with lazy r (if b then None else Some v)) registers' → IsKnown (places_with known x (Some v)) hs registers' slots'
             → P (go registers' slots'))
             → P (go (places_with registers r (Some v)) top.slots)
-        reg r at true lasts f =
-            let range = ok.by x (Reg r) at in
-            let low = range.0 in
-            let c = brings (hide lazy registers) g top fs s h r v (word_source v) (record { low = omega (arith, low); high = omega (arith, range.1) })
-            (word (nat_eq v 0) refl) in
-            f (places_with registers r (Some v)) top.slots (record s { regs = c.regs }) (bring_some r (word_source v)) c.runs
-            (written r v (record s { regs = c.regs }) (register_written (hide lazy registers) g top fs s h r v c.regs range.0 range.1 below c.here c.others))
-            (lazy_written lazy registers r (Some v) is_lazy)
-            (known_register known hs top.count registers top.slots x r v (Some v) ok at said k)
+        reg r at true lasts f = puts_held P go hs x v (Some v) known (word_source v) (word (nat_eq v 0) refl) below said ok k r at f
         reg r at false passes f =
             f (places_with registers r (Some v)) top.slots s (omega arith) (runs_nop s)
             (fewer_stand (hide lazy registers) (hide (places_with lazy r (Some v)) (places_with registers r (Some v))) g (top ∷ fs) s
@@ -775,18 +780,4 @@ module _ (most total : ℕ) (gs : List RGlobal) (starts : ℕ → ℕ) where
         by : (p : Option Home) → slice_get hs x ≡ p → Told (location_at p) → P (with_value p out (λ h. write_at h registers top.slots v go))
         by None at f = failed
         by (Some (Reg r)) at f = reg r at (is_lasting r) refl f
-        by (Some (Slot j)) at f =
-            let lt = ok.by x (Slot j) at in
-            let y = word_source v in
-            let t = inner_of (Some (InSlot j)) in
-            let is_inner = inner_is (Some (InSlot j)) in
-            let c = fetches (hide lazy registers) g top fs s h t v y is_inner.low is_inner.high (word (nat_eq v 0) refl) in
-            let s1 : State = record s { regs = c.regs } in
-            let place = frame_open (hide lazy registers) g top fs s1 c.stands (4 * j) (omega arith) (omega (arith, lt)) in
-            let store : RunsTo (store_word_at (seat t y) (4 * j) ∷ []) s1 (set_word s1 (s1.regs 29 + 4 * j) v) =
-            subst (λ u. RunsTo (store_word_at (seat t y) (4 * j) ∷ []) s1 (set_word s1 (s1.regs 29 + 4 * j) u)) c.here
-            (stores_word s1 (seat t y) (4 * j) place.0 place.1) in
-            f registers (places_with top.slots j (Some v)) (set_word s1 (s1.regs 29 + 4 * j) v)
-            (longer_behind (fetch t y) (store_word_at (seat t y) (4 * j) ∷ []) (omega arith)) (runs_then c.runs store)
-            (slot_written (hide lazy registers) g top fs s1 c.stands j v lt below) is_lazy
-            (known_slot known hs top.count registers top.slots x j v (Some v) ok at said k)
+        by (Some (Slot j)) at f = puts_slot P go hs x v (Some v) known (word_source v) (word (nat_eq v 0) refl) below said ok k j at f

@@ -216,6 +216,15 @@ not_below : (v w : ℕ) → op_value operators.Xor (op_value operators.Sltu w v)
 unfolding op_value
 not_below v w = turned_truth (nat_lt w v)
 
+-- an operator on two registers, and then an instruction on its result
+after_alu : (op : AluOp) (a b : ℕ) (second : Plain) (f : ℕ → ℕ) (s : State) (d u : ℕ) → IsTarget d
+    → ((t : State) → RunsTo (second ∷ []) t (set t d (f (read 0 t.regs d)))) → f (op_value (alu_operator op) (read 0 s.regs a) (read 0 s.regs b)) ≡ u
+    → Gives (Alu op d a b ∷ second ∷ []) s d u
+after_alu op a b second f s d u ok runs e =
+    let x = op_value (alu_operator op) (read 0 s.regs a) (read 0 s.regs b) in
+    two (Alu op d a b) second s d x (f x) u ok (alu_runs s op d a b)
+    (λ r. subst (λ y. RunsTo (second ∷ []) (set s d x) (set (set s d x) d (f y))) r (runs (set s d x))) e
+
 -- ---- each operator
 
 -- on two registers
@@ -240,39 +249,19 @@ operation_gives Shl s d a b v w u ok left right lv lw e = shift_gives Sll s d a 
 operation_gives ShrU s d a b v w u ok left right lv lw e = shift_gives Srl s d a b v w u ok left right e
 operation_gives ShrS s d a b v w u ok left right lv lw e = shift_gives Sra s d a b v w u ok left right e
 operation_gives Eq s d a b v w u ok left right lv lw e =
-    let x = op_value operators.Subu (read 0 s.regs a) (read 0 s.regs b) in
-    let y = op_value operators.Sltu x 1 in
-    two (Alu alu.Subu d a b) (Imm Sltiu d d (pos 1)) s d x y u ok (alu_runs s alu.Subu d a b)
-    (λ r. subst (λ x. RunsTo (Imm Sltiu d d (pos 1) ∷ []) (set s d (op_value operators.Subu (read 0 s.regs a) (read 0 s.regs b)))
-    (set (set s d (op_value operators.Subu (read 0 s.regs a) (read 0 s.regs b))) d (op_value operators.Sltu x 1))) r
-    (imm_runs (set s d x) Sltiu d d 1 (omega arith)))
+    after_alu alu.Subu a b (Imm Sltiu d d (pos 1)) (λ x. op_value operators.Sltu x 1) s d u ok (λ t. imm_runs t Sltiu d d 1 (omega arith))
     (ap₂ (λ x y. op_value operators.Sltu (op_value operators.Subu x y) 1) left right ∙ equal_word v w lv lw ∙ same_Some (truth_word (v == w)) u e)
 operation_gives Ne s d a b v w u ok left right lv lw e =
-    let x = op_value operators.Subu (read 0 s.regs a) (read 0 s.regs b) in
-    let y = op_value operators.Sltu 0 x in
-    two (Alu alu.Subu d a b) (Alu alu.Sltu d 0 d) s d x y u ok (alu_runs s alu.Subu d a b)
-    (λ r. subst (λ x. RunsTo (Alu alu.Sltu d 0 d ∷ []) (set s d (op_value operators.Subu (read 0 s.regs a) (read 0 s.regs b)))
-    (set (set s d (op_value operators.Subu (read 0 s.regs a) (read 0 s.regs b))) d (op_value operators.Sltu 0 x))) r
-    (alu_runs (set s d x) alu.Sltu d 0 d))
+    after_alu alu.Subu a b (Alu alu.Sltu d 0 d) (λ x. op_value operators.Sltu 0 x) s d u ok (λ t. alu_runs t alu.Sltu d 0 d)
     (ap₂ (λ x y. op_value operators.Sltu 0 (op_value operators.Subu x y)) left right ∙ unequal_word v w lv lw ∙ same_Some (truth_word (not (v == w))) u e)
 operation_gives LtS s d a b v w u ok left right lv lw e = alu_gives alu.Slt s d a b v w u ok left right e
 operation_gives LtU s d a b v w u ok left right lv lw e = alu_gives alu.Sltu s d a b v w u ok left right e
 operation_gives LeS s d a b v w u ok left right lv lw e =
-    let x = op_value operators.Slt (read 0 s.regs b) (read 0 s.regs a) in
-    let y = op_value operators.Xor x (wrap 1) in
-    two (Alu alu.Slt d b a) (Logic Xori d d 1) s d x y u ok (alu_runs s alu.Slt d b a)
-    (λ r. subst (λ x. RunsTo (Logic Xori d d 1 ∷ []) (set s d (op_value operators.Slt (read 0 s.regs b) (read 0 s.regs a)))
-    (set (set s d (op_value operators.Slt (read 0 s.regs b) (read 0 s.regs a))) d (op_value operators.Xor x (wrap 1)))) r
-    (record { ends = refl }))
+    after_alu alu.Slt b a (Logic Xori d d 1) (λ x. op_value operators.Xor x (wrap 1)) s d u ok (λ t. record { ends = refl })
     (ap₂ (λ x y. op_value operators.Xor (op_value operators.Slt y x) (wrap 1)) left right ∙ not_below_signed v w
     ∙ same_Some (truth_word (not (int_lt (signed w) (signed v)))) u e)
 operation_gives LeU s d a b v w u ok left right lv lw e =
-    let x = op_value operators.Sltu (read 0 s.regs b) (read 0 s.regs a) in
-    let y = op_value operators.Xor x (wrap 1) in
-    two (Alu alu.Sltu d b a) (Logic Xori d d 1) s d x y u ok (alu_runs s alu.Sltu d b a)
-    (λ r. subst (λ x. RunsTo (Logic Xori d d 1 ∷ []) (set s d (op_value operators.Sltu (read 0 s.regs b) (read 0 s.regs a)))
-    (set (set s d (op_value operators.Sltu (read 0 s.regs b) (read 0 s.regs a))) d (op_value operators.Xor x (wrap 1)))) r
-    (record { ends = refl }))
+    after_alu alu.Sltu b a (Logic Xori d d 1) (λ x. op_value operators.Xor x (wrap 1)) s d u ok (λ t. record { ends = refl })
     (ap₂ (λ x y. op_value operators.Xor (op_value operators.Sltu y x) (wrap 1)) left right ∙ not_below v w ∙ same_Some (truth_word (not (nat_lt w v))) u e)
 
 -- operands may be turned

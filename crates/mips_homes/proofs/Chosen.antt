@@ -1,18 +1,18 @@
 -- The homes that are made are the choice, and the choice serves its function.
 use Rattle.std.proofs.Common.{◌≡◌, ℕ, zero, suc, ◌+◌, ◌-◌, ◌^◌, ◌<◌, ◌≤◌, ◌⊎◌, inl, inr, ⊎_elim, Bool, true, false, ◌||◌, List, [], ◌∷◌}
-use Rattle.std.proofs.Common.{◌++◌, ◌&&◌, Some, refl, sym, ap, ap₂, ◌∙◌, subst, arith, length, nat_eq, nat_lt, true≢false, eqb-true, ne_eqb, lt-ltb}
+use Rattle.std.proofs.Common.{◌&&◌, Some, refl, sym, ap, ap₂, ◌∙◌, subst, arith, length, nat_eq, nat_lt, true≢false, eqb-true, ne_eqb, lt-ltb}
 use Rattle.std.proofs.Common.{ltb-true, get_or}
 use mathlib.Core.Path.{fun_ext}
 use Rattle.std.specs.Prelude.{if◌then◌else◌, slice_get}
 use Rattle.std.proofs.lemmas.Bool.{cases_lt, ltb-false}
-use Rattle.std.proofs.lemmas.Option.{slice_get_within, slice_get_read, same_Some}
+use Rattle.std.proofs.lemmas.Option.{slice_get_within, same_Some}
 use Rattle.rtl.specs.Names.{bound, blocks_names, how_many, uses_of}
 use Rattle.mips_homes.specs.HomedRun.{is_in, is_lasting}
 use Rattle.mips_homes.specs.Homes.{HasHome, HaveHomes, Serves, AreAllHomes}
 use Rattle.mips_homes.specs.Correct.{KeepsRtlRuns}
 use Rattle.mips_homes.specs.Choice.{count_below, rank, is_register_home, IsChoice, AreChoices}
 use Rattle.mips_homes.specs.Best.{IsRanked, IsBest, IsHome, AreHomesOf, AreFirst}
-use Rattle.mips_homes.proofs.Choosing.{one_if, count_none, count_all, count_more, at_index, is_in_at, in_best, got_push, length_one}
+use Rattle.mips_homes.proofs.Choosing.{one_if, count_none, count_all, count_more, at_index, is_in_at, in_best}
 use Rattle.mips_homes.proofs.Lockstep.{each_homed_run}
 use Rattle.mips_homes.specs.declared.homed.Home.{Home}
 use Rattle.mips_homes.specs.declared.homed.Home.TheVariants.{Reg, Slot}

@@ -1,10 +1,10 @@
 -- Places serve, as homes do.
-use Rattle.std.proofs.Common.{◌≡◌, ℕ, zero, suc, ◌+◌, ◌<◌, ◌≤◌, ◌⊎◌, inl, inr, ⊎_elim, Bool, true, false, ◌&&◌, List, [], ◌∷◌, ◌++◌}
-use Rattle.std.proofs.Common.{Some, refl, sym, ap, ap₂, ◌∙◌, subst, arith, length, nat_eq, nat_lt, true≢false, eqb-true, ltb-true, leb-true, eq-eqb, drop, get_or}
-use Rattle.std.specs.Prelude.{if◌then◌else◌, ◌||◌, max, Option, None, nat_le, slice_get}
-use Rattle.std.proofs.lemmas.Bool.{ltb-false}
+use Rattle.std.proofs.Common.{◌≡◌, ℕ, zero, suc, ◌+◌, ◌<◌, ◌≤◌, ◌⊎◌, inl, inr, Bool, true, false, ◌&&◌, List, [], ◌∷◌, ◌++◌}
+use Rattle.std.proofs.Common.{Some, refl, sym, ap, ap₂, ◌∙◌, subst, arith, length, nat_eq, nat_lt, true≢false, eqb-true, ltb-true, leb-true, eq-eqb, drop}
+use Rattle.std.specs.Prelude.{if◌then◌else◌, ◌||◌, max, Option, None, nat_le, not, slice_get}
+use Rattle.std.proofs.lemmas.Bool.{and_parts, ltb-false}
 use Rattle.std.proofs.lemmas.List.{append_assoc}
-use Rattle.std.proofs.lemmas.Option.{slice_get_within, slice_get_read, same_Some, none-some}
+use Rattle.std.proofs.lemmas.Option.{slice_get_within, same_Some, none-some}
 use Rattle.rtl.specs.Names.{blocks_names, how_many, optional}
 use Rattle.mips_homes.specs.HomedRun.{is_in, is_lasting}
 use Rattle.mips_homes.specs.Homes.{Serves}
@@ -12,8 +12,8 @@ use Rattle.mips_homes.specs.Correct.{KeepsRtlRuns}
 use Rattle.mips_homes.specs.Choice.{IsChoice}
 use Rattle.mips_homes.specs.Locals.{is_local, none_reads_first, some_go_to, block_reads_first}
 use Rattle.mips_homes.specs.Hints.{reach_from, exit_reach, blocks_reach, register_of, hint}
-use Rattle.mips_homes.specs.Places.{passing_registers, first_free, free_register, home_or, also, places_from, is_register, lives_in, still_saved, is_slot, some_slot, IsPlaced, IsPlacedFor, ArePlaced}
-use Rattle.mips_homes.proofs.Choosing.{at_index, drop_at, got_push, length_one}
+use Rattle.mips_homes.specs.Places.{passing_registers, first_free, free_register, home_or, also, places_from, is_register, lives_in, still_saved, is_slot, some_slot, IsPlaced, ArePlaced}
+use Rattle.mips_homes.proofs.Choosing.{at_index, drop_at}
 use Rattle.mips_homes.proofs.Chosen.{home_lasts, home_at, bound_least, named_below}
 use Rattle.mips_homes.proofs.Lockstep.{each_homed_run}
 use Rattle.mips_homes.specs.declared.homed.Home.{Home}
@@ -67,7 +67,7 @@ in_also taken (Some q) r e = go taken e
         by true rest e = absurd (true≢false e)
         by false rest e = rest e
 
-also_in : (taken : List ℕ) (r : ℕ) → is_in (also taken (Some r)) r ≡ true
+pub also_in : (taken : List ℕ) (r : ℕ) → is_in (also taken (Some r)) r ≡ true
 also_in [] r = ap (λ c. c || false) (eq-eqb r r refl)
 also_in (x ∷ xs) r = by (nat_eq r x) (also_in xs r)
   where
@@ -130,13 +130,8 @@ place_case local hint x taken (g ∷ hs) (suc j) h e =
           among = sym (ap (λ y. is_in (optional (hint y) ++ passing_registers) p.r) at) ∙ p.among;
         })
 
-register_in : Home → ℕ
-register_in (Reg r) = r
-register_in (Slot k) = 0
-
-same_register : (q r : ℕ) → Reg q ≡ Reg r → q ≡ r
-unfolding register_in
-same_register q r e = ap register_in e
+pub same_register : (q r : ℕ) → Reg q ≡ Reg r → q ≡ r
+same_register q r e = cc
 
 -- registers that are hints: 4 to 7
 abbrev pub AreHints : (ℕ → Option ℕ) → Type 0
@@ -163,55 +158,28 @@ is_or {A} q r rest one other e = by (nat_eq r q) refl e
 abbrev pub IsPassing : ℕ → Type 0
 IsPassing r = (8 ≤ r) × (r < 28) × (is_lasting r ≡ false)
 
-abbrev AllPass : List ℕ → Type 0
-AllPass [] = Unit {0}
-AllPass (r ∷ rs) = IsPassing r × AllPass rs
+abbrev passes_test : ℕ → Bool
+passes_test r = nat_le 8 r && (nat_lt r 28 && not (is_lasting r))
 
-each_passes : (rs : List ℕ) → AllPass rs → (r : ℕ) → is_in rs r ≡ true → IsPassing r
+abbrev all_pass : List ℕ → Bool
+all_pass [] = true
+all_pass (r ∷ rs) = passes_test r && all_pass rs
+
+is_passing : (r : ℕ) → passes_test r ≡ true → IsPassing r
+is_passing r e =
+    let low = and_parts (nat_le 8 r) (nat_lt r 28 && not (is_lasting r)) e in
+    let high = and_parts (nat_lt r 28) (not (is_lasting r)) low.1 in
+    (leb-true 8 r low.0, ltb-true r 28 high.0, no_true (is_lasting r) high.1)
+  where
+    no_true : (b : Bool) → not b ≡ true → b ≡ false
+    no_true true e = absurd (true≢false (sym e))
+    no_true false e = refl
+
+each_passes : (rs : List ℕ) → all_pass rs ≡ true → (r : ℕ) → is_in rs r ≡ true → IsPassing r
 each_passes [] all r e = absurd (true≢false (sym e))
-each_passes (q ∷ rs) all r e = is_or q r (is_in rs r) (λ same. subst IsPassing same all.0) (each_passes rs all.1 r) e
-
-is_passing : (r : ℕ) → 8 ≤ r → r < 28 → is_lasting r ≡ false → IsPassing r
-is_passing r low high passes = (low, high, passes)
-
-passing_all : AllPass passing_registers
-passing_all = (
-  is_passing 8 (omega arith) (omega arith) refl,
-  (
-    is_passing 9 (omega arith) (omega arith) refl,
-    (
-      is_passing 10 (omega arith) (omega arith) refl,
-      (
-        is_passing 11 (omega arith) (omega arith) refl,
-        (
-          is_passing 12 (omega arith) (omega arith) refl,
-          (
-            is_passing 13 (omega arith) (omega arith) refl,
-            (
-              is_passing 14 (omega arith) (omega arith) refl,
-              (
-                is_passing 15 (omega arith) (omega arith) refl,
-                (
-                  is_passing 24 (omega arith) (omega arith) refl,
-                  (
-                    is_passing 25 (omega arith) (omega arith) refl,
-                    (
-                      is_passing 26 (omega arith) (omega arith) refl,
-                      (
-                        is_passing 27 (omega arith) (omega arith) refl,
-                        tt,
-                      ),
-                    ),
-                  ),
-                ),
-              ),
-            ),
-          ),
-        ),
-      ),
-    ),
-  ),
-)
+each_passes (q ∷ rs) all r e =
+    let both = and_parts (passes_test q) (all_pass rs) all in
+    is_or q r (is_in rs r) (λ same. subst IsPassing same (is_passing q both.0)) (each_passes rs both.1 r) e
 
 -- the register that is passed
 pub passes_range : (local : ℕ → Bool) (hint : ℕ → Option ℕ) → AreHints hint → (x : ℕ) (taken : List ℕ) (h : Home) (p : Passes local hint x taken h)
@@ -219,9 +187,9 @@ pub passes_range : (local : ℕ → Bool) (hint : ℕ → Option ℕ) → AreHin
 passes_range local hint hints x taken h p = by (hint x) refl p.among
   where
     by : (o : Option ℕ) → hint x ≡ o → is_in (optional o ++ passing_registers) p.r ≡ true → (hint x ≡ Some p.r) ⊎ IsPassing p.r
-    by None e among = inr (each_passes passing_registers passing_all p.r among)
+    by None e among = inr (each_passes passing_registers refl p.r among)
     by (Some q) e among = is_or q p.r (is_in passing_registers p.r) (λ same. inl (e ∙ ap Some same))
-        (λ m. inr (each_passes passing_registers passing_all p.r m)) among
+        (λ m. inr (each_passes passing_registers refl p.r m)) among
 
 -- it is none that outlives a block
 pub passes_not : (local : ℕ → Bool) (hint : ℕ → Option ℕ) → AreHints hint → (x : ℕ) (taken : List ℕ) (h : Home) (p : Passes local hint x taken h)

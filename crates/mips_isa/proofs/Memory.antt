@@ -81,6 +81,15 @@ load_same w mapped memory a v open_at h =
 
 -- ---- at another
 
+-- a word doesn't reach a byte outside its four
+word_or_byte : (a b c : ℕ) → AreApart Word a Byte b → reaches Word a c ≡ true → reaches Byte b c ≡ true → ⊥
+word_or_byte a b c apart ra rb =
+    let p = and_parts (nat_le a c) (nat_lt c (a + 4)) ra in
+    let low = leb-true a c p.0 in
+    let high = ltb-true c (a + 4) p.1 in
+    let at = eqb-true c b rb in
+    omega (arith, low, high, at, apart)
+
 -- no byte is reached by both
 never_both : (w v : Width) (a b c : ℕ) → AreApart w a v b → is_aligned w a ≡ true → is_aligned v b ≡ true → reaches w a c ≡ true
     → reaches v b c ≡ true → ⊥
@@ -95,18 +104,8 @@ never_both Word Word a b c apart ea eb ra rb =
     let zb = eqb-true (b % 4) 0 eb in
     apart (omega (arith, low, high, low', high', za, zb))
 never_both Byte Byte a b c apart ea eb ra rb = apart (sym (eqb-true c a ra) ∙ eqb-true c b rb)
-never_both Word Byte a b c apart ea eb ra rb =
-    let p = and_parts (nat_le a c) (nat_lt c (a + 4)) ra in
-    let low = leb-true a c p.0 in
-    let high = ltb-true c (a + 4) p.1 in
-    let at = eqb-true c b rb in
-    omega (arith, low, high, at, apart)
-never_both Byte Word a b c apart ea eb ra rb =
-    let p = and_parts (nat_le b c) (nat_lt c (b + 4)) rb in
-    let low = leb-true b c p.0 in
-    let high = ltb-true c (b + 4) p.1 in
-    let at = eqb-true c a ra in
-    omega (arith, low, high, at, apart)
+never_both Word Byte a b c apart ea eb ra rb = word_or_byte a b c apart ra rb
+never_both Byte Word a b c apart ea eb ra rb = word_or_byte b a c apart rb ra
 
 -- the byte at c isn't changed by a store that is apart from an access that reaches it
 kept_byte : (w v : Width) (mapped : ℕ → Bool) (m : ℕ → ℕ) (a word b c : ℕ) → AreApart w a v b → is_aligned v b ≡ true → reaches v b c ≡ true

@@ -1,6 +1,7 @@
 -- The words of an order lead where the order goes.
 use Rattle.std.proofs.Common.{◌≡◌, ℕ, suc, pred, ◌+◌, ◌/◌, ◌<◌, ◌≤◌, Bool, true, false, cond, not, ◌||◌, ◌==◌, pos, ◌-ℤ◌, List, [], ◌∷◌}
 use Rattle.std.proofs.Common.{◌++◌, map, length, Option, Some, None, refl, sym, ap, ap₂, ◌∙◌, subst, true≢false, arith}
+use Rattle.std.proofs.lemmas.Bool.{or_parts}
 use Rattle.std.proofs.lemmas.Option.{same_Some, none-some}
 use Rattle.std.proofs.lemmas.Int.{ints}
 use Rattle.words.specs.declared.operator.Operator.TheVariants.{Addu}
@@ -63,14 +64,6 @@ words_hold (i ∷ rest) f f' le e = go (λ g h r. words_hold rest g f' h r) (is_
     go next true r = absurd (none-some f' r)
     go next false r = next (flow_after (action_of i) f) (wait_kept (action_of i) f.hold le) r
 
-or_first : (a b : Bool) → (a || b) ≡ false → a ≡ false
-or_first true b e = e
-or_first false b e = refl
-
-or_second : (a b : Bool) → (a || b) ≡ false → b ≡ false
-or_second true b e = absurd (true≢false e)
-or_second false b e = e
-
 pending_none : (a : Action) (s : State) → is_load a ≡ false → pending_of a s ≡ Nothing
 pending_none (Loads w d base offset) s e = absurd (true≢false e)
 pending_none (Computes d op x y) s e = refl
@@ -86,8 +79,8 @@ slot_quiet : (a : Action) (s : State) (h : ℕ) → (is_load a || is_move a) ≡
     → flow_after a (record { state = s; pending = Nothing; hold = pred h }) ≡ quiet
     (settled_state (flow_after a (record { state = s; pending = Nothing; hold = pred h })))
 slot_quiet a s h kind le =
-    let none = pending_none a s (or_first _ _ kind) in
-    let zero_hold : cond (is_move a) 2 (pred (pred h)) ≡ 0 = ap (λ b. cond b 2 (pred (pred h))) (or_second (is_load a) (is_move a) kind) ∙ none_left in
+    let none = pending_none a s (or_parts (is_load a) (is_move a) kind).0 in
+    let zero_hold : cond (is_move a) 2 (pred (pred h)) ≡ 0 = ap (λ b. cond b 2 (pred (pred h))) (or_parts (is_load a) (is_move a) kind).1 ∙ none_left in
     ap₂ (λ p n. record { state = shown_state a s; pending = p; hold = n }) none zero_hold
     ∙ ap quiet (sym (ap (λ p. state_with_pending p (shown_state a s)) none))
   where

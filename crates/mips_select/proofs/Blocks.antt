@@ -1,6 +1,6 @@
 -- Loops over blocks.
-use Rattle.std.proofs.Common.{◌≡◌, ℕ, zero, suc, ◌+◌, ◌<◌, ◌≤◌, Bool, true, false, List, [], ◌∷◌, ◌++◌, drop, get_or, length, length-append, refl, sym, ap, ap₂, ◌∙◌, arith}
-use Rattle.std.specs.Prelude.{◌-◌, Some, slice_get, slice_index, map, replicate, if◌then◌else◌}
+use Rattle.std.proofs.Common.{◌≡◌, ℕ, zero, suc, ◌+◌, ◌<◌, ◌≤◌, Bool, List, [], ◌∷◌, ◌++◌, drop, get_or, length, length-append, refl, sym, ap, ap₂, ◌∙◌, arith}
+use Rattle.std.specs.Prelude.{◌-◌, Some, slice_get, slice_index, map, replicate}
 use Rattle.std.proofs.lemmas.List.{append_assoc, at_drop_more, length-map, map-append}
 use Rattle.std.proofs.lemmas.Option.{same_Some, none-some, slice_get_read}
 use Rattle.std.specs.declared.alloc.Global.{Global}
@@ -10,12 +10,10 @@ use Rattle.rtl.specs.declared.block.RFunc.{RFunc}
 use Rattle.rtl.specs.declared.block.RGlobal.{RGlobal}
 use Rattle.mips_homes.specs.declared.homed.Frame.{Frame}
 use Rattle.rtl.specs.declared.block.RBlock.{RBlock}
-use Rattle.rtl.specs.declared.instruction.RExit.{RExit}
-use Rattle.rtl.specs.declared.instruction.RExit.TheVariants.{Goto, Branch, Call, Return, Out}
 use Rattle.mips_select.specs.declared.heads.Naming.{Naming}
 use Rattle.mips_select.specs.declared.heads.Naming.TheVariants.{Unnamed}
 use Rattle.mips_select.specs.declared.heads.Head.{Head}
-use Rattle.mips_select.specs.Heads.{is_leaf, unnamed, namings_of, AreNamed, heads_in, heads_of, resumes, count, lead_in}
+use Rattle.mips_select.specs.Heads.{is_leaf, unnamed, namings_of, AreNamed, heads_in, heads_of, count, lead_in}
 use Rattle.mips_select.specs.Code.{head_code, own_block}
 use Rattle.mips_select.specs.Whole.{size_of_blocks, numbers, next_of, behind, blocks_from, place_in, lead_blocks, function_blocks, function_size}
 use Rattle.mips_select.specs.Whole.{functions_size, numbers_in, numbers_from, entries_from, owners_from, functions_blocks}
@@ -45,18 +43,6 @@ block_room heads k i bound blocks b within b_is le =
     let e = at_drop_more (size_of_blocks heads) blocks i b within in
     let one = ap (λ (b : RBlock). count heads b.exit) b_is in
     omega (arith, e, one, le)
-
--- each block takes a number
-pub count_some : (heads : ℕ → Head) (x : RExit) → 1 ≤ count heads x
-count_some heads (Call g xs d next) = by (resumes d (heads next))
-  where
-    by : (b : Bool) → 1 ≤ (if b then 1 else 2)
-    by true = omega arith
-    by false = omega arith
-count_some heads (Goto b) = omega arith
-count_some heads (Branch c t e) = omega arith
-count_some heads (Return o) = omega arith
-count_some heads (Out x next) = omega arith
 
 pub blocks_step : (globals : List RGlobal) (starts entry place : ℕ → ℕ) (leaf : Bool) (heads : ℕ
     → Head) (f : Frame) (n k c i bound : ℕ) (blocks : List RBlock) (b : RBlock) (out out' all : List BlockParts) → c ≡ count heads b.exit
@@ -89,6 +75,13 @@ named_at (t ∷ tables) [] g func table named there at = absurd (none-some func 
 named_at (t ∷ tables) (x ∷ funcs) zero func table named there at =
     ap (λ (t : Vec Naming Global). t.items) (sym (same_Some t table at)) ∙ ap (λ l. get_or l 0 []) named ∙ ap namings_of (same_Some x func there)
 named_at (t ∷ tables) (x ∷ funcs) (suc g) func table named there at = named_at tables funcs g func table (ap (drop 1) named) there at
+
+-- the same of what a loop reads of the two lists
+pub named_here : (tables : List (Vec Naming Global)) (funcs : List RFunc) (i : ℕ) (func : RFunc) (table : Vec Naming Global) → AreNamed tables funcs
+    → i < length funcs → func ≡ get_or funcs i func → table ≡ get_or tables i table → table.items ≡ namings_of func
+named_here tables funcs i func table named lt func_is table_is =
+    let long = named_long tables funcs named in
+    named_at tables funcs i func table named (read_at funcs i func lt func_is) (read_at tables i table (omega (arith, long, lt)) table_is)
 
 -- a function, from the parts of what was made
 pub function_made : (globals : List RGlobal) (starts entry : ℕ → ℕ) (k : ℕ) (func : RFunc) (f : Frame) (leaf : Bool) (blocks : List RBlock)

@@ -1,7 +1,7 @@
 -- What a prologue and an epilogue do.
 use Rattle.std.proofs.Common.{◌≡◌, ◌≢◌, ℕ, pos, negsuc, zero, suc, ◌+◌, ◌-◌, ◌*◌, ◌%◌, ◌<◌, ◌≤◌, ◌⊎◌, inl, inr, Bool, true, false, List, [], ◌∷◌}
 use Rattle.std.proofs.Common.{◌++◌, map, length, length-append, Option, Some, None, refl, sym, ap, ◌∙◌, subst, arith, nat_eq, true≢false, eqb-true}
-use Rattle.std.proofs.Common.{eq-eqb, ne_eqb, ◌||◌}
+use Rattle.std.proofs.Common.{ne_eqb, ◌||◌}
 use Rattle.std.specs.Prelude.{if◌then◌else◌, slice_get}
 use Rattle.std.proofs.lemmas.Bool.{eqb-false}
 use Rattle.std.proofs.lemmas.Option.{same_Some, none-some}
@@ -19,6 +19,7 @@ use Rattle.mblock.proofs.StateWords.{run_words}
 use Rattle.rtl.specs.declared.block.RGlobal.{RGlobal}
 use Rattle.mips_homes.specs.HomedRun.{Activation, is_in, registers_at_entry, registers_at_return}
 use Rattle.mips_homes.specs.declared.homed.Frame.{Frame}
+use Rattle.mips_homes.proofs.Located.{also_in}
 use Rattle.mips_emit.specs.declared.limits.TheConstants.{FRAME_BYTES}
 use Rattle.mips_emit.specs.Frames.{link_words, IsFrame}
 use Rattle.mips_emit.specs.Elements.{width_of, place_in, address_of_place}
@@ -87,14 +88,6 @@ front_in (y ∷ xs) x q b e ne = go (nat_eq q y) e (λ e. front_in xs x q b e ne
     go : (c : Bool) → (c || is_in xs q) ≡ b → (is_in xs q ≡ b → is_in (xs ++ x ∷ []) q ≡ b) → (c || is_in (xs ++ x ∷ []) q) ≡ b
     go true e rest = e
     go false e rest = rest e
-
-last_in : (xs : List ℕ) (x : ℕ) → is_in (xs ++ x ∷ []) x ≡ true
-last_in [] x = ap (λ c. c || false) (eq-eqb x x refl)
-last_in (y ∷ xs) x = go (nat_eq x y) (last_in xs x)
-  where
-    go : (c : Bool) → is_in (xs ++ x ∷ []) x ≡ true → (c || is_in (xs ++ x ∷ []) x) ≡ true
-    go true e = refl
-    go false e = e
 
 module _ (most : ℕ) (f : Frame) (ok : IsFrame most f) where
   kept_case : (leaf : Bool) (j r : ℕ) → slice_get (kept leaf f) j ≡ Some r → (slice_get f.saved.items j ≡ Some r) ⊎ ((j ≡ length f.saved.items) × (r ≡ 31))
@@ -325,7 +318,7 @@ module _ (most total : ℕ) (gs : List RGlobal) (starts : ℕ → ℕ) (small : 
           → slice_get (kept leaf f) j ≡ Some q → word_at s (s.regs 29 + 4 * f.slots + 4 * j) ≡ v) → regs q ≡ v) → (b : Bool) → leaf ≡ b → regs 31 ≡ link
       link_back regs others inside true is = others 31 (ap (λ leaf. is_in (kept leaf f) 31) is ∙ saved_other most f ok 31 (inr (omega arith))) ∙ h.linked is
       link_back regs others inside false is = inside 31 link (ap (λ leaf. is_in (kept leaf f) 31) is
-          ∙ last_in f.saved.items 31) (λ j there. link_at is j 31 refl (kept_case most f ok leaf j 31 there))
+          ∙ also_in f.saved.items 31) (λ j there. link_at is j 31 refl (kept_case most f ok leaf j 31 there))
 
       held : (regs : ℕ → ℕ) → ((q : ℕ) → is_in (kept leaf f) q ≡ false → regs q ≡ s.regs q) → ((q v : ℕ) → is_in (kept leaf f) q ≡ true → ((j : ℕ)
           → slice_get (kept leaf f) j ≡ Some q → word_at s (s.regs 29 + 4 * f.slots + 4 * j) ≡ v) → regs q ≡ v) → (q w : ℕ) → 4 ≤ q → q < 28 → (b : Bool)

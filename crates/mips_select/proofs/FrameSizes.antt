@@ -13,7 +13,7 @@ use Rattle.mips_homes.specs.declared.homed.Homed.{Homed}
 use Rattle.mips_homes.specs.Choice.{IsChoice}
 use Rattle.mips_homes.specs.Hints.{blocks_reach}
 use Rattle.mips_homes.specs.Places.{some_slot, IsPlacedFor, ArePlaced}
-use Rattle.mips_homes.proofs.Located.{PassesIn, within, seated, case_of, places_long_as, placed_apart, still_was, still_few, has_slot}
+use Rattle.mips_homes.proofs.Located.{PassesIn, within, seated, case_of, places_long_as, placed_apart, still_was, still_few, has_slot, same_register}
 use Rattle.mips_emit.specs.declared.limits.TheConstants.{FRAME_BYTES}
 use Rattle.mips_emit.specs.Frames.{IsHome, IsFrame}
 use Rattle.mips_split.proofs.Places.{block_there}
@@ -49,14 +49,6 @@ few (suc m) (suc n) f below apart =
     g_apart i j li lj true false eb ec e = (let no : n ≡ j = apart n j (omega arith) (omega (arith, lj)) e in absurd (omega (arith, no, lj)))
     g_apart i j li lj false true eb ec e = (let no : i ≡ n = apart i n (omega (arith, li)) (omega arith) e in absurd (omega (arith, no, li)))
     g_apart i j li lj false false eb ec e = apart i j (omega (arith, li)) (omega (arith, lj)) e
-
-register_of : Home → ℕ
-register_of (Reg r) = r
-register_of (Slot k) = 0
-
-registers_same : (q r : ℕ) → Reg q ≡ Reg r → q ≡ r
-unfolding register_of
-registers_same q r e = ap register_of e
 
 module _ (func : RFunc) (f : Frame) (ok : IsChoice func f) where
   saved_at : (j : ℕ) → j < length f.saved.items → slice_get f.saved.items j ≡ Some (slice_index f.saved.items j)
@@ -107,7 +99,7 @@ module _ (func : RFunc) (f : Frame) (ok : IsChoice func f) where
       apart i j li lj e =
           let homes : Reg (slice_index f.saved.items j) ≡ Reg (slice_index f.saved.items i) = same_Some (Reg (slice_index f.saved.items j))
           (Reg (slice_index f.saved.items i)) (sym (home j lj) ∙ ap (slice_get f.homes.items) (sym e) ∙ home i li) in
-          let same : slice_index f.saved.items j ≡ slice_index f.saved.items i = registers_same (slice_index f.saved.items j) (slice_index f.saved.items i)
+          let same : slice_index f.saved.items j ≡ slice_index f.saved.items i = same_register (slice_index f.saved.items j) (slice_index f.saved.items i)
           homes in
           ok.saved_once i j (slice_index f.saved.items i) (saved_at i li) (saved_at j lj ∙ ap Some same)
 

@@ -42,6 +42,7 @@ behind_length heads place f (Branch c t e) = refl
 behind_length heads place f (Return o) = refl
 behind_length heads place f (Out x next) = refl
 
+-- each block takes a number
 pub one_at_least : (heads : ℕ → Head) (x : RExit) → 1 ≤ count heads x
 one_at_least heads (Call g xs d next) = go (resumes d (heads next))
   where

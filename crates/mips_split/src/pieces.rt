@@ -84,43 +84,27 @@ fn number_at(numbers: &[BlockNumber], n: BlockNumber) -> BlockNumber
 }
 
 // The exit with the numbers of pieces.
-fn renumber(numbers: &[BlockNumber], exit: Exit) -> Exit
+fn renumber(numbers: &[BlockNumber], mut exit: Exit) -> Exit
     ensures { result ≡ renumbered_exit (λ n. slice_index numbers.now n) exit }
 {
-    match exit {
-        Exit::Goto(t) => Exit::Goto(number_at(numbers, t)),
-        Exit::BranchPair {
-            test,
-            rs,
-            rt,
-            then,
-            other,
-        } => Exit::BranchPair {
-            test,
-            rs,
-            rt,
-            then: number_at(numbers, then),
-            other: number_at(numbers, other),
-        },
-        Exit::BranchZero {
-            test,
-            rs,
-            then,
-            other,
-        } => Exit::BranchZero {
-            test,
-            rs,
-            then: number_at(numbers, then),
-            other: number_at(numbers, other),
-        },
-        Exit::Call { function, next } => Exit::Call {
-            function: number_at(numbers, function),
-            next: number_at(numbers, next),
-        },
-        Exit::Return => Exit::Return,
-        Exit::Out(next) => Exit::Out(number_at(numbers, next)),
-        Exit::Halt => Exit::Halt,
+    match &mut exit {
+        Exit::Goto(next) => *next = number_at(numbers, *next),
+        Exit::BranchPair { then, other, .. } => {
+            *then = number_at(numbers, *then);
+            *other = number_at(numbers, *other);
+        }
+        Exit::BranchZero { then, other, .. } => {
+            *then = number_at(numbers, *then);
+            *other = number_at(numbers, *other);
+        }
+        Exit::Call { function, next } => {
+            *function = number_at(numbers, *function);
+            *next = number_at(numbers, *next);
+        }
+        Exit::Out(next) => *next = number_at(numbers, *next),
+        Exit::Return | Exit::Halt => {}
     }
+    exit
 }
 
 // A copy of some instructions.

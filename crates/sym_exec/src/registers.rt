@@ -1,6 +1,6 @@
 //! The terms of registers, HI and LO, and what one action does to them, done to their tickets.
 ghost use Rattle.std.specs.Prelude.{◌≡◌, ℕ, ◌<◌, ◌+◌, OnOk, IfOk, slice_index, vec_len};
-ghost use Rattle.mips_isa.specs.declared.action.Action.TheVariants.{Computes, Loads, Stores, Multiplies, Divides};
+ghost use Rattle.mips_isa.specs.declared.action.Action.TheVariants.{Computes, Loads, Stores};
 ghost use Rattle.mips_isa.specs.States.{put};
 ghost use Rattle.sym_terms.specs.Trees.{Tree, leaf};
 ghost use Rattle.sym_exec.specs.MipsTerms.{HasSeen, HasTree};
@@ -12,12 +12,10 @@ use crate::address::{address_at, plus_term};
 use crate::interner::Interner;
 use crate::stores::{StoreChain, Stored};
 use crate::terms::op_term;
-use mips_isa::{
-    NonzeroReg, Operand, Reg, product_high, product_low, quotient_operator, remainder_operator,
-};
+use mips_isa::{NonzeroReg, Operand, Reg};
 use sym_terms::Label;
 use term_table::{TableFull, Ticket};
-use words::{Operator, Sign, Width};
+use words::{Operator, Width};
 
 /// What a load or a store reaches: how wide, and how many bytes behind a register's word.
 #[derive(Clone, Copy)]
@@ -189,8 +187,8 @@ impl TermRegisters {
         Ok(address)
     }
 
-    // HI and LO hold the results of two operators at the same registers.
-    fn put_halves(
+    /// HI and LO hold the results of two operators at the same registers.
+    pub(crate) fn put_halves(
         &mut self,
         terms: &mut Interner,
         high: Operator,
@@ -209,46 +207,6 @@ impl TermRegisters {
         let lo = op_term(terms, low, x, y)?;
         self.hi = hi;
         self.lo = lo;
-        Ok(())
-    }
-
-    pub(crate) fn multiplies(
-        &mut self,
-        terms: &mut Interner,
-        sign: Sign,
-        a: Reg,
-        b: Reg,
-    ) -> Result<(), TableFull>
-        requires { Known terms.old.pass.now self.old }
-        ensures known { OnOk result (Known terms.new.pass.now self.new) }
-        ensures hold { (t : TreeState) → Hold terms.old.pass.now self.old t
-            → OnOk result (Hold terms.new.pass.now self.new (trees_after (Multiplies sign a b) t)) }
-        ensures pass { Interns terms.old result terms.new }
-    {
-        self.put_halves(terms, product_high(sign), product_low(sign), a, b)?;
-        Ok(())
-    }
-
-    pub(crate) fn divides(
-        &mut self,
-        terms: &mut Interner,
-        sign: Sign,
-        a: Reg,
-        b: Reg,
-    ) -> Result<(), TableFull>
-        requires { Known terms.old.pass.now self.old }
-        ensures known { OnOk result (Known terms.new.pass.now self.new) }
-        ensures hold { (t : TreeState) → Hold terms.old.pass.now self.old t
-            → OnOk result (Hold terms.new.pass.now self.new (trees_after (Divides sign a b) t)) }
-        ensures pass { Interns terms.old result terms.new }
-    {
-        self.put_halves(
-            terms,
-            remainder_operator(sign),
-            quotient_operator(sign),
-            a,
-            b,
-        )?;
         Ok(())
     }
 }

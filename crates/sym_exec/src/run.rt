@@ -22,7 +22,10 @@ use crate::registers::{Access, TermRegisters};
 use crate::room::{RunLists, RunRoom};
 use crate::state::{Guard, SymState, TermExit, TermPlaces};
 use mblock::{Block, Exit, Order};
-use mips_isa::{Action, NonzeroReg, Plain, Reg};
+use mips_isa::{
+    Action, NonzeroReg, Plain, Reg, product_high, product_low, quotient_operator,
+    remainder_operator,
+};
 use sym_terms::{Label, Origin};
 use term_table::{Pass, TableFull, TermTable, Ticket};
 
@@ -92,11 +95,19 @@ fn step(
             lists.push_guard(Guard::Address { width, address });
             Ok(())
         }
-        Action::Multiplies { sign, a, b } => { registers.multiplies(terms, sign, a, b) }
+        Action::Multiplies { sign, a, b } => {
+            registers.put_halves(terms, product_high(sign), product_low(sign), a, b)
+        }
         Action::Divides { sign, a, b } => {
             let dividend = registers.get(a);
             let divisor = registers.get(b);
-            registers.divides(terms, sign, a, b)?;
+            registers.put_halves(
+                terms,
+                remainder_operator(sign),
+                quotient_operator(sign),
+                a,
+                b,
+            )?;
             lists.push_guard(Guard::Division {
                 sign,
                 dividend,

@@ -15,7 +15,7 @@ use Rattle.term_core.specs.Terms.{StartsWith, Pair, pairs_of}
 use Rattle.term_core.specs.World.{Shape, World, Item, Choice, begins, looks, Turn, turn, place, first_stage, may_begin, call_start, step_start_at}
 use Rattle.term_core.specs.World.{step_start, is_idle, does, acts, steps, step, world_of}
 use Rattle.term_core.specs.Items.{link_loads, GoesOn, EndsCall, Does, EachItemDoes, OthersStand, SeenAgree}
-use Rattle.term_core.proofs.Kept.{Spot, Inv, Stands}
+use Rattle.term_core.proofs.Kept.{Spot, Inv, Stands, step_start_has}
 use Rattle.term_core.proofs.Reaching.{keeps_all, lawful}
 use Rattle.term_core.proofs.Chains.{at_same, at_other, set_itself}
 use Rattle.term_core.specs.World.{place_at, becomes_at, link_of}
@@ -43,16 +43,13 @@ idle_loads (Writing c a i) e = refl
 idle_loads (Linking c a) e = refl
 idle_loads (Reading t xs) e = refl
 
-begun_seen : (s : Shape) (choice : Choice) (v : Walker) (g : Stage) → (step_start_at s choice v g).seen ≡ v.seen
-begun_seen s (begins c) v Idle =
+chosen_seen : (s : Shape) (choice : Choice) (v : Walker) → (call_start s choice v).seen ≡ v.seen
+chosen_seen s (begins c) v =
     elim (may_begin v.seen c) as (λ (k : Bool). (cond k (record v { stage = first_stage s c; probes = 0 }) v).seen ≡ v.seen) [ true ↦ refl | false ↦ refl ]
-begun_seen s (looks n) v Idle = refl
-begun_seen s choice v (Looking k) = refl
-begun_seen s choice v (AtLink c w a) = refl
-begun_seen s choice v (AtContent c w k i) = refl
-begun_seen s choice v (Writing c a i) = refl
-begun_seen s choice v (Linking c a) = refl
-begun_seen s choice v (Reading t xs) = refl
+chosen_seen s (looks n) v = refl
+
+begun_seen : (s : Shape) (choice : Choice) (v : Walker) (g : Stage) → (step_start_at s choice v g).seen ≡ v.seen
+begun_seen s choice v g = step_start_has (λ (u : Walker). u.seen ≡ v.seen) s choice v g refl (chosen_seen s choice v)
 
 asks_first : (s : Shape) (c : Call) → Asks (first_stage s c)
 asks_first s (Intern l ks) = tt

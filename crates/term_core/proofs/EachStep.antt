@@ -27,9 +27,9 @@ use Rattle.term_core.proofs.Replay.{IsThere, One, one_of, there_from, tree_later
 use Rattle.term_core.proofs.Chains.{Mem, mem_here, mem_cases, Linked, end_of, end_cases, end_snoc, linked_rest, linked_none, linked_some}
 use Rattle.term_core.proofs.Chains.{linked_frame, at_same, at_other, set_itself}
 use Rattle.term_core.proofs.Kept.{word, SameAs, home, Shared, Walk, OnLink, OnContent, OnWriting, OnLinking, OnReading, Spot, Stands, Inv}
-use Rattle.term_core.proofs.Kept.{Change, Searches, Interns, chain_of, label_of, kids_of}
+use Rattle.term_core.proofs.Kept.{Change, stands_at, Searches, Interns, chain_of, label_of, kids_of}
 use Rattle.term_core.proofs.Keys.{content_is, matched, missing, over, tree_of}
-use Rattle.term_core.proofs.Turns.{combine, no_change, quiet, loaded, loaded_end, ended}
+use Rattle.term_core.proofs.Turns.{combine, no_change, quiet_change, quiet, loaded, loaded_end, ended}
 use Rattle.term_core.proofs.Joining.{linked_step}
 
 -- what a match and a miss answer
@@ -253,19 +253,9 @@ module _ (s : Shape) (ok : IsShape s) (w : World) (inv : Inv s w) (p : ℕ) (v :
         ⊎_elim (λ (l : t < p * s.nodes). absurd (omega arith)) (λ (l : p * s.nodes + s.nodes ≤ t). absurd (omega arith)) o
 
     change : Change s p w.words words' w.history w.history chains chains
-    change = record {
-      said = [];
-      says = sym (append-nil w.history);
-      silent = λ q ne. refl;
-      same_count = λ q ne. refl;
-      longer = omega arith;
-      trees = λ t x e. e;
-      none = λ t e o. e;
-      links = λ t e o. at_other w.words here (link_of s t) (slice_index (content c) i) (off_link t);
-      contents = λ t o j lt. ⊎_elim (λ (h : IsThere ps t). elsewhere t j lt (not_own t h))
-          (λ (h : (t < p * s.nodes) ⊎ (p * s.nodes + s.nodes ≤ t)). elsewhere t j lt (outside t h)) o;
-      grows = λ n. ([], sym (append-nil (chains n)));
-    }
+    change = quiet_change s w inv p v at words' (λ t e o. at_other w.words here (link_of s t) (slice_index (content c) i) (off_link t))
+        (λ t o j lt. ⊎_elim (λ (h : IsThere ps t). elsewhere t j lt (not_own t h))
+        (λ (h : (t < p * s.nodes) ⊎ (p * s.nodes + s.nodes ≤ t)). elsewhere t j lt (outside t h)) o)
 
     home_same : (t : ℕ) → IsThere ps t → home s words' t ≡ home s w.words t
     home_same t h =
@@ -346,19 +336,10 @@ module _ (s : Shape) (ok : IsShape s) (w : World) (inv : Inv s w) (p : ℕ) (v :
         let u : Walker = record b { stage = cond (i == 3) (Linking c a) (Writing c a (suc i)) } in
         let Q : List Entry → Type 0 = λ h. Inv s (record { words = words'; passes = slice_set w.passes p u; history = h }) in
         subst Q (sym (append-nil w.history))
-        (combine s w inv p v at words' w.history chains u change inv.legal shared' (ap (λ (n : ℕ). n + length ps) same_room) (record {
-          number = st.number;
-          low = st.low;
-          begins = st.begins;
-          own_calls = st.own_calls;
-          all_calls = st.all_calls;
-          count = st.count;
-          probes = st.probes;
-          range = st.range;
-          base = st.base;
-          free = λ n lo hi. let f = st.free n lo hi in (at_other w.words here (link_of s n) (slice_index (content c) i) (off_link n) ∙ f.0, f.1);
-          spot = next_stage (i == 3) refl;
-        }))
+        (combine s w inv p v at words' w.history chains u change inv.legal shared' (ap (λ (n : ℕ). n + length ps) same_room)
+        (stands_at s w.words words' w.history chains p b u.stage b.probes st.probes
+        (λ n lo hi. let f = st.free n lo hi in (at_other w.words here (link_of s n) (slice_index (content c) i) (off_link n) ∙ f.0, f.1))
+        (next_stage (i == 3) refl) st))
 
   -- the exchange
   exchange : (c : Call) (a n : ℕ) → slice_index w.words a ≡ n → (k : OnLinking s w.words ps chains b c a)

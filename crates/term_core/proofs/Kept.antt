@@ -12,7 +12,7 @@ use Rattle.term_core.specs.declared.Stage.TheVariants.{Idle, Looking, AtLink, At
 use Rattle.term_core.specs.declared.Walker.{Walker}
 use Rattle.term_labels.specs.WordTrees.{Tree, Trees, node}
 use Rattle.term_core.specs.Terms.{Pair, tree_at, trees_at, added_by, pairs_of, IsLegal, calls_by, StartsWith}
-use Rattle.term_core.specs.World.{Shape, World, link_of, kid_in, content_of, content, at_most_three}
+use Rattle.term_core.specs.World.{Shape, World, Choice, link_of, kid_in, content_of, content, at_most_three, call_start, step_start_at}
 use Rattle.term_core.proofs.Replay.{IsThere}
 use Rattle.term_core.proofs.Chains.{Mem, Linked, end_of}
 
@@ -141,11 +141,13 @@ pub record Stands (s : Shape) (words : List ℕ) (h : List Entry) (chains : ℕ 
   pub free : (k : ℕ) → v.own ≤ k → k < v.own + v.room → (slice_index words (link_of s k) ≡ 0) × (tree_at (pairs_of h) k ≡ None)
   pub spot : Spot s words (pairs_of h) chains v v.stage
 
--- the same pass at another place of its call
-pub at_stage : (s : Shape) (words : List ℕ) (h : List Entry) (chains : ℕ → List ℕ) (by : ℕ) (v : Walker) (g : Stage) (q : ℕ)
-    → q ≤ length (pairs_of h) + 1 → Spot s words (pairs_of h) chains (record v { stage = g; probes = q }) g → Stands s words h chains by v
-    → Stands s words h chains by (record v { stage = g; probes = q })
-at_stage s words h chains by v g q few k st = record {
+-- the same pass at another place of its call, where no free node is linked by the words then
+pub stands_at : (s : Shape) (words words' : List ℕ) (h : List Entry) (chains : ℕ → List ℕ) (by : ℕ) (v : Walker) (g : Stage) (q : ℕ)
+    → q ≤ length (pairs_of h) + 1
+    → ((k : ℕ) → v.own ≤ k → k < v.own + v.room → (slice_index words' (link_of s k) ≡ 0) × (tree_at (pairs_of h) k ≡ None))
+    → Spot s words' (pairs_of h) chains (record v { stage = g; probes = q }) g → Stands s words h chains by v
+    → Stands s words' h chains by (record v { stage = g; probes = q })
+stands_at s words words' h chains by v g q few free k st = record {
   number = st.number;
   low = st.low;
   begins = st.begins;
@@ -155,9 +157,25 @@ at_stage s words h chains by v g q few k st = record {
   probes = few;
   range = st.range;
   base = st.base;
-  free = st.free;
+  free = free;
   spot = k;
 }
+
+pub at_stage : (s : Shape) (words : List ℕ) (h : List Entry) (chains : ℕ → List ℕ) (by : ℕ) (v : Walker) (g : Stage) (q : ℕ)
+    → q ≤ length (pairs_of h) + 1 → Spot s words (pairs_of h) chains (record v { stage = g; probes = q }) g → Stands s words h chains by v
+    → Stands s words h chains by (record v { stage = g; probes = q })
+at_stage s words h chains by v g q few k st = stands_at s words words h chains by v g q few st.free k st
+
+-- what holds of a pass that goes on, and of one that begins what was chosen, holds where a step starts
+pub step_start_has : (P : Walker → Type 0) (s : Shape) (choice : Choice) (v : Walker) (g : Stage) → P v → P (call_start s choice v)
+    → P (step_start_at s choice v g)
+step_start_has P s choice v Idle on begun = begun
+step_start_has P s choice v (Looking n) on begun = on
+step_start_has P s choice v (AtLink c w a) on begun = on
+step_start_has P s choice v (AtContent c w n i) on begun = on
+step_start_has P s choice v (Writing c a i) on begun = on
+step_start_has P s choice v (Linking c a) on begun = on
+step_start_has P s choice v (Reading t xs) on begun = on
 
 abbrev pub rooms : List Walker → ℕ
 rooms [] = 0

@@ -22,7 +22,7 @@ use Rattle.term_core.specs.Law.{Sees, Lawful}
 use Rattle.term_core.proofs.Replay.{IsThere, One, one_of, there_from, tree_later, pairs_append, pairs_more, same_from, legal_front, tree_more}
 use Rattle.term_core.proofs.Chains.{Mem, mem_here, mem_cases, Linked, end_of, end_cases, end_snoc, linked_rest, linked_none, linked_some}
 use Rattle.term_core.proofs.Chains.{linked_frame, at_same, at_other, set_itself}
-use Rattle.term_core.proofs.Kept.{OnLink, Spot, Stands, at_stage, Inv}
+use Rattle.term_core.proofs.Kept.{OnLink, Spot, Stands, at_stage, step_start_has, Inv}
 use Rattle.term_core.proofs.Kept.{Searches, chain_of, label_of, kids_of, rooms}
 use Rattle.term_core.proofs.EachStep.{each}
 
@@ -102,13 +102,7 @@ module _ (s : Shape) (ok : IsShape s) (w : World) (inv : Inv s w) (p : ℕ) (v :
 
   -- so does one that begins what was chosen, or goes on
   pub begun_stands : (choice : Choice) (g : Stage) → Stands s w.words w.history inv.chains p (step_start_at s choice v g)
-  begun_stands choice Idle = chosen_stands choice
-  begun_stands choice (Looking n) = st
-  begun_stands choice (AtLink c wr a) = st
-  begun_stands choice (AtContent c wr n i) = st
-  begun_stands choice (Writing c a i) = st
-  begun_stands choice (Linking c a) = st
-  begun_stands choice (Reading t xs) = st
+  begun_stands choice g = step_start_has (Stands s w.words w.history inv.chains p) s choice v g st (chosen_stands choice)
 
   go_on : (b : Walker) → b.room ≡ v.room → Stands s w.words w.history inv.chains p b → Inv s (acts s w p b)
   go_on b r sb = busy_or (is_idle b.stage) refl
@@ -126,13 +120,7 @@ module _ (s : Shape) (ok : IsShape s) (w : World) (inv : Inv s w) (p : ℕ) (v :
   chosen_goes (looks n) = go_on (record v { stage = Looking n }) refl (looking n)
 
   begun_goes : (choice : Choice) (g : Stage) → Inv s (acts s w p (step_start_at s choice v g))
-  begun_goes choice Idle = chosen_goes choice
-  begun_goes choice (Looking n) = go_on v refl st
-  begun_goes choice (AtLink c wr a) = go_on v refl st
-  begun_goes choice (AtContent c wr n i) = go_on v refl st
-  begun_goes choice (Writing c a i) = go_on v refl st
-  begun_goes choice (Linking c a) = go_on v refl st
-  begun_goes choice (Reading t xs) = go_on v refl st
+  begun_goes choice g = step_start_has (λ (u : Walker). Inv s (acts s w p u)) s choice v g (go_on v refl st) (chosen_goes choice)
 
 does_keeps : (s : Shape) → IsShape s → (w : World) → Inv s w → (item : Item) (o : mathlib.Core.Option.Option Walker)
     → get_elem? w.passes item.by ≡ o → Inv s (does s w item o)

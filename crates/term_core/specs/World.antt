@@ -1,7 +1,7 @@
 -- Passes and words, and the single steps: S1 loads a link, S2 loads a content word, S3 stores a content word of a node of one's own that
 -- is not linked, S4 exchanges a link from none to one's own node.
 use Rattle.std.specs.Prelude.{ℕ, zero, suc, ◌+◌, ◌-◌, ◌*◌, ◌<◌, ◌==◌, ◌&&◌, Bool, true, false, cond, List, [], ◌∷◌, ◌++◌, length, take, max}
-use Rattle.std.specs.Prelude.{slice_index, slice_set, replicate, Some, None}
+use Rattle.std.specs.Prelude.{slice_index, slice_set, replicate}
 use mathlib.Core.Option.{Option, some, none}
 use lib.ListN.{get_elem?}
 use prog.Atomic.{either}
@@ -89,24 +89,14 @@ call_start s (looks n) v = record v { stage = Looking n }
 -- a pass between calls begins what was chosen
 abbrev pub step_start_at : Shape → Choice → Walker → Stage → Walker
 step_start_at s choice v Idle = call_start s choice v
-step_start_at s choice v (Looking n) = v
-step_start_at s choice v (AtLink c w a) = v
-step_start_at s choice v (AtContent c w n i) = v
-step_start_at s choice v (Writing c a i) = v
-step_start_at s choice v (Linking c a) = v
-step_start_at s choice v (Reading t xs) = v
+step_start_at s choice v stage = v
 
 abbrev pub step_start : Shape → Choice → Walker → Walker
 step_start s choice v = step_start_at s choice v v.stage
 
 abbrev pub is_idle : Stage → Bool
 is_idle Idle = true
-is_idle (Looking n) = false
-is_idle (AtLink c w a) = false
-is_idle (AtContent c w n i) = false
-is_idle (Writing c a i) = false
-is_idle (Linking c a) = false
-is_idle (Reading t xs) = false
+is_idle stage = false
 
 -- the kinds of step
 pub data Kind : Type 0 where

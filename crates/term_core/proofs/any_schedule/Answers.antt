@@ -4,26 +4,14 @@ use Rattle.term_core.proofs.Stays.{links_stay, content_stays}
 use Rattle.term_core.proofs.Places.{each_step_has_its_place}
 use Rattle.term_core.proofs.any_schedule.Goals as goal
 
-pub returns-clause-lawful : goal.returns-clause-lawful
-returns-clause-lawful c = lawful
-
-pub returns-clause-does : goal.returns-clause-does
-returns-clause-does c = each_item_does
-
-pub returns-clause-others : goal.returns-clause-others
-returns-clause-others c = others_stand
-
-pub returns-clause-agree : goal.returns-clause-agree
-returns-clause-agree c = seen_agree
-
-pub returns-clause-words : goal.returns-clause-words
-returns-clause-words c = words_stay
-
-pub returns-clause-links : goal.returns-clause-links
-returns-clause-links c = links_stay
-
-pub returns-clause-content : goal.returns-clause-content
-returns-clause-content c = content_stays
-
-pub returns-clause-places : goal.returns-clause-places
-returns-clause-places c = each_step_has_its_place
+pub returns : goal.returns
+returns c = record {
+  lawful = lawful;
+  does = each_item_does;
+  others = others_stand;
+  agree = seen_agree;
+  words = words_stay;
+  links = links_stay;
+  content = content_stays;
+  places = each_step_has_its_place;
+}

@@ -6,30 +6,16 @@ use Rattle.mips_homes.proofs.frames.homes_of.Goals as goal
 use Rattle.mips_homes.proofs.frames.homes_of.Goals.{in-Some+in_ok-push-in-Some, in-None+in_ok-push-in-None}
 
 pub overflow_cast-j : goal.overflow_cast-j
-overflow_cast-j c =
-    let lt = slice_get_within c.args.best.now c.in-Some.j c.loop-x.x c.in-Some.ensures in
-    let few = c.requires.few in
-    omega (arith, lt, few)
+overflow_cast-j c = omega (arith, slice_get_within c.args.best.now c.in-Some.j c.loop-x.x c.in-Some.ensures, c.requires.few)
 
 pub overflow_add-j : goal.overflow_add-j
-overflow_add-j c =
-    let lt = slice_get_within c.args.best.now c.in-Some.j c.loop-x.x c.in-Some.ensures in
-    let few = c.requires.few in
-    omega (arith, lt, few)
+overflow_add-j c = omega (arith, slice_get_within c.args.best.now c.in-Some.j c.loop-x.x c.in-Some.ensures, c.requires.few)
 
 pub overflow_cast-slots : goal.overflow_cast-slots
-overflow_cast-slots c =
-    let counted = c.loop-x.invariant.counted in
-    let lt = c.loop-x-test.true in
-    let small = c.requires.small in
-    omega (arith, counted, lt, small)
+overflow_cast-slots c = omega (arith, c.loop-x.invariant.counted, c.loop-x-test.true, c.requires.small)
 
 pub overflow_add-slots : goal.overflow_add-slots
-overflow_add-slots c =
-    let counted = c.loop-x.invariant.counted in
-    let lt = c.loop-x-test.true in
-    let small = c.requires.small in
-    omega (arith, counted, lt, small)
+overflow_add-slots c = omega (arith, c.loop-x.invariant.counted, c.loop-x-test.true, c.requires.small)
 
 pub loop-x-preserved : goal.loop-x-preserved
 loop-x-preserved c = elim c.match-place_of.branch [

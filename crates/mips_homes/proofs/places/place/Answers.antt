@@ -16,8 +16,4 @@ returns-clause-places c =
     c.loop-func.auto.func-index-end c.loop-func.invariant
 
 pub returns-clause-runs : goal.returns-clause-runs
-returns-clause-runs c =
-    let h : Homed = record { rtl = c.args.rtl; frames = c.loop-func.frames } in
-    places_keep_runs h
-    (frames_end IsPlacedFor h c.loop-func.func-index c.functions-func-items.result.now c.functions-func-items.ensures.value c.loop-func-test.false
-    c.loop-func.auto.func-index-end c.loop-func.invariant)
+returns-clause-runs c = places_keep_runs (record { rtl = c.args.rtl; frames = c.loop-func.frames }) (returns-clause-places c)

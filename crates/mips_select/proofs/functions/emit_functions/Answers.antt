@@ -1,5 +1,5 @@
 use Rattle.std.proofs.Common.{◌∙◌, arith}
-use Rattle.mips_select.proofs.Blocks.{read_at, functions_room, functions_step, named_at, named_long}
+use Rattle.mips_select.proofs.Blocks.{read_at, functions_room, functions_step, named_here, named_long}
 use Rattle.mips_select.proofs.functions.emit_functions.Goals as goal
 
 pub emit_function-requires-clause-number : goal.emit_function-requires-clause-number
@@ -13,11 +13,8 @@ pub bounds-namings-i : goal.bounds-namings-i
 bounds-namings-i c = (let long = named_long _ _ c.requires.named in let lt = c.loop-i-test.true in omega (arith, long, lt))
 
 pub emit_function-requires-clause-named : goal.emit_function-requires-clause-named
-emit_function-requires-clause-named c =
-    let long = named_long _ _ c.requires.named in
-    let lt = c.loop-i-test.true in
-    c.as_slice-table.ensures.value ∙ named_at _ _ c.loop-i.i c.index-functions-i.result c.index-namings-i.result c.requires.named
-    (read_at _ c.loop-i.i _ lt c.index-functions-i.is) (read_at _ c.loop-i.i _ (omega (arith, long, lt)) c.index-namings-i.is)
+emit_function-requires-clause-named c = c.as_slice-table.ensures.value
+    ∙ named_here _ _ c.loop-i.i _ _ c.requires.named c.loop-i-test.true c.index-functions-i.is c.index-namings-i.is
 
 pub emit_function-requires-clause-frame : goal.emit_function-requires-clause-frame
 emit_function-requires-clause-frame c =

@@ -1,7 +1,8 @@
 use Rattle.std.proofs.Common.{refl, arith}
 use Rattle.mips_select.specs.Heads.{heads_in}
 use Rattle.mips_select.specs.Whole.{numbers}
-use Rattle.mips_select.proofs.Blocks.{block_room, count_some, number_step}
+use Rattle.mips_select.proofs.Blocks.{block_room, number_step}
+use Rattle.mips_select.proofs.Linked.{one_at_least}
 use Rattle.mips_select.proofs.Lists.{all_made}
 use Rattle.mips_select.proofs.numbers.number_blocks.Goals as goal
 
@@ -10,7 +11,7 @@ number-requires c =
     let heads = heads_in c.args.table.now in
     let room = block_room heads c.loop-block.k c.loop-block.block-index _ c.args.blocks.now c.block-item.result c.loop-block-test.true c.block-item.is
     c.loop-block.invariant.0 in
-    let some = count_some heads c.block-item.result.exit in
+    let some = one_at_least heads c.block-item.result.exit in
     omega (arith, room, some)
 
 pub overflow_add-k : goal.overflow_add-k

@@ -1,6 +1,6 @@
 use Rattle.std.proofs.Common.{refl, ◌∙◌, arith}
 use Rattle.mips_select.specs.Whole.{numbers_from}
-use Rattle.mips_select.proofs.Blocks.{read_at, functions_room, named_at, named_long, numbers_step}
+use Rattle.mips_select.proofs.Blocks.{read_at, functions_room, named_here, named_long, numbers_step}
 use Rattle.mips_select.proofs.Lists.{all_made}
 use Rattle.mips_select.proofs.numbers.number_each.Goals as goal
 
@@ -12,11 +12,8 @@ push_numbers-requires-clause-few c = c.requires.few c.loop-i.i c.index-functions
     (read_at _ c.loop-i.i _ c.loop-i-test.true c.index-functions-i.is)
 
 pub push_numbers-requires-clause-named : goal.push_numbers-requires-clause-named
-push_numbers-requires-clause-named c =
-    let long = named_long _ _ c.requires.named in
-    let lt = c.loop-i-test.true in
-    c.as_slice-table.ensures.value ∙ named_at _ _ c.loop-i.i c.index-functions-i.result c.index-namings-i.result c.requires.named
-    (read_at _ c.loop-i.i _ lt c.index-functions-i.is) (read_at _ c.loop-i.i _ (omega (arith, long, lt)) c.index-namings-i.is)
+push_numbers-requires-clause-named c = c.as_slice-table.ensures.value
+    ∙ named_here _ _ c.loop-i.i _ _ c.requires.named c.loop-i-test.true c.index-functions-i.is c.index-namings-i.is
 
 pub push_numbers-requires-clause-number : goal.push_numbers-requires-clause-number
 push_numbers-requires-clause-number c = functions_room c.loop-i.k c.loop-i.i _ c.args.functions.now c.index-functions-i.result c.loop-i-test.true

@@ -1,19 +1,15 @@
 use Rattle.std.proofs.Common.{rules, ◌≡◌, ℕ, zero, suc, ◌<◌, ◌+◌, length, sym, ap, ◌∙◌, subst, arith, ⊎_elim}
 use Rattle.std.specs.Prelude.{slice_index, replicate}
-use Rattle.std.proofs.lemmas.List.{get_or-replicate}
-use Rattle.sym_exec.specs.MipsTerms.{HasSeen, HasTree}
-use Rattle.sym_exec.proofs.MipsTerms.{still_seen, still_tree, tree_seen}
+use Rattle.sym_exec.specs.MipsTerms.{HasTree}
+use Rattle.sym_exec.proofs.MipsTerms.{still_tree, tree_seen}
 use Rattle.sym_exec.specs.Symbolic.{register_tree, start_trees}
-use Rattle.sym_exec.proofs.Tickets.{later_more, goes_on, goes_more, interns_by, set_place, set_tree, length_set}
+use Rattle.sym_exec.proofs.Tickets.{later_more, goes_on, goes_more, interns_by, set_tree, length_set}
 use Rattle.sym_exec.proofs.run.start_registers.Goals as goal
 
 pub loop-r-init : goal.loop-r-init
 loop-r-init c = record {
   goes = goes_on c.in_ok-zero.ensures.pass;
   count = Rattle.std.proofs.Common.refl;
-  seen = λ q lt.
-      let e : slice_index (replicate 32 c.in_ok-zero.zero) q ≡ c.in_ok-zero.zero = get_or-replicate 32 q c.in_ok-zero.zero 0 lt in
-      subst (HasSeen c.leaf.new.self.pass.now) (sym e) (tree_seen c.in_ok-zero.ensures.tree);
   stands = λ q lt.
       let e : 0 ≡ q = omega arith in
       subst (λ (n : ℕ). HasTree c.leaf.new.self.pass.now (slice_index (replicate 32 c.in_ok-zero.zero) n) (register_tree start_trees n)) e
@@ -29,23 +25,9 @@ loop-r-preserved c =
     record {
       goes = goes_more c.loop-r.invariant.goes (goes_on c.in_ok-regs.ensures.pass);
       count = length_set regs k c.in_ok-regs.field-0 ∙ c.loop-r.invariant.count;
-      seen = λ q lt.
-          set_place (HasSeen c.start_reg.new.terms.pass.now) regs k c.in_ok-regs.field-0 q inside (tree_seen c.in_ok-regs.ensures.tree)
-          (still_seen more.extends (slice_index regs q) (c.loop-r.invariant.seen q lt));
       stands = λ q lt.
           set_tree c.start_reg.new.terms.pass.now regs k c.in_ok-regs.field-0 q inside (c.loop-r.auto.r) c.in_ok-regs.ensures.tree lt
           (λ below. still_tree more.extends (c.loop-r.invariant.stands q below));
-    }
-
-pub returns-clause-known : goal.returns-clause-known
-returns-clause-known c =
-    let e2 = c.in_ok-hi.ensures.pass.later in
-    let e3 = c.in_ok-lo.ensures.pass.later in
-    let all = later_more e2 e3 in
-    record {
-      regs = λ r lt. still_seen all.extends (slice_index c.loop-r.regs r) (c.loop-r.invariant.seen r lt);
-      hi = still_seen e3.extends c.in_ok-hi.hi (tree_seen c.in_ok-hi.ensures.tree);
-      lo = tree_seen c.in_ok-lo.ensures.tree;
     }
 
 pub returns-clause-hold : goal.returns-clause-hold
@@ -58,6 +40,11 @@ returns-clause-hold c =
       hi = still_tree e3.extends c.in_ok-hi.ensures.tree;
       lo = c.in_ok-lo.ensures.tree;
     }
+
+pub returns-clause-known : goal.returns-clause-known
+returns-clause-known c =
+    let trees = returns-clause-hold c in
+    record { regs = λ r lt. tree_seen (trees.regs r lt); hi = tree_seen trees.hi; lo = tree_seen trees.lo }
 
 pub returns-clause-pass : goal.returns-clause-pass
 returns-clause-pass c =

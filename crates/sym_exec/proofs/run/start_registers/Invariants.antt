@@ -1,6 +1,6 @@
 use Rattle.std.proofs.Common.{◌≡◌, ℕ, ◌<◌, length}
 use Rattle.std.specs.Prelude.{slice_index}
-use Rattle.sym_exec.specs.MipsTerms.{HasSeen, HasTree}
+use Rattle.sym_exec.specs.MipsTerms.{HasTree}
 use Rattle.sym_exec.specs.Symbolic.{register_tree, start_trees}
 use Rattle.sym_exec.specs.Interners.{GoesOn}
 use Rattle.sym_exec.proofs.run.start_registers.Given as goal
@@ -9,6 +9,5 @@ abbrev pub invariant-loop-r : goal.invariant-loop-r
 invariant-loop-r l = record {
   goes : GoesOn l.fn.terms l.terms;
   count : length l.regs ≡ 32;
-  seen : (q : ℕ) → q < 32 → HasSeen l.terms.pass.now (slice_index l.regs q);
   stands : (q : ℕ) → q < l.r → HasTree l.terms.pass.now (slice_index l.regs q) (register_tree start_trees q);
 }

@@ -1,10 +1,11 @@
-use Rattle.std.proofs.Common.{refl, sym, subst}
+use Rattle.std.proofs.Common.{refl, sym, ap₂, subst}
 use Rattle.std.specs.Prelude.{OnOk}
 use Rattle.mips_isa.specs.declared.action.Action.{Action}
 use Rattle.sym_terms.specs.NormalForms.{store_tree}
 use Rattle.sym_exec.proofs.MipsTerms.{still_tree}
 use Rattle.sym_exec.specs.declared.state.Guard.TheVariants.{Address, Division}
 use Rattle.sym_exec.specs.Symbolic.{AtAddress, AtDivision, register_tree, address_tree, trees_after}
+use Rattle.sym_exec.specs.Standing.{Hold, with_halves}
 use Rattle.sym_exec.specs.Stores.{MakeMemory, IsChain, Tracks}
 use Rattle.sym_exec.proofs.Tickets.{later_self, get_tree, known_on, hold_on, hold_put, hold_same, on_ok, ok_always}
 use Rattle.sym_exec.proofs.Chains.{chain-on, memory-on}
@@ -48,22 +49,28 @@ returns-in_ok-address-in-Stores-clause-tracks c = λ t h.
 
 pub returns-in-Multiplies-clause-tracks : goal.returns-in-Multiplies-clause-tracks
 returns-in-Multiplies-clause-tracks c = λ t h.
-    let P : Action → Type 0 = λ a. OnOk c.multiplies.result (Tracks c.multiplies.new.terms.pass.now c.multiplies.new.self c.args.lists.now (trees_after a t)) in
-    subst P (sym c.in-Multiplies.is)
-    (on_ok c.multiplies.result (c.multiplies.ensures.hold t h.hold) (λ e. tracks_on c.multiplies.ensures.pass.later h e refl refl))
+    let p = c.put_halves.new.terms.pass.now in
+    let same = ap₂ (λ high low. with_halves high low c.in-Multiplies.a c.in-Multiplies.b t) c.product_high.ensures c.product_low.ensures in
+    let held = subst (λ u. OnOk c.put_halves.result (Hold p c.put_halves.new.self u)) same (c.put_halves.ensures.hold t h.hold) in
+    let P : Action → Type 0 = λ a. OnOk c.put_halves.result (Tracks p c.put_halves.new.self c.args.lists.now (trees_after a t)) in
+    subst P (sym c.in-Multiplies.is) (on_ok c.put_halves.result held (λ e. tracks_on c.put_halves.ensures.pass.later h e refl refl))
 
-pub returns-in_ok-divides-in-Divides-clause-tracks : goal.returns-in_ok-divides-in-Divides-clause-tracks
-returns-in_ok-divides-in-Divides-clause-tracks c = λ t h.
-    let later = c.in_ok-divides-in-Divides.ensures.pass.later in
-    let P : Action → Type 0 = λ a. Tracks c.divides.new.terms.pass.now c.divides.new.self c.push_guard-in-Divides.new.self (trees_after a t) in
+pub returns-in_ok-put_halves-in-Divides-clause-tracks : goal.returns-in_ok-put_halves-in-Divides-clause-tracks
+returns-in_ok-put_halves-in-Divides-clause-tracks c = λ t h.
+    let later = c.in_ok-put_halves-in-Divides.ensures.pass.later in
+    let p = c.put_halves-in-Divides.new.terms.pass.now in
+    let P : Action → Type 0 = λ a. Tracks p c.put_halves-in-Divides.new.self c.push_guard-in-Divides.new.self (trees_after a t) in
     let x = still_tree later.extends (get_tree {t = t} h.hold c.get-dividend.ensures.value c.get-dividend.ensures.range) in
     let y = still_tree later.extends (get_tree {t = t} h.hold c.get-divisor.ensures.value c.get-divisor.ensures.range) in
     let guard = Division c.in-Divides.sign c.get-dividend.result c.get-divisor.result in
     let tree = AtDivision c.in-Divides.sign (register_tree t c.in-Divides.a) (register_tree t c.in-Divides.b) in
     let memory = memory-on c.args.lists.now.chain.stores.items t.memory later h.memory in
+    let same = ap₂ (λ high low. with_halves high low c.in-Divides.a c.in-Divides.b t) c.remainder_operator.ensures c.quotient_operator.ensures in
+    let held = subst (Hold p c.put_halves-in-Divides.new.self) same
+    (c.in_ok-put_halves-in-Divides.ensures.hold t h.hold) in
     subst P (sym c.in-Divides.is)
-    (tracks_guard guard tree later h (c.in_ok-divides-in-Divides.ensures.hold t h.hold)
-    (subst (λ k. MakeMemory c.divides.new.terms.pass.now k.stores.items t.memory) (sym c.push_guard-in-Divides.ensures.chain) memory) (refl, x, y)
+    (tracks_guard guard tree later h (hold_same held refl refl refl)
+    (subst (λ k. MakeMemory p k.stores.items t.memory) (sym c.push_guard-in-Divides.ensures.chain) memory) (refl, x, y)
     c.push_guard-in-Divides.ensures.pushed refl)
 
 pub returns-in-MovesHigh-clause-tracks : goal.returns-in-MovesHigh-clause-tracks
@@ -86,12 +93,12 @@ pub returns-in-Sets-clause-chain : goal.returns-in-Sets-clause-chain
 returns-in-Sets-clause-chain c = ok_always c.put_leaf.result (chain-on c.put_leaf.ensures.pass.later c.requires.chain)
 
 pub returns-in-Multiplies-clause-chain : goal.returns-in-Multiplies-clause-chain
-returns-in-Multiplies-clause-chain c = ok_always c.multiplies.result (chain-on c.multiplies.ensures.pass.later c.requires.chain)
+returns-in-Multiplies-clause-chain c = ok_always c.put_halves.result (chain-on c.put_halves.ensures.pass.later c.requires.chain)
 
 pub returns-in_ok-address-in-Stores-clause-known : goal.returns-in_ok-address-in-Stores-clause-known
 returns-in_ok-address-in-Stores-clause-known c = known_on c.in_ok-address-in-Stores.ensures.pass.later c.requires.known
 
-pub returns-in_ok-divides-in-Divides-clause-chain : goal.returns-in_ok-divides-in-Divides-clause-chain
-returns-in_ok-divides-in-Divides-clause-chain c =
-    subst (IsChain c.divides.new.terms.pass.now) (sym c.push_guard-in-Divides.ensures.chain)
-    (chain-on c.in_ok-divides-in-Divides.ensures.pass.later c.requires.chain)
+pub returns-in_ok-put_halves-in-Divides-clause-chain : goal.returns-in_ok-put_halves-in-Divides-clause-chain
+returns-in_ok-put_halves-in-Divides-clause-chain c =
+    subst (IsChain c.put_halves-in-Divides.new.terms.pass.now) (sym c.push_guard-in-Divides.ensures.chain)
+    (chain-on c.in_ok-put_halves-in-Divides.ensures.pass.later c.requires.chain)
