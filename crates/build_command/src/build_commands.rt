@@ -85,7 +85,7 @@ pub fn print_built<W: Output>(out: &mut W, plain: bool, built: &Built) -> io::Re
 }
 
 /// What is asked of a build.
-#[derive(Clone, Copy, Debug)]
+#[derive(Clone, Copy)]
 pub struct AskedBuild<'a> {
     pub source: &'a str,
     pub image: &'a str,

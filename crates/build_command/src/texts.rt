@@ -28,7 +28,7 @@ impl fmt::Display for BuildFault {
 impl Error for BuildFault {}
 
 /// The last line of a machine's run.
-#[derive(Clone, Copy, Debug)]
+#[derive(Clone, Copy)]
 pub struct EndingLine(pub Ending);
 
 impl fmt::Display for EndingLine {

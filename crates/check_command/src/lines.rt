@@ -93,7 +93,7 @@ const OTHERS: [(&[u8], &str); 14] = [
 ];
 
 /// What has to stand next in a check text.
-#[derive(Clone, Copy, PartialEq, Eq, Debug)]
+#[derive(Clone, Copy, PartialEq, Eq)]
 enum Stage {
     Block,
     /// Behind so many instructions of the block.

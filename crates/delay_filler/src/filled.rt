@@ -7,7 +7,7 @@ use mblock::{Block, Order};
 use std::alloc::{AllocError, Global};
 
 /// What another scheduler answers, with the slot filled.
-#[derive(Clone, Copy, Debug)]
+#[derive(Clone, Copy)]
 pub struct FilledOrder<R>(pub R);
 
 impl<R: Reorder> Reorder for FilledOrder<R> {

@@ -23,7 +23,7 @@ impl fmt::Display for InterpFault {
 impl Error for InterpFault {}
 
 /// The last line of a program's run.
-#[derive(Clone, Copy, Debug)]
+#[derive(Clone, Copy)]
 pub struct EndLine(pub End);
 
 impl fmt::Display for EndLine {

@@ -3,7 +3,7 @@ use mips_isa::{Action, Plain, Reg};
 use words::Width;
 
 /// A load or a store: its address is the word that the base holds then, and an offset.
-#[derive(Clone, Copy, Debug)]
+#[derive(Clone, Copy)]
 pub struct Access {
     /// The register of the base.
     pub base: Reg,

@@ -6,7 +6,7 @@ use mips_isa::Plain;
 use std::alloc::{AllocError, Global};
 
 /// An instruction that has to stand behind another.
-#[derive(Clone, Copy, Debug)]
+#[derive(Clone, Copy)]
 pub struct Edge {
     /// Its number in the graph.
     pub to: usize,
@@ -15,7 +15,7 @@ pub struct Edge {
 }
 
 /// An instruction of the graph.
-#[derive(Debug, Drop)]
+#[derive(Drop)]
 pub struct Node {
     /// The instruction.
     pub inst: Plain,

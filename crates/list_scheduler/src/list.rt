@@ -12,7 +12,7 @@ use std::mem;
 
 /// The list scheduler: of the instructions that may come next, the one with the longest way to the end, or the earlier one
 /// of two. A Nop stands only where none may come next, or before an exit that a load has to wait for.
-#[derive(Clone, Copy, Debug)]
+#[derive(Clone, Copy)]
 pub struct ListOrder;
 
 impl Reorder for ListOrder {

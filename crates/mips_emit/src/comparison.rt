@@ -24,7 +24,7 @@ use rtl::{Op, RInst, Register};
 use std::alloc::AllocError;
 
 /// How a branch tells the result of a comparison, or a return has that of an operator.
-#[derive(Clone, Copy, Debug, PartialEq, Eq)]
+#[derive(Clone, Copy)]
 pub enum Form {
     /// It tests both operands.
     OnPair(PairTest),
@@ -41,7 +41,7 @@ pub enum Form {
 }
 
 /// By which pseudo-register a block is left.
-#[derive(Clone, Copy, Debug, PartialEq, Eq)]
+#[derive(Clone, Copy)]
 pub enum Asked {
     /// By none.
     Nothing,
@@ -53,7 +53,7 @@ pub enum Asked {
 
 /// An operator whose result nothing but the branch or return behind it takes, so that it is in no home: the words of its operands
 /// that are known, and the operands.
-#[derive(Clone, Copy, Debug, PartialEq, Eq)]
+#[derive(Clone, Copy)]
 pub struct Comparison {
     pub result: Register,
     pub op: Op,

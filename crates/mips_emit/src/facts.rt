@@ -18,7 +18,7 @@ use rtl::{RInst, Register};
 use std::alloc::{AllocError, Global};
 
 /// A write of a pseudo-register, and the word that it is known to hold since, if any.
-#[derive(Clone, Copy, Debug, PartialEq, Eq)]
+#[derive(Clone, Copy)]
 pub struct Fact {
     pub register: Register,
     pub word: Option<u32>,
@@ -26,7 +26,7 @@ pub struct Fact {
 
 /// What an exit can use of the last instruction: the pseudo-register whose word is still in its inner temporary, and a
 /// comparison that is one with the branch.
-#[derive(Clone, Copy, Debug, PartialEq, Eq)]
+#[derive(Clone, Copy)]
 pub struct Last {
     pub fresh: Option<Register>,
     pub comparison: Option<Comparison>,

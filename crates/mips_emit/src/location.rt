@@ -11,7 +11,7 @@ use mips_isa::NonzeroReg;
 use rtl::Register;
 
 /// Where a pseudo-register is: in a register, or in a slot of the frame.
-#[derive(Clone, Copy, Debug, PartialEq, Eq)]
+#[derive(Clone, Copy)]
 pub enum Location {
     /// A register that can be written.
     Held(NonzeroReg),
@@ -20,7 +20,7 @@ pub enum Location {
 }
 
 /// What an operand is.
-#[derive(Clone, Copy, Debug, PartialEq, Eq)]
+#[derive(Clone, Copy)]
 pub enum Source {
     /// The word 0.
     Zero,

@@ -15,7 +15,7 @@ use rtl::Op;
 use std::alloc::AllocError;
 
 /// How an operand is multiplied: it is shifted by an amount, and then an instruction adds it to that or takes it from that.
-#[derive(Clone, Copy, Debug, PartialEq, Eq)]
+#[derive(Clone, Copy)]
 pub(crate) struct ShiftedSum {
     pub(crate) op: AluOp,
     pub(crate) amount: Amount,

@@ -11,7 +11,7 @@ use crate::reg::{NonzeroReg, Reg};
 use words::{Operator, Sign, Width};
 
 /// A register, or a word of the instruction itself.
-#[derive(Clone, Copy, Debug)]
+#[derive(Clone, Copy)]
 pub enum Operand {
     Held(Reg),
     Fixed(u32),
@@ -19,7 +19,7 @@ pub enum Operand {
 
 /// What an instruction does, in one of few ways; the layers above go by these alone. Offsets are the
 /// instruction's, extended to a word; an address is the base's word plus the offset, modulo 2^32.
-#[derive(Clone, Copy, Debug)]
+#[derive(Clone, Copy)]
 pub enum Action {
     /// `d` becomes the operator's value at `a` and `b`.
     Computes {

@@ -22,7 +22,7 @@ impl fmt::Display for HalfDigits {
 }
 
 /// A word in eight.
-#[derive(Clone, Copy, Debug)]
+#[derive(Clone, Copy)]
 pub struct WordDigits(pub u32);
 
 impl fmt::Display for WordDigits {
@@ -36,7 +36,7 @@ impl fmt::Display for WordDigits {
 }
 
 /// A byte in two.
-#[derive(Clone, Copy, Debug)]
+#[derive(Clone, Copy)]
 pub struct ByteDigits(pub u8);
 
 impl fmt::Display for ByteDigits {

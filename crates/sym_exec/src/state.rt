@@ -6,7 +6,7 @@ use words::{Sign, Width};
 
 /// What the code relies on, by the terms' tickets: that an address is that of a word or a byte that is mapped, or that a
 /// division has a value.
-#[derive(Clone, Copy, Debug, PartialEq, Eq)]
+#[derive(Clone, Copy, PartialEq, Eq)]
 pub enum Guard {
     Address {
         width: Width,
@@ -20,7 +20,7 @@ pub enum Guard {
 }
 
 /// The terms that registers, HI, LO and memory hold, by tickets. Register 0 holds the constant 0.
-#[derive(Clone, Copy, Debug)]
+#[derive(Clone, Copy)]
 pub struct TermPlaces {
     pub regs: [Ticket; 32],
     pub hi: Ticket,
@@ -29,7 +29,7 @@ pub struct TermPlaces {
 }
 
 /// An exit by its kind, condition and targets, with its operands' tickets in place of registers.
-#[derive(Clone, Copy, Debug, PartialEq, Eq)]
+#[derive(Clone, Copy, PartialEq, Eq)]
 pub enum TermExit {
     Goto(BlockNumber),
     BranchPair {
@@ -58,7 +58,7 @@ pub enum TermExit {
 }
 
 /// What a block or an order leaves, by tickets: its places, its exit and its guards.
-#[derive(Debug, Drop)]
+#[derive(Drop)]
 pub struct SymState {
     pub places: TermPlaces,
     pub exit: TermExit,

@@ -1,9 +1,9 @@
-use Rattle.std.proofs.Common.{map, refl}
+use Rattle.std.proofs.Common.{map, refl, rules}
 use Rattle.mips_isa.specs.Actions.{action_of}
 use Rattle.mblock.specs.BlockMeaning.{exit_shape}
 use Rattle.sym_exec.specs.Symbolic.{start_trees, all_trees, exit_trees, exit_operands}
 use Rattle.sym_exec.proofs.Chains.{chain-on}
-use Rattle.sym_exec.proofs.Tickets.{later_more, hold_on, guards_on, leaves_on, stands_with}
+use Rattle.sym_exec.proofs.Tickets.{later_more, goes_on, goes_more, interns_by, hold_on, guards_on, leaves_on, stands_with}
 use Rattle.sym_exec.proofs.Tracking.{tracks_on}
 use Rattle.sym_exec.proofs.run.run_code.Goals as goal
 
@@ -25,3 +25,29 @@ returns-clause-trees c =
 
 pub run_slot-requires-clause-chain : goal.run_slot-requires-clause-chain
 run_slot-requires-clause-chain c = chain-on c.in_ok-put_own.ensures.pass.later c.in_ok-steps.ensures.chain
+
+pub returns-in_err-steps-clause-pass : goal.returns-in_err-steps-clause-pass
+returns-in_err-steps-clause-pass c = interns_by (goes_more (goes_on c.in_ok-registers.ensures.pass) (goes_on c.in_err-steps.ensures.pass)) (search rules)
+
+pub returns-in_err-put_own-clause-pass : goal.returns-in_err-put_own-clause-pass
+returns-in_err-put_own-clause-pass c =
+    let ran = goes_more (goes_on c.in_ok-registers.ensures.pass) (goes_on c.in_ok-steps.ensures.pass) in
+    interns_by (goes_more ran (goes_on c.in_err-put_own.ensures.pass)) (search rules)
+
+pub returns-in_err-run_slot-clause-pass : goal.returns-in_err-run_slot-clause-pass
+returns-in_err-run_slot-clause-pass c =
+    let ran = goes_more (goes_on c.in_ok-registers.ensures.pass) (goes_on c.in_ok-steps.ensures.pass) in
+    let left = goes_more ran (goes_on c.in_ok-put_own.ensures.pass) in
+    interns_by (goes_more left (goes_on c.in_err-run_slot.ensures.pass)) (search rules)
+
+pub returns-in_err-memory-clause-pass : goal.returns-in_err-memory-clause-pass
+returns-in_err-memory-clause-pass c =
+    let ran = goes_more (goes_on c.in_ok-registers.ensures.pass) (goes_on c.in_ok-steps.ensures.pass) in
+    let left = goes_more ran (goes_more (goes_on c.in_ok-put_own.ensures.pass) (goes_on c.in_ok-run_slot.ensures.pass)) in
+    interns_by (goes_more left (goes_on c.in_err-memory.ensures.pass)) (search rules)
+
+pub returns-clause-pass : goal.returns-clause-pass
+returns-clause-pass c =
+    let ran = goes_more (goes_on c.in_ok-registers.ensures.pass) (goes_on c.in_ok-steps.ensures.pass) in
+    let left = goes_more ran (goes_more (goes_on c.in_ok-put_own.ensures.pass) (goes_on c.in_ok-run_slot.ensures.pass)) in
+    interns_by (goes_more left (goes_on c.in_ok-memory.ensures.pass)) tt

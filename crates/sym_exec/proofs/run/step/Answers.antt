@@ -1,4 +1,5 @@
-use Rattle.std.proofs.Common.{refl, sym, ap₂, subst}
+use Rattle.std.proofs.Common.{refl, sym, ap₂, subst, arith}
+use Rattle.std.proofs.lemmas.Grind.{common_steps}
 use Rattle.std.specs.Prelude.{OnOk}
 use Rattle.mips_isa.specs.declared.action.Action.{Action}
 use Rattle.sym_terms.specs.NormalForms.{store_tree}
@@ -102,3 +103,12 @@ pub returns-in_ok-put_halves-in-Divides-clause-chain : goal.returns-in_ok-put_ha
 returns-in_ok-put_halves-in-Divides-clause-chain c =
     subst (IsChain c.put_halves-in-Divides.new.terms.pass.now) (sym c.push_guard-in-Divides.ensures.chain)
     (chain-on c.in_ok-put_halves-in-Divides.ensures.pass.later c.requires.chain)
+
+pub returns-in_ok-address-in-Loads-clause-room : goal.returns-in_ok-address-in-Loads-clause-room
+returns-in_ok-address-in-Loads-clause-room c = grind (arith, common_steps)
+
+pub returns-in_ok-address-in-Loads-clause-count : goal.returns-in_ok-address-in-Loads-clause-count
+returns-in_ok-address-in-Loads-clause-count c = grind (arith, common_steps)
+
+pub returns-in_ok-address-in-Stores-clause-room : goal.returns-in_ok-address-in-Stores-clause-room
+returns-in_ok-address-in-Stores-clause-room c = grind (arith, common_steps)

@@ -3,6 +3,7 @@ use Rattle.std.specs.Prelude.{IfOk}
 use Rattle.sym_exec.specs.MipsTerms.{HasTree}
 use Rattle.sym_exec.proofs.MipsTerms.{still_seen, still_tree}
 use Rattle.sym_terms.specs.NormalForms.{address_of, tree_plus, sum_tree}
+use Rattle.sym_exec.proofs.Tickets.{goes_on, goes_more, interns_by}
 use Rattle.sym_exec.proofs.terms.sum_term.Goals as goal
 
 pub address_at-at-requires : goal.address_at-at-requires
@@ -27,3 +28,11 @@ returns-in-None-clause-tree c = λ x y h k.
     let is = sym (c.constant_at.ensures.value y k) ∙ c.in-None.is in
     subst (λ o. IfOk c.binary.result (λ t. HasTree c.binary.new.self.pass.now t (sum_tree x y o))) (sym is)
     (c.binary.ensures.tree x y (still_tree c.constant_at.ensures.pass.later.extends h) (still_tree c.constant_at.ensures.pass.later.extends k))
+
+pub returns-in-Some-clause-pass : goal.returns-in-Some-clause-pass
+returns-in-Some-clause-pass c =
+    let before = goes_more c.constant_at.ensures.pass c.address_at-at.ensures.pass in
+    interns_by (goes_more before (goes_on c.plus_term.ensures.pass)) c.plus_term.ensures.pass.full
+
+pub returns-in-None-clause-pass : goal.returns-in-None-clause-pass
+returns-in-None-clause-pass c = interns_by (goes_more c.constant_at.ensures.pass (goes_on c.binary.ensures.pass)) c.binary.ensures.pass.full

@@ -1,10 +1,10 @@
-use Rattle.std.proofs.Common.{refl, subst}
+use Rattle.std.proofs.Common.{refl, subst, rules}
 use Rattle.mips_isa.specs.States.{put}
 use Rattle.sym_terms.specs.NormalForms.{load_tree}
 use Rattle.sym_exec.proofs.MipsTerms.{still_seen, still_tree}
 use Rattle.sym_exec.specs.Symbolic.{address_tree}
 use Rattle.sym_exec.specs.Standing.{Hold}
-use Rattle.sym_exec.proofs.Tickets.{later_more, hold_on, known_on, known_put, hold_put, hold_same}
+use Rattle.sym_exec.proofs.Tickets.{later_more, goes_on, goes_more, interns_by, hold_on, known_on, known_put, hold_put, hold_same}
 use Rattle.sym_exec.proofs.Reading.{address-later}
 use Rattle.sym_exec.proofs.Chains.{chain-on, memory-on}
 use Rattle.sym_exec.proofs.registers.TermRegisters.loads.Goals as goal
@@ -39,3 +39,13 @@ returns-clause-hold c = λ t h m.
 pub returns-clause-address : goal.returns-clause-address
 returns-clause-address c = λ t h.
     still_tree (later_more c.address_at-at.ensures.pass.later c.in_ok-value.ensures.pass.later).extends (c.in_ok-address.ensures.tree t h)
+
+pub returns-in_err-value-clause-pass : goal.returns-in_err-value-clause-pass
+returns-in_err-value-clause-pass c =
+    let before = goes_more (goes_on c.in_ok-address.ensures.pass) c.address_at-at.ensures.pass in
+    interns_by (goes_more before (goes_on c.in_err-value.ensures.pass)) (search rules)
+
+pub returns-clause-pass : goal.returns-clause-pass
+returns-clause-pass c =
+    let before = goes_more (goes_on c.in_ok-address.ensures.pass) c.address_at-at.ensures.pass in
+    interns_by (goes_more before (goes_on c.in_ok-value.ensures.pass)) tt
