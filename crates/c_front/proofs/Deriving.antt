@@ -1,12 +1,12 @@
 -- A derivation is the one in which the next token chooses each rule.
-use Rattle.std.proofs.Common.{◌≤◌, suc, arith, lit≤, ◌≡◌, List, [], ◌∷◌, Option, Some, refl, sym, ap, subst, ◌∙◌}
+use Rattle.std.proofs.Common.{◌≤◌, arith, lit≤, ◌≡◌, List, [], ◌∷◌, Option, Some, refl, sym, ap, subst, ◌∙◌}
 use Rattle.c_tokens.specs.declared.token.Identifier.{Identifier}
 use Rattle.c_tokens.specs.declared.token.Token.{Token}
 use Rattle.c_tokens.specs.declared.token.Token.TheVariants.{Name, The}
 use Rattle.c_tokens.specs.declared.token.Mark.{Mark}
 use Rattle.c_tokens.specs.declared.token.Mark.TheVariants.{Semicolon, LeftParen}
-use Rattle.c_front.specs.Grammar.{a_name, the, Level, above, ors, Nonterminal, a_program, declarations, a_declaration, a_type, maybe_int, after_global, initial}
-use Rattle.c_front.specs.Grammar.{function_rest, parameters, more_parameters, items, an_item, declared, a_statement, else_part, maybe_simple, maybe_expression}
+use Rattle.c_front.specs.Grammar.{a_name, the, Level, above, ors, Nonterminal, declarations, a_declaration, a_type, after_global}
+use Rattle.c_front.specs.Grammar.{function_rest, parameters, more_parameters, items, an_item, declared, a_statement, maybe_simple, maybe_expression}
 use Rattle.c_front.specs.Grammar.{simple, value, a_call, arguments, more_arguments, an_expression, choice, operands, more_operands, Symbol, T, N, PhraseTrees}
 use Rattle.c_front.specs.Grammar.{negate, identity, complement, not, Rule, program_rule, declarations_end, declarations_more, declaration_typed}
 use Rattle.c_front.specs.Grammar.{declaration_void, type_int, type_unsigned, int_none, int_some, global_plain, global_initial, global_array, global_function}

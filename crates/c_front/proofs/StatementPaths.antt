@@ -18,7 +18,7 @@ use Rattle.c_front.specs.Reading.{Reads, read_nothing, read_token, read_phrase, 
 use Rattle.c_front.specs.Choosing.{Choice, chosen_rule, one_choice, EndsItems}
 use Rattle.c_front.specs.declared.cursor.ParseStop.{ParseStop}
 use Rattle.c_front.specs.declared.cursor.ParseStop.TheVariants.{Syntax, NoMemory}
-use Rattle.c_tree.specs.Tree.{Expression, Value, Simple, Statement, empty, block, if_then, if_then_else, while_loop, for_loop, break_at, continue_at}
+use Rattle.c_tree.specs.Tree.{Expression, Value, Simple, Statement, empty, block, if_then, if_then_else, while_loop, for_loop}
 use Rattle.c_tree.specs.Tree.{return_at, simply, Item, declare, statement, Items, no_items, more_items}
 use Rattle.c_front.specs.Parsing.{StartsWith, StartsWithout, IsRead, AreStuck, IsStuck, IsMissing, StartsWithName, IsNameMissing, IsConditionRead}
 use Rattle.c_front.specs.Parsing.{IsConditionStuck, IsClosedRead, IsClosedStuck, IsBranchRead, IsBranchStuck, HasNoElse, HasNoType, StartsNamed, StartsUnnamed}

@@ -109,10 +109,3 @@ constant-then {k = k} {symbols = symbols} {rest = rest} {m = m} e d =
 pub ended-then : {n : Nonterminal} {u : Mark} {symbols : List Symbol} {ts a rest : List Token} {v : PhraseTree n} {m : PhraseTrees symbols}
     → IsEndedRead n u ts a v → Reads symbols a rest m → Reads (N n ∷ T (the u) ∷ symbols) ts rest (v, (tt, m))
 ended-then (read_phrase r c d q (read_token is_the read_nothing)) z = read_phrase r c d q (read_token is_the z)
-
--- the same tokens, by their first one
-pub moved-read : (n : Nonterminal) (ts a b : List Token) (t : Token) (v : PhraseTree n) → ts ≡ t ∷ a → IsRead n (t ∷ a) b v → IsRead n ts b v
-moved-read n ts a b t v e d = let P : List Token → Type 0 = λ x. IsRead n x b v in subst P (sym e) d
-
-pub moved-stuck : (n : Nonterminal) (ts a : List Token) (t : Token) (s : ParseStop) → ts ≡ t ∷ a → IsStuck n (t ∷ a) s → IsStuck n ts s
-moved-stuck n ts a t s e h = let P : List Token → Type 0 = λ x. IsStuck n x s in subst P (sym e) h

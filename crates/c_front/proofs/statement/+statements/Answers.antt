@@ -17,7 +17,6 @@ use Rattle.c_front.proofs.StatementPaths.{no-statement, no-mark, if_then-first-s
 use Rattle.c_front.proofs.StatementPaths.{if_then-alone-read, if_then-else-read, declare-read, declare-name-stuck, declare-value-stuck, item-statement-read}
 use Rattle.c_front.proofs.StatementPaths.{item-statement-stuck, goes-on-items-more, items-end-read, items-item-stuck, while-read, while-test-stuck}
 use Rattle.c_front.proofs.StatementPaths.{while-body-stuck, for-read, for-head-stuck, for-body-stuck}
-use Rattle.c_front.proofs.Steps.{moved-read, moved-stuck}
 use Rattle.c_front.proofs.statement.+statements.Goals as goal
 
 test-differs : (b : Bool) → b ≡ true → b ≡ false → ⊥
