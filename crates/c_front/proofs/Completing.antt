@@ -74,34 +74,41 @@ completion (N n ∷ symbols) = least n ++ completion symbols
 abbrev pub Ends : (n : Nonterminal) → Option Token → Rule n [] → Type 0
 Ends n next r = one_choice n next ≡ Some ([], r)
 
--- the token may follow a phrase, which then can't go on
+-- what follows a phrase doesn't go on with it
+abbrev pub IsClosed : Nonterminal → Option Token → Type 0
+IsClosed a_program next = Ends declarations next declarations_end
+IsClosed declarations next = Ends declarations next declarations_end
+IsClosed a_declaration next = Unit {0}
+IsClosed a_type next = Ends maybe_int next int_none
+IsClosed maybe_int next = Ends maybe_int next int_none
+IsClosed after_global next = Unit {0}
+IsClosed initial next = Unit {0}
+IsClosed function_rest next = Unit {0}
+IsClosed parameters next = Ends more_parameters next more_parameters_end
+IsClosed more_parameters next = Ends more_parameters next more_parameters_end
+IsClosed items next = Ends items next items_end
+IsClosed an_item next = Unit {0}
+IsClosed declared next = Ends declared next declared_none × (12 ≤ rank_of next)
+IsClosed a_statement next = Unit {0}
+IsClosed else_part next = Unit {0}
+IsClosed maybe_simple next = Ends maybe_simple next simple_none × (12 ≤ rank_of next)
+IsClosed maybe_expression next = Ends maybe_expression next expression_none × (12 ≤ rank_of next)
+IsClosed simple next = 12 ≤ rank_of next
+IsClosed value next = 12 ≤ rank_of next
+IsClosed a_call next = Unit {0}
+IsClosed arguments next = Ends arguments next arguments_none × Ends more_arguments next more_arguments_end × (12 ≤ rank_of next)
+IsClosed more_arguments next = Ends more_arguments next more_arguments_end × (12 ≤ rank_of next)
+IsClosed an_expression next = 12 ≤ rank_of next
+IsClosed choice next = 12 ≤ rank_of next
+IsClosed (operands l) next = rank l ≤ rank_of next
+IsClosed (more_operands l) next = suc (rank l) ≤ rank_of next
+
+-- the token may follow a phrase, which then can't go on, not with an `else` either
 abbrev pub MayFollow : Nonterminal → Option Token → Type 0
-MayFollow a_program next = Ends declarations next declarations_end
-MayFollow declarations next = Ends declarations next declarations_end
-MayFollow a_declaration next = Unit {0}
-MayFollow a_type next = Ends maybe_int next int_none
-MayFollow maybe_int next = Ends maybe_int next int_none
-MayFollow after_global next = Unit {0}
-MayFollow initial next = Unit {0}
-MayFollow function_rest next = Unit {0}
-MayFollow parameters next = Ends more_parameters next more_parameters_end
-MayFollow more_parameters next = Ends more_parameters next more_parameters_end
-MayFollow items next = Ends items next items_end
 MayFollow an_item next = next ≢ Some (The Else)
-MayFollow declared next = Ends declared next declared_none × (12 ≤ rank_of next)
 MayFollow a_statement next = next ≢ Some (The Else)
 MayFollow else_part next = next ≢ Some (The Else)
-MayFollow maybe_simple next = Ends maybe_simple next simple_none × (12 ≤ rank_of next)
-MayFollow maybe_expression next = Ends maybe_expression next expression_none × (12 ≤ rank_of next)
-MayFollow simple next = 12 ≤ rank_of next
-MayFollow value next = 12 ≤ rank_of next
-MayFollow a_call next = Unit {0}
-MayFollow arguments next = Ends arguments next arguments_none × Ends more_arguments next more_arguments_end × (12 ≤ rank_of next)
-MayFollow more_arguments next = Ends more_arguments next more_arguments_end × (12 ≤ rank_of next)
-MayFollow an_expression next = 12 ≤ rank_of next
-MayFollow choice next = 12 ≤ rank_of next
-MayFollow (operands l) next = rank l ≤ rank_of next
-MayFollow (more_operands l) next = suc (rank l) ≤ rank_of next
+MayFollow n next = IsClosed n next
 
 -- the shortest tokens for the symbols fit together
 abbrev pub Fit : List Symbol → Type 0

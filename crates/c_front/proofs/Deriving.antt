@@ -1,12 +1,12 @@
 -- A derivation is the one in which the next token chooses each rule.
-use Rattle.std.proofs.Common.{◌≤◌, suc, arith, lit≤, ◌≡◌, List, [], ◌∷◌, Option, Some, refl, sym, ap, subst, ◌∙◌}
+use Rattle.std.proofs.Common.{◌≤◌, arith, lit≤, ◌≡◌, List, [], ◌∷◌, Option, Some, refl, sym, ap, subst, ◌∙◌}
 use Rattle.c_tokens.specs.declared.token.Identifier.{Identifier}
 use Rattle.c_tokens.specs.declared.token.Token.{Token}
 use Rattle.c_tokens.specs.declared.token.Token.TheVariants.{Name, The}
 use Rattle.c_tokens.specs.declared.token.Mark.{Mark}
 use Rattle.c_tokens.specs.declared.token.Mark.TheVariants.{Semicolon, LeftParen}
-use Rattle.c_front.specs.Grammar.{a_name, the, Level, above, ors, Nonterminal, a_program, declarations, a_declaration, a_type, maybe_int, after_global, initial}
-use Rattle.c_front.specs.Grammar.{function_rest, parameters, more_parameters, items, an_item, declared, a_statement, else_part, maybe_simple, maybe_expression}
+use Rattle.c_front.specs.Grammar.{a_name, the, Level, above, ors, Nonterminal, declarations, a_declaration, a_type, after_global}
+use Rattle.c_front.specs.Grammar.{function_rest, parameters, more_parameters, items, an_item, declared, a_statement, maybe_simple, maybe_expression}
 use Rattle.c_front.specs.Grammar.{simple, value, a_call, arguments, more_arguments, an_expression, choice, operands, more_operands, Symbol, T, N, PhraseTrees}
 use Rattle.c_front.specs.Grammar.{negate, identity, complement, not, Rule, program_rule, declarations_end, declarations_more, declaration_typed}
 use Rattle.c_front.specs.Grammar.{declaration_void, type_int, type_unsigned, int_none, int_some, global_plain, global_initial, global_array, global_function}
@@ -22,36 +22,7 @@ use Rattle.c_front.specs.Grammar.{nothing, token, phrase}
 use Rattle.c_front.specs.Reading.{Reads, read_nothing, read_token, read_phrase}
 use Rattle.c_front.specs.Choosing.{Choice, one_choice, chosen_rule}
 use Rattle.c_front.proofs.Ranks.{rank_of, rank, operator-rank, ends-operands, ends-choice, chosen-operator}
-use Rattle.c_front.proofs.Completing.{Ends, else-none, name-chosen, name-plain, rank-positive}
-
--- what follows a phrase doesn't go on with it
-abbrev pub IsClosed : Nonterminal → Option Token → Type 0
-IsClosed a_program next = Ends declarations next declarations_end
-IsClosed declarations next = Ends declarations next declarations_end
-IsClosed a_declaration next = Unit {0}
-IsClosed a_type next = Ends maybe_int next int_none
-IsClosed maybe_int next = Ends maybe_int next int_none
-IsClosed after_global next = Unit {0}
-IsClosed initial next = Unit {0}
-IsClosed function_rest next = Unit {0}
-IsClosed parameters next = Ends more_parameters next more_parameters_end
-IsClosed more_parameters next = Ends more_parameters next more_parameters_end
-IsClosed items next = Ends items next items_end
-IsClosed an_item next = Unit {0}
-IsClosed declared next = Ends declared next declared_none × (12 ≤ rank_of next)
-IsClosed a_statement next = Unit {0}
-IsClosed else_part next = Unit {0}
-IsClosed maybe_simple next = Ends maybe_simple next simple_none × (12 ≤ rank_of next)
-IsClosed maybe_expression next = Ends maybe_expression next expression_none × (12 ≤ rank_of next)
-IsClosed simple next = 12 ≤ rank_of next
-IsClosed value next = 12 ≤ rank_of next
-IsClosed a_call next = Unit {0}
-IsClosed arguments next = Ends arguments next arguments_none × Ends more_arguments next more_arguments_end × (12 ≤ rank_of next)
-IsClosed more_arguments next = Ends more_arguments next more_arguments_end × (12 ≤ rank_of next)
-IsClosed an_expression next = 12 ≤ rank_of next
-IsClosed choice next = 12 ≤ rank_of next
-IsClosed (operands l) next = rank l ≤ rank_of next
-IsClosed (more_operands l) next = suc (rank l) ≤ rank_of next
+use Rattle.c_front.proofs.Completing.{IsClosed, else-none, name-chosen, name-plain, rank-positive}
 
 pub data ClosedBy (n : Nonterminal) (symbols : List Symbol) (next : Option Token) : Type 0 where
   closed_by : ((ts rest : List Token) (m : PhraseTrees symbols) → first rest ≡ next → Derives symbols ts rest m → IsClosed n (first ts))

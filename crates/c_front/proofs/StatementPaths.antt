@@ -3,21 +3,22 @@ use Rattle.std.proofs.Common.{◌≡◌, ◌≢◌, ◌≤◌, ℕ, List, [], �
 use Rattle.c_tokens.specs.declared.token.Identifier.{Identifier}
 use Rattle.c_tokens.specs.declared.token.IntegerType.{IntegerType}
 use Rattle.c_tokens.specs.declared.token.IntegerType.TheVariants.{SignedInt, UnsignedInt}
-use Rattle.c_tokens.specs.declared.token.JumpWord.TheVariants.{Break, Continue, Return}
+use Rattle.c_tokens.specs.declared.token.JumpWord.{JumpWord}
+use Rattle.c_tokens.specs.declared.token.JumpWord.TheVariants.{Return}
 use Rattle.c_tokens.specs.declared.token.Token.{Token}
 use Rattle.c_tokens.specs.declared.token.Token.TheVariants.{Name, Jump, The}
 use Rattle.c_tokens.specs.declared.token.Mark.{Mark}
 use Rattle.c_tokens.specs.declared.token.Mark.TheVariants.{Int, Unsigned, If, Else, While, For, Semicolon, LeftBrace, RightBrace, LeftParen, RightParen, Assign}
-use Rattle.c_front.specs.Grammar.{a_name, the, a_type, maybe_int, items, an_item, declared, a_statement, else_part, maybe_simple, maybe_expression}
+use Rattle.c_front.specs.Grammar.{a_name, a_jump, the, Rule, tree_of, a_type, maybe_int, items, an_item, declared, a_statement, else_part, maybe_simple, maybe_expression}
 use Rattle.c_front.specs.Grammar.{simple, value, an_expression, Symbol, T, N, PhraseTrees, type_int, type_unsigned, int_none, int_some, items_end}
 use Rattle.c_front.specs.Grammar.{items_more, item_declare, item_statement, declared_none, declared_some, statement_empty, statement_block, statement_if}
-use Rattle.c_front.specs.Grammar.{statement_while, statement_for, statement_break, statement_continue, statement_return, statement_simple, else_none, else_some}
+use Rattle.c_front.specs.Grammar.{statement_while, statement_for, statement_return, statement_simple, else_none, else_some}
 use Rattle.c_front.specs.Grammar.{simple_none, simple_some, expression_none, expression_some, first, is_jump, is_the}
 use Rattle.c_front.specs.Reading.{Reads, read_nothing, read_token, read_phrase, Stuck, stuck_past, stuck_phrase, stuck_inside}
-use Rattle.c_front.specs.Choosing.{Choice, one_choice, EndsItems}
+use Rattle.c_front.specs.Choosing.{Choice, chosen_rule, one_choice, EndsItems}
 use Rattle.c_front.specs.declared.cursor.ParseStop.{ParseStop}
 use Rattle.c_front.specs.declared.cursor.ParseStop.TheVariants.{Syntax, NoMemory}
-use Rattle.c_tree.specs.Tree.{Expression, Value, Simple, Statement, empty, block, if_then, if_then_else, while_loop, for_loop, break_at, continue_at}
+use Rattle.c_tree.specs.Tree.{Expression, Value, Simple, Statement, empty, block, if_then, if_then_else, while_loop, for_loop}
 use Rattle.c_tree.specs.Tree.{return_at, simply, Item, declare, statement, Items, no_items, more_items}
 use Rattle.c_front.specs.Parsing.{StartsWith, StartsWithout, IsRead, AreStuck, IsStuck, IsMissing, StartsWithName, IsNameMissing, IsConditionRead}
 use Rattle.c_front.specs.Parsing.{IsConditionStuck, IsClosedRead, IsClosedStuck, IsBranchRead, IsBranchStuck, HasNoElse, HasNoType, StartsNamed, StartsUnnamed}
@@ -313,21 +314,18 @@ while-body-stuck ts a e (Syntax rest) d h = λ symbols. stuck_inside statement_w
 while-body-stuck ts a e NoMemory d h = tt
 
 -- `break`, `continue` and `return`
-pub break-read : (at : ℕ) (ts rest : List Token) → StartsWith Semicolon ts rest → IsRead a_statement (Jump Break at ∷ ts) rest (break_at at)
-break-read at ts rest e = whole statement_break refl (read_token is_jump (mark-end e))
+pub plain-jump-read : {w : JumpWord} (r : Rule a_statement (T (a_jump w) ∷ T (the Semicolon) ∷ [])) (at : ℕ) (ts rest : List Token)
+    → StartsWith Semicolon ts rest
+    → chosen_rule a_statement (Some (Jump w at)) (first ts) ≡ Some (T (a_jump w) ∷ T (the Semicolon) ∷ [], r)
+    → IsRead a_statement (Jump w at ∷ ts) rest (tree_of r (at, (tt, tt)))
+plain-jump-read r at ts rest e chosen = whole r chosen (read_token is_jump (mark-end e))
 
-pub break-stuck : (at : ℕ) (ts : List Token) (s : ParseStop) → IsMissing Semicolon ts s → IsStuck a_statement (Jump Break at ∷ ts) s
-break-stuck at ts (Syntax rest) h = λ symbols. stuck_inside statement_break refl (λ z. absurd z)
+pub plain-jump-stuck : {w : JumpWord} (r : Rule a_statement (T (a_jump w) ∷ T (the Semicolon) ∷ [])) (at : ℕ) (ts : List Token) (s : ParseStop)
+    → IsMissing Semicolon ts s → chosen_rule a_statement (Some (Jump w at)) (first ts) ≡ Some (T (a_jump w) ∷ T (the Semicolon) ∷ [], r)
+    → IsStuck a_statement (Jump w at ∷ ts) s
+plain-jump-stuck r at ts (Syntax rest) h chosen = λ symbols. stuck_inside r chosen (λ z. absurd z)
     (stuck_past is_jump (missing-first Semicolon [] ts (Syntax rest) h symbols))
-break-stuck at ts NoMemory h = tt
-
-pub continue-read : (at : ℕ) (ts rest : List Token) → StartsWith Semicolon ts rest → IsRead a_statement (Jump Continue at ∷ ts) rest (continue_at at)
-continue-read at ts rest e = whole statement_continue refl (read_token is_jump (mark-end e))
-
-pub continue-stuck : (at : ℕ) (ts : List Token) (s : ParseStop) → IsMissing Semicolon ts s → IsStuck a_statement (Jump Continue at ∷ ts) s
-continue-stuck at ts (Syntax rest) h = λ symbols. stuck_inside statement_continue refl (λ z. absurd z)
-    (stuck_past is_jump (missing-first Semicolon [] ts (Syntax rest) h symbols))
-continue-stuck at ts NoMemory h = tt
+plain-jump-stuck r at ts NoMemory h chosen = tt
 
 pub return-read : (at : ℕ) (ts rest : List Token) (v : Option Expression) → IsEndedRead maybe_expression Semicolon ts rest v
     → IsRead a_statement (Jump Return at ∷ ts) rest (return_at at v)

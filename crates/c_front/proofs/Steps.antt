@@ -1,7 +1,8 @@
 -- Where a sequence of symbols gets stuck, and what it reads, from its first symbol and the others.
-use Rattle.std.proofs.Common.{◌≡◌, List, [], ◌∷◌, ◌++◌, Some, sym, subst}
+use Rattle.std.proofs.Common.{◌≡◌, List, [], ◌∷◌, ◌++◌, Some, refl, sym, ap, ◌∙◌, subst}
 use Rattle.c_tokens.specs.declared.token.Identifier.{Identifier}
 use Rattle.c_tokens.specs.declared.token.Token.{Token}
+use Rattle.c_tokens.specs.declared.token.Token.TheVariants.{Name, Constant}
 use Rattle.c_tokens.specs.declared.token.Mark.{Mark}
 use Rattle.c_front.specs.Grammar.{Sort, a_name, a_constant, the, Nonterminal, Symbol, T, N, PhraseTree, SortTree, PhraseTrees, Rule, first, second, IsToken, is_name}
 use Rattle.c_front.specs.Grammar.{is_constant, is_the}
@@ -28,18 +29,18 @@ not-there {k = k} more ts rest same none symbols =
     let P : List Token → Type 0 = λ x. Stuck (T k ∷ more ++ symbols) ts x in
     subst P (sym same) (stuck_token none)
 
+name-is : {t : Token} {x : Identifier} → IsToken a_name t x → t ≡ Name x
+name-is is_name = refl
+
+constant-is : {t : Token} {k : Literal} → IsToken a_constant t k → t ≡ Constant k
+constant-is is_constant = refl
+
 pub name-missing-first : (more : List Symbol) (ts : List Token) (s : ParseStop) → IsNameMissing ts s → AreStuck (T a_name ∷ more) ts s
-name-missing-first more ts (Syntax rest) h = not-there more ts rest.now h.0 go
-  where
-    go : (t : Token) (v : SortTree a_name) → first ts ≡ Some t → IsToken a_name t v → ⊥
-    go t v e is_name = h.1 v e
+name-missing-first more ts (Syntax rest) h = not-there more ts rest.now h.0 (λ t v e is. h.1 v (e ∙ ap Some (name-is is)))
 name-missing-first more ts NoMemory h = tt
 
 pub constant-missing-first : (more : List Symbol) (ts : List Token) (s : ParseStop) → IsConstantMissing ts s → AreStuck (T a_constant ∷ more) ts s
-constant-missing-first more ts (Syntax rest) h = not-there more ts rest.now h.0 go
-  where
-    go : (t : Token) (v : SortTree a_constant) → first ts ≡ Some t → IsToken a_constant t v → ⊥
-    go t v e is_constant = h.1 v e
+constant-missing-first more ts (Syntax rest) h = not-there more ts rest.now h.0 (λ t v e is. h.1 v (e ∙ ap Some (constant-is is)))
 constant-missing-first more ts NoMemory h = tt
 
 past-token : {k : Sort} {t : Token} {v : SortTree k} (more : List Symbol) (ts a : List Token) (s : ParseStop) → IsToken k t v → ts ≡ t ∷ a
@@ -108,10 +109,3 @@ constant-then {k = k} {symbols = symbols} {rest = rest} {m = m} e d =
 pub ended-then : {n : Nonterminal} {u : Mark} {symbols : List Symbol} {ts a rest : List Token} {v : PhraseTree n} {m : PhraseTrees symbols}
     → IsEndedRead n u ts a v → Reads symbols a rest m → Reads (N n ∷ T (the u) ∷ symbols) ts rest (v, (tt, m))
 ended-then (read_phrase r c d q (read_token is_the read_nothing)) z = read_phrase r c d q (read_token is_the z)
-
--- the same tokens, by their first one
-pub moved-read : (n : Nonterminal) (ts a b : List Token) (t : Token) (v : PhraseTree n) → ts ≡ t ∷ a → IsRead n (t ∷ a) b v → IsRead n ts b v
-moved-read n ts a b t v e d = let P : List Token → Type 0 = λ x. IsRead n x b v in subst P (sym e) d
-
-pub moved-stuck : (n : Nonterminal) (ts a : List Token) (t : Token) (s : ParseStop) → ts ≡ t ∷ a → IsStuck n (t ∷ a) s → IsStuck n ts s
-moved-stuck n ts a t s e h = let P : List Token → Type 0 = λ x. IsStuck n x s in subst P (sym e) h

@@ -29,27 +29,21 @@ impl FrontFaultKind {
     pub fn number(self) -> u8
         ensures { result ≡ number_of self }
     {
-        match self {
-            FrontFaultKind::Byte => 1,
-            FrontFaultKind::Token => 2,
-            FrontFaultKind::Syntax => 3,
-            FrontFaultKind::Constant => 4,
-            FrontFaultKind::Size => 5,
-            FrontFaultKind::NoMemory => 30,
-        }
+        self.number_and_name().0
     }
 
-    /// The name that messages show.
-    fn name(self) -> &'static str
-        ensures { result.now ≡ kind_name self }
+    /// The number and the name that messages show.
+    fn number_and_name(self) -> (u8, &'static str)
+        ensures number { result.0 ≡ number_of self }
+        ensures name { result.1.now ≡ kind_name self }
     {
         match self {
-            FrontFaultKind::Byte => "Byte",
-            FrontFaultKind::Token => "Token",
-            FrontFaultKind::Syntax => "Syntax",
-            FrontFaultKind::Constant => "Constant",
-            FrontFaultKind::Size => "Size",
-            FrontFaultKind::NoMemory => "NoMemory",
+            FrontFaultKind::Byte => (1, "Byte"),
+            FrontFaultKind::Token => (2, "Token"),
+            FrontFaultKind::Syntax => (3, "Syntax"),
+            FrontFaultKind::Constant => (4, "Constant"),
+            FrontFaultKind::Size => (5, "Size"),
+            FrontFaultKind::NoMemory => (30, "NoMemory"),
         }
     }
 }
@@ -65,8 +59,7 @@ impl fmt::Display for FrontFault {
     ghost output = { λ fault. Some (fault_text fault) };
 
     fn fmt<W: fmt::Write>(&self, f: &mut fmt::Formatter<W>) -> fmt::Result {
-        let number = self.kind.number();
-        let name = self.kind.name();
+        let (number, name) = self.kind.number_and_name();
         let at = self.at;
         write!(f, "fault {number} {name} at {at}")
     }

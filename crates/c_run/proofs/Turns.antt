@@ -32,43 +32,27 @@ continues [] l = refl
 continues (Do s ∷ k) l = continues k l
 continues (Next last again ∷ k) l = refl
 
+-- what passes over each statement passes over those that a statement comes to
 mutual
-  pub past-before : (s : Trees.TypedStatement) (k : List Todo) → past_turn (before s k) ≡ past_turn k
-  past-before empty k = refl
-  past-before (block all) k = past-before_all all k
-  past-before (unset x) k = refl
-  past-before (assign x e) k = refl
-  past-before (store a i e) k = refl
-  past-before (call to f all) k = refl
-  past-before (output e) k = refl
-  past-before (if_else c a b) k = refl
-  past-before (loop c last body) k = refl
-  past-before break_loop k = refl
-  past-before continue_loop k = refl
-  past-before (return_with e) k = refl
+  over-before : {A : Type 0} (f : List Todo → A) → ((s : Trees.TypedStatement) (k : List Todo) → f (Do s ∷ k) ≡ f k) → (s : Trees.TypedStatement) (k : List Todo)
+      → f (before s k) ≡ f k
+  over-before f over empty k = refl
+  over-before f over (block all) k = over-before_all f over all k
+  over-before f over (unset x) k = over (unset x) k
+  over-before f over (assign x e) k = over (assign x e) k
+  over-before f over (store a i e) k = over (store a i e) k
+  over-before f over (call to g all) k = over (call to g all) k
+  over-before f over (output e) k = over (output e) k
+  over-before f over (if_else c a b) k = over (if_else c a b) k
+  over-before f over (loop c last body) k = over (loop c last body) k
+  over-before f over break_loop k = over break_loop k
+  over-before f over continue_loop k = over continue_loop k
+  over-before f over (return_with e) k = over (return_with e) k
 
-  pub past-before_all : (all : TypedStatements) (k : List Todo) → past_turn (before_all all k) ≡ past_turn k
-  past-before_all no_statements k = refl
-  past-before_all (more_statements s rest) k = past-before s (before_all rest k) ∙ past-before_all rest k
-
-mutual
-  pub at-before : (s : Trees.TypedStatement) (k : List Todo) → at_turn (before s k) ≡ at_turn k
-  at-before empty k = refl
-  at-before (block all) k = at-before_all all k
-  at-before (unset x) k = refl
-  at-before (assign x e) k = refl
-  at-before (store a i e) k = refl
-  at-before (call to f all) k = refl
-  at-before (output e) k = refl
-  at-before (if_else c a b) k = refl
-  at-before (loop c last body) k = refl
-  at-before break_loop k = refl
-  at-before continue_loop k = refl
-  at-before (return_with e) k = refl
-
-  pub at-before_all : (all : TypedStatements) (k : List Todo) → at_turn (before_all all k) ≡ at_turn k
-  at-before_all no_statements k = refl
-  at-before_all (more_statements s rest) k = at-before s (before_all rest k) ∙ at-before_all rest k
+  over-before_all : {A : Type 0} (f : List Todo → A) → ((s : Trees.TypedStatement) (k : List Todo) → f (Do s ∷ k) ≡ f k) → (all : TypedStatements)
+      (k : List Todo) → f (before_all all k) ≡ f k
+  over-before_all f over no_statements k = refl
+  over-before_all f over (more_statements s rest) k = over-before f over s (before_all rest k) ∙ over-before_all f over rest k
 
 -- what a pop leaves of the list
 pub popped : (ts rest : List Pending) (t : Pending) → ts ≡ rest ++ t ∷ [] → todos ts ≡ with_pending t (todos rest)
@@ -78,19 +62,16 @@ popped ts rest t e = ap todos e ∙ todos-push rest t
 abbrev pub NoTurn : Pending → Type 0
 NoTurn t = ((s : Bor TypedStatement) × (t ≡ One s)) ⊎ ((all : Bor (List TypedStatement)) × (t ≡ Rest all))
 
-pub past-pending : (t : Pending) (k : List Todo) → NoTurn t → past_turn (with_pending t k) ≡ past_turn k
-past-pending t k (inl w) = ap (λ t. past_turn (with_pending t k)) w.1 ∙ past-before (statement_of w.0.now) k
-past-pending t k (inr w) = ap (λ t. past_turn (with_pending t k)) w.1 ∙ past-before_all (statements_of w.0.now) k
-
-pub at-pending : (t : Pending) (k : List Todo) → NoTurn t → at_turn (with_pending t k) ≡ at_turn k
-at-pending t k (inl w) = ap (λ t. at_turn (with_pending t k)) w.1 ∙ at-before (statement_of w.0.now) k
-at-pending t k (inr w) = ap (λ t. at_turn (with_pending t k)) w.1 ∙ at-before_all (statements_of w.0.now) k
+over-pending : {A : Type 0} (f : List Todo → A) → ((s : Trees.TypedStatement) (k : List Todo) → f (Do s ∷ k) ≡ f k) → (t : Pending) (k : List Todo)
+    → NoTurn t → f (with_pending t k) ≡ f k
+over-pending f over t k (inl w) = ap (λ t. f (with_pending t k)) w.1 ∙ over-before f over (statement_of w.0.now) k
+over-pending f over t k (inr w) = ap (λ t. f (with_pending t k)) w.1 ∙ over-before_all f over (statements_of w.0.now) k
 
 pub past-popped : (ts rest : List Pending) (t : Pending) → ts ≡ rest ++ t ∷ [] → NoTurn t → past_turn (todos rest) ≡ past_turn (todos ts)
-past-popped ts rest t e n = sym (ap past_turn (popped ts rest t e) ∙ past-pending t (todos rest) n)
+past-popped ts rest t e n = sym (ap past_turn (popped ts rest t e) ∙ over-pending past_turn (λ s k. refl) t (todos rest) n)
 
 pub at-popped : (ts rest : List Pending) (t : Pending) → ts ≡ rest ++ t ∷ [] → NoTurn t → at_turn (todos rest) ≡ at_turn (todos ts)
-at-popped ts rest t e n = sym (ap at_turn (popped ts rest t e) ∙ at-pending t (todos rest) n)
+at-popped ts rest t e n = sym (ap at_turn (popped ts rest t e) ∙ over-pending at_turn (λ s k. refl) t (todos rest) n)
 
 none-left : (all : List TypedStatement) → length all ≡ 0 → all ≡ []
 none-left [] e = refl

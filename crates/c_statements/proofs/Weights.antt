@@ -2,21 +2,17 @@
 use Rattle.std.proofs.Common.{◌≡◌, ◌≤◌, ◌<◌, ◌+◌, ℕ, suc, zero, List, [], ◌∷◌, length, get_or, ap, arith}
 use Rattle.c_tree.specs.declared.tree.Item.{Item}
 use Rattle.c_tree.specs.Shape.{item_of, items_of}
-use Rattle.c_tree.specs.Tree.{Statement, Item as ItemTree, Items, empty, block, if_then, if_then_else, while_loop, for_loop, break_at}
-use Rattle.c_tree.specs.Tree.{continue_at, return_at, simply, declare, statement, no_items, more_items}
+use Rattle.c_tree.specs.Tree.{Statement, Item as ItemTree, Items, block, if_then, if_then_else, while_loop, for_loop}
+use Rattle.c_tree.specs.Tree.{declare, statement, no_items, more_items}
 
 abbrev mutual
   pub weight : Statement → ℕ
-  weight empty = 0
   weight (block all) = weight_all all + 3
   weight (if_then c s) = weight s + 2
   weight (if_then_else c s t) = weight s + weight t + 2
   weight (while_loop c s) = weight s + 2
   weight (for_loop f c l s) = weight s + 2
-  weight (break_at at) = 0
-  weight (continue_at at) = 0
-  weight (return_at at e) = 0
-  weight (simply s) = 0
+  weight _ = 0
 
   pub weight_of : ItemTree → ℕ
   weight_of (declare k x v) = 0

@@ -9,25 +9,22 @@ use Rattle.c_statements.specs.declared.fault.TypeFault.{TypeFault}
 use Rattle.c_statements.specs.declared.fault.TypeStop.{TypeStop}
 use Rattle.c_statements.specs.declared.fault.TypeStop.TheVariants.{Fault, NoMemory}
 
+-- the number and the name that messages show
+abbrev pub number_and_name_of : TypeFaultKind → ℕ × List ℕ
+number_and_name_of Undeclared = (10, codes "Undeclared")
+number_and_name_of Redeclared = (11, codes "Redeclared")
+number_and_name_of Kind = (12, codes "Kind")
+number_and_name_of Count = (13, codes "Count")
+number_and_name_of NoMain = (15, codes "NoMain")
+number_and_name_of Outside = (17, codes "Outside")
+number_and_name_of Limit = (20, codes "Limit")
+number_and_name_of WantOfMemory = (30, codes "NoMemory")
+
 abbrev pub number_of : TypeFaultKind → ℕ
-number_of Undeclared = 10
-number_of Redeclared = 11
-number_of Kind = 12
-number_of Count = 13
-number_of NoMain = 15
-number_of Outside = 17
-number_of Limit = 20
-number_of WantOfMemory = 30
+number_of kind = (number_and_name_of kind).0
 
 abbrev pub kind_name : TypeFaultKind → List ℕ
-kind_name Undeclared = codes "Undeclared"
-kind_name Redeclared = codes "Redeclared"
-kind_name Kind = codes "Kind"
-kind_name Count = codes "Count"
-kind_name NoMain = codes "NoMain"
-kind_name Outside = codes "Outside"
-kind_name Limit = codes "Limit"
-kind_name WantOfMemory = codes "NoMemory"
+kind_name kind = (number_and_name_of kind).1
 
 -- what a fault prints
 abbrev pub fault_text : TypeFault → List ℕ

@@ -34,31 +34,23 @@ impl TypeFaultKind {
     pub fn number(self) -> u8
         ensures { result ≡ number_of self }
     {
-        match self {
-            TypeFaultKind::Undeclared => 10,
-            TypeFaultKind::Redeclared => 11,
-            TypeFaultKind::Kind => 12,
-            TypeFaultKind::Count => 13,
-            TypeFaultKind::NoMain => 15,
-            TypeFaultKind::Outside => 17,
-            TypeFaultKind::Limit => 20,
-            TypeFaultKind::NoMemory => 30,
-        }
+        self.number_and_name().0
     }
 
-    /// The name that messages show.
-    fn name(self) -> &'static str
-        ensures { result.now ≡ kind_name self }
+    /// The number and the name that messages show.
+    fn number_and_name(self) -> (u8, &'static str)
+        ensures number { result.0 ≡ number_of self }
+        ensures name { result.1.now ≡ kind_name self }
     {
         match self {
-            TypeFaultKind::Undeclared => "Undeclared",
-            TypeFaultKind::Redeclared => "Redeclared",
-            TypeFaultKind::Kind => "Kind",
-            TypeFaultKind::Count => "Count",
-            TypeFaultKind::NoMain => "NoMain",
-            TypeFaultKind::Outside => "Outside",
-            TypeFaultKind::Limit => "Limit",
-            TypeFaultKind::NoMemory => "NoMemory",
+            TypeFaultKind::Undeclared => (10, "Undeclared"),
+            TypeFaultKind::Redeclared => (11, "Redeclared"),
+            TypeFaultKind::Kind => (12, "Kind"),
+            TypeFaultKind::Count => (13, "Count"),
+            TypeFaultKind::NoMain => (15, "NoMain"),
+            TypeFaultKind::Outside => (17, "Outside"),
+            TypeFaultKind::Limit => (20, "Limit"),
+            TypeFaultKind::NoMemory => (30, "NoMemory"),
         }
     }
 }
@@ -74,8 +66,7 @@ impl fmt::Display for TypeFault {
     ghost output = { λ fault. Some (fault_text fault) };
 
     fn fmt<W: fmt::Write>(&self, f: &mut fmt::Formatter<W>) -> fmt::Result {
-        let number = self.kind.number();
-        let name = self.kind.name();
+        let (number, name) = self.kind.number_and_name();
         let at = self.at;
         write!(f, "fault {number} {name} at {at}")
     }

@@ -34,5 +34,5 @@ mod symbol_table;
 pub use expression::{misuse, one_typing};
 pub use fault::{TypeFault, TypeFaultKind, TypeStop, both, either, lasting};
 pub use names::Named;
-pub use statement::{Context, items, one_typing_of_statements};
+pub use statement::{Context, declarator, items, one_typing_of_statements};
 pub use symbol_table::Scopes;

@@ -82,7 +82,7 @@ fn returned(
 
 /// Whether a name may be declared as a local; a second declaration in one scope and a local too many are faults, at the
 /// name.
-fn declarator(program: &Program, scopes: &Scopes, name: Identifier) -> Result<(), TypeStop>
+pub fn declarator(program: &Program, scopes: &Scopes, name: Identifier) -> Result<(), TypeStop>
     ensures none { IfOk result (λ _. HasNone (FaultyDeclarator program.now.text.items (scopes_of scopes.now) name)) }
     ensures err { IfErr result (StopsAtFirst (FaultyDeclarator program.now.text.items (scopes_of scopes.now) name)) }
 {

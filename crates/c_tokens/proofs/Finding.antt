@@ -70,19 +70,20 @@ spelled-begins (e ∷ es) o m h k = go (λ h k. spelled-begins es o m h k) (begi
     go f true p h true q k = ap begins_well (sym (same-is e.0 o q)) ∙ p
     go f true p h false q k = f h k
 
-pub record Begins (b : ℕ) (bs : List ℕ) : Type 0 where
+-- what begins as no white space, word, number or comment does
+pub record Plain (b : ℕ) (bs : List ℕ) : Type 0 where
   pub space : is_space b ≡ false
   pub letter : is_letter b ≡ false
   pub digit : is_digit b ≡ false
   pub comment : is_front (codes "/*") (b ∷ bs) ≡ false
   pub line : is_front (codes "//") (b ∷ bs) ≡ false
 
-pub operator-begins : (b : ℕ) (bs : List ℕ) (m : Option Mark) → entry_in signs (b ∷ bs) ≡ Some m → Begins b bs
+pub operator-begins : (b : ℕ) (bs : List ℕ) (m : Option Mark) → entry_in signs (b ∷ bs) ≡ Some m → Plain b bs
 operator-begins b bs m h = go (is_space b) (is_letter b) (is_digit b) (is_front (codes "/*") (b ∷ bs)) (is_front (codes "//") (b ∷ bs)) refl refl refl refl refl
     (spelled-begins signs (b ∷ bs) m table-begins h)
   where
     go : (x y z u v : Bool) → is_space b ≡ x → is_letter b ≡ y → is_digit b ≡ z → is_front (codes "/*") (b ∷ bs) ≡ u → is_front (codes "//") (b ∷ bs) ≡ v →
-        (if x then false else (if y then false else (if z then false else (if u then false else (if v then false else true))))) ≡ true → Begins b bs
+        (if x then false else (if y then false else (if z then false else (if u then false else (if v then false else true))))) ≡ true → Plain b bs
     go true y z u v p q r s t h = cc
     go false true z u v p q r s t h = cc
     go false false true u v p q r s t h = cc
@@ -509,13 +510,6 @@ line-next cs =
     go (suc (suc m)) i l p = line-longest cs m (omega (arith, i)) (omega (arith, l)) (line-piece (take m cs) p)
 
 -- a piece that begins as no other does is an operator or a byte
-pub record Plain (b : ℕ) (bs : List ℕ) : Type 0 where
-  pub space : is_space b ≡ false
-  pub letter : is_letter b ≡ false
-  pub digit : is_digit b ≡ false
-  pub comment : is_front (codes "/*") (b ∷ bs) ≡ false
-  pub line : is_front (codes "//") (b ∷ bs) ≡ false
-
 pub plain-meaning : (b : ℕ) (bs : List ℕ) → Plain b bs → meaning_of (b ∷ bs) ≡ or_operator b bs
 plain-meaning b bs p =
     ap (λ (x : Bool). if x then Separator 1 else or_word b bs) p.space ∙ ap (λ (x : Bool). if x then word_lexeme keywords (b ∷ bs) else or_number b bs) p.letter
@@ -546,8 +540,7 @@ operator-found : (xs : List ℕ) (m : Option Mark) → entry_in signs xs ≡ Som
 operator-found [] m h = absurd (let x : begins_well [] ≡ true = spelled-begins signs [] m table-begins h in cc)
 operator-found (b ∷ bs) m h =
     let g = operator-begins b bs m h in
-    let p : Plain b bs = record { space = g.space; letter = g.letter; digit = g.digit; comment = g.comment; line = g.line } in
-    sym (plain-meaning b bs p ∙ ap (operator_meaning (b ∷ bs)) h ∙ same m)
+    sym (plain-meaning b bs g ∙ ap (operator_meaning (b ∷ bs)) h ∙ same m)
   where
     same : (m : Option Mark) → operator_meaning (b ∷ bs) (Some m) ≡ sign_lexeme (Some (b ∷ bs, m))
     same None = refl

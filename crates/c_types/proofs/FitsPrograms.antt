@@ -47,7 +47,7 @@ behind-parameters text sc (q ∷ rest) = let h = behind-parameters text (with_lo
 parameters-fit : (text : List ℕ) (sc : Scopes) (ps : List Parameter) → sc.locals ≤ 4 → HasNone (FaultyParameters text sc ps) → sc.locals + length ps ≤ 4
 parameters-fit text sc [] few none = omega (arith, few)
 parameters-fit text sc (q ∷ rest) few none =
-    let other : sc.locals ≢ 4 = λ e. none Count q.name.at (inl (fifth_parameter e)) in
+    let other : sc.locals ≢ 4 = λ e. none Count q.name.at (inl (fifth_parameter (e, (refl, refl)))) in
     let more : suc sc.locals ≤ 4 = omega (arith, few, other) in
     let h = parameters-fit text (with_local text sc q.integer_type q.name) rest more (λ k at w. none k at (inr w)) in
     omega (arith, h)
@@ -167,26 +167,24 @@ function-here {p = p} {f = f} {g = g} {rest = rest} h =
     ap (λ (l : List TypedFunction). slice_get l f.counts.functions) h.are_functions
     ∙ ap (λ (i : ℕ). slice_get (h.functions ++ g ∷ functions_in rest) i) (sym h.functions_counted) ∙ at-seam h.functions g (functions_in rest)
 
+next-global : {p : TypedProgram} {f behind : File} {g : Typed.Global} {rest : List TypedDeclaration} → IsAt p f (a_global g ∷ rest)
+    → behind.counts.functions ≡ f.counts.functions → behind.counts.globals ≡ suc f.counts.globals → AreThere p 0 behind.names → IsAt p behind rest
+next-global {rest = rest} h functions globals names = record {
+  functions = h.functions;
+  are_functions = h.are_functions;
+  functions_counted = h.functions_counted ∙ sym functions;
+  globals = h.globals ++ _ ∷ [];
+  are_globals = h.are_globals ∙ one-further h.globals _ (globals_in rest);
+  globals_counted = one-longer h.globals _ ∙ ap suc h.globals_counted ∙ sym globals;
+  names = names;
+}
+
 next : {p : TypedProgram} {text : List ℕ} {f : File} {d : Tree.Declaration} {t : TypedDeclaration} {rest : List TypedDeclaration}
     → IsAt p f (t ∷ rest) → TypesDeclaration text f d t → IsAt p (after text f d) rest
-next {p = p} {text = text} {f = f} {rest = rest} h (variable_typed {k = k} {x = x}) = record {
-  functions = h.functions;
-  are_functions = h.are_functions;
-  functions_counted = h.functions_counted;
-  globals = h.globals ++ _ ∷ [];
-  are_globals = h.are_globals ∙ one-further h.globals _ (globals_in rest);
-  globals_counted = one-longer h.globals _ ∙ ap suc h.globals_counted;
-  names = named p f.names (spelling_in text x) (Global f.counts.globals k) h.names (global-here h);
-}
-next {p = p} {text = text} {f = f} {rest = rest} h (array_typed {k = k} {x = x}) = record {
-  functions = h.functions;
-  are_functions = h.are_functions;
-  functions_counted = h.functions_counted;
-  globals = h.globals ++ _ ∷ [];
-  are_globals = h.are_globals ∙ one-further h.globals _ (globals_in rest);
-  globals_counted = one-longer h.globals _ ∙ ap suc h.globals_counted;
-  names = named p f.names (spelling_in text x) (Array f.counts.globals k) h.names (global-here h);
-}
+next {p = p} {text = text} {f = f} h (variable_typed {k = k} {x = x}) =
+    next-global h refl refl (named p f.names (spelling_in text x) (Global f.counts.globals k) h.names (global-here h))
+next {p = p} {text = text} {f = f} h (array_typed {k = k} {x = x}) =
+    next-global h refl refl (named p f.names (spelling_in text x) (Array f.counts.globals k) h.names (global-here h))
 next {p = p} {text = text} {f = f} {rest = rest} h (function_typed {r = r} {x = x} {ps = ps} typed) = record {
   functions = h.functions ++ _ ∷ [];
   are_functions = h.are_functions ∙ one-further h.functions _ (functions_in rest);

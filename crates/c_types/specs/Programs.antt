@@ -91,10 +91,14 @@ pub data FaultyName (text : List ℕ) (f : File) : Declaration → TypeFaultKind
   too_many_functions : {r : Option IntegerType} {x : Identifier} {ps : List Parameter} {body : Items} → f.counts.functions ≡ MAX_FUNCTIONS →
       FaultyName text f (function r x ps body) Limit x.at
 
+-- the fifth parameter
+abbrev pub IsFifth : Scopes → Identifier → TypeFaultKind → ℕ → Type 0
+IsFifth sc x k at = (sc.locals ≡ MAX_PARAMETERS) × ((k ≡ Count) × (at ≡ x.at))
+
 -- a declarator in the function's outermost scope, and the fifth parameter
 pub data FaultyParameter (text : List ℕ) (sc : Scopes) (x : Identifier) : TypeFaultKind → ℕ → Type 0 where
   faulty_declarator : {k : TypeFaultKind} {at : ℕ} → FaultyDeclarator text sc x k at → FaultyParameter text sc x k at
-  fifth_parameter : sc.locals ≡ MAX_PARAMETERS → FaultyParameter text sc x Count x.at
+  fifth_parameter : {k : TypeFaultKind} {at : ℕ} → IsFifth sc x k at → FaultyParameter text sc x k at
 
 abbrev pub FaultyParameters : List ℕ → Scopes → List Parameter → TypeFaultKind → ℕ → Type 0
 FaultyParameters text sc [] k at = ⊥

@@ -5,13 +5,13 @@ ghost use Rattle.c_statements.specs.Faults.{HasNone, StopsAtFirst};
 ghost use Rattle.c_statements.specs.Shape.{scopes_of};
 ghost use Rattle.c_statements.specs.Names.{spelling_in};
 ghost use Rattle.c_types.specs.Files.{counts_of, file_of, Exceeds, IsOtherKind, is_array_of_nothing};
-ghost use Rattle.c_types.specs.Programs.{FaultyName, FaultyParameter, FaultyParameters, behind_parameters, IsNotMain, first_word};
+ghost use Rattle.c_types.specs.Programs.{FaultyName, FaultyParameter, FaultyParameters, IsFifth, behind_parameters, IsNotMain, first_word};
 ghost use Rattle.c_types.specs.Programs.{main_name, name_of, named_by, counts_after, words_of};
 
-use c_statements::{Named, Scopes, TypeFaultKind, TypeStop, either, misuse};
+use c_statements::{Named, Scopes, TypeFaultKind, TypeStop, declarator, either, misuse};
 use c_tokens::{Identifier, IntegerType};
 use c_tree::{Declaration, Initial, Parameter, Program};
-use c_typed::{MAX_FUNCTIONS, MAX_GLOBAL_WORDS, MAX_LOCALS, MAX_PARAMETERS};
+use c_typed::{MAX_FUNCTIONS, MAX_GLOBAL_WORDS, MAX_PARAMETERS};
 use std::alloc::AllocError;
 
 /// How many globals and functions are declared so far, and how many words the globals have together. An array has less
@@ -178,21 +178,26 @@ pub fn name_fault(
     Ok(())
 }
 
+/// Whether a parameter is one too many, a fault at its name.
+fn fifth_parameter(scopes: &Scopes, name: Identifier) -> Result<(), TypeStop>
+    ensures none { IfOk result (λ _. HasNone (IsFifth (scopes_of scopes.now) name)) }
+    ensures err { IfErr result (StopsAtFirst (IsFifth (scopes_of scopes.now) name)) }
+{
+    if scopes.locals() == MAX_PARAMETERS {
+        return Err(misuse(TypeFaultKind::Count, name));
+    }
+    Ok(())
+}
+
 /// What is wrong with the name of a parameter.
 fn parameter_fault(program: &Program, scopes: &Scopes, name: Identifier) -> Result<(), TypeStop>
     ensures none { IfOk result (λ _. HasNone (FaultyParameter program.now.text.items (scopes_of scopes.now) name)) }
     ensures err { IfErr result (StopsAtFirst (FaultyParameter program.now.text.items (scopes_of scopes.now) name)) }
 {
-    if scopes.declares(program, name) {
-        return Err(misuse(TypeFaultKind::Redeclared, name));
-    }
-    if scopes.locals() == MAX_PARAMETERS {
-        return Err(misuse(TypeFaultKind::Count, name));
-    }
-    if scopes.locals() == MAX_LOCALS {
-        return Err(misuse(TypeFaultKind::Limit, name));
-    }
-    Ok(())
+    either(
+        fifth_parameter(scopes, name),
+        declarator(program, scopes, name),
+    )
 }
 
 /// Puts the parameters of a function into its scope.

@@ -9,7 +9,7 @@ use Rattle.c_tree.specs.declared.tree.BinaryOp.{BinaryOp}
 use Rattle.c_tree.specs.declared.tree.BinaryOp.TheVariants as B
 use Rattle.c_tree.specs.declared.tree.UnaryOp.TheVariants as U
 use Rattle.c_typed.specs.Trees.{TypedExpression, constant, unary, binary, conditional}
-use Rattle.c_typed.specs.Values.{sign_of, truth, binary_of, value_of}
+use Rattle.c_typed.specs.Values.{sign_of, truth, value_of}
 use Rattle.rtl.specs.declared.operator.Op.TheVariants as O
 use Rattle.rtl.specs.declared.instruction.RInst.TheVariants as I
 use Rattle.rtl.specs.declared.instruction.RExit.TheVariants as X
@@ -21,7 +21,7 @@ use Rattle.rtl_emit.specs.Runs.{Goes, Moves, Surroundings, at, Holds, Yields, Ar
 use Rattle.rtl_emit.specs.Expressions.{IsPlace, Evaluates, Fetches, Operates, Combines, Decides, IsTruth}
 use Rattle.rtl_emit.specs.declared.operation.Operation.{Operation}
 use Rattle.rtl_emit.proofs.Operations.{straight_op}
-use Rattle.rtl_emit.proofs.Steps.{goes_then, goes_one, moves_one, moves_then, moves_after, goes_of, with_some, chained, written_here, written_other}
+use Rattle.rtl_emit.proofs.Steps.{goes_then, goes_one, moves_one, moves_then, moves_after, goes_of, with_some, chained, both_valued, written_here, written_other}
 use Rattle.rtl_emit.proofs.Steps.{jump_to, joins, holds_kept}
 use Rattle.rtl_emit.proofs.Values.{taken, yields_after, yields_then}
 
@@ -82,15 +82,11 @@ pub contrary_decides : (bs : List RBlock) (o : BinaryOp) (k : IntegerType) (op :
     → Decides bs (binary o k a b) free yes_block no_block from
 contrary_decides bs o k op a b z yes_block no_block free from tests le o' = record {
   by = λ w l r v h e.
-      let s = sign_of k in
-      let g = w.globals in
-      let both = sym (tests.both (value_of a l g) (value_of b l g)) ∙ e in
-      let ca = chained (value_of a l g) (λ x. chain (value_of b l g) (λ y. binary_of o s x y)) v both in
-      let cb = chained (value_of b l g) (λ y. binary_of o s ca.value y) v ca.then_is in
-      let t = tests.by ca.value cb.value in
-      let some : Some (truth t.0) ≡ Some v = sym t.1 ∙ cb.then_is in
+      let c = both_valued o (sign_of k) (value_of a l w.globals) (value_of b l w.globals) v tests.both e in
+      let t = tests.by c.x c.y in
+      let some : Some (truth t.0) ≡ Some v = sym t.1 ∙ c.is in
       let is : truth t.0 ≡ v = cc in
-      let y = o'.by w l r ca.value cb.value (truth (not t.0)) h ca.is cb.is t.2 in
+      let y = o'.by w l r c.x c.y (truth (not t.0)) h c.left_is c.right_is t.2 in
       arrives_at w bs free r from _ _ (same_way t.0 yes_block no_block ∙ sym (flipped t.0 no_block yes_block)
       ∙ ap (λ v. if nat_eq v 0 then no_block else yes_block) is) (record {
         regs = y.regs;
@@ -125,6 +121,18 @@ not_decides bs k a yes_block no_block free from da = record {
       (da.by w l r c.value h c.is);
 }
 
+-- the second operand of `&&` or `||`, to which the first one led
+second_decides : (bs : List RBlock) (b : TypedExpression) (yes_block no_block second free : ℕ) (from second_code : Code) → At bs second second_code
+    → Decides bs b free yes_block no_block second_code → (w : Surroundings) (l r : Places) (v : ℕ) → Holds free l r w.globals
+    → chain (value_of b l w.globals) (λ y. Some (truth (not (nat_eq y 0)))) ≡ Some v → Arrives w bs free r from second
+    → Arrives w bs free r from (if nat_eq v 0 then no_block else yes_block)
+second_decides bs b yes_block no_block second free from second_code ats db w l r v h e ar =
+    let c = chained (value_of b l w.globals) (λ y. Some (truth (not (nat_eq y 0)))) v e in
+    let is : truth (not (nat_eq c.value 0)) ≡ v = cc in
+    arrives_at w bs free r from _ _ (sym (same_way (nat_eq c.value 0) no_block yes_block) ∙ ap (λ v. if nat_eq v 0 then no_block else yes_block) is)
+    (arrives_then w bs free r from second_code second _ ar ats
+    (db.by w l ar.regs c.value (holds_kept free free l r ar.regs w.globals (omega arith) h ar.kept) c.is))
+
 pub and_decides : (bs : List RBlock) (k : IntegerType) (a b : TypedExpression) (yes_block no_block second free : ℕ) (from second_code : Code)
     → Decides bs a free second no_block from → At bs second second_code → Decides bs b free yes_block no_block second_code
     → Decides bs (binary B.LogicalAnd k a b) free yes_block no_block from
@@ -141,12 +149,7 @@ and_decides bs k a b yes_block no_block second free from second_code da ats db =
     after_first w l r v h true e ar =
         let is : 0 ≡ v = cc in
         subst (λ v. Arrives w bs free r from (if nat_eq v 0 then no_block else yes_block)) is ar
-    after_first w l r v h false e ar =
-        let c = chained (value_of b l w.globals) (λ y. Some (truth (not (nat_eq y 0)))) v e in
-        let is : truth (not (nat_eq c.value 0)) ≡ v = cc in
-        arrives_at w bs free r from _ _ (sym (same_way (nat_eq c.value 0) no_block yes_block) ∙ ap (λ v. if nat_eq v 0 then no_block else yes_block) is)
-        (arrives_then w bs free r from second_code second _ ar ats
-        (db.by w l ar.regs c.value (holds_kept free free l r ar.regs w.globals (omega arith) h ar.kept) c.is))
+    after_first w l r v h false e ar = second_decides bs b yes_block no_block second free from second_code ats db w l r v h e ar
 
 pub or_decides : (bs : List RBlock) (k : IntegerType) (a b : TypedExpression) (yes_block no_block second free : ℕ) (from second_code : Code)
     → Decides bs a free yes_block second from → At bs second second_code → Decides bs b free yes_block no_block second_code
@@ -164,12 +167,7 @@ or_decides bs k a b yes_block no_block second free from second_code da ats db = 
     after_first w l r v h false e ar =
         let is : 1 ≡ v = cc in
         subst (λ v. Arrives w bs free r from (if nat_eq v 0 then no_block else yes_block)) is ar
-    after_first w l r v h true e ar =
-        let c = chained (value_of b l w.globals) (λ y. Some (truth (not (nat_eq y 0)))) v e in
-        let is : truth (not (nat_eq c.value 0)) ≡ v = cc in
-        arrives_at w bs free r from _ _ (sym (same_way (nat_eq c.value 0) no_block yes_block) ∙ ap (λ v. if nat_eq v 0 then no_block else yes_block) is)
-        (arrives_then w bs free r from second_code second _ ar ats
-        (db.by w l ar.regs c.value (holds_kept free free l r ar.regs w.globals (omega arith) h ar.kept) c.is))
+    after_first w l r v h true e ar = second_decides bs b yes_block no_block second free from second_code ats db w l r v h e ar
 
 pub conditional_decides : (bs : List RBlock) (k : IntegerType) (c a b : TypedExpression) (yes_block no_block y n free : ℕ) (from y_code n_code : Code)
     → Decides bs c free y n from → At bs y y_code → At bs n n_code → Decides bs a free yes_block no_block y_code

@@ -313,45 +313,45 @@ not_emits old mid new o k a b d free tr t after r prefix ib it truth last =
     told bs (unary U.Not k a) d tr.yes tr.no free (open_code from) after (not_tests k a) (truth.truth bs p.0)
     (not_decides bs k a tr.yes tr.no free (open_code from) (does bs p.1))) last')
 
+-- the size of `&&` and `||`, whose right operand is a block of its own and stands behind the left one
+logical_ends : (both : Bool) (k : IntegerType) (l r : TypedExpression) (t : Targets) (free block : ℕ)
+    → (condition_size r t.likely free).registers ≤ MAX_REGISTERS → Ends (condition_size l (left_targets both t block).likely free)
+    (condition_size (binary (logical_of both) k l r) t.likely free) ((condition_size r t.likely free).blocks + 1)
+logical_ends true k l r t free block room =
+    record { blocks = omega arith; registers = omega arith; room = λ le. omega (arith, le, room); globals = omega arith }
+logical_ends false k l r t free block room =
+    record { blocks = omega arith; registers = omega arith; room = λ le. omega (arith, le, room); globals = omega arith }
+
+left_within : (both : Bool) (t : Targets) (block blocks : ℕ) → block < blocks → (t.yes < blocks) × (t.no < blocks)
+    → ((left_targets both t block).yes < blocks) × ((left_targets both t block).no < blocks)
+left_within true t block blocks b h = (b, h.1)
+left_within false t block blocks b h = (h.0, b)
+
+logical_decides : (both : Bool) (bs : List RBlock) (k : IntegerType) (l r : TypedExpression) (t : Targets) (block free : ℕ) (from block_code : Code)
+    → Decides bs l free (left_targets both t block).yes (left_targets both t block).no from → At bs block block_code
+    → Decides bs r free t.yes t.no block_code → Decides bs (binary (logical_of both) k l r) free t.yes t.no from
+logical_decides true bs k l r t block free from block_code first at second = and_decides bs k l r t.yes t.no block free from block_code first at second
+logical_decides false bs k l r t block free from block_code first at second = or_decides bs k l r t.yes t.no block free from block_code first at second
+
 -- the branches of `&&` and `||`, the right operand of which is a block of its own
 pub logical_branches : (both : Bool) (b0 b1 new : List RBlock) (k : IntegerType) (l r : TypedExpression) (t t' : Targets) (free block : ℕ)
     (x : Result OpenBlock LowerFault) → t' ≡ left_targets both t block → EmitsBranchBlock r t free b0 b1 (Ok block)
     → EmitsBranch (condition_size l t'.likely free) l t' free b1 new x
     → EmitsBranch (condition_size (binary (logical_of both) k l r) t.likely free) (binary (logical_of both) k l r) t free b0 new x
-logical_branches true b0 b1 new k l r t t' free block x it second last' =
+logical_branches both b0 b1 new k l r t t' free block x it second last' =
     let last = subst (λ t. EmitsBranch (condition_size l t.likely free) l t free b1 new x) it last' in
     let c1 : length b1 ≡ length b0 + ((condition_size r t.likely free).blocks + 1) = second.count in
-    let room : (condition_size r t.likely free).registers ≤ MAX_REGISTERS = second.room in
-    ended (condition_size l t.likely free) (condition_size (binary B.LogicalAnd k l r) t.likely free) ((condition_size r t.likely free).blocks + 1) b0 b1 new
-    _ _ _ _ x
-    (record { blocks = omega arith; registers = omega arith; room = λ le. omega (arith, le, room); globals = omega arith })
-    second.grows c1
+    ended (condition_size l (left_targets both t block).likely free) (condition_size (binary (logical_of both) k l r) t.likely free)
+    ((condition_size r t.likely free).blocks + 1) b0 b1 new _ _ _ _ x (logical_ends both k l r t free block second.room) second.grows c1
     (λ from keeps s n g h.
     let right : globals_named r ≤ s.globals = omega (arith, h.0) in
     let left : globals_named l ≤ s.globals = omega (arith, h.0) in
     let b = second.sound s (within last.grows n) g (right, h.1) in
-    keeps s n b.0 (left, (b.1, h.1.1)))
+    keeps s n b.0 (left, left_within both t block s.blocks b.1 h.1))
     (λ from does bs h.
     let p = split2 bs b0 b1 new second.grows last.grows h in
     let d = second.does bs p.0 in
-    and_decides bs k l r t.yes t.no block free (open_code from) d.0 (does bs p.1) d.1 d.2) last
-logical_branches false b0 b1 new k l r t t' free block x it second last' =
-    let last = subst (λ t. EmitsBranch (condition_size l t.likely free) l t free b1 new x) it last' in
-    let c1 : length b1 ≡ length b0 + ((condition_size r t.likely free).blocks + 1) = second.count in
-    let room : (condition_size r t.likely free).registers ≤ MAX_REGISTERS = second.room in
-    ended (condition_size l t.likely free) (condition_size (binary B.LogicalOr k l r) t.likely free) ((condition_size r t.likely free).blocks + 1) b0 b1 new
-    _ _ _ _ x
-    (record { blocks = omega arith; registers = omega arith; room = λ le. omega (arith, le, room); globals = omega arith })
-    second.grows c1
-    (λ from keeps s n g h.
-    let right : globals_named r ≤ s.globals = omega (arith, h.0) in
-    let left : globals_named l ≤ s.globals = omega (arith, h.0) in
-    let b = second.sound s (within last.grows n) g (right, h.1) in
-    keeps s n b.0 (left, (h.1.0, b.1)))
-    (λ from does bs h.
-    let p = split2 bs b0 b1 new second.grows last.grows h in
-    let d = second.does bs p.0 in
-    or_decides bs k l r t.yes t.no block free (open_code from) d.0 (does bs p.1) d.1 d.2) last
+    logical_decides both bs k l r t block free (open_code from) d.0 (does bs p.1) d.1 d.2) last
 
 -- the block of its right operand is refused
 pub logical_stops : (both : Bool) (old new : List RBlock) (k : IntegerType) (l r : TypedExpression) (t : Targets) (free : ℕ) (f : LowerFault)
@@ -413,6 +413,13 @@ told_emits true old b0 new k l r t d free after x tr last =
 told_emits false old b0 new k l r t d free after x tr last =
     told_value old b0 new (binary B.LogicalOr k l r) t d free after x tr (or_tests k l r) (told_size false k l r free (joint after)) last
 
+-- two parts one behind the other, of which each names so many globals
+keeps_both : (old mid new : List RBlock) (Needs Middle Gives : Scope → Type 0) (a b : ℕ) → KeepsSound old mid (λ s. (b ≤ s.globals) × Needs s) Middle
+    → Grows mid new → KeepsSound mid new (λ s. (a ≤ s.globals) × Middle s) Gives → KeepsSound old new (λ s. (max a b ≤ s.globals) × Needs s) Gives
+keeps_both old mid new Needs Middle Gives a b first grows second s n g h =
+    let m = first s (within grows n) g (omega (arith, h.0), h.1) in
+    second s n m.0 (omega (arith, h.0), m.1)
+
 -- two operands
 pub both_emits : (old mid new : List RBlock) (l r : TypedExpression) (free p next q : ℕ) (waiting middle : OpenBlock) (x : Result OpenBlock LowerFault)
     → EmitsOperand r q next waiting old mid (Ok middle) → EmitsOperand l p free middle mid new x → EmitsBoth l r free p next q waiting old new x
@@ -421,11 +428,7 @@ both_emits old mid new l r free p next q waiting middle x second left =
     let room : value_registers r next ≤ MAX_REGISTERS = second.room in
     ended (value_size l free 1) (both_size l r free next) (value_blocks r 1) old mid new _ _ _ _ x
     (record { blocks = omega arith; registers = omega arith; room = λ le. omega (arith, le, room); globals = omega arith }) second.grows c1
-    (λ from keeps s n g h.
-    let right : globals_named r ≤ s.globals = omega (arith, h.0) in
-    let named : globals_named l ≤ s.globals = omega (arith, h.0) in
-    let m = second.sound s (within left.grows n) g (right, h.1) in
-    keeps s n m.0 (named, m.1))
+    (λ from keeps. keeps_both old mid new _ _ _ (globals_named l) (globals_named r) second.sound left.grows keeps)
     (λ from does bs h.
     let parts = split2 bs old mid new second.grows left.grows h in
     (open_code middle, does bs parts.1, second.does bs parts.0)) left
@@ -755,11 +758,7 @@ operands_emits old mid new all es e ps ps2 p free after middle x ia ip are rest 
     (ended (value_size e free 1) (values_size (e ∷ es) free) (arguments_blocks es) old mid new _ _ _ _ x
     (record { blocks = omega arith; registers = omega arith; room = λ le. omega (arith, le, room); globals = omega arith })
     rest.grows c1
-    (λ from keeps s n g h.
-    let later : globals_named_in es ≤ s.globals = omega (arith, h.0) in
-    let here : globals_named e ≤ s.globals = omega (arith, h.0) in
-    let m = rest.sound s (within one.grows n) g (later, h.1) in
-    keeps s n m.0 (here, m.1))
+    (λ from keeps. keeps_both old mid new _ _ _ (globals_named e) (globals_named_in es) rest.sound one.grows keeps)
     (λ from does bs h.
     let t = split2 bs old mid new rest.grows one.grows h in
     (open_code middle, does bs t.1, rest.does bs t.0)) one))

@@ -1,13 +1,17 @@
 -- Steps of a program of blocks, put together.
-use Rattle.std.proofs.Common.{◌≡◌, ◌≢◌, ℕ, suc, ◌+◌, ◌<◌, ◌≤◌, List, Option, Some, None, refl, ◌∙◌, ap, arith, eq-eqb, ne_eqb}
+use Rattle.std.proofs.Common.{◌≡◌, ◌≢◌, ℕ, suc, ◌+◌, ◌<◌, ◌≤◌, List, Option, Some, None, refl, sym, ◌∙◌, ap, arith, eq-eqb, ne_eqb}
 use Rattle.std.specs.Prelude.{slice_get, if◌then◌else◌}
 use Rattle.runs.specs.Stores.{Places, Arrays, places_with, chain}
 use Rattle.runs.specs.Runs.{Configuration, with_value}
 use Rattle.runs.proofs.Steps.{steps-add}
+use Rattle.words.specs.declared.sign.Sign.{Sign}
+use Rattle.c_tree.specs.declared.tree.BinaryOp.{BinaryOp}
+use Rattle.c_typed.specs.Values.{binary_of, binary_value}
 use Rattle.rtl.specs.Programs.{Program}
 use Rattle.rtl.specs.Meaning.{Code, Frame, Run, rtl_step, rtl_steps, state_at_block, code_of}
 use Rattle.rtl.specs.declared.block.RBlock.{RBlock}
 use Rattle.rtl_emit.specs.Blocks.{goto, Spot, Block, Line, line_of, Lands, At}
+use Rattle.rtl_emit.specs.Operations.{EvaluatesBoth}
 use Rattle.rtl_emit.specs.Runs.{at_code, Goes, Moves, Holds}
 
 pub goes_nowhere : (p : Program) (depth : ℕ) (s : Run) → Goes p depth s s
@@ -55,6 +59,21 @@ pub record Chained {A B : Type 0} (o : Option A) (f : A → Option B) (b : B) : 
 pub chained : {A B : Type 0} (o : Option A) (f : A → Option B) (b : B) → chain o f ≡ Some b → Chained o f b
 chained None f b e = cc
 chained (Some a) f b e = record { value = a; is = refl; then_is = e }
+
+-- the values of two operands that are both evaluated, the left one first
+pub record BothValued (o : BinaryOp) (s : Sign) (left right : Option ℕ) (v : ℕ) : Type 0 where
+  pub x : ℕ
+  pub y : ℕ
+  pub left_is : left ≡ Some x
+  pub right_is : right ≡ Some y
+  pub is : binary_of o s x y ≡ Some v
+
+pub both_valued : (o : BinaryOp) (s : Sign) (left right : Option ℕ) (v : ℕ) → EvaluatesBoth o s → binary_value o s left right ≡ Some v
+    → BothValued o s left right v
+both_valued o s left right v both e =
+    let a = chained left (λ x. chain right (λ y. binary_of o s x y)) v (sym (both left right) ∙ e) in
+    let b = chained right (λ y. binary_of o s a.value y) v a.then_is in
+    record { x = a.value; y = b.value; left_is = a.is; right_is = b.is; is = b.then_is }
 
 pub written_here : (r : Places) (t : ℕ) (v : Option ℕ) → places_with r t v t ≡ v
 written_here r t v = ap (λ c. if c then v else r t) (eq-eqb t t refl)

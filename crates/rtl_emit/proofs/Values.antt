@@ -12,7 +12,7 @@ use Rattle.c_tree.specs.declared.tree.BinaryOp.{BinaryOp}
 use Rattle.c_tree.specs.declared.tree.UnaryOp.{UnaryOp}
 use Rattle.c_tree.specs.declared.tree.UnaryOp.TheVariants as U
 use Rattle.c_typed.specs.Trees.{TypedExpression, constant, local, global, element, unary, binary}
-use Rattle.c_typed.specs.Values.{sign_of, unary_of, binary_of, value_of, values_of}
+use Rattle.c_typed.specs.Values.{sign_of, unary_of, value_of, values_of}
 use Rattle.c_typed.proofs.Values.{value-word}
 use Rattle.rtl.specs.declared.operator.Op.{Op}
 use Rattle.rtl.specs.declared.instruction.RInst.TheVariants as I
@@ -26,7 +26,7 @@ use Rattle.rtl_emit.specs.Expressions.{Reads, IsPlace, Evaluates, Fetches, Opera
 use Rattle.rtl_emit.specs.declared.operation.Combination.{Combination}
 use Rattle.rtl_emit.specs.declared.operation.Operation.{Operation}
 use Rattle.rtl_emit.specs.declared.place.Place.{Place}
-use Rattle.rtl_emit.proofs.Steps.{goes_nowhere, goes_then, goes_one, moves_one, moves_then, moves_after, goes_of, with_some, chained, written_here}
+use Rattle.rtl_emit.proofs.Steps.{goes_nowhere, goes_then, goes_one, moves_one, moves_then, moves_after, goes_of, with_some, chained, both_valued, written_here}
 use Rattle.rtl_emit.proofs.Steps.{written_other, holds_kept}
 
 -- places
@@ -174,13 +174,10 @@ pub operator_value : (bs : List RBlock) (o : BinaryOp) (k : IntegerType) (op : O
     → Computes o (sign_of k) op → Operates bs op a b free d from after → Evaluates bs (binary o k a b) free d from after
 operator_value bs o k op a b d free from after c o' = record {
   by = λ w l r v h e.
-      let s = sign_of k in
       let g = w.globals in
-      let both = sym (c.both (value_of a l g) (value_of b l g)) ∙ e in
-      let ca = chained (value_of a l g) (λ x. chain (value_of b l g) (λ y. binary_of o s x y)) v both in
-      let cb = chained (value_of b l g) (λ y. binary_of o s ca.value y) v ca.then_is in
-      o'.by w l r ca.value cb.value v h ca.is cb.is
-      (c.by ca.value cb.value v (value-word a l g h.locals h.globals ca.value ca.is) (value-word b l g h.locals h.globals cb.value cb.is) cb.then_is);
+      let t = both_valued o (sign_of k) (value_of a l g) (value_of b l g) v c.both e in
+      o'.by w l r t.x t.y v h t.left_is t.right_is
+      (c.by t.x t.y v (value-word a l g h.locals h.globals t.x t.left_is) (value-word b l g h.locals h.globals t.y t.right_is) t.is);
 }
 
 -- an operation at a value and a constant

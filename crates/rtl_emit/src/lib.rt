@@ -46,4 +46,5 @@ pub use block::{
 pub use expression::{condition, operand_into, operands_into, value_into};
 pub use fault::LowerFault;
 pub use place::{Place, place_of, places_of, register_of, registers_of, spare};
+pub use simple::number_of;
 pub use targets::Targets;

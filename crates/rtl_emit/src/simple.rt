@@ -10,7 +10,7 @@ use crate::block::{Continuation, OpenBlock, put_before, put_first};
 use crate::fault::LowerFault;
 use crate::place::{register_of, spare};
 use c_tokens::Literal;
-use rtl::{GlobalNumber, RInst, Register};
+use rtl::{RInst, Register};
 use std::alloc::Global;
 
 // What becomes of a value: the register that takes it, the first that is free, and where code goes on.
@@ -22,15 +22,15 @@ pub(crate) struct Aim {
     pub(crate) after: Continuation,
 }
 
-// The number of a global in RTL; a Limit where it has none.
-pub(crate) fn global_of(global: usize) -> Result<GlobalNumber, LowerFault>
-    ensures is { IfOk result (λ g. g ≡ global) }
-    ensures limit { IfErr result (λ f. f ≡ LowerFault.Limit → 2 ^ 32 < global + 1) }
+/// The number of a function or a global in RTL; a Limit where it has none.
+pub fn number_of(number: usize) -> Result<u32, LowerFault>
+    ensures is { IfOk result (λ r. r ≡ number) }
+    ensures limit { IfErr result (λ f. f ≡ LowerFault.Limit → 2 ^ 32 < number + 1) }
 {
-    if global > u32::MAX as usize {
+    if number > u32::MAX as usize {
         return Err(LowerFault::Limit);
     }
-    Ok(global as u32)
+    Ok(number as u32)
 }
 
 // A constant.
@@ -54,7 +54,7 @@ pub(crate) fn local_into(aim: Aim, number: usize) -> Result<OpenBlock, LowerFaul
 pub(crate) fn global_into(aim: Aim, number: usize) -> Result<OpenBlock, LowerFault>
     ensures { (bs : List RBlock) (k : IntegerType) → EmitsValue (global number k) aim.to aim.free (spot aim.after) bs bs result }
 {
-    let variable = global_of(number)?;
+    let variable = number_of(number)?;
     let index = spare(aim.free)?;
     let load = put_before(aim.alloc, RInst::Load(aim.to, variable, index), aim.after)?;
     let from = put_first(RInst::Const(index, 0), load)?;

@@ -16,7 +16,7 @@ use crate::block::{OpenBlock, leaving, put_before, put_first};
 use crate::fault::LowerFault;
 use crate::operation::{Combination, Operation, straight};
 use crate::place::{Place, place_of, spare};
-use crate::simple::{Aim, global_of};
+use crate::simple::{Aim, number_of};
 use crate::targets::Targets;
 use c_typed::TypedExpression;
 use rtl::{Op, RExit, RInst, Register};
@@ -49,7 +49,7 @@ pub(crate) fn load_at(
     ensures limit { IfErr result (λ f. f ≡ LowerFault.Limit
         → Beyond (place_registers (typed_expression_of index.now) aim.free) 0 (array + 1)) }
 {
-    let number = global_of(array)?;
+    let number = number_of(array)?;
     let place = place_of(index, aim.free)?;
     let load = RInst::Load(aim.to, number, place.register);
     let code = put_before(aim.alloc, load, aim.after)?;

@@ -15,7 +15,7 @@ use Rattle.rtl.specs.declared.limits.TheConstants.{MAX_REGISTERS, MAX_BLOCKS}
 use Rattle.rtl.specs.Meaning.{Code}
 use Rattle.rtl_emit.specs.Blocks.{Spot, Block, Line, Lands, Grows, Has, Reserves, Fills, open_code, exit_code, first, spot, line_of}
 use Rattle.rtl_emit.specs.Emits.{Size, Emits, value_size, condition_size, values_size, EmitsValue, EmitsOperand, EmitsBranch, EmitsOperands}
-use Rattle.rtl_emit.specs.Expressions.{IsPlace, AddPlaces}
+use Rattle.rtl_emit.specs.Expressions.{IsPlace, Fetches, AddPlaces}
 use Rattle.rtl_emit.specs.Sizes.{joint, place_registers, places_registers, next_free, value_registers, value_blocks, condition_blocks}
 use Rattle.rtl_emit.specs.Sound.{Scope, IsSound, IsSoundSpot, AreSound, KeepsSound}
 use Rattle.rtl_emit.specs.declared.block.OpenBlock.{OpenBlock}
@@ -33,6 +33,7 @@ use Rattle.rtl_lower.specs.Emits.{statement_size, statements_size, EmitsCode, Em
 use Rattle.rtl_lower.specs.Emits.{EmitsReceiver, turn_end, IsEnd, EndsTurn, turn_size, EmitsTurn}
 use Rattle.rtl_lower.specs.Sizes.{stays, is_equality, continues, receiver_blocks, statement_joint, statements_joint}
 use Rattle.rtl_lower.specs.Sizes.{statement_blocks, statements_blocks, statement_registers, statements_registers}
+use Rattle.rtl_lower.specs.Coded.{FetchesFirst}
 use Rattle.rtl_lower.specs.declared.context.Context.{Context}
 use Rattle.rtl_lower.specs.declared.simple.Receiver.{Receiver}
 use Rattle.rtl_lower.specs.declared.statement.Turn.{Turn}
@@ -45,43 +46,30 @@ use Rattle.rtl_lower.proofs.Spots.{comes_equal}
 meant : {A : Type 0} (size : Size) (old new : List RBlock) (Keeps Keeps' : A → Type 0) (Does Does' : A → List RBlock → Type 0)
     (r : Result A LowerFault) → ((x : A) → Keeps x → Keeps' x) → ((x : A) → Over old new (Does x) → Over old new (Does' x))
     → Emits size old new Keeps Does r → Emits size old new Keeps' Does' r
-meant size old new Keeps Keeps' Does Does' (Ok x) keeps does e = record {
-  grows = e.grows;
-  count = e.count;
-  room = e.room;
+meant size old new Keeps Keeps' Does Does' r keeps does e =
+    ended size size 0 old old new Keeps Keeps' Does Does' r
+    (record { blocks = omega arith; registers = omega arith; room = λ le. le; globals = omega arith }) (grows_same old) (omega arith) keeps does e
+
+-- what an Ok promises
+emitted : {A : Type 0} (size : Size) (old new : List RBlock) (Keeps : A → Type 0) (Does : A → List RBlock → Type 0) (x : A)
+    → Grows old new → length new ≡ length old + size.blocks → size.registers ≤ MAX_REGISTERS → Keeps x → Over old new (Does x)
+    → Emits size old new Keeps Does (Ok x)
+emitted size old new Keeps Does x grows count room keeps does = record {
+  grows = grows;
+  count = count;
+  room = room;
   limit = tt;
-  sound = keeps x e.sound;
-  does = does x e.does;
-}
-meant size old new Keeps Keeps' Does Does' (Err f) keeps does e = record {
-  grows = e.grows;
-  count = tt;
-  room = tt;
-  limit = e.limit;
-  sound = tt;
-  does = tt;
+  sound = keeps;
+  does = does;
 }
 
 -- code as what other code goes on at
 made_emits : (size : Size) (old new : List RBlock) (Keeps : Continuation → Type 0) (Does : Continuation → List RBlock → Type 0)
     (r : Result OpenBlock LowerFault) → Emits size old new (λ from. Keeps (Made from)) (λ from. Does (Made from)) r
     → Emits size old new Keeps Does (made_of r)
-made_emits size old new Keeps Does (Ok from) e = record {
-  grows = e.grows;
-  count = e.count;
-  room = e.room;
-  limit = tt;
-  sound = e.sound;
-  does = e.does;
-}
-made_emits size old new Keeps Does (Err f) e = record {
-  grows = e.grows;
-  count = tt;
-  room = tt;
-  limit = e.limit;
-  sound = tt;
-  does = tt;
-}
+made_emits size old new Keeps Does (Ok from) e = emitted size old new Keeps Does (Made from) e.grows e.count e.room e.sound e.does
+made_emits size old new Keeps Does (Err f) e = part_refused size size 0 old old new _ Keeps _ Does f (Err f) refl (omega arith) (omega arith) (omega arith)
+    (grows_same old) (omega arith) e
 
 -- a block that was sealed
 pub record Sealing (old new : List RBlock) (block : ℕ) (after : Spot) : Type 0 where
@@ -89,6 +77,18 @@ pub record Sealing (old new : List RBlock) (block : ℕ) (after : Spot) : Type 0
   pub count : length new ≡ length old + joint after
   pub sound : KeepsSound old new (λ s. IsSoundSpot s after) (λ s. block < s.blocks)
   pub lands : Joins old new block after
+
+-- code that first has a value in its place
+abbrev fetches_first : {bs : List RBlock} {free p next : ℕ} {e : TypedExpression} {rest : ℕ → Code} (from : OpenBlock) → IsPlace e free p next
+    → Fetches bs e free p (open_code from) (rest p) → FetchesFirst bs free e (Line (open_code from)) rest
+fetches_first {p = p} {next = next} from is_place value = record {
+  code = open_code from;
+  is = refl;
+  p = p;
+  next = next;
+  is_place = is_place;
+  value = value;
+}
 
 -- statements that go on behind themselves alone
 
@@ -133,16 +133,7 @@ variable_emits old new to x g e free p next z last middle after r it ig pl room 
     (λ from keeps p' n gives inside f s l g' h.
     let there = in_scope p' s _ _ h.0 refl f.0 in
     keeps s l g' (named p' s n e h.0 f.1, sound_first _ fm lt (sound_first _ fl (there, (lt, pl.within)) (sound_line _ h.1))))
-    (λ from does bs h leave next'. record {
-      code = open_code from;
-      is = refl;
-      p = p;
-      next = next;
-      z = z;
-      is_place = pl;
-      spare = omega (arith, iz);
-      value = finds_to code (does bs h);
-    }) o)
+    (λ from does bs h leave next'. record { z = z; fetches = fetches_first from pl (finds_to code (does bs h)); spare = omega (arith, iz) }) o)
 
 pub store_emits : (old mid new : List RBlock) (a a' : ℕ) (i e : TypedExpression) (free p next q last : ℕ) (code middle : OpenBlock) (after : Spot)
     (r : Result OpenBlock LowerFault) → a' ≡ a → IsPlace i free p next → place_registers i free ≤ MAX_REGISTERS → IsPlace e next q last
@@ -178,7 +169,7 @@ output_emits old mid new e free b p next end after r sealing pl room fe o =
     record {
       block = b;
       lands = sealing.lands bs sp.0;
-      leaves = record { code = open_code from; is = refl; p = p; next = next; is_place = pl; value = finds_to fe (does bs sp.1) };
+      leaves = fetches_first from pl (finds_to fe (does bs sp.1));
     }) o
 
 -- calls
@@ -259,14 +250,8 @@ call_emits old mid new to f f' es free x places0 places ps1 ps2 args end after r
 
 pub nothing_returned : (old : List RBlock) (given : Option TypedExpression) (free : ℕ) (code : OpenBlock) (after : Spot) → given ≡ None
     → open_code code ≡ exit_code (X.Return None) → EmitsCode (return_with given) free after old old (Ok code)
-nothing_returned old given free code after ig fe = subst (λ given. EmitsCode (return_with given) free after old old (Ok code)) (sym ig) (record {
-  grows = grows_same old;
-  count = omega arith;
-  room = omega arith;
-  limit = tt;
-  sound = λ p n gives inside f s l g h. (g, sound_exit _ fe tt);
-  does = λ bs h leave next. ap Line fe;
-})
+nothing_returned old given free code after ig fe = subst (λ given. EmitsCode (return_with given) free after old old (Ok code)) (sym ig)
+    (emitted _ old old _ _ _ (grows_same old) (omega arith) (omega arith) (λ p n gives inside f s l g h. (g, sound_exit _ fe tt)) (λ bs h leave next. ap Line fe))
 
 pub value_returned : (old new : List RBlock) (given : Option TypedExpression) (e : TypedExpression) (free p next : ℕ) (end : OpenBlock) (after : Spot)
     (r : Result OpenBlock LowerFault) → given ≡ Some e → IsPlace e free p next → place_registers e free ≤ MAX_REGISTERS
@@ -277,57 +262,27 @@ value_returned old new given e free p next end after r ig pl room fe o =
     (record { blocks = omega arith; registers = omega arith; room = λ le. omega (arith, le, room); globals = omega arith })
     (grows_same old) (omega arith)
     (λ from keeps p' n gives inside f s l g h. keeps s l g (named p' s n e h.0 f.1, sound_exit _ fe pl.within))
-    (λ from does bs h leave next'. record {
-      code = open_code from;
-      is = refl;
-      p = p;
-      next = next;
-      is_place = pl;
-      value = finds_to fe (does bs h);
-    }) o)
+    (λ from does bs h leave next'. fetches_first from pl (finds_to fe (does bs h))) o)
 
 -- statements that are no code of their own
 
 pub nothing_emits : (old : List RBlock) (s : Tree.TypedStatement) (c : Context) (after : Continuation)
     → (s ≡ Tree.Empty) ⊎ ((x : ℕ) × s ≡ Tree.Unset x) → EmitsStatement (statement_of s) c (spot after) old old (Ok after)
-nothing_emits old s c after (inl is) = subst (λ s. EmitsStatement (statement_of s) c (spot after) old old (Ok after)) (sym is) (record {
-  grows = grows_same old;
-  count = omega arith;
-  room = omega arith;
-  limit = tt;
-  sound = (refl, λ p n gives inside f s l g h. (g, h.1.1.1));
-  does = λ bs h. refl;
-})
-nothing_emits old s c after (inr is) = subst (λ s. EmitsStatement (statement_of s) c (spot after) old old (Ok after)) (sym is.1) (record {
-  grows = grows_same old;
-  count = omega arith;
-  room = omega arith;
-  limit = tt;
-  sound = (refl, λ p n gives inside f s l g h. (g, h.1.1.1));
-  does = λ bs h. refl;
-})
+nothing_emits old s c after (inl is) = subst (λ s. EmitsStatement (statement_of s) c (spot after) old old (Ok after)) (sym is)
+    (emitted _ old old _ _ _ (grows_same old) (omega arith) (omega arith) (refl, λ p n gives inside f s l g h. (g, h.1.1.1)) (λ bs h. refl))
+nothing_emits old s c after (inr is) = subst (λ s. EmitsStatement (statement_of s) c (spot after) old old (Ok after)) (sym is.1)
+    (emitted _ old old _ _ _ (grows_same old) (omega arith) (omega arith) (refl, λ p n gives inside f s l g h. (g, h.1.1.1)) (λ bs h. refl))
 
 pub break_emits : (old : List RBlock) (s : TypedStatement) (c : Context) (after : Spot) → s ≡ break_loop
     → EmitsStatement s c after old old (Ok (Jump c.leave))
-break_emits old s c after is = subst (λ s. EmitsStatement s c after old old (Ok (Jump c.leave))) (sym is) (record {
-  grows = grows_same old;
-  count = omega arith;
-  room = omega arith;
-  limit = tt;
-  sound = (refl, λ p n gives inside f s l g h. (g, h.1.0));
-  does = λ bs h. refl;
-})
+break_emits old s c after is = subst (λ s. EmitsStatement s c after old old (Ok (Jump c.leave))) (sym is)
+    (emitted _ old old _ _ _ (grows_same old) (omega arith) (omega arith) (refl, λ p n gives inside f s l g h. (g, h.1.0)) (λ bs h. refl))
 
 pub continue_emits : (old : List RBlock) (s : TypedStatement) (c : Context) (b : ℕ) (after : Spot) → s ≡ continue_loop → c.next ≡ Some b
     → EmitsStatement s c after old old (Ok (Jump b))
-continue_emits old s c b after is ib = subst (λ s. EmitsStatement s c after old old (Ok (Jump b))) (sym is) (record {
-  grows = grows_same old;
-  count = omega arith;
-  room = omega arith;
-  limit = tt;
-  sound = (refl, λ p n gives inside f s l g h. (g, subst (λ next. IfSome next (λ b. b < s.blocks)) ib h.1.1.0));
-  does = λ bs h. (b, ib, refl);
-})
+continue_emits old s c b after is ib = subst (λ s. EmitsStatement s c after old old (Ok (Jump b))) (sym is)
+    (emitted _ old old _ _ _ (grows_same old) (omega arith) (omega arith)
+    (refl, λ p n gives inside f s l g h. (g, subst (λ next. IfSome next (λ b. b < s.blocks)) ib h.1.1.0)) (λ bs h. (b, ib, refl)))
 
 -- lists of statements
 
@@ -338,14 +293,8 @@ block_emits old new s all c after r is e = subst (λ s. EmitsStatement s c after
 
 pub none_emits : (old : List RBlock) (all : TypedStatements) (c : Context) (after : Continuation) → all ≡ no_statements
     → EmitsStatements all c (spot after) old old (Ok after)
-none_emits old all c after is = subst (λ all. EmitsStatements all c (spot after) old old (Ok after)) (sym is) (record {
-  grows = grows_same old;
-  count = omega arith;
-  room = omega arith;
-  limit = tt;
-  sound = (refl, λ p n gives inside f s l g h. (g, h.1.1.1));
-  does = λ bs h. refl;
-})
+none_emits old all c after is = subst (λ all. EmitsStatements all c (spot after) old old (Ok after)) (sym is)
+    (emitted _ old old _ _ _ (grows_same old) (omega arith) (omega arith) (refl, λ p n gives inside f s l g h. (g, h.1.1.1)) (λ bs h. refl))
 
 pub more_emits : (old mid new : List RBlock) (all : TypedStatements) (s : TypedStatement) (rest : TypedStatements) (c : Context) (after : Spot)
     (middle : Continuation) (r : Result Continuation LowerFault) → all ≡ more_statements s rest → EmitsStatements rest c after old mid (Ok middle)
@@ -480,12 +429,11 @@ side_stops old new s c join f r is e =
     part_refused (statement_size s c.free 0) (side_size s c.free) 0 old old new _ _ _ _ f r is (omega arith) (omega arith) (omega arith) (grows_same old)
     (omega arith) e
 
-pub if_join_stops : (old new : List RBlock) (e : TypedExpression) (a b : TypedStatement) (c : Context) (after : Spot) (f : LowerFault)
-    (r : Result OpenBlock LowerFault) → r ≡ Err f → new ≡ old → (f ≡ Limit → MAX_BLOCKS < length old + joint after)
-    → EmitsStatement (if_else e a b) c after old new (made_of r)
-if_join_stops old new e a b c after f r is same limit =
-    refused (statement_size (if_else e a b) c.free (joint after)) old new _ _ f (made_of r) (ap made_of is) same
-    (λ l. let more = limit l in omega (arith, more))
+pub join_stops : (old new : List RBlock) (s : TypedStatement) (c : Context) (after : Spot) (f : LowerFault) (r : Result OpenBlock LowerFault) → r ≡ Err f
+    → new ≡ old → joint after ≤ statement_blocks s (joint after) → (f ≡ Limit → MAX_BLOCKS < length old + joint after)
+    → EmitsStatement s c after old new (made_of r)
+join_stops old new s c after f r is same few limit =
+    refused (statement_size s c.free (joint after)) old new _ _ f (made_of r) (ap made_of is) same (λ l. let more = limit l in omega (arith, more, few))
 
 pub if_first_stops : (b0 b1 b2 : List RBlock) (e : TypedExpression) (a b : TypedStatement) (c : Context) (join : ℕ) (after : Spot) (f : LowerFault)
     (r : Result OpenBlock LowerFault) → r ≡ Err f → Sealing b0 b1 join after → EmitsSide a c join b1 b2 (Err f)
@@ -613,19 +561,21 @@ loop_emits b0 b1 b2 b3 b4 b5 b6 e last body c inner many left head turn code top
           let sp = split3 bs b2 b3 b4 b5 turn_emits'.grows body_emits.grows test.grows h2 in
           let t = turn_emits'.does bs sp.0 in
           record {
-            leave = left;
-            left = sealing.lands bs (has_before bs b0 b1 b5 b6 head filled g15 (omega (arith, res.number)) f h);
-            next = turn.next;
-            body = head;
-            body_spot = spot code;
-            body_at = subst (λ c. Lands bs head (Line c)) ie (at_filled bs b0 b5 b6 head filled low (omega (arith, f.same_length, g25.longer)) f h);
-            turn = spot turn.after;
-            body_for = body_emits.does bs sp.1;
-            last_spot = t.from;
-            is_turn = t.is_turn;
-            bottom = t.bottom;
-            last_for = t.coded;
-            again = t.test;
+            blocks = record {
+              leave = left;
+              left = sealing.lands bs (has_before bs b0 b1 b5 b6 head filled g15 (omega (arith, res.number)) f h);
+              next = turn.next;
+              body = head;
+              body_spot = spot code;
+              body_at = subst (λ c. Lands bs head (Line c)) ie (at_filled bs b0 b5 b6 head filled low (omega (arith, f.same_length, g25.longer)) f h);
+              turn = spot turn.after;
+              body_for = body_emits.does bs sp.1;
+              last_spot = t.from;
+              is_turn = t.is_turn;
+              bottom = t.bottom;
+              last_for = t.coded;
+              again = t.test;
+            };
             top = open_code top;
             is = refl;
             test = test.does bs sp.2;
@@ -650,13 +600,6 @@ last_stops b0 b1 b2 e last c many again bottom f r is test part =
     (omega arith) (omega arith) test.grows test.count part
 
 -- and of a loop
-
-pub loop_join_stops : (old new : List RBlock) (e : TypedExpression) (last body : TypedStatement) (c : Context) (after : Spot) (f : LowerFault)
-    (r : Result OpenBlock LowerFault) → r ≡ Err f → new ≡ old → (f ≡ Limit → MAX_BLOCKS < length old + joint after)
-    → EmitsStatement (loop e last body) c after old new (made_of r)
-loop_join_stops old new e last body c after f r is same limit =
-    refused (statement_size (loop e last body) c.free (joint after)) old new _ _ f (made_of r) (ap made_of is) same
-    (λ l. let more = limit l in omega (arith, more))
 
 pub loop_head_stops : (b0 b1 b2 : List RBlock) (e : TypedExpression) (last body : TypedStatement) (c : Context) (left : ℕ) (after : Spot)
     (f : LowerFault) (r : Result OpenBlock LowerFault) → r ≡ Err f → Sealing b0 b1 left after → b2 ≡ b1

@@ -161,18 +161,23 @@ Seated bs Going from leave next c = Sits bs from c
 Seated bs Breaking from leave next c = Sits bs (Block leave) c
 Seated bs Continuing from leave next c = (b : ℕ) × (next ≡ Some b) × Sits bs (Block b) c
 
--- the blocks come to the next statement that takes a step
-pub record Settles (src : TypedProgram) (p : Program) (depth : ℕ) (bs : List RBlock) (n : ℕ) (r : Places) (d : Option ℕ) (ws : List Frame)
-    (g : Arrays) (out : List ℕ) (from : Code) (point : Point) : Type 0 where
-  pub code : Code
+-- code that is at a spot, from which it does what is to do
+pub record Stands (src : TypedProgram) (bs : List RBlock) (n : ℕ) (k : List Todo) (code : Code) : Type 0 where
   pub spot : Spot
   pub leave : ℕ
   pub next : Option ℕ
   pub targets : Targets bs leave next
-  pub goes : Goes p depth (at_code bs r from d ws g out) (at_code bs r code d ws g out)
   pub sits : Sits bs spot code
+  pub follows : Follows src bs n k leave next spot
+
+-- the blocks come to the next statement that takes a step
+pub record Settles (src : TypedProgram) (p : Program) (depth : ℕ) (bs : List RBlock) (n : ℕ) (r : Places) (d : Option ℕ) (ws : List Frame)
+    (g : Arrays) (out : List ℕ) (from : Code) (point : Point) : Type 0 where
+  pub code : Code
+  pub goes : Goes p depth (at_code bs r from d ws g out) (at_code bs r code d ws g out)
   pub holds : Holds n point.locals r g
-  pub follows : Follows src bs n point.todo leave next spot
+  pub stands : Stands src bs n point.todo code
+  pub open stands use *
 
 module _ (src : TypedProgram) (p : Program) (depth : ℕ) (bs : List RBlock) (n : ℕ) (r : Places) (d : Option ℕ) (ws : List Frame) (g : Arrays)
     (out : List ℕ) where
@@ -180,14 +185,9 @@ module _ (src : TypedProgram) (p : Program) (depth : ℕ) (bs : List RBlock) (n 
       → Holds n point.locals r g → Follows src bs n point.todo leave next spot → Settles src p depth bs n r d ws g out code point
   here code spot point leave next t s h f = record {
     code = code;
-    spot = spot;
-    leave = leave;
-    next = next;
-    targets = t;
     goes = goes_nowhere p depth _;
-    sits = s;
     holds = h;
-    follows = f;
+    stands = record { spot = spot; leave = leave; next = next; targets = t; sits = s; follows = f };
   }
 
   settles_from : (code : Code) (spot spot' : Spot) (point : Point) → Comes bs spot spot' → Sits bs spot code
@@ -195,18 +195,7 @@ module _ (src : TypedProgram) (p : Program) (depth : ℕ) (bs : List RBlock) (n 
   settles_from code spot spot' point c s k =
       let x = c.by code s p depth r d ws g out in
       let y = k x.0 x.1 in
-      record {
-        code = y.code;
-        spot = y.spot;
-        leave = y.leave;
-        next = y.next;
-        targets = y.targets;
-        goes = goes_then x.2 y.goes;
-        sits = y.sits;
-        holds =
-            y.holds;
-        follows = y.follows;
-      }
+      record { code = y.code; goes = goes_then x.2 y.goes; holds = y.holds; stands = y.stands }
 
   -- the last part of a loop, and the loop again
   settles_turn : (l : Places) (k : List Todo) (last again : TypedStatement) (leave : ℕ) (next : Option ℕ) (from spot : Spot) (code : Code)

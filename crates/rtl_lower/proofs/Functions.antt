@@ -24,7 +24,7 @@ use Rattle.rtl_emit.specs.Blocks.{Spot, Line, line_of, At, Reserves, Fills}
 use Rattle.rtl_emit.specs.Sound.{Scope, AreSound}
 use Rattle.rtl_lower.specs.Sound.{Suits}
 use Rattle.rtl_lower.specs.Correct.{KeepsRuns}
-use Rattle.rtl_lower.specs.Coded.{IsCodeOf, IsGlobalOf, AreCodesOf, AreGlobalsOf, CodedAll}
+use Rattle.rtl_lower.specs.Coded.{IsCodeOf, IsGlobalOf, ArePairs, AreCodesOf, AreGlobalsOf, CodedAll}
 use Rattle.rtl_lower.proofs.Statements.{MakesAll}
 use Rattle.rtl_lower.proofs.Simulation.{keeps_runs}
 
@@ -62,19 +62,12 @@ global_code g r iw il is = record {
 
 -- one after another
 
-codes_push : (fs : List TypedFunction) (rs : List RFunc) (f : TypedFunction) (r : RFunc) → AreCodesOf fs rs → IsCodeOf f r
-    → AreCodesOf (fs ++ f ∷ []) (rs ++ r ∷ [])
-codes_push [] [] f r m c = (c, tt)
-codes_push (x ∷ fs) (y ∷ rs) f r m c = (m.0, codes_push fs rs f r m.1 c)
-codes_push [] (y ∷ rs) f r m c = absurd m
-codes_push (x ∷ fs) [] f r m c = absurd m
-
-globals_push : (gs : List Global) (rs : List RGlobal) (g : Global) (r : RGlobal) → AreGlobalsOf gs rs → IsGlobalOf g r
-    → AreGlobalsOf (gs ++ g ∷ []) (rs ++ r ∷ [])
-globals_push [] [] g r m c = (c, tt)
-globals_push (x ∷ gs) (y ∷ rs) g r m c = (m.0, globals_push gs rs g r m.1 c)
-globals_push [] (y ∷ rs) g r m c = absurd m
-globals_push (x ∷ gs) [] g r m c = absurd m
+pairs_push : {A B : Type 0} (IsPair : A → B → Type 0) (xs : List A) (ys : List B) (x : A) (y : B) → ArePairs IsPair xs ys → IsPair x y
+    → ArePairs IsPair (xs ++ x ∷ []) (ys ++ y ∷ [])
+pairs_push IsPair [] [] x y m c = (c, tt)
+pairs_push IsPair (a ∷ xs) (b ∷ ys) x y m c = (m.0, pairs_push IsPair xs ys x y m.1 c)
+pairs_push IsPair [] (b ∷ ys) x y m c = absurd m
+pairs_push IsPair (a ∷ xs) [] x y m c = absurd m
 
 functions-append : (xs ys : List Function) → functions_of (xs ++ ys) ≡ functions_of xs ++ functions_of ys
 functions-append [] ys = refl
@@ -88,28 +81,21 @@ one_function all rs rs' i f r e lt is c m =
     let names : functions_of (take (i + 1) all) ≡ functions_of (take i all) ++ function_of f ∷ [] = ap functions_of cut
     ∙ functions-append (take i all) (f ∷ []) in
     subst (λ fs. AreCodesOf fs rs') (sym names) (subst (λ rs. AreCodesOf (functions_of (take i all) ++ function_of f ∷ []) rs) (sym e)
-    (codes_push (functions_of (take i all)) rs (function_of f) r m c))
+    (pairs_push IsCodeOf (functions_of (take i all)) rs (function_of f) r m c))
 
 pub one_global : (all : List Global) (rs rs' : List RGlobal) (i : ℕ) (g d : Global) (r : RGlobal) → rs' ≡ rs ++ r ∷ [] → i < length all → g ≡ get_or all i d
     → IsGlobalOf g r → AreGlobalsOf (take i all) rs → AreGlobalsOf (take (i + 1) all) rs'
 one_global all rs rs' i g d r e lt is c m =
     let n : i + 1 ≡ suc i = omega arith in
     let cut : take (i + 1) all ≡ take i all ++ g ∷ [] = ap (λ n. take n all) n ∙ take-suc all i d lt ∙ ap (λ x. take i all ++ x ∷ []) (sym is) in
-    subst (λ gs. AreGlobalsOf gs rs') (sym cut) (subst (λ rs. AreGlobalsOf (take i all ++ g ∷ []) rs) (sym e) (globals_push (take i all) rs g r m c))
+    subst (λ gs. AreGlobalsOf gs rs') (sym cut) (subst (λ rs. AreGlobalsOf (take i all ++ g ∷ []) rs) (sym e) (pairs_push IsGlobalOf (take i all) rs g r m c))
 
-pub codes_at : (fs : List TypedFunction) (rs : List RFunc) → AreCodesOf fs rs → (i : ℕ) (f : TypedFunction) → slice_get fs i ≡ Some f
-    → (r : RFunc) × (slice_get rs i ≡ Some r) × IsCodeOf f r
-codes_at [] rs m i f e = cc
-codes_at (x ∷ fs) (y ∷ rs) m zero f e = let is : x ≡ f = cc in (y, refl, subst (λ f. IsCodeOf f y) is m.0)
-codes_at (x ∷ fs) (y ∷ rs) m (suc i) f e = codes_at fs rs m.1 i f e
-codes_at (x ∷ fs) [] m i f e = absurd m
-
-globals_at : (gs : List Global) (rs : List RGlobal) → AreGlobalsOf gs rs → (i : ℕ) (g : Global) → slice_get gs i ≡ Some g
-    → (r : RGlobal) × (slice_get rs i ≡ Some r) × IsGlobalOf g r
-globals_at [] rs m i g e = cc
-globals_at (x ∷ gs) (y ∷ rs) m zero g e = let is : x ≡ g = cc in (y, refl, subst (λ g. IsGlobalOf g y) is m.0)
-globals_at (x ∷ gs) (y ∷ rs) m (suc i) g e = globals_at gs rs m.1 i g e
-globals_at (x ∷ gs) [] m i g e = absurd m
+pub pairs_at : {A B : Type 0} (IsPair : A → B → Type 0) (xs : List A) (ys : List B) → ArePairs IsPair xs ys → (i : ℕ) (x : A) → slice_get xs i ≡ Some x
+    → (y : B) × (slice_get ys i ≡ Some y) × IsPair x y
+pairs_at IsPair [] ys m i x e = cc
+pairs_at IsPair (a ∷ xs) (b ∷ ys) m zero x e = let is : a ≡ x = cc in (b, refl, subst (λ x. IsPair x b) is m.0)
+pairs_at IsPair (a ∷ xs) (b ∷ ys) m (suc i) x e = pairs_at IsPair xs ys m.1 i x e
+pairs_at IsPair (a ∷ xs) [] m i x e = absurd m
 
 firsts : (gs : List Global) (rs : List RGlobal) → AreGlobalsOf gs rs → map first_values rs ≡ map first_words gs
 firsts [] [] m = refl
@@ -123,8 +109,8 @@ pub program_code : (src : TypedProgram) (p : Program) → p.main ≡ src.main �
 program_code src p em fs gs well = keeps_runs src p
     (record {
       main = em;
-      functions = codes_at src.functions p.functions fs;
-      globals = globals_at src.globals p.globals gs;
+      functions = pairs_at IsCodeOf src.functions p.functions fs;
+      globals = pairs_at IsGlobalOf src.globals p.globals gs;
       first = firsts src.globals p.globals gs;
     })
     well

@@ -42,7 +42,7 @@ use Rattle.rtl_emit.proofs.Values.{taken, taken_all}
 use Rattle.rtl_lower.specs.Correct.{KeepsRuns}
 use Rattle.rtl_lower.specs.Coded.{Sits, put_code, Coded, Receives, IsCodeOf, IsCodeOfProgram}
 use Rattle.rtl_lower.proofs.Spots.{lands_sits, sits_there, lands_there, comes_join}
-use Rattle.rtl_lower.proofs.Follows.{Fits, Targets, Follows, there_coded, there_follows, follows_before, follows_all, follows_from, settles}
+use Rattle.rtl_lower.proofs.Follows.{Fits, Targets, Follows, Stands, there_coded, there_follows, follows_before, follows_all, follows_from, settles}
 
 -- the locals that are set are below a number, and in their registers
 abbrev pub Located : ℕ → Places → Places → Type 0
@@ -51,13 +51,9 @@ Located n l r = (x v : ℕ) → l x ≡ Some v → (x < n) × (r x ≡ Some v)
 -- a call of the source, and an activation that has come to some code
 pub record Matches (src : TypedProgram) (f : Src.Frame) (bs : List RBlock) (r : Places) (code : Code) : Type 0 where
   pub count : ℕ
-  pub leave : ℕ
-  pub next : Option ℕ
-  pub targets : Targets bs leave next
-  pub spot : Spot
-  pub sits : Sits bs spot code
+  pub stands : Stands src bs count f.todo code
+  pub open stands use *
   pub located : Located count f.locals r
-  pub follows : Follows src bs count f.todo leave next spot
 
 -- a call that waits for a result, which goes to a local or to a global variable
 pub record AwaitsLocal (src : TypedProgram) (x : ℕ) (to : Option ℕ) (f : Src.Frame) (a : Blk.Frame) : Type 0 where
@@ -240,13 +236,15 @@ module _ (src : TypedProgram) (p : Program) (ok : IsCodeOfProgram src p) (well :
       let fits = at-index (FitsFunction src) src.functions i f well.functions there in
       record {
         count = f.locals;
-        leave = 0;
-        next = None;
-        targets = record { leaves = (line_of c.entry, c.entry_at); continues = λ b e. cc };
-        spot = c.entry;
-        sits = sits_there r.blocks.items c.entry;
+        stands = record {
+          spot = c.entry;
+          leave = 0;
+          next = None;
+          targets = record { leaves = (line_of c.entry, c.entry_at); continues = λ b e. cc };
+          sits = sits_there r.blocks.items c.entry;
+          follows = follows_all src r.blocks.items f.locals f.body [] 0 None c.entry (Line c.after) c.body _ _ fits.body tt;
+        };
         located = loc;
-        follows = follows_all src r.blocks.items f.locals f.body [] 0 None c.entry (Line c.after) c.body _ _ fits.body tt;
       }
 
   -- a call of a function that begins
@@ -313,14 +311,9 @@ module _ (src : TypedProgram) (p : Program) (ok : IsCodeOfProgram src p) (well :
         is = refl;
         top = record {
           count = top.count;
-          leave = top.leave;
-          next = top.next;
-          targets = top.targets;
-          spot = top.spot;
-          sits = top.sits;
+          stands = top.stands;
           located = located_assigned top.count f.locals a.registers r' x v w.low top.located (written_here a.registers x (Some v))
               (λ y lt ne. written_other a.registers x (Some v) y ne);
-          follows = top.follows;
         };
         below = m.1;
       })
@@ -341,16 +334,11 @@ module _ (src : TypedProgram) (p : Program) (ok : IsCodeOfProgram src p) (well :
         is = refl;
         top = record {
           count = top.count;
-          leave = top.leave;
-          next = top.next;
-          targets = top.targets;
-          spot = top.spot;
-          sits = top.sits;
+          stands = top.stands;
           located = located_kept top.count f.locals a.registers r2 top.located (λ y lt.
               let nz : y ≢ w.z = omega (arith, w.low, w.apart) in
               let nt : y ≢ w.t = omega (arith, w.low) in
               written_other r1 w.z (Some 0) y nz ∙ written_other a.registers w.t (Some v) y nt);
-          follows = top.follows;
         };
         below = m.1;
       })))
@@ -369,6 +357,10 @@ module _ (src : TypedProgram) (p : Program) (ok : IsCodeOfProgram src p) (well :
         let y = taken around bs e n q next_free from to l r v pl f h is in
         advance_after src p depth _ (at_code bs y.regs to d ws g out) _ y.goes (k v is y.regs y.value y.kept y.held))
 
+    stands_at : (k : List Todo) (leave : ℕ) (next : Option ℕ) (spot : Spot) (code : Code) → Targets bs leave next → Sits bs spot code
+        → Follows src bs n k leave next spot → Stands src bs n k code
+    stands_at k leave next spot code t s f = record { spot = spot; leave = leave; next = next; targets = t; sits = s; follows = f }
+
     matches : (l' r' : Places) (k : List Todo) (leave : ℕ) (next : Option ℕ) (spot : Spot) (code : Code) (g' : Arrays) (out' : List ℕ)
         → Targets bs leave next → Sits bs spot code → Located n l' r' → Follows src bs n k leave next spot
         → MatchRun src (Running (record { locals = l'; todo = k; result_to = place } ∷ fs) g' out') (at_code bs r' code d ws g' out')
@@ -376,7 +368,7 @@ module _ (src : TypedProgram) (p : Program) (ok : IsCodeOfProgram src p) (well :
       a = record { blocks = bs; registers = r'; code = code; result_to = d };
       ws = ws;
       is = refl;
-      top = record { count = n; leave = leave; next = next; targets = t; spot = spot; sits = s; located = h'; follows = f };
+      top = record { count = n; stands = stands_at k leave next spot code t s f; located = h' };
       below = m;
     }
 
@@ -425,16 +417,7 @@ module _ (src : TypedProgram) (p : Program) (ok : IsCodeOfProgram src p) (well :
           th.1,
           (
             re.0,
-            record {
-              count = n;
-              leave = leave;
-              next = next;
-              targets = t;
-              spot = after;
-              sits = lands_sits goes_on after th.0 re.1 th.1;
-              located = h';
-              follows = f;
-            },
+            record { count = n; stands = stands_at k leave next after th.0 t (lands_sits goes_on after th.0 re.1 th.1) f; located = h' },
           ),
         )
     waits l' r' (Some (Local x)) to goes_on after k leave next re ft h' t f =
@@ -443,17 +426,7 @@ module _ (src : TypedProgram) (p : Program) (ok : IsCodeOfProgram src p) (well :
           th.1,
           record {
             is = re.0;
-            match = record {
-              count = n;
-              leave = leave;
-              next = next;
-              targets = t;
-              spot = after;
-              sits =
-                  lands_sits goes_on after th.0 re.1 th.1;
-              located = h';
-              follows = f;
-            };
+            match = record { count = n; stands = stands_at k leave next after th.0 t (lands_sits goes_on after th.0 re.1 th.1) f; located = h' };
             low = ft;
           },
         )
@@ -466,7 +439,7 @@ module _ (src : TypedProgram) (p : Program) (ok : IsCodeOfProgram src p) (well :
         is = re.is;
         code = line_of after;
         there = refl;
-        match = record { count = n; leave = leave; next = next; targets = t; spot = after; sits = sits_there bs after; located = h'; follows = f };
+        match = record { count = n; stands = stands_at k leave next after (line_of after) t (sits_there bs after) f; located = h' };
         low = re.low;
         apart = re.apart;
         global = ft;
@@ -534,19 +507,7 @@ module _ (src : TypedProgram) (p : Program) (ok : IsCodeOfProgram src p) (well :
         let left_there = lands_there c.leave after c.left (there_follows src bs n k leave next after t f) in
         let last_there = there_coded bs n last leave next c.last_spot (Line c.bottom) t c.last_for tt in
         let again : Coded bs n (loop e last body) leave next (Line c.bottom) after = record {
-          leave = c.leave;
-          left = c.left;
-          next = c.next;
-          body = c.body;
-          body_spot = c.body_spot;
-          body_at = c.body_at;
-          turn = c.turn;
-          body_for = c.body_for;
-          last_spot = c.last_spot;
-          is_turn = c.is_turn;
-          bottom = c.bottom;
-          last_for = c.last_for;
-          again = c.again;
+          blocks = c.blocks;
           top = c.bottom;
           is = refl;
           test = c.again;

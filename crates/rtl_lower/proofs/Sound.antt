@@ -30,7 +30,7 @@ use Rattle.rtl_lower.specs.Coded.{IsCodeOf, AreCodesOf, AreGlobalsOf}
 use Rattle.rtl_lower.specs.Sizes.{HaveRoom, function_blocks}
 use Rattle.rtl_lower.specs.Sound.{Suits}
 use Rattle.rtl_lower.proofs.Fitted.{expression_numbers, list_numbers}
-use Rattle.rtl_lower.proofs.Functions.{codes_at}
+use Rattle.rtl_lower.proofs.Functions.{pairs_at}
 
 -- expressions
 
@@ -140,7 +140,7 @@ functions_are p rs globals callees gs (f ∷ fs) [] m a = absurd m
 
 callee_of : (fs : List TypedFunction) (rs : List RFunc) → AreCodesOf fs rs → (i : ℕ) (f : TypedFunction) → slice_get fs i ≡ Some f
     → IsCallee rs i f.parameters
-callee_of fs rs m i f e = let r = codes_at fs rs m i f e in record { callee = r.0; there = r.1; takes = r.2.parameters }
+callee_of fs rs m i f e = let r = pairs_at IsCodeOf fs rs m i f e in record { callee = r.0; there = r.1; takes = r.2.parameters }
 
 -- a program of RTL
 

@@ -50,15 +50,20 @@ pub record IsAssign (bs : List RBlock) (free x : ℕ) (e : TypedExpression) (fro
 abbrev pub put_code : (g z p : ℕ) → Code → Code
 put_code g z p after = first (I.Const z 0) (first (I.Store g z p) after)
 
-pub record IsPut (bs : List RBlock) (free g : ℕ) (e : TypedExpression) (from after : Spot) : Type 0 where
+-- code that first has a value in its place
+pub record FetchesFirst (bs : List RBlock) (free : ℕ) (e : TypedExpression) (from : Spot) (rest : (p : ℕ) → Code) : Type 0 where
   pub code : Code
   pub is : from ≡ Line code
   pub p : ℕ
   pub next : ℕ
-  pub z : ℕ
   pub is_place : IsPlace e free p next
-  pub spare : next ≤ z
-  pub value : Fetches bs e free p code (put_code g z p (line_of after))
+  pub value : Fetches bs e free p code (rest p)
+
+pub record IsPut (bs : List RBlock) (free g : ℕ) (e : TypedExpression) (from after : Spot) : Type 0 where
+  pub z : ℕ
+  pub fetches : FetchesFirst bs free e from (λ p. put_code g z p (line_of after))
+  pub open fetches use *
+  pub spare : fetches.next ≤ z
 
 pub record IsStore (bs : List RBlock) (free a : ℕ) (i e : TypedExpression) (from after : Spot) : Type 0 where
   pub code : Code
@@ -74,13 +79,8 @@ pub record IsStore (bs : List RBlock) (free a : ℕ) (i e : TypedExpression) (fr
   pub value : Fetches bs e next q middle (first (I.Store a p q) (line_of after))
 
 -- an exit by a value
-pub record Leaves (bs : List RBlock) (free : ℕ) (e : TypedExpression) (from : Spot) (exit : ℕ → RExit) : Type 0 where
-  pub code : Code
-  pub is : from ≡ Line code
-  pub p : ℕ
-  pub next : ℕ
-  pub is_place : IsPlace e free p next
-  pub value : Fetches bs e free p code (exit_code (exit p))
+abbrev pub Leaves : List RBlock → (free : ℕ) → TypedExpression → (from : Spot) → (exit : ℕ → RExit) → Type 0
+Leaves bs free e from exit = FetchesFirst bs free e from (λ p. exit_code (exit p))
 
 -- an exit by a value that goes on at a block
 pub record Exits (bs : List RBlock) (free : ℕ) (e : TypedExpression) (from : Spot) (exit : (p block : ℕ)
@@ -142,9 +142,9 @@ pub record IsTurn (bs : List RBlock) (next : Option ℕ) (turn last : Spot) : Ty
   pub comes : Comes bs turn last
   pub continues : (b : ℕ) → next ≡ Some b → Lands bs b last
 
--- a loop whose test stands before it and behind its last part
-pub record IsLoop (bs : List RBlock) (free : ℕ) (e : TypedExpression) (ForLast : Spot → Spot → Type 0)
-    (ForBody : (leave : ℕ) (next : Option ℕ) → Spot → Spot → Type 0) (from after : Spot) : Type 0 where
+-- a loop's body, and its last part with the test behind it
+pub record LoopBlocks (bs : List RBlock) (free : ℕ) (e : TypedExpression) (ForLast : Spot → Spot → Type 0)
+    (ForBody : (leave : ℕ) (next : Option ℕ) → Spot → Spot → Type 0) (after : Spot) : Type 0 where
   pub leave : ℕ
   pub left : Lands bs leave after
   pub next : Option ℕ
@@ -158,9 +158,15 @@ pub record IsLoop (bs : List RBlock) (free : ℕ) (e : TypedExpression) (ForLast
   pub bottom : Code
   pub last_for : ForLast last_spot (Line bottom)
   pub again : Decides bs e free body leave bottom
+
+-- a loop whose test stands before it, too
+pub record IsLoop (bs : List RBlock) (free : ℕ) (e : TypedExpression) (ForLast : Spot → Spot → Type 0)
+    (ForBody : (leave : ℕ) (next : Option ℕ) → Spot → Spot → Type 0) (from after : Spot) : Type 0 where
+  pub blocks : LoopBlocks bs free e ForLast ForBody after
+  pub open blocks use *
   pub top : Code
   pub is : from ≡ Line top
-  pub test : Decides bs e free body leave top
+  pub test : Decides bs e free blocks.body blocks.leave top
 
 -- the code from here on is that of a statement, and goes on there; `break` leads to one block, and `continue` to
 -- another
@@ -212,15 +218,15 @@ pub record IsCodeOfProgram (s : TypedProgram) (p : Program) : Type 0 where
   pub globals : (i : ℕ) (g : Global) → slice_get s.globals i ≡ Some g → (r : RGlobal) × (slice_get p.globals i ≡ Some r) × IsGlobalOf g r
   pub first : map first_values p.globals ≡ map first_words s.globals
 
--- one after another
+-- two lists of one length, each item of the first with the one at its place in the second
+abbrev pub ArePairs : {A B : Type 0} → (A → B → Type 0) → List A → List B → Type 0
+ArePairs IsPair [] [] = Unit {0}
+ArePairs IsPair (x ∷ xs) (y ∷ ys) = IsPair x y × ArePairs IsPair xs ys
+ArePairs IsPair [] (y ∷ ys) = ⊥
+ArePairs IsPair (x ∷ xs) [] = ⊥
+
 abbrev pub AreCodesOf : List TypedFunction → List RFunc → Type 0
-AreCodesOf [] [] = Unit {0}
-AreCodesOf (f ∷ fs) (r ∷ rs) = IsCodeOf f r × AreCodesOf fs rs
-AreCodesOf [] (r ∷ rs) = ⊥
-AreCodesOf (f ∷ fs) [] = ⊥
+AreCodesOf fs rs = ArePairs IsCodeOf fs rs
 
 abbrev pub AreGlobalsOf : List Global → List RGlobal → Type 0
-AreGlobalsOf [] [] = Unit {0}
-AreGlobalsOf (g ∷ gs) (r ∷ rs) = IsGlobalOf g r × AreGlobalsOf gs rs
-AreGlobalsOf [] (r ∷ rs) = ⊥
-AreGlobalsOf (g ∷ gs) [] = ⊥
+AreGlobalsOf gs rs = ArePairs IsGlobalOf gs rs

@@ -1,5 +1,5 @@
 // Where a statement stands.
-ghost use Rattle.std.specs.Prelude.{◌≡◌, ◌+◌, ◌<◌, ◌^◌, IfOk, IfErr};
+ghost use Rattle.std.specs.Prelude.{◌≡◌};
 ghost use Rattle.rtl_lower.specs.Emits.{made_of};
 
 use rtl::{BlockNumber, Register};
@@ -37,15 +37,4 @@ pub(crate) fn made(code: Result<OpenBlock, LowerFault>) -> Result<Continuation, 
         Ok(code) => Ok(Continuation::Made(code)),
         Err(fault) => Err(fault),
     }
-}
-
-// A number of RTL; a Limit where it has none.
-pub(crate) fn number(n: usize) -> Result<u32, LowerFault>
-    ensures is { IfOk result (λ r. r ≡ n) }
-    ensures limit { IfErr result (λ f. f ≡ LowerFault.Limit → 2 ^ 32 < n + 1) }
-{
-    if n > u32::MAX as usize {
-        return Err(LowerFault::Limit);
-    }
-    Ok(n as u32)
 }

@@ -28,16 +28,16 @@ fn functions(alloc: Global, all: &[Function]) -> Result<Vec<RFunc>, LowerFault>
     let mut lowered = Vec::with_capacity(alloc, all.len())?;
     for f in all {
         let next = function(alloc, f)?;
-        put_function(&mut lowered, next)?;
+        put(&mut lowered, next)?;
     }
     Ok(lowered)
 }
 
-// One more function.
-fn put_function(functions: &mut Vec<RFunc>, next: RFunc) -> Result<(), AllocError>
-    ensures { OnOk result (functions.new.items ≡ functions.old.items ++ next ∷ []) }
+// One more function, or global.
+fn put<T: Drop>(all: &mut Vec<T>, next: T) -> Result<(), AllocError>
+    ensures { OnOk result (all.new.items ≡ all.old.items ++ next ∷ []) }
 {
-    functions.push(next)?;
+    all.push(next)?;
     Ok(())
 }
 
@@ -49,17 +49,9 @@ fn globals(alloc: Global, all: &[TypedGlobal]) -> Result<Vec<RGlobal>, LowerFaul
     let mut lowered = Vec::with_capacity(alloc, all.len())?;
     for g in all {
         let next = global(alloc, *g)?;
-        put_global(&mut lowered, next)?;
+        put(&mut lowered, next)?;
     }
     Ok(lowered)
-}
-
-// One more global.
-fn put_global(globals: &mut Vec<RGlobal>, next: RGlobal) -> Result<(), AllocError>
-    ensures { OnOk result (globals.new.items ≡ globals.old.items ++ next ∷ []) }
-{
-    globals.push(next)?;
-    Ok(())
 }
 
 /// The program of RTL that does what the source does: wherever the source isn't wrong, it comes to the same end and output.

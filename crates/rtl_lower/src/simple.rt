@@ -5,12 +5,12 @@ ghost use Rattle.c_typed.specs.Trees.{assign, store, call, output, return_with};
 ghost use Rattle.rtl_emit.specs.Blocks.{Spot, spot};
 ghost use Rattle.rtl_lower.specs.Emits.{EmitsCode, EmitsReceiver};
 
-use crate::context::{Context, number};
+use crate::context::Context;
 use c_typed::{Destination, TypedExpression};
 use rtl::{BlockNumber, RBlock, RExit, RInst, Register};
 use rtl_emit::{
-    Continuation, LowerFault, OpenBlock, leaving, operand_into, operands_into, place_of, places_of,
-    put_before, put_first, register_of, registers_of, sealed, spare, value_into,
+    Continuation, LowerFault, OpenBlock, leaving, number_of, operand_into, operands_into, place_of,
+    places_of, put_before, put_first, register_of, registers_of, sealed, spare, value_into,
 };
 
 // The value of an expression to a local or a global variable.
@@ -29,7 +29,7 @@ pub(crate) fn assignment(
             value_into(context.alloc, blocks, e, local, context.free, after)
         }
         Destination::Global(x) => {
-            let global = number(x)?;
+            let global = number_of(x)?;
             let place = place_of(e, context.free)?;
             let index = spare(place.free)?;
             let store = RInst::Store(global, index, place.register);
@@ -59,7 +59,7 @@ pub(crate) fn element_store(
     ensures { EmitsCode (store array (typed_expression_of index.now) (typed_expression_of e.now)) context.free (spot after)
         blocks.old.items blocks.new.items result }
 {
-    let global = number(array)?;
+    let global = number_of(array)?;
     let index_place = place_of(index, context.free)?;
     let value = place_of(e, index_place.free)?;
     let store = RInst::Store(global, index_place.register, value.register);
@@ -127,7 +127,7 @@ fn receiver_of(
             })
         }
         Some(Destination::Global(x)) => {
-            let global = number(x)?;
+            let global = number_of(x)?;
             let result = spare(context.free)?;
             let index = spare(result + 1)?;
             let store = RInst::Store(global, index, result);
@@ -154,7 +154,7 @@ pub(crate) fn called(
     ensures { EmitsCode (call to function (typed_expressions_of arguments.now)) context.free (spot after)
         blocks.old.items blocks.new.items result }
 {
-    let callee = number(function)?;
+    let callee = number_of(function)?;
     let receiver = receiver_of(context, blocks, to, after)?;
     let mut places = Vec::new(context.alloc);
     places_of(arguments, context.free, &mut places)?;

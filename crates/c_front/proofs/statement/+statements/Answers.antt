@@ -1,6 +1,7 @@
-use Rattle.std.proofs.Common.{rules, arith, ◌≡◌, ◌<◌, ◌≤◌, ◌∷◌, [], length, Bool, true, false, ap, refl, ◌∙◌}
+use Rattle.std.proofs.Common.{rules, arith, ◌≡◌, ◌<◌, ◌≤◌, List, ◌∷◌, [], length, Bool, true, false, ap, refl, ◌∙◌}
 use Rattle.c_tokens.specs.declared.token.Token.{Token}
 use Rattle.c_tokens.specs.declared.token.Token.TheVariants.{The}
+use Rattle.c_tokens.specs.declared.token.Mark.{Mark}
 use Rattle.c_tokens.specs.declared.token.Mark.TheVariants.{LeftBrace, RightBrace, Semicolon, While, For}
 use Rattle.c_front.specs.Grammar.{a_statement, an_item, declared, items, simple, first}
 use Rattle.c_front.specs.Choosing.{EndsItems}
@@ -16,11 +17,14 @@ use Rattle.c_front.proofs.StatementPaths.{no-statement, no-mark, if_then-first-s
 use Rattle.c_front.proofs.StatementPaths.{if_then-alone-read, if_then-else-read, declare-read, declare-name-stuck, declare-value-stuck, item-statement-read}
 use Rattle.c_front.proofs.StatementPaths.{item-statement-stuck, goes-on-items-more, items-end-read, items-item-stuck, while-read, while-test-stuck}
 use Rattle.c_front.proofs.StatementPaths.{while-body-stuck, for-read, for-head-stuck, for-body-stuck}
-use Rattle.c_front.proofs.Steps.{moved-read, moved-stuck}
 use Rattle.c_front.proofs.statement.+statements.Goals as goal
 
 test-differs : (b : Bool) → b ≡ true → b ≡ false → ⊥
 test-differs b e f = cc
+
+-- tokens that begin with a mark
+begins-with : {ts rest : List Token} {t : Token} {m n : Mark} → ts ≡ t ∷ rest → t ≡ The m → m ≡ n → ts ≡ The n ∷ rest
+begins-with some is mark = cc
 
 pub item-returns-in_err-name-in-Some-clause-err : goal.item-returns-in_err-name-in-Some-clause-err
 item-returns-in_err-name-in-Some-clause-err t c = let h : IsStuck an_item c.args.tokens.now c.in_err-name-in-Some.field-0.0 =
@@ -159,40 +163,22 @@ statement-returns-in-If-clause-err t c =
     c.if_then.ensures.err
 
 pub statement-returns-in-While-clause-ok : goal.statement-returns-in-While-clause-ok
-statement-returns-in-While-clause-ok t c =
-    IfOk-weaker c.while_loop.result _ _ (λ r d. moved-read a_statement _ _ _ _ _
-    (c.in-Some.ensures.some ∙ ap (λ (x : Token). x ∷ c.in-Some.rest.now) (c.in-The.is ∙ ap The c.in-While.is)) d)
-    c.while_loop.ensures.ok
+statement-returns-in-While-clause-ok t c = rw (begins-with c.in-Some.ensures.some c.in-The.is c.in-While.is) c.while_loop.ensures.ok
 
 pub statement-returns-in-While-clause-err : goal.statement-returns-in-While-clause-err
-statement-returns-in-While-clause-err t c =
-    IfErr-weaker c.while_loop.result _ _ (λ s h. moved-stuck a_statement _ _ _ _
-    (c.in-Some.ensures.some ∙ ap (λ (x : Token). x ∷ c.in-Some.rest.now) (c.in-The.is ∙ ap The c.in-While.is)) h)
-    c.while_loop.ensures.err
+statement-returns-in-While-clause-err t c = rw (begins-with c.in-Some.ensures.some c.in-The.is c.in-While.is) c.while_loop.ensures.err
 
 pub statement-returns-in-For-clause-ok : goal.statement-returns-in-For-clause-ok
-statement-returns-in-For-clause-ok t c =
-    IfOk-weaker c.for_loop.result _ _ (λ r d. moved-read a_statement _ _ _ _ _
-    (c.in-Some.ensures.some ∙ ap (λ (x : Token). x ∷ c.in-Some.rest.now) (c.in-The.is ∙ ap The c.in-For.is)) d)
-    c.for_loop.ensures.ok
+statement-returns-in-For-clause-ok t c = rw (begins-with c.in-Some.ensures.some c.in-The.is c.in-For.is) c.for_loop.ensures.ok
 
 pub statement-returns-in-For-clause-err : goal.statement-returns-in-For-clause-err
-statement-returns-in-For-clause-err t c =
-    IfErr-weaker c.for_loop.result _ _ (λ s h. moved-stuck a_statement _ _ _ _
-    (c.in-Some.ensures.some ∙ ap (λ (x : Token). x ∷ c.in-Some.rest.now) (c.in-The.is ∙ ap The c.in-For.is)) h)
-    c.for_loop.ensures.err
+statement-returns-in-For-clause-err t c = rw (begins-with c.in-Some.ensures.some c.in-The.is c.in-For.is) c.for_loop.ensures.err
 
 pub statement-returns-in-Jump-clause-ok : goal.statement-returns-in-Jump-clause-ok
-statement-returns-in-Jump-clause-ok t c =
-    IfOk-weaker c.jump.result _ _ (λ r d. moved-read a_statement _ _ _ _ _
-    (c.in-Some.ensures.some ∙ ap (λ (x : Token). x ∷ c.in-Some.rest.now) c.in-Jump.is) d)
-    c.jump.ensures.ok
+statement-returns-in-Jump-clause-ok t c = rw (c.in-Some.ensures.some ∙ ap (λ (x : Token). x ∷ c.in-Some.rest.now) c.in-Jump.is) c.jump.ensures.ok
 
 pub statement-returns-in-Jump-clause-err : goal.statement-returns-in-Jump-clause-err
-statement-returns-in-Jump-clause-err t c =
-    IfErr-weaker c.jump.result _ _ (λ s h. moved-stuck a_statement _ _ _ _
-    (c.in-Some.ensures.some ∙ ap (λ (x : Token). x ∷ c.in-Some.rest.now) c.in-Jump.is) h)
-    c.jump.ensures.err
+statement-returns-in-Jump-clause-err t c = rw (c.in-Some.ensures.some ∙ ap (λ (x : Token). x ∷ c.in-Some.rest.now) c.in-Jump.is) c.jump.ensures.err
 
 pub items-returns-in_err-rest-clause-err : goal.items-returns-in_err-rest-clause-err
 items-returns-in_err-rest-clause-err t c =

@@ -1,10 +1,10 @@
 use Rattle.std.proofs.Common.{rules}
 use Rattle.c_statements.specs.Types.{no_part, some_part}
-use Rattle.c_statements.proofs.Joins.{answers-as}
+use Rattle.c_statements.proofs.Joins.{answers-as, answers-ok}
 use Rattle.c_statements.proofs.simple.part.Goals as goal
 
 pub returns-in-None : goal.returns-in-None
-returns-in-None c = record { ok = rw c.in-None.is no_part; none = search rules; err = tt }
+returns-in-None c = answers-ok (rw c.in-None.is no_part) (search rules)
 
 pub returns-in-Some : goal.returns-in-Some
 returns-in-Some c = rw c.in-Some.is (answers-as (λ t h. some_part h) c.simple.ensures)

@@ -9,10 +9,10 @@ use Rattle.rtl_lower.proofs.program.functions.Goals as goal
 
 pub loop-f-preserved : goal.loop-f-preserved
 loop-f-preserved c = (
-  one_function c.args.all.now c.loop-f.lowered.items c.put_function.new.functions.items c.loop-f.f-index c.f-item.result c.in_ok-next.next
-      c.in_ok-put_function.ensures c.loop-f-test.true c.f-item.is c.in_ok-next.ensures.code c.loop-f.invariant.0,
-  one_fitted c.args.all.now c.loop-f.lowered.items c.put_function.new.functions.items c.loop-f.f-index c.f-item.result c.in_ok-next.next
-      c.in_ok-put_function.ensures c.loop-f-test.true c.f-item.is c.in_ok-next.ensures.count c.in_ok-next.ensures.room c.loop-f.invariant.1,
+  one_function c.args.all.now c.loop-f.lowered.items c.put.new.all.items c.loop-f.f-index c.f-item.result c.in_ok-next.next
+      c.in_ok-put.ensures c.loop-f-test.true c.f-item.is c.in_ok-next.ensures.code c.loop-f.invariant.0,
+  one_fitted c.args.all.now c.loop-f.lowered.items c.put.new.all.items c.loop-f.f-index c.f-item.result c.in_ok-next.next
+      c.in_ok-put.ensures c.loop-f-test.true c.f-item.is c.in_ok-next.ensures.count c.in_ok-next.ensures.room c.loop-f.invariant.1,
 )
 
 pub function-requires : goal.function-requires

@@ -1,13 +1,13 @@
 use Rattle.std.proofs.Common.{◌≡◌, ◌+◌, ◌-◌, ◌<◌, refl, sym, ◌∙◌, ap, arith, rules, length, Err}
-use Rattle.c_typed.specs.Shape.{typed_expressions_of, statement_of, statements_of}
-use Rattle.c_typed.specs.Trees.{block, call}
+use Rattle.c_typed.specs.Shape.{typed_expression_of, typed_expressions_of, statement_of, statements_of}
+use Rattle.c_typed.specs.Trees.{block, call, if_else, loop}
 use Rattle.c_typed.proofs.Shapes.{block-is}
 use Rattle.rtl_emit.specs.Blocks.{spot}
 use Rattle.rtl_lower.specs.Sizes.{continues}
 use Rattle.rtl_lower.proofs.Sizes.{any_of, weight, weight_within, none_left, one_left}
 use Rattle.rtl_lower.proofs.Emitting.{nothing_emits, break_emits, continue_emits, simple_emits, whole_emits, block_emits, none_emits}
 use Rattle.rtl_lower.proofs.Emitting.{more_emits, all_emitted, list_stopped, side_emits, if_is, if_emits, turn_emits, loop_is, loop_emits}
-use Rattle.rtl_lower.proofs.Emitting.{side_stops, if_join_stops, if_first_stops, if_second_stops, bottom_stops, last_stops, loop_join_stops}
+use Rattle.rtl_lower.proofs.Emitting.{side_stops, join_stops, if_first_stops, if_second_stops, bottom_stops, last_stops}
 use Rattle.rtl_lower.proofs.Emitting.{loop_head_stops, loop_turn_stops, loop_body_stops, loop_top_stops}
 use Rattle.rtl_lower.proofs.statement.+statements.Goals as goal
 
@@ -132,8 +132,9 @@ side-returns-in_err-code t c = side_stops _ _ _ c.args.context c.args.join c.in_
 
 pub if_statement-returns-in_err-join : goal.if_statement-returns-in_err-join
 if_statement-returns-in_err-join t c =
-    if_join_stops _ _ _ _ _ c.args.context (spot c.args.after) c.in_err-join.field-0.0 c.from_residual.result (search rules) c.in_err-join.ensures.left
-    c.in_err-join.ensures.limit
+    join_stops _ _ (if_else (typed_expression_of c.args.test.now) (statement_of c.args.yes.now) (statement_of c.args.no.now)) c.args.context
+    (spot c.args.after) c.in_err-join.field-0.0 c.from_residual.result (search rules) c.in_err-join.ensures.left
+    (omega arith) c.in_err-join.ensures.limit
 
 pub if_statement-returns-in_err-yes_block : goal.if_statement-returns-in_err-yes_block
 if_statement-returns-in_err-yes_block t c =
@@ -160,8 +161,9 @@ turn_of-returns-in_err-code t c =
 
 pub loop_statement-returns-in_err-left : goal.loop_statement-returns-in_err-left
 loop_statement-returns-in_err-left t c =
-    loop_join_stops _ _ _ _ _ c.args.context (spot c.args.after) c.in_err-left.field-0.0 c.from_residual.result (search rules) c.in_err-left.ensures.left
-    c.in_err-left.ensures.limit
+    join_stops _ _ (loop (typed_expression_of c.args.test.now) (statement_of c.args.last.now) (statement_of c.args.body.now)) c.args.context
+    (spot c.args.after) c.in_err-left.field-0.0 c.from_residual.result (search rules) c.in_err-left.ensures.left
+    (omega arith) c.in_err-left.ensures.limit
 
 pub loop_statement-returns-in_err-head : goal.loop_statement-returns-in_err-head
 loop_statement-returns-in_err-head t c =
