@@ -8,8 +8,7 @@ ghost use Rattle.build_command.specs.BuildFaults.{IsBuildFault};
 ghost use Rattle.build_command.specs.Halves.{IsUnitOf, IsWritten, IsUnwritten};
 
 use c_front::{FrontFault, read};
-use c_statements::TypeFault;
-use c_types::{Typed, check};
+use c_types::{TypeFault, Typed, check};
 use image::{Counts, write_image};
 use mblock::Unit;
 use mips_asm::{AsmFault, assemble};

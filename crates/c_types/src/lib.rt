@@ -35,6 +35,7 @@ mod declaration;
 mod program;
 mod typed_program;
 
+pub use c_statements::{TypeFault, TypeFaultKind};
 pub use program::{
     check, each_typed_program_is_well_formed, one_typed_program, one_typing_of_programs,
 };

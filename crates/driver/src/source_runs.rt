@@ -5,8 +5,7 @@ ghost use Rattle.driver.specs.Interps.{IsInterpFault, IsRun};
 
 use c_front::{FrontFault, read};
 use c_run::run;
-use c_statements::TypeFault;
-use c_types::check;
+use c_types::{TypeFault, check};
 use messages::SourceFault;
 use runs::Ran;
 use std::alloc::Global;
