@@ -1,9 +1,12 @@
 // The command over a file and streams.
 
-ghost use Rattle.std.specs.Prelude.{◌≡◌, ◌≢◌, ◌≤◌, [], ◌∷◌, ◌++◌, IfOk, IfErr, OnOk};
+ghost use Rattle.std.specs.Prelude.{◌≡◌, ◌≢◌, ◌≤◌, ℕ, List, [], ◌∷◌, ◌++◌, IfOk, IfErr, OnOk};
 ghost use Rattle.std.specs.Io.KnownBytes.{Appends};
-ghost use Rattle.check_command.specs.Command.{Checks, StopsCheck};
+ghost use Rattle.check_command.specs.Checks.{IsAnswerTo, IsCheckFault};
+ghost use Rattle.check_command.specs.Command.{Checks, IsUnprinted, PrintsAnswer, StopsCheck};
 ghost use Rattle.check_command.specs.Texts.{answer_text, check_fault_text, exit_status};
+ghost use Rattle.check_command.specs.declared.verdicts.CheckAnswer.{CheckAnswer};
+ghost use Rattle.commands.specs.OneFile.{AnswersFile, TookPrint};
 ghost use Rattle.commands.specs.Requests.{Asks, Does, IsNothing, IsSent, TellsLine};
 ghost use Rattle.commands.specs.declared.fault.HostFault.TheVariants.{CannotWrite};
 
@@ -87,14 +90,31 @@ pub fn tell_check<E: Complaints>(
     tell_placed(alloc, err, &fault, &place)
 }
 
-/// `mcc check` over one file.
+/// How `mcc check` prints an answer; `prints` says what is printed of it.
+pub trait AnswerPrinter {
+    ghost prints: { CheckAnswer → List ℕ → Type 0 };
+
+    /// The answer to this text, printed; its status.
+    fn print<W: Output>(
+        &self,
+        alloc: Global,
+        text: &[u8],
+        answer: &CheckAnswer,
+        out: &mut W,
+    ) -> Result<u8, HostFault>
+        ensures took { OnOk result (TookPrint (W.contents out.old) (W.contents out.new) (prints answer.now)) }
+        ensures sent { OnOk result (IsSent W.sends out.new) }
+        ensures status { IfOk result (λ s. s ≡ exit_status answer.now) }
+        ensures fault { IfErr result IsUnprinted };
+}
+
+/// `mcc check` over one file, with its printer.
 #[derive(Clone, Copy)]
-struct CheckCommand;
+struct CheckCommand<'a, P> {
+    printer: &'a P,
+}
 
-impl FileCommand for CheckCommand {
-    ghost use Rattle.check_command.specs.Checks.{IsAnswerTo, IsCheckFault};
-    ghost use Rattle.check_command.specs.Command.{IsUnprinted, PrintsAnswer};
-
+impl<'a, P: AnswerPrinter> FileCommand for CheckCommand<'a, P> {
     type Answer = CheckAnswer;
 
     type Fault = CheckFault;
@@ -103,7 +123,7 @@ impl FileCommand for CheckCommand {
 
     ghost faults = { λ s text fault. IsCheckFault text fault };
 
-    ghost prints = { λ s answer printed. PrintsAnswer answer printed };
+    ghost prints = { λ s answer printed. P.prints answer printed };
 
     ghost status = { exit_status };
 
@@ -124,12 +144,12 @@ impl FileCommand for CheckCommand {
 
     fn print<W: Output>(
         &self,
-        _alloc: Global,
-        _bytes: &[u8],
+        alloc: Global,
+        bytes: &[u8],
         answer: &CheckAnswer,
         out: &mut W,
     ) -> Result<u8, HostFault> {
-        print_answer(out, answer)
+        self.printer.print(alloc, bytes, answer, out)
     }
 
     fn remark<E: Complaints>(
@@ -152,6 +172,44 @@ impl FileCommand for CheckCommand {
     }
 }
 
+/// The verdict on the text of a file, printed by this printer; the answer is the exit status.
+pub fn answer_check<P: AnswerPrinter, F: Files, W: Output, E: Complaints>(
+    alloc: Global,
+    printer: &P,
+    file: &str,
+    files: &mut F,
+    out: &mut W,
+    err: &mut E,
+) -> u8
+    ensures most { result ≤ 3 }
+    ensures not_wrong_words { result ≢ 2 }
+    ensures answered { result ≢ 1 → Does F.answers files.old files.new (W.contents out.old) (W.contents out.new)
+        (AnswersFile IsAnswerTo P.prints exit_status file.now result) }
+    ensures sent { result ≢ 1 → IsSent W.sends out.new }
+    ensures quiet { result ≢ 1 → err.new ≡ err.old }
+    ensures stopped { result ≡ 1 → Asks F.answers files.old files.new E.tells err.old err.new (StopsCheck file.now) }
+{
+    answer_file(alloc, &CheckCommand { printer }, file, files, out, err)
+}
+
+/// Prints the line of the answer alone.
+#[derive(Clone, Copy)]
+struct AnswerLine;
+
+impl AnswerPrinter for AnswerLine {
+    ghost prints = { PrintsAnswer };
+
+    fn print<W: Output>(
+        &self,
+        _alloc: Global,
+        _text: &[u8],
+        answer: &CheckAnswer,
+        out: &mut W,
+    ) -> Result<u8, HostFault> {
+        print_answer(out, answer)
+    }
+}
+
 /// The verdict on the text of a file, printed; the answer is the exit status.
 pub fn check_file<F: Files, W: Output, E: Complaints>(
     alloc: Global,
@@ -168,5 +226,5 @@ pub fn check_file<F: Files, W: Output, E: Complaints>(
     ensures quiet { result ≢ 1 → err.new ≡ err.old }
     ensures stopped { result ≡ 1 → Asks F.answers files.old files.new E.tells err.old err.new (StopsCheck file.now) }
 {
-    answer_file(alloc, &CheckCommand, file, files, out, err)
+    answer_check(alloc, &AnswerLine, file, files, out, err)
 }

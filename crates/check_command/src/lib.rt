@@ -3,8 +3,8 @@
 //! `check` is its whole path: the answer is the verdict of the block and the order that the text spells, or the fault of the
 //! text (`specs/Checks.antt`). `check_file` is the command over files and streams: all that it asks of them, prints and ends by
 //! (`specs/Command.antt`); `print_answer` and `tell_check` are its ends, over a stream alone. What answers and faults print,
-//! and the status of a verdict (`status_of`), stand in `specs/Texts.antt`. The crate check_report has `--explain` and the
-//! command over several files.
+//! and the status of a verdict (`status_of`), stand in `specs/Texts.antt`. `answer_check` is the same command with another way to
+//! print an answer (`AnswerPrinter`). The crate check_report has `--explain` and the command over several files.
 //!
 //! What is promised:
 //! - `check_command::check`, which `driver` exports too: the answer is the verdict on every block and order that the
@@ -22,5 +22,5 @@ mod lines;
 mod texts;
 mod verdicts;
 
-pub use command::{check_file, print_answer, status_of, tell_check};
+pub use command::{AnswerPrinter, answer_check, check_file, print_answer, status_of, tell_check};
 pub use verdicts::{CheckAnswer, CheckFault, LONGEST, check};

@@ -3,14 +3,14 @@
 ghost use Rattle.std.specs.Prelude.{◌≡◌, ◌≢◌, ◌≤◌, [], ◌∷◌, ◌++◌, IfOk, IfErr, OnOk};
 ghost use Rattle.std.specs.Io.KnownBytes.{Appends};
 ghost use Rattle.check_command.specs.Command.{StopsCheck};
-ghost use Rattle.check_command.specs.Texts.{answer_text, check_fault_text, exit_status};
+ghost use Rattle.check_command.specs.Texts.{answer_text, exit_status};
 ghost use Rattle.check_report.specs.Command.{Explains, TookExplained};
-ghost use Rattle.commands.specs.Requests.{Asks, Does, IsNothing, IsSent};
+ghost use Rattle.commands.specs.Requests.{Asks, Does, IsSent};
 ghost use Rattle.commands.specs.declared.fault.HostFault.TheVariants.{CannotRead};
 
 use crate::explain::explained;
-use check_command::{CheckAnswer, CheckFault, check, status_of, tell_check};
-use commands::{Complaints, FileCommand, Files, HostFault, Output, answer_file};
+use check_command::{AnswerPrinter, CheckAnswer, answer_check, status_of};
+use commands::{Complaints, Files, HostFault, Output};
 use std::alloc::Global;
 use std::io;
 
@@ -47,69 +47,23 @@ pub fn print_explained<W: Output>(
     }
 }
 
-/// `mcc check --explain` over one file.
+/// Prints the answer, and behind it why it isn't `same`.
 #[derive(Clone, Copy)]
-struct ExplainCommand;
+struct ExplainedAnswer;
 
-impl FileCommand for ExplainCommand {
-    ghost use Rattle.check_command.specs.Checks.{IsAnswerTo, IsCheckFault};
-    ghost use Rattle.check_command.specs.Command.{IsUnprinted};
+impl AnswerPrinter for ExplainedAnswer {
     ghost use Rattle.check_report.specs.Command.{PrintsExplained};
 
-    type Answer = CheckAnswer;
-
-    type Fault = CheckFault;
-
-    ghost answers = { λ s text answer. IsAnswerTo text answer };
-
-    ghost faults = { λ s text fault. IsCheckFault text fault };
-
-    ghost prints = { λ s answer printed. PrintsExplained answer printed };
-
-    ghost status = { exit_status };
-
-    ghost most = { 3 };
-
-    ghost line = { check_fault_text };
-
-    ghost unprinted = { IsUnprinted };
-
-    ghost remarks = { λ status told. IsNothing told };
-
-    fn work(&self, alloc: Global, bytes: &[u8]) -> Result<CheckAnswer, CheckFault> {
-        match check(alloc, bytes) {
-            Ok(answer) => Ok(answer),
-            Err(fault) => Err(fault),
-        }
-    }
+    ghost prints = { PrintsExplained };
 
     fn print<W: Output>(
         &self,
         alloc: Global,
-        bytes: &[u8],
+        text: &[u8],
         answer: &CheckAnswer,
         out: &mut W,
     ) -> Result<u8, HostFault> {
-        print_explained(alloc, out, bytes, answer)
-    }
-
-    fn remark<E: Complaints>(
-        &self,
-        _alloc: Global,
-        _bytes: &[u8],
-        _answer: &CheckAnswer,
-        _err: &mut E,
-    ) {}
-
-    fn tell<E: Complaints>(
-        &self,
-        alloc: Global,
-        file: &str,
-        bytes: &[u8],
-        fault: CheckFault,
-        err: &mut E,
-    ) -> u8 {
-        tell_check(alloc, err, file, bytes, fault)
+        print_explained(alloc, out, text, answer)
     }
 }
 
@@ -129,5 +83,5 @@ pub fn explain_file<F: Files, W: Output, E: Complaints>(
     ensures quiet { result ≢ 1 → err.new ≡ err.old }
     ensures stopped { result ≡ 1 → Asks F.answers files.old files.new E.tells err.old err.new (StopsCheck file.now) }
 {
-    answer_file(alloc, &ExplainCommand, file, files, out, err)
+    answer_check(alloc, &ExplainedAnswer, file, files, out, err)
 }

@@ -1,5 +1,5 @@
 -- Bytes that a number's text lacks.
-use Rattle.std.proofs.Common.{◌≡◌, ℕ, ℤ, pos, negsuc, ◌<◌, ◌^◌, List, [], ◌∷◌, true, false, ◌==◌, refl, rules, arith, decimal, FitsSigned, suc}
+use Rattle.std.proofs.Common.{◌≡◌, ℕ, ℤ, pos, negsuc, ◌<◌, ◌^◌, List, [], ◌∷◌, true, false, ◌==◌, refl, rules, arith, decimal, FitsSigned, suc, Option, Some}
 use Rattle.std.specs.Fmt.{signed_decimal}
 use Rattle.std.specs.Int.{w16, IsInRange}
 use Rattle.std.specs.Str.{all_ascii_digits}
@@ -43,3 +43,16 @@ comma_block n lt = comma_decimal n (omega arith)
 
 pub close_register : (r : ℕ) → r < 32 → lacks 41 (register_text r) ≡ true
 close_register r lt = decimal_lacks 41 r (λ h. omega arith) (omega arith)
+
+-- a register and another value that a text spells: the register's own text lacks a comma
+pub read_two : {C : Type 0} {fits : C → Type 0} {spelled : ℕ → C → Type 0} {o : Option (ℕ × C)}
+    → ((r : ℕ) (x : C) → lacks 44 (register_text r) ≡ true → r < 32 → fits x → spelled r x → o ≡ Some (r, x))
+    → (r : ℕ) (x : C) → (r < 32) × fits x → spelled r x → o ≡ Some (r, x)
+read_two only r x fit = only r x (comma_register r fit.0) fit.0 fit.1
+
+-- the same of two registers and a third value
+pub read_three : {C : Type 0} {fits : C → Type 0} {spelled : ℕ → ℕ → C → Type 0} {o : Option (ℕ × ℕ × C)}
+    → ((r s : ℕ) (x : C) → lacks 44 (register_text r) ≡ true → lacks 44 (register_text s) ≡ true → r < 32 → s < 32 → fits x → spelled r s x
+    → o ≡ Some (r, s, x))
+    → (r s : ℕ) (x : C) → (r < 32) × (s < 32) × fits x → spelled r s x → o ≡ Some (r, s, x)
+read_three only r s x fit = only r s x (comma_register r fit.0) (comma_register s fit.1) fit.0 fit.1 fit.2

@@ -2,7 +2,7 @@
 
 use crate::depths::around;
 use c_front::read;
-use scarce_memory::AllMemory;
+use scarce_memory::{Attempt, refusals};
 use std::alloc::Global;
 use std::test::Fail;
 
@@ -14,30 +14,23 @@ fn answer(alloc: Global, text: &[u8]) -> (u8, usize) {
     }
 }
 
-// How often a text is refused memory before it's read; None where another fault is told.
-fn refusals(alloc: Global, text: &[u8], memory: &mut AllMemory) -> Option<u32> {
-    let mut count: u32 = 0;
-    for _ in 0..1000 {
-        let told = answer(alloc, text);
-        if told.0 == 0 {
-            return Some(count);
-        }
-        if told != (30, text.len()) {
-            return None;
-        }
-        count = count.wrapping_add(1);
-        memory.give_back();
+// How reading a text ends: without a fault, or with that of refused memory at its end.
+fn attempt(alloc: Global, text: &[u8]) -> Attempt {
+    let told = answer(alloc, text);
+    if told.0 == 0 {
+        Attempt::Done
+    } else if told == (30, text.len()) {
+        Attempt::Refused
+    } else {
+        Attempt::Wrong
     }
-    None
 }
 
 #[test]
 fn reading_a_text_tells_refused_memory_alone(rt: HostRuntime) -> Result<(), Fail> {
     let alloc = rt.alloc();
     let text = around(alloc, b"", b"int f(int n){return n*2+1;}\n", 200, b"")?;
-    let mut memory = AllMemory::take(alloc, 1000, 4096)?;
-    let count = refusals(alloc, &text, &mut memory);
-    drop(memory);
+    let count = refusals(alloc, 1000, 4096, || attempt(alloc, &text))?;
     assert!(rt; count.is_some_and(|n| n > 0));
     assert_eq!(rt; answer(alloc, &text), (0, text.len()));
     Ok(())

@@ -37,7 +37,8 @@ const SECOND: &[u32] = &[
     0x0102_0304,
 ];
 
-fn bytes_of(alloc: Global, words: &[u32]) -> Result<Vec<u8>, AllocError> {
+/// The bytes of words, as an image has them.
+pub fn bytes_of(alloc: Global, words: &[u32]) -> Result<Vec<u8>, AllocError> {
     let mut bytes = Vec::new(alloc);
     for word in words {
         bytes.extend_from_slice(&word.to_be_bytes())?;

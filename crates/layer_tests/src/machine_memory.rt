@@ -1,11 +1,12 @@
 // Memory that is really refused: each test is a process of its own, and takes all that it can get. With each block that it
 // gives back the call comes further.
 
+use crate::changes::bytes_of;
 use crate::limits::unit_of;
 use image::{Image, ImageFault, read_image, write_image};
 use mips_asm::{AsmFault, assemble, list};
 use mips_machine::{Machine, load};
-use scarce_memory::AllMemory;
+use scarce_memory::{AllMemory, Attempt, refusals};
 use sched_phase::{Scheduled, schedule_plain};
 use std::alloc::{AllocError, Global};
 use std::test::Fail;
@@ -28,50 +29,32 @@ fn long_image(alloc: Global, count: u32) -> Result<Vec<u8>, AllocError> {
     Ok(bytes)
 }
 
-// How often reading is refused memory before there is an image; None where another fault is told.
-fn reading_refusals(alloc: Global, bytes: &[u8], memory: &mut AllMemory) -> Option<u32> {
-    let mut refusals: u32 = 0;
-    for _ in 0..BLOCKS {
-        match read_image(alloc, bytes) {
-            Ok(_) => return Some(refusals),
-            Err(ImageFault::NoMemory) => {}
-            Err(_) => return None,
-        }
-        refusals = refusals.wrapping_add(1);
-        memory.give_back();
+fn reading(alloc: Global, bytes: &[u8]) -> Attempt {
+    match read_image(alloc, bytes) {
+        Ok(_) => Attempt::Done,
+        Err(ImageFault::NoMemory) => Attempt::Refused,
+        Err(_) => Attempt::Wrong,
     }
-    Some(refusals)
 }
 
 #[test]
 fn reading_tells_refused_memory_alone(rt: HostRuntime) -> Result<(), Fail> {
     let alloc = rt.alloc();
     let bytes = long_image(alloc, 10_000)?;
-    let mut memory = AllMemory::take(alloc, BLOCKS, LAST)?;
-    let refusals = reading_refusals(alloc, bytes.as_slice(), &mut memory);
-    drop(memory);
+    let refusals = refusals(alloc, BLOCKS, LAST, || reading(alloc, bytes.as_slice()))?;
     assert!(rt; refusals.is_some_and(|count| count > 0));
     let image = read_image(alloc, bytes.as_slice())?;
     assert_eq!(rt; write_image(alloc, &image)?.as_slice(), bytes.as_slice());
     Ok(())
 }
 
-// How often writing is refused memory before it gives these bytes; None where it never does.
-fn writing_refusals(
-    alloc: Global,
-    image: &Image,
-    bytes: &[u8],
-    memory: &mut AllMemory,
-) -> Option<u32> {
-    let mut refusals: u32 = 0;
-    for _ in 0..BLOCKS {
-        if let Ok(written) = write_image(alloc, image) {
-            return (written.as_slice() == bytes).then_some(refusals);
-        }
-        refusals = refusals.wrapping_add(1);
-        memory.give_back();
+// Writing has to give these bytes.
+fn writing(alloc: Global, image: &Image, bytes: &[u8]) -> Attempt {
+    match write_image(alloc, image) {
+        Ok(written) if written.as_slice() == bytes => Attempt::Done,
+        Ok(_) => Attempt::Wrong,
+        Err(_) => Attempt::Refused,
     }
-    None
 }
 
 #[test]
@@ -79,29 +62,23 @@ fn writing_tells_refused_memory_alone(rt: HostRuntime) -> Result<(), Fail> {
     let alloc = rt.alloc();
     let bytes = long_image(alloc, 10_000)?;
     let image = read_image(alloc, bytes.as_slice())?;
-    let mut memory = AllMemory::take(alloc, BLOCKS, LAST)?;
-    let refusals = writing_refusals(alloc, &image, bytes.as_slice(), &mut memory);
-    drop(memory);
+    let refusals = refusals(
+        alloc,
+        BLOCKS,
+        LAST,
+        || writing(alloc, &image, bytes.as_slice()),
+    )?;
     assert!(rt; refusals.is_some_and(|count| count > 0));
     Ok(())
 }
 
-// How often a listing is refused memory before it is this text; None where it never is.
-fn listing_refusals(
-    alloc: Global,
-    image: &Image,
-    ample: &str,
-    memory: &mut AllMemory,
-) -> Option<u32> {
-    let mut refusals: u32 = 0;
-    for _ in 0..BLOCKS {
-        if let Ok(text) = list(alloc, image) {
-            return (text.as_str() == ample).then_some(refusals);
-        }
-        refusals = refusals.wrapping_add(1);
-        memory.give_back();
+// The listing has to be this text.
+fn listing(alloc: Global, image: &Image, ample: &str) -> Attempt {
+    match list(alloc, image) {
+        Ok(text) if text.as_str() == ample => Attempt::Done,
+        Ok(_) => Attempt::Wrong,
+        Err(_) => Attempt::Refused,
     }
-    None
 }
 
 #[test]
@@ -112,30 +89,23 @@ fn listing_tells_refused_memory_alone(rt: HostRuntime) -> Result<(), Fail> {
     let ample = list(alloc, &image)?;
     // 10,000 lines of code with 33 bytes each and their ends, and one of data
     assert_eq!(rt; ample.len(), 340_026);
-    let mut memory = AllMemory::take(alloc, BLOCKS, LAST)?;
-    let refusals = listing_refusals(alloc, &image, ample.as_str(), &mut memory);
-    drop(memory);
+    let refusals = refusals(
+        alloc,
+        BLOCKS,
+        LAST,
+        || listing(alloc, &image, ample.as_str()),
+    )?;
     assert!(rt; refusals.is_some_and(|count| count > 0));
     Ok(())
 }
 
-// How often a unit is refused memory before it has an image, and that image's words; None where another fault is told.
-fn assembling_refusals(
-    alloc: Global,
-    scheduled: &Scheduled,
-    memory: &mut AllMemory,
-) -> Option<(u32, usize)> {
-    let mut refusals: u32 = 0;
-    for _ in 0..BLOCKS {
-        match assemble(alloc, scheduled) {
-            Ok(image) => return Some((refusals, image.code().len())),
-            Err(AsmFault::NoMemory) => {}
-            Err(_) => return None,
-        }
-        refusals = refusals.wrapping_add(1);
-        memory.give_back();
+// The image has to have so many words of code.
+fn assembling(alloc: Global, scheduled: &Scheduled, words: usize) -> Attempt {
+    match assemble(alloc, scheduled) {
+        Ok(image) if image.code().len() == words => Attempt::Done,
+        Err(AsmFault::NoMemory) => Attempt::Refused,
+        _ => Attempt::Wrong,
     }
-    None
 }
 
 #[test]
@@ -143,10 +113,13 @@ fn assembling_tells_refused_memory_alone(rt: HostRuntime) -> Result<(), Fail> {
     let alloc = rt.alloc();
     let unit = unit_of(alloc, [32_000].as_slice())?.expect(&rt, "a unit");
     let scheduled = schedule_plain(alloc, &unit)?;
-    let mut memory = AllMemory::take(alloc, BLOCKS, LAST)?;
-    let told = assembling_refusals(alloc, &scheduled, &mut memory);
-    drop(memory);
-    assert!(rt; told.is_some_and(|(refusals, words)| refusals > 0 && words == 32_000));
+    let refusals = refusals(
+        alloc,
+        BLOCKS,
+        LAST,
+        || assembling(alloc, &scheduled, 32_000),
+    )?;
+    assert!(rt; refusals.is_some_and(|count| count > 0));
     Ok(())
 }
 
@@ -185,14 +158,6 @@ fn step_refusals(machine: &mut Machine<'_>, steps: u32, memory: &mut AllMemory) 
     None
 }
 
-fn sevens(alloc: Global) -> Result<Vec<u8>, AllocError> {
-    let mut bytes = Vec::new(alloc);
-    for &word in SEVENS {
-        bytes.extend_from_slice(&word.to_be_bytes())?;
-    }
-    Ok(bytes)
-}
-
 // Whether the machine takes 500,000 steps, some of which are refused memory and taken again, and prints 7 in each fifth.
 fn goes_on(machine: &mut Machine<'_>, memory: &mut AllMemory) -> bool {
     let refusals = step_refusals(machine, 500_000, memory);
@@ -205,7 +170,7 @@ fn goes_on(machine: &mut Machine<'_>, memory: &mut AllMemory) -> bool {
 #[test]
 fn a_refused_step_can_be_taken_again(rt: HostRuntime) -> Result<(), Fail> {
     let alloc = rt.alloc();
-    let bytes = sevens(alloc)?;
+    let bytes = bytes_of(alloc, SEVENS)?;
     let image = read_image(alloc, bytes.as_slice())?;
     let mut machine = load(alloc, &image)?;
     let mut memory = AllMemory::take(alloc, BLOCKS, LAST)?;

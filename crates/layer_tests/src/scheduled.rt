@@ -1,6 +1,7 @@
 // Scheduled units become images of version 2, with their counts.
 
 use crate::assembled::program;
+use crate::changes::bytes_of;
 use crate::pieces::number;
 use image::{Counts, Image, read_image, write_image};
 use mblock::{Block, Exit, Unit};
@@ -12,7 +13,8 @@ use sched_phase::schedule_plain;
 use std::alloc::{AllocError, Global};
 use std::test::Fail;
 
-const NO_COUNTS: Counts = Counts {
+/// The counts of a build with no block.
+pub const NO_COUNTS: Counts = Counts {
     same: 0,
     unclean: 0,
     differs: 0,
@@ -55,14 +57,6 @@ const SEVEN: &[u32] = &[
     0x2402_000a,
     0x0000_000c,
 ];
-
-fn bytes_of(alloc: Global, words: &[u32]) -> Result<Vec<u8>, AllocError> {
-    let mut bytes = Vec::new(alloc);
-    for word in words {
-        bytes.extend_from_slice(&word.to_be_bytes())?;
-    }
-    Ok(bytes)
-}
 
 // Whether the image is written as these words, is read back from them, and ends with 7 at the third word and no earlier.
 fn ends_with_7(alloc: Global, image: &Image, words: &[u32]) -> Result<bool, AllocError> {

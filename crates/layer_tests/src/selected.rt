@@ -3,7 +3,8 @@
 use crate::programs::{
     Ends, Function, block, comes_to, function, global, one_block, program, program_of, program_over,
 };
-use image::{Counts, Image};
+use crate::scheduled::NO_COUNTS;
+use image::Image;
 use mblock::plain_orders;
 use mips_asm::{AsmFault, image_of};
 use mips_machine::run;
@@ -16,21 +17,11 @@ use std::process::Abort;
 use std::test::Fail;
 use words::Width;
 
-// The counts of a build with no block.
-const NONE: Counts = Counts {
-    same: 0,
-    unclean: 0,
-    differs: 0,
-    full: 0,
-    no_memory: 0,
-    missed: 0,
-};
-
 // The image of a program's unit, its blocks in plain order.
 fn image_for(rt: &impl Abort, alloc: Global, program: &Rtl, depth: u32) -> Result<Image, AsmFault> {
     let unit = select(alloc, program, depth).expect(rt, "a unit");
     let orders = plain_orders(alloc, &unit)?;
-    image_of(alloc, &unit, orders.as_slice(), Some(NONE))
+    image_of(alloc, &unit, orders.as_slice(), Some(NO_COUNTS))
 }
 
 // Whether an image has this output and ends with this word.

@@ -4,12 +4,10 @@ use Rattle.runs.specs.Runs.{Outcome}
 use Rattle.mips_steps.specs.Machines.{MachineOutcome}
 use Rattle.image.specs.Images.{IsImageFault}
 use Rattle.image.specs.Texts.{image_fault_text}
-use Rattle.image.specs.declared.fault.ImageFault.{ImageFault}
 use Rattle.block_text.specs.Shown.{IsShown}
 use Rattle.check_command.specs.Checks.{IsAnswerTo, IsCheckFault}
 use Rattle.check_command.specs.Texts.{answer_text, check_fault_text, exit_status}
 use Rattle.check_command.specs.declared.verdicts.CheckAnswer.{CheckAnswer}
-use Rattle.check_command.specs.declared.verdicts.CheckFault.{CheckFault}
 use Rattle.sched_phase.specs.Phases.{IsWholePhase}
 use Rattle.build_command.specs.Commands.{AnyOrder, built_text, factor_of, words_text}
 use Rattle.build_command.specs.Texts.{build_fault_text, ending_status, ending_text}
@@ -18,13 +16,10 @@ use Rattle.build_command.specs.Builds.{IsPlain, IsScheduledBuild}
 use Rattle.build_command.specs.BuildFaults.{IsBuildFault, IsFaultless}
 use Rattle.build_command.specs.Follows.{FollowsText}
 use Rattle.build_command.specs.declared.builds.Built.{Built}
-use Rattle.build_command.specs.declared.builds.BuildFault.{BuildFault}
 use Rattle.driver.specs.Texts.{end_status, end_text, interp_fault_text}
 use Rattle.driver.specs.Interps.{IsInterpFault, IsRun}
 use Rattle.driver.specs.Listings.{IsListing}
 use Rattle.driver.specs.Stages.{IsStagesFault, stages_fault_text}
-use Rattle.driver.specs.declared.show_commands.StagesFault.{StagesFault}
-use Rattle.driver.specs.declared.source_runs.InterpFault.{InterpFault}
 
 -- a text of this length, at the front of what the host lent, where it fits
 abbrev pub Gives : (text : List ℕ) → (said : ℕ) → (old new : List ℕ) → Type 0
@@ -34,6 +29,12 @@ Gives text said old new = (said ≡ length text) × (length new ≡ length old) 
 abbrev pub GivesLine : (line : List ℕ) → (said : ℕ) → (old new : List ℕ) → Type 0
 GivesLine line said old new = (more : List ℕ) × Gives (line ++ 10 ∷ more) said old new
 
+-- a fault that was found, by its line
+pub record SaysFault {F : Type 0} (found : F → Type 0) (line : F → List ℕ) (said : ℕ) (old new : List ℕ) : Type 0 where
+  pub fault : F
+  pub is : found fault
+  pub gives : GivesLine (line fault) said old new
+
 -- `check`: the verdict on what the text spells
 pub record SaysVerdict (text : List ℕ) (status said : ℕ) (old new : List ℕ) : Type 0 where
   pub answer : CheckAnswer
@@ -41,10 +42,8 @@ pub record SaysVerdict (text : List ℕ) (status said : ℕ) (old new : List ℕ
   pub ends : status ≡ exit_status answer
   pub gives : Gives (answer_text answer ++ 10 ∷ []) said old new
 
-pub record SaysCheckFault (text : List ℕ) (said : ℕ) (old new : List ℕ) : Type 0 where
-  pub fault : CheckFault
-  pub is : IsCheckFault text fault
-  pub gives : GivesLine (check_fault_text fault) said old new
+abbrev pub SaysCheckFault : (text : List ℕ) → (said : ℕ) → (old new : List ℕ) → Type 0
+SaysCheckFault text = SaysFault (IsCheckFault text) check_fault_text
 
 -- `check --explain`: the same, and behind it lines of printable ASCII
 pub record SaysExplained (text : List ℕ) (status said : ℕ) (old new : List ℕ) : Type 0 where
@@ -62,10 +61,8 @@ pub record SaysRun (text : List ℕ) (depth steps : ℕ) (status said : ℕ) (ol
   pub ends : status ≡ end_status outcome.end
   pub gives : Gives (words_text outcome.output ++ (end_text outcome.end ++ 10 ∷ [])) said old new
 
-pub record SaysInterpFault (text : List ℕ) (said : ℕ) (old new : List ℕ) : Type 0 where
-  pub fault : InterpFault
-  pub is : IsInterpFault text fault
-  pub gives : GivesLine (interp_fault_text fault) said old new
+abbrev pub SaysInterpFault : (text : List ℕ) → (said : ℕ) → (old new : List ℕ) → Type 0
+SaysInterpFault text = SaysFault (IsInterpFault text) interp_fault_text
 
 -- with `plain` each block in its own order, else checked orders; no block is missed
 abbrev pub IsScheduledAs : Bool → Built → Type 0
@@ -80,10 +77,8 @@ pub record SaysImage (text : List ℕ) (depth : ℕ) (plain : Bool) (status said
   pub ends : status ≡ 0
   pub gives : Gives (built_text plain built ++ built.image.items) said old new
 
-pub record SaysBuildFault (text : List ℕ) (said : ℕ) (old new : List ℕ) : Type 0 where
-  pub fault : BuildFault
-  pub is : IsBuildFault text fault
-  pub gives : GivesLine (build_fault_text fault) said old new
+abbrev pub SaysBuildFault : (text : List ℕ) → (said : ℕ) → (old new : List ℕ) → Type 0
+SaysBuildFault text = SaysFault (IsBuildFault text) build_fault_text
 
 -- `run` and `list`
 pub record SaysMachine (bytes : List ℕ) (steps : ℕ) (status said : ℕ) (old new : List ℕ) : Type 0 where
@@ -98,10 +93,8 @@ pub record SaysListing (bytes : List ℕ) (status said : ℕ) (old new : List �
   pub ends : status ≡ 0
   pub gives : Gives text said old new
 
-pub record SaysImageFault (bytes : List ℕ) (said : ℕ) (old new : List ℕ) : Type 0 where
-  pub fault : ImageFault
-  pub is : IsImageFault bytes fault
-  pub gives : GivesLine (image_fault_text fault) said old new
+abbrev pub SaysImageFault : (bytes : List ℕ) → (said : ℕ) → (old new : List ℕ) → Type 0
+SaysImageFault bytes = SaysFault (IsImageFault bytes) image_fault_text
 
 -- `show`: lines of printable ASCII, and the text spells a program without faults
 pub record SaysStages (text : List ℕ) (status said : ℕ) (old new : List ℕ) : Type 0 where
@@ -111,7 +104,5 @@ pub record SaysStages (text : List ℕ) (status said : ℕ) (old new : List ℕ)
   pub ends : status ≡ 0
   pub gives : Gives page said old new
 
-pub record SaysStagesFault (text : List ℕ) (said : ℕ) (old new : List ℕ) : Type 0 where
-  pub fault : StagesFault
-  pub is : IsStagesFault text fault
-  pub gives : GivesLine (stages_fault_text fault) said old new
+abbrev pub SaysStagesFault : (text : List ℕ) → (said : ℕ) → (old new : List ℕ) → Type 0
+SaysStagesFault text = SaysFault (IsStagesFault text) stages_fault_text

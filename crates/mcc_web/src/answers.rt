@@ -2,6 +2,7 @@
 
 ghost use Rattle.std.specs.Prelude.{◌≡◌, ◌≢◌};
 ghost use Rattle.check_command.specs.Checks.{IsCheckFault};
+ghost use Rattle.image.specs.Images.{IsImageFault};
 ghost use Rattle.mcc_web.specs.Answers.{SaysCheckFault, SaysExplained, SaysImageFault, SaysInterpFault, SaysListing, SaysMachine};
 ghost use Rattle.mcc_web.specs.Answers.{SaysRun, SaysStages, SaysStagesFault, SaysVerdict};
 ghost use Rattle.mcc_web.specs.declared.told.TheConstants.{REFUSED};
@@ -15,6 +16,7 @@ use driver::{
     CheckFault, EndLine, EndingLine, check, end_status, ending_status, interp, list_image,
     print_run, run_image, stages, tell_interp, tell_stages,
 };
+use image::ImageFault;
 use show::Asked;
 use std::alloc::Global;
 use std::str;
@@ -41,6 +43,23 @@ fn give_check_fault(
 {
     let mut told = Told::new(alloc);
     *status = tell_check(alloc, &mut told, "order.check", text, fault);
+    told.give(out, status)
+}
+
+/// The fault of an image, told to the host; a status of 1, unless memory was refused.
+fn give_image_fault(
+    alloc: Global,
+    image: &[u8],
+    fault: ImageFault,
+    out: &mut [u8],
+    status: &mut u8,
+) -> usize
+    requires { IsImageFault image.now fault }
+    ensures ends { status.new ≢ 1 → status.new ≡ REFUSED }
+    ensures faulty { status.new ≡ 1 → SaysImageFault image.now result out.old out.new }
+{
+    let mut told = Told::new(alloc);
+    *status = tell(&mut told, &fault);
     told.give(out, status)
 }
 
@@ -151,11 +170,7 @@ pub extern "C" fn mcc_web_run(
                 Err(_) => refused(status),
             }
         }
-        Err(fault) => {
-            let mut told = Told::new(alloc);
-            *status = tell(&mut told, &fault);
-            told.give(out, status)
-        }
+        Err(fault) => give_image_fault(alloc, image, fault, out, status),
     }
 }
 
@@ -175,11 +190,7 @@ pub extern "C" fn mcc_web_list(
             *status = 0;
             put(out, text.as_bytes())
         }
-        Err(fault) => {
-            let mut told = Told::new(alloc);
-            *status = tell(&mut told, &fault);
-            told.give(out, status)
-        }
+        Err(fault) => give_image_fault(alloc, image, fault, out, status),
     }
 }
 

@@ -61,6 +61,23 @@ fn print_image(alloc: Global, plain: bool, built: &Built) -> io::Result<Vec<u8>>
     Ok(printed)
 }
 
+/// The fault of a build, told to the host; a status of 1, unless memory was refused.
+pub(crate) fn give_build_fault(
+    alloc: Global,
+    text: &[u8],
+    fault: BuildFault,
+    out: &mut [u8],
+    status: &mut u8,
+) -> usize
+    requires { IsBuildFault text.now fault }
+    ensures ends { status.new ≢ 1 → status.new ≡ REFUSED }
+    ensures faulty { status.new ≡ 1 → SaysBuildFault text.now result out.old out.new }
+{
+    let mut told = Told::new(alloc);
+    *status = tell_build(alloc, &mut told, "program.c", text, fault);
+    told.give(out, status)
+}
+
 /// The image of the C program that the text spells: the line that `mcc build program.c IMAGE` prints, or `mcc build --plain`,
 /// and behind it the bytes of IMAGE, or what it tells; and its status.
 #[unsafe(no_mangle)]
@@ -92,10 +109,6 @@ pub extern "C" fn mcc_web_build(
                 0
             }
         },
-        Err(fault) => {
-            let mut told = Told::new(alloc);
-            *status = tell_build(alloc, &mut told, "program.c", text, fault);
-            told.give(out, status)
-        }
+        Err(fault) => give_build_fault(alloc, text, fault, out, status),
     }
 }

@@ -8,10 +8,10 @@ ghost use Rattle.mcc_web.specs.Answers.{SaysBuildFault};
 ghost use Rattle.mcc_web.specs.Orders.{SaysOrders, insts_text, pair_text, pairs_text, slot_text};
 ghost use Rattle.mcc_web.specs.declared.told.TheConstants.{REFUSED};
 
-use crate::builds::phase_for;
-use crate::told::{REFUSED, Told, put};
+use crate::builds::{give_build_fault, phase_for};
+use crate::told::{REFUSED, put};
 use delay_filler::FilledOrder;
-use driver::{tell_build, unit_of};
+use driver::unit_of;
 use list_scheduler::ListOrder;
 use mblock::{Block, BlockNumber, Exit, Order};
 use mips_isa::{PairTest, Plain, ZeroTest};
@@ -167,11 +167,7 @@ pub extern "C" fn mcc_web_orders(
     }
     let unit = match unit_of(alloc, text, depth) {
         Ok(unit) => unit,
-        Err(fault) => {
-            let mut told = Told::new(alloc);
-            *status = tell_build(alloc, &mut told, "program.c", text, fault);
-            return told.give(out, status);
-        }
+        Err(fault) => return give_build_fault(alloc, text, fault, out, status),
     };
     let Ok(scheduled) = schedule_one(alloc, &unit, phase_for(text.len()), &FilledOrder(ListOrder))
     else {

@@ -1,6 +1,8 @@
 //! Memory that is really refused, for tests that are processes of their own: all that can be had is taken, and given back
 //! block by block.
 //!
+//! `refusals` counts how often a call is refused memory before it is done.
+//!
 //! No contract can say what memory there is. `take` has as many blocks to give back as it was asked for, and `give_back`
 //! has one less.
 #![tactic(auto)]
@@ -38,6 +40,39 @@ impl AllMemory {
     {
         drop(self.blocks.pop());
     }
+}
+
+/// How a call ended to which memory may have been refused.
+#[derive(Clone, Copy, Debug, PartialEq, Eq)]
+pub enum Attempt {
+    Done,
+    Refused,
+    /// In another way than its caller awaits.
+    Wrong,
+}
+
+/// How often the call is refused memory before it is done, as so many blocks are given back one by one, the last of `last` bytes. None
+/// where it ends wrongly, or is never done.
+pub fn refusals<F: FnMut() -> Attempt>(
+    alloc: Global,
+    count: usize,
+    last: usize,
+    mut attempt: F,
+) -> Result<Option<u32>, AllocError>
+    requires { F.IsAlwaysCallable attempt }
+{
+    let mut memory = AllMemory::take(alloc, count, last)?;
+    let mut refusals: u32 = 0;
+    for _ in 0..=count {
+        match attempt() {
+            Attempt::Done => return Ok(Some(refusals)),
+            Attempt::Refused => {}
+            Attempt::Wrong => return Ok(None),
+        }
+        refusals = refusals.wrapping_add(1);
+        memory.give_back();
+    }
+    Ok(None)
 }
 
 // So many blocks, the first of `last` bytes and the others of 4 KB.

@@ -1,14 +1,13 @@
 use Rattle.mblock.specs.declared.exit.Exit.TheVariants as exits
-use Rattle.check_text.proofs.Lacking.{comma_register}
+use Rattle.check_text.proofs.Lacking.{read_two}
 use Rattle.check_text.proofs.Values.{made-two, nothing}
 use Rattle.check_text.proofs.line.zero.Goals as goal
 
 pub returns-in_err-rs-clause-only : goal.returns-in_err-rs-clause-only
 returns-in_err-rs-clause-only c = λ rs t e h.
-    absurd (nothing (rs, (record { first = t; second = e })) (c.in_err-rs.ensures.only rs (record { first = t; second = e })
-    (comma_register rs h.0.0) h.0.0 (h.0.1, h.0.2) h.2))
+    absurd (nothing _ (read_two c.in_err-rs.ensures.only rs (record { first = t; second = e }) (h.0.0, (h.0.1, h.0.2)) h.2))
 
 pub returns-clause-only : goal.returns-clause-only
 returns-clause-only c = λ rs t e h.
-    let same = c.in_ok-rs.ensures.only rs (record { first = t; second = e }) (comma_register rs h.0.0) h.0.0 (h.0.1, h.0.2) h.2 in
-    made-two (λ r b. exits.BranchZero c.args.test r b.first b.second) _ rs (record { first = t; second = e }) same
+    made-two (λ r b. exits.BranchZero c.args.test r b.first b.second) _ rs (record { first = t; second = e })
+    (read_two c.in_ok-rs.ensures.only rs (record { first = t; second = e }) (h.0.0, (h.0.1, h.0.2)) h.2)

@@ -13,6 +13,6 @@ returns-in_err-rt-clause-only c = λ rt base n h.
 
 pub returns-clause-only : goal.returns-clause-only
 returns-clause-only c = λ rt base n h.
-    let same = c.in_ok-rt.ensures.only rt (record { base = base; offset = n }) (comma_register rt h.0.1) (h.0.0, h.0.1) (h.0.2, h.0.3) h.2 in
-    made-two (λ r a. plains.Load c.args.width r a.base (to_z w16 (of_z w16 a.offset))) _ rt (record { base = base; offset = n }) same
+    made-two (λ r a. plains.Load c.args.width r a.base (to_z w16 (of_z w16 a.offset))) _ rt (record { base = base; offset = n })
+    (c.in_ok-rt.ensures.only rt (record { base = base; offset = n }) (comma_register rt h.0.1) (h.0.0, h.0.1) (h.0.2, h.0.3) h.2)
     ∙ ap (λ i. Some (plains.Load c.args.width rt base i)) (kept n n refl h.0.3)

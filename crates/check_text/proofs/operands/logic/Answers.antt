@@ -1,13 +1,10 @@
 use Rattle.mips_isa.specs.declared.inst.Plain.TheVariants as plains
-use Rattle.check_text.proofs.Lacking.{comma_register}
+use Rattle.check_text.proofs.Lacking.{read_three}
 use Rattle.check_text.proofs.Values.{made-three, nothing}
 use Rattle.check_text.proofs.operands.logic.Goals as goal
 
 pub returns-in_err-rt-clause-only : goal.returns-in_err-rt-clause-only
-returns-in_err-rt-clause-only c = λ rt rs n h.
-    absurd (nothing (rt, rs, n) (c.in_err-rt.ensures.only rt rs n (comma_register rt h.0.0) (comma_register rs h.0.1) h.0.0 h.0.1 h.0.2 h.2))
+returns-in_err-rt-clause-only c = λ rt rs n h. absurd (nothing _ (read_three c.in_err-rt.ensures.only rt rs n h.0 h.2))
 
 pub returns-clause-only : goal.returns-clause-only
-returns-clause-only c = λ rt rs n h.
-    let same = c.in_ok-rt.ensures.only rt rs n (comma_register rt h.0.0) (comma_register rs h.0.1) h.0.0 h.0.1 h.0.2 h.2 in
-    made-three (plains.Logic c.args.op) _ rt rs n same
+returns-clause-only c = λ rt rs n h. made-three (plains.Logic c.args.op) _ rt rs n (read_three c.in_ok-rt.ensures.only rt rs n h.0 h.2)

@@ -1,7 +1,7 @@
 use Rattle.check_command.proofs.command.CheckCommandFileCommand.work.Goals as goal
 
 pub returns-in-Ok-clause-answer : goal.returns-in-Ok-clause-answer
-returns-in-Ok-clause-answer c =
+returns-in-Ok-clause-answer g c =
     let spelled = c.in-Ok.ensures.spelled in
     record {
       small = spelled.0;

@@ -10,6 +10,5 @@ returns-in_err-first-clause-only c = λ t h e.
 
 pub returns-clause-only : goal.returns-clause-only
 returns-clause-only c = λ t h e.
-    let same = c.in_ok-first.ensures.only t.first t.second (comma_block t.first h.0) h.0 h.1 e in
     let make : ℕ → ℕ → TwoBlocks = λ a b. record { first = a; second = b } in
-    made-two make _ t.first t.second same
+    made-two make _ t.first t.second (c.in_ok-first.ensures.only t.first t.second (comma_block t.first h.0) h.0 h.1 e)

@@ -43,5 +43,5 @@ returns-clause-only c = λ a h e.
     let at_base = c.in_ok-base.ensures.only a.base h.0 at_rest.0 in
     let same : c.in_ok-offset.offset ≡ a.offset = cc in
     let make : ℕ → ℤ → Address = λ x y. record { base = x; offset = y } in
-    made-one (λ x. make x (to_z w16 (of_z w16 c.in_ok-offset.offset))) c.in_ok-base.base a.base at_base
+    made-one (λ x. make x (to_z w16 (of_z w16 c.in_ok-offset.offset))) _ a.base at_base
     ∙ ap (λ y. Some (make a.base y)) (kept _ _ same h.1)
