@@ -7,7 +7,7 @@
 //! has one less.
 #![tactic(auto)]
 
-ghost use Rattle.std.specs.Prelude.{◌≡◌, ◌-◌, IfOk, length};
+ghost use Rattle.std.specs.Prelude.{◌≡◌, ◌-◌, ◌≤◌, IfOk, IfSome, length};
 
 use std::alloc::{AllocError, Global};
 
@@ -51,25 +51,24 @@ pub enum Attempt {
     Wrong,
 }
 
-/// How often the call is refused memory before it is done, as so many blocks are given back one by one, the last of `last` bytes. None
-/// where it ends wrongly, or is never done.
+/// How often the call is refused memory before it is done, as so many blocks are given back one by one, the last of `last` bytes: at
+/// most as often as there are blocks. None where it ends wrongly, or is never done.
 pub fn refusals<F: FnMut() -> Attempt>(
     alloc: Global,
     count: usize,
     last: usize,
     mut attempt: F,
-) -> Result<Option<u32>, AllocError>
+) -> Result<Option<usize>, AllocError>
     requires { F.IsAlwaysCallable attempt }
+    ensures { IfOk result (λ refused. IfSome refused (λ n. n ≤ count)) }
 {
     let mut memory = AllMemory::take(alloc, count, last)?;
-    let mut refusals: u32 = 0;
-    for _ in 0..=count {
+    for refused in 0..=count {
         match attempt() {
-            Attempt::Done => return Ok(Some(refusals)),
+            Attempt::Done => return Ok(Some(refused)),
             Attempt::Refused => {}
             Attempt::Wrong => return Ok(None),
         }
-        refusals = refusals.wrapping_add(1);
         memory.give_back();
     }
     Ok(None)
