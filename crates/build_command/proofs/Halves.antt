@@ -50,8 +50,7 @@ scheduled_build Suits s b w suits = record {
 -- a unit of the text's program that has no image
 pub unwritten : (text : List ℕ) (depth : ℕ) (u : UnitParts) (s : ScheduledParts) (e : BuildFault) → IsUnitOf text depth u → IsUnwritten s e
     → IsBuildFault text e
-unwritten text depth u s (faults.Front f) of h = absurd h
-unwritten text depth u s (faults.Types f) of h = absurd h
+unwritten text depth u s (faults.Source f) of h = absurd h
 unwritten text depth u s (faults.Limit limits.Lowering) of h = absurd h
 unwritten text depth u s (faults.Limit limits.Selection) of h = absurd h
 unwritten text depth u s (faults.Limit limits.Assembly) of h = (of.program, of.spelled)

@@ -1,20 +1,13 @@
 -- Why a text has no image.
 use Rattle.std.specs.Prelude.{ℕ, List}
-use Rattle.c_tree.specs.Tree.{Declaration}
-use Rattle.c_front.specs.Texts.{SpellsText, IsTextFault}
 use Rattle.c_typed.specs.Trees.{TypedProgram}
-use Rattle.c_statements.specs.Faults.{IsTypeFault}
-use Rattle.c_types.specs.Programs.{FaultyProgram}
 use Rattle.c_types.specs.Typed.{SpellsTyped}
 use Rattle.rtl_lower.specs.Sizes.{HaveRoom}
+use Rattle.build_command.specs.SourceFaults.{IsFaultless, IsSourceFault}
 use Rattle.build_command.specs.declared.builds.BuildFault.{BuildFault}
 use Rattle.build_command.specs.declared.builds.BuildFault.TheVariants as faults
 use Rattle.build_command.specs.declared.builds.Limit.{Limit}
 use Rattle.build_command.specs.declared.builds.Limit.TheVariants as limits
-
--- the text spells a program without faults
-abbrev pub IsFaultless : List ℕ → Type 0
-IsFaultless text = (program : TypedProgram) × SpellsTyped text program
 
 -- a program without faults whose RTL would have too many pseudo-registers in a function, or too many blocks
 pub record IsTooLongForRtl (text : List ℕ) : Type 0 where
@@ -31,7 +24,6 @@ Exceeds text limits.Assembly = IsFaultless text
 
 -- the text's own fault, or one of the program that it spells; a limit and want of memory come only where that has none
 abbrev pub IsBuildFault : List ℕ → BuildFault → Type 0
-IsBuildFault text (faults.Front f) = IsTextFault text f.kind f.at
-IsBuildFault text (faults.Types f) = (all : List Declaration) × SpellsText text all × IsTypeFault text (FaultyProgram text all) f
+IsBuildFault text (faults.Source fault) = IsSourceFault text fault
 IsBuildFault text (faults.Limit limit) = Exceeds text limit
 IsBuildFault text faults.NoMemory = IsFaultless text

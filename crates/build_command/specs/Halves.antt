@@ -38,8 +38,7 @@ pub record IsWritten (s : ScheduledParts) (b : Built) : Type 0 where
 
 -- why a scheduled unit has no image: it would be too long, or memory was refused
 abbrev pub IsUnwritten : ScheduledParts → BuildFault → Type 0
-IsUnwritten s (faults.Front f) = ⊥
-IsUnwritten s (faults.Types f) = ⊥
+IsUnwritten s (faults.Source f) = ⊥
 IsUnwritten s (faults.Limit limits.Lowering) = ⊥
 IsUnwritten s (faults.Limit limits.Selection) = ⊥
 IsUnwritten s (faults.Limit limits.Assembly) = IsScheduled s × (IsWithin (slice_index s.unit.owner) s.orders → ⊥)

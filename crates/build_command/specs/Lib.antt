@@ -2,6 +2,7 @@ pub mod Texts
 pub mod ImageRuns
 pub mod Follows
 pub mod Builds
+pub mod SourceFaults
 pub mod BuildFaults
 pub mod Commands
 -- words of private functions

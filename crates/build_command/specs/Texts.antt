@@ -3,14 +3,12 @@ use Rattle.std.specs.Prelude.{ℕ, List, ◌++◌, codes, decimal}
 use Rattle.mips_isa.specs.Texts.{rule_text}
 use Rattle.mips_steps.specs.declared.steps.Ending.{Ending}
 use Rattle.mips_steps.specs.declared.steps.Ending.TheVariants as endings
-use Rattle.c_front.specs.Messages.{fault_text as front_fault_text}
-use Rattle.c_statements.specs.Faults.{fault_text as type_fault_text}
+use Rattle.messages.specs.Texts.{source_fault_text}
 use Rattle.build_command.specs.declared.builds.BuildFault.{BuildFault}
 use Rattle.build_command.specs.declared.builds.BuildFault.TheVariants as build_faults
 
 abbrev pub build_fault_text : BuildFault → List ℕ
-build_fault_text (build_faults.Front f) = front_fault_text f
-build_fault_text (build_faults.Types f) = type_fault_text f
+build_fault_text (build_faults.Source fault) = source_fault_text fault
 build_fault_text (build_faults.Limit limit) = codes "fault 20 Limit"
 build_fault_text build_faults.NoMemory = codes "fault 30 NoMemory"
 

@@ -8,8 +8,9 @@ ghost use Rattle.build_command.specs.BuildFaults.{IsBuildFault};
 ghost use Rattle.build_command.specs.Commands.{Builds, IsBuiltAs, StopsBuild, built_text};
 
 use crate::builds::{BuildFault, Built, Limit, build_plain};
-use crate::places::{place_of, source_fault};
-use crate::scheduled_builds::{BuildOpts, build};
+use crate::places::place_of;
+use crate::scheduled_builds::{BuildOpts, build, phase_of};
+use command_line::AskedBuild;
 use commands::{Complaints, Files, HostFault, Output, read_file, tell, tell_placed, write_file};
 use delay_filler::FilledOrder;
 use list_scheduler::ListOrder;
@@ -46,7 +47,11 @@ fn tell_source_fault<E: Complaints>(
     ensures status { result ≡ 1 }
     ensures told { TellsLine E.tells err.old (build_fault_text fault) err.new }
 {
-    let place = place_of(alloc, source, text, source_fault(fault));
+    let found = match fault {
+        BuildFault::Source(found) => Some(found),
+        BuildFault::Limit(_) | BuildFault::NoMemory => None,
+    };
+    let place = place_of(alloc, source, text, found);
     tell_placed(alloc, err, &fault, &place)
 }
 
@@ -84,30 +89,23 @@ pub fn print_built<W: Output>(out: &mut W, plain: bool, built: &Built) -> io::Re
     out.send()
 }
 
-/// What is asked of a build.
-#[derive(Clone, Copy)]
-pub struct AskedBuild<'a> {
-    pub source: &'a str,
-    pub image: &'a str,
-    pub plain: bool,
-    pub options: BuildOpts,
-}
-
 fn built_as_asked<T: Threads + Wait + Sync>(
     rt: &T,
     alloc: Global,
     text: &[u8],
     asked: &AskedBuild<'_>,
 ) -> Result<Built, BuildFault>
-    requires { 1 ≤ asked.now.options.depth }
-    ensures built { IfOk result (IsBuiltAs text.now asked.now.options.depth asked.now.plain) }
+    ensures built { IfOk result (IsBuiltAs text.now asked.now.depth asked.now.plain) }
     ensures fault { IfErr result (IsBuildFault text.now) }
 {
     if asked.plain {
-        build_plain(alloc, text, asked.options.depth)
+        build_plain(alloc, text, asked.depth)
     } else {
-        let scheduler = FilledOrder(ListOrder);
-        build(rt, alloc, text, &asked.options, &scheduler, &Open)
+        let options = BuildOpts {
+            depth: asked.depth,
+            phase: phase_of(asked.workers, asked.nodes, asked.heads),
+        };
+        build(rt, alloc, text, &options, &FilledOrder(ListOrder), &Open)
     }
 }
 
@@ -121,14 +119,13 @@ pub fn build_file<T: Threads + Wait + Sync, F: Files, W: Output, E: Complaints>(
     out: &mut W,
     err: &mut E,
 ) -> u8
-    requires { 1 ≤ asked.now.options.depth }
     ensures most { result ≤ 1 }
     ensures answered { result ≢ 1 → Does F.answers files.old files.new (W.contents out.old) (W.contents out.new)
-        (Builds asked.now.source.now asked.now.image.now asked.now.options.depth asked.now.plain result) }
+        (Builds asked.now.source.now asked.now.image.now asked.now.depth asked.now.plain result) }
     ensures sent { result ≢ 1 → IsSent W.sends out.new }
     ensures quiet { result ≢ 1 → err.new ≡ err.old }
     ensures stopped { result ≡ 1 → Asks F.answers files.old files.new E.tells err.old err.new
-        (StopsBuild asked.now.source.now asked.now.image.now asked.now.options.depth asked.now.plain) }
+        (StopsBuild asked.now.source.now asked.now.image.now asked.now.depth asked.now.plain) }
 {
     let text = match read_file(alloc, asked.source, files) {
         Ok(text) => text,

@@ -1,16 +1,18 @@
 // Builds without a schedule, and what all builds share.
-ghost use Rattle.std.specs.Prelude.{◌≤◌, IfOk, IfErr};
+ghost use Rattle.std.specs.Prelude.{◌≡◌, ◌≤◌, IfOk, IfErr};
 ghost use Rattle.c_types.specs.Shape.{program_of};
 ghost use Rattle.c_types.specs.Typed.{SpellsTyped};
 ghost use Rattle.build_command.specs.Builds.{IsPlain, IsScheduledBuild};
 ghost use Rattle.build_command.specs.Follows.{FollowsText};
 ghost use Rattle.build_command.specs.BuildFaults.{IsBuildFault};
+ghost use Rattle.build_command.specs.SourceFaults.{IsSourceFault};
 ghost use Rattle.build_command.specs.Halves.{IsUnitOf, IsWritten, IsUnwritten};
 
-use c_front::{FrontFault, read};
-use c_types::{TypeFault, Typed, check};
+use c_front::read;
+use c_types::{Typed, check};
 use image::{Counts, write_image};
 use mblock::Unit;
+use messages::SourceFault;
 use mips_asm::{AsmFault, assemble};
 use mips_select::{SelectFault, select};
 use rtl_lower::{LowerFault, lower};
@@ -32,14 +34,22 @@ pub enum Limit {
 /// Why a text has no image.
 #[derive(Clone, Copy, Debug, PartialEq, Eq)]
 pub enum BuildFault {
-    /// The text spells no program (faults 1 to 5, and 30).
-    Front(FrontFault),
-    /// A declaration or a use of a name is wrong (faults 10 to 20, and 30).
-    Types(TypeFault),
+    /// The text spells no program, or a declaration or a use of a name is wrong (faults 1 to 20, and 30).
+    Source(SourceFault),
     /// 20: the program exceeds a limit.
     Limit(Limit),
     /// 30: memory was refused.
     NoMemory,
+}
+
+impl From<SourceFault> for BuildFault {
+    ghost use Rattle.build_command.specs.declared.builds.BuildFault.TheVariants.{Source};
+
+    ghost from_gives = { λ fault e. e ≡ Source fault };
+
+    fn from(fault: SourceFault) -> BuildFault {
+        BuildFault::Source(fault)
+    }
 }
 
 /// An image's bytes, how many blocks of it had which verdict, and how many there are.
@@ -51,17 +61,17 @@ pub struct Built {
 }
 
 /// The typed program that the text spells.
-pub fn typed_of(alloc: Global, text: &[u8]) -> Result<Typed, BuildFault>
+pub fn typed_of(alloc: Global, text: &[u8]) -> Result<Typed, SourceFault>
     ensures typed { IfOk result (λ t. SpellsTyped text.now (program_of t)) }
-    ensures fault { IfErr result (IsBuildFault text.now) }
+    ensures fault { IfErr result (IsSourceFault text.now) }
 {
     let program = match read(alloc, text) {
         Ok(program) => program,
-        Err(fault) => return Err(BuildFault::Front(fault)),
+        Err(fault) => return Err(SourceFault::Front(fault)),
     };
     match check(alloc, program) {
         Ok(typed) => Ok(typed),
-        Err(fault) => Err(BuildFault::Types(fault)),
+        Err(fault) => Err(SourceFault::Types(fault)),
     }
 }
 

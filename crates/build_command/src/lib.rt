@@ -2,7 +2,7 @@
 //!
 //! `build` is the whole path of `mcc build`, and `build_plain` with `--plain`: the bytes of an image that follows the
 //! program (`specs/Follows.antt`), and the report of its scheduled unit (`specs/Builds.antt`), or why the text has none
-//! (`specs/BuildFaults.antt`). `run_image` is that of `mcc run` (`specs/ImageRuns.antt`). `build_file` and `run_file` are the
+//! (`specs/BuildFaults.antt`, `specs/SourceFaults.antt`). `run_image` is that of `mcc run` (`specs/ImageRuns.antt`). `build_file` and `run_file` are the
 //! commands over files and streams: all that they ask of them, print, tell and end by (`specs/Commands.antt`); `driver::mcc`
 //! and the program mcc_build call these two. How faults and ends print stands in `specs/Texts.antt`. `print_built`,
 //! `print_run` and `tell_build` are the commands' ends, over a stream alone, for hosts without files.
@@ -39,11 +39,11 @@ mod run_commands;
 mod scheduled_builds;
 mod texts;
 
-pub use build_commands::{AskedBuild, build_file, print_built, tell_build};
+pub use build_commands::{build_file, print_built, tell_build};
 pub use builds::{BuildFault, Built, Limit, build_plain, typed_of, unit_of};
 pub use image_runs::run_image;
 pub use places::place_of;
 pub use reasons::tell_page;
 pub use run_commands::{ending_status, run_file};
-pub use scheduled_builds::{BuildOpts, build, build_one, phase_of};
+pub use scheduled_builds::{BuildOpts, build, build_one};
 pub use texts::{EndingLine, print_run};

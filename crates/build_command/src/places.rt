@@ -1,18 +1,8 @@
 // Where a fault of a C text lies, and what is said of it.
 
-use crate::builds::BuildFault;
 use commands::Place;
 use messages::{SourceFault, explain};
 use std::alloc::Global;
-
-/// The fault of a build that lies in its text.
-pub(crate) fn source_fault(fault: BuildFault) -> Option<SourceFault> {
-    match fault {
-        BuildFault::Front(fault) => Some(SourceFault::Front(fault)),
-        BuildFault::Types(fault) => Some(SourceFault::Types(fault)),
-        BuildFault::Limit(_) | BuildFault::NoMemory => None,
-    }
-}
 
 /// Where the fault of a text lies, and what is said of it.
 pub fn place_of<'a>(

@@ -22,8 +22,8 @@ pub struct BuildOpts {
     pub phase: PhaseOpts,
 }
 
-/// A phase of these numbers, which are those of a command line.
-pub fn phase_of(workers: u32, nodes: u32, heads: u32) -> PhaseOpts
+/// The phase of a command line.
+pub(crate) fn phase_of(workers: u32, nodes: u32, heads: u32) -> PhaseOpts
     requires { InRange workers nodes heads }
     ensures workers { result.workers ≡ workers }
     ensures nodes { result.nodes ≡ nodes }

@@ -17,8 +17,7 @@ impl fmt::Display for BuildFault {
 
     fn fmt<W: fmt::Write>(&self, f: &mut fmt::Formatter<W>) -> fmt::Result {
         match self {
-            BuildFault::Front(fault) => write!(f, "{fault}"),
-            BuildFault::Types(fault) => write!(f, "{fault}"),
+            BuildFault::Source(fault) => write!(f, "{fault}"),
             BuildFault::Limit(_) => f.write_str("fault 20 Limit"),
             BuildFault::NoMemory => f.write_str("fault 30 NoMemory"),
         }

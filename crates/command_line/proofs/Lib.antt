@@ -1,3 +1,4 @@
 pub mod Moves
+pub mod Programs
 pub mod Numbers
 pub mod Lists

@@ -83,6 +83,10 @@ abbrev pub IsNumber : Option Text → ℕ → ℕ → Type 0
 IsNumber None default n = n ≡ default
 IsNumber (Some text) default n = IsNumeral 10 (without_leading_plus text) × (digits_value 10 (without_leading_plus text) ≡ n)
 
+-- the same from low to high
+abbrev pub IsBounded : Option Text → (default low high : ℕ) → ℕ → Type 0
+IsBounded given default low high n = IsNumber given default n × (low ≤ n) × (n ≤ high)
+
 -- a flag that the text gives, or that isn't there
 abbrev pub IsFlag : Option Text → Bool → Type 0
 IsFlag given b = (given ≡ None → b ≡ false) × (given ≡ Some (codes "true") → b ≡ true) × (given ≡ Some (codes "false") → b ≡ false)
@@ -96,15 +100,15 @@ HasValues name rows (CheckEach files explain) =
     × IsFlag (one_of (codes "explain") rows) explain
 HasValues name rows (Interp source depth steps) =
     (name ≡ codes "interp") × (first_of (codes "SOURCE") rows ≡ Some source.now)
-    × IsNumber (one_of (codes "depth") rows) 256 depth × (1 ≤ depth) × (depth ≤ 4096)
+    × IsBounded (one_of (codes "depth") rows) 256 1 4096 depth
     × IsNumber (one_of (codes "steps") rows) 1000000 steps × (steps < 2 ^ 32)
-HasValues name rows (Build source image plain depth workers nodes heads) =
-    (name ≡ codes "build") × (first_of (codes "SOURCE") rows ≡ Some source.now) × (first_of (codes "IMAGE") rows ≡ Some image.now)
-    × IsFlag (one_of (codes "plain") rows) plain
-    × IsNumber (one_of (codes "depth") rows) 256 depth × (1 ≤ depth) × (depth ≤ 4096)
-    × IsNumber (one_of (codes "workers") rows) 4 workers × (1 ≤ workers) × (workers ≤ MAX_PASSES)
-    × IsNumber (one_of (codes "nodes") rows) 65536 nodes × (1 ≤ nodes) × (nodes ≤ MAX_NODES)
-    × IsNumber (one_of (codes "heads") rows) 1024 heads × (1 ≤ heads) × (heads ≤ MAX_HEADS)
+HasValues name rows (Build b) =
+    (name ≡ codes "build") × (first_of (codes "SOURCE") rows ≡ Some b.source.now) × (first_of (codes "IMAGE") rows ≡ Some b.image.now)
+    × IsFlag (one_of (codes "plain") rows) b.plain
+    × IsBounded (one_of (codes "depth") rows) 256 1 4096 b.depth
+    × IsBounded (one_of (codes "workers") rows) 4 1 MAX_PASSES b.workers
+    × IsBounded (one_of (codes "nodes") rows) 65536 1 MAX_NODES b.nodes
+    × IsBounded (one_of (codes "heads") rows) 1024 1 MAX_HEADS b.heads
 HasValues name rows (Run image steps) =
     (name ≡ codes "run") × (first_of (codes "IMAGE") rows ≡ Some image.now)
     × IsNumber (one_of (codes "steps") rows) 1000000 steps × (steps < 2 ^ 32)

@@ -1,3 +1,4 @@
 pub mod Commands
+pub mod Programs
 -- for private functions
 pub mod Parts

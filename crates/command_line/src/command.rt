@@ -1,3 +1,24 @@
+// The commands of the program.
+
+ghost use Rattle.std.specs.Prelude.{◌≤◌};
+ghost use Rattle.term_table.specs.Passes.{InRange};
+
+/// What is asked of a build: the C program of a file, and the file of its image, made for `depth` active calls at most (1 to
+/// 4096). `plain` leaves every block in its own order; else `workers` (1 to `MAX_PASSES`) put the blocks in order, over a table
+/// with `nodes` terms for each (1 to `MAX_NODES`) and `heads` chains (1 to `MAX_HEADS`), as term_table has them.
+#[derive(Clone, Copy)]
+pub struct AskedBuild<'a> {
+    pub source: &'a str,
+    pub image: &'a str,
+    pub plain: bool,
+    pub depth: u32,
+    pub workers: u32,
+    pub nodes: u32,
+    pub heads: u32,
+    ghost deep: { 1 ≤ depth },
+    ghost in_range: { InRange workers nodes heads },
+}
+
 /// A command of the program with its values.
 #[derive(Drop)]
 pub enum Command<'a> {
@@ -17,18 +38,8 @@ pub enum Command<'a> {
         depth: u32,
         steps: u64,
     },
-    /// The image of the C program of a file, made for `depth` active calls at most (1 to 4096). `plain` leaves every block in
-    /// its own order; else `workers` (1 to `MAX_PASSES`) put the blocks in order, over a table with `nodes` terms for each (1 to
-    /// `MAX_NODES`) and `heads` chains (1 to `MAX_HEADS`), as term_table has them.
-    Build {
-        source: &'a str,
-        image: &'a str,
-        plain: bool,
-        depth: u32,
-        workers: u32,
-        nodes: u32,
-        heads: u32,
-    },
+    /// The image of the C program of a file.
+    Build(AskedBuild<'a>),
     /// A run of the image of a file, for `steps` words at most (below 2^32).
     Run {
         image: &'a str,

@@ -14,5 +14,5 @@ mod grammar;
 mod parts;
 mod values;
 
-pub use command::Command;
+pub use command::{AskedBuild, Command};
 pub use values::words;

@@ -3,9 +3,9 @@
 ghost use Rattle.std.specs.Prelude.{◌≡◌, ℕ, ◌≤◌, true, Some, IfOk, IfErr, IfSome, map, codes};
 ghost use Rattle.clap.specs.declared.error.ErrorKind.TheVariants.{OutOfMemory};
 ghost use Rattle.clap.specs.Words.{HasMatchesOf, found_of, kind_of, one_of, rows_of, subcommand_rows_of, takes};
-ghost use Rattle.command_line.specs.Commands.{mcc_app, HasValues, IsCommand, IsFlag, IsNumber};
+ghost use Rattle.command_line.specs.Commands.{mcc_app, HasValues, IsBounded, IsCommand, IsFlag, IsNumber};
 
-use crate::command::Command;
+use crate::command::{AskedBuild, Command};
 use crate::grammar::grammar;
 use clap::{ArgMatches, Error};
 use std::alloc::{AllocError, Global};
@@ -51,8 +51,7 @@ fn number_or(values: &ArgMatches<'_>, id: &str, default: u32) -> Option<u32>
 
 /// The value of an option from low to high, or its default.
 fn bounded(values: &ArgMatches<'_>, id: &str, default: u32, low: u32, high: u32) -> Option<u32>
-    ensures number { IfSome result (IsNumber (one_of id.now (rows_of (found_of values.now))) default) }
-    ensures range { IfSome result (λ n. (low ≤ n) × (n ≤ high)) }
+    ensures { IfSome result (IsBounded (one_of id.now (rows_of (found_of values.now))) default low high) }
 {
     let n = number_or(values, id, default)?;
     if n < low || n > high {
@@ -84,7 +83,7 @@ fn entered_build<'a>(values: &ArgMatches<'a>) -> Option<Command<'a>>
     let workers = bounded(values, "workers", 4, 1, MAX_PASSES as u32)?;
     let nodes = bounded(values, "nodes", 65536, 1, MAX_NODES as u32)?;
     let heads = bounded(values, "heads", 1024, 1, MAX_HEADS as u32)?;
-    Some(Command::Build {
+    Some(Command::Build(AskedBuild {
         source,
         image,
         plain,
@@ -92,7 +91,7 @@ fn entered_build<'a>(values: &ArgMatches<'a>) -> Option<Command<'a>>
         workers,
         nodes,
         heads,
-    })
+    }))
 }
 
 fn entered_run<'a>(values: &ArgMatches<'a>) -> Option<Command<'a>>

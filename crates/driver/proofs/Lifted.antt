@@ -1,47 +1,17 @@
--- What a command did, as what the program did with its words.
+-- What a check of several files did, as what the program did with its words.
 use Rattle.std.proofs.Common.{◌≡◌, ◌≢◌, ◌⊎◌, ℕ, List, [], ◌∷◌, ◌==◌, ◌||◌, if◌then◌else◌, Bool, true, false, Option, map, fold, max, refl, sym, subst, inl, inr}
 use Rattle.std.specs.declared.vec.Vec.{Vec}
 use Rattle.std.specs.declared.alloc.Global.{Global}
 use Rattle.std.specs.Borrow.{Bor}
 use Rattle.std.specs.List.{FoldsTo, flat_map}
-use Rattle.commands.specs.Requests.{Request, Asks, Does, TellsBeside, TellsLine}
+use Rattle.commands.specs.Requests.{Request, Asks, Does, TellsLine}
 use Rattle.check_report.specs.Several.{BreaksOff, CheckedFile, ChecksAll, ChecksEach, worse, status_of, faults_of, lines_of, request_of}
 use Rattle.check_report.specs.Several.CheckedFile.{Answered, Unexplained, Faulty, Unread}
 use Rattle.command_line.specs.Commands.{IsCommand}
-use Rattle.command_line.specs.declared.command.Command.{Command}
+use Rattle.command_line.specs.Programs.{IsStopped}
 use Rattle.command_line.specs.declared.command.Command.TheVariants.{CheckEach}
-use Rattle.driver.specs.Program.{Answers, HasFaultyFile, IsAnswered, IsRemark, IsStopped, Remarks, Stops}
-
-module _ {E : Type 0} (tells : E → List ℕ → E → Type 0) (words : List (List ℕ)) (status : ℕ) (command : Command) (entered : IsCommand words command) where
-  -- what was told beside its answer
-  pub remarked : (p q : E) → TellsBeside tells p (Remarks command status) q → TellsBeside tells p (IsRemark words status) q
-  remarked p q told = (told.0, told.1, (command, entered, told.2))
-
-  -- nothing was
-  pub silent : (p q : E) → Remarks command status [] → q ≡ p → TellsBeside tells p (IsRemark words status) q
-  silent p q nothing same = ([], sym same, (command, entered, nothing))
-
--- it has its answer
-pub answered_by : {F : Type 0} (answers : F → Request → F → Type 0) (words : List (List ℕ)) (status : ℕ) (command : Command) → IsCommand words command
-    → (f g : F) (o r : Option (List ℕ)) → Does answers f g o r (Answers command status) → Does answers f g o r (IsAnswered words status)
-answered_by answers words status command entered f g o r does = record {
-  requests = does.requests;
-  printed = does.printed;
-  asked = does.asked;
-  took = does.took;
-  means = record { command = command; entered = entered; answered = does.means };
-}
-
--- it ended by a fault
-pub stopped_by : {F E : Type 0} (answers : F → Request → F → Type 0) (tells : E → List ℕ → E → Type 0) (words : List (List ℕ)) (command : Command)
-    → IsCommand words command → (f g : F) (p q : E) → Asks answers f g tells p q (Stops command) → Asks answers f g tells p q (IsStopped words)
-stopped_by answers tells words command entered f g p q asks = record {
-  requests = asks.requests;
-  text = asks.text;
-  asked = asks.asked;
-  told = asks.told;
-  means = inr (command, entered, asks.means);
-}
+use Rattle.command_line.proofs.Programs.{stopped_by}
+use Rattle.driver.specs.Program.{HasFaultyFile, Stops}
 
 one_or : (b : Bool) (n : ℕ) → (if b || true then 1 else n) ≡ 1
 one_or true n = refl
@@ -101,14 +71,14 @@ module _ {F E : Type 0} (answers : F → Request → F → Type 0) (tells : E �
     silent_of (inr stop) other = absurd (other stop.0)
 
     stopped_of : (words : List (List ℕ)) → IsCommand words (CheckEach files explain) → Each files.items → status ≡ 1
-        → Asks answers f g tells p q (IsStopped words) ⊎ HasFaultyFile answers f g o r tells p q words
+        → Asks answers f g tells p q (IsStopped Stops words) ⊎ HasFaultyFile answers f g o r tells p q words
     stopped_of words entered (inl all) one = inr (record {
       files = files;
       explain = explain;
       entered = entered;
       checked = subst (λ (s : ℕ). ChecksAll answers f g o r tells p q explain (map (λ t. t.now) files.items) s) one all.0;
     })
-    stopped_of words entered (inr stop) one = inl (stopped_by answers tells words (CheckEach files explain) entered f g p q stop.1)
+    stopped_of words entered (inr stop) one = inl (stopped_by Stops answers tells words (CheckEach files explain) entered f g p q stop.1)
 
     pub all_answered : Each ns → status ≢ 1 → Does answers f g o r (ChecksEach explain (map (λ s. s.now) files.items) status)
     all_answered each = answered_of (subst Each same each)
@@ -117,5 +87,5 @@ module _ {F E : Type 0} (answers : F → Request → F → Type 0) (tells : E �
     all_silent each = silent_of (subst Each same each)
 
     pub all_stopped : (words : List (List ℕ)) → IsCommand words (CheckEach files explain) → Each ns → status ≡ 1
-        → Asks answers f g tells p q (IsStopped words) ⊎ HasFaultyFile answers f g o r tells p q words
+        → Asks answers f g tells p q (IsStopped Stops words) ⊎ HasFaultyFile answers f g o r tells p q words
     all_stopped words entered each = stopped_of words entered (subst Each same each)

@@ -1,11 +1,8 @@
 -- The run of a program's text, or why it has none.
 use Rattle.std.specs.Prelude.{◌≡◌, ℕ, List}
 use Rattle.runs.specs.Runs.{Outcome}
-use Rattle.c_tree.specs.Tree.{Declaration}
-use Rattle.c_front.specs.Texts.{SpellsText, IsTextFault}
 use Rattle.c_typed.specs.Trees.{TypedProgram}
-use Rattle.c_statements.specs.Faults.{IsTypeFault}
-use Rattle.c_types.specs.Programs.{FaultyProgram}
+use Rattle.build_command.specs.SourceFaults.{IsFaultless, IsSourceFault}
 use Rattle.c_types.specs.Typed.{SpellsTyped}
 use Rattle.c_typed.specs.Meaning.{source_run}
 use Rattle.driver.specs.declared.source_runs.InterpFault.{InterpFault}
@@ -19,6 +16,5 @@ pub record IsRun (text : List ℕ) (depth steps : ℕ) (o : Outcome) : Type 0 wh
 
 -- the text's own fault, or one of the program that it spells; want of memory comes only where that has none
 abbrev pub IsInterpFault : List ℕ → InterpFault → Type 0
-IsInterpFault text (faults.Front f) = IsTextFault text f.kind f.at
-IsInterpFault text (faults.Types f) = (all : List Declaration) × SpellsText text all × IsTypeFault text (FaultyProgram text all) f
-IsInterpFault text faults.NoMemory = (program : TypedProgram) × SpellsTyped text program
+IsInterpFault text (faults.Source fault) = IsSourceFault text fault
+IsInterpFault text faults.NoMemory = IsFaultless text

@@ -1,6 +1,7 @@
 -- Why nothing of a text is shown.
 use Rattle.std.specs.Prelude.{ℕ, List, codes}
-use Rattle.build_command.specs.BuildFaults.{IsBuildFault, IsFaultless}
+use Rattle.build_command.specs.BuildFaults.{IsBuildFault}
+use Rattle.build_command.specs.SourceFaults.{IsFaultless}
 use Rattle.build_command.specs.Texts.{build_fault_text}
 use Rattle.driver.specs.declared.show_commands.StagesFault.{StagesFault}
 use Rattle.driver.specs.declared.show_commands.StagesFault.TheVariants as faults

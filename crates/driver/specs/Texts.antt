@@ -2,14 +2,12 @@
 use Rattle.std.specs.Prelude.{ℕ, List, ◌++◌, codes, decimal}
 use Rattle.runs.specs.declared.ran.End.{End}
 use Rattle.runs.specs.declared.ran.End.TheVariants.{Done, Wrong, More}
-use Rattle.c_front.specs.Messages.{fault_text as front_fault_text}
-use Rattle.c_statements.specs.Faults.{fault_text as type_fault_text}
+use Rattle.messages.specs.Texts.{source_fault_text}
 use Rattle.driver.specs.declared.source_runs.InterpFault.{InterpFault}
 use Rattle.driver.specs.declared.source_runs.InterpFault.TheVariants as interp_faults
 
 abbrev pub interp_fault_text : InterpFault → List ℕ
-interp_fault_text (interp_faults.Front f) = front_fault_text f
-interp_fault_text (interp_faults.Types f) = type_fault_text f
+interp_fault_text (interp_faults.Source fault) = source_fault_text fault
 interp_fault_text interp_faults.NoMemory = codes "fault 30 NoMemory"
 
 -- the last line of a program's run, and its status

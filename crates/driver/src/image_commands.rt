@@ -1,82 +1,24 @@
-// The commands that show an image.
+// The command that shows an image.
 
-ghost use Rattle.std.specs.Prelude.{◌≡◌, ◌≤◌, All, IfErr, IfOk};
-ghost use Rattle.std.specs.String.{string_bytes};
-ghost use Rattle.commands.specs.Requests.{IsNothing};
+ghost use Rattle.std.specs.Prelude.{All, IfErr, IfOk};
 ghost use Rattle.block_text.specs.Shown.{IsShown};
-ghost use Rattle.build_command.specs.Commands.{IsRefused};
 ghost use Rattle.driver.specs.Listings.{IsListing, IsOfImage};
-ghost use Rattle.driver.specs.Program.{IsPage, PrintsPage};
 ghost use Rattle.image.specs.Images.{IsImageFault};
-ghost use Rattle.image.specs.Texts.{image_fault_text};
 
 use crate::listings::list_image;
-use crate::show_commands::print_page;
+use crate::pages::PageCommand;
 use asm_text::source;
-use commands::{Complaints, FileCommand, HostFault, Output, tell};
+use commands::{Complaints, tell};
 use image::{ImageFault, read_image};
 use std::alloc::Global;
 
-/// `mcc list`.
-#[derive(Clone, Copy)]
-pub(crate) struct ListCommand;
-
-impl FileCommand for ListCommand {
-    type Answer = String;
-
-    type Fault = ImageFault;
-
-    ghost answers = { λ s bytes text. IsListing bytes (string_bytes text) };
-
-    ghost faults = { λ s bytes fault. IsImageFault bytes fault };
-
-    ghost prints = { λ s text printed. printed ≡ string_bytes text };
-
-    ghost status = { λ _. 0 };
-
-    ghost most = { 0 };
-
-    ghost line = { image_fault_text };
-
-    ghost unprinted = { IsRefused };
-
-    ghost remarks = { λ status told. IsNothing told };
-
-    fn work(&self, alloc: Global, bytes: &[u8]) -> Result<String, ImageFault> {
-        list_image(alloc, bytes)
-    }
-
-    fn print<W: Output>(
-        &self,
-        _alloc: Global,
-        _bytes: &[u8],
-        answer: &String,
-        out: &mut W,
-    ) -> Result<u8, HostFault> {
-        match print_page(out, answer.as_bytes()) {
-            Ok(()) => Ok(0),
-            Err(_) => Err(HostFault::CannotWrite),
-        }
-    }
-
-    fn remark<E: Complaints>(
-        &self,
-        _alloc: Global,
-        _bytes: &[u8],
-        _answer: &String,
-        _err: &mut E,
-    ) {}
-
-    fn tell<E: Complaints>(
-        &self,
-        _alloc: Global,
-        _file: &str,
-        _bytes: &[u8],
-        fault: ImageFault,
-        err: &mut E,
-    ) -> u8 {
-        tell(err, &fault)
-    }
+/// The listing of an image's bytes, if they are those of one.
+fn listing_of(alloc: Global, bytes: &[u8]) -> Result<Vec<u8>, ImageFault>
+    ensures listed { IfOk result (λ page. IsListing bytes.now page.items) }
+    ensures fault { IfErr result (IsImageFault bytes.now) }
+{
+    let listing = list_image(alloc, bytes)?;
+    Ok(listing.into_bytes())
 }
 
 /// The assembler source of an image's bytes, if they are those of one.
@@ -95,57 +37,33 @@ fn source_of(alloc: Global, bytes: &[u8]) -> Result<Vec<u8>, ImageFault>
     }
 }
 
-/// `mcc list --asm`.
+/// `mcc list`, or with `asm` `mcc list --asm`.
 #[derive(Clone, Copy)]
-pub(crate) struct AssembleCommand;
+pub(crate) struct ImageCommand {
+    pub(crate) asm: bool,
+}
 
-impl FileCommand for AssembleCommand {
-    type Answer = Vec<u8>;
+impl PageCommand for ImageCommand {
+    ghost use Rattle.driver.specs.Program.{IsImagePage};
+    ghost use Rattle.image.specs.Texts.{image_fault_text};
 
     type Fault = ImageFault;
 
-    ghost answers = { λ s bytes page. IsOfImage bytes × IsPage page };
+    ghost pages = { λ s bytes page. IsImagePage s.asm bytes page };
 
-    ghost faults = { λ s bytes fault. IsImageFault bytes fault };
+    ghost page_faults = { λ bytes fault. IsImageFault bytes fault };
 
-    ghost prints = { λ s page printed. PrintsPage page printed };
+    ghost fault_line = { image_fault_text };
 
-    ghost status = { λ _. 0 };
-
-    ghost most = { 0 };
-
-    ghost line = { image_fault_text };
-
-    ghost unprinted = { IsRefused };
-
-    ghost remarks = { λ status told. IsNothing told };
-
-    fn work(&self, alloc: Global, bytes: &[u8]) -> Result<Vec<u8>, ImageFault> {
-        source_of(alloc, bytes)
-    }
-
-    fn print<W: Output>(
-        &self,
-        _alloc: Global,
-        _bytes: &[u8],
-        answer: &Vec<u8>,
-        out: &mut W,
-    ) -> Result<u8, HostFault> {
-        match print_page(out, answer.as_slice()) {
-            Ok(()) => Ok(0),
-            Err(_) => Err(HostFault::CannotWrite),
+    fn page(&self, alloc: Global, bytes: &[u8]) -> Result<Vec<u8>, ImageFault> {
+        if self.asm {
+            source_of(alloc, bytes)
+        } else {
+            listing_of(alloc, bytes)
         }
     }
 
-    fn remark<E: Complaints>(
-        &self,
-        _alloc: Global,
-        _bytes: &[u8],
-        _answer: &Vec<u8>,
-        _err: &mut E,
-    ) {}
-
-    fn tell<E: Complaints>(
+    fn tell_fault<E: Complaints>(
         &self,
         _alloc: Global,
         _file: &str,

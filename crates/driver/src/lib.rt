@@ -4,10 +4,10 @@
 //! (`specs/Interps.antt`), and `list_image` that of `mcc list` (`specs/Listings.antt`). `mcc build` and `mcc run` are the
 //! crate build_command, `mcc check` the crates check_command (one file) and check_report (several files, and `--explain`),
 //! `mcc show` the crate show, and what commands share is the crate commands. `mcc` is the whole program, which `main` calls
-//! with the real files and streams: all that it asks of them, prints and ends by (`specs/Program.antt`). It takes the words
-//! of the command line by the crate command_line. How ends and faults of a text's runs print stands in `specs/Texts.antt`;
-//! `tell_interp` and `tell_stages` tell faults, over a stream alone, for hosts without files; `stages` is what `mcc show`
-//! prints. `build`, `run_image`, `check` and their like are exported here too.
+//! with the real files and streams: all that it asks of them, prints and ends by is what the command of its words does
+//! (`specs/Program.antt`), and it takes these by the crate command_line. How ends and faults of a text's runs print stands in
+//! `specs/Texts.antt`; `tell_interp` and `tell_stages` tell faults, over a stream alone, for hosts without files; `stages` is
+//! what `mcc show` prints. `build`, `run_image`, `check` and their like are exported here too.
 //!
 //! What is promised:
 //! - `driver::interp`: where it is Ok, the text spells a program, the program has no fault, and the answer is what so
@@ -22,14 +22,14 @@
 //!   those of `check FILE` without `--explain`, and that of `mcc_build` never where it takes them as those of `build` or `run`.
 //! - `driver::mcc`, over any files and any standard error, where clap takes the words: unless the status is 1, the
 //!   words are a command, all that was asked of the files, what standard output took and the status are those of an
-//!   answer that the command's own call may give, with the words' depth, steps and `--plain` (`answered`: `IsAnswered`
-//!   of specs/Program.antt), and nothing was told, but beside a run that is wrong or stuck lines of printable ASCII, which
+//!   answer that the command's own call may give, with the words' depth, steps and `--plain` (`answered`: `IsAnswered` over
+//!   `Answers` of specs/Program.antt), and nothing was told, but beside a run that is wrong or stuck lines of printable ASCII, which
 //!   say why (`quiet`: `IsRemark`). A status of 1 comes with the line of a fault that the command's own contract allows,
 //!   or, of several check texts, where one has a fault and each has its line (`HasFaultyFile`); IMAGE is asked to be
 //!   nothing but the bytes of an image of what was read from SOURCE, and SOURCE is only read (`stopped`: `IsStopped`).
 //!   `check_command::check_file` promises the same of `check`. Of what `show`, `list --asm` and (behind the answer)
 //!   `check --explain` print no more is promised than that the source has no fault, or the file is an image, and that it
-//!   is printable ASCII in lines (`Shows`, `Assembles`, `Explains`). Not promised: that refused memory, which is told by
+//!   is printable ASCII in lines (`Shows`, `IsImagePage`, `Explains`). Not promised: that refused memory, which is told by
 //!   status 1 before any file is read, was really refused; what stands below a fault's line, but that it steers no
 //!   terminal (`tell_placed` of commands), and clap's texts.
 //! - Only tested: that ten programs print what they should (the eight of crates/c_programs what gcc's builds of them
@@ -56,6 +56,7 @@
 
 mod image_commands;
 mod listings;
+mod pages;
 mod program;
 mod reasons;
 mod show_commands;
@@ -67,9 +68,10 @@ pub use build_command::{
     print_built, print_run, run_image, tell_build, unit_of,
 };
 pub use check_command::{CheckAnswer, CheckFault, check};
-pub use command_line::{Command, words};
+pub use command_line::{AskedBuild, Command, words};
 pub use commands::{FileFault, Files};
 pub use listings::list_image;
+pub use messages::SourceFault;
 pub use program::{end_status, mcc, tell_interp};
 pub use show_commands::{StagesFault, stages, tell_stages};
 pub use source_runs::{InterpFault, interp};

@@ -3,17 +3,17 @@ ghost use Rattle.std.specs.Prelude.{◌≡◌, ◌≢◌, ◌≤◌, ◌⊎◌, 
 ghost use Rattle.clap.specs.Words.{takes};
 ghost use Rattle.command_line.specs.Commands.{mcc_app};
 ghost use Rattle.commands.specs.Requests.{Asks, Does, IsSent, TellsBeside, TellsLine};
-ghost use Rattle.driver.specs.Program.{HasFaultyFile, IsAnswered, IsRemark, IsStopped};
+ghost use Rattle.command_line.specs.Programs.{IsAnswered, IsRemark, IsStopped};
+ghost use Rattle.driver.specs.Program.{Answers, HasFaultyFile, Remarks, Stops};
 ghost use Rattle.driver.specs.Texts.{end_status, interp_fault_text};
 
-use crate::image_commands::{AssembleCommand, ListCommand};
+use crate::image_commands::ImageCommand;
+use crate::pages::Paged;
 use crate::reasons::wrong_page;
 use crate::show_commands::ShowCommand;
-use crate::source_runs::{InterpFault, interp, source_fault};
+use crate::source_runs::{InterpFault, interp};
 use crate::texts::EndLine;
-use build_command::{
-    AskedBuild, BuildOpts, build_file, phase_of, place_of, print_run, run_file, tell_page,
-};
+use build_command::{build_file, place_of, print_run, run_file, tell_page};
 use check_command::check_file;
 use check_report::{check_files, explain_file};
 use command_line::{Command, words};
@@ -51,7 +51,11 @@ pub fn tell_interp<E: Complaints>(
     ensures status { result ≡ 1 }
     ensures told { TellsLine E.tells err.old (interp_fault_text fault) err.new }
 {
-    let place = place_of(alloc, source, text, source_fault(fault));
+    let found = match fault {
+        InterpFault::Source(found) => Some(found),
+        InterpFault::NoMemory => None,
+    };
+    let place = place_of(alloc, source, text, found);
     tell_placed(alloc, err, &fault, &place)
 }
 
@@ -139,12 +143,12 @@ pub fn mcc<T: Threads + Wait + Sync, F: Files, W: Output, E: Complaints>(
     ensures taken { takes mcc_app (map (λ s. s.now) args.entry.now) ≡ true → result ≢ 2 }
     ensures answered { takes mcc_app (map (λ s. s.now) args.entry.now) ≡ true → result ≢ 1
         → Does F.answers files.old files.new (W.contents out.old) (W.contents out.new)
-        (IsAnswered (map (λ s. s.now) args.entry.now) result) }
+        (IsAnswered Answers (map (λ s. s.now) args.entry.now) result) }
     ensures sent { result ≢ 1 → result ≢ 2 → IsSent W.sends out.new }
     ensures quiet { takes mcc_app (map (λ s. s.now) args.entry.now) ≡ true → result ≢ 1
-        → TellsBeside E.tells err.old (IsRemark (map (λ s. s.now) args.entry.now) result) err.new }
+        → TellsBeside E.tells err.old (IsRemark Remarks (map (λ s. s.now) args.entry.now) result) err.new }
     ensures stopped { result ≡ 1
-        → Asks F.answers files.old files.new E.tells err.old err.new (IsStopped (map (λ s. s.now) args.entry.now))
+        → Asks F.answers files.old files.new E.tells err.old err.new (IsStopped Stops (map (λ s. s.now) args.entry.now))
         ⊎ HasFaultyFile F.answers files.old files.new (W.contents out.old) (W.contents out.new) E.tells err.old err.new
         (map (λ s. s.now) args.entry.now) }
 {
@@ -176,33 +180,10 @@ pub fn mcc<T: Threads + Wait + Sync, F: Files, W: Output, E: Complaints>(
             out,
             err,
         ),
-        Ok(
-            Command::Build {
-                source,
-                image,
-                plain,
-                depth,
-                workers,
-                nodes,
-                heads,
-            },
-        ) => {
-            let phase = phase_of(workers, nodes, heads);
-            let asked = AskedBuild {
-                source,
-                image,
-                plain,
-                options: BuildOpts { depth, phase },
-            };
-            build_file(rt, alloc, &asked, files, out, err)
-        }
+        Ok(Command::Build(asked)) => build_file(rt, alloc, &asked, files, out, err),
         Ok(Command::Run { image, steps }) => { run_file(alloc, image, steps, files, out, err) }
         Ok(Command::List { image, asm }) => {
-            if asm {
-                answer_file(alloc, &AssembleCommand, image, files, out, err)
-            } else {
-                answer_file(alloc, &ListCommand, image, files, out, err)
-            }
+            answer_file(alloc, &Paged(ImageCommand { asm }), image, files, out, err)
         }
         Ok(
             Command::Show {
@@ -217,7 +198,14 @@ pub fn mcc<T: Threads + Wait + Sync, F: Files, W: Output, E: Complaints>(
                 function,
                 dot,
             };
-            answer_file(alloc, &ShowCommand { asked }, source, files, out, err)
+            answer_file(
+                alloc,
+                &Paged(ShowCommand { asked }),
+                source,
+                files,
+                out,
+                err,
+            )
         }
         Err(error) => tell_words(&error, out, err),
     }

@@ -1,24 +1,25 @@
 // The command that shows what becomes of a program, stage by stage.
 
-ghost use Rattle.std.specs.Prelude.{◌≡◌, ◌⊎◌, All, IfErr, IfOk, OnOk, Some};
-ghost use Rattle.std.specs.Io.KnownBytes.{Appends};
-ghost use Rattle.commands.specs.Requests.{IsSent, TellsLine};
+ghost use Rattle.std.specs.Prelude.{◌≡◌, ◌⊎◌, All, IfErr, IfOk, Some};
+ghost use Rattle.commands.specs.Requests.{TellsLine};
 ghost use Rattle.block_text.specs.Shown.{IsShown};
-ghost use Rattle.build_command.specs.BuildFaults.{IsBuildFault, IsFaultless};
+ghost use Rattle.build_command.specs.BuildFaults.{IsBuildFault};
+ghost use Rattle.build_command.specs.SourceFaults.{IsFaultless};
 ghost use Rattle.driver.specs.Stages.{IsStagesFault, stages_fault_text};
 
+use crate::pages::PageCommand;
 use crate::reasons::page;
 use build_command::{BuildFault, Limit, tell_build, tell_page, typed_of};
 use c_front::read;
 use c_tree::{Declaration, Program};
-use commands::{Complaints, FileCommand, HostFault, Output, tell};
+use commands::{Complaints, tell};
 use mips_select::{Numbered, SelectFault, select_numbered};
 use rtl::Rtl;
 use rtl_lower::{LowerFault, lower};
 use show::{Asked, ShowFault, Shown, show};
 use std::alloc::{AllocError, Global};
 use std::error::Error;
-use std::{fmt, io, str};
+use std::{fmt, str};
 
 /// Why nothing of a text is shown.
 #[derive(Clone, Copy, Debug, PartialEq, Eq)]
@@ -50,10 +51,7 @@ fn rtl_of(alloc: Global, text: &[u8]) -> Result<Rtl, BuildFault>
     ensures spelled { IfOk result (λ _. IsFaultless text.now) }
     ensures fault { IfErr result (IsBuildFault text.now) }
 {
-    let typed = match typed_of(alloc, text) {
-        Ok(typed) => typed,
-        Err(fault) => return Err(fault),
-    };
+    let typed = typed_of(alloc, text)?;
     match lower(alloc, &typed) {
         Ok(rtl) => Ok(rtl),
         Err(LowerFault::Limit) => Err(BuildFault::Limit(Limit::Lowering)),
@@ -215,72 +213,28 @@ pub fn tell_stages<E: Complaints>(
     tell_asked(alloc, err, source, text, fault, &unknown)
 }
 
-/// Text that may be printed.
-pub(crate) fn print_page<W: Output>(out: &mut W, page: &[u8]) -> io::Result<()>
-    ensures sent { OnOk result (IsSent W.sends out.new) }
-    ensures page { OnOk result (Appends (W.contents out.old) (W.contents out.new) page.now) }
-{
-    out.write_all(page)?;
-    out.send()
-}
-
 /// `mcc show`, with what is asked for.
 #[derive(Clone, Copy)]
 pub(crate) struct ShowCommand<'a> {
     pub(crate) asked: Asked<'a>,
 }
 
-impl<'a> FileCommand for ShowCommand<'a> {
-    ghost use Rattle.commands.specs.Requests.{IsNothing};
-    ghost use Rattle.build_command.specs.Commands.{IsRefused};
-    ghost use Rattle.driver.specs.Program.{IsPage, PrintsPage};
-
-    type Answer = Vec<u8>;
+impl<'a> PageCommand for ShowCommand<'a> {
+    ghost use Rattle.driver.specs.Program.{IsPage};
 
     type Fault = StagesFault;
 
-    ghost answers = { λ s text page. IsFaultless text × IsPage page };
+    ghost pages = { λ s text page. IsFaultless text × IsPage page };
 
-    ghost faults = { λ s text fault. IsStagesFault text fault };
+    ghost page_faults = { λ text fault. IsStagesFault text fault };
 
-    ghost prints = { λ s page printed. PrintsPage page printed };
+    ghost fault_line = { stages_fault_text };
 
-    ghost status = { λ _. 0 };
-
-    ghost most = { 0 };
-
-    ghost line = { stages_fault_text };
-
-    ghost unprinted = { IsRefused };
-
-    ghost remarks = { λ status told. IsNothing told };
-
-    fn work(&self, alloc: Global, bytes: &[u8]) -> Result<Vec<u8>, StagesFault> {
+    fn page(&self, alloc: Global, bytes: &[u8]) -> Result<Vec<u8>, StagesFault> {
         stages(alloc, bytes, &self.asked)
     }
 
-    fn print<W: Output>(
-        &self,
-        _alloc: Global,
-        _bytes: &[u8],
-        answer: &Vec<u8>,
-        out: &mut W,
-    ) -> Result<u8, HostFault> {
-        match print_page(out, answer.as_slice()) {
-            Ok(()) => Ok(0),
-            Err(_) => Err(HostFault::CannotWrite),
-        }
-    }
-
-    fn remark<E: Complaints>(
-        &self,
-        _alloc: Global,
-        _bytes: &[u8],
-        _answer: &Vec<u8>,
-        _err: &mut E,
-    ) {}
-
-    fn tell<E: Complaints>(
+    fn tell_fault<E: Complaints>(
         &self,
         alloc: Global,
         file: &str,

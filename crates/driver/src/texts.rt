@@ -13,8 +13,7 @@ impl fmt::Display for InterpFault {
 
     fn fmt<W: fmt::Write>(&self, f: &mut fmt::Formatter<W>) -> fmt::Result {
         match self {
-            InterpFault::Front(fault) => write!(f, "{fault}"),
-            InterpFault::Types(fault) => write!(f, "{fault}"),
+            InterpFault::Source(fault) => write!(f, "{fault}"),
             InterpFault::NoMemory => f.write_str("fault 30 NoMemory"),
         }
     }

@@ -3,29 +3,23 @@
 //!
 //! What is promised:
 //! - Where clap takes the words as those of `build` or of `run`, the program asks of its files, prints, tells and ends by what
-//!   `driver::mcc` does (`answered`, `quiet`, `stopped`: specs/Program.antt); the status is never 2. Like `mcc` it works on a
-//!   thread of 1 GiB of stack.
+//!   `driver::mcc` does (`answered`, `quiet`, `stopped`: specs/Program.antt); the status is never 2.
 #![tactic(auto)]
 
 ghost use Rattle.std.specs.Prelude.{◌≡◌, ◌≢◌, ◌≤◌, map};
+ghost use Rattle.command_line.specs.Programs.{IsAnswered, IsRemark, IsStopped};
 ghost use Rattle.commands.specs.Requests.{Asks, Does, IsSent, TellsBeside};
-ghost use Rattle.mcc_build.specs.Program.{IsAnswered, IsRemark, IsStopped};
+ghost use Rattle.mcc_build.specs.Program.{Answers, Remarks, Stops};
 ghost use Rattle.mcc_build.specs.Words.{AreOfBuildOrRun};
 
-use build_command::{AskedBuild, BuildOpts, build_file, phase_of, run_file};
+use build_command::{build_file, run_file};
 use command_line::{Command, words};
-use commands::{Complaints, Files, HostFault, Output, tell, tell_words};
-use disk::{Disk, named_words, owned_words, tell_no_words};
+use commands::{Complaints, Files, Output, tell_words};
+use disk::{Program, run};
 use std::alloc::Global;
-use std::io::{self, BufWriter, Write};
 use std::process::ExitCode;
-use std::rt::Files as HostFiles;
 use std::sync::Wait;
-use std::thread;
-use std::thread::{Builder, Threads};
-
-/// The address space that the working thread's stack takes; memory is had as the stack grows.
-const STACK: usize = 0x4000_0000;
+use std::thread::Threads;
 
 /// Where another command than `build` and `run` is asked for.
 fn tell_others<E: Complaints>(err: &mut E) -> u8
@@ -49,84 +43,37 @@ fn answer<T: Threads + Wait + Sync, F: Files, W: Output, E: Complaints>(
     ensures taken { AreOfBuildOrRun (map (λ s. s.now) args.entry.now) → result ≢ 2 }
     ensures answered { AreOfBuildOrRun (map (λ s. s.now) args.entry.now) → result ≢ 1
         → Does F.answers files.old files.new (W.contents out.old) (W.contents out.new)
-        (IsAnswered (map (λ s. s.now) args.entry.now) result) }
+        (IsAnswered Answers (map (λ s. s.now) args.entry.now) result) }
     ensures sent { result ≢ 1 → result ≢ 2 → IsSent W.sends out.new }
     ensures quiet { AreOfBuildOrRun (map (λ s. s.now) args.entry.now) → result ≢ 1
-        → TellsBeside E.tells err.old (IsRemark (map (λ s. s.now) args.entry.now) result) err.new }
+        → TellsBeside E.tells err.old (IsRemark Remarks (map (λ s. s.now) args.entry.now) result) err.new }
     ensures stopped { result ≡ 1
-        → Asks F.answers files.old files.new E.tells err.old err.new (IsStopped (map (λ s. s.now) args.entry.now)) }
+        → Asks F.answers files.old files.new E.tells err.old err.new (IsStopped Stops (map (λ s. s.now) args.entry.now)) }
 {
     match words(alloc, args) {
-        Ok(
-            Command::Build {
-                source,
-                image,
-                plain,
-                depth,
-                workers,
-                nodes,
-                heads,
-            },
-        ) => {
-            let phase = phase_of(workers, nodes, heads);
-            let asked = AskedBuild {
-                source,
-                image,
-                plain,
-                options: BuildOpts { depth, phase },
-            };
-            build_file(rt, alloc, &asked, files, out, err)
-        }
+        Ok(Command::Build(asked)) => build_file(rt, alloc, &asked, files, out, err),
         Ok(Command::Run { image, steps }) => run_file(alloc, image, steps, files, out, err),
         Ok(_) => tell_others(err),
         Err(error) => tell_words(&error, out, err),
     }
 }
 
-fn work<
-    T: Threads + Wait + Sync,
-    R: HostFiles + AllocGlobal + Input,
-    W: Write + Drop,
-    E: Write + Drop,
->(threads: &T, rt: &R, args: &[&str], out: W, mut err: E) -> u8 {
-    let mut disk = Disk { rt };
-    match BufWriter::new(rt.alloc(), out) {
-        Ok(mut out) => answer(threads, rt.alloc(), args, &mut disk, &mut out, &mut err),
-        Err(_) => tell(&mut err, &HostFault::NoMemory),
-    }
-}
+struct BuildAndRun;
 
-/// The work on a thread with a large stack; None where no such thread can be had.
-fn work_apart(
-    threads: &(impl Threads + Wait + Sync),
-    rt: &HostRuntime,
-    args: &[&str],
-) -> Option<u8> {
-    thread::scope(thread::scope_env(), threads, |scope| {
-        let started = Builder::new().stack_size(STACK).spawn_scoped(
-            scope,
-            move || work(threads, rt, args, rt.stdout(), rt.stderr()),
-        );
-        match started {
-            Ok(worker) => Some(worker.join(threads)),
-            Err(_) => None,
-        }
-    })
+impl Program for BuildAndRun {
+    fn answer<T: Threads + Wait + Sync, F: Files, W: Output, E: Complaints>(
+        &self,
+        threads: &T,
+        alloc: Global,
+        words: &[&str],
+        files: &mut F,
+        out: &mut W,
+        err: &mut E,
+    ) -> u8 {
+        answer(threads, alloc, words, files, out, err)
+    }
 }
 
 fn main(rt: HostRuntime) -> ExitCode {
-    let mut err = rt.stderr();
-    let owned = match owned_words(&rt) {
-        Ok(owned) => owned,
-        Err(e) => return ExitCode::from(tell_no_words(&mut err, &e)),
-    };
-    let args = match named_words(rt.alloc(), owned.as_slice()) {
-        Ok(args) => args,
-        Err(e) => return ExitCode::from(tell_no_words(&mut err, &io::Error::from(e))),
-    };
-    let args = args.as_slice();
-    match work_apart(&rt, &rt, args) {
-        Some(status) => ExitCode::from(status),
-        None => ExitCode::from(work(&rt, &rt, args, rt.stdout(), rt.stderr())),
-    }
+    run(&BuildAndRun, &rt, &rt)
 }

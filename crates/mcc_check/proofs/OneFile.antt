@@ -29,7 +29,7 @@ by_values rows file (Check name explain) one unset has = is_unset (one_of (codes
 by_values rows file (CheckEach files explain) one unset has =
     absurd (two_files files.items file has.2 (some_is (map (λ s. s.now) files.items) (file ∷ []) (sym has.1 ∙ one)))
 by_values rows file (Interp source depth steps) one unset has = let no = ap first has.0 in absurd (omega arith)
-by_values rows file (Build source image plain depth workers nodes heads) one unset has = let no = ap first has.0 in absurd (omega arith)
+by_values rows file (Build b) one unset has = let no = ap first has.0 in absurd (omega arith)
 by_values rows file (Run image steps) one unset has = let no = ap first has.0 in absurd (omega arith)
 by_values rows file (Listing image asm) one unset has = let no = ap first has.0 in absurd (omega arith)
 by_values rows file (Show source stage function dot) one unset has = let no = ap first has.0 in absurd (omega arith)

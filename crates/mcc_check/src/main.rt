@@ -15,12 +15,12 @@ ghost use Rattle.mcc_check.specs.Words.{AreOfCheck, IsCheck, IsOne};
 
 use check_command::check_file;
 use command_line::{Command, words};
-use commands::{Files, HostFault, tell, tell_words};
-use disk::{Disk, named_words, owned_words, tell_no_words};
+use commands::{Complaints, Files, Output, tell_words};
+use disk::{Program, run};
 use std::alloc::Global;
-use std::io::{self, BufWriter, Write};
 use std::process::ExitCode;
-use std::rt::Files as HostFiles;
+use std::sync::Wait;
+use std::thread::Threads;
 
 /// The file of a check of one file, without `--explain`; None of any other command.
 fn file_of<'a>(command: &Command<'a>) -> Option<&'a str>
@@ -33,10 +33,10 @@ fn file_of<'a>(command: &Command<'a>) -> Option<&'a str>
 }
 
 /// Where anything else than `check FILE` is asked for.
-fn tell_others<E: Write>(err: &mut E) -> u8
+fn tell_others<E: Complaints>(err: &mut E) -> u8
     ensures { result ≡ 2 }
 {
-    let _ = err.write_all(
+    err.bytes(
         b"error: this program has check FILE alone; ./mcc has --explain, several files and the other commands\n",
     );
     2
@@ -44,7 +44,7 @@ fn tell_others<E: Write>(err: &mut E) -> u8
 
 /// The program over its words (the first is its name), its files and two writers. The answer is the exit status, as `mcc` has
 /// it; 2 also for another command, for several files and for `--explain`.
-fn answer<F: Files, W: Write, E: Write>(
+fn answer<F: Files, W: Output, E: Complaints>(
     alloc: Global,
     args: &[&str],
     files: &mut F,
@@ -65,28 +65,22 @@ fn answer<F: Files, W: Write, E: Write>(
     }
 }
 
-fn work<R: HostFiles + AllocGlobal + Input, W: Write + Drop, E: Write>(
-    rt: &R,
-    args: &[&str],
-    out: W,
-    err: &mut E,
-) -> u8 {
-    let mut disk = Disk { rt };
-    match BufWriter::new(rt.alloc(), out) {
-        Ok(mut out) => answer(rt.alloc(), args, &mut disk, &mut out, err),
-        Err(_) => tell(err, &HostFault::NoMemory),
+struct CheckFile;
+
+impl Program for CheckFile {
+    fn answer<T: Threads + Wait + Sync, F: Files, W: Output, E: Complaints>(
+        &self,
+        _threads: &T,
+        alloc: Global,
+        words: &[&str],
+        files: &mut F,
+        out: &mut W,
+        err: &mut E,
+    ) -> u8 {
+        answer(alloc, words, files, out, err)
     }
 }
 
 fn main(rt: HostRuntime) -> ExitCode {
-    let mut err = rt.stderr();
-    let owned = match owned_words(&rt) {
-        Ok(owned) => owned,
-        Err(e) => return ExitCode::from(tell_no_words(&mut err, &e)),
-    };
-    let args = match named_words(rt.alloc(), owned.as_slice()) {
-        Ok(args) => args,
-        Err(e) => return ExitCode::from(tell_no_words(&mut err, &io::Error::from(e))),
-    };
-    ExitCode::from(work(&rt, args.as_slice(), rt.stdout(), &mut err))
+    run(&CheckFile, &rt, &rt)
 }

@@ -13,7 +13,8 @@ use Rattle.build_command.specs.Commands.{AnyOrder, built_text, factor_of, words_
 use Rattle.build_command.specs.Texts.{build_fault_text, ending_status, ending_text}
 use Rattle.build_command.specs.ImageRuns.{IsImageRun}
 use Rattle.build_command.specs.Builds.{IsPlain, IsScheduledBuild}
-use Rattle.build_command.specs.BuildFaults.{IsBuildFault, IsFaultless}
+use Rattle.build_command.specs.BuildFaults.{IsBuildFault}
+use Rattle.build_command.specs.SourceFaults.{IsFaultless}
 use Rattle.build_command.specs.Follows.{FollowsText}
 use Rattle.build_command.specs.declared.builds.Built.{Built}
 use Rattle.driver.specs.Texts.{end_status, end_text, interp_fault_text}

@@ -1,16 +1,18 @@
 //! What is said of the faults of a C text: what is wrong, in plain words, and what to write in its place.
 //!
 //! `explain` works on the text alone, with the fault's kind and its offset: the names are those of the tokens, and which
-//! tokens can stand at a fault of syntax is tried by `c_front::read`.
+//! tokens can stand at a fault of syntax is tried by `c_front::read`. How a fault prints stands in `specs/Texts.antt`.
 //!
 //! What is promised:
 //! - `messages::explain` answers in printable ASCII alone (`IsPrintableExplanation` of the crate commands), for each text
 //!   and each fault, also one that the text doesn't have.
+//! - `Display` of a fault is exact (`source_fault_text`).
 //! - Only tested (tests/messages): each message and each hint, by a text that has it.
 #![tactic(auto)]
 
 mod constants;
 mod expected;
+mod fault;
 mod lexical;
 mod names;
 mod said;
@@ -30,30 +32,10 @@ use crate::source::Source;
 use crate::syntax::say_syntax;
 use crate::types::say_kind;
 use c_front::{FrontFault, FrontFaultKind};
-use c_statements::{TypeFault, TypeFaultKind};
+use c_statements::TypeFault;
 use commands::Explanation;
+pub use fault::SourceFault;
 use std::alloc::{AllocError, Global};
-
-/// A fault of a C text.
-#[derive(Clone, Copy, Debug, PartialEq, Eq)]
-pub enum SourceFault {
-    /// The text spells no program.
-    Front(FrontFault),
-    /// A declaration or a use of a name is wrong.
-    Types(TypeFault),
-}
-
-impl SourceFault {
-    /// Where the fault lies in its text; none where memory was refused.
-    pub fn offset(self) -> Option<usize> {
-        match self {
-            SourceFault::Front(fault) if fault.kind == FrontFaultKind::NoMemory => None,
-            SourceFault::Types(fault) if fault.kind == TypeFaultKind::NoMemory => None,
-            SourceFault::Front(fault) => Some(fault.at),
-            SourceFault::Types(fault) => Some(fault.at),
-        }
-    }
-}
 
 fn say_front(
     alloc: Global,

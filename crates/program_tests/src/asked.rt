@@ -75,17 +75,9 @@ const BUILDS: &[(&[&str], bool, [u32; 4])] = &[
 // What the words ask for a build of `a` into `b`.
 fn asked(alloc: Global, line: &[&str]) -> Option<(bool, [u32; 4])> {
     match words(alloc, line) {
-        Ok(
-            Command::Build {
-                source: "a",
-                image: "b",
-                plain,
-                depth,
-                workers,
-                nodes,
-                heads,
-            },
-        ) => Some((plain, [depth, workers, nodes, heads])),
+        Ok(Command::Build(b)) if b.source == "a" && b.image == "b" => {
+            Some((b.plain, [b.depth, b.workers, b.nodes, b.heads]))
+        }
         _ => None,
     }
 }

@@ -4,7 +4,8 @@ use clap::error::ErrorKind;
 use command_line::words;
 use delay_filler::FilledOrder;
 use driver::{
-    BuildFault, BuildOpts, Built, CheckAnswer, CheckFault, build, build_plain, check, run_image,
+    BuildFault, BuildOpts, Built, CheckAnswer, CheckFault, SourceFault, build, build_plain, check,
+    run_image,
 };
 use image::read_image;
 use list_scheduler::ListOrder;
@@ -105,8 +106,8 @@ fn has_each_block(built: &Built) -> bool {
 /// Whether memory was refused to a build.
 pub fn is_refusal(fault: BuildFault) -> bool {
     match fault {
-        BuildFault::Front(fault) => fault.kind.number() == 30,
-        BuildFault::Types(fault) => fault.kind.number() == 30,
+        BuildFault::Source(SourceFault::Front(fault)) => fault.kind.number() == 30,
+        BuildFault::Source(SourceFault::Types(fault)) => fault.kind.number() == 30,
         BuildFault::NoMemory => true,
         BuildFault::Limit(_) => false,
     }

@@ -1,7 +1,7 @@
 // Memory that is really refused to `mcc interp`: each test is a process of its own, and takes all that
 // it can get. With each block that it gives back the program comes further.
 
-use driver::{InterpFault, interp};
+use driver::{InterpFault, SourceFault, interp};
 use runs::End;
 use scarce_memory::AllMemory;
 use stand_ins::Desk;
@@ -31,8 +31,12 @@ enum Refused {
 fn who_was_refused(alloc: Global, text: &[u8]) -> Option<Refused> {
     let (who, number, at) = match interp(alloc, text, 1, 2) {
         Ok(_) => return Some(Refused::Nobody),
-        Err(InterpFault::Front(fault)) => (Refused::Reading, fault.kind.number(), fault.at),
-        Err(InterpFault::Types(fault)) => (Refused::Types, fault.kind.number(), fault.at),
+        Err(InterpFault::Source(SourceFault::Front(fault))) => {
+            (Refused::Reading, fault.kind.number(), fault.at)
+        }
+        Err(InterpFault::Source(SourceFault::Types(fault))) => {
+            (Refused::Types, fault.kind.number(), fault.at)
+        }
         Err(InterpFault::NoMemory) => (Refused::Run, 30, text.len()),
     };
     (number == 30 && at == text.len()).then_some(who)

@@ -3,7 +3,8 @@ ghost use Rattle.std.specs.Prelude.{◌≡◌, ◌≢◌, ◌≤◌, [], Some, m
 ghost use Rattle.clap.specs.Words.{takes};
 ghost use Rattle.command_line.specs.Commands.{mcc_app};
 ghost use Rattle.commands.specs.Requests.{Does};
-ghost use Rattle.driver.specs.Program.{IsAnswered};
+ghost use Rattle.command_line.specs.Programs.{IsAnswered};
+ghost use Rattle.driver.specs.Program.{Answers as AnswersCommand};
 ghost use Rattle.stand_ins.specs.Files.{Answers};
 
 use crate::files::{OneFile, Shut};
@@ -60,7 +61,7 @@ pub fn told_by<T: Threads + Wait + Sync>(
 ) -> Written
     ensures most { result.status ≤ 4 }
     ensures answered { takes mcc_app (map (λ s. s.now) words.entry.now) ≡ true → result.status ≢ 1
-        → Does Answers files.old files.new (Some []) (Some result.out.items) (IsAnswered (map (λ s. s.now) words.entry.now) result.status) }
+        → Does Answers files.old files.new (Some []) (Some result.out.items) (IsAnswered AnswersCommand (map (λ s. s.now) words.entry.now) result.status) }
 {
     let mut out = Vec::new(alloc);
     let mut err = Vec::new(alloc);

@@ -1,4 +1,3 @@
-use Rattle.std.proofs.lemmas.Result.{err_from_is_err_and}
 use Rattle.c_types.specs.Shape.{program_of}
 use Rattle.build_command.proofs.Composed.{selected}
 use Rattle.build_command.proofs.builds.unit_of.Goals as goal
@@ -9,11 +8,6 @@ returns-in-Ok-select-clause-unit c = record {
   spelled = c.in_ok-typed.ensures.typed;
   runs = selected (program_of c.in_ok-typed.typed) c.in-Ok.rtl c.in-Ok-select.unit c.args.depth c.requires c.in-Ok.ensures.runs c.in-Ok-select.ensures.runs;
 }
-
-pub returns-in_err-typed-clause-fault : goal.returns-in_err-typed-clause-fault
-returns-in_err-typed-clause-fault c =
-    let p = err_from_is_err_and c.from_residual.result c.from_residual.ensures.1 in
-    rw (p.1, p.2) (c.in_err-typed.ensures.fault)
 
 pub returns-in-Err-Limit-select-clause-fault : goal.returns-in-Err-Limit-select-clause-fault
 returns-in-Err-Limit-select-clause-fault c = (program_of c.in_ok-typed.typed, c.in_ok-typed.ensures.typed)

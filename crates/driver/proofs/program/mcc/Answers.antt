@@ -1,32 +1,33 @@
-use Rattle.std.proofs.Common.{[], refl, inl, map, subst, true, false}
-use Rattle.commands.specs.Texts.{host_fault_text}
+use Rattle.std.proofs.Common.{refl, inl, map, subst}
 use Rattle.command_line.specs.Commands.{IsCommand}
 use Rattle.command_line.specs.declared.command.Command.TheVariants.{Check, CheckEach, Interp, Build, Run, List as Listing, Show}
-use Rattle.driver.proofs.Lifted.{answered_by, silent, all_answered, all_silent, all_stopped}
+use Rattle.command_line.proofs.Programs.{answered_by, silent, stopped_before}
+use Rattle.driver.proofs.Lifted.{all_answered, all_silent, all_stopped}
+use Rattle.driver.specs.Program.{Answers, Remarks, Stops}
 use Rattle.driver.proofs.program.mcc.Goals as goal
 
 pub returns-then-explain-clause-quiet : goal.returns-then-explain-clause-quiet
 returns-then-explain-clause-quiet g c = λ taken other.
-    silent g.E.Complaints.tells (map (λ s. s.now) c.args.args.now) c.explain_file.result (Check c.in-Ok-Check.file c.in-Ok-Check.explain)
+    silent Remarks g.E.Complaints.tells (map (λ s. s.now) c.args.args.now) c.explain_file.result (Check c.in-Ok-Check.file c.in-Ok-Check.explain)
     (subst (IsCommand (map (λ s. s.now) c.args.args.now)) c.in-Ok-Check.field-0-is c.in-Ok-Check.ensures.command)
     _ _ refl (c.explain_file.ensures.quiet other)
 
 pub returns-else-explain-clause-quiet : goal.returns-else-explain-clause-quiet
 returns-else-explain-clause-quiet g c = λ taken other.
-    silent g.E.Complaints.tells (map (λ s. s.now) c.args.args.now) c.check_file.result (Check c.in-Ok-Check.file c.in-Ok-Check.explain)
+    silent Remarks g.E.Complaints.tells (map (λ s. s.now) c.args.args.now) c.check_file.result (Check c.in-Ok-Check.file c.in-Ok-Check.explain)
     (subst (IsCommand (map (λ s. s.now) c.args.args.now)) c.in-Ok-Check.field-0-is c.in-Ok-Check.ensures.command)
     _ _ refl (c.check_file.ensures.quiet other)
 
 pub returns-in-Ok-CheckEach-clause-answered : goal.returns-in-Ok-CheckEach-clause-answered
 returns-in-Ok-CheckEach-clause-answered g c = λ taken other.
-    answered_by g.F.Files.answers (map (λ s. s.now) c.args.args.now) c.check_files.result (CheckEach c.in-Ok-CheckEach.names c.in-Ok-CheckEach.explain)
+    answered_by Answers g.F.Files.answers (map (λ s. s.now) c.args.args.now) c.check_files.result (CheckEach c.in-Ok-CheckEach.names c.in-Ok-CheckEach.explain)
     (subst (IsCommand (map (λ s. s.now) c.args.args.now)) c.in-Ok-CheckEach.field-0-is c.in-Ok-CheckEach.ensures.command)
     _ _ _ _ (all_answered g.F.Files.answers g.E.Complaints.tells c.in-Ok-CheckEach.explain c.check_files.result _ _ _ _ _ _ _ c.in-Ok-CheckEach.names _
     c.as_slice.ensures.value c.check_files.ensures.each other)
 
 pub returns-in-Ok-CheckEach-clause-quiet : goal.returns-in-Ok-CheckEach-clause-quiet
 returns-in-Ok-CheckEach-clause-quiet g c = λ taken other.
-    silent g.E.Complaints.tells (map (λ s. s.now) c.args.args.now) c.check_files.result (CheckEach c.in-Ok-CheckEach.names c.in-Ok-CheckEach.explain)
+    silent Remarks g.E.Complaints.tells (map (λ s. s.now) c.args.args.now) c.check_files.result (CheckEach c.in-Ok-CheckEach.names c.in-Ok-CheckEach.explain)
     (subst (IsCommand (map (λ s. s.now) c.args.args.now)) c.in-Ok-CheckEach.field-0-is c.in-Ok-CheckEach.ensures.command)
     _ _ refl (all_silent g.F.Files.answers g.E.Complaints.tells c.in-Ok-CheckEach.explain c.check_files.result _ _ _ _ _ _ _ c.in-Ok-CheckEach.names _
     c.as_slice.ensures.value c.check_files.ensures.each other)
@@ -40,49 +41,36 @@ returns-in-Ok-CheckEach-clause-stopped g c =
 
 pub returns-in-Ok-Interp-clause-answered : goal.returns-in-Ok-Interp-clause-answered
 returns-in-Ok-Interp-clause-answered g c = λ taken other.
-    answered_by g.F.Files.answers (map (λ s. s.now) c.args.args.now) c.answer_file.result (Interp c.in-Ok-Interp.source c.in-Ok-Interp.depth c.in-Ok-Interp.steps)
+    answered_by Answers g.F.Files.answers (map (λ s. s.now) c.args.args.now) c.answer_file.result (Interp c.in-Ok-Interp.source c.in-Ok-Interp.depth c.in-Ok-Interp.steps)
     (subst (IsCommand (map (λ s. s.now) c.args.args.now)) c.in-Ok-Interp.field-0-is c.in-Ok-Interp.ensures.command)
     _ _ _ _ (c.answer_file.ensures.answered other)
 
 pub returns-in-Ok-Build-clause-quiet : goal.returns-in-Ok-Build-clause-quiet
 returns-in-Ok-Build-clause-quiet g c = λ taken other.
-    silent g.E.Complaints.tells (map (λ s. s.now) c.args.args.now) c.build_file.result (Build c.in-Ok-Build.source c.in-Ok-Build.image c.in-Ok-Build.plain c.in-Ok-Build.depth c.in-Ok-Build.workers c.in-Ok-Build.nodes c.in-Ok-Build.heads)
+    silent Remarks g.E.Complaints.tells (map (λ s. s.now) c.args.args.now) c.build_file.result (Build c.in-Ok-Build.asked)
     (subst (IsCommand (map (λ s. s.now) c.args.args.now)) c.in-Ok-Build.field-0-is c.in-Ok-Build.ensures.command)
     _ _ refl (c.build_file.ensures.quiet other)
 
 pub returns-in-Ok-Run-clause-answered : goal.returns-in-Ok-Run-clause-answered
 returns-in-Ok-Run-clause-answered g c = λ taken other.
-    answered_by g.F.Files.answers (map (λ s. s.now) c.args.args.now) c.run_file.result (Run c.in-Ok-Run.image c.in-Ok-Run.steps)
+    answered_by Answers g.F.Files.answers (map (λ s. s.now) c.args.args.now) c.run_file.result (Run c.in-Ok-Run.image c.in-Ok-Run.steps)
     (subst (IsCommand (map (λ s. s.now) c.args.args.now)) c.in-Ok-Run.field-0-is c.in-Ok-Run.ensures.command)
     _ _ _ _ (c.run_file.ensures.answered other)
 
-pub returns-then-asm-clause-answered : goal.returns-then-asm-clause-answered
-returns-then-asm-clause-answered g c = λ taken other.
-    answered_by g.F.Files.answers (map (λ s. s.now) c.args.args.now) c.answer_file-then-asm.result (Listing c.in-Ok-List.image true)
-    (subst (λ asm. IsCommand (map (λ s. s.now) c.args.args.now) (Listing c.in-Ok-List.image asm)) c.if-asm.true
-    (subst (IsCommand (map (λ s. s.now) c.args.args.now)) c.in-Ok-List.field-0-is c.in-Ok-List.ensures.command))
-    _ _ _ _ (c.answer_file-then-asm.ensures.answered other)
-
-pub returns-else-asm-clause-answered : goal.returns-else-asm-clause-answered
-returns-else-asm-clause-answered g c = λ taken other.
-    answered_by g.F.Files.answers (map (λ s. s.now) c.args.args.now) c.answer_file-else-asm.result (Listing c.in-Ok-List.image false)
-    (subst (λ asm. IsCommand (map (λ s. s.now) c.args.args.now) (Listing c.in-Ok-List.image asm)) c.if-asm.false
-    (subst (IsCommand (map (λ s. s.now) c.args.args.now)) c.in-Ok-List.field-0-is c.in-Ok-List.ensures.command))
-    _ _ _ _ (c.answer_file-else-asm.ensures.answered other)
+pub returns-in-Ok-List-clause-answered : goal.returns-in-Ok-List-clause-answered
+returns-in-Ok-List-clause-answered g c = λ taken other.
+    answered_by Answers g.F.Files.answers (map (λ s. s.now) c.args.args.now) c.answer_file-in-Ok-List.result (Listing c.in-Ok-List.image c.in-Ok-List.asm)
+    (subst (IsCommand (map (λ s. s.now) c.args.args.now)) c.in-Ok-List.field-0-is c.in-Ok-List.ensures.command)
+    _ _ _ _ (c.answer_file-in-Ok-List.ensures.answered other)
 
 pub returns-in-Ok-Show-clause-answered : goal.returns-in-Ok-Show-clause-answered
 returns-in-Ok-Show-clause-answered g c = λ taken other.
-    answered_by g.F.Files.answers (map (λ s. s.now) c.args.args.now) c.answer_file-in-Ok-Show.result (Show c.in-Ok-Show.source c.in-Ok-Show.stage c.in-Ok-Show.function c.in-Ok-Show.dot)
+    answered_by Answers g.F.Files.answers (map (λ s. s.now) c.args.args.now) c.answer_file-in-Ok-Show.result (Show c.in-Ok-Show.source c.in-Ok-Show.stage c.in-Ok-Show.function c.in-Ok-Show.dot)
     (subst (IsCommand (map (λ s. s.now) c.args.args.now)) c.in-Ok-Show.field-0-is c.in-Ok-Show.ensures.command)
     _ _ _ _ (c.answer_file-in-Ok-Show.ensures.answered other)
 
 pub returns-in-Err-clause-stopped : goal.returns-in-Err-clause-stopped
 returns-in-Err-clause-stopped g c = λ one.
     let told = c.tell_words.ensures.told one in
-    inl (record {
-      requests = [];
-      text = host_fault_text told.0;
-      asked = refl;
-      told = told.1;
-      means = inl (refl, (told.0, refl, λ taken. told.2 (c.in-Err.ensures.refused taken)));
-    })
+    inl (stopped_before Stops g.F.Files.answers g.E.Complaints.tells (map (λ s. s.now) c.args.args.now) _ _ _ told.0 told.1
+    (λ taken. told.2 (c.in-Err.ensures.refused taken)))

@@ -1,0 +1,39 @@
+// The words of the command line.
+
+ghost use Rattle.std.specs.Prelude.{◌≤◌};
+
+use commands::{HostFault, tell};
+use std::alloc::{AllocError, Global};
+use std::env::Env;
+use std::io::Write;
+use std::{env, io};
+
+/// The words of the command line, the program's name first.
+pub(crate) fn owned_words<R: Env + AllocGlobal>(rt: &R) -> io::Result<Vec<String>> {
+    let words = env::args(rt)?.collect::<Vec<String>>(rt.alloc())?;
+    Ok(words)
+}
+
+/// The words of the command line behind `mcc`, as which help and errors name every program that has some of its commands.
+pub(crate) fn named_words<'a>(
+    alloc: Global,
+    owned: &'a [String],
+) -> Result<Vec<&'a str>, AllocError> {
+    let mut args = Vec::new(alloc);
+    args.push("mcc")?;
+    for word in owned.iter().skip(1) {
+        args.push(word.as_str())?;
+    }
+    Ok(args)
+}
+
+/// Why the words could not be had: memory was refused, or one isn't UTF-8. The answer is the exit status.
+pub(crate) fn tell_no_words<E: Write>(err: &mut E, e: &io::Error) -> u8
+    ensures { result ≤ 2 }
+{
+    if e.kind() == io::ErrorKind::OutOfMemory {
+        return tell(err, &HostFault::NoMemory);
+    }
+    let _ = err.write_all(b"error: a word isn't UTF-8\n");
+    2
+}
