@@ -60,10 +60,7 @@ pub fn starts<'a>(tokens: &'a [Token], wanted: Mark) -> Option<&'a [Token]>
     ensures none { IfNone result (StartsWithout wanted tokens.now) }
     ensures some { IfSome result (λ after. StartsWith wanted tokens.now after.now) }
 {
-    match split(tokens)? {
-        (Token::The(mark), rest) => { if mark == wanted { Some(rest) } else { None } }
-        _ => None,
-    }
+    expect(tokens, wanted).ok()
 }
 
 /// The tokens after `unsigned char`, if these two stand here.

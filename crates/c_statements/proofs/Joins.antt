@@ -131,3 +131,8 @@ parts-last a b c E (Err s) o (inr e) n f = n (ap Err (memory-right a (both_of b 
 pub block-of-two : (v : Vec TypedStatement Global) (first second : TypedStatement) → v.items ≡ first ∷ second ∷ []
     → statement_of (Block v) ≡ block (more_statements (statement_of first) (more_statements (statement_of second) no_statements))
 block-of-two v first second whole = block-is v ∙ ap (λ (xs : List TypedStatement). block (statements_of xs)) whole
+
+-- a list of two, one after the other
+pub one-then-another : {T : Type 0} {none one all : List T} {x y : T} → none ≡ [] → one ≡ none ++ x ∷ [] → all ≡ one ++ y ∷ []
+    → all ≡ x ∷ y ∷ []
+one-then-another {x = x} {y = y} e f g = g ∙ ap (λ l. l ++ y ∷ []) (f ∙ ap (λ l. l ++ x ∷ []) e)

@@ -13,7 +13,7 @@ use c_tokens::Identifier;
 use c_tree::Program;
 
 /// What a call goes to: a function of the program, by its number, or `out`.
-#[derive(Clone, Copy, PartialEq, Eq)]
+#[derive(Clone, Copy)]
 pub enum Target {
     Function(usize),
     Out,

@@ -1,20 +1,25 @@
 // Typed statements from what the typing of their parts answered.
 
-ghost use Rattle.std.specs.Prelude.{◌≡◌, IfOk, IfErr, box_value};
+ghost use Rattle.std.specs.Prelude.{◌≡◌, ◌⊎◌, IfOk, IfErr, Ok, Err, box_value};
 ghost use Rattle.c_statements.specs.declared.fault.TypeStop.TheVariants.{NoMemory};
 ghost use Rattle.c_statements.specs.Faults.{StopsTwo, both_of};
 ghost use Rattle.c_statements.specs.Made.{IsIf, IsLoop, IsSequence, MadeOfThree, MadeOfTwo};
 
 use crate::fault::{TypeStop, both};
+use crate::simple::with_one;
 use c_typed::{TypedExpression, TypedStatement};
 use std::alloc::{AllocError, AllocFailed, Global};
 
 /// Two parts in boxes.
-pub fn boxes<T: Drop>(alloc: Global, parts: (T, T)) -> Result<(Box<T>, Box<T>), TypeStop>
-    ensures ok { IfOk result (λ r. (box_value r.0 ≡ parts.0) × (box_value r.1 ≡ parts.1)) }
-    ensures err { IfErr result (λ s. s ≡ NoMemory) }
+pub fn boxes<T: Drop>(
+    alloc: Global,
+    first: Result<T, TypeStop>,
+    second: Result<T, TypeStop>,
+) -> Result<(Box<T>, Box<T>), TypeStop>
+    ensures ok { IfOk result (λ r. both_of first second ≡ Ok (box_value r.0, box_value r.1)) }
+    ensures err { IfErr result (λ s. (s ≡ NoMemory) ⊎ (both_of first second ≡ Err s)) }
 {
-    let (first, second) = parts;
+    let (first, second) = both(first, second)?;
     Ok((Box::new(alloc, first)?, Box::new(alloc, second)?))
 }
 
@@ -28,8 +33,7 @@ pub fn if_else(
     ensures ok { IfOk result (MadeOfThree condition first second IsIf) }
     ensures err { IfErr result (StopsTwo condition (both_of first second)) }
 {
-    let (condition, statements) = both(condition, both(first, second))?;
-    let (first, second) = boxes(alloc, statements)?;
+    let (condition, (first, second)) = both(condition, boxes(alloc, first, second))?;
     Ok(TypedStatement::If(condition, first, second))
 }
 
@@ -43,8 +47,7 @@ pub fn loop_of(
     ensures ok { IfOk result (MadeOfThree condition last body IsLoop) }
     ensures err { IfErr result (StopsTwo condition (both_of last body)) }
 {
-    let (condition, statements) = both(condition, both(last, body))?;
-    let (last, body) = boxes(alloc, statements)?;
+    let (condition, (last, body)) = both(condition, boxes(alloc, last, body))?;
     Ok(TypedStatement::Loop(condition, last, body))
 }
 
@@ -57,7 +60,6 @@ pub fn sequence(
     ensures ok { IfOk result (MadeOfTwo first second IsSequence) }
     ensures err { IfErr result (StopsTwo first second) }
 {
-    let (first, second) = both(first, second)?;
-    let all = Vec::from_array(alloc, [first, second])?;
+    let all = with_one(with_one(Ok(Vec::new(alloc)), first), second)?;
     Ok(TypedStatement::Block(all))
 }

@@ -75,7 +75,7 @@ impl fmt::Display for TypeFault {
 impl Error for TypeFault {}
 
 /// Why a part of a program gets no type: its first fault, or want of memory.
-#[derive(Clone, Copy, PartialEq, Eq)]
+#[derive(Clone, Copy)]
 pub enum TypeStop {
     Fault(TypeFault),
     NoMemory,

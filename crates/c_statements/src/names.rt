@@ -4,7 +4,7 @@ use c_tokens::IntegerType;
 /// What a name stands for. Locals are numbered within their function, global variables, arrays and functions within
 /// the program; a function has its number of parameters, and whether it gives a result. `Out` is the function `out`,
 /// declared at file scope with one `unsigned` parameter and no result.
-#[derive(Clone, Copy, PartialEq, Eq)]
+#[derive(Clone, Copy)]
 pub enum Named {
     Local(usize, IntegerType),
     Global(usize, IntegerType),

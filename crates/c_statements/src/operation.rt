@@ -82,13 +82,8 @@ pub fn binary(
     ensures ok { IfOk result (MadeOfTwo left right (IsBinary operator)) }
     ensures err { IfErr result (StopsTwo left right) }
 {
-    let operands = both(left, right)?;
-    let integer_type = operation(
-        operator,
-        operands.0.integer_type(),
-        operands.1.integer_type(),
-    );
-    let (left, right) = boxes(alloc, operands)?;
+    let (left, right) = boxes(alloc, left, right)?;
+    let integer_type = operation(operator, left.integer_type(), right.integer_type());
     Ok(TypedExpression::Binary(operator, integer_type, left, right))
 }
 
@@ -102,9 +97,7 @@ pub fn conditional(
     ensures ok { IfOk result (MadeOfThree test yes no IsConditional) }
     ensures err { IfErr result (StopsTwo test (both_of yes no)) }
 {
-    let (test, values) = both(test, both(yes, no))?;
-    let integer_type = common(values.0.integer_type(), values.1.integer_type());
-    let test = Box::new(alloc, test)?;
-    let (yes, no) = boxes(alloc, values)?;
-    Ok(TypedExpression::Conditional(integer_type, test, yes, no))
+    let (test, (yes, no)) = both(test, boxes(alloc, yes, no))?;
+    let integer_type = common(yes.integer_type(), no.integer_type());
+    Ok(TypedExpression::Conditional(integer_type, Box::new(alloc, test)?, yes, no))
 }

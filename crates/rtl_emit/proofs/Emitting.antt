@@ -16,11 +16,11 @@ use Rattle.words.specs.Words.{wrap}
 use Rattle.rtl.specs.Meaning.{Code}
 use Rattle.rtl.specs.declared.limits.TheConstants.{MAX_REGISTERS, MAX_BLOCKS}
 use Rattle.rtl_emit.specs.Blocks.{open_code, exit_code, goto, first, line_of, Spot, Line, Grows, At, Lands}
-use Rattle.rtl_emit.specs.Emits.{Size, Emits, value_size, condition_size, test_size, values_size, both_size, logical_of, left_targets}
+use Rattle.rtl_emit.specs.Emits.{Size, Emits, value_size, condition_size, test_size, values_size, both_size, left_targets}
 use Rattle.rtl_emit.specs.Emits.{EmitsValue, EmitsOperand, EmitsBranch, EmitsOperands, EmitsBoth, EmitsBlock, EmitsValueBlock, EmitsBranchBlock}
 use Rattle.rtl_emit.specs.Expressions.{IsPlace, ArePlaces, IsTruth, Decides, Evaluates, Fetches, Combines}
 use Rattle.rtl_emit.specs.Operations.{IsPrefix, ComputesContrary, Computes, inst_of}
-use Rattle.rtl_emit.specs.Sizes.{joint, Beyond, by_branches, is_logical, place_registers, next_free, value_registers, value_blocks, globals_named}
+use Rattle.rtl_emit.specs.Sizes.{logical_of, joint, Beyond, by_branches, is_logical, place_registers, next_free, value_registers, value_blocks, globals_named}
 use Rattle.rtl_emit.specs.Sizes.{condition_registers, condition_blocks, combined_registers, test_registers, has_contrary, arguments_blocks, values_registers, globals_named_in}
 use Rattle.rtl_emit.specs.Sound.{Scope, IsSound, IsSoundSpot, KeepsSound}
 use Rattle.rtl_emit.specs.declared.block.OpenBlock.{OpenBlock}

@@ -1,7 +1,5 @@
 -- What each call promises that emits code and adds blocks to a function's list, whatever the code is for.
 use Rattle.std.specs.Prelude.{◌≡◌, ℕ, ◌+◌, ◌<◌, ◌≤◌, max, Bool, true, false, List, length, Result, IfOk, IfErr, OnOk}
-use Rattle.c_tree.specs.declared.tree.BinaryOp.{BinaryOp}
-use Rattle.c_tree.specs.declared.tree.BinaryOp.TheVariants.{LogicalAnd, LogicalOr}
 use Rattle.c_typed.specs.Trees.{TypedExpression}
 use Rattle.rtl.specs.declared.block.RBlock.{RBlock}
 use Rattle.rtl.specs.declared.limits.TheConstants.{MAX_REGISTERS}
@@ -113,12 +111,7 @@ abbrev pub EmitsBranchBlock : TypedExpression → Targets → (free : ℕ) → (
 EmitsBranchBlock e t free old new r = EmitsBlock (condition_size e t.likely free) (λ s. (t.yes < s.blocks) × (t.no < s.blocks))
     (λ bs from. Decides bs e free t.yes t.no from) old new r
 
--- `&&`, or `||`
-abbrev pub logical_of : (both : Bool) → BinaryOp
-logical_of true = LogicalAnd
-logical_of false = LogicalOr
-
--- the targets of its left operand, where the right one is tested in a block
+-- the targets of the left operand of `&&`, or of `||`, where the right one is tested in a block
 abbrev pub left_targets : (both : Bool) → Targets → (block : ℕ) → Targets
 left_targets true t b = record { yes = b; no = t.no; likely = t.likely }
 left_targets false t b = record { yes = t.yes; no = b; likely = t.likely }

@@ -13,6 +13,7 @@ use Rattle.rtl.specs.declared.operator.Op.{Op}
 use Rattle.rtl.specs.declared.instruction.RInst.{RInst}
 use Rattle.rtl.specs.declared.instruction.RInst.TheVariants.{Bin}
 use Rattle.rtl.specs.Operators.{truth_word, op_result}
+use Rattle.rtl_emit.specs.Sizes.{logical_of}
 use Rattle.rtl_emit.specs.declared.operation.Operation.{Operation}
 use Rattle.rtl_emit.specs.declared.operation.Combination.{Combination}
 use Rattle.rtl_emit.specs.declared.operation.Form.{Form}
@@ -43,8 +44,7 @@ pub record Computes (o : BinaryOp) (s : Sign) (op : Operation) : Type 0 where
   pub by : (x y v : ℕ) → IsWord x → IsWord y → binary_of o s x y ≡ Some v → result_of op x y ≡ Some v
 
 abbrev pub IsForm : BinaryOp → Sign → Form → Type 0
-IsForm o s F.LogicalAnd = o ≡ B.LogicalAnd
-IsForm o s F.LogicalOr = o ≡ B.LogicalOr
+IsForm o s (F.Logical both) = o ≡ logical_of both
 IsForm o s (F.Plain op) = Computes o s op
 
 -- a test, and an operation that tells of two words whether it is false

@@ -20,9 +20,13 @@ is_logical B.LogicalAnd = true
 is_logical B.LogicalOr = true
 is_logical _ = false
 
+-- `&&`, or `||`
+abbrev pub logical_of : (both : Bool) → BinaryOp
+logical_of true = B.LogicalAnd
+logical_of false = B.LogicalOr
+
 abbrev pub is_by_branches : Form → Bool
-is_by_branches F.LogicalAnd = true
-is_by_branches F.LogicalOr = true
+is_by_branches (F.Logical both) = true
 is_by_branches (F.Plain op) = false
 
 -- whether branches tell the value

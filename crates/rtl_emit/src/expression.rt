@@ -12,9 +12,9 @@ ghost use Rattle.rtl_emit.specs.Blocks.{spot};
 ghost use Rattle.rtl_emit.specs.Expressions.{ArePlaces};
 ghost use Rattle.rtl_emit.specs.Operations.{ComputesContrary};
 ghost use Rattle.rtl_emit.specs.Sizes as Sizes;
-ghost use Rattle.rtl_emit.specs.Sizes.{by_branches, has_contrary};
+ghost use Rattle.rtl_emit.specs.Sizes.{by_branches, has_contrary, logical_of};
 ghost use Rattle.rtl_emit.specs.Emits.{test_size, condition_size, EmitsValue, EmitsOperand, EmitsBranch, EmitsOperands};
-ghost use Rattle.rtl_emit.specs.Emits.{logical_of, EmitsBoth, EmitsValueBlock, EmitsBranchBlock};
+ghost use Rattle.rtl_emit.specs.Emits.{EmitsBoth, EmitsValueBlock, EmitsBranchBlock};
 
 use crate::block::{Continuation, OpenBlock, opened, seal, sealed};
 use crate::fault::LowerFault;
@@ -142,8 +142,7 @@ fn binary_into(
         (spot aim.after) blocks.old.items blocks.new.items result }
 {
     match form_of(operator, integer_type) {
-        Form::LogicalAnd => told_into(aim, blocks, true, left, right),
-        Form::LogicalOr => told_into(aim, blocks, false, left, right),
+        Form::Logical { both } => told_into(aim, blocks, both, left, right),
         Form::Plain(operation) => {
             let Aim {
                 alloc,
@@ -317,8 +316,9 @@ pub fn condition(
         },
         TypedExpression::Binary(operator, integer_type, left, right) => {
             match form_of(*operator, *integer_type) {
-                Form::LogicalAnd => logical(alloc, blocks, true, left, right, targets, free),
-                Form::LogicalOr => logical(alloc, blocks, false, left, right, targets, free),
+                Form::Logical { both } => {
+                    logical(alloc, blocks, both, left, right, targets, free)
+                }
                 Form::Plain(_) => {
                     let Some(operation) = contrary_of(*operator, *integer_type) else {
                         return test(alloc, blocks, e, targets, free);

@@ -22,11 +22,10 @@ pub(crate) struct Combination {
     pub(crate) word: u32,
 }
 
-// How a binary operator of C is computed: `&&` and `||` by branches, any other by one operation.
+// How a binary operator of C is computed: `&&`, for which both operands have to hold, and `||` by branches, any other by one operation.
 #[derive(Clone, Copy)]
 pub(crate) enum Form {
-    LogicalAnd,
-    LogicalOr,
+    Logical { both: bool },
     Plain(Operation),
 }
 
@@ -89,8 +88,8 @@ pub(crate) fn form_of(operator: BinaryOp, integer_type: IntegerType) -> Form
         BinaryOp::BitAnd => Form::Plain(straight(Op::And)),
         BinaryOp::BitXor => Form::Plain(straight(Op::Xor)),
         BinaryOp::BitOr => Form::Plain(straight(Op::Or)),
-        BinaryOp::LogicalAnd => Form::LogicalAnd,
-        BinaryOp::LogicalOr => Form::LogicalOr,
+        BinaryOp::LogicalAnd => Form::Logical { both: true },
+        BinaryOp::LogicalOr => Form::Logical { both: false },
     }
 }
 

@@ -73,17 +73,11 @@ unary_into-returns-in-Combined t c = λ k.
     prefix_emits _ _ _ _ k _ _ c.args.aim.to c.args.aim.free c.opened.result (spot c.args.aim.after) c.combined-value.result _ c.in-Combined.ensures
     c.is_logical.ensures c.opened.ensures value.room value.does value.sound value.limit c.awaited.ensures.ok c.awaited.ensures.err
 
-pub binary_into-returns-in-LogicalAnd : goal.binary_into-returns-in-LogicalAnd
-binary_into-returns-in-LogicalAnd t c =
+pub binary_into-returns-in-Logical : goal.binary_into-returns-in-Logical
+binary_into-returns-in-Logical t c =
     value_along _ _ _ _ c.args.aim.to c.args.aim.free (spot c.args.aim.after) _
-    (ap (λ o. binary o c.args.integer_type (typed_expression_of c.args.left.now) (typed_expression_of c.args.right.now)) c.in-LogicalAnd.ensures.form)
+    (ap (λ o. binary o c.args.integer_type (typed_expression_of c.args.left.now) (typed_expression_of c.args.right.now)) c.in-Logical.ensures.form)
     (c.told_into.ensures _)
-
-pub binary_into-returns-in-LogicalOr : goal.binary_into-returns-in-LogicalOr
-binary_into-returns-in-LogicalOr t c =
-    value_along _ _ _ _ c.args.aim.to c.args.aim.free (spot c.args.aim.after) _
-    (ap (λ o. binary o c.args.integer_type (typed_expression_of c.args.left.now) (typed_expression_of c.args.right.now)) c.in-LogicalOr.ensures.form)
-    (c.told_into-in-LogicalOr.ensures _)
 
 pub binary_into-returns-in-Plain : goal.binary_into-returns-in-Plain
 binary_into-returns-in-Plain t c =
@@ -166,17 +160,11 @@ condition-returns-in-Not t c =
     not_branches _ _ _ _ _ _ _ c.args.targets _ _ _ (ap typed_expression_of c.in-Unary.is) c.in-Not.is (ap typed_expression_of c.deref-in-Not.ensures)
     c.turned.ensures c.condition-in-Not.ensures
 
-pub condition-returns-in-LogicalAnd : goal.condition-returns-in-LogicalAnd
-condition-returns-in-LogicalAnd t c =
+pub condition-returns-in-Logical : goal.condition-returns-in-Logical
+condition-returns-in-Logical t c =
     branch_along _ _ _ _ c.args.targets _ _
-    (binary_is _ _ _ _ _ _ _ (ap typed_expression_of c.in-Binary.is) c.in-LogicalAnd.ensures.form (ap typed_expression_of c.deref-in-LogicalAnd.ensures)
-    (ap typed_expression_of c.deref-in-LogicalAnd-2.ensures)) (c.logical.ensures _)
-
-pub condition-returns-in-LogicalOr : goal.condition-returns-in-LogicalOr
-condition-returns-in-LogicalOr t c =
-    branch_along _ _ _ _ c.args.targets _ _
-    (binary_is _ _ _ _ _ _ _ (ap typed_expression_of c.in-Binary.is) c.in-LogicalOr.ensures.form (ap typed_expression_of c.deref-in-LogicalOr.ensures)
-    (ap typed_expression_of c.deref-in-LogicalOr-2.ensures)) (c.logical-in-LogicalOr.ensures _)
+    (binary_is _ _ _ _ _ _ _ (ap typed_expression_of c.in-Binary.is) c.in-Logical.ensures.form (ap typed_expression_of c.deref-in-Logical.ensures)
+    (ap typed_expression_of c.deref-in-Logical-2.ensures)) (c.logical.ensures _)
 
 pub condition-returns-else-targets : goal.condition-returns-else-targets
 condition-returns-else-targets t c =
