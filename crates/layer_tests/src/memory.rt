@@ -3,6 +3,8 @@
 
 use crate::limits::unit_of;
 use crate::units::bytes_of;
+use c_front::read;
+use c_types::check;
 use image::{Image, ImageFault, read_image, write_image};
 use mips_asm::{AsmFault, assemble, list};
 use mips_machine::{Machine, load};
@@ -25,6 +27,8 @@ fn long_image(alloc: Global, count: u32) -> Option<Vec<u8>> {
 // A call that may be refused memory, and what it has to give.
 #[derive(Clone, Copy)]
 enum Call<'a> {
+    // A C text that spells a program.
+    ReadText(&'a [u8]),
     ReadImage(&'a [u8]),
     // These bytes.
     Write(&'a Image, &'a [u8]),
@@ -34,8 +38,26 @@ enum Call<'a> {
     Assemble(&'a Scheduled<'a>, usize),
 }
 
+// Memory is refused at the text's end, or the text is a program, which the types take: it isn't let go of here.
+fn reading(alloc: Global, text: &[u8]) -> Attempt {
+    match read(alloc, text) {
+        Ok(program) => {
+            let is_whole = program.text.len() == text.len();
+            let _typed = check(alloc, program);
+            if is_whole {
+                Attempt::Done
+            } else {
+                Attempt::Wrong
+            }
+        }
+        Err(fault) if fault.kind.number() == 30 && fault.at == text.len() => Attempt::Refused,
+        Err(_) => Attempt::Wrong,
+    }
+}
+
 fn attempt(alloc: Global, call: &Call<'_>) -> Attempt {
     match *call {
+        Call::ReadText(text) => reading(alloc, text),
         Call::ReadImage(bytes) => match read_image(alloc, bytes) {
             Ok(_) => Attempt::Done,
             Err(ImageFault::NoMemory) => Attempt::Refused,
@@ -63,6 +85,13 @@ fn attempt(alloc: Global, call: &Call<'_>) -> Attempt {
 fn tells_refusals(alloc: Global, call: &Call<'_>) -> bool {
     let refusals = refusals(alloc, BLOCKS, LAST, || attempt(alloc, call));
     matches!(refusals, Ok(Some(count)) if count > 0) && attempt(alloc, call) == Attempt::Done
+}
+
+#[test]
+fn reading_a_text_tells_refused_memory_alone(rt: HostRuntime) {
+    let text = "int f(int n){return n*2+1;}\n".repeat(rt.alloc(), 200).ok();
+    let text = text.expect(&rt, "a text");
+    assert!(rt; tells_refusals(rt.alloc(), &Call::ReadText(text.as_bytes())));
 }
 
 #[test]
