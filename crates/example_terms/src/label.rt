@@ -8,7 +8,7 @@ ghost use Rattle.example_terms.specs.Meaning.{Environment, made, just};
 use term_labels::{Label, parts_of, word_of};
 
 /// An operator. Words have 32 bits.
-#[derive(Clone, Copy, Debug, PartialEq, Eq)]
+#[derive(Clone, Copy)]
 pub enum Op {
     /// The word itself. No operands.
     Constant(u32),

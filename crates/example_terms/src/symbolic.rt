@@ -15,7 +15,7 @@ use term_table::{Pass, TableFull, TermTable, Ticket};
 use thiserror::Error;
 
 /// Why a block was not run.
-#[derive(Clone, Copy, Debug, PartialEq, Eq, Drop, Error)]
+#[derive(Clone, Copy, Debug, Drop, Error)]
 pub enum Fault {
     #[error("an instruction or the block names a place that has no value yet")]
     NoValue,

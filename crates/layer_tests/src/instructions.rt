@@ -1,94 +1,10 @@
-// Operators at their edges, and words of instructions with their texts (Kane, MIPS RISC Architecture, appendix A).
+// Words of instructions with their texts (Kane, MIPS RISC Architecture, appendix A).
 
 use check_text::{exit_of, plain_of};
-use mblock::{Block, BlockNumber, Exit};
+use mblock::{BlockNumber, Exit};
 use mips_code::{decode, encode};
 use mips_isa::{Inst, PairTest, Plain, Reg, ZeroTest};
-use std::alloc::{AllocError, Global};
-use std::test::Fail;
-use words::Operator;
-
-const OPERATORS: &[(Operator, u32, u32, Option<u32>)] = &[
-    (Operator::Addu, 0xffffffff, 0x1, Some(0x0)),
-    (Operator::Addu, 0x80000000, 0x21, Some(0x80000021)),
-    (Operator::Addu, 0x7fffffff, 0xffffffff, Some(0x7ffffffe)),
-    (Operator::Subu, 0xffffffff, 0x1, Some(0xfffffffe)),
-    (Operator::Subu, 0x80000000, 0x21, Some(0x7fffffdf)),
-    (Operator::Subu, 0x7fffffff, 0xffffffff, Some(0x80000000)),
-    (Operator::And, 0xffffffff, 0x1, Some(0x1)),
-    (Operator::And, 0x80000000, 0x21, Some(0x0)),
-    (Operator::And, 0x7fffffff, 0xffffffff, Some(0x7fffffff)),
-    (Operator::Or, 0xffffffff, 0x1, Some(0xffffffff)),
-    (Operator::Or, 0x80000000, 0x21, Some(0x80000021)),
-    (Operator::Or, 0x7fffffff, 0xffffffff, Some(0xffffffff)),
-    (Operator::Xor, 0xffffffff, 0x1, Some(0xfffffffe)),
-    (Operator::Xor, 0x80000000, 0x21, Some(0x80000021)),
-    (Operator::Xor, 0x7fffffff, 0xffffffff, Some(0x80000000)),
-    (Operator::Nor, 0xffffffff, 0x1, Some(0x0)),
-    (Operator::Nor, 0x80000000, 0x21, Some(0x7fffffde)),
-    (Operator::Nor, 0x7fffffff, 0xffffffff, Some(0x0)),
-    (Operator::Slt, 0xffffffff, 0x1, Some(0x1)),
-    (Operator::Slt, 0x80000000, 0x21, Some(0x1)),
-    (Operator::Slt, 0x7fffffff, 0xffffffff, Some(0x0)),
-    (Operator::Sltu, 0xffffffff, 0x1, Some(0x0)),
-    (Operator::Sltu, 0x80000000, 0x21, Some(0x0)),
-    (Operator::Sltu, 0x7fffffff, 0xffffffff, Some(0x1)),
-    (Operator::Sll, 0xffffffff, 0x1, Some(0xfffffffe)),
-    (Operator::Sll, 0x80000000, 0x21, Some(0x0)),
-    (Operator::Sll, 0x7fffffff, 0xffffffff, Some(0x80000000)),
-    (Operator::Srl, 0xffffffff, 0x1, Some(0x7fffffff)),
-    (Operator::Srl, 0x80000000, 0x21, Some(0x40000000)),
-    (Operator::Srl, 0x7fffffff, 0xffffffff, Some(0x0)),
-    (Operator::Sra, 0xffffffff, 0x1, Some(0xffffffff)),
-    (Operator::Sra, 0x80000000, 0x21, Some(0xc0000000)),
-    (Operator::Sra, 0x7fffffff, 0xffffffff, Some(0x0)),
-    (Operator::MultHigh, 0xffffffff, 0x1, Some(0xffffffff)),
-    (Operator::MultHigh, 0x80000000, 0x21, Some(0xffffffef)),
-    (Operator::MultHigh, 0x7fffffff, 0xffffffff, Some(0xffffffff)),
-    (Operator::MultLow, 0xffffffff, 0x1, Some(0xffffffff)),
-    (Operator::MultLow, 0x80000000, 0x21, Some(0x80000000)),
-    (Operator::MultLow, 0x7fffffff, 0xffffffff, Some(0x80000001)),
-    (Operator::MultuHigh, 0xffffffff, 0x1, Some(0x0)),
-    (Operator::MultuHigh, 0x80000000, 0x21, Some(0x10)),
-    (
-        Operator::MultuHigh,
-        0x7fffffff,
-        0xffffffff,
-        Some(0x7ffffffe),
-    ),
-    (Operator::MultuLow, 0xffffffff, 0x1, Some(0xffffffff)),
-    (Operator::MultuLow, 0x80000000, 0x21, Some(0x80000000)),
-    (Operator::MultuLow, 0x7fffffff, 0xffffffff, Some(0x80000001)),
-    (Operator::DivQuotient, 0xfffffff9, 0x2, Some(0xfffffffd)),
-    (Operator::DivRemainder, 0xfffffff9, 0x2, Some(0xffffffff)),
-    (Operator::DivuQuotient, 0xfffffff9, 0x2, Some(0x7ffffffc)),
-    (Operator::DivuRemainder, 0xfffffff9, 0x2, Some(0x1)),
-    (Operator::DivQuotient, 0x7, 0xfffffffe, Some(0xfffffffd)),
-    (Operator::DivRemainder, 0x7, 0xfffffffe, Some(0x1)),
-    (Operator::DivuQuotient, 0x7, 0xfffffffe, Some(0x0)),
-    (Operator::DivuRemainder, 0x7, 0xfffffffe, Some(0x7)),
-    (Operator::DivQuotient, 0x80000000, 0xffffffff, None),
-    (Operator::DivRemainder, 0x80000000, 0xffffffff, None),
-    (Operator::DivuQuotient, 0x80000000, 0xffffffff, Some(0x0)),
-    (
-        Operator::DivuRemainder,
-        0x80000000,
-        0xffffffff,
-        Some(0x80000000),
-    ),
-    (Operator::DivQuotient, 0x5, 0x0, None),
-    (Operator::DivRemainder, 0x5, 0x0, None),
-    (Operator::DivuQuotient, 0x5, 0x0, None),
-    (Operator::DivuRemainder, 0x5, 0x0, None),
-];
-
-#[test]
-fn operators_have_their_values(rt: HostRuntime) -> Result<(), Fail> {
-    for &(op, a, b, want) in OPERATORS {
-        assert_eq!(rt; op.value(a, b), want, "at {op:?} {a} {b}");
-    }
-    Ok(())
-}
+use std::alloc::Global;
 
 const PLAIN: &[(u32, &str)] = &[
     (0x001f47c0, "sll $8,$31,31"),
@@ -145,12 +61,11 @@ fn is_spelled(alloc: Global, word: u32, text: &str) -> bool {
 }
 
 #[test]
-fn words_are_instructions_with_their_texts(rt: HostRuntime) -> Result<(), Fail> {
+fn words_are_instructions_with_their_texts(rt: HostRuntime) {
     for &(word, text) in PLAIN {
         assert!(rt; is_spelled(rt.alloc(), word, text), "{word}: {text}");
     }
     assert!(rt; plain_of(b"sll $0,$0,0") == Some(Plain::nop()));
-    Ok(())
 }
 
 // `jr $31`, `bne $8,$9` to the word before the next, `bgez $8` over two words, `jal`, `syscall`.
@@ -171,11 +86,10 @@ fn is_control(word: u32) -> bool {
 }
 
 #[test]
-fn words_are_branches_and_jumps(rt: HostRuntime) -> Result<(), Fail> {
+fn words_are_branches_and_jumps(rt: HostRuntime) {
     for &word in CONTROL {
         assert!(rt; is_control(word), "{word}");
     }
-    Ok(())
 }
 
 const PAIR_TESTS: [(PairTest, &str); 2] = [
@@ -212,7 +126,7 @@ fn branch_zero(test: ZeroTest, then: BlockNumber, other: BlockNumber) -> Exit {
 }
 
 #[test]
-fn texts_are_exits(rt: HostRuntime) -> Result<(), Fail> {
+fn texts_are_exits(rt: HostRuntime) {
     let far = BlockNumber::new(1048575).expect(&rt, "the last block");
     let near = BlockNumber::new(0).expect(&rt, "the first block");
     for (test, text) in PAIR_TESTS {
@@ -238,18 +152,4 @@ fn texts_are_exits(rt: HostRuntime) -> Result<(), Fail> {
     ] {
         assert!(rt; exit_of(text.as_bytes()) == Some(exit), "at {text}");
     }
-    Ok(())
-}
-
-// Whether so many `nop` are the instructions of a block.
-fn is_block(alloc: Global, count: usize) -> Result<bool, AllocError> {
-    let insts = vec![in alloc; Plain::nop(); count]?;
-    Ok(Block::new(insts, Exit::Return).is_some())
-}
-
-#[test]
-fn a_block_has_at_most_512_instructions(rt: HostRuntime) -> Result<(), Fail> {
-    assert!(rt; is_block(rt.alloc(), 512)?);
-    assert!(rt; !is_block(rt.alloc(), 513)?);
-    Ok(())
 }

@@ -4,19 +4,11 @@
 #![tactic(auto)]
 
 #[cfg(test)]
-mod assembled;
-#[cfg(test)]
-mod c_memory;
-#[cfg(test)]
-mod calls;
-#[cfg(test)]
-mod changes;
-#[cfg(test)]
-mod chosen_homes;
-#[cfg(test)]
 mod depths;
 #[cfg(test)]
-mod globals;
+mod homes;
+#[cfg(test)]
+mod images;
 #[cfg(test)]
 mod instructions;
 #[cfg(test)]
@@ -24,7 +16,7 @@ mod limits;
 #[cfg(test)]
 mod lowered;
 #[cfg(test)]
-mod machine_memory;
+mod memory;
 #[cfg(test)]
 mod operators;
 #[cfg(test)]
@@ -32,14 +24,10 @@ mod pieces;
 #[cfg(test)]
 mod programs;
 #[cfg(test)]
-mod refusals;
+mod rtl_parts;
 #[cfg(test)]
-mod runs_of_blocks;
-#[cfg(test)]
-mod scheduled;
+mod rtl_runs;
 #[cfg(test)]
 mod selected;
-#[cfg(test)]
-mod sizes;
 #[cfg(test)]
 mod units;

@@ -1,95 +1,82 @@
 // Code that is as long as it may be, and longer.
 
-use crate::assembled::first_version;
+use crate::units::first_version;
 use mblock::{Block, BlockNumber, Exit, Unit};
 use mips_asm::AsmFault;
 use mips_isa::Plain;
-use std::alloc::{AllocError, Global};
-use std::test::Fail;
+use std::alloc::Global;
 
-fn nops(alloc: Global, count: usize) -> Result<Vec<Plain>, AllocError> {
-    let mut insts = Vec::new(alloc);
-    for _ in 0..count {
-        insts.push(Plain::nop())?;
+// So many `nop`, and how they are left; None where they are no block.
+fn nops(alloc: Global, count: usize, exit: Exit) -> Option<Block> {
+    Block::new(vec![in alloc; Plain::nop(); count].ok()?, exit)
+}
+
+#[test]
+fn a_block_has_at_most_512_instructions(rt: HostRuntime) {
+    for (count, want) in [(512, true), (513, false)] {
+        assert_eq!(rt; nops(rt.alloc(), count, Exit::Return).is_some(), want);
     }
-    Ok(insts)
 }
 
 // The number of the block behind so many.
 fn number_behind(count: usize) -> Option<BlockNumber> {
-    match u32::try_from(count) {
-        Ok(number) => BlockNumber::new(number),
-        Err(_) => None,
-    }
+    BlockNumber::new(u32::try_from(count).ok()?)
 }
 
-// A block with one more behind it, in 514 words with its jump and slot.
-fn push_full(alloc: Global, blocks: &mut Vec<Block>) -> Result<(), AllocError> {
-    if let Some(next) = number_behind(blocks.len().wrapping_add(1)) {
-        if let Some(block) = Block::new(nops(alloc, 512)?, Exit::Goto(next)) {
-            blocks.push(block)?;
-        }
+// A function of so many words more: blocks of 514 with their jumps and slots, each of which goes on at the next, and the last one with the
+// two words of its end.
+fn push_function(
+    alloc: Global,
+    blocks: &mut Vec<Block>,
+    owner: &mut Vec<BlockNumber>,
+    words: usize,
+) -> Option<()> {
+    let first = number_behind(blocks.len())?;
+    for _ in 0..words / 514 {
+        let next = number_behind(blocks.len() + 1)?;
+        blocks.push(nops(alloc, 512, Exit::Goto(next))?).ok()?;
+        owner.push(first).ok()?;
     }
-    Ok(())
+    let last = (words % 514).saturating_sub(2);
+    blocks.push(nops(alloc, last, Exit::Halt)?).ok()?;
+    owner.push(first).ok()
 }
 
-// The last block of a function, in so many words.
-fn push_last(alloc: Global, blocks: &mut Vec<Block>, words: usize) -> Result<(), AllocError> {
-    if let Some(block) = Block::new(nops(alloc, words.saturating_sub(2))?, Exit::Halt) {
-        blocks.push(block)?;
-    }
-    Ok(())
-}
-
-/// Functions of so many words each.
-pub fn unit_of(alloc: Global, functions: &[usize]) -> Result<Option<Unit>, AllocError> {
+/// So many functions of 32,000 words, and one of `last`.
+pub fn unit_of(alloc: Global, count: usize, last: usize) -> Option<Unit> {
     let mut blocks = Vec::new(alloc);
     let mut owner = Vec::new(alloc);
-    for words in functions {
-        let Some(first) = number_behind(blocks.len()) else {
-            return Ok(None);
-        };
-        for _ in 0..*words / 514 {
-            push_full(alloc, &mut blocks)?;
-            owner.push(first)?;
-        }
-        push_last(alloc, &mut blocks, *words % 514)?;
-        owner.push(first)?;
+    for _ in 0..count {
+        push_function(alloc, &mut blocks, &mut owner, 32_000)?;
     }
-    Ok(Unit::new(blocks, owner, Vec::new(alloc)))
+    push_function(alloc, &mut blocks, &mut owner, last)?;
+    Unit::new(blocks, owner, Vec::new(alloc))
 }
 
-// Whether the functions become an image, or are refused for their size.
-fn is_within(alloc: Global, functions: &[usize]) -> Result<Option<bool>, AllocError> {
-    let Some(unit) = unit_of(alloc, functions)? else {
-        return Ok(None);
-    };
-    match first_version(alloc, &unit) {
-        Ok(image) => Ok(Some(image.is_some())),
-        Err(AsmFault::Limit) => Ok(Some(false)),
-        Err(AsmFault::NoMemory) => Ok(None),
-    }
-}
+// Functions of 32,000 words beside one more, and whether they become an image: a function has 32,000 words at most, the code 1,048,576.
+const LENGTHS: &[(usize, usize, bool)] = &[
+    (0, 32_000, true),
+    (0, 32_001, false),
+    (1, 32_000, true),
+    (1, 32_001, false),
+    (32, 24_576, true),
+    (32, 24_577, false),
+];
 
-#[test]
-fn a_function_has_32000_words_at_most(rt: HostRuntime) -> Result<(), Fail> {
-    assert!(rt; is_within(rt.alloc(), [32_000].as_slice())? == Some(true));
-    assert!(rt; is_within(rt.alloc(), [32_001].as_slice())? == Some(false));
-    assert!(rt; is_within(rt.alloc(), [32_000, 32_000].as_slice())? == Some(true));
-    assert!(rt; is_within(rt.alloc(), [32_000, 32_001].as_slice())? == Some(false));
-    Ok(())
+// Whether the unit becomes an image, or is refused for its size; None where memory is.
+fn is_within(alloc: Global, count: usize, last: usize) -> Option<bool> {
+    let unit = unit_of(alloc, count, last)?;
+    match first_version(alloc, &unit)? {
+        Ok(_) => Some(true),
+        Err(AsmFault::Limit) => Some(false),
+        Err(AsmFault::NoMemory) => None,
+    }
 }
 
 #[test]
-fn the_code_has_1048576_words_at_most(rt: HostRuntime) -> Result<(), Fail> {
-    let mut functions = Vec::new(rt.alloc());
-    for _ in 0..32 {
-        functions.push(32_000)?;
+fn code_has_limits(rt: HostRuntime) {
+    for &(count, last, want) in LENGTHS {
+        let got = is_within(rt.alloc(), count, last);
+        assert_eq!(rt; got, Some(want), "{count} functions and {last} words");
     }
-    functions.push(24_576)?;
-    assert!(rt; is_within(rt.alloc(), functions.as_slice())? == Some(true));
-    functions.pop();
-    functions.push(24_577)?;
-    assert!(rt; is_within(rt.alloc(), functions.as_slice())? == Some(false));
-    Ok(())
 }

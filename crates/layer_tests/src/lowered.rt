@@ -6,179 +6,256 @@ use c_types::check;
 use rtl::Rtl;
 use rtl_lower::lower;
 use runs::End;
-use std::alloc::{AllocError, Global};
-use std::process::Abort;
-use std::test::Fail;
+use std::alloc::Global;
+use std::fmt::Write;
 
-// The depth and the steps of a program's run, its end and its output.
-type Run<'a> = (u32, u64, End, &'a [u32]);
+// A text, the depth and the steps of its run, its end, and the words that it writes.
+type Row = (&'static str, u32, u64, End, &'static str);
 
-// A program with its runs.
-type Row = (&'static str, &'static [Run<'static>]);
+const SKIPS: &str =
+    "int main(void) { int i; for (i = 0; i < 5; i = i + 1) { if (i == 1) { { continue; } } \
+     if (i == 3) break; out(i); } out(99); return 0; }";
+
+const FOREVER: &str = "int main(void) { for (;;) out(1); }";
+
+const RECURS: &str =
+    "int g = 9; int f(int n) { int r; if (n == 0) return 0; r = f(n - 1); return n; } \
+     int main(void) { out(7); g = f(3); out(g); return 5; }";
 
 const PROGRAMS: &[Row] = &[
-    ("int main(void){}", &[(256, 1000000, End::Done(0), &[])]),
+    ("int main(void){}", 256, 1000000, End::Done(0), ""),
     (
         "int main(void){out(0x80000000);}",
-        &[(256, 1000000, End::Done(0), &[2147483648])],
+        256,
+        1000000,
+        End::Done(0),
+        "2147483648;",
     ),
     (
         "int main(void){out(4294967295u);}",
-        &[(256, 1000000, End::Done(0), &[4294967295])],
+        256,
+        1000000,
+        End::Done(0),
+        "4294967295;",
     ),
     (
         "int main(void){int a=-7;out(a/2);out(a%2);}",
-        &[(256, 1000000, End::Done(0), &[4294967293, 4294967295])],
+        256,
+        1000000,
+        End::Done(0),
+        "4294967293;4294967295;",
     ),
     (
         "int main(void){int a=-1;unsigned b=1;out(a<b);}",
-        &[(256, 1000000, End::Done(0), &[0])],
+        256,
+        1000000,
+        End::Done(0),
+        "0;",
     ),
     (
         "int a[3];int main(void){int i=0;a[0]=5;a[1]=6;a[2]=7;while(i<3&&a[i])i=i+1;out(i);}",
-        &[(256, 1000000, End::Done(0), &[3])],
+        256,
+        1000000,
+        End::Done(0),
+        "3;",
     ),
     (
         "int main(void){int a=2147483647;out(1);a=a+1;}",
-        &[(256, 1000000, End::Wrong, &[1])],
+        256,
+        1000000,
+        End::Wrong,
+        "1;",
     ),
     (
         "int main(void){while(1)out(7);}",
-        &[(256, 7, End::More, &[7, 7, 7])],
+        256,
+        7,
+        End::More,
+        "7;7;7;",
     ),
     (
         "int f(int n){int r;if(n==1)return 1;r=f(n-1);return r+1;}int main(void){int r=f(255);out(r);}",
-        &[(256, 1000000, End::Done(0), &[255])],
+        256,
+        1000000,
+        End::Done(0),
+        "255;",
     ),
     (
         "int fib(int n){int a;int b;if(n<2)return n;a=fib(n-1);b=fib(n-2);return a+b;}int main(void){int r=fib(20);out(r);return r;}",
-        &[(256, 1000000, End::Done(6765), &[6765])],
+        256,
+        1000000,
+        End::Done(6765),
+        "6765;",
     ),
     (
         "int g=3;int next(void){g=g+1;return g;}int main(void){g=next();out(g);next();out(g);}",
-        &[(256, 1000000, End::Done(0), &[4, 5])],
+        256,
+        1000000,
+        End::Done(0),
+        "4;5;",
     ),
     (
         "int main(void){int s=0;int i;for(i=0;i<10;i=i+1){if(i==3)continue;if(i==6)break;s=s+i;}out(s);out(i);}",
-        &[(256, 1000000, End::Done(0), &[12, 6])],
+        256,
+        1000000,
+        End::Done(0),
+        "12;6;",
     ),
     (
         "int x=1;int main(void){int x=2;{int x=3;out(x);}out(x);}",
-        &[(256, 1000000, End::Done(0), &[3, 2])],
+        256,
+        1000000,
+        End::Done(0),
+        "3;2;",
     ),
     (
         "int x=-5;unsigned y=-1;int main(void){out(x);out(y);}",
-        &[(256, 1000000, End::Done(0), &[4294967291, 4294967295])],
+        256,
+        1000000,
+        End::Done(0),
+        "4294967291;4294967295;",
     ),
     (
         "int f(void){}int main(void){out(1);f();out(2);}",
-        &[(256, 1000000, End::Wrong, &[1])],
+        256,
+        1000000,
+        End::Wrong,
+        "1;",
     ),
     (
         "void f(int a){if(a)return;out(a);}int main(void){f(1);f(0);}",
-        &[(256, 1000000, End::Done(0), &[0])],
+        256,
+        1000000,
+        End::Done(0),
+        "0;",
     ),
     (
         "int main(void){int i=0;while(i<2){int x=i?x:5;out(x);i=i+1;}}",
-        &[(256, 1000000, End::Done(0), &[5, 5])],
+        256,
+        1000000,
+        End::Done(0),
+        "5;5;",
     ),
     (
         "int main(void){int a=0;out(0&&1/a);out(1||1/a);out(1?2:1/a);}",
-        &[(256, 1000000, End::Done(0), &[0, 1, 2])],
+        256,
+        1000000,
+        End::Done(0),
+        "0;1;2;",
     ),
     (
         "int main(void){unsigned a=0;a=a-1;out(a);out(a*a);out(a>>31);out(a<<31);}",
-        &[(256, 1000000, End::Done(0), &[4294967295, 1, 1, 2147483648])],
+        256,
+        1000000,
+        End::Done(0),
+        "4294967295;1;1;2147483648;",
     ),
     (
         "int main(void){int a=-2;out(a>>1);out(~a);out(!a);out(-a);out(+a);}",
-        &[(
-            256,
-            1000000,
-            End::Done(0),
-            &[4294967295, 1, 0, 2, 4294967294],
-        )],
+        256,
+        1000000,
+        End::Done(0),
+        "4294967295;1;0;2;4294967294;",
     ),
-    ("int main(void){return 7;}", &[(1, 2, End::Done(7), &[])]),
+    ("int main(void){return 7;}", 1, 2, End::Done(7), ""),
     (
         "unsigned char s[3];int main(void){s[0]=511;s[1]=s[0]+1;out(s[0]);out(s[1]);out(s[2]);}",
-        &[(256, 1000000, End::Done(0), &[255, 0, 0])],
+        256,
+        1000000,
+        End::Done(0),
+        "255;0;0;",
     ),
     (
         "unsigned char s[1];int main(void){out(s[0]-1<0);}",
-        &[(256, 1000000, End::Done(0), &[1])],
+        256,
+        1000000,
+        End::Done(0),
+        "1;",
     ),
     (
         "unsigned char s[2];int main(void){s[0]=-1;s[1]=0x12345678u;out(s[0]*s[0]);out(s[1]);}",
-        &[(256, 1000000, End::Done(0), &[65025, 120])],
+        256,
+        1000000,
+        End::Done(0),
+        "65025;120;",
     ),
     (
         "unsigned char s[1];int main(void){s[0]=255;out(s[0]+4294967295u);out(~s[0]);}",
-        &[(256, 1000000, End::Done(0), &[254, 4294967040])],
+        256,
+        1000000,
+        End::Done(0),
+        "254;4294967040;",
     ),
     (
         "unsigned char s[2];int a[2];int main(void){a[1]=256;s[1]=a[1];out(a[1]);out(s[1]);}",
-        &[(256, 1000000, End::Done(0), &[256, 0])],
+        256,
+        1000000,
+        End::Done(0),
+        "256;0;",
     ),
     (
         "unsigned char s[3];int main(void){s[2]=7;out(s[2]);s[3]=1;}",
-        &[(256, 1000000, End::Wrong, &[7])],
+        256,
+        1000000,
+        End::Wrong,
+        "7;",
     ),
-    (
-        "int main(void) { int i; for (i = 0; i < 5; i = i + 1) { if (i == 1) { { continue; } } if
-            (i == 3) break; out(i); } out(99); return 0; }",
-        &[
-            (1, 5, End::More, &[0]),
-            (1, 12, End::More, &[0]),
-            (1, 13, End::More, &[0, 2]),
-            (1, 17, End::More, &[0, 2]),
-            (1, 18, End::More, &[0, 2, 99]),
-            (1, 19, End::Done(0), &[0, 2, 99]),
-            (1, 1000, End::Done(0), &[0, 2, 99]),
-        ],
-    ),
-    (
-        "int main(void) { for (;;) out(1); }",
-        &[
-            (1, 5, End::More, &[1, 1]),
-            (1, 6, End::More, &[1, 1, 1]),
-            (1, 7, End::More, &[1, 1, 1]),
-        ],
-    ),
-    (
-        "int g = 9; int f(int n) { int r; if (n == 0) return 0; r = f(n - 1); return n; } \
-         int main(void) { out(7); g = f(3); out(g); return 5; }",
-        &[
-            (5, 1000, End::Done(5), &[7, 3]),
-            (4, 1000, End::Wrong, &[7]),
-            (5, 15, End::Done(5), &[7, 3]),
-            (5, 14, End::More, &[7, 3]),
-            (5, 13, End::More, &[7]),
-        ],
-    ),
+    (SKIPS, 1, 5, End::More, "0;"),
+    (SKIPS, 1, 12, End::More, "0;"),
+    (SKIPS, 1, 13, End::More, "0;2;"),
+    (SKIPS, 1, 17, End::More, "0;2;"),
+    (SKIPS, 1, 18, End::More, "0;2;99;"),
+    (SKIPS, 1, 19, End::Done(0), "0;2;99;"),
+    (SKIPS, 1, 1000, End::Done(0), "0;2;99;"),
+    (FOREVER, 1, 5, End::More, "1;1;"),
+    (FOREVER, 1, 6, End::More, "1;1;1;"),
+    (FOREVER, 1, 7, End::More, "1;1;1;"),
+    (RECURS, 5, 1000, End::Done(5), "7;3;"),
+    (RECURS, 4, 1000, End::Wrong, "7;"),
+    (RECURS, 5, 15, End::Done(5), "7;3;"),
+    (RECURS, 5, 14, End::More, "7;3;"),
+    (RECURS, 5, 13, End::More, "7;"),
     (
         "void f(void) { return; } int main(void) { f(); return 0; }",
-        &[(2, 3, End::Done(0), &[])],
+        2,
+        3,
+        End::Done(0),
+        "",
     ),
     (
         "int main(void) { int i; int x; for (i = 0; i < 2; i = i + 1) { if (i == 1) out(x); x = 5; } return 0; }",
-        &[(1, 100, End::Done(0), &[5])],
+        1,
+        100,
+        End::Done(0),
+        "5;",
     ),
     (
         "int g = 42; int a[4]; int main(void) { out(g); a[0] = 8; out(a[0]); return 0; }",
-        &[(1, 4, End::Done(0), &[42, 8])],
+        1,
+        4,
+        End::Done(0),
+        "42;8;",
     ),
     (
         "int g = 42; int a[4]; int main(void) { out(g); a[3] = 8; out(a[3]); return 0; }",
-        &[(1, 4, End::Done(0), &[42, 8])],
+        1,
+        4,
+        End::Done(0),
+        "42;8;",
     ),
     (
         "int g = 42; int a[4]; int main(void) { out(g); a[4] = 8; out(a[4]); return 0; }",
-        &[(1, 4, End::Wrong, &[42])],
+        1,
+        4,
+        End::Wrong,
+        "42;",
     ),
     (
         "int g = 42; int a[4]; int main(void) { out(g); a[-1] = 8; out(a[-1]); return 0; }",
-        &[(1, 4, End::Wrong, &[42])],
+        1,
+        4,
+        End::Wrong,
+        "42;",
     ),
 ];
 
@@ -261,43 +338,58 @@ const OPERATORS: &[(&str, u32)] = &[
     ("0 ? 1 / 0 : 7", 7),
 ];
 
-// What a text without faults is lowered to.
-fn lowered(rt: &impl Abort, alloc: Global, text: &[u8]) -> Rtl {
-    let program = read(alloc, text).expect(rt, "a text that spells a program");
-    let typed = check(alloc, program).expect(rt, "a program without faults");
-    lower(alloc, &typed).expect(rt, "a program within the limits")
+/// What a text is lowered to; None where it has a fault.
+pub fn lowered(alloc: Global, text: &[u8]) -> Option<Rtl> {
+    let program = read(alloc, text).ok()?;
+    let typed = check(alloc, program).ok()?;
+    lower(alloc, &typed).ok()
 }
 
-// Whether a lowered program comes as far as this run of its source.
-fn comes_as_far(alloc: Global, lowered: &Rtl, run: &Run<'_>) -> Result<bool, AllocError> {
-    let (depth, steps, end, output) = *run;
-    let ran = rtl::run(alloc, lowered, depth, steps.saturating_mul(16))?;
-    Ok(match end {
-        End::Done(_) => ran.end == end && ran.output.as_slice() == output,
-        End::Wrong | End::More => ran.output.as_slice().starts_with(output),
+// The words as a text, each with its end.
+fn spelled(alloc: Global, words: &[u32]) -> Option<String> {
+    let mut text = String::new(alloc);
+    for word in words {
+        write!(text, "{word};").ok()?;
+    }
+    Some(text)
+}
+
+// Whether what the text is lowered to comes as far as this run of it; None where it has a fault.
+fn comes_as_far(
+    alloc: Global,
+    text: &str,
+    (depth, steps): (u32, u64),
+    end: End,
+    output: &str,
+) -> Option<bool> {
+    let lowered = lowered(alloc, text.as_bytes())?;
+    let ran = rtl::run(alloc, &lowered, depth, steps.saturating_mul(16)).ok()?;
+    let written = spelled(alloc, ran.output.as_slice())?;
+    Some(match end {
+        End::Done(_) => ran.end == end && written.as_str() == output,
+        End::Wrong | End::More => written.as_str().starts_with(output),
     })
 }
 
 #[test]
-fn programs_come_as_far(rt: HostRuntime) -> Result<(), Fail> {
-    for (text, runs) in PROGRAMS {
-        let lowered = lowered(&rt, rt.alloc(), text.as_bytes());
-        for run in *runs {
-            assert!(rt; comes_as_far(rt.alloc(), &lowered, run)?, "{text}");
-        }
+fn programs_come_as_far(rt: HostRuntime) {
+    for &(text, depth, steps, end, output) in PROGRAMS {
+        let comes = comes_as_far(rt.alloc(), text, (depth, steps), end, output);
+        assert!(rt; comes == Some(true), "{text}");
     }
-    Ok(())
 }
 
 #[test]
-fn operators_come_as_far(rt: HostRuntime) -> Result<(), Fail> {
+fn operators_come_as_far(rt: HostRuntime) {
     for &(expression, word) in OPERATORS {
-        let text = format!(in rt.alloc(); "int main(void) {{ out({expression}); return 0; }}")?;
-        let lowered = lowered(&rt, rt.alloc(), text.as_bytes());
-        let output = [word];
-        let run = (1, 2, End::Done(0), output.as_slice());
-        let comes = comes_as_far(rt.alloc(), &lowered, &run)?;
-        assert!(rt; comes, "{expression}");
+        let comes = prints(rt.alloc(), expression, word);
+        assert!(rt; comes == Some(true), "{expression}");
     }
-    Ok(())
+}
+
+// The same of the program that prints an expression, which has this word.
+fn prints(alloc: Global, expression: &str, word: u32) -> Option<bool> {
+    let text = format!(in alloc; "int main(void) {{ out({expression}); return 0; }}").ok()?;
+    let output = spelled(alloc, [word].as_slice())?;
+    comes_as_far(alloc, text.as_str(), (1, 2), End::Done(0), output.as_str())
 }

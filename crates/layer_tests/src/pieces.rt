@@ -1,197 +1,143 @@
 // Blocks of any length, and their pieces.
 
-ghost use Rattle.std.specs.Prelude.{◌≡◌, ◌<◌, ◌∷◌, [], IfOk};
+ghost use Rattle.std.specs.Prelude.{◌≡◌, ◌∷◌, [], IfSome};
 ghost use Rattle.layer_tests.specs.Alone.{halting};
 
-use crate::assembled::first_version;
-use image::Image;
-use mblock::{Block, BlockNumber, Exit, Unit};
+use crate::units::{comes_to, first_version};
+use check_text::exit_of;
+use mblock::{BlockNumber, Exit, Unit};
 use mips_isa::{ImmOp, Plain, Reg};
-use mips_machine::run;
 use mips_split::{LongBlock, SelectFault, split, split_unit};
 use mips_steps::Ending;
-use std::alloc::{AllocError, Global};
-use std::test::Fail;
-
-// The block of this number.
-pub fn number(n: u32) -> BlockNumber
-    requires { n < 1048576 }
-    ensures { result ≡ n }
-{
-    match BlockNumber::new(n) {
-        Some(number) => number,
-        None => unreachable!(),
-    }
-}
-
-fn insts(alloc: Global, count: i16) -> Result<Vec<Plain>, AllocError> {
-    let mut insts = Vec::new(alloc);
-    for imm in 0..count {
-        insts.push(Plain::Imm {
-            op: ImmOp::Addiu,
-            rt: Reg::RESULT,
-            rs: Reg::ZERO,
-            imm,
-        })?;
-    }
-    Ok(insts)
-}
-
-fn long(alloc: Global, count: i16, exit: Exit) -> Result<LongBlock, AllocError> {
-    Ok(LongBlock::new(insts(alloc, count)?, exit))
-}
-
-fn lengths_of(alloc: Global, pieces: &[Block]) -> Result<Vec<usize>, AllocError> {
-    let mut lengths = Vec::new(alloc);
-    for piece in pieces {
-        lengths.push(piece.insts().len())?;
-    }
-    Ok(lengths)
-}
-
-// The lengths of the pieces of a block of so many instructions.
-fn lengths(alloc: Global, count: i16) -> Result<Vec<usize>, SelectFault> {
-    let insts = insts(alloc, count)?;
-    let blocks = alone(alloc, insts)?;
-    let pieces = split(alloc, blocks)?;
-    Ok(lengths_of(alloc, pieces.as_slice())?)
-}
-
-const LENGTHS: &[(i16, &[usize])] = &[
-    (0, &[0]),
-    (1, &[1]),
-    (512, &[512]),
-    (513, &[512, 1]),
-    (1024, &[512, 512]),
-    (1025, &[512, 512, 1]),
-];
-
-#[test]
-fn a_block_of_each_length_has_its_pieces(rt: HostRuntime) -> Result<(), Fail> {
-    for &(count, wants) in LENGTHS {
-        let got = lengths(rt.alloc(), count)?;
-        assert_eq!(rt; got.as_slice(), wants, "of {count} instructions");
-    }
-    Ok(())
-}
-
-// Of 600, 1,025 and no instructions, the first of which calls the third.
-fn three(alloc: Global) -> Result<Vec<LongBlock>, AllocError> {
-    let call = Exit::Call {
-        function: number(2),
-        next: number(1),
-    };
-    let mut blocks = Vec::new(alloc);
-    blocks.push(long(alloc, 600, call)?)?;
-    blocks.push(long(alloc, 1025, Exit::Halt)?)?;
-    blocks.push(long(alloc, 0, Exit::Return)?)?;
-    Ok(blocks)
-}
-
-fn exits_of(alloc: Global, pieces: &[Block]) -> Result<Vec<Exit>, AllocError> {
-    let mut exits = Vec::new(alloc);
-    for piece in pieces {
-        exits.push(piece.exit())?;
-    }
-    Ok(exits)
-}
-
-#[test]
-fn targets_are_first_pieces(rt: HostRuntime) -> Result<(), Fail> {
-    let blocks = three(rt.alloc())?;
-    let pieces = split(rt.alloc(), blocks)?;
-    let exits = exits_of(rt.alloc(), pieces.as_slice())?;
-    let call = Exit::Call {
-        function: number(5),
-        next: number(2),
-    };
-    assert_eq!(rt;
-        exits.as_slice(),
-        [
-            Exit::Goto(number(1)),
-            call,
-            Exit::Goto(number(3)),
-            Exit::Goto(number(4)),
-            Exit::Halt,
-            Exit::Return,
-        ]
-        .as_slice()
-    );
-    Ok(())
-}
+use std::alloc::Global;
 
 // So many additions of 1 to register 4.
-fn additions(alloc: Global, count: usize) -> Result<Vec<Plain>, AllocError> {
-    let mut insts = Vec::new(alloc);
-    for _ in 0..count {
-        insts.push(Plain::Imm {
-            op: ImmOp::Addiu,
-            rt: Reg::ARGUMENT,
-            rs: Reg::ARGUMENT,
-            imm: 1,
-        })?;
+fn additions(alloc: Global, count: usize) -> Option<Vec<Plain>> {
+    let add = Plain::Imm {
+        op: ImmOp::Addiu,
+        rt: Reg::ARGUMENT,
+        rs: Reg::ARGUMENT,
+        imm: 1,
+    };
+    vec![in alloc; add; count].ok()
+}
+
+// Blocks, or their pieces, by the number of their instructions and their exits.
+type Lengths = &'static [(usize, &'static str)];
+
+const PIECES: &[(Lengths, Lengths)] = &[
+    (&[(0, "halt")], &[(0, "halt")]),
+    (&[(1, "halt")], &[(1, "halt")]),
+    (&[(512, "halt")], &[(512, "halt")]),
+    (&[(513, "halt")], &[(512, "goto 1"), (1, "halt")]),
+    (&[(1024, "halt")], &[(512, "goto 1"), (512, "halt")]),
+    (
+        &[(1025, "halt")],
+        &[(512, "goto 1"), (512, "goto 2"), (1, "halt")],
+    ),
+    // targets are first pieces
+    (
+        &[(600, "call 2,1"), (1025, "halt"), (0, "return")],
+        &[
+            (512, "goto 1"),
+            (88, "call 5,2"),
+            (512, "goto 3"),
+            (512, "goto 4"),
+            (1, "halt"),
+            (0, "return"),
+        ],
+    ),
+];
+
+// The long blocks of these lengths.
+fn long_blocks(alloc: Global, lengths: Lengths) -> Option<Vec<LongBlock>> {
+    let mut blocks = Vec::new(alloc);
+    for &(count, exit) in lengths {
+        let exit = exit_of(exit.as_bytes())?;
+        blocks
+            .push(LongBlock::new(additions(alloc, count)?, exit))
+            .ok()?;
     }
-    Ok(insts)
+    Some(blocks)
+}
+
+// Whether the pieces of blocks of the first lengths have the second.
+fn are_pieces(alloc: Global, lengths: Lengths, wants: Lengths) -> Option<bool> {
+    let pieces = split(alloc, long_blocks(alloc, lengths)?).ok()?;
+    let mut same = pieces.len() == wants.len();
+    for (piece, &(count, exit)) in pieces.iter().zip(wants) {
+        let ends = exit_of(exit.as_bytes()) == Some(piece.exit());
+        same = same && ends && piece.insts().len() == count;
+    }
+    Some(same)
+}
+
+#[test]
+fn long_blocks_are_cut_into_pieces(rt: HostRuntime) {
+    for (k, &(lengths, wants)) in PIECES.iter().enumerate() {
+        assert_eq!(rt;
+            are_pieces(rt.alloc(), lengths, wants),
+            Some(true),
+            "row {k}"
+        );
+    }
 }
 
 // One block, which ends the run.
-fn alone(alloc: Global, insts: Vec<Plain>) -> Result<Vec<LongBlock>, AllocError>
-    ensures { IfOk result (λ blocks. blocks.items ≡ halting insts.items ∷ []) }
+fn alone(alloc: Global, insts: Vec<Plain>) -> Option<Vec<LongBlock>>
+    ensures { IfSome result (λ blocks. blocks.items ≡ halting insts.items ∷ []) }
 {
     let mut blocks = Vec::new(alloc);
-    blocks.push(LongBlock::new(insts, Exit::Halt))?;
-    Ok(blocks)
+    blocks.push(LongBlock::new(insts, Exit::Halt)).ok()?;
+    Some(blocks)
 }
 
 // The owner of one block.
-fn own(alloc: Global) -> Result<Vec<BlockNumber>, AllocError>
-    ensures { IfOk result (λ owner. owner.items ≡ 0 ∷ []) }
+fn own(alloc: Global) -> Option<Vec<BlockNumber>>
+    ensures { IfSome result (λ owner. owner.items ≡ 0 ∷ []) }
 {
     let mut owner = Vec::new(alloc);
-    owner.push(number(0))?;
-    Ok(owner)
+    owner.push(BlockNumber::new(0)?).ok()?;
+    Some(owner)
 }
 
 // A unit of one block, which adds 1 to register 4 so many times and ends with it.
-fn counting(alloc: Global, count: usize) -> Result<Unit, SelectFault> {
+fn counting(alloc: Global, count: usize) -> Option<Unit> {
     let insts = additions(alloc, count)?;
     let blocks = alone(alloc, insts)?;
     let owner = own(alloc)?;
-    split_unit(alloc, blocks, owner.as_slice(), Vec::new(alloc))
-}
-
-// Whether the image has printed nothing by so many words, and has this end.
-fn comes_to(alloc: Global, image: &Image, words: u64, end: Ending) -> Result<bool, AllocError> {
-    let ran = run(alloc, image, words)?;
-    Ok(ran.end == end && ran.output.is_empty())
+    split_unit(alloc, blocks, owner.as_slice(), Vec::new(alloc)).ok()
 }
 
 #[test]
-fn a_long_block_runs_in_its_pieces(rt: HostRuntime) -> Result<(), Fail> {
-    let unit = counting(rt.alloc(), 1300)?;
+fn a_long_block_runs_in_its_pieces(rt: HostRuntime) {
+    let unit = counting(rt.alloc(), 1300).expect(&rt, "a unit");
     assert_eq!(rt; unit.blocks().len(), 3);
-    let image = first_version(rt.alloc(), &unit)?.expect(&rt, "an image");
+    let image = first_version(rt.alloc(), &unit).and_then(|image| image.ok());
+    let image = image.expect(&rt, "an image");
     // two jumps with their slots, and the two words of the end
     assert_eq!(rt; image.code().len(), 1306);
-    assert!(rt; comes_to(rt.alloc(), &image, 1306, Ending::Halt(1300))?);
-    assert!(rt; comes_to(rt.alloc(), &image, 1305, Ending::More)?);
-    Ok(())
+    assert!(rt; comes_to(rt.alloc(), &image, 1306, Ending::Halt(1300), &[]));
+    assert!(rt; comes_to(rt.alloc(), &image, 1305, Ending::More, &[]));
 }
 
-// So many blocks without instructions.
-fn empty_blocks(alloc: Global, count: usize) -> Result<Vec<LongBlock>, AllocError> {
+// Whether so many blocks without instructions are within a unit's; None where memory is refused.
+fn are_few(alloc: Global, count: usize) -> Option<bool> {
     let mut blocks = Vec::new(alloc);
     for _ in 0..count {
-        blocks.push(LongBlock::new(Vec::new(alloc), Exit::Halt))?;
+        blocks
+            .push(LongBlock::new(Vec::new(alloc), Exit::Halt))
+            .ok()?;
     }
-    Ok(blocks)
+    match split(alloc, blocks) {
+        Ok(_) => Some(true),
+        Err(SelectFault::Limit) => Some(false),
+        Err(SelectFault::NoMemory) => None,
+    }
 }
 
 #[test]
-fn more_pieces_than_a_unit_has_are_refused(rt: HostRuntime) -> Result<(), Fail> {
-    let most = empty_blocks(rt.alloc(), 1_048_576)?;
-    assert!(rt; split(rt.alloc(), most).is_ok());
-    let more = empty_blocks(rt.alloc(), 1_048_577)?;
-    assert!(rt; split(rt.alloc(), more).err() == Some(SelectFault::Limit));
-    Ok(())
+fn more_pieces_than_a_unit_has_are_refused(rt: HostRuntime) {
+    assert_eq!(rt; are_few(rt.alloc(), 1_048_576), Some(true));
+    assert_eq!(rt; are_few(rt.alloc(), 1_048_577), Some(false));
 }

@@ -1,9 +1,8 @@
-// Programs out of constants, and what they come to.
+// Programs out of constants, and what their runs come to.
 
 use rtl::{RBlock, RExit, RFunc, RGlobal, RInst, Rtl, run};
 use runs::End;
-use std::alloc::{AllocError, Global};
-use std::process::Abort;
+use std::alloc::Global;
 use words::Width;
 
 /// How a block is left: an exit whose arguments are a constant's.
@@ -17,132 +16,92 @@ pub enum Ends {
 }
 
 /// A block's instructions, and how it is left.
-pub type Block = (&'static [RInst], Ends);
+pub type Block<'a> = (&'a [RInst], Ends);
 
 /// A function's number of parameters and its blocks.
-pub type Function = (u32, &'static [Block]);
+pub type Function<'a> = (u32, &'a [Block<'a>]);
+
+/// A global's width, its number of elements and their first values.
+pub type Array<'a> = (Width, u32, &'a [u32]);
 
 /// The depth and the steps of a run, and the end and the output that it comes to.
-pub type Run = (u32, u64, End, &'static [u32]);
+pub type Run<'a> = (u32, u64, End, &'a [u32]);
 
-/// The functions of a program without globals, `main` first, and what its runs come to.
-pub type Row = (&'static [Function], &'static [Run]);
-
-fn exit_of(alloc: Global, ends: Ends) -> Result<RExit, AllocError> {
-    Ok(match ends {
+fn exit(alloc: Global, ends: Ends) -> Option<RExit> {
+    Some(match ends {
         Ends::Goto(next) => RExit::Goto(next),
         Ends::Branch(test, then, other) => RExit::Branch(test, then, other),
         Ends::Call(function, arguments, to, next) => {
-            RExit::Call(function, Vec::from_slice(alloc, arguments)?, to, next)
+            RExit::Call(function, Vec::from_slice(alloc, arguments).ok()?, to, next)
         }
         Ends::Return(from) => RExit::Return(from),
         Ends::Out(from, next) => RExit::Out(from, next),
     })
 }
 
-/// A block of these instructions.
-pub fn block(alloc: Global, insts: &[RInst], ends: Ends) -> Result<RBlock, AllocError> {
-    let exit = exit_of(alloc, ends)?;
-    let insts = Vec::from_slice(alloc, insts)?;
-    Ok(RBlock { insts, exit })
+/// A block of these instructions; None of each of these where memory is refused.
+pub fn block(alloc: Global, insts: &[RInst], ends: Ends) -> Option<RBlock> {
+    let insts = Vec::from_slice(alloc, insts).ok()?;
+    let exit = exit(alloc, ends)?;
+    Some(RBlock { insts, exit })
 }
 
 /// The function of these parts.
-pub fn function(alloc: Global, (parameters, parts): Function) -> Result<RFunc, AllocError> {
+pub fn function(alloc: Global, (parameters, parts): Function<'_>) -> Option<RFunc> {
     let mut blocks = Vec::new(alloc);
-    for (insts, ends) in parts {
-        blocks.push(block(alloc, insts, *ends)?)?;
+    for &(insts, ends) in parts {
+        blocks.push(block(alloc, insts, ends)?).ok()?;
     }
-    Ok(RFunc { parameters, blocks })
+    Some(RFunc { parameters, blocks })
 }
 
-/// A function of one block and no parameters.
-pub fn one_block(alloc: Global, insts: &[RInst], ends: Ends) -> Result<RFunc, AllocError> {
-    let mut blocks = Vec::new(alloc);
-    blocks.push(block(alloc, insts, ends)?)?;
-    Ok(RFunc {
-        parameters: 0,
-        blocks,
-    })
+/// The functions of these parts.
+pub fn functions(alloc: Global, parts: &[Function<'_>]) -> Option<Vec<RFunc>> {
+    let mut all = Vec::new(alloc);
+    for &part in parts {
+        all.push(function(alloc, part)?).ok()?;
+    }
+    Some(all)
 }
 
-/// A global of so many elements with these first values.
-pub fn global(
-    alloc: Global,
-    width: Width,
-    length: u32,
-    first: &[u32],
-) -> Result<RGlobal, AllocError> {
-    Ok(RGlobal {
+fn global(alloc: Global, (width, length, first): Array<'_>) -> Option<RGlobal> {
+    let first = Vec::from_slice(alloc, first).ok()?;
+    Some(RGlobal {
         width,
         length,
-        first: Vec::from_slice(alloc, first)?,
+        first,
     })
 }
 
-/// The program of a function alone, and of these globals.
-pub fn program_over(
-    rt: &impl Abort,
-    alloc: Global,
-    main: RFunc,
-    globals: Vec<RGlobal>,
-) -> Result<Rtl, AllocError> {
-    let mut functions = Vec::new(alloc);
-    functions.push(main)?;
-    Ok(Rtl::new(functions, globals, 0).expect(rt, "a program"))
-}
-
-/// The program of a function alone.
-pub fn program_of(rt: &impl Abort, alloc: Global, main: RFunc) -> Result<Rtl, AllocError> {
-    program_over(rt, alloc, main, Vec::new(alloc))
-}
-
-/// The program of these functions, `main` first.
-pub fn program(rt: &impl Abort, alloc: Global, functions: &[Function]) -> Result<Rtl, AllocError> {
+/// The globals of these parts.
+pub fn globals(alloc: Global, arrays: &[Array<'_>]) -> Option<Vec<RGlobal>> {
     let mut all = Vec::new(alloc);
-    for parts in functions {
-        all.push(function(alloc, *parts)?)?;
+    for &array in arrays {
+        all.push(global(alloc, array)?).ok()?;
     }
-    Ok(Rtl::new(all, Vec::new(alloc), 0).expect(rt, "a program"))
+    Some(all)
 }
 
-/// The program comes to this end and this output within its bounds.
+/// The program of these parts; None where they are none.
+pub fn program(
+    alloc: Global,
+    parts: &[Function<'_>],
+    arrays: &[Array<'_>],
+    main: u32,
+) -> Option<Rtl> {
+    Rtl::new(functions(alloc, parts)?, globals(alloc, arrays)?, main)
+}
+
+/// Whether the program comes to this end and this output within its bounds.
 pub fn comes_to(
-    rt: &impl Abort,
     alloc: Global,
     program: &Rtl,
-    depth: u32,
-    steps: u64,
+    bounds: (u32, u64),
     end: End,
     output: &[u32],
-) -> Result<(), AllocError> {
-    let ran = run(alloc, program, depth, steps)?;
-    assert_eq!(rt; ran.end, end, "within {steps} steps");
-    assert!(rt;
-        ran.output.as_slice() == output,
-        "another output within {steps} steps"
-    );
-    Ok(())
-}
-
-/// Each of these runs comes to what it should.
-pub fn come_to(
-    rt: &impl Abort,
-    alloc: Global,
-    program: &Rtl,
-    runs: &[Run],
-) -> Result<(), AllocError> {
-    for (depth, steps, end, output) in runs {
-        comes_to(rt, alloc, program, *depth, *steps, *end, output)?;
+) -> bool {
+    match run(alloc, program, bounds.0, bounds.1) {
+        Ok(ran) => ran.end == end && ran.output.as_slice() == output,
+        Err(_) => false,
     }
-    Ok(())
-}
-
-/// Each run of each program comes to what it should.
-pub fn judge(rt: &impl Abort, alloc: Global, rows: &[Row]) -> Result<(), AllocError> {
-    for (functions, runs) in rows {
-        let program = program(rt, alloc, functions)?;
-        come_to(rt, alloc, &program, runs)?;
-    }
-    Ok(())
 }

@@ -1,105 +1,17 @@
 // Units of programs: selected, assembled in plain order and run.
 
-use crate::programs::{
-    Ends, Function, block, comes_to, function, global, one_block, program, program_of, program_over,
-};
-use crate::scheduled::NO_COUNTS;
-use image::Image;
-use mblock::plain_orders;
-use mips_asm::{AsmFault, image_of};
-use mips_machine::run;
+use crate::programs::{Array, Ends, Function, comes_to, globals, program};
+use crate::units;
 use mips_select::select;
+use mips_split::SelectFault;
 use mips_steps::Ending;
-use rtl::{Op, RBlock, RFunc, RGlobal, RInst, Rtl};
+use rtl::{Op, RBlock, RExit, RFunc, RInst, Rtl};
 use runs::End;
-use std::alloc::{AllocError, Global};
-use std::process::Abort;
-use std::test::Fail;
+use std::alloc::Global;
 use words::Width;
 
-// The image of a program's unit, its blocks in plain order.
-fn image_for(rt: &impl Abort, alloc: Global, program: &Rtl, depth: u32) -> Result<Image, AsmFault> {
-    let unit = select(alloc, program, depth).expect(rt, "a unit");
-    let orders = plain_orders(alloc, &unit)?;
-    image_of(alloc, &unit, orders.as_slice(), Some(NO_COUNTS))
-}
-
-// Whether an image has this output and ends with this word.
-fn prints(alloc: Global, image: &Image, word: u32, output: &[u32]) -> Result<bool, AllocError> {
-    let ran = run(alloc, image, 100_000)?;
-    Ok(ran.end == Ending::Halt(word) && ran.output.as_slice() == output)
-}
-
-// The program ends with this word and this output, and so does the image of its unit.
-fn both_end_with(
-    rt: &impl Abort,
-    alloc: Global,
-    program: &Rtl,
-    depth: u32,
-    word: u32,
-    output: &[u32],
-) -> Result<(), AsmFault> {
-    comes_to(rt, alloc, program, depth, 10_000, End::Done(word), output)?;
-    let image = image_for(rt, alloc, program, depth)?;
-    assert!(rt;
-        prints(alloc, &image, word, output)?,
-        "another word or output"
-    );
-    Ok(())
-}
-
-// Register i becomes i + 1 for each i below count, and the sum of all is written and returned.
-fn sum_of_many(alloc: Global, count: u32) -> Result<RFunc, AllocError> {
-    let mut insts = Vec::new(alloc);
-    for i in 0..count {
-        insts.push(RInst::Const(i, i.wrapping_add(1)))?;
-    }
-    insts.push(RInst::Const(count, 0))?;
-    for i in 0..count {
-        insts.push(RInst::Bin(Op::Add, count, count, i))?;
-    }
-    let mut blocks = Vec::new(alloc);
-    blocks.push(block(alloc, insts.as_slice(), Ends::Out(count, 1))?)?;
-    blocks.push(block(alloc, &[], Ends::Return(Some(count)))?)?;
-    Ok(RFunc {
-        parameters: 0,
-        blocks,
-    })
-}
-
-const SUMS: &[(u32, u32)] = &[(7, 28), (8, 36), (9, 45), (12, 78), (40, 820)];
-
-#[test]
-fn more_variables_than_registers(rt: HostRuntime) -> Result<(), Fail> {
-    for &(count, sum) in SUMS {
-        let many = program_of(&rt, rt.alloc(), sum_of_many(rt.alloc(), count)?)?;
-        both_end_with(&rt, rt.alloc(), &many, 1, sum, [sum].as_slice())?;
-    }
-    Ok(())
-}
-
-// Adds 1 so many times in one block, behind two instructions.
-fn counts_up(alloc: Global, count: u32) -> Result<RFunc, AllocError> {
-    let mut insts = Vec::new(alloc);
-    insts.push(RInst::Const(0, 0))?;
-    insts.push(RInst::Const(1, 1))?;
-    for _i in 0..count {
-        insts.push(RInst::Bin(Op::Add, 0, 0, 1))?;
-    }
-    one_block(alloc, insts.as_slice(), Ends::Return(Some(0)))
-}
-
-#[test]
-fn long_blocks_are_cut(rt: HostRuntime) -> Result<(), Fail> {
-    for count in [509, 510, 511, 1_998, 5_000] {
-        let long = program_of(&rt, rt.alloc(), counts_up(rt.alloc(), count)?)?;
-        both_end_with(&rt, rt.alloc(), &long, 1, count, &[])?;
-    }
-    Ok(())
-}
-
 // The sum of the numbers up to its argument, by calls of itself: its argument lives across them.
-const SUM_UP_TO: Function = (
+const SUM_UP_TO: Function<'static> = (
     1,
     &[
         (&[], Ends::Branch(0, 1, 3)),
@@ -113,7 +25,7 @@ const SUM_UP_TO: Function = (
 );
 
 // Calls function 1 with 10 and adds a register that it has set before.
-const CALLER: Function = (
+const CALLER: Function<'static> = (
     0,
     &[
         (
@@ -125,15 +37,8 @@ const CALLER: Function = (
     ],
 );
 
-#[test]
-fn recursion_keeps_registers(rt: HostRuntime) -> Result<(), Fail> {
-    let deep = program(&rt, rt.alloc(), [CALLER, SUM_UP_TO].as_slice())?;
-    both_end_with(&rt, rt.alloc(), &deep, 12, 1_000_055, [55].as_slice())?;
-    Ok(())
-}
-
 // Adds a byte and a word, keeps the low eight bits, and reads the neighbours.
-const ACROSS: Function = (
+const ACROSS: Function<'static> = (
     0,
     &[
         (
@@ -155,49 +60,131 @@ const ACROSS: Function = (
     ],
 );
 
-// Bytes stand beside words.
-fn neighbours(alloc: Global) -> Result<Vec<RGlobal>, AllocError> {
-    let mut globals = Vec::new(alloc);
-    globals.push(global(alloc, Width::Byte, 3, [1, 2, 250].as_slice())?)?;
-    globals.push(global(alloc, Width::Word, 2, [10, 0x0102_0304].as_slice())?)?;
-    globals.push(global(alloc, Width::Byte, 1, [7].as_slice())?)?;
-    Ok(globals)
+// Bytes beside words.
+const NEIGHBOURS: &[Array<'static>] = &[
+    (Width::Byte, 3, &[1, 2, 250]),
+    (Width::Word, 2, &[10, 0x0102_0304]),
+    (Width::Byte, 1, &[7]),
+];
+
+// The functions of a program and its globals, the depth, and what it and the image of its unit print and end with.
+type Row = (
+    &'static [Function<'static>],
+    &'static [Array<'static>],
+    u32,
+    &'static [u32],
+    u32,
+);
+
+const ROWS: &[Row] = &[
+    // recursion keeps registers
+    (&[CALLER, SUM_UP_TO], &[], 12, &[55], 1_000_055),
+    // 0x01020304 + 250, and its low eight bits
+    (
+        &[ACROSS],
+        NEIGHBOURS,
+        1,
+        &[0xfe, 0x0102_03fe, 7],
+        0x0102_03fe,
+    ),
+];
+
+// Whether the program prints this and ends with this word, and so does the image of its unit, its blocks in plain order; None where it
+// has none.
+fn both_end(alloc: Global, program: &Rtl, depth: u32, output: &[u32], word: u32) -> Option<bool> {
+    let unit = select(alloc, program, depth).ok()?;
+    let image = units::second_version(alloc, &unit)?;
+    let ends = comes_to(alloc, program, (depth, 10_000), End::Done(word), output);
+    Some(ends && units::comes_to(alloc, &image, 100_000, Ending::Halt(word), output))
 }
 
 #[test]
-fn bytes_beside_words(rt: HostRuntime) -> Result<(), Fail> {
-    let main = function(rt.alloc(), ACROSS)?;
-    let across = program_over(&rt, rt.alloc(), main, neighbours(rt.alloc())?)?;
-    // 0x01020304 + 250
-    let sum = 0x0102_03fe;
-    both_end_with(&rt, rt.alloc(), &across, 1, sum, [0xfe, sum, 7].as_slice())?;
-    Ok(())
+fn images_end_as_their_programs(rt: HostRuntime) {
+    for (k, &(functions, arrays, depth, output, word)) in ROWS.iter().enumerate() {
+        let program = program(rt.alloc(), functions, arrays, 0).expect(&rt, "a program");
+        let end = both_end(rt.alloc(), &program, depth, output, word);
+        assert_eq!(rt; end, Some(true), "row {k}");
+    }
 }
 
-// An operand that is known, or that stands in global 0.
+const MINUS_TEN: u32 = 0xffff_fff6;
+
+// The program of these blocks of `main`, over -10 and 3 in global 0.
+fn main_of(alloc: Global, blocks: Vec<RBlock>) -> Option<Rtl> {
+    let main = RFunc {
+        parameters: 0,
+        blocks,
+    };
+    let mut functions = Vec::new(alloc);
+    functions.push(main).ok()?;
+    let globals = globals(alloc, &[(Width::Word, 2, &[MINUS_TEN, 3])])?;
+    Rtl::new(functions, globals, 0)
+}
+
+// One block more.
+fn push(blocks: &mut Vec<RBlock>, insts: Vec<RInst>, exit: RExit) -> Option<()> {
+    blocks.push(RBlock { insts, exit }).ok()
+}
+
+// Register i becomes i + 1 for each i below count, and the sum of all is written and returned.
+fn sum_of_many(alloc: Global, count: u32) -> Option<Rtl> {
+    let mut insts = Vec::new(alloc);
+    for i in 0..count {
+        insts.push(RInst::Const(i, i + 1)).ok()?;
+    }
+    insts.push(RInst::Const(count, 0)).ok()?;
+    for i in 0..count {
+        insts.push(RInst::Bin(Op::Add, count, count, i)).ok()?;
+    }
+    let mut blocks = Vec::new(alloc);
+    push(&mut blocks, insts, RExit::Out(count, 1))?;
+    push(&mut blocks, Vec::new(alloc), RExit::Return(Some(count)))?;
+    main_of(alloc, blocks)
+}
+
+const SUMS: &[(u32, u32)] = &[(7, 28), (8, 36), (9, 45), (12, 78), (40, 820)];
+
+#[test]
+fn more_variables_than_registers(rt: HostRuntime) {
+    for &(count, sum) in SUMS {
+        let many = sum_of_many(rt.alloc(), count).expect(&rt, "a program");
+        let end = both_end(rt.alloc(), &many, 1, &[sum], sum);
+        assert_eq!(rt; end, Some(true), "{count} variables");
+    }
+}
+
+// Adds 1 so many times in one block, behind two instructions.
+fn counts_up(alloc: Global, count: u32) -> Option<Rtl> {
+    let mut insts = Vec::new(alloc);
+    insts.push(RInst::Const(0, 0)).ok()?;
+    insts.push(RInst::Const(1, 1)).ok()?;
+    for _ in 0..count {
+        insts.push(RInst::Bin(Op::Add, 0, 0, 1)).ok()?;
+    }
+    let mut blocks = Vec::new(alloc);
+    push(&mut blocks, insts, RExit::Return(Some(0)))?;
+    main_of(alloc, blocks)
+}
+
+// Long blocks are cut, and depth 0 lets main run, as depth 1 does.
+const COUNTS: &[(u32, u32)] = &[(509, 1), (510, 1), (511, 1), (1_998, 1), (5_000, 1), (3, 0)];
+
+#[test]
+fn long_blocks_are_cut(rt: HostRuntime) {
+    for &(count, depth) in COUNTS {
+        let long = counts_up(rt.alloc(), count).expect(&rt, "a program");
+        let end = both_end(rt.alloc(), &long, depth, &[], count);
+        assert_eq!(rt; end, Some(true), "{count} additions at depth {depth}");
+    }
+}
+
+// A word into a register: known, or loaded from global 0.
 fn operand(to: u32, word: u32, index: u32, known: bool) -> [RInst; 2] {
     if known {
         [RInst::Const(to, 0), RInst::Const(to, word)]
     } else {
         [RInst::Const(to, index), RInst::Load(to, 0, to)]
     }
-}
-
-const MINUS_TEN: u32 = 0xffff_fff6;
-
-// -10 and 3, in global 0 or known, to an operator, whose result is written.
-fn operates(
-    alloc: Global,
-    op: Op,
-    left: bool,
-    right: bool,
-    next: u32,
-) -> Result<RBlock, AllocError> {
-    let mut insts = Vec::new(alloc);
-    insts.extend_from_slice(operand(0, MINUS_TEN, 0, left).as_slice())?;
-    insts.extend_from_slice(operand(1, 3, 1, right).as_slice())?;
-    insts.push(RInst::Bin(op, 2, 0, 1))?;
-    block(alloc, insts.as_slice(), Ends::Out(2, next))
 }
 
 const RESULTS: &[(Op, u32)] = &[
@@ -222,49 +209,53 @@ const RESULTS: &[(Op, u32)] = &[
     (Op::LeU, 0),
 ];
 
-// Each operator, one after another.
-fn each_operates(alloc: Global, left: bool, right: bool) -> Result<RFunc, AllocError> {
+// -10 and 3, known or in global 0, to each operator, one after another, whose result is written.
+fn each_operates(alloc: Global, left: bool, right: bool) -> Option<Rtl> {
     let mut blocks = Vec::new(alloc);
-    let mut next: u32 = 1;
     for &(op, _) in RESULTS {
-        blocks.push(operates(alloc, op, left, right, next)?)?;
-        next = next.wrapping_add(1);
+        let mut insts = Vec::new(alloc);
+        insts
+            .extend_from_slice(&operand(0, MINUS_TEN, 0, left))
+            .ok()?;
+        insts.extend_from_slice(&operand(1, 3, 1, right)).ok()?;
+        insts.push(RInst::Bin(op, 2, 0, 1)).ok()?;
+        let next = u32::try_from(blocks.len() + 1).ok()?;
+        push(&mut blocks, insts, RExit::Out(2, next))?;
     }
-    blocks.push(block(alloc, &[], Ends::Return(Some(2)))?)?;
-    Ok(RFunc {
-        parameters: 0,
-        blocks,
-    })
+    push(&mut blocks, Vec::new(alloc), RExit::Return(Some(2)))?;
+    main_of(alloc, blocks)
 }
 
-fn results(alloc: Global) -> Result<Vec<u32>, AllocError> {
+// The words of the results.
+fn results(alloc: Global) -> Option<Vec<u32>> {
     let mut words = Vec::new(alloc);
     for &(_, word) in RESULTS {
-        words.push(word)?;
+        words.push(word).ok()?;
     }
-    Ok(words)
+    Some(words)
 }
 
 #[test]
-fn operators_on_known_and_unknown_words(rt: HostRuntime) -> Result<(), Fail> {
-    let words = results(rt.alloc())?;
+fn operators_on_known_and_unknown_words(rt: HostRuntime) {
+    let words = results(rt.alloc()).expect(&rt, "memory");
     for (left, right) in [(false, false), (false, true), (true, false), (true, true)] {
-        let mut globals = Vec::new(rt.alloc());
-        globals.push(global(rt.alloc(), Width::Word, 2, [MINUS_TEN, 3].as_slice())?)?;
-        let main = each_operates(rt.alloc(), left, right)?;
-        let all = program_over(&rt, rt.alloc(), main, globals)?;
-        both_end_with(&rt, rt.alloc(), &all, 1, 0, words.as_slice())?;
+        let all = each_operates(rt.alloc(), left, right).expect(&rt, "a program");
+        let end = both_end(rt.alloc(), &all, 1, words.as_slice(), 0);
+        assert_eq!(rt; end, Some(true), "known: {left} and {right}");
     }
-    Ok(())
 }
 
-// Whether a program whose main function has so many pseudo-registers has a unit at this depth.
-fn has_unit(rt: &impl Abort, alloc: Global, count: u32, depth: u32) -> Result<bool, AllocError> {
-    let last = count.wrapping_sub(1);
+// Whether a program whose main function has so many pseudo-registers has a unit at this depth; None where there is no such program.
+fn has_unit(alloc: Global, count: u32, depth: u32) -> Option<bool> {
+    let last = count.checked_sub(1)?;
     let insts = [RInst::Const(last, 3)];
-    let main = one_block(alloc, insts.as_slice(), Ends::Return(Some(last)))?;
-    let wide = program_of(rt, alloc, main)?;
-    Ok(select(alloc, &wide, depth).is_ok())
+    let main = [(insts.as_slice(), Ends::Return(Some(last)))];
+    let wide = program(alloc, &[(0, &main)], &[], 0)?;
+    match select(alloc, &wide, depth) {
+        Ok(_) => Some(true),
+        Err(SelectFault::Limit) => Some(false),
+        Err(SelectFault::NoMemory) => None,
+    }
 }
 
 // A frame has four bytes for each pseudo-register and four for the link: at most 32,000, and at most 16 MiB all together.
@@ -281,18 +272,13 @@ const FRAMES: &[(u32, u32, bool)] = &[
 ];
 
 #[test]
-fn frames_and_the_stack_have_limits(rt: HostRuntime) -> Result<(), Fail> {
+fn frames_and_the_stack_have_limits(rt: HostRuntime) {
     for &(count, depth, want) in FRAMES {
-        let got = has_unit(&rt, rt.alloc(), count, depth)?;
-        assert_eq!(rt; got, want, "{count} pseudo-registers at depth {depth}");
+        let got = has_unit(rt.alloc(), count, depth);
+        assert_eq!(rt;
+            got,
+            Some(want),
+            "{count} pseudo-registers at depth {depth}"
+        );
     }
-    Ok(())
-}
-
-// Depth 0 lets main run, as depth 1 does.
-#[test]
-fn main_runs_at_depth_0(rt: HostRuntime) -> Result<(), Fail> {
-    let one = program_of(&rt, rt.alloc(), counts_up(rt.alloc(), 3)?)?;
-    both_end_with(&rt, rt.alloc(), &one, 0, 3, &[])?;
-    Ok(())
 }

@@ -1,69 +1,360 @@
-// Which blocks and owners are a unit.
+// Units to images, and images run. The expected words are those that GNU as gives the same program (-mips1 -EB, code at
+// 0x00400000), the texts those of GNU objdump, with registers by number.
 
-use mblock::{Block, BlockNumber, Exit, Unit};
-use mips_isa::{PairTest, Reg};
-use std::alloc::{AllocError, Global};
-use std::test::Fail;
+ghost use Rattle.std.specs.Prelude.{◌≡◌};
 
-// Where an empty block goes on: at block 1, at block 0, at either, or nowhere.
-#[derive(Clone, Copy)]
-enum Way {
-    On,
-    Again,
-    Branch,
-    Halt,
+use check_text::{exit_of, plain_of};
+use image::{Counts, Image, read_image, write_image};
+use mblock::{Block, BlockNumber, Unit, plain_orders};
+use mips_asm::{AsmFault, assemble, image_of, list};
+use mips_machine::run;
+use mips_steps::Ending;
+use sched_phase::schedule_plain;
+use std::alloc::Global;
+
+/// A block as lines, the last of which is its exit.
+pub type Lines<'a> = &'a [&'a str];
+
+// The block of these lines; None of each of these where there is none, or memory is refused.
+fn block(alloc: Global, lines: Lines<'_>) -> Option<Block> {
+    let (exit, before) = lines.split_last()?;
+    let mut insts = Vec::new(alloc);
+    for line in before {
+        insts.push(plain_of(line.as_bytes())?).ok()?;
+    }
+    Block::new(insts, exit_of(exit.as_bytes())?)
 }
 
-fn exit_of(way: Way) -> Option<Exit> {
-    let zero = BlockNumber::new(0)?;
-    let one = BlockNumber::new(1)?;
-    Some(match way {
-        Way::On => Exit::Goto(one),
-        Way::Again => Exit::Goto(zero),
-        Way::Branch => Exit::BranchPair {
-            test: PairTest::Equal,
-            rs: Reg::ZERO,
-            rt: Reg::ZERO,
-            then: one,
-            other: zero,
-        },
-        Way::Halt => Exit::Halt,
-    })
-}
-
-// Whether empty blocks with these exits and owners are a unit.
-fn are_unit(alloc: Global, ways: &[Way], owners: &[u32]) -> Result<bool, AllocError> {
+/// The unit of these blocks, the numbers of their functions' first blocks, and bytes of data.
+pub fn unit(alloc: Global, parts: &[Lines<'_>], owners: &[u32], data: &[u8]) -> Option<Unit> {
     let mut blocks = Vec::new(alloc);
-    for way in ways {
-        if let Some(block) = exit_of(*way).and_then(|exit| Block::new(Vec::new(alloc), exit)) {
-            blocks.push(block)?;
-        }
+    for lines in parts {
+        blocks.push(block(alloc, lines)?).ok()?;
     }
     let mut owner = Vec::new(alloc);
-    for number in owners {
-        if let Some(first) = BlockNumber::new(*number) {
-            owner.push(first)?;
-        }
+    for &first in owners {
+        owner.push(BlockNumber::new(first)?).ok()?;
     }
-    Ok(Unit::new(blocks, owner, Vec::new(alloc)).is_some())
+    Unit::new(blocks, owner, Vec::from_slice(alloc, data).ok()?)
 }
 
-const UNITS: &[(&[Way], &[u32], bool)] = &[
+const ON: Lines<'static> = &["goto 1"];
+
+const AGAIN: Lines<'static> = &["goto 0"];
+
+const BRANCH: Lines<'static> = &["beq $0,$0,1,0"];
+
+const HALT: Lines<'static> = &["halt"];
+
+// Empty blocks and their owners, and whether they are a unit.
+const UNITS: &[(&[Lines<'static>], &[u32], bool)] = &[
     (&[], &[], false),
-    (&[Way::On], &[0], false),
-    (&[Way::Again], &[0], true),
-    (&[Way::Halt], &[], false),
-    (&[Way::Halt], &[1], false),
-    (&[Way::Branch, Way::Halt], &[0, 0], true),
-    (&[Way::Branch, Way::Halt], &[0, 1], false),
-    (&[Way::On, Way::Halt], &[0, 1], true),
-    (&[Way::Halt, Way::Halt, Way::Halt], &[0, 1, 0], false),
+    (&[ON], &[0], false),
+    (&[AGAIN], &[0], true),
+    (&[HALT], &[], false),
+    (&[HALT], &[1], false),
+    (&[BRANCH, HALT], &[0, 0], true),
+    (&[BRANCH, HALT], &[0, 1], false),
+    (&[ON, HALT], &[0, 1], true),
+    (&[HALT, HALT, HALT], &[0, 1, 0], false),
 ];
 
 #[test]
-fn units_are_refused_for_each_reason(rt: HostRuntime) -> Result<(), Fail> {
-    for &(ways, owners, want) in UNITS {
-        assert_eq!(rt; are_unit(rt.alloc(), ways, owners)?, want);
+fn units_are_refused_for_each_reason(rt: HostRuntime) {
+    for (k, &(blocks, owners, want)) in UNITS.iter().enumerate() {
+        assert_eq!(rt;
+            unit(rt.alloc(), blocks, owners, &[]).is_some(),
+            want,
+            "row {k}"
+        );
     }
-    Ok(())
+}
+
+/// The image of version 1 of a unit's plain orders; None where it can have none.
+pub fn first_version(alloc: Global, unit: &Unit) -> Option<Result<Image, AsmFault>> {
+    if unit.globals().len() % 4 != 0 {
+        return None;
+    }
+    let Ok(orders) = plain_orders(alloc, unit) else {
+        return None;
+    };
+    Some(image_of(alloc, unit, orders.as_slice(), None))
+}
+
+// The counts of a build with no block.
+const NO_COUNTS: Counts = Counts {
+    same: 0,
+    unclean: 0,
+    differs: 0,
+    full: 0,
+    no_memory: 0,
+    missed: 0,
+};
+
+/// The image of version 2, with no block counted.
+pub fn second_version(alloc: Global, unit: &Unit) -> Option<Image> {
+    let Ok(orders) = plain_orders(alloc, unit) else {
+        return None;
+    };
+    image_of(alloc, unit, orders.as_slice(), Some(NO_COUNTS)).ok()
+}
+
+// The same with blocks of each count.
+fn counted_version(alloc: Global, unit: &Unit) -> Option<Image> {
+    let Ok(orders) = plain_orders(alloc, unit) else {
+        return None;
+    };
+    let counts = Counts {
+        same: 6,
+        unclean: 5,
+        differs: 4,
+        full: 3,
+        no_memory: 2,
+        missed: 1,
+    };
+    image_of(alloc, unit, orders.as_slice(), Some(counts)).ok()
+}
+
+// Which image a unit becomes.
+#[derive(Clone, Copy)]
+enum Version {
+    First,
+    Second,
+    Counted,
+}
+
+// A unit, its version, and the words of head and code.
+struct Row {
+    blocks: &'static [Lines<'static>],
+    owners: &'static [u32],
+    data: &'static [u8],
+    version: Version,
+    head: &'static [u32],
+    code: &'static [u32],
+    // how many words it runs, what it ends with and what it prints
+    steps: u64,
+    end: u32,
+    output: &'static [u32],
+}
+
+// Loads the second word of data, and calls, prints what register 4 then has, and ends with 3. What is called adds 1 to register 4 and,
+// if that is above 0, doubles it.
+const PROGRAM: &[Lines<'static>] = &[
+    &["lui $8,4096", "lw $4,4($8)", "call 3,1"],
+    &["out 2"],
+    &["addiu $4,$0,3", "halt"],
+    &["addiu $4,$4,1", "bgtz $4,4,5"],
+    &["sll $4,$4,1", "return"],
+    &["return"],
+];
+
+const OWNERS: &[u32] = &[0, 0, 0, 3, 3, 3];
+
+const WORDS: &[u32] = &[
+    0x3c08_1000,
+    0x8d04_0004,
+    0,
+    0x0c10_000e,
+    0,
+    0x0810_0007,
+    0,
+    0x2402_0001,
+    0x0000_000c,
+    0x0810_000b,
+    0,
+    0x2404_0003,
+    0x2402_000a,
+    0x0000_000c,
+    0x2484_0001,
+    0x1c80_0003,
+    0,
+    0x0810_0016,
+    0,
+    0x0004_2040,
+    0x03e0_0008,
+    0,
+    0x03e0_0008,
+    0,
+];
+
+const ROWS: &[Row] = &[
+    Row {
+        blocks: PROGRAM,
+        owners: OWNERS,
+        data: &[0, 0, 0, 7, 0, 0, 0, 20],
+        version: Version::First,
+        head: &[0x4d43_4349, 1, 24, 0x0040_0000, 2],
+        code: WORDS,
+        steps: 20,
+        end: 3,
+        output: &[42],
+    },
+    Row {
+        blocks: PROGRAM,
+        owners: OWNERS,
+        data: &[0, 0, 0, 7, 0, 0, 0, 20, 9],
+        version: Version::Counted,
+        head: &[0x4d43_4349, 2, 24, 0x0040_0000, 9, 6, 5, 4, 3, 2, 1],
+        code: WORDS,
+        steps: 20,
+        end: 3,
+        output: &[42],
+    },
+    // Adds 1 to a byte of data, writes it before another, and ends with the word that it then stands in. A loaded byte is waited
+    // for as a loaded word is.
+    Row {
+        blocks: &[&[
+            "lui $8,4096",
+            "lbu $4,5($8)",
+            "addiu $4,$4,1",
+            "sb $4,2($8)",
+            "lw $4,0($8)",
+            "halt",
+        ]],
+        owners: &[0],
+        data: &[1, 2, 3, 4, 5, 255, 7, 8],
+        version: Version::First,
+        head: &[0x4d43_4349, 1, 9, 0x0040_0000, 2],
+        code: &[
+            0x3c08_1000,
+            0x9104_0005,
+            0,
+            0x2484_0001,
+            0xa104_0002,
+            0x8d04_0000,
+            0,
+            0x2402_000a,
+            0x0000_000c,
+        ],
+        steps: 9,
+        end: 0x0102_0004,
+        output: &[],
+    },
+    Row {
+        blocks: &[&["addiu $4,$0,7", "halt"]],
+        owners: &[0],
+        data: &[],
+        version: Version::Second,
+        head: &[0x4d43_4349, 2, 3, 0x0040_0000, 0, 0, 0, 0, 0, 0, 0],
+        code: &[0x2404_0007, 0x2402_000a, 0x0000_000c],
+        steps: 3,
+        end: 7,
+        output: &[],
+    },
+];
+
+/// The bytes of words, as an image has them, and more bytes.
+pub fn bytes_of(alloc: Global, words: &[&[u32]], more: &[u8]) -> Option<Vec<u8>> {
+    let mut bytes = Vec::new(alloc);
+    for part in words {
+        for word in *part {
+            bytes.extend_from_slice(&word.to_be_bytes()).ok()?;
+        }
+    }
+    bytes.extend_from_slice(more).ok()?;
+    Some(bytes)
+}
+
+/// Whether the image comes to this end and this output by so many words.
+pub fn comes_to(alloc: Global, image: &Image, words: u64, end: Ending, output: &[u32]) -> bool {
+    match run(alloc, image, words) {
+        Ok(ran) => ran.end == end && ran.output.as_slice() == output,
+        Err(_) => false,
+    }
+}
+
+// The image of a unit whose blocks are scheduled, each in plain order; None where not each is, or one is counted.
+fn scheduled(alloc: Global, unit: &Unit) -> Option<Image> {
+    let all = schedule_plain(alloc, unit).ok()?;
+    if all.count() == unit.blocks().len() && all.report() == NO_COUNTS {
+        assemble(alloc, &all).ok()
+    } else {
+        None
+    }
+}
+
+// Whether the image is written as the row says and read back from that, and what is read ends and prints as it should, and not before.
+fn is_image(alloc: Global, image: &Image, row: &Row) -> Option<bool> {
+    let bytes = bytes_of(alloc, &[row.head, row.code], row.data)?;
+    let written = write_image(alloc, image).ok()?;
+    let again = read_image(alloc, written.as_slice()).ok()?;
+    let ends = comes_to(alloc, &again, row.steps, Ending::Halt(row.end), row.output);
+    let goes_on = comes_to(
+        alloc,
+        &again,
+        row.steps.saturating_sub(1),
+        Ending::More,
+        row.output,
+    );
+    Some(written.as_slice() == bytes.as_slice() && ends && goes_on)
+}
+
+// Whether the row's unit becomes its image, and has its code where it is scheduled; where it counts nothing, also its image.
+fn becomes(alloc: Global, row: &Row) -> Option<bool> {
+    let unit = unit(alloc, row.blocks, row.owners, row.data)?;
+    let other = scheduled(alloc, &unit)?;
+    if other.code() != row.code {
+        return Some(false);
+    }
+    match row.version {
+        Version::First => is_image(alloc, &first_version(alloc, &unit)?.ok()?, row),
+        Version::Counted => is_image(alloc, &counted_version(alloc, &unit)?, row),
+        Version::Second => {
+            let same = is_image(alloc, &other, row)?;
+            Some(is_image(alloc, &second_version(alloc, &unit)?, row)? && same)
+        }
+    }
+}
+
+#[test]
+fn units_become_images(rt: HostRuntime) {
+    for (k, row) in ROWS.iter().enumerate() {
+        assert_eq!(rt; becomes(rt.alloc(), row), Some(true), "row {k}");
+    }
+    let half = unit(rt.alloc(), PROGRAM, OWNERS, &[1, 2]).expect(&rt, "a unit");
+    assert!(rt; first_version(rt.alloc(), &half).is_none());
+}
+
+const LISTING: &str = "\
+00400000  3c081000  lui $8,4096
+00400004  8d040004  lw $4,4($8)
+00400008  00000000  nop
+0040000c  0c10000e  jal 0x00400038
+00400010  00000000  nop
+00400014  08100007  j 0x0040001c
+00400018  00000000  nop
+0040001c  24020001  addiu $2,$0,1
+00400020  0000000c  syscall
+00400024  0810000b  j 0x0040002c
+00400028  00000000  nop
+0040002c  24040003  addiu $4,$0,3
+00400030  2402000a  addiu $2,$0,10
+00400034  0000000c  syscall
+00400038  24840001  addiu $4,$4,1
+0040003c  1c800003  bgtz $4,0x0040004c
+00400040  00000000  nop
+00400044  08100016  j 0x00400058
+00400048  00000000  nop
+0040004c  00042040  sll $4,$4,1
+00400050  03e00008  jr $31
+00400054  00000000  nop
+00400058  03e00008  jr $31
+0040005c  00000000  nop
+10000000  00000007  .word
+10000004  00000014  .word
+10000008  09  .byte
+report same 0 unclean 0 differs 0 full 0 nomemory 0 missed 0
+";
+
+// The listing of the program.
+fn listing(alloc: Global) -> Option<String> {
+    let data = [0, 0, 0, 7, 0, 0, 0, 20, 9];
+    let unit = unit(alloc, PROGRAM, OWNERS, &data)?;
+    list(alloc, &scheduled(alloc, &unit)?).ok()
+}
+
+#[test]
+fn a_scheduled_unit_is_listed(rt: HostRuntime) {
+    let text = listing(rt.alloc()).expect(&rt, "a listing");
+    assert_eq!(rt; text.as_str(), LISTING);
 }

@@ -3,13 +3,9 @@
 #![tactic(auto)]
 
 #[cfg(test)]
-mod hostile_orders;
-#[cfg(test)]
 mod orders;
 #[cfg(test)]
 mod phases;
-#[cfg(test)]
-mod plain_orders;
 #[cfg(test)]
 mod pool;
 #[cfg(test)]

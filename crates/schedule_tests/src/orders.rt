@@ -1,12 +1,12 @@
-//! The orders that schedulers propose for worked blocks, which the validator accepts.
-use block_validator::{Verdict, validate};
+//! The orders that schedulers propose for worked blocks, and the verdicts on them.
+use crate::refused_memory::opened;
+use block_validator::{Place, Verdict, validate};
 use check_text::{Text, read};
 use delay_filler::{FilledOrder, fill};
-use list_scheduler::{ListOrder, Reorder};
-use mblock::{Block, Order};
+use list_scheduler::{Hostile, ListOrder, Reorder};
+use mblock::{Block, Exit, Order, Unclean, plain};
+use mips_isa::{HiLo, Plain, Reg};
 use std::alloc::Global;
-use std::test::Fail;
-use term_table::TermTable;
 
 /// The block and the order of a text.
 pub fn text_of(alloc: Global, text: &str) -> Option<Text> {
@@ -17,106 +17,318 @@ pub fn text_of(alloc: Global, text: &str) -> Option<Text> {
     read(alloc, bytes).ok()
 }
 
-/// Whether two orders are equal.
-pub fn is_equal(left: &Order, right: &Order) -> bool {
+// Whether two orders are equal.
+fn is_equal(left: &Order, right: &Order) -> bool {
     left.insts() == right.insts() && left.exit() == right.exit() && left.slot() == right.slot()
 }
 
-// Whether the order has the block's terms.
-fn is_accepted(alloc: Global, block: &Block, order: Order) -> bool {
-    let Ok((table, mut passes)) = TermTable::open(alloc, 1, 256, 16) else {
-        return false;
-    };
-    let Some(mut pass) = passes.pop() else {
-        return false;
-    };
-    matches!(
-        validate(alloc, &table, &mut pass, block, order),
-        Verdict::Same(_)
-    )
+// Who proposes an order.
+#[derive(Clone, Copy)]
+enum By {
+    Plain,
+    List,
+    Filled,
+    Kind(Hostile),
 }
 
-// Whether the scheduler proposes the order of the text for its block, and the validator accepts it.
-fn proposes<R: Reorder>(alloc: Global, scheduler: &R, text: &str) -> bool {
-    let Some(pair) = text_of(alloc, text) else {
-        return false;
-    };
-    let Ok(order) = scheduler.reorder(alloc, &pair.block) else {
-        return false;
-    };
-    is_equal(&order, &pair.order) && is_accepted(alloc, &pair.block, order)
-}
-
-const LISTED: &[&str] = &[
-    // Something stands behind the load.
-    "block\nlw $8,0($29)\naddu $9,$8,$8\naddiu $10,$10,1\nreturn\n\
-     order\nlw $8,0($29)\naddiu $10,$10,1\naddu $9,$8,$8\nreturn\nslot nop\n",
-    // Nothing can.
-    "block\nlw $8,0($29)\naddu $9,$8,$8\nreturn\n\
-     order\nlw $8,0($29)\nnop\naddu $9,$8,$8\nreturn\nslot nop\n",
-    // The block overwrites a result, and does nothing in between.
-    "block\naddiu $8,$0,1\nnop\naddiu $8,$0,2\nreturn\n\
-     order\naddiu $8,$0,2\nreturn\nslot nop\n",
-    // The branch waits for the load.
-    "block\nlw $8,0($29)\nbne $8,$0,1,2\norder\nlw $8,0($29)\nnop\nbne $8,$0,1,2\nslot nop\n",
-    // Two words before a product behind mflo.
-    "block\nmult $8,$9\nmflo $10\nmult $10,$9\nmflo $11\nreturn\n\
-     order\nmult $8,$9\nmflo $10\nnop\nnop\nmult $10,$9\nmflo $11\nreturn\nslot nop\n",
-    // A load passes a store beside it.
-    "block\nsw $9,4($29)\nlw $8,0($29)\naddu $10,$8,$8\nreturn\n\
-     order\nlw $8,0($29)\nsw $9,4($29)\naddu $10,$8,$8\nreturn\nslot nop\n",
-    // One that loads what was stored passes no store at all.
-    "block\nsw $9,0($29)\nsw $10,4($29)\nlw $8,0($29)\naddu $11,$8,$8\nreturn\n\
-     order\nsw $9,0($29)\nsw $10,4($29)\nlw $8,0($29)\nnop\naddu $11,$8,$8\nreturn\nslot nop\n",
-    // And none that may be at its own address.
-    "block\nsw $9,0($4)\nlw $8,0($5)\naddu $10,$8,$8\nreturn\n\
-     order\nsw $9,0($4)\nlw $8,0($5)\nnop\naddu $10,$8,$8\nreturn\nslot nop\n",
-];
-
-#[test]
-fn lists_have_nops_where_a_rule_needs_them(rt: HostRuntime) -> Result<(), Fail> {
-    for &text in LISTED {
-        assert!(rt; proposes(rt.alloc(), &ListOrder, text), "at {text}");
+fn proposed(alloc: Global, by: By, block: &Block) -> Option<Order> {
+    match by {
+        By::Plain => plain(alloc, block).ok(),
+        By::List => ListOrder.reorder(alloc, block).ok(),
+        By::Filled => FilledOrder(ListOrder).reorder(alloc, block).ok(),
+        By::Kind(kind) => kind.reorder(alloc, block).ok(),
     }
-    Ok(())
 }
 
-const FILLED: &[&str] = &[
-    "block\naddiu $10,$10,1\nreturn\norder\nreturn\nslot addiu $10,$10,1\n",
+// What the validator says of the order.
+#[derive(Clone, Copy)]
+enum Said {
+    Same,
+    Unclean(Unclean),
+    Memory,
+    Exit,
+    // They differ in the register of this number.
+    Register(u8),
+    // It isn't asked.
+    Nothing,
+}
+
+// Whether that is the verdict.
+fn is_said(verdict: &Verdict, said: Said) -> bool {
+    match (said, verdict) {
+        (Said::Same, Verdict::Same(_)) => true,
+        (Said::Unclean(rule), Verdict::Unclean(broken)) => rule == *broken,
+        (Said::Memory, Verdict::Differs(place)) => *place == Place::Memory,
+        (Said::Exit, Verdict::Differs(place)) => *place == Place::Exit,
+        (Said::Register(index), Verdict::Differs(Place::Register(register))) => {
+            register.index() == index
+        }
+        _ => false,
+    }
+}
+
+// Whether the validator says that; None where memory is refused.
+fn says(alloc: Global, block: &Block, order: Order, said: Said) -> Option<bool> {
+    let (table, mut pass) = opened(alloc)?;
+    let verdict = validate(alloc, &table, &mut pass, block, order);
+    Some(is_said(&verdict, said))
+}
+
+// Whether the order of the text is proposed for its block, and the validator says that of it.
+fn is_proposed(alloc: Global, by: By, text: &str, said: Said) -> Option<bool> {
+    let pair = text_of(alloc, text)?;
+    let order = proposed(alloc, by, &pair.block)?;
+    let same = is_equal(&order, &pair.order);
+    match said {
+        Said::Nothing => Some(same),
+        _ => Some(same && says(alloc, &pair.block, order, said)?),
+    }
+}
+
+const DROPPED: &str = "block\nlw $8,0($4)\naddu $9,$8,$8\nsw $9,4($4)\nbne $9,$0,1,2\n\
+                       order\nlw $8,0($4)\nnop\naddu $9,$8,$8\nbne $9,$0,1,2\nslot nop\n";
+
+// Nothing to change.
+const EMPTY: &str = "block\nreturn\norder\nreturn\nslot nop\n";
+
+// Who proposes the order of a text for its block, and the verdict on it.
+const PROPOSED: &[(By, Said, &str)] = &[
+    // Plain orders: what is loaded or moved is waited for.
+    (
+        By::Plain,
+        Said::Same,
+        "block\nlw $8,0($4)\nmflo $9\nreturn\n\
+         order\nlw $8,0($4)\nnop\nmflo $9\nnop\nnop\nreturn\nslot nop\n",
+    ),
+    (By::Plain, Said::Same, "block\nhalt\norder\nhalt\n"),
+    // Lists have nops where a rule needs them.
+    // Something stands behind the load.
+    (
+        By::List,
+        Said::Same,
+        "block\nlw $8,0($29)\naddu $9,$8,$8\naddiu $10,$10,1\nreturn\n\
+     order\nlw $8,0($29)\naddiu $10,$10,1\naddu $9,$8,$8\nreturn\nslot nop\n",
+    ),
+    // Nothing can.
+    (
+        By::List,
+        Said::Same,
+        "block\nlw $8,0($29)\naddu $9,$8,$8\nreturn\n\
+     order\nlw $8,0($29)\nnop\naddu $9,$8,$8\nreturn\nslot nop\n",
+    ),
+    // The block overwrites a result, and does nothing in between.
+    (
+        By::List,
+        Said::Same,
+        "block\naddiu $8,$0,1\nnop\naddiu $8,$0,2\nreturn\n\
+     order\naddiu $8,$0,2\nreturn\nslot nop\n",
+    ),
+    // The branch waits for the load.
+    (
+        By::List,
+        Said::Same,
+        "block\nlw $8,0($29)\nbne $8,$0,1,2\norder\nlw $8,0($29)\nnop\nbne $8,$0,1,2\nslot nop\n",
+    ),
+    // Two words before a product behind mflo.
+    (
+        By::List,
+        Said::Same,
+        "block\nmult $8,$9\nmflo $10\nmult $10,$9\nmflo $11\nreturn\n\
+     order\nmult $8,$9\nmflo $10\nnop\nnop\nmult $10,$9\nmflo $11\nreturn\nslot nop\n",
+    ),
+    // A load passes a store beside it.
+    (
+        By::List,
+        Said::Same,
+        "block\nsw $9,4($29)\nlw $8,0($29)\naddu $10,$8,$8\nreturn\n\
+     order\nlw $8,0($29)\nsw $9,4($29)\naddu $10,$8,$8\nreturn\nslot nop\n",
+    ),
+    // One that loads what was stored passes no store at all.
+    (
+        By::List,
+        Said::Same,
+        "block\nsw $9,0($29)\nsw $10,4($29)\nlw $8,0($29)\naddu $11,$8,$8\nreturn\n\
+     order\nsw $9,0($29)\nsw $10,4($29)\nlw $8,0($29)\nnop\naddu $11,$8,$8\nreturn\nslot nop\n",
+    ),
+    // And none that may be at its own address.
+    (
+        By::List,
+        Said::Same,
+        "block\nsw $9,0($4)\nlw $8,0($5)\naddu $10,$8,$8\nreturn\n\
+     order\nsw $9,0($4)\nlw $8,0($5)\nnop\naddu $10,$8,$8\nreturn\nslot nop\n",
+    ),
+    // Slots are filled where they can be.
+    (
+        By::Filled,
+        Said::Same,
+        "block\naddiu $10,$10,1\nreturn\norder\nreturn\nslot addiu $10,$10,1\n",
+    ),
     // The last that nothing depends on.
-    "block\naddiu $10,$10,1\nslt $8,$9,$11\nbne $8,$0,1,2\n\
+    (
+        By::Filled,
+        Said::Same,
+        "block\naddiu $10,$10,1\nslt $8,$9,$11\nbne $8,$0,1,2\n\
      order\nslt $8,$9,$11\nbne $8,$0,1,2\nslot addiu $10,$10,1\n",
+    ),
     // The branch reads it.
-    "block\nslt $8,$9,$10\nbne $8,$0,1,2\norder\nslt $8,$9,$10\nbne $8,$0,1,2\nslot nop\n",
+    (
+        By::Filled,
+        Said::Same,
+        "block\nslt $8,$9,$10\nbne $8,$0,1,2\norder\nslt $8,$9,$10\nbne $8,$0,1,2\nslot nop\n",
+    ),
     // No load stands in a slot.
-    "block\nlw $8,0($29)\nreturn\norder\nlw $8,0($29)\nreturn\nslot nop\n",
+    (
+        By::Filled,
+        Said::Same,
+        "block\nlw $8,0($29)\nreturn\norder\nlw $8,0($29)\nreturn\nslot nop\n",
+    ),
     // Without it a load would stand before who reads it.
-    "block\nlw $8,0($29)\naddiu $10,$10,1\naddu $9,$8,$8\nsw $9,0($29)\nreturn\n\
+    (
+        By::Filled,
+        Said::Same,
+        "block\nlw $8,0($29)\naddiu $10,$10,1\naddu $9,$8,$8\nsw $9,0($29)\nreturn\n\
      order\nlw $8,0($29)\naddiu $10,$10,1\naddu $9,$8,$8\nreturn\nslot sw $9,0($29)\n",
+    ),
     // A store passes a load beside it.
-    "block\nsw $9,4($29)\nlw $8,0($29)\nreturn\n\
+    (
+        By::Filled,
+        Said::Same,
+        "block\nsw $9,4($29)\nlw $8,0($29)\nreturn\n\
      order\nlw $8,0($29)\nreturn\nslot sw $9,4($29)\n",
+    ),
     // But none that loads what was stored before.
-    "block\nsw $9,0($29)\nsw $10,4($29)\nlw $8,0($29)\nreturn\n\
+    (
+        By::Filled,
+        Said::Same,
+        "block\nsw $9,0($29)\nsw $10,4($29)\nlw $8,0($29)\nreturn\n\
      order\nsw $9,0($29)\nsw $10,4($29)\nlw $8,0($29)\nreturn\nslot nop\n",
+    ),
     // The link is loaded first, so that the stack pointer goes up in the slot.
-    "block\nlw $16,0($29)\nlw $31,4($29)\naddiu $29,$29,8\nreturn\n\
+    (
+        By::Filled,
+        Said::Same,
+        "block\nlw $16,0($29)\nlw $31,4($29)\naddiu $29,$29,8\nreturn\n\
      order\nlw $31,4($29)\nlw $16,0($29)\nreturn\nslot addiu $29,$29,8\n",
+    ),
+    // Each wrong order has its verdict.
+    (By::Kind(Hostile::Drop), Said::Memory, DROPPED),
+    (
+        By::Kind(Hostile::Double),
+        Said::Unclean(Unclean::LoadUse),
+        "block\nlw $8,0($4)\naddu $9,$8,$8\nsw $9,4($4)\nbne $9,$0,1,2\n\
+                       order\nlw $8,0($4)\nlw $8,0($4)\nnop\naddu $9,$8,$8\nsw $9,4($4)\n\
+                       bne $9,$0,1,2\nslot nop\n",
+    ),
+    (
+        By::Kind(Hostile::Swap),
+        Said::Unclean(Unclean::LoadUse),
+        "block\nlw $8,0($4)\naddu $9,$8,$8\nsw $9,4($4)\nbne $9,$0,1,2\n\
+                       order\nnop\nlw $8,0($4)\naddu $9,$8,$8\nsw $9,4($4)\n\
+                       bne $9,$0,1,2\nslot nop\n",
+    ),
+    (
+        By::Kind(Hostile::Foreign),
+        Said::Register(8),
+        "block\nlw $8,0($4)\naddu $9,$8,$8\nsw $9,4($4)\nbne $9,$0,1,2\n\
+                       order\nsw $0,0($29)\nlw $8,0($4)\nnop\naddu $9,$8,$8\nsw $9,4($4)\n\
+                       bne $9,$0,1,2\nslot nop\n",
+    ),
+    (
+        By::Kind(Hostile::Rename),
+        Said::Register(8),
+        "block\nlw $8,0($4)\naddu $9,$8,$8\nsw $9,4($4)\nbne $9,$0,1,2\n\
+                       order\nlw $9,0($4)\nnop\naddu $9,$8,$8\nsw $9,4($4)\n\
+                       bne $9,$0,1,2\nslot nop\n",
+    ),
+    (
+        By::Kind(Hostile::Exit),
+        Said::Exit,
+        "block\nlw $8,0($4)\naddu $9,$8,$8\nsw $9,4($4)\nbne $9,$0,1,2\n\
+                      order\nlw $8,0($4)\nnop\naddu $9,$8,$8\nsw $9,4($4)\n\
+                      bne $9,$0,2,1\nslot nop\n",
+    ),
+    (
+        By::Kind(Hostile::Slot),
+        Said::Unclean(Unclean::LoadUse),
+        "block\nlw $8,0($4)\naddu $9,$8,$8\nsw $9,4($4)\nbne $9,$0,1,2\n\
+                            order\nlw $8,0($4)\naddu $9,$8,$8\nbne $9,$0,1,2\nslot sw $9,4($4)\n",
+    ),
+    // Orders are as their kind says.
+    // The Nop behind the load stays.
+    (
+        By::Kind(Hostile::Drop),
+        Said::Nothing,
+        "block\naddiu $8,$8,1\nlw $9,0($4)\nreturn\norder\naddiu $8,$8,1\nnop\nreturn\nslot nop\n",
+    ),
+    (
+        By::Kind(Hostile::Swap),
+        Said::Nothing,
+        "block\naddiu $8,$8,1\nhalt\norder\naddiu $8,$8,1\nhalt\n",
+    ),
+    // Register 0, none, register 31, register 30.
+    (
+        By::Kind(Hostile::Rename),
+        Said::Nothing,
+        "block\naddu $0,$8,$9\nsw $8,0($4)\nori $31,$31,4\nmflo $30\nreturn\n\
+         order\naddu $0,$8,$9\nsw $8,0($4)\nori $31,$31,4\nmflo $31\nnop\nnop\nreturn\nslot nop\n",
+    ),
+    (
+        By::Kind(Hostile::Rename),
+        Said::Nothing,
+        "block\nsll $1,$2,3\nlui $8,1\nreturn\norder\nsll $2,$2,3\nlui $8,1\nreturn\nslot nop\n",
+    ),
+    (
+        By::Kind(Hostile::Exit),
+        Said::Nothing,
+        "block\nblez $8,1,2\norder\nblez $8,2,1\nslot nop\n",
+    ),
+    (
+        By::Kind(Hostile::Exit),
+        Said::Nothing,
+        "block\ngoto 1\norder\ngoto 1\nslot nop\n",
+    ),
+    // Nops of the block are left out as well.
+    (
+        By::Kind(Hostile::Slot),
+        Said::Nothing,
+        "block\nnop\nmflo $8\naddiu $9,$9,1\nreturn\norder\nmflo $8\nreturn\nslot addiu $9,$9,1\n",
+    ),
+    (
+        By::Kind(Hostile::Slot),
+        Said::Nothing,
+        "block\nlw $8,0($4)\nsw $8,4($4)\nhalt\norder\nlw $8,0($4)\nnop\nsw $8,4($4)\nhalt\n",
+    ),
+    (
+        By::Kind(Hostile::Foreign),
+        Said::Nothing,
+        "block\nout 1\norder\nsw $0,0($29)\nout 1\n",
+    ),
+    // Empty blocks keep their order.
+    (By::Kind(Hostile::Drop), Said::Nothing, EMPTY),
+    (By::Kind(Hostile::Double), Said::Nothing, EMPTY),
+    (By::Kind(Hostile::Swap), Said::Nothing, EMPTY),
+    (By::Kind(Hostile::Rename), Said::Nothing, EMPTY),
+    (By::Kind(Hostile::Exit), Said::Nothing, EMPTY),
+    (By::Kind(Hostile::Slot), Said::Nothing, EMPTY),
 ];
 
 #[test]
-fn slots_are_filled_where_they_can_be(rt: HostRuntime) -> Result<(), Fail> {
-    for &text in FILLED {
-        assert!(rt;
-            proposes(rt.alloc(), &FilledOrder(ListOrder), text),
+fn worked_orders_are_proposed(rt: HostRuntime) {
+    for &(by, said, text) in PROPOSED {
+        assert_eq!(rt;
+            is_proposed(rt.alloc(), by, text, said),
+            Some(true),
             "at {text}"
         );
     }
-    Ok(())
+    for text in [EMPTY, DROPPED] {
+        let got = is_proposed(rt.alloc(), By::Kind(Hostile::Silent), text, Said::Nothing);
+        assert_eq!(rt; got, None, "at {text}");
+    }
 }
 
 // An order without its slot filled, and filled: without `addiu $10,$10,1` the load would stand before who reads it.
-const EMPTY: &str =
+const UNFILLED: &str =
     "block\naddiu $12,$12,1\nlw $8,0($29)\naddiu $10,$10,1\nslt $9,$8,$11\nbne $9,$0,1,2\n\
                      order\naddiu $12,$12,1\nlw $8,0($29)\naddiu $10,$10,1\nslt $9,$8,$11\nbne $9,$0,1,2\nslot nop\n";
 
@@ -124,15 +336,31 @@ const OCCUPIED: &str =
     "block\naddiu $12,$12,1\nlw $8,0($29)\naddiu $10,$10,1\nslt $9,$8,$11\nbne $9,$0,1,2\n\
                         order\nlw $8,0($29)\naddiu $10,$10,1\nslt $9,$8,$11\nbne $9,$0,1,2\nslot addiu $12,$12,1\n";
 
+// Whether the slot is filled as it should be, and the validator accepts that.
+fn is_filled(alloc: Global) -> Option<bool> {
+    let Text { block, order } = text_of(alloc, UNFILLED)?;
+    let occupied = text_of(alloc, OCCUPIED)?;
+    let filled = fill(alloc, &block, order).ok()?;
+    let same = is_equal(&filled, &occupied.order);
+    Some(same && says(alloc, &block, filled, Said::Same)?)
+}
+
 #[test]
-fn the_next_one_is_tried(rt: HostRuntime) -> Result<(), Fail> {
-    let (Some(empty), Some(occupied)) = (text_of(rt.alloc(), EMPTY), text_of(rt.alloc(), OCCUPIED))
-    else {
-        panic!(rt; "no orders")
+fn the_next_one_is_tried(rt: HostRuntime) {
+    assert_eq!(rt; is_filled(rt.alloc()), Some(true));
+}
+
+// How long the plain order is of so many times `mflo $8`.
+fn plain_length(alloc: Global, count: usize) -> Option<usize> {
+    let inst = Plain::MoveFrom {
+        place: HiLo::Lo,
+        rd: Reg::masked(8),
     };
-    let (block, order) = (empty.block, empty.order);
-    let filled = fill(rt.alloc(), &block, order)?;
-    assert!(&rt; is_equal(&filled, &occupied.order));
-    assert!(&rt; is_accepted(rt.alloc(), &block, filled));
-    Ok(())
+    let block = Block::new(vec![in alloc; inst; count].ok()?, Exit::Return)?;
+    Some(plain(alloc, &block).ok()?.insts().len())
+}
+
+#[test]
+fn the_longest_plain_order_is_three_times_its_block(rt: HostRuntime) {
+    assert_eq!(rt; plain_length(rt.alloc(), 512), Some(1536));
 }

@@ -1,61 +1,36 @@
 //! Phases over a unit of three blocks.
-ghost use Rattle.std.specs.Prelude.{⊤};
-
 use crate::pool::Meeting;
 use image::Counts;
-use list_scheduler::Reorder;
-use mblock::{Block, BlockNumber, Exit, Order, Unit, plain};
+use list_scheduler::{Hostile, ListOrder};
+use mblock::{Block, BlockNumber, Exit, Unit};
 use mips_isa::{Plain, Reg};
 use sched_phase::{PhaseOpts, schedule_all, schedule_one};
-use std::alloc::{AllocError, Global};
+use std::alloc::Global;
 use std::test::Fail;
 use steal_pool::Open;
 
-// Proposes the plain order.
-struct Own;
-
-impl Reorder for Own {
-    ghost proposes = { λ scheduler block order. ⊤ };
-
-    fn reorder(&self, alloc: Global, block: &Block) -> Result<Order, AllocError> {
-        plain(alloc, block)
-    }
-}
-
-// Proposes nothing.
-struct Silent;
-
-impl Reorder for Silent {
-    ghost proposes = { λ scheduler block order. ⊤ };
-
-    fn reorder(&self, _alloc: Global, _block: &Block) -> Result<Order, AllocError> {
-        Err(AllocError)
-    }
-}
-
 // Returns, behind so many instructions with terms of their own.
-fn returning(alloc: Global, count: u8) -> Result<Option<Block>, AllocError> {
+fn returning(alloc: Global, count: u8) -> Option<Block> {
     let mut insts = Vec::new(alloc);
     for i in 0..count {
-        insts.push(Plain::LoadUpper {
+        let inst = Plain::LoadUpper {
             rt: Reg::masked(i.wrapping_add(8)),
-            imm: (i as u16).wrapping_add(1),
-        })?;
+            imm: u16::from(i) + 1,
+        };
+        insts.push(inst).ok()?;
     }
-    Ok(Block::new(insts, Exit::Return))
+    Block::new(insts, Exit::Return)
 }
 
 // A function of three blocks: the second has ten terms beside those of the start.
-fn three(alloc: Global) -> Result<Option<Unit>, AllocError> {
+fn three(alloc: Global) -> Option<Unit> {
     let mut blocks = Vec::new(alloc);
     let mut owner = Vec::new(alloc);
     for count in [0, 10, 0] {
-        if let (Some(block), Some(zero)) = (returning(alloc, count)?, BlockNumber::new(0)) {
-            blocks.push(block)?;
-            owner.push(zero)?;
-        }
+        blocks.push(returning(alloc, count)?).ok()?;
+        owner.push(BlockNumber::new(0)?).ok()?;
     }
-    Ok(Unit::new(blocks, owner, Vec::new(alloc)))
+    Unit::new(blocks, owner, Vec::new(alloc))
 }
 
 const NONE: Counts = Counts {
@@ -69,68 +44,81 @@ const NONE: Counts = Counts {
 
 #[test]
 fn two_workers_share_one_table(rt: HostRuntime) -> Result<(), Fail> {
-    let (Some(unit), Some(options)) = (three(rt.alloc())?, PhaseOpts::new(2, 40, 1)) else {
-        panic!(rt; "no unit")
-    };
+    let unit = three(rt.alloc()).expect(&rt, "a unit");
+    let options = PhaseOpts::new(2, 40, 1).expect(&rt, "options");
     let gate = Meeting::between(1, 2);
-    let scheduled = schedule_all(&rt, rt.alloc(), &unit, options, &Own, &gate)?;
+    let scheduled = schedule_all(&rt, rt.alloc(), &unit, options, &ListOrder, &gate)?;
     assert!(rt; !gate.is_late());
     assert_eq!(rt; scheduled.report(), Counts { same: 3, ..NONE });
     Ok(())
 }
 
-#[test]
-fn each_block_is_counted_once(rt: HostRuntime) -> Result<(), Fail> {
-    let (Some(unit), Some(small), Some(ample)) = (
-        three(rt.alloc())?,
-        PhaseOpts::new(64, 40, 1),
-        PhaseOpts::new(1, 65536, 1024),
-    ) else {
-        panic!(rt; "no unit")
+// What one worker counts, where each block is listed, or nothing is proposed; None where memory is refused.
+fn counted(alloc: Global, options: PhaseOpts, listed: bool) -> Option<Counts> {
+    let unit = three(alloc)?;
+    let scheduled = if listed {
+        schedule_one(alloc, &unit, options, &ListOrder).ok()?
+    } else {
+        schedule_one(alloc, &unit, options, &Hostile::Silent).ok()?
     };
-    let full = schedule_one(rt.alloc(), &unit, small, &Own)?;
-    assert_eq!(rt;
-        full.report(),
+    Some(scheduled.report())
+}
+
+const SILENT: Counts = Counts {
+    no_memory: 3,
+    ..NONE
+};
+
+// The sizes of a phase, whether blocks are listed, and what is counted.
+const COUNTED: &[(u64, u64, u64, bool, Counts)] = &[
+    (
+        64,
+        40,
+        1,
+        true,
         Counts {
             same: 2,
             full: 1,
             ..NONE
-        }
-    );
-    let all = schedule_one(rt.alloc(), &unit, ample, &Own)?;
-    assert_eq!(rt; all.report(), Counts { same: 3, ..NONE });
-    let none = schedule_one(rt.alloc(), &unit, ample, &Silent)?;
-    assert_eq!(rt;
-        none.report(),
-        Counts {
-            no_memory: 3,
-            ..NONE
-        }
-    );
-    let silent = schedule_all(&rt, rt.alloc(), &unit, small, &Silent, &Open)?;
-    assert_eq!(rt;
-        silent.report(),
-        Counts {
-            no_memory: 3,
-            ..NONE
-        }
-    );
+        },
+    ),
+    (1, 65536, 1024, true, Counts { same: 3, ..NONE }),
+    (1, 65536, 1024, false, SILENT),
+];
+
+#[test]
+fn each_block_is_counted_once(rt: HostRuntime) {
+    for &(workers, nodes, heads, listed, want) in COUNTED {
+        let options = PhaseOpts::new(workers, nodes, heads).expect(&rt, "options");
+        assert_eq!(rt; counted(rt.alloc(), options, listed), Some(want));
+    }
+}
+
+#[test]
+fn silent_phases_have_plain_orders(rt: HostRuntime) -> Result<(), Fail> {
+    let unit = three(rt.alloc()).expect(&rt, "a unit");
+    let options = PhaseOpts::new(64, 40, 1).expect(&rt, "options");
+    let silent = schedule_all(&rt, rt.alloc(), &unit, options, &Hostile::Silent, &Open)?;
+    assert_eq!(rt; silent.report(), SILENT);
     assert_eq!(rt; silent.orders().len(), 3);
     Ok(())
 }
 
+// Sizes of phases, and whether there are such.
+const SIZES: &[(u64, u64, u64, bool)] = &[
+    (64, 1048576, 65536, true),
+    (0, 1, 1, false),
+    (65, 1, 1, false),
+    (1, 0, 1, false),
+    (1, 1048577, 1, false),
+    (1, 1, 0, false),
+    (1, 1, 65537, false),
+];
+
 #[test]
-fn options_have_their_ranges(rt: HostRuntime) -> Result<(), Fail> {
-    assert!(rt; PhaseOpts::new(64, 1048576, 65536).is_some());
-    for (workers, nodes, heads) in [
-        (0, 1, 1),
-        (65, 1, 1),
-        (1, 0, 1),
-        (1, 1048577, 1),
-        (1, 1, 0),
-        (1, 1, 65537),
-    ] {
-        assert!(rt; PhaseOpts::new(workers, nodes, heads).is_none());
+fn options_have_their_ranges(rt: HostRuntime) {
+    for &(workers, nodes, heads, want) in SIZES {
+        let options = PhaseOpts::new(workers, nodes, heads);
+        assert_eq!(rt; options.is_some(), want);
     }
-    Ok(())
 }

@@ -3,10 +3,8 @@ ghost use Rattle.std.specs.Prelude.{◌≡◌, ◌*◌, ◌%◌, ◌^◌, ℕ};
 ghost use Rattle.term_table.specs.Passes.{PassState, IsOf};
 
 use std::alloc::Global;
-use std::process::Abort;
 use std::sync::Wait;
 use std::sync::atomic::{AtomicBool, AtomicU64, Ordering};
-use std::test::Fail;
 use std::thread;
 use std::thread::Threads;
 use steal_pool::{Gate, Job, Open, run};
@@ -97,56 +95,66 @@ impl Gate for Count {
     }
 }
 
-// The answers of n tasks by so many workers.
-fn answers<G: Gate + Sync, R: Threads + Wait + Sync + Abort>(
+// The answers of n tasks by so many workers; None where memory is refused.
+fn answers<G: Gate + Sync, R: Threads + Wait + Sync>(
     rt: &R,
     alloc: Global,
     workers: u64,
     n: usize,
     gate: &G,
-) -> Vec<Option<u64>> {
+) -> Option<Vec<Option<u64>>> {
     let Ok((table, passes)) = TermTable::open(alloc, workers, 128, 64) else {
-        panic!(rt; "not opened")
+        return None;
     };
-    run(rt, alloc, n, passes, &Twice { table }, gate)
+    Some(run(rt, alloc, n, passes, &Twice { table }, gate))
 }
 
-// Of two tasks that wait for each other, one has to be done beside the other.
-#[test]
-fn two_tasks_are_done_at_once(rt: HostRuntime) -> Result<(), Fail> {
-    let gate = Meeting::between(0, 1);
-    let all = answers(&rt, rt.alloc(), 2, 2, &gate);
-    assert!(rt; !gate.is_late());
-    assert_eq!(rt; all.as_slice(), [Some(0), Some(2)].as_slice());
-    Ok(())
+// Whether two workers do n tasks, of which the first and another wait for each other.
+fn meets<R: Threads + Wait + Sync>(rt: &R, alloc: Global, other: usize, n: usize) -> Option<bool> {
+    let gate = Meeting::between(0, other);
+    let all = answers(rt, alloc, 2, n, &gate)?;
+    Some(!gate.is_late() && are_twice(all.as_slice(), n))
 }
 
-#[test]
-fn a_task_is_stolen_from_a_worker_that_waits(rt: HostRuntime) -> Result<(), Fail> {
-    let gate = Meeting::between(0, 2);
-    let all = answers(&rt, rt.alloc(), 2, 3, &gate);
-    assert!(rt; !gate.is_late());
-    assert_eq!(rt; all.as_slice(), [Some(0), Some(2), Some(4)].as_slice());
-    Ok(())
-}
-
-#[test]
-fn each_task_is_done_once(rt: HostRuntime) -> Result<(), Fail> {
-    for workers in [1, 3, 64] {
-        let gate = Count {
-            begun: AtomicU64::new(0),
-        };
-        let all = answers(&rt, rt.alloc(), workers, 100, &gate);
-        assert_eq!(rt;
-            gate.begun.load(Ordering::SeqCst),
-            100,
-            "with {workers} workers"
-        );
-        assert_eq!(rt; all.len(), 100);
-        for (i, out) in all.iter().enumerate() {
-            assert_eq!(rt; *out, Some(2 * i as u64), "with {workers} workers");
-        }
+// Whether each of n tasks has twice its number.
+fn are_twice(all: &[Option<u64>], n: usize) -> bool {
+    let mut same = all.len() == n;
+    for (i, out) in all.iter().enumerate() {
+        same = same && *out == Some(2 * i as u64);
     }
-    assert_eq!(rt; answers(&rt, rt.alloc(), 2, 0, &Open).len(), 0);
-    Ok(())
+    same
+}
+
+// Of two tasks that wait for each other, one has to be done beside the other; of three, the third is stolen from a worker that waits.
+#[test]
+fn tasks_that_meet_are_done_at_once(rt: HostRuntime) {
+    for (other, n) in [(1, 2), (2, 3)] {
+        assert_eq!(rt;
+            meets(&rt, rt.alloc(), other, n),
+            Some(true),
+            "of {n} tasks"
+        );
+    }
+}
+
+// How many of n tasks begin by so many workers; None where one has another answer.
+fn begun<R: Threads + Wait + Sync>(rt: &R, alloc: Global, workers: u64, n: usize) -> Option<u64> {
+    let gate = Count {
+        begun: AtomicU64::new(0),
+    };
+    let all = answers(rt, alloc, workers, n, &gate)?;
+    if are_twice(all.as_slice(), n) {
+        Some(gate.begun.load(Ordering::SeqCst))
+    } else {
+        None
+    }
+}
+
+#[test]
+fn each_task_is_done_once(rt: HostRuntime) {
+    for workers in [1, 3, 64] {
+        let begun = begun(&rt, rt.alloc(), workers, 100);
+        assert_eq!(rt; begun, Some(100), "with {workers} workers");
+    }
+    assert_eq!(rt; begun(&rt, rt.alloc(), 2, 0), Some(0));
 }

@@ -7,14 +7,13 @@ use block_validator::{Verdict, validate};
 use check_text::Text;
 use scarce_memory::AllMemory;
 use std::alloc::Global;
-use std::test::Fail;
 use term_table::{Pass, TermTable};
 
 const PAIR: &str = "block\nlw $8,0($29)\naddu $9,$8,$8\naddiu $10,$10,1\nreturn\n\
                     order\nlw $8,0($29)\naddiu $10,$10,1\naddu $9,$8,$8\nreturn\nslot nop\n";
 
-// A table and its pass.
-fn opened(alloc: Global) -> Option<(TermTable, Pass)>
+/// A table and its pass.
+pub fn opened(alloc: Global) -> Option<(TermTable, Pass)>
     ensures { IfSome result (λ t. IsOf t.0 t.1) }
 {
     let Ok((table, mut passes)) = TermTable::open(alloc, 1, 256, 16) else {
@@ -26,26 +25,20 @@ fn opened(alloc: Global) -> Option<(TermTable, Pass)>
     Some((table, pass))
 }
 
-#[test]
-fn a_pass_whose_verdict_was_refused_memory_can_go_on(rt: HostRuntime) -> Result<(), Fail> {
-    let alloc = rt.alloc();
-    let (Some((table, mut pass)), Some(refused), Some(given)) = (
-        opened(alloc),
-        text_of(alloc, PAIR),
-        text_of(alloc, PAIR),
-    ) else {
-        panic!(rt; "no table or no text")
-    };
-    let Text { block, order } = refused;
-    let memory = AllMemory::take(alloc, 0, 0)?;
-    let first = matches!(
-        validate(alloc, &table, &mut pass, &block, order),
-        Verdict::NoMemory
-    );
+// Whether a verdict is refused memory, and the pass then gives another; None where there is no table or no text.
+fn goes_on(alloc: Global) -> Option<bool> {
+    let (table, mut pass) = opened(alloc)?;
+    let Text { block, order } = text_of(alloc, PAIR)?;
+    let given = text_of(alloc, PAIR)?;
+    let memory = AllMemory::take(alloc, 0, 0).ok()?;
+    let first = validate(alloc, &table, &mut pass, &block, order);
     drop(memory);
-    assert!(rt; first);
-    assert_eq!(rt; pass.linked(), 0);
+    let is_refused = matches!(first, Verdict::NoMemory) && pass.linked() == 0;
     let second = validate(alloc, &table, &mut pass, &block, given.order);
-    assert!(rt; matches!(second, Verdict::Same(_)));
-    Ok(())
+    Some(is_refused && matches!(second, Verdict::Same(_)))
+}
+
+#[test]
+fn a_pass_whose_verdict_was_refused_memory_can_go_on(rt: HostRuntime) {
+    assert_eq!(rt; goes_on(rt.alloc()), Some(true));
 }

@@ -8,7 +8,6 @@ use mblock::{Block, Exit, Order};
 use mips_isa::{Amount, ImmOp, Plain, Reg, ShiftOp};
 use std::alloc::{AllocError, Global};
 use std::process::Abort;
-use std::test::Fail;
 use sym_exec::{RunRoom, run_block};
 use term_table::{Pass, TermTable};
 
@@ -54,7 +53,7 @@ fn has_room(rt: &impl Abort, alloc: Global, table: &TermTable, pass: &mut Pass, 
 }
 
 #[test]
-fn a_block_of_too_many_terms_is_full(rt: HostRuntime) -> Result<(), Fail> {
+fn a_block_of_too_many_terms_is_full(rt: HostRuntime) {
     let (table, mut pass) = alone(&rt, rt.alloc(), 40, 1);
     assert!(rt; !has_room(&rt, rt.alloc(), &table, &mut pass, 5));
     assert_eq!(rt; pass.linked(), 40);
@@ -62,11 +61,10 @@ fn a_block_of_too_many_terms_is_full(rt: HostRuntime) -> Result<(), Fail> {
     let order = order_of(&rt, rt.alloc(), 5);
     let verdict = validate(rt.alloc(), &table, &mut pass, &block, order);
     assert!(rt; matches!(verdict, Verdict::Full), "another verdict");
-    Ok(())
 }
 
 #[test]
-fn a_full_pass_still_runs_what_it_knows(rt: HostRuntime) -> Result<(), Fail> {
+fn a_full_pass_still_runs_what_it_knows(rt: HostRuntime) {
     let (table, mut pass) = alone(&rt, rt.alloc(), 35, 1);
     assert!(rt; has_room(&rt, rt.alloc(), &table, &mut pass, 0));
     assert_eq!(rt; pass.linked(), 35);
@@ -74,5 +72,4 @@ fn a_full_pass_still_runs_what_it_knows(rt: HostRuntime) -> Result<(), Fail> {
     assert!(rt; !has_room(&rt, rt.alloc(), &table, &mut pass, 1));
     assert_eq!(rt; pass.linked(), 35);
     assert!(rt; has_room(&rt, rt.alloc(), &table, &mut pass, 0));
-    Ok(())
 }

@@ -9,7 +9,6 @@ use crate::callers::{
 use crate::opened::{alone, init, interned, pair};
 use std::alloc::Global;
 use std::process::Abort;
-use std::test::Fail;
 use std::thread;
 use std::thread::Threads;
 use sym_terms::{Label, Origin, label_of, word_of};
@@ -17,7 +16,7 @@ use term_table::{OpenFault, Pass, TermTable};
 use words::{Operator, Width};
 
 #[test]
-fn one_pass_interns_and_finds(rt: HostRuntime) -> Result<(), Fail> {
+fn one_pass_interns_and_finds(rt: HostRuntime) {
     let (one, two, three) = (init(&rt, 1), init(&rt, 2), init(&rt, 3));
     let (table, mut pass) = alone(&rt, rt.alloc(), 4, 1);
     let first = interned(&rt, &table, &mut pass, one);
@@ -28,7 +27,6 @@ fn one_pass_interns_and_finds(rt: HostRuntime) -> Result<(), Fail> {
     assert!(rt; other.ticket != first.ticket && other.probes == 2);
     let found = table.find(&mut pass, three, &[]);
     assert!(rt; found.ticket.is_none() && found.probes == 3);
-    Ok(())
 }
 
 // The second pass of a table finds the term of the first under its ticket.
@@ -42,60 +40,53 @@ fn meet_and_find(rt: &impl Abort, alloc: Global, heads: u64) {
 }
 
 #[test]
-fn passes_that_met_find_each_others_terms(rt: HostRuntime) -> Result<(), Fail> {
+fn passes_that_met_find_each_others_terms(rt: HostRuntime) {
     for heads in [1, 16] {
         meet_and_find(&rt, rt.alloc(), heads);
     }
-    Ok(())
 }
 
 #[test]
-fn a_full_pass_still_answers(rt: HostRuntime) -> Result<(), Fail> {
+fn a_full_pass_still_answers(rt: HostRuntime) {
     let (one, two) = (init(&rt, 1), init(&rt, 2));
     let (table, mut pass) = alone(&rt, rt.alloc(), 1, 1);
     let first = interned(&rt, &table, &mut pass, one);
     assert!(rt; intern_leaf(&table, &mut pass, two).is_err() && pass.room() == 0);
     let again = interned(&rt, &table, &mut pass, one);
     assert_eq!(rt; first.ticket, again.ticket);
-    Ok(())
 }
 
+// The fault with which a table of these numbers is refused.
+fn fault_of(alloc: Global, workers: u64, nodes: u64, heads: u64) -> Option<OpenFault> {
+    TermTable::open(alloc, workers, nodes, heads).err()
+}
+
+const OUT_OF_RANGE: &[(u64, u64, u64)] = &[
+    (65, 1, 1),
+    (1, 4, 65537),
+    (0, 1, 1),
+    (1, 0, 1),
+    (1, 1, 0),
+    (1, 1048577, 1),
+];
+
+// The largest table is opened, or memory is refused.
 #[test]
-fn numbers_out_of_range_are_refused(rt: HostRuntime) -> Result<(), Fail> {
-    for (workers, nodes, heads) in [
-        (65, 1, 1),
-        (1, 4, 65537),
-        (0, 1, 1),
-        (1, 0, 1),
-        (1, 1, 0),
-        (1, 1048577, 1),
-    ] {
-        match TermTable::open(rt.alloc(), workers, nodes, heads) {
-            Ok(_) => panic!(rt; "opened"),
-            Err(fault) => {
-                assert_eq!(rt; fault.number(), 50);
-                assert!(rt; fault == OpenFault::Range);
-            }
-        }
+fn numbers_out_of_range_are_refused(rt: HostRuntime) {
+    for &(workers, nodes, heads) in OUT_OF_RANGE {
+        let fault = fault_of(rt.alloc(), workers, nodes, heads);
+        assert!(rt; fault == Some(OpenFault::Range));
+        assert!(rt; fault.is_some_and(|it| it.number() == 50));
     }
-    Ok(())
+    let fault = fault_of(rt.alloc(), 64, 1048576, 65536);
+    assert!(rt; fault.is_none_or(|it| it.number() == 30));
 }
 
 #[test]
-fn the_largest_table_is_opened_or_memory_is_refused(rt: HostRuntime) -> Result<(), Fail> {
-    match TermTable::open(rt.alloc(), 64, 1048576, 65536) {
-        Ok(_) => {}
-        Err(fault) => assert_eq!(rt; fault.number(), 30),
-    }
-    Ok(())
-}
-
-#[test]
-fn a_pass_of_a_table_of_other_sizes_is_told_apart(rt: HostRuntime) -> Result<(), Fail> {
+fn a_pass_of_a_table_of_other_sizes_is_told_apart(rt: HostRuntime) {
     let (one, pass) = alone(&rt, rt.alloc(), 4, 1);
     let (other, _) = alone(&rt, rt.alloc(), 5, 1);
     assert!(rt; one.owns(&pass) && !other.owns(&pass));
-    Ok(())
 }
 
 // The second pass reads a term of the first, and finds it when it interns it.
@@ -112,10 +103,9 @@ fn read_of_another(rt: &impl Abort, table: &TermTable, first: &mut Pass, second:
 }
 
 #[test]
-fn a_term_of_another_pass_is_read(rt: HostRuntime) -> Result<(), Fail> {
+fn a_term_of_another_pass_is_read(rt: HostRuntime) {
     let (table, mut first, mut second) = pair(&rt, rt.alloc(), 8, 1);
     read_of_another(&rt, &table, &mut first, &mut second);
-    Ok(())
 }
 
 // Two threads intern the constants below 1,000, one of them downward.
@@ -134,10 +124,9 @@ fn two_share(rt: &(impl Abort + Threads), alloc: Global, heads: u64) {
 }
 
 #[test]
-fn two_threads_intern_the_same_constants(rt: HostRuntime) -> Result<(), Fail> {
+fn two_threads_intern_the_same_constants(rt: HostRuntime) {
     two_share(&rt, rt.alloc(), 1);
     two_share(&rt, rt.alloc(), 64);
-    Ok(())
 }
 
 // Two threads intern 500 constants each, from `from` and from 250 further on, the second downward.
@@ -220,10 +209,9 @@ fn four_share(rt: &(impl Abort + Threads + Sync), alloc: Global, heads: u64) {
 }
 
 #[test]
-fn four_threads_intern_overlapping_constants(rt: HostRuntime) -> Result<(), Fail> {
+fn four_threads_intern_overlapping_constants(rt: HostRuntime) {
     four_share(&rt, rt.alloc(), 1);
     four_share(&rt, rt.alloc(), 64);
-    Ok(())
 }
 
 // How many links are loaded to intern the constants below 4096.
@@ -235,12 +223,11 @@ fn constants_in(rt: &impl Abort, alloc: Global, heads: u64, shift: u32) -> u64
 }
 
 #[test]
-fn chains_of_constants_are_short(rt: HostRuntime) -> Result<(), Fail> {
+fn chains_of_constants_are_short(rt: HostRuntime) {
     assert_eq!(rt; constants_in(&rt, rt.alloc(), 1, 0), 8390656);
     assert!(rt; constants_in(&rt, rt.alloc(), 1024, 0) <= 16384);
     assert!(rt; constants_in(&rt, rt.alloc(), 1024, 8) <= 16384);
     assert!(rt; constants_in(&rt, rt.alloc(), 1024, 16) <= 16384);
-    Ok(())
 }
 
 // The sums of all pairs of the constants below 256.
@@ -251,18 +238,16 @@ fn sums_in(rt: &impl Abort, alloc: Global) -> u64 {
 }
 
 #[test]
-fn chains_of_sums_are_short(rt: HostRuntime) -> Result<(), Fail> {
+fn chains_of_sums_are_short(rt: HostRuntime) {
     assert!(rt; sums_in(&rt, rt.alloc()) <= 163840);
-    Ok(())
 }
 
 #[test]
-fn sixty_four_passes_are_opened(rt: HostRuntime) -> Result<(), Fail> {
+fn sixty_four_passes_are_opened(rt: HostRuntime) {
     let Ok((_, passes)) = TermTable::open(rt.alloc(), 64, 4, 65536) else {
         panic!(rt; "not opened")
     };
     assert_eq!(rt; passes.len(), 64);
-    Ok(())
 }
 
 const LABELS: [(Label, u64); 10] = [
@@ -279,7 +264,7 @@ const LABELS: [(Label, u64); 10] = [
 ];
 
 // Words that no label has.
-const NO_LABELS: [u64; 7] = [
+const NO_LABELS: &[u64] = &[
     0,
     0x1_0000_0000,
     0x1_0000_0023,
@@ -289,20 +274,18 @@ const NO_LABELS: [u64; 7] = [
     0x7_0000_0000,
 ];
 
-fn has_word(rt: &impl Abort, label: Label, word: u64) {
-    assert_eq!(rt; word_of(label), word);
-    assert!(rt; label_of(word).is_some());
+fn has_word(label: Label, word: u64) -> bool {
+    word_of(label) == word && label_of(word).is_some()
 }
 
 #[test]
-fn labels_have_their_words(rt: HostRuntime) -> Result<(), Fail> {
-    has_word(&rt, init(&rt, 1), 0x1_0000_0001);
-    has_word(&rt, init(&rt, 31), 0x1_0000_001f);
+fn labels_have_their_words(rt: HostRuntime) {
+    assert!(rt; has_word(init(&rt, 1), 0x1_0000_0001));
+    assert!(rt; has_word(init(&rt, 31), 0x1_0000_001f));
     for (label, word) in LABELS {
-        has_word(&rt, label, word);
+        assert!(rt; has_word(label, word), "{word}");
     }
-    for word in NO_LABELS {
-        assert!(rt; label_of(word).is_none());
+    for &word in NO_LABELS {
+        assert!(rt; label_of(word).is_none(), "{word}");
     }
-    Ok(())
 }

@@ -1,93 +1,94 @@
 // The homes of pseudo-registers.
 
 use crate::programs::{Ends, Function, function, program};
-use crate::runs_of_blocks::WRITES_A_SUM;
+use crate::rtl_runs::WRITES_A_SUM;
 use mips_homes::{
-    Frame, Home, each_choice_never_forgets, each_homed_run_is_the_run, frame_of, homes, place,
+    Frame, Home, Homed, each_choice_never_forgets, each_homed_run_is_the_run, frame_of, homes,
+    place,
 };
 use rtl::{Op, RInst};
-use std::process::Abort;
-use std::test::Fail;
+use std::alloc::Global;
 
-// The frame has these homes, these saved registers and so many slots.
-fn has_homes(rt: &impl Abort, frame: &Frame, wants: &[Home], saved: &[u8], slots: u32) {
-    assert_eq!(rt; frame.homes.len(), wants.len());
-    for (got, want) in frame.homes.as_slice().iter().zip(wants) {
-        assert_eq!(rt; *got, *want);
-    }
-    assert!(rt;
-        frame.saved.as_slice() == saved,
-        "other registers are saved"
-    );
-    assert_eq!(rt; frame.slots, slots);
-}
+// A function, and the homes, the saved registers and the slots of its frame.
+type Row = (Function<'static>, &'static [Home], &'static [u8], u32);
 
-#[test]
-fn more_mentions_come_first_and_then_lower_numbers(rt: HostRuntime) -> Result<(), Fail> {
-    // 0 is mentioned twice, 1 three times, 2 twice
-    let sum = program(&rt, rt.alloc(), [WRITES_A_SUM].as_slice())?;
-    let homed = homes(rt.alloc(), &sum)?;
-    assert_eq!(&rt; homed.frames.len(), 1);
-    let wants = [Home::Reg(17), Home::Reg(16), Home::Reg(18)];
-    for frame in &homed.frames {
-        has_homes(&rt, frame, wants.as_slice(), [16u8, 17, 18].as_slice(), 0);
-    }
-    each_homed_run_is_the_run();
-    Ok(())
-}
-
-// 0 is a parameter that isn't mentioned, 9 is mentioned three times, 1 to 8 once.
-const TEN: Function = (
-    1,
-    &[(
+const FRAMES: &[Row] = &[
+    // 0 is mentioned twice, 1 three times, 2 twice: more mentions come first, and then lower numbers
+    (
+        WRITES_A_SUM,
+        &[Home::Reg(17), Home::Reg(16), Home::Reg(18)],
+        &[16, 17, 18],
+        0,
+    ),
+    // 0 is a parameter that isn't mentioned, 9 is mentioned three times, 1 to 8 once: all but eight live in slots
+    (
+        (
+            1,
+            &[(
+                &[
+                    RInst::Bin(Op::Add, 9, 9, 9),
+                    RInst::Bin(Op::Sub, 1, 2, 3),
+                    RInst::Bin(Op::Sub, 4, 5, 6),
+                    RInst::Move(7, 8),
+                ],
+                Ends::Return(None),
+            )],
+        ),
         &[
-            RInst::Bin(Op::Add, 9, 9, 9),
-            RInst::Bin(Op::Sub, 1, 2, 3),
-            RInst::Bin(Op::Sub, 4, 5, 6),
-            RInst::Move(7, 8),
+            Home::Slot(0),
+            Home::Reg(17),
+            Home::Reg(18),
+            Home::Reg(19),
+            Home::Reg(20),
+            Home::Reg(21),
+            Home::Reg(22),
+            Home::Reg(23),
+            Home::Slot(1),
+            Home::Reg(16),
         ],
-        Ends::Return(None),
-    )],
-);
+        &[16, 17, 18, 19, 20, 21, 22, 23],
+        2,
+    ),
+    // 3 is mentioned twice, 2 once, and 0 and 1 are below the greatest: exits mention registers too
+    (
+        (0, &[(&[], Ends::Call(0, &[3, 3], Some(2), 0))]),
+        &[Home::Reg(18), Home::Reg(19), Home::Reg(17), Home::Reg(16)],
+        &[16, 17, 18, 19],
+        0,
+    ),
+];
 
-#[test]
-fn all_but_eight_live_in_slots(rt: HostRuntime) -> Result<(), Fail> {
-    let function = function(rt.alloc(), TEN)?;
-    let frame = frame_of(rt.alloc(), &function)?;
-    let wants = [
-        Home::Slot(0),
-        Home::Reg(17),
-        Home::Reg(18),
-        Home::Reg(19),
-        Home::Reg(20),
-        Home::Reg(21),
-        Home::Reg(22),
-        Home::Reg(23),
-        Home::Slot(1),
-        Home::Reg(16),
-    ];
-    let saved = [16u8, 17, 18, 19, 20, 21, 22, 23];
-    has_homes(&rt, &frame, wants.as_slice(), saved.as_slice(), 2);
-    Ok(())
+fn is_frame(frame: &Frame, wants: &[Home], saved: &[u8], slots: u32) -> bool {
+    frame.homes.as_slice() == wants && frame.saved.as_slice() == saved && frame.slots == slots
 }
 
-// 3 is mentioned twice, 2 once, and 0 and 1 are below the greatest.
-const CALLS: Function = (0, &[(&[], Ends::Call(0, &[3, 3], Some(2), 0))]);
-
 #[test]
-fn exits_mention_registers_too(rt: HostRuntime) -> Result<(), Fail> {
-    let function = function(rt.alloc(), CALLS)?;
-    let frame = frame_of(rt.alloc(), &function)?;
-    let wants = [Home::Reg(18), Home::Reg(19), Home::Reg(17), Home::Reg(16)];
-    let saved = [16u8, 17, 18, 19];
-    has_homes(&rt, &frame, wants.as_slice(), saved.as_slice(), 0);
-    Ok(())
+fn frames_are_chosen_by_mentions(rt: HostRuntime) {
+    for (k, &(parts, wants, saved, slots)) in FRAMES.iter().enumerate() {
+        let function = function(rt.alloc(), parts).expect(&rt, "a function");
+        let Ok(frame) = frame_of(rt.alloc(), &function) else {
+            panic!(rt; "no frame")
+        };
+        assert!(rt; is_frame(&frame, wants, saved, slots), "row {k}");
+    }
 }
 
-// A function, and the homes, the saved registers and the slots of its frame where local pseudo-registers are in passing ones.
-type Placed = (Function, &'static [Home], &'static [u8], u32);
+// Whether there are so many frames, the last of which is the row's.
+fn ends_with_frame(homed: &Homed<'_>, count: usize, (_, wants, saved, slots): Row) -> bool {
+    let last = homed.frames.last();
+    homed.frames.len() == count && last.is_some_and(|frame| is_frame(frame, wants, saved, slots))
+}
 
-const PLACED: &[Placed] = &[
+#[test]
+fn a_program_has_homes(rt: HostRuntime) {
+    let sum = program(rt.alloc(), &[WRITES_A_SUM], &[], 0).expect(&rt, "a program");
+    let homed = homes(rt.alloc(), &sum).ok().expect(&rt, "homes");
+    assert!(&rt; ends_with_frame(&homed, 1, FRAMES[0]));
+    each_homed_run_is_the_run();
+}
+
+// Where local pseudo-registers are in passing ones.
+const PLACED: &[Row] = &[
     // 0 and 3 are read first in block 1.
     (
         (
@@ -273,18 +274,14 @@ const PLACED: &[Placed] = &[
 ];
 
 // Function 0, so that others may be called functions with parameters.
-const NOTHING: Function = (0, &[(&[], Ends::Return(None))]);
+const NOTHING: Function<'static> = (0, &[(&[], Ends::Return(None))]);
 
 #[test]
-fn what_is_local_to_blocks_needs_no_home(rt: HostRuntime) -> Result<(), Fail> {
-    for &(function, wants, saved, slots) in PLACED {
-        let both = program(&rt, rt.alloc(), [NOTHING, function].as_slice())?;
-        let placed = place(rt.alloc(), &both)?;
-        assert_eq!(&rt; placed.frames.len(), 2);
-        for frame in placed.frames.iter().skip(1) {
-            has_homes(&rt, frame, wants, saved, slots);
-        }
+fn what_is_local_to_blocks_needs_no_home(rt: HostRuntime) {
+    for (k, &row) in PLACED.iter().enumerate() {
+        let both = program(rt.alloc(), &[NOTHING, row.0], &[], 0).expect(&rt, "a program");
+        let placed = place(rt.alloc(), &both).ok().expect(&rt, "homes");
+        assert!(&rt; ends_with_frame(&placed, 2, row), "row {k}");
     }
     each_choice_never_forgets();
-    Ok(())
 }

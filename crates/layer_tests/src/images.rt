@@ -1,8 +1,8 @@
 // Images with a byte changed: refused, or images of exactly these bytes.
 
+use crate::units::bytes_of;
 use image::{read_image, write_image};
-use std::alloc::{AllocError, Global};
-use std::test::Fail;
+use std::alloc::Global;
 
 // `addiu $4,$0,7`, `addiu $2,$0,10`, `syscall`, and two words of data.
 const FIRST: &[u32] = &[
@@ -37,68 +37,40 @@ const SECOND: &[u32] = &[
     0x0102_0304,
 ];
 
-/// The bytes of words, as an image has them.
-pub fn bytes_of(alloc: Global, words: &[u32]) -> Result<Vec<u8>, AllocError> {
-    let mut bytes = Vec::new(alloc);
-    for word in words {
-        bytes.extend_from_slice(&word.to_be_bytes())?;
-    }
-    Ok(bytes)
-}
-
-// What becomes of bytes that are read, and written again where they are an image.
-#[derive(Clone, Copy, Debug, PartialEq, Eq)]
-enum Reading {
-    Refused,
-    Same,
-    Other,
-}
-
-fn read_again(alloc: Global, bytes: &[u8]) -> Result<Reading, AllocError> {
-    match read_image(alloc, bytes) {
-        Ok(image) => {
-            let again = write_image(alloc, &image)?;
-            Ok(if again.as_slice() == bytes {
-                Reading::Same
-            } else {
-                Reading::Other
-            })
-        }
-        Err(_) => Ok(Reading::Refused),
-    }
+// Whether bytes that are an image are written as they were read: None where they are none, or memory is refused.
+fn reads_again(alloc: Global, bytes: &[u8]) -> Option<bool> {
+    let image = read_image(alloc, bytes).ok()?;
+    let again = write_image(alloc, &image).ok()?;
+    Some(again.as_slice() == bytes)
 }
 
 // Of each byte one bit is turned, or all are: how many of the rows so changed are written as they were read, and how many
 // otherwise.
-fn read_with_changes(alloc: Global, words: &[u32]) -> Result<(u32, u32), AllocError> {
-    let mut bytes = bytes_of(alloc, words)?;
+fn read_with_changes(alloc: Global, words: &[u32]) -> Option<(u32, u32)> {
+    let mut bytes = bytes_of(alloc, &[words], &[])?;
     let mut same: u32 = 0;
     let mut other: u32 = 0;
     for at in 0..bytes.len() {
         for mask in [1u8, 2, 4, 8, 16, 32, 64, 128, 255] {
             bytes[at] ^= mask;
-            match read_again(alloc, bytes.as_slice())? {
-                Reading::Refused => {}
-                Reading::Same => same = same.wrapping_add(1),
-                Reading::Other => other = other.wrapping_add(1),
+            match reads_again(alloc, bytes.as_slice()) {
+                Some(true) => same = same.wrapping_add(1),
+                Some(false) => other = other.wrapping_add(1),
+                None => {}
             }
             bytes[at] ^= mask;
         }
     }
-    Ok((same, other))
+    Some((same, other))
 }
 
 // Code and data can be changed anywhere. Of a head the entry can become that of another code word, in two ways and in one.
 // Of a count, with a sum of at most 2^20, the two low bytes can be changed, and the four low bits of the next one.
 #[test]
-fn changed_bytes_are_refused_or_written_again(rt: HostRuntime) -> Result<(), Fail> {
-    let alloc = rt.alloc();
-    assert_eq!(rt; read_with_changes(alloc, FIRST)?, (20 * 9 + 2, 0));
-    assert_eq!(rt;
-        read_with_changes(alloc, SECOND)?,
-        (16 * 9 + 1 + 6 * (9 + 9 + 4), 0)
-    );
-    Ok(())
+fn changed_bytes_are_refused_or_written_again(rt: HostRuntime) {
+    for (words, same) in [(FIRST, 20 * 9 + 2), (SECOND, 16 * 9 + 1 + 6 * (9 + 9 + 4))] {
+        assert_eq!(rt; read_with_changes(rt.alloc(), words), Some((same, 0)));
+    }
 }
 
 // Images of version 1 without data, by their code: `lw` and its use, a load of a byte and its use, a move and a product, jumps, a
@@ -142,18 +114,16 @@ const CODES: &[&[u32]] = &[
     ],
 ];
 
-// What becomes of the image of this code.
-fn read_code(alloc: Global, code: &[u32]) -> Result<Reading, AllocError> {
+// Whether the image of this code is written as it is read.
+fn reads_code(alloc: Global, code: &[u32]) -> Option<bool> {
     let head = [0x4d43_4349, 1, (code.len() % 256) as u32, 0x0040_0000, 0];
-    let mut bytes = bytes_of(alloc, head.as_slice())?;
-    bytes.extend_from_slice(bytes_of(alloc, code)?.as_slice())?;
-    read_again(alloc, bytes.as_slice())
+    let bytes = bytes_of(alloc, &[&head, code], &[])?;
+    reads_again(alloc, bytes.as_slice())
 }
 
 #[test]
-fn images_are_written_as_they_are_read(rt: HostRuntime) -> Result<(), Fail> {
-    for code in CODES {
-        assert_eq!(rt; read_code(rt.alloc(), code)?, Reading::Same);
+fn images_are_written_as_they_are_read(rt: HostRuntime) {
+    for (k, code) in CODES.iter().enumerate() {
+        assert_eq!(rt; reads_code(rt.alloc(), code), Some(true), "row {k}");
     }
-    Ok(())
 }
