@@ -3,7 +3,7 @@ use crate::reg::{Amount, JumpTarget, NonzeroReg, Reg};
 use words::{Sign, Width};
 
 /// The shifts, by a constant (`sll`) or by a register (`sllv`).
-#[derive(Clone, Copy)]
+#[derive(Clone, Copy, PartialEq, Eq)]
 pub enum ShiftOp {
     Sll,
     Srl,
@@ -11,7 +11,7 @@ pub enum ShiftOp {
 }
 
 /// What is computed from two registers.
-#[derive(Clone, Copy)]
+#[derive(Clone, Copy, PartialEq, Eq)]
 pub enum AluOp {
     Addu,
     Subu,
@@ -24,7 +24,7 @@ pub enum AluOp {
 }
 
 /// What is computed from a register and a constant whose sign is extended.
-#[derive(Clone, Copy)]
+#[derive(Clone, Copy, PartialEq, Eq)]
 pub enum ImmOp {
     Addiu,
     Slti,
@@ -32,7 +32,7 @@ pub enum ImmOp {
 }
 
 /// What is computed from a register and a constant that zeros extend.
-#[derive(Clone, Copy)]
+#[derive(Clone, Copy, PartialEq, Eq)]
 pub enum LogicOp {
     Andi,
     Ori,
@@ -40,7 +40,7 @@ pub enum LogicOp {
 }
 
 /// The two registers of products and divisions.
-#[derive(Clone, Copy)]
+#[derive(Clone, Copy, PartialEq, Eq)]
 pub enum HiLo {
     Hi,
     Lo,
@@ -48,7 +48,7 @@ pub enum HiLo {
 
 /// What computes, loads or stores (Kane, MIPS RISC Architecture, appendix A), by form. `rd` and `rt`
 /// are written, except that a store reads `rt`; offsets are in bytes.
-#[derive(Clone, Copy)]
+#[derive(Clone, Copy, PartialEq, Eq)]
 pub enum Plain {
     /// `sll $rd,$rt,amount`
     Shift {

@@ -61,7 +61,7 @@ impl Reg {
 }
 
 /// How far a shift by a constant goes, 0 to 31 bits.
-#[derive(Clone, Copy)]
+#[derive(Clone, Copy, PartialEq, Eq)]
 pub struct Amount {
     bits: u8,
 }
