@@ -20,7 +20,7 @@ use sym_exec::{RunRoom, run_block, run_order};
 use term_table::{Pass, TableFull, TermTable};
 
 /// A lent block, and a clean order that has its terms in every place. Only `validate` makes one.
-#[derive(Debug, Drop)]
+#[derive(Drop)]
 pub struct Checked<'a> {
     block: &'a Block,
     order: Order,
@@ -78,7 +78,7 @@ impl<'a> Checked<'a> {
 }
 
 /// What a validator says of an order for a block.
-#[derive(Debug, Drop)]
+#[derive(Drop)]
 pub enum Verdict<'a> {
     /// The order is clean and has the block's terms.
     Same(Checked<'a>),

@@ -1,4 +1,4 @@
--- The mnemonic that a word is, looked up among all.
+-- The mnemonic or the exit that a word names, looked up among all.
 use Rattle.std.proofs.Common.{◌≡◌, ℕ, Bool, true, false, List, [], ◌∷◌, Option, Some, None, if◌then◌else◌, refl, sym, ap, ◌∙◌, bytes_eq, IfSome}
 use Rattle.std.proofs.lemmas.Option.{same_Some, none-some}
 use Rattle.std.proofs.lemmas.Slice.Eq.{bytes_eq-Decides}
@@ -9,14 +9,19 @@ use Rattle.mips_isa.specs.declared.inst.AluOp.TheVariants.{Addu, Subu, And, Or, 
 use Rattle.mips_isa.specs.declared.inst.ImmOp.TheVariants.{Addiu, Slti, Sltiu}
 use Rattle.mips_isa.specs.declared.inst.LogicOp.TheVariants.{Andi, Ori, Xori}
 use Rattle.mips_isa.specs.declared.inst.HiLo.TheVariants.{Hi, Lo}
+use Rattle.mips_isa.specs.declared.inst.PairTest.TheVariants.{Equal, NotEqual}
+use Rattle.mips_isa.specs.declared.inst.ZeroTest.TheVariants.{AtMostZero, AboveZero, BelowZero, AtLeastZero}
 use Rattle.mips_isa.specs.declared.text.Mnemonic.{Mnemonic}
 use Rattle.mips_isa.specs.declared.text.Mnemonic.TheVariants as mnemonics
 use Rattle.mips_isa.specs.Texts.{mnemonic_text}
 use Rattle.check_text.specs.Named.{first_named}
-use Rattle.check_text.specs.declared.names.TheConstants.{MNEMONICS}
+use Rattle.check_text.specs.Spelling.{exit_name_text}
+use Rattle.check_text.specs.declared.names.ExitName.{ExitName}
+use Rattle.check_text.specs.declared.names.ExitName.TheVariants as names
+use Rattle.check_text.specs.declared.names.TheConstants.{MNEMONICS, EXIT_NAMES}
 
 -- each is found by its text
-each : (n : Mnemonic) → first_named (mnemonic_text n) MNEMONICS.now ≡ Some n
+each : (n : Mnemonic) → first_named (λ m. mnemonic_text m) (mnemonic_text n) MNEMONICS.now ≡ Some n
 each (mnemonics.Shift Sll) = refl
 each (mnemonics.Shift Srl) = refl
 each (mnemonics.Shift Sra) = refl
@@ -49,18 +54,33 @@ each (mnemonics.Load Byte) = refl
 each (mnemonics.Store Word) = refl
 each (mnemonics.Store Byte) = refl
 
-pub found_by : (word : List ℕ) (n : Mnemonic) → word ≡ mnemonic_text n → first_named word MNEMONICS.now ≡ Some n
-found_by word n e = ap (λ w. first_named w MNEMONICS.now) e ∙ each n
+pub found_by : (word : List ℕ) (n : Mnemonic) → word ≡ mnemonic_text n → first_named (λ m. mnemonic_text m) word MNEMONICS.now ≡ Some n
+found_by word n e = ap (λ w. first_named (λ m. mnemonic_text m) w MNEMONICS.now) e ∙ each n
 
-is_found : (word : List ℕ) (ns : List Mnemonic) (m : Mnemonic) → first_named word ns ≡ Some m → word ≡ mnemonic_text m
-is_found word [] m e = absurd (none-some m e)
-is_found word (n ∷ ns) m e = go (bytes_eq word (mnemonic_text n)) refl e (is_found word ns m)
+each_exit : (n : ExitName) → first_named (λ m. exit_name_text m) (exit_name_text n) EXIT_NAMES.now ≡ Some n
+each_exit names.Goto = refl
+each_exit (names.BranchPair Equal) = refl
+each_exit (names.BranchPair NotEqual) = refl
+each_exit (names.BranchZero AtMostZero) = refl
+each_exit (names.BranchZero AboveZero) = refl
+each_exit (names.BranchZero BelowZero) = refl
+each_exit (names.BranchZero AtLeastZero) = refl
+each_exit names.Call = refl
+each_exit names.Out = refl
+
+pub exit_found_by : (word : List ℕ) (n : ExitName) → word ≡ exit_name_text n → first_named (λ m. exit_name_text m) word EXIT_NAMES.now ≡ Some n
+exit_found_by word n e = ap (λ w. first_named (λ m. exit_name_text m) w EXIT_NAMES.now) e ∙ each_exit n
+
+is_found : {A : Type 0} (name : A → List ℕ) (word : List ℕ) (ns : List A) (m : A) → first_named name word ns ≡ Some m → word ≡ name m
+is_found name word [] m e = absurd (none-some m e)
+is_found name word (n ∷ ns) m e = go (bytes_eq word (name n)) refl e (is_found name word ns m)
   where
-    go : (b : Bool) → bytes_eq word (mnemonic_text n) ≡ b → (if b then Some n else first_named word ns) ≡ Some m
-        → (first_named word ns ≡ Some m → word ≡ mnemonic_text m) → word ≡ mnemonic_text m
-    go true t e behind = (bytes_eq-Decides word (mnemonic_text n)).0 t ∙ ap mnemonic_text (same_Some n m e)
+    go : (b : Bool) → bytes_eq word (name n) ≡ b → (if b then Some n else first_named name word ns) ≡ Some m
+        → (first_named name word ns ≡ Some m → word ≡ name m) → word ≡ name m
+    go true t e behind = (bytes_eq-Decides word (name n)).0 t ∙ ap name (same_Some n m e)
     go false t e behind = behind e
 
-pub found : (word : List ℕ) (ns : List Mnemonic) (o : Option Mnemonic) → o ≡ first_named word ns → IfSome o (λ n. word ≡ mnemonic_text n)
-found word ns None e = tt
-found word ns (Some n) e = is_found word ns n (sym e)
+pub found : {A : Type 0} (name : A → List ℕ) (word : List ℕ) (ns : List A) (o : Option A) → o ≡ first_named name word ns
+    → IfSome o (λ n. word ≡ name n)
+found name word ns None e = tt
+found name word ns (Some n) e = is_found name word ns n (sym e)

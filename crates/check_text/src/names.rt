@@ -1,5 +1,5 @@
 // Names of instructions and exits.
-ghost use Rattle.std.specs.Prelude.{◌≡◌, IfSome, Some};
+ghost use Rattle.std.specs.Prelude.{◌≡◌, ℕ, List, IfSome, Some};
 ghost use Rattle.mips_isa.specs.Texts.{mnemonic_text};
 ghost use Rattle.mips_isa.specs.declared.text.Mnemonic.{Mnemonic};
 ghost use Rattle.check_text.specs.Named.{first_named};
@@ -8,6 +8,23 @@ ghost use Rattle.check_text.specs.declared.names.ExitName.{ExitName};
 
 use mips_isa::{AluOp, HiLo, ImmOp, LogicOp, Mnemonic, PairTest, ShiftOp, ZeroTest};
 use words::{Sign, Width};
+
+/// What one word names.
+trait Named: Copy {
+    ghost text: { Self → List ℕ };
+
+    /// The word.
+    fn word(self) -> &'static str
+        ensures { result.now ≡ text self };
+}
+
+impl Named for Mnemonic {
+    ghost text = { λ n. mnemonic_text n };
+
+    fn word(self) -> &'static str {
+        self.name()
+    }
+}
 
 /// All mnemonics.
 const MNEMONICS: &[Mnemonic] = &[
@@ -44,12 +61,12 @@ const MNEMONICS: &[Mnemonic] = &[
     Mnemonic::Store(Width::Byte),
 ];
 
-/// The first of some mnemonics whose name the word is.
-fn first_named(all: &[Mnemonic], word: &[u8]) -> Option<Mnemonic>
-    ensures { result ≡ first_named word.now all.now }
+/// The first of some things that the word names.
+fn first_named<N: Named>(all: &[N], word: &[u8]) -> Option<N>
+    ensures { result ≡ first_named N.text word.now all.now }
 {
     for n in all {
-        if word == n.name().as_bytes() {
+        if word == n.word().as_bytes() {
             return Some(*n);
         }
     }
@@ -74,21 +91,41 @@ pub enum ExitName {
     Out,
 }
 
+impl Named for ExitName {
+    ghost text = { λ n. exit_name_text n };
+
+    fn word(self) -> &'static str {
+        match self {
+            ExitName::Goto => "goto",
+            ExitName::BranchPair(PairTest::Equal) => "beq",
+            ExitName::BranchPair(PairTest::NotEqual) => "bne",
+            ExitName::BranchZero(ZeroTest::AtMostZero) => "blez",
+            ExitName::BranchZero(ZeroTest::AboveZero) => "bgtz",
+            ExitName::BranchZero(ZeroTest::BelowZero) => "bltz",
+            ExitName::BranchZero(ZeroTest::AtLeastZero) => "bgez",
+            ExitName::Call => "call",
+            ExitName::Out => "out",
+        }
+    }
+}
+
+/// All names of exits.
+const EXIT_NAMES: &[ExitName] = &[
+    ExitName::Goto,
+    ExitName::BranchPair(PairTest::Equal),
+    ExitName::BranchPair(PairTest::NotEqual),
+    ExitName::BranchZero(ZeroTest::AtMostZero),
+    ExitName::BranchZero(ZeroTest::AboveZero),
+    ExitName::BranchZero(ZeroTest::BelowZero),
+    ExitName::BranchZero(ZeroTest::AtLeastZero),
+    ExitName::Call,
+    ExitName::Out,
+];
+
 /// The exit that the word names.
 pub fn exit_named(word: &[u8]) -> Option<ExitName>
     ensures found { IfSome result (λ n. word.now ≡ exit_name_text n) }
     ensures only { (n : ExitName) → word.now ≡ exit_name_text n → result ≡ Some n }
 {
-    match word {
-        b"goto" => Some(ExitName::Goto),
-        b"beq" => Some(ExitName::BranchPair(PairTest::Equal)),
-        b"bne" => Some(ExitName::BranchPair(PairTest::NotEqual)),
-        b"blez" => Some(ExitName::BranchZero(ZeroTest::AtMostZero)),
-        b"bgtz" => Some(ExitName::BranchZero(ZeroTest::AboveZero)),
-        b"bltz" => Some(ExitName::BranchZero(ZeroTest::BelowZero)),
-        b"bgez" => Some(ExitName::BranchZero(ZeroTest::AtLeastZero)),
-        b"call" => Some(ExitName::Call),
-        b"out" => Some(ExitName::Out),
-        _ => None,
-    }
+    first_named(EXIT_NAMES, word)
 }

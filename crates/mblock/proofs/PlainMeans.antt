@@ -1,7 +1,6 @@
 -- Plain orders mean their blocks.
 use Rattle.std.proofs.Common.{◌≡◌, ℕ, zero, suc, Bool, true, false, cond, ◌||◌, List, [], ◌∷◌, ◌++◌, map, flat_map, length, slice_get, Some}
 use Rattle.std.proofs.Common.{None, refl, sym, ap, ◌∙◌, subst}
-use Rattle.std.specs.Prelude.{is_some}
 use Rattle.std.proofs.lemmas.Option.{same_Some, none-some}
 use Rattle.mips_isa.specs.declared.inst.Plain.{Plain}
 use Rattle.mips_isa.specs.States.{State}
@@ -12,7 +11,7 @@ use Rattle.mblock.specs.BlockMeaning.{exit_shape}
 use Rattle.mblock.specs.Clean.{slot_actions, IsClean, FitsSlot}
 use Rattle.mblock.specs.PlainOrders.{padded_inst, plain_order_of}
 use Rattle.mblock.specs.Orders.{Means, EachPlainUnitHasItsOrders}
-use Rattle.mblock.proofs.PlainOrders.{pads, Behind, behind_nothing, behind_still, padded_keep, loads_load, safe_padded, plain_at}
+use Rattle.mblock.proofs.PlainOrders.{pads, Behind, behind_nothing, behind_still, padded_keep, loads_load, safe_padded, slot_fits, plain_at}
 use Rattle.mblock.proofs.Totals.{block_total}
 use Rattle.mblock.proofs.Runs.{total, AllSafe, exited, leaves_total, order_runs}
 
@@ -23,10 +22,6 @@ tail_keeps false = behind_nothing [] (λ i a b ea. absurd (none-some (Some a) ea
 slot_kind : (h : Bool) (i : Plain) → cond h (Some nop) None ≡ Some i → (is_load (action_of i) || is_move (action_of i)) ≡ false
 slot_kind true i e = subst (λ y. (is_load (action_of y) || is_move (action_of y)) ≡ false) (same_Some nop i e) refl
 slot_kind false i e = absurd (none-some i e)
-
-pub slot_fits : (h : Bool) → is_some (cond h (Some nop) None) ≡ h
-slot_fits true = refl
-slot_fits false = refl
 
 pub clean_plain : (b : BlockParts) → IsClean (plain_order_of b)
 clean_plain b =

@@ -2,14 +2,17 @@
 use Rattle.std.proofs.Common.{◌≡◌, ℕ, zero, suc, ◌<◌, ◌≤◌, ◌⊎◌, ⊎_elim, Bool, true, false, cond, ◌||◌, ◌==◌, ne_eqb, List, [], ◌∷◌, ◌++◌}
 use Rattle.std.proofs.Common.{map, flat_map, length, slice_get, Option, Some, None, refl, sym, ap, ◌∙◌, subst, true≢false, append_assoc}
 use Rattle.std.proofs.Common.{length-append, arith, ◌*◌, ◌+◌, take, get_or}
-use Rattle.std.proofs.lemmas.List.{take_more}
+use Rattle.std.specs.Prelude.{is_some}
+use Rattle.std.proofs.lemmas.List.{append-nil, take_all, take_more}
 use Rattle.std.proofs.lemmas.Option.{same_Some, none-some}
 use Rattle.mips_isa.specs.declared.inst.Plain.{Plain}
 use Rattle.mips_isa.specs.declared.action.Action.{Action}
 use Rattle.mips_isa.specs.declared.action.Action.TheVariants.{Computes, Sets, Loads, Stores, Multiplies, Divides, MovesHigh, MovesLow}
 use Rattle.mips_isa.specs.States.{State, is_register}
 use Rattle.mips_isa.specs.Actions.{nop, action_of, state_after, touches, loads, is_load, is_move, is_product}
+use Rattle.mblock.specs.declared.exit.Exit.{Exit}
 use Rattle.mblock.specs.Parts.{BlockParts, OrderParts}
+use Rattle.mblock.specs.Slots.{is_slotted}
 use Rattle.mblock.specs.Clean.{kinds_of}
 use Rattle.mblock.specs.PlainOrders.{padded_inst, plain_order_of}
 use Rattle.mblock.proofs.Runs.{AllSafe}
@@ -173,6 +176,27 @@ pub padded_short : (l : List Plain) → length (flat_map padded_inst l) ≤ 3 * 
 padded_short [] = omega arith
 padded_short (x ∷ l) =
     omega (arith, padded_short l, pads_short (is_load (action_of x)) (is_move (action_of x)), length-append (padded_inst x) (flat_map padded_inst l))
+
+-- ---- the order of a block, and of one instruction more
+
+pub slot_fits : (h : Bool) → is_some (cond h (Some nop) None) ≡ h
+slot_fits true = refl
+slot_fits false = refl
+
+pub insts_more : (l before after : List Plain) (i : ℕ) (x : Plain) → i < length l → x ≡ get_or l i x
+    → before ≡ flat_map padded_inst (take i l) → after ≡ before ++ padded_inst x → after ≡ flat_map padded_inst (take (i + 1) l)
+insts_more l before after i x lt is made pushed =
+    pushed ∙ ap (λ y. y ++ padded_inst x) made ∙ ap (λ y. flat_map padded_inst (take i l) ++ y) (sym (append-nil (padded_inst x)))
+    ∙ sym (padded_append (take i l) (x ∷ [])) ∙ ap (λ y. flat_map padded_inst (take i l ++ y ∷ [])) is
+    ∙ ap (flat_map padded_inst) (sym (take_more l i x lt))
+
+pub order_made : (b : BlockParts) (l insts : List Plain) (i : ℕ) (e : Exit) (slot : Option Plain) (o : OrderParts) → length l ≤ i → l ≡ b.insts
+    → insts ≡ flat_map padded_inst (take i l) → e ≡ b.exit → slot ≡ cond (is_slotted e) (Some nop) None
+    → o ≡ record { insts = insts; exit = e; slot = slot } → o ≡ plain_order_of b
+order_made b l insts i e slot o past same made exit fits is =
+    is ∙ ap (λ x. record { insts = x; exit = e; slot = slot }) (made ∙ ap (flat_map padded_inst) (take_all i l past ∙ same))
+    ∙ ap (λ x. record { insts = flat_map padded_inst b.insts; exit = e; slot = x }) fits
+    ∙ ap (λ x. record { insts = flat_map padded_inst b.insts; exit = x; slot = cond (is_slotted x) (Some nop) None }) exit
 
 -- ---- the orders of some blocks, and of one more
 

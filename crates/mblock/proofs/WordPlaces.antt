@@ -1,12 +1,13 @@
 -- The words of an order by their places, and the tests of two delay rules there.
 use Rattle.std.proofs.Common.{◌≡◌, ℕ, zero, suc, ◌+◌, ◌-◌, ◌<◌, ◌≤◌, ◌⊎◌, inl, inr, Bool, true, false, ◌&&◌, ◌||◌, ◌==◌, List, [], ◌∷◌}
-use Rattle.std.proofs.Common.{length, slice_get, Option, Some, None, refl, sym, ap, ap₂, ◌∙◌, subst, true≢false, ⊎_elim, not, IsTrue, arith}
+use Rattle.std.proofs.Common.{length, slice_get, get_or, Option, Some, None, refl, sym, ap, ap₂, ◌∙◌, subst, true≢false, ⊎_elim, not, IsTrue, arith}
 use Rattle.std.proofs.lemmas.Bool.{and_parts, cases_lt, or_cases, or_parts}
-use Rattle.std.proofs.lemmas.Option.{same_Some, none-some, slice_get_within}
+use Rattle.std.proofs.lemmas.Option.{same_Some, none-some, slice_get_within, slice_get_past, slice_get_read}
 use Rattle.mips_isa.specs.declared.inst.Plain.{Plain}
 use Rattle.mips_isa.specs.declared.action.Action.{Action}
 use Rattle.mips_isa.specs.Actions.{action_of, is_product, is_move, touches, loads}
-use Rattle.mblock.specs.Clean.{kinds_of, slot_words, IsApart, IsBehind}
+use Rattle.mblock.specs.declared.exit.Exit.{Exit}
+use Rattle.mblock.specs.Clean.{kinds_of, slot_words, IsApart, IsBehind, HasQuietEnd}
 use Rattle.mblock.specs.CleanTests.{is_product_word, is_move_word, loads_named, conflict_of, early_at}
 use Rattle.mblock.proofs.Conflicts.{conflict_free, conflict_found}
 
@@ -16,6 +17,11 @@ pub kind_in : (insts : List Plain) (tail : List (Option Action)) (k : ℕ) (x : 
 kind_in [] tail k x e = absurd (none-some x e)
 kind_in (i ∷ rest) tail zero x e = ap (λ y. Some (Some (action_of y))) (same_Some i x e)
 kind_in (i ∷ rest) tail (suc k) x e = kind_in rest tail k x e
+
+-- an instruction that was read
+pub word_read : (insts : List Plain) (tail : List (Option Action)) (k : ℕ) (x : Plain) → k < length insts → x ≡ get_or insts k x
+    → slice_get (kinds_of insts tail) k ≡ Some (Some (action_of x))
+word_read insts tail k x lt is = kind_in insts tail k x (slice_get_read insts (length insts) k x refl lt is)
 
 -- a word behind the instructions
 pub kind_past : (insts : List Plain) (tail : List (Option Action)) (k j : ℕ) → k ≡ length insts + j → slice_get (kinds_of insts tail) k ≡ slice_get tail j
@@ -43,6 +49,21 @@ past_at insts slot k h apart = go (k - length insts) refl
     go (suc zero) e = absurd (apart (omega (arith, h, e)))
     go (suc (suc j)) e = let at : length insts + 2 ≤ k = omega (arith, h, e) in ap is_product_word (kind_beyond insts slot k at)
 
+-- the test of two instructions that were read, and of the last one
+pub conflict_at : (insts : List Plain) (k : ℕ) (a b : Plain) → k + 1 < length insts → a ≡ get_or insts k a → b ≡ get_or insts (k + 1) b
+    → loads_named (action_of a) (touches (action_of b)) ≡ conflict_of (slice_get insts k) (slice_get insts (k + 1))
+conflict_at insts k a b lt ea eb =
+    let below : k < length insts = omega (arith, lt) in
+    ap₂ conflict_of (sym (slice_get_read insts (length insts) k a refl below ea)) (sym (slice_get_read insts (length insts) (k + 1) b refl lt eb))
+
+pub no_conflict : (insts : List Plain) (k : ℕ) → length insts ≤ k + 1 → false ≡ conflict_of (slice_get insts k) (slice_get insts (k + 1))
+no_conflict insts k le = go (slice_get insts k) (slice_get insts (k + 1)) (slice_get_past insts (k + 1) le)
+  where
+    go : (x y : Option Plain) → y ≡ None → false ≡ conflict_of x y
+    go None y e = refl
+    go (Some a) None e = refl
+    go (Some a) (Some b) e = absurd (none-some b (sym e))
+
 -- the first delay rule by its test
 pub apart_is : (insts : List Plain) → ((k : ℕ) → k < length insts → conflict_of (slice_get insts k) (slice_get insts (k + 1)) ≡ false) → IsApart insts
 apart_is insts h i r a b ea eb l =
@@ -63,6 +84,22 @@ apart_not insts k e apart = go (slice_get insts k) (slice_get insts (k + 1)) ref
 and_false : (a b : Bool) → a ≡ true → (a && b) ≡ false → b ≡ false
 and_false true b t e = e
 and_false false b t e = absurd (true≢false (sym t))
+
+-- the test of the second delay rule, as far as its parts are known
+pub early_first : (words : List (Option Action)) (k : ℕ) (m p : Bool) → m ≡ is_move_word (slice_get words k)
+    → p ≡ is_product_word (slice_get words (k + 1)) → m ≡ true → p ≡ true → p ≡ early_at words k
+early_first words k m p em ep tm tp =
+    tp ∙ sym (ap₂ (λ x y. x && (y || is_product_word (slice_get words (k + 2)))) (sym em ∙ tm) (sym ep ∙ tp))
+
+pub early_second : (words : List (Option Action)) (k : ℕ) (m p q : Bool) → m ≡ is_move_word (slice_get words k)
+    → p ≡ is_product_word (slice_get words (k + 1)) → q ≡ is_product_word (slice_get words (k + 2)) → m ≡ true → p ≡ false
+    → q ≡ early_at words k
+early_second words k m p q em ep eq tm tp =
+    eq ∙ sym (ap₂ (λ x y. x && (y || is_product_word (slice_get words (k + 2)))) (sym em ∙ tm) (sym ep ∙ tp))
+
+pub early_never : (words : List (Option Action)) (k : ℕ) (m : Bool) → m ≡ is_move_word (slice_get words k) → m ≡ false → m ≡ early_at words k
+early_never words k m em fm =
+    fm ∙ sym (ap (λ x. x && (is_product_word (slice_get words (k + 1)) || is_product_word (slice_get words (k + 2)))) (sym em ∙ fm))
 
 -- the second delay rule by its test
 pub behind_not : (words : List (Option Action)) (k : ℕ) → early_at words k ≡ true → IsBehind words → ⊥
@@ -173,3 +210,7 @@ pub behind_along : (insts others : List Plain) (slot other : Option Plain) → i
     → IsBehind (kinds_of insts (slot_words slot)) → IsBehind (kinds_of others (slot_words other))
 behind_along insts others slot other e f h =
     subst (λ x. IsBehind (kinds_of others (slot_words x))) f (subst (λ x. IsBehind (kinds_of x (slot_words slot))) e h)
+
+-- the fourth rule of equal parts
+pub quiet_along : (insts others : List Plain) (exit other : Exit) → insts ≡ others → exit ≡ other → HasQuietEnd insts exit → HasQuietEnd others other
+quiet_along insts others exit other e f h = subst (HasQuietEnd others) f (subst (λ x. HasQuietEnd x exit) e h)

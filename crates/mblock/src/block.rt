@@ -8,7 +8,7 @@ use mips_isa::Plain;
 use std::marker::Model;
 
 /// A basic block: at most 512 instructions, and an exit.
-#[derive(Debug, Drop)]
+#[derive(Drop)]
 pub struct Block {
     insts: Vec<Plain>,
     exit: Exit,

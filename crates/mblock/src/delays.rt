@@ -17,7 +17,7 @@ use mips_isa::{Action, Plain, Reg};
 fn exit_names(exit: &Exit, r: Reg) -> bool
     ensures { result ≡ exit_touches exit.now r }
 {
-    let is = |q: u8| -> bool { q == r.index() };
+    let q = r.index();
     match *exit {
         Exit::Goto(_) => false,
         Exit::BranchPair {
@@ -26,20 +26,20 @@ fn exit_names(exit: &Exit, r: Reg) -> bool
             rt,
             then: _,
             other: _,
-        } => { rs.index() == r.index() || rt.index() == r.index() }
+        } => rs.index() == q || rt.index() == q,
         Exit::BranchZero {
             test: _,
             rs,
             then: _,
             other: _,
-        } => rs.index() == r.index(),
+        } => rs.index() == q,
         Exit::Call {
             function: _,
             next: _,
-        } => is(31),
-        Exit::Return => is(31),
-        Exit::Out(_) => is(2) || is(0),
-        Exit::Halt => is(2) || is(0),
+        } => q == 31,
+        Exit::Return => q == 31,
+        Exit::Out(_) => q == 2 || q == 0,
+        Exit::Halt => q == 2 || q == 0,
     }
 }
 
@@ -68,13 +68,7 @@ fn is_conflict_at(insts: &[Plain], k: usize) -> bool
     requires { k ≤ ORDER_INSTS }
     ensures { result ≡ conflict_of (slice_get insts.now k) (slice_get insts.now (k + 1)) }
 {
-    let Some(first) = insts.get(k) else {
-        return false;
-    };
-    let Some(second) = insts.get(k + 1) else {
-        return false;
-    };
-    loads_for(&first.action(), &second.action())
+    k + 1 < insts.len() && loads_for(&insts[k].action(), &insts[k + 1].action())
 }
 
 fn is_apart(insts: &[Plain]) -> bool
@@ -161,17 +155,18 @@ pub fn clean(order: &Order) -> Result<(), Unclean>
     ensures fits { FitsSlot order.now }
 {
     let slot = order.slot();
-    if !is_apart(order.insts()) {
+    let insts = order.insts();
+    if !is_apart(insts) {
         return Err(Unclean::LoadUse);
     }
-    if !is_behind(order.insts(), &slot) {
+    if !is_behind(insts, &slot) {
         return Err(Unclean::ProductAfterMove);
     }
     if !is_quiet_slot(order) {
         return Err(Unclean::SlotLoadOrMove);
     }
     let exit = order.exit();
-    if !is_quiet_end(order.insts(), &exit) {
+    if !is_quiet_end(insts, &exit) {
         return Err(Unclean::ExitLoad);
     }
     Ok(())

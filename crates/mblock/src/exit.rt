@@ -6,7 +6,7 @@ use crate::number::BlockNumber;
 use mips_isa::{PairTest, Reg, ZeroTest};
 
 /// How a block is left. A branch goes to `then` where its condition holds, else to `other`.
-#[derive(Clone, Copy, Debug, PartialEq, Eq)]
+#[derive(Clone, Copy, PartialEq, Eq)]
 pub enum Exit {
     /// To a block of the same function.
     Goto(BlockNumber),

@@ -6,7 +6,7 @@ use crate::limits::UNIT_BLOCKS;
 use std::marker::Model;
 
 /// The number of a block, below 2^20.
-#[derive(Clone, Copy, Debug, PartialEq, Eq)]
+#[derive(Clone, Copy, PartialEq, Eq)]
 pub struct BlockNumber {
     number: u32,
 }

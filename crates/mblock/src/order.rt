@@ -9,7 +9,7 @@ use mips_isa::Plain;
 use std::marker::Model;
 
 /// A proposed order of a block: at most 2,048 instructions, an exit, and what runs in its slot.
-#[derive(Debug, Drop)]
+#[derive(Drop)]
 pub struct Order {
     insts: Vec<Plain>,
     exit: Exit,

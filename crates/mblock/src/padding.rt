@@ -50,8 +50,9 @@ pub fn plain(alloc: Global, block: &Block) -> Result<Order, AllocError>
     for inst in block.insts() {
         push_padded(&mut insts, inst)?;
     }
-    let slot = plain_slot(&block.exit());
-    Ok(Order::of(insts, block.exit(), slot))
+    let exit = block.exit();
+    let slot = plain_slot(&exit);
+    Ok(Order::of(insts, exit, slot))
 }
 
 /// The plain orders of a unit's blocks, which are orders of them.

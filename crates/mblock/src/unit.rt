@@ -11,7 +11,7 @@ use std::marker::Model;
 
 /// Blocks, the first block of each block's function, and bytes of data. Every block that an exit names
 /// exists, functions are contiguous, and branches stay inside them. Block 0 is the start.
-#[derive(Debug, Drop)]
+#[derive(Drop)]
 pub struct Unit {
     blocks: Vec<Block>,
     owner: Vec<BlockNumber>,
@@ -28,19 +28,25 @@ impl Model for Unit {
     ghost invariant = { λ u. IsUnit (unit_parts u.blocks.items u.owner.items u.globals.items) };
 }
 
+// Whether the block is below n.
+fn is_below(t: BlockNumber, n: usize) -> bool
+    ensures { IsTrue result ↔ (t < n) }
+{
+    (t.number() as usize) < n
+}
+
 // Whether every block that the exit names is below n.
 fn goes_below(n: usize, exit: Exit) -> bool
     ensures { IsTrue result ↔ GoesBelow n exit }
 {
-    let is_below = |t: BlockNumber| -> bool { (t.number() as usize) < n };
     match exit {
-        Exit::Goto(t) => is_below(t),
+        Exit::Goto(t) => is_below(t, n),
         Exit::BranchPair { then, other, .. } | Exit::BranchZero { then, other, .. } => {
-            is_below(then) && is_below(other)
+            is_below(then, n) && is_below(other, n)
         }
-        Exit::Call { function, next } => is_below(function) && is_below(next),
+        Exit::Call { function, next } => is_below(function, n) && is_below(next, n),
         Exit::Return => true,
-        Exit::Out(next) => is_below(next),
+        Exit::Out(next) => is_below(next, n),
         Exit::Halt => true,
     }
 }

@@ -3,7 +3,7 @@ use crate::reg::{Amount, JumpTarget, NonzeroReg, Reg};
 use words::{Sign, Width};
 
 /// The shifts, by a constant (`sll`) or by a register (`sllv`).
-#[derive(Clone, Copy, Debug, PartialEq, Eq)]
+#[derive(Clone, Copy, PartialEq, Eq)]
 pub enum ShiftOp {
     Sll,
     Srl,
@@ -11,7 +11,7 @@ pub enum ShiftOp {
 }
 
 /// What is computed from two registers.
-#[derive(Clone, Copy, Debug, PartialEq, Eq)]
+#[derive(Clone, Copy, PartialEq, Eq)]
 pub enum AluOp {
     Addu,
     Subu,
@@ -24,7 +24,7 @@ pub enum AluOp {
 }
 
 /// What is computed from a register and a constant whose sign is extended.
-#[derive(Clone, Copy, Debug, PartialEq, Eq)]
+#[derive(Clone, Copy, PartialEq, Eq)]
 pub enum ImmOp {
     Addiu,
     Slti,
@@ -32,7 +32,7 @@ pub enum ImmOp {
 }
 
 /// What is computed from a register and a constant that zeros extend.
-#[derive(Clone, Copy, Debug, PartialEq, Eq)]
+#[derive(Clone, Copy, PartialEq, Eq)]
 pub enum LogicOp {
     Andi,
     Ori,
@@ -40,7 +40,7 @@ pub enum LogicOp {
 }
 
 /// The two registers of products and divisions.
-#[derive(Clone, Copy, Debug, PartialEq, Eq)]
+#[derive(Clone, Copy, PartialEq, Eq)]
 pub enum HiLo {
     Hi,
     Lo,
@@ -124,7 +124,7 @@ pub enum Plain {
 }
 
 /// A branch on two registers.
-#[derive(Clone, Copy, Debug, PartialEq, Eq)]
+#[derive(Clone, Copy, PartialEq, Eq)]
 pub enum PairTest {
     /// `beq`
     Equal,
@@ -133,7 +133,7 @@ pub enum PairTest {
 }
 
 /// A branch on the sign of one register.
-#[derive(Clone, Copy, Debug, PartialEq, Eq)]
+#[derive(Clone, Copy, PartialEq, Eq)]
 pub enum ZeroTest {
     /// `blez`
     AtMostZero,
@@ -146,7 +146,7 @@ pub enum ZeroTest {
 }
 
 /// `j` and `jal`.
-#[derive(Clone, Copy, Debug, PartialEq, Eq)]
+#[derive(Clone, Copy)]
 pub enum JumpOp {
     Jump,
     JumpAndLink,
@@ -154,7 +154,7 @@ pub enum JumpOp {
 
 /// What goes elsewhere. A branch's offset counts words from the word behind the branch; a jump's
 /// target is the number of a word within its 2^26 words.
-#[derive(Clone, Copy, Debug, PartialEq, Eq)]
+#[derive(Clone, Copy)]
 pub enum Control {
     BranchPair {
         test: PairTest,
@@ -180,7 +180,7 @@ pub enum Control {
 }
 
 /// Any instruction of the set.
-#[derive(Clone, Copy, Debug, PartialEq, Eq)]
+#[derive(Clone, Copy)]
 pub enum Inst {
     Plain(Plain),
     Control(Control),

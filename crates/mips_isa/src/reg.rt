@@ -5,7 +5,7 @@ ghost use Rattle.std.specs.Option.{SomeIff};
 use std::marker::Model;
 
 /// One of the 32 registers, by its number.
-#[derive(Clone, Copy, Debug, PartialEq, Eq)]
+#[derive(Clone, Copy, PartialEq, Eq)]
 pub struct Reg {
     index: u8,
 }
@@ -61,7 +61,7 @@ impl Reg {
 }
 
 /// How far a shift by a constant goes, 0 to 31 bits.
-#[derive(Clone, Copy, Debug, PartialEq, Eq)]
+#[derive(Clone, Copy, PartialEq, Eq)]
 pub struct Amount {
     bits: u8,
 }
@@ -154,7 +154,7 @@ impl NonzeroReg {
 }
 
 /// The target field of `j` and `jal`: a number of words, below 2^26.
-#[derive(Clone, Copy, Debug, PartialEq, Eq)]
+#[derive(Clone, Copy)]
 pub struct JumpTarget {
     words: u32,
 }

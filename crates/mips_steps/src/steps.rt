@@ -2,7 +2,7 @@
 use mips_isa::{Inst, Rule};
 
 /// What is fetched at an address.
-#[derive(Clone, Copy, Debug, PartialEq, Eq)]
+#[derive(Clone, Copy)]
 pub enum Fetched {
     /// No code word is there.
     NoWord,

@@ -7,7 +7,8 @@ use Rattle.mblock.specs.BlockMeaning.{exit_shape}
 use Rattle.mblock.specs.Orders.{Means}
 use Rattle.mblock.specs.PlainOrders.{plain_order_of}
 use Rattle.mblock.specs.Slots.{is_slotted}
-use Rattle.mblock.proofs.PlainMeans.{slot_fits, plain_means}
+use Rattle.mblock.proofs.PlainMeans.{plain_means}
+use Rattle.mblock.proofs.PlainOrders.{slot_fits}
 use Rattle.sched_phase.specs.Settling.{Serves}
 
 pub plain_serves : (b : BlockParts) → length b.insts ≤ BLOCK_INSTS → Serves b (plain_order_of b)

@@ -4,7 +4,7 @@ use mblock::{Order, UNIT_BLOCKS, Unit};
 use std::marker::Model;
 
 /// One order for each block of a unit that is lent, and how many blocks had which verdict.
-#[derive(Debug, Drop)]
+#[derive(Drop)]
 pub struct Scheduled<'a> {
     unit: &'a Unit,
     orders: Vec<Order>,

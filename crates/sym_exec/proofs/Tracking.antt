@@ -1,5 +1,6 @@
 -- A run has come as far as its trees: calls of the table leave it there, and what an action does takes it on.
 use Rattle.std.proofs.Common.{◌≡◌, ℕ, ◌<◌, ◌≤◌, ◌+◌, [], ◌∷◌, ◌++◌, length, refl, sym, subst, arith}
+use Rattle.std.specs.Prelude.{vec_len, vec_capacity}
 use Rattle.sym_terms.specs.declared.label.Label.TheVariants.{Mem0}
 use Rattle.sym_terms.specs.Trees.{leaf}
 use Rattle.term_table.specs.Passes.{PassState}
@@ -10,7 +11,7 @@ use Rattle.sym_exec.specs.declared.state.Guard.{Guard}
 use Rattle.sym_exec.specs.declared.stores.StoreChain.{StoreChain}
 use Rattle.sym_exec.specs.Symbolic.{TreeState, GuardTree, start_trees}
 use Rattle.sym_exec.specs.Standing.{Later, Hold, IsGuard, GuardsStand}
-use Rattle.sym_exec.specs.Stores.{MakeMemory, AreMemories, IsChain, IsEmpty, Tracks}
+use Rattle.sym_exec.specs.Stores.{MakeMemory, AreMemories, HasRoom, HasStoreRoom, IsChain, IsEmpty, Tracks}
 use Rattle.sym_exec.proofs.Tickets.{guards_on, guards_more, guards_none}
 use Rattle.sym_exec.proofs.Chains.{memory-on, memories-start}
 
@@ -31,6 +32,17 @@ tracks_guard {p} {q} {r} {s} {l} {m} {t} {u} g x e h hold memory is pushed guard
   memory = memory;
   guards = subst (GuardsStand q m.guards.items) (sym guards) (guards_more g x (guards_on e h.guards) is pushed);
 }
+
+-- which leaves room, where the stores have room and are at most one more
+pub room_guard : (l m : RunLists) (d : StoreChain) → HasRoom l → HasStoreRoom d → vec_len d.stores ≤ vec_len l.guards + 1
+    → vec_len m.guards ≡ vec_len l.guards + 1 → vec_capacity m.guards ≡ vec_capacity l.guards → m.chain ≡ d → HasRoom m
+room_guard l m d room inner few one capacity chain =
+    let taken = room.guards in
+    record {
+      guards = omega (arith, taken, capacity);
+      chain = subst HasStoreRoom (sym chain) inner;
+      few = subst (λ k. vec_len k.stores ≤ vec_len m.guards) (sym chain) (omega (arith, few, one));
+    }
 
 -- at the start no store is made and no guard is there
 pub chain_start : {p : PassState} {l : RunLists} {d : StoreChain} {k : ℕ} → IsEmpty l → HasTree p k (leaf Mem0) → d.stores ≡ l.chain.stores

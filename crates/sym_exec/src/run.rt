@@ -30,12 +30,13 @@ use sym_terms::{Label, Origin};
 use term_table::{Pass, TableFull, TermTable, Ticket};
 
 impl RunLists {
-    ghost use Rattle.std.specs.Prelude.{◌≡◌, ◌<◌, ◌++◌, [], ◌∷◌, vec_len, vec_capacity};
+    ghost use Rattle.std.specs.Prelude.{◌≡◌, ◌<◌, ◌+◌, ◌++◌, [], ◌∷◌, vec_len, vec_capacity};
 
     /// A guard more, in memory that was taken before.
     fn push_guard(&mut self, guard: Guard)
         requires { vec_len self.old.guards < vec_capacity self.old.guards }
         ensures pushed { self.new.guards.items ≡ self.old.guards.items ++ guard ∷ [] }
+        ensures count { vec_len self.new.guards ≡ vec_len self.old.guards + 1 }
         ensures capacity { vec_capacity self.new.guards ≡ vec_capacity self.old.guards }
         ensures chain { self.new.chain ≡ self.old.chain }
     {

@@ -1,4 +1,5 @@
 pub mod Bounds
 pub mod Divisions
 pub mod OfC
+pub mod Products
 pub mod Widths

@@ -1,6 +1,6 @@
 use Rattle.std.proofs.Common.{◌≡◌, ◌∙◌, sym, subst, Some}
 use Rattle.sym_exec.proofs.MipsTerms.{still_seen, still_tree}
-use Rattle.sym_exec.proofs.Tickets.{later_more}
+use Rattle.sym_exec.proofs.Tickets.{later_more, goes_more}
 use Rattle.sym_exec.proofs.Reading.{address-base, address-sum, address-none}
 use Rattle.sym_exec.specs.Standing.{IsAddress}
 use Rattle.sym_exec.proofs.address.address_at.Goals as goal
@@ -30,3 +30,18 @@ returns-in-None-clause-tree c = λ x h.
     let s = c.in-Some.ensures.some x h in
     let none = sym (c.constant_at.ensures.value s.b s.has_right) ∙ c.in-None.is in
     address-base (later_more c.summands.ensures.pass.later c.constant_at.ensures.pass.later) h (address-none s none)
+
+pub constant_at-requires : goal.constant_at-requires
+constant_at-requires c = c.in-Some.ensures.seen.1
+
+pub returns-in-Some-constant_at-clause-legal : goal.returns-in-Some-constant_at-clause-legal
+returns-in-Some-constant_at-clause-legal c = c.constant_at.ensures.pass.later.legal c.summands.ensures.legal
+
+pub returns-in-None-clause-legal : goal.returns-in-None-clause-legal
+returns-in-None-clause-legal c = c.constant_at.ensures.pass.later.legal c.summands.ensures.legal
+
+pub returns-in-Some-constant_at-clause-pass : goal.returns-in-Some-constant_at-clause-pass
+returns-in-Some-constant_at-clause-pass c = goes_more c.summands.ensures.pass c.constant_at.ensures.pass
+
+pub returns-in-None-clause-pass : goal.returns-in-None-clause-pass
+returns-in-None-clause-pass c = goes_more c.summands.ensures.pass c.constant_at.ensures.pass

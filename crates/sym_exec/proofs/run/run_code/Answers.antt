@@ -51,3 +51,24 @@ returns-clause-pass c =
     let ran = goes_more (goes_on c.in_ok-registers.ensures.pass) (goes_on c.in_ok-steps.ensures.pass) in
     let left = goes_more ran (goes_more (goes_on c.in_ok-put_own.ensures.pass) (goes_on c.in_ok-run_slot.ensures.pass)) in
     interns_by (goes_more left (goes_on c.in_ok-memory.ensures.pass)) tt
+
+pub returns-in_err-steps-clause-legal : goal.returns-in_err-steps-clause-legal
+returns-in_err-steps-clause-legal c = c.in_err-steps.ensures.pass.later.legal c.in_ok-registers.ensures.legal
+
+pub returns-in_err-put_own-clause-legal : goal.returns-in_err-put_own-clause-legal
+returns-in_err-put_own-clause-legal c = (later_more c.in_ok-steps.ensures.pass.later c.in_err-put_own.ensures.pass.later).legal c.in_ok-registers.ensures.legal
+
+pub returns-in_err-run_slot-clause-legal : goal.returns-in_err-run_slot-clause-legal
+returns-in_err-run_slot-clause-legal c =
+    let left = later_more c.in_ok-steps.ensures.pass.later c.in_ok-put_own.ensures.pass.later in
+    (later_more left c.in_err-run_slot.ensures.pass.later).legal c.in_ok-registers.ensures.legal
+
+pub returns-in_err-memory-clause-legal : goal.returns-in_err-memory-clause-legal
+returns-in_err-memory-clause-legal c =
+    let left = later_more c.in_ok-steps.ensures.pass.later c.in_ok-put_own.ensures.pass.later in
+    (later_more left (later_more c.in_ok-run_slot.ensures.pass.later c.in_err-memory.ensures.pass.later)).legal c.in_ok-registers.ensures.legal
+
+pub returns-clause-legal : goal.returns-clause-legal
+returns-clause-legal c =
+    let left = later_more c.in_ok-steps.ensures.pass.later c.in_ok-put_own.ensures.pass.later in
+    (later_more left (later_more c.in_ok-run_slot.ensures.pass.later c.in_ok-memory.ensures.pass.later)).legal c.in_ok-registers.ensures.legal

@@ -1,4 +1,4 @@
-use Rattle.std.proofs.Common.{refl}
+use Rattle.std.proofs.Common.{refl, rules}
 use Rattle.sym_exec.proofs.Tickets.{goes_on, goes_more, interns_by, hold_on, known_on}
 use Rattle.sym_exec.proofs.Tracking.{chain_start, tracks_start}
 use Rattle.sym_exec.proofs.run.start.Goals as goal
@@ -14,3 +14,6 @@ returns-clause-tracks c = tracks_start c.requires.empty (hold_on c.in_ok-memory.
 
 pub returns-clause-pass : goal.returns-clause-pass
 returns-clause-pass c = interns_by (goes_more (goes_on c.in_ok-registers.ensures.pass) (goes_on c.in_ok-memory.ensures.pass)) tt
+
+pub returns-in_err-memory-clause-pass : goal.returns-in_err-memory-clause-pass
+returns-in_err-memory-clause-pass c = interns_by (goes_more (goes_on c.in_ok-registers.ensures.pass) (goes_on c.in_err-memory.ensures.pass)) (search rules)

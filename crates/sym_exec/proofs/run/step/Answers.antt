@@ -1,6 +1,5 @@
-use Rattle.std.proofs.Common.{refl, sym, ap₂, subst, arith}
-use Rattle.std.proofs.lemmas.Grind.{common_steps}
-use Rattle.std.specs.Prelude.{OnOk}
+use Rattle.std.proofs.Common.{refl, sym, ap, ap₂, subst, arith}
+use Rattle.std.specs.Prelude.{OnOk, vec_len}
 use Rattle.mips_isa.specs.declared.action.Action.{Action}
 use Rattle.sym_terms.specs.NormalForms.{store_tree}
 use Rattle.sym_exec.proofs.MipsTerms.{still_tree}
@@ -10,7 +9,7 @@ use Rattle.sym_exec.specs.Standing.{Hold, with_halves}
 use Rattle.sym_exec.specs.Stores.{MakeMemory, IsChain, Tracks}
 use Rattle.sym_exec.proofs.Tickets.{later_self, get_tree, known_on, hold_on, hold_put, hold_same, on_ok, ok_always}
 use Rattle.sym_exec.proofs.Chains.{chain-on, memory-on}
-use Rattle.sym_exec.proofs.Tracking.{tracks_on, tracks_guard}
+use Rattle.sym_exec.proofs.Tracking.{tracks_on, tracks_guard, room_guard}
 use Rattle.sym_exec.proofs.run.step.Goals as goal
 
 pub returns-in-Computes-clause-tracks : goal.returns-in-Computes-clause-tracks
@@ -105,10 +104,21 @@ returns-in_ok-put_halves-in-Divides-clause-chain c =
     (chain-on c.in_ok-put_halves-in-Divides.ensures.pass.later c.requires.chain)
 
 pub returns-in_ok-address-in-Loads-clause-room : goal.returns-in_ok-address-in-Loads-clause-room
-returns-in_ok-address-in-Loads-clause-room c = grind (arith, common_steps)
-
-pub returns-in_ok-address-in-Loads-clause-count : goal.returns-in_ok-address-in-Loads-clause-count
-returns-in_ok-address-in-Loads-clause-count c = grind (arith, common_steps)
+returns-in_ok-address-in-Loads-clause-room c =
+    let few = c.requires.room.few in
+    let same = ap vec_len c.in_ok-address-in-Loads.ensures.stores in
+    room_guard c.args.lists.now c.push_guard.new.self _ c.requires.room c.in_ok-address-in-Loads.ensures.room (omega (arith, few, same))
+    c.push_guard.ensures.count c.push_guard.ensures.capacity c.push_guard.ensures.chain
 
 pub returns-in_ok-address-in-Stores-clause-room : goal.returns-in_ok-address-in-Stores-clause-room
-returns-in_ok-address-in-Stores-clause-room c = grind (arith, common_steps)
+returns-in_ok-address-in-Stores-clause-room c =
+    let few = c.requires.room.few in
+    let more = c.in_ok-address-in-Stores.ensures.count in
+    room_guard c.args.lists.now c.push_guard-in-Stores.new.self _ c.requires.room c.in_ok-address-in-Stores.ensures.room (omega (arith, few, more))
+    c.push_guard-in-Stores.ensures.count c.push_guard-in-Stores.ensures.capacity c.push_guard-in-Stores.ensures.chain
+
+pub returns-in_ok-put_halves-in-Divides-clause-room : goal.returns-in_ok-put_halves-in-Divides-clause-room
+returns-in_ok-put_halves-in-Divides-clause-room c =
+    let few = c.requires.room.few in
+    room_guard c.args.lists.now c.push_guard-in-Divides.new.self c.args.lists.now.chain c.requires.room c.requires.room.chain (omega (arith, few))
+    c.push_guard-in-Divides.ensures.count c.push_guard-in-Divides.ensures.capacity c.push_guard-in-Divides.ensures.chain
