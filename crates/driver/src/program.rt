@@ -198,14 +198,8 @@ pub fn mcc<T: Threads + Wait + Sync, F: Files, W: Output, E: Complaints>(
                 function,
                 dot,
             };
-            answer_file(
-                alloc,
-                &Paged(ShowCommand { asked }),
-                source,
-                files,
-                out,
-                err,
-            )
+            let command = Paged(ShowCommand { asked });
+            answer_file(alloc, &command, source, files, out, err)
         }
         Err(error) => tell_words(&error, out, err),
     }
