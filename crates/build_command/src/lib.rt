@@ -1,11 +1,11 @@
 //! The commands `mcc build` and `mcc run`.
 //!
-//! `build` is the whole path of `mcc build`, and `build_plain` with `--plain`: the bytes of an image that follows the
-//! program (`specs/Follows.antt`), and the report of its scheduled unit (`specs/Builds.antt`), or why the text has none
-//! (`specs/BuildFaults.antt`, `specs/SourceFaults.antt`). `run_image` is that of `mcc run` (`specs/ImageRuns.antt`). `build_file` and `run_file` are the
-//! commands over files and streams: all that they ask of them, print, tell and end by (`specs/Commands.antt`); `driver::mcc`
-//! and the program mcc_build call these two. How faults and ends print stands in `specs/Texts.antt`. `print_built`,
-//! `print_run` and `tell_build` are the commands' ends, over a stream alone, for hosts without files.
+//! `build` is the whole path of `mcc build`, and `build_plain` with `--plain`: the bytes of an image that follows the program
+//! (`specs/Follows.antt`), and the report of its scheduled unit (`specs/Builds.antt`), or why the text has none (`specs/SourceFaults.antt`,
+//! `specs/BuildFaults.antt`). `run_image` is that of `mcc run` (`specs/ImageRuns.antt`). `build_file` and `run_file` are the commands
+//! over files and streams: all that they ask of them, print, tell and end by (`specs/Commands.antt`); `driver::mcc` and the program
+//! mcc_build call these two. How faults and ends print stands in `specs/Texts.antt`. `print_built`, `print_run` and `tell_build` are
+//! the commands' ends, over a stream alone, for hosts without files.
 //!
 //! What is promised:
 //! - `build_command::build` and `build_one` (without threads), for every scheduler, and `build_plain`, which `driver` exports

@@ -61,7 +61,8 @@ pub fn told_by<T: Threads + Wait + Sync>(
 ) -> Written
     ensures most { result.status ≤ 4 }
     ensures answered { takes mcc_app (map (λ s. s.now) words.entry.now) ≡ true → result.status ≢ 1
-        → Does Answers files.old files.new (Some []) (Some result.out.items) (IsAnswered AnswersCommand (map (λ s. s.now) words.entry.now) result.status) }
+        → Does Answers files.old files.new (Some []) (Some result.out.items)
+        (IsAnswered AnswersCommand (map (λ s. s.now) words.entry.now) result.status) }
 {
     let mut out = Vec::new(alloc);
     let mut err = Vec::new(alloc);
