@@ -1,11 +1,9 @@
-//! What a program has of its host: the files (`Disk`), the words of the command line, and the standard streams. `run` gives them to a
-//! `Program`, which every program of this repository is, on a thread whose stack holds the deepest text that the sizes of
-//! `c_front` allow. No contract says what the host gives; that a fault tells refused memory from all else is all that the layer
-//! above uses.
+//! What a program has of its host: the files (`Disk`), the words of the command line, and the standard streams. `run` gives them
+//! to a `Program`, as mcc, mcc_build and mcc_check are, on a thread of 1 GiB of stack. No contract says that, nor what the host
+//! gives; that a fault tells refused memory from all else is all that the layer above uses.
 //!
-//! What is promised:
-//! - `disk::run`: a program does its work on a thread of 1 GiB of stack. That this holds the deepest texts is tested
-//!   (tests/c/deepest.case: the deepest nests of `if`, of `while` and of expressions), not proved.
+//! - Only tested (tests/c/deepest.case): that this stack holds the deepest texts that the sizes of `c_front` allow, nests of `if`,
+//!   of `while` and of expressions.
 #![tactic(auto)]
 
 mod files;
