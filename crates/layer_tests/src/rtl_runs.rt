@@ -100,83 +100,26 @@ const ALONE: &[Row] = &[
     ),
 ];
 
-const AT_1: &[Run<'static>] = &[(1, 1, End::Wrong, &[])];
+// Instructions that are wrong behind these ones: a register isn't set, or an index is outside.
+const WRONG: &[(RInst, RInst)] = &[
+    (RInst::Const(2, 8), RInst::Move(1, 0)),
+    (RInst::Const(2, 8), RInst::Move(1, 7999)),
+    (RInst::Const(2, 8), RInst::Bin(Op::Add, 1, 2, 0)),
+    (RInst::Const(2, 8), RInst::Bin(Op::Add, 1, 0, 2)),
+    (RInst::Const(0, 4), RInst::Load(1, 0, 0)),
+    (RInst::Const(0, 4_294_967_295), RInst::Load(1, 0, 0)),
+    (RInst::Const(0, 4), RInst::Load(1, 1, 0)),
+    (RInst::Const(0, 4_294_967_295), RInst::Load(1, 1, 0)),
+    (RInst::Const(0, 4), RInst::Store(0, 0, 0)),
+    (RInst::Const(0, 4), RInst::Store(1, 0, 0)),
+];
 
-const AT_2: &[Run<'static>] = &[(1, 1, End::More, &[]), (1, 2, End::Wrong, &[])];
-
-const UNSET: &[Row] = &[
-    (
-        "a register that isn't set is wrong: Move(1, 0)",
-        &[(
-            0,
-            &[(
-                &[RInst::Const(2, 8), RInst::Move(1, 0)],
-                Ends::Return(Some(2)),
-            )],
-        )],
-        &[],
-        AT_2,
-    ),
-    (
-        "a register that isn't set is wrong: Move(1, 7999)",
-        &[(
-            0,
-            &[(
-                &[RInst::Const(2, 8), RInst::Move(1, 7999)],
-                Ends::Return(Some(2)),
-            )],
-        )],
-        &[],
-        AT_2,
-    ),
-    (
-        "a register that isn't set is wrong: Bin(Op::Add, 1, 2, 0)",
-        &[(
-            0,
-            &[(
-                &[RInst::Const(2, 8), RInst::Bin(Op::Add, 1, 2, 0)],
-                Ends::Return(Some(2)),
-            )],
-        )],
-        &[],
-        AT_2,
-    ),
-    (
-        "a register that isn't set is wrong: Bin(Op::Add, 1, 0, 2)",
-        &[(
-            0,
-            &[(
-                &[RInst::Const(2, 8), RInst::Bin(Op::Add, 1, 0, 2)],
-                Ends::Return(Some(2)),
-            )],
-        )],
-        &[],
-        AT_2,
-    ),
-    (
-        "a register that isn't set is wrong: Branch(0, 0, 0)",
-        &[(0, &[(&[], Ends::Branch(0, 0, 0))])],
-        &[],
-        AT_1,
-    ),
-    (
-        "a register that isn't set is wrong: Out(0, 0)",
-        &[(0, &[(&[], Ends::Out(0, 0))])],
-        &[],
-        AT_1,
-    ),
-    (
-        "a register that isn't set is wrong: Return(Some(0))",
-        &[(0, &[(&[], Ends::Return(Some(0)))])],
-        &[],
-        AT_1,
-    ),
-    (
-        "a register that isn't set is wrong: Return(None)",
-        &[(0, &[(&[], Ends::Return(None))])],
-        &[],
-        AT_1,
-    ),
+// Exits that are wrong: register 0 isn't set, or `main` gives no word.
+const WRONG_EXITS: &[Ends] = &[
+    Ends::Branch(0, 0, 0),
+    Ends::Out(0, 0),
+    Ends::Return(Some(0)),
+    Ends::Return(None),
 ];
 
 // What stands behind a call: it writes register 1 and ends with it.
@@ -431,66 +374,6 @@ const GLOBALS: &[Row] = &[
             (1, 22, End::Done(7), &[2, 255, 255, 0, 255, 7]),
         ],
     ),
-    (
-        "an index outside is wrong",
-        &[(
-            0,
-            &[(
-                &[RInst::Const(0, 4), RInst::Load(1, 0, 0)],
-                Ends::Return(Some(1)),
-            )],
-        )],
-        ARRAYS,
-        AT_2,
-    ),
-    (
-        "an index outside is wrong",
-        &[(
-            0,
-            &[(
-                &[RInst::Const(0, 4_294_967_295), RInst::Load(1, 0, 0)],
-                Ends::Return(Some(1)),
-            )],
-        )],
-        ARRAYS,
-        AT_2,
-    ),
-    (
-        "an index outside is wrong",
-        &[(
-            0,
-            &[(
-                &[RInst::Const(0, 4), RInst::Load(1, 1, 0)],
-                Ends::Return(Some(1)),
-            )],
-        )],
-        ARRAYS,
-        AT_2,
-    ),
-    (
-        "an index outside is wrong",
-        &[(
-            0,
-            &[(
-                &[RInst::Const(0, 4_294_967_295), RInst::Load(1, 1, 0)],
-                Ends::Return(Some(1)),
-            )],
-        )],
-        ARRAYS,
-        AT_2,
-    ),
-    (
-        "a store outside is wrong",
-        &[(
-            0,
-            &[(
-                &[RInst::Const(0, 4), RInst::Store(0, 0, 0)],
-                Ends::Return(Some(0)),
-            )],
-        )],
-        &[(Width::Byte, 4, &[1, 2, 3, 4])],
-        AT_2,
-    ),
 ];
 
 // Whether each run of a program comes to what it should; None where there is no such program.
@@ -508,17 +391,40 @@ fn come_to(
     Some(all)
 }
 
+// Whether a block of `main` is wrong in this step, and not before; None where it is no program.
+fn is_wrong_at(alloc: Global, step: u64, insts: &[RInst], ends: Ends) -> Option<bool> {
+    let program = program(alloc, &[(0, &[(insts, ends)])], ARRAYS, 0)?;
+    let before = step.saturating_sub(1);
+    let goes_on = comes_to(alloc, &program, (1, before), End::More, &[]);
+    Some(goes_on && comes_to(alloc, &program, (1, step), End::Wrong, &[]))
+}
+
 #[test]
-fn programs_come_to_their_ends(rt: HostRuntime) {
-    for rows in [ALONE, UNSET, CALLS, GLOBALS] {
-        for &(name, functions, arrays, runs) in rows {
-            assert_eq!(rt;
-                come_to(rt.alloc(), functions, arrays, runs),
-                Some(true),
-                "{name}"
-            );
+fn what_is_unset_or_outside_is_wrong(rt: HostRuntime) {
+    for &(first, wrong) in WRONG {
+        let is_wrong = is_wrong_at(rt.alloc(), 2, &[first, wrong], Ends::Return(Some(2)));
+        assert_eq!(rt; is_wrong, Some(true), "{wrong:?}");
+    }
+    for &ends in WRONG_EXITS {
+        assert_eq!(rt; is_wrong_at(rt.alloc(), 1, &[], ends), Some(true));
+    }
+}
+
+// What holds in the first row of which a run comes to something else.
+fn first_wrong(alloc: Global, rows: &[Row]) -> Option<&'static str> {
+    for &(name, functions, arrays, runs) in rows {
+        if come_to(alloc, functions, arrays, runs) != Some(true) {
+            return Some(name);
         }
     }
+    None
+}
+
+#[test]
+fn programs_come_to_their_ends(rt: HostRuntime) {
+    assert_eq!(rt; first_wrong(rt.alloc(), ALONE), None);
+    assert_eq!(rt; first_wrong(rt.alloc(), CALLS), None);
+    assert_eq!(rt; first_wrong(rt.alloc(), GLOBALS), None);
     values_are_words();
     runs_go_on_from_where_they_are();
 }

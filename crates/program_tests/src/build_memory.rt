@@ -87,8 +87,8 @@ fn words_tell_refused_memory_alone(rt: HostRuntime) -> Result<(), Fail> {
     Ok(())
 }
 
-// Whether each block has a verdict or was missed, and none met a full table.
-fn has_each_block(built: &Built) -> bool {
+/// Whether each block has a verdict or was missed, and none met a full table.
+pub fn has_each_block(built: &Built) -> bool {
     let report = built.report;
     let mut counted: u64 = 0;
     for count in [

@@ -1,9 +1,9 @@
 // Memory that is really refused to builds, runs and listings: each test is a process of its own, and takes all that it can
 // get. With each block that it gives back the program comes further.
 
-use crate::build_memory::{is_refusal, prints_three};
+use crate::build_memory::{has_each_block, is_refusal, prints_three};
 use delay_filler::FilledOrder;
-use driver::{BuildOpts, Built, build_one, build_plain};
+use driver::{BuildOpts, build_one, build_plain};
 use list_scheduler::ListOrder;
 use scarce_memory::AllMemory;
 use sched_phase::PhaseOpts;
@@ -45,21 +45,6 @@ fn plain_builds_tell_refused_memory_alone(rt: HostRuntime) -> Result<(), Fail> {
     Ok(())
 }
 
-// Whether each block has a verdict, none is missed and none met a full table.
-fn has_each_block(built: &Built) -> bool {
-    let report = built.report;
-    let mut counted: u64 = 0;
-    for count in [
-        report.same,
-        report.unclean,
-        report.differs,
-        report.no_memory,
-    ] {
-        counted = counted.wrapping_add(u64::from(count));
-    }
-    report.full == 0 && report.missed == 0 && counted == built.blocks as u64
-}
-
 // What builds by the scheduler of `mcc build` make as memory is given back.
 #[derive(Drop)]
 struct Scarce {
@@ -81,7 +66,7 @@ fn scarce_builds(
         match build_one(alloc, COUNTS.as_bytes(), &options, &FilledOrder(ListOrder)) {
             Ok(built) => {
                 let is_whole = built.report.no_memory == 0;
-                if !has_each_block(&built) {
+                if built.report.missed > 0 || !has_each_block(&built) {
                     return Ok(None);
                 }
                 images.push(built.image)?;
