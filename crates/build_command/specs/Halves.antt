@@ -1,5 +1,5 @@
 -- The two halves of a build, as its private functions see them: up to a unit, and from a scheduled unit on.
-use Rattle.std.specs.Prelude.{◌≡◌, ℕ, List, length, slice_index}
+use Rattle.std.specs.Prelude.{◌≡◌, ℕ, List, length, slice_index, Result, Ok, Err}
 use Rattle.c_typed.specs.Trees.{TypedProgram}
 use Rattle.c_typed.specs.Meaning.{source_run}
 use Rattle.c_types.specs.Typed.{SpellsTyped}
@@ -43,3 +43,12 @@ IsUnwritten s (faults.Limit limits.Lowering) = ⊥
 IsUnwritten s (faults.Limit limits.Selection) = ⊥
 IsUnwritten s (faults.Limit limits.Assembly) = IsScheduled s × (IsWithin (slice_index s.unit.owner) s.orders → ⊥)
 IsUnwritten s faults.NoMemory = Unit {0}
+
+-- the same of a schedule, to which memory may have been refused
+abbrev pub IsWrittenOf : {E : Type 0} → Result ScheduledParts E → Built → Type 0
+IsWrittenOf (Ok s) b = IsWritten s b
+IsWrittenOf (Err e) b = ⊥
+
+abbrev pub IsUnwrittenOf : {E : Type 0} → Result ScheduledParts E → BuildFault → Type 0
+IsUnwrittenOf (Ok s) fault = IsUnwritten s fault
+IsUnwrittenOf (Err e) fault = fault ≡ faults.NoMemory

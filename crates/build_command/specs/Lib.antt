@@ -1,5 +1,4 @@
 pub mod Texts
-pub mod ImageRuns
 pub mod Follows
 pub mod Builds
 pub mod SourceFaults

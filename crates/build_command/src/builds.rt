@@ -6,7 +6,7 @@ ghost use Rattle.build_command.specs.Builds.{IsPlain, IsScheduledBuild};
 ghost use Rattle.build_command.specs.Follows.{FollowsText};
 ghost use Rattle.build_command.specs.BuildFaults.{IsBuildFault};
 ghost use Rattle.build_command.specs.SourceFaults.{IsSourceFault};
-ghost use Rattle.build_command.specs.Halves.{IsUnitOf, IsWritten, IsUnwritten};
+ghost use Rattle.build_command.specs.Halves.{IsUnitOf, IsUnwrittenOf, IsWrittenOf};
 
 use c_front::read;
 use c_types::{Typed, check};
@@ -17,7 +17,7 @@ use mips_asm::{AsmFault, assemble};
 use mips_select::{SelectFault, select};
 use rtl_lower::{LowerFault, lower};
 use sched_phase::{Scheduled, schedule_plain};
-use std::alloc::Global;
+use std::alloc::{AllocError, Global};
 
 /// Which limit a program exceeds that has no fault.
 #[derive(Clone, Copy, Debug, PartialEq, Eq)]
@@ -53,7 +53,7 @@ impl From<SourceFault> for BuildFault {
 }
 
 /// An image's bytes, how many blocks of it had which verdict, and how many there are.
-#[derive(Debug, Drop)]
+#[derive(Drop)]
 pub struct Built {
     pub image: Vec<u8>,
     pub report: Counts,
@@ -94,13 +94,19 @@ pub fn unit_of(alloc: Global, text: &[u8], depth: u32) -> Result<Unit, BuildFaul
     }
 }
 
-/// The bytes of a scheduled unit's image, with its counts.
-pub(crate) fn written(alloc: Global, scheduled: &Scheduled<'_>) -> Result<Built, BuildFault>
-    ensures written { IfOk result (IsWritten scheduled.now) }
-    ensures fault { IfErr result (IsUnwritten scheduled.now) }
+/// The bytes of a scheduled unit's image, with its counts, where memory wasn't refused to the schedule.
+pub(crate) fn write(
+    alloc: Global,
+    scheduled: Result<Scheduled<'_>, AllocError>,
+) -> Result<Built, BuildFault>
+    ensures written { IfOk result (IsWrittenOf scheduled.entry) }
+    ensures fault { IfErr result (IsUnwrittenOf scheduled.entry) }
 {
+    let Ok(scheduled) = scheduled else {
+        return Err(BuildFault::NoMemory);
+    };
     let report = scheduled.report();
-    let image = match assemble(alloc, scheduled) {
+    let image = match assemble(alloc, &scheduled) {
         Ok(image) => image,
         Err(AsmFault::Limit) => return Err(BuildFault::Limit(Limit::Assembly)),
         Err(AsmFault::NoMemory) => return Err(BuildFault::NoMemory),
@@ -124,11 +130,6 @@ pub fn build_plain(alloc: Global, text: &[u8], depth: u32) -> Result<Built, Buil
     ensures fault { IfErr result (IsBuildFault text.now) }
 {
     let unit = unit_of(alloc, text, depth)?;
-    let Ok(scheduled) = schedule_plain(alloc, &unit) else {
-        return Err(BuildFault::NoMemory);
-    };
-    match written(alloc, &scheduled) {
-        Ok(built) => Ok(built),
-        Err(fault) => Err(fault),
-    }
+    let scheduled = schedule_plain(alloc, &unit);
+    write(alloc, scheduled)
 }

@@ -1,11 +1,10 @@
-//! The commands `mcc build` and `mcc run`.
+//! The command `mcc build`.
 //!
 //! `build` is the whole path of `mcc build`, and `build_plain` with `--plain`: the bytes of an image that follows the program
 //! (`specs/Follows.antt`), and the report of its scheduled unit (`specs/Builds.antt`), or why the text has none (`specs/SourceFaults.antt`,
-//! `specs/BuildFaults.antt`). `run_image` is that of `mcc run` (`specs/ImageRuns.antt`). `build_file` and `run_file` are the commands
-//! over files and streams: all that they ask of them, print, tell and end by (`specs/Commands.antt`); `driver::mcc` and the program
-//! mcc_build call these two. How faults and ends print stands in `specs/Texts.antt`. `print_built`, `print_run` and `tell_build` are
-//! the commands' ends, over a stream alone, for hosts without files.
+//! `specs/BuildFaults.antt`). `build_file` is the command over files and streams: all that it asks of them, prints, tells and ends by
+//! (`specs/Commands.antt`); `driver::mcc` and the program mcc_build call it. How faults print stands in `specs/Texts.antt`.
+//! `print_built` and `tell_build` are the command's ends, over a stream alone, for hosts without files.
 //!
 //! What is promised:
 //! - `build_command::build` and `build_one` (without threads), for every scheduler, and `build_plain`, which `driver` exports
@@ -18,32 +17,20 @@
 //!   lowering comes only where the program has too many pseudo-registers or blocks for RTL (`IsTooLongForRtl`). Of those
 //!   of selection and of assembly the contract says no more than that the text spells a program without faults; that
 //!   they aren't told too early is tested. 30 behind the types comes only of such a text too.
-//! - `build_command::run_image` is exactly the image's run (`IsImageRun`), where the bytes are an image's, else the first
-//!   test that fails.
 //! - `build_command::build_file`: unless the status is 1, SOURCE was read, then IMAGE became the bytes of such an image of
 //!   what was read, and nothing else was asked; the line is that of the build, and nothing was told (`Builds`). Else the line
 //!   of a fault was told, IMAGE is asked to be nothing but the bytes of such an image, and SOURCE is only read
 //!   (`StopsBuild`).
-//! - `build_command::run_file`: unless the status is 1, IMAGE was read and nothing else asked, and what was printed and the
-//!   status are those of its run (`Runs`); beside a run that is stuck lines of printable ASCII were told, which say why, and
-//!   beside any other nothing (`IsReason`). Else the line of a fault was told (`StopsRun`).
-//! - `Display` of a build's fault and of a machine's end is exact.
+//! - `Display` of a build's fault is exact.
 #![tactic(auto)]
 
 mod build_commands;
 mod builds;
-mod image_runs;
 mod places;
-mod reasons;
-mod run_commands;
 mod scheduled_builds;
 mod texts;
 
 pub use build_commands::{build_file, print_built, tell_build};
 pub use builds::{BuildFault, Built, Limit, build_plain, typed_of, unit_of};
-pub use image_runs::run_image;
 pub use places::place_of;
-pub use reasons::tell_page;
-pub use run_commands::{ending_status, run_file};
 pub use scheduled_builds::{BuildOpts, build, build_one};
-pub use texts::{EndingLine, print_run};

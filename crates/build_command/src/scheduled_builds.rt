@@ -7,7 +7,7 @@ ghost use Rattle.build_command.specs.Follows.{FollowsText};
 ghost use Rattle.build_command.specs.BuildFaults.{IsBuildFault};
 ghost use Rattle.term_table.specs.Passes.{InRange};
 
-use crate::builds::{BuildFault, Built, unit_of, written};
+use crate::builds::{BuildFault, Built, unit_of, write};
 use list_scheduler::Reorder;
 use sched_phase::{PhaseOpts, schedule_all, schedule_one};
 use std::alloc::Global;
@@ -16,7 +16,7 @@ use std::thread::Threads;
 use steal_pool::Gate;
 
 /// How a program is built: how many of its calls may be active at once, main counted, and how its blocks are put in order.
-#[derive(Clone, Copy, Debug)]
+#[derive(Clone, Copy)]
 pub struct BuildOpts {
     pub depth: u32,
     pub phase: PhaseOpts,
@@ -52,13 +52,8 @@ pub fn build<T: Threads + Wait + Sync, R: Reorder + Sync, G: Gate + Sync>(
     ensures fault { IfErr result (IsBuildFault text.now) }
 {
     let unit = unit_of(alloc, text, options.depth)?;
-    let Ok(scheduled) = schedule_all(rt, alloc, &unit, options.phase, reorder, gate) else {
-        return Err(BuildFault::NoMemory);
-    };
-    match written(alloc, &scheduled) {
-        Ok(built) => Ok(built),
-        Err(fault) => Err(fault),
-    }
+    let scheduled = schedule_all(rt, alloc, &unit, options.phase, reorder, gate);
+    write(alloc, scheduled)
 }
 
 /// The same by one worker without threads; no block is missed.
@@ -74,11 +69,6 @@ pub fn build_one<R: Reorder>(
     ensures fault { IfErr result (IsBuildFault text.now) }
 {
     let unit = unit_of(alloc, text, options.depth)?;
-    let Ok(scheduled) = schedule_one(alloc, &unit, options.phase, reorder) else {
-        return Err(BuildFault::NoMemory);
-    };
-    match written(alloc, &scheduled) {
-        Ok(built) => Ok(built),
-        Err(fault) => Err(fault),
-    }
+    let scheduled = schedule_one(alloc, &unit, options.phase, reorder);
+    write(alloc, scheduled)
 }

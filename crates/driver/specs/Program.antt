@@ -15,7 +15,8 @@ use Rattle.check_command.specs.Command.{Checks, StopsCheck}
 use Rattle.check_report.specs.Command.{Explains}
 use Rattle.check_report.specs.Several.{BreaksOff, ChecksAll, ChecksEach}
 use Rattle.build_command.specs.SourceFaults.{IsFaultless}
-use Rattle.build_command.specs.Commands.{Builds, IsReason, IsRefused, Runs, StopsBuild, StopsRun, words_text}
+use Rattle.build_command.specs.Commands.{Builds, StopsBuild}
+use Rattle.run_command.specs.Command.{IsReason, IsRefused, Runs, StopsRun, words_text}
 use Rattle.command_line.specs.Commands.{IsCommand}
 use Rattle.command_line.specs.declared.command.Command.{Command}
 use Rattle.command_line.specs.declared.command.Command.TheVariants.{Check, CheckEach, Interp, Build, Run, List as Listing, Show}

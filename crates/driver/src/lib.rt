@@ -1,8 +1,8 @@
 //! The program's commands over bytes, files and writers.
 //!
 //! `interp` is the whole path of `mcc interp`: the run of the program that the text spells, or its first fault
-//! (`specs/Interps.antt`), and `list_image` that of `mcc list` (`specs/Listings.antt`). `mcc build` and `mcc run` are the
-//! crate build_command, `mcc check` the crates check_command (one file) and check_report (several files, and `--explain`),
+//! (`specs/Interps.antt`), and `list_image` that of `mcc list` (`specs/Listings.antt`). `mcc build` is the crate build_command,
+//! `mcc run` run_command, `mcc check` the crates check_command (one file) and check_report (several files, and `--explain`),
 //! `mcc show` the crate show, and what commands share is the crate commands. `mcc` is the whole program, which `main` calls
 //! with the real files and streams: all that it asks of them, prints and ends by is what the command of its words does
 //! (`specs/Program.antt`), and it takes these by the crate command_line. How ends and faults of a text's runs print stands in
@@ -64,8 +64,8 @@ mod source_runs;
 mod texts;
 
 pub use build_command::{
-    BuildFault, BuildOpts, Built, EndingLine, Limit, build, build_one, build_plain, ending_status,
-    print_built, print_run, run_image, tell_build, unit_of,
+    BuildFault, BuildOpts, Built, Limit, build, build_one, build_plain, print_built, tell_build,
+    unit_of,
 };
 pub use check_command::{CheckAnswer, CheckFault, check};
 pub use command_line::{AskedBuild, Command, words};
@@ -73,6 +73,7 @@ pub use commands::{FileFault, Files};
 pub use listings::list_image;
 pub use messages::SourceFault;
 pub use program::{end_status, mcc, tell_interp};
+pub use run_command::{EndingLine, ending_status, print_run, run_image};
 pub use show_commands::{StagesFault, stages, tell_stages};
 pub use source_runs::{InterpFault, interp};
 pub use texts::EndLine;

@@ -4,7 +4,7 @@ ghost use Rattle.std.specs.Prelude.{◌≡◌, ℕ, List, IfErr, IfOk, OnOk};
 ghost use Rattle.std.specs.Io.KnownBytes.{Appends};
 ghost use Rattle.std.specs.declared.alloc.Global.{Global};
 ghost use Rattle.std.specs.declared.vec.Vec.{Vec};
-ghost use Rattle.build_command.specs.Commands.{IsRefused};
+ghost use Rattle.run_command.specs.Command.{IsRefused};
 ghost use Rattle.commands.specs.Requests.{IsNothing, IsSent, TellsLine};
 ghost use Rattle.driver.specs.Program.{PrintsPage};
 

@@ -13,13 +13,14 @@ use crate::reasons::wrong_page;
 use crate::show_commands::ShowCommand;
 use crate::source_runs::{InterpFault, interp};
 use crate::texts::EndLine;
-use build_command::{build_file, place_of, print_run, run_file, tell_page};
+use build_command::{build_file, place_of};
 use check_command::check_file;
 use check_report::{check_files, explain_file};
 use command_line::{Command, words};
 use commands::{
     Complaints, FileCommand, Files, HostFault, Output, answer_file, tell_placed, tell_words,
 };
+use run_command::{print_run, run_file, tell_page};
 use runs::{End, Ran};
 use show::Asked;
 use std::alloc::Global;
@@ -69,7 +70,7 @@ struct InterpCommand {
 impl FileCommand for InterpCommand {
     ghost use Rattle.runs.specs.Runs.{outcome_of};
     ghost use Rattle.driver.specs.Interps.{IsInterpFault, IsRun};
-    ghost use Rattle.build_command.specs.Commands.{IsReason, IsRefused};
+    ghost use Rattle.run_command.specs.Command.{IsReason, IsRefused};
     ghost use Rattle.driver.specs.Program.{PrintsRun};
 
     type Answer = Ran;

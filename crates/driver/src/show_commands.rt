@@ -9,13 +9,14 @@ ghost use Rattle.driver.specs.Stages.{IsStagesFault, stages_fault_text};
 
 use crate::pages::PageCommand;
 use crate::reasons::page;
-use build_command::{BuildFault, Limit, tell_build, tell_page, typed_of};
+use build_command::{BuildFault, Limit, tell_build, typed_of};
 use c_front::read;
 use c_tree::{Declaration, Program};
 use commands::{Complaints, tell};
 use mips_select::{Numbered, SelectFault, select_numbered};
 use rtl::Rtl;
 use rtl_lower::{LowerFault, lower};
+use run_command::tell_page;
 use show::{Asked, ShowFault, Shown, show};
 use std::alloc::{AllocError, Global};
 use std::error::Error;

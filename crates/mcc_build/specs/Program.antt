@@ -4,7 +4,8 @@ use Rattle.std.specs.Prelude.{◌≡◌, ℕ, List, []}
 use Rattle.commands.specs.Requests.{Request}
 use Rattle.command_line.specs.declared.command.Command.{Command}
 use Rattle.command_line.specs.declared.command.Command.TheVariants.{Build, Run}
-use Rattle.build_command.specs.Commands.{Builds, IsReason, Runs, StopsBuild, StopsRun}
+use Rattle.build_command.specs.Commands.{Builds, StopsBuild}
+use Rattle.run_command.specs.Command.{IsReason, Runs, StopsRun}
 
 -- a command that has its answer
 abbrev pub Answers : Command → ℕ → List Request → List ℕ → Type 0

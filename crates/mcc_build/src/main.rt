@@ -12,10 +12,11 @@ ghost use Rattle.commands.specs.Requests.{Asks, Does, IsSent, TellsBeside};
 ghost use Rattle.mcc_build.specs.Program.{Answers, Remarks, Stops};
 ghost use Rattle.mcc_build.specs.Words.{AreOfBuildOrRun};
 
-use build_command::{build_file, run_file};
+use build_command::build_file;
 use command_line::{Command, words};
 use commands::{Complaints, Files, Output, tell_words};
 use disk::{Program, run};
+use run_command::run_file;
 use std::alloc::Global;
 use std::process::ExitCode;
 use std::sync::Wait;

@@ -9,9 +9,11 @@ use Rattle.check_command.specs.Checks.{IsAnswerTo, IsCheckFault}
 use Rattle.check_command.specs.Texts.{answer_text, check_fault_text, exit_status}
 use Rattle.check_command.specs.declared.verdicts.CheckAnswer.{CheckAnswer}
 use Rattle.sched_phase.specs.Phases.{IsWholePhase}
-use Rattle.build_command.specs.Commands.{AnyOrder, built_text, factor_of, words_text}
-use Rattle.build_command.specs.Texts.{build_fault_text, ending_status, ending_text}
-use Rattle.build_command.specs.ImageRuns.{IsImageRun}
+use Rattle.build_command.specs.Commands.{AnyOrder, built_text, factor_of}
+use Rattle.build_command.specs.Texts.{build_fault_text}
+use Rattle.run_command.specs.Command.{words_text}
+use Rattle.run_command.specs.Texts.{ending_status, ending_text}
+use Rattle.run_command.specs.ImageRuns.{IsImageRun}
 use Rattle.build_command.specs.Builds.{IsPlain, IsScheduledBuild}
 use Rattle.build_command.specs.BuildFaults.{IsBuildFault}
 use Rattle.build_command.specs.SourceFaults.{IsFaultless}

@@ -1,17 +1,18 @@
+use Rattle.std.proofs.lemmas.Result.{IfOk-weaker}
 use Rattle.build_command.specs.Builds.{IsPlain}
-use Rattle.build_command.proofs.Halves.{followed_text, scheduled_build, unwritten}
+use Rattle.build_command.proofs.Halves.{Paced, followed_text, scheduled_build, unwritten, with_both}
 use Rattle.build_command.proofs.builds.build_plain.Goals as goal
 
-pub returns-in-Ok-written-clause-follows : goal.returns-in-Ok-written-clause-follows
-returns-in-Ok-written-clause-follows c =
-    let written = c.in-Ok-written.ensures.written in
-    followed_text c.args.text.now c.args.depth 1 c.in_ok-unit.unit c.in-Ok.scheduled c.in-Ok-written.built c.in_ok-unit.ensures.unit
-    c.in-Ok.ensures.unit written (written.runs.plain c.in-Ok.ensures.plain)
+pub returns-clause-follows : goal.returns-clause-follows
+returns-clause-follows c =
+    let scheduled = c.schedule_plain-scheduled.ensures in
+    followed_text c.args.text.now c.args.depth 1 c.in_ok-unit.unit _ c.write.result c.in_ok-unit.ensures.unit scheduled.unit
+    (IfOk-weaker _ _ (Paced 1) (λ s plain i w. w.plain plain) scheduled.plain) c.write.ensures.written
 
-pub returns-in-Ok-written-clause-scheduled : goal.returns-in-Ok-written-clause-scheduled
-returns-in-Ok-written-clause-scheduled c = scheduled_build IsPlain c.in-Ok.scheduled c.in-Ok-written.built c.in-Ok-written.ensures.written
-    (record { orders = c.in-Ok.ensures.plain; report = c.in-Ok.ensures.report })
+pub returns-clause-scheduled : goal.returns-clause-scheduled
+returns-clause-scheduled c = scheduled_build IsPlain _ c.write.result
+    (with_both c.schedule_plain-scheduled.result c.schedule_plain-scheduled.ensures.plain c.schedule_plain-scheduled.ensures.report
+    (λ s plain report. record { orders = plain; report = report })) c.write.ensures.written
 
 pub returns-clause-fault : goal.returns-clause-fault
-returns-clause-fault c = unwritten c.args.text.now c.args.depth c.in_ok-unit.unit c.in-Ok.scheduled c.in-Err.fault
-    c.in_ok-unit.ensures.unit c.in-Err.ensures.fault
+returns-clause-fault c = unwritten c.args.text.now c.args.depth c.in_ok-unit.unit _ c.write.result c.in_ok-unit.ensures.unit c.write.ensures.fault

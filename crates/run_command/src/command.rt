@@ -1,8 +1,8 @@
 // The command that runs an image.
 
 ghost use Rattle.std.specs.Prelude.{◌≡◌, ◌≢◌, ◌≤◌};
-ghost use Rattle.build_command.specs.Commands.{IsReason, Runs, StopsRun};
-ghost use Rattle.build_command.specs.Texts.{ending_status};
+ghost use Rattle.run_command.specs.Command.{IsReason, Runs, StopsRun};
+ghost use Rattle.run_command.specs.Texts.{ending_status};
 ghost use Rattle.commands.specs.Requests.{Asks, Does, IsSent, TellsBeside};
 ghost use Rattle.image.specs.Images.{IsImageFault};
 ghost use Rattle.image.specs.Texts.{image_fault_text};
@@ -38,8 +38,8 @@ struct RunCommand {
 
 impl FileCommand for RunCommand {
     ghost use Rattle.mips_machine.specs.Views.{outcome_of};
-    ghost use Rattle.build_command.specs.ImageRuns.{IsImageRun};
-    ghost use Rattle.build_command.specs.Commands.{IsReason, IsRefused, PrintsMachine};
+    ghost use Rattle.run_command.specs.ImageRuns.{IsImageRun};
+    ghost use Rattle.run_command.specs.Command.{IsReason, IsRefused, PrintsMachine};
 
     type Answer = MachineRan;
 

@@ -1,7 +1,7 @@
 use Rattle.std.proofs.Common.{take}
 use Rattle.std.specs.Io.KnownBytes.{Appends}
-use Rattle.build_command.specs.Commands.{words_text}
-use Rattle.build_command.proofs.texts.print_run.Given as goal
+use Rattle.run_command.specs.Command.{words_text}
+use Rattle.run_command.proofs.texts.print_run.Given as goal
 
 abbrev pub invariant-loop-word : goal.invariant-loop-word
 invariant-loop-word g l =

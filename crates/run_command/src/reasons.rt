@@ -1,7 +1,7 @@
 // Why an image's run is stuck, in lines for people.
 
 ghost use Rattle.std.specs.Prelude.{All, IfOk, IfSome};
-ghost use Rattle.build_command.specs.Commands.{IsShown};
+ghost use Rattle.run_command.specs.Command.{IsShown};
 ghost use Rattle.commands.specs.Requests.{TellsBeside};
 
 use commands::Complaints;

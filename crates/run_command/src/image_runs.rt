@@ -2,7 +2,7 @@
 ghost use Rattle.std.specs.Prelude.{IfOk, IfErr};
 ghost use Rattle.image.specs.Images.{IsImageFault};
 ghost use Rattle.mips_machine.specs.Views.{outcome_of};
-ghost use Rattle.build_command.specs.ImageRuns.{IsImageRun};
+ghost use Rattle.run_command.specs.ImageRuns.{IsImageRun};
 
 use image::{ImageFault, read_image};
 use mips_machine::{MachineRan, run};

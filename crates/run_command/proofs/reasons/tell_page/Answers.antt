@@ -1,7 +1,7 @@
 use Rattle.std.proofs.Common.{All, IfSome, [], ◌∷◌, refl, subst}
 use Rattle.std.proofs.lemmas.List.Elements.{All-cons, All-nil, All-same}
-use Rattle.build_command.specs.Commands.{IsShown}
-use Rattle.build_command.proofs.reasons.tell_page.Goals as goal
+use Rattle.run_command.specs.Command.{IsShown}
+use Rattle.run_command.proofs.reasons.tell_page.Goals as goal
 
 pub returns-in-Some : goal.returns-in-Some
 returns-in-Some g c =

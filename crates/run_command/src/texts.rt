@@ -1,0 +1,40 @@
+// How a run's answers print.
+
+ghost use Rattle.std.specs.Prelude.{Some, [], ◌∷◌, ◌++◌, IfSome, OnOk};
+ghost use Rattle.std.specs.Io.KnownBytes.{Appends};
+ghost use Rattle.commands.specs.Requests.{IsSent};
+ghost use Rattle.run_command.specs.Command.{words_text};
+ghost use Rattle.run_command.specs.Texts.{ending_text};
+
+use commands::Output;
+use mips_steps::Ending;
+use std::{fmt, io};
+
+/// The last line of a machine's run.
+#[derive(Clone, Copy)]
+pub struct EndingLine(pub Ending);
+
+impl fmt::Display for EndingLine {
+    ghost output = { λ e. Some (ending_text e.0) };
+
+    fn fmt<W: fmt::Write>(&self, f: &mut fmt::Formatter<W>) -> fmt::Result {
+        match self.0 {
+            Ending::Halt(word) => write!(f, "done {word}"),
+            Ending::Stuck(rule) => write!(f, "stuck {rule}"),
+            Ending::More => f.write_str("more"),
+        }
+    }
+}
+
+/// Each word of output in unsigned decimal, and how the run ended, each on a line.
+pub fn print_run<W: Output, L: fmt::Display>(out: &mut W, output: &[u32], end: &L) -> io::Result<()>
+    ensures sent { OnOk result (IsSent W.sends out.new) }
+    ensures lines { OnOk result (IfSome (L.output end.now)
+        (λ last. Appends (W.contents out.old) (W.contents out.new) (words_text output.now ++ (last ++ 10 ∷ [])))) }
+{
+    for word in output {
+        writeln!(out, "{word}")?;
+    }
+    writeln!(out, "{end}")?;
+    out.send()
+}
