@@ -208,6 +208,17 @@ pub enum SyntaxFault {
     OutOfMemory,
 }
 
+/// The number of the first wrong token, where parsing stopped at the rest of the tokens.
+fn fault_at(tokens: &[Token], stop: ParseStop) -> SyntaxFault
+    requires { IsProgramStuck tokens.now stop }
+    ensures { IsFault tokens.now result }
+{
+    match stop {
+        ParseStop::Syntax(rest) => SyntaxFault::Wrong(tokens.len() - rest.len()),
+        ParseStop::NoMemory => SyntaxFault::OutOfMemory,
+    }
+}
+
 /// The declarations that the tokens spell, or the number of the first token with which the tokens so far begin no
 /// program (how many tokens there are, where they end too early).
 pub fn parse(alloc: Global, tokens: &[Token]) -> Result<Vec<Declaration>, SyntaxFault>
@@ -216,8 +227,7 @@ pub fn parse(alloc: Global, tokens: &[Token]) -> Result<Vec<Declaration>, Syntax
 {
     match declarations(alloc, tokens) {
         Ok(found) => Ok(found),
-        Err(ParseStop::Syntax(rest)) => Err(SyntaxFault::Wrong(tokens.len() - rest.len())),
-        Err(ParseStop::NoMemory) => Err(SyntaxFault::OutOfMemory),
+        Err(stop) => Err(fault_at(tokens, stop)),
     }
 }
 
