@@ -6,7 +6,7 @@ use Rattle.c_tree.specs.declared.tree.BinaryOp.{BinaryOp}
 use Rattle.c_typed.specs.declared.tree.TypedExpression.{TypedExpression}
 use Rattle.c_typed.specs.declared.tree.TypedStatement.{TypedStatement}
 use Rattle.c_typed.specs.Shape.{typed_expression_of, statement_of}
-use Rattle.c_typed.specs.Trees.{element, unary, binary, conditional, type_of, common_type, prefix_type, operation_type, if_else, loop, store}
+use Rattle.c_typed.specs.Trees.{element, unary, binary, conditional, type_of, common_type, prefix_type, operation_type, if_else, loop}
 use Rattle.c_typed.specs.Trees.{block, more_statements, no_statements}
 use Rattle.c_statements.specs.declared.fault.TypeStop.{TypeStop}
 
@@ -33,9 +33,6 @@ abbrev pub IsConditional : TypedExpression → TypedExpression → TypedExpressi
 IsConditional c y n t =
     typed_expression_of t ≡ conditional (common_type (type_of (typed_expression_of y)) (type_of (typed_expression_of n)))
     (typed_expression_of c) (typed_expression_of y) (typed_expression_of n)
-
-abbrev pub IsStore : (ℕ × IntegerType) → TypedExpression → TypedExpression → TypedStatement → Type 0
-IsStore a i v t = statement_of t ≡ store a.0 (typed_expression_of i) (typed_expression_of v)
 
 abbrev pub IsIf : TypedExpression → TypedStatement → TypedStatement → TypedStatement → Type 0
 IsIf c f s t = statement_of t ≡ if_else (typed_expression_of c) (statement_of f) (statement_of s)

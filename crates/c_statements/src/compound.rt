@@ -3,7 +3,9 @@
 ghost use Rattle.std.specs.Prelude.{◌≡◌, ◌⊎◌, IfOk, IfErr, Ok, Err, box_value};
 ghost use Rattle.c_statements.specs.declared.fault.TypeStop.TheVariants.{NoMemory};
 ghost use Rattle.c_statements.specs.Faults.{StopsBoth, StopsTwo, both_of};
-ghost use Rattle.c_statements.specs.Made.{IsIf, IsLoop, IsSequence, IsStore, MadeOfThree, MadeOfTwo};
+ghost use Rattle.c_statements.specs.Made.{IsIf, IsLoop, IsSequence, MadeOfThree, MadeOfTwo};
+ghost use Rattle.c_typed.specs.Shape.{statement_of, typed_expression_of};
+ghost use Rattle.c_typed.specs.Trees.{store};
 
 use crate::fault::{TypeStop, both};
 use crate::simple::with_one;
@@ -29,7 +31,8 @@ pub fn store(
     index: Result<TypedExpression, TypeStop>,
     value: Result<TypedExpression, TypeStop>,
 ) -> Result<TypedStatement, TypeStop>
-    ensures ok { IfOk result (MadeOfThree array index value IsStore) }
+    ensures ok { IfOk result (MadeOfThree array index value (λ a i v t. statement_of t
+        ≡ store a.0 (typed_expression_of i) (typed_expression_of v))) }
     ensures err { IfErr result (StopsBoth array (both_of index value)) }
 {
     let ((number, _), (index, value)) = both(array, both(index, value))?;

@@ -10,9 +10,10 @@ use Rattle.c_typed.specs.declared.tree.Destination.TheVariants.{Local}
 use Rattle.c_typed.specs.declared.tree.TypedExpression.{TypedExpression}
 use Rattle.c_typed.specs.declared.tree.TypedStatement.{TypedStatement}
 use Rattle.c_typed.specs.Shape.{typed_expression_of, statement_of}
+use Rattle.c_typed.specs.Trees.{store}
 use Rattle.c_statements.specs.declared.fault.TypeStop.{TypeStop}
 use Rattle.c_statements.specs.declared.names.Named.TheVariants.{Array}
-use Rattle.c_statements.specs.Made.{IsStore, MadeOfThree}
+use Rattle.c_statements.specs.Made.{MadeOfThree}
 use Rattle.c_statements.specs.Shape.{scopes_of}
 use Rattle.c_statements.specs.Names.{Environment, environment_in}
 use Rattle.c_statements.specs.Statements.{FaultyValue}
@@ -31,6 +32,9 @@ assign-ok scope x v to at given (Ok s) e h l o =
     let Q : Destination → Type 0 = λ p. TypesValue scope p v (statement_of s) in
     assign_typed (ok-at _ to o.0 o.1 h) (subst Q here (ok-at _ given s o.2 l))
 assign-ok scope x v to at given (Err s) e h l o = tt
+
+abbrev IsStore : (ℕ × IntegerType) → TypedExpression → TypedExpression → TypedStatement → Type 0
+IsStore a i v t = statement_of t ≡ store a.0 (typed_expression_of i) (typed_expression_of v)
 
 store-ok : (scope : Environment) (x : Identifier) (i e : Tree.Expression) (place : Result (ℕ × IntegerType) TypeStop)
     (index given : Result TypedExpression TypeStop) (r : Result TypedStatement TypeStop)
