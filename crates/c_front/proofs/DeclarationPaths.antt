@@ -259,10 +259,10 @@ pub tail-function-stuck : (ts : List Token) (s : ParseStop) → StartsWithout Se
     → IsStuck function_rest ts s → IsStuck after_global ts s
 tail-function-stuck ts s a b c h = inside global_function ts s (chosen-function (first ts) a b c) (λ z. z) h
 
-pub tail-function : (k : IntegerType) (x : Identifier) (ts rest : List Token) (ps : List Parameter) (is : Items) → StartsWithout Semicolon ts
-    → StartsWithout Assign ts → StartsWithout LeftBracket ts → IsRead function_rest ts rest (ps, is) →
-    IsTailRead k x ts rest (function (Some k) x ps is)
-tail-function k x ts rest ps is a b c d = (function_tail ps is, whole global_function (chosen-function (first ts) a b c) d, refl)
+pub tail-function : (k : IntegerType) (x : Identifier) (ts rest : List Token) (d : Declaration) → StartsWithout Semicolon ts
+    → StartsWithout Assign ts → StartsWithout LeftBracket ts
+    → (ps : List Parameter) × (is : Items) × IsRead function_rest ts rest (ps, is) × (d ≡ function (Some k) x ps is) → IsTailRead k x ts rest d
+tail-function k x ts rest d a b c f = (function_tail f.0 f.1, whole global_function (chosen-function (first ts) a b c) f.2, f.3)
 
 -- a declaration
 chosen-void : (ts a : List Token) → StartsWith Void ts a → chosen_rule a_declaration (first ts) (second ts) ≡ Some
@@ -281,9 +281,11 @@ pub void-rest-stuck : (ts a b : List Token) (x : Identifier) (s : ParseStop) →
 void-rest-stuck ts a b x s e f h = inside declaration_void ts s (chosen-void ts a e) (void-quiet ts a e)
     (past-mark Void (T a_name ∷ N function_rest ∷ []) ts a s e (past-name (N function_rest ∷ []) a b x s f h))
 
-pub void-read : (ts a b rest : List Token) (x : Identifier) (ps : List Parameter) (is : Items) → StartsWith Void ts a → StartsWithName a x b
-    → IsRead function_rest b rest (ps, is) → IsRead a_declaration ts rest (function None x ps is)
-void-read ts a b rest x ps is e f d = whole declaration_void (chosen-void ts a e) (mark-then e (name-then f d))
+pub void-read : (ts a b rest : List Token) (x : Identifier) (d : Declaration) → StartsWith Void ts a → StartsWithName a x b
+    → (ps : List Parameter) × (is : Items) × IsRead function_rest b rest (ps, is) × (d ≡ function None x ps is) → IsRead a_declaration ts rest d
+void-read ts a b rest x d e f g =
+    let P : Declaration → Type 0 = λ y. IsRead a_declaration ts rest y in
+    subst P (sym g.3) (whole declaration_void (chosen-void ts a e) (mark-then e (name-then f g.2)))
 
 chosen-typed : (next after : Option Token) → next ≢ Some (The Void) → (next ≡ Some (The Unsigned) → after ≢ Some (The Char))
     → chosen_rule a_declaration next after ≡ Some (N a_type ∷ T a_name ∷ N after_global ∷ [], declaration_typed)

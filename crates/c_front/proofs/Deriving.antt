@@ -21,7 +21,7 @@ use Rattle.c_front.specs.Grammar.{operand_index, operand_unary, operand_paren, f
 use Rattle.c_front.specs.Grammar.{nothing, token, phrase}
 use Rattle.c_front.specs.Reading.{Reads, read_nothing, read_token, read_phrase}
 use Rattle.c_front.specs.Choosing.{Choice, one_choice, chosen_rule}
-use Rattle.c_front.proofs.Ranks.{rank_of, rank, operator-rank, ends-operands, ends-choice, chosen-operator}
+use Rattle.c_front.proofs.Ranks.{rank_of, operator-rank, ends-operands, ends-choice, chosen-operator}
 use Rattle.c_front.proofs.Completing.{IsClosed, else-none, name-chosen, name-plain, rank-positive}
 
 pub data ClosedBy (n : Nonterminal) (symbols : List Symbol) (next : Option Token) : Type 0 where

@@ -8,6 +8,7 @@ ghost use Rattle.c_front.specs.Parsing.{IsBytesRead, IsBytesStuck};
 ghost use Rattle.c_front.specs.Syntax.{IsFault};
 ghost use Rattle.c_tokens.specs.declared.token.Token.{Token};
 ghost use Rattle.c_tree.specs.Tree as Tree;
+ghost use Rattle.c_tree.specs.Tree.{function};
 
 use crate::cursor::{ParseStop, Parsed, expect, literal, name, split, starts, starts_bytes};
 use crate::part::{ended, pushed};
@@ -77,20 +78,31 @@ fn parameters<'a>(alloc: Global, tokens: &'a [Token]) -> Parsed<'a, Vec<Paramete
     Ok((all, rest))
 }
 
-/// The parameters and the body of a function.
-fn function_rest<'a>(
+/// A function behind its name: its parameters and its body.
+fn function<'a>(
     alloc: Global,
+    gives: Option<IntegerType>,
+    name: Identifier,
     tokens: &'a [Token],
-) -> Result<(Vec<Parameter>, Vec<Item>, &'a [Token]), ParseStop<'a>>
-    ensures ok { IfOk result (λ r. IsRead function_rest tokens.now r.2.now (r.0.items, items_of r.1.items)) }
-    ensures shorter { IfOk result (λ r. length r.2.now < length tokens.now) }
+) -> Parsed<'a, Declaration>
+    ensures ok { IfOk result (λ r. (ps : _) × (is : _) × IsRead function_rest tokens.now r.1.now (ps, is)
+        × (declaration_of r.0 ≡ function gives name ps is)) }
+    ensures shorter { IfOk result (λ r. length r.1.now < length tokens.now) }
     ensures err { IfErr result (IsStuck function_rest tokens.now) }
 {
     let open = expect(tokens, Mark::LeftParen)?;
     let (given, brace) = ended(parameters(alloc, open), Mark::RightParen)?;
     let start = expect(brace, Mark::LeftBrace)?;
     let (body, end) = ended(items(alloc, start), Mark::RightBrace)?;
-    Ok((given, body, end))
+    Ok((
+        Declaration::Function(FunctionDefinition {
+            result: gives,
+            name,
+            parameters: given,
+            body,
+        }),
+        end,
+    ))
 }
 
 /// The length of an array behind its opening bracket, up to the end of its declaration.
@@ -145,17 +157,7 @@ fn after_global<'a>(
             end,
         ));
     }
-    let (parameters, body, end) = function_rest(alloc, tokens)?;
-    let result = Some(integer_type);
-    Ok((
-        Declaration::Function(FunctionDefinition {
-            result,
-            name,
-            parameters,
-            body,
-        }),
-        end,
-    ))
+    function(alloc, Some(integer_type), name, tokens)
 }
 
 /// A declaration at file scope.
@@ -166,20 +168,10 @@ fn declaration<'a>(alloc: Global, tokens: &'a [Token]) -> Parsed<'a, Declaration
 {
     if let Some(after) = starts(tokens, Mark::Void) {
         let (name, start) = name(after)?;
-        let (parameters, body, end) = function_rest(alloc, start)?;
-        return Ok((
-            Declaration::Function(FunctionDefinition {
-                result: None,
-                name,
-                parameters,
-                body,
-            }),
-            end,
-        ));
+        return function(alloc, None, name, start);
     }
     if let Some(after) = starts_bytes(tokens) {
-        let (found, end) = bytes(after)?;
-        return Ok((found, end));
+        return bytes(after);
     }
     let Some((integer_type, after)) = integer_type(tokens) else {
         return Err(ParseStop::Syntax(tokens));
@@ -208,6 +200,17 @@ pub enum SyntaxFault {
     OutOfMemory,
 }
 
+/// The number of the first wrong token, where parsing stopped at the rest of the tokens.
+fn fault_at(tokens: &[Token], stop: ParseStop) -> SyntaxFault
+    requires { IsProgramStuck tokens.now stop }
+    ensures { IsFault tokens.now result }
+{
+    match stop {
+        ParseStop::Syntax(rest) => SyntaxFault::Wrong(tokens.len() - rest.len()),
+        ParseStop::NoMemory => SyntaxFault::OutOfMemory,
+    }
+}
+
 /// The declarations that the tokens spell, or the number of the first token with which the tokens so far begin no
 /// program (how many tokens there are, where they end too early).
 pub fn parse(alloc: Global, tokens: &[Token]) -> Result<Vec<Declaration>, SyntaxFault>
@@ -216,8 +219,7 @@ pub fn parse(alloc: Global, tokens: &[Token]) -> Result<Vec<Declaration>, Syntax
 {
     match declarations(alloc, tokens) {
         Ok(found) => Ok(found),
-        Err(ParseStop::Syntax(rest)) => Err(SyntaxFault::Wrong(tokens.len() - rest.len())),
-        Err(ParseStop::NoMemory) => Err(SyntaxFault::OutOfMemory),
+        Err(stop) => Err(fault_at(tokens, stop)),
     }
 }
 

@@ -1,10 +1,11 @@
 // A whole text: its bytes, its tokens, its program, or the fault that comes first.
-ghost use Rattle.std.specs.Prelude.{◌≡◌, ◌≢◌, ℕ, List, length, IfOk, IfErr, IfSome, IfNone};
+ghost use Rattle.std.specs.Prelude.{◌≡◌, ◌≢◌, ◌≤◌, ℕ, List, length, IfOk, IfErr, IfSome, IfNone};
 ghost use Rattle.c_tree.specs.Shape.{declarations_of};
-ghost use Rattle.c_front.specs.Texts.{SpellsText, IsTextFault, is_text, IsBadByte, AllText, place_or, refusal_kind};
+ghost use Rattle.c_front.specs.Texts.{SpellsText, IsTextFault, is_text, AllText, place_or, refusal_kind};
 ghost use Rattle.c_tree.specs.Tree.{Declaration};
 ghost use Rattle.c_front.specs.declared.fault.FrontFaultKind.{FrontFaultKind};
 ghost use Rattle.c_front.specs.declared.fault.FrontFaultKind.TheVariants.{NoMemory};
+ghost use Rattle.c_tokens.specs.declared.sizes.TheConstants.{MAX_TEXT};
 ghost use Rattle.c_front.specs.Faults.{lexical_fault, syntactic_fault};
 
 use crate::declaration::{SyntaxFault, parse};
@@ -19,14 +20,24 @@ fn is_text(byte: u8) -> bool
     (b' ' <= byte && byte <= b'~') || byte == b'\t' || byte == b'\n' || byte == b'\r'
 }
 
-/// The place of the first byte that no text has.
-fn bad_byte(text: &[u8]) -> Option<usize>
-    ensures none { IfNone result (AllText text.now) }
-    ensures some { IfSome result (λ k. IsBadByte text.now k) }
+/// What is wrong with the size or the bytes of a text.
+fn unreadable(text: &[u8]) -> Option<FrontFault>
+    ensures short { IfNone result (length text.now ≤ MAX_TEXT) }
+    ensures bytes { IfNone result (AllText text.now) }
+    ensures some { IfSome result (λ f. IsTextFault text.now f.kind f.at) }
 {
-    for i in 0..text.len() {
-        if !is_text(text[i]) {
-            return Some(i);
+    if text.len() > MAX_TEXT {
+        return Some(FrontFault {
+            kind: FrontFaultKind::Size,
+            at: MAX_TEXT,
+        });
+    }
+    for at in 0..text.len() {
+        if !is_text(text[at]) {
+            return Some(FrontFault {
+                kind: FrontFaultKind::Byte,
+                at,
+            });
         }
     }
     None
@@ -89,17 +100,8 @@ pub fn read(alloc: Global, text: &[u8]) -> Result<Program, FrontFault>
     ensures text { IfOk result (λ p. p.text.items ≡ text.now) }
     ensures err { IfErr result (λ f. IsTextFault text.now f.kind f.at) }
 {
-    if text.len() > MAX_TEXT {
-        return Err(FrontFault {
-            kind: FrontFaultKind::Size,
-            at: MAX_TEXT,
-        });
-    }
-    if let Some(at) = bad_byte(text) {
-        return Err(FrontFault {
-            kind: FrontFaultKind::Byte,
-            at,
-        });
+    if let Some(fault) = unreadable(text) {
+        return Err(fault);
     }
     match lex(alloc, text) {
         Err(fault) => Err(lexical(fault, text.len())),

@@ -91,6 +91,17 @@ tells-three p q a b c E (Ok d) h l o e =
     (both-none p q (ok-at (λ x. HasNone p) a o.0 o.3 h.0) (ok-at (λ x. HasNone q) (both_of b c) (o.1, o.2) (both-answer b c o.1 o.2 o.4 o.5) l.0), tt)
 tells-three p q a b c E (Err s) h l o e = (tt, stops-two p q a (both_of b c) s h l e)
 
+-- the second of two parts
+pub second-ok : {A B : Type 0} (P : B → Type 0) (a : Result A TypeStop) (b r : Result B TypeStop) → IfOk b P
+    → IfOk r (λ y. (x : A) × (a ≡ Ok x) × (b ≡ Ok y)) → IfOk r P
+second-ok P a b (Ok y) h o = ok-at P b y o.2 h
+second-ok P a b (Err s) h o = tt
+
+pub tells-second : {A B : Type 0} (p q : Faults) (a : Result A TypeStop) (b r : Result B TypeStop) → Tells p a → Tells q b
+    → IfOk r (λ y. (x : A) × (a ≡ Ok x) × (b ≡ Ok y)) → IfErr r (StopsBoth a b) → Tells (Both p q) r
+tells-second p q a b (Ok y) h l o e = (both-none p q (ok-at (λ x. HasNone p) a o.0 o.1 h.0) (ok-at (λ x. HasNone q) b y o.2 l.0), tt)
+tells-second p q a b (Err s) h l o e = (tt, both-stop p q a b s h.0 h.1 l.0 l.1 e)
+
 -- want of memory in a part is want of memory in the whole
 memory-right : {A B : Type 0} (a : Result A TypeStop) (b : Result B TypeStop) (s : TypeStop) → b ≡ Err NoMemory → StopsBoth a b s → s ≡ NoMemory
 memory-right a (Ok y) s e h = cc

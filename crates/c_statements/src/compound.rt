@@ -2,13 +2,42 @@
 
 ghost use Rattle.std.specs.Prelude.{◌≡◌, ◌⊎◌, IfOk, IfErr, Ok, Err, box_value};
 ghost use Rattle.c_statements.specs.declared.fault.TypeStop.TheVariants.{NoMemory};
-ghost use Rattle.c_statements.specs.Faults.{StopsTwo, both_of};
+ghost use Rattle.c_statements.specs.Faults.{StopsBoth, StopsTwo, both_of};
 ghost use Rattle.c_statements.specs.Made.{IsIf, IsLoop, IsSequence, MadeOfThree, MadeOfTwo};
+ghost use Rattle.c_typed.specs.Shape.{statement_of, typed_expression_of};
+ghost use Rattle.c_typed.specs.Trees.{store};
 
 use crate::fault::{TypeStop, both};
 use crate::simple::with_one;
+use c_tokens::IntegerType;
 use c_typed::{TypedExpression, TypedStatement};
 use std::alloc::{AllocError, AllocFailed, Global};
+
+/// The second of two parts, if neither has a fault.
+pub fn second<A: Drop, B: Drop>(
+    a: Result<A, TypeStop>,
+    b: Result<B, TypeStop>,
+) -> Result<B, TypeStop>
+    ensures ok { IfOk result (λ y. (x : _) × (a ≡ Ok x) × (b ≡ Ok y)) }
+    ensures err { IfErr result (StopsBoth a b) }
+{
+    let (_, part) = both(a, b)?;
+    Ok(part)
+}
+
+/// A value that is stored in an element.
+pub fn store(
+    array: Result<(usize, IntegerType), TypeStop>,
+    index: Result<TypedExpression, TypeStop>,
+    value: Result<TypedExpression, TypeStop>,
+) -> Result<TypedStatement, TypeStop>
+    ensures ok { IfOk result (MadeOfThree array index value (λ a i v t. statement_of t
+        ≡ store a.0 (typed_expression_of i) (typed_expression_of v))) }
+    ensures err { IfErr result (StopsBoth array (both_of index value)) }
+{
+    let ((number, _), (index, value)) = both(array, both(index, value))?;
+    Ok(TypedStatement::Store(number, index, value))
+}
 
 /// Two parts in boxes.
 pub fn boxes<T: Drop>(

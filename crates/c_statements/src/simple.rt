@@ -11,6 +11,7 @@ ghost use Rattle.c_statements.specs.Types.{TypesAll, TypesPlace, TypesCall, Type
 ghost use Rattle.c_statements.specs.Uses.{Misused, as_value};
 
 use crate::call::{Target, callee};
+use crate::compound::{second, store};
 use crate::expression::{array, expression, misuse};
 use crate::fault::{TypeFaultKind, TypeStop, both};
 use crate::names::Named;
@@ -129,17 +130,12 @@ pub fn simple(
             let to = place(program, scopes, *name);
             // without a place the value is looked through for faults alone
             let at = to.unwrap_or(Destination::Local(0));
-            let (_, typed) = both(to, value(alloc, program, scopes, at, given))?;
-            Ok(typed)
+            second(to, value(alloc, program, scopes, at, given))
         }
         Simple::AssignAt(name, index, given) => {
             let index = expression(alloc, program, scopes, index);
             let given = expression(alloc, program, scopes, given);
-            let ((number, _), (index, given)) = both(
-                array(program, scopes, *name),
-                both(index, given),
-            )?;
-            Ok(TypedStatement::Store(number, index, given))
+            store(array(program, scopes, *name), index, given)
         }
         Simple::CallStatement(called) => call_to(alloc, program, scopes, None, called),
     }

@@ -17,9 +17,9 @@ ghost use Rattle.c_typed.specs.Trees as Trees;
 ghost use Rattle.c_typed.specs.Trees.{TypedStatements, more_statements, no_statements};
 ghost use Rattle.c_statements.specs.Types.{TypesFirst, TypesMaybe, TypesStatement, TypesItems};
 
-use crate::compound::{if_else, loop_of, sequence};
+use crate::compound::{if_else, loop_of, second, sequence};
 use crate::expression::{expression, misuse};
-use crate::fault::{TypeFault, TypeFaultKind, TypeStop, both, lasting};
+use crate::fault::{TypeFault, TypeFaultKind, TypeStop, lasting};
 use crate::simple::{first_value, part, simple, test, with_one};
 use crate::symbol_table::Scopes;
 use c_tokens::{Identifier, IntegerType};
@@ -36,13 +36,14 @@ pub struct Context<'a> {
     pub in_loop: bool,
 }
 
-/// Whether a jump stands in a loop; if not it is a fault, at its keyword.
-fn jump(in_loop: bool, at: usize) -> Result<(), TypeStop>
+/// A jump, if it stands in a loop; if not it is a fault, at its keyword.
+fn jump<T: Drop>(in_loop: bool, at: usize, typed: T) -> Result<T, TypeStop>
+    ensures ok { IfOk result (λ t. t ≡ typed) }
     ensures none { IfOk result (λ _. HasNone (FaultyJump in_loop at)) }
     ensures err { IfErr result (StopsAtFirst (FaultyJump in_loop at)) }
 {
     if in_loop {
-        return Ok(());
+        return Ok(typed);
     }
     let kind = TypeFaultKind::Outside;
     Err(TypeStop::Fault(TypeFault { kind, at }))
@@ -108,7 +109,7 @@ fn return_from(
         (return_at at (maybe_expression_of given.now))) result }
 {
     let value = returned(context.alloc, context.program, scopes, given);
-    let (_, value) = both(fits(context.gives, given, at), value)?;
+    let value = second(fits(context.gives, given, at), value)?;
     Ok(TypedStatement::Return(value))
 }
 
@@ -130,11 +131,10 @@ fn declare<'a>(
     let refused = declarator(context.program, scopes, name);
     let number = scopes.locals();
     scopes.declare_local(context.program, integer_type, name)?;
-    let (_, first) = both(
+    second(
         refused,
         first_value(context.alloc, context.program, scopes, number, given),
-    )?;
-    Ok(first)
+    )
 }
 
 /// A block: what it declares is out of sight behind it.
@@ -251,14 +251,8 @@ pub fn statement<'a>(
         ),
         Statement::While(condition, body) => { while_loop(context, scopes, condition, body) }
         Statement::For(parts, body) => for_loop(context, scopes, parts, body),
-        Statement::Break(at) => {
-            jump(context.in_loop, *at)?;
-            Ok(TypedStatement::Break)
-        }
-        Statement::Continue(at) => {
-            jump(context.in_loop, *at)?;
-            Ok(TypedStatement::Continue)
-        }
+        Statement::Break(at) => jump(context.in_loop, *at, TypedStatement::Break),
+        Statement::Continue(at) => jump(context.in_loop, *at, TypedStatement::Continue),
         Statement::Return(at, given) => return_from(context, scopes, *at, given),
         Statement::Simply(inner) => simple(context.alloc, context.program, scopes, inner),
     }

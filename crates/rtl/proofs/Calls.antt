@@ -1,5 +1,5 @@
 -- Calls of functions.
-use Rattle.std.proofs.Common.{◌≡◌, ℕ, ◌+◌, ◌<◌, List, [], ◌∷◌, ◌++◌, Option, Some, sym, ◌∙◌, ap, true, length, nat_lt}
+use Rattle.std.proofs.Common.{◌≡◌, ℕ, ◌+◌, ◌<◌, ◌≤◌, List, [], ◌∷◌, ◌++◌, Option, Some, None, Bool, refl, sym, ◌∙◌, ap, true, false, length, nat_lt}
 use Rattle.std.proofs.Common.{map, Bor, arith}
 use Rattle.std.specs.Prelude.{if◌then◌else◌, ◌&&◌, ◌==◌}
 use Rattle.std.specs.List.{slice_get}
@@ -60,6 +60,47 @@ entered p depth i vs to g out x entry frames new f waits frame there lt count fi
     called-there p depth i vs to (frame_of f ∷ frames_of frames) out g x entry there (omega (arith, lt, waiting-length frame_of frames)) count first
     ∙ ap (λ t. Running (t ∷ frame_of f ∷ frames_of frames) g out) (sym made)
     ∙ ap (λ fs. Running (frame_of frame ∷ fs) g out) (sym (waiting-push frame_of frames new f waits e is))
+
+-- a call that fails: of no function, too deep, of another number of words, or of a function without a block
+module _ (p : Program) (depth i : ℕ) (vs : List ℕ) (to : Option ℕ) (frames : List Meaning.Frame) (g : Arrays) (out : List ℕ) where
+  abbrev call-of : RFunc → Bool → Run
+  call-of x b = if b then state_at_block x.blocks.items 0 (argument_registers vs) to frames g out else Failed out
+
+  called-of : (x : RFunc) → slice_get p.functions i ≡ Some x
+      → state_after_call p depth i vs to frames g out ≡ call-of x (nat_lt (length frames) depth && (length vs == x.parameters))
+  called-of x there = ap (λ o. with_value o out (λ (f : RFunc). call-of f (nat_lt (length frames) depth && (length vs == f.parameters)))) there
+
+  pub calls-nothing : slice_get p.functions i ≡ None → state_after_call p depth i vs to frames g out ≡ Failed out
+  calls-nothing nowhere = ap (λ o. with_value o out (λ (f : RFunc). call-of f (nat_lt (length frames) depth && (length vs == f.parameters)))) nowhere
+
+  pub calls-too-deep : (x : RFunc) → slice_get p.functions i ≡ Some x → depth ≤ length frames
+      → state_after_call p depth i vs to frames g out ≡ Failed out
+  calls-too-deep x there le =
+      let no : nat_lt (length frames) depth ≡ false = grind (arith, le) in
+      called-of x there ∙ ap (λ b. call-of x (b && (length vs == x.parameters))) no
+
+  pub calls-with-others : (x : RFunc) → slice_get p.functions i ≡ Some x → (length vs ≡ x.parameters → ⊥)
+      → state_after_call p depth i vs to frames g out ≡ Failed out
+  calls-with-others x there ne =
+      let no : (length vs == x.parameters) ≡ false = grind (arith, ne) in
+      called-of x there ∙ ap (λ b. call-of x (nat_lt (length frames) depth && b)) no ∙ refused (nat_lt (length frames) depth)
+    where
+      refused : (b : Bool) → call-of x (b && false) ≡ Failed out
+      refused true = refl
+      refused false = refl
+
+  pub calls-no-block : (x : RFunc) → slice_get p.functions i ≡ Some x → slice_get x.blocks.items 0 ≡ None
+      → state_after_call p depth i vs to frames g out ≡ Failed out
+  calls-no-block x there nowhere = called-of x there ∙ refused (nat_lt (length frames) depth && (length vs == x.parameters))
+    where
+      refused : (b : Bool) → call-of x b ≡ Failed out
+      refused true = ap (λ o. with_value o out (λ (block : RBlock). Running (frame_with x.blocks.items (argument_registers vs) (code_of block) to ∷ frames) g out))
+          nowhere
+      refused false = refl
+
+pub no-block : (bs : List RBlock) (i : ℕ) (r : Option (Bor RBlock)) → option_map (λ (b : Bor RBlock). b.now) r ≡ slice_get bs i → r ≡ None
+    → slice_get bs i ≡ None
+no-block bs i r e is = sym e ∙ ap (option_map (λ (b : Bor RBlock). b.now)) is
 
 pub some-block : (bs : List RBlock) (i : ℕ) (r : Option (Bor RBlock)) (b : Bor RBlock) → option_map (λ (b : Bor RBlock). b.now) r ≡ slice_get bs i → r ≡ Some b
     → slice_get bs i ≡ Some b.now

@@ -1,4 +1,5 @@
 use Rattle.std.proofs.Common.{rules}
+use Rattle.std.proofs.lemmas.Result.{IfOk-weaker, IfErr-weaker}
 use Rattle.c_tokens.specs.declared.token.Mark.TheVariants.{Semicolon}
 use Rattle.c_front.specs.Parsing.{IsStuck, IsEndedStuck}
 use Rattle.c_front.proofs.Ends.{ended-read, ended-stuck}
@@ -18,15 +19,15 @@ returns-in_err-length-clause-err c =
 pub returns-in-Some-starts-2-clause-ok : goal.returns-in-Some-starts-2-clause-ok
 returns-in-Some-starts-2-clause-ok c = tail-array _ _ _ _ _ _ c.in-Some-starts-2.ensures.some c.in_ok-length.ensures.ok
 
-pub returns-in_err-parameters-clause-err : goal.returns-in_err-parameters-clause-err
-returns-in_err-parameters-clause-err c =
-    let h : IsStuck after_global c.args.tokens.now c.in_err-parameters.field-0.0 =
-    tail-function-stuck _ _ c.in_default.ensures.none c.in_default-starts.ensures.none c.in_default-starts-2.ensures.none c.in_err-parameters.ensures.err in
-    search rules
-
 pub returns-clause-ok : goal.returns-clause-ok
-returns-clause-ok c = tail-function _ _ _ _ _ _ c.in_default.ensures.none c.in_default-starts.ensures.none c.in_default-starts-2.ensures.none
-    c.in_ok-parameters.ensures.ok
+returns-clause-ok c =
+    IfOk-weaker c.function.result _ _
+    (λ r f. tail-function _ _ _ _ _ c.in_default.ensures.none c.in_default-starts.ensures.none c.in_default-starts-2.ensures.none f) c.function.ensures.ok
+
+pub returns-clause-err : goal.returns-clause-err
+returns-clause-err c =
+    IfErr-weaker c.function.result _ _
+    (λ s h. tail-function-stuck _ _ c.in_default.ensures.none c.in_default-starts.ensures.none c.in_default-starts-2.ensures.none h) c.function.ensures.err
 
 pub returns-in_err-given-clause-err : goal.returns-in_err-given-clause-err
 returns-in_err-given-clause-err c =

@@ -11,21 +11,21 @@ returns-in_err-name-clause-err c =
     let h : IsStuck a_declaration c.args.tokens.now c.in_err-name.field-0.0 = void-name-stuck _ _ _ c.in-Some.ensures.some c.in_err-name.ensures.err in
     search rules
 
-pub returns-in_err-parameters-clause-err : goal.returns-in_err-parameters-clause-err
-returns-in_err-parameters-clause-err c =
-    let h : IsStuck a_declaration c.args.tokens.now c.in_err-parameters.field-0.0 =
-    void-rest-stuck _ _ _ _ _ c.in-Some.ensures.some c.in_ok-name.ensures.ok c.in_err-parameters.ensures.err in search rules
-
 pub returns-in-Some-clause-ok : goal.returns-in-Some-clause-ok
-returns-in-Some-clause-ok c = void-read _ _ _ _ _ _ _ c.in-Some.ensures.some c.in_ok-name.ensures.ok c.in_ok-parameters.ensures.ok
+returns-in-Some-clause-ok c =
+    IfOk-weaker c.function.result _ _ (λ r f. void-read _ _ _ _ _ _ c.in-Some.ensures.some c.in_ok-name.ensures.ok f) c.function.ensures.ok
 
-pub returns-in_err-found-clause-err : goal.returns-in_err-found-clause-err
-returns-in_err-found-clause-err c =
-    let h : IsStuck a_declaration c.args.tokens.now c.in_err-found.field-0.0 =
-    bytes-stuck _ _ _ c.in-Some-starts_bytes.ensures.some c.in_err-found.ensures.err in search rules
+pub returns-in-Some-clause-err : goal.returns-in-Some-clause-err
+returns-in-Some-clause-err c =
+    IfErr-weaker c.function.result _ _ (λ s h. void-rest-stuck _ _ _ _ _ c.in-Some.ensures.some c.in_ok-name.ensures.ok h) c.function.ensures.err
 
 pub returns-in-Some-starts_bytes-clause-ok : goal.returns-in-Some-starts_bytes-clause-ok
-returns-in-Some-starts_bytes-clause-ok c = bytes-declared _ _ _ _ c.in-Some-starts_bytes.ensures.some c.in_ok-found.ensures.ok
+returns-in-Some-starts_bytes-clause-ok c =
+    IfOk-weaker c.bytes.result _ _ (λ r d. bytes-declared _ _ _ _ c.in-Some-starts_bytes.ensures.some d) c.bytes.ensures.ok
+
+pub returns-in-Some-starts_bytes-clause-err : goal.returns-in-Some-starts_bytes-clause-err
+returns-in-Some-starts_bytes-clause-err c =
+    IfErr-weaker c.bytes.result _ _ (λ s h. bytes-stuck _ _ _ c.in-Some-starts_bytes.ensures.some h) c.bytes.ensures.err
 
 pub returns-in_default-integer_type-clause-err : goal.returns-in_default-integer_type-clause-err
 returns-in_default-integer_type-clause-err c = no-declaration _ c.in_default.ensures.none c.in_default-integer_type.ensures.none

@@ -159,3 +159,41 @@ operands-climbing-preserved t c =
     let f : length c.in_ok-right.next.now < length c.in-Some.after.now = IfOk-at_ok _ c.in_ok-right.ensures.ok c.tighter.ensures.shorter in
     rw c.in_ok-new.ensures.ok (climbs-more _ _ _ _ _ _ _ _ _ c.climbing.invariant c.in-Some.ensures.some c.if-found-level.false
     (IfOk-at_ok _ c.in_ok-right.ensures.ok c.tighter.ensures.ok) (IfOk-at_ok _ c.in_ok-right.ensures.ok c.tighter.ensures.ends) (omega (arith, e, d, f)))
+
+pub expression-choice-requires : goal.expression-choice-requires
+expression-choice-requires t c =
+    let e : length c.in_ok-condition.rest.now ≡ suc (length c.in-Some.after.now) = ap length c.in-Some.ensures.some in
+    (omega (arith, c.in_ok-condition.ensures.shorter, e), tt)
+
+pub choice-expression-requires : goal.choice-expression-requires
+choice-expression-requires t c =
+    let b : length c.in_ok-first.rest.now < length c.args.tokens.now = IfOk-at_ok _ c.in_ok-first.ensures.ok c.closed.ensures.shorter in
+    (omega (arith, b), tt)
+
+pub choice-returns-clause-shorter : goal.choice-returns-clause-shorter
+choice-returns-clause-shorter t c =
+    let a : length c.in_ok-first.rest.now < length c.args.tokens.now = IfOk-at_ok _ c.in_ok-first.ensures.ok c.closed.ensures.shorter in
+    let b : length c.in_ok-second.end.now < length c.in_ok-first.rest.now = IfOk-at_ok _ c.in_ok-second.ensures.ok c.expression.ensures.shorter in
+    omega (arith, a, b)
+
+pub operand-operand-requires : goal.operand-operand-requires
+operand-operand-requires t c =
+    let e : length c.args.tokens.now ≡ suc (length c.in-Some.rest.now) = ap length c.in-Some.ensures.some in
+    (omega (arith, e), tt)
+
+pub operand-closed-requires-in-LeftParen : goal.operand-closed-requires-in-LeftParen
+operand-closed-requires-in-LeftParen t c =
+    let e : length c.args.tokens.now ≡ suc (length c.in-Some.rest.now) = ap length c.in-Some.ensures.some in
+    (omega (arith, e), tt)
+
+pub operands-tighter-requires : goal.operands-tighter-requires
+operands-tighter-requires t c =
+    let e : length c.climbing.rest.now ≡ suc (length c.in-Some.after.now) = ap length c.in-Some.ensures.some.2 in
+    let d : length c.climbing.rest.now < length c.args.tokens.now = c.climbing.invariant.shorter in
+    (omega (arith, e, d), tt)
+
+pub operand-closed-requires : goal.operand-closed-requires
+operand-closed-requires t c =
+    let e : length c.args.tokens.now ≡ suc (length c.in-Some.rest.now) = ap length c.in-Some.ensures.some in
+    let a : length c.in-Some.rest.now ≡ suc (length c.in-Some-starts.after.now) = ap length c.in-Some-starts.ensures.some in
+    (omega (arith, e, a), tt)

@@ -1,4 +1,4 @@
-use Rattle.std.proofs.Common.{rules, arith, ◌≡◌, ◌<◌, ◌≤◌, List, ◌∷◌, [], length, Bool, true, false, ap, refl, ◌∙◌}
+use Rattle.std.proofs.Common.{rules, arith, ◌≡◌, ◌<◌, ◌≤◌, List, ◌∷◌, [], length, suc, Bool, true, false, ap, refl, ◌∙◌}
 use Rattle.c_tokens.specs.declared.token.Token.{Token}
 use Rattle.c_tokens.specs.declared.token.Token.TheVariants.{The}
 use Rattle.c_tokens.specs.declared.token.Mark.{Mark}
@@ -194,3 +194,58 @@ items-items-preserved t c =
     let e : length c.in_ok-rest.rest.now < length c.items.rest.now = IfOk-at_ok _ r.1 c.item.ensures.shorter in
     rw (r.2, items_of-append c.items.all.items r.0)
     (goes-on-items-more _ _ _ _ _ c.items.invariant g (IfOk-at_ok _ r.1 c.item.ensures.ok) (omega (arith, d, e)))
+
+pub if_then-statement-requires : goal.if_then-statement-requires
+if_then-statement-requires t c =
+    (omega (arith, c.in_ok-test.ensures.shorter), tt)
+
+pub while_loop-statement-requires : goal.while_loop-statement-requires
+while_loop-statement-requires t c =
+    (omega (arith, c.in_ok-test.ensures.shorter), tt)
+
+pub for_loop-statement-requires : goal.for_loop-statement-requires
+for_loop-statement-requires t c =
+    let p : length c.in_ok-parts.start.now < length c.args.tokens.now = IfOk-at_ok _ c.in_ok-parts.ensures.ok c.for_parts.ensures.shorter in
+    (omega (arith, p), tt)
+
+pub while_loop-returns-clause-shorter : goal.while_loop-returns-clause-shorter
+while_loop-returns-clause-shorter t c =
+    let b : length c.in_ok-body.end.now < length c.in_ok-test.start.now = IfOk-at_ok _ c.in_ok-body.ensures.ok c.statement.ensures.shorter in
+    omega (arith, c.in_ok-test.ensures.shorter, b)
+
+pub for_loop-returns-clause-shorter : goal.for_loop-returns-clause-shorter
+for_loop-returns-clause-shorter t c =
+    let p : length c.in_ok-parts.start.now < length c.args.tokens.now = IfOk-at_ok _ c.in_ok-parts.ensures.ok c.for_parts.ensures.shorter in
+    let b : length c.in_ok-body.end.now < length c.in_ok-parts.start.now = IfOk-at_ok _ c.in_ok-body.ensures.ok c.statement.ensures.shorter in
+    omega (arith, p, b)
+
+pub if_then-returns-in-None-clause-shorter : goal.if_then-returns-in-None-clause-shorter
+if_then-returns-in-None-clause-shorter t c =
+    let b : length c.in_ok-first.rest.now < length c.in_ok-test.start.now = IfOk-at_ok _ c.in_ok-first.ensures.ok c.statement.ensures.shorter in
+    omega (arith, c.in_ok-test.ensures.shorter, b)
+
+pub if_then-statement-requires-in-Some : goal.if_then-statement-requires-in-Some
+if_then-statement-requires-in-Some t c =
+    let b : length c.in_ok-first.rest.now < length c.in_ok-test.start.now = IfOk-at_ok _ c.in_ok-first.ensures.ok c.statement.ensures.shorter in
+    let e : length c.in_ok-first.rest.now ≡ suc (length c.in-Some.after.now) = ap length c.in-Some.ensures.some in
+    (omega (arith, c.in_ok-test.ensures.shorter, b, e), tt)
+
+pub statement-items-requires : goal.statement-items-requires
+statement-items-requires t c =
+    let e : length c.args.tokens.now ≡ suc (length c.in-Some.rest.now) = ap length c.in-Some.ensures.some in
+    (omega (arith, e), tt)
+
+pub statement-if_then-requires : goal.statement-if_then-requires
+statement-if_then-requires t c =
+    let e : length c.args.tokens.now ≡ suc (length c.in-Some.rest.now) = ap length c.in-Some.ensures.some in
+    (omega (arith, e), tt)
+
+pub statement-while_loop-requires : goal.statement-while_loop-requires
+statement-while_loop-requires t c =
+    let e : length c.args.tokens.now ≡ suc (length c.in-Some.rest.now) = ap length c.in-Some.ensures.some in
+    (omega (arith, e), tt)
+
+pub statement-for_loop-requires : goal.statement-for_loop-requires
+statement-for_loop-requires t c =
+    let e : length c.args.tokens.now ≡ suc (length c.in-Some.rest.now) = ap length c.in-Some.ensures.some in
+    (omega (arith, e), tt)

@@ -1,9 +1,9 @@
 use Rattle.std.proofs.Common.{◌≡◌, ◌+◌, List, true, Result, Ok, Err, rules, refl, sym, subst, ap, arith, ◌∙◌}
 use Rattle.c_tree.specs.declared.tree.Item.{Item}
 use Rattle.c_tree.specs.Shape.{expression_of, maybe_expression_of, maybe_value_tree, maybe_simple_of, statement_of, item_of, items_of}
-use Rattle.c_tree.specs.Tree.{block, statement, declare, more_items, no_items}
+use Rattle.c_tree.specs.Tree.{block, break_at, continue_at, statement, declare, more_items, no_items}
 use Rattle.c_tree.proofs.Shapes.{block-is as read-block-is}
-use Rattle.c_typed.specs.declared.tree.TypedStatement.{TypedStatement as Typed, Empty}
+use Rattle.c_typed.specs.declared.tree.TypedStatement.{TypedStatement as Typed, Empty, Break, Continue}
 use Rattle.c_statements.specs.declared.fault.TypeStop.{TypeStop}
 use Rattle.c_statements.specs.declared.fault.TypeStop.TheVariants.{NoMemory}
 use Rattle.c_statements.specs.Shape.{scopes_of}
@@ -205,15 +205,22 @@ statement-returns-in-Empty t c = record {
   scopes = search rules;
 }
 
-pub statement-returns-in_ok-jump-in-Break : goal.statement-returns-in_ok-jump-in-Break
-statement-returns-in_ok-jump-in-Break t c = record {
-  typed = rw c.in-Break.is record { ok = break_typed; none = search rules; err = tt };
+pub statement-returns-in-Break : goal.statement-returns-in-Break
+statement-returns-in-Break t c = record {
+  typed = let text = c.args.context.now.program.now.text.items in
+      rw c.in-Break.is (answers
+      (if-ok (λ u. u ≡ Break) (λ u. TypesStatement text (scopes_of c.args.scopes.now) (break_at c.in-Break.at) (typed_of u)) c.jump.result
+      (λ u e. rw e break_typed) c.jump.ensures.ok) (c.jump.ensures.none, c.jump.ensures.err));
   scopes = search rules;
 }
 
-pub statement-returns-in_ok-jump-in-Continue : goal.statement-returns-in_ok-jump-in-Continue
-statement-returns-in_ok-jump-in-Continue t c = record {
-  typed = rw c.in-Continue.is record { ok = continue_typed; none = search rules; err = tt };
+pub statement-returns-in-Continue : goal.statement-returns-in-Continue
+statement-returns-in-Continue t c = record {
+  typed = let text = c.args.context.now.program.now.text.items in
+      rw c.in-Continue.is (answers
+      (if-ok (λ u. u ≡ Continue) (λ u. TypesStatement text (scopes_of c.args.scopes.now) (continue_at c.in-Continue.at) (typed_of u))
+      c.jump-in-Continue.result (λ u e. rw e continue_typed) c.jump-in-Continue.ensures.ok)
+      (c.jump-in-Continue.ensures.none, c.jump-in-Continue.ensures.err));
   scopes = search rules;
 }
 

@@ -25,7 +25,7 @@ returns-in_err-value c = record {
 
 pub returns : goal.returns
 returns c = record {
-  ok = return_typed (ok-at _ _ _ c.in_ok-value.ensures.ok.1 c.returned-value.ensures.ok);
+  ok = return_typed (ok-at _ _ _ c.in_ok-value.ensures.ok.2 c.returned-value.ensures.ok);
   none = search rules;
   err = tt;
 }

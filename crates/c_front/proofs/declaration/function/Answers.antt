@@ -1,4 +1,4 @@
-use Rattle.std.proofs.Common.{rules}
+use Rattle.std.proofs.Common.{rules, refl}
 use Rattle.c_tokens.specs.declared.token.Mark.TheVariants.{RightParen, RightBrace}
 use Rattle.c_front.specs.Parsing.{IsStuck, IsEndedStuck}
 use Rattle.c_tree.specs.Shape.{items_of}
@@ -6,7 +6,7 @@ use Rattle.c_front.proofs.Ends.{ended-read, ended-stuck}
 use Rattle.c_front.specs.Grammar.{function_rest, items, parameters}
 use Rattle.c_front.proofs.DeclarationPaths.{function-open-stuck, function-parameters-stuck, function-brace-stuck, function-body-stuck}
 use Rattle.c_front.proofs.DeclarationPaths.{function-read}
-use Rattle.c_front.proofs.declaration.function_rest.Goals as goal
+use Rattle.c_front.proofs.declaration.function.Goals as goal
 
 pub returns-in_err-open-clause-err : goal.returns-in_err-open-clause-err
 returns-in_err-open-clause-err c =
@@ -38,6 +38,6 @@ pub returns-clause-ok : goal.returns-clause-ok
 returns-clause-ok c =
     let given = ended-read c.parameters.result RightParen _ parameters (λ ps. ps.items) (c.in_ok-given.given, c.in_ok-given.brace) c.in_ok-given.ensures.ok
     c.parameters.ensures.ok in
-    function-read _ _ _ _ _ _ _ c.in_ok-open.ensures.ok given c.in_ok-start.ensures.ok
-    (ended-read c.items.result RightBrace _ items (λ is. items_of is.items) (c.in_ok-body.body, c.in_ok-body.end) c.in_ok-body.ensures.ok
-    c.items.ensures.ok)
+    let body = ended-read c.items.result RightBrace _ items (λ is. items_of is.items) (c.in_ok-body.body, c.in_ok-body.end) c.in_ok-body.ensures.ok
+    c.items.ensures.ok in
+    (c.in_ok-given.given.items, items_of c.in_ok-body.body.items, function-read _ _ _ _ _ _ _ c.in_ok-open.ensures.ok given c.in_ok-start.ensures.ok body, refl)
