@@ -1,10 +1,10 @@
 // The texts of instructions.
 
-ghost use Rattle.std.specs.Prelude.{◌≡◌, ◌++◌, Some, codes, decimal};
-ghost use Rattle.std.specs.Fmt.{DisplaysOnOk, signed_decimal};
+ghost use Rattle.std.specs.Prelude.{◌≡◌, ◌++◌, Some, codes};
+ghost use Rattle.std.specs.Fmt.{DisplaysOnOk};
 ghost use Rattle.mips_isa.specs.Actions.{nop};
 ghost use Rattle.mips_isa.specs.Texts.{address_text, is_nop, mnemonic_of, mnemonic_text, operands_text, instruction_text, register_text};
-ghost use Rattle.mips_isa.specs.Texts.{control_name, control_operands, control_text, target_text};
+ghost use Rattle.mips_isa.specs.Texts.{control_name, control_operands, control_text, last_operand_text, target_text};
 
 use crate::digits::WordDigits;
 use crate::inst::{
@@ -146,87 +146,97 @@ impl fmt::Display for NonzeroReg {
     }
 }
 
-// `$a,$b`; what follows has a function for each form of operands, since one for all is slow to prove.
-fn write_pair<W: fmt::Write>(a: Reg, b: Reg, f: &mut fmt::Formatter<W>) -> fmt::Result
-    ensures { DisplaysOnOk W.write_str_gives f.old result (Some (register_text a ++ (codes "," ++ register_text b))) f.new }
-{
-    write!(f, "{a},{b}")
+// The last operand of an instruction; those before it are registers.
+#[derive(Clone, Copy)]
+enum LastOperand {
+    Register(Reg),
+    Signed(i16),
+    Unsigned(u16),
+    // `offset($base)`
+    Address(Reg, i16),
+    // Where a branch or jump leads: `0x` and eight hexadecimal digits.
+    Target(u32),
 }
 
-fn write_triple<W: fmt::Write>(a: Reg, b: Reg, c: Reg, f: &mut fmt::Formatter<W>) -> fmt::Result
+fn write_address<W: fmt::Write>(base: Reg, offset: i16, f: &mut fmt::Formatter<W>) -> fmt::Result
+    ensures { DisplaysOnOk W.write_str_gives f.old result (Some (address_text base offset)) f.new }
+{
+    write!(f, "{offset}({base})")
+}
+
+fn write_target<W: fmt::Write>(address: u32, f: &mut fmt::Formatter<W>) -> fmt::Result
+    ensures { DisplaysOnOk W.write_str_gives f.old result (Some (target_text address)) f.new }
+{
+    let digits = WordDigits(address);
+    write!(f, "0x{digits}")
+}
+
+impl fmt::Display for LastOperand {
+    ghost output = { λ o. Some (last_operand_text o) };
+
+    fn fmt<W: fmt::Write>(&self, f: &mut fmt::Formatter<W>) -> fmt::Result {
+        match *self {
+            LastOperand::Register(r) => fmt::Display::fmt(&r, f),
+            LastOperand::Signed(number) => fmt::Display::fmt(&number, f),
+            LastOperand::Unsigned(number) => fmt::Display::fmt(&number, f),
+            LastOperand::Address(base, offset) => write_address(base, offset, f),
+            LastOperand::Target(address) => write_target(address, f),
+        }
+    }
+}
+
+fn write_one<W: fmt::Write>(last: LastOperand, f: &mut fmt::Formatter<W>) -> fmt::Result
+    ensures { DisplaysOnOk W.write_str_gives f.old result (Some (codes " " ++ last_operand_text last)) f.new }
+{
+    write!(f, " {last}")
+}
+
+fn write_pair<W: fmt::Write>(a: Reg, last: LastOperand, f: &mut fmt::Formatter<W>) -> fmt::Result
     ensures { DisplaysOnOk W.write_str_gives f.old result
-        (Some (register_text a ++ (codes "," ++ (register_text b ++ (codes "," ++ register_text c))))) f.new }
+        (Some (codes " " ++ (register_text a ++ (codes "," ++ last_operand_text last)))) f.new }
 {
-    write!(f, "{a},{b},{c}")
+    write!(f, " {a},{last}")
 }
 
-fn write_signed<W: fmt::Write>(
+fn write_triple<W: fmt::Write>(
     a: Reg,
     b: Reg,
-    number: i16,
+    last: LastOperand,
     f: &mut fmt::Formatter<W>,
 ) -> fmt::Result
     ensures { DisplaysOnOk W.write_str_gives f.old result
-        (Some (register_text a ++ (codes "," ++ (register_text b ++ (codes "," ++ signed_decimal number))))) f.new }
+        (Some (codes " " ++ (register_text a ++ (codes "," ++ (register_text b ++ (codes "," ++ last_operand_text last)))))) f.new }
 {
-    write!(f, "{a},{b},{number}")
-}
-
-fn write_unsigned<W: fmt::Write>(
-    a: Reg,
-    b: Reg,
-    number: u16,
-    f: &mut fmt::Formatter<W>,
-) -> fmt::Result
-    ensures { DisplaysOnOk W.write_str_gives f.old result
-        (Some (register_text a ++ (codes "," ++ (register_text b ++ (codes "," ++ decimal number))))) f.new }
-{
-    write!(f, "{a},{b},{number}")
-}
-
-// The register that is loaded or stored, and `offset($base)`.
-fn write_moved<W: fmt::Write>(
-    r: Reg,
-    base: Reg,
-    offset: i16,
-    f: &mut fmt::Formatter<W>,
-) -> fmt::Result
-    ensures { DisplaysOnOk W.write_str_gives f.old result (Some (register_text r ++ (codes "," ++ address_text base offset))) f.new }
-{
-    write!(f, "{r},{offset}({base})")
-}
-
-fn write_upper<W: fmt::Write>(a: Reg, number: u16, f: &mut fmt::Formatter<W>) -> fmt::Result
-    ensures { DisplaysOnOk W.write_str_gives f.old result (Some (register_text a ++ (codes "," ++ decimal number))) f.new }
-{
-    write!(f, "{a},{number}")
+    write!(f, " {a},{b},{last}")
 }
 
 fn write_operands<W: fmt::Write>(inst: &Plain, f: &mut fmt::Formatter<W>) -> fmt::Result
-    ensures { DisplaysOnOk W.write_str_gives f.old result (Some (operands_text inst.now)) f.new }
+    ensures { DisplaysOnOk W.write_str_gives f.old result (Some (codes " " ++ operands_text inst.now)) f.new }
 {
     match *inst {
-        Plain::Shift { rd, rt, amount, .. } => write_unsigned(rd, rt, u16::from(amount.bits()), f),
-        Plain::ShiftBy { rd, rt, rs, .. } => write_triple(rd, rt, rs, f),
-        Plain::Alu { rd, rs, rt, .. } => write_triple(rd, rs, rt, f),
-        Plain::Imm { rt, rs, imm, .. } => write_signed(rt, rs, imm, f),
-        Plain::Logic { rt, rs, imm, .. } => write_unsigned(rt, rs, imm, f),
-        Plain::LoadUpper { rt, imm } => write_upper(rt, imm, f),
-        Plain::MoveFrom { rd, .. } => fmt::Display::fmt(&rd, f),
-        Plain::Multiply { rs, rt, .. } => write_pair(rs, rt, f),
-        Plain::Divide { rs, rt, .. } => write_pair(rs, rt, f),
+        Plain::Shift { rd, rt, amount, .. } => {
+            write_triple(rd, rt, LastOperand::Unsigned(u16::from(amount.bits())), f)
+        }
+        Plain::ShiftBy { rd, rt, rs, .. } => write_triple(rd, rt, LastOperand::Register(rs), f),
+        Plain::Alu { rd, rs, rt, .. } => write_triple(rd, rs, LastOperand::Register(rt), f),
+        Plain::Imm { rt, rs, imm, .. } => write_triple(rt, rs, LastOperand::Signed(imm), f),
+        Plain::Logic { rt, rs, imm, .. } => write_triple(rt, rs, LastOperand::Unsigned(imm), f),
+        Plain::LoadUpper { rt, imm } => write_pair(rt, LastOperand::Unsigned(imm), f),
+        Plain::MoveFrom { rd, .. } => write_one(LastOperand::Register(rd), f),
+        Plain::Multiply { rs, rt, .. } => write_pair(rs, LastOperand::Register(rt), f),
+        Plain::Divide { rs, rt, .. } => write_pair(rs, LastOperand::Register(rt), f),
         Plain::Load {
             rt,
             base,
             offset,
             ..
-        } => write_moved(rt.reg(), base, offset, f),
+        } => write_pair(rt.reg(), LastOperand::Address(base, offset), f),
         Plain::Store {
             rt,
             base,
             offset,
             ..
-        } => write_moved(rt, base, offset, f),
+        } => write_pair(rt, LastOperand::Address(base, offset), f),
     }
 }
 
@@ -239,7 +249,6 @@ impl fmt::Display for Plain {
             return f.write_str("nop");
         }
         f.write_str(self.mnemonic().name())?;
-        f.write_str(" ")?;
         write_operands(self, f)
     }
 }
@@ -284,47 +293,6 @@ fn control_name(control: &Control) -> &'static str
     }
 }
 
-// Where a branch or jump leads: `0x` and eight hexadecimal digits.
-#[derive(Clone, Copy)]
-struct Target(u32);
-
-impl fmt::Display for Target {
-    ghost output = { λ t. Some (target_text t.0) };
-
-    fn fmt<W: fmt::Write>(&self, f: &mut fmt::Formatter<W>) -> fmt::Result {
-        let digits = WordDigits(self.0);
-        write!(f, "0x{digits}")
-    }
-}
-
-fn write_compared<W: fmt::Write>(
-    a: Reg,
-    b: Reg,
-    target: u32,
-    f: &mut fmt::Formatter<W>,
-) -> fmt::Result
-    ensures { DisplaysOnOk W.write_str_gives f.old result
-        (Some (codes " " ++ (register_text a ++ (codes "," ++ (register_text b ++ (codes "," ++ target_text target)))))) f.new }
-{
-    let target = Target(target);
-    write!(f, " {a},{b},{target}")
-}
-
-fn write_tested<W: fmt::Write>(r: Reg, target: u32, f: &mut fmt::Formatter<W>) -> fmt::Result
-    ensures { DisplaysOnOk W.write_str_gives f.old result (Some (codes " "
-        ++ (register_text r ++ (codes "," ++ target_text target)))) f.new }
-{
-    let target = Target(target);
-    write!(f, " {r},{target}")
-}
-
-fn write_target<W: fmt::Write>(target: u32, f: &mut fmt::Formatter<W>) -> fmt::Result
-    ensures { DisplaysOnOk W.write_str_gives f.old result (Some (codes " " ++ target_text target)) f.new }
-{
-    let target = Target(target);
-    write!(f, " {target}")
-}
-
 fn write_control_operands<W: fmt::Write>(
     control: &Control,
     slot: u32,
@@ -334,13 +302,16 @@ fn write_control_operands<W: fmt::Write>(
 {
     match *control {
         Control::BranchPair { rs, rt, offset, .. } => {
-            write_compared(rs, rt, branch_target(slot, offset), f)
+            write_triple(rs, rt, LastOperand::Target(branch_target(slot, offset)), f)
         }
         Control::BranchZero { rs, offset, .. } => {
-            write_tested(rs, branch_target(slot, offset), f)
+            write_pair(rs, LastOperand::Target(branch_target(slot, offset)), f)
         }
-        Control::JumpTo { target, .. } => write_target(jump_target(slot, target), f),
-        Control::JumpRegister { rs } => write!(f, " {rs}"),
+        Control::JumpTo { target, .. } => write_one(
+            LastOperand::Target(jump_target(slot, target)),
+            f,
+        ),
+        Control::JumpRegister { rs } => write_one(LastOperand::Register(rs), f),
         Control::SystemCall => Ok(()),
     }
 }

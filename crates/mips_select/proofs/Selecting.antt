@@ -87,17 +87,17 @@ functions_emittable p functions n ok is n_is = record {
 -- ---- all blocks
 
 pub program_made : (h : Homed) (starts es : List ℕ) (funcs : List RFunc) (globals : List RGlobal) (frames : List Frame) (main n : ℕ)
-    (first second : BlockParts) (out0 out1 out2 out3 : List BlockParts)
+    (out0 out1 out2 out3 : List BlockParts)
     → es ≡ entries_from 2 (h.rtl.now).functions → starts ≡ starts_from 0 globals → globals ≡ (h.rtl.now).globals → funcs ≡ (h.rtl.now).functions
     → frames ≡ h.frames.items → main ≡ (h.rtl.now).main → n ≡ slice_index es main
-    → first ≡ start_block n → second ≡ end_block → out0 ≡ [] → out1 ≡ out0 ++ first ∷ [] → out2 ≡ out1 ++ second ∷ []
+    → out0 ≡ [] → out1 ≡ out0 ++ start_block n ∷ [] → out2 ≡ out1 ++ end_block ∷ []
     → out3 ≡ out2 ++ functions_blocks globals (λ a. slice_index starts a) (λ g. slice_index es g) 2 funcs frames → out3 ≡ program_blocks h
-program_made h starts es funcs globals frames main n first second out0 out1 out2 out3 es_is s_is g_is f_is fr_is main_is n_is first_is second_is o0 o1 o2 o3 =
+program_made h starts es funcs globals frames main n out0 out1 out2 out3 es_is s_is g_is f_is fr_is main_is n_is o0 o1 o2 o3 =
     let head : n ≡ entry_of (h.rtl.now).functions (h.rtl.now).main = n_is ∙ ap₂ (λ (l : List ℕ) m. slice_index l m) es_is main_is in
-    let one : out1 ≡ start_block (entry_of (h.rtl.now).functions (h.rtl.now).main) ∷ [] = o1 ∙ ap (λ l. l ++ first ∷ []) o0
-    ∙ ap (λ (b : BlockParts). b ∷ []) (first_is ∙ ap start_block head) in
+    let one : out1 ≡ start_block (entry_of (h.rtl.now).functions (h.rtl.now).main) ∷ [] = o1 ∙ ap (λ l. l ++ start_block n ∷ []) o0
+    ∙ ap (λ m. start_block m ∷ []) head in
     let two : out2 ≡ start_block (entry_of (h.rtl.now).functions (h.rtl.now).main) ∷ end_block ∷ [] = o2
-    ∙ ap₂ (λ l (b : BlockParts). l ++ b ∷ []) one second_is in
+    ∙ ap (λ l. l ++ end_block ∷ []) one in
     let rest : functions_blocks globals (λ a. slice_index starts a) (λ g. slice_index es g) 2 funcs frames ≡ functions_blocks (h.rtl.now).globals
     (start_of (h.rtl.now).globals) (entry_of (h.rtl.now).functions) 2 (h.rtl.now).functions h.frames.items =
     ap₂ (λ (l m : List ℕ). functions_blocks globals (λ a. slice_index l a) (λ g. slice_index m g) 2 funcs frames) (s_is ∙ ap (starts_from 0) g_is) es_is

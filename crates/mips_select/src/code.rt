@@ -14,6 +14,7 @@ use crate::heads::{Head, head_at, resumes};
 use crate::numbers::number_at;
 use crate::plan::{Linkage, Plan};
 use crate::prologue::emit_prologue;
+use crate::push::push;
 use mblock::{BlockNumber, Exit};
 use mips_emit::{Comparison, Knowledge, Last, emit_arrival, emit_insts, register};
 use mips_homes::Frame;
@@ -110,14 +111,6 @@ fn block_after(
     Ok(LongBlock::new(insts, exit))
 }
 
-// One more block.
-pub(crate) fn push_block(out: &mut Vec<LongBlock>, block: LongBlock) -> Result<(), AllocError>
-    ensures { OnOk result (out.new.items ≡ out.old.items ++ block ∷ []) }
-{
-    out.push(block)?;
-    Ok(())
-}
-
 // The block behind a call, where there is one.
 fn emit_behind(
     alloc: Global,
@@ -133,7 +126,7 @@ fn emit_behind(
         RExit::Call(_, _, to, next) => {
             if !resumes(*to, head_at(plan.table, *next as usize)) {
                 let second = block_after(alloc, plan.places, plan.frame, *to, *next)?;
-                push_block(out, second)?;
+                push(out, second)?;
             }
         }
         RExit::Goto(_) => {}
@@ -171,7 +164,7 @@ pub(crate) fn emit_block(
     let head = head_at(plan.table, j);
     let next = next_at(plan.table, plan.places, k, &block.exit);
     let first = block_for(facts, linkage, plan, head, next, block)?;
-    push_block(out, first)?;
+    push(out, first)?;
     emit_behind(linkage.alloc, out, plan, &block.exit)?;
     Ok(())
 }

@@ -1,6 +1,6 @@
 // The blocks for whole functions, one function behind another.
 
-ghost use Rattle.std.specs.Prelude.{◌≡◌, ◌+◌, ◌≤◌, ◌++◌, ◌∷◌, [], length, IfOk, OnOk, slice_index};
+ghost use Rattle.std.specs.Prelude.{◌≡◌, ◌+◌, ◌≤◌, ◌++◌, ◌∷◌, [], length, OnOk, slice_index};
 ghost use Rattle.mblock.specs.declared.limits.TheConstants.{UNIT_BLOCKS, UNIT_BYTES};
 ghost use Rattle.mips_emit.specs.Frames.{IsReachable};
 ghost use Rattle.mips_select.specs.Heads.{heads_in, namings_of, AreNamed};
@@ -9,11 +9,12 @@ ghost use Rattle.mips_select.specs.Emittable.{AreEmittable, AreInside, AreReacha
 ghost use Rattle.mips_select.specs.Whole.{size_of_blocks, blocks_from, lead_blocks, function_size, functions_size, function_blocks};
 ghost use Rattle.mips_select.specs.Whole.{functions_blocks};
 
-use crate::code::{emit_block, push_block};
+use crate::code::emit_block;
 use crate::heads::{Head, Naming, count_of, head_at, is_leaf, lead_in};
 use crate::numbers::{number, number_at, number_blocks};
 use crate::plan::{Linkage, Plan};
 use crate::prologue::emit_prologue;
+use crate::push::push;
 use mblock::{BlockNumber, Exit};
 use mips_emit::{Knowledge, emit_constant};
 use mips_homes::Frame;
@@ -67,7 +68,7 @@ fn emit_prologue_block(
 {
     let mut insts = Vec::new(alloc);
     emit_prologue(&mut insts, frame, leaf, parameters)?;
-    push_block(out, LongBlock::new(insts, Exit::Goto(first)))?;
+    push(out, LongBlock::new(insts, Exit::Goto(first)))?;
     Ok(())
 }
 
@@ -161,42 +162,36 @@ pub(crate) fn emit_functions(
     Ok(())
 }
 
-// One more instruction.
-fn push_inst(insts: &mut Vec<Plain>, inst: Plain) -> Result<(), AllocError>
-    ensures { OnOk result (insts.new.items ≡ insts.old.items ++ inst ∷ []) }
-{
-    insts.push(inst)?;
-    Ok(())
-}
-
 // Block 0, which sets register 28 and calls the main function.
-pub(crate) fn start_block(alloc: Global, main: BlockNumber) -> Result<LongBlock, AllocError>
-    ensures { IfOk result (λ b. b ≡ start_block main) }
+pub(crate) fn emit_start(
+    alloc: Global,
+    out: &mut Vec<LongBlock>,
+    main: BlockNumber,
+) -> Result<(), AllocError>
+    ensures { OnOk result (out.new.items ≡ out.old.items ++ start_block main ∷ []) }
 {
     let mut insts = Vec::new(alloc);
     emit_constant(&mut insts, Reg::masked(28), DATA_MIDDLE)?;
-    Ok(LongBlock::new(
-        insts,
-        Exit::Call {
-            function: main,
-            next: number(1),
-        },
-    ))
+    let exit = Exit::Call {
+        function: main,
+        next: number(1),
+    };
+    push(out, LongBlock::new(insts, exit))?;
+    Ok(())
 }
 
 // Block 1, which ends with the main function's result.
-pub(crate) fn end_block(alloc: Global) -> Result<LongBlock, AllocError>
-    ensures { IfOk result (λ b. b ≡ end_block) }
+pub(crate) fn emit_end(alloc: Global, out: &mut Vec<LongBlock>) -> Result<(), AllocError>
+    ensures { OnOk result (out.new.items ≡ out.old.items ++ end_block ∷ []) }
 {
     let mut insts = Vec::new(alloc);
-    push_inst(
-        &mut insts,
-        Plain::Alu {
-            op: AluOp::Addu,
-            rd: Reg::ARGUMENT,
-            rs: Reg::RESULT,
-            rt: Reg::ZERO,
-        },
-    )?;
-    Ok(LongBlock::new(insts, Exit::Halt))
+    let inst = Plain::Alu {
+        op: AluOp::Addu,
+        rd: Reg::ARGUMENT,
+        rs: Reg::RESULT,
+        rt: Reg::ZERO,
+    };
+    push(&mut insts, inst)?;
+    push(out, LongBlock::new(insts, Exit::Halt))?;
+    Ok(())
 }

@@ -9,26 +9,19 @@ ghost use Rattle.rtl.specs.Programs.{IsGlobal, word_count};
 ghost use Rattle.mips_select.specs.Data.{element_bytes, elements_bytes, gap_behind, zeros, global_bytes, padded_bytes, bare_bytes};
 ghost use Rattle.mips_select.specs.Data.{data_bytes, starts_from};
 
+use crate::push::push;
 use rtl::RGlobal;
 use std::alloc::{AllocError, Global};
 use words::Width;
-
-// One more byte.
-fn push_byte(bytes: &mut Vec<u8>, b: u8) -> Result<(), AllocError>
-    ensures { OnOk result (bytes.new.items ≡ bytes.old.items ++ b ∷ []) }
-{
-    bytes.push(b)?;
-    Ok(())
-}
 
 // A word, its highest byte first.
 fn push_word(bytes: &mut Vec<u8>, v: u32) -> Result<(), AllocError>
     ensures { OnOk result (bytes.new.items ≡ bytes.old.items ++ element_bytes Width.Word v) }
 {
-    push_byte(bytes, (v / 16_777_216 % 256) as u8)?;
-    push_byte(bytes, (v / 65_536 % 256) as u8)?;
-    push_byte(bytes, (v / 256 % 256) as u8)?;
-    push_byte(bytes, (v % 256) as u8)?;
+    push(bytes, (v / 16_777_216 % 256) as u8)?;
+    push(bytes, (v / 65_536 % 256) as u8)?;
+    push(bytes, (v / 256 % 256) as u8)?;
+    push(bytes, (v % 256) as u8)?;
     Ok(())
 }
 
@@ -38,7 +31,7 @@ fn push_element(bytes: &mut Vec<u8>, width: Width, v: u32) -> Result<(), AllocEr
 {
     match width {
         Width::Word => push_word(bytes, v)?,
-        Width::Byte => push_byte(bytes, (v % 256) as u8)?,
+        Width::Byte => push(bytes, (v % 256) as u8)?,
     }
     Ok(())
 }
@@ -56,7 +49,7 @@ fn push_zeros(bytes: &mut Vec<u8>, n: u32) -> Result<(), AllocError>
     ensures { OnOk result (bytes.new.items ≡ bytes.old.items ++ zeros n) }
 {
     for _i in 0..n {
-        push_byte(bytes, 0)?;
+        push(bytes, 0)?;
     }
     Ok(())
 }
@@ -116,14 +109,6 @@ fn padded_bytes(alloc: Global, globals: &[RGlobal]) -> Result<Vec<u8>, AllocErro
     Ok(bytes)
 }
 
-// One more number.
-fn push_start(starts: &mut Vec<u32>, n: u32) -> Result<(), AllocError>
-    ensures { OnOk result (starts.new.items ≡ starts.old.items ++ n ∷ []) }
-{
-    starts.push(n)?;
-    Ok(())
-}
-
 // Where each global begins.
 pub(crate) fn globals_starts(alloc: Global, globals: &[RGlobal]) -> Result<Vec<u32>, AllocError>
     requires { sum_by word_count globals.now ≤ MAX_GLOBAL_WORDS }
@@ -132,7 +117,7 @@ pub(crate) fn globals_starts(alloc: Global, globals: &[RGlobal]) -> Result<Vec<u
     let mut starts = Vec::new(alloc);
     let mut n: u32 = 0;
     for global in globals {
-        push_start(&mut starts, n)?;
+        push(&mut starts, n)?;
         n += 4 * global.width.words_of(global.length);
     }
     Ok(starts)

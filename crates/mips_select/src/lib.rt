@@ -49,6 +49,7 @@ mod numbers;
 mod plan;
 mod program;
 mod prologue;
+mod push;
 
 pub use laws::{each_unit_keeps_runs, limits_are_these_numbers};
 pub use limits::STACK_BYTES;

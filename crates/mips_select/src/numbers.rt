@@ -10,6 +10,7 @@ ghost use Rattle.mips_select.specs.Whole.{size_of_blocks, numbers, function_size
 ghost use Rattle.mips_select.specs.Whole.{numbers_in, numbers_from};
 
 use crate::heads::{Naming, all_namings, count_of, lead_in};
+use crate::push::push;
 use mblock::{BlockNumber, UNIT_BLOCKS};
 use mips_split::SelectFault;
 use rtl::{RBlock, RFunc};
@@ -37,20 +38,12 @@ pub(crate) fn number_at(table: &[BlockNumber], i: u32) -> BlockNumber
     }
 }
 
-// One more number.
-fn push_number(table: &mut Vec<BlockNumber>, n: BlockNumber) -> Result<(), AllocError>
-    ensures { OnOk result (table.new.items ≡ table.old.items ++ n ∷ []) }
-{
-    table.push(n)?;
-    Ok(())
-}
-
 // One number, several times.
 fn push_copies(table: &mut Vec<BlockNumber>, n: BlockNumber, count: usize) -> Result<(), AllocError>
     ensures { OnOk result (table.new.items ≡ table.old.items ++ replicate count n) }
 {
     for _ in 0..count {
-        push_number(table, n)?;
+        push(table, n)?;
     }
     Ok(())
 }
@@ -68,7 +61,7 @@ pub(crate) fn number_blocks(
     let mut ns = Vec::new(alloc);
     let mut k = first;
     for block in blocks {
-        push_number(&mut ns, number(k))?;
+        push(&mut ns, number(k))?;
         k += count_of(table, &block.exit);
     }
     Ok(ns)
@@ -106,14 +99,6 @@ pub(crate) struct Numbers {
     pub(crate) owners: Vec<BlockNumber>,
 }
 
-// One more table.
-fn push_table(tables: &mut Vec<Vec<Naming>>, table: Vec<Naming>) -> Result<(), AllocError>
-    ensures { OnOk result (tables.new.items ≡ tables.old.items ++ table ∷ []) }
-{
-    tables.push(table)?;
-    Ok(())
-}
-
 // Those of no functions: the two blocks for start and end.
 fn first_numbers(alloc: Global) -> Result<Numbers, AllocError>
     ensures namings { IfOk result (λ n. n.namings.items ≡ []) }
@@ -142,9 +127,9 @@ fn push_function(
     ensures entries { OnOk result (numbers.new.entries.items ≡ numbers.old.entries.items ++ entry ∷ []) }
     ensures owners { OnOk result (numbers.new.owners.items ≡ numbers.old.owners.items ++ replicate size entry) }
 {
-    push_number(&mut numbers.entries, entry)?;
+    push(&mut numbers.entries, entry)?;
     push_copies(&mut numbers.owners, entry, size)?;
-    push_table(&mut numbers.namings, table)?;
+    push(&mut numbers.namings, table)?;
     Ok(())
 }
 

@@ -10,8 +10,7 @@ ghost use Rattle.mips_select.specs.Limits.{FramesFit};
 ghost use Rattle.mips_select.specs.Whole.{functions_size, entries_from, owners_for, program_blocks, unit_for};
 ghost use Rattle.mips_select.specs.Laws.{KeepsRuns, IsSelected, IsBeyond};
 
-use crate::code::push_block;
-use crate::functions::{emit_functions, end_block, start_block};
+use crate::functions::{emit_end, emit_functions, emit_start};
 use crate::globals::{globals_bytes, globals_starts};
 use crate::heads::Naming;
 use crate::limits::have_room;
@@ -48,11 +47,9 @@ fn emit_program(
         starts,
         entries,
     };
-    let first = start_block(alloc, number_at(entries, homed.rtl.main()))?;
-    let second = end_block(alloc)?;
     let mut out = Vec::new(alloc);
-    push_block(&mut out, first)?;
-    push_block(&mut out, second)?;
+    emit_start(alloc, &mut out, number_at(entries, homed.rtl.main()))?;
+    emit_end(alloc, &mut out)?;
     emit_functions(&mut out, &linkage, namings, functions, frames)?;
     Ok(out)
 }

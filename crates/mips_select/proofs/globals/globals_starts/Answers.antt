@@ -16,7 +16,7 @@ loop-global-preserved c =
     let one = ap word_count c.global-item.is in (
       omega (arith, room, words, sizes, one),
       made_more (starts_from n) c.args.globals.now i c.global-item.result _ _ (n ∷ []) (starts_from (n + 4 * c.words_of.result) rest) _
-          c.loop-global-test.true c.global-item.is (ap (λ w. n ∷ starts_from (n + 4 * w) rest) (sym words)) c.in_ok-push_start.ensures
+          c.loop-global-test.true c.global-item.is (ap (λ w. n ∷ starts_from (n + 4 * w) rest) (sym words)) c.in_ok-push.ensures
           c.loop-global.invariant.1,
     )
 

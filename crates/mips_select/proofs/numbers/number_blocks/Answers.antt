@@ -24,7 +24,7 @@ overflow_add-k c =
 pub loop-block-preserved : goal.loop-block-preserved
 loop-block-preserved c =
     number_step (heads_in c.args.table.now) _ c.loop-block.block-index _ c.args.blocks.now c.block-item.result _ _ _ _ _ c.loop-block-test.true
-    c.block-item.is c.number.ensures c.count_of-k.ensures.value c.in_ok-push_number.ensures c.loop-block.invariant
+    c.block-item.is c.number.ensures c.count_of-k.ensures.value c.in_ok-push.ensures c.loop-block.invariant
 
 pub returns : goal.returns
 returns c = all_made (numbers (heads_in c.args.table.now) c.loop-block.k) c.args.blocks.now c.loop-block.block-index _ _ c.loop-block-test.false refl
