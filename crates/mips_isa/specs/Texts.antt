@@ -22,8 +22,6 @@ use Rattle.mips_isa.specs.declared.rule.Rule.TheVariants.{M1, M2, M3, M4, M5, M6
 use Rattle.mips_isa.specs.Controls.{branch_target, jump_target}
 use Rattle.mips_isa.specs.declared.text.Mnemonic.{Mnemonic}
 use Rattle.mips_isa.specs.declared.text.Mnemonic.TheVariants as mnemonics
-use Rattle.mips_isa.specs.declared.text.LastOperand.{LastOperand}
-use Rattle.mips_isa.specs.declared.text.LastOperand.TheVariants as last
 
 abbrev pub register_text : ℕ → List ℕ
 register_text r = codes "$" ++ decimal r
@@ -128,14 +126,6 @@ half_text half = hex_digit half (2 ^ 12) ++ hex_digit half (2 ^ 8) ++ hex_digit 
 -- an address in eight digits
 abbrev pub target_text : ℕ → List ℕ
 target_text address = codes "0x" ++ half_text (address / 2 ^ 16) ++ half_text (address % 2 ^ 16)
-
--- the last operand of an instruction; those before it are registers
-abbrev pub last_operand_text : LastOperand → List ℕ
-last_operand_text (last.Register r) = register_text r
-last_operand_text (last.Signed number) = signed_decimal number
-last_operand_text (last.Unsigned number) = decimal number
-last_operand_text (last.Address base offset) = address_text base offset
-last_operand_text (last.Target address) = target_text address
 
 abbrev pub control_name : Control → List ℕ
 control_name (BranchPair Equal rs rt offset) = codes "beq"

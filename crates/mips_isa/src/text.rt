@@ -4,7 +4,8 @@ ghost use Rattle.std.specs.Prelude.{◌≡◌, ◌++◌, Some, codes};
 ghost use Rattle.std.specs.Fmt.{DisplaysOnOk};
 ghost use Rattle.mips_isa.specs.Actions.{nop};
 ghost use Rattle.mips_isa.specs.Texts.{address_text, is_nop, mnemonic_of, mnemonic_text, operands_text, instruction_text, register_text};
-ghost use Rattle.mips_isa.specs.Texts.{control_name, control_operands, control_text, last_operand_text, target_text};
+ghost use Rattle.mips_isa.specs.LastOperands.{last_operand_text};
+ghost use Rattle.mips_isa.specs.Texts.{control_name, control_operands, control_text, target_text};
 
 use crate::digits::WordDigits;
 use crate::inst::{
