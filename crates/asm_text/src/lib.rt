@@ -38,8 +38,8 @@ fn target_of(control: &Control, address: u32) -> Option<u32> {
     }
 }
 
-/// The place of a code word by its address.
-fn place_of(address: u32) -> usize {
+/// Which word of the code stands at an address.
+fn word_index(address: u32) -> usize {
     (address.wrapping_sub(CODE_BASE) / 4) as usize
 }
 
@@ -55,7 +55,7 @@ enum Form {
 /// Whether a branch or jump leads to no word of the code, which has so many words.
 fn leads_out(control: &Control, address: u32, count: usize) -> bool {
     match target_of(control, address) {
-        Some(target) => target < CODE_BASE || place_of(target) >= count,
+        Some(target) => target < CODE_BASE || word_index(target) >= count,
         None => false,
     }
 }
@@ -85,7 +85,7 @@ fn targets(alloc: Global, code: &[u32]) -> Result<Vec<bool>, AllocError> {
     for word in code {
         if let Form::Control(control) = form_of(*word, address, code.len())
             && let Some(target) = target_of(&control, address)
-            && let Some(mark) = marks.get_mut(place_of(target))
+            && let Some(mark) = marks.get_mut(word_index(target))
         {
             *mark = true;
         }

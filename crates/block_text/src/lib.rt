@@ -20,7 +20,7 @@ mod text;
 mod writer;
 
 pub use left::{block_place_text, left_lines, order_place_text};
-pub use lines::{put_exit, put_insts, put_order};
+pub use lines::{ExitLine, put_insts, put_order};
 pub use page::{WIDTH, page_of};
 pub use reader::{Left, ReadFault, Room, TermReader, table_of};
 pub use writer::Writer;

@@ -1,22 +1,77 @@
 // Blocks and orders in the lines of a check text.
 
+ghost use Rattle.std.specs.Prelude.{◌≡◌, Some};
+ghost use Rattle.check_text.specs.Spelling.{exit_name_text, exit_text};
+ghost use Rattle.check_text.specs.declared.names.ExitName.TheVariants as names;
+
 use crate::writer::Writer;
 use mblock::{BlockNumber, Exit, Order};
 use mips_isa::{PairTest, Plain, ZeroTest};
+use std::fmt;
 
-fn pair_name(test: PairTest) -> &'static str {
+/// How a block is left, as check texts spell it.
+#[derive(Clone, Copy)]
+pub struct ExitLine(pub Exit);
+
+fn pair_name(test: PairTest) -> &'static str
+    ensures { result.now ≡ exit_name_text (names.BranchPair test) }
+{
     match test {
-        PairTest::Equal => "beq ",
-        PairTest::NotEqual => "bne ",
+        PairTest::Equal => "beq",
+        PairTest::NotEqual => "bne",
     }
 }
 
-fn zero_name(test: ZeroTest) -> &'static str {
+fn zero_name(test: ZeroTest) -> &'static str
+    ensures { result.now ≡ exit_name_text (names.BranchZero test) }
+{
     match test {
-        ZeroTest::AtMostZero => "blez ",
-        ZeroTest::AboveZero => "bgtz ",
-        ZeroTest::BelowZero => "bltz ",
-        ZeroTest::AtLeastZero => "bgez ",
+        ZeroTest::AtMostZero => "blez",
+        ZeroTest::AboveZero => "bgtz",
+        ZeroTest::BelowZero => "bltz",
+        ZeroTest::AtLeastZero => "bgez",
+    }
+}
+
+impl fmt::Display for ExitLine {
+    ghost output = { λ e. Some (exit_text e.0) };
+
+    fn fmt<W: fmt::Write>(&self, f: &mut fmt::Formatter<W>) -> fmt::Result {
+        match self.0 {
+            Exit::Goto(then) => {
+                let then = then.number();
+                write!(f, "goto {then}")
+            }
+            Exit::BranchPair {
+                test,
+                rs,
+                rt,
+                then,
+                other,
+            } => {
+                let (name, then, other) = (pair_name(test), then.number(), other.number());
+                write!(f, "{name} {rs},{rt},{then},{other}")
+            }
+            Exit::BranchZero {
+                test,
+                rs,
+                then,
+                other,
+            } => {
+                let (name, then, other) = (zero_name(test), then.number(), other.number());
+                write!(f, "{name} {rs},{then},{other}")
+            }
+            Exit::Call { function, next } => {
+                let (function, next) = (function.number(), next.number());
+                write!(f, "call {function},{next}")
+            }
+            Exit::Return => f.write_str("return"),
+            Exit::Out(next) => {
+                let next = next.number();
+                write!(f, "out {next}")
+            }
+            Exit::Halt => f.write_str("halt"),
+        }
     }
 }
 
@@ -24,45 +79,6 @@ fn zero_name(test: ZeroTest) -> &'static str {
 pub(crate) fn put_block(out: &mut Writer, before: &str, block: BlockNumber) {
     out.text(before);
     out.put(&block.number());
-}
-
-/// How a block is left, as a check text has it.
-pub fn put_exit(out: &mut Writer, exit: Exit) {
-    match exit {
-        Exit::Goto(target) => put_block(out, "goto ", target),
-        Exit::BranchPair {
-            test,
-            rs,
-            rt,
-            then,
-            other,
-        } => {
-            out.text(pair_name(test));
-            out.put(&rs);
-            out.text(",");
-            out.put(&rt);
-            put_block(out, ",", then);
-            put_block(out, ",", other);
-        }
-        Exit::BranchZero {
-            test,
-            rs,
-            then,
-            other,
-        } => {
-            out.text(zero_name(test));
-            out.put(&rs);
-            put_block(out, ",", then);
-            put_block(out, ",", other);
-        }
-        Exit::Call { function, next } => {
-            put_block(out, "call ", function);
-            put_block(out, ",", next);
-        }
-        Exit::Return => out.text("return"),
-        Exit::Out(next) => put_block(out, "out ", next),
-        Exit::Halt => out.text("halt"),
-    }
 }
 
 /// Instructions, each behind a margin and before an end.
@@ -78,7 +94,7 @@ pub fn put_insts(out: &mut Writer, insts: &[Plain], margin: &str, end: &str) {
 pub fn put_order(out: &mut Writer, order: &Order, margin: &str, end: &str) {
     put_insts(out, order.insts(), margin, end);
     out.text(margin);
-    put_exit(out, order.exit());
+    out.put(&ExitLine(order.exit()));
     out.text(end);
     if let Some(slot) = order.slot() {
         out.text(margin);

@@ -8,7 +8,7 @@ ghost use Rattle.build_command.specs.BuildFaults.{IsBuildFault};
 ghost use Rattle.build_command.specs.Commands.{Builds, IsBuiltAs, StopsBuild, built_text};
 
 use crate::builds::{BuildFault, Built, Limit, build_plain};
-use crate::places::place_of;
+use crate::places::source_place;
 use crate::scheduled_builds::{BuildOpts, build, phase_of};
 use command_line::AskedBuild;
 use commands::{Complaints, Files, HostFault, Output, read_file, tell, tell_placed, write_file};
@@ -51,7 +51,7 @@ fn tell_source_fault<E: Complaints>(
         BuildFault::Source(found) => Some(found),
         BuildFault::Limit(_) | BuildFault::NoMemory => None,
     };
-    let place = place_of(alloc, source, text, found);
+    let place = source_place(alloc, source, text, found);
     tell_placed(alloc, err, &fault, &place)
 }
 

@@ -32,5 +32,5 @@ mod texts;
 
 pub use build_commands::{build_file, print_built, tell_build};
 pub use builds::{BuildFault, Built, Limit, build_plain, typed_of, unit_of};
-pub use places::place_of;
+pub use places::source_place;
 pub use scheduled_builds::{BuildOpts, build, build_one};

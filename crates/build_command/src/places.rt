@@ -5,7 +5,7 @@ use messages::{SourceFault, explain};
 use std::alloc::Global;
 
 /// Where the fault of a text lies, and what is said of it.
-pub fn place_of<'a>(
+pub fn source_place<'a>(
     alloc: Global,
     source: &'a str,
     text: &'a [u8],

@@ -4,7 +4,7 @@ ghost use Rattle.std.specs.Prelude.{All, IfOk};
 ghost use Rattle.block_text.specs.Shown.{IsShown};
 
 use block_text::{
-    ReadFault, WIDTH, Writer, block_place_text, order_place_text, page_of, put_exit, put_insts,
+    ExitLine, ReadFault, WIDTH, Writer, block_place_text, order_place_text, page_of, put_insts,
 };
 use block_validator::Place;
 use check_command::{CheckAnswer, LONGEST};
@@ -100,7 +100,7 @@ fn put_word(out: &mut Writer, order: &Order, place: usize) {
 
 fn put_left(out: &mut Writer, exit: Exit) {
     out.text("  ");
-    put_exit(out, exit);
+    out.put(&ExitLine(exit));
     out.text("\n");
 }
 

@@ -9,7 +9,7 @@ pub struct Halves<'a> {
     pub after: &'a [u8],
 }
 
-fn place_of(text: &[u8], mark: u8) -> Option<usize>
+fn position_of(text: &[u8], mark: u8) -> Option<usize>
     ensures { result ≡ position (λ b. b == mark) text.now }
 {
     text.iter().position(|b| *b == mark)
@@ -23,7 +23,7 @@ pub fn cut(text: &[u8], mark: u8) -> Option<Halves<'_>>
     ensures first { IfSome result (λ h. lacks mark h.before.now ≡ true) }
     ensures none { IfNone result (lacks mark text.now ≡ true) }
 {
-    let at = place_of(text, mark)?;
+    let at = position_of(text, mark)?;
     Some(Halves {
         before: &text[..at],
         after: &text[at + 1..],

@@ -13,7 +13,7 @@ use crate::reasons::wrong_page;
 use crate::show_commands::ShowCommand;
 use crate::source_runs::{InterpFault, interp};
 use crate::texts::EndLine;
-use build_command::{build_file, place_of};
+use build_command::{build_file, source_place};
 use check_command::check_file;
 use check_report::{check_files, explain_file};
 use command_line::{Command, words};
@@ -56,7 +56,7 @@ pub fn tell_interp<E: Complaints>(
         InterpFault::Source(found) => Some(found),
         InterpFault::NoMemory => None,
     };
-    let place = place_of(alloc, source, text, found);
+    let place = source_place(alloc, source, text, found);
     tell_placed(alloc, err, &fault, &place)
 }
 

@@ -1,90 +1,22 @@
 // The export that lists the blocks of a build and the orders that they have.
 
-ghost use Rattle.std.specs.Prelude.{◌≡◌, ◌≢◌, Some, OnOk, length};
+ghost use Rattle.std.specs.Prelude.{◌≡◌, ◌≢◌, OnOk, length};
 ghost use Rattle.std.specs.Io.KnownBytes.{Appends};
-ghost use Rattle.check_text.specs.Spelling.{exit_name_text, exit_text};
-ghost use Rattle.check_text.specs.declared.names.ExitName.TheVariants as names;
 ghost use Rattle.mcc_web.specs.Answers.{SaysBuildFault};
 ghost use Rattle.mcc_web.specs.Orders.{SaysOrders, insts_text, pair_text, pairs_text, slot_text};
 ghost use Rattle.mcc_web.specs.declared.told.TheConstants.{REFUSED};
 
 use crate::builds::{give_build_fault, phase_for};
 use crate::told::{REFUSED, put};
+use block_text::ExitLine;
 use delay_filler::FilledOrder;
 use driver::unit_of;
 use list_scheduler::ListOrder;
-use mblock::{Block, BlockNumber, Exit, Order};
-use mips_isa::{PairTest, Plain, ZeroTest};
+use mblock::{Block, BlockNumber, Order};
+use mips_isa::Plain;
 use sched_phase::schedule_one;
 use std::alloc::Global;
-use std::fmt;
 use std::io::{self, Write};
-
-/// How a block is left, as check texts spell it.
-#[derive(Clone, Copy)]
-struct ExitLine(Exit);
-
-fn pair_name(test: PairTest) -> &'static str
-    ensures { result.now ≡ exit_name_text (names.BranchPair test) }
-{
-    match test {
-        PairTest::Equal => "beq",
-        PairTest::NotEqual => "bne",
-    }
-}
-
-fn zero_name(test: ZeroTest) -> &'static str
-    ensures { result.now ≡ exit_name_text (names.BranchZero test) }
-{
-    match test {
-        ZeroTest::AtMostZero => "blez",
-        ZeroTest::AboveZero => "bgtz",
-        ZeroTest::BelowZero => "bltz",
-        ZeroTest::AtLeastZero => "bgez",
-    }
-}
-
-impl fmt::Display for ExitLine {
-    ghost output = { λ e. Some (exit_text e.0) };
-
-    fn fmt<W: fmt::Write>(&self, f: &mut fmt::Formatter<W>) -> fmt::Result {
-        match self.0 {
-            Exit::Goto(then) => {
-                let then = then.number();
-                write!(f, "goto {then}")
-            }
-            Exit::BranchPair {
-                test,
-                rs,
-                rt,
-                then,
-                other,
-            } => {
-                let (name, then, other) = (pair_name(test), then.number(), other.number());
-                write!(f, "{name} {rs},{rt},{then},{other}")
-            }
-            Exit::BranchZero {
-                test,
-                rs,
-                then,
-                other,
-            } => {
-                let (name, then, other) = (zero_name(test), then.number(), other.number());
-                write!(f, "{name} {rs},{then},{other}")
-            }
-            Exit::Call { function, next } => {
-                let (function, next) = (function.number(), next.number());
-                write!(f, "call {function},{next}")
-            }
-            Exit::Return => f.write_str("return"),
-            Exit::Out(next) => {
-                let next = next.number();
-                write!(f, "out {next}")
-            }
-            Exit::Halt => f.write_str("halt"),
-        }
-    }
-}
 
 fn print_insts<W: Write>(out: &mut W, insts: &[Plain]) -> io::Result<()>
     ensures { OnOk result (Appends (W.contents out.old) (W.contents out.new) (insts_text insts.now)) }

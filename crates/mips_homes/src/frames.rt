@@ -12,7 +12,7 @@ use rtl::{RFunc, Rtl};
 use std::alloc::{AllocError, Global};
 
 // Where x stands among the best.
-fn place_of(best: &[usize], x: usize) -> Option<usize>
+fn rank_of(best: &[usize], x: usize) -> Option<usize>
     ensures { IsPlace best.now x result }
 {
     for j in 0..best.len() {
@@ -32,7 +32,7 @@ fn homes_of(alloc: Global, best: &[usize], n: usize) -> Result<(Vec<Home>, usize
     let mut homes = Vec::new(alloc);
     let mut slots: usize = 0;
     for x in 0..n {
-        match place_of(best, x) {
+        match rank_of(best, x) {
             Some(j) => homes.push(Home::Reg(16 + j as u8))?,
             None => {
                 homes.push(Home::Slot(slots as u32))?;

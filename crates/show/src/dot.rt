@@ -1,7 +1,7 @@
 // Graphs of blocks, for Graphviz.
 
 use crate::rtl_text::RtlView;
-use block_text::{Writer, put_exit, put_insts};
+use block_text::{ExitLine, Writer, put_insts};
 use mblock::{Block, Exit};
 use rtl::{RBlock, RExit};
 
@@ -60,7 +60,7 @@ fn put_edges(out: &mut Writer, from: usize, exit: Exit) {
 fn put_block(out: &mut Writer, number: usize, block: &Block) {
     put_node(out, number);
     put_insts(out, block.insts(), "", "\\l");
-    put_exit(out, block.exit());
+    out.put(&ExitLine(block.exit()));
     out.text("\\l\"];\n");
     put_edges(out, number, block.exit());
 }

@@ -18,7 +18,7 @@ pub overflow_add-slots : goal.overflow_add-slots
 overflow_add-slots c = omega (arith, c.loop-x.invariant.counted, c.loop-x-test.true, c.requires.small)
 
 pub loop-x-preserved : goal.loop-x-preserved
-loop-x-preserved c = elim c.match-place_of.branch [
+loop-x-preserved c = elim c.match-rank_of.branch [
   | in-Some+in_ok-push-in-Some w ↦ rw w.homes-is
       (rw w.slots-is
       (home_register c.args.best.now c.loop-x.x c.loop-x.slots w.in-Some.j c.loop-x.homes.items _ w.in_ok-push-in-Some.ensures.items
