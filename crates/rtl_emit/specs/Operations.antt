@@ -1,7 +1,6 @@
 -- Which operator of RTL computes an operator of C (C99 6.5.5 to 6.5.14), and which one computes the contrary of a test.
 use Rattle.std.specs.Prelude.{◌≡◌, ◌≢◌, ℕ, Bool, true, false, not, Option, Some, if◌then◌else◌}
 use Rattle.c_tree.specs.declared.tree.BinaryOp.{BinaryOp}
-use Rattle.c_tree.specs.declared.tree.BinaryOp.TheVariants as B
 use Rattle.c_tree.specs.declared.tree.UnaryOp.{UnaryOp}
 use Rattle.c_tree.specs.declared.tree.UnaryOp.TheVariants as U
 use Rattle.words.specs.Words.{wrap}

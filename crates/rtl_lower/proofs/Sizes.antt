@@ -29,11 +29,11 @@ weight_within [] k d lt = absurd (omega arith)
 weight_within (s ∷ all) zero d lt = omega arith
 weight_within (s ∷ all) (suc k) d lt = let r = weight_within all k d (omega arith) in omega (arith, r)
 
-or_true : (a b : Bool) → b ≡ true → (a || b) ≡ true
+pub or_true : (a b : Bool) → b ≡ true → (a || b) ≡ true
 or_true true b e = refl
 or_true false b e = e
 
-or_first : (a b : Bool) → a ≡ true → (a || b) ≡ true
+pub or_first : (a b : Bool) → a ≡ true → (a || b) ≡ true
 or_first true b e = refl
 or_first false b e = cc
 

@@ -21,7 +21,7 @@ use Rattle.c_statements.proofs.Joins.{answers, answers-as, tells, moved, behind-
 use Rattle.c_statements.proofs.Joins.{tells-alone, tells-two, tells-three}
 use Rattle.c_statements.specs.Made.{IsIf, IsLoop, IsSequence}
 use Rattle.c_statements.proofs.WholeStatements.{if-then-ok, if-then-else-ok, while-ok, for-ok, tells-behind}
-use Rattle.c_statements.proofs.Weights.{weight, weight_all, weight-within}
+use Rattle.c_statements.proofs.Weights.{weight, weight_of, weight_all, weight-within}
 use Rattle.c_statements.proofs.statement.+statements.Goals as goal
 
 pub block-returns-in_err-typed : goal.block-returns-in_err-typed
@@ -235,3 +235,51 @@ statement-returns-in-Simply t c = record {
   typed = rw c.in-Simply.is (answers-as (λ u h. simply_typed h) c.simple.ensures);
   scopes = search rules;
 }
+
+pub statement-if_then-requires : goal.statement-if_then-requires
+statement-if_then-requires t c =
+    let w : weight (statement_of c.args.s.now) ≡ weight (statement_of c.in-If.first.value) + 2 = ap (λ s. weight (statement_of s)) c.in-If.is in
+    let a : weight (statement_of c.deref-in-If.result.now) ≡ weight (statement_of c.in-If.first.value) = ap (λ s. weight (statement_of s)) c.deref-in-If.ensures in
+    (omega (arith, w, a), tt)
+
+pub statement-if_then_else-requires : goal.statement-if_then_else-requires
+statement-if_then_else-requires t c =
+    let w : weight (statement_of c.args.s.now) ≡ weight (statement_of c.in-IfElse.first.value) + weight (statement_of c.in-IfElse.second.value) + 2 = ap (λ s. weight (statement_of s)) c.in-IfElse.is in
+    let a : weight (statement_of c.deref-in-IfElse.result.now) ≡ weight (statement_of c.in-IfElse.first.value) = ap (λ s. weight (statement_of s)) c.deref-in-IfElse.ensures in
+    let b : weight (statement_of c.deref-in-IfElse-2.result.now) ≡ weight (statement_of c.in-IfElse.second.value) = ap (λ s. weight (statement_of s)) c.deref-in-IfElse-2.ensures in
+    (omega (arith, w, a, b), tt)
+
+pub statement-while_loop-requires : goal.statement-while_loop-requires
+statement-while_loop-requires t c =
+    let w : weight (statement_of c.args.s.now) ≡ weight (statement_of c.in-While.body.value) + 2 = ap (λ s. weight (statement_of s)) c.in-While.is in
+    let a : weight (statement_of c.deref-in-While.result.now) ≡ weight (statement_of c.in-While.body.value) = ap (λ s. weight (statement_of s)) c.deref-in-While.ensures in
+    (omega (arith, w, a), tt)
+
+pub statement-for_loop-requires : goal.statement-for_loop-requires
+statement-for_loop-requires t c =
+    let w : weight (statement_of c.args.s.now) ≡ weight (statement_of c.in-For.body.value) + 2 = ap (λ s. weight (statement_of s)) c.in-For.is in
+    let a : weight (statement_of c.deref-in-For-2.result.now) ≡ weight (statement_of c.in-For.body.value) = ap (λ s. weight (statement_of s)) c.deref-in-For-2.ensures in
+    (omega (arith, w, a), tt)
+
+pub item-statement-requires : goal.item-statement-requires
+item-statement-requires t c =
+    let w : weight_of (item_of c.args.one.now) ≡ weight (statement_of c.in-Statement.s) + 1 = ap (λ i. weight_of (item_of i)) c.in-Statement.is in
+    (omega (arith, w), tt)
+
+pub block-items-typed-requires : goal.block-items-typed-requires
+block-items-typed-requires t c = (omega arith, tt)
+
+pub if_then-statement-first-requires : goal.if_then-statement-first-requires
+if_then-statement-first-requires t c = (omega arith, tt)
+
+pub if_then_else-statement-first-requires : goal.if_then_else-statement-first-requires
+if_then_else-statement-first-requires t c = (omega arith, tt)
+
+pub if_then_else-statement-second-requires : goal.if_then_else-statement-second-requires
+if_then_else-statement-second-requires t c = (omega arith, tt)
+
+pub while_loop-statement-body-requires : goal.while_loop-statement-body-requires
+while_loop-statement-body-requires t c = (omega arith, tt)
+
+pub for_loop-statement-body-requires : goal.for_loop-statement-body-requires
+for_loop-statement-body-requires t c = (omega arith, tt)

@@ -1,4 +1,4 @@
-use Rattle.std.proofs.Common.{ap, refl, rules, sym}
+use Rattle.std.proofs.Common.{◌≡◌, ◌+◌, ap, arith, refl, rules, sym}
 use Rattle.c_typed.specs.Shape.{typed_expression_of}
 use Rattle.c_typed.specs.Trees.{binary}
 use Rattle.rtl_emit.specs.Blocks.{spot}
@@ -8,6 +8,7 @@ use Rattle.rtl_emit.proofs.Emitting.{value_along, branch_along, element_emits, p
 use Rattle.rtl_emit.proofs.Emitting.{both_emits, both_stops, operator_emits, block_emits, block_stops, join_stops, first_value_stops, value_stops}
 use Rattle.rtl_emit.proofs.Emitting.{conditional_emits, constant_emits, not_branches, logical_branches, logical_stops, conditional_branches, sides}
 use Rattle.rtl_emit.proofs.Emitting.{first_side_stops, side_stops, contrary_emits, test_emits, operand_emits}
+use Rattle.rtl_emit.proofs.Weights.{weight}
 use Rattle.rtl_emit.proofs.expression.+expressions.Goals as goal
 
 pub value_into-returns-in-Constant : goal.value_into-returns-in-Constant
@@ -220,3 +221,103 @@ branch_block-returns t c =
     let made = c.seal.ensures in
     block_emits _ _ _ (condition_size (typed_expression_of c.args.e.now) c.args.targets.likely c.args.free) _ _ _ c.in_ok-code.code _ c.in_ok-code.ensures
     (λ s named h. (named, h)) made.grows made.count made.limit made.sound made.at
+
+pub value_into-element_into-requires : goal.value_into-element_into-requires
+value_into-element_into-requires t c =
+    let w : weight (typed_expression_of c.args.e.now) ≡ weight (typed_expression_of c.deref.result.now) + 9 =
+    ap weight (element_is _ _ _ _ (ap typed_expression_of c.in-Element.is) (ap typed_expression_of c.deref.ensures)) in (omega (arith, w), tt)
+
+pub value_into-unary_into-requires : goal.value_into-unary_into-requires
+value_into-unary_into-requires t c =
+    let w : weight (typed_expression_of c.args.e.now) ≡ weight (typed_expression_of c.deref-in-Unary.result.now) + 9 =
+    ap weight (unary_is _ _ _ _ _ (ap typed_expression_of c.in-Unary.is) refl (ap typed_expression_of c.deref-in-Unary.ensures)) in
+    (omega (arith, w), tt)
+
+pub value_into-binary_into-requires : goal.value_into-binary_into-requires
+value_into-binary_into-requires t c =
+    let w : weight (typed_expression_of c.args.e.now)
+    ≡ weight (typed_expression_of c.deref-in-Binary.result.now) + weight (typed_expression_of c.deref-in-Binary-2.result.now) + 9 =
+    ap weight (binary_is _ _ _ _ _ _ _ (ap typed_expression_of c.in-Binary.is) refl (ap typed_expression_of c.deref-in-Binary.ensures)
+    (ap typed_expression_of c.deref-in-Binary-2.ensures)) in (omega (arith, w), tt)
+
+pub value_into-conditional_into-requires : goal.value_into-conditional_into-requires
+value_into-conditional_into-requires t c =
+    let w : weight (typed_expression_of c.args.e.now) ≡ weight (typed_expression_of c.deref-in-Conditional.result.now)
+    + weight (typed_expression_of c.deref-in-Conditional-2.result.now) + weight (typed_expression_of c.deref-in-Conditional-3.result.now) + 9 =
+    ap weight (conditional_is _ _ _ _ _ _ _ (ap typed_expression_of c.in-Conditional.is) (ap typed_expression_of c.deref-in-Conditional.ensures)
+    (ap typed_expression_of c.deref-in-Conditional-2.ensures) (ap typed_expression_of c.deref-in-Conditional-3.ensures)) in (omega (arith, w), tt)
+
+pub condition-sides-requires : goal.condition-sides-requires
+condition-sides-requires t c =
+    let w : weight (typed_expression_of c.args.e.now) ≡ weight (typed_expression_of c.deref-in-Conditional.result.now)
+    + weight (typed_expression_of c.deref-in-Conditional-2.result.now) + weight (typed_expression_of c.deref-in-Conditional-3.result.now) + 9 =
+    ap weight (conditional_is _ _ _ _ _ _ _ (ap typed_expression_of c.in-Conditional.is) (ap typed_expression_of c.deref-in-Conditional.ensures)
+    (ap typed_expression_of c.deref-in-Conditional-2.ensures) (ap typed_expression_of c.deref-in-Conditional-3.ensures)) in (omega (arith, w), tt)
+
+pub condition-logical-requires : goal.condition-logical-requires
+condition-logical-requires t c =
+    let w : weight (typed_expression_of c.args.e.now)
+    ≡ weight (typed_expression_of c.deref-in-Logical.result.now) + weight (typed_expression_of c.deref-in-Logical-2.result.now) + 9 =
+    ap weight (binary_is _ _ _ _ _ _ _ (ap typed_expression_of c.in-Binary.is) c.in-Logical.ensures.form (ap typed_expression_of c.deref-in-Logical.ensures)
+    (ap typed_expression_of c.deref-in-Logical-2.ensures)) in (omega (arith, w), tt)
+
+pub condition-compared-requires : goal.condition-compared-requires
+condition-compared-requires t c =
+    let w : weight (typed_expression_of c.args.e.now)
+    ≡ weight (typed_expression_of c.deref-in-Plain.result.now) + weight (typed_expression_of c.deref-in-Plain-2.result.now) + 9 =
+    ap weight (binary_is _ _ _ _ _ _ _ (ap typed_expression_of c.in-Binary.is) refl (ap typed_expression_of c.deref-in-Plain.ensures)
+    (ap typed_expression_of c.deref-in-Plain-2.ensures)) in (omega (arith, w), tt)
+
+pub unary_into-value_into-requires : goal.unary_into-value_into-requires
+unary_into-value_into-requires t c = (omega arith, tt)
+
+pub unary_into-condition-requires : goal.unary_into-condition-requires
+unary_into-condition-requires t c = (omega arith, tt)
+
+pub binary_into-told_into-requires : goal.binary_into-told_into-requires
+binary_into-told_into-requires t c = (omega arith, tt)
+
+pub told_into-logical-requires : goal.told_into-logical-requires
+told_into-logical-requires t c = (omega arith, tt)
+
+pub conditional_into-value_block-requires : goal.conditional_into-value_block-requires
+conditional_into-value_block-requires t c = (omega arith, tt)
+
+pub conditional_into-condition-requires : goal.conditional_into-condition-requires
+conditional_into-condition-requires t c = (omega arith, tt)
+
+pub value_block-value_into-requires : goal.value_block-value_into-requires
+value_block-value_into-requires t c = (omega arith, tt)
+
+pub operand_into-value_into-requires : goal.operand_into-value_into-requires
+operand_into-value_into-requires t c = (omega arith, tt)
+
+pub logical-branch_block-requires : goal.logical-branch_block-requires
+logical-branch_block-requires t c = (omega arith, tt)
+
+pub logical-condition-requires : goal.logical-condition-requires
+logical-condition-requires t c = (omega arith, tt)
+
+pub sides-branch_block-requires : goal.sides-branch_block-requires
+sides-branch_block-requires t c = (omega arith, tt)
+
+pub sides-condition-requires : goal.sides-condition-requires
+sides-condition-requires t c = (omega arith, tt)
+
+pub branch_block-condition-requires : goal.branch_block-condition-requires
+branch_block-condition-requires t c = (omega arith, tt)
+
+pub condition-test-requires : goal.condition-test-requires
+condition-test-requires t c = (omega arith, tt)
+
+pub conditional_into-value_block-requires-2 : goal.conditional_into-value_block-requires-2
+conditional_into-value_block-requires-2 t c = (omega arith, tt)
+
+pub sides-branch_block-requires-2 : goal.sides-branch_block-requires-2
+sides-branch_block-requires-2 t c = (omega arith, tt)
+
+pub condition-test-requires-in_default : goal.condition-test-requires-in_default
+condition-test-requires-in_default t c = (omega arith, tt)
+
+pub condition-test-requires-then-targets : goal.condition-test-requires-then-targets
+condition-test-requires-then-targets t c = (omega arith, tt)

@@ -4,7 +4,7 @@ use Rattle.c_typed.specs.Trees.{block, call, if_else, loop}
 use Rattle.c_typed.proofs.Shapes.{block-is}
 use Rattle.rtl_emit.specs.Blocks.{spot}
 use Rattle.rtl_lower.specs.Sizes.{continues}
-use Rattle.rtl_lower.proofs.Sizes.{any_of, weight, weight_within, none_left, one_left}
+use Rattle.rtl_lower.proofs.Sizes.{any_of, or_first, or_true, weight, weight_within, none_left, one_left}
 use Rattle.rtl_lower.proofs.Emitting.{nothing_emits, break_emits, continue_emits, simple_emits, whole_emits, block_emits, none_emits}
 use Rattle.rtl_lower.proofs.Emitting.{more_emits, all_emitted, list_stopped, side_emits, if_is, if_emits, turn_emits, loop_is, loop_emits}
 use Rattle.rtl_lower.proofs.Emitting.{side_stops, join_stops, if_first_stops, if_second_stops, bottom_stops, last_stops}
@@ -200,3 +200,33 @@ loop_statement-returns-in_err-top t c =
       sealing = record { grows = join.grows; count = join.count; sound = join.sound; lands = join.lands };
       reserves = c.in_ok-head.ensures.reserves;
     }) c.in_ok-turn.ensures c.in_ok-body_code.ensures c.in_err-top.ensures
+
+pub side-statement-requires : goal.side-statement-requires
+side-statement-requires t c = (omega arith, c.requires.next)
+
+pub if_statement-side-requires : goal.if_statement-side-requires
+if_statement-side-requires t c = (omega arith, λ e. c.requires.next (or_first _ _ e))
+
+pub if_statement-side-requires-2 : goal.if_statement-side-requires-2
+if_statement-side-requires-2 t c = (omega arith, λ e. c.requires.next (or_true _ _ e))
+
+pub turn_of-statement-requires : goal.turn_of-statement-requires
+turn_of-statement-requires t c = (omega arith, c.requires.next)
+
+pub loop_statement-turn_of-requires : goal.loop_statement-turn_of-requires
+loop_statement-turn_of-requires t c = (omega arith, c.requires.next)
+
+pub loop_statement-statement-requires : goal.loop_statement-statement-requires
+loop_statement-statement-requires t c = (omega arith, search rules)
+
+pub statement-if_statement-requires : goal.statement-if_statement-requires
+statement-if_statement-requires t c =
+    let is = if_is (ap statement_of c.in-If.is) (ap statement_of c.deref.ensures) (ap statement_of c.deref-in-If.ensures) in
+    let w = ap weight is in
+    (omega (arith, w), λ e. c.requires.next (ap continues is ∙ e))
+
+pub statement-loop_statement-requires : goal.statement-loop_statement-requires
+statement-loop_statement-requires t c =
+    let is = loop_is (ap statement_of c.in-Loop.is) (ap statement_of c.deref-in-Loop.ensures) (ap statement_of c.deref-in-Loop-2.ensures) in
+    let w = ap weight is in
+    (omega (arith, w), λ e. c.requires.next (ap continues is ∙ e))
