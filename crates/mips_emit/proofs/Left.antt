@@ -1,13 +1,16 @@
 -- Code of which refused memory leaves a beginning.
-use Rattle.std.proofs.Common.{◌≡◌, ℕ, ◌+◌, ◌-◌, ◌≤◌, List, ◌++◌, length, take, Option, None, ap, ap₂, sym, ◌∙◌, arith}
+use Rattle.std.proofs.Common.{◌≡◌, ℕ, ◌+◌, ◌-◌, ◌≤◌, List, ◌++◌, length, take, drop, [], ◌∷◌, Option, Some, None, false, true, ap, ap₂, sym, ◌∙◌, arith}
+use Rattle.std.specs.Result.{IsErr}
+use Rattle.std.specs.Prelude.{Result, Ok, Err}
 use Rattle.std.proofs.Common.{length-append, append_assoc}
 use Rattle.std.proofs.Math.Seq.{take-append-add, take-append_seam}
 use Rattle.std.proofs.lemmas.Grind.{common_steps}
+use Rattle.std.proofs.lemmas.List.{take-append-drop}
 use Rattle.mips_isa.specs.declared.inst.Plain.{Plain}
 use Rattle.rtl.specs.declared.operator.Op.{Op}
 use Rattle.mips_emit.specs.declared.location.Source.{Source}
-use Rattle.mips_emit.specs.Code.{code_by_less, code_by_right}
-use Rattle.mips_emit.specs.Left.{EmitsSome}
+use Rattle.mips_emit.specs.Code.{fetch, seat, operation, one_or_two, as_list, code_by_right}
+use Rattle.mips_emit.specs.Left.{EmitsSome, Emits}
 
 -- behind other code that was to be emitted
 pub some_behind : (was mid now a b : List Plain) → mid ≡ was ++ a → EmitsSome mid b now → EmitsSome was (a ++ b) now
@@ -18,7 +21,7 @@ some_behind was mid now a b e f =
     ∙ ap (λ m. was ++ take m (a ++ b)) (sym k)
 
 -- and before more
-some_before : (was now a b : List Plain) → EmitsSome was a now → EmitsSome was (a ++ b) now
+pub some_before : (was now a b : List Plain) → EmitsSome was a now → EmitsSome was (a ++ b) now
 some_before was now a b f = grind (arith, common_steps)
 
 pub some_among : (was mid now a b c : List Plain) → mid ≡ was ++ a → EmitsSome mid b now → EmitsSome was (a ++ (b ++ c)) now
@@ -31,16 +34,33 @@ some_of was now behind all le e =
     let k : length now ≡ length was + n = omega arith in
     sym (take-append_seam now behind) ∙ ap (take (length now)) e ∙ ap (λ m. take m (was ++ all)) k ∙ take-append-add was all n
 
--- an operator whose operands aren't in its instruction
-pub by_less_made : (op : Op) (t d : ℕ) (right left less less' : Option Plain) (x y : Source) (was now : List Plain) → right ≡ None → left ≡ None
-    → less' ≡ less → now ≡ was ++ code_by_less op t d less' x y → now ≡ was ++ code_by_right op t d right left less x y
-by_less_made op t d right left less less' x y was now no_right no_left same made =
-    made ∙ ap (λ l. was ++ code_by_right op t d None None l x y) same
-    ∙ ap₂ (λ r l. was ++ code_by_right op t d r l less x y) (sym no_right) (sym no_left)
+-- an instruction and a second one, as the first and the rest of what they are
+pub one_or_two_are : (i : Plain) (s : Option Plain) (l : List Plain) → take 1 l ≡ i ∷ [] → drop 1 l ≡ as_list s → one_or_two i s ≡ l
+one_or_two_are i None l first rest = ap₂ (λ a b. a ++ b) (sym first) (sym rest) ∙ take-append-drop 1 l
+one_or_two_are i (Some j) l first rest = ap₂ (λ a b. a ++ b) (sym first) (sym rest) ∙ take-append-drop 1 l
 
--- code in two parts, and in three
+-- an operator on two registers, as it is selected
+pub both_fetched : (op : Op) (t d : ℕ) (right left less : Option Plain) (x y : Source) (i : Plain) (s : Option Plain) → right ≡ None → left ≡ None
+    → less ≡ None → take 1 (operation op d (seat t x) (seat 2 y)) ≡ i ∷ [] → drop 1 (operation op d (seat t x) (seat 2 y)) ≡ as_list s
+    → fetch t x ++ (fetch 2 y ++ one_or_two i s) ≡ code_by_right op t d right left less x y
+both_fetched op t d right left less x y i s no_right no_left no_less first rest =
+    ap (λ l. fetch t x ++ (fetch 2 y ++ l)) (one_or_two_are i s _ first rest)
+    ∙ sym (ap₂ (λ r l. code_by_right op t d r l less x y) no_right no_left ∙ ap (λ l. code_by_right op t d None None l x y) no_less)
+
+-- code in two parts
 pub in_two : (was mid now a b : List Plain) → mid ≡ was ++ a → now ≡ mid ++ b → now ≡ was ++ (a ++ b)
 in_two was mid now a b e f = f ∙ ap (λ l. l ++ b) e ∙ append_assoc was a b
 
-pub in_three : (was mid next now a b c : List Plain) → mid ≡ was ++ a → next ≡ mid ++ b → now ≡ next ++ c → now ≡ was ++ (a ++ (b ++ c))
-in_three was mid next now a b c e f g = in_two was mid now a (b ++ c) e (in_two mid next now b c f g)
+-- what a call leaves that returns the Err of one that it makes
+pub at_some : {A E : Type 0} (r : Result A E) (was all now : List Plain) → IsErr r → EmitsSome was all now → Emits r was all now
+at_some (Ok x) was all now is_err some = let no : false ≡ true = is_err in cc
+at_some (Err e) was all now is_err some = some
+
+-- the last call of several
+pub emits_behind : {A E : Type 0} (r : Result A E) (was mid now a b : List Plain) → mid ≡ was ++ a → Emits r mid b now → Emits r was (a ++ b) now
+emits_behind (Ok x) was mid now a b e f = in_two was mid now a b e f
+emits_behind (Err x) was mid now a b e f = some_behind was mid now a b e f
+
+pub emits_third : {A E : Type 0} (r : Result A E) (was mid next now a b c : List Plain) → mid ≡ was ++ a → next ≡ mid ++ b → Emits r next c now
+    → Emits r was (a ++ (b ++ c)) now
+emits_third r was mid next now a b c e f g = emits_behind r was mid now a (b ++ c) e (emits_behind r mid next now b c f g)

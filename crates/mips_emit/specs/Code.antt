@@ -25,6 +25,7 @@ use Rattle.mips_emit.specs.declared.location.Location.{Location}
 use Rattle.mips_emit.specs.declared.location.Location.TheVariants.{Held, InSlot}
 use Rattle.mips_emit.specs.declared.location.Source.{Source}
 use Rattle.mips_emit.specs.declared.product.ShiftedSum.{ShiftedSum}
+use Rattle.mips_emit.specs.declared.operation.Selection.{Selection}
 use Rattle.mips_emit.specs.declared.location.Source.TheVariants.{Zero, Word, From}
 use Rattle.mips_emit.specs.Locations.{Locations, inner_of, Facts, known_in, operand, word_source}
 use Rattle.mips_emit.specs.Elements.{width_of, direct, base_code, element_base, element_offset}
@@ -122,6 +123,10 @@ arrive (Some (InSlot k)) t = store_word_at t (4 * k) ∷ []
 abbrev pub one_or_two : Plain → Option Plain → List Plain
 one_or_two i None = i ∷ []
 one_or_two i (Some j) = i ∷ j ∷ []
+
+abbrev pub as_list : Option Plain → List Plain
+as_list None = []
+as_list (Some j) = j ∷ []
 
 -- an operator on registers a and b into register d; a test of equality is one of the difference
 abbrev pub operation : Op → (d a b : ℕ) → List Plain
@@ -225,6 +230,13 @@ abbrev pub code_by_word : Op → (t d : ℕ) → (left right : Option ℕ) → S
 code_by_word op t d left right x y =
     code_by_right op t d (immediate_of op d (seat t x) right) (turned_immediate_of op d (seat 2 y) left)
     (turned_less_of op d (seat 2 y) left) x y
+
+-- the instructions of an operator that are selected: whether each operand is fetched, and one or two behind
+abbrev pub fetch_if : Bool → ℕ → Source → List Plain
+fetch_if fetches t x = if fetches then fetch t x else []
+
+abbrev pub selection_code : (t : ℕ) → Selection → Source → Source → List Plain
+selection_code t s x y = fetch_if s.fetches_left t x ++ (fetch_if s.fetches_right 2 y ++ one_or_two s.first s.second)
 
 -- a product by one more or one less than a power of 2, and by no power itself: the other operand is shifted, and then added to that or
 -- taken from it, modulo 2^32

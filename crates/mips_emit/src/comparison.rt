@@ -1,6 +1,6 @@
 // Operators that are one with the exit behind them: comparisons with a branch on their result, any with a return of it.
 
-#![tactic(auto, using(crate::proofs::Left::some_behind, crate::proofs::Left::some_among))]
+#![tactic(auto, using(crate::proofs::Left::some_behind, crate::proofs::Left::some_among, crate::proofs::Left::emits_behind))]
 
 ghost use Rattle.std.specs.Prelude.{◌≡◌, ◌++◌, ◌∷◌, [], Some};
 ghost use Rattle.mblock.specs.declared.exit.Exit.TheVariants.{BranchPair, BranchZero};
@@ -13,6 +13,7 @@ ghost use Rattle.mips_emit.specs.Comparisons.{compared, comparison_of, FitsCompa
 ghost use Rattle.mips_emit.specs.Code.{fetch, nop};
 ghost use Rattle.mips_emit.specs.Left.{Emits};
 
+use crate::constant::emit_one;
 use crate::facts::{Knowledge, is_lasting, known_word, operand};
 use crate::location::{Location, Source, locate, register};
 use crate::operation::{Operand, emit_op, immediate_of};
@@ -173,8 +174,7 @@ fn emit_tested(code: &mut Vec<Plain>, x: &Source) -> Result<(), AllocError>
     ensures { Emits result code.old.items (fetch 3 x.now ++ nop ∷ []) code.new.items }
 {
     emit_fetch(code, register(3), x)?;
-    code.push(Plain::nop())?;
-    Ok(())
+    emit_one(code, Plain::nop())
 }
 
 /// What stands before the branch; an Err is refused memory.
@@ -188,11 +188,11 @@ pub(crate) fn emit_comparison(code: &mut Vec<Plain>, m: &Comparison) -> Result<(
     match m.form {
         Form::OnPair(_) => {
             emit_fetch(code, inner, &m.x)?;
-            emit_tested(code, &m.y)?;
+            emit_tested(code, &m.y)
         }
-        Form::OnLeft(_) => emit_tested(code, &m.x)?,
-        Form::OnRight(_) => emit_tested(code, &m.y)?,
-        Form::ByResult => emit_op(code, m.op, inner, rd, &left_of(m), &right_of(m))?,
+        Form::OnLeft(_) => emit_tested(code, &m.x),
+        Form::OnRight(_) => emit_tested(code, &m.y),
+        Form::ByResult => emit_op(code, m.op, inner, rd, &left_of(m), &right_of(m)),
         Form::ByOpposite => {
             emit_op(
                 code,
@@ -201,11 +201,10 @@ pub(crate) fn emit_comparison(code: &mut Vec<Plain>, m: &Comparison) -> Result<(
                 rd,
                 &right_of(m),
                 &left_of(m),
-            )?;
+            )
         }
-        Form::InResult => emit_op(code, m.op, inner, Reg::RESULT, &left_of(m), &right_of(m))?,
+        Form::InResult => emit_op(code, m.op, inner, Reg::RESULT, &left_of(m), &right_of(m)),
     }
-    Ok(())
 }
 
 // A branch on two registers.

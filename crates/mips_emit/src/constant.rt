@@ -1,28 +1,51 @@
 // Words and words of the frame, into registers.
 
-#![tactic(auto, using(crate::proofs::Left::some_behind, crate::proofs::Left::some_among))]
+#![tactic(auto, using(crate::proofs::Left::some_behind, crate::proofs::Left::some_among, crate::proofs::Left::emits_behind))]
 
 ghost use Rattle.std.specs.Prelude.{◌≡◌, ◌≤◌, ◌<◌, ◌++◌, ◌∷◌, [], true};
 ghost use Rattle.mips_emit.specs.declared.limits.TheConstants.{FRAME_BYTES};
-ghost use Rattle.mips_emit.specs.Code.{constant, is_small, half, li, load_word_at, store_word_at, move_code};
+ghost use Rattle.mips_emit.specs.Code.{one_or_two, constant, is_small, half, li, load_word_at, store_word_at, move_code};
 ghost use Rattle.mips_emit.specs.Left.{Emits};
 
 use mips_isa::{AluOp, ImmOp, LogicOp, NonzeroReg, Plain, Reg};
 use std::alloc::AllocError;
 use words::Width;
 
+/// One instruction; an Err is refused memory.
+pub(crate) fn emit_one(code: &mut Vec<Plain>, inst: Plain) -> Result<(), AllocError>
+    ensures { Emits result code.old.items (inst ∷ []) code.new.items }
+{
+    code.push(inst)?;
+    Ok(())
+}
+
+/// One or two instructions; an Err is refused memory.
+pub(crate) fn emit_one_or_two(
+    code: &mut Vec<Plain>,
+    first: Plain,
+    second: Option<Plain>,
+) -> Result<(), AllocError>
+    ensures { Emits result code.old.items (one_or_two first second) code.new.items }
+{
+    emit_one(code, first)?;
+    match second {
+        None => Ok(()),
+        Some(inst) => emit_one(code, inst),
+    }
+}
+
 /// A word of the frame into a register; an Err is refused memory.
 pub fn emit_load_word(code: &mut Vec<Plain>, rt: NonzeroReg, offset: u32) -> Result<(), AllocError>
     requires { offset ≤ FRAME_BYTES }
     ensures { Emits result code.old.items (load_word_at rt offset ∷ []) code.new.items }
 {
-    code.push(Plain::Load {
+    let inst = Plain::Load {
         width: Width::Word,
         rt,
         base: Reg::masked(29),
         offset: offset as i16,
-    })?;
-    Ok(())
+    };
+    emit_one(code, inst)
 }
 
 /// A register into a word of the frame; an Err is refused memory.
@@ -30,26 +53,26 @@ pub fn emit_store_word(code: &mut Vec<Plain>, rt: Reg, offset: u32) -> Result<()
     requires { offset ≤ FRAME_BYTES }
     ensures { Emits result code.old.items (store_word_at rt offset ∷ []) code.new.items }
 {
-    code.push(Plain::Store {
+    let inst = Plain::Store {
         width: Width::Word,
         rt,
         base: Reg::masked(29),
         offset: offset as i16,
-    })?;
-    Ok(())
+    };
+    emit_one(code, inst)
 }
 
 // One register into another.
 pub(crate) fn emit_move(code: &mut Vec<Plain>, rd: Reg, rs: Reg) -> Result<(), AllocError>
     ensures { Emits result code.old.items (move_code rd rs ∷ []) code.new.items }
 {
-    code.push(Plain::Alu {
+    let inst = Plain::Alu {
         op: AluOp::Addu,
         rd,
         rs,
         rt: Reg::ZERO,
-    })?;
-    Ok(())
+    };
+    emit_one(code, inst)
 }
 
 // Whether a word fits the 16 bits of an instruction, signed.
@@ -75,17 +98,17 @@ pub(crate) fn half(word: u32) -> i16
 pub fn emit_constant(code: &mut Vec<Plain>, rt: Reg, word: u32) -> Result<(), AllocError>
     ensures { Emits result code.old.items (constant rt word) code.new.items }
 {
-    code.push(Plain::LoadUpper {
+    let upper = Plain::LoadUpper {
         rt,
         imm: (word / 65_536 % 65_536) as u16,
-    })?;
-    code.push(Plain::Logic {
+    };
+    let lower = Plain::Logic {
         op: LogicOp::Ori,
         rt,
         rs: rt,
         imm: (word % 65_536) as u16,
-    })?;
-    Ok(())
+    };
+    emit_one_or_two(code, upper, Some(lower))
 }
 
 // A word into a register, as short as it can be.
@@ -93,26 +116,28 @@ pub(crate) fn emit_li(code: &mut Vec<Plain>, rt: Reg, word: u32) -> Result<(), A
     ensures { Emits result code.old.items (li rt word) code.new.items }
 {
     if is_small(word) {
-        code.push(Plain::Imm {
+        let inst = Plain::Imm {
             op: ImmOp::Addiu,
             rt,
             rs: Reg::ZERO,
             imm: half(word),
-        })?;
+        };
+        emit_one(code, inst)
     } else if word < 65_536 {
-        code.push(Plain::Logic {
+        let inst = Plain::Logic {
             op: LogicOp::Ori,
             rt,
             rs: Reg::ZERO,
             imm: word as u16,
-        })?;
+        };
+        emit_one(code, inst)
     } else if word % 65_536 == 0 {
-        code.push(Plain::LoadUpper {
+        let inst = Plain::LoadUpper {
             rt,
             imm: (word / 65_536 % 65_536) as u16,
-        })?;
+        };
+        emit_one(code, inst)
     } else {
-        emit_constant(code, rt, word)?;
+        emit_constant(code, rt, word)
     }
-    Ok(())
 }

@@ -1,6 +1,6 @@
 // Elements of globals: how they are reached.
 
-#![tactic(auto, using(crate::proofs::Left::some_behind, crate::proofs::Left::some_among))]
+#![tactic(auto, using(crate::proofs::Left::some_behind, crate::proofs::Left::some_among, crate::proofs::Left::emits_behind))]
 
 ghost use Rattle.std.specs.Prelude.{◌≡◌, ◌≤◌, ◌<◌, ◌++◌, ◌∷◌, []};
 ghost use Rattle.mblock.specs.declared.limits.TheConstants.{UNIT_BYTES};
@@ -11,6 +11,7 @@ ghost use Rattle.mips_emit.specs.Elements.{base_sum, base_code, base_offset, ele
 ghost use Rattle.mips_emit.specs.Code.{element_code, element_load, element_store};
 ghost use Rattle.mips_emit.specs.Left.{Emits};
 
+use crate::constant::{emit_one, emit_one_or_two};
 use crate::location::{Source, register};
 use crate::transfer::{emit_fetch, seat};
 use mips_isa::{AluOp, Amount, DATA_BASE, NonzeroReg, Plain, Reg, ShiftOp};
@@ -84,15 +85,17 @@ fn emit_scaled(code: &mut Vec<Plain>, width: Width, index: Reg) -> Result<(), Al
     ensures { Emits result code.old.items (scaled width index) code.new.items }
 {
     match width {
-        Width::Word => code.push(Plain::Shift {
-            op: ShiftOp::Sll,
-            rd: Reg::masked(1),
-            rt: index,
-            amount: Amount::masked(2),
-        })?,
-        Width::Byte => {}
+        Width::Word => {
+            let inst = Plain::Shift {
+                op: ShiftOp::Sll,
+                rd: Reg::masked(1),
+                rt: index,
+                amount: Amount::masked(2),
+            };
+            emit_one(code, inst)
+        }
+        Width::Byte => Ok(()),
     }
-    Ok(())
 }
 
 // The register that shows it then.
@@ -111,26 +114,20 @@ fn emit_sum(code: &mut Vec<Plain>, start: u32, index: Reg) -> Result<(), AllocEr
     ensures { Emits result code.old.items (base_sum start index) code.new.items }
 {
     let base = Reg::masked(if start < 65_536 { 28 } else { 2 });
+    let sum = Plain::Alu {
+        op: AluOp::Addu,
+        rd: Reg::masked(1),
+        rs: index,
+        rt: base,
+    };
     if start < 65_536 {
-        code.push(Plain::Alu {
-            op: AluOp::Addu,
-            rd: Reg::masked(1),
-            rs: index,
-            rt: base,
-        })?;
-    } else {
-        code.push(Plain::LoadUpper {
-            rt: base,
-            imm: page_of(start),
-        })?;
-        code.push(Plain::Alu {
-            op: AluOp::Addu,
-            rd: Reg::masked(1),
-            rs: index,
-            rt: base,
-        })?;
+        return emit_one(code, sum);
     }
-    Ok(())
+    let upper = Plain::LoadUpper {
+        rt: base,
+        imm: page_of(start),
+    };
+    emit_one_or_two(code, upper, Some(sum))
 }
 
 // The offset from that base.
@@ -157,13 +154,13 @@ pub(crate) fn emit_element(
     requires fits { FitsSource x.now }
     ensures { Emits result code.old.items (element_code width start place x.now) code.new.items }
 {
-    if place.is_none() {
-        let index = seat(register(1), x);
-        emit_fetch(code, register(1), x)?;
-        emit_scaled(code, width, index)?;
-        emit_sum(code, start, scaled_seat(width, index))?;
+    if place.is_some() {
+        return Ok(());
     }
-    Ok(())
+    let index = seat(register(1), x);
+    emit_fetch(code, register(1), x)?;
+    emit_scaled(code, width, index)?;
+    emit_sum(code, start, scaled_seat(width, index))
 }
 
 // The register from which an element is reached.

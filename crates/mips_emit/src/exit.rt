@@ -1,6 +1,6 @@
 // What stands before an exit.
 
-#![tactic(auto, using(crate::proofs::Left::some_behind, crate::proofs::Left::some_among))]
+#![tactic(auto, using(crate::proofs::Left::some_behind, crate::proofs::Left::some_among, crate::proofs::Left::emits_behind))]
 
 ghost use Rattle.std.specs.Prelude.{◌≡◌, ◌≤◌, ◌++◌, length};
 ghost use Rattle.mips_emit.specs.Frames.{IsReachable};
@@ -26,8 +26,7 @@ pub fn emit_arrival(
     requires { IsReachable frame.now }
     ensures { Emits result code.old.items (arrive (locations frame.now x) t) code.new.items }
 {
-    emit_arrive(code, locate(frame, x), t)?;
-    Ok(())
+    emit_arrive(code, locate(frame, x), t)
 }
 
 /// A pseudo-register into a register of its own, behind the last instruction; an Err is refused memory.
@@ -44,8 +43,7 @@ pub fn emit_departure(
         (carry t (last_operand (locations frame.now) (facts_of facts.now) fresh x))
         code.new.items }
 {
-    emit_carry(code, t, &last_operand(facts, fresh, frame, x))?;
-    Ok(())
+    emit_carry(code, t, &last_operand(facts, fresh, frame, x))
 }
 
 // A pseudo-register into a register of its own.
@@ -61,8 +59,7 @@ fn emit_argument(
         (carry t (operand (locations frame.now) (facts_of facts.now) x))
         code.new.items }
 {
-    emit_carry(code, t, &operand(facts, frame, x))?;
-    Ok(())
+    emit_carry(code, t, &operand(facts, frame, x))
 }
 
 /// Arguments into registers from 4 on; an Err is refused memory.

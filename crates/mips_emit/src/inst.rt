@@ -1,6 +1,6 @@
 // The code of instructions.
 
-#![tactic(auto, using(crate::proofs::Left::some_behind, crate::proofs::Left::some_among))]
+#![tactic(auto, using(crate::proofs::Left::some_behind, crate::proofs::Left::some_among, crate::proofs::Left::emits_behind))]
 
 ghost use Rattle.std.specs.Prelude.{◌≡◌, ◌<◌, ◌≤◌, ◌++◌, All, length, slice_index, if◌then◌else◌, OnOk, OnErr, IfOk, Some, None};
 ghost use Rattle.mblock.specs.declared.limits.TheConstants.{UNIT_BYTES};
@@ -16,6 +16,7 @@ ghost use Rattle.mips_emit.specs.Code.{const_code, put_at, bin_code, load_code, 
 ghost use Rattle.mips_emit.specs.Left.{Emits, StopsAmong};
 
 use crate::comparison::{Asked, Comparison, comparison_of, emit_comparison};
+use crate::constant::emit_one;
 use crate::element::{direct, element_load, element_store, emit_element};
 use crate::facts::{Knowledge, Last, fresh_of, is_lasting, known_word, last_with, learn, operand};
 use crate::location::{Location, inner_of, locate, register, word_source};
@@ -32,11 +33,10 @@ fn emit_held(code: &mut Vec<Plain>, r: NonzeroReg, word: u32) -> Result<(), Allo
     ensures { Emits result code.old.items (const_code (Some (Held r)) word) code.new.items }
 {
     if is_lasting(r) {
-        emit_bring(code, r, &word_source(word))?;
+        emit_bring(code, r, &word_source(word))
     } else {
-        code.push(Plain::nop())?;
+        emit_one(code, Plain::nop())
     }
-    Ok(())
 }
 
 // A word into a pseudo-register.
@@ -50,13 +50,12 @@ fn emit_const(
     ensures { Emits result code.old.items (const_code (locations frame.now d) (wrap word)) code.new.items }
 {
     match locate(frame, d) {
-        None => {}
+        None => Ok(()),
         Some(location) => match location {
-            Location::Held(r) => emit_held(code, r, word)?,
-            Location::InSlot(_) => emit_put(code, Some(location), &word_source(word))?,
+            Location::Held(r) => emit_held(code, r, word),
+            Location::InSlot(_) => emit_put(code, Some(location), &word_source(word)),
         },
     }
-    Ok(())
 }
 
 // A pseudo-register into another.
@@ -72,8 +71,7 @@ fn emit_move(
         (put_at (locations frame.now d) (operand (locations frame.now) (facts_of facts.now) a))
         code.new.items }
 {
-    emit_put(code, locate(frame, d), &operand(facts, frame, a))?;
-    Ok(())
+    emit_put(code, locate(frame, d), &operand(facts, frame, a))
 }
 
 // A pseudo-register as an operand, with what is known of it.
@@ -109,8 +107,7 @@ fn emit_bin(
     let inner = inner_of(locate(frame, d));
     let rd = into_of(locate(frame, d)).reg();
     emit_op(code, op, inner, rd, &x, &y)?;
-    emit_finish(code, locate(frame, d))?;
-    Ok(())
+    emit_finish(code, locate(frame, d))
 }
 
 // An element into a pseudo-register.
@@ -133,9 +130,8 @@ fn emit_load(
     let place = direct(width, start, known_word(facts, i));
     let rt = into_of(locate(frame, d));
     emit_element(code, width, start, place, &x)?;
-    code.push(element_load(width, rt, start, place))?;
-    emit_finish(code, locate(frame, d))?;
-    Ok(())
+    emit_one(code, element_load(width, rt, start, place))?;
+    emit_finish(code, locate(frame, d))
 }
 
 // A pseudo-register into an element.
@@ -159,8 +155,10 @@ fn emit_store(
     let place = direct(width, start, known_word(facts, i));
     emit_element(code, width, start, place, &x)?;
     emit_fetch(code, register(2), &y)?;
-    code.push(element_store(width, seat(register(2), &y), start, place))?;
-    Ok(())
+    emit_one(
+        code,
+        element_store(width, seat(register(2), &y), start, place),
+    )
 }
 
 // The first byte of a global.
@@ -200,19 +198,18 @@ fn emit_inst(
         code.new.items }
 {
     match inst {
-        RInst::Const(d, word) => emit_const(code, frame, *d, *word)?,
-        RInst::Move(d, a) => emit_move(code, facts, frame, *d, *a)?,
-        RInst::Bin(op, d, a, b) => emit_bin(code, facts, frame, *op, *d, *a, *b)?,
+        RInst::Const(d, word) => emit_const(code, frame, *d, *word),
+        RInst::Move(d, a) => emit_move(code, facts, frame, *d, *a),
+        RInst::Bin(op, d, a, b) => emit_bin(code, facts, frame, *op, *d, *a, *b),
         RInst::Load(d, a, i) => {
             let start = start_of(starts, *a);
-            emit_load(code, facts, frame, width_of(globals, *a), start, *d, *i)?;
+            emit_load(code, facts, frame, width_of(globals, *a), start, *d, *i)
         }
         RInst::Store(a, i, b) => {
             let start = start_of(starts, *a);
-            emit_store(code, facts, frame, width_of(globals, *a), start, *i, *b)?;
+            emit_store(code, facts, frame, width_of(globals, *a), start, *i, *b)
         }
     }
-    Ok(())
 }
 
 // One instruction, or the comparison that it is.
@@ -234,10 +231,9 @@ fn emit_next(
         code.new.items }
 {
     match comparison {
-        None => emit_inst(code, globals, starts, facts, frame, inst)?,
-        Some(m) => emit_comparison(code, m)?,
+        None => emit_inst(code, globals, starts, facts, frame, inst),
+        Some(m) => emit_comparison(code, m),
     }
-    Ok(())
 }
 
 // What the exit asks for, if it stands right behind.

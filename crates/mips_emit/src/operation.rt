@@ -1,18 +1,18 @@
 // Operators: on two registers, and on a register and a word.
 
-#![tactic(auto, using(crate::proofs::Left::some_behind, crate::proofs::Left::some_among))]
+#![tactic(auto, using(crate::proofs::Left::some_behind, crate::proofs::Left::some_among, crate::proofs::Left::emits_behind))]
 
-ghost use Rattle.std.specs.Prelude.{◌≡◌, ◌%◌, ◌++◌, ◌∷◌, [], true, nat_lt, if◌then◌else◌, Some, None};
+ghost use Rattle.std.specs.Prelude.{◌≡◌, ℕ, ◌%◌, ◌++◌, ◌∷◌, [], true, nat_lt, take, drop, if◌then◌else◌, Some, None};
 ghost use Rattle.mips_isa.specs.declared.inst.LogicOp.TheVariants.{Xori};
-ghost use Rattle.rtl.specs.declared.operator.Op.TheVariants.{Mul, Xor};
-ghost use Rattle.mips_isa.specs.declared.inst.Plain.TheVariants.{Shift, ShiftBy, Alu, Imm, Logic, MoveFrom, Divide};
+ghost use Rattle.rtl.specs.declared.operator.Op.TheVariants.{Xor};
+ghost use Rattle.mips_isa.specs.declared.inst.Plain.TheVariants.{Shift, ShiftBy, Alu, Imm, Logic, Divide};
 ghost use Rattle.mips_emit.specs.Locations.{FitsSource};
-ghost use Rattle.mips_emit.specs.Code.{is_small, half, fetch, operation, opposite, is_power, immediate, immediate_of, is_symmetric};
-ghost use Rattle.mips_emit.specs.Code.{one_or_two, turned_immediate_of};
-ghost use Rattle.mips_emit.specs.Code.{turned_less_of, code_by_less, code_by_left, code_by_right, code_by_word, op_code};
+ghost use Rattle.mips_emit.specs.Code.{is_small, half, fetch, as_list, operation, is_power, immediate, immediate_of, is_symmetric};
+ghost use Rattle.mips_emit.specs.Code.{one_or_two, turned_immediate_of, fetch_if, selection_code};
+ghost use Rattle.mips_emit.specs.Code.{turned_less_of, code_by_word, op_code};
 ghost use Rattle.mips_emit.specs.Left.{Emits};
 
-use crate::constant::{half, is_small};
+use crate::constant::{emit_one_or_two, half, is_small};
 use crate::location::{Source, register};
 use crate::product::{emit_multiple, multiple_of};
 use crate::transfer::{emit_fetch, seat};
@@ -87,91 +87,71 @@ fn if_half(op: LogicOp, rt: Reg, rs: Reg, word: u32) -> Option<Plain>
     }
 }
 
-// A division, whose quotient or remainder goes to rd.
-fn division(sign: Sign, place: HiLo, rd: Reg, rs: Reg, rt: Reg) -> (Plain, Option<Plain>)
-    ensures { one_or_two result.0 result.1 ≡ Divide sign rs rt ∷ MoveFrom place rd ∷ [] }
+// A division.
+fn division(sign: Sign, rs: Reg, rt: Reg) -> Plain
+    ensures { result ≡ Divide sign rs rt }
 {
-    (
-        Plain::Divide { sign, rs, rt },
-        Some(Plain::MoveFrom { place, rd }),
-    )
+    Plain::Divide { sign, rs, rt }
 }
 
-// Not above: whether the second isn't less than the first.
-fn not_above(less: AluOp, rd: Reg, rs: Reg, rt: Reg) -> (Plain, Option<Plain>)
-    ensures { one_or_two result.0 result.1 ≡ Alu less rd rt rs ∷ Logic Xori rd rd 1 ∷ [] }
+// A truth value turned: 1 where it was 0.
+fn turned(rd: Reg) -> Plain
+    ensures { result ≡ Logic Xori rd rd 1 }
 {
-    let turned = Plain::Logic {
+    Plain::Logic {
         op: LogicOp::Xori,
         rt: rd,
         rs: rd,
         imm: 1,
-    };
-    (alu(less, rd, rt, rs), Some(turned))
+    }
 }
 
-// A product, whose lower half goes to rd.
-fn product(rd: Reg, rs: Reg, rt: Reg) -> (Plain, Option<Plain>)
-    ensures { one_or_two result.0 result.1 ≡ operation Mul rd rs rt }
-{
-    let sign = Sign::Unsigned;
-    let place = HiLo::Lo;
-    (
-        Plain::Multiply { sign, rs, rt },
-        Some(Plain::MoveFrom { place, rd }),
-    )
-}
-
-// An operator on two registers: an instruction, and a second one where it takes two. A test of equality is the difference, and
-// then whether it is 0.
-fn operation(op: Op, rd: Reg, rs: Reg, rt: Reg) -> (Plain, Option<Plain>)
-    ensures { one_or_two result.0 result.1 ≡ operation op rd rs rt }
+// The first instruction of an operator on two registers.
+fn first_of(op: Op, rd: Reg, rs: Reg, rt: Reg) -> Plain
+    ensures { take 1 (operation op rd rs rt) ≡ result ∷ [] }
 {
     match op {
-        Op::Add => (alu(AluOp::Addu, rd, rs, rt), None),
-        Op::Sub => (alu(AluOp::Subu, rd, rs, rt), None),
-        Op::Mul => product(rd, rs, rt),
-        Op::DivS => division(Sign::Signed, HiLo::Lo, rd, rs, rt),
-        Op::DivU => division(Sign::Unsigned, HiLo::Lo, rd, rs, rt),
-        Op::RemS => division(Sign::Signed, HiLo::Hi, rd, rs, rt),
-        Op::RemU => division(Sign::Unsigned, HiLo::Hi, rd, rs, rt),
-        Op::And => (alu(AluOp::And, rd, rs, rt), None),
-        Op::Or => (alu(AluOp::Or, rd, rs, rt), None),
-        Op::Xor => (alu(AluOp::Xor, rd, rs, rt), None),
-        Op::Shl => (shift_by(ShiftOp::Sll, rd, rs, rt), None),
-        Op::ShrU => (shift_by(ShiftOp::Srl, rd, rs, rt), None),
-        Op::ShrS => (shift_by(ShiftOp::Sra, rd, rs, rt), None),
-        Op::Eq => (
-            alu(AluOp::Subu, rd, rs, rt),
-            Some(imm(ImmOp::Sltiu, rd, rd, 1)),
-        ),
-        Op::Ne => (
-            alu(AluOp::Subu, rd, rs, rt),
-            Some(alu(AluOp::Sltu, rd, Reg::ZERO, rd)),
-        ),
-        Op::LtS => (alu(AluOp::Slt, rd, rs, rt), None),
-        Op::LtU => (alu(AluOp::Sltu, rd, rs, rt), None),
-        Op::LeS => not_above(AluOp::Slt, rd, rs, rt),
-        Op::LeU => not_above(AluOp::Sltu, rd, rs, rt),
+        Op::Add => alu(AluOp::Addu, rd, rs, rt),
+        Op::Sub | Op::Eq | Op::Ne => alu(AluOp::Subu, rd, rs, rt),
+        Op::Mul => Plain::Multiply {
+            sign: Sign::Unsigned,
+            rs,
+            rt,
+        },
+        Op::DivS | Op::RemS => division(Sign::Signed, rs, rt),
+        Op::DivU | Op::RemU => division(Sign::Unsigned, rs, rt),
+        Op::And => alu(AluOp::And, rd, rs, rt),
+        Op::Or => alu(AluOp::Or, rd, rs, rt),
+        Op::Xor => alu(AluOp::Xor, rd, rs, rt),
+        Op::Shl => shift_by(ShiftOp::Sll, rd, rs, rt),
+        Op::ShrU => shift_by(ShiftOp::Srl, rd, rs, rt),
+        Op::ShrS => shift_by(ShiftOp::Sra, rd, rs, rt),
+        Op::LtS => alu(AluOp::Slt, rd, rs, rt),
+        Op::LtU => alu(AluOp::Sltu, rd, rs, rt),
+        Op::LeS => alu(AluOp::Slt, rd, rt, rs),
+        Op::LeU => alu(AluOp::Sltu, rd, rt, rs),
     }
 }
 
-// The same into code.
-fn emit_operation(
-    code: &mut Vec<Plain>,
-    op: Op,
-    rd: Reg,
-    rs: Reg,
-    rt: Reg,
-) -> Result<(), AllocError>
-    ensures { Emits result code.old.items (operation op rd rs rt) code.new.items }
+// The second one, where it takes two: the result of a product or division, a test that the second operand isn't less than the
+// first, and a test of equality, which is one of the difference.
+fn second_of(op: Op, rd: Reg) -> Option<Plain>
+    ensures { (a b : ℕ) → drop 1 (operation op rd a b) ≡ as_list result }
 {
-    let (first, second) = operation(op, rd, rs, rt);
-    code.push(first)?;
-    if let Some(inst) = second {
-        code.push(inst)?;
+    match op {
+        Op::Mul | Op::DivS | Op::DivU => Some(Plain::MoveFrom {
+            place: HiLo::Lo,
+            rd,
+        }),
+        Op::RemS | Op::RemU => Some(Plain::MoveFrom {
+            place: HiLo::Hi,
+            rd,
+        }),
+        Op::Eq => Some(imm(ImmOp::Sltiu, rd, rd, 1)),
+        Op::Ne => Some(alu(AluOp::Sltu, rd, Reg::ZERO, rd)),
+        Op::LeS | Op::LeU => Some(turned(rd)),
+        _ => None,
     }
-    Ok(())
 }
 
 // An exclusive or with a word, which is a complement where all bits are set.
@@ -260,42 +240,74 @@ fn turned_less_of(op: Op, rd: Reg, rt: Reg, known: Option<u32>) -> Option<Plain>
     }
 }
 
-// An operator whose right operand isn't in the instruction.
-fn emit_by_less(
-    code: &mut Vec<Plain>,
-    op: Op,
-    inner: NonzeroReg,
-    rd: Reg,
-    less: Option<Plain>,
-    x: &Source,
-    y: &Source,
-) -> Result<(), AllocError>
-    requires left { FitsSource x.now }
-    requires right { FitsSource y.now }
-    ensures { Emits result code.old.items (code_by_less op inner rd less x.now y.now) code.new.items }
-{
-    if let Some(inst) = less {
-        emit_fetch(code, register(2), y)?;
-        code.push(inst)?;
-        code.push(Plain::Logic {
-            op: LogicOp::Xori,
-            rt: rd,
-            rs: rd,
-            imm: 1,
-        })?;
-        return Ok(());
-    }
-    emit_fetch(code, inner, x)?;
-    emit_fetch(code, register(2), y)?;
-    emit_operation(code, op, rd, seat(inner, x), seat(register(2), y))?;
-    Ok(())
-}
-
 /// An operand with what is known of it.
 #[derive(Clone, Copy)]
 pub(crate) struct Operand {
     pub(crate) known: Option<u32>,
     pub(crate) source: Source,
+}
+
+// The instructions of an operator: whether each operand is fetched, and one or two behind.
+#[derive(Clone, Copy)]
+struct Selection {
+    fetches_left: bool,
+    fetches_right: bool,
+    first: Plain,
+    second: Option<Plain>,
+}
+
+// Instructions for one operand, the left one or the right one, behind which a second may stand.
+fn by_word(left: bool, first: Plain, second: Option<Plain>) -> Selection
+    ensures { (t : ℕ) (x y : Source) → selection_code t result x y ≡ (if left then fetch t x else fetch 2 y) ++ one_or_two first second }
+{
+    Selection {
+        fetches_left: left,
+        fetches_right: !left,
+        first,
+        second,
+    }
+}
+
+// An operator by a word in its instruction if it can be: one on the right, one on the left, or one on the left of a test that is then
+// turned.
+fn select(op: Op, inner: NonzeroReg, rd: Reg, x: &Operand, y: &Operand) -> Selection
+    ensures { selection_code inner result x.now.source y.now.source
+        ≡ code_by_word op inner rd x.now.known y.now.known x.now.source y.now.source }
+{
+    let rs = seat(inner, &x.source);
+    let rt = seat(register(2), &y.source);
+    if let Some(first) = immediate_of(op, rd, rs, y.known) {
+        return by_word(true, first, None);
+    }
+    if let Some(first) = turned_immediate_of(op, rd, rt, x.known) {
+        return by_word(false, first, None);
+    }
+    match turned_less_of(op, rd, rt, x.known) {
+        Some(first) => by_word(false, first, Some(turned(rd))),
+        None => Selection {
+            fetches_left: true,
+            fetches_right: true,
+            first: first_of(op, rd, rs, rt),
+            second: second_of(op, rd),
+        },
+    }
+}
+
+// An operand where it is fetched.
+fn emit_fetch_if(
+    code: &mut Vec<Plain>,
+    fetches: bool,
+    t: NonzeroReg,
+    x: &Source,
+) -> Result<(), AllocError>
+    requires { FitsSource x.now }
+    ensures { Emits result code.old.items (fetch_if fetches t x.now) code.new.items }
+{
+    if fetches {
+        emit_fetch(code, t, x)
+    } else {
+        Ok(())
+    }
 }
 
 // An operator into a register, by a word in its instruction if it can be.
@@ -311,20 +323,10 @@ fn emit_by_word(
     requires right { FitsSource y.now.source }
     ensures { Emits result code.old.items (code_by_word op inner rd x.now.known y.now.known x.now.source y.now.source) code.new.items }
 {
-    if let Some(inst) = immediate_of(op, rd, seat(inner, &x.source), y.known) {
-        emit_fetch(code, inner, &x.source)?;
-        code.push(inst)?;
-        return Ok(());
-    }
-    let rt = seat(register(2), &y.source);
-    if let Some(inst) = turned_immediate_of(op, rd, rt, x.known) {
-        emit_fetch(code, register(2), &y.source)?;
-        code.push(inst)?;
-        return Ok(());
-    }
-    let less = turned_less_of(op, rd, rt, x.known);
-    emit_by_less(code, op, inner, rd, less, &x.source, &y.source)?;
-    Ok(())
+    let selected = select(op, inner, rd, x, y);
+    emit_fetch_if(code, selected.fetches_left, inner, &x.source)?;
+    emit_fetch_if(code, selected.fetches_right, register(2), &y.source)?;
+    emit_one_or_two(code, selected.first, selected.second)
 }
 
 /// An operator into a register, the left operand by way of the inner temporary; an Err is refused memory.
@@ -341,13 +343,10 @@ pub(crate) fn emit_op(
     ensures { Emits result code.old.items (op_code op inner rd x.now.known y.now.known x.now.source y.now.source) code.new.items }
 {
     if let Some(m) = multiple_of(op, y.known) {
-        emit_multiple(code, inner, rd, m, &x.source)?;
-        return Ok(());
+        return emit_multiple(code, inner, rd, m, &x.source);
     }
     if let Some(m) = multiple_of(op, x.known) {
-        emit_multiple(code, inner, rd, m, &y.source)?;
-        return Ok(());
+        return emit_multiple(code, inner, rd, m, &y.source);
     }
-    emit_by_word(code, op, inner, rd, x, y)?;
-    Ok(())
+    emit_by_word(code, op, inner, rd, x, y)
 }

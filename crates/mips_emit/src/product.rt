@@ -1,12 +1,13 @@
 // Products by a word that is one more or one less than a power of 2: a shift, and a sum or a difference.
 
-#![tactic(auto, using(crate::proofs::Left::some_behind, crate::proofs::Left::some_among))]
+#![tactic(auto, using(crate::proofs::Left::some_behind, crate::proofs::Left::some_among, crate::proofs::Left::emits_behind))]
 
 ghost use Rattle.std.specs.Prelude.{◌≡◌, ◌%◌, ◌++◌, ◌∷◌, []};
 ghost use Rattle.mips_emit.specs.Locations.{FitsSource};
 ghost use Rattle.mips_emit.specs.Code.{multiple, multiple_of, multiple_code, exponent};
 ghost use Rattle.mips_emit.specs.Left.{Emits};
 
+use crate::constant::emit_one_or_two;
 use crate::location::Source;
 use crate::operation::is_power;
 use crate::transfer::{emit_fetch, seat};
@@ -78,17 +79,17 @@ pub(crate) fn emit_multiple(
     let shifted = Reg::masked(2);
     let operand = seat(inner, x);
     emit_fetch(code, inner, x)?;
-    code.push(Plain::Shift {
+    let shift = Plain::Shift {
         op: ShiftOp::Sll,
         rd: shifted,
         rt: operand,
         amount: m.amount,
-    })?;
-    code.push(Plain::Alu {
+    };
+    let sum = Plain::Alu {
         op: m.op,
         rd,
         rs: shifted,
         rt: operand,
-    })?;
-    Ok(())
+    };
+    emit_one_or_two(code, shift, Some(sum))
 }

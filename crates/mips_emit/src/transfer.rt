@@ -1,6 +1,6 @@
 // Operands into registers, and results into locations.
 
-#![tactic(auto, using(crate::proofs::Left::some_behind, crate::proofs::Left::some_among))]
+#![tactic(auto, using(crate::proofs::Left::some_behind, crate::proofs::Left::some_among, crate::proofs::Left::emits_behind))]
 
 ghost use Rattle.std.specs.Prelude.{◌≡◌, ◌++◌};
 ghost use Rattle.mips_emit.specs.Locations.{FitsPlace, FitsSource};
@@ -18,14 +18,13 @@ pub fn emit_fetch(code: &mut Vec<Plain>, t: NonzeroReg, x: &Source) -> Result<()
     ensures { Emits result code.old.items (fetch t x.now) code.new.items }
 {
     match x {
-        Source::Zero => {}
-        Source::Word(word) => emit_li(code, t.reg(), *word)?,
+        Source::Zero => Ok(()),
+        Source::Word(word) => emit_li(code, t.reg(), *word),
         Source::From(location) => match location {
-            Location::Held(_) => {}
-            Location::InSlot(k) => emit_load_word(code, t, 4 * *k)?,
+            Location::Held(_) => Ok(()),
+            Location::InSlot(k) => emit_load_word(code, t, 4 * *k),
         },
     }
-    Ok(())
 }
 
 /// The register that shows an operand then.
@@ -48,14 +47,13 @@ pub(crate) fn emit_bring(code: &mut Vec<Plain>, t: NonzeroReg, x: &Source) -> Re
     ensures { Emits result code.old.items (bring t x.now) code.new.items }
 {
     match x {
-        Source::Zero => emit_move(code, t.reg(), Reg::ZERO)?,
-        Source::Word(word) => emit_li(code, t.reg(), *word)?,
+        Source::Zero => emit_move(code, t.reg(), Reg::ZERO),
+        Source::Word(word) => emit_li(code, t.reg(), *word),
         Source::From(location) => match location {
-            Location::Held(r) => emit_move(code, t.reg(), r.reg())?,
-            Location::InSlot(k) => emit_load_word(code, t, 4 * *k)?,
+            Location::Held(r) => emit_move(code, t.reg(), r.reg()),
+            Location::InSlot(k) => emit_load_word(code, t, 4 * *k),
         },
     }
-    Ok(())
 }
 
 /// An operand into a register of its own, but where it is there already; an Err is refused memory.
@@ -63,10 +61,10 @@ pub(crate) fn emit_carry(code: &mut Vec<Plain>, t: NonzeroReg, x: &Source) -> Re
     requires { FitsSource x.now }
     ensures { Emits result code.old.items (carry t x.now) code.new.items }
 {
-    if !stays(t, x) {
-        emit_bring(code, t, x)?;
+    if stays(t, x) {
+        return Ok(());
     }
-    Ok(())
+    emit_bring(code, t, x)
 }
 
 // Whether an operand is in a register already.
@@ -102,15 +100,12 @@ pub(crate) fn emit_finish(code: &mut Vec<Plain>, place: Option<Location>) -> Res
     ensures { Emits result code.old.items (finish place) code.new.items }
 {
     match place {
-        None => {}
+        None => Ok(()),
         Some(location) => match location {
-            Location::Held(_) => {}
-            Location::InSlot(k) => {
-                emit_store_word(code, inner_of(Some(location)).reg(), 4 * k)?;
-            }
+            Location::Held(_) => Ok(()),
+            Location::InSlot(k) => emit_store_word(code, inner_of(Some(location)).reg(), 4 * k),
         },
     }
-    Ok(())
 }
 
 /// An operand into a location; an Err is refused memory.
@@ -124,17 +119,16 @@ pub(crate) fn emit_put(
     ensures { Emits result code.old.items (put_at place x.now) code.new.items }
 {
     match place {
-        None => {}
+        None => Ok(()),
         Some(location) => match location {
-            Location::Held(r) => emit_bring(code, r, x)?,
+            Location::Held(r) => emit_bring(code, r, x),
             Location::InSlot(k) => {
                 let inner = inner_of(Some(location));
                 emit_fetch(code, inner, x)?;
-                emit_store_word(code, seat(inner, x), 4 * k)?;
+                emit_store_word(code, seat(inner, x), 4 * k)
             }
         },
     }
-    Ok(())
 }
 
 /// A register into a location, but where it is that register; an Err is refused memory.
@@ -147,11 +141,10 @@ pub(crate) fn emit_arrive(
     ensures { Emits result code.old.items (arrive place t) code.new.items }
 {
     match place {
-        None => {}
+        None => Ok(()),
         Some(location) => match location {
-            Location::Held(r) => emit_carry(code, r, &Source::From(Location::Held(t)))?,
-            Location::InSlot(k) => emit_store_word(code, t.reg(), 4 * k)?,
+            Location::Held(r) => emit_carry(code, r, &Source::From(Location::Held(t))),
+            Location::InSlot(k) => emit_store_word(code, t.reg(), 4 * k),
         },
     }
-    Ok(())
 }

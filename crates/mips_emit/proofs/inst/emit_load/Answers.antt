@@ -1,25 +1,28 @@
-use Rattle.std.proofs.Common.{[], ◌∷◌, ◌++◌, ap, ap₂, ◌∙◌}
+use Rattle.std.proofs.Common.{ap, ◌∙◌}
 use Rattle.mips_emit.specs.Elements.{direct}
-use Rattle.mips_emit.specs.Locations.{facts_of, known_in, locations, operand}
-use Rattle.mips_emit.specs.Code.{into, finish, element_code, element_load}
-use Rattle.mips_emit.proofs.Left.{in_two}
+use Rattle.mips_emit.specs.Code.{into, finish}
+use Rattle.mips_emit.proofs.Left.{some_before, some_behind, at_some, in_two, emits_behind}
 use Rattle.mips_emit.proofs.inst.emit_load.Goals as goal
 
 pub returns : goal.returns
 returns c =
-    let was = c.args.code.now.items in
-    let w = c.args.width in
-    let start = c.args.start in
-    let facts = facts_of c.args.facts.now in
-    let to = locations c.args.frame.now c.args.d in
-    let place = direct w start (known_in facts c.args.i) in
-    let place_is = c.direct-place.ensures.value ∙ ap (direct w start) c.known_word.ensures in
+    let place = c.direct-place.ensures.value ∙ ap (direct c.args.width c.args.start) c.known_word.ensures in
     let rt = c.into_of-rt.ensures ∙ ap into c.locate.ensures.value in
-    let mid = c.emit_element.new.code.items in
-    let next = c.push.new.self.items in
-    let code = element_code w start place (operand (locations c.args.frame.now) facts c.args.i) in
-    in_two was next _ (code ++ element_load w (into to) start place ∷ []) (finish to)
-    (in_two was mid next code (element_load w (into to) start place ∷ [])
-    (c.in_ok-emit_element.ensures ∙ ap₂ (λ p x. was ++ element_code w start p x) place_is c.operand-x.ensures.value)
-    (c.in_ok-push.ensures.items ∙ ap (λ i. mid ++ i ∷ []) (c.element_load.ensures ∙ ap₂ (λ t p. element_load w t start p) rt place_is)))
-    (c.in_ok-emit_finish.ensures ∙ ap (λ p. next ++ finish p) c.locate-2.ensures.value)
+    let behind = ap finish c.locate-2.ensures.value in
+    rw (← place, ← c.operand-x.ensures.value, ← rt, ← behind, ← c.element_load.ensures) (emits_behind c.emit_finish.result _ _ _ _ _
+    (in_two _ _ _ _ _ c.in_ok-emit_element.ensures c.in_ok-emit_one.ensures) c.emit_finish.ensures)
+
+pub returns-in_err-emit_element : goal.returns-in_err-emit_element
+returns-in_err-emit_element c =
+    let place = c.direct-place.ensures.value ∙ ap (direct c.args.width c.args.start) c.known_word.ensures in
+    let from = c.from_residual in
+    rw (← place, ← c.operand-x.ensures.value)
+    (at_some from.result _ _ _ from.ensures.0 (some_before _ _ _ _ (some_before _ _ _ _ c.in_err-emit_element.ensures)))
+
+pub returns-in_err-emit_one : goal.returns-in_err-emit_one
+returns-in_err-emit_one c =
+    let place = c.direct-place.ensures.value ∙ ap (direct c.args.width c.args.start) c.known_word.ensures in
+    let rt = c.into_of-rt.ensures ∙ ap into c.locate.ensures.value in
+    let from = c.from_residual-in_err-emit_one in
+    rw (← place, ← c.operand-x.ensures.value, ← rt, ← c.element_load.ensures) (at_some from.result _ _ _ from.ensures.0
+    (some_before _ _ _ _ (some_behind _ _ _ _ _ c.in_ok-emit_element.ensures c.in_err-emit_one.ensures)))

@@ -1,18 +1,22 @@
-use Rattle.std.proofs.Common.{sym, ap, ◌∙◌}
-use Rattle.mips_emit.specs.Code.{seat, immediate_of, turned_immediate_of, turned_less_of}
-use Rattle.mips_emit.proofs.Left.{by_less_made}
+use Rattle.std.proofs.Common.{◌++◌}
+use Rattle.mips_emit.specs.Code.{fetch_if, one_or_two}
+use Rattle.mips_emit.proofs.Left.{some_before, some_among, at_some, emits_third}
 use Rattle.mips_emit.proofs.operation.emit_by_word.Goals as goal
 
 pub returns : goal.returns
 returns c =
-    let op = c.args.op in
-    let rd = c.args.rd in
-    let left = c.args.x.now.known in
-    let right = c.args.y.now.known in
-    let rt = c.seat-rt.ensures ∙ ap (λ t. seat t c.args.y.now.source) c.register.ensures in
-    by_less_made op c.args.inner rd (immediate_of op rd (seat c.args.inner c.args.x.now.source) right)
-    (turned_immediate_of op rd (seat 2 c.args.y.now.source) left) (turned_less_of op rd (seat 2 c.args.y.now.source) left) _ c.args.x.now.source
-    c.args.y.now.source _ _
-    (sym (c.immediate_of.ensures ∙ ap (λ q. immediate_of op rd q right) c.seat.ensures) ∙ c.in_default.is)
-    (sym (c.turned_immediate_of.ensures ∙ ap (λ q. turned_immediate_of op rd q left) rt) ∙ c.in_default-turned_immediate_of.is)
-    (c.turned_less_of-less.ensures ∙ ap (λ q. turned_less_of op rd q left) rt) c.in_ok-emit_by_less.ensures
+    rw (← c.select-selected.ensures, ← c.register.ensures) (emits_third c.emit_one_or_two.result _ _ _ _ _ _ _ c.in_ok-emit_fetch_if.ensures
+    c.in_ok-emit_fetch_if-2.ensures c.emit_one_or_two.ensures)
+
+pub returns-in_err-emit_fetch_if : goal.returns-in_err-emit_fetch_if
+returns-in_err-emit_fetch_if c =
+    let s = c.select-selected.result in
+    rw (← c.select-selected.ensures) (at_some c.from_residual.result _ _ _ c.from_residual.ensures.0
+    (some_before _ _ _ (fetch_if s.fetches_right 2 c.args.y.now.source ++ one_or_two s.first s.second) c.in_err-emit_fetch_if.ensures))
+
+pub returns-in_err-emit_fetch_if-2 : goal.returns-in_err-emit_fetch_if-2
+returns-in_err-emit_fetch_if-2 c =
+    let s = c.select-selected.result in
+    let from = c.from_residual-in_err-emit_fetch_if-2 in
+    rw (← c.select-selected.ensures, ← c.register.ensures) (at_some from.result _ _ _ from.ensures.0
+    (some_among _ _ _ _ _ (one_or_two s.first s.second) c.in_ok-emit_fetch_if.ensures c.in_err-emit_fetch_if-2.ensures))
