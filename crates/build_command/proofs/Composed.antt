@@ -8,7 +8,7 @@ use Rattle.c_typed.specs.Trees.{TypedProgram}
 use Rattle.c_typed.specs.Meaning.{source_run}
 use Rattle.rtl.specs.Programs.{Program}
 use Rattle.rtl.specs.Meaning.{rtl_run}
-use Rattle.rtl_lower.specs.Correct.{KeepsRuns as Lowers}
+use Rattle.rtl_lower.specs.Laws.{KeepsRuns as Lowers}
 use Rattle.mips_select.specs.Laws.{KeepsRuns as Selects}
 use Rattle.mblock.specs.Parts.{OrderParts}
 use Rattle.mblock.specs.Units.{UnitParts}

@@ -9,7 +9,7 @@ use Rattle.std.proofs.lemmas.Option.{slice_get_within, same_Some}
 use Rattle.rtl.specs.Names.{bound, blocks_names, how_many, uses_of}
 use Rattle.mips_homes.specs.HomedRun.{is_in, is_lasting}
 use Rattle.mips_homes.specs.Homes.{HasHome, HaveHomes, Serves, AreAllHomes}
-use Rattle.mips_homes.specs.Correct.{KeepsRtlRuns}
+use Rattle.mips_homes.specs.Laws.{KeepsRtlRuns}
 use Rattle.mips_homes.specs.Choice.{count_below, rank, is_register_home, IsChoice, AreChoices}
 use Rattle.mips_homes.specs.Best.{IsRanked, IsBest, IsHome, AreHomesOf, AreFirst}
 use Rattle.mips_homes.proofs.Choosing.{one_if, count_none, count_all, count_more, at_index, is_in_at, in_best}

@@ -18,7 +18,7 @@ use Rattle.mips_homes.specs.HomedRun.{write_home, write_homes, is_in, registers_
 use Rattle.mips_homes.specs.HomedRun.{state_at_block, with_result, state_after_return, state_after_call, state_after_exit, step_at}
 use Rattle.mips_homes.specs.HomedRun.{homed_step, homed_steps, homed_start, outcome}
 use Rattle.mips_homes.specs.Homes.{HasHome, HaveHomes, AreHomes, Serves, AreAllHomes}
-use Rattle.mips_homes.specs.Correct.{KeepsRtlRuns}
+use Rattle.mips_homes.specs.Laws.{KeepsRtlRuns}
 use Rattle.mips_homes.specs.declared.homed.Home.{Home}
 use Rattle.mips_homes.specs.declared.homed.Home.TheVariants.{Reg, Slot}
 use Rattle.mips_homes.specs.declared.homed.Frame.{Frame}

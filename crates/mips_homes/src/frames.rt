@@ -2,7 +2,7 @@
 
 ghost use Rattle.std.specs.Prelude.{◌≡◌, ℕ, ◌≤◌, ◌^◌, length, IfOk, Some};
 ghost use Rattle.mips_homes.specs.Choice.{IsChoice, AreChoices};
-ghost use Rattle.mips_homes.specs.Correct.{KeepsRtlRuns};
+ghost use Rattle.mips_homes.specs.Laws.{KeepsRtlRuns};
 ghost use Rattle.mips_homes.specs.Best.{IsPlace, AreHomesOf, AreFirst};
 
 use crate::best::best_eight;

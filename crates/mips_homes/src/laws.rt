@@ -1,5 +1,5 @@
 // The laws of runs over homes, each as the contract of a function that does nothing.
-ghost use Rattle.mips_homes.specs.Correct.{EachHomedRunIsTheRun};
+ghost use Rattle.mips_homes.specs.Laws.{EachHomedRunIsTheRun};
 ghost use Rattle.mips_homes.specs.Forgetting.{EachChoiceNeverForgets};
 
 /// A program over homes that serve it does what the program does. A law: it computes nothing.

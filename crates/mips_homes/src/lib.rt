@@ -13,7 +13,7 @@
 //! (`each_choice_never_forgets`).
 //!
 //! Definitions, in an order to read: `specs/HomedRun.antt` has what a program does over homes, `specs/Locals.antt` which
-//! pseudo-registers are local, `specs/Homes.antt` when homes serve a program, `specs/Correct.antt` the theorem,
+//! pseudo-registers are local, `specs/Homes.antt` when homes serve a program, `specs/Laws.antt` the theorem,
 //! `specs/Choice.antt`, `specs/Hints.antt` and `specs/Places.antt` the choice. It takes three passes over the program and eight
 //! over the counts.
 //!

@@ -3,7 +3,7 @@
 ghost use Rattle.std.specs.Prelude.{◌≡◌, ◌≤◌, ◌^◌, None, [], length, if◌then◌else◌, IfOk, OnOk};
 ghost use Rattle.mips_homes.specs.HomedRun.{is_in};
 ghost use Rattle.mips_homes.specs.Hints.{hint};
-ghost use Rattle.mips_homes.specs.Correct.{KeepsRtlRuns};
+ghost use Rattle.mips_homes.specs.Laws.{KeepsRtlRuns};
 ghost use Rattle.mips_homes.specs.Locals.{is_local};
 ghost use Rattle.mips_homes.specs.Places.{first_free, free_register, home_or, also, places_from, is_register, lives_in, still_saved};
 ghost use Rattle.mips_homes.specs.Places.{is_slot, some_slot, IsPlaced, IsPlacedFor, ArePlaced};

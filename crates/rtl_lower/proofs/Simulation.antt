@@ -39,7 +39,7 @@ use Rattle.rtl_emit.specs.Runs.{at_code, at, Surroundings, Goes, Moves, Holds}
 use Rattle.rtl_emit.specs.Expressions.{IsPlace, Fetches, Decides}
 use Rattle.rtl_emit.proofs.Steps.{goes_one, with_some, chained, jump_to, holds_kept, written_here, written_other}
 use Rattle.rtl_emit.proofs.Values.{taken, taken_all}
-use Rattle.rtl_lower.specs.Correct.{KeepsRuns}
+use Rattle.rtl_lower.specs.Laws.{KeepsRuns}
 use Rattle.rtl_lower.specs.Coded.{Sits, put_code, Coded, Receives, IsCodeOf, IsCodeOfProgram}
 use Rattle.rtl_lower.proofs.Spots.{lands_sits, sits_there, lands_there, comes_join}
 use Rattle.rtl_lower.proofs.Follows.{Fits, Targets, Follows, Stands, there_coded, there_follows, follows_before, follows_all, follows_from, settles}

@@ -1,5 +1,5 @@
 -- to believe
-pub mod Correct
+pub mod Laws
 pub mod Sizes
 -- words of private functions
 pub mod Sound

@@ -7,7 +7,7 @@ ghost use Rattle.c_typed.specs.declared.limits.TheConstants.{MAX_GLOBAL_WORDS};
 ghost use Rattle.rtl_lower.specs.Coded.{AreCodesOf, AreGlobalsOf};
 ghost use Rattle.rtl.specs.Programs.{block_count};
 ghost use Rattle.rtl.specs.declared.limits.TheConstants.{MAX_REGISTERS};
-ghost use Rattle.rtl_lower.specs.Correct.{KeepsRuns};
+ghost use Rattle.rtl_lower.specs.Laws.{KeepsRuns};
 ghost use Rattle.rtl_lower.specs.Sizes.{function_blocks, function_registers, IsPlain, HaveRoom};
 
 use crate::function::{function, global};

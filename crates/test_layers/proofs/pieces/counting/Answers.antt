@@ -1,9 +1,9 @@
 use Rattle.std.proofs.Common.{◌≡◌, ◌∙◌, ℕ, List, [], ◌∷◌, length, ap, sym, subst, arith}
 use Rattle.mblock.specs.Parts.{BlockParts}
 use Rattle.mblock.specs.Units.{AreLinked, AreOwners}
-use Rattle.layer_tests.specs.Alone.{halting}
-use Rattle.layer_tests.proofs.Alone.{alone_linked, alone_owned}
-use Rattle.layer_tests.proofs.pieces.counting.Goals as goal
+use Rattle.test_layers.specs.Alone.{halting}
+use Rattle.test_layers.proofs.Alone.{alone_linked, alone_owned}
+use Rattle.test_layers.proofs.pieces.counting.Goals as goal
 
 pub split_unit-requires-clause-linked : goal.split_unit-requires-clause-linked
 split_unit-requires-clause-linked c =

@@ -3,7 +3,7 @@ use Rattle.std.proofs.Common.{◌≡◌, ℕ, zero, suc, List, [], ◌∷◌, So
 use Rattle.std.proofs.lemmas.Option.{same_Some, none-some}
 use Rattle.mips_isa.specs.declared.inst.Plain.{Plain}
 use Rattle.mblock.specs.Parts.{BlockParts}
-use Rattle.layer_tests.specs.Alone.{halting}
+use Rattle.test_layers.specs.Alone.{halting}
 use Rattle.mblock.specs.Units.{GoesBelow, BranchesWithin, Continues, AreLinked, AreOwners}
 
 pub alone_linked : (insts : List Plain) → AreLinked (halting insts ∷ [])

@@ -1,7 +1,7 @@
 // Blocks of any length, and their pieces.
 
 ghost use Rattle.std.specs.Prelude.{◌≡◌, ◌∷◌, [], IfSome};
-ghost use Rattle.layer_tests.specs.Alone.{halting};
+ghost use Rattle.test_layers.specs.Alone.{halting};
 
 use crate::units::{comes_to, first_version};
 use check_text::exit_of;
