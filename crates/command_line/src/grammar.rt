@@ -1,11 +1,10 @@
 // The grammar of the command line, with its help.
 
-ghost use Rattle.std.specs.Prelude.{◌≡◌, false, IfOk};
+ghost use Rattle.std.specs.Prelude.{◌≡◌, IfOk};
 ghost use Rattle.clap.specs.Words.{app_of};
-ghost use Rattle.command_line.specs.Commands.{build_app, building_app, check_app, checking_app, interp_app, interpreting_app};
-ghost use Rattle.command_line.specs.Commands.{list_app, listing_app, mcc_app, run_app, running_app, show_app};
+ghost use Rattle.command_line.specs.Commands.{building_app, mcc_app};
 
-use crate::parts::{CommandBuilder, Form, Part, command_of};
+use crate::parts::{CommandBuilder, CommandParts, Form, Part, with_commands};
 use clap::Command as CommandLine;
 use std::alloc::{AllocError, Global};
 use term_table::{MAX_HEADS, MAX_NODES, MAX_PASSES};
@@ -258,81 +257,53 @@ const SHOW: &[Part<'static>] = &[
     },
 ];
 
-fn check_command<'a, C: CommandBuilder<'a>>(alloc: Global) -> Result<C, AllocError>
-    ensures app { IfOk result (λ c. C.app c ≡ check_app) }
-    ensures local { IfOk result (λ c. C.has_globals c ≡ false) }
-{
-    command_of(
-        alloc,
-        "check",
-        "Says whether an order may stand for a block",
-        CHECK_HELP,
-        CHECK,
-    )
-}
+/// The commands of a text: of a block and an order, or of a C program.
+const TEXTS: &[CommandParts<'static>] = &[
+    CommandParts {
+        name: "check",
+        about: "Says whether an order may stand for a block",
+        help: CHECK_HELP,
+        parts: CHECK,
+    },
+    CommandParts {
+        name: "interp",
+        about: "Runs a C program by its meaning",
+        help: INTERP_HELP,
+        parts: INTERP,
+    },
+    CommandParts {
+        name: "build",
+        about: "Compiles a C program to an image for MIPS I",
+        help: BUILD_HELP,
+        parts: BUILD,
+    },
+];
 
-fn interp_command<'a, C: CommandBuilder<'a>>(alloc: Global) -> Result<C, AllocError>
-    ensures app { IfOk result (λ c. C.app c ≡ interp_app) }
-    ensures local { IfOk result (λ c. C.has_globals c ≡ false) }
-{
-    command_of(
-        alloc,
-        "interp",
-        "Runs a C program by its meaning",
-        INTERP_HELP,
-        INTERP,
-    )
-}
+/// Those of what comes of a build.
+const BUILDS: &[CommandParts<'static>] = &[
+    CommandParts {
+        name: "run",
+        about: "Runs an image on the machine",
+        help: RUN_HELP,
+        parts: RUN,
+    },
+    CommandParts {
+        name: "list",
+        about: "Prints the listing of an image",
+        help: LIST_HELP,
+        parts: LIST,
+    },
+    CommandParts {
+        name: "show",
+        about: "Shows what becomes of a C program, stage by stage",
+        help: SHOW_HELP,
+        parts: SHOW,
+    },
+];
 
-fn build_command<'a, C: CommandBuilder<'a>>(alloc: Global) -> Result<C, AllocError>
-    ensures app { IfOk result (λ c. C.app c ≡ build_app) }
-    ensures local { IfOk result (λ c. C.has_globals c ≡ false) }
-{
-    command_of(
-        alloc,
-        "build",
-        "Compiles a C program to an image for MIPS I",
-        BUILD_HELP,
-        BUILD,
-    )
-}
-
-fn run_command<'a, C: CommandBuilder<'a>>(alloc: Global) -> Result<C, AllocError>
-    ensures app { IfOk result (λ c. C.app c ≡ run_app) }
-    ensures local { IfOk result (λ c. C.has_globals c ≡ false) }
-{
-    command_of(alloc, "run", "Runs an image on the machine", RUN_HELP, RUN)
-}
-
-fn list_command<'a, C: CommandBuilder<'a>>(alloc: Global) -> Result<C, AllocError>
-    ensures app { IfOk result (λ c. C.app c ≡ list_app) }
-    ensures local { IfOk result (λ c. C.has_globals c ≡ false) }
-{
-    command_of(
-        alloc,
-        "list",
-        "Prints the listing of an image",
-        LIST_HELP,
-        LIST,
-    )
-}
-
-fn show_command<'a, C: CommandBuilder<'a>>(alloc: Global) -> Result<C, AllocError>
-    ensures app { IfOk result (λ c. C.app c ≡ show_app) }
-    ensures local { IfOk result (λ c. C.has_globals c ≡ false) }
-{
-    command_of(
-        alloc,
-        "show",
-        "Shows what becomes of a C program, stage by stage",
-        SHOW_HELP,
-        SHOW,
-    )
-}
-
-/// `mcc` with its first command.
-fn checking_command<'a, C: CommandBuilder<'a>>(alloc: Global) -> Result<C, AllocError>
-    ensures { IfOk result (λ c. C.app c ≡ checking_app) }
+/// `mcc` with the commands of a text.
+fn text_command<'a, C: CommandBuilder<'a>>(alloc: Global) -> Result<C, AllocError>
+    ensures { IfOk result (λ c. C.app c ≡ building_app) }
 {
     let command = C::named(
         alloc,
@@ -340,50 +311,14 @@ fn checking_command<'a, C: CommandBuilder<'a>>(alloc: Global) -> Result<C, Alloc
         "A C compiler for MIPS I, its checks, a C interpreter and a machine",
         STATUS_HELP,
     );
-    command
-        .asking()
-        .versioned(VERSION)
-        .over(check_command(alloc)?)
+    with_commands(alloc, command.asking().versioned(VERSION), TEXTS)
 }
 
-/// `mcc` with two commands.
-fn interpreting_command<'a, C: CommandBuilder<'a>>(alloc: Global) -> Result<C, AllocError>
-    ensures { IfOk result (λ c. C.app c ≡ interpreting_app) }
-{
-    let command: C = checking_command(alloc)?;
-    command.over(interp_command(alloc)?)
-}
-
-/// `mcc` with three.
-fn building_command<'a, C: CommandBuilder<'a>>(alloc: Global) -> Result<C, AllocError>
-    ensures { IfOk result (λ c. C.app c ≡ building_app) }
-{
-    let command: C = interpreting_command(alloc)?;
-    command.over(build_command(alloc)?)
-}
-
-/// `mcc` with four.
-fn running_command<'a, C: CommandBuilder<'a>>(alloc: Global) -> Result<C, AllocError>
-    ensures { IfOk result (λ c. C.app c ≡ running_app) }
-{
-    let command: C = building_command(alloc)?;
-    command.over(run_command(alloc)?)
-}
-
-/// `mcc` with five.
-fn listing_command<'a, C: CommandBuilder<'a>>(alloc: Global) -> Result<C, AllocError>
-    ensures { IfOk result (λ c. C.app c ≡ listing_app) }
-{
-    let command: C = running_command(alloc)?;
-    command.over(list_command(alloc)?)
-}
-
-/// `mcc` with all six.
+/// `mcc` with all its commands.
 fn whole_command<'a, C: CommandBuilder<'a>>(alloc: Global) -> Result<C, AllocError>
     ensures { IfOk result (λ c. C.app c ≡ mcc_app) }
 {
-    let command: C = listing_command(alloc)?;
-    command.over(show_command(alloc)?)
+    with_commands(alloc, text_command(alloc)?, BUILDS)
 }
 
 /// The command line of `mcc`.

@@ -5,7 +5,7 @@ ghost use Rattle.clap.specs.Words.{App, app_of, new_app, rule_of, with_rule, wit
 ghost use Rattle.clap.specs.declared.builder.command.Command.TheViews.{out-Command};
 ghost use Rattle.command_line.specs.Commands.{number_rule};
 ghost use Rattle.command_line.specs.Commands.{with_required_subcommand, with_version};
-ghost use Rattle.command_line.specs.Parts.{app_with, option_rule, placed_rule, rule_for};
+ghost use Rattle.command_line.specs.Parts.{app_over, command_app, option_rule, placed_rule, rule_for};
 
 use clap::builder::ValueParser;
 use clap::{Arg, ArgAction, Command as CommandLine};
@@ -32,6 +32,15 @@ pub(crate) struct Part<'a> {
     pub(crate) id: &'a str,
     pub(crate) form: Form,
     pub(crate) about: &'a str,
+}
+
+/// A command with its help and its arguments.
+#[derive(Clone, Copy)]
+pub(crate) struct CommandParts<'a> {
+    pub(crate) name: &'a str,
+    pub(crate) about: &'a str,
+    pub(crate) help: &'a str,
+    pub(crate) parts: &'a [Part<'a>],
 }
 
 /// A command line that is built part by part. The grammar is written over any such type, so that clap's, which has some fifty
@@ -92,21 +101,33 @@ impl<'a> CommandBuilder<'a> for CommandLine<'a> {
 }
 
 /// A command with its arguments.
-pub(crate) fn command_of<'a, C: CommandBuilder<'a>>(
+fn command_of<'a, C: CommandBuilder<'a>>(
     alloc: Global,
-    name: &'a str,
-    about: &'a str,
-    help: &'a str,
-    parts: &[Part<'a>],
+    parts: &CommandParts<'a>,
 ) -> Result<C, AllocError>
-    ensures app { IfOk result (λ c. C.app c ≡ app_with (new_app name.entry.now) parts.now) }
+    ensures app { IfOk result (λ c. C.app c ≡ command_app parts.now) }
     ensures local { IfOk result (λ c. C.has_globals c ≡ false) }
 {
-    let mut command = C::named(alloc, name, about, help);
-    for part in parts {
+    let mut command = C::named(alloc, parts.name, parts.about, parts.help);
+    for part in parts.parts {
         command = command.with(alloc, part)?;
     }
     Ok(command)
+}
+
+/// A command with subcommands.
+pub(crate) fn with_commands<'a, C: CommandBuilder<'a>>(
+    alloc: Global,
+    command: C,
+    commands: &[CommandParts<'a>],
+) -> Result<C, AllocError>
+    ensures { IfOk result (λ c. C.app c ≡ app_over (C.app command) commands.now) }
+{
+    let mut whole = command;
+    for parts in commands {
+        whole = whole.over(command_of(alloc, parts)?)?;
+    }
+    Ok(whole)
 }
 
 /// An argument, as clap has it.

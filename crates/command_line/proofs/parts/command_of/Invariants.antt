@@ -1,7 +1,8 @@
 use Rattle.std.proofs.Common.{◌≡◌, drop, false}
-use Rattle.clap.specs.Words.{new_app}
-use Rattle.command_line.specs.Parts.{app_with}
+use Rattle.command_line.specs.Parts.{app_with, command_app}
 use Rattle.command_line.proofs.parts.command_of.Given as goal
 
 abbrev pub invariant-loop-part : goal.invariant-loop-part
-invariant-loop-part g l = (app_with (g.C.CommandBuilder.app l.command) (drop l.part-index l.parts) ≡ app_with (new_app l.name) l.parts) × (g.C.CommandBuilder.has_globals l.command ≡ false)
+invariant-loop-part g l =
+    (app_with (g.C.CommandBuilder.app l.command) (drop l.part-index l.parts.parts.now) ≡ command_app l.parts)
+    × (g.C.CommandBuilder.has_globals l.command ≡ false)
