@@ -17,6 +17,16 @@ pub struct Counts {
     pub missed: u32,
 }
 
+/// The counts of no block.
+pub const NO_COUNTS: Counts = Counts {
+    same: 0,
+    unclean: 0,
+    differs: 0,
+    full: 0,
+    no_memory: 0,
+    missed: 0,
+};
+
 /// Each count behind the name of its verdict.
 impl fmt::Display for Counts {
     ghost output = { λ c. Some (counts_text (counts_of c)) };

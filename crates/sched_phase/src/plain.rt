@@ -4,7 +4,7 @@ ghost use Rattle.std.specs.Prelude.{◌≡◌, IfOk};
 ghost use Rattle.sched_phase.specs.Schedules.{ArePlain, no_counts};
 
 use crate::scheduled::Scheduled;
-use crate::settle::none_counted;
+use image::NO_COUNTS;
 use mblock::{Unit, plain_orders};
 use std::alloc::{AllocError, Global};
 
@@ -15,5 +15,5 @@ pub fn schedule_plain<'a>(alloc: Global, unit: &'a Unit) -> Result<Scheduled<'a>
     ensures report { IfOk result (λ s. s.report ≡ no_counts) }
 {
     let orders = plain_orders(alloc, unit)?;
-    Ok(Scheduled::of(unit, orders, none_counted()))
+    Ok(Scheduled::of(unit, orders, NO_COUNTS))
 }

@@ -9,7 +9,7 @@ ghost use Rattle.mblock.specs.PlainOrders.{plain_order_of};
 
 use crate::scheduled::Scheduled;
 use block_validator::{Checked, Verdict};
-use image::Counts;
+use image::{Counts, NO_COUNTS};
 use list_scheduler::Reorder;
 use mblock::{BLOCK_INSTS, Block, Order, UNIT_BLOCKS, Unit, plain};
 use std::alloc::{AllocError, Global};
@@ -79,20 +79,6 @@ fn settled<'a, R: Reorder>(
     }
 }
 
-/// The counts before the first block.
-pub(crate) fn none_counted() -> Counts
-    ensures { result ≡ record { same = 0; unclean = 0; differs = 0; full = 0; no_memory = 0; missed = 0 } }
-{
-    Counts {
-        same: 0,
-        unclean: 0,
-        differs: 0,
-        full: 0,
-        no_memory: 0,
-        missed: 0,
-    }
-}
-
 /// The orders of the first blocks of a unit, and what these blocks came to.
 #[derive(Drop)]
 pub(crate) struct Progress {
@@ -111,7 +97,7 @@ impl Progress {
         let _ = unit;
         Progress {
             orders: Vec::new(alloc),
-            report: none_counted(),
+            report: NO_COUNTS,
         }
     }
 

@@ -4,7 +4,7 @@
 ghost use Rattle.std.specs.Prelude.{◌≡◌};
 
 use check_text::{exit_of, plain_of};
-use image::{Counts, Image, read_image, write_image};
+use image::{Counts, Image, NO_COUNTS, read_image, write_image};
 use mblock::{Block, BlockNumber, Unit, plain_orders};
 use mips_asm::{AsmFault, assemble, image_of, list};
 use mips_machine::run;
@@ -80,16 +80,6 @@ pub fn first_version(alloc: Global, unit: &Unit) -> Option<Result<Image, AsmFaul
     };
     Some(image_of(alloc, unit, orders.as_slice(), None))
 }
-
-// The counts of a build with no block.
-const NO_COUNTS: Counts = Counts {
-    same: 0,
-    unclean: 0,
-    differs: 0,
-    full: 0,
-    no_memory: 0,
-    missed: 0,
-};
 
 /// The image of version 2, with no block counted.
 pub fn second_version(alloc: Global, unit: &Unit) -> Option<Image> {

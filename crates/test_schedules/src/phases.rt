@@ -1,6 +1,6 @@
 //! Phases over a unit of three blocks.
 use crate::pool::Meeting;
-use image::Counts;
+use image::{Counts, NO_COUNTS};
 use list_scheduler::{Hostile, ListOrder};
 use mblock::{Block, BlockNumber, Exit, Unit};
 use mips_isa::{Plain, Reg};
@@ -33,15 +33,6 @@ fn three(alloc: Global) -> Option<Unit> {
     Unit::new(blocks, owner, Vec::new(alloc))
 }
 
-const NONE: Counts = Counts {
-    same: 0,
-    unclean: 0,
-    differs: 0,
-    full: 0,
-    no_memory: 0,
-    missed: 0,
-};
-
 #[test]
 fn two_workers_share_one_table(rt: HostRuntime) -> Result<(), Fail> {
     let unit = three(rt.alloc()).expect(&rt, "a unit");
@@ -49,7 +40,13 @@ fn two_workers_share_one_table(rt: HostRuntime) -> Result<(), Fail> {
     let gate = Meeting::between(1, 2);
     let scheduled = schedule_all(&rt, rt.alloc(), &unit, options, &ListOrder, &gate)?;
     assert!(rt; !gate.is_late());
-    assert_eq!(rt; scheduled.report(), Counts { same: 3, ..NONE });
+    assert_eq!(rt;
+        scheduled.report(),
+        Counts {
+            same: 3,
+            ..NO_COUNTS
+        }
+    );
     Ok(())
 }
 
@@ -66,7 +63,7 @@ fn counted(alloc: Global, options: PhaseOpts, listed: bool) -> Option<Counts> {
 
 const SILENT: Counts = Counts {
     no_memory: 3,
-    ..NONE
+    ..NO_COUNTS
 };
 
 // The sizes of a phase, whether blocks are listed, and what is counted.
@@ -79,10 +76,19 @@ const COUNTED: &[(u64, u64, u64, bool, Counts)] = &[
         Counts {
             same: 2,
             full: 1,
-            ..NONE
+            ..NO_COUNTS
         },
     ),
-    (1, 65536, 1024, true, Counts { same: 3, ..NONE }),
+    (
+        1,
+        65536,
+        1024,
+        true,
+        Counts {
+            same: 3,
+            ..NO_COUNTS
+        },
+    ),
     (1, 65536, 1024, false, SILENT),
 ];
 
