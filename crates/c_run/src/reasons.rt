@@ -5,7 +5,7 @@ ghost use Rattle.c_run.specs.Reasons.{IsReason};
 use crate::interpreter::{Interpreter, act};
 use crate::pending::{Head, settle};
 use crate::steps::start;
-use crate::value::{computed, prefixed, value};
+use crate::value::{binary_value, unary_value, value};
 use c_tokens::IntegerType;
 use c_tree::{BinaryOp, UnaryOp};
 use c_typed::{TypedExpression, TypedStatement};
@@ -90,7 +90,7 @@ fn missing(e: &TypedExpression, locals: &[Option<u32>], globals: &[Vec<u32>]) ->
             let Some(operand) = value(part, locals, globals) else {
                 return missing(part, locals, globals);
             };
-            match prefixed(*operator, *integer_type, operand) {
+            match unary_value(*operator, *integer_type, operand) {
                 Some(_) => None,
                 None => Some(Reason::Prefix {
                     operator: *operator,
@@ -109,7 +109,7 @@ fn missing(e: &TypedExpression, locals: &[Option<u32>], globals: &[Vec<u32>]) ->
             let Some(y) = value(right, locals, globals) else {
                 return missing(right, locals, globals);
             };
-            match computed(*operator, *integer_type, x, y) {
+            match binary_value(*operator, *integer_type, x, y) {
                 Some(_) => None,
                 None => Some(Reason::Operation {
                     operator: *operator,

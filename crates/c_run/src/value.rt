@@ -34,7 +34,7 @@ fn constant(value: u32) -> u32
 
 /// A prefix operator on a word.
 #[inline]
-pub(crate) fn prefixed(operator: UnaryOp, integer_type: IntegerType, x: u32) -> Option<u32>
+pub(crate) fn unary_value(operator: UnaryOp, integer_type: IntegerType, x: u32) -> Option<u32>
     ensures { result ≡ unary_of operator (sign_of integer_type) x }
 {
     match operator {
@@ -47,7 +47,12 @@ pub(crate) fn prefixed(operator: UnaryOp, integer_type: IntegerType, x: u32) -> 
 
 /// An operator on two words, both of which are evaluated.
 #[inline(always)]
-pub(crate) fn computed(operator: BinaryOp, integer_type: IntegerType, x: u32, y: u32) -> Option<u32>
+pub(crate) fn binary_value(
+    operator: BinaryOp,
+    integer_type: IntegerType,
+    x: u32,
+    y: u32,
+) -> Option<u32>
     ensures { result ≡ binary_of operator (sign_of integer_type) x y }
 {
     match operator {
@@ -103,7 +108,7 @@ pub(crate) fn value(
         }
         TypedExpression::Unary(operator, integer_type, part) => {
             let x = operand(part, locals, globals)?;
-            prefixed(*operator, *integer_type, x)
+            unary_value(*operator, *integer_type, x)
         }
         TypedExpression::Binary(operator, integer_type, left, right) => {
             let x = operand(left, locals, globals)?;
@@ -113,7 +118,7 @@ pub(crate) fn value(
                 _ => {}
             }
             let y = operand(right, locals, globals)?;
-            computed(*operator, *integer_type, x, y)
+            binary_value(*operator, *integer_type, x, y)
         }
         TypedExpression::Conditional(_, test, first, second) => {
             if operand(test, locals, globals)? == 0 {
