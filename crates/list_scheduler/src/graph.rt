@@ -79,21 +79,28 @@ fn words_between(first: &Node, second: &Node, open: Resources) -> u32 {
     behind_result.max(behind_reader)
 }
 
+// Whether the second loads what the first may have stored, over the same base.
+fn loads_stored(first: &Node, second: &Node, between: Resources) -> bool {
+    match (first.access, second.access) {
+        (Some(earlier), Some(later)) => {
+            let is_one_base = !between.union(first.writes).meets(Resources::of(later.base));
+            earlier.stores
+                && !later.stores
+                && is_one_base
+                && earlier.base == later.base
+                && !earlier.passes(&later)
+        }
+        _ => false,
+    }
+}
+
 // Whether it loads what an earlier store may have stored, over the same base. Its value is a load from all that was stored
 // before, so it keeps its place among the stores.
 fn meets_store(nodes: &[Node], last: &Node) -> bool {
     let mut between = Resources::NONE;
     for first in nodes.iter().rev() {
-        if let (Some(earlier), Some(later)) = (first.access, last.access) {
-            let is_one_base = !between.union(first.writes).meets(Resources::of(later.base));
-            if earlier.stores
-                && !later.stores
-                && is_one_base
-                && earlier.base == later.base
-                && !earlier.passes(&later)
-            {
-                return true;
-            }
+        if loads_stored(first, last, between) {
+            return true;
         }
         between = between.union(first.writes);
     }
@@ -117,6 +124,25 @@ fn must_stay(first: &Node, second: &Node, between: Resources) -> bool {
     }
 }
 
+// The edge from an earlier instruction to the last one, if there is one.
+fn link(
+    first: &mut Node,
+    last: &mut Node,
+    to: usize,
+    between: Resources,
+) -> Result<(), AllocError> {
+    let open = Resources::ALL.difference(between);
+    let mut words = words_between(first, last, open);
+    if must_stay(first, last, between) {
+        words = words.max(NEXT);
+    }
+    if words > 0 {
+        first.edges.push(Edge { to, words })?;
+        last.waits_for = last.waits_for.saturating_add(1);
+    }
+    Ok(())
+}
+
 // The edges from earlier instructions to the last one.
 fn link_last(nodes: &mut Vec<Node>) -> Result<(), AllocError> {
     let Some(mut last) = nodes.pop() else {
@@ -126,15 +152,7 @@ fn link_last(nodes: &mut Vec<Node>) -> Result<(), AllocError> {
     last.meets = meets_store(nodes.as_slice(), &last);
     let mut between = Resources::NONE;
     for first in nodes.iter_mut().rev() {
-        let open = Resources::ALL.difference(between);
-        let mut words = words_between(first, &last, open);
-        if must_stay(first, &last, between) {
-            words = words.max(NEXT);
-        }
-        if words > 0 {
-            first.edges.push(Edge { to, words })?;
-            last.waits_for = last.waits_for.saturating_add(1);
-        }
+        link(first, &mut last, to, between)?;
         between = between.union(first.writes);
     }
     nodes.push(last)?;

@@ -36,19 +36,38 @@ impl Reorder for Hostile {
 
     fn reorder(&self, alloc: Global, block: &Block) -> Result<Order, AllocError> {
         let order = plain(alloc, block)?;
-        let (insts, exit, slot) = (order.insts(), order.exit(), order.slot());
         let changed = match self {
-            Hostile::Drop => Order::new(without_last(alloc, insts)?, exit, slot),
-            Hostile::Double => Order::new(doubled(alloc, insts)?, exit, slot),
-            Hostile::Swap => Order::new(swapped(alloc, insts)?, exit, slot),
-            Hostile::Foreign => Order::new(behind_store(alloc, insts)?, exit, slot),
-            Hostile::Rename => Order::new(renamed(alloc, insts)?, exit, slot),
-            Hostile::Exit => Order::new(Vec::from_slice(alloc, insts)?, turned(exit), slot),
-            Hostile::Slot => last_in_slot(alloc, block)?,
             Hostile::Silent => return Err(AllocError),
+            Hostile::Slot => last_in_slot(alloc, block)?,
+            _ => {
+                let insts = change_insts(alloc, *self, order.insts())?;
+                Order::new(insts, change_exit(*self, order.exit()), order.slot())
+            }
         };
         Ok(changed.unwrap_or(order))
     }
+}
+
+fn change_insts(alloc: Global, kind: Hostile, insts: &[Plain]) -> Result<Vec<Plain>, AllocError> {
+    match kind {
+        Hostile::Drop => without_last(alloc, insts),
+        Hostile::Double => double_first(alloc, insts),
+        Hostile::Swap => swap_first(alloc, insts),
+        Hostile::Foreign => behind_store(alloc, insts),
+        Hostile::Rename => rename_first(alloc, insts),
+        Hostile::Exit | Hostile::Slot | Hostile::Silent => Vec::from_slice(alloc, insts),
+    }
+}
+
+fn change_exit(kind: Hostile, mut exit: Exit) -> Exit {
+    if kind == Hostile::Exit {
+        match &mut exit {
+            Exit::BranchPair { then, other, .. } => swap(then, other),
+            Exit::BranchZero { then, other, .. } => swap(then, other),
+            _ => {}
+        }
+    }
+    exit
 }
 
 fn without_last(alloc: Global, insts: &[Plain]) -> Result<Vec<Plain>, AllocError> {
@@ -62,7 +81,7 @@ fn without_last(alloc: Global, insts: &[Plain]) -> Result<Vec<Plain>, AllocError
     Ok(kept)
 }
 
-fn doubled(alloc: Global, insts: &[Plain]) -> Result<Vec<Plain>, AllocError> {
+fn double_first(alloc: Global, insts: &[Plain]) -> Result<Vec<Plain>, AllocError> {
     let mut all = Vec::new(alloc);
     if let Some(first) = insts.first() {
         all.push(*first)?;
@@ -71,7 +90,7 @@ fn doubled(alloc: Global, insts: &[Plain]) -> Result<Vec<Plain>, AllocError> {
     Ok(all)
 }
 
-fn swapped(alloc: Global, insts: &[Plain]) -> Result<Vec<Plain>, AllocError> {
+fn swap_first(alloc: Global, insts: &[Plain]) -> Result<Vec<Plain>, AllocError> {
     let mut all = Vec::from_slice(alloc, insts)?;
     if all.len() >= 2 {
         all.swap(0, 1);
@@ -91,7 +110,7 @@ fn behind_store(alloc: Global, insts: &[Plain]) -> Result<Vec<Plain>, AllocError
     Ok(all)
 }
 
-fn renamed(alloc: Global, insts: &[Plain]) -> Result<Vec<Plain>, AllocError> {
+fn rename_first(alloc: Global, insts: &[Plain]) -> Result<Vec<Plain>, AllocError> {
     let mut all = Vec::with_capacity(alloc, insts.len())?;
     let mut is_done = false;
     for inst in insts {
@@ -109,35 +128,40 @@ fn renamed(alloc: Global, insts: &[Plain]) -> Result<Vec<Plain>, AllocError> {
 // The instruction with the next register in place of one from 1 to 30 that it writes.
 fn to_next(inst: &Plain) -> Option<Plain> {
     let mut changed = *inst;
-    match &mut changed {
-        Plain::Shift { rd, .. } => *rd = next(*rd)?,
-        Plain::ShiftBy { rd, .. } => *rd = next(*rd)?,
-        Plain::Alu { rd, .. } => *rd = next(*rd)?,
-        Plain::Imm { rt, .. } => *rt = next(*rt)?,
-        Plain::Logic { rt, .. } => *rt = next(*rt)?,
-        Plain::LoadUpper { rt, .. } => *rt = next(*rt)?,
-        Plain::MoveFrom { rd, .. } => *rd = next(*rd)?,
-        Plain::Load { rt, .. } => *rt = NonzeroReg::new(rt.index() + 1)?,
-        Plain::Multiply { .. } | Plain::Divide { .. } | Plain::Store { .. } => return None,
-    }
-    Some(changed)
+    let is_changed = match &mut changed {
+        Plain::Shift { rd, .. } => raise(rd),
+        Plain::ShiftBy { rd, .. } => raise(rd),
+        Plain::Alu { rd, .. } => raise(rd),
+        Plain::Imm { rt, .. } => raise(rt),
+        Plain::Logic { rt, .. } => raise(rt),
+        Plain::LoadUpper { rt, .. } => raise(rt),
+        Plain::MoveFrom { rd, .. } => raise(rd),
+        Plain::Load { rt, .. } => raise_nonzero(rt),
+        Plain::Multiply { .. } | Plain::Divide { .. } | Plain::Store { .. } => false,
+    };
+    if is_changed { Some(changed) } else { None }
 }
 
-// The register behind one from 1 to 30.
-fn next(r: Reg) -> Option<Reg> {
-    if r == Reg::ZERO {
-        return None;
+// A register from 1 to 30 becomes the one behind it.
+fn raise(r: &mut Reg) -> bool {
+    match NonzeroReg::new(r.index()) {
+        Some(mut nonzero) => {
+            let is_changed = raise_nonzero(&mut nonzero);
+            *r = nonzero.reg();
+            is_changed
+        }
+        None => false,
     }
-    Reg::new(r.index() + 1)
 }
 
-fn turned(mut exit: Exit) -> Exit {
-    match &mut exit {
-        Exit::BranchPair { then, other, .. } => swap(then, other),
-        Exit::BranchZero { then, other, .. } => swap(then, other),
-        _ => {}
+fn raise_nonzero(r: &mut NonzeroReg) -> bool {
+    match NonzeroReg::new(r.index() + 1) {
+        Some(next) => {
+            *r = next;
+            true
+        }
+        None => false,
     }
-    exit
 }
 
 fn last_in_slot(alloc: Global, block: &Block) -> Result<Option<Order>, AllocError> {

@@ -2,7 +2,7 @@
 ghost use Rattle.std.specs.Prelude.{⊤};
 
 use crate::graph::{Edge, Node, graph};
-use crate::needs::needed;
+use crate::needs::keep_needed;
 use crate::reorder::Reorder;
 use crate::resources::Resources;
 use mblock::{Block, Exit, ORDER_INSTS, Order, plain};
@@ -20,9 +20,9 @@ impl Reorder for ListOrder {
 
     fn reorder(&self, alloc: Global, block: &Block) -> Result<Order, AllocError> {
         let exit = block.exit();
-        let insts = needed(alloc, block.insts())?;
+        let insts = keep_needed(alloc, block.insts())?;
         let nodes = graph(alloc, insts.as_slice(), &exit)?;
-        let list = listed(alloc, nodes, &exit)?;
+        let list = list_nodes(alloc, nodes, &exit)?;
         let slot = if exit.has_slot() {
             Some(Plain::nop())
         } else {
@@ -50,7 +50,7 @@ fn best_at(nodes: &[Node], word: u32) -> Option<usize> {
 }
 
 // One that waited for an instruction which now stands at a word.
-fn released(nodes: &mut [Node], edge: Edge, word: u32) {
+fn release(nodes: &mut [Node], edge: Edge, word: u32) {
     if let Some(node) = nodes.get_mut(edge.to) {
         node.waits_for = node.waits_for.saturating_sub(1);
         node.earliest = node.earliest.max(word.saturating_add(edge.words));
@@ -58,7 +58,7 @@ fn released(nodes: &mut [Node], edge: Edge, word: u32) {
 }
 
 // The instruction of a node, or a Nop, stands at a word.
-fn placed(alloc: Global, nodes: &mut [Node], best: Option<usize>, word: u32) -> Plain {
+fn place(alloc: Global, nodes: &mut [Node], best: Option<usize>, word: u32) -> Plain {
     let Some(k) = best else {
         return Plain::nop();
     };
@@ -69,7 +69,7 @@ fn placed(alloc: Global, nodes: &mut [Node], best: Option<usize>, word: u32) -> 
     let inst = node.inst;
     let edges = mem::replace(&mut node.edges, Vec::new(alloc));
     for edge in edges {
-        released(nodes, edge, word);
+        release(nodes, edge, word);
     }
     inst
 }
@@ -90,7 +90,7 @@ fn finish(list: &mut Vec<Plain>, exit: &Exit) -> Result<(), AllocError> {
 }
 
 // The instructions of the graph word by word, one more than an order may have at most.
-fn listed(alloc: Global, mut nodes: Vec<Node>, exit: &Exit) -> Result<Vec<Plain>, AllocError> {
+fn list_nodes(alloc: Global, mut nodes: Vec<Node>, exit: &Exit) -> Result<Vec<Plain>, AllocError> {
     let mut list = Vec::with_capacity(alloc, nodes.len())?;
     let mut left = nodes.len();
     for word in 0..=ORDER_INSTS as u32 {
@@ -101,7 +101,7 @@ fn listed(alloc: Global, mut nodes: Vec<Node>, exit: &Exit) -> Result<Vec<Plain>
         if best.is_some() {
             left = left.saturating_sub(1);
         }
-        list.push(placed(alloc, nodes.as_mut_slice(), best, word))?;
+        list.push(place(alloc, nodes.as_mut_slice(), best, word))?;
     }
     finish(&mut list, exit)?;
     Ok(list)

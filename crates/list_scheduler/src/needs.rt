@@ -5,7 +5,7 @@ use mips_isa::Plain;
 use std::alloc::{AllocError, Global};
 
 /// The instructions of a block without those whose results it overwrites before they are read, in their order.
-pub fn needed(alloc: Global, insts: &[Plain]) -> Result<Vec<Plain>, AllocError> {
+pub fn keep_needed(alloc: Global, insts: &[Plain]) -> Result<Vec<Plain>, AllocError> {
     let mut kept = Vec::with_capacity(alloc, insts.len())?;
     let mut wanted = Resources::ALL;
     for inst in insts.iter().rev() {

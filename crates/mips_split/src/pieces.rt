@@ -107,17 +107,6 @@ fn renumber(numbers: &[BlockNumber], mut exit: Exit) -> Exit
     exit
 }
 
-// A copy of some instructions.
-fn copy_insts(alloc: Global, insts: &[Plain]) -> Result<Vec<Plain>, AllocError>
-    ensures { IfOk result (λ copy. copy.items ≡ insts.now) }
-{
-    let mut copy = Vec::with_capacity(alloc, insts.len())?;
-    for inst in insts {
-        copy.push(*inst)?;
-    }
-    Ok(copy)
-}
-
 // One more block of instructions that are few enough.
 fn push_whole(out: &mut Vec<Block>, insts: Vec<Plain>, exit: Exit) -> Result<(), AllocError>
     requires { length insts.items ≤ BLOCK_INSTS }
@@ -140,7 +129,7 @@ fn push_piece(
     requires { length insts.now ≤ BLOCK_INSTS }
     ensures { OnOk result (out.new.items ≡ out.old.items ++ piece insts.now exit ∷ []) }
 {
-    let copy = copy_insts(alloc, insts)?;
+    let copy = Vec::from_slice(alloc, insts)?;
     push_whole(out, copy, exit)
 }
 
@@ -177,11 +166,10 @@ fn push_block(
         ++ pieces BLOCK_INSTS exit (more_pieces BLOCK_INSTS block) (length out.old.items) block.insts) }
 {
     if block.insts().len() > BLOCK_INSTS {
-        push_pieces(alloc, out, block.insts(), exit)?;
+        push_pieces(alloc, out, block.insts(), exit)
     } else {
-        push_whole(out, block.into_insts(), exit)?;
+        push_whole(out, block.into_insts(), exit)
     }
-    Ok(())
 }
 
 // The pieces of all blocks.
