@@ -133,13 +133,19 @@ pub(crate) fn say_size(said: &mut Said, source: &Source<'_>, at: usize) {
     if at >= MAX_TEXT {
         said.say("the text has more than 1048576 bytes");
     } else if k.saturating_sub(source.first_of(k)) >= MAX_RUN {
-        said.say("more than 1024 tokens stand in a row without ';', '{' or '}'");
-        said.hint("put parts of the expression into locals");
+        said.say_both(
+            "more than 1024 tokens stand in a row without ';', '{' or '}'",
+            "put parts of the expression into locals",
+        );
     } else if spelled_at(source.text, at) == b"{".as_slice() {
-        said.say("more than 128 braces are open");
-        said.hint("put statements inside into a function");
+        said.say_both(
+            "more than 128 braces are open",
+            "put statements inside into a function",
+        );
     } else {
-        said.say("more than 512 'for' and 'else' stand since no brace was open");
-        said.hint("put statements inside into a function");
+        said.say_both(
+            "more than 512 'for' and 'else' stand since no brace was open",
+            "put statements inside into a function",
+        );
     }
 }

@@ -84,16 +84,6 @@ const DIRECTIVES: &[Told] = &[
     ),
 ];
 
-/// What begins with a sign that is told by a whole message, with what to write.
-const BEGINNINGS: &[(&[u8], &str, &str)] = &[
-    (b"/*", "this comment isn't closed", "write */ where it ends"),
-    (
-        b"\"",
-        "a string isn't in this subset of C",
-        "out(e); prints a word; bytes stand in an array of unsigned char at file scope",
-    ),
-];
-
 /// The numbers of characters behind a backslash (C99 5.2.2, 6.4.4.4).
 const ESCAPES: &[Told] = &[
     (b"n", "10"),
@@ -115,6 +105,10 @@ const NOT_IN_COMMENTS: &[&[u8]] = &[b"\\", b"??"];
 const OPENINGS: &[&[u8]] = &[b"/*", b"//"];
 
 const CLOSING: &[u8] = b"*/";
+
+const COMMENT: &[u8] = b"/*";
+
+const STRING: &[u8] = b"\"";
 
 const DIRECTIVE: &[u8] = b"#";
 
@@ -229,16 +223,22 @@ fn say_sign(said: &mut Said, source: &Source<'_>, at: usize) {
     }
 }
 
+/// Whether this is a sign that no comment may have, inside a comment.
+fn is_forbidden(source: &Source<'_>, sign: &[u8], at: usize) -> bool {
+    NOT_IN_COMMENTS.contains(&sign) && is_in_comment(source, at)
+}
+
 /// What is said where no token begins.
 pub(crate) fn say_token(said: &mut Said, source: &Source<'_>, at: usize) {
     let sign = spelled_at(source.text, at);
-    for (beginning, message, hint) in BEGINNINGS {
-        if sign == *beginning {
-            said.say(*message);
-            return said.hint(*hint);
-        }
-    }
-    if NOT_IN_COMMENTS.contains(&sign) && is_in_comment(source, at) {
+    if sign == COMMENT {
+        said.say_both("this comment isn't closed", "write */ where it ends");
+    } else if sign == STRING {
+        said.say_both(
+            "a string isn't in this subset of C",
+            "out(e); prints a word; bytes stand in an array of unsigned char at file scope",
+        );
+    } else if is_forbidden(source, sign, at) {
         said.say_name(shown(sign), "can't stand in a comment");
         said.hint("leave it out: C may read what follows as code");
     } else if sign == DIRECTIVE {

@@ -32,6 +32,12 @@ impl Said {
         }
     }
 
+    /// A whole message and a whole hint.
+    pub(crate) fn say_both(&mut self, message: &str, hint: &str) {
+        self.say(message);
+        self.hint(hint);
+    }
+
     /// Begins the message by a name or a sign, in quotes.
     pub(crate) fn say_name(&mut self, name: &str, what: &str) {
         self.say("'");

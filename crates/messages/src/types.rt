@@ -186,13 +186,15 @@ fn say_other_count(said: &mut Said, source: &Source<'_>, k: usize, declared: Opt
 fn say_limit(said: &mut Said, source: &Source<'_>, k: usize) {
     let brace = source.open_before(k, Mark::LeftBrace, Mark::RightBrace);
     if brace != NO_TOKEN {
-        said.say("a function has more than 128 locals, parameters counted");
-        said.hint("split the function, or put variables at file scope");
+        said.say_both(
+            "a function has more than 128 locals, parameters counted",
+            "split the function, or put variables at file scope",
+        );
     } else if source.is(behind(k, 1), Mark::LeftParen) {
         said.say("the program has more than 256 functions");
     } else {
-        said.say("the variables at file scope take more than 262144 words");
-        said.hint(
+        said.say_both(
+            "the variables at file scope take more than 262144 words",
             "each variable takes a word, and an array of unsigned char a word for four elements",
         );
     }
@@ -211,10 +213,10 @@ pub(crate) fn say_kind(
         TypeFaultKind::Redeclared => say_redeclared(said, source, k, declared),
         TypeFaultKind::Kind => say_other_kind(said, source, k, declared),
         TypeFaultKind::Count => say_other_count(said, source, k, declared),
-        TypeFaultKind::NoMain => {
-            said.say("the program has no 'main'");
-            said.hint("a program begins at int main(void) { .. }");
-        }
+        TypeFaultKind::NoMain => said.say_both(
+            "the program has no 'main'",
+            "a program begins at int main(void) { .. }",
+        ),
         TypeFaultKind::Outside => said.say_name(source.shown(k), "stands in no loop"),
         TypeFaultKind::Limit => say_limit(said, source, k),
         TypeFaultKind::NoMemory => said.say("memory was refused"),

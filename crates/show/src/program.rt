@@ -45,7 +45,7 @@ pub struct Asked<'a> {
 }
 
 /// Why there is nothing to show.
-#[derive(Clone, Copy, Debug, PartialEq, Eq)]
+#[derive(Clone, Copy)]
 pub enum ShowFault {
     /// There is no stage of this name.
     NoStage,
