@@ -9,7 +9,7 @@ use mblock::{Block, BlockNumber, Order};
 use mips_isa::NonzeroReg;
 use std::alloc::{AllocError, Global};
 use sym_exec::{Guard, TermExit};
-use sym_terms::{Label, Origin, word_of};
+use sym_terms::{Label, Origin};
 use words::Sign;
 
 /// The number of the root of each place that has one.
@@ -221,7 +221,7 @@ fn is_start(left: &mut Left, root: usize, label: Label) -> Result<bool, AllocErr
         return Ok(true);
     }
     match left.reader.next()? {
-        Some((found, _)) => Ok(word_of(found) == word_of(label)),
+        Some((found, _)) => Ok(found == label),
         None => Ok(true),
     }
 }

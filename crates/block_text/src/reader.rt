@@ -22,7 +22,7 @@ pub enum Room {
 }
 
 /// Why there is nothing to read.
-#[derive(Clone, Copy)]
+#[derive(Clone, Copy, Debug, PartialEq, Eq)]
 pub enum ReadFault {
     /// The block has more terms than the table has room for.
     Full,

@@ -2,7 +2,7 @@
 use mips_isa::NonzeroReg;
 
 /// What the sides of a comparison can differ in, in the order in which it is compared.
-#[derive(Clone, Copy)]
+#[derive(Clone, Copy, Debug, PartialEq, Eq)]
 pub enum Place {
     Register(NonzeroReg),
     Hi,

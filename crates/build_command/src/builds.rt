@@ -20,7 +20,7 @@ use sched_phase::{Scheduled, schedule_plain};
 use std::alloc::{AllocError, Global};
 
 /// Which limit a program exceeds that has no fault.
-#[derive(Clone, Copy, Debug)]
+#[derive(Clone, Copy, Debug, PartialEq, Eq)]
 pub enum Limit {
     /// A function would have more than 8,000 pseudo-registers, or the program more than 1,048,575 blocks of them.
     Lowering,
@@ -32,7 +32,7 @@ pub enum Limit {
 }
 
 /// Why a text has no image.
-#[derive(Clone, Copy, Debug)]
+#[derive(Clone, Copy, Debug, PartialEq, Eq)]
 pub enum BuildFault {
     /// The text spells no program, or a declaration or a use of a name is wrong (faults 1 to 20, and 30).
     Source(SourceFault),

@@ -13,7 +13,7 @@ use std::alloc::Global;
 use term_table::{OpenFault, Pass, TermTable};
 
 /// The verdict on the order of a text.
-#[derive(Clone, Copy)]
+#[derive(Clone, Copy, Debug, PartialEq, Eq)]
 pub enum CheckAnswer {
     /// The order is clean, and has the terms of the block in every place.
     Same,
@@ -26,7 +26,7 @@ pub enum CheckAnswer {
 }
 
 /// Why a text has no verdict.
-#[derive(Clone, Copy, Debug)]
+#[derive(Clone, Copy, Debug, PartialEq, Eq)]
 pub enum CheckFault {
     /// The text is longer than 1,048,576 bytes, which is tested first.
     Size,

@@ -23,7 +23,7 @@ use std::error::Error;
 use std::{fmt, str};
 
 /// Why nothing of a text is shown.
-#[derive(Clone, Copy, Debug)]
+#[derive(Clone, Copy, Debug, PartialEq, Eq)]
 pub enum StagesFault {
     /// A build of the text ends by this fault.
     Build(BuildFault),

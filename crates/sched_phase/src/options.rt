@@ -7,7 +7,7 @@ use std::marker::Model;
 use term_table::{MAX_HEADS, MAX_NODES, MAX_PASSES};
 
 /// How many workers a phase has, and the table that they share: nodes for each worker, and chains.
-#[derive(Clone, Copy)]
+#[derive(Clone, Copy, Debug, PartialEq, Eq)]
 pub struct PhaseOpts {
     workers: u64,
     nodes: u64,

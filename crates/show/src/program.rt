@@ -45,7 +45,7 @@ pub struct Asked<'a> {
 }
 
 /// Why there is nothing to show.
-#[derive(Clone, Copy)]
+#[derive(Clone, Copy, Debug, PartialEq, Eq)]
 pub enum ShowFault {
     /// There is no stage of this name.
     NoStage,

@@ -9,7 +9,7 @@ use words::{Operator, Width};
 
 /// Where a value that is there at the start of a block comes from: a register 1 to 31, HI, LO, or the link that a call leaves in register
 /// 31.
-#[derive(Clone, Copy)]
+#[derive(Clone, Copy, Debug, PartialEq, Eq)]
 pub enum Origin {
     Register(NonzeroReg),
     Hi,
@@ -18,7 +18,7 @@ pub enum Origin {
 }
 
 /// The root of a term.
-#[derive(Clone, Copy)]
+#[derive(Clone, Copy, Debug, PartialEq, Eq)]
 pub enum Label {
     /// What is there at the start. No children.
     Init(Origin),

@@ -58,8 +58,8 @@ fn is_said(verdict: &Verdict, said: Said) -> bool {
     match (said, verdict) {
         (Said::Same, Verdict::Same(_)) => true,
         (Said::Unclean(rule), Verdict::Unclean(broken)) => rule == *broken,
-        (Said::Memory, Verdict::Differs(Place::Memory)) => true,
-        (Said::Exit, Verdict::Differs(Place::Exit)) => true,
+        (Said::Memory, Verdict::Differs(place)) => *place == Place::Memory,
+        (Said::Exit, Verdict::Differs(place)) => *place == Place::Exit,
         (Said::Register(index), Verdict::Differs(Place::Register(register))) => {
             register.index() == index
         }

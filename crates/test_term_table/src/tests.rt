@@ -97,9 +97,7 @@ fn read_of_another(rt: &impl Abort, table: &TermTable, first: &mut Pass, second:
     let over = Label::Op(Operator::Addu);
     let (a, b) = intern_over(table, first, init(rt, 1), over).expect(rt, "room");
     let (node, again) = meet_and_read(table, first, second, over, a, b);
-    assert!(rt;
-        word_of(node.label) == word_of(over) && node.children.as_slice() == [a, a].as_slice()
-    );
+    assert!(rt; node.label == over && node.children.as_slice() == [a, a].as_slice());
     let again = again.expect(rt, "room");
     assert!(rt; again.ticket == b && second.linked() == 0);
 }
