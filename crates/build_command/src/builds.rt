@@ -53,7 +53,7 @@ impl From<SourceFault> for BuildFault {
 }
 
 /// An image's bytes, how many blocks of it had which verdict, and how many there are.
-#[derive(Drop)]
+#[derive(Debug, Drop)]
 pub struct Built {
     pub image: Vec<u8>,
     pub report: Counts,

@@ -16,7 +16,7 @@ use std::thread::Threads;
 use steal_pool::Gate;
 
 /// How a program is built: how many of its calls may be active at once, main counted, and how its blocks are put in order.
-#[derive(Clone, Copy)]
+#[derive(Clone, Copy, Debug)]
 pub struct BuildOpts {
     pub depth: u32,
     pub phase: PhaseOpts,
