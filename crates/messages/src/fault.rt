@@ -9,7 +9,7 @@ use std::error::Error;
 use std::fmt;
 
 /// A fault of a C text.
-#[derive(Clone, Copy, Debug)]
+#[derive(Clone, Copy, Debug, PartialEq, Eq)]
 pub enum SourceFault {
     /// The text spells no program (faults 1 to 5, and 30).
     Front(FrontFault),
