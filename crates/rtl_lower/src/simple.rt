@@ -143,7 +143,7 @@ fn receiver_of(
 }
 
 // A call of a function.
-pub(crate) fn called(
+pub(crate) fn call_code(
     context: Context,
     blocks: &mut Vec<RBlock>,
     to: Option<Destination>,
@@ -172,7 +172,7 @@ pub(crate) fn called(
 }
 
 // A return with a value, or without.
-pub(crate) fn returned(
+pub(crate) fn return_code(
     context: Context,
     blocks: &mut Vec<RBlock>,
     given: &Option<TypedExpression>,

@@ -8,7 +8,7 @@ ghost use Rattle.rtl_lower.specs.Emits.{made_of, EmitsStatement, EmitsStatements
 
 use crate::context::{Context, made};
 use crate::shape::{is_likely, may_continue};
-use crate::simple::{assignment, called, element_store, returned, written};
+use crate::simple::{assignment, call_code, element_store, return_code, written};
 use c_typed::{TypedExpression, TypedStatement};
 use rtl::{BlockNumber, RBlock};
 use rtl_emit::{
@@ -58,7 +58,7 @@ pub(crate) fn statement(
         TypedStatement::Store(array, index, e) => {
             made(element_store(context, blocks, *array, index, e, after))
         }
-        TypedStatement::Call(to, function, arguments) => made(called(
+        TypedStatement::Call(to, function, arguments) => made(call_code(
             context,
             blocks,
             *to,
@@ -80,7 +80,7 @@ pub(crate) fn statement(
             };
             Ok(Continuation::Jump(block))
         }
-        TypedStatement::Return(given) => made(returned(context, blocks, given)),
+        TypedStatement::Return(given) => made(return_code(context, blocks, given)),
     }
 }
 

@@ -32,7 +32,7 @@ pub statement-returns-in-Call : goal.statement-returns-in-Call
 statement-returns-in-Call t c =
     simple_emits _ _ _ _ c.args.context (spot c.args.after) _ _
     (ap statement_of c.in-Call.is ∙ ap (λ es. call c.in-Call.to c.in-Call.function (typed_expressions_of es)) (sym c.as_slice-in-Call.ensures.value))
-    (λ n. refl) c.made-in-Call.ensures c.called.ensures
+    (λ n. refl) c.made-in-Call.ensures c.call_code.ensures
 
 pub statement-returns-in-Output : goal.statement-returns-in-Output
 statement-returns-in-Output t c =
@@ -58,7 +58,7 @@ statement-returns-in-Some t c =
 pub statement-returns-in-Return : goal.statement-returns-in-Return
 statement-returns-in-Return t c =
     simple_emits _ _ _ _ c.args.context (spot c.args.after) _ _ (ap statement_of c.in-Return.is) (λ n. refl) c.made-in-Return.ensures
-    (c.returned.ensures (spot c.args.after))
+    (c.return_code.ensures (spot c.args.after))
 
 pub side-returns : goal.side-returns
 side-returns t c =

@@ -1,7 +1,7 @@
 use Rattle.std.proofs.Common.{ap}
 use Rattle.c_typed.specs.Shape.{maybe_typed_expression_of}
 use Rattle.rtl_lower.proofs.Emitting.{nothing_returned, value_returned}
-use Rattle.rtl_lower.proofs.simple.returned.Goals as goal
+use Rattle.rtl_lower.proofs.simple.return_code.Goals as goal
 
 pub returns-in-None : goal.returns-in-None
 returns-in-None c = λ after. nothing_returned _ _ _ c.leaving.result after (ap maybe_typed_expression_of c.in-None.is) c.leaving.ensures

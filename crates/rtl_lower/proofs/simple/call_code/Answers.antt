@@ -1,6 +1,6 @@
 use Rattle.rtl_emit.specs.Blocks.{spot}
 use Rattle.rtl_lower.proofs.Emitting.{call_emits}
-use Rattle.rtl_lower.proofs.simple.called.Goals as goal
+use Rattle.rtl_lower.proofs.simple.call_code.Goals as goal
 
 pub returns : goal.returns
 returns c =
