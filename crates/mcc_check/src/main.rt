@@ -7,11 +7,9 @@
 //!   specs/Words.antt). Where it takes them as any others, the status is 2, or 1 (`others`).
 #![tactic(auto)]
 
-ghost use Rattle.std.specs.Prelude.{◌≡◌, ◌≢◌, ◌≤◌, MatchOption, false, map, true};
-ghost use Rattle.clap.specs.Words.{takes};
-ghost use Rattle.command_line.specs.Commands.{mcc_app};
+ghost use Rattle.std.specs.Prelude.{◌≡◌, MatchOption, false};
 ghost use Rattle.command_line.specs.declared.command.Command.TheVariants.{Check};
-ghost use Rattle.mcc_check.specs.Words.{AreOfCheck, IsCheck, IsOne};
+ghost use Rattle.mcc_check.specs.Words.{IsOne};
 
 use check_command::check_file;
 use command_line::{Command, words};
@@ -42,42 +40,37 @@ fn tell_others<E: Complaints>(err: &mut E) -> u8
     2
 }
 
-/// The program over its words (the first is its name), its files and two writers. The answer is the exit status, as `mcc` has
-/// it; 2 also for another command, for several files and for `--explain`.
-fn answer<F: Files, W: Output, E: Complaints>(
-    alloc: Global,
-    args: &[&str],
-    files: &mut F,
-    out: &mut W,
-    err: &mut E,
-) -> u8
-    ensures most { result ≤ 3 }
-    ensures taken { AreOfCheck (map (λ s. s.now) args.entry.now) → result ≢ 2 }
-    ensures others { takes mcc_app (map (λ s. s.now) args.entry.now) ≡ true → result ≢ 1 → result ≢ 2
-        → IsCheck (map (λ s. s.now) args.entry.now) }
-{
-    match words(alloc, args) {
-        Ok(command) => match file_of(&command) {
-            Some(file) => check_file(alloc, file, files, out, err),
-            None => tell_others(err),
-        },
-        Err(error) => tell_words(&error, out, err),
-    }
-}
-
 struct CheckFile;
 
 impl Program for CheckFile {
+    ghost use Rattle.std.specs.Prelude.{◌≡◌, ◌≢◌, ◌≤◌, map, true};
+    ghost use Rattle.clap.specs.Words.{takes};
+    ghost use Rattle.command_line.specs.Commands.{mcc_app};
+    ghost use Rattle.mcc_check.specs.Words.{AreOfCheck, IsCheck};
+
+    /// The program over its words (the first is its name), its files and two writers. The answer is the exit status, as `mcc` has
+    /// it; 2 also for another command, for several files and for `--explain`.
     fn answer<T: Threads + Wait + Sync, F: Files, W: Output, E: Complaints>(
         &self,
         _threads: &T,
         alloc: Global,
-        words: &[&str],
+        args: &[&str],
         files: &mut F,
         out: &mut W,
         err: &mut E,
-    ) -> u8 {
-        answer(alloc, words, files, out, err)
+    ) -> u8
+        ensures most { result ≤ 3 }
+        ensures taken { AreOfCheck (map (λ s. s.now) args.entry.now) → result ≢ 2 }
+        ensures others { takes mcc_app (map (λ s. s.now) args.entry.now) ≡ true → result ≢ 1 → result ≢ 2
+            → IsCheck (map (λ s. s.now) args.entry.now) }
+    {
+        match words(alloc, args) {
+            Ok(command) => match file_of(&command) {
+                Some(file) => check_file(alloc, file, files, out, err),
+                None => tell_others(err),
+            },
+            Err(error) => tell_words(&error, out, err),
+        }
     }
 }
 

@@ -3,7 +3,7 @@ use Rattle.command_line.specs.Commands.{IsCommand}
 use Rattle.command_line.specs.declared.command.Command.TheVariants.{Build}
 use Rattle.command_line.proofs.Programs.{silent, stopped_before}
 use Rattle.mcc_build.specs.Program.{Remarks, Stops}
-use Rattle.mcc_build.proofs.answer.Goals as goal
+use Rattle.mcc_build.proofs.BuildAndRunProgram.answer.Goals as goal
 
 pub returns-in-Ok-Build-clause-quiet : goal.returns-in-Ok-Build-clause-quiet
 returns-in-Ok-Build-clause-quiet g c = λ taken other.

@@ -1,6 +1,6 @@
 use Rattle.std.proofs.Common.{map}
 use Rattle.mcc_check.proofs.OneFile.{one_file}
-use Rattle.mcc_check.proofs.answer.Goals as goal
+use Rattle.mcc_check.proofs.CheckFileProgram.answer.Goals as goal
 
 pub returns-in-Ok-clause-taken : goal.returns-in-Ok-clause-taken
 returns-in-Ok-clause-taken g c = λ check two.
