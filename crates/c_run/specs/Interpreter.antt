@@ -3,7 +3,8 @@ use Rattle.std.specs.Prelude.{◌≡◌, ℕ, List, [], ◌∷◌, Option, map, 
 use Rattle.runs.specs.Stores.{Places, Arrays}
 use Rattle.runs.specs.Runs.{Running}
 use Rattle.runs.specs.Kept.{places, arrays}
-use Rattle.runs.specs.Steps.{after_step}
+use Rattle.runs.specs.Calls.{calls_of, reached_by}
+use Rattle.runs.specs.declared.interpreter.Interpreter as Runs
 use Rattle.runs.specs.declared.reached.Reached.{Reached}
 use Rattle.c_typed.specs.Trees.{TypedStatement, TypedProgram}
 use Rattle.c_typed.specs.declared.tree.Destination.{Destination}
@@ -17,7 +18,6 @@ use Rattle.c_run.specs.declared.pending.Pending.TheVariants.{One, Rest, Turn}
 use Rattle.c_run.specs.declared.pending.Head.{Head}
 use Rattle.c_run.specs.declared.pending.Head.TheVariants as Heads
 use Rattle.c_run.specs.declared.interpreter.Frame.{Frame}
-use Rattle.c_run.specs.declared.interpreter.Interpreter.{Interpreter}
 
 -- one that is pending, taken apart before the others
 abbrev pub with_pending : Pending → List Todo → List Todo
@@ -52,12 +52,8 @@ frame_of c = record { locals = places c.locals.items; todo = todos c.todo.items;
 abbrev pub frames_of : List Frame → List Meaning.Frame
 frames_of calls = map frame_of (reverse calls)
 
-abbrev pub state_of : Interpreter → Run
-state_of m = Running (frame_of m.frame ∷ frames_of m.waiting.items) (arrays m.globals.items) m.output.items
-
--- the state that a step has come to
-abbrev pub state_at : Reached → Interpreter → Run
-state_at r m = after_step r (state_of m) m.output.items
+abbrev pub Interpreter : Type 0
+Interpreter = Runs.Interpreter Frame
 
 -- the same interpreter with other locals and globals
 abbrev pub state_with : Interpreter → Places → Arrays → Run
@@ -72,7 +68,7 @@ state_after_step p depth k m =
 
 -- this statement takes the interpreter before to what is reached, in one step of a program
 abbrev pub DoesIn : TypedProgram → (depth : ℕ) → TypedStatement → Interpreter → Reached → Interpreter → Type 0
-DoesIn p depth s before r after = state_after_step p depth (Do s ∷ todos before.frame.todo.items) before ≡ state_at r after
+DoesIn p depth s before r after = state_after_step p depth (Do s ∷ todos before.frame.todo.items) before ≡ reached_by frame_of r after
 
 -- the same at any depth
 abbrev pub DoesAtAnyDepth : TypedProgram → TypedStatement → Interpreter → Reached → Interpreter → Type 0
@@ -86,19 +82,18 @@ Does s before r after = (p : TypedProgram) → DoesAtAnyDepth p s before r after
 abbrev pub Assigns : List Variable.Global → Destination → ℕ → Interpreter → Reached → Interpreter → Type 0
 Assigns globals to v before r after =
     with_assignment globals to v (places before.frame.locals.items) (arrays before.globals.items) before.output.items (state_with before)
-    ≡ state_at r after
+    ≡ reached_by frame_of r after
 
 -- a function is called with these values, and its result goes there
 abbrev pub Calls : TypedProgram → (depth f : ℕ) → List ℕ → Option Destination → Interpreter → Reached → Interpreter → Type 0
 Calls p depth f vs to before r after =
-    let frames = frame_of before.frame ∷ frames_of before.waiting.items in
-    state_after_call p depth f vs to frames (arrays before.globals.items) before.output.items ≡ state_at r after
+    state_after_call p depth f vs to (map frame_of (calls_of before)) (arrays before.globals.items) before.output.items ≡ reached_by frame_of r after
 
 -- the call returns, with a word or without
 abbrev pub Returns : List Variable.Global → Option ℕ → Interpreter → Reached → Interpreter → Type 0
 Returns globals v before r after =
     state_after_return globals v before.frame.result_to (frames_of before.waiting.items) (arrays before.globals.items) before.output.items
-    ≡ state_at r after
+    ≡ reached_by frame_of r after
 
 -- the locals, with what comes first and the others behind it
 abbrev pub point_at : Places → Head → List Todo → Point

@@ -6,7 +6,8 @@ ghost use Rattle.c_typed.specs.Shape.{statement_of, typed_expression_of, typed_e
 ghost use Rattle.c_typed.specs.Trees.{assign, store, call, output, if_else, loop, return_with};
 ghost use Rattle.c_types.specs.Shape.{program_of};
 ghost use Rattle.c_typed.specs.Meaning.{source_step};
-ghost use Rattle.c_run.specs.Interpreter.{state_of, state_at, Assigns, Calls, Returns, Does, DoesAtAnyDepth, DoesIn};
+ghost use Rattle.runs.specs.Calls.{state_by, reached_by};
+ghost use Rattle.c_run.specs.Interpreter.{frame_of, Assigns, Calls, Returns, Does, DoesAtAnyDepth, DoesIn};
 
 use crate::pending::{Head, Pending, put, settle};
 use crate::value::{arguments, value};
@@ -14,7 +15,6 @@ use c_typed::{Destination, TypedExpression, TypedStatement};
 use c_types::Typed;
 use runs::{Reached, set_word, store};
 use std::alloc::{AllocError, Global};
-use std::mem;
 
 /// A call that runs or waits, and where its result goes, if anywhere.
 #[derive(Drop)]
@@ -24,14 +24,8 @@ pub struct Frame<'a> {
     pub result_to: Option<Destination>,
 }
 
-/// A run: the call that runs, those that wait for it, the globals, and the output so far.
-#[derive(Drop)]
-pub struct Interpreter<'a> {
-    pub frame: Frame<'a>,
-    pub waiting: Vec<Frame<'a>>,
-    pub globals: Vec<Vec<u32>>,
-    pub output: Vec<u32>,
-}
+/// A typed program under way.
+pub type Interpreter<'a> = runs::Interpreter<Frame<'a>>;
 
 // What an element of a global keeps of a word; None where there is no such global.
 fn kept_by(program: &Typed, global: usize, v: u32) -> Option<u32>
@@ -97,18 +91,16 @@ fn enter<'a>(
     let Some(function) = program.functions().get(function) else {
         return Ok(Reached::Failed);
     };
-    if interpreter.waiting.len() + 1 >= depth as usize {
+    if !interpreter.has_room(depth) {
         return Ok(Reached::Failed);
     }
     let mut todo = Vec::new(alloc);
     put(&mut todo, Pending::Rest(function.body.as_slice()))?;
-    let frame = Frame {
+    interpreter.enter(Frame {
         locals: values,
         todo,
         result_to: to,
-    };
-    let caller = mem::replace(&mut interpreter.frame, frame);
-    interpreter.waiting.push(caller)?;
+    })?;
     Ok(Reached::Going)
 }
 
@@ -120,13 +112,9 @@ fn leave(
 ) -> Result<Reached, AllocError>
     ensures { IfOk result (λ r. Returns program.now.globals result_word interpreter.old r interpreter.new) }
 {
-    let Some(caller) = interpreter.waiting.pop() else {
-        return match result_word {
-            Some(w) => Ok(Reached::Ended(w)),
-            None => Ok(Reached::Failed),
-        };
+    let Some(done) = interpreter.leave() else {
+        return Ok(Reached::of_last(result_word));
     };
-    let done = mem::replace(&mut interpreter.frame, caller);
     let Some(place) = done.result_to else {
         return Ok(Reached::Going);
     };
@@ -317,7 +305,7 @@ pub(crate) fn step<'a>(
     depth: u32,
     interpreter: &mut Interpreter<'a>,
 ) -> Result<Reached, AllocError>
-    ensures { IfOk result (λ r. source_step (program_of program.now) depth (state_of interpreter.old) ≡ state_at r interpreter.new) }
+    ensures { IfOk result (λ r. source_step (program_of program.now) depth (state_by frame_of interpreter.old) ≡ reached_by frame_of r interpreter.new) }
 {
     let frame = &mut interpreter.frame;
     let head = settle(&mut frame.todo, &mut frame.locals)?;

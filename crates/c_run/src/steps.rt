@@ -4,7 +4,8 @@ ghost use Rattle.runs.specs.Runs.{outcome_of};
 ghost use Rattle.c_types.specs.Shape.{program_of};
 ghost use Rattle.c_typed.specs.Meaning.{first_words, source_start, source_run};
 ghost use Rattle.runs.specs.Kept.{arrays};
-ghost use Rattle.c_run.specs.Interpreter.{state_of};
+ghost use Rattle.runs.specs.Calls.{state_by};
+ghost use Rattle.c_run.specs.Interpreter.{frame_of};
 
 use crate::interpreter::{Frame, Interpreter, step};
 use crate::pending::{Pending, put};
@@ -27,7 +28,7 @@ fn first_globals(alloc: Global, program: &Typed) -> Result<Vec<Vec<u32>>, AllocE
 
 // The run before its first step.
 pub(crate) fn start<'a>(alloc: Global, program: &'a Typed) -> Result<Interpreter<'a>, AllocError>
-    ensures { IfOk result (λ r. source_start (program_of program.now) ≡ state_of r) }
+    ensures { IfOk result (λ r. source_start (program_of program.now) ≡ state_by frame_of r) }
 {
     let main = &program.functions()[program.main()];
     let mut todo = Vec::new(alloc);
@@ -38,12 +39,7 @@ pub(crate) fn start<'a>(alloc: Global, program: &'a Typed) -> Result<Interpreter
         result_to: None,
     };
     let globals = first_globals(alloc, program)?;
-    Ok(Interpreter {
-        frame,
-        waiting: Vec::new(alloc),
-        globals,
-        output: Vec::new(alloc),
-    })
+    Ok(Interpreter::new(alloc, frame, globals))
 }
 
 /// What so many steps of a program come to, with at most `depth` calls active at once, `main` among them. `Err` only

@@ -3,7 +3,8 @@ use Rattle.std.specs.Prelude.{◌≡◌, ℕ, List, ◌∷◌, Option, Some, map
 use Rattle.runs.specs.Stores.{Places, Arrays, chain, element_at, places_with}
 use Rattle.runs.specs.Runs.{Running, with_value}
 use Rattle.runs.specs.Kept.{places, arrays}
-use Rattle.runs.specs.Steps.{after_step}
+use Rattle.runs.specs.Calls.{calls_of, reached_by}
+use Rattle.runs.specs.declared.interpreter.Interpreter as Runs
 use Rattle.runs.specs.declared.reached.Reached.{Reached}
 use Rattle.rtl.specs.declared.operator.Op.{Op}
 use Rattle.rtl.specs.declared.instruction.RInst.{RInst}
@@ -15,7 +16,6 @@ use Rattle.rtl.specs.Programs.{Program}
 use Rattle.rtl.specs.Meaning as Meaning
 use Rattle.rtl.specs.Meaning.{Run, Code, code_of, with_inst, state_at_block, state_after_call, state_after_return, state_after_exit}
 use Rattle.rtl.specs.declared.interpreter.Frame.{Frame}
-use Rattle.rtl.specs.declared.interpreter.Interpreter.{Interpreter}
 
 -- the result of an operator at two registers, or none
 abbrev pub result_at : Op → Places → ℕ → ℕ → Option ℕ
@@ -37,12 +37,8 @@ frame_of f = record {
 abbrev pub frames_of : List Frame → List Meaning.Frame
 frames_of frames = map frame_of (reverse frames)
 
-abbrev pub state_of : Interpreter → Run
-state_of m = Running (frame_of m.frame ∷ frames_of m.waiting.items) (arrays m.globals.items) m.output.items
-
--- the state that a step has come to
-abbrev pub state_at : Reached → Interpreter → Run
-state_at r m = after_step r (state_of m) m.output.items
+abbrev pub Interpreter : Type 0
+Interpreter = Runs.Interpreter Frame
 
 -- the same interpreter with other registers and globals
 abbrev pub state_with : Interpreter → Places → Arrays → Run
@@ -64,27 +60,26 @@ abbrev pub Puts : ℕ → Option ℕ → Interpreter → Reached → Interpreter
 Puts x v before r after =
     with_value v before.output.items (λ w. state_with before (places_with (places before.frame.registers.items) x (Some w))
     (arrays before.globals.items))
-    ≡ state_at r after
+    ≡ reached_by frame_of r after
 
 -- an instruction of a program with these globals takes the interpreter before to what is reached
 abbrev pub Performs : List RGlobal → RInst → Interpreter → Reached → Interpreter → Type 0
 Performs globals i before r after =
     with_inst globals i (places before.frame.registers.items) (arrays before.globals.items) before.output.items (state_with before)
-    ≡ state_at r after
+    ≡ reached_by frame_of r after
 
 -- on to a block of the same function
 abbrev pub Jumps : ℕ → Interpreter → Reached → Interpreter → Type 0
 Jumps b before r after =
     state_at_block before.frame.blocks.now b (places before.frame.registers.items) before.frame.result_to (frames_of before.waiting.items)
     (arrays before.globals.items) before.output.items
-    ≡ state_at r after
+    ≡ reached_by frame_of r after
 
 -- a function is called with these words, and its result goes there
 abbrev pub Calls : Program → (depth f : ℕ) → List ℕ → Option ℕ → Interpreter → Reached → Interpreter → Type 0
 Calls p depth f vs to before r after =
-    state_after_call p depth f vs to (frame_of before.frame
-    ∷ frames_of before.waiting.items) (arrays before.globals.items) before.output.items
-    ≡ state_at r after
+    state_after_call p depth f vs to (map frame_of (calls_of before)) (arrays before.globals.items) before.output.items
+    ≡ reached_by frame_of r after
 
 -- the same by a caller that goes on at this block
 abbrev pub CallsFrom : Program → (depth f : ℕ) → List ℕ → Option ℕ → (next : ℕ) → Interpreter → Reached → Interpreter → Type 0
@@ -92,13 +87,13 @@ CallsFrom p depth f vs to next before r after =
     with_value (slice_get before.frame.blocks.now next) before.output.items (λ block.
     state_after_call p depth f vs to (frame_at block before.frame
     ∷ frames_of before.waiting.items) (arrays before.globals.items) before.output.items)
-    ≡ state_at r after
+    ≡ reached_by frame_of r after
 
 -- the activation returns, with a word or without
 abbrev pub Returns : Option ℕ → Interpreter → Reached → Interpreter → Type 0
 Returns v before r after =
     state_after_return v before.frame.result_to (frames_of before.waiting.items) (arrays before.globals.items) before.output.items
-    ≡ state_at r after
+    ≡ reached_by frame_of r after
 
 -- the block is left by this exit
 abbrev pub Leaves : Program → (depth : ℕ) → RExit → Interpreter → Reached → Interpreter → Type 0
@@ -106,4 +101,4 @@ Leaves p depth exit before r after =
     state_after_exit p depth exit before.frame.blocks.now (places before.frame.registers.items) before.frame.result_to
     (frames_of before.waiting.items)
     (arrays before.globals.items) before.output.items
-    ≡ state_at r after
+    ≡ reached_by frame_of r after

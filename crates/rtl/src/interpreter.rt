@@ -2,9 +2,10 @@
 ghost use Rattle.std.specs.Prelude.{◌≡◌, ℕ, List, IfOk, Some, None, map, Option, slice_get};
 ghost use Rattle.std.specs.Option.{option_map};
 ghost use Rattle.rtl.specs.declared.instruction.RInst.TheVariants.{Store};
-ghost use Rattle.rtl.specs.Meaning.{rtl_step, words_in};
+ghost use Rattle.rtl.specs.Meaning.{rtl_step, code_of, words_in};
 ghost use Rattle.runs.specs.Kept.{places, arrays};
-ghost use Rattle.rtl.specs.Interpreter.{result_at, load_at, state_of, state_at, frame_of, frame_at};
+ghost use Rattle.runs.specs.Calls.{state_by, reached_by};
+ghost use Rattle.rtl.specs.Interpreter.{result_at, load_at, frame_of, frame_at};
 ghost use Rattle.rtl.specs.Interpreter.{Puts, Performs, Jumps, Calls, CallsFrom, Returns, Leaves};
 
 use crate::block::{RBlock, RGlobal};
@@ -14,7 +15,6 @@ use crate::program::Rtl;
 use crate::stores::{constant, kept_by, register};
 use runs::{Reached, element, set_word, store};
 use std::alloc::{AllocError, Global};
-use std::mem;
 
 /// An activation that runs or waits: the blocks of its function, its registers, what is left of its block, and where its
 /// result goes, if anywhere.
@@ -27,14 +27,8 @@ pub struct Frame<'a> {
     pub result_to: Option<Register>,
 }
 
-/// A run: the activation that runs, those that wait for it, the elements of the globals, and the output so far.
-#[derive(Drop)]
-pub struct Interpreter<'a> {
-    pub frame: Frame<'a>,
-    pub waiting: Vec<Frame<'a>>,
-    pub globals: Vec<Vec<u32>>,
-    pub output: Vec<u32>,
-}
+/// A program of RTL under way.
+pub type Interpreter<'a> = runs::Interpreter<Frame<'a>>;
 
 // The result of an operator at two registers.
 fn result_of(registers: &[Option<u32>], op: Op, left: Register, right: Register) -> Option<u32>
@@ -177,6 +171,25 @@ fn arguments(
     Ok(Some(values))
 }
 
+// An activation of the function of these blocks, at the start of one of them.
+fn first_frame<'a>(
+    blocks: &'a [RBlock],
+    entry: &'a RBlock,
+    registers: Vec<Option<u32>>,
+    result_to: Option<Register>,
+) -> Frame<'a>
+    ensures { frame_of result
+        ≡ record { blocks = blocks.now; registers = places registers.items; code = code_of entry.now; result_to = result_to } }
+{
+    Frame {
+        blocks,
+        registers,
+        insts: entry.insts.as_slice(),
+        exit: &entry.exit,
+        result_to,
+    }
+}
+
 // A function is called with these words.
 fn enter<'a>(
     program: &'a Rtl,
@@ -192,7 +205,7 @@ fn enter<'a>(
     let Some(function) = program.functions().get(function as usize) else {
         return Ok(Reached::Failed);
     };
-    if interpreter.waiting.len() + 1 >= depth as usize {
+    if !interpreter.has_room(depth) {
         return Ok(Reached::Failed);
     }
     if registers.len() != function.parameters as usize {
@@ -202,15 +215,7 @@ fn enter<'a>(
     let Some(entry) = block_at(blocks, 0) else {
         return Ok(Reached::Failed);
     };
-    let frame = Frame {
-        blocks,
-        registers,
-        insts: entry.insts.as_slice(),
-        exit: &entry.exit,
-        result_to,
-    };
-    let caller = mem::replace(&mut interpreter.frame, frame);
-    interpreter.waiting.push(caller)?;
+    interpreter.enter(first_frame(blocks, entry, registers, result_to))?;
     Ok(Reached::Going)
 }
 
@@ -241,17 +246,13 @@ fn return_word(
 ) -> Result<Reached, AllocError>
     ensures { IfOk result (λ r. Returns result_word interpreter.old r interpreter.new) }
 {
-    let Some(caller) = interpreter.waiting.pop() else {
-        return match result_word {
-            Some(w) => Ok(Reached::Ended(w)),
-            None => Ok(Reached::Failed),
-        };
+    let Some(done) = interpreter.leave() else {
+        return Ok(Reached::of_last(result_word));
     };
-    let done = mem::replace(&mut interpreter.frame, caller);
-    let Some(to) = done.result_to else {
-        return Ok(Reached::Going);
-    };
-    put(interpreter, to, result_word)
+    match done.result_to {
+        Some(to) => put(interpreter, to, result_word),
+        None => Ok(Reached::Going),
+    }
 }
 
 // How a block is left.
@@ -303,7 +304,7 @@ pub(crate) fn step<'a>(
     depth: u32,
     interpreter: &mut Interpreter<'a>,
 ) -> Result<Reached, AllocError>
-    ensures { IfOk result (λ r. rtl_step program.now depth (state_of interpreter.old) ≡ state_at r interpreter.new) }
+    ensures { IfOk result (λ r. rtl_step program.now depth (state_by frame_of interpreter.old) ≡ reached_by frame_of r interpreter.new) }
 {
     let Some((inst, rest)) = interpreter.frame.insts.split_first() else {
         let exit = interpreter.frame.exit;

@@ -3,7 +3,8 @@ ghost use Rattle.std.specs.Prelude.{◌≡◌, IfOk, map};
 ghost use Rattle.runs.specs.Runs.{outcome_of};
 ghost use Rattle.rtl.specs.Meaning.{first_values, rtl_start, rtl_run};
 ghost use Rattle.runs.specs.Kept.{arrays};
-ghost use Rattle.rtl.specs.Interpreter.{state_of};
+ghost use Rattle.runs.specs.Calls.{state_by};
+ghost use Rattle.rtl.specs.Interpreter.{frame_of};
 
 use crate::block::RGlobal;
 use crate::interpreter::{Frame, Interpreter, step};
@@ -36,7 +37,7 @@ fn first_globals(alloc: Global, globals: &[RGlobal]) -> Result<Vec<Vec<u32>>, Al
 
 // The run before its first step.
 fn start<'a>(alloc: Global, program: &'a Rtl) -> Result<Interpreter<'a>, AllocError>
-    ensures { IfOk result (λ r. rtl_start program.now ≡ state_of r) }
+    ensures { IfOk result (λ r. rtl_start program.now ≡ state_by frame_of r) }
 {
     let main = &program.functions()[program.main() as usize];
     let blocks = main.blocks.as_slice();
@@ -49,12 +50,7 @@ fn start<'a>(alloc: Global, program: &'a Rtl) -> Result<Interpreter<'a>, AllocEr
         exit: &entry.exit,
         result_to: None,
     };
-    Ok(Interpreter {
-        frame,
-        waiting: Vec::new(alloc),
-        globals,
-        output: Vec::new(alloc),
-    })
+    Ok(Interpreter::new(alloc, frame, globals))
 }
 
 /// What so many steps of a program come to, with at most `depth` activations at once, that of `main` among them. `Err`

@@ -1,13 +1,31 @@
--- The calls that wait: kept with the latest one last, and meant with the latest one first.
-use Rattle.std.proofs.Common.{◌≡◌, List, [], ◌∷◌, ◌++◌, ◌∙◌, ap, length, map}
-use Rattle.std.specs.Prelude.{reverse}
-use Rattle.std.proofs.lemmas.List.{reverse-append, length-map, length-reverse}
+-- The calls that are active: kept with the latest one last, and meant with the latest one first.
+use Rattle.std.proofs.Common.{◌≡◌, ℕ, Bool, List, Option, Some, None, ◌∙◌, refl, ap, length, map, nat_lt}
+use Rattle.std.proofs.lemmas.List.{length-map}
+use Rattle.std.specs.declared.vec.Vec.{Vec}
+use Rattle.std.specs.declared.alloc.Global.{Global}
+use Rattle.runs.specs.Kept.{arrays}
+use Rattle.runs.specs.Runs.{Configuration, Running, Ended, with_value}
+use Rattle.runs.specs.Steps.{last_reached, after_step}
+use Rattle.runs.specs.Calls.{calls_of, state_by}
+use Rattle.runs.specs.declared.interpreter.Interpreter.{Interpreter}
 
-pub waiting-length : {F Call : Type 0} (call_of : F → Call) (frames : List F) → length (map call_of (reverse frames)) ≡ length frames
-waiting-length call_of frames = simp (length-map, length-reverse)
+-- as many calls as frames
+pub room-of : {F Call : Type 0} (call_of : F → Call) (m : Interpreter F) (depth : ℕ) (b : Bool) → nat_lt (length (calls_of m)) depth ≡ b
+    → nat_lt (length (map call_of (calls_of m))) depth ≡ b
+room-of call_of m depth b is =
+    let same : length (map call_of (calls_of m)) ≡ length (calls_of m) = simp length-map in
+    ap (λ n. nat_lt n depth) same ∙ is
 
-pub waiting-push : {F Call : Type 0} (call_of : F → Call) (frames new : List F) (f waits : F) → new ≡ frames ++ waits ∷ [] → waits ≡ f
-    → map call_of (reverse new) ≡ call_of f ∷ map call_of (reverse frames)
-waiting-push call_of frames new f waits e is =
-    ap (λ fs. map call_of (reverse fs)) e ∙ ap (map call_of) (reverse-append frames (waits ∷ []))
-    ∙ ap (λ f. call_of f ∷ map call_of (reverse frames)) is
+-- another interpreter with these calls, and with the globals and the output of the first
+pub with-calls : {F Call : Type 0} (call_of : F → Call) (m new : Interpreter F) (calls : List F) → calls_of new ≡ calls → new.globals ≡ m.globals
+    → new.output ≡ m.output → state_by call_of new ≡ Running (map call_of calls) (arrays m.globals.items) m.output.items
+with-calls call_of m new calls is globals output =
+    ap (λ cs. Running (map call_of cs) (arrays new.globals.items) new.output.items) is
+    ∙ ap (λ (g : Vec (Vec ℕ Global) Global). Running (map call_of calls) (arrays g.items) new.output.items) globals
+    ∙ ap (λ (out : Vec ℕ Global). Running (map call_of calls) (arrays m.globals.items) out.items) output
+
+-- a return of the last call, with a word or without
+pub last-return : {Call : Type 0} (v : Option ℕ) (s : Configuration Call) (out : List ℕ)
+    → with_value v out (λ w. Ended w out) ≡ after_step (last_reached v) s out
+last-return None s out = refl
+last-return (Some w) s out = refl

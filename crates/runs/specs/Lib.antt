@@ -2,4 +2,5 @@ pub mod Stores
 pub mod Kept
 pub mod Runs
 pub mod Steps
+pub mod Calls
 pub mod Refines

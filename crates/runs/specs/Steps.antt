@@ -24,6 +24,11 @@ end_of Reach.Going = None
 end_of (Reach.Ended w) = Some (Done w)
 end_of Reach.Failed = Some Wrong
 
+-- what the return of the last call comes to: its word ends the program
+abbrev pub last_reached : Option ℕ → Reached
+last_reached None = Reach.Failed
+last_reached (Some w) = Reach.Ended w
+
 -- what a step has come to: this state, where the run goes on, and else the end with this output
 abbrev pub after_step : {Call : Type 0} → Reached → Configuration Call → List ℕ → Configuration Call
 after_step Reach.Going s out = s

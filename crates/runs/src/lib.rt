@@ -6,18 +6,23 @@
 //! keeps, and when a run is over. `specs/Refines.antt` says what it means that a target comes to the same as its source, which
 //! the promises of passes and of a build are.
 //!
-//! What an interpreter of any level keeps is read and written here, and what its step comes to is a `Reached`.
+//! What an interpreter of any level keeps is read and written here, its calls begin and end here (`Interpreter`, with frames of
+//! the level's own kind, `specs/Calls.antt`), and what its step comes to is a `Reached`.
 //!
 //! What is promised, by what the lists that an interpreter keeps stand for (`specs/Kept.antt`):
 //! - `word_at` and `element` read exactly what is there, and None where it isn't set or outside; `set_word` and `store` leave the
 //!   same with that one word written; an `Err` of `set_word` is refused memory, and leaves all as it was.
 //! - `Reached::end` is Some exactly where the run is over.
+//! - `enter` and `leave` put a call before those that are active and take it off again; `has_room` tells exactly whether fewer
+//!   than so many are active.
 #![tactic(auto)]
 
+mod interpreter;
 mod ran;
 mod reached;
 mod stores;
 
+pub use interpreter::Interpreter;
 pub use ran::{End, Ran};
 pub use reached::Reached;
 pub use stores::{element, set_word, store, word_at};

@@ -15,7 +15,17 @@ pub enum Reached {
 }
 
 impl Reached {
-    ghost use Rattle.runs.specs.Steps.{end_of};
+    ghost use Rattle.runs.specs.Steps.{end_of, last_reached};
+
+    /// What the return of the last call comes to: its word ends the program, and without one it has no meaning.
+    pub fn of_last(word: Option<u32>) -> Reached
+        ensures { result ≡ last_reached word }
+    {
+        match word {
+            Some(word) => Reached::Ended(word),
+            None => Reached::Failed,
+        }
+    }
 
     /// How the run ended; None where it goes on.
     #[inline]

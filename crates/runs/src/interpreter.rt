@@ -1,0 +1,63 @@
+// A program under way, with its calls, its globals and its output.
+ghost use Rattle.std.specs.Prelude.{◌≡◌, ◌∷◌, [], reverse, length, nat_lt, IfSome, OnOk, None};
+
+use std::alloc::{AllocError, Global};
+use std::mem;
+
+/// A program under way: the call that runs, those that wait for it, the latest one last, the words of the globals, and the
+/// output so far. Each level has frames of its own kind.
+#[derive(Drop)]
+pub struct Interpreter<F> {
+    pub frame: F,
+    pub waiting: Vec<F>,
+    pub globals: Vec<Vec<u32>>,
+    pub output: Vec<u32>,
+}
+
+impl<F: Drop> Interpreter<F> {
+    ghost use Rattle.runs.specs.Calls.{calls_of};
+
+    /// A program before its first step: one call runs.
+    pub fn new(alloc: Global, frame: F, globals: Vec<Vec<u32>>) -> Interpreter<F>
+        ensures calls { calls_of result ≡ frame ∷ [] }
+        ensures globals { result.globals ≡ globals }
+        ensures output { result.output.items ≡ [] }
+    {
+        Interpreter {
+            frame,
+            waiting: Vec::new(alloc),
+            globals,
+            output: Vec::new(alloc),
+        }
+    }
+
+    /// Whether fewer calls than `depth` are active, so that one more may begin.
+    pub fn has_room(&self, depth: u32) -> bool
+        ensures { result ≡ nat_lt (length (calls_of self.now)) depth }
+    {
+        self.waiting.len() < depth.saturating_sub(1) as usize
+    }
+
+    /// A call begins, and the one that ran waits for it. `Err` only where memory is refused.
+    pub fn enter(&mut self, frame: F) -> Result<(), AllocError>
+        ensures calls { OnOk result (calls_of self.new ≡ frame ∷ calls_of self.old) }
+        ensures globals { OnOk result (self.new.globals ≡ self.old.globals) }
+        ensures output { OnOk result (self.new.output ≡ self.old.output) }
+    {
+        let caller = mem::replace(&mut self.frame, frame);
+        self.waiting.push(caller)?;
+        Ok(())
+    }
+
+    /// The call that runs is over, and its caller goes on: the frame of the call, or None where no caller waits.
+    pub fn leave(&mut self) -> Option<F>
+        ensures none { result ≡ None → reverse self.old.waiting.items ≡ [] }
+        ensures done { IfSome result (λ done. done ≡ self.old.frame) }
+        ensures caller { IfSome result (λ _. reverse self.old.waiting.items ≡ calls_of self.new) }
+        ensures globals { self.new.globals ≡ self.old.globals }
+        ensures output { self.new.output ≡ self.old.output }
+    {
+        let caller = self.waiting.pop()?;
+        Some(mem::replace(&mut self.frame, caller))
+    }
+}
