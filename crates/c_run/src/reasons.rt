@@ -53,7 +53,7 @@ fn is_decided(operator: BinaryOp, left: u32) -> bool {
 }
 
 /// Why there is no element at this index, if there is none.
-fn outside(
+fn missing_of_element(
     globals: &[Vec<u32>],
     array: usize,
     index: u32,
@@ -73,7 +73,11 @@ fn outside(
 }
 
 /// The first part of an expression, in the order in which they are evaluated, that has no value; None where it has one.
-fn missing(e: &TypedExpression, locals: &[Option<u32>], globals: &[Vec<u32>]) -> Option<Reason>
+fn missing_of_expression(
+    e: &TypedExpression,
+    locals: &[Option<u32>],
+    globals: &[Vec<u32>],
+) -> Option<Reason>
     ensures { IfSome result IsReason }
 {
     match e {
@@ -83,12 +87,12 @@ fn missing(e: &TypedExpression, locals: &[Option<u32>], globals: &[Vec<u32>]) ->
             None => Some(Reason::Unset),
         },
         TypedExpression::Element(array, _, index) => match value(index, locals, globals) {
-            Some(at) => outside(globals, *array, at, index.integer_type()),
-            None => missing(index, locals, globals),
+            Some(at) => missing_of_element(globals, *array, at, index.integer_type()),
+            None => missing_of_expression(index, locals, globals),
         },
         TypedExpression::Unary(operator, integer_type, part) => {
             let Some(operand) = value(part, locals, globals) else {
-                return missing(part, locals, globals);
+                return missing_of_expression(part, locals, globals);
             };
             match unary_value(*operator, *integer_type, operand) {
                 Some(_) => None,
@@ -101,13 +105,13 @@ fn missing(e: &TypedExpression, locals: &[Option<u32>], globals: &[Vec<u32>]) ->
         }
         TypedExpression::Binary(operator, integer_type, left, right) => {
             let Some(x) = value(left, locals, globals) else {
-                return missing(left, locals, globals);
+                return missing_of_expression(left, locals, globals);
             };
             if is_decided(*operator, x) {
                 return None;
             }
             let Some(y) = value(right, locals, globals) else {
-                return missing(right, locals, globals);
+                return missing_of_expression(right, locals, globals);
             };
             match binary_value(*operator, *integer_type, x, y) {
                 Some(_) => None,
@@ -120,9 +124,9 @@ fn missing(e: &TypedExpression, locals: &[Option<u32>], globals: &[Vec<u32>]) ->
             }
         }
         TypedExpression::Conditional(_, test, first, second) => match value(test, locals, globals) {
-            None => missing(test, locals, globals),
-            Some(0) => missing(second, locals, globals),
-            Some(_) => missing(first, locals, globals),
+            None => missing_of_expression(test, locals, globals),
+            Some(0) => missing_of_expression(second, locals, globals),
+            Some(_) => missing_of_expression(first, locals, globals),
         },
     }
 }
@@ -141,11 +145,11 @@ fn missing_of_store(
         interpreter.globals.as_slice(),
     );
     let Some(at) = value(index, locals, globals) else {
-        return missing(index, locals, globals);
+        return missing_of_expression(index, locals, globals);
     };
-    match missing(e, locals, globals) {
+    match missing_of_expression(e, locals, globals) {
         Some(reason) => Some(reason),
-        None => outside(globals, array, at, index.integer_type()),
+        None => missing_of_element(globals, array, at, index.integer_type()),
     }
 }
 
@@ -158,7 +162,7 @@ fn missing_of_call(interpreter: &Interpreter, arguments: &[TypedExpression]) -> 
         interpreter.globals.as_slice(),
     );
     for argument in arguments {
-        if let Some(reason) = missing(argument, locals, globals) {
+        if let Some(reason) = missing_of_expression(argument, locals, globals) {
             return reason;
         }
     }
@@ -178,7 +182,7 @@ fn missing_of_statement(interpreter: &Interpreter, s: &TypedStatement) -> Option
         | TypedStatement::Output(e)
         | TypedStatement::If(e, _, _)
         | TypedStatement::Loop(e, _, _)
-        | TypedStatement::Return(Some(e)) => missing(e, locals, globals),
+        | TypedStatement::Return(Some(e)) => missing_of_expression(e, locals, globals),
         TypedStatement::Store(array, index, e) => missing_of_store(interpreter, *array, index, e),
         TypedStatement::Call(_, _, arguments) => Some(missing_of_call(interpreter, arguments)),
         _ => None,

@@ -20,6 +20,7 @@ use Rattle.c_typed.specs.Shape.{function_of, functions_of}
 use Rattle.c_typed.specs.Trees.{TypedFunction}
 use Rattle.c_statements.proofs.Firsts.{Both, both-none, both-stop, ok-at, same-stop}
 use Rattle.c_types.specs.declared.program.Declared.{Declared}
+use Rattle.c_types.specs.declared.program.Declared.TheVariants.{Variable, Function}
 use Rattle.c_types.specs.declared.program.Parts.{Parts}
 use Rattle.c_types.specs.Files.{AreParts, AreTyped, IsFunction, IsWith, declared_of}
 use Rattle.c_types.specs.Programs.{Counts, File, FaultyBody, FaultyDeclaration, FaultyDeclarations, FaultyName, TypedDeclaration}
@@ -66,20 +67,34 @@ append-none : {A : Type 0} (xs : List A) → xs ++ [] ≡ xs
 append-none [] = refl
 append-none (x ∷ xs) = ap (λ ys. x ∷ ys) (append-none xs)
 
-pub with-global : (old new : Parts) (g : OneGlobal.Global) (all : List TypedDeclaration) → new.functions ≡ old.functions
+with-global : (old new : Parts) (g : OneGlobal.Global) (all : List TypedDeclaration) → new.functions ≡ old.functions
     → new.globals.items ≡ old.globals.items ++ g ∷ [] → AreParts old all → AreParts new (all ++ a_global g ∷ [])
 with-global old new g all e i h = record {
   functions = ap (λ v. functions_of v.items) e ∙ h.functions ∙ sym (append-none (functions_in all)) ∙ sym (functions-in all (a_global g));
   globals = i ∙ ap (λ ys. ys ++ g ∷ []) h.globals ∙ sym (globals-in all (a_global g));
 }
 
-pub with-function : (old new : Parts) (f : OneFunction.Function) (all : List TypedDeclaration) → new.globals ≡ old.globals
+with-function : (old new : Parts) (f : OneFunction.Function) (all : List TypedDeclaration) → new.globals ≡ old.globals
     → new.functions.items ≡ old.functions.items ++ f ∷ [] → AreParts old all → AreParts new (all ++ a_function (function_of f) ∷ [])
 with-function old new f all e i h = record {
   functions = ap functions_of i ∙ functions-append old.functions.items f ∙ ap (λ ys. ys ++ function_of f ∷ []) h.functions
       ∙ sym (functions-in all (a_function (function_of f)));
   globals = ap (λ v. v.items) e ∙ h.globals ∙ sym (append-none (globals_in all)) ∙ sym (globals-in all (a_function (function_of f)));
 }
+
+-- the parts with the declaration that comes next
+module _ {parts : Result Parts TypeStop} {next : Result Declared TypeStop} (old new : Parts) (more : Declared) (before : parts ≡ Ok old)
+    (last : next ≡ Ok more) where
+  with-next : ((all : List TypedDeclaration) → AreParts old all → AreParts new (all ++ declared_of more ∷ [])) → IsWith parts next new
+  with-next is = record { old = old; more = more; before = before; last = last; is = is }
+
+  pub with-next-global : (g : OneGlobal.Global) → more ≡ Variable g → new.functions ≡ old.functions
+      → new.globals.items ≡ old.globals.items ++ g ∷ [] → IsWith parts next new
+  with-next-global g is e i = with-next (λ all h. rw is (with-global old new g all e i h))
+
+  pub with-next-function : (f : OneFunction.Function) → more ≡ Function f → new.globals ≡ old.globals
+      → new.functions.items ≡ old.functions.items ++ f ∷ [] → IsWith parts next new
+  with-next-function f is e i = with-next (λ all h. rw is (with-function old new f all e i h))
 
 declarations-append : (xs : List Declaration) (d : Declaration) → declarations_of (xs ++ d ∷ []) ≡ declarations_of xs ++ declaration_of d ∷ []
 declarations-append [] d = refl

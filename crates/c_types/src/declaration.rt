@@ -76,7 +76,7 @@ fn is_empty_array(declaration: &Declaration) -> bool
 }
 
 /// The word of a first value; 0 without one.
-pub fn first(initial: &Option<Initial>) -> u32
+pub fn initial_word(initial: &Option<Initial>) -> u32
     ensures { result ≡ first_word initial.now }
 {
     match initial {
@@ -93,7 +93,7 @@ pub fn first(initial: &Option<Initial>) -> u32
 
 impl Tally {
     /// What the name of the next declaration stands for.
-    pub fn named(&self, declaration: &Declaration) -> Named
+    pub fn next_named(&self, declaration: &Declaration) -> Named
         ensures { result ≡ named_by (counts_of self.now) (declaration_of declaration.now) }
     {
         match declaration {

@@ -15,7 +15,7 @@ ghost use Rattle.c_types.specs.Programs.{TypesProgram, after, after_all, closing
 ghost use Rattle.c_types.specs.Shape.{program_of};
 ghost use Rattle.c_types.specs.Typed.{EachTypedProgramIsWellFormed, SpellsTyped};
 
-use crate::declaration::{Tally, declared_name, first, is_main, name_fault, parameters};
+use crate::declaration::{Tally, declared_name, initial_word, is_main, name_fault, parameters};
 use crate::typed_program::Typed;
 use c_statements::{
     Context, Named, Scopes, TypeFault, TypeFaultKind, TypeStop, both, items, lasting,
@@ -118,7 +118,7 @@ fn body<'a>(
         Declaration::Variable(_, _, initial) => Ok(Declared::Variable(Variable {
             width: Width::Word,
             length: 1,
-            first: first(initial),
+            first: initial_word(initial),
         })),
         Declaration::Array(width, _, _, length) => Ok(Declared::Variable(Variable {
             width: *width,
@@ -148,7 +148,7 @@ fn declaration<'a>(
         → scopes_of scopes.new ≡ file_scopes (after program.now.text.items (file_of scopes.old tally.now) (declaration_of d.now)).names }
 {
     let fault = name_fault(program, scopes, tally, d);
-    scopes.declare(program, declared_name(d), tally.named(d))?;
+    scopes.declare(program, declared_name(d), tally.next_named(d))?;
     let typed = lasting(body(alloc, program, scopes, d))?;
     let (_, typed) = both(fault, typed)?;
     Ok(typed)
@@ -230,7 +230,7 @@ fn number_of(found: Option<Named>) -> usize
 }
 
 /// The typed program, or its first fault.
-fn typed(alloc: Global, program: &Program) -> Result<Typed, TypeStop>
+fn type_program(alloc: Global, program: &Program) -> Result<Typed, TypeStop>
     ensures { Answers (λ t. TypesProgram program.now.text.items (declarations_of program.now.declarations.items) (program_of t))
         (FaultyProgram program.now.text.items (declarations_of program.now.declarations.items)) result }
 {
@@ -251,7 +251,7 @@ pub fn check(alloc: Global, program: Program) -> Result<Typed, TypeFault>
     ensures err { IfErr result (IsTypeFault program.text.items
         (FaultyProgram program.text.items (declarations_of program.declarations.items))) }
 {
-    match typed(alloc, &program) {
+    match type_program(alloc, &program) {
         Ok(typed) => Ok(typed),
         Err(TypeStop::Fault(fault)) => Err(fault),
         Err(TypeStop::NoMemory) => Err(TypeFault {

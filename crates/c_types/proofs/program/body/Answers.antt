@@ -8,7 +8,7 @@ use Rattle.c_types.proofs.program.body.Goals as goal
 
 pub returns-in-Variable-clause-typed : goal.returns-in-Variable-clause-typed
 returns-in-Variable-clause-typed c =
-    record { ok = λ f e. rw (c.in-Variable.is, c.first.ensures) variable_typed; none = search rules; err = tt }
+    record { ok = λ f e. rw (c.in-Variable.is, c.initial_word.ensures) variable_typed; none = search rules; err = tt }
 
 pub returns-in-Array-clause-typed : goal.returns-in-Array-clause-typed
 returns-in-Array-clause-typed c =

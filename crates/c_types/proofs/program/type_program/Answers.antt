@@ -9,7 +9,7 @@ use Rattle.c_types.specs.declared.program.Parts.{Parts}
 use Rattle.c_types.specs.Files.{AreTyped}
 use Rattle.c_types.specs.Programs.{FaultyProgram, after_all, no_declarations}
 use Rattle.c_types.proofs.Main.{main-found, program-stop, typed-program}
-use Rattle.c_types.proofs.program.typed.Goals as goal
+use Rattle.c_types.proofs.program.type_program.Goals as goal
 
 pub returns-in_err-parts-2 : goal.returns-in_err-parts-2
 returns-in_err-parts-2 c =
