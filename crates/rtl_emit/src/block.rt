@@ -44,7 +44,7 @@ pub fn put_first(inst: RInst, mut code: OpenBlock) -> Result<OpenBlock, AllocErr
 }
 
 /// Code that comes there.
-pub fn opened(alloc: Global, after: Continuation) -> OpenBlock
+pub fn open_block(alloc: Global, after: Continuation) -> OpenBlock
     ensures { open_code result ≡ line_of (spot after) }
 {
     match after {
@@ -57,14 +57,14 @@ pub fn opened(alloc: Global, after: Continuation) -> OpenBlock
 pub fn put_before(alloc: Global, inst: RInst, after: Continuation) -> Result<OpenBlock, AllocError>
     ensures { IfOk result (λ c. open_code c ≡ first inst (line_of (spot after))) }
 {
-    let code = opened(alloc, after);
+    let code = open_block(alloc, after);
     let from = put_first(inst, code)?;
     Ok(from)
 }
 
 /// A block that begins there: no new one for a block that is there. A function with more than 1,048,575 blocks is a Limit. After an
 /// Err the blocks are as they were.
-pub fn sealed(blocks: &mut Vec<RBlock>, after: Continuation) -> Result<BlockNumber, LowerFault>
+pub fn block_of(blocks: &mut Vec<RBlock>, after: Continuation) -> Result<BlockNumber, LowerFault>
     ensures grows { Grows blocks.old.items blocks.new.items }
     ensures left { OnErr result (blocks.new.items ≡ blocks.old.items) }
     ensures count { OnOk result (length blocks.new.items ≡ length blocks.old.items + joint (spot after)) }
@@ -82,7 +82,7 @@ pub fn sealed(blocks: &mut Vec<RBlock>, after: Continuation) -> Result<BlockNumb
     }
 }
 
-// The code as a block of its own; a Limit as for `sealed`.
+// The code as a block of its own; a Limit as for `block_of`.
 pub(crate) fn seal(blocks: &mut Vec<RBlock>, code: OpenBlock) -> Result<BlockNumber, LowerFault>
     ensures grows { Grows blocks.old.items blocks.new.items }
     ensures left { OnErr result (blocks.new.items ≡ blocks.old.items) }
@@ -111,7 +111,7 @@ fn put_block(blocks: &mut Vec<RBlock>, block: RBlock) -> Result<(), AllocError>
     Ok(())
 }
 
-/// A block that is filled later, and its number; a Limit as for `sealed`, and after an Err the blocks are as they were.
+/// A block that is filled later, and its number; a Limit as for `block_of`, and after an Err the blocks are as they were.
 pub fn reserve(alloc: Global, blocks: &mut Vec<RBlock>) -> Result<BlockNumber, LowerFault>
     ensures left { OnErr result (blocks.new.items ≡ blocks.old.items) }
     ensures limit { IfErr result (λ f. f ≡ LowerFault.Limit → MAX_BLOCKS < length blocks.old.items + 1) }

@@ -16,13 +16,15 @@ ghost use Rattle.rtl_emit.specs.Sizes.{by_branches, has_contrary, logical_of};
 ghost use Rattle.rtl_emit.specs.Emits.{test_size, condition_size, EmitsValue, EmitsOperand, EmitsBranch, EmitsOperands};
 ghost use Rattle.rtl_emit.specs.Emits.{EmitsBoth, EmitsValueBlock, EmitsBranchBlock};
 
-use crate::block::{Continuation, OpenBlock, opened, seal, sealed};
+use crate::block::{Continuation, OpenBlock, block_of, open_block, seal};
 use crate::fault::LowerFault;
 use crate::operation::{Form, Operation, Prefix, contrary_of, form_of, prefix_of};
 use crate::place::Place;
 use crate::simple::{Aim, global_into, local_into, number_into};
-use crate::targets::{Targets, decided, likely, truth_blocks};
-use crate::waiting::{Waiting, WaitingForTwo, combined, contrary, load_at, operated, tested};
+use crate::targets::{Targets, branch_by, likely_first, truth_blocks};
+use crate::waiting::{
+    Waiting, WaitingForTwo, combination_at, contrary_at, load_at, operation_at, test_at,
+};
 use c_tokens::IntegerType;
 use c_tree::{BinaryOp, UnaryOp};
 use c_typed::TypedExpression;
@@ -95,7 +97,7 @@ fn element_into(
 {
     let (alloc, free) = (aim.alloc, aim.free);
     let load = load_at(aim, array, index);
-    awaited(alloc, blocks, index, free, load)
+    await_operand(alloc, blocks, index, free, load)
 }
 
 // The value of a prefix operator.
@@ -119,11 +121,11 @@ fn unary_into(
         Prefix::Same => value_into(alloc, blocks, part, to, free, after),
         Prefix::Branches => {
             let truth = truth_blocks(alloc, blocks, to, after)?;
-            condition(alloc, blocks, part, likely(truth.no, truth.yes), free)
+            condition(alloc, blocks, part, likely_first(truth.no, truth.yes), free)
         }
         Prefix::Combined(with) => {
-            let value = combined(with, part, to, free, opened(alloc, after));
-            awaited(alloc, blocks, part, free, value)
+            let value = combination_at(with, part, to, free, open_block(alloc, after));
+            await_operand(alloc, blocks, part, free, value)
         }
     }
 }
@@ -150,8 +152,8 @@ fn binary_into(
                 free,
                 after,
             } = aim;
-            let values = operated(operation, left, right, to, free, opened(alloc, after));
-            both_awaited(alloc, blocks, left, right, free, values)
+            let values = operation_at(operation, left, right, to, free, open_block(alloc, after));
+            await_both(alloc, blocks, left, right, free, values)
         }
     }
 }
@@ -169,7 +171,7 @@ fn told_into(
         aim.to aim.free (spot aim.after) blocks.old.items blocks.new.items result }
 {
     let truth = truth_blocks(aim.alloc, blocks, aim.to, aim.after)?;
-    logical(aim.alloc, blocks, both, left, right, truth, aim.free)
+    logical_branches(aim.alloc, blocks, both, left, right, truth, aim.free)
 }
 
 // The value of a conditional expression, each side of which is a block of its own.
@@ -190,10 +192,10 @@ fn conditional_into(
         free,
         after,
     } = aim;
-    let join = sealed(blocks, after)?;
+    let join = block_of(blocks, after)?;
     let yes = value_block(alloc, blocks, first, to, free, join)?;
     let no = value_block(alloc, blocks, second, to, free, join)?;
-    condition(alloc, blocks, test, likely(yes, no), free)
+    condition(alloc, blocks, test, likely_first(yes, no), free)
 }
 
 // A value as a block of its own, which goes on at a block that is there.
@@ -235,7 +237,7 @@ pub fn operand_into(
 
 // The value of an operand in its place, before code that waits for it there, if there is such code.
 #[cycle(expressions)]
-fn awaited(
+fn await_operand(
     alloc: Global,
     blocks: &mut Vec<RBlock>,
     e: &TypedExpression,
@@ -253,7 +255,7 @@ fn awaited(
 
 // The same of two operands, the first of which is held while the second is found.
 #[cycle(expressions)]
-fn both_awaited(
+fn await_both(
     alloc: Global,
     blocks: &mut Vec<RBlock>,
     left: &TypedExpression,
@@ -292,7 +294,7 @@ fn test(
     ensures { EmitsBranch (test_size (typed_expression_of e.now) targets.likely free) (typed_expression_of e.now) targets free
         blocks.old.items blocks.new.items result }
 {
-    awaited(alloc, blocks, e, free, tested(alloc, e, targets, free))
+    await_operand(alloc, blocks, e, free, test_at(alloc, e, targets, free))
 }
 
 /// The branches of a condition to its targets.
@@ -308,16 +310,20 @@ pub fn condition(
         blocks.old.items blocks.new.items result }
 {
     match e {
-        TypedExpression::Constant(literal) => Ok(decided(alloc, constant(literal.value), targets)),
+        TypedExpression::Constant(literal) => Ok(branch_by(
+            alloc,
+            constant(literal.value),
+            targets,
+        )),
         TypedExpression::Unary(operator, _, part) => match operator {
             UnaryOp::Identity => condition(alloc, blocks, part, targets, free),
-            UnaryOp::Not => condition(alloc, blocks, part, targets.turned(), free),
+            UnaryOp::Not => condition(alloc, blocks, part, targets.of_contrary(), free),
             _ => test(alloc, blocks, e, targets, free),
         },
         TypedExpression::Binary(operator, integer_type, left, right) => {
             match form_of(*operator, *integer_type) {
                 Form::Logical { both } => {
-                    logical(alloc, blocks, both, left, right, targets, free)
+                    logical_branches(alloc, blocks, both, left, right, targets, free)
                 }
                 Form::Plain(_) => {
                     let Some(operation) = contrary_of(*operator, *integer_type) else {
@@ -326,7 +332,7 @@ pub fn condition(
                     if targets.likely {
                         return test(alloc, blocks, e, targets, free);
                     }
-                    compared(alloc, blocks, operation, left, right, targets, free)
+                    contrary_test(alloc, blocks, operation, left, right, targets, free)
                 }
             }
         }
@@ -339,7 +345,7 @@ pub fn condition(
 
 // A branch by the contrary of a comparison, with the block `no` first.
 #[cycle(expressions)]
-fn compared(
+fn contrary_test(
     alloc: Global,
     blocks: &mut Vec<RBlock>,
     operation: Operation,
@@ -353,13 +359,13 @@ fn compared(
         → EmitsBranch (condition_size (binary o k (typed_expression_of left.now) (typed_expression_of right.now)) targets.likely free)
         (binary o k (typed_expression_of left.now) (typed_expression_of right.now)) targets free blocks.old.items blocks.new.items result }
 {
-    let values = contrary(alloc, operation, left, right, targets, free);
-    both_awaited(alloc, blocks, left, right, free, values)
+    let values = contrary_at(alloc, operation, left, right, targets, free);
+    await_both(alloc, blocks, left, right, free, values)
 }
 
 // The branches of `&&` or `||`: of the left operand, and in a block of its own of the right one.
 #[cycle(expressions)]
-fn logical(
+fn logical_branches(
     alloc: Global,
     blocks: &mut Vec<RBlock>,
     both: bool,
@@ -393,7 +399,7 @@ fn sides(
 {
     let yes = branch_block(alloc, blocks, first, targets, free)?;
     let no = branch_block(alloc, blocks, second, targets, free)?;
-    condition(alloc, blocks, test, likely(yes, no), free)
+    condition(alloc, blocks, test, likely_first(yes, no), free)
 }
 
 // The branches of a condition as a block of its own.

@@ -27,7 +27,7 @@
 //! - The code of an expression leaves its value in the register that is asked for (`value_into`, `Evaluates`) or in the
 //!   operand's own (`operand_into`, `Fetches`), that of a condition comes to one of two blocks (`condition`,
 //!   `Decides`), and the registers of the locals stay: whatever other blocks there are.
-//! - After an Err `sealed` and `reserve` have left the blocks as they were, the other calls have at most added some behind
+//! - After an Err `block_of` and `reserve` have left the blocks as they were, the other calls have at most added some behind
 //!   them, and `places_of` at most places behind those that were there.
 #![tactic(auto)]
 
@@ -41,7 +41,7 @@ mod targets;
 mod waiting;
 
 pub use block::{
-    Continuation, OpenBlock, fill, leaving, opened, put_before, put_first, reserve, sealed,
+    Continuation, OpenBlock, block_of, fill, leaving, open_block, put_before, put_first, reserve,
 };
 pub use expression::{condition, operand_into, operands_into, value_into};
 pub use fault::LowerFault;

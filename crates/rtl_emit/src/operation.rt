@@ -30,14 +30,14 @@ pub(crate) enum Form {
 }
 
 // The operator at the words as they stand.
-pub(crate) fn straight(op: Op) -> Operation
+pub(crate) fn straight_op(op: Op) -> Operation
     ensures { result ≡ record { op = op; turned = false } }
 {
     Operation { op, turned: false }
 }
 
 // The operator at the words turned round.
-pub(crate) fn turned(op: Op) -> Operation
+pub(crate) fn turned_op(op: Op) -> Operation
     ensures { result ≡ record { op = op; turned = true } }
 {
     Operation { op, turned: true }
@@ -72,22 +72,22 @@ pub(crate) fn form_of(operator: BinaryOp, integer_type: IntegerType) -> Form
     ensures branches { is_logical operator ≡ is_by_branches result }
 {
     match operator {
-        BinaryOp::Multiply => Form::Plain(straight(Op::Mul)),
-        BinaryOp::Divide => Form::Plain(straight(by_type(integer_type, Op::DivS, Op::DivU))),
-        BinaryOp::Remainder => Form::Plain(straight(by_type(integer_type, Op::RemS, Op::RemU))),
-        BinaryOp::Add => Form::Plain(straight(Op::Add)),
-        BinaryOp::Subtract => Form::Plain(straight(Op::Sub)),
-        BinaryOp::ShiftLeft => Form::Plain(straight(Op::Shl)),
-        BinaryOp::ShiftRight => Form::Plain(straight(by_type(integer_type, Op::ShrS, Op::ShrU))),
-        BinaryOp::Less => Form::Plain(straight(by_type(integer_type, Op::LtS, Op::LtU))),
-        BinaryOp::Greater => Form::Plain(turned(by_type(integer_type, Op::LtS, Op::LtU))),
-        BinaryOp::LessOrEqual => Form::Plain(straight(by_type(integer_type, Op::LeS, Op::LeU))),
-        BinaryOp::GreaterOrEqual => Form::Plain(turned(by_type(integer_type, Op::LeS, Op::LeU))),
-        BinaryOp::Equal => Form::Plain(straight(Op::Eq)),
-        BinaryOp::NotEqual => Form::Plain(straight(Op::Ne)),
-        BinaryOp::BitAnd => Form::Plain(straight(Op::And)),
-        BinaryOp::BitXor => Form::Plain(straight(Op::Xor)),
-        BinaryOp::BitOr => Form::Plain(straight(Op::Or)),
+        BinaryOp::Multiply => Form::Plain(straight_op(Op::Mul)),
+        BinaryOp::Divide => Form::Plain(straight_op(by_type(integer_type, Op::DivS, Op::DivU))),
+        BinaryOp::Remainder => Form::Plain(straight_op(by_type(integer_type, Op::RemS, Op::RemU))),
+        BinaryOp::Add => Form::Plain(straight_op(Op::Add)),
+        BinaryOp::Subtract => Form::Plain(straight_op(Op::Sub)),
+        BinaryOp::ShiftLeft => Form::Plain(straight_op(Op::Shl)),
+        BinaryOp::ShiftRight => Form::Plain(straight_op(by_type(integer_type, Op::ShrS, Op::ShrU))),
+        BinaryOp::Less => Form::Plain(straight_op(by_type(integer_type, Op::LtS, Op::LtU))),
+        BinaryOp::Greater => Form::Plain(turned_op(by_type(integer_type, Op::LtS, Op::LtU))),
+        BinaryOp::LessOrEqual => Form::Plain(straight_op(by_type(integer_type, Op::LeS, Op::LeU))),
+        BinaryOp::GreaterOrEqual => Form::Plain(turned_op(by_type(integer_type, Op::LeS, Op::LeU))),
+        BinaryOp::Equal => Form::Plain(straight_op(Op::Eq)),
+        BinaryOp::NotEqual => Form::Plain(straight_op(Op::Ne)),
+        BinaryOp::BitAnd => Form::Plain(straight_op(Op::And)),
+        BinaryOp::BitXor => Form::Plain(straight_op(Op::Xor)),
+        BinaryOp::BitOr => Form::Plain(straight_op(Op::Or)),
         BinaryOp::LogicalAnd => Form::Logical { both: true },
         BinaryOp::LogicalOr => Form::Logical { both: false },
     }
@@ -108,11 +108,11 @@ pub(crate) fn prefix_of(operator: UnaryOp, by_branches: bool) -> Prefix
     match operator {
         UnaryOp::Identity => Prefix::Same,
         UnaryOp::Negate => Prefix::Combined(Combination {
-            operation: turned(Op::Sub),
+            operation: turned_op(Op::Sub),
             word: 0,
         }),
         UnaryOp::Complement => Prefix::Combined(Combination {
-            operation: straight(Op::Xor),
+            operation: straight_op(Op::Xor),
             word: u32::MAX,
         }),
         UnaryOp::Not => {
@@ -120,7 +120,7 @@ pub(crate) fn prefix_of(operator: UnaryOp, by_branches: bool) -> Prefix
                 Prefix::Branches
             } else {
                 Prefix::Combined(Combination {
-                    operation: straight(Op::Eq),
+                    operation: straight_op(Op::Eq),
                     word: 0,
                 })
             }
@@ -134,12 +134,12 @@ pub(crate) fn contrary_of(operator: BinaryOp, integer_type: IntegerType) -> Opti
     ensures computes { IfSome result (λ op. ComputesContrary operator (sign_of integer_type) op) }
 {
     match operator {
-        BinaryOp::Less => Some(turned(by_type(integer_type, Op::LeS, Op::LeU))),
-        BinaryOp::Greater => Some(straight(by_type(integer_type, Op::LeS, Op::LeU))),
-        BinaryOp::LessOrEqual => Some(turned(by_type(integer_type, Op::LtS, Op::LtU))),
-        BinaryOp::GreaterOrEqual => Some(straight(by_type(integer_type, Op::LtS, Op::LtU))),
-        BinaryOp::Equal => Some(straight(Op::Ne)),
-        BinaryOp::NotEqual => Some(straight(Op::Eq)),
+        BinaryOp::Less => Some(turned_op(by_type(integer_type, Op::LeS, Op::LeU))),
+        BinaryOp::Greater => Some(straight_op(by_type(integer_type, Op::LeS, Op::LeU))),
+        BinaryOp::LessOrEqual => Some(turned_op(by_type(integer_type, Op::LtS, Op::LtU))),
+        BinaryOp::GreaterOrEqual => Some(straight_op(by_type(integer_type, Op::LtS, Op::LtU))),
+        BinaryOp::Equal => Some(straight_op(Op::Ne)),
+        BinaryOp::NotEqual => Some(straight_op(Op::Eq)),
         _ => None,
     }
 }

@@ -7,7 +7,7 @@ ghost use Rattle.rtl_emit.specs.Expressions.{IsTruth};
 ghost use Rattle.rtl_emit.specs.Sizes.{joint};
 ghost use Rattle.rtl_emit.specs.Sound.{IsSoundSpot, KeepsSound};
 
-use crate::block::{Continuation, OpenBlock, leaving, put_first, seal, sealed};
+use crate::block::{Continuation, OpenBlock, block_of, leaving, put_first, seal};
 use crate::fault::LowerFault;
 use rtl::{BlockNumber, RBlock, RExit, RInst, Register};
 use std::alloc::Global;
@@ -25,7 +25,7 @@ impl Targets {
     ghost use Rattle.rtl_emit.specs.Emits.{left_targets};
 
     // Those of the contrary condition.
-    pub(crate) fn turned(self) -> Targets
+    pub(crate) fn of_contrary(self) -> Targets
         ensures { result ≡ record { yes = self.no; no = self.yes; likely = not self.likely } }
     {
         Targets {
@@ -56,7 +56,7 @@ impl Targets {
 }
 
 // Targets of which the first is likely.
-pub(crate) fn likely(yes: BlockNumber, no: BlockNumber) -> Targets
+pub(crate) fn likely_first(yes: BlockNumber, no: BlockNumber) -> Targets
     ensures { result ≡ record { yes = yes; no = no; likely = true } }
 {
     Targets {
@@ -67,7 +67,7 @@ pub(crate) fn likely(yes: BlockNumber, no: BlockNumber) -> Targets
 }
 
 // The branch of a condition that is this word.
-pub(crate) fn decided(alloc: Global, word: u32, targets: Targets) -> OpenBlock
+pub(crate) fn branch_by(alloc: Global, word: u32, targets: Targets) -> OpenBlock
     ensures { open_code result ≡ goto (if word == 0 then targets.no else targets.yes) }
 {
     let target = if word == 0 { targets.no } else { targets.yes };
@@ -90,7 +90,7 @@ pub(crate) fn truth_blocks(
     ensures truth { IfOk result (λ t. (bs : List RBlock) → Has bs blocks.old.items blocks.new.items
         → IsTruth bs to t.yes t.no (spot after)) }
 {
-    let join = sealed(blocks, after)?;
+    let join = block_of(blocks, after)?;
     let no_code = put_first(RInst::Const(to, 0), leaving(alloc, RExit::Goto(join)))?;
     let no = seal(blocks, no_code)?;
     let yes_code = put_first(RInst::Const(to, 1), leaving(alloc, RExit::Goto(join)))?;

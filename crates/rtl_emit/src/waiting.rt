@@ -14,7 +14,7 @@ ghost use Rattle.rtl_emit.specs.Sound.{Scope, IsSound};
 
 use crate::block::{OpenBlock, leaving, put_before, put_first};
 use crate::fault::LowerFault;
-use crate::operation::{Combination, Operation, straight};
+use crate::operation::{Combination, Operation, straight_op};
 use crate::place::{Place, place_of, spare};
 use crate::simple::{Aim, number_of};
 use crate::targets::Targets;
@@ -57,7 +57,7 @@ pub(crate) fn load_at(
 }
 
 // What an operation gives at a value and the word of a constant.
-pub(crate) fn combined(
+pub(crate) fn combination_at(
     with: Combination,
     e: &TypedExpression,
     to: Register,
@@ -82,7 +82,7 @@ pub(crate) fn combined(
 }
 
 // A branch by a value. Where `likely` is false the block `no` stands first, and the test is the contrary one.
-pub(crate) fn tested(
+pub(crate) fn test_at(
     alloc: Global,
     e: &TypedExpression,
     targets: Targets,
@@ -109,16 +109,16 @@ pub(crate) fn tested(
         let contrary = spare(free)?;
         let end = leaving(alloc, RExit::Branch(contrary, targets.no, targets.yes));
         let is_zero = Combination {
-            operation: straight(Op::Eq),
+            operation: straight_op(Op::Eq),
             word: 0,
         };
-        let waiting = combined(is_zero, e, contrary, free, end)?;
+        let waiting = combination_at(is_zero, e, contrary, free, end)?;
         Ok(waiting)
     }
 }
 
 // What an operation gives at two values.
-pub(crate) fn operated(
+pub(crate) fn operation_at(
     operation: Operation,
     left: &TypedExpression,
     right: &TypedExpression,
@@ -149,7 +149,7 @@ pub(crate) fn operated(
 }
 
 // A branch by the contrary of a comparison, with the block `no` first.
-pub(crate) fn contrary(
+pub(crate) fn contrary_at(
     alloc: Global,
     operation: Operation,
     left: &TypedExpression,
@@ -170,6 +170,6 @@ pub(crate) fn contrary(
 {
     let to = spare(free)?;
     let end = leaving(alloc, RExit::Branch(to, targets.no, targets.yes));
-    let waiting = operated(operation, left, right, to, free, end)?;
+    let waiting = operation_at(operation, left, right, to, free, end)?;
     Ok(waiting)
 }

@@ -17,7 +17,7 @@ pub(crate) struct Context {
 
 impl Context {
     // The context of a loop's body.
-    pub(crate) fn inside(self, leave: BlockNumber, next: Option<BlockNumber>) -> Context
+    pub(crate) fn inside_loop(self, leave: BlockNumber, next: Option<BlockNumber>) -> Context
         ensures { result ≡ record { alloc = self.alloc; free = self.free; leave = leave; next = next } }
     {
         Context {
@@ -30,7 +30,9 @@ impl Context {
 }
 
 // The code as one that other code goes on at.
-pub(crate) fn made(code: Result<OpenBlock, LowerFault>) -> Result<Continuation, LowerFault>
+pub(crate) fn continuation_of(
+    code: Result<OpenBlock, LowerFault>,
+) -> Result<Continuation, LowerFault>
     ensures { result ≡ made_of code }
 {
     match code {

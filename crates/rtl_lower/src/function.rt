@@ -10,7 +10,7 @@ use crate::context::Context;
 use crate::statement::statements;
 use c_typed::{Function, Global as TypedGlobal};
 use rtl::{RExit, RFunc, RGlobal};
-use rtl_emit::{Continuation, LowerFault, fill, leaving, opened, register_of, reserve};
+use rtl_emit::{Continuation, LowerFault, fill, leaving, open_block, register_of, reserve};
 use std::alloc::Global;
 
 /// The blocks of a function.
@@ -34,7 +34,7 @@ pub(crate) fn function(alloc: Global, f: &Function) -> Result<RFunc, LowerFault>
         next: None,
     };
     let code = statements(context, &mut blocks, f.body.as_slice(), end)?;
-    fill(&mut blocks, entry, opened(alloc, code));
+    fill(&mut blocks, entry, open_block(alloc, code));
     Ok(RFunc { parameters, blocks })
 }
 

@@ -9,8 +9,8 @@ use crate::context::Context;
 use c_typed::{Destination, TypedExpression};
 use rtl::{BlockNumber, RBlock, RExit, RInst, Register};
 use rtl_emit::{
-    Continuation, LowerFault, OpenBlock, leaving, number_of, operand_into, operands_into, place_of,
-    places_of, put_before, put_first, register_of, registers_of, sealed, spare, value_into,
+    Continuation, LowerFault, OpenBlock, block_of, leaving, number_of, operand_into, operands_into,
+    place_of, places_of, put_before, put_first, register_of, registers_of, spare, value_into,
 };
 
 // The value of an expression to a local or a global variable.
@@ -83,7 +83,7 @@ pub(crate) fn element_store(
 }
 
 // The value of an expression to the output.
-pub(crate) fn written(
+pub(crate) fn output_code(
     context: Context,
     blocks: &mut Vec<RBlock>,
     e: &TypedExpression,
@@ -91,7 +91,7 @@ pub(crate) fn written(
 ) -> Result<OpenBlock, LowerFault>
     ensures { EmitsCode (output (typed_expression_of e.now)) context.free (spot after) blocks.old.items blocks.new.items result }
 {
-    let block = sealed(blocks, after)?;
+    let block = block_of(blocks, after)?;
     let value = place_of(e, context.free)?;
     let end = leaving(context.alloc, RExit::Out(value.register, block));
     operand_into(context.alloc, blocks, e, value.register, context.free, end)
@@ -115,12 +115,12 @@ fn receiver_of(
 {
     match to {
         None => {
-            let block = sealed(blocks, after)?;
+            let block = block_of(blocks, after)?;
             Ok(Receiver { to: None, block })
         }
         Some(Destination::Local(x)) => {
             let local = register_of(x)?;
-            let block = sealed(blocks, after)?;
+            let block = block_of(blocks, after)?;
             Ok(Receiver {
                 to: Some(local),
                 block,
@@ -133,7 +133,7 @@ fn receiver_of(
             let store = RInst::Store(global, index, result);
             let last = put_before(context.alloc, store, after)?;
             let code = put_first(RInst::Const(index, 0), last)?;
-            let block = sealed(blocks, Continuation::Made(code))?;
+            let block = block_of(blocks, Continuation::Made(code))?;
             Ok(Receiver {
                 to: Some(result),
                 block,

@@ -6,13 +6,13 @@ ghost use Rattle.rtl_emit.specs.Blocks.{spot};
 ghost use Rattle.rtl_lower.specs.Sizes.{continues, any_continues};
 ghost use Rattle.rtl_lower.specs.Emits.{made_of, EmitsStatement, EmitsStatements, EmitsSide, EmitsTurn, EndsTurn};
 
-use crate::context::{Context, made};
+use crate::context::{Context, continuation_of};
 use crate::shape::{is_likely, may_continue};
-use crate::simple::{assignment, call_code, element_store, return_code, written};
+use crate::simple::{assignment, call_code, element_store, output_code, return_code};
 use c_typed::{TypedExpression, TypedStatement};
 use rtl::{BlockNumber, RBlock};
 use rtl_emit::{
-    Continuation, LowerFault, OpenBlock, Targets, condition, fill, opened, reserve, sealed,
+    Continuation, LowerFault, OpenBlock, Targets, block_of, condition, fill, open_block, reserve,
 };
 
 /// The end of a turn of a loop: where its body goes on, and where `continue` leads.
@@ -27,7 +27,7 @@ fn turn_to(blocks: &mut Vec<RBlock>, many: bool, last: Continuation) -> Result<T
     ensures { EndsTurn many (spot last) blocks.old.items blocks.new.items result }
 {
     if many {
-        let block = sealed(blocks, last)?;
+        let block = block_of(blocks, last)?;
         Ok(Turn {
             next: Some(block),
             after: Continuation::Jump(block),
@@ -54,11 +54,13 @@ pub(crate) fn statement(
     match s {
         TypedStatement::Empty | TypedStatement::Unset(_) => Ok(after),
         TypedStatement::Block(all) => statements(context, blocks, all.as_slice(), after),
-        TypedStatement::Assign(to, e) => made(assignment(context, blocks, *to, e, after)),
+        TypedStatement::Assign(to, e) => continuation_of(assignment(
+            context, blocks, *to, e, after,
+        )),
         TypedStatement::Store(array, index, e) => {
-            made(element_store(context, blocks, *array, index, e, after))
+            continuation_of(element_store(context, blocks, *array, index, e, after))
         }
-        TypedStatement::Call(to, function, arguments) => made(call_code(
+        TypedStatement::Call(to, function, arguments) => continuation_of(call_code(
             context,
             blocks,
             *to,
@@ -66,12 +68,12 @@ pub(crate) fn statement(
             arguments.as_slice(),
             after,
         )),
-        TypedStatement::Output(e) => made(written(context, blocks, e, after)),
+        TypedStatement::Output(e) => continuation_of(output_code(context, blocks, e, after)),
         TypedStatement::If(test, yes, no) => {
-            made(if_statement(context, blocks, test, yes, no, after))
+            continuation_of(if_statement(context, blocks, test, yes, no, after))
         }
         TypedStatement::Loop(test, last, body) => {
-            made(loop_statement(context, blocks, test, last, body, after))
+            continuation_of(loop_statement(context, blocks, test, last, body, after))
         }
         TypedStatement::Break => Ok(Continuation::Jump(context.leave)),
         TypedStatement::Continue => {
@@ -80,7 +82,7 @@ pub(crate) fn statement(
             };
             Ok(Continuation::Jump(block))
         }
-        TypedStatement::Return(given) => made(return_code(context, blocks, given)),
+        TypedStatement::Return(given) => continuation_of(return_code(context, blocks, given)),
     }
 }
 
@@ -106,7 +108,7 @@ pub(crate) fn statements(
 
 // A statement as a block of its own, which goes on at a block that is there.
 #[cycle(statements)]
-fn side(
+fn side_block(
     context: Context,
     blocks: &mut Vec<RBlock>,
     s: &TypedStatement,
@@ -116,7 +118,7 @@ fn side(
     ensures { EmitsSide (statement_of s.now) context join blocks.old.items blocks.new.items result }
 {
     let code = statement(context, blocks, s, Continuation::Jump(join))?;
-    sealed(blocks, code)
+    block_of(blocks, code)
 }
 
 // An `if`, each of whose sides goes on at one block.
@@ -134,9 +136,9 @@ fn if_statement(
     ensures { EmitsStatement (if_else (typed_expression_of test.now) (statement_of yes.now) (statement_of no.now)) context (spot after)
         blocks.old.items blocks.new.items (made_of result) }
 {
-    let join = sealed(blocks, after)?;
-    let yes_block = side(context, blocks, yes, join)?;
-    let no_block = side(context, blocks, no, join)?;
+    let join = block_of(blocks, after)?;
+    let yes_block = side_block(context, blocks, yes, join)?;
+    let no_block = side_block(context, blocks, no, join)?;
     let targets = Targets {
         yes: yes_block,
         no: no_block,
@@ -177,7 +179,7 @@ fn loop_statement(
     ensures { EmitsStatement (loop (typed_expression_of test.now) (statement_of last.now) (statement_of body.now)) context (spot after)
         blocks.old.items blocks.new.items (made_of result) }
 {
-    let left = sealed(blocks, after)?;
+    let left = block_of(blocks, after)?;
     let head = reserve(context.alloc, blocks)?;
     let again = Targets {
         yes: head,
@@ -185,9 +187,9 @@ fn loop_statement(
         likely: true,
     };
     let turn = turn_of(context, blocks, test, last, may_continue(body), again)?;
-    let inner = context.inside(left, turn.next);
+    let inner = context.inside_loop(left, turn.next);
     let body_code = statement(inner, blocks, body, turn.after)?;
     let top = condition(context.alloc, blocks, test, again, context.free)?;
-    fill(blocks, head, opened(context.alloc, body_code));
+    fill(blocks, head, open_block(context.alloc, body_code));
     Ok(top)
 }

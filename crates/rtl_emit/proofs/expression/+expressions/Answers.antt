@@ -8,7 +8,7 @@ use Rattle.rtl_emit.proofs.Emitting.{value_along, branch_along, element_emits, p
 use Rattle.rtl_emit.proofs.Emitting.{both_emits, both_stops, operator_emits, block_emits, block_stops, join_stops, first_value_stops, value_stops}
 use Rattle.rtl_emit.proofs.Emitting.{conditional_emits, constant_emits, not_branches, logical_branches, logical_stops, conditional_branches, sides}
 use Rattle.rtl_emit.proofs.Emitting.{first_side_stops, side_stops, contrary_emits, test_emits, operand_emits}
-use Rattle.rtl_emit.proofs.Weights.{weight}
+use Rattle.rtl_emit.proofs.Weights.{weight, binary_weight, conditional_weight}
 use Rattle.rtl_emit.proofs.expression.+expressions.Goals as goal
 
 pub value_into-returns-in-Constant : goal.value_into-returns-in-Constant
@@ -49,7 +49,7 @@ pub element_into-returns : goal.element_into-returns
 element_into-returns t c = λ k.
     let load = c.load_at-load.ensures in
     element_emits _ _ _ k _ c.args.aim.to c.args.aim.free (spot c.args.aim.after) c.load_at-load.result _ load.place load.is load.room load.limit
-    c.awaited.ensures.ok c.awaited.ensures.err
+    c.await_operand.ensures.ok c.await_operand.ensures.err
 
 pub unary_into-returns-in-Same : goal.unary_into-returns-in-Same
 unary_into-returns-in-Same t c = λ k.
@@ -65,14 +65,14 @@ pub unary_into-returns-in_ok-truth-in-Branches : goal.unary_into-returns-in_ok-t
 unary_into-returns-in_ok-truth-in-Branches t c = λ k.
     let truth = c.in_ok-truth-in-Branches.ensures in
     not_emits _ _ _ _ k _ _ c.args.aim.to c.args.aim.free c.in_ok-truth-in-Branches.truth _ (spot c.args.aim.after) _ c.in-Branches.ensures c.is_logical.ensures
-    c.likely.ensures
+    c.likely_first.ensures
     (record { grows = truth.grows; count = truth.count; sound = truth.sound; likely = truth.is_likely; truth = truth.truth }) c.condition.ensures
 
 pub unary_into-returns-in-Combined : goal.unary_into-returns-in-Combined
 unary_into-returns-in-Combined t c = λ k.
-    let value = c.combined-value.ensures in
-    prefix_emits _ _ _ _ k _ _ c.args.aim.to c.args.aim.free c.opened.result (spot c.args.aim.after) c.combined-value.result _ c.in-Combined.ensures
-    c.is_logical.ensures c.opened.ensures value.room value.does value.sound value.limit c.awaited.ensures.ok c.awaited.ensures.err
+    let value = c.combination_at-value.ensures in
+    prefix_emits _ _ _ _ k _ _ c.args.aim.to c.args.aim.free c.open_block.result (spot c.args.aim.after) c.combination_at-value.result _ c.in-Combined.ensures
+    c.is_logical.ensures c.open_block.ensures value.room value.does value.sound value.limit c.await_operand.ensures.ok c.await_operand.ensures.err
 
 pub binary_into-returns-in-Logical : goal.binary_into-returns-in-Logical
 binary_into-returns-in-Logical t c =
@@ -82,10 +82,10 @@ binary_into-returns-in-Logical t c =
 
 pub binary_into-returns-in-Plain : goal.binary_into-returns-in-Plain
 binary_into-returns-in-Plain t c =
-    let values = c.operated-values.ensures in
-    operator_emits _ _ _ _ _ _ _ c.args.aim.to c.args.aim.free c.opened.result (spot c.args.aim.after) c.operated-values.result _
-    c.in-Plain.ensures.form c.in-Plain.ensures.branches c.opened.ensures values.first values.second values.is values.sound values.room values.limit
-    c.both_awaited.ensures.ok c.both_awaited.ensures.err
+    let values = c.operation_at-values.ensures in
+    operator_emits _ _ _ _ _ _ _ c.args.aim.to c.args.aim.free c.open_block.result (spot c.args.aim.after) c.operation_at-values.result _
+    c.in-Plain.ensures.form c.in-Plain.ensures.branches c.open_block.ensures values.first values.second values.is values.sound values.room values.limit
+    c.await_both.ensures.ok c.await_both.ensures.err
 
 pub told_into-returns-in_err-truth : goal.told_into-returns-in_err-truth
 told_into-returns-in_err-truth t c = λ k.
@@ -96,7 +96,7 @@ pub told_into-returns : goal.told_into-returns
 told_into-returns t c = λ k.
     let truth = c.in_ok-truth.ensures in
     told_emits c.args.both _ _ _ k _ _ c.in_ok-truth.truth c.args.aim.to c.args.aim.free (spot c.args.aim.after) _
-    (record { grows = truth.grows; count = truth.count; sound = truth.sound; likely = truth.is_likely; truth = truth.truth }) (c.logical.ensures k)
+    (record { grows = truth.grows; count = truth.count; sound = truth.sound; likely = truth.is_likely; truth = truth.truth }) (c.logical_branches.ensures k)
 
 pub conditional_into-returns-in_err-join : goal.conditional_into-returns-in_err-join
 conditional_into-returns-in_err-join t c = λ k.
@@ -119,7 +119,7 @@ pub conditional_into-returns : goal.conditional_into-returns
 conditional_into-returns t c = λ k.
     let join = c.in_ok-join.ensures in
     conditional_emits _ _ _ _ _ k _ _ _ _ c.args.aim.to c.args.aim.free c.in_ok-join.join c.in_ok-yes.yes c.in_ok-no.no (spot c.args.aim.after) _
-    c.likely.ensures (record { grows = join.grows; count = join.count; sound = join.sound; lands = join.lands }) c.in_ok-yes.ensures c.in_ok-no.ensures
+    c.likely_first.ensures (record { grows = join.grows; count = join.count; sound = join.sound; lands = join.lands }) c.in_ok-yes.ensures c.in_ok-no.ensures
     c.condition.ensures
 
 pub value_block-returns-in_err-code : goal.value_block-returns-in_err-code
@@ -135,44 +135,44 @@ value_block-returns t c =
 pub operand_into-returns : goal.operand_into-returns
 operand_into-returns t c = operand_emits _ _ _ _ _ c.args.after _ c.requires.within c.value_into.ensures
 
-pub both_awaited-returns-in_err-middle : goal.both_awaited-returns-in_err-middle
-both_awaited-returns-in_err-middle t c = record {
+pub await_both-returns-in_err-middle : goal.await_both-returns-in_err-middle
+await_both-returns-in_err-middle t c = record {
   ok = rw c.in_ok-values.was (both_stops _ _ _ _ _ _ _ _ c.in_ok-values.values.code c.in_err-middle.field-0.0 _ (search rules) c.in_err-middle.ensures);
   err = rw c.in_ok-values.was tt;
 }
 
-pub both_awaited-returns : goal.both_awaited-returns
-both_awaited-returns t c = record {
+pub await_both-returns : goal.await_both-returns
+await_both-returns t c = record {
   ok = rw c.in_ok-values.was (both_emits _ _ _ _ _ _ _ _ _ c.in_ok-values.values.code c.in_ok-middle.middle _ c.in_ok-middle.ensures c.operand_into-2.ensures);
   err = rw c.in_ok-values.was tt;
 }
 
 pub test-returns : goal.test-returns
 test-returns t c =
-    let value = c.tested.ensures in
-    test_emits _ _ _ c.args.targets _ c.tested.result _ value.room value.does value.sound value.limit c.awaited.ensures.ok c.awaited.ensures.err
+    let value = c.test_at.ensures in
+    test_emits _ _ _ c.args.targets _ c.test_at.result _ value.room value.does value.sound value.limit c.await_operand.ensures.ok c.await_operand.ensures.err
 
 pub condition-returns-in-Constant : goal.condition-returns-in-Constant
 condition-returns-in-Constant t c =
-    constant_emits _ _ _ _ c.args.targets _ c.decided.result (ap typed_expression_of c.in-Constant.is) c.constant.ensures c.decided.ensures
+    constant_emits _ _ _ _ c.args.targets _ c.branch_by.result (ap typed_expression_of c.in-Constant.is) c.constant.ensures c.branch_by.ensures
 
 pub condition-returns-in-Not : goal.condition-returns-in-Not
 condition-returns-in-Not t c =
     not_branches _ _ _ _ _ _ _ c.args.targets _ _ _ (ap typed_expression_of c.in-Unary.is) c.in-Not.is (ap typed_expression_of c.deref-in-Not.ensures)
-    c.turned.ensures c.condition-in-Not.ensures
+    c.of_contrary.ensures c.condition-in-Not.ensures
 
 pub condition-returns-in-Logical : goal.condition-returns-in-Logical
 condition-returns-in-Logical t c =
     branch_along _ _ _ _ c.args.targets _ _
     (binary_is _ _ _ _ _ _ _ (ap typed_expression_of c.in-Binary.is) c.in-Logical.ensures.form (ap typed_expression_of c.deref-in-Logical.ensures)
-    (ap typed_expression_of c.deref-in-Logical-2.ensures)) (c.logical.ensures _)
+    (ap typed_expression_of c.deref-in-Logical-2.ensures)) (c.logical_branches.ensures _)
 
 pub condition-returns-else-targets : goal.condition-returns-else-targets
 condition-returns-else-targets t c =
     branch_along _ _ _ _ c.args.targets _ _
     (binary_is _ _ _ _ _ _ _ (ap typed_expression_of c.in-Binary.is) refl (ap typed_expression_of c.deref-in-Plain.ensures)
     (ap typed_expression_of c.deref-in-Plain-2.ensures))
-    (c.compared.ensures _ _ c.in-Some.ensures.computes c.in-Plain.ensures.branches (sym c.in-Some.ensures.is) c.if-targets.false)
+    (c.contrary_test.ensures _ _ c.in-Some.ensures.computes c.in-Plain.ensures.branches (sym c.in-Some.ensures.is) c.if-targets.false)
 
 pub condition-returns-in-Conditional : goal.condition-returns-in-Conditional
 condition-returns-in-Conditional t c =
@@ -180,18 +180,18 @@ condition-returns-in-Conditional t c =
     (conditional_is _ _ _ _ _ _ _ (ap typed_expression_of c.in-Conditional.is) (ap typed_expression_of c.deref-in-Conditional.ensures)
     (ap typed_expression_of c.deref-in-Conditional-2.ensures) (ap typed_expression_of c.deref-in-Conditional-3.ensures)) (c.sides.ensures _)
 
-pub compared-returns : goal.compared-returns
-compared-returns t c = λ o k computes plain has unlikely.
-    let values = c.contrary-values.ensures in
-    contrary_emits _ _ o k _ _ _ c.args.targets _ c.contrary-values.result _ computes plain has unlikely values.first values.second values.is
-    values.sound values.room values.limit c.both_awaited.ensures.ok c.both_awaited.ensures.err
+pub contrary_test-returns : goal.contrary_test-returns
+contrary_test-returns t c = λ o k computes plain has unlikely.
+    let values = c.contrary_at-values.ensures in
+    contrary_emits _ _ o k _ _ _ c.args.targets _ c.contrary_at-values.result _ computes plain has unlikely values.first values.second values.is
+    values.sound values.room values.limit c.await_both.ensures.ok c.await_both.ensures.err
 
-pub logical-returns-in_err-second : goal.logical-returns-in_err-second
-logical-returns-in_err-second t c = λ k.
+pub logical_branches-returns-in_err-second : goal.logical_branches-returns-in_err-second
+logical_branches-returns-in_err-second t c = λ k.
     logical_stops c.args.both _ _ k _ _ c.args.targets _ c.in_err-second.field-0.0 _ (search rules) c.in_err-second.ensures
 
-pub logical-returns : goal.logical-returns
-logical-returns t c = λ k.
+pub logical_branches-returns : goal.logical_branches-returns
+logical_branches-returns t c = λ k.
     logical_branches c.args.both _ _ _ k _ _ c.args.targets _ _ c.in_ok-second.second _ c.of_left.ensures c.in_ok-second.ensures c.condition.ensures
 
 pub sides-returns-in_err-yes : goal.sides-returns-in_err-yes
@@ -207,7 +207,7 @@ sides-returns t c = λ k.
     let first = typed_expression_of c.args.first.now in
     let second = typed_expression_of c.args.second.now in
     let likely = c.args.targets.likely in
-    conditional_branches _ _ _ k _ first second c.args.targets _ _ c.in_ok-yes.yes c.in_ok-no.no _ c.likely.ensures
+    conditional_branches _ _ _ k _ first second c.args.targets _ _ c.in_ok-yes.yes c.in_ok-no.no _ c.likely_first.ensures
     (sides _ _ _ (condition_size first likely c.args.free) (condition_size second likely c.args.free) _ _ _ c.in_ok-yes.yes c.in_ok-no.no
     c.in_ok-yes.ensures c.in_ok-no.ensures) c.condition.ensures
 
@@ -235,38 +235,28 @@ value_into-unary_into-requires t c =
 
 pub value_into-binary_into-requires : goal.value_into-binary_into-requires
 value_into-binary_into-requires t c =
-    let w : weight (typed_expression_of c.args.e.now)
-    ≡ weight (typed_expression_of c.deref-in-Binary.result.now) + weight (typed_expression_of c.deref-in-Binary-2.result.now) + 9 =
-    ap weight (binary_is _ _ _ _ _ _ _ (ap typed_expression_of c.in-Binary.is) refl (ap typed_expression_of c.deref-in-Binary.ensures)
-    (ap typed_expression_of c.deref-in-Binary-2.ensures)) in (omega (arith, w), tt)
+    let w = binary_weight _ _ _ _ _ _ (ap typed_expression_of c.in-Binary.is) (ap typed_expression_of c.deref-in-Binary.ensures)
+    (ap typed_expression_of c.deref-in-Binary-2.ensures) in (omega (arith, w), tt)
 
 pub value_into-conditional_into-requires : goal.value_into-conditional_into-requires
 value_into-conditional_into-requires t c =
-    let w : weight (typed_expression_of c.args.e.now) ≡ weight (typed_expression_of c.deref-in-Conditional.result.now)
-    + weight (typed_expression_of c.deref-in-Conditional-2.result.now) + weight (typed_expression_of c.deref-in-Conditional-3.result.now) + 9 =
-    ap weight (conditional_is _ _ _ _ _ _ _ (ap typed_expression_of c.in-Conditional.is) (ap typed_expression_of c.deref-in-Conditional.ensures)
-    (ap typed_expression_of c.deref-in-Conditional-2.ensures) (ap typed_expression_of c.deref-in-Conditional-3.ensures)) in (omega (arith, w), tt)
+    let w = conditional_weight _ _ _ _ _ _ _ (ap typed_expression_of c.in-Conditional.is) (ap typed_expression_of c.deref-in-Conditional.ensures)
+    (ap typed_expression_of c.deref-in-Conditional-2.ensures) (ap typed_expression_of c.deref-in-Conditional-3.ensures) in (omega (arith, w), tt)
 
 pub condition-sides-requires : goal.condition-sides-requires
 condition-sides-requires t c =
-    let w : weight (typed_expression_of c.args.e.now) ≡ weight (typed_expression_of c.deref-in-Conditional.result.now)
-    + weight (typed_expression_of c.deref-in-Conditional-2.result.now) + weight (typed_expression_of c.deref-in-Conditional-3.result.now) + 9 =
-    ap weight (conditional_is _ _ _ _ _ _ _ (ap typed_expression_of c.in-Conditional.is) (ap typed_expression_of c.deref-in-Conditional.ensures)
-    (ap typed_expression_of c.deref-in-Conditional-2.ensures) (ap typed_expression_of c.deref-in-Conditional-3.ensures)) in (omega (arith, w), tt)
+    let w = conditional_weight _ _ _ _ _ _ _ (ap typed_expression_of c.in-Conditional.is) (ap typed_expression_of c.deref-in-Conditional.ensures)
+    (ap typed_expression_of c.deref-in-Conditional-2.ensures) (ap typed_expression_of c.deref-in-Conditional-3.ensures) in (omega (arith, w), tt)
 
-pub condition-logical-requires : goal.condition-logical-requires
-condition-logical-requires t c =
-    let w : weight (typed_expression_of c.args.e.now)
-    ≡ weight (typed_expression_of c.deref-in-Logical.result.now) + weight (typed_expression_of c.deref-in-Logical-2.result.now) + 9 =
-    ap weight (binary_is _ _ _ _ _ _ _ (ap typed_expression_of c.in-Binary.is) c.in-Logical.ensures.form (ap typed_expression_of c.deref-in-Logical.ensures)
-    (ap typed_expression_of c.deref-in-Logical-2.ensures)) in (omega (arith, w), tt)
+pub condition-logical_branches-requires : goal.condition-logical_branches-requires
+condition-logical_branches-requires t c =
+    let w = binary_weight _ _ _ _ _ _ (ap typed_expression_of c.in-Binary.is) (ap typed_expression_of c.deref-in-Logical.ensures)
+    (ap typed_expression_of c.deref-in-Logical-2.ensures) in (omega (arith, w), tt)
 
-pub condition-compared-requires : goal.condition-compared-requires
-condition-compared-requires t c =
-    let w : weight (typed_expression_of c.args.e.now)
-    ≡ weight (typed_expression_of c.deref-in-Plain.result.now) + weight (typed_expression_of c.deref-in-Plain-2.result.now) + 9 =
-    ap weight (binary_is _ _ _ _ _ _ _ (ap typed_expression_of c.in-Binary.is) refl (ap typed_expression_of c.deref-in-Plain.ensures)
-    (ap typed_expression_of c.deref-in-Plain-2.ensures)) in (omega (arith, w), tt)
+pub condition-contrary_test-requires : goal.condition-contrary_test-requires
+condition-contrary_test-requires t c =
+    let w = binary_weight _ _ _ _ _ _ (ap typed_expression_of c.in-Binary.is) (ap typed_expression_of c.deref-in-Plain.ensures)
+    (ap typed_expression_of c.deref-in-Plain-2.ensures) in (omega (arith, w), tt)
 
 pub unary_into-value_into-requires : goal.unary_into-value_into-requires
 unary_into-value_into-requires t c = (omega arith, tt)
@@ -277,8 +267,8 @@ unary_into-condition-requires t c = (omega arith, tt)
 pub binary_into-told_into-requires : goal.binary_into-told_into-requires
 binary_into-told_into-requires t c = (omega arith, tt)
 
-pub told_into-logical-requires : goal.told_into-logical-requires
-told_into-logical-requires t c = (omega arith, tt)
+pub told_into-logical_branches-requires : goal.told_into-logical_branches-requires
+told_into-logical_branches-requires t c = (omega arith, tt)
 
 pub conditional_into-value_block-requires : goal.conditional_into-value_block-requires
 conditional_into-value_block-requires t c = (omega arith, tt)
@@ -292,11 +282,11 @@ value_block-value_into-requires t c = (omega arith, tt)
 pub operand_into-value_into-requires : goal.operand_into-value_into-requires
 operand_into-value_into-requires t c = (omega arith, tt)
 
-pub logical-branch_block-requires : goal.logical-branch_block-requires
-logical-branch_block-requires t c = (omega arith, tt)
+pub logical_branches-branch_block-requires : goal.logical_branches-branch_block-requires
+logical_branches-branch_block-requires t c = (omega arith, tt)
 
-pub logical-condition-requires : goal.logical-condition-requires
-logical-condition-requires t c = (omega arith, tt)
+pub logical_branches-condition-requires : goal.logical_branches-condition-requires
+logical_branches-condition-requires t c = (omega arith, tt)
 
 pub sides-branch_block-requires : goal.sides-branch_block-requires
 sides-branch_block-requires t c = (omega arith, tt)

@@ -12,8 +12,8 @@ decreases-operand_into l = weight (typed_expression_of l.e.now) + 1
 abbrev pub decreases-value_block : goal.decreases-value_block
 decreases-value_block l = weight (typed_expression_of l.e.now) + 1
 
-abbrev pub decreases-awaited : goal.decreases-awaited
-decreases-awaited l = weight (typed_expression_of l.e.now) + 2
+abbrev pub decreases-await_operand : goal.decreases-await_operand
+decreases-await_operand l = weight (typed_expression_of l.e.now) + 2
 
 abbrev pub decreases-test : goal.decreases-test
 decreases-test l = weight (typed_expression_of l.e.now) + 3
@@ -30,14 +30,14 @@ decreases-element_into l = weight (typed_expression_of l.index.now) + 6
 abbrev pub decreases-unary_into : goal.decreases-unary_into
 decreases-unary_into l = weight (typed_expression_of l.part.now) + 6
 
-abbrev pub decreases-both_awaited : goal.decreases-both_awaited
-decreases-both_awaited l = weight (typed_expression_of l.left.now) + weight (typed_expression_of l.right.now) + 6
+abbrev pub decreases-await_both : goal.decreases-await_both
+decreases-await_both l = weight (typed_expression_of l.left.now) + weight (typed_expression_of l.right.now) + 6
 
-abbrev pub decreases-logical : goal.decreases-logical
-decreases-logical l = weight (typed_expression_of l.left.now) + weight (typed_expression_of l.right.now) + 6
+abbrev pub decreases-logical_branches : goal.decreases-logical_branches
+decreases-logical_branches l = weight (typed_expression_of l.left.now) + weight (typed_expression_of l.right.now) + 6
 
-abbrev pub decreases-compared : goal.decreases-compared
-decreases-compared l = weight (typed_expression_of l.left.now) + weight (typed_expression_of l.right.now) + 7
+abbrev pub decreases-contrary_test : goal.decreases-contrary_test
+decreases-contrary_test l = weight (typed_expression_of l.left.now) + weight (typed_expression_of l.right.now) + 7
 
 abbrev pub decreases-told_into : goal.decreases-told_into
 decreases-told_into l = weight (typed_expression_of l.left.now) + weight (typed_expression_of l.right.now) + 7

@@ -15,7 +15,7 @@ pub returns-clause-code : goal.returns-clause-code
 returns-clause-code c =
     function_code _ _ _ _ _ _ _ _ _ _ _ c.in_ok-free.ensures.is c.in_ok-parameters.ensures.is (ap statements_of c.as_slice.ensures.value)
     c.new-blocks.ensures.items
-    c.in_ok-entry.ensures.reserves c.in_ok-code.ensures.does c.opened.ensures c.fill.ensures.fills
+    c.in_ok-entry.ensures.reserves c.in_ok-code.ensures.does c.open_block.ensures c.fill.ensures.fills
     (λ p s su fits le.
     let n = within_filled c.fill.ensures.fills le in
     let some = some_within c.in_ok-entry.ensures.reserves (within c.in_ok-code.ensures.grows n) in
@@ -25,4 +25,4 @@ returns-clause-code c =
     fits.body in
     let m = c.in_ok-code.ensures.sound.1 p c.args.f.now.locals (is_some c.args.f.now.result) false body s n g
     (su, (some, (tt, sound_exit (X.Return None) c.leaving.ensures tt))) in
-    c.fill.ensures.sound s m.0 (sound_along c.opened.ensures (sound_line _ m.1)))
+    c.fill.ensures.sound s m.0 (sound_along c.open_block.ensures (sound_line _ m.1)))

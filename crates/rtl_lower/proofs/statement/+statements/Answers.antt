@@ -21,32 +21,32 @@ statement-returns-in-Block t c =
 
 pub statement-returns-in-Assign : goal.statement-returns-in-Assign
 statement-returns-in-Assign t c =
-    simple_emits _ _ _ _ c.args.context (spot c.args.after) _ _ (ap statement_of c.in-Assign.is) (λ n. refl) c.made.ensures c.assignment.ensures
+    simple_emits _ _ _ _ c.args.context (spot c.args.after) _ _ (ap statement_of c.in-Assign.is) (λ n. refl) c.continuation_of.ensures c.assignment.ensures
 
 pub statement-returns-in-Store : goal.statement-returns-in-Store
 statement-returns-in-Store t c =
-    simple_emits _ _ _ _ c.args.context (spot c.args.after) _ _ (ap statement_of c.in-Store.is) (λ n. refl) c.made-in-Store.ensures
+    simple_emits _ _ _ _ c.args.context (spot c.args.after) _ _ (ap statement_of c.in-Store.is) (λ n. refl) c.continuation_of-in-Store.ensures
     c.element_store.ensures
 
 pub statement-returns-in-Call : goal.statement-returns-in-Call
 statement-returns-in-Call t c =
     simple_emits _ _ _ _ c.args.context (spot c.args.after) _ _
     (ap statement_of c.in-Call.is ∙ ap (λ es. call c.in-Call.to c.in-Call.function (typed_expressions_of es)) (sym c.as_slice-in-Call.ensures.value))
-    (λ n. refl) c.made-in-Call.ensures c.call_code.ensures
+    (λ n. refl) c.continuation_of-in-Call.ensures c.call_code.ensures
 
 pub statement-returns-in-Output : goal.statement-returns-in-Output
 statement-returns-in-Output t c =
-    simple_emits _ _ _ _ c.args.context (spot c.args.after) _ _ (ap statement_of c.in-Output.is) (λ n. refl) c.made-in-Output.ensures c.written.ensures
+    simple_emits _ _ _ _ c.args.context (spot c.args.after) _ _ (ap statement_of c.in-Output.is) (λ n. refl) c.continuation_of-in-Output.ensures c.output_code.ensures
 
 pub statement-returns-in-If : goal.statement-returns-in-If
 statement-returns-in-If t c =
     whole_emits _ _ _ _ c.args.context (spot c.args.after) _ _
-    (if_is (ap statement_of c.in-If.is) (ap statement_of c.deref.ensures) (ap statement_of c.deref-in-If.ensures)) c.made-in-If.ensures c.if_statement.ensures
+    (if_is (ap statement_of c.in-If.is) (ap statement_of c.deref.ensures) (ap statement_of c.deref-in-If.ensures)) c.continuation_of-in-If.ensures c.if_statement.ensures
 
 pub statement-returns-in-Loop : goal.statement-returns-in-Loop
 statement-returns-in-Loop t c =
     whole_emits _ _ _ _ c.args.context (spot c.args.after) _ _
-    (loop_is (ap statement_of c.in-Loop.is) (ap statement_of c.deref-in-Loop.ensures) (ap statement_of c.deref-in-Loop-2.ensures)) c.made-in-Loop.ensures c.loop_statement.ensures
+    (loop_is (ap statement_of c.in-Loop.is) (ap statement_of c.deref-in-Loop.ensures) (ap statement_of c.deref-in-Loop-2.ensures)) c.continuation_of-in-Loop.ensures c.loop_statement.ensures
 
 pub statement-returns-in-Break : goal.statement-returns-in-Break
 statement-returns-in-Break t c = break_emits _ _ c.args.context (spot c.args.after) (ap statement_of c.in-Break.is)
@@ -57,12 +57,12 @@ statement-returns-in-Some t c =
 
 pub statement-returns-in-Return : goal.statement-returns-in-Return
 statement-returns-in-Return t c =
-    simple_emits _ _ _ _ c.args.context (spot c.args.after) _ _ (ap statement_of c.in-Return.is) (λ n. refl) c.made-in-Return.ensures
+    simple_emits _ _ _ _ c.args.context (spot c.args.after) _ _ (ap statement_of c.in-Return.is) (λ n. refl) c.continuation_of-in-Return.ensures
     (c.return_code.ensures (spot c.args.after))
 
-pub side-returns : goal.side-returns
-side-returns t c =
-    let join = c.sealed.ensures in
+pub side_block-returns : goal.side_block-returns
+side_block-returns t c =
+    let join = c.block_of.ensures in
     side_emits _ _ _ _ c.args.context _ c.in_ok-code.code _ c.in_ok-code.ensures join.grows join.count join.limit join.sound join.lands
 
 pub if_statement-returns : goal.if_statement-returns
@@ -82,8 +82,8 @@ loop_statement-returns t c =
     let join = c.in_ok-left.ensures in
     let head = c.in_ok-head.ensures in
     loop_emits _ _ _ _ _ _ _ _ _ _ c.args.context _ _ _ _ c.in_ok-turn.turn c.in_ok-body_code.body_code c.in_ok-top.top _ (spot c.args.after)
-    c.may_continue.ensures c.inside-inner.ensures (record { grows = join.grows; count = join.count; sound = join.sound; lands = join.lands })
-    head.reserves head.sound c.in_ok-turn.ensures c.in_ok-body_code.ensures c.in_ok-top.ensures c.opened.ensures c.fill.ensures.fills c.fill.ensures.sound
+    c.may_continue.ensures c.inside_loop-inner.ensures (record { grows = join.grows; count = join.count; sound = join.sound; lands = join.lands })
+    head.reserves head.sound c.in_ok-turn.ensures c.in_ok-body_code.ensures c.in_ok-top.ensures c.open_block.ensures c.fill.ensures.fills c.fill.ensures.sound
 
 pub statements-returns : goal.statements-returns
 statements-returns t c =
@@ -127,8 +127,8 @@ statement-statements-requires t c =
     let w = ap weight is in
     (omega (arith, w), λ e. c.requires.next (ap continues is ∙ e))
 
-pub side-returns-in_err-code : goal.side-returns-in_err-code
-side-returns-in_err-code t c = side_stops _ _ _ c.args.context c.args.join c.in_err-code.field-0.0 _ (search rules) c.in_err-code.ensures
+pub side_block-returns-in_err-code : goal.side_block-returns-in_err-code
+side_block-returns-in_err-code t c = side_stops _ _ _ c.args.context c.args.join c.in_err-code.field-0.0 _ (search rules) c.in_err-code.ensures
 
 pub if_statement-returns-in_err-join : goal.if_statement-returns-in_err-join
 if_statement-returns-in_err-join t c =
@@ -185,7 +185,7 @@ pub loop_statement-returns-in_err-body_code : goal.loop_statement-returns-in_err
 loop_statement-returns-in_err-body_code t c =
     let join = c.in_ok-left.ensures in
     loop_body_stops _ _ _ _ _ _ _ _ c.args.context _ _ c.in_ok-left.left c.in_ok-head.head c.in_ok-turn.turn (spot c.args.after)
-    c.in_err-body_code.field-0.0 c.from_residual-in_err-body_code.result (search rules) c.may_continue.ensures c.inside-inner.ensures
+    c.in_err-body_code.field-0.0 c.from_residual-in_err-body_code.result (search rules) c.may_continue.ensures c.inside_loop-inner.ensures
     (record {
       sealing = record { grows = join.grows; count = join.count; sound = join.sound; lands = join.lands };
       reserves = c.in_ok-head.ensures.reserves;
@@ -195,20 +195,20 @@ pub loop_statement-returns-in_err-top : goal.loop_statement-returns-in_err-top
 loop_statement-returns-in_err-top t c =
     let join = c.in_ok-left.ensures in
     loop_top_stops _ _ _ _ _ _ _ _ _ c.args.context _ _ c.in_ok-left.left c.in_ok-head.head c.in_ok-turn.turn c.in_ok-body_code.body_code
-    (spot c.args.after) c.in_err-top.field-0.0 c.from_residual-in_err-top.result (search rules) c.may_continue.ensures c.inside-inner.ensures
+    (spot c.args.after) c.in_err-top.field-0.0 c.from_residual-in_err-top.result (search rules) c.may_continue.ensures c.inside_loop-inner.ensures
     (record {
       sealing = record { grows = join.grows; count = join.count; sound = join.sound; lands = join.lands };
       reserves = c.in_ok-head.ensures.reserves;
     }) c.in_ok-turn.ensures c.in_ok-body_code.ensures c.in_err-top.ensures
 
-pub side-statement-requires : goal.side-statement-requires
-side-statement-requires t c = (omega arith, c.requires.next)
+pub side_block-statement-requires : goal.side_block-statement-requires
+side_block-statement-requires t c = (omega arith, c.requires.next)
 
-pub if_statement-side-requires : goal.if_statement-side-requires
-if_statement-side-requires t c = (omega arith, λ e. c.requires.next (or_first _ _ e))
+pub if_statement-side_block-requires : goal.if_statement-side_block-requires
+if_statement-side_block-requires t c = (omega arith, λ e. c.requires.next (or_first _ _ e))
 
-pub if_statement-side-requires-2 : goal.if_statement-side-requires-2
-if_statement-side-requires-2 t c = (omega arith, λ e. c.requires.next (or_true _ _ e))
+pub if_statement-side_block-requires-2 : goal.if_statement-side_block-requires-2
+if_statement-side_block-requires-2 t c = (omega arith, λ e. c.requires.next (or_true _ _ e))
 
 pub turn_of-statement-requires : goal.turn_of-statement-requires
 turn_of-statement-requires t c = (omega arith, c.requires.next)

@@ -15,8 +15,8 @@ decreases-statement l = weight (statement_of l.s.now)
 abbrev pub decreases-statements : goal.decreases-statements
 decreases-statements l = weight_all (statements_of l.all.now)
 
-abbrev pub decreases-side : goal.decreases-side
-decreases-side l = weight (statement_of l.s.now) + 1
+abbrev pub decreases-side_block : goal.decreases-side_block
+decreases-side_block l = weight (statement_of l.s.now) + 1
 
 abbrev pub decreases-if_statement : goal.decreases-if_statement
 decreases-if_statement l = weight (statement_of l.yes.now) + weight (statement_of l.no.now) + 2

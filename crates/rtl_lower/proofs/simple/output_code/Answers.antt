@@ -1,6 +1,6 @@
 use Rattle.rtl_emit.specs.Blocks.{spot}
 use Rattle.rtl_lower.proofs.Emitting.{output_emits}
-use Rattle.rtl_lower.proofs.simple.written.Goals as goal
+use Rattle.rtl_lower.proofs.simple.output_code.Goals as goal
 
 pub returns : goal.returns
 returns c =

@@ -1,6 +1,6 @@
 use Rattle.rtl_emit.proofs.Emitted.{combine_from}
 use Rattle.rtl_emit.proofs.Sound.{sound_first, sound_operation}
-use Rattle.rtl_emit.proofs.waiting.combined.Goals as goal
+use Rattle.rtl_emit.proofs.waiting.combination_at.Goals as goal
 
 pub returns-clause-does : goal.returns-clause-does
 returns-clause-does c = λ bs from f.

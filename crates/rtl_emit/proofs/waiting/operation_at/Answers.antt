@@ -1,5 +1,5 @@
 use Rattle.rtl_emit.proofs.Sound.{sound_first, sound_operation}
-use Rattle.rtl_emit.proofs.waiting.operated.Goals as goal
+use Rattle.rtl_emit.proofs.waiting.operation_at.Goals as goal
 
 pub returns-clause-sound : goal.returns-clause-sound
 returns-clause-sound c = λ s to after.
