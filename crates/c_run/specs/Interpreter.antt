@@ -1,9 +1,8 @@
 -- What the interpreter keeps, and the state that it stands for.
 use Rattle.std.specs.Prelude.{◌≡◌, ℕ, List, [], ◌∷◌, Option, map, reverse}
 use Rattle.runs.specs.Stores.{Places, Arrays}
-use Rattle.runs.specs.Runs.{Running}
 use Rattle.runs.specs.Kept.{places, arrays}
-use Rattle.runs.specs.Calls.{calls_of, reached_by}
+use Rattle.runs.specs.Calls.{callers_of, calls_of, state_with_call, reached_by}
 use Rattle.runs.specs.declared.interpreter.Interpreter as Runs
 use Rattle.runs.specs.declared.reached.Reached.{Reached}
 use Rattle.c_typed.specs.Trees.{TypedStatement, TypedProgram}
@@ -48,23 +47,18 @@ with_part (Heads.Turn last again) k = Next (statement_of last.now) (statement_of
 abbrev pub frame_of : Frame → Meaning.Frame
 frame_of c = record { locals = places c.locals.items; todo = todos c.todo.items; result_to = c.result_to }
 
--- the calls that wait, the latest one first
-abbrev pub frames_of : List Frame → List Meaning.Frame
-frames_of calls = map frame_of (reverse calls)
-
 abbrev pub Interpreter : Type 0
 Interpreter = Runs.Interpreter Frame
 
 -- the same interpreter with other locals and globals
 abbrev pub state_with : Interpreter → Places → Arrays → Run
 state_with m l g =
-    Running (record { locals = l; todo = todos m.frame.todo.items; result_to = m.frame.result_to }
-    ∷ frames_of m.waiting.items) g m.output.items
+    state_with_call frame_of m (record { locals = l; todo = todos m.frame.todo.items; result_to = m.frame.result_to }) g
 
 -- a step at this list
 abbrev pub state_after_step : TypedProgram → (depth : ℕ) → List Todo → Interpreter → Run
 state_after_step p depth k m =
-    step_at p depth (places m.frame.locals.items) k m.frame.result_to (frames_of m.waiting.items) (arrays m.globals.items) m.output.items
+    step_at p depth (places m.frame.locals.items) k m.frame.result_to (map frame_of (callers_of m)) (arrays m.globals.items) m.output.items
 
 -- this statement takes the interpreter before to what is reached, in one step of a program
 abbrev pub DoesIn : TypedProgram → (depth : ℕ) → TypedStatement → Interpreter → Reached → Interpreter → Type 0
@@ -92,7 +86,7 @@ Calls p depth f vs to before r after =
 -- the call returns, with a word or without
 abbrev pub Returns : List Variable.Global → Option ℕ → Interpreter → Reached → Interpreter → Type 0
 Returns globals v before r after =
-    state_after_return globals v before.frame.result_to (frames_of before.waiting.items) (arrays before.globals.items) before.output.items
+    state_after_return globals v before.frame.result_to (map frame_of (callers_of before)) (arrays before.globals.items) before.output.items
     ≡ reached_by frame_of r after
 
 -- the locals, with what comes first and the others behind it

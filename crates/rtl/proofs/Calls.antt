@@ -56,37 +56,44 @@ entered p depth i vs to x entry m new frame there room count first is globals ou
     ∙ sym (with-calls frame_of m new (frame ∷ calls_of m) is globals output)
 
 -- a call that fails: of no function, too deep, of another number of words, or of a function without a block
-module _ (p : Program) (depth i : ℕ) (vs : List ℕ) (to : Option ℕ) (frames : List Meaning.Frame) (g : Arrays) (out : List ℕ) where
+module _ (p : Program) (depth i : ℕ) (vs : List ℕ) (to : Option ℕ) (m : Interpreter) where
+  abbrev frames : List Meaning.Frame
+  frames = map frame_of (calls_of m)
+
+  abbrev after-call : Run
+  after-call = state_after_call p depth i vs to frames (arrays m.globals.items) m.output.items
+
   abbrev call-of : RFunc → Bool → Run
-  call-of x b = if b then state_at_block x.blocks.items 0 (argument_registers vs) to frames g out else Failed out
+  call-of x b = if b then state_at_block x.blocks.items 0 (argument_registers vs) to frames (arrays m.globals.items) m.output.items else Failed m.output.items
 
   called-of : (x : RFunc) → slice_get p.functions i ≡ Some x
-      → state_after_call p depth i vs to frames g out ≡ call-of x (nat_lt (length frames) depth && (length vs == x.parameters))
-  called-of x there = ap (λ o. with_value o out (λ (f : RFunc). call-of f (nat_lt (length frames) depth && (length vs == f.parameters)))) there
+      → after-call ≡ call-of x (nat_lt (length frames) depth && (length vs == x.parameters))
+  called-of x there = ap (λ o. with_value o m.output.items (λ (f : RFunc). call-of f (nat_lt (length frames) depth && (length vs == f.parameters)))) there
 
-  pub calls-nothing : slice_get p.functions i ≡ None → state_after_call p depth i vs to frames g out ≡ Failed out
-  calls-nothing nowhere = ap (λ o. with_value o out (λ (f : RFunc). call-of f (nat_lt (length frames) depth && (length vs == f.parameters)))) nowhere
+  pub calls-nothing : slice_get p.functions i ≡ None → after-call ≡ Failed m.output.items
+  calls-nothing nowhere = ap (λ o. with_value o m.output.items (λ (f : RFunc). call-of f (nat_lt (length frames) depth && (length vs == f.parameters)))) nowhere
 
-  pub calls-too-deep : (x : RFunc) → slice_get p.functions i ≡ Some x → nat_lt (length frames) depth ≡ false
-      → state_after_call p depth i vs to frames g out ≡ Failed out
-  calls-too-deep x there full = called-of x there ∙ ap (λ b. call-of x (b && (length vs == x.parameters))) full
+  pub calls-too-deep : (x : RFunc) → slice_get p.functions i ≡ Some x → nat_lt (length (calls_of m)) depth ≡ false
+      → after-call ≡ Failed m.output.items
+  calls-too-deep x there full =
+      called-of x there ∙ ap (λ b. call-of x (b && (length vs == x.parameters))) (room-of frame_of m depth false full)
 
   pub calls-with-others : (x : RFunc) → slice_get p.functions i ≡ Some x → (length vs ≡ x.parameters → ⊥)
-      → state_after_call p depth i vs to frames g out ≡ Failed out
+      → after-call ≡ Failed m.output.items
   calls-with-others x there ne =
       let no : (length vs == x.parameters) ≡ false = grind (arith, ne) in
       called-of x there ∙ ap (λ b. call-of x (nat_lt (length frames) depth && b)) no ∙ refused (nat_lt (length frames) depth)
     where
-      refused : (b : Bool) → call-of x (b && false) ≡ Failed out
+      refused : (b : Bool) → call-of x (b && false) ≡ Failed m.output.items
       refused true = refl
       refused false = refl
 
   pub calls-no-block : (x : RFunc) → slice_get p.functions i ≡ Some x → slice_get x.blocks.items 0 ≡ None
-      → state_after_call p depth i vs to frames g out ≡ Failed out
+      → after-call ≡ Failed m.output.items
   calls-no-block x there nowhere = called-of x there ∙ refused (nat_lt (length frames) depth && (length vs == x.parameters))
     where
-      refused : (b : Bool) → call-of x b ≡ Failed out
-      refused true = ap (λ o. with_value o out (λ (block : RBlock). Running (frame_with x.blocks.items (argument_registers vs) (code_of block) to ∷ frames) g out))
+      refused : (b : Bool) → call-of x b ≡ Failed m.output.items
+      refused true = ap (λ o. with_value o m.output.items (λ (block : RBlock). Running (frame_with x.blocks.items (argument_registers vs) (code_of block) to ∷ frames) (arrays m.globals.items) m.output.items))
           nowhere
       refused false = refl
 

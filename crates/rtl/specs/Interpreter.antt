@@ -1,9 +1,9 @@
 -- What the interpreter keeps, and the state that it stands for.
-use Rattle.std.specs.Prelude.{◌≡◌, ℕ, List, ◌∷◌, Option, Some, map, reverse, slice_get}
+use Rattle.std.specs.Prelude.{◌≡◌, ℕ, List, ◌∷◌, Option, Some, map, slice_get}
 use Rattle.runs.specs.Stores.{Places, Arrays, chain, element_at, places_with}
-use Rattle.runs.specs.Runs.{Running, with_value}
+use Rattle.runs.specs.Runs.{with_value}
 use Rattle.runs.specs.Kept.{places, arrays}
-use Rattle.runs.specs.Calls.{calls_of, reached_by}
+use Rattle.runs.specs.Calls.{callers_of, calls_of, state_with_call, reached_by}
 use Rattle.runs.specs.declared.interpreter.Interpreter as Runs
 use Rattle.runs.specs.declared.reached.Reached.{Reached}
 use Rattle.rtl.specs.declared.operator.Op.{Op}
@@ -33,22 +33,18 @@ frame_of f = record {
   result_to = f.result_to;
 }
 
--- those that wait, the latest one first
-abbrev pub frames_of : List Frame → List Meaning.Frame
-frames_of frames = map frame_of (reverse frames)
-
 abbrev pub Interpreter : Type 0
 Interpreter = Runs.Interpreter Frame
 
 -- the same interpreter with other registers and globals
 abbrev pub state_with : Interpreter → Places → Arrays → Run
 state_with m r g =
-    Running (record {
+    state_with_call frame_of m (record {
       blocks = m.frame.blocks.now;
       registers = r;
       code = record { insts = m.frame.insts.now; exit = m.frame.exit.now };
       result_to = m.frame.result_to;
-    } ∷ frames_of m.waiting.items) g m.output.items
+    }) g
 
 -- the frame at the start of this block
 abbrev pub frame_at : RBlock → Frame → Meaning.Frame
@@ -71,7 +67,7 @@ Performs globals i before r after =
 -- on to a block of the same function
 abbrev pub Jumps : ℕ → Interpreter → Reached → Interpreter → Type 0
 Jumps b before r after =
-    state_at_block before.frame.blocks.now b (places before.frame.registers.items) before.frame.result_to (frames_of before.waiting.items)
+    state_at_block before.frame.blocks.now b (places before.frame.registers.items) before.frame.result_to (map frame_of (callers_of before))
     (arrays before.globals.items) before.output.items
     ≡ reached_by frame_of r after
 
@@ -86,19 +82,19 @@ abbrev pub CallsFrom : Program → (depth f : ℕ) → List ℕ → Option ℕ �
 CallsFrom p depth f vs to next before r after =
     with_value (slice_get before.frame.blocks.now next) before.output.items (λ block.
     state_after_call p depth f vs to (frame_at block before.frame
-    ∷ frames_of before.waiting.items) (arrays before.globals.items) before.output.items)
+    ∷ map frame_of (callers_of before)) (arrays before.globals.items) before.output.items)
     ≡ reached_by frame_of r after
 
 -- the activation returns, with a word or without
 abbrev pub Returns : Option ℕ → Interpreter → Reached → Interpreter → Type 0
 Returns v before r after =
-    state_after_return v before.frame.result_to (frames_of before.waiting.items) (arrays before.globals.items) before.output.items
+    state_after_return v before.frame.result_to (map frame_of (callers_of before)) (arrays before.globals.items) before.output.items
     ≡ reached_by frame_of r after
 
 -- the block is left by this exit
 abbrev pub Leaves : Program → (depth : ℕ) → RExit → Interpreter → Reached → Interpreter → Type 0
 Leaves p depth exit before r after =
     state_after_exit p depth exit before.frame.blocks.now (places before.frame.registers.items) before.frame.result_to
-    (frames_of before.waiting.items)
+    (map frame_of (callers_of before))
     (arrays before.globals.items) before.output.items
     ≡ reached_by frame_of r after

@@ -190,53 +190,60 @@ fn first_frame<'a>(
     }
 }
 
-// A function is called with these words.
+/// A function that is called: its number, the words of its arguments, and where its result goes, if anywhere.
+#[derive(Drop)]
+pub struct Callee {
+    pub function: FunctionNumber,
+    pub registers: Vec<Option<u32>>,
+    pub result_to: Option<Register>,
+}
+
+// A function is called.
 fn enter<'a>(
     program: &'a Rtl,
     depth: u32,
     interpreter: &mut Interpreter<'a>,
-    function: FunctionNumber,
-    registers: Vec<Option<u32>>,
-    result_to: Option<Register>,
+    callee: Callee,
 ) -> Result<Reached, AllocError>
-    ensures { let called = Calls program.now depth function in
-        IfOk result (λ r. (vs : List ℕ) → registers.items ≡ map Some vs → called vs result_to interpreter.old r interpreter.new) }
+    ensures { let called = Calls program.now depth callee.function in
+        IfOk result (λ r. (vs : List ℕ) → callee.registers.items ≡ map Some vs
+        → called vs callee.result_to interpreter.old r interpreter.new) }
 {
-    let Some(function) = program.functions().get(function as usize) else {
+    let Some(function) = program.functions().get(callee.function as usize) else {
         return Ok(Reached::Failed);
     };
     if !interpreter.has_room(depth) {
         return Ok(Reached::Failed);
     }
-    if registers.len() != function.parameters as usize {
+    if callee.registers.len() != function.parameters as usize {
         return Ok(Reached::Failed);
     }
     let blocks = function.blocks.as_slice();
     let Some(entry) = block_at(blocks, 0) else {
         return Ok(Reached::Failed);
     };
-    interpreter.enter(first_frame(blocks, entry, registers, result_to))?;
+    let frame = first_frame(blocks, entry, callee.registers, callee.result_to);
+    interpreter.enter(frame)?;
     Ok(Reached::Going)
 }
 
-// A function is called with these words, and its caller goes on at a block.
+// A function is called, and its caller goes on at a block.
 fn call<'a>(
     program: &'a Rtl,
     depth: u32,
     interpreter: &mut Interpreter<'a>,
-    function: FunctionNumber,
-    registers: Vec<Option<u32>>,
-    result_to: Option<Register>,
+    callee: Callee,
     next: BlockNumber,
 ) -> Result<Reached, AllocError>
-    ensures { let called = CallsFrom program.now depth function in
-        IfOk result (λ r. (vs : List ℕ) → registers.items ≡ map Some vs → called vs result_to next interpreter.old r interpreter.new) }
+    ensures { let called = CallsFrom program.now depth callee.function in
+        IfOk result (λ r. (vs : List ℕ) → callee.registers.items ≡ map Some vs
+        → called vs callee.result_to next interpreter.old r interpreter.new) }
 {
     let Some(next) = block_at(interpreter.frame.blocks, next) else {
         return Ok(Reached::Failed);
     };
     go_to(&mut interpreter.frame, next);
-    enter(program, depth, interpreter, function, registers, result_to)
+    enter(program, depth, interpreter, callee)
 }
 
 // The activation returns, with a word or without.
@@ -278,7 +285,12 @@ fn leave<'a>(
             let Some(values) = values else {
                 return Ok(Reached::Failed);
             };
-            call(program, depth, interpreter, *function, values, *to, *next)
+            let callee = Callee {
+                function: *function,
+                registers: values,
+                result_to: *to,
+            };
+            call(program, depth, interpreter, callee, *next)
         }
         RExit::Return(None) => return_word(interpreter, None),
         RExit::Return(Some(from)) => {

@@ -1,5 +1,5 @@
 // A program under way, with its calls, its globals and its output.
-ghost use Rattle.std.specs.Prelude.{◌≡◌, ◌∷◌, [], reverse, length, nat_lt, IfSome, OnOk, None};
+ghost use Rattle.std.specs.Prelude.{◌≡◌, ◌∷◌, [], length, nat_lt, IfSome, OnOk, None};
 
 use std::alloc::{AllocError, Global};
 use std::mem;
@@ -15,7 +15,7 @@ pub struct Interpreter<F> {
 }
 
 impl<F: Drop> Interpreter<F> {
-    ghost use Rattle.runs.specs.Calls.{calls_of};
+    ghost use Rattle.runs.specs.Calls.{calls_of, callers_of};
 
     /// A program before its first step: one call runs.
     pub fn new(alloc: Global, frame: F, globals: Vec<Vec<u32>>) -> Interpreter<F>
@@ -51,9 +51,9 @@ impl<F: Drop> Interpreter<F> {
 
     /// The call that runs is over, and its caller goes on: the frame of the call, or None where no caller waits.
     pub fn leave(&mut self) -> Option<F>
-        ensures none { result ≡ None → reverse self.old.waiting.items ≡ [] }
+        ensures none { result ≡ None → callers_of self.old ≡ [] }
         ensures done { IfSome result (λ done. done ≡ self.old.frame) }
-        ensures caller { IfSome result (λ _. reverse self.old.waiting.items ≡ calls_of self.new) }
+        ensures caller { IfSome result (λ _. callers_of self.old ≡ calls_of self.new) }
         ensures globals { self.new.globals ≡ self.old.globals }
         ensures output { self.new.output ≡ self.old.output }
     {

@@ -1,62 +1,49 @@
-use Rattle.std.proofs.Common.{◌≡◌, ◌∙◌, length, map, sym, rules, arith}
+use Rattle.std.proofs.Common.{◌≡◌, ◌∙◌, length, sym, rules, arith}
 use Rattle.std.proofs.lemmas.List.{length-map}
-use Rattle.runs.specs.Calls.{calls_of}
-use Rattle.runs.specs.Kept.{arrays}
 use Rattle.runs.proofs.Lookups.{past}
-use Rattle.runs.proofs.Waiting.{room-of}
-use Rattle.rtl.specs.Interpreter.{frame_of}
 use Rattle.rtl.proofs.Calls.{new-frame, entered, some-block, no-block, function-at, calls-nothing, calls-too-deep, calls-with-others, calls-no-block}
 use Rattle.rtl.proofs.interpreter.enter.Goals as goal
 
 pub returns : goal.returns
 returns c vs is =
-    let p = c.args.program.now in
     let x = c.in-Some.function.now in
     let entry = c.in-Some-block_at.entry.now in
-    let there = function-at p c.functions.result c.args.function c.get.result c.in-Some.function c.functions.ensures.value c.get.ensures.lookup.0
-    c.get.ensures.lookup.1 c.in-Some.is in
+    let there = function-at c.args.program.now c.functions.result c.args.callee.function c.get.result c.in-Some.function c.functions.ensures.value
+    c.get.ensures.lookup.0 c.get.ensures.lookup.1 c.in-Some.is in
     let first = some-block x.blocks.items 0 c.block_at.result c.in-Some-block_at.entry
     (rw (sym c.as_slice-blocks.ensures.value) c.block_at.ensures) c.in-Some-block_at.is in
-    let same : length c.args.registers.items ≡ length vs = search (rules, length-map, is) in
-    let count : length vs ≡ x.parameters = omega (arith, same, c.if-len-function.false, c.len.ensures, c.args.registers.ok.0) in
-    entered p c.args.depth c.args.function vs c.args.result_to x entry c.args.interpreter.now c.enter.new.self c.first_frame.result there
-    (sym c.has_room.ensures ∙ c.if-not-has_room.false) count first c.in_ok-enter.ensures.calls c.in_ok-enter.ensures.globals c.in_ok-enter.ensures.output
-    (new-frame c.first_frame.result c.as_slice-blocks.result.now c.args.registers.items x entry c.args.result_to vs c.first_frame.ensures is
-    c.as_slice-blocks.ensures.value)
+    let same : length c.args.callee.registers.items ≡ length vs = search (rules, length-map, is) in
+    let count : length vs ≡ x.parameters = omega (arith, same, c.if-len-function.false, c.len.ensures, c.args.callee.registers.ok.0) in
+    entered c.args.program.now c.args.depth c.args.callee.function vs c.args.callee.result_to x entry c.args.interpreter.now c.enter.new.self
+    c.first_frame-frame.result there (sym c.has_room.ensures ∙ c.if-not-has_room.false) count first c.in_ok-enter.ensures.calls
+    c.in_ok-enter.ensures.globals c.in_ok-enter.ensures.output
+    (new-frame c.first_frame-frame.result c.as_slice-blocks.result.now c.args.callee.registers.items x entry c.args.callee.result_to vs
+    c.first_frame-frame.ensures is c.as_slice-blocks.ensures.value)
 
 pub returns-in_default : goal.returns-in_default
 returns-in_default c vs is =
-    let m = c.args.interpreter.now in
-    let p = c.args.program.now in
-    calls-nothing p c.args.depth c.args.function vs c.args.result_to (map frame_of (calls_of m)) (arrays m.globals.items) m.output.items
-    (past p.functions c.args.function c.get.result (rw (sym c.functions.ensures.value) c.get.ensures.lookup.0) c.in_default.is)
+    calls-nothing c.args.program.now c.args.depth c.args.callee.function vs c.args.callee.result_to c.args.interpreter.now
+    (past c.args.program.now.functions c.args.callee.function c.get.result (rw (sym c.functions.ensures.value) c.get.ensures.lookup.0) c.in_default.is)
 
 pub returns-then-not-has_room : goal.returns-then-not-has_room
 returns-then-not-has_room c vs is =
-    let m = c.args.interpreter.now in
-    let p = c.args.program.now in
-    let there = function-at p c.functions.result c.args.function c.get.result c.in-Some.function c.functions.ensures.value c.get.ensures.lookup.0
-    c.get.ensures.lookup.1 c.in-Some.is in
-    calls-too-deep p c.args.depth c.args.function vs c.args.result_to (map frame_of (calls_of m)) (arrays m.globals.items) m.output.items c.in-Some.function.now there
-    (room-of frame_of m c.args.depth _ (sym c.has_room.ensures ∙ c.if-not-has_room.true))
+    calls-too-deep c.args.program.now c.args.depth c.args.callee.function vs c.args.callee.result_to c.args.interpreter.now c.in-Some.function.now
+    (function-at c.args.program.now c.functions.result c.args.callee.function c.get.result c.in-Some.function c.functions.ensures.value
+    c.get.ensures.lookup.0 c.get.ensures.lookup.1 c.in-Some.is)
+    (sym c.has_room.ensures ∙ c.if-not-has_room.true)
 
 pub returns-then-len-function : goal.returns-then-len-function
 returns-then-len-function c vs is =
-    let m = c.args.interpreter.now in
-    let p = c.args.program.now in
-    let there = function-at p c.functions.result c.args.function c.get.result c.in-Some.function c.functions.ensures.value c.get.ensures.lookup.0
-    c.get.ensures.lookup.1 c.in-Some.is in
-    let same : length c.args.registers.items ≡ length vs = search (rules, length-map, is) in
-    let others : length vs ≡ c.in-Some.function.now.parameters → ⊥ =
-    λ e. omega (arith, e, same, c.if-len-function.true, c.len.ensures, c.args.registers.ok.0) in
-    calls-with-others p c.args.depth c.args.function vs c.args.result_to (map frame_of (calls_of m)) (arrays m.globals.items) m.output.items c.in-Some.function.now there others
+    let same : length c.args.callee.registers.items ≡ length vs = search (rules, length-map, is) in
+    calls-with-others c.args.program.now c.args.depth c.args.callee.function vs c.args.callee.result_to c.args.interpreter.now c.in-Some.function.now
+    (function-at c.args.program.now c.functions.result c.args.callee.function c.get.result c.in-Some.function c.functions.ensures.value
+    c.get.ensures.lookup.0 c.get.ensures.lookup.1 c.in-Some.is)
+    (λ e. omega (arith, e, same, c.if-len-function.true, c.len.ensures, c.args.callee.registers.ok.0))
 
 pub returns-in_default-block_at : goal.returns-in_default-block_at
 returns-in_default-block_at c vs is =
-    let m = c.args.interpreter.now in
-    let p = c.args.program.now in
-    let there = function-at p c.functions.result c.args.function c.get.result c.in-Some.function c.functions.ensures.value c.get.ensures.lookup.0
-    c.get.ensures.lookup.1 c.in-Some.is in
-    calls-no-block p c.args.depth c.args.function vs c.args.result_to (map frame_of (calls_of m)) (arrays m.globals.items) m.output.items c.in-Some.function.now there
+    calls-no-block c.args.program.now c.args.depth c.args.callee.function vs c.args.callee.result_to c.args.interpreter.now c.in-Some.function.now
+    (function-at c.args.program.now c.functions.result c.args.callee.function c.get.result c.in-Some.function c.functions.ensures.value
+    c.get.ensures.lookup.0 c.get.ensures.lookup.1 c.in-Some.is)
     (no-block c.in-Some.function.now.blocks.items 0 c.block_at.result (rw (sym c.as_slice-blocks.ensures.value) c.block_at.ensures)
     c.in_default-block_at.is)
