@@ -1,6 +1,9 @@
 -- What becomes less from call to call of the functions that emit expressions and conditions.
 use Rattle.std.proofs.Common.{◌≡◌, ℕ, ◌+◌, ◌∙◌, sym, ap}
 use Rattle.c_tree.specs.declared.tree.BinaryOp.{BinaryOp}
+use Rattle.c_tree.specs.declared.tree.UnaryOp.{UnaryOp}
+use Rattle.c_typed.specs.declared.tree.TypedExpression as Tree
+use Rattle.c_typed.specs.Shape.{typed_expression_of}
 use Rattle.c_tokens.specs.declared.token.IntegerType.{IntegerType}
 use Rattle.c_typed.specs.Trees.{TypedExpression, constant, local, global, element, unary, binary, conditional}
 
@@ -15,13 +18,25 @@ weight (binary o k l r) = weight l + weight r + 9
 weight (conditional k c a b) = weight c + weight a + weight b + 9
 
 -- the weight of an expression by those of its parts, as they are found
-pub binary_weight : {e : TypedExpression} (o : BinaryOp) (k : IntegerType) (l r l' r' : TypedExpression) → e ≡ binary o k l r → l' ≡ l → r' ≡ r
-    → weight e ≡ weight l' + weight r' + 9
-binary_weight o k l r l' r' is il ir =
-    ap weight is ∙ ap (λ l. weight l + weight r + 9) (sym il) ∙ ap (λ r. weight l' + weight r + 9) (sym ir)
+pub element_weight : {e : TypedExpression} {x : ℕ} {k : IntegerType} {i i' : Tree.TypedExpression} → e ≡ element x k (typed_expression_of i) → i' ≡ i
+    → weight e ≡ weight (typed_expression_of i') + 9
+element_weight is ii = ap weight is ∙ ap (λ i. weight (typed_expression_of i) + 9) (sym ii)
 
-pub conditional_weight : {e : TypedExpression} (k : IntegerType) (c a b c' a' b' : TypedExpression) → e ≡ conditional k c a b → c' ≡ c → a' ≡ a → b' ≡ b
-    → weight e ≡ weight c' + weight a' + weight b' + 9
-conditional_weight k c a b c' a' b' is ic ia ib =
-    ap weight is ∙ ap (λ c. weight c + weight a + weight b + 9) (sym ic) ∙ ap (λ a. weight c' + weight a + weight b + 9) (sym ia)
-    ∙ ap (λ b. weight c' + weight a' + weight b + 9) (sym ib)
+pub unary_weight : {e : TypedExpression} {o : UnaryOp} {k : IntegerType} {a a' : Tree.TypedExpression} → e ≡ unary o k (typed_expression_of a) → a' ≡ a
+    → weight e ≡ weight (typed_expression_of a') + 9
+unary_weight is ia = ap weight is ∙ ap (λ a. weight (typed_expression_of a) + 9) (sym ia)
+
+pub binary_weight : {e : TypedExpression} {o : BinaryOp} {k : IntegerType} {l r l' r' : Tree.TypedExpression}
+    → e ≡ binary o k (typed_expression_of l) (typed_expression_of r) → l' ≡ l → r' ≡ r
+    → weight e ≡ weight (typed_expression_of l') + weight (typed_expression_of r') + 9
+binary_weight {l = l} {r = r} {l' = l'} is il ir =
+    ap weight is ∙ ap (λ l. weight (typed_expression_of l) + weight (typed_expression_of r) + 9) (sym il)
+    ∙ ap (λ r. weight (typed_expression_of l') + weight (typed_expression_of r) + 9) (sym ir)
+
+pub conditional_weight : {e : TypedExpression} {k : IntegerType} {c a b c' a' b' : Tree.TypedExpression}
+    → e ≡ conditional k (typed_expression_of c) (typed_expression_of a) (typed_expression_of b) → c' ≡ c → a' ≡ a → b' ≡ b
+    → weight e ≡ weight (typed_expression_of c') + weight (typed_expression_of a') + weight (typed_expression_of b') + 9
+conditional_weight {a = a} {b = b} {c' = c'} {a' = a'} is ic ia ib =
+    ap weight is ∙ ap (λ c. weight (typed_expression_of c) + weight (typed_expression_of a) + weight (typed_expression_of b) + 9) (sym ic)
+    ∙ ap (λ a. weight (typed_expression_of c') + weight (typed_expression_of a) + weight (typed_expression_of b) + 9) (sym ia)
+    ∙ ap (λ b. weight (typed_expression_of c') + weight (typed_expression_of a') + weight (typed_expression_of b) + 9) (sym ib)

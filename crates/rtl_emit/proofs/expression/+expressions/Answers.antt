@@ -1,4 +1,4 @@
-use Rattle.std.proofs.Common.{◌≡◌, ◌+◌, ap, arith, refl, rules, sym}
+use Rattle.std.proofs.Common.{ap, arith, refl, rules, sym}
 use Rattle.c_typed.specs.Shape.{typed_expression_of}
 use Rattle.c_typed.specs.Trees.{binary}
 use Rattle.rtl_emit.specs.Blocks.{spot}
@@ -8,7 +8,7 @@ use Rattle.rtl_emit.proofs.Emitting.{value_along, branch_along, element_emits, p
 use Rattle.rtl_emit.proofs.Emitting.{both_emits, both_stops, operator_emits, block_emits, block_stops, join_stops, first_value_stops, value_stops}
 use Rattle.rtl_emit.proofs.Emitting.{conditional_emits, constant_emits, not_branches, logical_branches, logical_stops, conditional_branches, sides}
 use Rattle.rtl_emit.proofs.Emitting.{first_side_stops, side_stops, contrary_emits, test_emits, operand_emits}
-use Rattle.rtl_emit.proofs.Weights.{weight, binary_weight, conditional_weight}
+use Rattle.rtl_emit.proofs.Weights.{element_weight, unary_weight, binary_weight, conditional_weight}
 use Rattle.rtl_emit.proofs.expression.+expressions.Goals as goal
 
 pub value_into-returns-in-Constant : goal.value_into-returns-in-Constant
@@ -224,39 +224,33 @@ branch_block-returns t c =
 
 pub value_into-element_into-requires : goal.value_into-element_into-requires
 value_into-element_into-requires t c =
-    let w : weight (typed_expression_of c.args.e.now) ≡ weight (typed_expression_of c.deref.result.now) + 9 =
-    ap weight (element_is _ _ _ _ (ap typed_expression_of c.in-Element.is) (ap typed_expression_of c.deref.ensures)) in (omega (arith, w), tt)
+    let w = element_weight (ap typed_expression_of c.in-Element.is) c.deref.ensures in (omega (arith, w), tt)
 
 pub value_into-unary_into-requires : goal.value_into-unary_into-requires
 value_into-unary_into-requires t c =
-    let w : weight (typed_expression_of c.args.e.now) ≡ weight (typed_expression_of c.deref-in-Unary.result.now) + 9 =
-    ap weight (unary_is _ _ _ _ _ (ap typed_expression_of c.in-Unary.is) refl (ap typed_expression_of c.deref-in-Unary.ensures)) in
-    (omega (arith, w), tt)
+    let w = unary_weight (ap typed_expression_of c.in-Unary.is) c.deref-in-Unary.ensures in (omega (arith, w), tt)
 
 pub value_into-binary_into-requires : goal.value_into-binary_into-requires
 value_into-binary_into-requires t c =
-    let w = binary_weight _ _ _ _ _ _ (ap typed_expression_of c.in-Binary.is) (ap typed_expression_of c.deref-in-Binary.ensures)
-    (ap typed_expression_of c.deref-in-Binary-2.ensures) in (omega (arith, w), tt)
+    let w = binary_weight (ap typed_expression_of c.in-Binary.is) c.deref-in-Binary.ensures c.deref-in-Binary-2.ensures in (omega (arith, w), tt)
 
 pub value_into-conditional_into-requires : goal.value_into-conditional_into-requires
 value_into-conditional_into-requires t c =
-    let w = conditional_weight _ _ _ _ _ _ _ (ap typed_expression_of c.in-Conditional.is) (ap typed_expression_of c.deref-in-Conditional.ensures)
-    (ap typed_expression_of c.deref-in-Conditional-2.ensures) (ap typed_expression_of c.deref-in-Conditional-3.ensures) in (omega (arith, w), tt)
+    let w = conditional_weight (ap typed_expression_of c.in-Conditional.is) c.deref-in-Conditional.ensures c.deref-in-Conditional-2.ensures
+    c.deref-in-Conditional-3.ensures in (omega (arith, w), tt)
 
 pub condition-sides-requires : goal.condition-sides-requires
 condition-sides-requires t c =
-    let w = conditional_weight _ _ _ _ _ _ _ (ap typed_expression_of c.in-Conditional.is) (ap typed_expression_of c.deref-in-Conditional.ensures)
-    (ap typed_expression_of c.deref-in-Conditional-2.ensures) (ap typed_expression_of c.deref-in-Conditional-3.ensures) in (omega (arith, w), tt)
+    let w = conditional_weight (ap typed_expression_of c.in-Conditional.is) c.deref-in-Conditional.ensures c.deref-in-Conditional-2.ensures
+    c.deref-in-Conditional-3.ensures in (omega (arith, w), tt)
 
 pub condition-logical_branches-requires : goal.condition-logical_branches-requires
 condition-logical_branches-requires t c =
-    let w = binary_weight _ _ _ _ _ _ (ap typed_expression_of c.in-Binary.is) (ap typed_expression_of c.deref-in-Logical.ensures)
-    (ap typed_expression_of c.deref-in-Logical-2.ensures) in (omega (arith, w), tt)
+    let w = binary_weight (ap typed_expression_of c.in-Binary.is) c.deref-in-Logical.ensures c.deref-in-Logical-2.ensures in (omega (arith, w), tt)
 
 pub condition-contrary_test-requires : goal.condition-contrary_test-requires
 condition-contrary_test-requires t c =
-    let w = binary_weight _ _ _ _ _ _ (ap typed_expression_of c.in-Binary.is) (ap typed_expression_of c.deref-in-Plain.ensures)
-    (ap typed_expression_of c.deref-in-Plain-2.ensures) in (omega (arith, w), tt)
+    let w = binary_weight (ap typed_expression_of c.in-Binary.is) c.deref-in-Plain.ensures c.deref-in-Plain-2.ensures in (omega (arith, w), tt)
 
 pub unary_into-value_into-requires : goal.unary_into-value_into-requires
 unary_into-value_into-requires t c = (omega arith, tt)
