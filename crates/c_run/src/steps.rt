@@ -10,7 +10,7 @@ ghost use Rattle.c_run.specs.Interpreter.{frame_of};
 use crate::interpreter::{Frame, Interpreter, step};
 use crate::pending::{Pending, put};
 use c_types::Typed;
-use runs::{End, Ran};
+use runs::{Ran, run_steps};
 use std::alloc::{AllocError, Global};
 
 // The globals before the first step.
@@ -47,18 +47,8 @@ pub(crate) fn start<'a>(alloc: Global, program: &'a Typed) -> Result<Interpreter
 pub fn run(alloc: Global, program: &Typed, depth: u32, steps: u64) -> Result<Ran, AllocError>
     ensures { IfOk result (λ r. outcome_of r ≡ source_run (program_of program.now) depth steps) }
 {
-    let mut interpreter = start(alloc, program)?;
-    for _ in 0..steps {
-        let reached = step(alloc, program, depth, &mut interpreter)?;
-        if let Some(end) = reached.end() {
-            return Ok(Ran {
-                end,
-                output: interpreter.output,
-            });
-        }
-    }
-    Ok(Ran {
-        end: End::More,
-        output: interpreter.output,
+    let interpreter = start(alloc, program)?;
+    run_steps(interpreter, steps, |interpreter| {
+        step(alloc, program, depth, interpreter)
     })
 }

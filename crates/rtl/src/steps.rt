@@ -10,7 +10,7 @@ use crate::block::RGlobal;
 use crate::interpreter::{Frame, Interpreter, step};
 use crate::program::Rtl;
 use crate::stores::constant;
-use runs::{End, Ran};
+use runs::{Ran, run_steps};
 use std::alloc::{AllocError, Global};
 
 // The elements of a global before the first step.
@@ -58,18 +58,8 @@ fn start<'a>(alloc: Global, program: &'a Rtl) -> Result<Interpreter<'a>, AllocEr
 pub fn run(alloc: Global, program: &Rtl, depth: u32, steps: u64) -> Result<Ran, AllocError>
     ensures { IfOk result (λ r. outcome_of r ≡ rtl_run program.now depth steps) }
 {
-    let mut interpreter = start(alloc, program)?;
-    for _ in 0..steps {
-        let reached = step(alloc, program, depth, &mut interpreter)?;
-        if let Some(end) = reached.end() {
-            return Ok(Ran {
-                end,
-                output: interpreter.output,
-            });
-        }
-    }
-    Ok(Ran {
-        end: End::More,
-        output: interpreter.output,
+    let interpreter = start(alloc, program)?;
+    run_steps(interpreter, steps, |interpreter| {
+        step(alloc, program, depth, interpreter)
     })
 }

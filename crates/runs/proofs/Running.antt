@@ -1,5 +1,5 @@
 -- A run that takes one step after another: what its loop keeps, and how it ends.
-use Rattle.std.proofs.Common.{◌≡◌, ℕ, suc, ◌+◌, ◌-◌, ◌<◌, ◌≤◌, List, Some, None, sym, ◌∙◌, ap, arith}
+use Rattle.std.proofs.Common.{◌≡◌, ℕ, suc, ◌+◌, ◌-◌, ◌<◌, ◌≤◌, List, Result, Ok, Some, None, MutBor, refl, sym, ◌∙◌, ap, arith}
 use Rattle.std.proofs.lemmas.Option.{same_Some}
 use Rattle.runs.specs.declared.ran.End.{End}
 use Rattle.runs.specs.declared.ran.End.TheVariants.{Done, Wrong}
@@ -7,7 +7,10 @@ use Rattle.runs.specs.declared.reached.Reached.{Reached}
 use Rattle.runs.specs.declared.reached.Reached.TheVariants.{Going, Ended, Failed}
 use Rattle.runs.specs.Runs as Runs
 use Rattle.runs.specs.Runs.{Outcome, Configuration, outcome, steps}
-use Rattle.runs.specs.Steps.{IsKept, GoesOnFromWhereItIs, end_of, after_step}
+use Rattle.runs.specs.Steps.{IsKept, GoesOnFromWhereItIs, end_of, after_step, outcome_after, unfinished}
+use Rattle.runs.specs.Results.{IsRunBy}
+use Rattle.runs.specs.Calls.{state_by, reached_by}
+use Rattle.runs.specs.declared.interpreter.Interpreter.{Interpreter}
 use Rattle.runs.proofs.Steps.{steps-add, steps-stay, steps-keep}
 
 pub is-kept : {S : Type 0} (Holds : S → Type 0) (next : S → S) (first : S) → Holds first → ((s : S) → Holds s → Holds (next s)) → IsKept Holds next first
@@ -25,43 +28,50 @@ goes-on-from-where-it-is step stays = record {
   failed = λ n out. steps-stay step n (Runs.Failed out) (stays.failed out);
 }
 
--- after i of n steps: what is left of them comes from here to the same as all of them from the start
-abbrev pub Left : {Call : Type 0} → (step : Configuration Call → Configuration Call) → (start : Configuration Call) → (n i : ℕ) → Configuration Call
-    → Type 0
-Left step start n i s = outcome (steps step (n - i) s) ≡ outcome (steps step n start)
-
-pub begins : {Call : Type 0} (step : Configuration Call → Configuration Call) (start s : Configuration Call) (n : ℕ) → start ≡ s → Left step start n 0 s
-begins step start s n e =
-    let all : n - 0 ≡ n = omega arith in
-    ap (λ k. outcome (steps step k s)) all ∙ sym (ap (λ s. outcome (steps step n s)) e)
+-- what so many steps come to, by the first of them
+pub by-step : {Call : Type 0} (step : Configuration Call → Configuration Call) (s t : Configuration Call) (r : Reached) (out : List ℕ) → Stays step
+    → step s ≡ after_step r t out → (n : ℕ) → outcome (steps step (suc n) s) ≡ outcome_after r (outcome (steps step n t)) out
+by-step step s t Going out stays is n = ap (λ s. outcome (steps step n s)) is
+by-step step s t (Ended w) out stays is n =
+    ap (λ s. outcome (steps step n s)) is ∙ ap outcome (steps-stay step n (Runs.Ended w out) (stays.ended w out))
+by-step step s t Failed out stays is n =
+    ap (λ s. outcome (steps step n s)) is ∙ ap outcome (steps-stay step n (Runs.Failed out) (stays.failed out))
 
 -- one step less is left
-one-step : {Call : Type 0} (step : Configuration Call → Configuration Call) (n i : ℕ) (s t : Configuration Call) → i < n → step s ≡ t
-    → steps step (n - i) s ≡ steps step (n - (i + 1)) t
-one-step step n i s t lt e =
+one-less : (old : ℕ → Outcome) (n i : ℕ) → i < n → old (n - i) ≡ old (suc (n - (i + 1)))
+one-less old n i lt =
     let one : n - i ≡ suc (n - (i + 1)) = omega arith in
-    ap (λ k. steps step k s) one ∙ ap (steps step (n - (i + 1))) e
+    ap old one
 
-pub goes-on : {Call : Type 0} (step : Configuration Call → Configuration Call) (start s t : Configuration Call) (n i : ℕ) (r : Reached) (out : List ℕ) → i < n
-    → Left step start n i s → step s ≡ after_step r t out → end_of r ≡ None → Left step start n (i + 1) t
-goes-on step start s t n i Going out lt left is e = sym (ap outcome (one-step step n i s t lt is)) ∙ left
-goes-on step start s t n i (Ended w) out lt left is e = cc
-goes-on step start s t n i Failed out lt left is e = cc
+-- after i of n steps, what is left of them comes to the same as all of them; one step more goes on so, or ends the run
+pub goes-on : (old new : ℕ → Outcome) (whole : Outcome) (n i : ℕ) (r : Reached) (out : List ℕ) → i < n → old (n - i) ≡ whole
+    → ((k : ℕ) → old (suc k) ≡ outcome_after r (new k) out) → end_of r ≡ None → new (n - (i + 1)) ≡ whole
+goes-on old new whole n i Going out lt left step e = sym (step (n - (i + 1))) ∙ sym (one-less old n i lt) ∙ left
+goes-on old new whole n i (Ended w) out lt left step e = cc
+goes-on old new whole n i Failed out lt left step e = cc
 
--- a step that ends the run
-pub ends : {Call : Type 0} (step : Configuration Call → Configuration Call) (start s t : Configuration Call) (n i : ℕ) (r : Reached) (out : List ℕ) (end : End)
-    → Stays step → i < n → Left step start n i s → step s ≡ after_step r t out → end_of r ≡ Some end
-    → record { end = end; output = out } ≡ outcome (steps step n start)
-ends step start s t n i Going out end stays lt left is e = cc
-ends step start s t n i (Ended w) out end stays lt left is e =
-    ap (λ (end : End). record { end = end; output = out }) (sym (same_Some (Done w) end e))
-    ∙ sym (ap outcome (one-step step n i s (Runs.Ended w out) lt is ∙ steps-stay step (n - (i + 1)) (Runs.Ended w out) (stays.ended w out))) ∙ left
-ends step start s t n i Failed out end stays lt left is e =
-    ap (λ (end : End). record { end = end; output = out }) (sym (same_Some Wrong end e))
-    ∙ sym (ap outcome (one-step step n i s (Runs.Failed out) lt is ∙ steps-stay step (n - (i + 1)) (Runs.Failed out) (stays.failed out))) ∙ left
+pub ends : (old new : ℕ → Outcome) (whole : Outcome) (n i : ℕ) (r : Reached) (out : List ℕ) (end : End) → i < n → old (n - i) ≡ whole
+    → ((k : ℕ) → old (suc k) ≡ outcome_after r (new k) out) → end_of r ≡ Some end → record { end = end; output = out } ≡ whole
+ends old new whole n i Going out end lt left step e = cc
+ends old new whole n i (Ended w) out end lt left step e =
+    ap (λ (end : End). record { end = end; output = out }) (sym (same_Some (Done w) end e)) ∙ sym (step (n - (i + 1))) ∙ sym (one-less old n i lt) ∙ left
+ends old new whole n i Failed out end lt left step e =
+    ap (λ (end : End). record { end = end; output = out }) (sym (same_Some Wrong end e)) ∙ sym (step (n - (i + 1))) ∙ sym (one-less old n i lt) ∙ left
 
-pub bound-reached : {Call : Type 0} (step : Configuration Call → Configuration Call) (start s : Configuration Call) (n i : ℕ) → n ≤ i → Left step start n i s
-    → outcome s ≡ outcome (steps step n start)
-bound-reached step start s n i le left =
+pub bound-reached : (old : ℕ → Outcome) (whole : Outcome) (n i : ℕ) (out : List ℕ) → n ≤ i → old (n - i) ≡ whole → old 0 ≡ unfinished out
+    → unfinished out ≡ whole
+bound-reached old whole n i out le left none =
     let none-left : n - i ≡ 0 = omega arith in
-    ap (λ k. outcome (steps step k s)) (sym none-left) ∙ left
+    sym none ∙ ap old (sym none-left) ∙ left
+
+-- so many steps of an interpreter, each by this relation, come to what as many of the configuration come to that it stands for
+pub comes-to : {F E Call : Type 0} {Step : MutBor (Interpreter F) → MutBor (Interpreter F) → Result Reached E → Type 0} (call_of : F → Call)
+    (step : Configuration Call → Configuration Call) (start : Configuration Call) (m : Interpreter F) (n : ℕ) (o : Outcome) → Stays step
+    → start ≡ state_by call_of m
+    → ((p q : MutBor (Interpreter F)) (r : Reached) → Step p q (Ok r) → step (state_by call_of p.now) ≡ reached_by call_of r q.now)
+    → ((comes_to : Interpreter F → ℕ → Outcome) → IsRunBy Step comes_to → o ≡ comes_to m n) → o ≡ outcome (steps step n start)
+comes-to call_of step start m n o stays is each h =
+    h (λ m n. outcome (steps step n (state_by call_of m))) (record {
+      without_steps = λ m. refl;
+      by_step = λ p q r s. by-step step (state_by call_of p.now) (state_by call_of q.now) r q.now.output.items stays (each p q r s);
+    }) ∙ ap (λ s. outcome (steps step n s)) (sym is)

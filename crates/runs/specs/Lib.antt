@@ -3,4 +3,5 @@ pub mod Kept
 pub mod Runs
 pub mod Steps
 pub mod Calls
+pub mod Results
 pub mod Refines

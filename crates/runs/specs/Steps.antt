@@ -1,10 +1,10 @@
 -- One step of a run after another: what each keeps, what it comes to, and when the run is over.
 use Rattle.std.specs.Prelude.{◌≡◌, ℕ, ◌+◌, List, Option, Some, None}
 use Rattle.runs.specs.declared.ran.End.{End}
-use Rattle.runs.specs.declared.ran.End.TheVariants.{Done, Wrong}
+use Rattle.runs.specs.declared.ran.End.TheVariants.{Done, Wrong, More}
 use Rattle.runs.specs.declared.reached.Reached.{Reached}
 use Rattle.runs.specs.declared.reached.Reached.TheVariants as Reach
-use Rattle.runs.specs.Runs.{Configuration, Ended, Failed, steps}
+use Rattle.runs.specs.Runs.{Outcome, Configuration, Ended, Failed, steps}
 
 -- what holds at the start, and each step keeps, holds after so many
 pub record IsKept {S : Type 0} (Holds : S → Type 0) (next : S → S) (first : S) : Type 0 where
@@ -34,3 +34,13 @@ abbrev pub after_step : {Call : Type 0} → Reached → Configuration Call → L
 after_step Reach.Going s out = s
 after_step (Reach.Ended w) s out = Ended w out
 after_step Reach.Failed s out = Failed out
+
+-- what a run comes to by a step that has come to this: the rest of it, where it goes on, and else the end with this output
+abbrev pub outcome_after : Reached → Outcome → List ℕ → Outcome
+outcome_after Reach.Going rest out = rest
+outcome_after (Reach.Ended w) rest out = record { end = Done w; output = out }
+outcome_after Reach.Failed rest out = record { end = Wrong; output = out }
+
+-- a run that would go on, with this output
+abbrev pub unfinished : List ℕ → Outcome
+unfinished out = record { end = More; output = out }

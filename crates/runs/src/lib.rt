@@ -7,7 +7,8 @@
 //! the promises of passes and of a build are.
 //!
 //! What an interpreter of any level keeps is read and written here, its calls begin and end here (`Interpreter`, with frames of
-//! the level's own kind, `specs/Calls.antt`), and what its step comes to is a `Reached`.
+//! the level's own kind, `specs/Calls.antt`), and what its step comes to is a `Reached`. `specs/Results.antt` says what so many
+//! steps come to.
 //!
 //! What is promised, by what the lists that an interpreter keeps stand for (`specs/Kept.antt`):
 //! - `word_at` and `element` read exactly what is there, and None where it isn't set or outside; `set_word` and `store` leave the
@@ -15,14 +16,17 @@
 //! - `Reached::end` is Some exactly where the run is over.
 //! - `enter` and `leave` put a call before those that are active and take it off again; `has_room` tells exactly whether fewer
 //!   than so many are active.
+//! - `run_steps` is what so many steps come to, whatever each of them does (`IsRunBy`).
 #![tactic(auto)]
 
 mod interpreter;
 mod ran;
 mod reached;
+mod run;
 mod stores;
 
 pub use interpreter::Interpreter;
 pub use ran::{End, Ran};
 pub use reached::Reached;
+pub use run::run_steps;
 pub use stores::{element, set_word, store, word_at};
