@@ -58,7 +58,7 @@ fn take_one<'a>(todo: &mut Vec<Pending<'a>>) -> Result<Head<'a>, AllocError>
 
 // Takes what comes first off the list.
 #[inline]
-fn first<'a>(todo: &mut Vec<Pending<'a>>) -> Result<Head<'a>, AllocError>
+fn take_first<'a>(todo: &mut Vec<Pending<'a>>) -> Result<Head<'a>, AllocError>
     ensures { IfOk result (λ h. todos todo.old.items ≡ with_head h (todos todo.new.items)) }
 {
     loop {
@@ -120,13 +120,13 @@ pub(crate) fn settle<'a>(
         ≡ point_at (places locals.new) h (todos todo.new.items)) }
 {
     loop {
-        let head = first(todo)?;
+        let head = take_first(todo)?;
         match head {
             Head::Nothing => return Ok(head),
             Head::Turn(last, again) => {
                 put(todo, Pending::One(again))?;
                 put(todo, Pending::One(last))?;
-                let head = first(todo)?;
+                let head = take_first(todo)?;
                 return Ok(head);
             }
             Head::Statement(s) => match s {

@@ -26,7 +26,7 @@ pub enum Continuation {
 }
 
 /// Code that only leaves its block.
-pub fn leaving(alloc: Global, exit: RExit) -> OpenBlock
+pub fn exit_block(alloc: Global, exit: RExit) -> OpenBlock
     ensures { open_code result ≡ exit_code exit }
 {
     OpenBlock {
@@ -48,7 +48,7 @@ pub fn open_block(alloc: Global, after: Continuation) -> OpenBlock
     ensures { open_code result ≡ line_of (spot after) }
 {
     match after {
-        Continuation::Jump(block) => leaving(alloc, RExit::Goto(block)),
+        Continuation::Jump(block) => exit_block(alloc, RExit::Goto(block)),
         Continuation::Made(code) => code,
     }
 }

@@ -41,10 +41,10 @@ mod targets;
 mod waiting;
 
 pub use block::{
-    Continuation, OpenBlock, block_of, fill, leaving, open_block, put_before, put_first, reserve,
+    Continuation, OpenBlock, block_of, exit_block, fill, open_block, put_before, put_first, reserve,
 };
 pub use expression::{condition, operand_into, operands_into, value_into};
 pub use fault::LowerFault;
-pub use place::{Place, place_of, places_of, register_of, registers_of, spare};
+pub use place::{Place, place_of, places_of, register_of, registers_of, spare_register};
 pub use simple::number_of;
 pub use targets::Targets;

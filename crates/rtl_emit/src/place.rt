@@ -31,7 +31,7 @@ pub fn register_of(local: usize) -> Result<Register, LowerFault>
 }
 
 /// A register that is free; a Limit above the last one.
-pub fn spare(free: Register) -> Result<Register, LowerFault>
+pub fn spare_register(free: Register) -> Result<Register, LowerFault>
     ensures is { IfOk result (λ r. r ≡ free) }
     ensures within { IfOk result (λ r. r < MAX_REGISTERS) }
     ensures limit { IfErr result (λ f. f ≡ LowerFault.Limit → MAX_REGISTERS < free + 1) }
@@ -52,7 +52,7 @@ pub fn place_of(e: &TypedExpression, free: Register) -> Result<Place, LowerFault
         let register = register_of(*number)?;
         return Ok(Place { register, free });
     }
-    let register = spare(free)?;
+    let register = spare_register(free)?;
     Ok(Place {
         register,
         free: register + 1,

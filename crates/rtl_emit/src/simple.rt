@@ -8,7 +8,7 @@ ghost use Rattle.rtl_emit.specs.Emits.{EmitsValue};
 
 use crate::block::{Continuation, OpenBlock, put_before, put_first};
 use crate::fault::LowerFault;
-use crate::place::{register_of, spare};
+use crate::place::{register_of, spare_register};
 use c_tokens::Literal;
 use rtl::{RInst, Register};
 use std::alloc::Global;
@@ -55,7 +55,7 @@ pub(crate) fn global_into(aim: Aim, number: usize) -> Result<OpenBlock, LowerFau
     ensures { (bs : List RBlock) (k : IntegerType) → EmitsValue (global number k) aim.to aim.free (spot aim.after) bs bs result }
 {
     let variable = number_of(number)?;
-    let index = spare(aim.free)?;
+    let index = spare_register(aim.free)?;
     let load = put_before(aim.alloc, RInst::Load(aim.to, variable, index), aim.after)?;
     let from = put_first(RInst::Const(index, 0), load)?;
     Ok(from)

@@ -7,7 +7,7 @@ ghost use Rattle.rtl_emit.specs.Expressions.{IsTruth};
 ghost use Rattle.rtl_emit.specs.Sizes.{joint};
 ghost use Rattle.rtl_emit.specs.Sound.{IsSoundSpot, KeepsSound};
 
-use crate::block::{Continuation, OpenBlock, block_of, leaving, put_first, seal};
+use crate::block::{Continuation, OpenBlock, block_of, exit_block, put_first, seal};
 use crate::fault::LowerFault;
 use rtl::{BlockNumber, RBlock, RExit, RInst, Register};
 use std::alloc::Global;
@@ -71,7 +71,7 @@ pub(crate) fn branch_by(alloc: Global, word: u32, targets: Targets) -> OpenBlock
     ensures { open_code result ≡ goto (if word == 0 then targets.no else targets.yes) }
 {
     let target = if word == 0 { targets.no } else { targets.yes };
-    leaving(alloc, RExit::Goto(target))
+    exit_block(alloc, RExit::Goto(target))
 }
 
 // Two blocks that put 1 or 0 into a register and go on.
@@ -91,9 +91,9 @@ pub(crate) fn truth_blocks(
         → IsTruth bs to t.yes t.no (spot after)) }
 {
     let join = block_of(blocks, after)?;
-    let no_code = put_first(RInst::Const(to, 0), leaving(alloc, RExit::Goto(join)))?;
+    let no_code = put_first(RInst::Const(to, 0), exit_block(alloc, RExit::Goto(join)))?;
     let no = seal(blocks, no_code)?;
-    let yes_code = put_first(RInst::Const(to, 1), leaving(alloc, RExit::Goto(join)))?;
+    let yes_code = put_first(RInst::Const(to, 1), exit_block(alloc, RExit::Goto(join)))?;
     let yes = seal(blocks, yes_code)?;
     Ok(Targets {
         yes,

@@ -12,10 +12,10 @@ ghost use Rattle.rtl_emit.specs.Operations.{inst_of};
 ghost use Rattle.rtl_emit.specs.Sizes.{place_registers, next_free, test_registers, Beyond};
 ghost use Rattle.rtl_emit.specs.Sound.{Scope, IsSound};
 
-use crate::block::{OpenBlock, leaving, put_before, put_first};
+use crate::block::{OpenBlock, exit_block, put_before, put_first};
 use crate::fault::LowerFault;
 use crate::operation::{Combination, Operation, straight_op};
-use crate::place::{Place, place_of, spare};
+use crate::place::{Place, place_of, spare_register};
 use crate::simple::{Aim, number_of};
 use crate::targets::Targets;
 use c_typed::TypedExpression;
@@ -75,7 +75,7 @@ pub(crate) fn combination_at(
         → MAX_REGISTERS < max (place_registers (typed_expression_of e.now) free) (next_free (typed_expression_of e.now) free + 1)) }
 {
     let place = place_of(e, free)?;
-    let other = spare(place.free)?;
+    let other = spare_register(place.free)?;
     let last = put_first(with.operation.instruction(to, place.register, other), after)?;
     let code = put_first(RInst::Const(other, with.word), last)?;
     Ok(Waiting { place, code })
@@ -100,14 +100,14 @@ pub(crate) fn test_at(
 {
     if targets.likely {
         let place = place_of(e, free)?;
-        let code = leaving(
+        let code = exit_block(
             alloc,
             RExit::Branch(place.register, targets.yes, targets.no),
         );
         Ok(Waiting { place, code })
     } else {
-        let contrary = spare(free)?;
-        let end = leaving(alloc, RExit::Branch(contrary, targets.no, targets.yes));
+        let contrary = spare_register(free)?;
+        let end = exit_block(alloc, RExit::Branch(contrary, targets.no, targets.yes));
         let is_zero = Combination {
             operation: straight_op(Op::Eq),
             word: 0,
@@ -168,8 +168,8 @@ pub(crate) fn contrary_at(
         (place_registers (typed_expression_of left.now) free)
         (place_registers (typed_expression_of right.now) (next_free (typed_expression_of left.now) free)))) }
 {
-    let to = spare(free)?;
-    let end = leaving(alloc, RExit::Branch(to, targets.no, targets.yes));
+    let to = spare_register(free)?;
+    let end = exit_block(alloc, RExit::Branch(to, targets.no, targets.yes));
     let waiting = operation_at(operation, left, right, to, free, end)?;
     Ok(waiting)
 }

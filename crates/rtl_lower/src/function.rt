@@ -10,7 +10,7 @@ use crate::context::Context;
 use crate::statement::statements;
 use c_typed::{Function, Global as TypedGlobal};
 use rtl::{RExit, RFunc, RGlobal};
-use rtl_emit::{Continuation, LowerFault, fill, leaving, open_block, register_of, reserve};
+use rtl_emit::{Continuation, LowerFault, exit_block, fill, open_block, register_of, reserve};
 use std::alloc::Global;
 
 /// The blocks of a function.
@@ -26,7 +26,7 @@ pub(crate) fn function(alloc: Global, f: &Function) -> Result<RFunc, LowerFault>
     let parameters = register_of(f.parameters)?;
     let mut blocks = Vec::new(alloc);
     let entry = reserve(alloc, &mut blocks)?;
-    let end = Continuation::Made(leaving(alloc, RExit::Return(None)));
+    let end = Continuation::Made(exit_block(alloc, RExit::Return(None)));
     let context = Context {
         alloc,
         free,

@@ -9,8 +9,9 @@ use crate::context::Context;
 use c_typed::{Destination, TypedExpression};
 use rtl::{BlockNumber, RBlock, RExit, RInst, Register};
 use rtl_emit::{
-    Continuation, LowerFault, OpenBlock, block_of, leaving, number_of, operand_into, operands_into,
-    place_of, places_of, put_before, put_first, register_of, registers_of, spare, value_into,
+    Continuation, LowerFault, OpenBlock, block_of, exit_block, number_of, operand_into,
+    operands_into, place_of, places_of, put_before, put_first, register_of, registers_of,
+    spare_register, value_into,
 };
 
 // The value of an expression to a local or a global variable.
@@ -31,7 +32,7 @@ pub(crate) fn assignment(
         Destination::Global(x) => {
             let global = number_of(x)?;
             let place = place_of(e, context.free)?;
-            let index = spare(place.free)?;
+            let index = spare_register(place.free)?;
             let store = RInst::Store(global, index, place.register);
             let last = put_before(context.alloc, store, after)?;
             let middle = put_first(RInst::Const(index, 0), last)?;
@@ -93,7 +94,7 @@ pub(crate) fn output_code(
 {
     let block = block_of(blocks, after)?;
     let value = place_of(e, context.free)?;
-    let end = leaving(context.alloc, RExit::Out(value.register, block));
+    let end = exit_block(context.alloc, RExit::Out(value.register, block));
     operand_into(context.alloc, blocks, e, value.register, context.free, end)
 }
 
@@ -128,8 +129,8 @@ fn receiver_of(
         }
         Some(Destination::Global(x)) => {
             let global = number_of(x)?;
-            let result = spare(context.free)?;
-            let index = spare(result + 1)?;
+            let result = spare_register(context.free)?;
+            let index = spare_register(result + 1)?;
             let store = RInst::Store(global, index, result);
             let last = put_before(context.alloc, store, after)?;
             let code = put_first(RInst::Const(index, 0), last)?;
@@ -160,7 +161,7 @@ pub(crate) fn call_code(
     places_of(arguments, context.free, &mut places)?;
     let registers = registers_of(context.alloc, places.as_slice())?;
     let call = RExit::Call(callee, registers, receiver.to, receiver.block);
-    let end = leaving(context.alloc, call);
+    let end = exit_block(context.alloc, call);
     operands_into(
         context.alloc,
         blocks,
@@ -181,10 +182,10 @@ pub(crate) fn return_code(
         blocks.old.items blocks.new.items result }
 {
     match given {
-        None => Ok(leaving(context.alloc, RExit::Return(None))),
+        None => Ok(exit_block(context.alloc, RExit::Return(None))),
         Some(e) => {
             let value = place_of(e, context.free)?;
-            let end = leaving(context.alloc, RExit::Return(Some(value.register)));
+            let end = exit_block(context.alloc, RExit::Return(Some(value.register)));
             operand_into(context.alloc, blocks, e, value.register, context.free, end)
         }
     }

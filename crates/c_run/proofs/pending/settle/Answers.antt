@@ -5,21 +5,21 @@ use Rattle.c_run.proofs.Turns.{at-head, break_settles, continue_settles, break-s
 use Rattle.c_run.proofs.pending.settle.Goals as goal
 
 pub loop-head-smaller-in-Break : goal.loop-head-smaller-in-Break
-loop-head-smaller-in-Break c = break-shorter c.loop-head.todo.items c.first.new.todo.items c.leave_turn.new.todo.items
-    (at-head c.loop-head.todo.items c.first.new.todo.items c.in_ok-head.head c.in-Statement.s Break c.in_ok-head.ensures c.in-Statement.is c.in-Break.is)
+loop-head-smaller-in-Break c = break-shorter c.loop-head.todo.items c.take_first.new.todo.items c.leave_turn.new.todo.items
+    (at-head c.loop-head.todo.items c.take_first.new.todo.items c.in_ok-head.head c.in-Statement.s Break c.in_ok-head.ensures c.in-Statement.is c.in-Break.is)
     c.leave_turn.ensures
 
 pub loop-head-preserved-in-Break : goal.loop-head-preserved-in-Break
-loop-head-preserved-in-Break c = break_settles c.loop-head.todo.items c.first.new.todo.items c.leave_turn.new.todo.items (places c.loop-head.locals)
-    (at-head c.loop-head.todo.items c.first.new.todo.items c.in_ok-head.head c.in-Statement.s Break c.in_ok-head.ensures c.in-Statement.is c.in-Break.is)
+loop-head-preserved-in-Break c = break_settles c.loop-head.todo.items c.take_first.new.todo.items c.leave_turn.new.todo.items (places c.loop-head.locals)
+    (at-head c.loop-head.todo.items c.take_first.new.todo.items c.in_ok-head.head c.in-Statement.s Break c.in_ok-head.ensures c.in-Statement.is c.in-Break.is)
     c.leave_turn.ensures ∙ c.loop-head.invariant
 
 pub loop-head-smaller : goal.loop-head-smaller
-loop-head-smaller c = continue-shorter c.loop-head.todo.items c.first.new.todo.items c.to_turn.new.todo.items
-    (at-head c.loop-head.todo.items c.first.new.todo.items c.in_ok-head.head c.in-Statement.s Continue c.in_ok-head.ensures c.in-Statement.is c.in-Continue.is)
+loop-head-smaller c = continue-shorter c.loop-head.todo.items c.take_first.new.todo.items c.to_turn.new.todo.items
+    (at-head c.loop-head.todo.items c.take_first.new.todo.items c.in_ok-head.head c.in-Statement.s Continue c.in_ok-head.ensures c.in-Statement.is c.in-Continue.is)
     c.in_ok-to_turn-in-Continue.ensures
 
 pub loop-head-preserved : goal.loop-head-preserved
-loop-head-preserved c = continue_settles c.loop-head.todo.items c.first.new.todo.items c.to_turn.new.todo.items (places c.loop-head.locals)
-    (at-head c.loop-head.todo.items c.first.new.todo.items c.in_ok-head.head c.in-Statement.s Continue c.in_ok-head.ensures c.in-Statement.is c.in-Continue.is)
+loop-head-preserved c = continue_settles c.loop-head.todo.items c.take_first.new.todo.items c.to_turn.new.todo.items (places c.loop-head.locals)
+    (at-head c.loop-head.todo.items c.take_first.new.todo.items c.in_ok-head.head c.in-Statement.s Continue c.in_ok-head.ensures c.in-Statement.is c.in-Continue.is)
     c.in_ok-to_turn-in-Continue.ensures ∙ c.loop-head.invariant

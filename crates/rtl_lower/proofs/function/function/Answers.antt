@@ -24,5 +24,5 @@ returns-clause-code c =
     (sym (ap statements_of c.as_slice.ensures.value))
     fits.body in
     let m = c.in_ok-code.ensures.sound.1 p c.args.f.now.locals (is_some c.args.f.now.result) false body s n g
-    (su, (some, (tt, sound_exit (X.Return None) c.leaving.ensures tt))) in
+    (su, (some, (tt, sound_exit (X.Return None) c.exit_block.ensures tt))) in
     c.fill.ensures.sound s m.0 (sound_along c.open_block.ensures (sound_line _ m.1)))

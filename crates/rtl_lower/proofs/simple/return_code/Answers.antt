@@ -4,10 +4,10 @@ use Rattle.rtl_lower.proofs.Emitting.{nothing_returned, value_returned}
 use Rattle.rtl_lower.proofs.simple.return_code.Goals as goal
 
 pub returns-in-None : goal.returns-in-None
-returns-in-None c = λ after. nothing_returned _ _ _ c.leaving.result after (ap maybe_typed_expression_of c.in-None.is) c.leaving.ensures
+returns-in-None c = λ after. nothing_returned _ _ _ c.exit_block.result after (ap maybe_typed_expression_of c.in-None.is) c.exit_block.ensures
 
 pub returns-in_ok-value-in-Some : goal.returns-in_ok-value-in-Some
 returns-in_ok-value-in-Some c = λ after.
     let value = c.in_ok-value-in-Some.ensures in
-    value_returned _ _ _ _ _ _ _ c.leaving-end.result after _ (ap maybe_typed_expression_of c.in-Some.is) value.place value.room c.leaving-end.ensures
+    value_returned _ _ _ _ _ _ _ c.exit_block-end.result after _ (ap maybe_typed_expression_of c.in-Some.is) value.place value.room c.exit_block-end.ensures
     c.operand_into.ensures

@@ -1,7 +1,7 @@
 use Rattle.std.proofs.Common.{◌≡◌}
 use Rattle.c_run.specs.Interpreter.{todos}
 use Rattle.c_run.specs.Sizes.{weights}
-use Rattle.c_run.proofs.pending.first.Given as goal
+use Rattle.c_run.proofs.pending.take_first.Given as goal
 
 abbrev pub invariant-loop-head : goal.invariant-loop-head
 invariant-loop-head l = todos l.todo.items ≡ todos l.initial.todo.items

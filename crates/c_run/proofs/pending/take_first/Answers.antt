@@ -1,7 +1,7 @@
 use Rattle.std.proofs.Common.{◌∙◌}
 use Rattle.c_run.proofs.Sizes.{block-less}
 use Rattle.c_run.proofs.Turns.{block-opened}
-use Rattle.c_run.proofs.pending.first.Goals as goal
+use Rattle.c_run.proofs.pending.take_first.Goals as goal
 
 pub loop-head-smaller : goal.loop-head-smaller
 loop-head-smaller c = block-less c.loop-head.todo.items c.take_one.new.todo.items c.put.new.todo.items c.in_ok-head.head c.in-Statement.s c.in-Block.all
