@@ -11,7 +11,7 @@ ghost use Rattle.c_tree.specs.Tree as Tree;
 ghost use Rattle.c_tree.specs.Tree.{function};
 
 use crate::cursor::{ParseStop, Parsed, expect, literal, name, split, starts, starts_bytes};
-use crate::part::{ended, pushed};
+use crate::part::{expect_after, push_part};
 use crate::statement::{integer_type, items};
 use c_tokens::{Identifier, IntegerType, Literal, Mark, Token};
 use c_tree::{Declaration, FunctionDefinition, Initial, Item, Parameter};
@@ -71,9 +71,9 @@ fn parameters<'a>(alloc: Global, tokens: &'a [Token]) -> Parsed<'a, Vec<Paramete
     if let Some(end) = starts(tokens, Mark::Void) {
         return Ok((all, end));
     }
-    let mut rest = pushed(&mut all, parameter(tokens))?;
+    let mut rest = push_part(&mut all, parameter(tokens))?;
     'more: while let Some(after) = starts(rest, Mark::Comma) {
-        rest = pushed(&mut all, parameter(after))?;
+        rest = push_part(&mut all, parameter(after))?;
     }
     Ok((all, rest))
 }
@@ -91,9 +91,9 @@ fn function<'a>(
     ensures err { IfErr result (IsStuck function_rest tokens.now) }
 {
     let open = expect(tokens, Mark::LeftParen)?;
-    let (given, brace) = ended(parameters(alloc, open), Mark::RightParen)?;
+    let (given, brace) = expect_after(parameters(alloc, open), Mark::RightParen)?;
     let start = expect(brace, Mark::LeftBrace)?;
-    let (body, end) = ended(items(alloc, start), Mark::RightBrace)?;
+    let (body, end) = expect_after(items(alloc, start), Mark::RightBrace)?;
     Ok((
         Declaration::Function(FunctionDefinition {
             result: gives,
@@ -147,7 +147,7 @@ fn after_global<'a>(
         return Ok((Declaration::Variable(integer_type, name, None), end));
     }
     if let Some(start) = starts(tokens, Mark::Assign) {
-        let (given, end) = ended(initial(start), Mark::Semicolon)?;
+        let (given, end) = expect_after(initial(start), Mark::Semicolon)?;
         return Ok((Declaration::Variable(integer_type, name, Some(given)), end));
     }
     if let Some(start) = starts(tokens, Mark::LeftBracket) {
@@ -188,7 +188,7 @@ fn declarations<'a>(alloc: Global, tokens: &'a [Token]) -> Result<Vec<Declaratio
     let mut all = Vec::new(alloc);
     let mut rest = tokens;
     'declarations: while let Some(_) = split(rest) {
-        rest = pushed(&mut all, declaration(alloc, rest))?;
+        rest = push_part(&mut all, declaration(alloc, rest))?;
     }
     Ok(all)
 }

@@ -10,7 +10,7 @@ ghost use Rattle.c_front.specs.Parsing.{IsClosedRead, IsClosedStuck, IsArguments
 ghost use Rattle.c_tokens.specs.declared.token.Token.TheVariants.{The};
 
 use crate::cursor::{ParseStop, Parsed, expect, split, starts};
-use crate::part::{boxed, ended, pushed};
+use crate::part::{box_part, expect_after, push_part};
 use c_tokens::{Identifier, Mark, Token};
 use c_tree::{BinaryOp, Call, Expression, UnaryOp, Value};
 use std::alloc::{AllocError, AllocFailed, Global};
@@ -101,19 +101,19 @@ fn choice<'a>(
     ensures shorter { IfOk result (λ r. length r.2.now < length tokens.now) }
     ensures err { IfErr result (IsChoiceStuck tokens.now) }
 {
-    let (first, rest) = boxed(alloc, closed(alloc, tokens, Mark::Colon))?;
-    let (second, end) = boxed(alloc, expression(alloc, rest))?;
+    let (first, rest) = box_part(alloc, closed_expression(alloc, tokens, Mark::Colon))?;
+    let (second, end) = box_part(alloc, expression(alloc, rest))?;
     Ok((first, second, end))
 }
 
 /// An expression, and the token that has to follow it.
 #[cycle(expressions)]
-pub fn closed<'a>(alloc: Global, tokens: &'a [Token], closing: Mark) -> Parsed<'a, Expression>
+pub fn closed_expression<'a>(alloc: Global, tokens: &'a [Token], closing: Mark) -> Parsed<'a, Expression>
     ensures ok { IfOk result (λ r. IsClosedRead closing tokens.now r.1.now (expression_of r.0)) }
     ensures shorter { IfOk result (λ r. length r.1.now < length tokens.now) }
     ensures err { IfErr result (IsClosedStuck closing tokens.now) }
 {
-    ended(expression(alloc, tokens), closing)
+    expect_after(expression(alloc, tokens), closing)
 }
 
 /// Operands and the binary operators between them, up to those of a level: by precedence climbing.
@@ -132,7 +132,7 @@ fn operands<'a>(alloc: Global, level: usize, tokens: &'a [Token]) -> Parsed<'a, 
         if found > level {
             return Ok((left, rest));
         }
-        let (right, next) = boxed(alloc, tighter(alloc, found, after))?;
+        let (right, next) = box_part(alloc, tighter(alloc, found, after))?;
         left = Expression::Binary(operator, Box::new(alloc, left)?, right);
         rest = next;
     }
@@ -167,18 +167,18 @@ fn operand<'a>(alloc: Global, tokens: &'a [Token]) -> Parsed<'a, Expression>
         Token::Jump(_, _) => Err(ParseStop::Syntax(tokens)),
         Token::Name(name) => match starts(rest, Mark::LeftBracket) {
             Some(after) => {
-                let (index, end) = boxed(alloc, closed(alloc, after, Mark::RightBracket))?;
+                let (index, end) = box_part(alloc, closed_expression(alloc, after, Mark::RightBracket))?;
                 Ok((Expression::Index(name, index), end))
             }
             None => Ok((Expression::Name(name), rest)),
         },
         Token::The(mark) => {
             if let Some(operator) = prefix_of(mark) {
-                let (inner, end) = boxed(alloc, operand(alloc, rest))?;
+                let (inner, end) = box_part(alloc, operand(alloc, rest))?;
                 return Ok((Expression::Unary(operator, inner), end));
             }
             match mark {
-                Mark::LeftParen => closed(alloc, rest, Mark::RightParen),
+                Mark::LeftParen => closed_expression(alloc, rest, Mark::RightParen),
                 _ => Err(ParseStop::Syntax(tokens)),
             }
         }
@@ -195,9 +195,9 @@ pub fn arguments<'a>(alloc: Global, tokens: &'a [Token]) -> Parsed<'a, Vec<Expre
     if let Some(end) = starts(tokens, Mark::RightParen) {
         return Ok((all, end));
     }
-    let mut rest = pushed(&mut all, expression(alloc, tokens))?;
+    let mut rest = push_part(&mut all, expression(alloc, tokens))?;
     'more: while let Some(after) = starts(rest, Mark::Comma) {
-        rest = pushed(&mut all, expression(alloc, after))?;
+        rest = push_part(&mut all, expression(alloc, after))?;
     }
     let end = expect(rest, Mark::RightParen)?;
     Ok((all, end))

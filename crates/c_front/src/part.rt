@@ -8,7 +8,7 @@ use c_tokens::{Mark, Token};
 use std::alloc::{AllocError, AllocFailed, Global};
 
 /// The part, if the mark stands after it that has to.
-pub fn ended<'a, T: Drop>(parsed: Parsed<'a, T>, closing: Mark) -> Parsed<'a, T>
+pub fn expect_after<'a, T: Drop>(parsed: Parsed<'a, T>, closing: Mark) -> Parsed<'a, T>
     ensures ok { IfOk result (IsEnded parsed.entry closing) }
     ensures err { IfErr result (IsUnended parsed.entry closing) }
 {
@@ -18,7 +18,7 @@ pub fn ended<'a, T: Drop>(parsed: Parsed<'a, T>, closing: Mark) -> Parsed<'a, T>
 }
 
 /// The part in a box.
-pub fn boxed<'a, T: Drop>(alloc: Global, parsed: Parsed<'a, T>) -> Parsed<'a, Box<T>>
+pub fn box_part<'a, T: Drop>(alloc: Global, parsed: Parsed<'a, T>) -> Parsed<'a, Box<T>>
     ensures ok { IfOk result (λ r. parsed.entry ≡ Ok (r.0.value, r.1)) }
     ensures err { IfErr result (StopsAs parsed.entry) }
 {
@@ -27,7 +27,7 @@ pub fn boxed<'a, T: Drop>(alloc: Global, parsed: Parsed<'a, T>) -> Parsed<'a, Bo
 }
 
 /// The part, with the one before it.
-pub fn joined<'a, S: Drop, T: Drop>(before: S, parsed: Parsed<'a, T>) -> Parsed<'a, (S, T)>
+pub fn join_part<'a, S: Drop, T: Drop>(before: S, parsed: Parsed<'a, T>) -> Parsed<'a, (S, T)>
     ensures ok { IfOk result (IsJoined before parsed.entry) }
     ensures err { IfErr result (λ s. parsed.entry ≡ Err s) }
 {
@@ -36,7 +36,7 @@ pub fn joined<'a, S: Drop, T: Drop>(before: S, parsed: Parsed<'a, T>) -> Parsed<
 }
 
 /// The part at the end of a list, and the tokens after it.
-pub fn pushed<'a, T: Drop>(
+pub fn push_part<'a, T: Drop>(
     all: &mut Vec<T>,
     parsed: Parsed<'a, T>,
 ) -> Result<&'a [Token], ParseStop<'a>>

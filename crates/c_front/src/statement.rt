@@ -11,14 +11,14 @@ ghost use Rattle.c_tokens.specs.declared.token.Token.TheVariants.{The, Jump};
 ghost use Rattle.c_tokens.specs.declared.token.Mark.TheVariants.{While, For, Semicolon};
 
 use crate::cursor::{ParseStop, Parsed, expect, first_name, name, split, starts};
-use crate::expression::{arguments, closed, expression, value};
-use crate::part::{boxed, ended, joined, pushed};
+use crate::expression::{arguments, closed_expression, expression, value};
+use crate::part::{box_part, expect_after, join_part, push_part};
 use c_tokens::{IntegerType, JumpWord, Mark, Token};
 use c_tree::{Call, Expression, ForParts, Item, Simple, Statement, Value};
 use std::alloc::{AllocError, AllocFailed, Global};
 
 /// The value after an equals sign.
-fn assigned<'a>(alloc: Global, tokens: &'a [Token]) -> Parsed<'a, Value>
+fn assigned_value<'a>(alloc: Global, tokens: &'a [Token]) -> Parsed<'a, Value>
     ensures ok { IfOk result (λ r. IsAssignedRead tokens.now r.1.now (value_tree r.0)) }
     ensures shorter { IfOk result (λ r. length r.1.now < length tokens.now) }
     ensures err { IfErr result (IsAssignedStuck tokens.now) }
@@ -39,11 +39,11 @@ fn simple<'a>(alloc: Global, tokens: &'a [Token]) -> Parsed<'a, Simple>
         return Ok((Simple::CallStatement(Call { name, arguments }), end));
     }
     if let Some(after) = starts(rest, Mark::LeftBracket) {
-        let (index, start) = ended(closed(alloc, after, Mark::RightBracket), Mark::Assign)?;
+        let (index, start) = expect_after(closed_expression(alloc, after, Mark::RightBracket), Mark::Assign)?;
         let (given, end) = expression(alloc, start)?;
         return Ok((Simple::AssignAt(name, index, given), end));
     }
-    let (given, end) = assigned(alloc, rest)?;
+    let (given, end) = assigned_value(alloc, rest)?;
     Ok((Simple::Assign(name, given), end))
 }
 
@@ -54,7 +54,7 @@ fn condition<'a>(alloc: Global, tokens: &'a [Token]) -> Parsed<'a, Expression>
     ensures err { IfErr result (IsConditionStuck tokens.now) }
 {
     let open = expect(tokens, Mark::LeftParen)?;
-    closed(alloc, open, Mark::RightParen)
+    closed_expression(alloc, open, Mark::RightParen)
 }
 
 /// The type at the front, if one stands here: `int`, `unsigned` or `unsigned int`.
@@ -85,7 +85,7 @@ fn ended_simple<'a>(alloc: Global, tokens: &'a [Token], closing: Mark) -> Parsed
             Ok((None, end))
         }
         Some(_) => {
-            let (inner, end) = ended(simple(alloc, tokens), closing)?;
+            let (inner, end) = expect_after(simple(alloc, tokens), closing)?;
             Ok((Some(inner), end))
         }
     }
@@ -100,7 +100,7 @@ fn ended_expression<'a>(alloc: Global, tokens: &'a [Token]) -> Parsed<'a, Option
     if let Some(end) = starts(tokens, Mark::Semicolon) {
         return Ok((None, end));
     }
-    let (inner, end) = closed(alloc, tokens, Mark::Semicolon)?;
+    let (inner, end) = closed_expression(alloc, tokens, Mark::Semicolon)?;
     Ok((Some(inner), end))
 }
 
@@ -113,8 +113,8 @@ fn for_parts<'a>(alloc: Global, tokens: &'a [Token]) -> Parsed<'a, ForParts>
 {
     let open = expect(tokens, Mark::LeftParen)?;
     let (first, second) = ended_simple(alloc, open, Mark::Semicolon)?;
-    let (parts, third) = joined(first, ended_expression(alloc, second))?;
-    let (parts, end) = joined(parts, ended_simple(alloc, third, Mark::RightParen))?;
+    let (parts, third) = join_part(first, ended_expression(alloc, second))?;
+    let (parts, end) = join_part(parts, ended_simple(alloc, third, Mark::RightParen))?;
     let ((first, test), last) = parts;
     Ok((ForParts { first, test, last }, end))
 }
@@ -153,13 +153,13 @@ fn statement<'a>(alloc: Global, tokens: &'a [Token]) -> Parsed<'a, Statement>
     };
     match token {
         Token::Name(_) => {
-            let (inner, end) = ended(simple(alloc, tokens), Mark::Semicolon)?;
+            let (inner, end) = expect_after(simple(alloc, tokens), Mark::Semicolon)?;
             Ok((Statement::Simply(inner), end))
         }
         Token::The(mark) => match mark {
             Mark::Semicolon => Ok((Statement::Empty, rest)),
             Mark::LeftBrace => {
-                let (all, end) = ended(items(alloc, rest), Mark::RightBrace)?;
+                let (all, end) = expect_after(items(alloc, rest), Mark::RightBrace)?;
                 Ok((Statement::Block(all), end))
             }
             Mark::If => if_then(alloc, rest),
@@ -180,10 +180,10 @@ fn if_then<'a>(alloc: Global, tokens: &'a [Token]) -> Parsed<'a, Statement>
     ensures err { IfErr result (IsBranchStuck tokens.now) }
 {
     let (test, start) = condition(alloc, tokens)?;
-    let (first, rest) = boxed(alloc, statement(alloc, start))?;
+    let (first, rest) = box_part(alloc, statement(alloc, start))?;
     match starts(rest, Mark::Else) {
         Some(after) => {
-            let (second, end) = boxed(alloc, statement(alloc, after))?;
+            let (second, end) = box_part(alloc, statement(alloc, after))?;
             Ok((Statement::IfElse(test, first, second), end))
         }
         None => Ok((Statement::If(test, first), rest)),
@@ -198,7 +198,7 @@ fn while_loop<'a>(alloc: Global, tokens: &'a [Token]) -> Parsed<'a, Statement>
     ensures err { IfErr result (IsStuck a_statement (The While ∷ tokens.now)) }
 {
     let (test, start) = condition(alloc, tokens)?;
-    let (body, end) = boxed(alloc, statement(alloc, start))?;
+    let (body, end) = box_part(alloc, statement(alloc, start))?;
     Ok((Statement::While(test, body), end))
 }
 
@@ -209,8 +209,8 @@ fn for_loop<'a>(alloc: Global, tokens: &'a [Token]) -> Parsed<'a, Statement>
     ensures shorter { IfOk result (λ r. length r.1.now < length tokens.now) }
     ensures err { IfErr result (IsStuck a_statement (The For ∷ tokens.now)) }
 {
-    let (parts, start) = boxed(alloc, for_parts(alloc, tokens))?;
-    let (body, end) = boxed(alloc, statement(alloc, start))?;
+    let (parts, start) = box_part(alloc, for_parts(alloc, tokens))?;
+    let (body, end) = box_part(alloc, statement(alloc, start))?;
     Ok((Statement::For(parts, body), end))
 }
 
@@ -239,7 +239,7 @@ fn item<'a>(alloc: Global, tokens: &'a [Token]) -> Parsed<'a, Item>
     match integer_type(tokens) {
         Some((integer_type, after)) => {
             let (name, start) = name(after)?;
-            let (given, end) = ended(first_value(alloc, start), Mark::Semicolon)?;
+            let (given, end) = expect_after(first_value(alloc, start), Mark::Semicolon)?;
             Ok((Item::Declare(integer_type, name, given), end))
         }
         None => {
@@ -275,7 +275,7 @@ pub fn items<'a>(alloc: Global, tokens: &'a [Token]) -> Parsed<'a, Vec<Item>>
     let mut all = Vec::new(alloc);
     let mut rest = tokens;
     'items: while !ends_items(rest) {
-        rest = pushed(&mut all, item(alloc, rest))?;
+        rest = push_part(&mut all, item(alloc, rest))?;
     }
     Ok((all, rest))
 }

@@ -62,7 +62,7 @@ fn fits(gives: bool, given: &Option<Expression>, at: usize) -> Result<(), TypeSt
 }
 
 /// The value of a `return`, if it has one.
-fn returned(
+fn returned_value(
     alloc: Global,
     program: &Program,
     scopes: &Scopes,
@@ -108,7 +108,7 @@ fn return_from(
         (FaultyStatement (text_of context.now) context.now.gives false (scopes_of scopes.now)
         (return_at at (maybe_expression_of given.now))) result }
 {
-    let value = returned(context.alloc, context.program, scopes, given);
+    let value = returned_value(context.alloc, context.program, scopes, given);
     let value = second(fits(context.gives, given, at), value)?;
     Ok(TypedStatement::Return(value))
 }

@@ -36,7 +36,7 @@ pub operand-returns-in_err-index-in-Some-starts-clause-err : goal.operand-return
 operand-returns-in_err-index-in-Some-starts-clause-err t c =
     let h : IsStuck (operands unary_expressions) c.args.tokens.now c.in_err-index-in-Some-starts.field-0.0 =
     index-stuck _ _ _ _ _ (c.in-Some.ensures.some ∙ ap (λ (x : Token). x ∷ c.in-Some.rest.now) c.in-Name.is) c.in-Some-starts.ensures.some
-    (stops _ _ _ c.in_err-index-in-Some-starts.ensures.err c.closed.ensures.err tt) in search rules
+    (stops _ _ _ c.in_err-index-in-Some-starts.ensures.err c.closed_expression.ensures.err tt) in search rules
 
 pub operand-returns-in-None-clause-ok : goal.operand-returns-in-None-clause-ok
 operand-returns-in-None-clause-ok t c = name-read _ _ _ (c.in-Some.ensures.some ∙ ap (λ (x : Token). x ∷ c.in-Some.rest.now) c.in-Name.is)
@@ -80,34 +80,34 @@ operand-returns-in-Jump-clause-err t c = no-phrase (operands unary_expressions) 
 pub choice-returns-in_err-first-clause-err : goal.choice-returns-in_err-first-clause-err
 choice-returns-in_err-first-clause-err t c =
     let h : IsChoiceStuck c.args.tokens.now c.in_err-first.field-0.0 =
-    choice-first-stuck _ _ (stops _ _ _ c.in_err-first.ensures.err c.closed.ensures.err tt) in search rules
+    choice-first-stuck _ _ (stops _ _ _ c.in_err-first.ensures.err c.closed_expression.ensures.err tt) in search rules
 
 pub choice-returns-in_err-second-clause-err : goal.choice-returns-in_err-second-clause-err
 choice-returns-in_err-second-clause-err t c =
-    let first = IfOk-at_ok _ c.in_ok-first.ensures.ok c.closed.ensures.ok in
+    let first = IfOk-at_ok _ c.in_ok-first.ensures.ok c.closed_expression.ensures.ok in
     let h : IsChoiceStuck c.args.tokens.now c.in_err-second.field-0.0 =
     choice-second-stuck _ _ _ _ first (stops _ _ _ c.in_err-second.ensures.err c.expression.ensures.err tt) in search rules
 
 pub choice-returns-clause-ok : goal.choice-returns-clause-ok
 choice-returns-clause-ok t c =
-    choice-read _ _ _ _ _ (IfOk-at_ok _ c.in_ok-first.ensures.ok c.closed.ensures.ok) (IfOk-at_ok _ c.in_ok-second.ensures.ok c.expression.ensures.ok)
+    choice-read _ _ _ _ _ (IfOk-at_ok _ c.in_ok-first.ensures.ok c.closed_expression.ensures.ok) (IfOk-at_ok _ c.in_ok-second.ensures.ok c.expression.ensures.ok)
 
-pub closed-returns-clause-ok : goal.closed-returns-clause-ok
-closed-returns-clause-ok t c =
-    IfOk-weaker c.ended.result _ _ (λ r d. ended-read c.expression.result c.args.closing c.args.tokens.now an_expression expression_of r d
+pub closed_expression-returns-clause-ok : goal.closed_expression-returns-clause-ok
+closed_expression-returns-clause-ok t c =
+    IfOk-weaker c.expect_after.result _ _ (λ r d. ended-read c.expression.result c.args.closing c.args.tokens.now an_expression expression_of r d
     c.expression.ensures.ok)
-    c.ended.ensures.ok
+    c.expect_after.ensures.ok
 
-pub closed-returns-clause-shorter : goal.closed-returns-clause-shorter
-closed-returns-clause-shorter t c =
-    IfOk-weaker c.ended.result _ _ (λ r d. ended-shorter c.expression.result c.args.closing c.args.tokens.now r d c.expression.ensures.shorter)
-    c.ended.ensures.ok
+pub closed_expression-returns-clause-shorter : goal.closed_expression-returns-clause-shorter
+closed_expression-returns-clause-shorter t c =
+    IfOk-weaker c.expect_after.result _ _ (λ r d. ended-shorter c.expression.result c.args.closing c.args.tokens.now r d c.expression.ensures.shorter)
+    c.expect_after.ensures.ok
 
-pub closed-returns-clause-err : goal.closed-returns-clause-err
-closed-returns-clause-err t c =
-    IfErr-weaker c.ended.result _ _
+pub closed_expression-returns-clause-err : goal.closed_expression-returns-clause-err
+closed_expression-returns-clause-err t c =
+    IfErr-weaker c.expect_after.result _ _
     (λ s d. ended-stuck c.expression.result c.args.closing c.args.tokens.now an_expression expression_of s d c.expression.ensures.ok c.expression.ensures.err)
-    c.ended.ensures.err
+    c.expect_after.ensures.err
 
 pub tighter-returns-clause-ok : goal.tighter-returns-clause-ok
 tighter-returns-clause-ok t c =
@@ -121,7 +121,7 @@ tighter-returns-clause-err t c =
 pub operand-returns-in_ok-index-in-Some-starts-clause-ok : goal.operand-returns-in_ok-index-in-Some-starts-clause-ok
 operand-returns-in_ok-index-in-Some-starts-clause-ok t c =
     index-read _ _ _ _ _ _ (c.in-Some.ensures.some ∙ ap (λ (x : Token). x ∷ c.in-Some.rest.now) c.in-Name.is)
-    c.in-Some-starts.ensures.some (IfOk-at_ok _ c.in_ok-index-in-Some-starts.ensures.ok c.closed.ensures.ok)
+    c.in-Some-starts.ensures.some (IfOk-at_ok _ c.in_ok-index-in-Some-starts.ensures.ok c.closed_expression.ensures.ok)
 
 pub operand-returns-in_err-inner-in-The-clause-err : goal.operand-returns-in_err-inner-in-The-clause-err
 operand-returns-in_err-inner-in-The-clause-err t c =
@@ -138,13 +138,13 @@ pub operand-returns-in-LeftParen-clause-ok : goal.operand-returns-in-LeftParen-c
 operand-returns-in-LeftParen-clause-ok t c =
     let e : c.args.tokens.now ≡ The LeftParen ∷ c.in-Some.rest.now = c.in-Some.ensures.some
     ∙ ap (λ (x : Token). x ∷ c.in-Some.rest.now) (c.in-The.is ∙ ap The c.in-LeftParen.is) in
-    IfOk-weaker c.closed-in-LeftParen.result _ _ (λ r d. parens-read _ _ _ _ e d) c.closed-in-LeftParen.ensures.ok
+    IfOk-weaker c.closed_expression-in-LeftParen.result _ _ (λ r d. parens-read _ _ _ _ e d) c.closed_expression-in-LeftParen.ensures.ok
 
 pub operand-returns-in-LeftParen-clause-err : goal.operand-returns-in-LeftParen-clause-err
 operand-returns-in-LeftParen-clause-err t c =
     let e : c.args.tokens.now ≡ The LeftParen ∷ c.in-Some.rest.now = c.in-Some.ensures.some
     ∙ ap (λ (x : Token). x ∷ c.in-Some.rest.now) (c.in-The.is ∙ ap The c.in-LeftParen.is) in
-    IfErr-weaker c.closed-in-LeftParen.result _ _ (λ s h. parens-stuck _ _ _ e h) c.closed-in-LeftParen.ensures.err
+    IfErr-weaker c.closed_expression-in-LeftParen.result _ _ (λ s h. parens-stuck _ _ _ e h) c.closed_expression-in-LeftParen.ensures.err
 
 pub operands-returns-in_err-right-clause-err : goal.operands-returns-in_err-right-clause-err
 operands-returns-in_err-right-clause-err t c =
@@ -167,12 +167,12 @@ expression-choice-requires t c =
 
 pub choice-expression-requires : goal.choice-expression-requires
 choice-expression-requires t c =
-    let b : length c.in_ok-first.rest.now < length c.args.tokens.now = IfOk-at_ok _ c.in_ok-first.ensures.ok c.closed.ensures.shorter in
+    let b : length c.in_ok-first.rest.now < length c.args.tokens.now = IfOk-at_ok _ c.in_ok-first.ensures.ok c.closed_expression.ensures.shorter in
     (omega (arith, b), tt)
 
 pub choice-returns-clause-shorter : goal.choice-returns-clause-shorter
 choice-returns-clause-shorter t c =
-    let a : length c.in_ok-first.rest.now < length c.args.tokens.now = IfOk-at_ok _ c.in_ok-first.ensures.ok c.closed.ensures.shorter in
+    let a : length c.in_ok-first.rest.now < length c.args.tokens.now = IfOk-at_ok _ c.in_ok-first.ensures.ok c.closed_expression.ensures.shorter in
     let b : length c.in_ok-second.end.now < length c.in_ok-first.rest.now = IfOk-at_ok _ c.in_ok-second.ensures.ok c.expression.ensures.shorter in
     omega (arith, a, b)
 
@@ -181,8 +181,8 @@ operand-operand-requires t c =
     let e : length c.args.tokens.now ≡ suc (length c.in-Some.rest.now) = ap length c.in-Some.ensures.some in
     (omega (arith, e), tt)
 
-pub operand-closed-requires-in-LeftParen : goal.operand-closed-requires-in-LeftParen
-operand-closed-requires-in-LeftParen t c =
+pub operand-closed_expression-requires-in-LeftParen : goal.operand-closed_expression-requires-in-LeftParen
+operand-closed_expression-requires-in-LeftParen t c =
     let e : length c.args.tokens.now ≡ suc (length c.in-Some.rest.now) = ap length c.in-Some.ensures.some in
     (omega (arith, e), tt)
 
@@ -192,8 +192,8 @@ operands-tighter-requires t c =
     let d : length c.climbing.rest.now < length c.args.tokens.now = c.climbing.invariant.shorter in
     (omega (arith, e, d), tt)
 
-pub operand-closed-requires : goal.operand-closed-requires
-operand-closed-requires t c =
+pub operand-closed_expression-requires : goal.operand-closed_expression-requires
+operand-closed_expression-requires t c =
     let e : length c.args.tokens.now ≡ suc (length c.in-Some.rest.now) = ap length c.in-Some.ensures.some in
     let a : length c.in-Some.rest.now ≡ suc (length c.in-Some-starts.after.now) = ap length c.in-Some-starts.ensures.some in
     (omega (arith, e, a), tt)

@@ -6,8 +6,8 @@ use Rattle.c_front.proofs.expression.+expressions.Given as goal
 abbrev pub decreases-choice : goal.decreases-choice
 decreases-choice l = 8 * length l.tokens.now + 6
 
-abbrev pub decreases-closed : goal.decreases-closed
-decreases-closed l = 8 * length l.tokens.now + 5
+abbrev pub decreases-closed_expression : goal.decreases-closed_expression
+decreases-closed_expression l = 8 * length l.tokens.now + 5
 
 abbrev pub decreases-expression : goal.decreases-expression
 decreases-expression l = 8 * length l.tokens.now + 4

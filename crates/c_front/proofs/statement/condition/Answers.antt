@@ -9,7 +9,7 @@ returns-in_err-open-clause-err c = let h : IsConditionStuck c.args.tokens.now c.
     search rules
 
 pub returns-clause-ok : goal.returns-clause-ok
-returns-clause-ok c = IfOk-weaker c.closed.result _ _ (λ r d. condition-read _ _ _ _ c.in_ok-open.ensures.ok d) c.closed.ensures.ok
+returns-clause-ok c = IfOk-weaker c.closed_expression.result _ _ (λ r d. condition-read _ _ _ _ c.in_ok-open.ensures.ok d) c.closed_expression.ensures.ok
 
 pub returns-clause-err : goal.returns-clause-err
-returns-clause-err c = IfErr-weaker c.closed.result _ _ (λ s h. condition-inner-stuck _ _ _ c.in_ok-open.ensures.ok h) c.closed.ensures.err
+returns-clause-err c = IfErr-weaker c.closed_expression.result _ _ (λ s h. condition-inner-stuck _ _ _ c.in_ok-open.ensures.ok h) c.closed_expression.ensures.err

@@ -21,21 +21,21 @@ returns-in-Some-clause-ok c = simple-call-read _ _ _ _ _ _ c.in_ok-name.ensures.
 pub returns-in_err-index-clause-err : goal.returns-in_err-index-clause-err
 returns-in_err-index-clause-err c =
     let h : IsStuck simple c.args.tokens.now c.in_err-index.field-0.0 = elim c.in_err-index.ensures.err [
-      | inl e ↦ assign-at-index-stuck _ _ _ _ _ c.in_ok-name.ensures.ok c.in-Some-starts.ensures.some (IfErr-at_err _ e c.closed.ensures.err)
-      | inr m ↦ assign-at-sign-stuck _ _ _ _ _ _ _ c.in_ok-name.ensures.ok c.in-Some-starts.ensures.some (IfOk-at_ok _ m.2 c.closed.ensures.ok) m.3
+      | inl e ↦ assign-at-index-stuck _ _ _ _ _ c.in_ok-name.ensures.ok c.in-Some-starts.ensures.some (IfErr-at_err _ e c.closed_expression.ensures.err)
+      | inr m ↦ assign-at-sign-stuck _ _ _ _ _ _ _ c.in_ok-name.ensures.ok c.in-Some-starts.ensures.some (IfOk-at_ok _ m.2 c.closed_expression.ensures.ok) m.3
     ] in search rules
 
 pub returns-in_err-given-clause-err : goal.returns-in_err-given-clause-err
 returns-in_err-given-clause-err c =
     let r = c.in_ok-index.ensures.ok in
     let h : IsStuck simple c.args.tokens.now c.in_err-given.field-0.0 =
-    assign-at-value-stuck _ _ _ _ _ _ _ _ c.in_ok-name.ensures.ok c.in-Some-starts.ensures.some (IfOk-at_ok _ r.1 c.closed.ensures.ok) r.2
+    assign-at-value-stuck _ _ _ _ _ _ _ _ c.in_ok-name.ensures.ok c.in-Some-starts.ensures.some (IfOk-at_ok _ r.1 c.closed_expression.ensures.ok) r.2
     c.in_err-given.ensures.err in search rules
 
 pub returns-in-Some-starts-clause-ok : goal.returns-in-Some-starts-clause-ok
 returns-in-Some-starts-clause-ok c =
     let r = c.in_ok-index.ensures.ok in
-    assign-at-read _ _ _ _ _ _ _ _ _ c.in_ok-name.ensures.ok c.in-Some-starts.ensures.some (IfOk-at_ok _ r.1 c.closed.ensures.ok) r.2
+    assign-at-read _ _ _ _ _ _ _ _ _ c.in_ok-name.ensures.ok c.in-Some-starts.ensures.some (IfOk-at_ok _ r.1 c.closed_expression.ensures.ok) r.2
     c.in_ok-given.ensures.ok
 
 pub returns-in_err-given-2-clause-err : goal.returns-in_err-given-2-clause-err

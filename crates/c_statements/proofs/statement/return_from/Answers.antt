@@ -18,14 +18,14 @@ returns-in_err-value c = record {
       (return_at c.args.at (maybe_expression_of c.args.given.now))) c.in_err-value.field-0.0 =
       both-stop (FaultyReturn c.args.context.now.gives (maybe_expression_of c.args.given.now) c.args.at)
       (FaultyMaybe (environment_in c.args.context.now.program.now.text.items (scopes_of c.args.scopes.now))
-      (maybe_expression_of c.args.given.now)) c.fits.result c.returned-value.result _
-      c.fits.ensures.none c.fits.ensures.err c.returned-value.ensures.none c.returned-value.ensures.err c.in_err-value.ensures.err
+      (maybe_expression_of c.args.given.now)) c.fits.result c.returned_value-value.result _
+      c.fits.ensures.none c.fits.ensures.err c.returned_value-value.ensures.none c.returned_value-value.ensures.err c.in_err-value.ensures.err
       in search rules;
 }
 
 pub returns : goal.returns
 returns c = record {
-  ok = return_typed (ok-at _ _ _ c.in_ok-value.ensures.ok.2 c.returned-value.ensures.ok);
+  ok = return_typed (ok-at _ _ _ c.in_ok-value.ensures.ok.2 c.returned_value-value.ensures.ok);
   none = search rules;
   err = tt;
 }

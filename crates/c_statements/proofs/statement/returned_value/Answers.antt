@@ -6,7 +6,7 @@ use Rattle.c_statements.specs.Names.{environment_in}
 use Rattle.c_statements.specs.Statements.{FaultyMaybe}
 use Rattle.c_statements.specs.Types.{missing_typed, present_typed}
 use Rattle.c_statements.proofs.Joins.{answers-ok}
-use Rattle.c_statements.proofs.statement.returned.Goals as goal
+use Rattle.c_statements.proofs.statement.returned_value.Goals as goal
 
 pub returns-in_ok-term-in-Some : goal.returns-in_ok-term-in-Some
 returns-in_ok-term-in-Some c = answers-ok (rw c.in-Some.is (present_typed c.in_ok-term-in-Some.ensures.ok)) (search rules)

@@ -2,7 +2,7 @@ use Rattle.std.proofs.Common.{rules}
 use Rattle.std.proofs.lemmas.Result.{IfOk-weaker, IfErr-weaker}
 use Rattle.c_front.specs.Parsing.{IsAssignedStuck}
 use Rattle.c_front.proofs.Simply.{assigned-read, assigned-sign-stuck, assigned-value-stuck}
-use Rattle.c_front.proofs.statement.assigned.Goals as goal
+use Rattle.c_front.proofs.statement.assigned_value.Goals as goal
 
 pub returns-in_err-start-clause-err : goal.returns-in_err-start-clause-err
 returns-in_err-start-clause-err c =
