@@ -4,21 +4,9 @@ use Rattle.mips_isa.specs.declared.inst.PairTest.TheVariants.{Equal, NotEqual}
 use Rattle.mips_isa.specs.declared.inst.ZeroTest.TheVariants.{AtMostZero, AboveZero, BelowZero, AtLeastZero}
 use Rattle.mblock.specs.declared.exit.Exit.{Exit}
 use Rattle.mblock.specs.declared.exit.Exit.TheVariants.{Goto, BranchPair, BranchZero, Call, Return, Out, Halt}
-use Rattle.check_text.specs.Lines.{lacks}
 use Rattle.check_text.specs.Spelling.{SpellsExit, HasTargets, exit_name_text, exit_text, name_of_exit, named_text, targets_text}
 use Rattle.check_text.specs.declared.names.ExitName.{ExitName}
 use Rattle.check_text.specs.declared.names.ExitName.TheVariants as names
-
-pub name_lacks : (n : ExitName) → lacks 32 (exit_name_text n) ≡ true
-name_lacks names.Goto = refl
-name_lacks (names.BranchPair Equal) = refl
-name_lacks (names.BranchPair NotEqual) = refl
-name_lacks (names.BranchZero AtMostZero) = refl
-name_lacks (names.BranchZero AboveZero) = refl
-name_lacks (names.BranchZero BelowZero) = refl
-name_lacks (names.BranchZero AtLeastZero) = refl
-name_lacks names.Call = refl
-name_lacks names.Out = refl
 
 pub spaced : (line : List ℕ) (e : Exit) → SpellsExit line e → (line ≡ codes "return" → ⊥) → (line ≡ codes "halt" → ⊥)
     → (n : ExitName) × (name_of_exit e ≡ Some n) × (line ≡ exit_name_text n ++ 32 ∷ targets_text e)
@@ -34,31 +22,26 @@ spaced line Halt h f g = absurd (g h.1)
 apart : (a b : List ℕ) → (get_or a 0 0 == get_or b 0 0) ≡ false → a ≡ b → ⊥
 apart a b f e = true≢false (sym (eq-eqb _ _ (ap (λ l. get_or l 0 0) e)) ∙ f)
 
+-- what begins with none of their letters spells an exit that names none
+alone : (word : List ℕ) (P : Exit → Type 0) → (get_or word 0 0 == 103) ≡ false → (get_or word 0 0 == 98) ≡ false → (get_or word 0 0 == 99) ≡ false
+    → (get_or word 0 0 == 111) ≡ false → (word ≡ exit_text Return → P Return) → (word ≡ exit_text Halt → P Halt) → (e : Exit) → word ≡ exit_text e → P e
+alone word P g b c o returns halts (Goto t) h = absurd (apart word (exit_text (Goto t)) g h)
+alone word P g b c o returns halts (BranchPair Equal rs rt t e) h = absurd (apart word (exit_text (BranchPair Equal rs rt t e)) b h)
+alone word P g b c o returns halts (BranchPair NotEqual rs rt t e) h = absurd (apart word (exit_text (BranchPair NotEqual rs rt t e)) b h)
+alone word P g b c o returns halts (BranchZero AtMostZero rs t e) h = absurd (apart word (exit_text (BranchZero AtMostZero rs t e)) b h)
+alone word P g b c o returns halts (BranchZero AboveZero rs t e) h = absurd (apart word (exit_text (BranchZero AboveZero rs t e)) b h)
+alone word P g b c o returns halts (BranchZero BelowZero rs t e) h = absurd (apart word (exit_text (BranchZero BelowZero rs t e)) b h)
+alone word P g b c o returns halts (BranchZero AtLeastZero rs t e) h = absurd (apart word (exit_text (BranchZero AtLeastZero rs t e)) b h)
+alone word P g b c o returns halts (Call f n) h = absurd (apart word (exit_text (Call f n)) c h)
+alone word P g b c o returns halts Return h = returns h
+alone word P g b c o returns halts (Out n) h = absurd (apart word (exit_text (Out n)) o h)
+alone word P g b c o returns halts Halt h = halts h
+
 pub return_alone : (e : Exit) → codes "return" ≡ exit_text e → e ≡ Return
-return_alone (Goto t) h = absurd (apart (codes "return") (exit_text (Goto t)) refl h)
-return_alone (BranchPair Equal rs rt t e) h = absurd (apart (codes "return") (exit_text (BranchPair Equal rs rt t e)) refl h)
-return_alone (BranchPair NotEqual rs rt t e) h = absurd (apart (codes "return") (exit_text (BranchPair NotEqual rs rt t e)) refl h)
-return_alone (BranchZero AtMostZero rs t e) h = absurd (apart (codes "return") (exit_text (BranchZero AtMostZero rs t e)) refl h)
-return_alone (BranchZero AboveZero rs t e) h = absurd (apart (codes "return") (exit_text (BranchZero AboveZero rs t e)) refl h)
-return_alone (BranchZero BelowZero rs t e) h = absurd (apart (codes "return") (exit_text (BranchZero BelowZero rs t e)) refl h)
-return_alone (BranchZero AtLeastZero rs t e) h = absurd (apart (codes "return") (exit_text (BranchZero AtLeastZero rs t e)) refl h)
-return_alone (Call f n) h = absurd (apart (codes "return") (exit_text (Call f n)) refl h)
-return_alone Return h = refl
-return_alone (Out n) h = absurd (apart (codes "return") (exit_text (Out n)) refl h)
-return_alone Halt h = absurd (apart (codes "return") (exit_text Halt) refl h)
+return_alone = alone (codes "return") (λ e. e ≡ Return) refl refl refl refl (λ h. refl) (λ h. absurd (apart (codes "return") (exit_text Halt) refl h))
 
 pub halt_alone : (e : Exit) → codes "halt" ≡ exit_text e → e ≡ Halt
-halt_alone (Goto t) h = absurd (apart (codes "halt") (exit_text (Goto t)) refl h)
-halt_alone (BranchPair Equal rs rt t e) h = absurd (apart (codes "halt") (exit_text (BranchPair Equal rs rt t e)) refl h)
-halt_alone (BranchPair NotEqual rs rt t e) h = absurd (apart (codes "halt") (exit_text (BranchPair NotEqual rs rt t e)) refl h)
-halt_alone (BranchZero AtMostZero rs t e) h = absurd (apart (codes "halt") (exit_text (BranchZero AtMostZero rs t e)) refl h)
-halt_alone (BranchZero AboveZero rs t e) h = absurd (apart (codes "halt") (exit_text (BranchZero AboveZero rs t e)) refl h)
-halt_alone (BranchZero BelowZero rs t e) h = absurd (apart (codes "halt") (exit_text (BranchZero BelowZero rs t e)) refl h)
-halt_alone (BranchZero AtLeastZero rs t e) h = absurd (apart (codes "halt") (exit_text (BranchZero AtLeastZero rs t e)) refl h)
-halt_alone (Call f n) h = absurd (apart (codes "halt") (exit_text (Call f n)) refl h)
-halt_alone Return h = absurd (apart (codes "halt") (exit_text Return) refl h)
-halt_alone (Out n) h = absurd (apart (codes "halt") (exit_text (Out n)) refl h)
-halt_alone Halt h = refl
+halt_alone = alone (codes "halt") (λ e. e ≡ Halt) refl refl refl refl (λ h. absurd (apart (codes "halt") (exit_text Return) refl h)) (λ h. refl)
 
 -- the exit of a name and what follows it
 pub named_spelled : (line before after : List ℕ) (n : ExitName) (o : Option Exit) → line ≡ before ++ 32 ∷ after → before ≡ exit_name_text n

@@ -14,6 +14,7 @@ use Rattle.mips_isa.specs.declared.inst.ZeroTest.TheVariants.{AtMostZero, AboveZ
 use Rattle.mips_isa.specs.declared.text.Mnemonic.{Mnemonic}
 use Rattle.mips_isa.specs.declared.text.Mnemonic.TheVariants as mnemonics
 use Rattle.mips_isa.specs.Texts.{mnemonic_text}
+use Rattle.check_text.specs.Lines.{lacks}
 use Rattle.check_text.specs.Named.{first_named}
 use Rattle.check_text.specs.Spelling.{exit_name_text}
 use Rattle.check_text.specs.declared.names.ExitName.{ExitName}
@@ -57,19 +58,23 @@ each (mnemonics.Store Byte) = refl
 pub found_by : (word : List ℕ) (n : Mnemonic) → word ≡ mnemonic_text n → first_named (λ m. mnemonic_text m) word MNEMONICS.now ≡ Some n
 found_by word n e = ap (λ w. first_named (λ m. mnemonic_text m) w MNEMONICS.now) e ∙ each n
 
-each_exit : (n : ExitName) → first_named (λ m. exit_name_text m) (exit_name_text n) EXIT_NAMES.now ≡ Some n
-each_exit names.Goto = refl
-each_exit (names.BranchPair Equal) = refl
-each_exit (names.BranchPair NotEqual) = refl
-each_exit (names.BranchZero AtMostZero) = refl
-each_exit (names.BranchZero AboveZero) = refl
-each_exit (names.BranchZero BelowZero) = refl
-each_exit (names.BranchZero AtLeastZero) = refl
-each_exit names.Call = refl
-each_exit names.Out = refl
+-- and each exit's name, which has no space
+each_exit : (n : ExitName) → (first_named (λ m. exit_name_text m) (exit_name_text n) EXIT_NAMES.now ≡ Some n) × (lacks 32 (exit_name_text n) ≡ true)
+each_exit names.Goto = (refl, refl)
+each_exit (names.BranchPair Equal) = (refl, refl)
+each_exit (names.BranchPair NotEqual) = (refl, refl)
+each_exit (names.BranchZero AtMostZero) = (refl, refl)
+each_exit (names.BranchZero AboveZero) = (refl, refl)
+each_exit (names.BranchZero BelowZero) = (refl, refl)
+each_exit (names.BranchZero AtLeastZero) = (refl, refl)
+each_exit names.Call = (refl, refl)
+each_exit names.Out = (refl, refl)
+
+pub name_lacks : (n : ExitName) → lacks 32 (exit_name_text n) ≡ true
+name_lacks n = (each_exit n).1
 
 pub exit_found_by : (word : List ℕ) (n : ExitName) → word ≡ exit_name_text n → first_named (λ m. exit_name_text m) word EXIT_NAMES.now ≡ Some n
-exit_found_by word n e = ap (λ w. first_named (λ m. exit_name_text m) w EXIT_NAMES.now) e ∙ each_exit n
+exit_found_by word n e = ap (λ w. first_named (λ m. exit_name_text m) w EXIT_NAMES.now) e ∙ (each_exit n).0
 
 is_found : {A : Type 0} (name : A → List ℕ) (word : List ℕ) (ns : List A) (m : A) → first_named name word ns ≡ Some m → word ≡ name m
 is_found name word [] m e = absurd (none-some m e)

@@ -3,7 +3,8 @@ use Rattle.std.proofs.lemmas.Slice.Eq.{bytes_eq-Decides}
 use Rattle.check_text.specs.Spelling.{exit_name_text}
 use Rattle.check_text.specs.Spelling.{targets_text}
 use Rattle.check_text.proofs.Decimals.{texts_apart}
-use Rattle.check_text.proofs.Exits.{name_lacks, spaced, return_alone, halt_alone, named_spelled, named_has}
+use Rattle.check_text.proofs.Exits.{spaced, return_alone, halt_alone, named_spelled, named_has}
+use Rattle.check_text.proofs.Named.{name_lacks}
 use Rattle.check_text.proofs.line.exit_of.Goals as goal
 
 pub returns-then-eq-clause-found : goal.returns-then-eq-clause-found
