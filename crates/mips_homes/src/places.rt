@@ -163,7 +163,7 @@ fn some_slot(homes: &[Home]) -> bool
 }
 
 // The frame of a choice, with local pseudo-registers in registers that no function keeps.
-fn placed(
+fn frame_with_places(
     alloc: Global,
     parameters: u32,
     blocks: &[RBlock],
@@ -191,7 +191,7 @@ fn placed_frame(alloc: Global, func: &RFunc) -> Result<Frame, AllocError>
     ensures { IfOk result (λ f. IsPlacedFor func.now f) }
 {
     let choice = frame_of(alloc, func)?;
-    let frame = placed(alloc, func.parameters, func.blocks.as_slice(), &choice)?;
+    let frame = frame_with_places(alloc, func.parameters, func.blocks.as_slice(), &choice)?;
     Ok(frame)
 }
 

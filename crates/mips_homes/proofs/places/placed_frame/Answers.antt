@@ -2,8 +2,8 @@ use Rattle.std.proofs.Common.{subst}
 use Rattle.mips_homes.specs.Places.{IsPlaced}
 use Rattle.mips_homes.proofs.places.placed_frame.Goals as goal
 
-pub placed-requires : goal.placed-requires
-placed-requires c = c.in_ok-choice.ensures.few
+pub frame_with_places-requires : goal.frame_with_places-requires
+frame_with_places-requires c = c.in_ok-choice.ensures.few
 
 pub returns : goal.returns
 returns c = record {
