@@ -74,7 +74,7 @@ fn meets_store(load: &Access, before: &[Plain]) -> bool {
 }
 
 // The order with its instruction k in the slot, if that makes an order that breaks no delay rule.
-fn moved(alloc: Global, order: &Order, k: usize) -> Result<Option<Order>, AllocError> {
+fn move_to_slot(alloc: Global, order: &Order, k: usize) -> Result<Option<Order>, AllocError> {
     let mut insts = Vec::with_capacity(alloc, order.insts().len())?;
     let mut slot = None;
     for (i, inst) in order.insts().iter().enumerate() {
@@ -113,7 +113,7 @@ pub fn fill(alloc: Global, _block: &Block, order: Order) -> Result<Order, AllocE
             return Ok(order);
         };
         if passed.lets(inst) {
-            if let Some(filled) = moved(alloc, &order, k)? {
+            if let Some(filled) = move_to_slot(alloc, &order, k)? {
                 return Ok(filled);
             }
         }
