@@ -34,7 +34,7 @@ use Rattle.mips_emit.specs.Frames.{AreFrameHomes}
 use Rattle.mips_emit.specs.Locations.{Locations, Facts, known_in, locations_of, location_at, operand}
 use Rattle.mips_emit.specs.Code.{nop, fetch, seat, op_code}
 use Rattle.mips_emit.specs.Comparisons.{is_known_zero, is_immediate, opposite_if, form_of, opposite_op, code_by_form, comparison_code, is_asked, is_passing}
-use Rattle.mips_emit.specs.Comparisons.{form_for, compared, comparison_of, last_with, is_result, returned}
+use Rattle.mips_emit.specs.Comparisons.{form_for, operator_comparison, comparison_of, last_with, is_result, returned}
 use Rattle.mips_emit.proofs.Runs.{RunsTo, runs_then}
 use Rattle.mips_emit.proofs.View.{IsTarget, first_inner, read_register}
 use Rattle.mips_emit.proofs.Stands.{Stored, Stands}
@@ -102,7 +102,7 @@ asked_for at facts asked (Bin op d a b) m e = go (is_asked asked d && is_passing
     r = known_in facts b
 
     by : is_asked asked d ≡ true → (o : Option Form) → form_for asked op l r ≡ o
-        → compared d op l r (operand at facts a) (operand at facts b) o ≡ Some m
+        → operator_comparison d op l r (operand at facts a) (operand at facts b) o ≡ Some m
         → (is_asked asked m.result ≡ true) × (form_for asked m.op m.left m.right ≡ Some m.form)
     by t None is e = absurd (none-some m e)
     by t (Some form) is e =
@@ -110,7 +110,7 @@ asked_for at facts asked (Bin op d a b) m e = go (is_asked asked d && is_passing
         subst (λ (m : Comparison). (is_asked asked m.result ≡ true) × (form_for asked m.op m.left m.right ≡ Some m.form)) (same_Some x m e) (t, is)
 
     go : (t : Bool) → (is_asked asked d && is_passing (at d)) ≡ t
-        → (if t then compared d op l r (operand at facts a) (operand at facts b) (form_for asked op l r) else None) ≡ Some m
+        → (if t then operator_comparison d op l r (operand at facts a) (operand at facts b) (form_for asked op l r) else None) ≡ Some m
         → (is_asked asked m.result ≡ true) × (form_for asked m.op m.left m.right ≡ Some m.form)
     go false t e = absurd (none-some m e)
     go true t e = by (and_first (is_asked asked d) (is_passing (at d)) t) (form_for asked op l r) refl e
@@ -290,6 +290,17 @@ module _ (most total : ℕ) (gs : List RGlobal) (starts : ℕ → ℕ) where
       decides_for (Returned c) op form is e = subst (Given op) (same_Some InResult form is) (in_result op e)
 
   module _ (g : Arrays) (fs : List Stored) (hs : List Home) (P : Run → Type 0) (out : List ℕ) (failed : P (Failed out)) where
+    abbrev comparison_at : Facts → Op → (d a b : ℕ) → Form → Comparison
+    comparison_at facts op d a b form = record {
+      result = d;
+      op = op;
+      form = form;
+      left = known_in facts a;
+      right = known_in facts b;
+      x = operand (locations_of hs) facts a;
+      y = operand (locations_of hs) facts b;
+    }
+
     -- what a comparison leaves that is one with the branch behind it
     abbrev pub Leaves : (facts : Facts) (registers : Places) (top : Stored) (s : State) (go : Places → Places → Arrays → Run) → Comparison → Type 0
     Leaves facts registers top s go m = (q u : ℕ) (s' : State) → 1 ≤ length (comparison_code m) → RunsTo (comparison_code m) s s'
@@ -302,15 +313,7 @@ module _ (most total : ℕ) (gs : List RGlobal) (starts : ℕ → ℕ) where
         (go : Places → Places → Arrays → Run) → form_for asked op (known_in facts a) (known_in facts b) ≡ Some form → is_passing (locations_of hs d) ≡ true
         → AreFrameHomes hs top.count → IsKnown (known_in facts) hs registers top.slots → IsLazy facts.lazy registers
         → Stands most total gs starts (hide facts.lazy registers) g (top ∷ fs) s
-        → Leaves facts registers top s go (record {
-          result = d;
-          op = op;
-          form = form;
-          left = known_in facts a;
-          right = known_in facts b;
-          x = operand (locations_of hs) facts a;
-          y = operand (locations_of hs) facts b;
-        })
+        → Leaves facts registers top s go (comparison_at facts op d a b form)
         → P (with_inst gs (Bin op d a b) hs registers top.slots g out go)
     compares_bin asked op d a b facts form registers top s go is passing ok k lz h f =
         value_or_failed P (read_home hs registers top.slots a) out _ failed (λ v ev.
@@ -328,15 +331,7 @@ module _ (most total : ℕ) (gs : List RGlobal) (starts : ℕ → ℕ) where
         write u (result-word op v w u vb wb eu) z (slice_get hs d) refl passing)))
       where
         m : Comparison
-        m = record {
-          result = d;
-          op = op;
-          form = form;
-          left = known_in facts a;
-          right = known_in facts b;
-          x = operand (locations_of hs) facts a;
-          y = operand (locations_of hs) facts b;
-        }
+        m = comparison_at facts op d a b form
 
         write : (u : ℕ) → u < 2 ^ 32
             → Decided (hide facts.lazy registers) g top fs s h (code_by_form form op (known_in facts a) (known_in facts b)
@@ -378,13 +373,13 @@ module _ (most total : ℕ) (gs : List RGlobal) (starts : ℕ → ℕ) where
         Goal = P (with_inst gs (Bin op d a b) hs registers top.slots g out go)
 
         go2 : is_passing (locations_of hs d) ≡ true → (o : Option Form) → form_for asked op (known_in facts a) (known_in facts b) ≡ o
-            → compared d op (known_in facts a) (known_in facts b) (operand (locations_of hs) facts a) (operand (locations_of hs) facts b) o ≡ Some m → Goal
+            → operator_comparison d op (known_in facts a) (known_in facts b) (operand (locations_of hs) facts a) (operand (locations_of hs) facts b) o ≡ Some m → Goal
         go2 passing None is e = absurd (none-some m e)
         go2 passing (Some form) is e =
             compares_bin asked op d a b facts form registers top s go is passing ok k lz h (subst (Leaves facts registers top s go) (sym (same_Some _ m e)) f)
 
         go1 : (t : Bool) → (is_asked asked d && is_passing (locations_of hs d)) ≡ t
-            → (if t then compared d op (known_in facts a) (known_in facts b) (operand (locations_of hs) facts a) (operand (locations_of hs) facts b)
+            → (if t then operator_comparison d op (known_in facts a) (known_in facts b) (operand (locations_of hs) facts a) (operand (locations_of hs) facts b)
             (form_for asked op (known_in facts a) (known_in facts b)) else None) ≡ Some m → Goal
         go1 false t e = absurd (none-some m e)
         go1 true t e = go2 (and_second (is_asked asked d) (is_passing (locations_of hs d)) t) (form_for asked op (known_in facts a) (known_in facts b)) refl e

@@ -125,6 +125,14 @@ shown_told lazy registers r v q w e = by (nat_eq q r) e
     by true e = absurd (none-some w e)
     by false e = e
 
+-- what other places hold beside one that is written
+kept_beside : (places : Places) (r v q w : ℕ) → q ≢ r → places q ≡ Some w → places_with places r (Some v) q ≡ Some w
+kept_beside places r v q w ne e = go (nat_eq q r) refl
+  where
+    go : (b : Bool) → nat_eq q r ≡ b → (if b then Some v else places q) ≡ Some w
+    go false t = e
+    go true t = absurd (ne (eqb-true q r t))
+
 -- a pseudo-register is written
 pub known_register : (known : Places) (hs : List Home) (count : ℕ) (registers slots : Places) (x r v : ℕ) (o : Option ℕ) → AreFrameHomes hs count
     → slice_get hs x ≡ Some (Reg r) → ((w : ℕ) → o ≡ Some w → w ≡ v) → IsKnown known hs registers slots
@@ -135,11 +143,8 @@ known_register known hs count registers slots x r v o ok there is h = record { b
         → chain p (in_home (places_with registers r (Some v)) slots) ≡ Some w
     other y w ne None at e = absurd (none-some w e)
     other y w ne (Some (Slot k)) at e = e
-    other y w ne (Some (Reg q)) at e = go (nat_eq q r) refl
-      where
-        go : (b : Bool) → nat_eq q r ≡ b → (if b then Some v else registers q) ≡ Some w
-        go false t = e
-        go true t = absurd (ne (ok.apart y x (Reg q) at (there ∙ ap (λ r. Some (Reg r)) (sym (eqb-true q r t)))))
+    other y w ne (Some (Reg q)) at e =
+        kept_beside registers r v q w (λ same. ne (ok.apart y x (Reg q) at (there ∙ ap (λ r. Some (Reg r)) (sym same)))) e
 
     by : (y w : ℕ) → (b : Bool) → nat_eq y x ≡ b → (if b then o else known y) ≡ Some w → read_home hs (places_with registers r (Some v)) slots y ≡ Some w
     by y w true t e =
@@ -157,11 +162,8 @@ known_slot known hs count registers slots x k v o ok there is h = record { by = 
         → chain p (in_home registers (places_with slots k (Some v))) ≡ Some w
     other y w ne None at e = absurd (none-some w e)
     other y w ne (Some (Reg q)) at e = e
-    other y w ne (Some (Slot q)) at e = go (nat_eq q k) refl
-      where
-        go : (b : Bool) → nat_eq q k ≡ b → (if b then Some v else slots q) ≡ Some w
-        go false t = e
-        go true t = absurd (ne (ok.apart y x (Slot q) at (there ∙ ap (λ r. Some (Slot r)) (sym (eqb-true q k t)))))
+    other y w ne (Some (Slot q)) at e =
+        kept_beside slots k v q w (λ same. ne (ok.apart y x (Slot q) at (there ∙ ap (λ r. Some (Slot r)) (sym same)))) e
 
     by : (y w : ℕ) → (b : Bool) → nat_eq y x ≡ b → (if b then o else known y) ≡ Some w → read_home hs registers (places_with slots k (Some v)) y ≡ Some w
     by y w true t e =

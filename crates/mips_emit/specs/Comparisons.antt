@@ -110,9 +110,9 @@ is_passing None = false
 is_passing (Some (Held r)) = not (is_lasting r)
 is_passing (Some (InSlot k)) = false
 
-abbrev pub compared : ℕ → Op → (left right : Option ℕ) → Source → Source → Option Form → Option Comparison
-compared d op l r x y None = None
-compared d op l r x y (Some form) =
+abbrev pub operator_comparison : ℕ → Op → (left right : Option ℕ) → Source → Source → Option Form → Option Comparison
+operator_comparison d op l r x y None = None
+operator_comparison d op l r x y (Some form) =
     Some (record { result = d; op = op; form = form; left = l; right = r; x = x; y = y })
 
 -- an instruction that is one with the branch behind it, which goes by the pseudo-register asked for
@@ -121,7 +121,7 @@ comparison_of at facts asked (Const d w) = None
 comparison_of at facts asked (Move d a) = None
 comparison_of at facts asked (Bin op d a b) =
     if is_asked asked d && is_passing (at d)
-    then compared d op (known_in facts a) (known_in facts b) (operand at facts a) (operand at facts b)
+    then operator_comparison d op (known_in facts a) (known_in facts b) (operand at facts a) (operand at facts b)
     (form_for asked op (known_in facts a) (known_in facts b))
     else None
 comparison_of at facts asked (Load d a i) = None

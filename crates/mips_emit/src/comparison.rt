@@ -9,7 +9,7 @@ ghost use Rattle.mips_emit.specs.Frames.{IsReachable};
 ghost use Rattle.mips_emit.specs.Locations.{facts_of, locations, known_in, operand, FitsSource};
 ghost use Rattle.mips_emit.specs.Comparisons.{is_known_zero, is_immediate, opposite_if, form_of, opposite_op};
 ghost use Rattle.mips_emit.specs.Comparisons.{comparison_code, comparison_exit, is_asked, form_for, is_passing, is_result, returned};
-ghost use Rattle.mips_emit.specs.Comparisons.{compared, comparison_of, FitsComparison, tested};
+ghost use Rattle.mips_emit.specs.Comparisons.{operator_comparison, comparison_of, FitsComparison, tested};
 ghost use Rattle.mips_emit.specs.Code.{fetch, nop};
 ghost use Rattle.mips_emit.specs.Left.{Emits};
 
@@ -207,14 +207,14 @@ pub(crate) fn emit_comparison(code: &mut Vec<Plain>, m: &Comparison) -> Result<(
     }
 }
 
-// A branch on two registers.
-fn on_pair(test: PairTest, rs: Reg, rt: Reg, then: BlockNumber, other: BlockNumber) -> Exit
-    ensures { result ≡ BranchPair test rs rt then other }
+// A branch on a register beside 0.
+fn on_truth(test: PairTest, rs: Reg, then: BlockNumber, other: BlockNumber) -> Exit
+    ensures { result ≡ BranchPair test rs 0 then other }
 {
     Exit::BranchPair {
         test,
         rs,
-        rt,
+        rt: Reg::ZERO,
         then,
         other,
     }
@@ -240,12 +240,18 @@ pub fn comparison_exit(m: &Comparison, then: BlockNumber, other: BlockNumber) ->
     let right = seat(register(3), &m.y);
     let truth = register(3).reg();
     match m.form {
-        Form::OnPair(test) => on_pair(test, seat(register(1), &m.x), right, then, other),
+        Form::OnPair(test) => Exit::BranchPair {
+            test,
+            rs: seat(register(1), &m.x),
+            rt: right,
+            then,
+            other,
+        },
         Form::OnLeft(test) => on_sign(test, left, then, other),
         Form::OnRight(test) => on_sign(test, right, then, other),
-        Form::ByResult => on_pair(PairTest::NotEqual, truth, Reg::ZERO, then, other),
-        Form::ByOpposite => on_pair(PairTest::Equal, truth, Reg::ZERO, then, other),
-        Form::InResult => on_pair(PairTest::NotEqual, Reg::RESULT, Reg::ZERO, then, other),
+        Form::ByResult => on_truth(PairTest::NotEqual, truth, then, other),
+        Form::ByOpposite => on_truth(PairTest::Equal, truth, then, other),
+        Form::InResult => on_truth(PairTest::NotEqual, Reg::RESULT, then, other),
     }
 }
 
@@ -285,7 +291,7 @@ fn is_passing(place: Option<Location>) -> bool
 }
 
 // An operator as a comparison, if it is one.
-fn compared(
+fn operator_comparison(
     facts: &Knowledge,
     frame: &Frame,
     asked: Asked,
@@ -295,7 +301,7 @@ fn compared(
     b: Register,
 ) -> Option<Comparison>
     requires { IsReachable frame.now }
-    ensures value { result ≡ compared d op (known_in (facts_of facts.now) a) (known_in (facts_of facts.now) b)
+    ensures value { result ≡ operator_comparison d op (known_in (facts_of facts.now) a) (known_in (facts_of facts.now) b)
         (operand (locations frame.now) (facts_of facts.now) a) (operand (locations frame.now) (facts_of facts.now) b)
         (form_for asked op (known_in (facts_of facts.now) a) (known_in (facts_of facts.now) b)) }
     ensures fits { FitsComparison result }
@@ -332,7 +338,7 @@ pub(crate) fn comparison_of(
     match inst {
         RInst::Bin(op, d, a, b) => {
             if is_asked(asked, *d) && is_passing(locate(frame, *d)) {
-                compared(facts, frame, asked, *op, *d, *a, *b)
+                operator_comparison(facts, frame, asked, *op, *d, *a, *b)
             } else {
                 None
             }

@@ -4,11 +4,11 @@
 
 ghost use Rattle.std.specs.Prelude.{◌≡◌, ◌≤◌, ◌++◌, length};
 ghost use Rattle.mips_emit.specs.Frames.{IsReachable};
-ghost use Rattle.mips_emit.specs.Locations.{facts_of, locations, operand, last_operand};
+ghost use Rattle.mips_emit.specs.Locations.{facts_of, locations, last_operand};
 ghost use Rattle.mips_emit.specs.Code.{arrive, carry, arguments_code};
 ghost use Rattle.mips_emit.specs.Left.{Emits};
 
-use crate::facts::{Knowledge, last_operand, operand};
+use crate::facts::{Knowledge, last_operand};
 use crate::location::{locate, register};
 use crate::transfer::{emit_arrive, emit_carry};
 use mips_homes::Frame;
@@ -46,22 +46,6 @@ pub fn emit_departure(
     emit_carry(code, t, &last_operand(facts, fresh, frame, x))
 }
 
-// A pseudo-register into a register of its own.
-fn emit_argument(
-    code: &mut Vec<Plain>,
-    facts: &Knowledge,
-    frame: &Frame,
-    t: NonzeroReg,
-    x: Register,
-) -> Result<(), AllocError>
-    requires { IsReachable frame.now }
-    ensures { Emits result code.old.items
-        (carry t (operand (locations frame.now) (facts_of facts.now) x))
-        code.new.items }
-{
-    emit_carry(code, t, &operand(facts, frame, x))
-}
-
 /// Arguments into registers from 4 on; an Err is refused memory.
 pub fn emit_arguments(
     code: &mut Vec<Plain>,
@@ -77,7 +61,7 @@ pub fn emit_arguments(
 {
     let mut t: u8 = 4;
     for x in arguments {
-        emit_argument(code, facts, frame, register(t), *x)?;
+        emit_departure(code, facts, None, frame, register(t), *x)?;
         t += 1;
     }
     Ok(())

@@ -9,10 +9,10 @@ ghost use Rattle.rtl.specs.Programs.{IsInst};
 ghost use Rattle.mips_emit.specs.declared.location.Location.TheVariants.{Held};
 ghost use Rattle.mips_emit.specs.Frames.{IsReachable};
 ghost use Rattle.mips_emit.specs.declared.comparison.Asked.TheVariants.{Nothing};
-ghost use Rattle.mips_emit.specs.Locations.{facts_of, known_in, locations, word_source, operand, known_after, FitsSource};
+ghost use Rattle.mips_emit.specs.Locations.{facts_of, inner_of, known_in, locations, word_source, operand, known_after, FitsSource};
 ghost use Rattle.mips_emit.specs.Comparisons.{FitsComparison, next_code, last_after, no_last, code_of_insts};
 ghost use Rattle.mips_emit.specs.Elements.{AreStarts, width_of};
-ghost use Rattle.mips_emit.specs.Code.{const_code, put_at, bin_code, load_code, store_code, inst_code};
+ghost use Rattle.mips_emit.specs.Code.{const_code, put_at, into, finish, op_code, bin_code, load_code, store_code, inst_code};
 ghost use Rattle.mips_emit.specs.Left.{Emits, StopsAmong};
 
 use crate::comparison::{Asked, Comparison, comparison_of, emit_comparison};
@@ -87,6 +87,27 @@ fn operand_with(facts: &Knowledge, frame: &Frame, x: Register) -> Operand
     }
 }
 
+// An operator on two operands, into a pseudo-register.
+fn emit_op_into(
+    code: &mut Vec<Plain>,
+    frame: &Frame,
+    op: Op,
+    d: Register,
+    x: &Operand,
+    y: &Operand,
+) -> Result<(), AllocError>
+    requires frame { IsReachable frame.now }
+    requires left { FitsSource x.now.source }
+    requires right { FitsSource y.now.source }
+    ensures { Emits result code.old.items (op_code op (inner_of (locations frame.now d)) (into (locations frame.now d))
+        x.now.known y.now.known x.now.source y.now.source ++ finish (locations frame.now d)) code.new.items }
+{
+    let inner = inner_of(locate(frame, d));
+    let rd = into_of(locate(frame, d)).reg();
+    emit_op(code, op, inner, rd, x, y)?;
+    emit_finish(code, locate(frame, d))
+}
+
 // An operator on pseudo-registers.
 fn emit_bin(
     code: &mut Vec<Plain>,
@@ -104,10 +125,7 @@ fn emit_bin(
 {
     let x = operand_with(facts, frame, a);
     let y = operand_with(facts, frame, b);
-    let inner = inner_of(locate(frame, d));
-    let rd = into_of(locate(frame, d)).reg();
-    emit_op(code, op, inner, rd, &x, &y)?;
-    emit_finish(code, locate(frame, d))
+    emit_op_into(code, frame, op, d, &x, &y)
 }
 
 // An element into a pseudo-register.

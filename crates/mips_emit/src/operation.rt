@@ -94,8 +94,8 @@ fn division(sign: Sign, rs: Reg, rt: Reg) -> Plain
     Plain::Divide { sign, rs, rt }
 }
 
-// A truth value turned: 1 where it was 0.
-fn turned(rd: Reg) -> Plain
+// The opposite of a truth value: 1 where it was 0.
+fn opposite_truth(rd: Reg) -> Plain
     ensures { result ≡ Logic Xori rd rd 1 }
 {
     Plain::Logic {
@@ -149,7 +149,7 @@ fn second_of(op: Op, rd: Reg) -> Option<Plain>
         }),
         Op::Eq => Some(imm(ImmOp::Sltiu, rd, rd, 1)),
         Op::Ne => Some(alu(AluOp::Sltu, rd, Reg::ZERO, rd)),
-        Op::LeS | Op::LeU => Some(turned(rd)),
+        Op::LeS | Op::LeU => Some(opposite_truth(rd)),
         _ => None,
     }
 }
@@ -283,7 +283,7 @@ fn select(op: Op, inner: NonzeroReg, rd: Reg, x: &Operand, y: &Operand) -> Selec
         return by_word(false, first, None);
     }
     match turned_less_of(op, rd, rt, x.known) {
-        Some(first) => by_word(false, first, Some(turned(rd))),
+        Some(first) => by_word(false, first, Some(opposite_truth(rd))),
         None => Selection {
             fetches_left: true,
             fetches_right: true,
@@ -310,23 +310,21 @@ fn emit_fetch_if(
     }
 }
 
-// An operator into a register, by a word in its instruction if it can be.
-fn emit_by_word(
+// The instructions of an operator, behind the operands that they fetch.
+fn emit_selection(
     code: &mut Vec<Plain>,
-    op: Op,
     inner: NonzeroReg,
-    rd: Reg,
-    x: &Operand,
-    y: &Operand,
+    selection: &Selection,
+    x: &Source,
+    y: &Source,
 ) -> Result<(), AllocError>
-    requires left { FitsSource x.now.source }
-    requires right { FitsSource y.now.source }
-    ensures { Emits result code.old.items (code_by_word op inner rd x.now.known y.now.known x.now.source y.now.source) code.new.items }
+    requires left { FitsSource x.now }
+    requires right { FitsSource y.now }
+    ensures { Emits result code.old.items (selection_code inner selection.now x.now y.now) code.new.items }
 {
-    let selected = select(op, inner, rd, x, y);
-    emit_fetch_if(code, selected.fetches_left, inner, &x.source)?;
-    emit_fetch_if(code, selected.fetches_right, register(2), &y.source)?;
-    emit_one_or_two(code, selected.first, selected.second)
+    emit_fetch_if(code, selection.fetches_left, inner, x)?;
+    emit_fetch_if(code, selection.fetches_right, register(2), y)?;
+    emit_one_or_two(code, selection.first, selection.second)
 }
 
 /// An operator into a register, the left operand by way of the inner temporary; an Err is refused memory.
@@ -348,5 +346,6 @@ pub(crate) fn emit_op(
     if let Some(m) = multiple_of(op, x.known) {
         return emit_multiple(code, inner, rd, m, &y.source);
     }
-    emit_by_word(code, op, inner, rd, x, y)
+    let selection = select(op, inner, rd, x, y);
+    emit_selection(code, inner, &selection, &x.source, &y.source)
 }
