@@ -2,8 +2,7 @@
 ghost use Rattle.std.specs.Prelude.{◌≡◌, ◌+◌, ◌*◌, ◌<◌, ◌≤◌, []};
 ghost use Rattle.term_core.specs.declared.Call.TheVariants.{Find, Intern};
 ghost use Rattle.term_core.specs.World.{kid_word};
-ghost use Rattle.term_table.specs.Rule as spec;
-ghost use Rattle.term_table.specs.Rule.{mix, chain_of};
+ghost use Rattle.term_table.specs.Rule.{mix, scattered, chain_of};
 ghost use Rattle.term_table.specs.Seats.{Serves, IsSameSeat, MayBegin};
 ghost use Rattle.term_table.specs.Calls.{Ended};
 ghost use Rattle.term_table.specs.Ends.{Done};
@@ -28,7 +27,7 @@ fn kid_at(kids: &[Ticket], i: usize) -> u64
 }
 
 // One number more in a hash.
-fn mixed(hash: u64, number: u64) -> u64
+fn mix_in(hash: u64, number: u64) -> u64
     ensures { result ≡ mix hash number }
 {
     hash.wrapping_mul(SCATTER).wrapping_add(number)
@@ -36,9 +35,9 @@ fn mixed(hash: u64, number: u64) -> u64
 
 // The hash with all but its low eight bits scattered over the heads: numbers in sequence stay in sequence, and strides
 // don't meet.
-fn scattered(heads: u64, hash: u64) -> u64
+fn scatter_hash(heads: u64, hash: u64) -> u64
     requires { heads ≤ MAX_HEADS }
-    ensures { result ≡ spec.scattered heads hash }
+    ensures { result ≡ scattered heads hash }
 {
     (hash / 256).wrapping_mul(SCATTER) / 4294967296 * heads / 4294967296 + hash % 256
 }
@@ -51,9 +50,9 @@ fn chain_at(heads: u64, word: u64, kids: &[Ticket]) -> u64
 {
     let mut hash = word;
     for kid in kids {
-        hash = mixed(hash, kid.number());
+        hash = mix_in(hash, kid.number());
     }
-    let chain = scattered(heads, hash);
+    let chain = scatter_hash(heads, hash);
     if chain < heads { chain } else { chain % heads }
 }
 
