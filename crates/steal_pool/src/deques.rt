@@ -14,7 +14,7 @@ use crossbeam_deque::Worker;
 use std::alloc::{AllocError, Global};
 
 // A deque with the tasks below n whose number leaves w.
-pub(crate) fn filled<K: Fact>(
+pub(crate) fn filled_deque<K: Fact>(
     alloc: Global,
     w: usize,
     count: usize,

@@ -7,7 +7,7 @@ ghost use Rattle.steal_pool.specs.Members.{IsMember};
 ghost use Rattle.steal_pool.specs.Rounds.{GoesRound};
 ghost use Rattle.steal_pool.specs.Starts.{Start, own_deques};
 
-use crate::deques::{filled, victims_of};
+use crate::deques::{filled_deque, victims_of};
 use crate::member::Member;
 use crate::rule::Fact;
 use std::alloc::{AllocError, Global};
@@ -25,7 +25,7 @@ pub fn members<K: Fact>(alloc: Global, count: usize, n: usize) -> Result<Vec<Mem
 {
     let mut workers = Vec::new(alloc);
     for w in 0..count {
-        let own = filled::<K>(alloc, w, count, n)?;
+        let own = filled_deque::<K>(alloc, w, count, n)?;
         workers.push(own)?;
     }
     // The first member's ways stand last.

@@ -2,8 +2,8 @@ use Rattle.std.proofs.Common.{rules, ◌≡◌, ◌∷◌, []}
 use Rattle.crossbeam_deque.specs.Handles.{worker_view, worker_flavor}
 use Rattle.steal_pool.specs.Rule.{after_putting}
 use Rattle.steal_pool.proofs.Shares.{begins_more, begins_same}
-use Rattle.steal_pool.proofs.deques.filled.Goals as goal
-use Rattle.steal_pool.proofs.deques.filled.Goals.{then-i-count+in_ok-put, else-i-count}
+use Rattle.steal_pool.proofs.deques.filled_deque.Goals as goal
+use Rattle.steal_pool.proofs.deques.filled_deque.Goals.{then-i-count+in_ok-put, else-i-count}
 
 pub put-requires-clause-may : goal.put-requires-clause-may
 put-requires-clause-may g c = c.loop-i.invariant.1.0.0
