@@ -9,7 +9,7 @@ use Rattle.mips_select.specs.declared.heads.Naming.{Naming}
 use Rattle.mips_select.specs.declared.heads.Naming.TheVariants.{Unnamed, Called, Jumped}
 use Rattle.mips_select.specs.declared.heads.Head.{Head}
 use Rattle.mips_select.specs.declared.heads.Head.TheVariants.{Bare, Enters, Takes}
-use Rattle.mips_select.specs.Heads.{called, note, namings, head_at, heads_in}
+use Rattle.mips_select.specs.Heads.{naming_with_call, note, namings, head_at, heads_in}
 
 -- what heads the exit allows
 abbrev pub NamedJump : Head → Type 0
@@ -57,29 +57,29 @@ set_makes Q v none up (x ∷ l) zero = up x
 set_makes Q v none up (x ∷ l) (suc t) = set_makes Q v none up l t
 
 module _ (Q : Option Naming → Type 0) (jumps : (o : Naming) → Q (Some o) → Q (Some Jumped)) (calls : (d : Option ℕ) (o : Naming) → Q (Some o)
-    → Q (Some (called d (Some o)))) where
+    → Q (Some (naming_with_call d (Some o)))) where
   note_keeps : (x : RExit) (l : List Naming) (b : ℕ) → Q (slice_get l b) → Q (slice_get (note x l) b)
   note_keeps (Goto t) l b q = set_keeps Q (λ _. Jumped) jumps l t b q
   note_keeps (Branch c t e) l b q = set_keeps Q (λ _. Jumped) jumps (slice_set l t Jumped) e b (set_keeps Q (λ _. Jumped) jumps l t b q)
   note_keeps (Out x t) l b q = set_keeps Q (λ _. Jumped) jumps l t b q
-  note_keeps (Call g xs d t) l b q = set_keeps Q (called d) (calls d) l t b q
+  note_keeps (Call g xs d t) l b q = set_keeps Q (naming_with_call d) (calls d) l t b q
   note_keeps (Return o) l b q = q
 
   namings_keep : (bs : List RBlock) (l : List Naming) (b : ℕ) → Q (slice_get l b) → Q (slice_get (namings bs l) b)
   namings_keep [] l b q = q
   namings_keep (x ∷ bs) l b q = namings_keep bs (note x.exit l) b (note_keeps x.exit l b q)
 
-jumped_stays : (d : Option ℕ) (o : Naming) → IsJumped (Some o) → IsJumped (Some (called d (Some o)))
+jumped_stays : (d : Option ℕ) (o : Naming) → IsJumped (Some o) → IsJumped (Some (naming_with_call d (Some o)))
 jumped_stays d Unnamed q = absurd q
 jumped_stays d (Called e) q = absurd q
 jumped_stays d Jumped q = tt
 
-called_stays : (e d : Option ℕ) (o : Naming) → IsCalled e (Some o) → IsCalled e (Some (called d (Some o)))
+called_stays : (e d : Option ℕ) (o : Naming) → IsCalled e (Some o) → IsCalled e (Some (naming_with_call d (Some o)))
 called_stays e d Unnamed q = absurd q
 called_stays e d (Called c) q = tt
 called_stays e d Jumped q = tt
 
-called_now : (d : Option ℕ) (o : Naming) → IsCalled d (Some (called d (Some o)))
+called_now : (d : Option ℕ) (o : Naming) → IsCalled d (Some (naming_with_call d (Some o)))
 called_now d Unnamed = refl
 called_now d (Called e) = tt
 called_now d Jumped = tt
@@ -120,4 +120,4 @@ named (x ∷ bs) l zero block there = subst (λ (block : RBlock). Named (heads_i
     here (Return o) = tt
     here (Call g xs d t) =
         call_head d t (slice_get (namings bs (note (Call g xs d t) l)) t) (namings_keep (IsCalled d) (λ o q. tt) (called_stays d) bs (note (Call g xs d t) l)
-        t (set_makes (IsCalled d) (called d) tt (called_now d) l t))
+        t (set_makes (IsCalled d) (naming_with_call d) tt (called_now d) l t))

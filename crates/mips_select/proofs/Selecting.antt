@@ -1,9 +1,11 @@
 -- The parts of a program's unit, put together.
 use Rattle.std.proofs.Common.{◌≡◌, ℕ, zero, suc, ◌+◌, ◌<◌, ◌≤◌, Bool, true, false, true≢false, List, [], ◌∷◌, ◌++◌, length, length-append, Some, sym, ap}
-use Rattle.std.proofs.Common.{ap₂, ◌∙◌, subst, arith}
+use Rattle.std.proofs.Common.{ap₂, ◌∙◌, subst, arith, Result, IfErr}
 use Rattle.std.specs.Prelude.{All, IsTrue, map, slice_get, slice_index, sum_by}
 use Rattle.std.proofs.lemmas.List.Sums.{sum_by-cons}
 use Rattle.std.proofs.lemmas.Option.{same_Some, none-some}
+use Rattle.std.proofs.lemmas.Result.{err_from_is_err_and}
+use Rattle.std.specs.Result.{IsErrAnd}
 use Rattle.mblock.specs.declared.limits.TheConstants.{UNIT_BLOCKS, UNIT_BYTES, BLOCK_INSTS}
 use Rattle.mblock.specs.Parts.{BlockParts}
 use Rattle.mblock.specs.Units.{UnitParts, unit_parts, AreLinked, AreOwners}
@@ -16,7 +18,9 @@ use Rattle.rtl.specs.Programs.{Program, IsExit, IsBlock, IsFunction, IsProgram, 
 use Rattle.mips_homes.specs.declared.homed.Frame.{Frame}
 use Rattle.mips_homes.specs.declared.homed.Homed.{Homed}
 use Rattle.mips_homes.specs.Places.{ArePlaced}
-use Rattle.mips_split.specs.Split.{split_blocks, split_owners, place_of, firsts, total}
+use Rattle.mips_split.specs.declared.fault.SelectFault.{SelectFault}
+use Rattle.mips_split.specs.declared.fault.SelectFault.TheVariants.{Limit}
+use Rattle.mips_split.specs.Split.{split_blocks, split_owners, first_piece_of, firsts, total}
 use Rattle.mips_split.proofs.Counts.{total_above, length-split_from}
 use Rattle.mips_select.specs.Data.{zeros, data_bytes, starts_from, start_of}
 use Rattle.mips_select.specs.Code.{start_block, end_block}
@@ -112,7 +116,7 @@ pub many_pieces : (h : Homed) → ArePlaced h → 2 + functions_size (h.rtl.now)
 many_pieces h ok =
     let long = program_length h ok.long in
     let total = total_above BLOCK_INSTS (program_blocks h) in
-    let pieces = length-split_from BLOCK_INSTS (place_of BLOCK_INSTS (program_blocks h)) 0 (program_blocks h) in
+    let pieces = length-split_from BLOCK_INSTS (first_piece_of BLOCK_INSTS (program_blocks h)) 0 (program_blocks h) in
     omega (arith, long, total, pieces)
 
 pub many_functions : (h : Homed) (funcs : List RFunc) → ArePlaced h → funcs ≡ (h.rtl.now).functions → UNIT_BLOCKS < 2 + functions_size funcs
@@ -126,12 +130,19 @@ many_cut h blocks is many = subst (λ bs. UNIT_BLOCKS < length (split_blocks bs)
 pub many_counted : (h : Homed) (blocks : List BlockParts) → blocks ≡ program_blocks h → UNIT_BLOCKS < total BLOCK_INSTS blocks
     → UNIT_BLOCKS < length (unit_for h).blocks
 many_counted h blocks is many =
-    let pieces = length-split_from BLOCK_INSTS (place_of BLOCK_INSTS (program_blocks h)) 0 (program_blocks h) in
+    let pieces = length-split_from BLOCK_INSTS (first_piece_of BLOCK_INSTS (program_blocks h)) 0 (program_blocks h) in
     let same = ap (total BLOCK_INSTS) is in
     omega (arith, pieces, same, many)
 
 pub beyond : (h : Homed) (p : Program) → h.rtl.now ≡ p → ArePlaced h → UNIT_BLOCKS < length (unit_for h).blocks → IsBeyond p
 beyond h p lent ok many = record { homed = h; lent = lent; choices = ok; many = many }
+
+-- a pass behind the homes that tells of a limit
+pub told_beyond : {T : Type 0} {h : Homed} {p : Program} {fault : SelectFault} (depth : ℕ) (r : Result T SelectFault) → IsErrAnd r (λ e. e ≡ fault)
+    → h.rtl.now ≡ p → ArePlaced h → (fault ≡ Limit → UNIT_BLOCKS < length (unit_for h).blocks) → IfErr r (λ e. e ≡ Limit → FramesFit p depth → IsBeyond p)
+told_beyond {T} {h} {p} {fault} depth r told lent ok many =
+    let q = err_from_is_err_and r told in
+    rw (q.1, q.2) (λ e fit. beyond h p lent ok (many e))
 
 pub blocks_well : (h : Homed) (blocks : List BlockParts) (owners owners' : List ℕ) → IsProgram h.rtl.now → ArePlaced h → blocks ≡ program_blocks h
     → owners ≡ owners_for (h.rtl.now).functions → owners' ≡ owners → AreLinked blocks × AreOwners blocks owners'
@@ -170,18 +181,18 @@ selected h p u lent ok is = record { homed = h; lent = lent; places = ok; unit =
 
 pub numbers_found : (long long' : List BlockParts) (funcs : List RFunc) (pieces table numbers numbers' found : List ℕ) → long' ≡ long
     → pieces ≡ firsts BLOCK_INSTS 0 long' → table ≡ pieces → numbers ≡ numbers_from 2 funcs → numbers' ≡ numbers → found ≡ map (slice_index table) numbers'
-    → found ≡ map (place_of BLOCK_INSTS long) (numbers_from 2 funcs)
+    → found ≡ map (first_piece_of BLOCK_INSTS long) (numbers_from 2 funcs)
 numbers_found long long' funcs pieces table numbers numbers' found l_is p_is t_is n_is n_is' is =
-    is ∙ ap (λ (t : List ℕ). map (slice_index t) numbers') (t_is ∙ p_is ∙ ap (firsts BLOCK_INSTS 0) l_is) ∙ ap (map (place_of BLOCK_INSTS long)) (n_is' ∙ n_is)
+    is ∙ ap (λ (t : List ℕ). map (slice_index t) numbers') (t_is ∙ p_is ∙ ap (firsts BLOCK_INSTS 0) l_is) ∙ ap (map (first_piece_of BLOCK_INSTS long)) (n_is' ∙ n_is)
 
 pub numbered : (h : Homed) (p : Program) (u : UnitParts) (blocks : List BlockParts) (funcs : List RFunc) (numbers : List ℕ) → h.rtl.now ≡ p
     → ArePlaced h → u ≡ unit_for h → blocks ≡ program_blocks h → funcs ≡ (h.rtl.now).functions
-    → numbers ≡ map (place_of BLOCK_INSTS blocks) (numbers_from 2 funcs) → IsNumbered p u numbers
+    → numbers ≡ map (first_piece_of BLOCK_INSTS blocks) (numbers_from 2 funcs) → IsNumbered p u numbers
 unfolding selected
 numbered h p u blocks funcs numbers lent ok u_is is f_is n_is = record {
   selected = selected h p u lent ok u_is;
-  begin = n_is ∙ ap (λ bs. map (place_of BLOCK_INSTS bs) (numbers_from 2 funcs)) is
-      ∙ ap (λ fs. map (place_of BLOCK_INSTS (program_blocks h)) (numbers_from 2 fs)) f_is;
+  begin = n_is ∙ ap (λ bs. map (first_piece_of BLOCK_INSTS bs) (numbers_from 2 funcs)) is
+      ∙ ap (λ fs. map (first_piece_of BLOCK_INSTS (program_blocks h)) (numbers_from 2 fs)) f_is;
 }
 
 pub bytes_fit : (p : Program) (bytes : List ℕ) (globals : List RGlobal) → IsProgram p → globals ≡ p.globals → bytes ≡ data_bytes globals

@@ -660,6 +660,32 @@ module _ (h : Homed) (depth : ℕ) (blocks : List BlockParts) (ok : IsSelected h
       Coded is facts last = CodeAt m.leaf a.frame m.place m.head (known_after (locations a.frame) is facts)
           (last_after (locations a.frame) asked facts is last) m.number a.code.exit
 
+      -- the match where some instructions are left
+      matched : (is : List RInst) (facts : Facts) (last : Last) (r' slots' : Places) (g' : Arrays) (s' : State) → Coded is facts last
+          → IsKnown (known_in facts) a.frame.homes.items r' slots' → IsLazy facts.lazy r' → IsLast last a.frame.homes.items r' slots' s'
+          → Stand (hide facts.lazy r') g' (stored_frame m.leaf a.frame slots' a.aside m.link ∷ frames_of ws m.below) s'
+          → Match r' (at_code a slots' (record { insts = is; exit = a.code.exit })) ws g' out (at is facts last s')
+      matched is facts last r' slots' g' s' code known lazy fresh stands = record {
+        state = s';
+        number = m.number;
+        link = m.link;
+        below = m.below;
+        leaf = m.leaf;
+        place = m.place;
+        head = m.head;
+        facts = facts;
+        last = last;
+        point = refl;
+        code = code;
+        is_known = known;
+        is_lazy = lazy;
+        is_last = fresh;
+        placed = m.placed;
+        frame = m.frame;
+        stands = stands;
+        waits = m.waits;
+      }
+
       -- the next instruction, with the comparison that is one with the branch if it is such
       next : (i : RInst) (is : List RInst) (o : Option Comparison) → comparison_of (locations a.frame) m.facts (asked_last asked is) i ≡ o
           → Coded is (learned (locations a.frame) i m.facts) (last_with o (fresh_of (locations a.frame) i))
@@ -687,26 +713,7 @@ module _ (h : Homed) (depth : ℕ) (blocks : List BlockParts) (ok : IsSelected h
                 (exit_code m.leaf a.frame (known_after (locations a.frame) is (learned (locations a.frame) i m.facts))
                 (last_after (locations a.frame) asked (learned (locations a.frame) i m.facts) is (last_with None (fresh_of (locations a.frame) i)))
                 a.code.exit)) m.state s' out e;
-            match = record {
-              state = s';
-              number = m.number;
-              link = m.link;
-              below = m.below;
-              leaf = m.leaf;
-              place = m.place;
-              head = m.head;
-              facts = learned (locations a.frame) i m.facts;
-              last = last_with None (fresh_of (locations a.frame) i);
-              point = refl;
-              code = c;
-              is_known = kn;
-              is_lazy = lz;
-              is_last = new;
-              placed = m.placed;
-              frame = m.frame;
-              stands = st;
-              waits = m.waits;
-            };
+            match = matched is (learned (locations a.frame) i m.facts) (last_with None (fresh_of (locations a.frame) i)) r' slots' g' s' c kn lz new st;
           })
       next i (j ∷ js) (Some n) is c = absurd (none_asked (locations a.frame) m.facts i n is)
       next i [] (Some n) is c =
@@ -727,33 +734,16 @@ module _ (h : Homed) (depth : ℕ) (blocks : List BlockParts) (ok : IsSelected h
             leads = subst (λ l. Lead (length (comparison_code n)) start (At m.number l s' out))
                 (same_code m.leaf a.frame m.facts (learned (locations a.frame) i m.facts) (waiting m.facts q u) i n a.code.exit is)
                 (leads_run blocks links m.number (comparison_code n) behind m.state s' out e);
-            match = record {
-              state = s';
-              number = m.number;
-              link = m.link;
-              below = m.below;
-              leaf = m.leaf;
-              place = m.place;
-              head = m.head;
-              facts = waiting m.facts q u;
-              last = last_with (Some n) None;
-              point = refl;
-              code = record {
-                form = c.form;
-                next = c.next;
-                there = c.there;
-                exit = c.exit
-                    ∙ same_exit ok.entry m.place a.frame m.facts (learned (locations a.frame) i m.facts) (waiting m.facts q u) i n c.next a.code.exit is;
-                leads_on = c.leads_on;
-              };
-              is_known = nothing_known a.frame.homes.items (places_with r q (Some u)) a.slots;
-              is_lazy = lz;
-              is_last = new;
-              placed = m.placed;
-              frame = m.frame;
-              stands = st;
-              waits = m.waits;
-            };
+            match = matched [] (waiting m.facts q u) (last_with (Some n) None) (places_with r q (Some u)) a.slots g s'
+                (record {
+                  form = c.form;
+                  next = c.next;
+                  there = c.there;
+                  exit = c.exit
+                      ∙ same_exit ok.entry m.place a.frame m.facts (learned (locations a.frame) i m.facts) (waiting m.facts q u) i n c.next a.code.exit is;
+                  leads_on = c.leads_on;
+                })
+                (nothing_known a.frame.homes.items (places_with r q (Some u)) a.slots) lz new st;
           })
 
       step : (is : List RInst) → Coded is m.facts m.last → Reach 1 (at is m.facts m.last m.state) (step_at h depth is a.code.exit a r ws g out)

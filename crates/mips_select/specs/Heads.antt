@@ -12,18 +12,18 @@ use Rattle.mips_select.specs.declared.heads.Naming.TheVariants.{Unnamed, Called,
 use Rattle.mips_select.specs.declared.heads.Head.{Head}
 use Rattle.mips_select.specs.declared.heads.Head.TheVariants.{Bare, Enters, Takes}
 
-abbrev pub called : Option ℕ → Option Naming → Naming
-called d None = Jumped
-called d (Some Unnamed) = Called d
-called d (Some (Called e)) = Jumped
-called d (Some Jumped) = Jumped
+abbrev pub naming_with_call : Option ℕ → Option Naming → Naming
+naming_with_call d None = Jumped
+naming_with_call d (Some Unnamed) = Called d
+naming_with_call d (Some (Called e)) = Jumped
+naming_with_call d (Some Jumped) = Jumped
 
 -- an exit names blocks
 abbrev pub note : RExit → List Naming → List Naming
 note (Goto b) l = slice_set l b Jumped
 note (Branch c t e) l = slice_set (slice_set l t Jumped) e Jumped
 note (Out x next) l = slice_set l next Jumped
-note (Call g xs d next) l = slice_set l next (called d (slice_get l next))
+note (Call g xs d next) l = slice_set l next (naming_with_call d (slice_get l next))
 note (Return o) l = l
 
 abbrev pub namings : List RBlock → List Naming → List Naming

@@ -11,7 +11,7 @@ use Rattle.rtl.specs.declared.block.RFunc.{RFunc}
 use Rattle.rtl.specs.declared.block.RGlobal.{RGlobal}
 use Rattle.mips_homes.specs.declared.homed.Frame.{Frame}
 use Rattle.mips_homes.specs.declared.homed.Homed.{Homed}
-use Rattle.mips_split.specs.Split.{place_of, split_blocks, split_owners}
+use Rattle.mips_split.specs.Split.{first_piece_of, split_blocks, split_owners}
 use Rattle.mips_select.specs.declared.heads.Head.{Head}
 use Rattle.mips_select.specs.declared.heads.Head.TheVariants.{Bare, Enters, Takes}
 use Rattle.mips_select.specs.Heads.{heads_of, is_leaf, resumes, count, lead_in}
@@ -128,4 +128,4 @@ unit_for h =
 -- the number of the unit's block with which each block of the program begins, one function behind another: that of the first
 -- piece where it was cut
 abbrev pub block_numbers : Homed → List ℕ
-block_numbers h = map (place_of BLOCK_INSTS (program_blocks h)) (numbers_from 2 (h.rtl.now).functions)
+block_numbers h = map (first_piece_of BLOCK_INSTS (program_blocks h)) (numbers_from 2 (h.rtl.now).functions)

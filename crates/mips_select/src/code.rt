@@ -36,21 +36,16 @@ fn emit_result(code: &mut Vec<Plain>, frame: &Frame, to: Option<Register>) -> Re
 }
 
 // What stands before a block's own code.
-fn emit_head(
-    code: &mut Vec<Plain>,
-    frame: &Frame,
-    leaf: bool,
-    parameters: u32,
-    head: Head,
-) -> Result<(), AllocError>
-    requires frame { IsReachable frame.now }
-    requires parameters { parameters ≤ 4 }
-    ensures { OnOk result (code.new.items ≡ code.old.items ++ head_code leaf frame.now parameters head) }
+fn emit_head(code: &mut Vec<Plain>, plan: &Plan<'_>, head: Head) -> Result<(), AllocError>
+    requires frame { IsReachable plan.now.frame.now }
+    requires parameters { plan.now.parameters ≤ 4 }
+    ensures { OnOk result (code.new.items ≡ code.old.items
+        ++ head_code plan.now.leaf plan.now.frame.now plan.now.parameters head) }
 {
     match head {
         Head::Bare => {}
-        Head::Enters => emit_prologue(code, frame, leaf, parameters)?,
-        Head::Takes(d) => emit_result(code, frame, Some(d))?,
+        Head::Enters => emit_prologue(code, plan.frame, plan.leaf, plan.parameters)?,
+        Head::Takes(d) => emit_result(code, plan.frame, Some(d))?,
     }
     Ok(())
 }
@@ -76,7 +71,7 @@ fn block_for(
     let mut insts = Vec::new(linkage.alloc);
     facts.clear();
     let frame = plan.frame;
-    emit_head(&mut insts, frame, plan.leaf, plan.parameters, head)?;
+    emit_head(&mut insts, plan, head)?;
     let asked = asked_of(&block.exit);
     let last = emit_insts(
         &mut insts,

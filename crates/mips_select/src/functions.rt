@@ -57,17 +57,16 @@ fn emit_blocks(
 fn emit_prologue_block(
     alloc: Global,
     out: &mut Vec<LongBlock>,
-    frame: &Frame,
-    leaf: bool,
-    parameters: u32,
+    plan: &Plan<'_>,
     first: BlockNumber,
 ) -> Result<(), AllocError>
-    requires frame { IsReachable frame.now }
-    requires parameters { parameters ≤ 4 }
-    ensures { OnOk result (out.new.items ≡ out.old.items ++ prologue_block leaf frame.now parameters first ∷ []) }
+    requires frame { IsReachable plan.now.frame.now }
+    requires parameters { plan.now.parameters ≤ 4 }
+    ensures { OnOk result (out.new.items ≡ out.old.items
+        ++ prologue_block plan.now.leaf plan.now.frame.now plan.now.parameters first ∷ []) }
 {
     let mut insts = Vec::new(alloc);
-    emit_prologue(&mut insts, frame, leaf, parameters)?;
+    emit_prologue(&mut insts, plan.frame, plan.leaf, plan.parameters)?;
     push(out, LongBlock::new(insts, Exit::Goto(first)))?;
     Ok(())
 }
@@ -76,20 +75,19 @@ fn emit_prologue_block(
 fn emit_lead(
     alloc: Global,
     out: &mut Vec<LongBlock>,
-    frame: &Frame,
-    leaf: bool,
-    parameters: u32,
+    plan: &Plan<'_>,
     head: Head,
     first: BlockNumber,
 ) -> Result<(), AllocError>
-    requires frame { IsReachable frame.now }
-    requires parameters { parameters ≤ 4 }
-    ensures { OnOk result (out.new.items ≡ out.old.items ++ lead_blocks leaf head frame.now parameters first) }
+    requires frame { IsReachable plan.now.frame.now }
+    requires parameters { plan.now.parameters ≤ 4 }
+    ensures { OnOk result (out.new.items ≡ out.old.items
+        ++ lead_blocks plan.now.leaf head plan.now.frame.now plan.now.parameters first) }
 {
     match head {
         Head::Enters => {}
-        Head::Bare => emit_prologue_block(alloc, out, frame, leaf, parameters, first)?,
-        Head::Takes(_) => emit_prologue_block(alloc, out, frame, leaf, parameters, first)?,
+        Head::Bare => emit_prologue_block(alloc, out, plan, first)?,
+        Head::Takes(_) => emit_prologue_block(alloc, out, plan, first)?,
     }
     Ok(())
 }
@@ -114,20 +112,18 @@ fn emit_function(
         func.now frame.now) }
 {
     let blocks = func.blocks.as_slice();
-    let n = func.parameters;
-    let leaf = is_leaf(blocks);
     let first = k + lead_in(table);
     let numbers = number_blocks(linkage.alloc, table, first, blocks)?;
     let places = numbers.as_slice();
     let start = number_at(places, 0);
-    emit_lead(linkage.alloc, out, frame, leaf, n, head_at(table, 0), start)?;
     let plan = Plan {
         frame,
-        leaf,
-        parameters: n,
+        leaf: is_leaf(blocks),
+        parameters: func.parameters,
         table,
         places,
     };
+    emit_lead(linkage.alloc, out, &plan, head_at(table, 0), start)?;
     emit_blocks(out, facts, linkage, &plan, first, blocks)?;
     Ok(())
 }

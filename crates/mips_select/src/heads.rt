@@ -1,7 +1,7 @@
 // What blocks begin with, from how the exits of their function name them.
 
 ghost use Rattle.std.specs.Prelude.{◌≡◌, ◌≤◌, IfOk, slice_set, slice_get};
-ghost use Rattle.mips_select.specs.Heads.{called, note, namings, unnamed, head_at, heads_in, resumes, count, lead_in, calls_none, is_leaf};
+ghost use Rattle.mips_select.specs.Heads.{naming_with_call, note, namings, unnamed, head_at, heads_in, resumes, count, lead_in, calls_none, is_leaf};
 
 use rtl::{RBlock, RExit, Register};
 use std::alloc::{AllocError, Global};
@@ -29,8 +29,8 @@ pub(crate) enum Head {
 }
 
 // One more call goes on at a block.
-fn called(d: Option<Register>, before: Option<Naming>) -> Naming
-    ensures { result ≡ called d before }
+fn naming_with_call(d: Option<Register>, before: Option<Naming>) -> Naming
+    ensures { result ≡ naming_with_call d before }
 {
     match before {
         Some(Naming::Unnamed) => Naming::Called(d),
@@ -71,7 +71,7 @@ fn note_exit(table: &mut Vec<Naming>, exit: &RExit)
         }
         RExit::Out(_, next) => mark(table, *next, Naming::Jumped),
         RExit::Call(_, _, d, next) => {
-            let s = called(*d, naming_at(table.as_slice(), *next as usize));
+            let s = naming_with_call(*d, naming_at(table.as_slice(), *next as usize));
             mark(table, *next, s);
         }
         RExit::Return(_) => {}

@@ -4,7 +4,7 @@ ghost use Rattle.std.specs.Prelude.{◌≡◌, ℕ, ◌+◌, ◌<◌, ◌≤◌,
 ghost use Rattle.mblock.specs.declared.limits.TheConstants.{BLOCK_INSTS, UNIT_BLOCKS};
 ghost use Rattle.rtl.specs.declared.block.RFunc.{RFunc};
 ghost use Rattle.rtl.specs.declared.limits.TheConstants.{MAX_BLOCKS};
-ghost use Rattle.mips_split.specs.Split.{total, place_of};
+ghost use Rattle.mips_split.specs.Split.{total, first_piece_of};
 ghost use Rattle.mips_select.specs.Heads.{AreNamed};
 ghost use Rattle.mips_select.specs.Limits.{FramesFit};
 ghost use Rattle.mips_select.specs.Whole.{functions_size, numbers_from};
@@ -48,7 +48,7 @@ fn block_numbers(
     requires named { AreNamed long.now.namings.items functions.now }
     requires small { (g : ℕ) (func : RFunc) → slice_get functions.now g ≡ Some func → length func.blocks.items ≤ MAX_BLOCKS }
     requires number { 2 + functions_size functions.now ≤ UNIT_BLOCKS }
-    ensures numbers { IfOk result (λ ns. ns.items ≡ map (place_of BLOCK_INSTS long.now.blocks.items) (numbers_from 2 functions.now)) }
+    ensures numbers { IfOk result (λ ns. ns.items ≡ map (first_piece_of BLOCK_INSTS long.now.blocks.items) (numbers_from 2 functions.now)) }
     ensures limit { IfErr result (λ e. e ≡ SelectFault.Limit → UNIT_BLOCKS < total BLOCK_INSTS long.now.blocks.items) }
 {
     let blocks = long.blocks.as_slice();

@@ -9,7 +9,7 @@ use Rattle.mblock.specs.Parts.{BlockParts}
 use Rattle.mips_isa.specs.States.{State}
 use Rattle.mblock.specs.UnitRuns.{is_call, TellsApart, ComesTo}
 use Rattle.mblock.specs.Units.{AreLinked}
-use Rattle.mips_split.specs.Split.{renumbered_exit, more_pieces, place_of, last_of, split_at_most}
+use Rattle.mips_split.specs.Split.{renumbered_exit, more_pieces, first_piece_of, last_of, split_at_most}
 use Rattle.mips_split.proofs.Simulation.{unit_runs}
 use Rattle.mips_split.proofs.Places.{has_whole, has_pieces, last_piece, last_there, last_apart}
 
@@ -31,7 +31,7 @@ module _ (most : ℕ) (blocks : List BlockParts) where
   last_of_block : (n : ℕ) (b : BlockParts) → slice_get blocks n ≡ Some b → Last n b
   last_of_block n b there =
       let whole = split_at_most most blocks in
-      let place = place_of most blocks in
+      let place = first_piece_of most blocks in
       let p = last_there most (renumbered_exit place b.exit) whole (more_pieces most b) (place n) b.insts
       (has_pieces most place whole 0 blocks (has_whole whole) n b there) in
       record {

@@ -7,7 +7,7 @@ use Rattle.mips_isa.specs.declared.inst.Plain.{Plain}
 use Rattle.mblock.specs.declared.exit.Exit.{Exit}
 use Rattle.mblock.specs.declared.exit.Exit.TheVariants.{Goto}
 use Rattle.mblock.specs.Parts.{BlockParts}
-use Rattle.mips_split.specs.Split.{renumbered_exit, more_pieces, piece, pieces, count_of, total, firsts, split_from, place_of, owners_from, split_blocks}
+use Rattle.mips_split.specs.Split.{renumbered_exit, more_pieces, piece, pieces, count_of, total, firsts, split_from, first_piece_of, owners_from, split_blocks}
 use Rattle.mblock.specs.Units.{AreLinked, AreOwners, IsUnit, unit_parts}
 use Rattle.mips_split.proofs.Places.{length-pieces}
 use Rattle.mips_split.proofs.Counts.{length-split_from, total_above}
@@ -109,4 +109,4 @@ unit_made long owner globals numbers table table2 blocks owners linked owned som
     positive = omega arith
 
     count : length (split_blocks long) ≡ total 512 long
-    count = length-split_from 512 (place_of 512 long) 0 long
+    count = length-split_from 512 (first_piece_of 512 long) 0 long

@@ -12,14 +12,14 @@ use Rattle.mips_isa.specs.Controls.{pair_passes, zero_passes}
 use Rattle.mblock.specs.BlockMeaning.{exit_effect}
 use Rattle.mblock.specs.UnitRuns.{return_block_of, outcome_at_block, outcome_at_return, exit_item, items, unit_run}
 use Rattle.mblock.specs.Units.{GoesBelow, AreLinked}
-use Rattle.mips_split.specs.Split.{renumbered_exit, more_pieces, piece, place_of, last_of, split_at_most}
+use Rattle.mips_split.specs.Split.{renumbered_exit, more_pieces, piece, first_piece_of, last_of, split_at_most}
 use Rattle.mips_split.proofs.Places.{has_whole, has_pieces, last_piece, block_there}
 use Rattle.mips_split.proofs.Runs.{Reached, Inside, enters, steps, leaves_last}
 use Rattle.mips_split.proofs.Returns.{return_renumbered, return_below}
 
 module _ (most : ℕ) (blocks : List BlockParts) (linked : AreLinked blocks) (links : ℕ → ℕ) where
   abbrev place : ℕ → ℕ
-  place n = place_of most blocks n
+  place n = first_piece_of most blocks n
 
   abbrev last : ℕ → ℕ
   last n = last_of most blocks n

@@ -8,7 +8,7 @@ use Rattle.mblock.specs.declared.exit.Exit.{Exit}
 use Rattle.mblock.specs.declared.exit.Exit.TheVariants.{Goto, BranchPair, BranchZero, Call, Return, Out, Halt}
 use Rattle.mblock.specs.Parts.{BlockParts}
 use Rattle.mblock.specs.Units.{GoesBelow, BranchesWithin, Continues, AreLinked, AreOwners}
-use Rattle.mips_split.specs.Split.{renumbered_exit, more_pieces, pieces, count_of, firsts, place_of, split_at_most, owners_from, total}
+use Rattle.mips_split.specs.Split.{renumbered_exit, more_pieces, pieces, count_of, firsts, first_piece_of, split_at_most, owners_from, total}
 use Rattle.mips_split.proofs.Places.{HasAt, has_whole, has_front, has_back, has_pieces, block_there, length-pieces}
 use Rattle.mips_split.proofs.Counts.{length-split_from, Located, located, first_next, pieces_enough, IsPieceAt, piece_at}
 
@@ -49,7 +49,7 @@ first_zero most (b ∷ bs) = refl
 
 module _ (most : ℕ) (some : 0 < most) (blocks : List BlockParts) where
   abbrev place : ℕ → ℕ
-  place n = place_of most blocks n
+  place n = first_piece_of most blocks n
 
   abbrev whole : List BlockParts
   whole = split_at_most most blocks

@@ -10,6 +10,6 @@ emit_blocks-requires-clause-number c = function_room c.args.k _ _ c.args.func.no
     c.lead_in.ensures.value c.requires.number
 
 pub returns : goal.returns
-returns c = function_made _ _ _ c.args.k c.args.func.now c.args.frame.now _ _ _ _ _ _ _ _ _ _ _ c.as_slice-blocks.ensures.value c.is_leaf-leaf.ensures
+returns c = function_made _ _ _ c.args.k c.args.func.now c.args.frame.now _ _ _ _ _ _ _ _ _ _ _ c.as_slice-blocks.ensures.value c.is_leaf.ensures
     c.requires.named c.lead_in.ensures.value c.in_ok-numbers.ensures c.as_slice-places.ensures.value c.head_at.ensures
     c.number_at-start.ensures c.in_ok-emit_lead.ensures c.in_ok-emit_blocks.ensures

@@ -1,7 +1,6 @@
 use Rattle.std.proofs.Common.{ap, arith}
-use Rattle.std.proofs.lemmas.Result.{err_from_is_err_and}
 use Rattle.mips_select.specs.Whole.{functions_size}
-use Rattle.mips_select.proofs.Selecting.{function_blocks_few, beyond, many_counted, numbered}
+use Rattle.mips_select.proofs.Selecting.{function_blocks_few, told_beyond, many_counted, numbered}
 use Rattle.mips_select.proofs.numbering.select_numbered.Goals as goal
 
 pub block_numbers-requires-clause-small : goal.block_numbers-requires-clause-small
@@ -14,22 +13,14 @@ block_numbers-requires-clause-number c =
     omega (arith, same, few)
 
 pub returns-in_err-long-clause-limit : goal.returns-in_err-long-clause-limit
-returns-in_err-long-clause-limit c =
-    let p = err_from_is_err_and c.from_residual-in_err-long.result c.from_residual-in_err-long.ensures.1 in
-    rw (p.1, p.2) (λ e fit. beyond c.in_ok-homed.homed c.args.rtl.now c.in_ok-homed.ensures.lent c.in_ok-homed.ensures.places
-    (c.in_err-long.ensures.limit e))
+returns-in_err-long-clause-limit c = told_beyond _ _ c.from_residual-in_err-long.ensures.1 c.in_ok-homed.ensures.lent c.in_ok-homed.ensures.places c.in_err-long.ensures.limit
 
 pub returns-in_err-unit-clause-limit : goal.returns-in_err-unit-clause-limit
-returns-in_err-unit-clause-limit c =
-    let p = err_from_is_err_and c.from_residual-in_err-unit.result c.from_residual-in_err-unit.ensures.1 in
-    rw (p.1, p.2) (λ e fit. beyond c.in_ok-homed.homed c.args.rtl.now c.in_ok-homed.ensures.lent c.in_ok-homed.ensures.places
-    (c.in_err-unit.ensures.limit e))
+returns-in_err-unit-clause-limit c = told_beyond _ _ c.from_residual-in_err-unit.ensures.1 c.in_ok-homed.ensures.lent c.in_ok-homed.ensures.places c.in_err-unit.ensures.limit
 
 pub returns-in_err-numbers-clause-limit : goal.returns-in_err-numbers-clause-limit
-returns-in_err-numbers-clause-limit c =
-    let p = err_from_is_err_and c.from_residual-in_err-numbers.result c.from_residual-in_err-numbers.ensures.1 in
-    rw (p.1, p.2) (λ e fit. beyond c.in_ok-homed.homed c.args.rtl.now c.in_ok-homed.ensures.lent c.in_ok-homed.ensures.places
-    (many_counted c.in_ok-homed.homed _ c.in_ok-long.ensures.blocks (c.in_err-numbers.ensures.limit e)))
+returns-in_err-numbers-clause-limit c = told_beyond _ _ c.from_residual-in_err-numbers.ensures.1 c.in_ok-homed.ensures.lent c.in_ok-homed.ensures.places
+    (λ e. many_counted c.in_ok-homed.homed _ c.in_ok-long.ensures.blocks (c.in_err-numbers.ensures.limit e))
 
 pub returns-clause-numbered : goal.returns-clause-numbered
 returns-clause-numbered c = numbered c.in_ok-homed.homed c.args.rtl.now _ _ _ _ c.in_ok-homed.ensures.lent c.in_ok-homed.ensures.places

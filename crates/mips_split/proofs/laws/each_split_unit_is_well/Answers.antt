@@ -1,5 +1,5 @@
 use Rattle.std.proofs.Common.{◌<◌, arith}
-use Rattle.mips_split.specs.Split.{place_of}
+use Rattle.mips_split.specs.Split.{first_piece_of}
 use Rattle.mips_split.proofs.Counts.{total_above, length-split_from}
 use Rattle.mips_split.proofs.Well.{pieces_short, pieces_linked, pieces_owned}
 use Rattle.mips_split.proofs.laws.each_split_unit_is_well.Goals as goal
@@ -9,7 +9,7 @@ returns c = λ blocks owner linked owners. record {
   short = pieces_short 512 some blocks;
   linked = pieces_linked 512 some blocks linked;
   owners = pieces_owned 512 some blocks owner owners;
-  some = (let many = total_above 512 blocks in let long = length-split_from 512 (place_of 512 blocks) 0 blocks in omega (arith, many, long));
+  some = (let many = total_above 512 blocks in let long = length-split_from 512 (first_piece_of 512 blocks) 0 blocks in omega (arith, many, long));
 }
   where
     some : 0 < 512

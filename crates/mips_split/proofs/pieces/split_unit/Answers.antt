@@ -1,7 +1,7 @@
 use Rattle.std.specs.Prelude.{All, slice_index}
 use Rattle.std.proofs.Common.{rules, ◌≡◌, ◌<◌, ◌≤◌, ◌^◌, arith, ap, sym, subst, ◌∙◌}
 use Rattle.std.proofs.lemmas.Result.{err_from_is_err_and}
-use Rattle.mips_split.specs.Split.{place_of, total, firsts, owners_from}
+use Rattle.mips_split.specs.Split.{first_piece_of, total, firsts, owners_from}
 use Rattle.mblock.specs.Units.{UnitParts}
 use Rattle.mblock.specs.UnitRuns.{ComesTo}
 use Rattle.mips_split.proofs.Counts.{length-split_from}
@@ -12,7 +12,7 @@ use Rattle.mips_split.proofs.pieces.split_unit.Goals as goal
 pub returns-in_err-numbers-clause-limit : goal.returns-in_err-numbers-clause-limit
 returns-in_err-numbers-clause-limit c =
     let p = err_from_is_err_and c.from_residual.result c.from_residual.ensures.1 in
-    let long = length-split_from 512 (place_of 512 c.args.long.items) 0 c.args.long.items in
+    let long = length-split_from 512 (first_piece_of 512 c.args.long.items) 0 c.args.long.items in
     rw (p.1, p.2) (λ e. (let many = subst (λ l. 1048576 < total 512 l) c.as_slice.ensures.value (c.in_err-numbers.ensures.limit e) in omega (arith, many, long)))
 
 pub of-requires : goal.of-requires
