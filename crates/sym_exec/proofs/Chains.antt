@@ -7,7 +7,7 @@ use Rattle.std.proofs.Math.Seq.{take-suc, get_or-append_seam}
 use Rattle.std.proofs.Math.ListN.{get_or-append}
 use Rattle.std.proofs.lemmas.Bool.{cases_lt}
 use Rattle.std.proofs.lemmas.List.Edits.{length-insert}
-use Rattle.std.proofs.lemmas.List.{take-append-le, take-append-drop, length-append, length-take, length-take-le, get_or-take, get_or_default}
+use Rattle.std.proofs.lemmas.List.{append_assoc, take-append-le, take-append-drop, length-append, length-take, length-take-le, get_or-take, get_or_default}
 use Rattle.words.specs.declared.width.Width.{Width}
 use Rattle.words.specs.Words.{signed}
 use Rattle.sym_terms.specs.declared.label.Label.TheVariants.{Mem0, Load, Store}
@@ -321,6 +321,21 @@ store-goes {p} {at} n xs s w b y legal made h e =
 pub store-last : (p : PassState) (n : Tree) (w : Width) (b y : Tree) → MakeMemory p [] n → store_tree w n b y ≡ ternary (Store w) n b y
 store-last p n w b y made =
     ap (λ t. store_tree w t b y) (sym made) ∙ (store-start w b y ∙ ap (λ t. ternary (Store w) t b y) made)
+
+-- a walk from the last store inward: what it has passed, and what holds of that and of those before it
+pub record Walk (Holds : (inner outer : List Stored) → Type 0) (stores inner : List Stored) : Type 0 where
+  pub outer : List Stored
+  pub parts : stores ≡ inner ++ outer
+  pub trees : Holds inner outer
+
+-- one store more is passed
+pub walk-on : {Holds : (inner outer : List Stored) → Type 0} {stores inner : List Stored} (rest : List Stored) (last : Stored) (w : Walk Holds stores inner)
+    → inner ≡ rest ++ last ∷ [] → Holds rest (last ∷ w.outer) → Walk Holds stores rest
+walk-on {Holds} {stores} {inner} rest last w is trees = record {
+  outer = last ∷ w.outer;
+  parts = w.parts ∙ (ap (λ xs. xs ++ w.outer) is ∙ append_assoc rest (last ∷ []) w.outer);
+  trees = trees;
+}
 
 pub none-of : (xs : List Stored) → length xs ≡ 0 → xs ≡ []
 none-of [] e = refl

@@ -1,11 +1,11 @@
-use Rattle.std.proofs.Common.{◌≡◌, ◌∙◌, ◌++◌, [], ◌∷◌, take, drop, length, refl, sym, ap, subst, rules}
+use Rattle.std.proofs.Common.{◌≡◌, ◌∙◌, ◌++◌, [], take, drop, length, refl, sym, ap, subst, rules}
 use Rattle.std.proofs.Math.Seq.{take-append_seam, drop-append_seam}
-use Rattle.std.proofs.lemmas.List.{append_assoc, append-nil}
+use Rattle.std.proofs.lemmas.List.{append-nil}
 use Rattle.sym_terms.specs.declared.label.Label.TheVariants.{Store}
 use Rattle.sym_terms.specs.Trees.{ternary}
 use Rattle.sym_terms.specs.NormalForms.{store_tree}
 use Rattle.sym_exec.specs.Stores.{LeadsTo, MakeMemory}
-use Rattle.sym_exec.proofs.Chains.{store-stays, store-goes, store-last, none-of}
+use Rattle.sym_exec.proofs.Chains.{store-stays, store-goes, store-last, none-of, walk-on}
 use Rattle.sym_exec.proofs.stores.stores_inside.Goals as goal
 
 pub loop-last-init : goal.loop-last-init
@@ -28,16 +28,11 @@ returns-then-not-is_passed_inward-clause-tree c = λ p m b v legal made at.
 
 pub loop-last-preserved : goal.loop-last-preserved
 loop-last-preserved c =
-    let i = c.loop-last.invariant in
-    record {
-      outer = c.in-Some.last.now ∷ i.outer;
-      parts = i.parts ∙ (ap (λ xs. xs ++ i.outer) c.in-Some.ensures.cases.0 ∙ append_assoc c.in-Some.rest.now (c.in-Some.last.now ∷ []) i.outer);
-      trees = λ p m b v legal made at.
-          let now = i.trees p m b v legal made at in
-          let whole = subst (λ xs. MakeMemory p xs now.0) c.in-Some.ensures.cases.0 now.1 in
-          let next = store-goes now.0 c.in-Some.rest.now c.in-Some.last.now c.args.width b v legal whole at (search rules) in
-          (next.0, next.1, (store_tree c.args.width now.0 b v, next.2, now.2));
-    }
+    walk-on c.in-Some.rest.now c.in-Some.last.now c.loop-last.invariant c.in-Some.ensures.cases.0 (λ p m b v legal made at.
+    let now = c.loop-last.invariant.trees p m b v legal made at in
+    let whole = subst (λ xs. MakeMemory p xs now.0) c.in-Some.ensures.cases.0 now.1 in
+    let next = store-goes now.0 c.in-Some.rest.now c.in-Some.last.now c.args.width b v legal whole at (search rules) in
+    (next.0, next.1, (store_tree c.args.width now.0 b v, next.2, now.2)))
 
 pub returns-clause-tree : goal.returns-clause-tree
 returns-clause-tree c = λ p m b v legal made at.

@@ -1,8 +1,8 @@
-use Rattle.std.proofs.Common.{◌≡◌, ◌∙◌, ◌++◌, [], ◌∷◌, take, length, refl, sym, ap, subst, rules}
+use Rattle.std.proofs.Common.{◌≡◌, ◌∙◌, [], take, length, refl, sym, ap, subst, rules}
 use Rattle.std.proofs.Math.Seq.{take-append_seam}
-use Rattle.std.proofs.lemmas.List.{append_assoc, append-nil}
+use Rattle.std.proofs.lemmas.List.{append-nil}
 use Rattle.sym_exec.specs.Stores.{MakeMemory}
-use Rattle.sym_exec.proofs.Chains.{load-stays, load-passes, load-last, none-of}
+use Rattle.sym_exec.proofs.Chains.{load-stays, load-passes, load-last, none-of, walk-on}
 use Rattle.sym_exec.proofs.stores.stores_seen.Goals as goal
 
 pub loop-last-init : goal.loop-last-init
@@ -22,16 +22,11 @@ returns-then-not-is_passed-clause-tree c = λ p m b legal made at.
 
 pub loop-last-preserved : goal.loop-last-preserved
 loop-last-preserved c =
-    let i = c.loop-last.invariant in
-    record {
-      outer = c.in-Some.last.now ∷ i.outer;
-      parts = i.parts ∙ (ap (λ xs. xs ++ i.outer) c.in-Some.ensures.cases.0 ∙ append_assoc c.in-Some.rest.now (c.in-Some.last.now ∷ []) i.outer);
-      trees = λ p m b legal made at.
-          let now = i.trees p m b legal made at in
-          let whole = subst (λ xs. MakeMemory p xs now.0) c.in-Some.ensures.cases.0 now.1 in
-          let next = load-passes now.0 c.in-Some.rest.now c.in-Some.last.now c.args.width b legal whole at (search rules) in
-          (next.0, next.1, now.2 ∙ next.2);
-    }
+    walk-on c.in-Some.rest.now c.in-Some.last.now c.loop-last.invariant c.in-Some.ensures.cases.0 (λ p m b legal made at.
+    let now = c.loop-last.invariant.trees p m b legal made at in
+    let whole = subst (λ xs. MakeMemory p xs now.0) c.in-Some.ensures.cases.0 now.1 in
+    let next = load-passes now.0 c.in-Some.rest.now c.in-Some.last.now c.args.width b legal whole at (search rules) in
+    (next.0, next.1, now.2 ∙ next.2))
 
 pub returns-clause-tree : goal.returns-clause-tree
 returns-clause-tree c = λ p m b legal made at.
