@@ -123,15 +123,21 @@ module _ (h : Homed) (depth : ℕ) (blocks : List BlockParts) (ok : IsSelected h
   as_deep link d (a ∷ ws) [] w = absurd w
   as_deep link d (a ∷ ws) (l ∷ ls) w = ap suc (as_deep l a.result_to ws ls w.1)
 
-  -- the state of a run over homes, and a point of the unit's run
-  pub record Match (r : Places) (a : Activation) (ws : List Activation) (g : Arrays) (out : List ℕ) (p : Point) : Type 0 where
-    pub state : State
+  -- where an activation stands in the unit: the number of its block, its link and those below it, whether it is a leaf, and where the blocks of
+  -- its function stand and what they begin with
+  pub record Spot : Type 0 where
     pub number : ℕ
     pub link : ℕ
     pub below : List ℕ
     pub leaf : Bool
     pub place : ℕ → ℕ
     pub head : ℕ → List Plain
+
+  -- the state of a run over homes, and a point of the unit's run
+  pub record Match (r : Places) (a : Activation) (ws : List Activation) (g : Arrays) (out : List ℕ) (p : Point) : Type 0 where
+    pub state : State
+    pub spot : Spot
+    pub open spot use {number, link, below, leaf, place, head}
     pub facts : Facts
     pub last : Last
     pub point : p ≡ At number (code_insts gs starts leaf a.frame facts last a.code) state out
@@ -215,12 +221,7 @@ module _ (h : Homed) (depth : ℕ) (blocks : List BlockParts) (ok : IsSelected h
         leads = f block at;
         match = record {
           state = s;
-          number = place b;
-          link = link;
-          below = below;
-          leaf = leaf;
-          place = place;
-          head = head;
+          spot = record { number = place b; link = link; below = below; leaf = leaf; place = place; head = head };
           facts = no_facts;
           last = no_last;
           point
@@ -359,12 +360,7 @@ module _ (h : Homed) (depth : ℕ) (blocks : List BlockParts) (ok : IsSelected h
         leads = lead';
         match = record {
           state = s';
-          number = m.next;
-          link = l;
-          below = ls;
-          leaf = false;
-          place = m.place;
-          head = m.head;
+          spot = record { number = m.next; link = l; below = ls; leaf = false; place = m.place; head = m.head };
           facts = no_facts;
           last = no_last;
           point = ap (λ c. At m.next (code_insts gs starts false w.frame no_facts no_last c) s' out) (sym m.code);
@@ -667,12 +663,7 @@ module _ (h : Homed) (depth : ℕ) (blocks : List BlockParts) (ok : IsSelected h
           → Match r' (at_code a slots' (record { insts = is; exit = a.code.exit })) ws g' out (at is facts last s')
       matched is facts last r' slots' g' s' code known lazy fresh stands = record {
         state = s';
-        number = m.number;
-        link = m.link;
-        below = m.below;
-        leaf = m.leaf;
-        place = m.place;
-        head = m.head;
+        spot = m.spot;
         facts = facts;
         last = last;
         point = refl;
