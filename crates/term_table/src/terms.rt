@@ -1,4 +1,7 @@
 //! The calls on terms over labels of one's own type.
+
+#![tactic(auto, using(crate::proofs::TermCallers::seen_all, crate::proofs::TermCallers::missing_term))]
+
 ghost use Rattle.std.specs.Prelude.{◌≡◌, ◌≤◌, IfOk, IfErr, IfSome, IfNone, length};
 ghost use Rattle.term_core.specs.declared.Call.TheVariants.{Find, Intern, Read};
 ghost use Rattle.term_labels.specs.Trees.{Tree, Trees, node};

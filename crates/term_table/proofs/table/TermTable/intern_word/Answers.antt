@@ -1,6 +1,6 @@
 use Rattle.std.proofs.Common.{arith, rules}
 use Rattle.term_table.proofs.Public.{hit_low, linked_low, has_one}
-use Rattle.term_table.proofs.Callers.{extends_answered, still_of, answer_seen, intern_tree, full_linked, full_absent}
+use Rattle.term_table.proofs.Callers.{extends_answered, answer_seen, intern_tree, full_linked, full_absent}
 use Rattle.term_table.proofs.table.TermTable.intern_word.Goals as goal
 
 pub new-ticket-requires : goal.new-ticket-requires
@@ -20,9 +20,6 @@ returns-clause-answered c = search rules
 pub returns-clause-extends : goal.returns-clause-extends
 returns-clause-extends c = extends_answered (returns-clause-answered c)
 
-pub returns-clause-own : goal.returns-clause-own
-returns-clause-own c = still_of (returns-clause-extends c) c.requires.table
-
 pub returns-clause-seen : goal.returns-clause-seen
 returns-clause-seen c = answer_seen (returns-clause-answered c) _ (has_one _)
 
@@ -37,9 +34,6 @@ returns-in-NoRoom-clause-extends c = extends_answered (returns-in-NoRoom-clause-
 
 pub returns-in-NoRoom-clause-full : goal.returns-in-NoRoom-clause-full
 returns-in-NoRoom-clause-full c = full_linked (returns-in-NoRoom-clause-answered c)
-
-pub returns-in-NoRoom-clause-own : goal.returns-in-NoRoom-clause-own
-returns-in-NoRoom-clause-own c = still_of (returns-in-NoRoom-clause-extends c) c.requires.table
 
 pub returns-in-NoRoom-clause-absent : goal.returns-in-NoRoom-clause-absent
 returns-in-NoRoom-clause-absent c = λ xs h. full_absent (returns-in-NoRoom-clause-answered c) h
