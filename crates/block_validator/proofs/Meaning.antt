@@ -7,13 +7,14 @@ use Rattle.mblock.specs.declared.exit.Exit.{Exit}
 use Rattle.mblock.specs.Parts.{BlockParts, OrderParts}
 use Rattle.mblock.specs.BlockMeaning.{exit_shape, exit_reads, departure_of, Effect}
 use Rattle.mblock.specs.Clean.{slot_actions}
+use Rattle.mblock.specs.Orders.{Means}
 use Rattle.mblock.proofs.Totals.{block_total}
 use Rattle.mblock.proofs.Runs.{total, AllSafe, exited, leaves_total, order_runs}
 use Rattle.sym_terms.specs.Values.{tree_word, tree_memory}
 use Rattle.sym_exec.specs.Symbolic.{TreeState, start_trees, register_tree, all_trees, exit_trees, CodeTrees, code_trees, block_trees, order_trees}
 use Rattle.sym_exec.proofs.Values.{values, register_tree-value, all-value, puts-value, AllGood, all_down, all_up, all_outside, puts_outside}
 use Rattle.block_validator.specs.declared.place.Place.TheVariants as places
-use Rattle.block_validator.specs.Same.{SameTrees, IsPlace, EachCheckedOrderMeansItsBlock}
+use Rattle.block_validator.specs.Same.{SameTrees, IsPlace, EachCheckedOrderMeansItsBlock, CheckedParts, IsChecked}
 
 register_place : (r : ℕ) → is_register r ≡ true → IsPlace (places.Register r)
 register_place r e = let p =
@@ -90,3 +91,6 @@ each_checked_order_means_its_block b o fits clean same s link r words low e =
     order_runs o s link fits clean safe.0 safe.1
     ∙ ap Some (sym (code_values (map action_of o.insts) o.exit (slot_actions o.slot) s link words low)
     ∙ sym (same_outcome b o s link same) ∙ code_values (map action_of b.insts) b.exit [] s link words low ∙ sym block.1)
+
+pub checked_means : (c : CheckedParts) → IsChecked c → Means c.block c.order
+checked_means c h = each_checked_order_means_its_block c.block c.order h.fits h.clean h.same
