@@ -9,7 +9,7 @@ ghost use Rattle.sched_phase.specs.Phases.{IsPhase, IsRightFor};
 use crate::options::PhaseOpts;
 use crate::scheduled::Scheduled;
 use crate::settle::Progress;
-use crate::work::{BlockJob, judged};
+use crate::work::{BlockJob, proposal_verdict};
 use block_validator::Verdict;
 use list_scheduler::Reorder;
 use mblock::Unit;
@@ -21,7 +21,7 @@ use steal_pool::{Gate, run};
 use term_table::{OpenFault, Pass, TermTable};
 
 // A table by the options, for so many workers.
-fn opened(
+fn open_table(
     alloc: Global,
     workers: u64,
     options: PhaseOpts,
@@ -53,7 +53,7 @@ pub fn schedule_all<'a, T: Threads + Wait + Sync, R: Reorder + Sync, G: Gate + S
     ensures phase { IfOk result (IsPhase (R.proposes reorder.now)) }
     ensures sum { IfOk result (λ s. total s.report ≡ length unit.now.blocks) }
 {
-    let (table, passes) = opened(alloc, options.workers(), options)?;
+    let (table, passes) = open_table(alloc, options.workers(), options)?;
     let job = BlockJob {
         alloc,
         unit,
@@ -117,7 +117,7 @@ pub fn schedule_one<'a, R: Reorder>(
     ensures sum { IfOk result (λ s. total s.report ≡ length unit.now.blocks) }
     ensures asked { IfOk result (λ s. s.report.missed ≡ 0) }
 {
-    let (table, mut passes) = opened(alloc, 1, options)?;
+    let (table, mut passes) = open_table(alloc, 1, options)?;
     let Some(mut pass) = passes.pop() else {
         unreachable!()
     };
@@ -141,7 +141,7 @@ fn one_by_one<'a, R: Reorder>(
     let blocks = unit.blocks();
     let mut progress = Progress::new(alloc, reorder, unit);
     for i in 0..blocks.len() {
-        let verdict = judged(alloc, table, pass, reorder, &blocks[i]);
+        let verdict = proposal_verdict(alloc, table, pass, reorder, &blocks[i]);
         progress.settle(alloc, reorder, unit, &blocks[i], Some(verdict))?;
     }
     Ok(progress.finish(reorder, unit))

@@ -36,7 +36,7 @@ fn checked_order<'a>(block: &Block, checked: Checked<'a>) -> Order
 
 // The order that a verdict gives its block, which is counted: the one that was proposed, where it means the block, else the
 // plain one. None stands for a block that was missed. An Err is refused memory.
-fn settled<'a, R: Reorder>(
+fn order_by_verdict<'a, R: Reorder>(
     alloc: Global,
     reorder: &R,
     block: &Block,
@@ -119,7 +119,7 @@ impl Progress {
     {
         let few = unit.blocks().len() <= UNIT_BLOCKS;
         prove!(few);
-        let order = settled(alloc, reorder, block, verdict, &mut self.report)?;
+        let order = order_by_verdict(alloc, reorder, block, verdict, &mut self.report)?;
         self.orders.push(order)?;
         Ok(())
     }

@@ -30,12 +30,12 @@ impl<'a, 't, R: Reorder + Sync> Job for BlockJob<'a, 't, R> {
         let Some(block) = self.unit.blocks().get(i) else {
             return Verdict::NoMemory;
         };
-        judged(self.alloc, self.table, pass, self.reorder, block)
+        proposal_verdict(self.alloc, self.table, pass, self.reorder, block)
     }
 }
 
 /// The verdict on the order that is proposed for a block; NoMemory where none is.
-pub(crate) fn judged<'a, R: Reorder>(
+pub(crate) fn proposal_verdict<'a, R: Reorder>(
     alloc: Global,
     table: &TermTable,
     pass: &mut Pass,
