@@ -158,10 +158,12 @@ module _ (most total : ℕ) (gs : List RGlobal) (starts : ℕ → ℕ) where
         room = h.room;
         aligned = h.aligned;
         elements = λ b j x is. value at open_at b j x (at.now b j x is);
-        inside = λ b j x is. inside at b j x (at.now b j x is);
-        apart = λ b j c k x y is there ne. apart at b j c k x y (at.now b j x is) (at.now c k y there) ne;
-        even = h.even;
-        few = h.few;
+        places = record {
+          inside = λ b j x is. inside at b j x (at.now b j x is);
+          apart = λ b j c k x y is there ne. apart at b j c k x y (at.now b j x is) (at.now c k y there) ne;
+          even = h.even;
+          few = h.few;
+        };
         linked = h.linked;
         gp = h.gp;
       }

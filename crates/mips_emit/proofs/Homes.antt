@@ -319,10 +319,7 @@ module _ (most total : ℕ) (gs : List RGlobal) (starts : ℕ → ℕ) where
     room = subst (λ at. stack_base ≤ at) (sym pointer) h.room;
     aligned = ap (λ at. at % 4) pointer ∙ h.aligned;
     elements = h.elements;
-    inside = h.inside;
-    apart = h.apart;
-    even = h.even;
-    few = h.few;
+    places = h.places;
     linked = linked;
     gp = middle ∙ h.gp;
   }
@@ -478,10 +475,7 @@ module _ (most total : ℕ) (gs : List RGlobal) (starts : ℕ → ℕ) where
               shown_other widths.Word (width_of gs b) s a v (address_of_place (place_in gs starts b i))
               (stack_apart (width_of gs b) a (place_in gs starts b i) total (omega (arith, low)) (omega (arith, up, lt)) (h.inside b i w at) few)
               ∙ h.elements b i w at;
-          inside = h.inside;
-          apart = h.apart;
-          even = h.even;
-          few = h.few;
+          places = h.places;
           linked = h.linked;
           gp = h.gp;
         }

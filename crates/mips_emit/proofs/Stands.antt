@@ -73,6 +73,14 @@ abbrev pub Linked : List Stored → ℕ → Type 0
 Linked [] x = Unit {0}
 Linked (f ∷ fs) x = f.leaf ≡ true → x ≡ f.link
 
+-- the elements lie in the data, of so many bytes, and apart
+pub record LieApart (total : ℕ) (gs : List RGlobal) (starts : ℕ → ℕ) (g : Arrays) : Type 0 where
+  pub inside : (a i v : ℕ) → element_at g a i ≡ Some v → place_behind gs starts a i ≤ total
+  pub apart : (a i b j v w : ℕ) → element_at g a i ≡ Some v → element_at g b j ≡ Some w → (a ≡ b → i ≡ j → ⊥)
+      → (place_behind gs starts a i ≤ place_in gs starts b j) ⊎ (place_behind gs starts b j ≤ place_in gs starts a i)
+  pub even : (a : ℕ) → starts a % 4 ≡ 0
+  pub few : total ≤ UNIT_BYTES
+
 -- `total` is how many bytes of data there are
 pub record Stands (most total : ℕ) (gs : List RGlobal) (starts : ℕ → ℕ) (registers : Places) (g : Arrays) (fs : List Stored) (s : State) : Type 0 where
   pub words : IsWords s
@@ -82,11 +90,8 @@ pub record Stands (most total : ℕ) (gs : List RGlobal) (starts : ℕ → ℕ) 
   pub room : stack_base ≤ s.regs 29
   pub aligned : s.regs 29 % 4 ≡ 0
   pub elements : (a i v : ℕ) → element_at g a i ≡ Some v → shown_at (width_of gs a) s (address_of_place (place_in gs starts a i)) ≡ v
-  pub inside : (a i v : ℕ) → element_at g a i ≡ Some v → place_behind gs starts a i ≤ total
-  pub apart : (a i b j v w : ℕ) → element_at g a i ≡ Some v → element_at g b j ≡ Some w → (a ≡ b → i ≡ j → ⊥)
-      → (place_behind gs starts a i ≤ place_in gs starts b j) ⊎ (place_behind gs starts b j ≤ place_in gs starts a i)
-  pub even : (a : ℕ) → starts a % 4 ≡ 0
-  pub few : total ≤ UNIT_BYTES
+  pub places : LieApart total gs starts g
+  pub open places use {inside, apart, even, few}
   pub linked : Linked fs (s.regs 31)
   pub gp : s.regs 28 ≡ data_middle
 

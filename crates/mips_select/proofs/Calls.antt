@@ -235,10 +235,7 @@ module _ (most total : ℕ) (gs : List RGlobal) (starts : ℕ → ℕ) (small : 
               (λ j lt. stack_apart (width_of gs a) (low.regs 29 + 4 * f.slots + 4 * j) (place_in gs starts a i) total (omega (arith, down, room, fits))
               (omega (arith, lt, long, down, up)) inside few)
               ∙ h.elements a i w at;
-          inside = h.inside;
-          apart = h.apart;
-          even = h.even;
-          few = h.few;
+          places = h.places;
           linked = λ _. low.others 31 (λ e. absurd (omega (arith, e))) ∙ is_link;
           gp = low.others 28 (λ e. absurd (omega (arith, e))) ∙ h.gp;
         };
@@ -295,10 +292,7 @@ module _ (most total : ℕ) (gs : List RGlobal) (starts : ℕ → ℕ) (small : 
           room = omega (arith, pointer, low);
           aligned = omega (arith, pointer, a4, size4);
           elements = h.elements;
-          inside = h.inside;
-          apart = h.apart;
-          even = h.even;
-          few = h.few;
+          places = h.places;
           linked = linked (lift.regs 31);
           gp = lift.others 28 (λ e. absurd (omega (arith, e))) ∙ back.others 28 (kept_in most f ok leaf 28 false
               (saved_other most f ok 28 (inr (omega arith))) (λ e. absurd (omega (arith, e)))) ∙ h.gp;

@@ -111,10 +111,12 @@ module _ (globals : List RGlobal) (ok : HaveValues globals) (few : length (padde
     elements = λ a i v at. element_shown (padded_bytes globals) few (width_of globals a) (start_of globals a) i v (values_below globals a i v at)
         (start_even 0 globals (omega arith) a)
         (λ k b byte. element_byte 0 globals ok a i v k b (element_place (width_of globals a) (start_of globals a) i + k) at byte (omega arith));
-    inside = λ a i v at. (let within = (element_within 0 globals ok a i v at).1 in omega (arith, within));
-    apart = λ a i b j v w e f ne. elements_apart 0 globals ok a i b j v w e f ne;
-    even = start_even 0 globals (omega arith);
-    few = few;
+    places = record {
+      inside = λ a i v at. (let within = (element_within 0 globals ok a i v at).1 in omega (arith, within));
+      apart = λ a i b j v w e f ne. elements_apart 0 globals ok a i b j v w e f ne;
+      even = start_even 0 globals (omega arith);
+      few = few;
+    };
     linked = tt;
     gp = gp;
   }
