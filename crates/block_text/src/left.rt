@@ -1,7 +1,7 @@
 // What a block or an order leaves, place by place.
 
 use crate::lines::put_block;
-use crate::reader::{Left, ReadFault, block_left, order_left};
+use crate::reader::{Code, Left, ReadFault, left_of};
 use crate::text::{pair_sign, root_text, width_name, zero_sign};
 use crate::writer::Writer;
 use block_validator::Place;
@@ -191,6 +191,18 @@ fn place_in(
     }
 }
 
+/// What is left in a place.
+fn place_text(
+    alloc: Global,
+    code: Code<'_>,
+    place: Place,
+    depth: u32,
+) -> Result<String, ReadFault> {
+    let mut left = left_of(alloc, code)?;
+    let text = place_in(alloc, &mut left, place, depth)?;
+    Ok(text)
+}
+
 /// What a block leaves in a place, as its term is written, cut at a depth.
 pub fn block_place_text(
     alloc: Global,
@@ -198,9 +210,7 @@ pub fn block_place_text(
     place: Place,
     depth: u32,
 ) -> Result<String, ReadFault> {
-    let mut left = block_left(alloc, block)?;
-    let text = place_in(alloc, &mut left, place, depth)?;
-    Ok(text)
+    place_text(alloc, Code::Block(block), place, depth)
 }
 
 /// The same of an order.
@@ -210,9 +220,7 @@ pub fn order_place_text(
     place: Place,
     depth: u32,
 ) -> Result<String, ReadFault> {
-    let mut left = order_left(alloc, order)?;
-    let text = place_in(alloc, &mut left, place, depth)?;
-    Ok(text)
+    place_text(alloc, Code::Order(order), place, depth)
 }
 
 /// Whether a root's term is what was there at the start.
@@ -303,7 +311,7 @@ fn lines_of(alloc: Global, left: &mut Left, depth: u32) -> Result<String, AllocE
 /// What a block leaves: a line for each register, HI, LO and memory that changes, with its term cut at a depth, one for the
 /// exit and one for the guards.
 pub fn left_lines(alloc: Global, block: &Block, depth: u32) -> Result<String, ReadFault> {
-    let mut left = block_left(alloc, block)?;
+    let mut left = left_of(alloc, Code::Block(block))?;
     let lines = lines_of(alloc, &mut left, depth)?;
     Ok(lines)
 }

@@ -1,76 +1,89 @@
 // Blocks and orders in the lines of a check text.
 
 ghost use Rattle.std.specs.Prelude.{◌≡◌, Some};
-ghost use Rattle.check_text.specs.Spelling.{exit_name_text, exit_text};
-ghost use Rattle.check_text.specs.declared.names.ExitName.TheVariants as names;
+ghost use Rattle.check_text.specs.Spelling.{exit_text, name_of_exit, targets_text};
 
 use crate::writer::Writer;
+use check_text::ExitName;
 use mblock::{BlockNumber, Exit, Order};
-use mips_isa::{PairTest, Plain, ZeroTest};
+use mips_isa::Plain;
 use std::fmt;
+
+/// The name of an exit that names blocks.
+fn name_of(exit: &Exit) -> Option<ExitName>
+    ensures { result ≡ name_of_exit exit.now }
+{
+    match *exit {
+        Exit::Goto(_) => Some(ExitName::Goto),
+        Exit::BranchPair { test, .. } => Some(ExitName::BranchPair(test)),
+        Exit::BranchZero { test, .. } => Some(ExitName::BranchZero(test)),
+        Exit::Call { .. } => Some(ExitName::Call),
+        Exit::Out(_) => Some(ExitName::Out),
+        Exit::Return | Exit::Halt => None,
+    }
+}
+
+/// What stands behind the name of an exit, or alone.
+#[derive(Clone, Copy)]
+struct Targets<'a>(&'a Exit);
+
+impl<'a> fmt::Display for Targets<'a> {
+    ghost output = { λ e. Some (targets_text e.0.now) };
+
+    fn fmt<W: fmt::Write>(&self, f: &mut fmt::Formatter<W>) -> fmt::Result {
+        match *self.0 {
+            Exit::Goto(then) => {
+                let then = then.number();
+                write!(f, "{then}")
+            }
+            Exit::BranchPair {
+                rs,
+                rt,
+                then,
+                other,
+                ..
+            } => {
+                let (then, other) = (then.number(), other.number());
+                write!(f, "{rs},{rt},{then},{other}")
+            }
+            Exit::BranchZero {
+                rs,
+                then,
+                other,
+                ..
+            } => {
+                let (then, other) = (then.number(), other.number());
+                write!(f, "{rs},{then},{other}")
+            }
+            Exit::Call { function, next } => {
+                let (function, next) = (function.number(), next.number());
+                write!(f, "{function},{next}")
+            }
+            Exit::Return => f.write_str("return"),
+            Exit::Out(next) => {
+                let next = next.number();
+                write!(f, "{next}")
+            }
+            Exit::Halt => f.write_str("halt"),
+        }
+    }
+}
 
 /// How a block is left, as check texts spell it.
 #[derive(Clone, Copy)]
 pub struct ExitLine(pub Exit);
 
-fn pair_name(test: PairTest) -> &'static str
-    ensures { result.now ≡ exit_name_text (names.BranchPair test) }
-{
-    match test {
-        PairTest::Equal => "beq",
-        PairTest::NotEqual => "bne",
-    }
-}
-
-fn zero_name(test: ZeroTest) -> &'static str
-    ensures { result.now ≡ exit_name_text (names.BranchZero test) }
-{
-    match test {
-        ZeroTest::AtMostZero => "blez",
-        ZeroTest::AboveZero => "bgtz",
-        ZeroTest::BelowZero => "bltz",
-        ZeroTest::AtLeastZero => "bgez",
-    }
-}
-
 impl fmt::Display for ExitLine {
     ghost output = { λ e. Some (exit_text e.0) };
 
     fn fmt<W: fmt::Write>(&self, f: &mut fmt::Formatter<W>) -> fmt::Result {
-        match self.0 {
-            Exit::Goto(then) => {
-                let then = then.number();
-                write!(f, "goto {then}")
+        let targets = Targets(&self.0);
+        match name_of(&self.0) {
+            Some(name) => {
+                let name = name.name();
+                write!(f, "{name} {targets}")
             }
-            Exit::BranchPair {
-                test,
-                rs,
-                rt,
-                then,
-                other,
-            } => {
-                let (name, then, other) = (pair_name(test), then.number(), other.number());
-                write!(f, "{name} {rs},{rt},{then},{other}")
-            }
-            Exit::BranchZero {
-                test,
-                rs,
-                then,
-                other,
-            } => {
-                let (name, then, other) = (zero_name(test), then.number(), other.number());
-                write!(f, "{name} {rs},{then},{other}")
-            }
-            Exit::Call { function, next } => {
-                let (function, next) = (function.number(), next.number());
-                write!(f, "call {function},{next}")
-            }
-            Exit::Return => f.write_str("return"),
-            Exit::Out(next) => {
-                let next = next.number();
-                write!(f, "out {next}")
-            }
-            Exit::Halt => f.write_str("halt"),
+            None => write!(f, "{targets}"),
         }
     }
 }

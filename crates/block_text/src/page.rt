@@ -11,7 +11,7 @@ pub const WIDTH: usize = 120;
 const DOTS: usize = 3;
 
 /// The byte itself if it is printable or a line's end, else `?`.
-fn shown(byte: u8) -> u8
+fn shown_byte(byte: u8) -> u8
     ensures { IsShown result }
 {
     match byte {
@@ -26,7 +26,7 @@ fn put(page: &mut Vec<u8>, byte: u8) -> Result<(), AllocError>
     requires { All IsShown page.old.items }
     ensures { All IsShown page.new.items }
 {
-    page.push(shown(byte))?;
+    page.push(shown_byte(byte))?;
     Ok(())
 }
 

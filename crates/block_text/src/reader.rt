@@ -10,7 +10,7 @@ use std::alloc::{AllocError, Global};
 use std::marker::Model;
 use sym_exec::{Guard, RunRoom, SymState, TermExit, TermPlaces, run_block, run_order};
 use sym_terms::Label;
-use term_table::{Node, Pass, TermTable, Ticket};
+use term_table::{Node, Pass, TableFull, TermTable, Ticket};
 
 /// How many terms a table has room for.
 #[derive(Clone, Copy)]
@@ -194,42 +194,46 @@ fn left_by(alloc: Global, table: TermTable, pass: Pass, state: SymState) -> Resu
     })
 }
 
-/// What a block leaves, over a table of some room.
-fn block_left_in(alloc: Global, block: &Block, size: Room) -> Result<Left, ReadFault> {
+/// What is run: a block or an order.
+#[derive(Clone, Copy)]
+pub(crate) enum Code<'a> {
+    Block(&'a Block),
+    Order(&'a Order),
+}
+
+/// The tickets of what a block or an order leaves.
+fn run(
+    table: &TermTable,
+    pass: &mut Pass,
+    code: Code<'_>,
+    room: RunRoom,
+) -> Result<SymState, TableFull>
+    requires { IsOf table.now pass.old }
+    ensures own { IsOf table.now pass.new }
+    ensures seen { IfOk result (λ s. IsSeenState pass.new s.places s.exit s.guards.items) }
+{
+    match code {
+        Code::Block(block) => run_block(table, pass, block, room),
+        Code::Order(order) => run_order(table, pass, order, room),
+    }
+}
+
+/// What a block or an order leaves, over a table of some room.
+fn left_in(alloc: Global, code: Code<'_>, size: Room) -> Result<Left, ReadFault> {
     let room = RunRoom::new(alloc)?;
     let Some((table, mut pass)) = table_of(alloc, size) else {
         return Err(ReadFault::NoMemory);
     };
-    match run_block(&table, &mut pass, block, room) {
+    match run(&table, &mut pass, code, room) {
         Ok(state) => left_by(alloc, table, pass, state),
         Err(_) => Err(ReadFault::Full),
     }
 }
 
-/// What an order leaves, over a table of some room.
-fn order_left_in(alloc: Global, order: &Order, size: Room) -> Result<Left, ReadFault> {
-    let room = RunRoom::new(alloc)?;
-    let Some((table, mut pass)) = table_of(alloc, size) else {
-        return Err(ReadFault::NoMemory);
-    };
-    match run_order(&table, &mut pass, order, room) {
-        Ok(state) => left_by(alloc, table, pass, state),
-        Err(_) => Err(ReadFault::Full),
-    }
-}
-
-/// What a block leaves.
-pub(crate) fn block_left(alloc: Global, block: &Block) -> Result<Left, ReadFault> {
-    match block_left_in(alloc, block, Room::Few) {
-        Err(ReadFault::Full) => block_left_in(alloc, block, Room::Many),
-        left => left,
-    }
-}
-
-/// What an order leaves.
-pub(crate) fn order_left(alloc: Global, order: &Order) -> Result<Left, ReadFault> {
-    match order_left_in(alloc, order, Room::Few) {
-        Err(ReadFault::Full) => order_left_in(alloc, order, Room::Many),
+/// What a block or an order leaves.
+pub(crate) fn left_of(alloc: Global, code: Code<'_>) -> Result<Left, ReadFault> {
+    match left_in(alloc, code, Room::Few) {
+        Err(ReadFault::Full) => left_in(alloc, code, Room::Many),
         left => left,
     }
 }

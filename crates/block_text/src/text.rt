@@ -139,7 +139,7 @@ fn put_operands(out: &mut Writer, operands: &[String], between: &str) {
 }
 
 /// A term of a label and its operands, the last of which stands first. The label stands before them, or as a sign between them.
-fn joined(alloc: Global, label: &Label, operands: &[String]) -> Result<String, AllocError> {
+fn term_text(alloc: Global, label: &Label, operands: &[String]) -> Result<String, AllocError> {
     let mut out = Writer::new(alloc);
     let between = match infix(label) {
         Some(sign) => sign,
@@ -174,7 +174,7 @@ fn next_text(
     for _ in 0..count {
         operands.push(next_text(alloc, reader, depth - 1, left)?)?;
     }
-    joined(alloc, &label, operands.as_slice())
+    term_text(alloc, &label, operands.as_slice())
 }
 
 /// The text of a root's term, cut at a depth; empty where there is no such root.

@@ -24,4 +24,5 @@ mod stage;
 
 pub use fault::PairFault;
 pub use line::{exit_of, plain_of};
+pub use names::ExitName;
 pub use reader::{Text, read};

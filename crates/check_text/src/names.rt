@@ -91,10 +91,14 @@ pub enum ExitName {
     Out,
 }
 
-impl Named for ExitName {
-    ghost text = { λ n. exit_name_text n };
+impl ExitName {
+    ghost use Rattle.std.specs.Prelude.{◌≡◌};
+    ghost use Rattle.check_text.specs.Spelling.{exit_name_text};
 
-    fn word(self) -> &'static str {
+    /// The word.
+    pub fn name(self) -> &'static str
+        ensures { result.now ≡ exit_name_text self }
+    {
         match self {
             ExitName::Goto => "goto",
             ExitName::BranchPair(PairTest::Equal) => "beq",
@@ -106,6 +110,14 @@ impl Named for ExitName {
             ExitName::Call => "call",
             ExitName::Out => "out",
         }
+    }
+}
+
+impl Named for ExitName {
+    ghost text = { λ n. exit_name_text n };
+
+    fn word(self) -> &'static str {
+        self.name()
     }
 }
 
