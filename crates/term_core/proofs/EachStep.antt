@@ -272,13 +272,7 @@ module _ (s : Shape) (ok : IsShape s) (w : World) (inv : Inv s w) (p : ℕ) (v :
       there = λ t x e.
           let r = inv.shared.there t x e in let o = r.0 in (
             record {
-              label = o.label;
-              kids = o.kids;
-              trees = o.trees;
-              tree_is = o.tree_is;
-              kids_are = o.kids_are;
-              three =
-                  o.three;
+              root = o.root;
               holds = λ j lt. elsewhere t j lt (not_own t (x, e)) ∙ o.holds j lt;
               low = o.low;
             },
@@ -418,16 +412,13 @@ module _ (s : Shape) (ok : IsShape s) (w : World) (inv : Inv s w) (p : ℕ) (v :
   look_on : (k : ℕ) → Next 0 (record { walker = record b { stage = Idle; seen = take (max k (length b.seen)) w.history }; said = [] }) (slice_index w.words 0)
   look_on k = loaded s w inv p v at b same_room st 0 (slice_set w.passes p u)
       (combine s w inv p v at w.words w.history chains u (no_change s w inv p v at) inv.legal inv.shared (ap (λ (n : ℕ). n + length ps) same_room) (record {
-        number = st.number;
-        low = st.low;
+        owns = st.owns;
         begins = (drop m w.history, sym (take_drop w.history m));
         own_calls = ap (λ (h : List Entry). calls_by p h) seen_is
             ∙ (Rattle.term_core.proofs.Replay.calls_append p b.seen (take more.0 rest) ∙ ((λ i. st.own_calls i ++ none_later i) ∙ append-nil b.mine));
         all_calls = st.all_calls;
         count = st.count;
         probes = st.probes;
-        range = st.range;
-        base = st.base;
         free = st.free;
         spot = tt;
       }))

@@ -198,12 +198,14 @@ module _ (s : Shape) (ok : IsShape s) (w : World) (inv : Inv s w) (p : ℕ) (v :
       let R : ℕ → Tree → Type 0 = λ n y. Stored s words' (ps ++ pair ∷ []) n y × Mem n (chains' (home s words' n)) in
       subst (λ (n : ℕ). R n x) (sym q) (subst (λ (y : Tree). R own y) g (
         record {
-          label = label_of c;
-          kids = kids_of c;
-          trees = k.walk.trees;
-          tree_is = refl;
-          kids_are = trees_more ps (pair ∷ []) (kids_of c) k.walk.trees k.walk.known;
-          three = k.walk.three;
+          root = record {
+            label = label_of c;
+            kids = kids_of c;
+            trees = k.walk.trees;
+            tree_is = refl;
+            kids_are = trees_more ps (pair ∷ []) (kids_of c) k.walk.trees k.walk.known;
+            three = k.walk.three;
+          };
           holds = own_same;
           low = low;
         },
@@ -216,12 +218,14 @@ module _ (s : Shape) (ok : IsShape s) (w : World) (inv : Inv s w) (p : ℕ) (v :
       let r = inv.shared.there t old.0 old.1 in
       let o = r.0 in (
         record {
-          label = o.label;
-          kids = o.kids;
-          trees = o.trees;
-          tree_is = sym g ∙ o.tree_is;
-          kids_are = trees_more ps (pair ∷ []) o.kids o.trees o.kids_are;
-          three = o.three;
+          root = record {
+            label = o.label;
+            kids = o.kids;
+            trees = o.trees;
+            tree_is = sym g ∙ o.tree_is;
+            kids_are = trees_more ps (pair ∷ []) o.kids o.trees o.kids_are;
+            three = o.three;
+          };
           holds = λ i lt. content_same t i lt ∙ o.holds i lt;
           low = o.low;
         },
@@ -291,8 +295,12 @@ module _ (s : Shape) (ok : IsShape s) (w : World) (inv : Inv s w) (p : ℕ) (v :
       (subst In (sym pairs_is) shared')
       (let l : length (pairs_of h') ≡ length (ps ++ pair ∷ []) = ap length pairs_is in let r = some_room in omega (arith, length-append ps (pair ∷ [])))
       (record {
-        number = st.number;
-        low = st.low;
+        owns = record {
+          number = st.number;
+          low = st.low;
+          range = let q = st.range in let r = some_room in omega arith;
+          base = let q = st.base in omega arith;
+        };
         begins = ([], sym (append-nil h'));
         own_calls = calls_are s w inv p v at b same_room st c (Ticket own);
         all_calls = calls_are s w inv p v at b same_room st c (Ticket own);
@@ -300,8 +308,6 @@ module _ (s : Shape) (ok : IsShape s) (w : World) (inv : Inv s w) (p : ℕ) (v :
             ∙ added_here in omega arith;
         probes = let q = st.probes in let l : length (pairs_of h') ≡ length (ps ++ pair ∷ []) = ap length pairs_is in
             omega (arith, length-append ps (pair ∷ []));
-        range = let q = st.range in let r = some_room in omega arith;
-        base = let q = st.base in omega arith;
         free = λ n lo hi.
             let r = some_room in
             let f = st.free n (omega arith) (omega arith) in

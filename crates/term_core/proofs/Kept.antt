@@ -30,13 +30,18 @@ kids_at s words t = kid_in (word s words t 1) (kid_in (word s words t 2) (kid_in
 abbrev pub home : Shape → List ℕ → ℕ → ℕ
 home s words t = s.chain (word s words t 0) (kids_at s words t)
 
-pub record Stored (s : Shape) (words : List ℕ) (ps : List Pair) (t : ℕ) (x : Tree) : Type 0 where
+-- a tree's root, over children that are there
+pub record Root (ps : List Pair) (x : Tree) : Type 0 where
   pub label : ℕ
   pub kids : List ℕ
   pub trees : Trees
   pub tree_is : x ≡ node label trees
   pub kids_are : trees_at ps kids ≡ Some trees
   pub three : at_most_three kids ≡ true
+
+pub record Stored (s : Shape) (words : List ℕ) (ps : List Pair) (t : ℕ) (x : Tree) : Type 0 where
+  pub root : Root ps x
+  pub open root use {label, kids, trees, tree_is, kids_are, three}
   pub holds : SameAs s words t (content_of label kids)
   pub low : t < s.workers * s.nodes
 
@@ -128,16 +133,21 @@ Spot s words ps chains v (Writing c a i) = OnWriting s words ps chains v c a i
 Spot s words ps chains v (Linking c a) = OnLinking s words ps chains v c a
 Spot s words ps chains v (Reading t xs) = OnReading s words ps v t xs
 
-pub record Stands (s : Shape) (words : List ℕ) (h : List Entry) (chains : ℕ → List ℕ) (by : ℕ) (v : Walker) : Type 0 where
-  pub number : v.by ≡ by
+-- the part of the nodes that a pass has for its own
+pub record Owns (s : Shape) (by id own room : ℕ) : Type 0 where
+  pub number : id ≡ by
   pub low : by < s.workers
+  pub range : own + room ≡ by * s.nodes + s.nodes
+  pub base : by * s.nodes ≤ own
+
+pub record Stands (s : Shape) (words : List ℕ) (h : List Entry) (chains : ℕ → List ℕ) (by : ℕ) (v : Walker) : Type 0 where
+  pub owns : Owns s by v.by v.own v.room
+  pub open owns use {number, low, range, base}
   pub begins : StartsWith h v.seen
   pub own_calls : calls_by by v.seen ≡ v.mine
   pub all_calls : calls_by by h ≡ v.mine
   pub count : added_by by (pairs_of h) + v.room ≡ s.nodes
   pub probes : v.probes ≤ length (pairs_of h) + 1
-  pub range : v.own + v.room ≡ by * s.nodes + s.nodes
-  pub base : by * s.nodes ≤ v.own
   pub free : (k : ℕ) → v.own ≤ k → k < v.own + v.room → (slice_index words (link_of s k) ≡ 0) × (tree_at (pairs_of h) k ≡ None)
   pub spot : Spot s words (pairs_of h) chains v v.stage
 
@@ -148,15 +158,12 @@ pub stands_at : (s : Shape) (words words' : List ℕ) (h : List Entry) (chains :
     → Spot s words' (pairs_of h) chains (record v { stage = g; probes = q }) g → Stands s words h chains by v
     → Stands s words' h chains by (record v { stage = g; probes = q })
 stands_at s words words' h chains by v g q few free k st = record {
-  number = st.number;
-  low = st.low;
+  owns = st.owns;
   begins = st.begins;
   own_calls = st.own_calls;
   all_calls = st.all_calls;
   count = st.count;
   probes = few;
-  range = st.range;
-  base = st.base;
   free = free;
   spot = k;
 }
@@ -296,8 +303,7 @@ module _ (s : Shape) (p : ℕ) (words words' : List ℕ) (h h' : List Entry) (ch
 
     pub stands_still : Stands s words' h' chains' q v
     stands_still = record {
-      number = st.number;
-      low = st.low;
+      owns = st.owns;
       begins = (st.begins.0 ++ d.said, d.says ∙ (ap (λ (l : List Entry). l ++ d.said) st.begins.1 ∙ append_assoc v.seen st.begins.0 d.said));
       own_calls = st.own_calls;
       all_calls = ap (calls_by q) d.says
@@ -305,8 +311,6 @@ module _ (s : Shape) (p : ℕ) (words words' : List ℕ) (h h' : List Entry) (ch
           ∙ (ap (λ (l : List Entry). calls_by q h ++ l) (d.silent q ne) ∙ (append-nil (calls_by q h) ∙ st.all_calls)));
       count = ap (λ (n : ℕ). n + v.room) (d.same_count q ne) ∙ st.count;
       probes = let a = st.probes in let b = d.longer in omega arith;
-      range = st.range;
-      base = st.base;
       free = λ k lo hi. let f = st.free k lo hi in let o = far k lo hi in (d.links k f.1 o ∙ f.0, d.none k f.1 o);
       spot = spot_stays v.stage st.spot;
     }

@@ -161,15 +161,12 @@ starts s ok = record {
       let r = fresh_at s 0 s.workers by v e in
       let is : fresh s by ≡ v = ap (fresh s) (sym (Rattle.std.proofs.Common.zero-add by)) ∙ sym r.1 in
       subst (λ (x : Walker). Stands s (start s).words [] (λ c. []) by x) is (record {
-        number = refl;
-        low = r.0;
+        owns = record { number = refl; low = r.0; range = refl; base = omega arith };
         begins = ([], refl);
         own_calls = refl;
         all_calls = refl;
         count = omega arith;
         probes = omega arith;
-        range = refl;
-        base = omega arith;
         free = λ k lo hi. (all_zero (s.heads + 5 * (s.workers * s.nodes)) (link_of s k), refl);
         spot = tt;
       });
