@@ -413,11 +413,13 @@ module _ (s : Shape) (ok : IsShape s) (w : World) (inv : Inv s w) (p : ℕ) (v :
   look_on k = loaded s w inv p v at b same_room st 0 (slice_set w.passes p u)
       (combine s w inv p v at w.words w.history chains u (no_change s w inv p v at) inv.legal inv.shared (ap (λ (n : ℕ). n + length ps) same_room) (record {
         owns = st.owns;
-        begins = (drop m w.history, sym (take_drop w.history m));
-        own_calls = ap (λ (h : List Entry). calls_by p h) seen_is
-            ∙ (Rattle.term_core.proofs.Replay.calls_append p b.seen (take more.0 rest) ∙ ((λ i. st.own_calls i ++ none_later i) ∙ append-nil b.mine));
-        all_calls = st.all_calls;
-        count = st.count;
+        tells = record {
+          begins = (drop m w.history, sym (take_drop w.history m));
+          own_calls = ap (λ (h : List Entry). calls_by p h) seen_is
+              ∙ (Rattle.term_core.proofs.Replay.calls_append p b.seen (take more.0 rest) ∙ ((λ i. st.own_calls i ++ none_later i) ∙ append-nil b.mine));
+          all_calls = st.all_calls;
+          count = st.count;
+        };
         probes = st.probes;
         free = st.free;
         spot = tt;

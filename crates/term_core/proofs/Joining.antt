@@ -301,11 +301,13 @@ module _ (s : Shape) (ok : IsShape s) (w : World) (inv : Inv s w) (p : ℕ) (v :
           range = let q = st.range in let r = some_room in omega arith;
           base = let q = st.base in omega arith;
         };
-        begins = ([], sym (append-nil h'));
-        own_calls = calls_are s w inv p v at b same_room st c (Ticket own);
-        all_calls = calls_are s w inv p v at b same_room st c (Ticket own);
-        count = let q = st.count in let r = some_room in let e : added_by p (pairs_of h') ≡ added_by p ps + 1 = ap (added_by p) pairs_is
-            ∙ added_here in omega arith;
+        tells = record {
+          begins = ([], sym (append-nil h'));
+          own_calls = calls_are s w inv p v at b same_room st c (Ticket own);
+          all_calls = calls_are s w inv p v at b same_room st c (Ticket own);
+          count = let q = st.count in let r = some_room in let e : added_by p (pairs_of h') ≡ added_by p ps + 1 = ap (added_by p) pairs_is
+              ∙ added_here in omega arith;
+        };
         probes = let q = st.probes in let l : length (pairs_of h') ≡ length (ps ++ pair ∷ []) = ap length pairs_is in
             omega (arith, length-append ps (pair ∷ []));
         free = λ n lo hi.

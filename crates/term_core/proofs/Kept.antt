@@ -140,13 +140,18 @@ pub record Owns (s : Shape) (by id own room : ℕ) : Type 0 where
   pub range : own + room ≡ by * s.nodes + s.nodes
   pub base : by * s.nodes ≤ own
 
+-- what the history tells of a pass: it begins with what the pass has seen, and has its calls and nodes
+pub record Tells (s : Shape) (h : List Entry) (by : ℕ) (seen mine : List Entry) (room : ℕ) : Type 0 where
+  pub begins : StartsWith h seen
+  pub own_calls : calls_by by seen ≡ mine
+  pub all_calls : calls_by by h ≡ mine
+  pub count : added_by by (pairs_of h) + room ≡ s.nodes
+
 pub record Stands (s : Shape) (words : List ℕ) (h : List Entry) (chains : ℕ → List ℕ) (by : ℕ) (v : Walker) : Type 0 where
   pub owns : Owns s by v.by v.own v.room
   pub open owns use {number, low, range, base}
-  pub begins : StartsWith h v.seen
-  pub own_calls : calls_by by v.seen ≡ v.mine
-  pub all_calls : calls_by by h ≡ v.mine
-  pub count : added_by by (pairs_of h) + v.room ≡ s.nodes
+  pub tells : Tells s h by v.seen v.mine v.room
+  pub open tells use {begins, own_calls, all_calls, count}
   pub probes : v.probes ≤ length (pairs_of h) + 1
   pub free : (k : ℕ) → v.own ≤ k → k < v.own + v.room → (slice_index words (link_of s k) ≡ 0) × (tree_at (pairs_of h) k ≡ None)
   pub spot : Spot s words (pairs_of h) chains v v.stage
@@ -159,10 +164,7 @@ pub stands_at : (s : Shape) (words words' : List ℕ) (h : List Entry) (chains :
     → Stands s words' h chains by (record v { stage = g; probes = q })
 stands_at s words words' h chains by v g q few free k st = record {
   owns = st.owns;
-  begins = st.begins;
-  own_calls = st.own_calls;
-  all_calls = st.all_calls;
-  count = st.count;
+  tells = st.tells;
   probes = few;
   free = free;
   spot = k;
@@ -304,12 +306,14 @@ module _ (s : Shape) (p : ℕ) (words words' : List ℕ) (h h' : List Entry) (ch
     pub stands_still : Stands s words' h' chains' q v
     stands_still = record {
       owns = st.owns;
-      begins = (st.begins.0 ++ d.said, d.says ∙ (ap (λ (l : List Entry). l ++ d.said) st.begins.1 ∙ append_assoc v.seen st.begins.0 d.said));
-      own_calls = st.own_calls;
-      all_calls = ap (calls_by q) d.says
-          ∙ (Rattle.term_core.proofs.Replay.calls_append q h d.said
-          ∙ (ap (λ (l : List Entry). calls_by q h ++ l) (d.silent q ne) ∙ (append-nil (calls_by q h) ∙ st.all_calls)));
-      count = ap (λ (n : ℕ). n + v.room) (d.same_count q ne) ∙ st.count;
+      tells = record {
+        begins = (st.begins.0 ++ d.said, d.says ∙ (ap (λ (l : List Entry). l ++ d.said) st.begins.1 ∙ append_assoc v.seen st.begins.0 d.said));
+        own_calls = st.own_calls;
+        all_calls = ap (calls_by q) d.says
+            ∙ (Rattle.term_core.proofs.Replay.calls_append q h d.said
+            ∙ (ap (λ (l : List Entry). calls_by q h ++ l) (d.silent q ne) ∙ (append-nil (calls_by q h) ∙ st.all_calls)));
+        count = ap (λ (n : ℕ). n + v.room) (d.same_count q ne) ∙ st.count;
+      };
       probes = let a = st.probes in let b = d.longer in omega arith;
       free = λ k lo hi. let f = st.free k lo hi in let o = far k lo hi in (d.links k f.1 o ∙ f.0, d.none k f.1 o);
       spot = spot_stays v.stage st.spot;

@@ -162,10 +162,12 @@ starts s ok = record {
       let is : fresh s by ≡ v = ap (fresh s) (sym (Rattle.std.proofs.Common.zero-add by)) ∙ sym r.1 in
       subst (λ (x : Walker). Stands s (start s).words [] (λ c. []) by x) is (record {
         owns = record { number = refl; low = r.0; range = refl; base = omega arith };
-        begins = ([], refl);
-        own_calls = refl;
-        all_calls = refl;
-        count = omega arith;
+        tells = record {
+          begins = ([], refl);
+          own_calls = refl;
+          all_calls = refl;
+          count = omega arith;
+        };
         probes = omega arith;
         free = λ k lo hi. (all_zero (s.heads + 5 * (s.workers * s.nodes)) (link_of s k), refl);
         spot = tt;
