@@ -24,17 +24,26 @@ use Rattle.mips_emit.specs.Code.{constant, load_word_at, store_word_at, move_cod
 use Rattle.mips_emit.specs.Comparisons.{insts_code, last_after, no_last, tested, branch_code, branch_exit, returned, return_code}
 use Rattle.mips_select.specs.declared.heads.Head.{Head}
 use Rattle.mips_select.specs.declared.heads.Head.TheVariants.{Bare, Enters, Takes}
+use Rattle.mips_select.specs.declared.prologue.Way.{Way}
+use Rattle.mips_select.specs.declared.prologue.Way.TheVariants.{Save, Restore}
 
 -- ---- frames
 
--- registers into the frame from an offset on, and back
+-- a register into a word of the frame, or back
+abbrev pub frame_word : Way → ℕ → ℕ → Plain
+frame_word Save r at = store_word_at r at
+frame_word Restore r at = load_word_at r at
+
+-- registers, from an offset on
+abbrev pub frame_words : Way → ℕ → List ℕ → List Plain
+frame_words way at [] = []
+frame_words way at (r ∷ rs) = frame_word way r at ∷ frame_words way (at + 4) rs
+
 abbrev pub saves : ℕ → List ℕ → List Plain
-saves at [] = []
-saves at (r ∷ rs) = store_word_at r at ∷ saves (at + 4) rs
+saves at rs = frame_words Save at rs
 
 abbrev pub restores : ℕ → List ℕ → List Plain
-restores at [] = []
-restores at (r ∷ rs) = load_word_at r at ∷ restores (at + 4) rs
+restores at rs = frame_words Restore at rs
 
 -- the bytes that a frame takes
 abbrev pub frame_bytes : Bool → Frame → ℕ
@@ -44,13 +53,15 @@ frame_bytes leaf f = 4 * (f.slots + length f.saved.items + link_words leaf)
 abbrev pub link_offset : Frame → ℕ
 link_offset f = 4 * f.slots + 4 * length f.saved.items
 
+abbrev pub frame_link : Way → Bool → Frame → List Plain
+frame_link way true f = []
+frame_link way false f = frame_word way 31 (link_offset f) ∷ []
+
 abbrev pub link_save : Bool → Frame → List Plain
-link_save true f = []
-link_save false f = store_word_at 31 (link_offset f) ∷ []
+link_save leaf f = frame_link Save leaf f
 
 abbrev pub link_load : Bool → Frame → List Plain
-link_load true f = []
-link_load false f = load_word_at 31 (link_offset f) ∷ []
+link_load leaf f = frame_link Restore leaf f
 
 -- the stack pointer goes down and up
 abbrev pub lowers : ℕ → List Plain

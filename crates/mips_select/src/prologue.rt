@@ -6,12 +6,12 @@ ghost use Rattle.mips_isa.specs.declared.inst.Plain.TheVariants.{Imm};
 ghost use Rattle.mips_emit.specs.declared.limits.TheConstants.{FRAME_BYTES};
 ghost use Rattle.mips_emit.specs.Frames.{IsReachable};
 ghost use Rattle.mips_emit.specs.Locations.{locations};
-ghost use Rattle.mips_select.specs.Code.{saves, restores, frame_bytes, link_save, link_load, lowers, raises, parameters_code, prologue};
+ghost use Rattle.mips_select.specs.Code.{frame_word, frame_words, frame_bytes, frame_link, lowers, raises, parameters_code, prologue};
 ghost use Rattle.mips_select.specs.Code.{epilogue};
 
 use mips_emit::{emit_arrival, emit_load_word, emit_store_word, register};
 use mips_homes::Frame;
-use mips_isa::{ImmOp, Plain, Reg};
+use mips_isa::{ImmOp, NonzeroReg, Plain, Reg};
 use std::alloc::AllocError;
 
 // The stack pointer.
@@ -21,29 +21,34 @@ fn stack_pointer() -> Reg
     Reg::masked(29)
 }
 
-// Registers into the frame, from an offset on.
-fn emit_saves(code: &mut Vec<Plain>, at: u32, registers: &[u8]) -> Result<(), AllocError>
-    requires fits { at + 4 * length registers.now ≤ FRAME_BYTES }
-    requires registers { (j r : ℕ) → slice_get registers.now j ≡ Some r → (16 ≤ r) × (r < 24) }
-    ensures { OnOk result (code.new.items ≡ code.old.items ++ saves at registers.now) }
+// Which way words go between registers and the frame.
+#[derive(Clone, Copy)]
+pub(crate) enum Way {
+    Save,
+    Restore,
+}
+
+// A register into a word of the frame, or back.
+fn emit_word(code: &mut Vec<Plain>, way: Way, r: NonzeroReg, place: u32) -> Result<(), AllocError>
+    requires { place ≤ FRAME_BYTES }
+    ensures { OnOk result (code.new.items ≡ code.old.items ++ frame_word way r place ∷ []) }
 {
-    let mut place = at;
-    for r in registers {
-        emit_store_word(code, register(*r).reg(), place)?;
-        place += 4;
+    match way {
+        Way::Save => emit_store_word(code, r.reg(), place)?,
+        Way::Restore => emit_load_word(code, r, place)?,
     }
     Ok(())
 }
 
-// Registers out of the frame.
-fn emit_restores(code: &mut Vec<Plain>, at: u32, registers: &[u8]) -> Result<(), AllocError>
+// Registers into the frame from an offset on, or back.
+fn emit_words(code: &mut Vec<Plain>, way: Way, at: u32, registers: &[u8]) -> Result<(), AllocError>
     requires fits { at + 4 * length registers.now ≤ FRAME_BYTES }
     requires registers { (j r : ℕ) → slice_get registers.now j ≡ Some r → (16 ≤ r) × (r < 24) }
-    ensures { OnOk result (code.new.items ≡ code.old.items ++ restores at registers.now) }
+    ensures { OnOk result (code.new.items ≡ code.old.items ++ frame_words way at registers.now) }
 {
     let mut place = at;
     for r in registers {
-        emit_load_word(code, register(*r), place)?;
+        emit_word(code, way, register(*r), place)?;
         place += 4;
     }
     Ok(())
@@ -94,26 +99,14 @@ fn emit_raises(code: &mut Vec<Plain>, size: u32) -> Result<(), AllocError>
     Ok(())
 }
 
-// The link into the frame, but in a leaf.
-fn emit_link_save(code: &mut Vec<Plain>, frame: &Frame, leaf: bool) -> Result<(), AllocError>
+// The link into the frame or back, but in a leaf.
+fn emit_link(code: &mut Vec<Plain>, way: Way, frame: &Frame, leaf: bool) -> Result<(), AllocError>
     requires { IsReachable frame.now }
-    ensures { OnOk result (code.new.items ≡ code.old.items ++ link_save leaf frame.now) }
+    ensures { OnOk result (code.new.items ≡ code.old.items ++ frame_link way leaf frame.now) }
 {
     if !leaf {
         let place = 4 * frame.slots + 4 * frame.saved.len() as u32;
-        emit_store_word(code, Reg::LINK, place)?;
-    }
-    Ok(())
-}
-
-// The link out of the frame.
-fn emit_link_load(code: &mut Vec<Plain>, frame: &Frame, leaf: bool) -> Result<(), AllocError>
-    requires { IsReachable frame.now }
-    ensures { OnOk result (code.new.items ≡ code.old.items ++ link_load leaf frame.now) }
-{
-    if !leaf {
-        let place = 4 * frame.slots + 4 * frame.saved.len() as u32;
-        emit_load_word(code, register(31), place)?;
+        emit_word(code, way, register(31), place)?;
     }
     Ok(())
 }
@@ -143,8 +136,8 @@ pub(crate) fn emit_prologue(
 {
     let size = size_of_frame(frame, leaf);
     emit_lowers(code, size)?;
-    emit_saves(code, 4 * frame.slots, frame.saved.as_slice())?;
-    emit_link_save(code, frame, leaf)?;
+    emit_words(code, Way::Save, 4 * frame.slots, frame.saved.as_slice())?;
+    emit_link(code, Way::Save, frame, leaf)?;
     emit_parameters(code, frame, parameters)?;
     Ok(())
 }
@@ -159,8 +152,8 @@ pub(crate) fn emit_epilogue(
     ensures { OnOk result (code.new.items ≡ code.old.items ++ epilogue leaf frame.now) }
 {
     let size = size_of_frame(frame, leaf);
-    emit_restores(code, 4 * frame.slots, frame.saved.as_slice())?;
-    emit_link_load(code, frame, leaf)?;
+    emit_words(code, Way::Restore, 4 * frame.slots, frame.saved.as_slice())?;
+    emit_link(code, Way::Restore, frame, leaf)?;
     emit_raises(code, size)?;
     Ok(())
 }

@@ -1,10 +1,9 @@
 use Rattle.std.proofs.Common.{◌∷◌, [], ◌++◌, ◌+◌, drop, get_or, refl, ap, arith, ◌∙◌}
 use Rattle.std.proofs.lemmas.List.{get_or_default}
-use Rattle.mips_emit.specs.Code.{store_word_at}
-use Rattle.mips_select.specs.Code.{saves}
+use Rattle.mips_select.specs.Code.{frame_word, frame_words}
 use Rattle.mips_select.proofs.Emitted.{saved_number}
 use Rattle.mips_select.proofs.Lists.{made_more, all_made}
-use Rattle.mips_select.proofs.prologue.emit_saves.Goals as goal
+use Rattle.mips_select.proofs.prologue.emit_words.Goals as goal
 
 pub register-requires-clause-nonzero : goal.register-requires-clause-nonzero
 register-requires-clause-nonzero c = (saved_number c.args.registers.now c.loop-r.r-index c.requires.registers c.loop-r-test.true).0
@@ -18,12 +17,13 @@ loop-r-preserved c =
     let i = c.loop-r.r-index in
     let r = get_or rs i 0 in
     let at = c.loop-r.place in
+    let way = c.args.way in
     let place = c.loop-r.invariant.0 in (
       omega (arith, place),
-      made_more (saves at) rs i r _ _ (store_word_at r at ∷ []) (saves (at + 4) (drop (i + 1) rs)) _ c.loop-r-test.true
+      made_more (frame_words way at) rs i r _ _ (frame_word way r at ∷ []) (frame_words way (at + 4) (drop (i + 1) rs)) _ c.loop-r-test.true
           (get_or_default rs i 0 r c.loop-r-test.true) refl
-          (c.in_ok-emit_store_word.ensures ∙ ap (λ r. c.loop-r.code.items ++ store_word_at r at ∷ []) (c.reg.ensures.value ∙ c.register.ensures)) c.loop-r.invariant.1,
+          (c.in_ok-emit_word.ensures ∙ ap (λ r. c.loop-r.code.items ++ frame_word way r at ∷ []) c.register.ensures) c.loop-r.invariant.1,
     )
 
 pub returns : goal.returns
-returns c = all_made (saves c.loop-r.place) c.args.registers.now c.loop-r.r-index _ _ c.loop-r-test.false refl c.loop-r.invariant.1
+returns c = all_made (frame_words c.args.way c.loop-r.place) c.args.registers.now c.loop-r.r-index _ _ c.loop-r-test.false refl c.loop-r.invariant.1
