@@ -27,9 +27,10 @@ use Rattle.mips_emit.proofs.Runs.{RunsTo, runs_none, runs_then}
 use Rattle.mips_emit.proofs.View.{word_at, put_here, put_other, IsTarget, sum_value, word_of_offset}
 use Rattle.mips_emit.proofs.Stands.{Stored, StackHolds, stack_same, stack_top, Linked, Stands}
 use Rattle.mips_emit.proofs.Homes.{stack_apart}
+use Rattle.mips_select.specs.declared.prologue.Way.TheVariants.{Save, Restore}
 use Rattle.mips_select.specs.Code.{frame_bytes, saves, restores, link_save, link_load, lowers, raises, epilogue}
 use Rattle.mips_select.proofs.Frames.{InStack, AreKept, saves_run, restores_run}
-use Rattle.mips_select.proofs.Emitted.{kept, kept_saves, kept_restores}
+use Rattle.mips_select.proofs.Emitted.{kept, kept_words}
 
 abbrev pub stored_frame : Bool → Frame → Places → Places → ℕ → Stored
 stored_frame leaf f slots aside link = record { leaf = leaf; count = f.slots; saved = f.saved.items; slots = slots; aside = aside; link = link }
@@ -199,7 +200,7 @@ module _ (most total : ℕ) (gs : List RGlobal) (starts : ℕ → ℕ) (small : 
       let long = kept_length most f ok leaf in
       let saved = saves_run total v (frame_bytes leaf f) (4 * f.slots) (kept leaf f) s1 (kept_ok most f ok leaf) (omega arith) (omega (arith, long)) in_stack in
       let to : State = record s1 { memory = saved.memory } in
-      let saves' : RunsTo (saves (4 * f.slots) f.saved.items ++ link_save leaf f) s1 to = subst (λ is. RunsTo is s1 to) (sym (kept_saves leaf f)) saved.runs in
+      let saves' : RunsTo (saves (4 * f.slots) f.saved.items ++ link_save leaf f) s1 to = subst (λ is. RunsTo is s1 to) (sym (kept_words Save leaf f)) saved.runs in
       record {
         to = to;
         runs = runs_then low.runs saves';
@@ -269,7 +270,7 @@ module _ (most total : ℕ) (gs : List RGlobal) (starts : ℕ → ℕ) (small : 
       let back = restores_run total (s.regs 29) (frame_bytes leaf f) (4 * f.slots) (kept leaf f) s (kept_ok most f ok leaf) (omega arith)
       (omega (arith, long)) in_stack in
       let s1 : State = record s { regs = back.regs } in
-      let restores' : RunsTo (restores (4 * f.slots) f.saved.items ++ link_load leaf f) s s1 = subst (λ is. RunsTo is s s1) (sym (kept_restores leaf f))
+      let restores' : RunsTo (restores (4 * f.slots) f.saved.items ++ link_load leaf f) s s1 = subst (λ is. RunsTo is s s1) (sym (kept_words Restore leaf f))
       back.runs in
       let pointer1 : back.regs 29 ≡ s.regs 29 = back.others 29 (kept_in most f ok leaf 29 false (saved_other most f ok 29 (inr (omega arith)))
       (λ e. absurd (omega (arith, e)))) in

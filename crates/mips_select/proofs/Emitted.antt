@@ -13,10 +13,11 @@ use Rattle.mips_homes.specs.declared.homed.Frame.{Frame}
 use Rattle.mips_emit.specs.declared.facts.Last.{Last}
 use Rattle.mips_emit.specs.declared.comparison.Asked.{Asked}
 use Rattle.mips_emit.specs.Locations.{Locations, locations, Facts, no_facts, known_after}
-use Rattle.mips_emit.specs.Code.{load_word_at, store_word_at, arrive}
+use Rattle.mips_emit.specs.Code.{arrive}
 use Rattle.mips_emit.specs.Comparisons.{insts_code, last_after, no_last}
 use Rattle.mips_emit.proofs.Emitted.{insts_behind}
-use Rattle.mips_select.specs.Code.{frame_bytes, saves, restores, link_save, link_load, lowers, raises, parameters_code, prologue, epilogue, asked_of, exit_code}
+use Rattle.mips_select.specs.declared.prologue.Way.{Way}
+use Rattle.mips_select.specs.Code.{frame_bytes, frame_word, frame_words, frame_link, saves, restores, link_save, link_load, lowers, raises, parameters_code, prologue, epilogue, asked_of, exit_code}
 use Rattle.mips_select.specs.Code.{exit_of, own_block}
 
 -- what a frame keeps: the registers that the function saves, and the link
@@ -24,18 +25,12 @@ abbrev pub kept : Bool → Frame → List ℕ
 kept true f = f.saved.items
 kept false f = f.saved.items ++ 31 ∷ []
 
--- one more register is saved
-pub saves_more : (at : ℕ) (rs : List ℕ) (r : ℕ) → saves at (rs ++ r ∷ []) ≡ saves at rs ++ store_word_at r (at + 4 * length rs) ∷ []
-saves_more at [] r = (let e : at ≡ at + 4 * 0 = omega arith in ap (λ n. store_word_at r n ∷ []) e)
-saves_more at (q ∷ rs) r =
+-- one more register
+pub frame_more : (way : Way) (at : ℕ) (rs : List ℕ) (r : ℕ) → frame_words way at (rs ++ r ∷ []) ≡ frame_words way at rs ++ frame_word way r (at + 4 * length rs) ∷ []
+frame_more way at [] r = (let e : at ≡ at + 4 * 0 = omega arith in ap (λ n. frame_word way r n ∷ []) e)
+frame_more way at (q ∷ rs) r =
     let e : at + 4 + 4 * length rs ≡ at + 4 * length (q ∷ rs) = omega arith in
-    ap (λ l. store_word_at q at ∷ l) (saves_more (at + 4) rs r ∙ ap (λ n. saves (at + 4) rs ++ store_word_at r n ∷ []) e)
-
-pub restores_more : (at : ℕ) (rs : List ℕ) (r : ℕ) → restores at (rs ++ r ∷ []) ≡ restores at rs ++ load_word_at r (at + 4 * length rs) ∷ []
-restores_more at [] r = (let e : at ≡ at + 4 * 0 = omega arith in ap (λ n. load_word_at r n ∷ []) e)
-restores_more at (q ∷ rs) r =
-    let e : at + 4 + 4 * length rs ≡ at + 4 * length (q ∷ rs) = omega arith in
-    ap (λ l. load_word_at q at ∷ l) (restores_more (at + 4) rs r ∙ ap (λ n. restores (at + 4) rs ++ load_word_at r n ∷ []) e)
+    ap (λ l. frame_word way q at ∷ l) (frame_more way (at + 4) rs r ∙ ap (λ n. frame_words way (at + 4) rs ++ frame_word way r n ∷ []) e)
 
 -- one more parameter
 pub parameters_more : (at : Locations) (t x n : ℕ) → parameters_code at t x (suc n) ≡ parameters_code at t x n ++ arrive (at (x + n)) (t + n)
@@ -62,13 +57,9 @@ parameters_step at x t code code' start e f t_is =
     ∙ ap (λ l. start ++ l) (sym (parameters_more at 4 0 x)) ∙ ap (λ n. start ++ parameters_code at 4 0 n) next
 
 -- the link, behind the registers that are saved
-pub kept_saves : (leaf : Bool) (f : Frame) → saves (4 * f.slots) f.saved.items ++ link_save leaf f ≡ saves (4 * f.slots) (kept leaf f)
-kept_saves true f = append-nil (saves (4 * f.slots) f.saved.items)
-kept_saves false f = sym (saves_more (4 * f.slots) f.saved.items 31)
-
-pub kept_restores : (leaf : Bool) (f : Frame) → restores (4 * f.slots) f.saved.items ++ link_load leaf f ≡ restores (4 * f.slots) (kept leaf f)
-kept_restores true f = append-nil (restores (4 * f.slots) f.saved.items)
-kept_restores false f = sym (restores_more (4 * f.slots) f.saved.items 31)
+pub kept_words : (way : Way) (leaf : Bool) (f : Frame) → frame_words way (4 * f.slots) f.saved.items ++ frame_link way leaf f ≡ frame_words way (4 * f.slots) (kept leaf f)
+kept_words way true f = append-nil (frame_words way (4 * f.slots) f.saved.items)
+kept_words way false f = sym (frame_more way (4 * f.slots) f.saved.items 31)
 
 pub epilogue_made : (leaf : Bool) (f : Frame) (size : ℕ) (saved : List ℕ) (code0 code1 code2 code3 : List Plain) → size ≡ frame_bytes leaf f
     → saved ≡ f.saved.items
