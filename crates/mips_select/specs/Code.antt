@@ -1,5 +1,5 @@
 -- The machine code of functions: what stands before and behind the code of their instructions, and how blocks are left.
-use Rattle.std.specs.Prelude.{ℕ, pos, negsuc, zero, suc, ◌+◌, ◌-◌, ◌*◌, Bool, true, false, nat_eq, if◌then◌else◌, List, [], ◌∷◌, ◌++◌}
+use Rattle.std.specs.Prelude.{ℕ, ℤ, pos, negsuc, zero, suc, ◌+◌, ◌-◌, ◌*◌, Bool, true, false, nat_eq, if◌then◌else◌, List, [], ◌∷◌, ◌++◌}
 use Rattle.std.specs.Prelude.{Option, Some}
 use Rattle.std.specs.Prelude.{None, length}
 use Rattle.mips_isa.specs.declared.inst.ImmOp.TheVariants.{Addiu}
@@ -64,11 +64,18 @@ abbrev pub link_load : Bool → Frame → List Plain
 link_load leaf f = frame_link Restore leaf f
 
 -- the stack pointer goes down and up
+abbrev pub step_of : Way → ℕ → ℤ
+step_of Save n = negsuc (n - 1)
+step_of Restore n = pos n
+
+abbrev pub stack_step : Way → ℕ → List Plain
+stack_step way n = if nat_eq n 0 then [] else Imm Addiu 29 29 (step_of way n) ∷ []
+
 abbrev pub lowers : ℕ → List Plain
-lowers n = if nat_eq n 0 then [] else Imm Addiu 29 29 (negsuc (n - 1)) ∷ []
+lowers n = stack_step Save n
 
 abbrev pub raises : ℕ → List Plain
-raises n = if nat_eq n 0 then [] else Imm Addiu 29 29 (pos n) ∷ []
+raises n = stack_step Restore n
 
 -- n parameters from registers from t on, into the homes of the pseudo-registers from x on
 abbrev pub parameters_code : Locations → (t x n : ℕ) → List Plain

@@ -1,12 +1,12 @@
 // What functions begin and end with.
 
-ghost use Rattle.std.specs.Prelude.{◌≡◌, ◌-◌, negsuc, pos, ℕ, ◌+◌, ◌*◌, ◌<◌, ◌≤◌, ◌++◌, ◌∷◌, [], length, OnOk, Some, slice_get};
+ghost use Rattle.std.specs.Prelude.{◌≡◌, ℕ, ◌+◌, ◌*◌, ◌<◌, ◌≤◌, ◌++◌, ◌∷◌, [], length, OnOk, Some, slice_get};
 ghost use Rattle.mips_isa.specs.declared.inst.ImmOp.TheVariants.{Addiu};
 ghost use Rattle.mips_isa.specs.declared.inst.Plain.TheVariants.{Imm};
 ghost use Rattle.mips_emit.specs.declared.limits.TheConstants.{FRAME_BYTES};
 ghost use Rattle.mips_emit.specs.Frames.{IsReachable};
 ghost use Rattle.mips_emit.specs.Locations.{locations};
-ghost use Rattle.mips_select.specs.Code.{frame_word, frame_words, frame_bytes, frame_link, lowers, raises, parameters_code, prologue};
+ghost use Rattle.mips_select.specs.Code.{frame_word, frame_words, frame_bytes, frame_link, step_of, stack_step, parameters_code, prologue};
 ghost use Rattle.mips_select.specs.Code.{epilogue};
 
 use mips_emit::{emit_arrival, emit_load_word, emit_store_word, register};
@@ -67,33 +67,29 @@ fn size_of_frame(frame: &Frame, leaf: bool) -> u32
     }
 }
 
-// The stack pointer goes down, if the frame takes anything.
-fn emit_lowers(code: &mut Vec<Plain>, size: u32) -> Result<(), AllocError>
-    requires { size ≤ FRAME_BYTES }
-    ensures { OnOk result (code.new.items ≡ code.old.items ++ lowers size) }
+// How far the stack pointer goes.
+fn step_of(way: Way, size: u32) -> i16
+    requires some { 0 < size }
+    requires few { size ≤ FRAME_BYTES }
+    ensures { result ≡ step_of way size }
 {
-    if size != 0 {
-        code.push(Plain::Imm {
-            op: ImmOp::Addiu,
-            rt: stack_pointer(),
-            rs: stack_pointer(),
-            imm: -1 - (size - 1) as i16,
-        })?;
+    match way {
+        Way::Save => -1 - (size - 1) as i16,
+        Way::Restore => size as i16,
     }
-    Ok(())
 }
 
-// The stack pointer goes up again.
-fn emit_raises(code: &mut Vec<Plain>, size: u32) -> Result<(), AllocError>
+// The stack pointer goes down or up again, if the frame takes anything.
+fn emit_step(code: &mut Vec<Plain>, way: Way, size: u32) -> Result<(), AllocError>
     requires { size ≤ FRAME_BYTES }
-    ensures { OnOk result (code.new.items ≡ code.old.items ++ raises size) }
+    ensures { OnOk result (code.new.items ≡ code.old.items ++ stack_step way size) }
 {
     if size != 0 {
         code.push(Plain::Imm {
             op: ImmOp::Addiu,
             rt: stack_pointer(),
             rs: stack_pointer(),
-            imm: size as i16,
+            imm: step_of(way, size),
         })?;
     }
     Ok(())
@@ -135,7 +131,7 @@ pub(crate) fn emit_prologue(
     ensures { OnOk result (code.new.items ≡ code.old.items ++ prologue leaf frame.now parameters) }
 {
     let size = size_of_frame(frame, leaf);
-    emit_lowers(code, size)?;
+    emit_step(code, Way::Save, size)?;
     emit_words(code, Way::Save, 4 * frame.slots, frame.saved.as_slice())?;
     emit_link(code, Way::Save, frame, leaf)?;
     emit_parameters(code, frame, parameters)?;
@@ -154,6 +150,6 @@ pub(crate) fn emit_epilogue(
     let size = size_of_frame(frame, leaf);
     emit_words(code, Way::Restore, 4 * frame.slots, frame.saved.as_slice())?;
     emit_link(code, Way::Restore, frame, leaf)?;
-    emit_raises(code, size)?;
+    emit_step(code, Way::Restore, size)?;
     Ok(())
 }
