@@ -108,7 +108,11 @@ fn choice<'a>(
 
 /// An expression, and the token that has to follow it.
 #[cycle(expressions)]
-pub fn closed_expression<'a>(alloc: Global, tokens: &'a [Token], closing: Mark) -> Parsed<'a, Expression>
+pub fn closed_expression<'a>(
+    alloc: Global,
+    tokens: &'a [Token],
+    closing: Mark,
+) -> Parsed<'a, Expression>
     ensures ok { IfOk result (λ r. IsClosedRead closing tokens.now r.1.now (expression_of r.0)) }
     ensures shorter { IfOk result (λ r. length r.1.now < length tokens.now) }
     ensures err { IfErr result (IsClosedStuck closing tokens.now) }
@@ -167,7 +171,10 @@ fn operand<'a>(alloc: Global, tokens: &'a [Token]) -> Parsed<'a, Expression>
         Token::Jump(_, _) => Err(ParseStop::Syntax(tokens)),
         Token::Name(name) => match starts(rest, Mark::LeftBracket) {
             Some(after) => {
-                let (index, end) = box_part(alloc, closed_expression(alloc, after, Mark::RightBracket))?;
+                let (index, end) = box_part(
+                    alloc,
+                    closed_expression(alloc, after, Mark::RightBracket),
+                )?;
                 Ok((Expression::Index(name, index), end))
             }
             None => Ok((Expression::Name(name), rest)),

@@ -39,7 +39,10 @@ fn simple<'a>(alloc: Global, tokens: &'a [Token]) -> Parsed<'a, Simple>
         return Ok((Simple::CallStatement(Call { name, arguments }), end));
     }
     if let Some(after) = starts(rest, Mark::LeftBracket) {
-        let (index, start) = expect_after(closed_expression(alloc, after, Mark::RightBracket), Mark::Assign)?;
+        let (index, start) = expect_after(
+            closed_expression(alloc, after, Mark::RightBracket),
+            Mark::Assign,
+        )?;
         let (given, end) = expression(alloc, start)?;
         return Ok((Simple::AssignAt(name, index, given), end));
     }

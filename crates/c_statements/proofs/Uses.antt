@@ -1,5 +1,5 @@
 -- Uses of a name: the one fault that each has.
-use Rattle.std.proofs.Common.{◌≡◌, ◌≤◌, ℕ, Option, Some, None, Err, inr, refl, sym, subst, arith}
+use Rattle.std.proofs.Common.{◌≡◌, ◌≤◌, ℕ, Option, Some, None, Result, Err, inr, refl, sym, subst, arith}
 use Rattle.c_tokens.specs.declared.token.Identifier.{Identifier}
 use Rattle.c_tokens.specs.declared.token.IntegerType.{IntegerType}
 use Rattle.c_statements.specs.declared.names.Named.{Named}
@@ -34,6 +34,11 @@ least m u j w = omega arith
 
 pub undeclared-first : (scope : Environment) (x : Identifier) (u : Use) → scope x ≡ None → IsFirstFault (Misused scope x u) Undeclared x.at
 undeclared-first scope x u e = first-misuse scope x u Undeclared (rw e not_declared) (λ j w. least (scope x) u j w)
+
+-- what is told where nothing declares the name
+pub undeclared-told : {A : Type 0} (IsRight : A → Type 0) (scope : Environment) (x : Identifier) (u : Use) (r : Result A TypeStop) (s : TypeStop)
+    → r ≡ Err s → (scope x ≡ None) × (s ≡ Fault (record { kind = Undeclared; at = x.at })) → Answers IsRight (Misused scope x u) r
+undeclared-told IsRight scope x u r s e (h, k) = rw e (told-first IsRight (Misused scope x u) s Undeclared x.at k (undeclared-first scope x u h))
 
 index-least : (m : Named) (j : TypeFaultKind) → IsWrong (Some m) with_index j → 12 ≤ number_of j
 index-least m j local_indexed = omega arith

@@ -5,7 +5,7 @@ ghost use Rattle.c_statements.specs.Faults.{Answers};
 ghost use Rattle.c_statements.specs.Shape.{environment_of};
 ghost use Rattle.c_statements.specs.Uses.{Misused, as_call};
 
-use crate::expression::misuse;
+use crate::expression::{declared_name, misuse};
 use crate::fault::{TypeFaultKind, TypeStop};
 use crate::names::Named;
 use crate::symbol_table::Scopes;
@@ -45,9 +45,7 @@ pub fn callee(
     ensures { Answers (IsTarget (environment_of program.now scopes.now name))
         (Misused (environment_of program.now scopes.now) name (as_call count wanted)) result }
 {
-    let Some(named) = scopes.find(program, name) else {
-        return Err(misuse(TypeFaultKind::Undeclared, name));
-    };
+    let named = declared_name(program, scopes, name)?;
     let Some((target, parameters, gives)) = signature(named) else {
         return Err(misuse(TypeFaultKind::Kind, name));
     };

@@ -1,6 +1,7 @@
 // Types of expressions (C99 6.5).
-ghost use Rattle.std.specs.Prelude.{◌≡◌, IfOk, IfErr, Some};
+ghost use Rattle.std.specs.Prelude.{◌≡◌, IfOk, IfErr, None, Some};
 ghost use Rattle.c_statements.specs.declared.names.Named.TheVariants.{Array};
+ghost use Rattle.c_statements.specs.declared.fault.TypeFaultKind.TheVariants.{Undeclared};
 ghost use Rattle.c_statements.specs.declared.fault.TypeStop.TheVariants.{Fault};
 ghost use Rattle.c_tree.specs.Shape.{expression_of};
 ghost use Rattle.c_tree.specs.Tree as Tree;
@@ -28,6 +29,22 @@ pub fn misuse(kind: TypeFaultKind, name: Identifier) -> TypeStop
     TypeStop::Fault(TypeFault { kind, at: name.at })
 }
 
+/// What a name stands for, if anything declares it.
+pub fn declared_name(
+    program: &Program,
+    scopes: &Scopes,
+    name: Identifier,
+) -> Result<Named, TypeStop>
+    ensures ok { IfOk result (λ n. environment_of program.now scopes.now name ≡ Some n) }
+    ensures err { IfErr result (λ s. (environment_of program.now scopes.now name ≡ None)
+        × (s ≡ Fault (record { kind = Undeclared; at = name.at }))) }
+{
+    match scopes.find(program, name) {
+        Some(named) => Ok(named),
+        None => Err(misuse(TypeFaultKind::Undeclared, name)),
+    }
+}
+
 /// The variable that a name stands for as a value.
 fn variable(
     program: &Program,
@@ -37,9 +54,7 @@ fn variable(
     ensures { Answers (λ t. Types (environment_of program.now scopes.now) (Tree.name name) (typed_expression_of t))
         (Misused (environment_of program.now scopes.now) name as_value) result }
 {
-    let Some(named) = scopes.find(program, name) else {
-        return Err(misuse(TypeFaultKind::Undeclared, name));
-    };
+    let named = declared_name(program, scopes, name)?;
     match named {
         Named::Local(number, integer_type) => Ok(TypedExpression::Local(number, integer_type)),
         Named::Global(number, integer_type) => Ok(TypedExpression::Global(number, integer_type)),
@@ -56,9 +71,7 @@ pub fn array(
     ensures { Answers (λ r. environment_of program.now scopes.now name ≡ Some (Array r.0 r.1))
         (Misused (environment_of program.now scopes.now) name with_index) result }
 {
-    let Some(named) = scopes.find(program, name) else {
-        return Err(misuse(TypeFaultKind::Undeclared, name));
-    };
+    let named = declared_name(program, scopes, name)?;
     match named {
         Named::Array(number, integer_type) => Ok((number, integer_type)),
         _ => Err(misuse(TypeFaultKind::Kind, name)),

@@ -12,7 +12,7 @@ ghost use Rattle.c_statements.specs.Uses.{Misused, as_value};
 
 use crate::call::{Target, callee};
 use crate::compound::{second, store};
-use crate::expression::{array, expression, misuse};
+use crate::expression::{array, declared_name, expression, misuse};
 use crate::fault::{TypeFaultKind, TypeStop, both};
 use crate::names::Named;
 use crate::symbol_table::Scopes;
@@ -85,9 +85,7 @@ pub fn place(program: &Program, scopes: &Scopes, name: Identifier) -> Result<Des
     ensures { Answers (TypesPlace (environment_of program.now scopes.now) name)
         (Misused (environment_of program.now scopes.now) name as_value) result }
 {
-    let Some(named) = scopes.find(program, name) else {
-        return Err(misuse(TypeFaultKind::Undeclared, name));
-    };
+    let named = declared_name(program, scopes, name)?;
     match named {
         Named::Local(number, _) => Ok(Destination::Local(number)),
         Named::Global(number, _) => Ok(Destination::Global(number)),
