@@ -15,7 +15,7 @@ pub struct Explanation {
 }
 
 /// The byte itself if it is printable, else `?`.
-pub(crate) fn printable(byte: u8) -> u8
+pub fn printable_byte(byte: u8) -> u8
     ensures exact { result ≡ shown_byte byte }
     ensures printable { IsPrintable result }
 {
@@ -31,7 +31,7 @@ fn printable_bytes(alloc: Global, text: &str) -> Result<Vec<u8>, AllocError>
 {
     let mut bytes = Vec::new(alloc);
     for byte in text.as_bytes() {
-        bytes.push(printable(*byte))?;
+        bytes.push(printable_byte(*byte))?;
     }
     Ok(bytes)
 }

@@ -32,11 +32,11 @@ mod output;
 mod place;
 mod wrong_words;
 
-pub use explanation::Explanation;
+pub use explanation::{Explanation, printable_byte};
 pub use fault::{Complaints, HostFault, tell};
 pub use files::{FileFault, Files, read_file, write_file};
 pub use names::print_name;
-pub use one_file::{FileCommand, answer_file};
+pub use one_file::{BadFile, FileCommand, answer_file};
 pub use output::Output;
 pub use place::{Place, Spot, line_offset, spot_of, tell_placed};
 pub use wrong_words::tell_words;

@@ -10,6 +10,15 @@ use crate::files::{Files, read_file};
 use crate::output::Output;
 use std::alloc::Global;
 
+/// A file whose bytes have a fault.
+#[derive(Drop)]
+pub struct BadFile<'a, F> {
+    /// The file as it was named.
+    pub file: &'a str,
+    pub bytes: &'a [u8],
+    pub fault: F,
+}
+
 /// What a command does with the bytes of its file.
 pub trait FileCommand {
     type Answer: Drop;
@@ -62,16 +71,9 @@ pub trait FileCommand {
         ensures { TellsBeside E.tells err.old (remarks (status answer.now)) err.new };
 
     /// The line of a fault, and below it what is known of it.
-    fn tell<E: Complaints>(
-        &self,
-        alloc: Global,
-        file: &str,
-        bytes: &[u8],
-        fault: Self::Fault,
-        err: &mut E,
-    ) -> u8
+    fn tell<E: Complaints>(&self, alloc: Global, of: &BadFile<'_, Self::Fault>, err: &mut E) -> u8
         ensures status { result ≡ 1 }
-        ensures told { TellsLine E.tells err.old (line fault) err.new };
+        ensures told { TellsLine E.tells err.old (line of.now.fault) err.new };
 }
 
 /// A command over its file and the streams. The answer is the exit status: 1 where it ended by a fault.
@@ -96,13 +98,14 @@ pub fn answer_file<C: FileCommand, F: Files, W: Output, E: Complaints>(
         Ok(text) => text,
         Err(fault) => return tell(err, &fault),
     };
-    let answer = match command.work(alloc, text.as_slice()) {
+    let bytes = text.as_slice();
+    let answer = match command.work(alloc, bytes) {
         Ok(answer) => answer,
-        Err(fault) => return command.tell(alloc, file, text.as_slice(), fault, err),
+        Err(fault) => return command.tell(alloc, &BadFile { file, bytes, fault }, err),
     };
-    match command.print(alloc, text.as_slice(), &answer, out) {
+    match command.print(alloc, bytes, &answer, out) {
         Ok(status) => {
-            command.remark(alloc, text.as_slice(), &answer, err);
+            command.remark(alloc, bytes, &answer, err);
             status
         }
         Err(fault) => tell(err, &fault),

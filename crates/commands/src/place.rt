@@ -5,7 +5,7 @@ ghost use Rattle.std.specs.Prelude.{◌≡◌, ◌<◌, ◌^◌, ◌≤◌, leng
 ghost use Rattle.commands.specs.Requests.{TellsBeside, TellsLine, TellsPlaced};
 ghost use Rattle.commands.specs.Texts.{IsShown};
 
-use crate::explanation::{Explanation, printable};
+use crate::explanation::{Explanation, printable_byte};
 use crate::fault::Complaints;
 use std::alloc::{AllocError, Global};
 use std::fmt;
@@ -88,13 +88,13 @@ enum Way {
 }
 
 /// The byte that stands for a byte.
-fn shown(byte: u8, way: Way) -> u8
+fn shown_byte(byte: u8, way: Way) -> u8
     ensures { IsShown result }
 {
     match (way, byte) {
         (Way::Line | Way::Blanks, b'\t') => b'\t',
         (Way::Blanks, _) | (Way::Line, b'\r') => b' ',
-        _ => printable(byte),
+        _ => printable_byte(byte),
     }
 }
 
@@ -139,7 +139,7 @@ impl Lines {
         ensures { All IsShown self.old.bytes.items → All IsShown self.new.bytes.items }
     {
         for byte in bytes {
-            self.push(shown(*byte, way));
+            self.push(shown_byte(*byte, way));
         }
     }
 
@@ -269,7 +269,7 @@ fn tell_site<E: Complaints>(err: &mut E, place: &Place<'_>, at: usize)
     ensures { TellsBeside E.tells err.old (All (All IsShown)) err.new }
 {
     for byte in place.source.as_bytes() {
-        err.bytes(&[printable(*byte)]);
+        err.bytes(&[printable_byte(*byte)]);
     }
     err.line(&behind_name(place.text, at));
 }

@@ -10,7 +10,7 @@ ghost use Rattle.image.specs.Texts.{image_fault_text};
 use crate::image_runs::run_image;
 use crate::reasons::{stuck_page, tell_page};
 use crate::texts::{EndingLine, print_run};
-use commands::{Complaints, FileCommand, Files, HostFault, Output, answer_file, tell};
+use commands::{BadFile, Complaints, FileCommand, Files, HostFault, Output, answer_file, tell};
 use image::ImageFault;
 use mips_machine::MachineRan;
 use mips_steps::Ending;
@@ -85,15 +85,8 @@ impl FileCommand for RunCommand {
         }
     }
 
-    fn tell<E: Complaints>(
-        &self,
-        _alloc: Global,
-        _file: &str,
-        _bytes: &[u8],
-        fault: ImageFault,
-        err: &mut E,
-    ) -> u8 {
-        tell(err, &fault)
+    fn tell<E: Complaints>(&self, _alloc: Global, of: &BadFile<'_, ImageFault>, err: &mut E) -> u8 {
+        tell(err, &of.fault)
     }
 }
 

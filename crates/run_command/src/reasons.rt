@@ -4,7 +4,7 @@ ghost use Rattle.std.specs.Prelude.{All, IfOk, IfSome};
 ghost use Rattle.run_command.specs.Command.{IsShown};
 ghost use Rattle.commands.specs.Requests.{TellsBeside};
 
-use commands::Complaints;
+use commands::{Complaints, printable_byte};
 use image::{Image, read_image};
 use mips_asm::list;
 use mips_isa::{CODE_BASE, Rule};
@@ -13,13 +13,12 @@ use mips_steps::Ending;
 use std::alloc::{AllocError, Global};
 
 /// The byte itself if it is printable or a line's end, else `?`.
-fn shown(byte: u8) -> u8
+fn shown_byte(byte: u8) -> u8
     ensures { IsShown result }
 {
     match byte {
         b'\n' => b'\n',
-        b' '..=b'~' => byte,
-        _ => b'?',
+        _ => printable_byte(byte),
     }
 }
 
@@ -28,7 +27,7 @@ fn shown_bytes(alloc: Global, text: &[u8]) -> Result<Vec<u8>, AllocError>
 {
     let mut bytes = Vec::new(alloc);
     for byte in text {
-        bytes.push(shown(*byte))?;
+        bytes.push(shown_byte(*byte))?;
     }
     Ok(bytes)
 }

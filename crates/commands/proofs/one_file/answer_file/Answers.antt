@@ -4,39 +4,32 @@ use Rattle.commands.specs.Requests.Request.{Read, NotRead}
 use Rattle.commands.specs.OneFile.StopsFile.{unread, faulty, untold}
 use Rattle.commands.specs.Texts.{host_fault_text}
 use Rattle.commands.proofs.Told.{told_as}
-use Rattle.commands.proofs.Asked.{asked_once, read_as}
+use Rattle.commands.proofs.Asked.{asked_once, asks_once, read_as}
 use Rattle.commands.proofs.one_file.answer_file.Goals as goal
 
 pub returns-in-Err-clause-stopped : goal.returns-in-Err-clause-stopped
-returns-in-Err-clause-stopped g c = λ one. record {
-  requests = _;
-  text = host_fault_text (reading_fault c.in-Err.ensures.asked.0);
-  told = told_as _ _ _ _ _ c.in-Err.ensures.asked.1 c.tell.ensures.told;
-  asked = asked_once g.F.Files.answers _ _ (NotRead c.args.file.now c.in-Err.ensures.asked.0) c.in-Err.ensures.asked.2;
-  means = unread c.in-Err.ensures.asked.0;
-}
+returns-in-Err-clause-stopped g c = λ one.
+    let fault = c.in-Err.ensures.asked.0 in
+    asks_once g.F.Files.answers g.E.Complaints.tells _ _ _ _ (NotRead c.args.file.now fault) (host_fault_text (reading_fault fault)) _
+    c.in-Err.ensures.asked.2 (told_as _ _ _ _ _ c.in-Err.ensures.asked.1 c.tell.ensures.told) (unread fault)
 
 pub returns-in-Err-work-clause-stopped : goal.returns-in-Err-work-clause-stopped
 returns-in-Err-work-clause-stopped g c = λ one.
     let answers = g.F.Files.answers in
-    let bytes = c.as_slice.result.now in
-    record {
-      requests = _;
-      text = g.C.FileCommand.line c.in-Err-work.fault;
-      told = c.tell-in-Err-work.ensures.told;
-      asked = asked_once answers _ _ (Read c.args.file.now bytes) (read_as answers _ _ _ _ bytes c.as_slice.ensures.value c.in-Ok.ensures.asked);
-      means = faulty bytes c.in-Err-work.fault c.in-Err-work.ensures.fault;
-    }
+    let bytes = c.as_slice-bytes.result.now in
+    asks_once answers g.E.Complaints.tells _ _ _ _ (Read c.args.file.now bytes) (g.C.FileCommand.line c.in-Err-work.fault) _
+    (read_as answers _ _ _ _ bytes c.as_slice-bytes.ensures.value c.in-Ok.ensures.asked) c.tell-in-Err-work.ensures.told
+    (faulty bytes c.in-Err-work.fault c.in-Err-work.ensures.fault)
 
 pub returns-in-Ok-print-clause-answered : goal.returns-in-Ok-print-clause-answered
 returns-in-Ok-print-clause-answered g c = λ other.
     let answers = g.F.Files.answers in
-    let bytes = c.as_slice.result.now in
+    let bytes = c.as_slice-bytes.result.now in
     let took = c.in-Ok-print.ensures.took in
     record {
       requests = _;
       printed = took.0;
-      asked = asked_once answers _ _ (Read c.args.file.now bytes) (read_as answers _ _ _ _ bytes c.as_slice.ensures.value c.in-Ok.ensures.asked);
+      asked = asked_once answers _ _ (Read c.args.file.now bytes) (read_as answers _ _ _ _ bytes c.as_slice-bytes.ensures.value c.in-Ok.ensures.asked);
       took = took.1;
       means = record {
         bytes = bytes;
@@ -54,11 +47,7 @@ returns-in-Ok-print-clause-stopped g c = λ one. absurd (c.in-Ok-print.ensures.n
 pub returns-clause-stopped : goal.returns-clause-stopped
 returns-clause-stopped g c = λ one.
     let answers = g.F.Files.answers in
-    let bytes = c.as_slice.result.now in
-    record {
-      requests = _;
-      text = host_fault_text c.in-Err-print.fault;
-      told = c.tell-in-Err-print.ensures.told;
-      asked = asked_once answers _ _ (Read c.args.file.now bytes) (read_as answers _ _ _ _ bytes c.as_slice.ensures.value c.in-Ok.ensures.asked);
-      means = untold bytes c.in-Ok-work.answer c.in-Ok-work.ensures.answer c.in-Err-print.fault c.in-Err-print.ensures.fault;
-    }
+    let bytes = c.as_slice-bytes.result.now in
+    asks_once answers g.E.Complaints.tells _ _ _ _ (Read c.args.file.now bytes) (host_fault_text c.in-Err-print.fault) _
+    (read_as answers _ _ _ _ bytes c.as_slice-bytes.ensures.value c.in-Ok.ensures.asked) c.tell-in-Err-print.ensures.told
+    (untold bytes c.in-Ok-work.answer c.in-Ok-work.ensures.answer c.in-Err-print.fault c.in-Err-print.ensures.fault)
