@@ -305,13 +305,17 @@ const BUILDS: &[CommandParts<'static>] = &[
 fn text_command<'a, C: CommandBuilder<'a>>(alloc: Global) -> Result<C, AllocError>
     ensures { IfOk result (λ c. C.app c ≡ building_app) }
 {
-    let command = C::named(
+    let command = C::new_command(
         alloc,
         "mcc",
         "A C compiler for MIPS I, its checks, a C interpreter and a machine",
         STATUS_HELP,
     );
-    with_commands(alloc, command.asking().versioned(VERSION), TEXTS)
+    with_commands(
+        alloc,
+        command.require_subcommand().set_version(VERSION),
+        TEXTS,
+    )
 }
 
 /// `mcc` with all its commands.

@@ -51,7 +51,7 @@ pub(crate) trait CommandBuilder<'a>: Sized + Drop {
     ghost has_globals: { Self → Bool };
 
     /// A command with no argument yet.
-    fn named(alloc: Global, name: &'a str, about: &'a str, help: &'a str) -> Self
+    fn new_command(alloc: Global, name: &'a str, about: &'a str, help: &'a str) -> Self
         ensures app { app result ≡ new_app name.entry.now }
         ensures local { has_globals result ≡ false };
 
@@ -61,11 +61,11 @@ pub(crate) trait CommandBuilder<'a>: Sized + Drop {
         ensures local { has_globals self ≡ false → IfOk result (λ c. has_globals c ≡ false) };
 
     /// The command, which is nothing without a subcommand.
-    fn asking(self) -> Self
+    fn require_subcommand(self) -> Self
         ensures { app result ≡ with_required_subcommand (app self) };
 
     /// With the option `--version`, which prints this.
-    fn versioned(self, version: &'a str) -> Self
+    fn set_version(self, version: &'a str) -> Self
         ensures { app result ≡ with_version (app self) };
 
     /// With a subcommand.
@@ -79,7 +79,7 @@ impl<'a> CommandBuilder<'a> for CommandLine<'a> {
 
     ghost has_globals = { λ c. (out-Command c).has_globals };
 
-    fn named(alloc: Global, name: &'a str, about: &'a str, help: &'a str) -> Self {
+    fn new_command(alloc: Global, name: &'a str, about: &'a str, help: &'a str) -> Self {
         CommandLine::new(alloc, name).about(about).after_help(help)
     }
 
@@ -87,11 +87,11 @@ impl<'a> CommandBuilder<'a> for CommandLine<'a> {
         self.arg(argument(alloc, part))
     }
 
-    fn asking(self) -> Self {
+    fn require_subcommand(self) -> Self {
         self.subcommand_required(true)
     }
 
-    fn versioned(self, version: &'a str) -> Self {
+    fn set_version(self, version: &'a str) -> Self {
         self.version(version)
     }
 
@@ -108,7 +108,7 @@ fn command_of<'a, C: CommandBuilder<'a>>(
     ensures app { IfOk result (λ c. C.app c ≡ command_app parts.now) }
     ensures local { IfOk result (λ c. C.has_globals c ≡ false) }
 {
-    let mut command = C::named(alloc, parts.name, parts.about, parts.help);
+    let mut command = C::new_command(alloc, parts.name, parts.about, parts.help);
     for part in parts.parts {
         command = command.with(alloc, part)?;
     }
@@ -137,8 +137,8 @@ fn argument<'a>(alloc: Global, part: &Part<'a>) -> Arg<'a>
 {
     let (id, about) = (part.id, part.about);
     match part.form {
-        Form::Required => placed(alloc, id, ArgAction::Set, about),
-        Form::Several => placed(alloc, id, ArgAction::Append, about),
+        Form::Required => placed_argument(alloc, id, ArgAction::Set, about),
+        Form::Several => placed_argument(alloc, id, ArgAction::Append, about),
         Form::Number { low, high } => number(alloc, id, low, high, about),
         Form::Flag => option(alloc, id, ArgAction::SetTrue, about),
         Form::Text => option(alloc, id, ArgAction::Set, about),
@@ -146,7 +146,7 @@ fn argument<'a>(alloc: Global, part: &Part<'a>) -> Arg<'a>
 }
 
 /// An argument by its place, which must be there.
-fn placed<'a>(alloc: Global, id: &'a str, action: ArgAction, about: &'a str) -> Arg<'a>
+fn placed_argument<'a>(alloc: Global, id: &'a str, action: ArgAction, about: &'a str) -> Arg<'a>
     ensures rule { rule_of result ≡ placed_rule id.entry.now action }
     ensures local { result.global ≡ false }
 {

@@ -50,7 +50,13 @@ fn number_or(values: &ArgMatches<'_>, id: &str, default: u32) -> Option<u32>
 }
 
 /// The value of an option from low to high, or its default.
-fn bounded(values: &ArgMatches<'_>, id: &str, default: u32, low: u32, high: u32) -> Option<u32>
+fn bounded_number(
+    values: &ArgMatches<'_>,
+    id: &str,
+    default: u32,
+    low: u32,
+    high: u32,
+) -> Option<u32>
     ensures { IfSome result (IsBounded (one_of id.now (rows_of (found_of values.now))) default low high) }
 {
     let n = number_or(values, id, default)?;
@@ -64,7 +70,7 @@ fn entered_interp<'a>(values: &ArgMatches<'a>) -> Option<Command<'a>>
     ensures { IfSome result (HasValues (codes "interp") (rows_of (found_of values.now))) }
 {
     let source = values.get_str("SOURCE")?;
-    let depth = bounded(values, "depth", 256, 1, 4096)?;
+    let depth = bounded_number(values, "depth", 256, 1, 4096)?;
     let steps = number_or(values, "steps", 1000000)?;
     Some(Command::Interp {
         source,
@@ -79,10 +85,10 @@ fn entered_build<'a>(values: &ArgMatches<'a>) -> Option<Command<'a>>
     let source = values.get_str("SOURCE")?;
     let image = values.get_str("IMAGE")?;
     let plain = flag(values, "plain");
-    let depth = bounded(values, "depth", 256, 1, 4096)?;
-    let workers = bounded(values, "workers", 4, 1, MAX_PASSES as u32)?;
-    let nodes = bounded(values, "nodes", 65536, 1, MAX_NODES as u32)?;
-    let heads = bounded(values, "heads", 1024, 1, MAX_HEADS as u32)?;
+    let depth = bounded_number(values, "depth", 256, 1, 4096)?;
+    let workers = bounded_number(values, "workers", 4, 1, MAX_PASSES as u32)?;
+    let nodes = bounded_number(values, "nodes", 65536, 1, MAX_NODES as u32)?;
+    let heads = bounded_number(values, "heads", 1024, 1, MAX_HEADS as u32)?;
     Some(Command::Build(AskedBuild {
         source,
         image,
@@ -129,7 +135,7 @@ fn entered_show<'a>(values: &ArgMatches<'a>) -> Option<Command<'a>>
 }
 
 /// The command of this name, with its values.
-fn named<'a>(alloc: Global, name: &str, values: &ArgMatches<'a>) -> Option<Command<'a>>
+fn command_named<'a>(alloc: Global, name: &str, values: &ArgMatches<'a>) -> Option<Command<'a>>
     ensures { IfSome result (HasValues name.now (rows_of (found_of values.now))) }
 {
     if name == "check" {
@@ -149,15 +155,15 @@ fn named<'a>(alloc: Global, name: &str, values: &ArgMatches<'a>) -> Option<Comma
     }
 }
 
-fn entered<'a>(alloc: Global, matches: &ArgMatches<'a>) -> Option<Command<'a>>
+fn entered_command<'a>(alloc: Global, matches: &ArgMatches<'a>) -> Option<Command<'a>>
     ensures { IfSome result (λ w. (name : _) × (rows : _) × (subcommand_rows_of matches.now ≡ Some (name, rows)) × HasValues name rows w) }
 {
     let (name, values) = matches.subcommand()?;
-    named(alloc, name, values)
+    command_named(alloc, name, values)
 }
 
 /// clap's matches of the words.
-fn matched<'a>(alloc: Global, words: &'a [&'a str]) -> Result<ArgMatches<'a>, Error>
+fn matches_of<'a>(alloc: Global, words: &'a [&'a str]) -> Result<ArgMatches<'a>, Error>
     ensures matches { IfOk result (HasMatchesOf mcc_app (map (λ s. s.now) words.entry.now)) }
     ensures refused { IfErr result (λ e. takes mcc_app (map (λ s. s.now) words.entry.now) ≡ true → kind_of e ≡ OutOfMemory) }
 {
@@ -171,6 +177,6 @@ pub fn words<'a>(alloc: Global, words: &'a [&'a str]) -> Result<Command<'a>, Err
     ensures command { IfOk result (IsCommand (map (λ s. s.now) words.entry.now)) }
     ensures refused { IfErr result (λ e. takes mcc_app (map (λ s. s.now) words.entry.now) ≡ true → kind_of e ≡ OutOfMemory) }
 {
-    let matches = matched(alloc, words)?;
-    entered(alloc, &matches).ok_or(Error::from(AllocError))
+    let matches = matches_of(alloc, words)?;
+    entered_command(alloc, &matches).ok_or(Error::from(AllocError))
 }

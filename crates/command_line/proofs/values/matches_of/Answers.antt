@@ -1,6 +1,6 @@
 use Rattle.command_line.specs.Commands.{mcc_app}
 use Rattle.command_line.proofs.Moves.{refused_of}
-use Rattle.command_line.proofs.values.matched.Goals as goal
+use Rattle.command_line.proofs.values.matches_of.Goals as goal
 
 pub returns-clause-refused : goal.returns-clause-refused
 returns-clause-refused c = refused_of _ mcc_app _ _ c.in_ok-command.ensures c.try_get_matches_from.ensures.passes
