@@ -1,7 +1,7 @@
 // What is said of numbers that are no constants, and of texts beyond a size.
 
 use crate::said::Said;
-use crate::source::{Source, back, front, is_word, shown, spelled_at};
+use crate::source::{Source, back, front, is_word, shown_text, spelled_at};
 use c_tokens::MAX_TEXT;
 
 /// The most tokens in a row without `;`, `{` or `}` (c_tokens).
@@ -88,7 +88,7 @@ fn digits_reason(digits: &[u8]) -> Reason {
 /// Why a number without a prefix is no constant.
 fn decimal_reason(number: &[u8]) -> Reason {
     let is_octal = number.starts_with(b"0");
-    if !is_octal && shown(number).parse::<u32>().is_ok() {
+    if !is_octal && shown_text(number).parse::<u32>().is_ok() {
         return ("an int goes up to 2147483647, append u", "");
     }
     if is_octal && has(number, b"89") && has_only(number, b"0123456789") {
@@ -121,7 +121,7 @@ fn reason(number: &[u8]) -> Reason {
 pub(crate) fn say_constant(said: &mut Said, text: &[u8], at: usize) {
     let number = number(back(text, at));
     let (why, hint) = reason(number);
-    said.say(shown(number));
+    said.say(shown_text(number));
     said.say(" is no constant: ");
     said.say(why);
     said.hint(hint);

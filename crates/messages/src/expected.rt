@@ -106,7 +106,7 @@ fn all_expected(alloc: Global, piece: &[u8]) -> Result<Vec<&'static str>, AllocE
 }
 
 /// What can stand in a token's place; nothing where that is more than four things, or the declaration is long.
-pub(crate) fn expected(
+pub(crate) fn expected_words(
     alloc: Global,
     source: &Source<'_>,
     k: usize,

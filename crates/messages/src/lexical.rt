@@ -1,7 +1,7 @@
 // What is said of bytes that begin no token, and of what C has and this subset leaves out.
 
 use crate::said::Said;
-use crate::source::{NO_TOKEN, Source, Told, back, before, front, shown, spelled_at, told_of};
+use crate::source::{NO_TOKEN, Source, Told, back, before, front, shown_text, spelled_at, told_of};
 
 const NO_DIRECTIVES: &str = "there is no preprocessor: leave the line out";
 
@@ -137,14 +137,14 @@ fn behind_blanks<'t>(text: &'t [u8], at: usize) -> &'t [u8] {
 }
 
 /// The name before `++` or behind it, or `i`.
-fn counted<'t>(source: &Source<'t>, at: usize) -> &'t str {
+fn counted_name<'t>(source: &Source<'t>, at: usize) -> &'t str {
     let k = before(source.index_of(at), 1);
     if source.is_name(k) {
-        return source.shown(k);
+        return source.token_text(k);
     }
     let name = behind_blanks(source.text, at.saturating_add(2));
     match name.first() {
-        Some(byte) if byte.is_ascii_alphabetic() => shown(name),
+        Some(byte) if byte.is_ascii_alphabetic() => shown_text(name),
         _ => "i",
     }
 }
@@ -163,7 +163,7 @@ fn say_compound(said: &mut Said, name: &str, written: &str) {
 fn say_directive(said: &mut Said, text: &[u8], at: usize) {
     let word = behind_blanks(text, at.saturating_add(1));
     said.say("'#");
-    said.say(shown(word));
+    said.say(shown_text(word));
     said.say("' isn't in this subset of C");
     said.hint(told_of(DIRECTIVES, word).unwrap_or(NO_DIRECTIVES));
 }
@@ -213,13 +213,13 @@ fn left_out(text: &[u8], at: usize) -> Option<&'static str> {
 fn say_sign(said: &mut Said, source: &Source<'_>, at: usize) {
     let sign = spelled_at(source.text, at);
     if let Some(written) = told_of(COMPOUND, sign) {
-        said.say_name(shown(sign), LEFT_OUT_HERE);
-        say_compound(said, counted(source, at), written);
+        said.say_name(shown_text(sign), LEFT_OUT_HERE);
+        say_compound(said, counted_name(source, at), written);
     } else if let Some(hint) = left_out(source.text, at) {
-        said.say_name(shown(sign), LEFT_OUT_HERE);
+        said.say_name(shown_text(sign), LEFT_OUT_HERE);
         said.hint(hint);
     } else {
-        said.say_name(shown(sign), "begins nothing in C");
+        said.say_name(shown_text(sign), "begins nothing in C");
     }
 }
 
@@ -239,7 +239,7 @@ pub(crate) fn say_token(said: &mut Said, source: &Source<'_>, at: usize) {
             "out(e); prints a word; bytes stand in an array of unsigned char at file scope",
         );
     } else if is_forbidden(source, sign, at) {
-        said.say_name(shown(sign), "can't stand in a comment");
+        said.say_name(shown_text(sign), "can't stand in a comment");
         said.hint("leave it out: C may read what follows as code");
     } else if sign == DIRECTIVE {
         say_directive(said, source.text, at);

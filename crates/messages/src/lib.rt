@@ -24,7 +24,7 @@ ghost use Rattle.std.specs.Prelude.{IfOk};
 ghost use Rattle.commands.specs.Texts.{IsPrintableExplanation};
 
 use crate::constants::{say_constant, say_size};
-use crate::expected::expected;
+use crate::expected::expected_words;
 use crate::lexical::{say_byte, say_token};
 use crate::names::{in_sight, names_before};
 use crate::said::Said;
@@ -32,7 +32,6 @@ use crate::source::Source;
 use crate::syntax::say_syntax;
 use crate::types::say_kind;
 use c_front::{FrontFault, FrontFaultKind};
-use c_statements::TypeFault;
 use commands::Explanation;
 pub use fault::SourceFault;
 use std::alloc::{AllocError, Global};
@@ -48,7 +47,7 @@ fn say_front(
         FrontFaultKind::Token => say_token(said, source, fault.at),
         FrontFaultKind::Syntax => {
             let k = source.index_of(fault.at);
-            let expected = expected(alloc, source, k)?;
+            let expected = expected_words(alloc, source, k)?;
             say_syntax(said, source, k, expected.as_slice());
         }
         FrontFaultKind::Constant => say_constant(said, source.text, fault.at),
@@ -58,36 +57,6 @@ fn say_front(
     Ok(())
 }
 
-fn say_types(
-    alloc: Global,
-    said: &mut Said,
-    source: &Source<'_>,
-    fault: TypeFault,
-) -> Result<(), AllocError> {
-    let k = source.index_of(fault.at);
-    let names = names_before(alloc, source, k)?;
-    say_kind(
-        said,
-        source,
-        fault.kind,
-        k,
-        in_sight(source, names.as_slice(), k),
-    );
-    Ok(())
-}
-
-fn say(
-    alloc: Global,
-    said: &mut Said,
-    source: &Source<'_>,
-    fault: SourceFault,
-) -> Result<(), AllocError> {
-    match fault {
-        SourceFault::Front(fault) => say_front(alloc, said, source, fault),
-        SourceFault::Types(fault) => say_types(alloc, said, source, fault),
-    }
-}
-
 /// What is wrong with a text that has this fault, and what to write in its place.
 /// Like the reading of the text it descends into it: run it on a thread with a large stack where the text may be hostile.
 pub fn explain(alloc: Global, text: &[u8], fault: SourceFault) -> Result<Explanation, AllocError>
@@ -95,6 +64,14 @@ pub fn explain(alloc: Global, text: &[u8], fault: SourceFault) -> Result<Explana
 {
     let source = Source::read(alloc, text)?;
     let mut said = Said::new(alloc);
-    say(alloc, &mut said, &source, fault)?;
+    match fault {
+        SourceFault::Front(fault) => say_front(alloc, &mut said, &source, fault)?,
+        SourceFault::Types(fault) => {
+            let k = source.index_of(fault.at);
+            let names = names_before(alloc, &source, k)?;
+            let declared = in_sight(&source, names.as_slice(), k);
+            say_kind(&mut said, &source, fault.kind, k, declared);
+        }
+    }
     said.end(alloc)
 }

@@ -39,7 +39,7 @@ pub(crate) fn names_before(
 pub(crate) fn in_sight(source: &Source<'_>, names: &[usize], k: usize) -> Option<usize> {
     let mut found = None;
     for declared in names {
-        if source.spelled(*declared) == source.spelled(k) {
+        if source.spelling(*declared) == source.spelling(k) {
             found = Some(*declared);
         }
     }

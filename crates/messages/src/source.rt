@@ -46,7 +46,7 @@ pub(crate) fn back<'t>(text: &'t [u8], n: usize) -> &'t [u8]
 }
 
 /// The text that a message shows of bytes.
-pub(crate) fn shown<'t>(bytes: &'t [u8]) -> &'t str {
+pub(crate) fn shown_text<'t>(bytes: &'t [u8]) -> &'t str {
     str::from_utf8(front(bytes, SHOWN)).unwrap_or("?")
 }
 
@@ -214,13 +214,13 @@ impl<'t> Source<'t> {
     }
 
     /// The bytes of a token.
-    pub(crate) fn spelled(&self, k: usize) -> &'t [u8] {
+    pub(crate) fn spelling(&self, k: usize) -> &'t [u8] {
         spelled_at(self.text, self.at(k))
     }
 
     /// What a message shows of a token.
-    pub(crate) fn shown(&self, k: usize) -> &'t str {
-        shown(self.spelled(k))
+    pub(crate) fn token_text(&self, k: usize) -> &'t str {
+        shown_text(self.spelling(k))
     }
 
     /// Line and column of a token.

@@ -415,7 +415,7 @@ impl<'s, 't> Found<'s, 't> {
     }
 
     /// The first hint whose facts hold, or none.
-    fn hint(&self, hints: &[(&[Fact], &'static str)]) -> &'static str {
+    fn first_hint(&self, hints: &[(&[Fact], &'static str)]) -> &'static str {
         for (facts, hint) in hints {
             if self.hold(*facts) {
                 return *hint;
@@ -457,7 +457,7 @@ fn say_end(said: &mut Said, source: &Source<'_>, expected: &[&str]) {
 
 /// What is said of the first token that can't stand, or of a text that ends too early.
 pub(crate) fn say_syntax(said: &mut Said, source: &Source<'_>, k: usize, expected: &[&str]) {
-    let found = source.shown(k);
+    let found = source.token_text(k);
     if k >= source.count() {
         return say_end(said, source, expected);
     }
@@ -470,5 +470,5 @@ pub(crate) fn say_syntax(said: &mut Said, source: &Source<'_>, k: usize, expecte
         said.say(found);
         said.say("'");
     }
-    said.hint(Found::new(source, k).hint(HINTS));
+    said.hint(Found::new(source, k).first_hint(HINTS));
 }

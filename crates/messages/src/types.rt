@@ -32,7 +32,7 @@ const TAKEN: &[&str] = &[
 /// A name that is declared somewhere else in the text.
 fn elsewhere(source: &Source<'_>, k: usize) -> Option<usize> {
     for other in 0..source.count() {
-        if source.is_declared(other) && source.spelled(other) == source.spelled(k) {
+        if source.is_declared(other) && source.spelling(other) == source.spelling(k) {
             return Some(other);
         }
     }
@@ -40,12 +40,12 @@ fn elsewhere(source: &Source<'_>, k: usize) -> Option<usize> {
 }
 
 fn say_undeclared(said: &mut Said, source: &Source<'_>, k: usize) {
-    said.say_name(source.shown(k), "isn't declared");
+    said.say_name(source.token_text(k), "isn't declared");
     let Some(other) = elsewhere(source, k) else {
-        return said.hint(told_of(LIBRARY, source.spelled(k)).unwrap_or(""));
+        return said.hint(told_of(LIBRARY, source.spelling(k)).unwrap_or(""));
     };
     said.hint("'");
-    said.hint(source.shown(k));
+    said.hint(source.token_text(k));
     said.hint("' of line ");
     said.hint_number(source.spot(other).line);
     said.hint(if other < k {
@@ -58,12 +58,12 @@ fn say_undeclared(said: &mut Said, source: &Source<'_>, k: usize) {
 fn say_redeclared(said: &mut Said, source: &Source<'_>, k: usize, first: Option<usize>) {
     let Some(first) = first else {
         said.say_name(
-            source.shown(k),
+            source.token_text(k),
             "is there from the beginning: it prints a word",
         );
         return said.hint("give yours another name");
     };
-    said.say_name(source.shown(k), "is declared twice in this scope");
+    said.say_name(source.token_text(k), "is declared twice in this scope");
     let Spot { line, column } = source.spot(first);
     said.hint("the first one stands at line ");
     said.hint_number(line);
@@ -74,7 +74,7 @@ fn say_redeclared(said: &mut Said, source: &Source<'_>, k: usize, first: Option<
 /// A `return` that doesn't fit its function.
 fn say_return(said: &mut Said, source: &Source<'_>, k: usize) {
     let function = last_function(source, k);
-    let name = source.shown(function);
+    let name = source.token_text(function);
     if source.is(before(function, 1), Mark::Void) {
         said.say_name(name, "is void: it returns no value");
         said.hint("write return; or give the function a type");
@@ -137,7 +137,7 @@ fn is_function(source: &Source<'_>, declared: Option<usize>) -> bool {
 }
 
 fn say_other_kind(said: &mut Said, source: &Source<'_>, k: usize, declared: Option<usize>) {
-    let (name, after) = (source.shown(k), source.mark(behind(k, 1)));
+    let (name, after) = (source.token_text(k), source.mark(behind(k, 1)));
     if let Some(Token::Jump(_, _)) = source.token(k) {
         say_return(said, source, k);
     } else if source.is_declared(k) {
@@ -170,14 +170,14 @@ fn arguments(source: &Source<'_>, open: usize) -> usize {
 fn say_other_count(said: &mut Said, source: &Source<'_>, k: usize, declared: Option<usize>) {
     if source.is_declared(k) {
         let function = last_function(source, k);
-        said.say_name(source.shown(function), "has more than 4 parameters");
+        said.say_name(source.token_text(function), "has more than 4 parameters");
         return said.hint("more values go through variables at file scope");
     }
     let taken = match declared {
         Some(token) => arguments(source, behind(token, 1)),
         None => 1,
     };
-    said.say_name(source.shown(k), "takes ");
+    said.say_name(source.token_text(k), "takes ");
     said.say(TAKEN.get(taken).copied().unwrap_or("4 arguments"));
     said.say(", not ");
     said.say_number(arguments(source, behind(k, 1)));
@@ -217,7 +217,7 @@ pub(crate) fn say_kind(
             "the program has no 'main'",
             "a program begins at int main(void) { .. }",
         ),
-        TypeFaultKind::Outside => said.say_name(source.shown(k), "stands in no loop"),
+        TypeFaultKind::Outside => said.say_name(source.token_text(k), "stands in no loop"),
         TypeFaultKind::Limit => say_limit(said, source, k),
         TypeFaultKind::NoMemory => said.say("memory was refused"),
     }
