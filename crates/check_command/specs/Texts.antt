@@ -1,5 +1,5 @@
 -- What the answers to a check text and its faults print.
-use Rattle.std.specs.Prelude.{ℕ, List, ◌++◌, codes}
+use Rattle.std.specs.Prelude.{◌≢◌, ◌≤◌, ℕ, List, ◌++◌, codes}
 use Rattle.mips_isa.specs.Texts.{register_text}
 use Rattle.mblock.specs.Texts.{unclean_text}
 use Rattle.check_text.specs.declared.fault.PairFault.TheVariants.{Line}
@@ -31,6 +31,10 @@ exit_status answers.Same = 0
 exit_status (answers.Unclean rule) = 3
 exit_status (answers.Differs place) = 3
 exit_status answers.Full = 3
+
+-- a status with which a check may end: 1 for a fault, or that of an answer; never 2, as for wrong words
+abbrev pub IsCheckStatus : ℕ → Type 0
+IsCheckStatus status = (status ≤ 3) × (status ≢ 2)
 
 abbrev pub check_fault_text : CheckFault → List ℕ
 check_fault_text check_faults.Size = codes "fault 5 Size"

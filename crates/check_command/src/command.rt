@@ -4,7 +4,7 @@ ghost use Rattle.std.specs.Prelude.{◌≡◌, ◌≢◌, ◌≤◌, ℕ, List, 
 ghost use Rattle.std.specs.Io.KnownBytes.{Appends};
 ghost use Rattle.check_command.specs.Checks.{IsAnswerTo, IsCheckFault};
 ghost use Rattle.check_command.specs.Command.{Checks, IsUnprinted, PrintsAnswer, StopsCheck};
-ghost use Rattle.check_command.specs.Texts.{answer_text, check_fault_text, exit_status};
+ghost use Rattle.check_command.specs.Texts.{IsCheckStatus, answer_text, check_fault_text, exit_status};
 ghost use Rattle.check_command.specs.declared.verdicts.CheckAnswer.{CheckAnswer};
 ghost use Rattle.commands.specs.OneFile.{AnswersFile, TookPrint};
 ghost use Rattle.commands.specs.Requests.{Asks, Does, IsNothing, IsSent, TellsLine};
@@ -13,7 +13,7 @@ ghost use Rattle.commands.specs.declared.fault.HostFault.TheVariants.{CannotWrit
 use crate::lines::explain_line;
 use crate::verdicts::{CheckAnswer, CheckFault, check};
 use commands::{
-    Complaints, Explanation, FileCommand, Files, HostFault, Output, Place, answer_file,
+    BadFile, Complaints, Explanation, FileCommand, Files, HostFault, Output, Place, answer_file,
     line_offset, tell_placed,
 };
 use std::alloc::Global;
@@ -30,8 +30,7 @@ fn print<W: Output>(out: &mut W, line: &CheckAnswer) -> io::Result<()>
 /// The status of an answer, with which the program ends: 0 for `same`, else 3.
 pub fn status_of(answer: &CheckAnswer) -> u8
     ensures status { result ≡ exit_status answer.now }
-    ensures most { result ≤ 3 }
-    ensures not_wrong_words { result ≢ 2 }
+    ensures possible { IsCheckStatus result }
 {
     match answer {
         CheckAnswer::Same => 0,
@@ -44,8 +43,7 @@ pub fn print_answer<W: Output>(out: &mut W, answer: &CheckAnswer) -> Result<u8, 
     ensures line { OnOk result (Appends (W.contents out.old) (W.contents out.new) (answer_text answer.now ++ 10 ∷ [])) }
     ensures sent { OnOk result (IsSent W.sends out.new) }
     ensures status { IfOk result (λ s. s ≡ exit_status answer.now) }
-    ensures most { IfOk result (λ s. s ≤ 3) }
-    ensures not_wrong_words { IfOk result (λ s. s ≢ 2) }
+    ensures possible { IfOk result IsCheckStatus }
     ensures fault { IfErr result (λ e. e ≡ CannotWrite) }
 {
     match print(out, answer) {
@@ -63,7 +61,7 @@ fn offset_of(text: &[u8], fault: CheckFault) -> Option<usize> {
 }
 
 /// What is said of a fault of a check text: of a line, if anything.
-fn about(alloc: Global, text: &[u8], fault: CheckFault) -> Option<Explanation> {
+fn explanation_of(alloc: Global, text: &[u8], fault: CheckFault) -> Option<Explanation> {
     match fault {
         CheckFault::Line(line) => explain_line(alloc, text, line).ok(),
         CheckFault::Size | CheckFault::NoMemory => None,
@@ -85,7 +83,7 @@ pub fn tell_check<E: Complaints>(
         source: file,
         text,
         at: offset_of(text, fault),
-        about: about(alloc, text, fault),
+        about: explanation_of(alloc, text, fault),
     };
     tell_placed(alloc, err, &fault, &place)
 }
@@ -160,15 +158,8 @@ impl<'a, P: AnswerPrinter> FileCommand for CheckCommand<'a, P> {
         _err: &mut E,
     ) {}
 
-    fn tell<E: Complaints>(
-        &self,
-        alloc: Global,
-        file: &str,
-        bytes: &[u8],
-        fault: CheckFault,
-        err: &mut E,
-    ) -> u8 {
-        tell_check(alloc, err, file, bytes, fault)
+    fn tell<E: Complaints>(&self, alloc: Global, of: &BadFile<'_, CheckFault>, err: &mut E) -> u8 {
+        tell_check(alloc, err, of.file, of.bytes, of.fault)
     }
 }
 
@@ -181,8 +172,7 @@ pub fn answer_check<P: AnswerPrinter, F: Files, W: Output, E: Complaints>(
     out: &mut W,
     err: &mut E,
 ) -> u8
-    ensures most { result ≤ 3 }
-    ensures not_wrong_words { result ≢ 2 }
+    ensures possible { IsCheckStatus result }
     ensures answered { result ≢ 1 → Does F.answers files.old files.new (W.contents out.old) (W.contents out.new)
         (AnswersFile IsAnswerTo P.prints exit_status file.now result) }
     ensures sent { result ≢ 1 → IsSent W.sends out.new }
@@ -218,8 +208,7 @@ pub fn check_file<F: Files, W: Output, E: Complaints>(
     out: &mut W,
     err: &mut E,
 ) -> u8
-    ensures most { result ≤ 3 }
-    ensures not_wrong_words { result ≢ 2 }
+    ensures possible { IsCheckStatus result }
     ensures answered { result ≢ 1
         → Does F.answers files.old files.new (W.contents out.old) (W.contents out.new) (Checks file.now result) }
     ensures sent { result ≢ 1 → IsSent W.sends out.new }

@@ -111,7 +111,7 @@ fn mnemonic<'t>(line: &'t [u8]) -> &'t [u8] {
     line.get(..length).unwrap_or(line)
 }
 
-fn shown<'t>(bytes: &'t [u8]) -> &'t str {
+fn shown_word<'t>(bytes: &'t [u8]) -> &'t str {
     str::from_utf8(bytes).unwrap_or("?")
 }
 
@@ -140,7 +140,7 @@ fn stage_behind(stage: Stage, line: &[u8]) -> Stage {
 }
 
 /// What has to stand at a line, counted from 1, and the line; None where the text has no such line.
-fn found<'t>(text: &'t [u8], line: u32) -> (Stage, Option<&'t [u8]>) {
+fn stage_at<'t>(text: &'t [u8], line: u32) -> (Stage, Option<&'t [u8]>) {
     let (mut stage, mut number, mut start) = (Stage::Block, 1u32, 0usize);
     for (k, byte) in text.iter().enumerate() {
         if *byte == b'\n' {
@@ -161,7 +161,7 @@ fn found<'t>(text: &'t [u8], line: u32) -> (Stage, Option<&'t [u8]>) {
 }
 
 /// What is said of a line that should be an instruction or an exit.
-fn bad_instruction(alloc: Global, line: &[u8]) -> Result<Explanation, AllocError>
+fn explain_instruction(alloc: Global, line: &[u8]) -> Result<Explanation, AllocError>
     ensures { IfOk result IsPrintableExplanation }
 {
     let word = mnemonic(line);
@@ -180,20 +180,20 @@ fn bad_instruction(alloc: Global, line: &[u8]) -> Result<Explanation, AllocError
         );
     }
     let Some((_, operands, range)) = form(&INSTRUCTIONS, word).or(form(&EXITS, word)) else {
-        return unknown(alloc, word);
+        return explain_unknown(alloc, word);
     };
     if line.starts_with(b"lw $0,") || line.starts_with(b"lbu $0,") {
         return Explanation::new(alloc, "register 0 can't be loaded", None);
     }
-    let word = shown(word);
+    let word = shown_word(word);
     let message = format!(in alloc; "expected {word}{operands}")?;
     Explanation::new(alloc, message.as_str(), Some(range))
 }
 
-fn unknown(alloc: Global, word: &[u8]) -> Result<Explanation, AllocError>
+fn explain_unknown(alloc: Global, word: &[u8]) -> Result<Explanation, AllocError>
     ensures { IfOk result IsPrintableExplanation }
 {
-    let told = shown(word.get(..63).unwrap_or(word));
+    let told = shown_word(word.get(..63).unwrap_or(word));
     let message = format!(in alloc; "'{told}' is no instruction here")?;
     for (other, hint) in OTHERS {
         if word == other {
@@ -204,7 +204,7 @@ fn unknown(alloc: Global, word: &[u8]) -> Result<Explanation, AllocError>
 }
 
 /// What is said of a line between the head of a block or an order and its exit.
-fn inside(
+fn explain_inside(
     alloc: Global,
     line: &[u8],
     before: usize,
@@ -214,7 +214,7 @@ fn inside(
     ensures { IfOk result IsPrintableExplanation }
 {
     if before < most || form(&INSTRUCTIONS, mnemonic(line)).is_none() {
-        return bad_instruction(alloc, line);
+        return explain_instruction(alloc, line);
     }
     let count = before.saturating_add(1);
     let message = format!(in alloc; "{count} instructions in {part}: at most {most}")?;
@@ -222,7 +222,7 @@ fn inside(
 }
 
 /// What has to stand at a stage.
-fn expected(stage: Stage) -> &'static str {
+fn expected_line(stage: Stage) -> &'static str {
     match stage {
         Stage::Block => "expected the line 'block'",
         Stage::InBlock(_) | Stage::InOrder(_) => "expected an instruction or an exit",
@@ -236,16 +236,16 @@ fn expected(stage: Stage) -> &'static str {
 pub(crate) fn explain_line(alloc: Global, text: &[u8], line: u32) -> Result<Explanation, AllocError>
     ensures { IfOk result IsPrintableExplanation }
 {
-    let (stage, bytes) = found(text, line);
+    let (stage, bytes) = stage_at(text, line);
     let Some(bytes) = bytes else {
-        let wanted = expected(stage);
+        let wanted = expected_line(stage);
         let message = format!(in alloc; "{wanted} at the text's end")?;
         return Explanation::new(alloc, message.as_str(), None);
     };
     match stage {
-        Stage::InBlock(before) => inside(alloc, bytes, before, BLOCK, "a block"),
-        Stage::InOrder(before) => inside(alloc, bytes, before, ORDER, "an order"),
-        Stage::Slot if bytes.starts_with(b"slot ") => bad_instruction(
+        Stage::InBlock(before) => explain_inside(alloc, bytes, before, BLOCK, "a block"),
+        Stage::InOrder(before) => explain_inside(alloc, bytes, before, ORDER, "an order"),
+        Stage::Slot if bytes.starts_with(b"slot ") => explain_instruction(
             alloc,
             bytes.get(5..).unwrap_or(b""),
         ),
@@ -259,6 +259,6 @@ pub(crate) fn explain_line(alloc: Global, text: &[u8], line: u32) -> Result<Expl
             "nothing can stand behind the order",
             None,
         ),
-        _ => Explanation::new(alloc, expected(stage), None),
+        _ => Explanation::new(alloc, expected_line(stage), None),
     }
 }

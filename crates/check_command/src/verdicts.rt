@@ -53,7 +53,7 @@ fn table(alloc: Global) -> Option<(TermTable, Vec<Pass>)>
 }
 
 /// The table and its pass; None only where memory was refused.
-fn opened(alloc: Global) -> Option<(TermTable, Pass)>
+fn open_table(alloc: Global) -> Option<(TermTable, Pass)>
     ensures { IfSome result (λ t. IsOf t.0 t.1) }
 {
     let (table, mut passes) = table(alloc)?;
@@ -79,7 +79,7 @@ pub fn check(alloc: Global, text: &[u8]) -> Result<CheckAnswer, CheckFault>
         Err(PairFault::Line(line)) => return Err(CheckFault::Line(line)),
         Err(PairFault::NoMemory) => return Err(CheckFault::NoMemory),
     };
-    let Some((table, mut pass)) = opened(alloc) else {
+    let Some((table, mut pass)) = open_table(alloc) else {
         return Err(CheckFault::NoMemory);
     };
     match validate(alloc, &table, &mut pass, &block, order) {

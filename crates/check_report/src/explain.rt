@@ -36,7 +36,7 @@ fn rule_words(rule: Unclean) -> &'static str {
 }
 
 /// The register that an instruction loads.
-fn loaded(inst: &Plain) -> Option<Reg> {
+fn loaded_register(inst: &Plain) -> Option<Reg> {
     match inst.action() {
         Action::Loads { d, .. } => Some(d.reg()),
         _ => None,
@@ -46,7 +46,7 @@ fn loaded(inst: &Plain) -> Option<Reg> {
 /// The first instruction that touches what the one before it loads; its number.
 fn load_use(insts: &[Plain]) -> Option<usize> {
     for (k, inst) in insts.iter().enumerate() {
-        if let Some(register) = loaded(inst)
+        if let Some(register) = loaded_register(inst)
             && let Some(next) = insts.get(k + 1)
             && next.action().touches(register)
         {
@@ -187,7 +187,7 @@ fn put_differing(
 }
 
 /// Block and order of a text that has a verdict.
-fn spelled(alloc: Global, text: &[u8]) -> Result<Option<Text>, AllocError> {
+fn spelled_pair(alloc: Global, text: &[u8]) -> Result<Option<Text>, AllocError> {
     if text.len() > LONGEST {
         return Ok(None);
     }
@@ -199,7 +199,7 @@ fn spelled(alloc: Global, text: &[u8]) -> Result<Option<Text>, AllocError> {
 }
 
 /// What is said of a verdict on the text's block and order: printable lines, and none of `same`.
-pub(crate) fn explained(
+pub(crate) fn explanation_lines(
     alloc: Global,
     text: &[u8],
     answer: &CheckAnswer,
@@ -207,7 +207,7 @@ pub(crate) fn explained(
     ensures { IfOk result (λ page. All IsShown page.items) }
 {
     let mut out = Writer::new(alloc);
-    if let Some(spelled) = spelled(alloc, text)? {
+    if let Some(spelled) = spelled_pair(alloc, text)? {
         match answer {
             CheckAnswer::Same => {}
             CheckAnswer::Full => out.text("the table has no room for more than 16384 terms\n"),

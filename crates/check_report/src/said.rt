@@ -2,12 +2,13 @@
 
 ghost use Rattle.std.specs.Prelude.{◌≡◌, ◌≢◌, ◌<◌, ◌≤◌, [], ◌∷◌, ◌++◌, length, true, Some, IfErr, IfOk, OnOk};
 ghost use Rattle.std.specs.Io.KnownBytes.{Appends};
+ghost use Rattle.check_command.specs.Texts.{IsCheckStatus};
 ghost use Rattle.check_report.specs.Command.{IsMore};
 ghost use Rattle.check_report.specs.Line.{AreSaid, IsAnswerLine, IsChecked, IsReading, IsSaid, IsSaidAt};
 ghost use Rattle.check_report.specs.Line.{line_text, said_status, said_text};
 ghost use Rattle.commands.specs.Requests.{Request};
 
-use crate::explain::explained;
+use crate::explain::explanation_lines;
 use crate::readings::Reading;
 use check_command::{CheckAnswer, CheckFault, check, status_of, tell_check};
 use commands::{Complaints, HostFault, print_name, tell};
@@ -47,8 +48,7 @@ impl Said {
     /// 1 for a fault, else the answer's.
     pub(crate) fn status(self) -> u8
         ensures status { result ≡ said_status self }
-        ensures most { result ≤ 3 }
-        ensures not_wrong_words { result ≢ 2 }
+        ensures possible { IsCheckStatus result }
     {
         match self {
             Said::Answer(answer) => status_of(&answer),
@@ -58,7 +58,7 @@ impl Said {
 }
 
 /// What is to be said of what was read of a file.
-fn judged(alloc: Global, reading: &Reading) -> Said
+fn judge(alloc: Global, reading: &Reading) -> Said
     ensures { IsSaid reading.now result }
 {
     match reading {
@@ -101,7 +101,7 @@ pub(crate) fn judge_each<T: Threads + Sync>(
         &|i, one: &mut Said|
             requires { i < length readings.now }
             ensures { IsSaidAt readings.entry.now i one.exit.now }
-        { *one = judged(alloc, &readings[i]) },
+        { *one = judge(alloc, &readings[i]) },
     );
 }
 
@@ -116,7 +116,7 @@ fn more_of(
     ensures refused { IfErr result (λ _. explain ≡ true) }
 {
     if explain {
-        explained(alloc, text, answer)
+        explanation_lines(alloc, text, answer)
     } else {
         Ok(Vec::new(alloc))
     }

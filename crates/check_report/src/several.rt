@@ -2,6 +2,7 @@
 
 ghost use Rattle.std.specs.Prelude.{◌≡◌, ◌≢◌, ◌<◌, ◌≤◌, ◌⊎◌, List, map, length, MatchOption, IfSome};
 ghost use Rattle.std.specs.List.{FoldsTo};
+ghost use Rattle.check_command.specs.Texts.{IsCheckStatus};
 ghost use Rattle.check_report.specs.Line.{AreRead, AreSaid};
 ghost use Rattle.check_report.specs.Several.{BreaksOff, ChecksAll, worse};
 ghost use Rattle.check_report.specs.Stretch.{AreChecked, AreCutOff, BreaksStretch, ShowsStretch};
@@ -19,10 +20,9 @@ const STRETCH: usize = 64;
 
 /// The worse of two statuses: a fault's 1 before any other, else the greater.
 fn worse(a: u8, b: u8) -> u8
-    requires { (a ≤ 3) × (b ≤ 3) × (a ≢ 2) × (b ≢ 2) }
+    requires { IsCheckStatus a × IsCheckStatus b }
     ensures worse { result ≡ worse a b }
-    ensures most { result ≤ 3 }
-    ensures not_wrong_words { result ≢ 2 }
+    ensures possible { IsCheckStatus result }
 {
     if a == 1 || b == 1 { 1 } else { a.max(b) }
 }
@@ -41,7 +41,7 @@ fn show_each<W: Output, E: Complaints>(
     requires few { length names.now ≤ STRETCH }
     requires readings { length readings.now ≡ length names.now }
     requires said { (length said.now ≡ length names.now) × AreSaid readings.now said.now }
-    ensures status { IfSome result (λ s. (s ≤ 3) × (s ≢ 2)) }
+    ensures status { IfSome result IsCheckStatus }
     ensures lines { (rs : List Request) → AreRead (map (λ s. s.now) names.now) readings.now rs → MatchOption result
         (AreCutOff rs E.tells err.old err.new explain (map (λ s. s.now) names.now))
         (AreChecked rs (W.contents out.old) (W.contents out.new) E.tells err.old err.new explain (map (λ s. s.now) names.now)) }
@@ -69,7 +69,7 @@ fn check_stretch<T: Threads + Sync, F: Files, W: Output, E: Complaints>(
     err: &mut E,
 ) -> Option<u8>
     requires { length names.now ≤ STRETCH }
-    ensures status { IfSome result (λ s. (s ≤ 3) × (s ≢ 2)) }
+    ensures status { IfSome result IsCheckStatus }
     ensures each { MatchOption result
         (BreaksStretch F.answers files.old files.new E.tells err.old err.new explain (map (λ s. s.now) names.now))
         (ShowsStretch F.answers files.old files.new (W.contents out.old) (W.contents out.new) E.tells err.old err.new explain
@@ -101,8 +101,7 @@ pub fn check_files<T: Threads + Sync, F: Files, W: Output, E: Complaints>(
     out: &mut W,
     err: &mut E,
 ) -> u8
-    ensures most { result ≤ 3 }
-    ensures not_wrong_words { result ≢ 2 }
+    ensures possible { IsCheckStatus result }
     ensures each { (ChecksAll F.answers files.old files.new (W.contents out.old) (W.contents out.new) E.tells err.old err.new
         explain (map (λ s. s.now) names.now) result × IsSent W.sends out.new)
         ⊎ ((result ≡ 1) × Asks F.answers files.old files.new E.tells err.old err.new (BreaksOff explain (map (λ s. s.now) names.now))) }

@@ -32,7 +32,7 @@ loop-stretch-preserved g c =
       search rules,
       tt,
       steps.0 ∙ was.2,
-      (c.worse-status.ensures.most, c.worse-status.ensures.not_wrong_words),
+      c.worse-status.ensures.possible,
       (
         was.4.0 ++ stretch,
         append_assoc was.4.0 stretch _ ∙ names_of was.4.0 _ c.in-Some.stretch.now _ _ steps.1.0 was.4.1,

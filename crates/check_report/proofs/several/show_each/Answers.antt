@@ -14,7 +14,7 @@ returns-in-Err-clause-lines g c = λ rs read.
 
 pub loop-i-preserved : goal.loop-i-preserved
 loop-i-preserved g c = (
-  (c.worse-status.ensures.most, c.worse-status.ensures.not_wrong_words),
+  c.worse-status.ensures.possible,
   λ rs read.
       let xs = c.args.names.now in
       let long = length-map xs (λ (s : Bor (List ℕ)). s.now) in
