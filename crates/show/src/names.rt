@@ -98,7 +98,7 @@ impl<'t> Names<'t> {
         Ok(())
     }
 
-    fn spelled(&self, name: Identifier) -> &'t str {
+    fn spelling(&self, name: Identifier) -> &'t str {
         let rest = self.text.get(name.at..).unwrap_or(b"");
         let bytes = rest.get(..name.length).unwrap_or(b"");
         str::from_utf8(bytes).unwrap_or("?")
@@ -107,7 +107,7 @@ impl<'t> Names<'t> {
     /// The name of a function; `?` where there is none of this number.
     pub(crate) fn function(&self, number: usize) -> &'t str {
         match self.functions.get(number) {
-            Some(function) => self.spelled(function.name),
+            Some(function) => self.spelling(function.name),
             None => "?",
         }
     }
@@ -115,7 +115,7 @@ impl<'t> Names<'t> {
     /// The name of a global.
     pub(crate) fn global(&self, number: usize) -> &'t str {
         match self.globals.get(number) {
-            Some(name) => self.spelled(*name),
+            Some(name) => self.spelling(*name),
             None => "?",
         }
     }
@@ -128,7 +128,7 @@ impl<'t> Names<'t> {
     /// The name of a function's local.
     fn local(&self, function: usize, number: usize) -> Option<&'t str> {
         let name = self.functions.get(function)?.locals.get(number)?;
-        Some(self.spelled(*name))
+        Some(self.spelling(*name))
     }
 
     /// Whether an earlier local of the function has the same name.

@@ -36,7 +36,7 @@ fn tables(alloc: Global, size: Size) -> Option<(TermTable, Vec<Pass>)>
     TermTable::open(alloc, 1, size.nodes, size.heads).ok()
 }
 
-fn opened(alloc: Global, size: Size) -> Option<(TermTable, Pass)>
+fn open_table(alloc: Global, size: Size) -> Option<(TermTable, Pass)>
     ensures { IfSome result (λ t. IsOf t.0 t.1) }
 {
     let (table, mut passes) = tables(alloc, size)?;
@@ -55,14 +55,14 @@ fn put_place(out: &mut Writer, place: Place) {
     }
 }
 
-fn proposed(alloc: Global, block: &Block) -> Result<Order, AllocError> {
+fn proposed_order(alloc: Global, block: &Block) -> Result<Order, AllocError> {
     FilledOrder(ListOrder).reorder(alloc, block)
 }
 
 /// The verdict on the order that is proposed for a block, by a table of this size.
 fn verdict_by<'a>(alloc: Global, block: &'a Block, size: Size) -> Result<Verdict<'a>, AllocError> {
-    let order = proposed(alloc, block)?;
-    let Some((table, mut pass)) = opened(alloc, size) else {
+    let order = proposed_order(alloc, block)?;
+    let Some((table, mut pass)) = open_table(alloc, size) else {
         return Err(AllocError);
     };
     Ok(validate(alloc, &table, &mut pass, block, order))
@@ -111,7 +111,7 @@ pub(crate) fn put_plain(
 
 /// The order that was refused, and the plain one, which stands in its place.
 fn put_refused(alloc: Global, out: &mut Writer, block: &Block) -> Result<(), AllocError> {
-    let refused = proposed(alloc, block)?;
+    let refused = proposed_order(alloc, block)?;
     out.text("    proposed:\n");
     put_order(out, &refused, "      ", "\n");
     out.text("    taken:\n");

@@ -86,7 +86,7 @@ impl Wanted {
     fn of(names: &Names<'_>, asked: &Asked<'_>) -> Result<Wanted, ShowFault> {
         let stage = match asked.stage {
             None => None,
-            Some(name) => match Stage::named(name) {
+            Some(name) => match Stage::from_name(name) {
                 Some(stage) => Some(stage),
                 None => return Err(ShowFault::NoStage),
             },
@@ -129,6 +129,7 @@ fn listing_of(alloc: Global, scheduled: &Scheduled<'_>) -> Result<String, ShowFa
 /// A program with its names, its functions, and the frames that are wanted.
 #[derive(Drop)]
 struct View<'a> {
+    alloc: Global,
     shown: Shown<'a>,
     names: Names<'a>,
     ranges: Vec<Range>,
@@ -148,6 +149,7 @@ impl<'a> View<'a> {
         let rtl_ranges = rtl_blocks_of(alloc, shown.rtl.functions())?;
         let frames = frames_of(alloc, shown.rtl, wanted)?;
         Ok(View {
+            alloc,
             shown,
             names,
             ranges,
@@ -203,39 +205,27 @@ impl<'a> View<'a> {
     }
 
     /// A block in one of the stages of blocks.
-    fn put_stage(
-        &self,
-        alloc: Global,
-        out: &mut Writer,
-        stage: Stage,
-        block: &Block,
-    ) -> Result<(), AllocError> {
+    fn put_stage(&self, out: &mut Writer, stage: Stage, block: &Block) -> Result<(), AllocError> {
         match stage {
-            Stage::Orders => put_settled(alloc, out, block),
+            Stage::Orders => put_settled(self.alloc, out, block),
             Stage::Terms => {
                 out.text("\n");
-                put_terms(alloc, out, block)
+                put_terms(self.alloc, out, block)
             }
             _ => {
                 out.text("\n");
-                put_plain(alloc, out, block, "    ")
+                put_plain(self.alloc, out, block, "    ")
             }
         }
     }
 
-    fn put_blocks(
-        &self,
-        alloc: Global,
-        out: &mut Writer,
-        stage: Stage,
-        number: usize,
-    ) -> Result<(), AllocError> {
+    fn put_blocks(&self, out: &mut Writer, stage: Stage, number: usize) -> Result<(), AllocError> {
         let range = self.range(number);
         let mut k = range.from;
         for block in range.of(self.shown.unit.blocks()) {
             let called = callee(&self.names, self.ranges.as_slice(), block.exit());
             put_heading(out, k, called);
-            self.put_stage(alloc, out, stage, block)?;
+            self.put_stage(out, stage, block)?;
             k = k.saturating_add(1);
         }
         Ok(())
@@ -244,7 +234,6 @@ impl<'a> View<'a> {
     /// One stage of a function, but for the listing.
     fn put_function(
         &self,
-        alloc: Global,
         out: &mut Writer,
         stage: Stage,
         number: usize,
@@ -253,7 +242,7 @@ impl<'a> View<'a> {
         match stage {
             Stage::Rtl => self.put_rtl(out, number, false),
             Stage::Homes => self.put_homes(out, number),
-            _ => self.put_blocks(alloc, out, stage, number)?,
+            _ => self.put_blocks(out, stage, number)?,
         }
         Ok(())
     }
@@ -279,18 +268,13 @@ impl<'a> View<'a> {
         out.text("  }\n");
     }
 
-    fn put_listing(
-        &self,
-        alloc: Global,
-        out: &mut Writer,
-        only: Option<usize>,
-    ) -> Result<(), ShowFault> {
+    fn put_listing(&self, out: &mut Writer, only: Option<usize>) -> Result<(), ShowFault> {
         let Some(options) = PhaseOpts::new(1, 65536, 1024) else {
             return Ok(());
         };
         let scheduler = FilledOrder(ListOrder);
-        let scheduled = schedule_one(alloc, self.shown.unit, options, &scheduler)?;
-        let listing = listing_of(alloc, &scheduled)?;
+        let scheduled = schedule_one(self.alloc, self.shown.unit, options, &scheduler)?;
+        let listing = listing_of(self.alloc, &scheduled)?;
         let view = ListingView {
             names: &self.names,
             unit: self.shown.unit,
@@ -303,12 +287,12 @@ impl<'a> View<'a> {
     }
 
     /// RTL, blocks and orders of a function.
-    fn put_stages(&self, alloc: Global, out: &mut Writer, number: usize) -> Result<(), AllocError> {
+    fn put_stages(&self, out: &mut Writer, number: usize) -> Result<(), AllocError> {
         for stage in [Stage::Rtl, Stage::Blocks, Stage::Orders] {
             if number > 0 || stage != Stage::Rtl {
                 out.text(stage.name());
                 out.text(": ");
-                self.put_function(alloc, out, stage, number)?;
+                self.put_function(out, stage, number)?;
             }
         }
         Ok(())
@@ -317,7 +301,6 @@ impl<'a> View<'a> {
     /// All that is asked of a function.
     fn put_asked(
         &self,
-        alloc: Global,
         out: &mut Writer,
         wanted: &Wanted,
         number: usize,
@@ -327,12 +310,12 @@ impl<'a> View<'a> {
             return Ok(());
         }
         match wanted.stage {
-            Some(stage) => self.put_function(alloc, out, stage, number),
-            None => self.put_stages(alloc, out, number),
+            Some(stage) => self.put_function(out, stage, number),
+            None => self.put_stages(out, number),
         }
     }
 
-    fn put_all(&self, alloc: Global, out: &mut Writer, wanted: &Wanted) -> Result<(), AllocError> {
+    fn put_all(&self, out: &mut Writer, wanted: &Wanted) -> Result<(), AllocError> {
         if wanted.dot {
             out.text("digraph blocks {\n  node [shape=box fontname=monospace];\n");
         }
@@ -341,7 +324,7 @@ impl<'a> View<'a> {
             None => (first_of(wanted), self.ranges.len()),
         };
         for number in first..end {
-            self.put_asked(alloc, out, wanted, number)?;
+            self.put_asked(out, wanted, number)?;
         }
         if wanted.dot {
             out.text("}\n");
@@ -350,12 +333,12 @@ impl<'a> View<'a> {
     }
 
     /// The text of what is asked for.
-    fn text(&self, alloc: Global, wanted: &Wanted) -> Result<String, ShowFault> {
-        let mut out = Writer::new(alloc);
+    fn text(&self, wanted: &Wanted) -> Result<String, ShowFault> {
+        let mut out = Writer::new(self.alloc);
         if wanted.stage == Some(Stage::Listing) && !wanted.dot {
-            self.put_listing(alloc, &mut out, wanted.only)?;
+            self.put_listing(&mut out, wanted.only)?;
         } else {
-            self.put_all(alloc, &mut out, wanted)?;
+            self.put_all(&mut out, wanted)?;
         }
         let text = out.end()?;
         Ok(text)
@@ -377,7 +360,7 @@ pub fn show(alloc: Global, shown: Shown<'_>, asked: &Asked<'_>) -> Result<Vec<u8
     let names = Names::read(alloc, shown.text)?;
     let wanted = Wanted::of(&names, asked)?;
     let view = View::of(alloc, shown, names, &wanted)?;
-    let text = view.text(alloc, &wanted)?;
+    let text = view.text(&wanted)?;
     let width = if asked.dot { usize::MAX } else { WIDTH };
     let page = page_of(alloc, text.as_bytes(), width)?;
     Ok(page)

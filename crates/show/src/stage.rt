@@ -28,7 +28,7 @@ impl Stage {
     }
 
     /// The stage of this name.
-    pub(crate) fn named(name: &str) -> Option<Stage> {
+    pub(crate) fn from_name(name: &str) -> Option<Stage> {
         for stage in [
             Stage::Rtl,
             Stage::Homes,
