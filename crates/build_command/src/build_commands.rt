@@ -14,6 +14,7 @@ use command_line::AskedBuild;
 use commands::{Complaints, Files, HostFault, Output, read_file, tell, tell_placed, write_file};
 use delay_filler::FilledOrder;
 use list_scheduler::ListOrder;
+use messages::SourceFault;
 use std::alloc::Global;
 use std::io;
 use std::sync::Wait;
@@ -36,23 +37,12 @@ fn limit_text(limit: Limit) -> &'static str {
     }
 }
 
-/// The line of the fault, and below it where it lies; apart, since what is said of it is let go before a limit's line.
-fn tell_source_fault<E: Complaints>(
-    alloc: Global,
-    err: &mut E,
-    source: &str,
-    text: &[u8],
-    fault: BuildFault,
-) -> u8
-    ensures status { result ≡ 1 }
-    ensures told { TellsLine E.tells err.old (build_fault_text fault) err.new }
-{
-    let found = match fault {
+/// The fault of the text, if it is one.
+fn source_fault(fault: BuildFault) -> Option<SourceFault> {
+    match fault {
         BuildFault::Source(found) => Some(found),
         BuildFault::Limit(_) | BuildFault::NoMemory => None,
-    };
-    let place = source_place(alloc, source, text, found);
-    tell_placed(alloc, err, &fault, &place)
+    }
 }
 
 /// The line of a build's fault, and below it where it lies and what is said of it, or what the limit is about.
@@ -66,7 +56,10 @@ pub fn tell_build<E: Complaints>(
     ensures status { result ≡ 1 }
     ensures told { TellsLine E.tells err.old (build_fault_text fault) err.new }
 {
-    let status = tell_source_fault(alloc, err, source, text, fault);
+    let place = source_place(alloc, source, text, source_fault(fault));
+    let status = tell_placed(alloc, err, &fault, &place);
+    // what is said of the fault is let go before a limit's line
+    drop(place);
     if let BuildFault::Limit(limit) = fault {
         let about = limit_text(limit);
         err.line(&about);

@@ -4,32 +4,27 @@ use Rattle.commands.specs.Requests.Request.{Read, NotRead, Written, NotWritten}
 use Rattle.commands.specs.Texts.{host_fault_text}
 use Rattle.commands.specs.declared.fault.HostFault.TheVariants.{CannotWrite}
 use Rattle.commands.proofs.Told.{told_as}
-use Rattle.commands.proofs.Asked.{asked_once, asked_twice, not_written_as, read_as, written_as}
+use Rattle.commands.proofs.Asked.{asked_twice, asks_once, not_written_as, read_as, written_as}
 use Rattle.build_command.specs.Texts.{build_fault_text}
 use Rattle.build_command.specs.Commands.{built_text}
 use Rattle.build_command.specs.Commands.StopsBuild.{unread, faulty, unwritten, untold}
 use Rattle.build_command.proofs.build_commands.build_file.Goals as goal
 
 pub returns-in-Err-clause-stopped : goal.returns-in-Err-clause-stopped
-returns-in-Err-clause-stopped g c = λ one. record {
-  requests = _;
-  asked = asked_once g.F.Files.answers _ _ (NotRead c.args.asked.now.source.now c.in-Err.ensures.asked.0) c.in-Err.ensures.asked.2;
-  text = host_fault_text (reading_fault c.in-Err.ensures.asked.0);
-  told = told_as _ _ _ _ _ c.in-Err.ensures.asked.1 c.tell.ensures.told;
-  means = unread c.in-Err.ensures.asked.0;
-}
+returns-in-Err-clause-stopped g c = λ one.
+    let fault = c.in-Err.ensures.asked.0 in
+    asks_once g.F.Files.answers g.E.Complaints.tells _ _ _ _ (NotRead c.args.asked.now.source.now fault)
+    (host_fault_text (reading_fault fault)) _ c.in-Err.ensures.asked.2
+    (told_as _ _ _ _ _ c.in-Err.ensures.asked.1 c.tell.ensures.told) (unread fault)
 
 pub returns-in-Err-built_as_asked-clause-stopped : goal.returns-in-Err-built_as_asked-clause-stopped
 returns-in-Err-built_as_asked-clause-stopped g c = λ one.
     let answers = g.F.Files.answers in
     let text = c.as_slice.result.now in
-    record {
-      requests = _;
-      asked = asked_once answers _ _ (Read c.args.asked.now.source.now text) (read_as answers _ _ _ _ text c.as_slice.ensures.value c.in-Ok.ensures.asked);
-      text = build_fault_text c.in-Err-built_as_asked.fault;
-      told = c.tell_build.ensures.told;
-      means = faulty text c.in-Err-built_as_asked.fault c.in-Err-built_as_asked.ensures.fault;
-    }
+    asks_once answers g.E.Complaints.tells _ _ _ _ (Read c.args.asked.now.source.now text)
+    (build_fault_text c.in-Err-built_as_asked.fault) _
+    (read_as answers _ _ _ _ text c.as_slice.ensures.value c.in-Ok.ensures.asked) c.tell_build.ensures.told
+    (faulty text c.in-Err-built_as_asked.fault c.in-Err-built_as_asked.ensures.fault)
 
 pub returns-in-Err-write_file-clause-stopped : goal.returns-in-Err-write_file-clause-stopped
 returns-in-Err-write_file-clause-stopped g c = λ one.

@@ -4,5 +4,5 @@ use Rattle.build_command.specs.Texts.{build_fault_text}
 use Rattle.build_command.proofs.build_commands.tell_build.Goals as goal
 
 pub returns-in-Limit-clause-told : goal.returns-in-Limit-clause-told
-returns-in-Limit-clause-told g c = line_on g.E.Complaints.tells _ _ _ (build_fault_text c.args.fault) c.tell_source_fault-status.ensures.told
+returns-in-Limit-clause-told g c = line_on g.E.Complaints.tells _ _ _ (build_fault_text c.args.fault) c.tell_placed-status.ensures.told
     (_ ∷ [], (c.line.new.self, c.line.ensures, refl))
