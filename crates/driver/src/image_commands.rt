@@ -8,7 +8,7 @@ ghost use Rattle.image.specs.Images.{IsImageFault};
 use crate::listings::list_image;
 use crate::pages::PageCommand;
 use asm_text::source;
-use commands::{Complaints, tell};
+use commands::{BadFile, Complaints, tell};
 use image::{ImageFault, read_image};
 use std::alloc::Global;
 
@@ -63,14 +63,7 @@ impl PageCommand for ImageCommand {
         }
     }
 
-    fn tell_fault<E: Complaints>(
-        &self,
-        _alloc: Global,
-        _file: &str,
-        _bytes: &[u8],
-        fault: ImageFault,
-        err: &mut E,
-    ) -> u8 {
-        tell(err, &fault)
+    fn tell<E: Complaints>(&self, _alloc: Global, of: &BadFile<'_, ImageFault>, err: &mut E) -> u8 {
+        tell(err, &of.fault)
     }
 }

@@ -8,7 +8,7 @@ ghost use Rattle.run_command.specs.Command.{IsRefused};
 ghost use Rattle.commands.specs.Requests.{IsNothing, IsSent, TellsLine};
 ghost use Rattle.driver.specs.Program.{PrintsPage};
 
-use commands::{Complaints, FileCommand, HostFault, Output};
+use commands::{BadFile, Complaints, FileCommand, HostFault, Output};
 use std::alloc::Global;
 use std::io;
 
@@ -30,16 +30,9 @@ pub(crate) trait PageCommand {
         ensures fault { IfErr result (page_faults bytes.now) };
 
     /// The line of a fault, and below it what is known of it.
-    fn tell_fault<E: Complaints>(
-        &self,
-        alloc: Global,
-        file: &str,
-        bytes: &[u8],
-        fault: Self::Fault,
-        err: &mut E,
-    ) -> u8
+    fn tell<E: Complaints>(&self, alloc: Global, of: &BadFile<'_, Self::Fault>, err: &mut E) -> u8
         ensures status { result ≡ 1 }
-        ensures told { TellsLine E.tells err.old (fault_line fault) err.new };
+        ensures told { TellsLine E.tells err.old (fault_line of.now.fault) err.new };
 }
 
 /// Text that may be printed.
@@ -101,14 +94,7 @@ impl<C: PageCommand> FileCommand for Paged<C> {
         _err: &mut E,
     ) {}
 
-    fn tell<E: Complaints>(
-        &self,
-        alloc: Global,
-        file: &str,
-        bytes: &[u8],
-        fault: C::Fault,
-        err: &mut E,
-    ) -> u8 {
-        self.0.tell_fault(alloc, file, bytes, fault, err)
+    fn tell<E: Complaints>(&self, alloc: Global, of: &BadFile<'_, C::Fault>, err: &mut E) -> u8 {
+        self.0.tell(alloc, of, err)
     }
 }

@@ -14,11 +14,12 @@ use crate::show_commands::ShowCommand;
 use crate::source_runs::{InterpFault, interp};
 use crate::texts::EndLine;
 use build_command::{build_file, source_place};
-use check_command::check_file;
-use check_report::{check_files, explain_file};
+use check_command::{answer_check, check_file};
+use check_report::{ExplainedAnswer, check_files};
 use command_line::{Command, words};
 use commands::{
-    Complaints, FileCommand, Files, HostFault, Output, answer_file, tell_placed, tell_words,
+    BadFile, Complaints, FileCommand, Files, HostFault, Output, answer_file, tell_placed,
+    tell_words,
 };
 use run_command::{print_run, run_file, tell_page};
 use runs::{End, Ran};
@@ -117,15 +118,8 @@ impl FileCommand for InterpCommand {
         }
     }
 
-    fn tell<E: Complaints>(
-        &self,
-        alloc: Global,
-        file: &str,
-        bytes: &[u8],
-        fault: InterpFault,
-        err: &mut E,
-    ) -> u8 {
-        tell_interp(alloc, err, file, bytes, fault)
+    fn tell<E: Complaints>(&self, alloc: Global, of: &BadFile<'_, InterpFault>, err: &mut E) -> u8 {
+        tell_interp(alloc, err, of.file, of.bytes, of.fault)
     }
 }
 
@@ -156,7 +150,7 @@ pub fn mcc<T: Threads + Wait + Sync, F: Files, W: Output, E: Complaints>(
     match words(alloc, args) {
         Ok(Command::Check { file, explain }) => {
             if explain {
-                explain_file(alloc, file, files, out, err)
+                answer_check(alloc, &ExplainedAnswer, file, files, out, err)
             } else {
                 check_file(alloc, file, files, out, err)
             }

@@ -12,7 +12,7 @@ use crate::reasons::page;
 use build_command::{BuildFault, Limit, tell_build, typed_of};
 use c_front::read;
 use c_tree::{Declaration, Program};
-use commands::{Complaints, tell};
+use commands::{BadFile, Complaints, tell};
 use mips_select::{Numbered, SelectFault, select_numbered};
 use rtl::Rtl;
 use rtl_lower::{LowerFault, lower};
@@ -235,14 +235,7 @@ impl<'a> PageCommand for ShowCommand<'a> {
         stages(alloc, bytes, &self.asked)
     }
 
-    fn tell_fault<E: Complaints>(
-        &self,
-        alloc: Global,
-        file: &str,
-        bytes: &[u8],
-        fault: StagesFault,
-        err: &mut E,
-    ) -> u8 {
-        tell_asked(alloc, err, file, bytes, fault, &self.asked)
+    fn tell<E: Complaints>(&self, alloc: Global, of: &BadFile<'_, StagesFault>, err: &mut E) -> u8 {
+        tell_asked(alloc, err, of.file, of.bytes, of.fault, &self.asked)
     }
 }

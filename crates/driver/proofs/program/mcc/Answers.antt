@@ -8,9 +8,9 @@ use Rattle.driver.proofs.program.mcc.Goals as goal
 
 pub returns-then-explain-clause-quiet : goal.returns-then-explain-clause-quiet
 returns-then-explain-clause-quiet g c = λ taken other.
-    silent Remarks g.E.Complaints.tells (map (λ s. s.now) c.args.args.now) c.explain_file.result (Check c.in-Ok-Check.file c.in-Ok-Check.explain)
+    silent Remarks g.E.Complaints.tells (map (λ s. s.now) c.args.args.now) c.answer_check.result (Check c.in-Ok-Check.file c.in-Ok-Check.explain)
     (subst (IsCommand (map (λ s. s.now) c.args.args.now)) c.in-Ok-Check.field-0-is c.in-Ok-Check.ensures.command)
-    _ _ refl (c.explain_file.ensures.quiet other)
+    _ _ refl (c.answer_check.ensures.quiet other)
 
 pub returns-else-explain-clause-quiet : goal.returns-else-explain-clause-quiet
 returns-else-explain-clause-quiet g c = λ taken other.
