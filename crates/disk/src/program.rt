@@ -13,17 +13,23 @@ use std::sync::Wait;
 use std::thread::{Builder, Threads};
 use std::{io, thread};
 
-/// What a program does with its words (the first is its name), its files and two streams; the answer is its exit status.
+/// What a program has of its host: its threads and memory, its words (the first is its name), files, and two streams.
+#[derive(Drop)]
+pub struct Host<'a, T, F, W, E> {
+    pub threads: &'a T,
+    pub alloc: Global,
+    pub words: &'a [&'a str],
+    pub files: F,
+    pub out: W,
+    pub err: E,
+}
+
+/// What a program does with what it has; the answer is its exit status.
 pub trait Program {
     // (an impl's method doesn't know of a bound Sync otherwise)
     fn answer<T: Threads + Wait + Sync, F: Files, W: Output, E: Complaints>(
         &self,
-        threads: &T,
-        alloc: Global,
-        words: &[&str],
-        files: &mut F,
-        out: &mut W,
-        err: &mut E,
+        host: &mut Host<'_, T, F, W, E>,
     ) -> u8
         requires { IsSync T.row };
 }
@@ -38,9 +44,17 @@ fn work<
     W: Write + Drop,
     E: Write + Drop,
 >(program: &P, threads: &T, rt: &R, words: &[&str], out: W, mut err: E) -> u8 {
-    let mut disk = Disk { rt };
-    match BufWriter::new(rt.alloc(), out) {
-        Ok(mut out) => program.answer(threads, rt.alloc(), words, &mut disk, &mut out, &mut err),
+    let alloc = rt.alloc();
+    let files = Disk { rt };
+    match BufWriter::new(alloc, out) {
+        Ok(out) => program.answer(&mut Host {
+            threads,
+            alloc,
+            words,
+            files,
+            out,
+            err,
+        }),
         Err(_) => tell(&mut err, &HostFault::NoMemory),
     }
 }

@@ -2,9 +2,8 @@
 #![tactic(auto)]
 
 use commands::{Complaints, Files, Output};
-use disk::{Program, run};
+use disk::{Host, Program, run};
 use driver::mcc;
-use std::alloc::Global;
 use std::process::ExitCode;
 use std::sync::Wait;
 use std::thread::Threads;
@@ -14,14 +13,18 @@ struct Mcc;
 impl Program for Mcc {
     fn answer<T: Threads + Wait + Sync, F: Files, W: Output, E: Complaints>(
         &self,
-        threads: &T,
-        alloc: Global,
-        words: &[&str],
-        files: &mut F,
-        out: &mut W,
-        err: &mut E,
+        host: &mut Host<'_, T, F, W, E>,
     ) -> u8 {
-        mcc(threads, alloc, words, files, out, err)
+        let out = &mut host.out;
+        let err = &mut host.err;
+        mcc(
+            host.threads,
+            host.alloc,
+            host.words,
+            &mut host.files,
+            out,
+            err,
+        )
     }
 }
 

@@ -11,9 +11,8 @@ ghost use Rattle.std.specs.Prelude.{◌≡◌};
 use build_command::build_file;
 use command_line::{Command, words};
 use commands::{Complaints, Files, Output, tell_words};
-use disk::{Program, run};
+use disk::{Host, Program, run};
 use run_command::run_file;
-use std::alloc::Global;
 use std::process::ExitCode;
 use std::sync::Wait;
 use std::thread::Threads;
@@ -36,31 +35,29 @@ impl Program for BuildAndRun {
     ghost use Rattle.mcc_build.specs.Program.{Answers, Remarks, Stops};
     ghost use Rattle.mcc_build.specs.Words.{AreOfBuildOrRun};
 
-    /// The program over its words (the first is its name), its files and two writers. The answer is the exit status, as `mcc` has
-    /// it; 2 also for another command.
+    /// The program over what its host has. The answer is the exit status, as `mcc` has it; 2 also for another command.
     fn answer<T: Threads + Wait + Sync, F: Files, W: Output, E: Complaints>(
         &self,
-        threads: &T,
-        alloc: Global,
-        args: &[&str],
-        files: &mut F,
-        out: &mut W,
-        err: &mut E,
+        host: &mut Host<'_, T, F, W, E>,
     ) -> u8
         requires { IsSync T.row }
         ensures most { result ≤ 4 }
-        ensures taken { AreOfBuildOrRun (map (λ s. s.now) args.entry.now) → result ≢ 2 }
-        ensures answered { AreOfBuildOrRun (map (λ s. s.now) args.entry.now) → result ≢ 1
-            → Does F.answers files.old files.new (W.contents out.old) (W.contents out.new)
-            (IsAnswered Answers (map (λ s. s.now) args.entry.now) result) }
-        ensures sent { result ≢ 1 → result ≢ 2 → IsSent W.sends out.new }
-        ensures quiet { AreOfBuildOrRun (map (λ s. s.now) args.entry.now) → result ≢ 1
-            → TellsBeside E.tells err.old (IsRemark Remarks (map (λ s. s.now) args.entry.now) result) err.new }
+        ensures taken { AreOfBuildOrRun (map (λ s. s.now) host.old.words.now) → result ≢ 2 }
+        ensures answered { AreOfBuildOrRun (map (λ s. s.now) host.old.words.now) → result ≢ 1
+            → Does F.answers host.old.files host.new.files (W.contents host.old.out) (W.contents host.new.out)
+            (IsAnswered Answers (map (λ s. s.now) host.old.words.now) result) }
+        ensures sent { result ≢ 1 → result ≢ 2 → IsSent W.sends host.new.out }
+        ensures quiet { AreOfBuildOrRun (map (λ s. s.now) host.old.words.now) → result ≢ 1
+            → TellsBeside E.tells host.old.err (IsRemark Remarks (map (λ s. s.now) host.old.words.now) result) host.new.err }
         ensures stopped { result ≡ 1
-            → Asks F.answers files.old files.new E.tells err.old err.new (IsStopped Stops (map (λ s. s.now) args.entry.now)) }
+            → Asks F.answers host.old.files host.new.files E.tells host.old.err host.new.err (IsStopped Stops (map (λ s. s.now) host.old.words.now)) }
     {
-        match words(alloc, args) {
-            Ok(Command::Build(asked)) => build_file(threads, alloc, &asked, files, out, err),
+        let alloc = host.alloc;
+        let files = &mut host.files;
+        let out = &mut host.out;
+        let err = &mut host.err;
+        match words(alloc, host.words) {
+            Ok(Command::Build(asked)) => build_file(host.threads, alloc, &asked, files, out, err),
             Ok(Command::Run { image, steps }) => run_file(alloc, image, steps, files, out, err),
             Ok(_) => tell_others(err),
             Err(error) => tell_words(&error, out, err),

@@ -14,8 +14,7 @@ ghost use Rattle.mcc_check.specs.Words.{IsOne};
 use check_command::check_file;
 use command_line::{Command, words};
 use commands::{Complaints, Files, Output, tell_words};
-use disk::{Program, run};
-use std::alloc::Global;
+use disk::{Host, Program, run};
 use std::process::ExitCode;
 use std::sync::Wait;
 use std::thread::Threads;
@@ -48,25 +47,22 @@ impl Program for CheckFile {
     ghost use Rattle.command_line.specs.Commands.{mcc_app};
     ghost use Rattle.mcc_check.specs.Words.{AreOfCheck, IsCheck};
 
-    /// The program over its words (the first is its name), its files and two writers. The answer is the exit status, as `mcc` has
-    /// it; 2 also for another command, for several files and for `--explain`.
+    /// The program over what its host has. The answer is the exit status, as `mcc` has it; 2 also for another command, for several
+    /// files and for `--explain`.
     fn answer<T: Threads + Wait + Sync, F: Files, W: Output, E: Complaints>(
         &self,
-        _threads: &T,
-        alloc: Global,
-        args: &[&str],
-        files: &mut F,
-        out: &mut W,
-        err: &mut E,
+        host: &mut Host<'_, T, F, W, E>,
     ) -> u8
         ensures most { result ≤ 3 }
-        ensures taken { AreOfCheck (map (λ s. s.now) args.entry.now) → result ≢ 2 }
-        ensures others { takes mcc_app (map (λ s. s.now) args.entry.now) ≡ true → result ≢ 1 → result ≢ 2
-            → IsCheck (map (λ s. s.now) args.entry.now) }
+        ensures taken { AreOfCheck (map (λ s. s.now) host.old.words.now) → result ≢ 2 }
+        ensures others { takes mcc_app (map (λ s. s.now) host.old.words.now) ≡ true → result ≢ 1 → result ≢ 2
+            → IsCheck (map (λ s. s.now) host.old.words.now) }
     {
-        match words(alloc, args) {
+        let out = &mut host.out;
+        let err = &mut host.err;
+        match words(host.alloc, host.words) {
             Ok(command) => match file_of(&command) {
-                Some(file) => check_file(alloc, file, files, out, err),
+                Some(file) => check_file(host.alloc, file, &mut host.files, out, err),
                 None => tell_others(err),
             },
             Err(error) => tell_words(&error, out, err),
