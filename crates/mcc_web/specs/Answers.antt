@@ -90,22 +90,22 @@ pub record SaysMachine (bytes : List ℕ) (steps : ℕ) (status said : ℕ) (old
   pub ends : status ≡ ending_status outcome.end
   pub gives : Gives (words_text outcome.output ++ (ending_text outcome.end ++ 10 ∷ [])) said old new
 
-pub record SaysListing (bytes : List ℕ) (status said : ℕ) (old new : List ℕ) : Type 0 where
+-- a text of which this is so
+pub record SaysText (Is : List ℕ → Type 0) (status said : ℕ) (old new : List ℕ) : Type 0 where
   pub text : List ℕ
-  pub listed : IsListing bytes text
+  pub is : Is text
   pub ends : status ≡ 0
   pub gives : Gives text said old new
+
+abbrev pub SaysListing : (bytes : List ℕ) → (status said : ℕ) → (old new : List ℕ) → Type 0
+SaysListing bytes = SaysText (IsListing bytes)
 
 abbrev pub SaysImageFault : (bytes : List ℕ) → (said : ℕ) → (old new : List ℕ) → Type 0
 SaysImageFault bytes = SaysFault (IsImageFault bytes) image_fault_text
 
 -- `show`: lines of printable ASCII, and the text spells a program without faults
-pub record SaysStages (text : List ℕ) (status said : ℕ) (old new : List ℕ) : Type 0 where
-  pub faultless : IsFaultless text
-  pub page : List ℕ
-  pub shown : All IsShown page
-  pub ends : status ≡ 0
-  pub gives : Gives page said old new
+abbrev pub SaysStages : (text : List ℕ) → (status said : ℕ) → (old new : List ℕ) → Type 0
+SaysStages text = SaysText (λ page. IsFaultless text × All IsShown page)
 
 abbrev pub SaysStagesFault : (text : List ℕ) → (said : ℕ) → (old new : List ℕ) → Type 0
 SaysStagesFault text = SaysFault (IsStagesFault text) stages_fault_text

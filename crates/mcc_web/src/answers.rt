@@ -22,7 +22,7 @@ use std::alloc::Global;
 use std::str;
 
 /// Memory was refused to the text of an answer.
-fn refused(status: &mut u8) -> usize
+fn refuse(status: &mut u8) -> usize
     ensures { status.new ≡ REFUSED }
 {
     *status = REFUSED;
@@ -82,7 +82,7 @@ pub extern "C" fn mcc_web_check(
                     *status = ended;
                     put(out, printed.as_slice())
                 }
-                Err(_) => refused(status),
+                Err(_) => refuse(status),
             }
         }
         Err(fault) => give_check_fault(alloc, text, fault, out, status),
@@ -108,7 +108,7 @@ pub extern "C" fn mcc_web_explain(
                     *status = ended;
                     put(out, printed.as_slice())
                 }
-                Err(_) => refused(status),
+                Err(_) => refuse(status),
             }
         }
         Err(fault) => give_check_fault(alloc, text, fault, out, status),
@@ -136,7 +136,7 @@ pub extern "C" fn mcc_web_interp(
                     *status = end_status(ran.end);
                     put(out, printed.as_slice())
                 }
-                Err(_) => refused(status),
+                Err(_) => refuse(status),
             }
         }
         Err(fault) => {
@@ -167,7 +167,7 @@ pub extern "C" fn mcc_web_run(
                     *status = ending_status(ran.end);
                     put(out, printed.as_slice())
                 }
-                Err(_) => refused(status),
+                Err(_) => refuse(status),
             }
         }
         Err(fault) => give_image_fault(alloc, image, fault, out, status),
@@ -195,7 +195,7 @@ pub extern "C" fn mcc_web_list(
 }
 
 /// A name, if there is one. What isn't UTF-8 is no name of anything.
-fn named(bytes: &[u8]) -> Option<&str> {
+fn name_of(bytes: &[u8]) -> Option<&str> {
     if bytes.is_empty() {
         None
     } else {
@@ -218,8 +218,8 @@ pub extern "C" fn mcc_web_show(
     ensures faulty { status.new ≡ 1 → SaysStagesFault text.now result out.old out.new }
 {
     let asked = Asked {
-        stage: named(stage),
-        function: named(function),
+        stage: name_of(stage),
+        function: name_of(function),
         dot: false,
     };
     match stages(alloc, text, &asked) {

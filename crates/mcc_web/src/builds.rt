@@ -32,7 +32,7 @@ pub(crate) fn phase_for(length: usize) -> PhaseOpts {
     }
 }
 
-fn built(alloc: Global, text: &[u8], plain: bool, depth: u32) -> Result<Built, BuildFault>
+fn build_image(alloc: Global, text: &[u8], plain: bool, depth: u32) -> Result<Built, BuildFault>
     requires { 1 ≤ depth }
     ensures follows { IfOk result (λ b. FollowsText text.now depth (factor_of plain) b.image.items) }
     ensures scheduled { IfOk result (IsScheduledAs plain) }
@@ -98,7 +98,7 @@ pub extern "C" fn mcc_web_build(
         *status = 2;
         return 0;
     }
-    match built(alloc, text, plain, depth) {
+    match build_image(alloc, text, plain, depth) {
         Ok(built) => match print_image(alloc, plain, &built) {
             Ok(printed) => {
                 *status = 0;
