@@ -26,7 +26,7 @@ impl Reorder for LoadsFirst {
         }
         let exit = block.exit();
         let slot = exit.has_slot().then(Plain::nop);
-        Order::new(padded(alloc, insts.as_slice())?, exit, slot).ok_or(AllocError)
+        Order::new(pad_loads(alloc, insts.as_slice())?, exit, slot).ok_or(AllocError)
     }
 }
 
@@ -51,7 +51,7 @@ fn first_place(insts: &[Plain], load: &Plain) -> usize
 }
 
 // A Nop behind each load whose register the next instruction touches.
-fn padded(alloc: Global, insts: &[Plain]) -> Result<Vec<Plain>, AllocError> {
+fn pad_loads(alloc: Global, insts: &[Plain]) -> Result<Vec<Plain>, AllocError> {
     let mut all: Vec<Plain> = Vec::with_capacity(alloc, insts.len())?;
     for inst in insts {
         if let Some(last) = all.last() {
