@@ -92,7 +92,7 @@ fn known(table: &TermTable, pass: &mut Pass, ticket: Ticket) -> Option<u32>
 }
 
 // The word that an operator makes of two terms, where both are constants.
-fn folded(table: &TermTable, pass: &mut Pass, op: Op, operands: &[Ticket]) -> Option<u32>
+fn fold_constants(table: &TermTable, pass: &mut Pass, op: Op, operands: &[Ticket]) -> Option<u32>
     requires own { IsOf table.now pass.old }
     requires seen { HasSeenAll pass.old operands.now }
     ensures own { IsOf table.now pass.new }
@@ -123,7 +123,7 @@ fn make(
     ensures value { (xs : Trees Op) → HaveTrees pass.old operands.now xs
         → IfOk result (λ t. IsValue pass.new t (λ e. made op e (values_of xs e))) }
 {
-    if let Some(word) = folded(table, pass, op, operands) {
+    if let Some(word) = fold_constants(table, pass, op, operands) {
         return Ok(table.intern(pass, Op::Constant(word), &[])?.ticket);
     }
     Ok(table.intern(pass, op, operands)?.ticket)

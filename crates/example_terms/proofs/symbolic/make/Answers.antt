@@ -9,16 +9,16 @@ use Rattle.example_terms.proofs.symbolic.make.Goals as goal
 
 pub returns-in-Some-clause-value : goal.returns-in-Some-clause-value
 returns-in-Some-clause-value c = λ xs have.
-    let word = subst (λ r. IfSome r (λ n. (e : Environment) → made c.args.op e (values_of xs e) ≡ just e n)) c.in-Some.is (c.folded.ensures.word xs have) in
+    let word = subst (λ r. IfSome r (λ n. (e : Environment) → made c.args.op e (values_of xs e) ≡ just e n)) c.in-Some.is (c.fold_constants.ensures.word xs have) in
     record { term = leaf (Constant c.in-Some.word); has = c.in_ok-intern.ensures.tree none tt; value = λ e. sym (word e) }
 
 pub intern-requires-2-clause-seen : goal.intern-requires-2-clause-seen
-intern-requires-2-clause-seen c = still_seen_terms op_coding c.folded.ensures.extends c.args.operands.now c.requires.seen
+intern-requires-2-clause-seen c = still_seen_terms op_coding c.fold_constants.ensures.extends c.args.operands.now c.requires.seen
 
 pub returns-clause-value : goal.returns-clause-value
 returns-clause-value c = λ xs have.
     record {
       term = node c.args.op xs;
-      has = c.in_ok-intern-2.ensures.tree xs (still_terms op_coding c.folded.ensures.extends c.args.operands.now xs have);
+      has = c.in_ok-intern-2.ensures.tree xs (still_terms op_coding c.fold_constants.ensures.extends c.args.operands.now xs have);
       value = λ e. refl;
     }

@@ -6,7 +6,7 @@ use Rattle.example_terms.specs.Labels.{op_coding}
 use Rattle.example_terms.specs.Meaning.{Environment, Value, just, made, values_of}
 use Rattle.example_terms.specs.Standing.{HasTree}
 use Rattle.example_terms.proofs.Standing.{two}
-use Rattle.example_terms.proofs.symbolic.folded.Goals as goal
+use Rattle.example_terms.proofs.symbolic.fold_constants.Goals as goal
 
 pub known-second-requires-clause-seen : goal.known-second-requires-clause-seen
 known-second-requires-clause-seen c =
