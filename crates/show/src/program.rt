@@ -361,7 +361,13 @@ pub fn show(alloc: Global, shown: Shown<'_>, asked: &Asked<'_>) -> Result<Vec<u8
     let wanted = Wanted::of(&names, asked)?;
     let view = View::of(alloc, shown, names, &wanted)?;
     let text = view.text(&wanted)?;
-    let width = if asked.dot { usize::MAX } else { WIDTH };
+    page_in(alloc, text.as_str(), if asked.dot { usize::MAX } else { WIDTH })
+}
+
+/// A text as it is shown, in lines of at most so many bytes.
+fn page_in(alloc: Global, text: &str, width: usize) -> Result<Vec<u8>, ShowFault>
+    ensures { IfOk result (λ page. All IsShown page.items) }
+{
     let page = page_of(alloc, text.as_bytes(), width)?;
     Ok(page)
 }
