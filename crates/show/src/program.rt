@@ -361,7 +361,11 @@ pub fn show(alloc: Global, shown: Shown<'_>, asked: &Asked<'_>) -> Result<Vec<u8
     let wanted = Wanted::of(&names, asked)?;
     let view = View::of(alloc, shown, names, &wanted)?;
     let text = view.text(&wanted)?;
-    page_in(alloc, text.as_str(), if asked.dot { usize::MAX } else { WIDTH })
+    page_in(
+        alloc,
+        text.as_str(),
+        if asked.dot { usize::MAX } else { WIDTH },
+    )
 }
 
 /// A text as it is shown, in lines of at most so many bytes.
