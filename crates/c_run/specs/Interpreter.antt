@@ -81,7 +81,8 @@ Assigns globals to v before r after =
 -- a function is called with these values, and its result goes there
 abbrev pub Calls : TypedProgram → (depth f : ℕ) → List ℕ → Option Destination → Interpreter → Reached → Interpreter → Type 0
 Calls p depth f vs to before r after =
-    state_after_call p depth f vs to (map frame_of (calls_of before)) (arrays before.globals.items) before.output.items ≡ reached_by frame_of r after
+    state_after_call p depth f vs to (map frame_of (calls_of before)) (arrays before.globals.items) before.output.items
+    ≡ reached_by frame_of r after
 
 -- the call returns, with a word or without
 abbrev pub Returns : List Variable.Global → Option ℕ → Interpreter → Reached → Interpreter → Type 0

@@ -305,7 +305,8 @@ pub(crate) fn step<'a>(
     depth: u32,
     interpreter: &mut Interpreter<'a>,
 ) -> Result<Reached, AllocError>
-    ensures { IfOk result (λ r. source_step (program_of program.now) depth (state_by frame_of interpreter.old) ≡ reached_by frame_of r interpreter.new) }
+    ensures { IfOk result (λ r. source_step (program_of program.now) depth (state_by frame_of interpreter.old)
+        ≡ reached_by frame_of r interpreter.new) }
 {
     let frame = &mut interpreter.frame;
     let head = settle(&mut frame.todo, &mut frame.locals)?;

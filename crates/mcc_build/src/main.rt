@@ -50,7 +50,8 @@ impl Program for BuildAndRun {
         ensures quiet { AreOfBuildOrRun (map (λ s. s.now) host.old.words.now) → result ≢ 1
             → TellsBeside E.tells host.old.err (IsRemark Remarks (map (λ s. s.now) host.old.words.now) result) host.new.err }
         ensures stopped { result ≡ 1
-            → Asks F.answers host.old.files host.new.files E.tells host.old.err host.new.err (IsStopped Stops (map (λ s. s.now) host.old.words.now)) }
+            → Asks F.answers host.old.files host.new.files E.tells host.old.err host.new.err
+            (IsStopped Stops (map (λ s. s.now) host.old.words.now)) }
     {
         let alloc = host.alloc;
         let files = &mut host.files;

@@ -1,7 +1,8 @@
 // What blocks begin with, from how the exits of their function name them.
 
 ghost use Rattle.std.specs.Prelude.{◌≡◌, ◌≤◌, IfOk, slice_set, slice_get};
-ghost use Rattle.mips_select.specs.Heads.{naming_with_call, note, namings, unnamed, head_at, heads_in, resumes, count, lead_in, calls_none, is_leaf};
+ghost use Rattle.mips_select.specs.Heads.{naming_with_call, note, namings, unnamed, head_at, heads_in, resumes, count, lead_in, calls_none};
+ghost use Rattle.mips_select.specs.Heads.{is_leaf};
 
 use rtl::{RBlock, RExit, Register};
 use std::alloc::{AllocError, Global};
