@@ -1,5 +1,5 @@
 -- What is known of a part is known of it with the mark behind it, and in a box.
-use Rattle.std.proofs.Common.{◌≡◌, ◌<◌, List, length, suc, IfOk, IfErr, inl, inr, subst, sym, ap, arith, [], ◌∷◌}
+use Rattle.std.proofs.Common.{◌≡◌, ◌<◌, List, length, suc, Err, IfOk, IfErr, inl, inr, subst, sym, ap, arith, [], ◌∷◌}
 use Rattle.std.specs.Borrow.{Bor}
 use Rattle.std.proofs.lemmas.Result.{IfOk-at_ok, IfErr-at_err}
 use Rattle.c_tokens.specs.declared.token.Mark.{Mark}
@@ -15,6 +15,10 @@ use Rattle.c_front.proofs.Steps.{mark-end, missing-first, past-phrase, first-phr
 pub stops : {A : Type 0} (parsed : Parsed A) (P : ParseStop → Type 0) (s : ParseStop) → StopsAs parsed s → IfErr parsed P → P NoMemory → P s
 stops parsed P s (inl e) h n = subst P (sym e) n
 stops parsed P s (inr e) h n = IfErr-at_err P e h
+
+-- parsing that stopped at this
+pub stopped : {A : Type 0} (parsed : Parsed A) (P : ParseStop → Type 0) (s : ParseStop) → parsed ≡ Err s → P s → IfErr parsed P
+stopped parsed P s e h = let Q : Parsed _ → Type 0 = λ x. IfErr x P in subst Q (sym e) h
 
 module _ {A : Type 0} (parsed : Parsed A) (u : Mark) (ts : List Token) where
   pub ended-read : (n : Nonterminal) (v : A → PhraseTree n) (r : A × Bor (List Token)) → IsEnded parsed u r

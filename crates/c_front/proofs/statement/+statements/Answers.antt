@@ -22,6 +22,10 @@ use Rattle.c_front.proofs.statement.+statements.Goals as goal
 test-differs : (b : Bool) → b ≡ true → b ≡ false → ⊥
 test-differs b e f = cc
 
+-- behind the first token there is one token less
+one-less : {ts rest : List Token} {t : Token} → ts ≡ t ∷ rest → length ts ≡ suc (length rest)
+one-less some = ap length some
+
 -- tokens that begin with a mark
 begins-with : {ts rest : List Token} {t : Token} {m n : Mark} → ts ≡ t ∷ rest → t ≡ The m → m ≡ n → ts ≡ The n ∷ rest
 begins-with some is mark = cc
@@ -231,21 +235,13 @@ if_then-statement-requires-in-Some t c =
     (omega (arith, c.in_ok-test.ensures.shorter, b, e), tt)
 
 pub statement-items-requires : goal.statement-items-requires
-statement-items-requires t c =
-    let e : length c.args.tokens.now ≡ suc (length c.in-Some.rest.now) = ap length c.in-Some.ensures.some in
-    (omega (arith, e), tt)
+statement-items-requires t c = (omega (arith, one-less c.in-Some.ensures.some), tt)
 
 pub statement-if_then-requires : goal.statement-if_then-requires
-statement-if_then-requires t c =
-    let e : length c.args.tokens.now ≡ suc (length c.in-Some.rest.now) = ap length c.in-Some.ensures.some in
-    (omega (arith, e), tt)
+statement-if_then-requires t c = (omega (arith, one-less c.in-Some.ensures.some), tt)
 
 pub statement-while_loop-requires : goal.statement-while_loop-requires
-statement-while_loop-requires t c =
-    let e : length c.args.tokens.now ≡ suc (length c.in-Some.rest.now) = ap length c.in-Some.ensures.some in
-    (omega (arith, e), tt)
+statement-while_loop-requires t c = (omega (arith, one-less c.in-Some.ensures.some), tt)
 
 pub statement-for_loop-requires : goal.statement-for_loop-requires
-statement-for_loop-requires t c =
-    let e : length c.args.tokens.now ≡ suc (length c.in-Some.rest.now) = ap length c.in-Some.ensures.some in
-    (omega (arith, e), tt)
+statement-for_loop-requires t c = (omega (arith, one-less c.in-Some.ensures.some), tt)
