@@ -1,5 +1,5 @@
 -- Calls put together from their target and their arguments.
-use Rattle.std.proofs.Common.{◌≡◌, ◌++◌, ℕ, suc, zero, List, [], ◌∷◌, length, Option, Some, Bool, true, is_some, None, Result, IfOk, IfErr}
+use Rattle.std.proofs.Common.{◌≡◌, ◌++◌, ℕ, suc, zero, List, [], ◌∷◌, length, Option, Some, Bool, true, is_some, None, Result, Ok, IfOk, IfErr}
 use Rattle.std.proofs.Common.{refl, sym, subst, ap, ◌∙◌, arith}
 use Rattle.std.specs.declared.vec.Vec.{Vec}
 use Rattle.std.specs.declared.alloc.Global.{Global}
@@ -25,7 +25,7 @@ use Rattle.c_typed.specs.Trees as Trees
 use Rattle.c_typed.specs.Trees.{call, output}
 use Rattle.c_statements.specs.Types.{Types, TypesAll, more_typed, TypesCall, function_called, out_called}
 use Rattle.c_statements.specs.Uses.{as_call, IsWrong, Misused, out_used, other_count_out}
-use Rattle.c_statements.proofs.Firsts.{Both, both-stop, both-none}
+use Rattle.c_statements.proofs.Firsts.{Both, both-stop, both-none, ok-at}
 
 length-expressions : (es : List Expression) → length (expressions_of es) ≡ length es
 length-expressions [] = refl
@@ -50,11 +50,17 @@ pub call-stop : (scope : Environment) (x : Identifier) (es : List Expression) (n
 call-stop scope x es n w v a b s e f h i l m g =
     counted scope x es n w v (λ p. StopsAtFirst p s) e f (both-stop (Misused scope x (as_call n w)) (FaultyAll scope (expressions_of es)) a b s h i l m g)
 
-pub call-none : (scope : Environment) (x : Identifier) (es : List Expression) (n : ℕ) (w v : Bool) → n ≡ length es → w ≡ v
-    → HasNone (Misused scope x (as_call n w)) → HasNone (FaultyAll scope (expressions_of es))
+-- a call whose name and arguments got a type has no fault
+pub call-none : (scope : Environment) (x : Identifier) (es : List Expression) (n : ℕ) (w v : Bool) (a : Result Target TypeStop)
+    (b : Result (Vec TypedExpression Global) TypeStop) (t : Target) (ts : Vec TypedExpression Global) → n ≡ length es → w ≡ v
+    → (a ≡ Ok t) × (b ≡ Ok ts)
+    → IfOk a (λ t. HasNone (Misused scope x (as_call n w))) → IfOk b (λ t. HasNone (FaultyAll scope (expressions_of es)))
     → HasNone (FaultyCall scope v (Tree.call x (expressions_of es)))
-call-none scope x es n w v e f h l =
-    counted scope x es n w v (λ p. HasNone p) e f (both-none (Misused scope x (as_call n w)) (FaultyAll scope (expressions_of es)) h l)
+call-none scope x es n w v a b t ts e f both h l =
+    let Name = Misused scope x (as_call n w) in
+    let All = FaultyAll scope (expressions_of es) in
+    counted scope x es n w v (λ p. HasNone p) e f
+    (both-none Name All (ok-at (λ y. HasNone Name) a t both.0 h) (ok-at (λ y. HasNone All) b ts both.1 l))
 
 named-function : (m : Option Named) (t : Target) (f : ℕ) → IsTarget m t → t ≡ ToFunction f → (n : ℕ) × (r : Bool) × (m ≡ Some (Function f n r))
 named-function m t f (function_target {f = g} {n = n} {r = r}) e = (n, r, named)

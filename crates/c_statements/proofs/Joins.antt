@@ -44,6 +44,11 @@ answers h l = record { ok = h; none = l.0; err = l.1 }
 pub answers-ok : {A : Type 0} {IsRight : A → Type 0} {faults : Faults} {x : A} → IsRight x → HasNone faults → Answers IsRight faults (Ok x)
 answers-ok right none = record { ok = right; none = none; err = tt }
 
+-- what is told of a part that has none
+pub answers-err : {A : Type 0} {IsRight : A → Type 0} {faults : Faults} {r : Result A TypeStop} (s : TypeStop) → r ≡ Err s → StopsAtFirst faults s
+    → Answers IsRight faults r
+answers-err {IsRight = IsRight} {faults = faults} s e first = subst (Answers IsRight faults) (sym e) (record { ok = tt; none = tt; err = first })
+
 -- what is known of an answer may be said in another way
 pub answers-as : {A : Type 0} {P Q : A → Type 0} {p : Faults} {r : Result A TypeStop} → ((x : A) → P x → Q x) → Answers P p r → Answers Q p r
 answers-as {r = Ok x} f h = record { ok = f x h.ok; none = h.none; err = tt }

@@ -1,5 +1,5 @@
 -- What typing the parts of a compound statement answered, and what typing the whole then answers.
-use Rattle.std.proofs.Common.{◌≡◌, ℕ, List, Option, Bool, Result, Ok, Err, IfOk, refl, sym, subst, ap, ◌∙◌}
+use Rattle.std.proofs.Common.{◌≡◌, ℕ, List, Option, Bool, true, Result, Ok, Err, IfOk, IfErr, refl, sym, subst, ap, ◌∙◌}
 use Rattle.c_tree.specs.Tree as Tree
 use Rattle.c_tree.specs.Tree.{Expression, Simple}
 use Rattle.c_typed.specs.declared.tree.TypedExpression.{TypedExpression}
@@ -8,13 +8,14 @@ use Rattle.c_typed.specs.Shape.{typed_expression_of, statement_of}
 use Rattle.c_typed.specs.Trees.{if_else, loop}
 use Rattle.c_statements.specs.declared.fault.TypeStop.{TypeStop}
 use Rattle.c_statements.specs.declared.fault.TypeStop.TheVariants.{Fault, NoMemory}
-use Rattle.c_statements.specs.Faults.{both_of}
+use Rattle.c_statements.specs.Faults.{Answers, StopsTwo, both_of}
 use Rattle.c_statements.specs.Made.{MadeOfTwo, MadeOfThree, IsIf, IsLoop, IsSequence}
 use Rattle.c_statements.specs.Names.{Scopes, environment_in, behind}
 use Rattle.c_statements.specs.Statements.{FaultyStatement}
 use Rattle.c_statements.specs.Types.{Types, TypesPart, TypesTest, TypesStatement, if_then_typed, if_then_else_typed, while_loop_typed, for_loop_typed}
+use Rattle.c_statements.specs.Uses.{Faulty}
 use Rattle.c_statements.proofs.Firsts.{Both, Tells, ok-at}
-use Rattle.c_statements.proofs.Joins.{tells-both-of}
+use Rattle.c_statements.proofs.Joins.{answers, tells, tells-both-of, tells-left, tells-right, tells-three}
 
 abbrev pub Typed : List ℕ → Scopes → Expression → Result TypedExpression TypeStop → Type 0
 Typed text sc c r = IfOk r (λ t. Types (environment_in text sc) c (typed_expression_of t))
@@ -80,3 +81,25 @@ tells-behind text g i sc now s t (Ok x) d h f l =
 tells-behind text g i sc now s t (Err (Fault x)) d h f l =
     let Q : Scopes → Type 0 = λ y. Tells (FaultyStatement text g i y t) d in
     tells-both-of (FaultyStatement text g i sc s) (FaultyStatement text g i (behind sc s) t) (Err (Fault x)) d h (subst Q (f (λ e. cc)) l)
+
+module _ (text : List ℕ) (g : Bool) (sc : Scopes) (c : Expression) (s : Tree.Statement) (a : Result TypedExpression TypeStop)
+    (b r : Result TypedStatement TypeStop) where
+  -- an `if` without `else` has the faults of its condition and of its statement
+  pub if-then-answers : (i : Bool) → Answers (λ t. Types (environment_in text sc) c (typed_expression_of t)) (Faulty (environment_in text sc) c) a
+      → Answers (λ t. TypesStatement text sc s (statement_of t)) (FaultyStatement text g i sc s) b
+      → IfOk r (MadeOfThree a b (Ok Empty) IsIf) → IfErr r (StopsTwo a (both_of b (Ok Empty)))
+      → Answers (λ t. TypesStatement text sc (Tree.if_then c s) (statement_of t)) (FaultyStatement text g i sc (Tree.if_then c s)) r
+  if-then-answers i condition part made stops =
+      let faults = FaultyStatement text g i sc s in
+      answers (if-then-ok text sc c s a b r condition.ok part.ok made)
+      (tells-three (Faulty (environment_in text sc) c) faults a b (Ok Empty) IsIf r (tells condition) (tells-left faults b Empty (tells part)) made stops)
+
+  -- a `while` has those of its condition and of its body, which stands inside a loop
+  pub while-answers : Answers (λ t. Types (environment_in text sc) c (typed_expression_of t)) (Faulty (environment_in text sc) c) a
+      → Answers (λ t. TypesStatement text sc s (statement_of t)) (FaultyStatement text g true sc s) b
+      → IfOk r (MadeOfThree a (Ok Empty) b IsLoop) → IfErr r (StopsTwo a (both_of (Ok Empty) b))
+      → Answers (λ t. TypesStatement text sc (Tree.while_loop c s) (statement_of t)) (FaultyStatement text g true sc (Tree.while_loop c s)) r
+  while-answers condition part made stops =
+      let faults = FaultyStatement text g true sc s in
+      answers (while-ok text sc c s a b r condition.ok part.ok made)
+      (tells-three (Faulty (environment_in text sc) c) faults a (Ok Empty) b IsLoop r (tells condition) (tells-right faults Empty b (tells part)) made stops)

@@ -39,10 +39,8 @@ returns-in-Function c = record {
       c.in_ok-target.target c.in-Function.number _ _ (ok-at _ _ _ c.in_ok-target.ensures.ok.0 c.callee-target.ensures.ok) c.in-Function.is
       (ok-at _ _ _ c.in_ok-target.ensures.ok.1 c.arguments-typed.ensures.ok));
   none = let n : c.len.result ≡ length c.deref.result.now = omega (arith, c.deref.ensures.len) in
-      rw (sym c.deref.ensures.value)
-      (call-none (environment_in c.args.program.now.text.items (scopes_of c.args.scopes.now)) c.args.called.now.name c.deref.result.now
-      c.len.result c.is_some.result (is_some c.args.to) n c.is_some.ensures
-      (ok-at _ _ _ c.in_ok-target.ensures.ok.0 c.callee-target.ensures.none) (ok-at _ _ _ c.in_ok-target.ensures.ok.1 c.arguments-typed.ensures.none));
+      rw (sym c.deref.ensures.value) (call-none _ _ _ _ _ _ _ _ _ _ n c.is_some.ensures c.in_ok-target.ensures.ok c.callee-target.ensures.none
+      c.arguments-typed.ensures.none);
   err = tt;
 }
 
@@ -56,9 +54,7 @@ returns-in-Some c = record {
       (ok-at _ _ _ c.in_ok-target.ensures.ok.0 c.callee-target.ensures.none)
       (ok-at _ _ _ c.in_ok-target.ensures.ok.1 c.arguments-typed.ensures.ok) c.in-Some.ensures.items);
   none = let n : c.len.result ≡ length c.deref.result.now = omega (arith, c.deref.ensures.len) in
-      rw (sym c.deref.ensures.value)
-      (call-none (environment_in c.args.program.now.text.items (scopes_of c.args.scopes.now)) c.args.called.now.name c.deref.result.now
-      c.len.result c.is_some.result (is_some c.args.to) n c.is_some.ensures
-      (ok-at _ _ _ c.in_ok-target.ensures.ok.0 c.callee-target.ensures.none) (ok-at _ _ _ c.in_ok-target.ensures.ok.1 c.arguments-typed.ensures.none));
+      rw (sym c.deref.ensures.value) (call-none _ _ _ _ _ _ _ _ _ _ n c.is_some.ensures c.in_ok-target.ensures.ok c.callee-target.ensures.none
+      c.arguments-typed.ensures.none);
   err = tt;
 }

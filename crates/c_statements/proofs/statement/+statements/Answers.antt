@@ -1,9 +1,9 @@
-use Rattle.std.proofs.Common.{◌≡◌, ◌+◌, List, true, Result, Ok, Err, rules, refl, sym, subst, ap, arith, ◌∙◌}
+use Rattle.std.proofs.Common.{◌≡◌, ◌+◌, List, true, Result, Err, rules, refl, sym, subst, ap, arith, ◌∙◌}
 use Rattle.c_tree.specs.declared.tree.Item.{Item}
 use Rattle.c_tree.specs.Shape.{expression_of, maybe_expression_of, maybe_value_tree, maybe_simple_of, statement_of, item_of, items_of}
 use Rattle.c_tree.specs.Tree.{block, break_at, continue_at, statement, declare, more_items, no_items}
 use Rattle.c_tree.proofs.Shapes.{block-is as read-block-is}
-use Rattle.c_typed.specs.declared.tree.TypedStatement.{TypedStatement as Typed, Empty, Break, Continue}
+use Rattle.c_typed.specs.declared.tree.TypedStatement.{TypedStatement as Typed, Break, Continue}
 use Rattle.c_statements.specs.declared.fault.TypeStop.{TypeStop}
 use Rattle.c_statements.specs.declared.fault.TypeStop.TheVariants.{NoMemory}
 use Rattle.c_statements.specs.Shape.{scopes_of}
@@ -17,11 +17,11 @@ use Rattle.c_statements.specs.Uses.{Faulty}
 use Rattle.c_statements.proofs.Firsts.{Both}
 use Rattle.c_statements.proofs.BlockItems.{NextItem, none-so-far, one-so-far, behind-so-far}
 use Rattle.c_typed.proofs.Shapes.{block-is}
-use Rattle.c_statements.proofs.Joins.{answers, answers-as, tells, moved, behind-block, if-ok, tells-both-of, tells-left, tells-right}
+use Rattle.c_statements.proofs.Joins.{answers, answers-as, tells, moved, behind-block, if-ok, tells-both-of}
 use Rattle.c_statements.proofs.Joins.{tells-alone, tells-two, tells-three}
 use Rattle.c_statements.specs.Made.{IsIf, IsLoop, IsSequence}
-use Rattle.c_statements.proofs.WholeStatements.{if-then-ok, if-then-else-ok, while-ok, for-ok, tells-behind}
-use Rattle.c_statements.proofs.Weights.{weight, weight_of, weight_all, weight-within}
+use Rattle.c_statements.proofs.WholeStatements.{if-then-answers, if-then-else-ok, while-answers, for-ok, tells-behind}
+use Rattle.c_statements.proofs.Weights.{weight, weight_of, weight_all, weight-within, inside-weighs-less}
 use Rattle.c_statements.proofs.statement.+statements.Goals as goal
 
 pub block-returns-in_err-typed : goal.block-returns-in_err-typed
@@ -52,37 +52,26 @@ block-returns t c = record {
       (c.items-typed.ensures.scopes (λ e. let f = sym c.in_ok-typed.was ∙ e in cc)) c.leave.ensures;
 }
 
+pub block-items-typed-requires : goal.block-items-typed-requires
+block-items-typed-requires t c = (omega arith, tt)
+
 pub if_then-returns : goal.if_then-returns
-if_then-returns t c = record {
-  typed = let text = c.args.context.now.program.now.text.items in
-      let sc = scopes_of c.args.scopes.now in
-      let faults = FaultyStatement text c.args.context.now.gives c.args.context.now.in_loop sc (statement_of c.args.first.now) in
-      answers
-      (if-then-ok c.args.context.now.program.now.text.items (scopes_of c.args.scopes.now) (expression_of c.args.condition.now)
-      (statement_of c.args.first.now) c.expression-condition.result c.statement-first.result c.if_else.result
-      c.expression-condition.ensures.ok c.statement-first.ensures.typed.ok c.if_else.ensures.ok)
-      (tells-three (Faulty (environment_in text sc) (expression_of c.args.condition.now)) faults c.expression-condition.result
-      c.statement-first.result (Ok Empty) IsIf c.if_else.result
-      (tells c.expression-condition.ensures)
-      (tells-left faults c.statement-first.result Empty (tells c.statement-first.ensures.typed)) c.if_else.ensures.ok c.if_else.ensures.err);
-  scopes = search rules;
-}
+if_then-returns t c =
+    let typed = if-then-answers c.args.context.now.program.now.text.items c.args.context.now.gives (scopes_of c.args.scopes.now) _ _ _ _ _
+    c.args.context.now.in_loop c.expression-condition.ensures c.statement-first.ensures.typed c.if_else.ensures.ok c.if_else.ensures.err in
+    record { typed = typed; scopes = search rules }
+
+pub if_then-statement-first-requires : goal.if_then-statement-first-requires
+if_then-statement-first-requires t c = (omega arith, tt)
 
 pub while_loop-returns : goal.while_loop-returns
-while_loop-returns t c = record {
-  typed = let text = c.args.context.now.program.now.text.items in
-      let sc = scopes_of c.args.scopes.now in
-      let faults = FaultyStatement text c.args.context.now.gives true sc (statement_of c.args.body.now) in
-      answers
-      (while-ok c.args.context.now.program.now.text.items (scopes_of c.args.scopes.now) (expression_of c.args.condition.now)
-      (statement_of c.args.body.now) c.expression-condition.result c.statement-body.result c.loop_of.result
-      c.expression-condition.ensures.ok c.statement-body.ensures.typed.ok c.loop_of.ensures.ok)
-      (tells-three (Faulty (environment_in text sc) (expression_of c.args.condition.now)) faults c.expression-condition.result
-      (Ok Empty) c.statement-body.result IsLoop c.loop_of.result
-      (tells c.expression-condition.ensures)
-      (tells-right faults Empty c.statement-body.result (tells c.statement-body.ensures.typed)) c.loop_of.ensures.ok c.loop_of.ensures.err);
-  scopes = search rules;
-}
+while_loop-returns t c =
+    let typed = while-answers c.args.context.now.program.now.text.items c.args.context.now.gives (scopes_of c.args.scopes.now) _ _ _ _ _
+    c.expression-condition.ensures c.statement-body.ensures.typed c.loop_of.ensures.ok c.loop_of.ensures.err in
+    record { typed = typed; scopes = search rules }
+
+pub while_loop-statement-body-requires : goal.while_loop-statement-body-requires
+while_loop-statement-body-requires t c = (omega arith, tt)
 
 pub if_then_else-returns : goal.if_then_else-returns
 if_then_else-returns t c = record {
@@ -106,6 +95,12 @@ if_then_else-returns t c = record {
   scopes = search rules;
 }
 
+pub if_then_else-statement-first-requires : goal.if_then_else-statement-first-requires
+if_then_else-statement-first-requires t c = (omega arith, tt)
+
+pub if_then_else-statement-second-requires : goal.if_then_else-statement-second-requires
+if_then_else-statement-second-requires t c = (omega arith, tt)
+
 pub for_loop-returns : goal.for_loop-returns
 for_loop-returns t c = record {
   typed = let text = c.args.context.now.program.now.text.items in
@@ -128,6 +123,9 @@ for_loop-returns t c = record {
   scopes = search rules;
 }
 
+pub for_loop-statement-body-requires : goal.for_loop-statement-body-requires
+for_loop-statement-body-requires t c = (omega arith, tt)
+
 pub item-returns-in-Declare-clause-typed : goal.item-returns-in-Declare-clause-typed
 item-returns-in-Declare-clause-typed t c =
     let text = c.args.context.now.program.now.text.items in
@@ -149,6 +147,11 @@ item-returns-in-Statement-clause-typed t c =
     (λ u. TypesItems text sc (more_items (statement (statement_of c.in-Statement.s)) no_items) (more_statements (typed_of u) no_statements))
     c.statement.result (λ u h. statement_typed h no_items_typed) c.statement.ensures.typed.ok)
     (tells-alone faults c.statement.result (tells c.statement.ensures.typed)))
+
+pub item-statement-requires : goal.item-statement-requires
+item-statement-requires t c =
+    let w : weight_of (item_of c.args.one.now) ≡ weight (statement_of c.in-Statement.s) + 1 = ap (λ i. weight_of (item_of i)) c.in-Statement.is in
+    (omega (arith, w), tt)
 
 pub items-loop-one-init : goal.items-loop-one-init
 items-loop-one-init t c =
@@ -238,9 +241,7 @@ statement-returns-in-Simply t c = record {
 
 pub statement-if_then-requires : goal.statement-if_then-requires
 statement-if_then-requires t c =
-    let w : weight (statement_of c.args.s.now) ≡ weight (statement_of c.in-If.first.value) + 2 = ap (λ s. weight (statement_of s)) c.in-If.is in
-    let a : weight (statement_of c.deref-in-If.result.now) ≡ weight (statement_of c.in-If.first.value) = ap (λ s. weight (statement_of s)) c.deref-in-If.ensures in
-    (omega (arith, w, a), tt)
+    (omega (arith, inside-weighs-less c.args.s.now c.in-If.first.value _ (ap (λ s. weight (statement_of s)) c.in-If.is) c.deref-in-If.ensures), tt)
 
 pub statement-if_then_else-requires : goal.statement-if_then_else-requires
 statement-if_then_else-requires t c =
@@ -251,35 +252,8 @@ statement-if_then_else-requires t c =
 
 pub statement-while_loop-requires : goal.statement-while_loop-requires
 statement-while_loop-requires t c =
-    let w : weight (statement_of c.args.s.now) ≡ weight (statement_of c.in-While.body.value) + 2 = ap (λ s. weight (statement_of s)) c.in-While.is in
-    let a : weight (statement_of c.deref-in-While.result.now) ≡ weight (statement_of c.in-While.body.value) = ap (λ s. weight (statement_of s)) c.deref-in-While.ensures in
-    (omega (arith, w, a), tt)
+    (omega (arith, inside-weighs-less c.args.s.now c.in-While.body.value _ (ap (λ s. weight (statement_of s)) c.in-While.is) c.deref-in-While.ensures), tt)
 
 pub statement-for_loop-requires : goal.statement-for_loop-requires
 statement-for_loop-requires t c =
-    let w : weight (statement_of c.args.s.now) ≡ weight (statement_of c.in-For.body.value) + 2 = ap (λ s. weight (statement_of s)) c.in-For.is in
-    let a : weight (statement_of c.deref-in-For-2.result.now) ≡ weight (statement_of c.in-For.body.value) = ap (λ s. weight (statement_of s)) c.deref-in-For-2.ensures in
-    (omega (arith, w, a), tt)
-
-pub item-statement-requires : goal.item-statement-requires
-item-statement-requires t c =
-    let w : weight_of (item_of c.args.one.now) ≡ weight (statement_of c.in-Statement.s) + 1 = ap (λ i. weight_of (item_of i)) c.in-Statement.is in
-    (omega (arith, w), tt)
-
-pub block-items-typed-requires : goal.block-items-typed-requires
-block-items-typed-requires t c = (omega arith, tt)
-
-pub if_then-statement-first-requires : goal.if_then-statement-first-requires
-if_then-statement-first-requires t c = (omega arith, tt)
-
-pub if_then_else-statement-first-requires : goal.if_then_else-statement-first-requires
-if_then_else-statement-first-requires t c = (omega arith, tt)
-
-pub if_then_else-statement-second-requires : goal.if_then_else-statement-second-requires
-if_then_else-statement-second-requires t c = (omega arith, tt)
-
-pub while_loop-statement-body-requires : goal.while_loop-statement-body-requires
-while_loop-statement-body-requires t c = (omega arith, tt)
-
-pub for_loop-statement-body-requires : goal.for_loop-statement-body-requires
-for_loop-statement-body-requires t c = (omega arith, tt)
+    (omega (arith, inside-weighs-less c.args.s.now c.in-For.body.value _ (ap (λ s. weight (statement_of s)) c.in-For.is) c.deref-in-For-2.ensures), tt)
