@@ -2,13 +2,12 @@ use Rattle.std.proofs.Common.{rules, ap, Some, ◌∙◌}
 use Rattle.c_statements.specs.declared.names.Named.{Named}
 use Rattle.c_statements.specs.Types.{local_typed, global_typed}
 use Rattle.c_statements.specs.Names.{environment_in}
-use Rattle.c_statements.specs.Shape.{scopes_of}
+use Rattle.c_statements.specs.Shape.{scopes_of, environment_of}
 use Rattle.c_statements.proofs.Uses.{told-first, undeclared-told, value-first}
 use Rattle.c_statements.proofs.expression.variable.Goals as goal
 
 pub returns-in_err-named : goal.returns-in_err-named
-returns-in_err-named c =
-    undeclared-told _ (environment_in c.args.program.now.text.items (scopes_of c.args.scopes.now)) c.args.name _ _ _ (search rules) c.in_err-named.ensures.err
+returns-in_err-named c = undeclared-told _ (environment_of c.args.program.now c.args.scopes.now) c.args.name _ _ _ (search rules) c.in_err-named.ensures.err
 
 pub returns-in-Local : goal.returns-in-Local
 returns-in-Local c = record { ok = local_typed (c.in_ok-named.ensures.ok ∙ ap (λ (m : Named). Some m) c.in-Local.is); none = search rules; err = tt }
