@@ -37,11 +37,9 @@ pub record StandsDo (src : TypedProgram) (bs : List RBlock) (n : ℕ) (s : Typed
   pub fits : Fits src n s
   pub rest : Rest middle
 
--- the last part of a loop, the loop again at the test behind it, and then the rest
-pub record StandsNext (src : TypedProgram) (bs : List RBlock) (n : ℕ) (last again : TypedStatement) (leave : ℕ) (next : Option ℕ) (from : Spot)
+-- the last part of a loop at its spot, the loop again at the test behind it, and then the rest
+pub record StandsTurn (src : TypedProgram) (bs : List RBlock) (n : ℕ) (last again : TypedStatement) (leave : ℕ) (next : Option ℕ) (last_spot : Spot)
     (Rest : (leave : ℕ) (next : Option ℕ) → Spot → Type 0) : Type 0 where
-  pub last_spot : Spot
-  pub comes : Comes bs from last_spot
   pub bottom : Code
   pub after : Spot
   pub left : Lands bs leave after
@@ -54,6 +52,14 @@ pub record StandsNext (src : TypedProgram) (bs : List RBlock) (n : ℕ) (last ag
   pub last_fits : Fits src n last
   pub loop_fits : Fits src n again
   pub rest : Rest outer_leave outer_next after
+
+-- the way to the next turn of a loop, and that turn
+pub record StandsNext (src : TypedProgram) (bs : List RBlock) (n : ℕ) (last again : TypedStatement) (leave : ℕ) (next : Option ℕ) (from : Spot)
+    (Rest : (leave : ℕ) (next : Option ℕ) → Spot → Type 0) : Type 0 where
+  pub last_spot : Spot
+  pub comes : Comes bs from last_spot
+  pub turn : StandsTurn src bs n last again leave next last_spot Rest
+  pub open turn use *
 
 -- from this spot on stands what is still to do, where `break` leads to one block and `continue` to another
 abbrev pub Follows : TypedProgram → List RBlock → ℕ → List Todo → (leave : ℕ) (next : Option ℕ) → Spot → Type 0
@@ -99,22 +105,8 @@ pub follows_from : (src : TypedProgram) (bs : List RBlock) (n : ℕ) (k : List T
 follows_from src bs n [] leave next from to c f = c.there f
 follows_from src bs n (Do s ∷ k) leave next from to c f = record
     { at = f.at; comes = comes_then c f.comes; middle = f.middle; coded = f.coded; fits = f.fits; rest = f.rest }
-follows_from src bs n (Next last again ∷ k) leave next from to c f = record {
-  last_spot = f.last_spot;
-  comes = comes_then c f.comes;
-  bottom = f.bottom;
-  after = f.after;
-  left = f.left;
-  continues = f.continues;
-  outer_leave = f.outer_leave;
-  outer_next = f.outer_next;
-  targets = f.targets;
-  last_coded = f.last_coded;
-  loop_coded = f.loop_coded;
-  last_fits = f.last_fits;
-  loop_fits = f.loop_fits;
-  rest = f.rest;
-}
+follows_from src bs n (Next last again ∷ k) leave next from to c f = record
+    { last_spot = f.last_spot; comes = comes_then c f.comes; turn = f.turn }
 
 pub follows_do : (src : TypedProgram) (bs : List RBlock) (n : ℕ) (s : TypedStatement) (k : List Todo) (leave : ℕ) (next : Option ℕ)
     (from middle : Spot) → Coded bs n s leave next from middle → Fits src n s → Follows src bs n k leave next middle

@@ -515,18 +515,20 @@ module _ (src : TypedProgram) (p : Program) (ok : IsCodeOfProgram src p) (well :
         let turn : Follows src bs n (Next last (loop e last body) ∷ k) c.leave c.next c.turn = record {
           last_spot = c.last_spot;
           comes = c.is_turn.comes;
-          bottom = c.bottom;
-          after = after;
-          left = c.left;
-          continues = c.is_turn.continues;
-          outer_leave = leave;
-          outer_next = next;
-          targets = t;
-          last_coded = c.last_for;
-          loop_coded = again;
-          last_fits = (sc.0, false, sc.2.1.0);
-          loop_fits = sc;
-          rest = f;
+          turn = record {
+            bottom = c.bottom;
+            after = after;
+            left = c.left;
+            continues = c.is_turn.continues;
+            outer_leave = leave;
+            outer_next = next;
+            targets = t;
+            last_coded = c.last_for;
+            loop_coded = again;
+            last_fits = (sc.0, false, sc.2.1.0);
+            loop_fits = sc;
+            rest = f;
+          };
         } in
         let inner : Targets bs c.leave c.next = record {
           leaves = left_there;
