@@ -208,14 +208,11 @@ while_loop-statement-requires t c =
     (omega (arith, c.in_ok-test.ensures.shorter), tt)
 
 pub for_loop-statement-requires : goal.for_loop-statement-requires
-for_loop-statement-requires t c =
-    let p : length c.in_ok-parts.start.now < length c.args.tokens.now = IfOk-at_ok _ c.in_ok-parts.ensures.ok c.for_parts.ensures.shorter in
-    (omega (arith, p), tt)
+for_loop-statement-requires t c = (omega (arith, IfOk-at_ok _ c.in_ok-parts.ensures.ok c.for_parts.ensures.shorter), tt)
 
 pub while_loop-returns-clause-shorter : goal.while_loop-returns-clause-shorter
 while_loop-returns-clause-shorter t c =
-    let b : length c.in_ok-body.end.now < length c.in_ok-test.start.now = IfOk-at_ok _ c.in_ok-body.ensures.ok c.statement.ensures.shorter in
-    omega (arith, c.in_ok-test.ensures.shorter, b)
+    omega (arith, c.in_ok-test.ensures.shorter, IfOk-at_ok _ c.in_ok-body.ensures.ok c.statement.ensures.shorter)
 
 pub for_loop-returns-clause-shorter : goal.for_loop-returns-clause-shorter
 for_loop-returns-clause-shorter t c =
@@ -225,8 +222,7 @@ for_loop-returns-clause-shorter t c =
 
 pub if_then-returns-in-None-clause-shorter : goal.if_then-returns-in-None-clause-shorter
 if_then-returns-in-None-clause-shorter t c =
-    let b : length c.in_ok-first.rest.now < length c.in_ok-test.start.now = IfOk-at_ok _ c.in_ok-first.ensures.ok c.statement.ensures.shorter in
-    omega (arith, c.in_ok-test.ensures.shorter, b)
+    omega (arith, c.in_ok-test.ensures.shorter, IfOk-at_ok _ c.in_ok-first.ensures.ok c.statement.ensures.shorter)
 
 pub if_then-statement-requires-in-Some : goal.if_then-statement-requires-in-Some
 if_then-statement-requires-in-Some t c =
