@@ -1,9 +1,17 @@
 -- An answer along equations.
-use Rattle.std.proofs.Common.{◌≡◌, subst}
+use Rattle.std.specs.Prelude.{◌≡◌, Result, MatchResult}
+use Rattle.std.proofs.Common.{subst}
 use Rattle.mblock.specs.Parts.{BlockParts, OrderParts}
 use Rattle.check_command.specs.declared.verdicts.CheckAnswer.{CheckAnswer}
+use Rattle.check_command.specs.declared.verdicts.CheckFault.{CheckFault}
+use Rattle.check_command.specs.declared.verdicts.CheckFault.TheVariants.{NoMemory}
 use Rattle.check_command.specs.Checks.{IsAnswer}
 
-pub answer_moves : (a b : BlockParts) (o p : OrderParts) (answer : CheckAnswer) → a ≡ b → o ≡ p → IsAnswer a o answer → IsAnswer b p answer
-answer_moves a b o p answer e f h =
-    subst (λ (x : OrderParts). IsAnswer b x answer) f (subst (λ (x : BlockParts). IsAnswer x o answer) e h)
+-- an answer on these parts, or refused memory
+abbrev pub Answers : Result CheckAnswer CheckFault → BlockParts → OrderParts → Type 0
+Answers result b o = MatchResult result (IsAnswer b o) (λ e. e ≡ NoMemory)
+
+pub answers_move : (result : Result CheckAnswer CheckFault) (a b : BlockParts) (o p : OrderParts) → a ≡ b → o ≡ p
+    → Answers result a o → Answers result b p
+answers_move result a b o p e f h =
+    subst (λ (x : OrderParts). Answers result b x) f (subst (λ (x : BlockParts). Answers result x o) e h)

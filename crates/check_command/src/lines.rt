@@ -93,7 +93,7 @@ const OTHERS: [(&[u8], &str); 14] = [
 ];
 
 /// What has to stand next in a check text.
-#[derive(Clone, Copy, PartialEq, Eq)]
+#[derive(Clone, Copy)]
 enum Stage {
     Block,
     /// Behind so many instructions of the block.
@@ -106,9 +106,14 @@ enum Stage {
     Nothing,
 }
 
+/// What stands before the first space of a line.
 fn mnemonic<'t>(line: &'t [u8]) -> &'t [u8] {
-    let length = line.iter().take_while(|byte| **byte != b' ').count();
-    line.get(..length).unwrap_or(line)
+    for (length, byte) in line.iter().enumerate() {
+        if *byte == b' ' {
+            return line.get(..length).unwrap_or(line);
+        }
+    }
+    line
 }
 
 fn shown_word<'t>(bytes: &'t [u8]) -> &'t str {
@@ -116,11 +121,34 @@ fn shown_word<'t>(bytes: &'t [u8]) -> &'t str {
 }
 
 fn form(table: &[Form], word: &[u8]) -> Option<Form> {
-    table.iter().copied().find(|form| form.0 == word)
+    for form in table {
+        if form.0 == word {
+            return Some(*form);
+        }
+    }
+    None
+}
+
+fn instruction(word: &[u8]) -> Option<Form> {
+    form(&INSTRUCTIONS, word)
+}
+
+fn exit(word: &[u8]) -> Option<Form> {
+    form(&EXITS, word)
 }
 
 fn is_exit(line: &[u8]) -> bool {
-    form(&EXITS, mnemonic(line)).is_some()
+    exit(mnemonic(line)).is_some()
+}
+
+/// What to write in place of a mnemonic that assemblers have and check texts haven't.
+fn other(word: &[u8]) -> Option<&'static str> {
+    for (other, hint) in &OTHERS {
+        if *other == word {
+            return Some(*hint);
+        }
+    }
+    None
 }
 
 /// What has to stand behind a line that stands in its place.
@@ -179,7 +207,7 @@ fn explain_instruction(alloc: Global, line: &[u8]) -> Result<Explanation, AllocE
             Some("write one space behind the mnemonic"),
         );
     }
-    let Some((_, operands, range)) = form(&INSTRUCTIONS, word).or(form(&EXITS, word)) else {
+    let Some((_, operands, range)) = instruction(word).or(exit(word)) else {
         return explain_unknown(alloc, word);
     };
     if line.starts_with(b"lw $0,") || line.starts_with(b"lbu $0,") {
@@ -195,12 +223,7 @@ fn explain_unknown(alloc: Global, word: &[u8]) -> Result<Explanation, AllocError
 {
     let told = shown_word(word.get(..63).unwrap_or(word));
     let message = format!(in alloc; "'{told}' is no instruction here")?;
-    for (other, hint) in OTHERS {
-        if word == other {
-            return Explanation::new(alloc, message.as_str(), Some(hint));
-        }
-    }
-    Explanation::new(alloc, message.as_str(), None)
+    Explanation::new(alloc, message.as_str(), other(word))
 }
 
 /// What is said of a line between the head of a block or an order and its exit.
@@ -213,7 +236,7 @@ fn explain_inside(
 ) -> Result<Explanation, AllocError>
     ensures { IfOk result IsPrintableExplanation }
 {
-    if before < most || form(&INSTRUCTIONS, mnemonic(line)).is_none() {
+    if before < most || instruction(mnemonic(line)).is_none() {
         return explain_instruction(alloc, line);
     }
     let count = before.saturating_add(1);

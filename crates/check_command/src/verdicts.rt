@@ -8,7 +8,7 @@ ghost use Rattle.check_command.specs.Checks.{IsAnswer, IsCheckFault};
 
 use block_validator::{Place, Verdict, validate};
 use check_text::{PairFault, Text, read};
-use mblock::Unclean;
+use mblock::{Block, Order, Unclean};
 use std::alloc::Global;
 use term_table::{OpenFault, Pass, TermTable};
 
@@ -63,6 +63,22 @@ fn open_table(alloc: Global) -> Option<(TermTable, Pass)>
     Some((table, pass))
 }
 
+/// The verdict on a block and an order; no other fault than refused memory.
+fn judge(alloc: Global, block: &Block, order: Order) -> Result<CheckAnswer, CheckFault>
+    ensures { MatchResult result (IsAnswer block.now order) (λ e. e ≡ CheckFault.NoMemory) }
+{
+    let Some((table, mut pass)) = open_table(alloc) else {
+        return Err(CheckFault::NoMemory);
+    };
+    match validate(alloc, &table, &mut pass, block, order) {
+        Verdict::Same(_) => Ok(CheckAnswer::Same),
+        Verdict::Unclean(rule) => Ok(CheckAnswer::Unclean(rule)),
+        Verdict::Differs(place) => Ok(CheckAnswer::Differs(place)),
+        Verdict::Full => Ok(CheckAnswer::Full),
+        Verdict::NoMemory => Err(CheckFault::NoMemory),
+    }
+}
+
 /// The verdict on the block and the order that the text spells.
 pub fn check(alloc: Global, text: &[u8]) -> Result<CheckAnswer, CheckFault>
     ensures spelled { IfOk result (λ _. (length text.now ≤ 2 ^ 20) × (b : BlockParts) × (o : OrderParts)
@@ -74,19 +90,9 @@ pub fn check(alloc: Global, text: &[u8]) -> Result<CheckAnswer, CheckFault>
     if text.len() > LONGEST {
         return Err(CheckFault::Size);
     }
-    let Text { block, order } = match read(alloc, text) {
-        Ok(spelled) => spelled,
-        Err(PairFault::Line(line)) => return Err(CheckFault::Line(line)),
-        Err(PairFault::NoMemory) => return Err(CheckFault::NoMemory),
-    };
-    let Some((table, mut pass)) = open_table(alloc) else {
-        return Err(CheckFault::NoMemory);
-    };
-    match validate(alloc, &table, &mut pass, &block, order) {
-        Verdict::Same(_) => Ok(CheckAnswer::Same),
-        Verdict::Unclean(rule) => Ok(CheckAnswer::Unclean(rule)),
-        Verdict::Differs(place) => Ok(CheckAnswer::Differs(place)),
-        Verdict::Full => Ok(CheckAnswer::Full),
-        Verdict::NoMemory => Err(CheckFault::NoMemory),
+    match read(alloc, text) {
+        Ok(Text { block, order }) => judge(alloc, &block, order),
+        Err(PairFault::Line(line)) => Err(CheckFault::Line(line)),
+        Err(PairFault::NoMemory) => Err(CheckFault::NoMemory),
     }
 }
