@@ -22,23 +22,22 @@ impl<'a, R: HostFiles + AllocGlobal + Input> Files for Disk<'a, R> {
     fn read(&mut self, alloc: Global, name: &str) -> Result<Vec<u8>, FileFault> {
         if name == "/dev/stdin" {
             let mut text = Vec::new(alloc);
-            return match self.rt.reader().read_to_end(&mut text) {
-                Ok(_) => Ok(text),
-                Err(e) => Err(fault_of(&e)),
-            };
+            told(self.rt.reader().read_to_end(&mut text))?;
+            return Ok(text);
         }
-        fs::read(self.rt, name).map_err(|e| fault_of(&e))
+        told(fs::read(self.rt, name))
     }
 
     fn write(&mut self, name: &str, bytes: &[u8]) -> Result<(), FileFault> {
-        fs::write(self.rt, name, bytes).map_err(|e| fault_of(&e))
+        told(fs::write(self.rt, name, bytes))
     }
 }
 
-fn fault_of(e: &io::Error) -> FileFault {
-    if e.kind() == io::ErrorKind::OutOfMemory {
-        FileFault::NoMemory
-    } else {
-        FileFault::Failed
+/// What is told of an answer of the host: of a fault whether memory was refused.
+fn told<T: Drop>(answer: io::Result<T>) -> Result<T, FileFault> {
+    match answer {
+        Ok(value) => Ok(value),
+        Err(e) if e.kind() == io::ErrorKind::OutOfMemory => Err(FileFault::NoMemory),
+        Err(_) => Err(FileFault::Failed),
     }
 }

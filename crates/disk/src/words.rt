@@ -21,8 +21,10 @@ pub(crate) fn named_words<'a>(
 ) -> Result<Vec<&'a str>, AllocError> {
     let mut args = Vec::new(alloc);
     args.push("mcc")?;
-    for word in owned.iter().skip(1) {
-        args.push(word.as_str())?;
+    if let [_, words @ ..] = owned {
+        for word in words {
+            args.push(word.as_str())?;
+        }
     }
     Ok(args)
 }
