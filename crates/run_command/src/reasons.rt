@@ -85,16 +85,14 @@ fn stuck_at(alloc: Global, image: &Image, steps: u64) -> Result<Option<(u32, Rul
 
 /// The line of the listing that has the code word at this address, if there is one.
 fn put_listed(alloc: Global, out: &mut String, image: &Image, at: u32) -> Result<(), AllocError> {
-    let listing = list(alloc, image)?;
     let number = at.saturating_sub(CODE_BASE) as usize / 4;
     if at < CODE_BASE || at % 4 != 0 || number >= image.code().len() {
         return Ok(());
     }
-    for (k, line) in listing.as_str().lines().enumerate() {
-        if k == number {
-            out.push_str(line)?;
-            return out.push_str("\n");
-        }
+    let listing = list(alloc, image)?;
+    if let Some(line) = listing.as_str().lines().nth(number) {
+        out.push_str(line)?;
+        out.push_str("\n")?;
     }
     Ok(())
 }
