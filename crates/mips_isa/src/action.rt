@@ -270,26 +270,7 @@ impl Action {
     pub fn touches(&self, r: Reg) -> bool
         ensures { result ≡ touches self.now r }
     {
-        match *self {
-            Action::Computes { d, op: _, a, b } => d == r || (a == r || b.touches(r)),
-            Action::Sets { d, word: _ } => d == r,
-            Action::Loads {
-                width: _,
-                d,
-                base,
-                offset: _,
-            } => d.reg() == r || base == r,
-            Action::Stores {
-                width: _,
-                r: q,
-                base,
-                offset: _,
-            } => q == r || base == r,
-            Action::Multiplies { sign: _, a, b } => a == r || b == r,
-            Action::Divides { sign: _, a, b } => a == r || b == r,
-            Action::MovesHigh { d } => d == r,
-            Action::MovesLow { d } => d == r,
-        }
+        self.writes(r) || self.reads(r)
     }
 
     /// Whether it reads the register.

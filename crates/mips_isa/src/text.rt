@@ -1,10 +1,9 @@
 // The texts of instructions.
 
-ghost use Rattle.std.specs.Prelude.{◌≡◌, ◌++◌, Some, codes};
-ghost use Rattle.std.specs.Fmt.{DisplaysOnOk};
+ghost use Rattle.std.specs.Prelude.{◌≡◌, ◌++◌, IfSome, Some, codes};
+ghost use Rattle.std.specs.Fmt.{DisplaysOnOk, WritesOnOk};
 ghost use Rattle.mips_isa.specs.Actions.{nop};
 ghost use Rattle.mips_isa.specs.Texts.{address_text, is_nop, mnemonic_of, mnemonic_text, operands_text, instruction_text, register_text};
-ghost use Rattle.mips_isa.specs.LastOperands.{last_operand_text};
 ghost use Rattle.mips_isa.specs.Texts.{control_name, control_operands, control_text, target_text};
 
 use crate::digits::WordDigits;
@@ -147,66 +146,59 @@ impl fmt::Display for NonzeroReg {
     }
 }
 
-// The last operand of an instruction; those before it are registers.
+// `offset($base)`
 #[derive(Clone, Copy)]
-enum LastOperand {
-    Register(Reg),
-    Signed(i16),
-    Unsigned(u16),
-    // `offset($base)`
-    Address(Reg, i16),
-    // Where a branch or jump leads: `0x` and eight hexadecimal digits.
-    Target(u32),
-}
+struct Address(Reg, i16);
 
-fn write_address<W: fmt::Write>(base: Reg, offset: i16, f: &mut fmt::Formatter<W>) -> fmt::Result
-    ensures { DisplaysOnOk W.write_str_gives f.old result (Some (address_text base offset)) f.new }
-{
-    write!(f, "{offset}({base})")
-}
-
-fn write_target<W: fmt::Write>(address: u32, f: &mut fmt::Formatter<W>) -> fmt::Result
-    ensures { DisplaysOnOk W.write_str_gives f.old result (Some (target_text address)) f.new }
-{
-    let digits = WordDigits(address);
-    write!(f, "0x{digits}")
-}
-
-impl fmt::Display for LastOperand {
-    ghost output = { λ o. Some (last_operand_text o) };
+impl fmt::Display for Address {
+    ghost output = { λ a. Some (address_text a.0 a.1) };
 
     fn fmt<W: fmt::Write>(&self, f: &mut fmt::Formatter<W>) -> fmt::Result {
-        match *self {
-            LastOperand::Register(r) => fmt::Display::fmt(&r, f),
-            LastOperand::Signed(number) => fmt::Display::fmt(&number, f),
-            LastOperand::Unsigned(number) => fmt::Display::fmt(&number, f),
-            LastOperand::Address(base, offset) => write_address(base, offset, f),
-            LastOperand::Target(address) => write_target(address, f),
-        }
+        let base = self.0;
+        let offset = self.1;
+        write!(f, "{offset}({base})")
     }
 }
 
-fn write_one<W: fmt::Write>(last: LastOperand, f: &mut fmt::Formatter<W>) -> fmt::Result
-    ensures { DisplaysOnOk W.write_str_gives f.old result (Some (codes " " ++ last_operand_text last)) f.new }
+// Where a branch or jump leads: `0x` and eight hexadecimal digits.
+#[derive(Clone, Copy)]
+struct Target(u32);
+
+impl fmt::Display for Target {
+    ghost output = { λ t. Some (target_text t.0) };
+
+    fn fmt<W: fmt::Write>(&self, f: &mut fmt::Formatter<W>) -> fmt::Result {
+        let digits = WordDigits(self.0);
+        write!(f, "0x{digits}")
+    }
+}
+
+fn write_one<W: fmt::Write, L: fmt::Display>(last: &L, f: &mut fmt::Formatter<W>) -> fmt::Result
+    ensures { IfSome (L.output last.now)
+        (λ text. WritesOnOk W.write_str_gives f.old result (codes " " ++ text) f.new) }
 {
     write!(f, " {last}")
 }
 
-fn write_pair<W: fmt::Write>(a: Reg, last: LastOperand, f: &mut fmt::Formatter<W>) -> fmt::Result
-    ensures { DisplaysOnOk W.write_str_gives f.old result
-        (Some (codes " " ++ (register_text a ++ (codes "," ++ last_operand_text last)))) f.new }
+fn write_pair<W: fmt::Write, L: fmt::Display>(
+    a: Reg,
+    last: &L,
+    f: &mut fmt::Formatter<W>,
+) -> fmt::Result
+    ensures { IfSome (L.output last.now)
+        (λ text. WritesOnOk W.write_str_gives f.old result (codes " " ++ (register_text a ++ (codes "," ++ text))) f.new) }
 {
     write!(f, " {a},{last}")
 }
 
-fn write_triple<W: fmt::Write>(
+fn write_triple<W: fmt::Write, L: fmt::Display>(
     a: Reg,
     b: Reg,
-    last: LastOperand,
+    last: &L,
     f: &mut fmt::Formatter<W>,
 ) -> fmt::Result
-    ensures { DisplaysOnOk W.write_str_gives f.old result
-        (Some (codes " " ++ (register_text a ++ (codes "," ++ (register_text b ++ (codes "," ++ last_operand_text last)))))) f.new }
+    ensures { IfSome (L.output last.now) (λ text. WritesOnOk W.write_str_gives f.old result
+        (codes " " ++ (register_text a ++ (codes "," ++ (register_text b ++ (codes "," ++ text))))) f.new) }
 {
     write!(f, " {a},{b},{last}")
 }
@@ -214,30 +206,28 @@ fn write_triple<W: fmt::Write>(
 fn write_operands<W: fmt::Write>(inst: &Plain, f: &mut fmt::Formatter<W>) -> fmt::Result
     ensures { DisplaysOnOk W.write_str_gives f.old result (Some (codes " " ++ operands_text inst.now)) f.new }
 {
-    match *inst {
-        Plain::Shift { rd, rt, amount, .. } => {
-            write_triple(rd, rt, LastOperand::Unsigned(u16::from(amount.bits())), f)
-        }
-        Plain::ShiftBy { rd, rt, rs, .. } => write_triple(rd, rt, LastOperand::Register(rs), f),
-        Plain::Alu { rd, rs, rt, .. } => write_triple(rd, rs, LastOperand::Register(rt), f),
-        Plain::Imm { rt, rs, imm, .. } => write_triple(rt, rs, LastOperand::Signed(imm), f),
-        Plain::Logic { rt, rs, imm, .. } => write_triple(rt, rs, LastOperand::Unsigned(imm), f),
-        Plain::LoadUpper { rt, imm } => write_pair(rt, LastOperand::Unsigned(imm), f),
-        Plain::MoveFrom { rd, .. } => write_one(LastOperand::Register(rd), f),
-        Plain::Multiply { rs, rt, .. } => write_pair(rs, LastOperand::Register(rt), f),
-        Plain::Divide { rs, rt, .. } => write_pair(rs, LastOperand::Register(rt), f),
+    match inst {
+        Plain::Shift { rd, rt, amount, .. } => write_triple(*rd, *rt, &amount.bits(), f),
+        Plain::ShiftBy { rd, rt, rs, .. } => write_triple(*rd, *rt, rs, f),
+        Plain::Alu { rd, rs, rt, .. } => write_triple(*rd, *rs, rt, f),
+        Plain::Imm { rt, rs, imm, .. } => write_triple(*rt, *rs, imm, f),
+        Plain::Logic { rt, rs, imm, .. } => write_triple(*rt, *rs, imm, f),
+        Plain::LoadUpper { rt, imm } => write_pair(*rt, imm, f),
+        Plain::MoveFrom { rd, .. } => write_one(rd, f),
+        Plain::Multiply { rs, rt, .. } => write_pair(*rs, rt, f),
+        Plain::Divide { rs, rt, .. } => write_pair(*rs, rt, f),
         Plain::Load {
             rt,
             base,
             offset,
             ..
-        } => write_pair(rt.reg(), LastOperand::Address(base, offset), f),
+        } => write_pair(rt.reg(), &Address(*base, *offset), f),
         Plain::Store {
             rt,
             base,
             offset,
             ..
-        } => write_pair(rt, LastOperand::Address(base, offset), f),
+        } => write_pair(*rt, &Address(*base, *offset), f),
     }
 }
 
@@ -303,16 +293,13 @@ fn write_control_operands<W: fmt::Write>(
 {
     match *control {
         Control::BranchPair { rs, rt, offset, .. } => {
-            write_triple(rs, rt, LastOperand::Target(branch_target(slot, offset)), f)
+            write_triple(rs, rt, &Target(branch_target(slot, offset)), f)
         }
         Control::BranchZero { rs, offset, .. } => {
-            write_pair(rs, LastOperand::Target(branch_target(slot, offset)), f)
+            write_pair(rs, &Target(branch_target(slot, offset)), f)
         }
-        Control::JumpTo { target, .. } => write_one(
-            LastOperand::Target(jump_target(slot, target)),
-            f,
-        ),
-        Control::JumpRegister { rs } => write_one(LastOperand::Register(rs), f),
+        Control::JumpTo { target, .. } => write_one(&Target(jump_target(slot, target)), f),
+        Control::JumpRegister { rs } => write_one(&rs, f),
         Control::SystemCall => Ok(()),
     }
 }
