@@ -1,16 +1,12 @@
 -- The homes that the best and the others get, and the places of all.
 use Rattle.std.proofs.Common.{◌≡◌, ℕ, suc, ◌+◌, ◌<◌, ⊎_elim, Bool, true, false, List, [], ◌∷◌, ◌++◌, Option, Some, None, refl, sym, ap, ap₂, ◌∙◌, subst, arith}
 use Rattle.std.proofs.Common.{length, drop, get_or}
-use Rattle.std.specs.Prelude.{slice_get, if◌then◌else◌, not}
+use Rattle.std.specs.Prelude.{slice_get, if◌then◌else◌}
 use Rattle.std.proofs.lemmas.List.{append_assoc, at_drop_more}
 use Rattle.std.proofs.lemmas.Option.{none-some}
-use Rattle.rtl.specs.declared.block.RBlock.{RBlock}
 use Rattle.mips_homes.specs.HomedRun.{is_in}
 use Rattle.mips_homes.specs.Best.{IsHome, AreHomesOf, AreFirst}
-use Rattle.mips_homes.specs.Locals.{is_local}
-use Rattle.mips_homes.specs.Places.{free_register, home_or, also, places_from}
-use Rattle.mips_homes.specs.Walks.{is_read_first}
-use Rattle.mips_homes.specs.declared.locals.Sight.{Sight}
+use Rattle.mips_homes.specs.Places.{free_register, home_or, also, places_from, lives_in, still_saved}
 use Rattle.mips_homes.proofs.Choosing.{one_if, got_push, length_one, is_in_at}
 use Rattle.mips_homes.specs.declared.homed.Home.{Home}
 use Rattle.mips_homes.specs.declared.homed.Home.TheVariants.{Reg, Slot}
@@ -57,11 +53,6 @@ one_more_first n saved saved' e before =
 
 -- ---- places
 
--- what a walk saw of x
-pub local_told : (bs : List RBlock) (x : ℕ) (local : Bool) (seen sights : List Sight) → local ≡ not (is_read_first seen x) → seen ≡ sights
-    → ((y : ℕ) → not (is_read_first sights y) ≡ is_local bs y) → local ≡ is_local bs x
-local_told bs x local seen sights is same all = is ∙ ap (λ l. not (is_read_first l x)) same ∙ all x
-
 pub register_told : (local local' : Bool) (taken taken' : List ℕ) (hint hint' register : Option ℕ)
     → register ≡ (if local then free_register taken hint else None) → local ≡ local' → taken ≡ taken' → hint ≡ hint'
     → register ≡ (if local' then free_register taken' hint' else None)
@@ -83,3 +74,23 @@ places_step local hint x taken taken' homes out out' all d h register within reg
     ∙ ap₂ (λ n t. out ++ home_or register (get_or homes x d) ∷ places_from local hint n t rest) next taken_is
     ∙ ap (λ r. out ++ home_or r (get_or homes x d) ∷ places_from local hint (suc x) (also taken r) rest) register_is
     ∙ sym (at_drop_more (λ hs. out ++ places_from local hint x taken hs) homes x d within) ∙ before
+
+-- one more saved register, which is still a home or isn't
+saved_next : (homes : List Home) (saved kept : List ℕ) (i : ℕ) (b : Bool) → i < length saved → lives_in homes (get_or saved i 0) ≡ b
+    → kept ++ still_saved homes (drop i saved)
+    ≡ kept ++ (if b then get_or saved i 0 ∷ still_saved homes (drop (i + 1) saved) else still_saved homes (drop (i + 1) saved))
+saved_next homes saved kept i b within is =
+    let rest = still_saved homes (drop (i + 1) saved) in
+    at_drop_more (λ rs. kept ++ still_saved homes rs) saved i 0 within ∙ ap (λ b. kept ++ (if b then get_or saved i 0 ∷ rest else rest)) is
+
+pub saved_then : (homes : List Home) (saved kept kept' all : List ℕ) (i : ℕ) → i < length saved → lives_in homes (get_or saved i 0) ≡ true
+    → kept' ≡ kept ++ get_or saved i 0 ∷ [] → kept ++ still_saved homes (drop i saved) ≡ all
+    → kept' ++ still_saved homes (drop (i + 1) saved) ≡ all
+saved_then homes saved kept kept' all i within is more before =
+    let rest = still_saved homes (drop (i + 1) saved) in
+    ap (λ l. l ++ rest) more ∙ append_assoc kept (get_or saved i 0 ∷ []) rest ∙ sym (saved_next homes saved kept i true within is) ∙ before
+
+pub saved_else : (homes : List Home) (saved kept kept' all : List ℕ) (i : ℕ) → i < length saved → lives_in homes (get_or saved i 0) ≡ false
+    → kept' ≡ kept → kept ++ still_saved homes (drop i saved) ≡ all → kept' ++ still_saved homes (drop (i + 1) saved) ≡ all
+saved_else homes saved kept kept' all i within is same before =
+    ap (λ l. l ++ still_saved homes (drop (i + 1) saved)) same ∙ sym (saved_next homes saved kept i false within is) ∙ before

@@ -91,8 +91,7 @@ fn see_reads(sights: &mut Vec<Sight>, k: usize, x: Register, y: Register) -> Res
     ensures { OnOk result (Sees k sights.old.items sights.new.items (x ∷ y ∷ []) []) }
 {
     see_read(sights, k, x)?;
-    see_read(sights, k, y)?;
-    Ok(())
+    see_read(sights, k, y)
 }
 
 // It reads all of these.
@@ -110,8 +109,7 @@ fn see_move(sights: &mut Vec<Sight>, k: usize, d: Register, x: Register) -> Resu
     ensures { OnOk result (Sees k sights.old.items sights.new.items (x ∷ []) (d ∷ [])) }
 {
     see_read(sights, k, x)?;
-    see_write(sights, k, d)?;
-    Ok(())
+    see_write(sights, k, d)
 }
 
 // It reads two and then writes one.
@@ -125,8 +123,7 @@ fn see_operation(
     ensures { OnOk result (Sees k sights.old.items sights.new.items (x ∷ y ∷ []) (d ∷ [])) }
 {
     see_reads(sights, k, x, y)?;
-    see_write(sights, k, d)?;
-    Ok(())
+    see_write(sights, k, d)
 }
 
 // Block k has an instruction.

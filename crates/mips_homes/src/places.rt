@@ -1,17 +1,19 @@
 // Where pseudo-registers are put.
 
-ghost use Rattle.std.specs.Prelude.{◌≡◌, ◌≤◌, ◌^◌, None, [], length, if◌then◌else◌, IfOk, OnOk};
+ghost use Rattle.std.specs.Prelude.{◌≡◌, ◌≤◌, ◌^◌, List, None, [], length, if◌then◌else◌, IfOk, OnOk};
+ghost use Rattle.rtl.specs.declared.block.RBlock.{RBlock};
 ghost use Rattle.mips_homes.specs.HomedRun.{is_in};
 ghost use Rattle.mips_homes.specs.Hints.{hint};
 ghost use Rattle.mips_homes.specs.Laws.{KeepsRtlRuns};
 ghost use Rattle.mips_homes.specs.Locals.{is_local};
 ghost use Rattle.mips_homes.specs.Places.{first_free, free_register, home_or, also, places_from, is_register, lives_in, still_saved};
+ghost use Rattle.mips_homes.specs.Walks.{TellsLocals, TellsReaches};
 ghost use Rattle.mips_homes.specs.Places.{is_slot, some_slot, IsPlaced, IsPlacedFor, ArePlaced};
 
 use crate::frames::frame_of;
 use crate::hints::{hint, reach_of, reaches};
 use crate::homed::{Frame, Home, Homed};
-use crate::locals::{is_local, sights};
+use crate::locals::{Sight, is_local, sights};
 use rtl::{RBlock, RFunc, Rtl};
 use std::alloc::{AllocError, Global};
 
@@ -82,6 +84,29 @@ fn take(taken: &mut Vec<u8>, register: Option<u8>) -> Result<(), AllocError>
     Ok(())
 }
 
+// The homes, with those that are local by what was seen in registers that no function keeps.
+fn places_by(
+    alloc: Global,
+    parameters: u32,
+    sights: &[Sight],
+    reaches: &[u64],
+    homes: &[Home],
+) -> Result<Vec<Home>, AllocError>
+    requires { length homes.now ≤ 2 ^ 32 }
+    ensures { IfOk result (λ hs. (bs : List RBlock) → TellsLocals sights.now bs → TellsReaches reaches.now bs
+        → hs.items ≡ places_from (is_local bs) (hint parameters bs) 0 [] homes.now) }
+{
+    let mut taken = Vec::new(alloc);
+    let mut out = Vec::new(alloc);
+    for x in 0..homes.len() {
+        let hint = hint(parameters, reach_of(reaches, x), x as u32);
+        let register = register_for(is_local(sights, x), taken.as_slice(), hint);
+        take(&mut taken, register)?;
+        out.push(home_or(register, homes[x]))?;
+    }
+    Ok(out)
+}
+
 // The homes, with local pseudo-registers in registers that no function keeps.
 fn places(
     alloc: Global,
@@ -94,15 +119,13 @@ fn places(
 {
     let sights = sights(alloc, blocks)?;
     let reaches = reaches(alloc, blocks)?;
-    let mut taken = Vec::new(alloc);
-    let mut out = Vec::new(alloc);
-    for x in 0..homes.len() {
-        let hint = hint(parameters, reach_of(reaches.as_slice(), x), x as u32);
-        let register = register_for(is_local(sights.as_slice(), x), taken.as_slice(), hint);
-        take(&mut taken, register)?;
-        out.push(home_or(register, homes[x]))?;
-    }
-    Ok(out)
+    places_by(
+        alloc,
+        parameters,
+        sights.as_slice(),
+        reaches.as_slice(),
+        homes,
+    )
 }
 
 // Whether a home is a register.
@@ -191,8 +214,7 @@ fn placed_frame(alloc: Global, func: &RFunc) -> Result<Frame, AllocError>
     ensures { IfOk result (λ f. IsPlacedFor func.now f) }
 {
     let choice = frame_of(alloc, func)?;
-    let frame = frame_with_places(alloc, func.parameters, func.blocks.as_slice(), &choice)?;
-    Ok(frame)
+    frame_with_places(alloc, func.parameters, func.blocks.as_slice(), &choice)
 }
 
 /// A place for each pseudo-register of a program: its home, or, if it is local to blocks, a register that no function keeps.

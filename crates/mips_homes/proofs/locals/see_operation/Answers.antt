@@ -1,6 +1,9 @@
 use Rattle.std.proofs.Common.{[], ◌∷◌}
+use Rattle.std.proofs.lemmas.Result.{IfOk-weaker}
 use Rattle.mips_homes.proofs.Seeing.{sees_then}
 use Rattle.mips_homes.proofs.locals.see_operation.Goals as goal
 
 pub returns : goal.returns
-returns c = sees_then c.args.k _ _ _ (c.args.x ∷ c.args.y ∷ []) [] (c.args.d ∷ []) c.in_ok-see_reads.ensures c.in_ok-see_write.ensures
+returns c = IfOk-weaker c.see_write.result _ _
+    (λ r h. sees_then c.args.k _ _ _ (c.args.x ∷ c.args.y ∷ []) [] (c.args.d ∷ []) c.in_ok-see_reads.ensures h)
+    c.see_write.ensures

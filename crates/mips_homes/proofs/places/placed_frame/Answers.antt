@@ -1,4 +1,5 @@
 use Rattle.std.proofs.Common.{subst}
+use Rattle.std.proofs.lemmas.Result.{IfOk-weaker}
 use Rattle.mips_homes.specs.Places.{IsPlaced}
 use Rattle.mips_homes.proofs.places.placed_frame.Goals as goal
 
@@ -6,8 +7,8 @@ pub frame_with_places-requires : goal.frame_with_places-requires
 frame_with_places-requires c = c.in_ok-choice.ensures.few
 
 pub returns : goal.returns
-returns c = record {
+returns c = IfOk-weaker c.frame_with_places.result _ _ (λ f h. record {
   choice = c.in_ok-choice.choice;
   is = c.in_ok-choice.ensures.choice;
-  placed = subst (λ bs. IsPlaced c.args.func.now.parameters bs c.in_ok-choice.choice c.in_ok-frame.frame) c.as_slice.ensures.value (c.in_ok-frame.ensures);
-}
+  placed = subst (λ bs. IsPlaced c.args.func.now.parameters bs c.in_ok-choice.choice f) c.as_slice.ensures.value h;
+}) c.frame_with_places.ensures
