@@ -57,9 +57,7 @@ pub fn open_block(alloc: Global, after: Continuation) -> OpenBlock
 pub fn put_before(alloc: Global, inst: RInst, after: Continuation) -> Result<OpenBlock, AllocError>
     ensures { IfOk result (λ c. open_code c ≡ first inst (line_of (spot after))) }
 {
-    let code = open_block(alloc, after);
-    let from = put_first(inst, code)?;
-    Ok(from)
+    put_first(inst, open_block(alloc, after))
 }
 
 /// A block that begins there: no new one for a block that is there. A function with more than 1,048,575 blocks is a Limit. After an
@@ -75,10 +73,7 @@ pub fn block_of(blocks: &mut Vec<RBlock>, after: Continuation) -> Result<BlockNu
 {
     match after {
         Continuation::Jump(block) => Ok(block),
-        Continuation::Made(code) => {
-            let block = seal(blocks, code)?;
-            Ok(block)
-        }
+        Continuation::Made(code) => seal(blocks, code),
     }
 }
 

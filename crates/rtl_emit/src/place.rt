@@ -95,15 +95,7 @@ pub fn registers_of(alloc: Global, places: &[Place]) -> Result<Vec<Register>, Al
 {
     let mut registers = Vec::new(alloc);
     for place in places {
-        put_register(&mut registers, place.register)?;
+        registers.push(place.register)?;
     }
     Ok(registers)
-}
-
-// One more register.
-fn put_register(registers: &mut Vec<Register>, register: Register) -> Result<(), AllocError>
-    ensures { OnOk result (registers.new.items ≡ registers.old.items ++ register ∷ []) }
-{
-    registers.push(register)?;
-    Ok(())
 }

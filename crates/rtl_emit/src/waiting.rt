@@ -112,8 +112,7 @@ pub(crate) fn test_at(
             operation: straight_op(Op::Eq),
             word: 0,
         };
-        let waiting = combination_at(is_zero, e, contrary, free, end)?;
-        Ok(waiting)
+        combination_at(is_zero, e, contrary, free, end)
     }
 }
 
@@ -170,6 +169,5 @@ pub(crate) fn contrary_at(
 {
     let to = spare_register(free)?;
     let end = exit_block(alloc, RExit::Branch(to, targets.no, targets.yes));
-    let waiting = operation_at(operation, left, right, to, free, end)?;
-    Ok(waiting)
+    operation_at(operation, left, right, to, free, end)
 }

@@ -1,4 +1,5 @@
 use Rattle.std.proofs.Common.{◌≡◌, ◌<◌, ℕ, zero, suc, List, [], ◌∷◌, ◌++◌, map, take, length, get_or, refl, ap, ◌∙◌, add-one, arith}
+use Rattle.std.proofs.lemmas.List.{take_all}
 use Rattle.rtl_emit.specs.declared.place.Place.{Place}
 use Rattle.rtl_emit.proofs.place.registers_of.Goals as goal
 
@@ -11,6 +12,10 @@ one-more (p ∷ ps) (suc i) d lt = ap (λ (rs : List ℕ). p.register ∷ rs) (o
 pub loop-place-preserved : goal.loop-place-preserved
 loop-place-preserved c =
     rw (add-one, one-more c.args.places.now c.loop-place.place-index (record { register = 0; free = 0 }) c.loop-place-test.true)
-    (c.in_ok-put_register.ensures
+    (c.in_ok-push.ensures.items
     ∙ ap (λ (rs : List ℕ). rs ++ (get_or c.args.places.now c.loop-place.place-index (record { register = 0; free = 0 })).register ∷ [])
     c.loop-place.invariant)
+
+pub returns : goal.returns
+returns c =
+    c.loop-place.invariant ∙ ap (map (λ (p : Place). p.register)) (take_all c.loop-place.place-index c.args.places.now c.loop-place-test.false)

@@ -1,3 +1,4 @@
+use Rattle.std.proofs.lemmas.Result.{IfOk-weaker}
 use Rattle.rtl_emit.proofs.Emitted.{plain_from, negated_from}
 use Rattle.rtl_emit.proofs.Sound.{sound_exit}
 use Rattle.rtl_emit.proofs.waiting.test_at.Goals as goal
@@ -6,11 +7,15 @@ pub returns-in_ok-place-clause-does : goal.returns-in_ok-place-clause-does
 returns-in_ok-place-clause-does c = λ bs from f.
     plain_from bs _ _ _ _ _ _ from _ c.exit_block-code.ensures c.in_ok-place.ensures.place f
 
-pub returns-in_ok-waiting-clause-does : goal.returns-in_ok-waiting-clause-does
-returns-in_ok-waiting-clause-does c = λ bs from f.
-    negated_from bs _ _ _ _ _ _ from _ c.exit_block-end.ensures c.straight_op.ensures c.in_ok-contrary.ensures.is (c.in_ok-waiting.ensures.does bs from f)
+pub returns-in_ok-contrary-clause-does : goal.returns-in_ok-contrary-clause-does
+returns-in_ok-contrary-clause-does c =
+    IfOk-weaker c.combination_at.result _ _
+    (λ w h bs from f. negated_from bs _ _ _ _ _ _ from _ c.exit_block-end.ensures c.straight_op.ensures c.in_ok-contrary.ensures.is (h bs from f))
+    c.combination_at.ensures.does
 
-pub returns-in_ok-waiting-clause-sound : goal.returns-in_ok-waiting-clause-sound
-returns-in_ok-waiting-clause-sound c = λ s yes no.
+pub returns-in_ok-contrary-clause-sound : goal.returns-in_ok-contrary-clause-sound
+returns-in_ok-contrary-clause-sound c =
     let to = c.in_ok-contrary.ensures.within in
-    c.in_ok-waiting.ensures.sound s to (sound_exit _ c.exit_block-end.ensures (to, (no, yes)))
+    IfOk-weaker c.combination_at.result _ _
+    (λ w h s yes no. h s to (sound_exit _ c.exit_block-end.ensures (to, (no, yes))))
+    c.combination_at.ensures.sound
