@@ -14,7 +14,8 @@ use Rattle.rtl.specs.declared.block.RGlobal.{RGlobal}
 use Rattle.rtl.specs.Operators.{op_result}
 use Rattle.rtl.specs.Programs.{Program}
 use Rattle.rtl.specs.Meaning as Meaning
-use Rattle.rtl.specs.Meaning.{Run, Code, code_of, with_inst, state_at_block, state_after_call, state_after_return, state_after_exit}
+use Rattle.rtl.specs.Meaning.{Run, Code, code_of, with_inst, words_in}
+use Rattle.rtl.specs.Meaning.{state_at_block, state_after_call, state_after_return, state_after_exit}
 use Rattle.rtl.specs.declared.interpreter.Frame.{Frame}
 
 -- the result of an operator at two registers, or none
@@ -77,12 +78,13 @@ Calls p depth f vs to before r after =
     state_after_call p depth f vs to (map frame_of (calls_of before)) (arrays before.globals.items) before.output.items
     ≡ reached_by frame_of r after
 
--- the same by a caller that goes on at this block
+-- a function is called with the words of these registers, by a caller that goes on at this block
 abbrev pub CallsFrom : Program → (depth f : ℕ) → List ℕ → Option ℕ → (next : ℕ) → Interpreter → Reached → Interpreter → Type 0
-CallsFrom p depth f vs to next before r after =
+CallsFrom p depth f args to next before r after =
+    with_value (words_in (places before.frame.registers.items) args) before.output.items (λ vs.
     with_value (slice_get before.frame.blocks.now next) before.output.items (λ block.
     state_after_call p depth f vs to (frame_at block before.frame
-    ∷ map frame_of (callers_of before)) (arrays before.globals.items) before.output.items)
+    ∷ map frame_of (callers_of before)) (arrays before.globals.items) before.output.items))
     ≡ reached_by frame_of r after
 
 -- the activation returns, with a word or without

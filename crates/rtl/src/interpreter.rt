@@ -190,24 +190,25 @@ fn first_frame<'a>(
     }
 }
 
-/// A function that is called: its number, the words of its arguments, and where its result goes, if anywhere.
-#[derive(Drop)]
-pub struct Callee {
-    pub function: FunctionNumber,
-    pub registers: Vec<Option<u32>>,
-    pub result_to: Option<Register>,
+// A function that is called: its number, the registers of its arguments, and where its result goes, if anywhere.
+#[derive(Clone, Copy)]
+struct Callee<'a> {
+    function: FunctionNumber,
+    arguments: &'a [Register],
+    result_to: Option<Register>,
 }
 
-// A function is called.
+// A function is called with these words.
 fn enter<'a>(
     program: &'a Rtl,
     depth: u32,
     interpreter: &mut Interpreter<'a>,
     callee: Callee,
+    registers: Vec<Option<u32>>,
 ) -> Result<Reached, AllocError>
-    ensures { let called = Calls program.now depth callee.function in
-        IfOk result (λ r. (vs : List ℕ) → callee.registers.items ≡ map Some vs
-        → called vs callee.result_to interpreter.old r interpreter.new) }
+    ensures { let called = Calls program.now depth callee.entry.function in
+        IfOk result (λ r. (vs : List ℕ) → registers.items ≡ map Some vs
+        → called vs callee.entry.result_to interpreter.old r interpreter.new) }
 {
     let Some(function) = program.functions().get(callee.function as usize) else {
         return Ok(Reached::Failed);
@@ -215,35 +216,39 @@ fn enter<'a>(
     if !interpreter.has_room(depth) {
         return Ok(Reached::Failed);
     }
-    if callee.registers.len() != function.parameters as usize {
+    if registers.len() != function.parameters as usize {
         return Ok(Reached::Failed);
     }
     let blocks = function.blocks.as_slice();
     let Some(entry) = block_at(blocks, 0) else {
         return Ok(Reached::Failed);
     };
-    let frame = first_frame(blocks, entry, callee.registers, callee.result_to);
+    let frame = first_frame(blocks, entry, registers, callee.result_to);
     interpreter.enter(frame)?;
     Ok(Reached::Going)
 }
 
 // A function is called, and its caller goes on at a block.
 fn call<'a>(
+    alloc: Global,
     program: &'a Rtl,
     depth: u32,
     interpreter: &mut Interpreter<'a>,
     callee: Callee,
     next: BlockNumber,
 ) -> Result<Reached, AllocError>
-    ensures { let called = CallsFrom program.now depth callee.function in
-        IfOk result (λ r. (vs : List ℕ) → callee.registers.items ≡ map Some vs
-        → called vs callee.result_to next interpreter.old r interpreter.new) }
+    ensures { let called = CallsFrom program.now depth callee.entry.function in
+        IfOk result (λ r. called callee.entry.arguments.now callee.entry.result_to next interpreter.old r interpreter.new) }
 {
     let Some(next) = block_at(interpreter.frame.blocks, next) else {
         return Ok(Reached::Failed);
     };
+    let registers = &interpreter.frame.registers;
+    let Some(values) = arguments(alloc, registers, callee.arguments)? else {
+        return Ok(Reached::Failed);
+    };
     go_to(&mut interpreter.frame, next);
-    enter(program, depth, interpreter, callee)
+    enter(program, depth, interpreter, callee, values)
 }
 
 // The activation returns, with a word or without.
@@ -281,16 +286,12 @@ fn leave<'a>(
             Ok(jump(interpreter, if v == 0 { *other } else { *then }))
         }
         RExit::Call(function, all, to, next) => {
-            let values = arguments(alloc, &interpreter.frame.registers, all)?;
-            let Some(values) = values else {
-                return Ok(Reached::Failed);
-            };
             let callee = Callee {
                 function: *function,
-                registers: values,
+                arguments: all.as_slice(),
                 result_to: *to,
             };
-            call(program, depth, interpreter, callee, *next)
+            call(alloc, program, depth, interpreter, callee, *next)
         }
         RExit::Return(None) => return_word(interpreter, None),
         RExit::Return(Some(from)) => {

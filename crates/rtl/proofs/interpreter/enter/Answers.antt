@@ -12,12 +12,12 @@ returns c vs is =
     c.get.ensures.lookup.0 c.get.ensures.lookup.1 c.in-Some.is in
     let first = some-block x.blocks.items 0 c.block_at.result c.in-Some-block_at.entry
     (rw (sym c.as_slice-blocks.ensures.value) c.block_at.ensures) c.in-Some-block_at.is in
-    let same : length c.args.callee.registers.items ≡ length vs = search (rules, length-map, is) in
-    let count : length vs ≡ x.parameters = omega (arith, same, c.if-len-function.false, c.len.ensures, c.args.callee.registers.ok.0) in
+    let same : length c.args.registers.items ≡ length vs = search (rules, length-map, is) in
+    let count : length vs ≡ x.parameters = omega (arith, same, c.if-len-function.false, c.len.ensures, c.args.registers.ok.0) in
     entered c.args.program.now c.args.depth c.args.callee.function vs c.args.callee.result_to x entry c.args.interpreter.now c.enter.new.self
     c.first_frame-frame.result there (sym c.has_room.ensures ∙ c.if-not-has_room.false) count first c.in_ok-enter.ensures.calls
     c.in_ok-enter.ensures.globals c.in_ok-enter.ensures.output
-    (new-frame c.first_frame-frame.result c.as_slice-blocks.result.now c.args.callee.registers.items x entry c.args.callee.result_to vs
+    (new-frame c.first_frame-frame.result c.as_slice-blocks.result.now c.args.registers.items x entry c.args.callee.result_to vs
     c.first_frame-frame.ensures is c.as_slice-blocks.ensures.value)
 
 pub returns-in_default : goal.returns-in_default
@@ -34,11 +34,11 @@ returns-then-not-has_room c vs is =
 
 pub returns-then-len-function : goal.returns-then-len-function
 returns-then-len-function c vs is =
-    let same : length c.args.callee.registers.items ≡ length vs = search (rules, length-map, is) in
+    let same : length c.args.registers.items ≡ length vs = search (rules, length-map, is) in
     calls-with-others c.args.program.now c.args.depth c.args.callee.function vs c.args.callee.result_to c.args.interpreter.now c.in-Some.function.now
     (function-at c.args.program.now c.functions.result c.args.callee.function c.get.result c.in-Some.function c.functions.ensures.value
     c.get.ensures.lookup.0 c.get.ensures.lookup.1 c.in-Some.is)
-    (λ e. omega (arith, e, same, c.if-len-function.true, c.len.ensures, c.args.callee.registers.ok.0))
+    (λ e. omega (arith, e, same, c.if-len-function.true, c.len.ensures, c.args.registers.ok.0))
 
 pub returns-in_default-block_at : goal.returns-in_default-block_at
 returns-in_default-block_at c vs is =
