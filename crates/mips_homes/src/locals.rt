@@ -163,8 +163,7 @@ fn see_block(sights: &mut Vec<Sight>, k: usize, block: &RBlock) -> Result<(), Al
     for inst in block.insts.as_slice() {
         see_inst(sights, k, inst)?;
     }
-    see_exit(sights, k, &block.exit)?;
-    Ok(())
+    see_exit(sights, k, &block.exit)
 }
 
 // The first block that counts: block 0 only if an exit goes there.

@@ -15,7 +15,8 @@ loop-x-init c bs local reach =
 pub loop-x-preserved : goal.loop-x-preserved
 loop-x-preserved c bs local reach =
     let x = c.loop-x.x in
-    places_step (is_local bs) (hint c.args.parameters bs) x c.loop-x.taken.items _ c.args.homes.now c.loop-x.out.items _ _ _ _ c.register_for-register.result
+    places_step (is_local bs) (hint c.args.parameters bs) x c.loop-x.taken.items _ c.args.homes.now c.loop-x.out.items _ _ _ _
+    c.register_for-register.result
     c.loop-x-test.true
     (register_told _ _ _ _ _ _ _ c.register_for-register.ensures (c.is_local.ensures ∙ local x) c.as_slice.ensures.value
     (c.hint-hint.ensures bs (c.reach_of.ensures ∙ reach x)))
@@ -24,5 +25,6 @@ loop-x-preserved c bs local reach =
 pub returns : goal.returns
 returns c bs local reach =
     let all = places_from (is_local bs) (hint c.args.parameters bs) c.loop-x.x c.loop-x.taken.items in
-    sym (ap (λ l. c.loop-x.out.items ++ l) (at_drop_all all c.args.homes.now c.loop-x.x c.loop-x-test.false) ∙ append-nil c.loop-x.out.items)
+    sym (ap (λ l. c.loop-x.out.items ++ l) (at_drop_all all c.args.homes.now c.loop-x.x c.loop-x-test.false) ∙ append-nil
+    c.loop-x.out.items)
     ∙ c.loop-x.invariant bs local reach

@@ -13,14 +13,17 @@ items v = v.items
 pub loop-r-preserved : goal.loop-r-preserved
 loop-r-preserved c = elim c.if-lives_in.branch [
   | then-lives_in+in_ok-push w ↦ saved_then
-      c.args.homes.now c.args.saved.now c.loop-r.kept.items _ _ c.loop-r.r-index c.loop-r-test.true (sym c.lives_in.ensures ∙ w.if-lives_in.true)
+      c.args.homes.now c.args.saved.now c.loop-r.kept.items _ _ c.loop-r.r-index c.loop-r-test.true (sym c.lives_in.ensures ∙
+      w.if-lives_in.true)
       (ap items w.kept-is ∙ w.in_ok-push.ensures.items) c.loop-r.invariant
   | else-lives_in w ↦ saved_else
-      c.args.homes.now c.args.saved.now c.loop-r.kept.items _ _ c.loop-r.r-index c.loop-r-test.true (sym c.lives_in.ensures ∙ w.if-lives_in.false)
+      c.args.homes.now c.args.saved.now c.loop-r.kept.items _ _ c.loop-r.r-index c.loop-r-test.true (sym c.lives_in.ensures ∙
+      w.if-lives_in.false)
       (ap items w.kept-is) c.loop-r.invariant
 ]
 
 pub returns : goal.returns
 returns c =
-    sym (ap (λ l. c.loop-r.kept.items ++ l) (at_drop_all (still_saved c.args.homes.now) c.args.saved.now c.loop-r.r-index c.loop-r-test.false)
+    sym (ap (λ l. c.loop-r.kept.items ++ l) (at_drop_all (still_saved c.args.homes.now) c.args.saved.now c.loop-r.r-index
+    c.loop-r-test.false)
     ∙ append-nil c.loop-r.kept.items) ∙ c.loop-r.invariant
