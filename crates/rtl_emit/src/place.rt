@@ -76,8 +76,7 @@ pub fn places_of(
     };
     let first_place = place_of(e, free)?;
     put_place(places, first_place)?;
-    places_of(rest, first_place.free, places)?;
-    Ok(())
+    places_of(rest, first_place.free, places)
 }
 
 // One more place.

@@ -6,11 +6,6 @@ use Rattle.rtl_emit.proofs.place.+places_of.Goals as goal
 one-more : (old middle new more : List Place) (p : Place) → middle ≡ old ++ p ∷ [] → new ≡ middle ++ more → new ≡ old ++ p ∷ more
 one-more old middle new more p e f = f ∙ ap (λ (ps : List Place). ps ++ more) e ∙ append_assoc old (p ∷ []) more
 
-pub returns-in_err-places_of-clause-begins : goal.returns-in_err-places_of-clause-begins
-returns-in_err-places_of-clause-begins t c =
-    let b = c.places_of.ensures.begins in
-    (c.in_ok-first_place.first_place ∷ b.0, one-more c.args.places.now.items _ _ b.0 _ c.in_ok-put_place.ensures.added b.1)
-
 pub returns-clause-begins : goal.returns-clause-begins
 returns-clause-begins t c =
     let b = c.places_of.ensures.begins in

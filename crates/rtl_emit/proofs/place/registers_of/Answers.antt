@@ -18,4 +18,5 @@ loop-place-preserved c =
 
 pub returns : goal.returns
 returns c =
-    c.loop-place.invariant ∙ ap (map (λ (p : Place). p.register)) (take_all c.loop-place.place-index c.args.places.now c.loop-place-test.false)
+    c.loop-place.invariant ∙ ap (map (λ (p : Place). p.register)) (take_all c.loop-place.place-index c.args.places.now
+    c.loop-place-test.false)

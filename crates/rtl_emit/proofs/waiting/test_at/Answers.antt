@@ -10,7 +10,8 @@ returns-in_ok-place-clause-does c = λ bs from f.
 pub returns-in_ok-contrary-clause-does : goal.returns-in_ok-contrary-clause-does
 returns-in_ok-contrary-clause-does c =
     IfOk-weaker c.combination_at.result _ _
-    (λ w h bs from f. negated_from bs _ _ _ _ _ _ from _ c.exit_block-end.ensures c.straight_op.ensures c.in_ok-contrary.ensures.is (h bs from f))
+    (λ w h bs from f. negated_from bs _ _ _ _ _ _ from _ c.exit_block-end.ensures c.straight_op.ensures c.in_ok-contrary.ensures.is
+    (h bs from f))
     c.combination_at.ensures.does
 
 pub returns-in_ok-contrary-clause-sound : goal.returns-in_ok-contrary-clause-sound
