@@ -124,3 +124,11 @@ block_made globals starts entry place leaf f head n b insts asked last facts0 fa
     ∙ ap (λ l. head ++ l) (insts_behind globals starts (locations f) (asked_of b.exit) no_facts insts tail
     ∙ ap (λ is. insts_code globals starts (locations f) (asked_of b.exit) no_facts is tail) is) in
     em ∙ ap₂ (λ (l : List Plain) (x : Exit). let m : BlockParts = record { insts = l; exit = x } in m) all exit
+
+-- a block, from what stands before its own code, and that
+pub head_made : (head code0 codeh code1 : List Plain) (x : Exit) (own made : BlockParts) → code0 ≡ [] → codeh ≡ code0 ++ head
+    → code1 ≡ codeh ++ own.insts → x ≡ own.exit → made ≡ (let m : BlockParts = record { insts = code1; exit = x } in m)
+    → made ≡ (let m : BlockParts = record { insts = head ++ own.insts; exit = own.exit } in m)
+head_made head code0 codeh code1 x own made e0 eh e1 ex em =
+    em ∙ ap₂ (λ (l : List Plain) (x : Exit). let m : BlockParts = record { insts = l; exit = x } in m)
+    (e1 ∙ ap (λ l. l ++ own.insts) (eh ∙ ap (λ l. l ++ head) e0)) ex

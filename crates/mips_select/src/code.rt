@@ -29,10 +29,9 @@ fn emit_result(code: &mut Vec<Plain>, frame: &Frame, to: Option<Register>) -> Re
     ensures { OnOk result (code.new.items ≡ code.old.items ++ result_code (locations frame.now) to) }
 {
     match to {
-        Some(d) => emit_arrival(code, frame, register(2), d)?,
-        None => {}
+        Some(d) => emit_arrival(code, frame, register(2), d),
+        None => Ok(()),
     }
-    Ok(())
 }
 
 // What stands before a block's own code.
@@ -43,11 +42,45 @@ fn emit_head(code: &mut Vec<Plain>, plan: &Plan<'_>, head: Head) -> Result<(), A
         ++ head_code plan.now.leaf plan.now.frame.now plan.now.parameters head) }
 {
     match head {
-        Head::Bare => {}
-        Head::Enters => emit_prologue(code, plan.frame, plan.leaf, plan.parameters)?,
-        Head::Takes(d) => emit_result(code, plan.frame, Some(d))?,
+        Head::Bare => Ok(()),
+        Head::Enters => emit_prologue(code, plan.frame, plan.leaf, plan.parameters),
+        Head::Takes(d) => emit_result(code, plan.frame, Some(d)),
     }
-    Ok(())
+}
+
+// A block's own code, and how it is left.
+fn emit_own(
+    code: &mut Vec<Plain>,
+    facts: &mut Knowledge,
+    linkage: &Linkage<'_>,
+    plan: &Plan<'_>,
+    next: BlockNumber,
+    block: &RBlock,
+) -> Result<Exit, AllocError>
+    requires frame { IsReachable plan.now.frame.now }
+    requires inside { AreInside linkage.now.starts.now UNIT_BYTES }
+    requires block { IsEmittable (length linkage.now.starts.now) block.now }
+    ensures code { OnOk result (code.new.items ≡ code.old.items ++ (own_block linkage.now.globals.now (slice_index linkage.now.starts.now)
+        (slice_index linkage.now.entries.now) (slice_index plan.now.places.now)
+        plan.now.leaf plan.now.frame.now [] next block.now).insts) }
+    ensures exit { IfOk result (λ x. x ≡ (own_block linkage.now.globals.now (slice_index linkage.now.starts.now)
+        (slice_index linkage.now.entries.now) (slice_index plan.now.places.now)
+        plan.now.leaf plan.now.frame.now [] next block.now).exit) }
+{
+    facts.clear();
+    let last = emit_insts(
+        code,
+        facts,
+        linkage.globals,
+        linkage.starts,
+        plan.frame,
+        asked_of(&block.exit),
+        block.insts.as_slice(),
+    )?;
+    let fresh = last.fresh;
+    let comparison: Option<Comparison> = last.comparison;
+    let last = Last { fresh, comparison };
+    emit_exit(code, facts, &last, linkage, plan, next, &block.exit)
 }
 
 // The block for a block.
@@ -67,25 +100,9 @@ fn block_for(
         (slice_index linkage.now.entries.now) (slice_index plan.now.places.now)
         plan.now.leaf plan.now.frame.now (head_code plan.now.leaf plan.now.frame.now plan.now.parameters head) next block.now) }
 {
-    let body = block.insts.as_slice();
     let mut insts = Vec::new(linkage.alloc);
-    facts.clear();
-    let frame = plan.frame;
     emit_head(&mut insts, plan, head)?;
-    let asked = asked_of(&block.exit);
-    let last = emit_insts(
-        &mut insts,
-        facts,
-        linkage.globals,
-        linkage.starts,
-        frame,
-        asked,
-        body,
-    )?;
-    let fresh = last.fresh;
-    let comparison: Option<Comparison> = last.comparison;
-    let last = Last { fresh, comparison };
-    let exit = emit_exit(&mut insts, facts, &last, linkage, plan, next, &block.exit)?;
+    let exit = emit_own(&mut insts, facts, linkage, plan, next, block)?;
     Ok(LongBlock::new(insts, exit))
 }
 
@@ -119,17 +136,17 @@ fn emit_behind(
 {
     match exit {
         RExit::Call(_, _, to, next) => {
-            if !resumes(*to, head_at(plan.table, *next as usize)) {
-                let second = block_after(alloc, plan.places, plan.frame, *to, *next)?;
-                push(out, second)?;
+            if resumes(*to, head_at(plan.table, *next as usize)) {
+                return Ok(());
             }
+            let second = block_after(alloc, plan.places, plan.frame, *to, *next)?;
+            push(out, second)
         }
-        RExit::Goto(_) => {}
-        RExit::Branch(_, _, _) => {}
-        RExit::Return(_) => {}
-        RExit::Out(_, _) => {}
+        RExit::Goto(_) => Ok(()),
+        RExit::Branch(_, _, _) => Ok(()),
+        RExit::Return(_) => Ok(()),
+        RExit::Out(_, _) => Ok(()),
     }
-    Ok(())
 }
 
 // The blocks for block j, the first of which has the number k.
@@ -160,6 +177,5 @@ pub(crate) fn emit_block(
     let next = next_at(plan.table, plan.places, k, &block.exit);
     let first = block_for(facts, linkage, plan, head, next, block)?;
     push(out, first)?;
-    emit_behind(linkage.alloc, out, plan, &block.exit)?;
-    Ok(())
+    emit_behind(linkage.alloc, out, plan, &block.exit)
 }

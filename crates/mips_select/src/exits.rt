@@ -107,10 +107,10 @@ fn emit_returned(
     ensures { OnOk result (code.new.items ≡ code.old.items ++ return_code (returned last.now.comparison x)
         (last_operand (locations frame.now) (facts_of facts.now) last.now.fresh x)) }
 {
-    if !returned(&last.comparison, x) {
-        emit_departure(code, facts, last.fresh, frame, register(2), x)?;
+    if returned(&last.comparison, x) {
+        return Ok(());
     }
-    Ok(())
+    emit_departure(code, facts, last.fresh, frame, register(2), x)
 }
 
 // How a block is left, where a call goes on at `next`: what stands before the exit, and the exit.
@@ -136,8 +136,7 @@ pub(crate) fn emit_exit(
         RExit::Branch(c, then, other) => {
             let then = number_at(plan.places, *then);
             let other = number_at(plan.places, *other);
-            let branch = emit_branch(code, facts, last, frame, *c, then, other)?;
-            Ok(branch)
+            emit_branch(code, facts, last, frame, *c, then, other)
         }
         RExit::Call(g, xs, _, _) => {
             emit_arguments(code, facts, frame, xs.as_slice())?;

@@ -67,8 +67,7 @@ fn emit_prologue_block(
 {
     let mut insts = Vec::new(alloc);
     emit_prologue(&mut insts, plan.frame, plan.leaf, plan.parameters)?;
-    push(out, LongBlock::new(insts, Exit::Goto(first)))?;
-    Ok(())
+    push(out, LongBlock::new(insts, Exit::Goto(first)))
 }
 
 // The prologue's block, where block 0 doesn't begin with it.
@@ -85,11 +84,10 @@ fn emit_lead(
         ++ lead_blocks plan.now.leaf head plan.now.frame.now plan.now.parameters first) }
 {
     match head {
-        Head::Enters => {}
-        Head::Bare => emit_prologue_block(alloc, out, plan, first)?,
-        Head::Takes(_) => emit_prologue_block(alloc, out, plan, first)?,
+        Head::Enters => Ok(()),
+        Head::Bare => emit_prologue_block(alloc, out, plan, first),
+        Head::Takes(_) => emit_prologue_block(alloc, out, plan, first),
     }
-    Ok(())
 }
 
 // The blocks for a function, the first of which has the number k.
@@ -124,8 +122,7 @@ fn emit_function(
         places,
     };
     emit_lead(linkage.alloc, out, &plan, head_at(table, 0), start)?;
-    emit_blocks(out, facts, linkage, &plan, first, blocks)?;
-    Ok(())
+    emit_blocks(out, facts, linkage, &plan, first, blocks)
 }
 
 // The blocks for all functions, behind the two for start and end.
@@ -172,8 +169,7 @@ pub(crate) fn emit_start(
         function: main,
         next: number(1),
     };
-    push(out, LongBlock::new(insts, exit))?;
-    Ok(())
+    push(out, LongBlock::new(insts, exit))
 }
 
 // Block 1, which ends with the main function's result.
@@ -188,6 +184,5 @@ pub(crate) fn emit_end(alloc: Global, out: &mut Vec<LongBlock>) -> Result<(), Al
         rt: Reg::ZERO,
     };
     push(&mut insts, inst)?;
-    push(out, LongBlock::new(insts, Exit::Halt))?;
-    Ok(())
+    push(out, LongBlock::new(insts, Exit::Halt))
 }

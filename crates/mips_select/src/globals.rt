@@ -21,8 +21,7 @@ fn push_word(bytes: &mut Vec<u8>, v: u32) -> Result<(), AllocError>
     push(bytes, (v / 16_777_216 % 256) as u8)?;
     push(bytes, (v / 65_536 % 256) as u8)?;
     push(bytes, (v / 256 % 256) as u8)?;
-    push(bytes, (v % 256) as u8)?;
-    Ok(())
+    push(bytes, (v % 256) as u8)
 }
 
 // An element, of which an array of bytes has the low eight bits.
@@ -30,10 +29,9 @@ fn push_element(bytes: &mut Vec<u8>, width: Width, v: u32) -> Result<(), AllocEr
     ensures { OnOk result (bytes.new.items ≡ bytes.old.items ++ element_bytes width (kept width (wrap v))) }
 {
     match width {
-        Width::Word => push_word(bytes, v)?,
-        Width::Byte => push(bytes, (v % 256) as u8)?,
+        Width::Word => push_word(bytes, v),
+        Width::Byte => push(bytes, (v % 256) as u8),
     }
-    Ok(())
 }
 
 fn push_elements(bytes: &mut Vec<u8>, width: Width, values: &[u32]) -> Result<(), AllocError>
@@ -74,8 +72,7 @@ fn push_global(bytes: &mut Vec<u8>, global: &RGlobal) -> Result<(), AllocError>
     ensures { OnOk result (bytes.new.items ≡ bytes.old.items ++ global_bytes global.now) }
 {
     push_values(bytes, global)?;
-    push_zeros(bytes, gap_behind(global.width, global.length))?;
-    Ok(())
+    push_zeros(bytes, gap_behind(global.width, global.length))
 }
 
 // The elements of globals without gaps.

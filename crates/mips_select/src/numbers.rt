@@ -129,8 +129,7 @@ fn push_function(
 {
     push(&mut numbers.entries, entry)?;
     push_copies(&mut numbers.owners, entry, size)?;
-    push(&mut numbers.namings, table)?;
-    Ok(())
+    push(&mut numbers.namings, table)
 }
 
 // The numbers of functions, from 2 on.

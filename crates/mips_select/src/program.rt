@@ -117,8 +117,7 @@ pub(crate) fn unit_of(alloc: Global, homed: &Homed, long: LongUnit) -> Result<Un
 {
     let bytes = globals_bytes(alloc, homed.rtl.globals())?;
     let LongUnit { blocks, owners, .. } = long;
-    let unit = split_unit(alloc, blocks, owners.as_slice(), bytes)?;
-    Ok(unit)
+    split_unit(alloc, blocks, owners.as_slice(), bytes)
 }
 
 /// The unit of a program, whose stack holds `depth` activations: wherever the program isn't wrong, the unit comes to the same
@@ -133,6 +132,5 @@ pub fn select(alloc: Global, rtl: &Rtl, depth: u32) -> Result<Unit, SelectFault>
 {
     let homed = homes_with_room(alloc, rtl, depth)?;
     let long = long_unit(alloc, &homed)?;
-    let unit = unit_of(alloc, &homed, long)?;
-    Ok(unit)
+    unit_of(alloc, &homed, long)
 }

@@ -34,10 +34,9 @@ fn emit_word(code: &mut Vec<Plain>, way: Way, r: NonzeroReg, place: u32) -> Resu
     ensures { OnOk result (code.new.items ≡ code.old.items ++ frame_word way r place ∷ []) }
 {
     match way {
-        Way::Save => emit_store_word(code, r.reg(), place)?,
-        Way::Restore => emit_load_word(code, r, place)?,
+        Way::Save => emit_store_word(code, r.reg(), place),
+        Way::Restore => emit_load_word(code, r, place),
     }
-    Ok(())
 }
 
 // Registers into the frame from an offset on, or back.
@@ -100,11 +99,11 @@ fn emit_link(code: &mut Vec<Plain>, way: Way, frame: &Frame, leaf: bool) -> Resu
     requires { IsReachable frame.now }
     ensures { OnOk result (code.new.items ≡ code.old.items ++ frame_link way leaf frame.now) }
 {
-    if !leaf {
-        let place = 4 * frame.slots + 4 * frame.saved.len() as u32;
-        emit_word(code, way, register(31), place)?;
+    if leaf {
+        return Ok(());
     }
-    Ok(())
+    let place = 4 * frame.slots + 4 * frame.saved.len() as u32;
+    emit_word(code, way, register(31), place)
 }
 
 // Parameters into their locations.
@@ -134,8 +133,7 @@ pub(crate) fn emit_prologue(
     emit_step(code, Way::Save, size)?;
     emit_words(code, Way::Save, 4 * frame.slots, frame.saved.as_slice())?;
     emit_link(code, Way::Save, frame, leaf)?;
-    emit_parameters(code, frame, parameters)?;
-    Ok(())
+    emit_parameters(code, frame, parameters)
 }
 
 // What a function ends with: what it saved comes back, and its frame goes.
@@ -150,6 +148,5 @@ pub(crate) fn emit_epilogue(
     let size = size_of_frame(frame, leaf);
     emit_words(code, Way::Restore, 4 * frame.slots, frame.saved.as_slice())?;
     emit_link(code, Way::Restore, frame, leaf)?;
-    emit_step(code, Way::Restore, size)?;
-    Ok(())
+    emit_step(code, Way::Restore, size)
 }

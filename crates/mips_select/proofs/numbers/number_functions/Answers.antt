@@ -6,7 +6,7 @@ use Rattle.rtl.specs.declared.block.RFunc.{RFunc}
 use Rattle.mips_select.specs.declared.heads.Naming.{Naming}
 use Rattle.mips_select.specs.Heads.{namings, namings_of, unnamed}
 use Rattle.mips_select.specs.Whole.{entries_from, function_size, functions_size, owners_from}
-use Rattle.mips_select.proofs.Blocks.{numbered_step}
+use Rattle.mips_select.proofs.Blocks.{numbered_step, read_at}
 use Rattle.mips_select.proofs.Linked.{function_some}
 use Rattle.mips_select.proofs.Lists.{all_made}
 use Rattle.mips_select.proofs.numbers.number_functions.Goals as goal
@@ -21,6 +21,10 @@ loop-func-init c =
       ap (λ l. l ++ entries_from 2 funcs) none.entries,
       ap (λ l. l ++ owners_from 2 funcs) none.owners,
     )
+
+pub count_function-size-requires-clause-few : goal.count_function-size-requires-clause-few
+count_function-size-requires-clause-few c =
+    c.requires c.loop-func.func-index c.func-item.result (read_at _ c.loop-func.func-index _ c.loop-func-test.true c.func-item.is)
 
 pub number-requires : goal.number-requires
 number-requires c =

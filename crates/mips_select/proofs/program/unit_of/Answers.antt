@@ -1,4 +1,4 @@
-use Rattle.std.proofs.lemmas.Result.{err_from_is_err_and}
+use Rattle.std.proofs.lemmas.Result.{IfOk-weaker, IfErr-weaker}
 use Rattle.mips_select.proofs.Selecting.{blocks_well, bytes_fit, unit_made, unit_keeps, many_cut}
 use Rattle.mips_select.proofs.program.unit_of.Goals as goal
 
@@ -16,15 +16,15 @@ pub split_unit-requires-clause-few : goal.split_unit-requires-clause-few
 split_unit-requires-clause-few c = bytes_fit _ _ _ c.globals.ensures.sound c.globals.ensures.value c.in_ok-bytes.ensures
 
 pub returns-clause-unit : goal.returns-clause-unit
-returns-clause-unit c = unit_made c.args.homed.now _ _ _ _ _ _ c.requires.blocks c.requires.owners
-    c.as_slice.ensures.value c.globals.ensures.value c.in_ok-bytes.ensures c.in_ok-unit.ensures.unit
+returns-clause-unit c = IfOk-weaker c.split_unit.result _ _ (λ u h. unit_made c.args.homed.now u _ _ _ _ _ c.requires.blocks
+    c.requires.owners
+    c.as_slice.ensures.value c.globals.ensures.value c.in_ok-bytes.ensures h) c.split_unit.ensures.unit
 
 pub returns-clause-runs : goal.returns-clause-runs
-returns-clause-runs c = unit_keeps c.args.homed.now _ c.globals.ensures.sound c.requires.places
-    (unit_made c.args.homed.now _ _ _ _ _ _ c.requires.blocks c.requires.owners
-    c.as_slice.ensures.value c.globals.ensures.value c.in_ok-bytes.ensures c.in_ok-unit.ensures.unit)
+returns-clause-runs c = IfOk-weaker c.split_unit.result _ _ (λ u h. unit_keeps c.args.homed.now u c.globals.ensures.sound c.requires.places
+    (unit_made c.args.homed.now u _ _ _ _ _ c.requires.blocks c.requires.owners
+    c.as_slice.ensures.value c.globals.ensures.value c.in_ok-bytes.ensures h)) c.split_unit.ensures.unit
 
-pub returns-in_err-unit-clause-limit : goal.returns-in_err-unit-clause-limit
-returns-in_err-unit-clause-limit c =
-    let p = err_from_is_err_and c.from_residual-in_err-unit.result c.from_residual-in_err-unit.ensures.1 in
-    rw (p.1, p.2) (λ e. many_cut c.args.homed.now _ c.requires.blocks (c.in_err-unit.ensures.limit e))
+pub returns-clause-limit : goal.returns-clause-limit
+returns-clause-limit c = IfErr-weaker c.split_unit.result _ _ (λ e many is. many_cut c.args.homed.now _ c.requires.blocks (many is))
+    c.split_unit.ensures.limit

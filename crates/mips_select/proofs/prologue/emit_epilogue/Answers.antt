@@ -1,6 +1,10 @@
+use Rattle.std.proofs.lemmas.Result.{IfOk-weaker}
 use Rattle.mips_select.proofs.Emitted.{epilogue_made}
 use Rattle.mips_select.proofs.prologue.emit_epilogue.Goals as goal
 
 pub returns : goal.returns
-returns c = epilogue_made c.args.leaf c.args.frame.now c.size_of_frame-size.result _ _ _ _ _ c.size_of_frame-size.ensures.size c.as_slice.ensures.value
-    c.in_ok-emit_words.ensures c.in_ok-emit_link.ensures c.in_ok-emit_step.ensures
+returns c = IfOk-weaker c.emit_step.result _ _
+    (λ r h. epilogue_made c.args.leaf c.args.frame.now c.size_of_frame-size.result _ _ _ _ _ c.size_of_frame-size.ensures.size
+    c.as_slice.ensures.value
+    c.in_ok-emit_words.ensures c.in_ok-emit_link.ensures h)
+    c.emit_step.ensures
