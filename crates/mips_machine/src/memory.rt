@@ -117,8 +117,7 @@ impl Memory {
 fn copies_of_zero(alloc: Global, count: usize) -> Result<Vec<u32>, AllocError>
     ensures { IfOk result (λ v. v.items ≡ replicate count 0) }
 {
-    let zeros = vec![in alloc; 0; count]?;
-    Ok(zeros)
+    vec![in alloc; 0; count]
 }
 
 // So many zeros, said of each: a numeral for the count must not meet `replicate`, which would compute.
