@@ -79,16 +79,20 @@ fn words_between(first: &Node, second: &Node, open: Resources) -> u32 {
     behind_result.max(behind_reader)
 }
 
+// Whether the base of a later access holds the word that it held before the first instruction.
+fn keeps_base(first: &Node, later: &Access, between: Resources) -> bool {
+    !between.union(first.writes).meets(Resources::of(later.base))
+}
+
 // Whether the second loads what the first may have stored, over the same base.
 fn loads_stored(first: &Node, second: &Node, between: Resources) -> bool {
-    match (first.access, second.access) {
+    match (&first.access, &second.access) {
         (Some(earlier), Some(later)) => {
-            let is_one_base = !between.union(first.writes).meets(Resources::of(later.base));
             earlier.stores
                 && !later.stores
-                && is_one_base
+                && keeps_base(first, later, between)
                 && earlier.base == later.base
-                && !earlier.passes(&later)
+                && !earlier.passes(later)
         }
         _ => false,
     }
@@ -109,13 +113,12 @@ fn meets_store(nodes: &[Node], last: &Node) -> bool {
 
 // Whether two accesses have to stay in their order. Where the base was written between them nothing is known of it.
 fn must_stay(first: &Node, second: &Node, between: Resources) -> bool {
-    match (first.access, second.access) {
+    match (&first.access, &second.access) {
         (Some(earlier), Some(later)) => {
-            let is_one_base = !between.union(first.writes).meets(Resources::of(later.base));
             if (second.meets && earlier.stores) || (first.meets && later.stores) {
                 true
             } else if earlier.stores || later.stores {
-                !(is_one_base && earlier.passes(&later))
+                !(keeps_base(first, later, between) && earlier.passes(later))
             } else {
                 false
             }
@@ -144,36 +147,43 @@ fn link(
 }
 
 // The edges from earlier instructions to the last one.
-fn link_last(nodes: &mut Vec<Node>) -> Result<(), AllocError> {
-    let Some(mut last) = nodes.pop() else {
+fn link_last(nodes: &mut [Node]) -> Result<(), AllocError> {
+    let Some((last, earlier)) = nodes.split_last_mut() else {
         return Ok(());
     };
-    let to = nodes.len();
-    last.meets = meets_store(nodes.as_slice(), &last);
+    let to = earlier.len();
+    last.meets = meets_store(earlier, last);
     let mut between = Resources::NONE;
-    for first in nodes.iter_mut().rev() {
-        link(first, &mut last, to, between)?;
+    for first in earlier.iter_mut().rev() {
+        link(first, last, to, between)?;
         between = between.union(first.writes);
     }
-    nodes.push(last)?;
     Ok(())
 }
 
-// The height of each node, from the last one on. A load whose register the exit touches is two words before it.
+// The words from a node to the end, those behind it having theirs. A load whose register the exit touches is two words
+// before it.
+fn height_of(nodes: &[Node], node: &Node, touched: Resources) -> u32 {
+    let mut height = NEXT;
+    if node.inst.action().is_load() && node.writes.meets(touched) {
+        height = AFTER_LOAD + NEXT;
+    }
+    for edge in &node.edges {
+        if let Some(behind) = nodes.get(edge.to) {
+            height = height.max(behind.height.saturating_add(edge.words));
+        }
+    }
+    height
+}
+
+// The height of each node, from the last one on.
 fn set_heights(nodes: &mut [Node], exit: &Exit) {
     let touched = Resources::touched_by_exit(exit);
     for k in (0..nodes.len()).rev() {
-        let mut height = NEXT;
-        if let Some(node) = nodes.get(k) {
-            if node.inst.action().is_load() && node.writes.meets(touched) {
-                height = AFTER_LOAD + NEXT;
-            }
-            for edge in &node.edges {
-                if let Some(behind) = nodes.get(edge.to) {
-                    height = height.max(behind.height.saturating_add(edge.words));
-                }
-            }
-        }
+        let height = match nodes.get(k) {
+            Some(node) => height_of(nodes, node, touched),
+            None => NEXT,
+        };
         if let Some(node) = nodes.get_mut(k) {
             node.height = height;
         }
@@ -185,7 +195,7 @@ pub fn graph(alloc: Global, insts: &[Plain], exit: &Exit) -> Result<Vec<Node>, A
     let mut nodes = Vec::with_capacity(alloc, insts.len())?;
     for inst in insts {
         nodes.push(node_of(alloc, *inst))?;
-        link_last(&mut nodes)?;
+        link_last(nodes.as_mut_slice())?;
     }
     set_heights(nodes.as_mut_slice(), exit);
     Ok(nodes)

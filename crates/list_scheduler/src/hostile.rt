@@ -36,15 +36,25 @@ impl Reorder for Hostile {
 
     fn reorder(&self, alloc: Global, block: &Block) -> Result<Order, AllocError> {
         let order = plain(alloc, block)?;
-        let changed = match self {
-            Hostile::Silent => return Err(AllocError),
-            Hostile::Slot => last_in_slot(alloc, block)?,
-            _ => {
-                let insts = change_insts(alloc, *self, order.insts())?;
-                Order::new(insts, change_exit(*self, order.exit()), order.slot())
-            }
-        };
+        let changed = change(alloc, *self, block, &order)?;
         Ok(changed.unwrap_or(order))
+    }
+}
+
+// What is proposed in place of a block's plain order, if there is something to change.
+fn change(
+    alloc: Global,
+    kind: Hostile,
+    block: &Block,
+    order: &Order,
+) -> Result<Option<Order>, AllocError> {
+    match kind {
+        Hostile::Silent => Err(AllocError),
+        Hostile::Slot => last_in_slot(alloc, block),
+        _ => {
+            let insts = change_insts(alloc, kind, order.insts())?;
+            Ok(Order::new(insts, change_exit(kind, order.exit()), order.slot()))
+        }
     }
 }
 
@@ -71,12 +81,9 @@ fn change_exit(kind: Hostile, mut exit: Exit) -> Exit {
 }
 
 fn without_last(alloc: Global, insts: &[Plain]) -> Result<Vec<Plain>, AllocError> {
-    let last = insts.iter().rposition(|inst| !inst.is_nop());
-    let mut kept = Vec::with_capacity(alloc, insts.len())?;
-    for (k, inst) in insts.iter().enumerate() {
-        if Some(k) != last {
-            kept.push(*inst)?;
-        }
+    let mut kept = Vec::from_slice(alloc, insts)?;
+    if let Some(last) = insts.iter().rposition(|inst| !inst.is_nop()) {
+        kept.remove(last);
     }
     Ok(kept)
 }
