@@ -1,16 +1,62 @@
 //! The members of a pool at the start.
-ghost use Rattle.std.specs.Prelude.{◌≡◌, ℕ, ◌<◌, ◌≤◌, [], ◌∷◌, All, IfOk, Some, slice_get};
+ghost use Rattle.std.specs.Prelude.{◌≡◌, ℕ, ◌<◌, ◌≤◌, [], ◌∷◌, All, IfOk, OnOk, Some, slice_get, map, vec_len};
+ghost use Rattle.crossbeam_deque.specs.Handles.{worker_deque};
 ghost use Rattle.term_table.specs.declared.limits.TheConstants.{MAX_PASSES};
 ghost use Rattle.steal_pool.specs.declared.member.Member.{Member};
 ghost use Rattle.steal_pool.specs.Rule.{maker, KeptByPutting, KeptBySharing};
 ghost use Rattle.steal_pool.specs.Members.{IsMember};
 ghost use Rattle.steal_pool.specs.Rounds.{GoesRound};
-ghost use Rattle.steal_pool.specs.Starts.{Start, own_deques};
+ghost use Rattle.steal_pool.specs.Starts.{AreFilled, AreWays, Start, own_deques};
 
 use crate::deques::{filled_deque, victims_of};
 use crate::member::Member;
-use crate::rule::Fact;
+use crate::rule::{Fact, Shared};
+use crate::victim::Victim;
+use crate::view::View;
+use crossbeam_deque::Worker;
 use std::alloc::{AllocError, Global};
+
+// The deques of all members.
+fn filled_deques<K: Fact>(
+    alloc: Global,
+    count: usize,
+    n: usize,
+) -> Result<Vec<Worker<usize, Global, View, Shared<K>>>, AllocError>
+    requires some { 0 < count }
+    requires begins { K.real [] (maker ∷ []) }
+    requires puts { KeptByPutting K.real }
+    ensures len { IfOk result (λ ds. vec_len ds ≡ count) }
+    ensures filled { IfOk result (λ ds. AreFilled count n ds.items) }
+{
+    let mut workers = Vec::new(alloc);
+    for w in 0..count {
+        let own = filled_deque::<K>(alloc, w, count, n)?;
+        workers.push(own)?;
+    }
+    Ok(workers)
+}
+
+// The ways of all members, those of the first one last.
+fn all_ways<K: Fact>(
+    alloc: Global,
+    workers: &mut Vec<Worker<usize, Global, View, Shared<K>>>,
+    n: usize,
+) -> Result<Vec<Vec<Victim<K>>>, AllocError>
+    requires few { vec_len workers.old ≤ MAX_PASSES }
+    requires filled { AreFilled (vec_len workers.old) n workers.old.items }
+    requires shares { KeptBySharing K.real }
+    ensures same { OnOk result (vec_len workers.new ≡ vec_len workers.old) }
+    ensures filled { OnOk result (AreFilled (vec_len workers.old) n workers.new.items) }
+    ensures len { IfOk result (λ v. vec_len v ≡ vec_len workers.old) }
+    ensures ways { IfOk result (λ v. AreWays (vec_len workers.old) n (map (λ d. worker_deque d) workers.new.items) v.items) }
+{
+    let mut ways = Vec::new(alloc);
+    for w in (0..workers.len()).rev() {
+        let victims = victims_of::<K>(alloc, workers, w, n)?;
+        ways.push(victims)?;
+    }
+    Ok(ways)
+}
 
 /// The members of a pool, each with a deque of its own and a way to all others. Task i below n lies on the deque of the
 /// member i % count; an Err is refused memory. Each deque begins with a task.
@@ -23,17 +69,8 @@ pub fn members<K: Fact>(alloc: Global, count: usize, n: usize) -> Result<Vec<Mem
     ensures round { IfOk result (λ ms. (w : ℕ) (m : Member K) → slice_get ms.items w ≡ Some m → GoesRound n (own_deques ms.items) w m) }
     ensures each { IfOk result (λ ms. All IsMember ms.items) }
 {
-    let mut workers = Vec::new(alloc);
-    for w in 0..count {
-        let own = filled_deque::<K>(alloc, w, count, n)?;
-        workers.push(own)?;
-    }
-    // The first member's ways stand last.
-    let mut ways = Vec::new(alloc);
-    for w in (0..count).rev() {
-        let victims = victims_of::<K>(alloc, &mut workers, w, n)?;
-        ways.push(victims)?;
-    }
+    let mut workers = filled_deques::<K>(alloc, count, n)?;
+    let mut ways = all_ways::<K>(alloc, &mut workers, n)?;
     let mut members = Vec::new(alloc);
     for own in workers {
         let Some(others) = ways.pop() else {

@@ -1,0 +1,44 @@
+use Rattle.std.proofs.Common.{rules, ◌≡◌, ℕ, ◌+◌, ◌-◌, List, [], ◌∷◌, ◌++◌, Some, Vec, Global, length, length-append, map, slice_get, subst, sym, ap, ◌∙◌, arith}
+use Rattle.crossbeam_deque.specs.Handles.{worker_deque}
+use Rattle.steal_pool.specs.declared.victim.Victim.{Victim}
+use Rattle.steal_pool.specs.Starts.{AreFilled, AreVictims, AreWays}
+use Rattle.steal_pool.proofs.Shares.{each_more}
+use Rattle.steal_pool.proofs.Pairing.{Own}
+use Rattle.steal_pool.proofs.start.all_ways.Goals as goal
+
+pub loop-w-preserved : goal.loop-w-preserved
+loop-w-preserved g c =
+    let X = Own g.row.K.Denot in
+    let V = Vec (Victim g.row.K.Denot) Global in
+    let n = c.args.n in let count = length c.args.workers.now.items in
+    let deque : X → _ = λ d. worker_deque d in
+    let ds = map deque c.loop-w.workers.items in
+    let ds' = map deque c.victims_of.new.workers.items in
+    let R : ℕ → V → Type 0 = λ k v. (w : ℕ) → k + w + 1 ≡ count → AreVictims n ds w v.items in
+    let xs = c.loop-w.ways.items in let new : V = c.in_ok-victims.victims in
+    let is : c.push.new.self.items ≡ xs ++ new ∷ [] = search rules in
+    let was = c.loop-w.invariant in
+    let told = c.in_ok-victims.ensures in
+    let left = c.loop-w-test.true in
+    let long : length (xs ++ new ∷ []) ≡ length xs + 1 = length-append xs (new ∷ []) in
+    let all : length c.push.new.self.items ≡ length xs + 1 = ap length is ∙ long in
+    let ways : AreVictims n ds (c.loop-w.w - 1) new.items = told.ways in
+    let fresh : R (length xs) new = λ w at. subst (λ p. AreVictims n ds p new.items) (omega (arith, at, was.2, left)) ways in
+    let Q : List V → Type 0 = λ l. (k : ℕ) (v : V) → slice_get l k ≡ Some v → R k v in
+    let more : Q (xs ++ new ∷ []) = each_more R xs new (λ k v at w e. was.3 k w v at e) fresh in
+    let now : Q c.push.new.self.items = subst Q (sym is) more in
+    let same : ds' ≡ ds = told.same.1 in
+    let items : length c.victims_of.new.workers.items ≡ count = search rules in
+    let is-count : c.loop-w.workers.len ≡ count = search rules in
+    let filled : AreFilled c.loop-w.workers.len n c.victims_of.new.workers.items = told.filled in (
+      items,
+      subst (λ m. AreFilled m n c.victims_of.new.workers.items) is-count filled,
+      omega (arith, all, was.2, left),
+      λ k w v at e. subst (λ l. AreVictims n l w v.items) (sym same) (now k v at w e),
+    )
+
+pub returns-clause-ways : goal.returns-clause-ways
+returns-clause-ways g c =
+    let ds = map (λ d. worker_deque d) c.loop-w.workers.items in
+    let all : length c.args.workers.now.items ≡ c.args.workers.now.len = search rules in
+    subst (λ m. AreWays m c.args.n ds c.loop-w.ways.items) all c.loop-w.invariant.3
