@@ -1,6 +1,9 @@
 -- A run has come as far as its trees: calls of the table leave it there, and what an action does takes it on.
-use Rattle.std.proofs.Common.{◌≡◌, ℕ, ◌<◌, ◌≤◌, ◌+◌, [], ◌∷◌, ◌++◌, length, refl, sym, subst, arith}
+use Rattle.std.proofs.Common.{◌≡◌, ℕ, zero, suc, ◌<◌, ◌≤◌, ◌+◌, List, [], ◌∷◌, ◌++◌, length, map, drop, get_or, refl, sym, ap, ◌∙◌, subst, arith}
 use Rattle.std.specs.Prelude.{vec_len, vec_capacity}
+use Rattle.mips_isa.specs.declared.inst.Plain.{Plain}
+use Rattle.mips_isa.specs.declared.action.Action.{Action}
+use Rattle.mips_isa.specs.Actions.{action_of}
 use Rattle.sym_terms.specs.declared.label.Label.TheVariants.{Mem0}
 use Rattle.sym_terms.specs.Trees.{leaf}
 use Rattle.term_table.specs.Passes.{PassState}
@@ -9,7 +12,7 @@ use Rattle.sym_exec.specs.declared.registers.TermRegisters.{TermRegisters}
 use Rattle.sym_exec.specs.declared.room.RunLists.{RunLists}
 use Rattle.sym_exec.specs.declared.state.Guard.{Guard}
 use Rattle.sym_exec.specs.declared.stores.StoreChain.{StoreChain}
-use Rattle.sym_exec.specs.Symbolic.{TreeState, GuardTree, start_trees}
+use Rattle.sym_exec.specs.Symbolic.{TreeState, GuardTree, start_trees, trees_after, all_trees}
 use Rattle.sym_exec.specs.Standing.{Later, Hold, IsGuard, GuardsStand}
 use Rattle.sym_exec.specs.Stores.{MakeMemory, AreMemories, HasRoom, HasStoreRoom, IsChain, IsEmpty, Tracks}
 use Rattle.sym_exec.proofs.Tickets.{guards_on, guards_more, guards_none}
@@ -66,3 +69,16 @@ tracks_start {p} {s} {l} {m} none hold stores guards = record {
   memory = subst (λ v. MakeMemory p v.items (leaf Mem0)) (sym stores) (subst (λ xs. MakeMemory p xs (leaf Mem0)) (sym none.stores) refl);
   guards = guards_none (subst (λ v. v.items ≡ []) (sym guards) none.guards);
 }
+
+-- the actions from a place on are the one there and the others
+trees_rest : (l : List Plain) (k : ℕ) (x : Plain) (a : Action) (u : TreeState) → k < length l → x ≡ get_or l k x → a ≡ action_of x
+    → all_trees (map action_of (drop (suc k) l)) (trees_after a u) ≡ all_trees (map action_of (drop k l)) u
+trees_rest [] k x a u lt is acts = absurd (omega (arith, lt))
+trees_rest (y ∷ l) zero x a u lt is acts = ap (λ b. all_trees (map action_of l) (trees_after b u)) (acts ∙ ap action_of is)
+trees_rest (y ∷ l) (suc k) x a u lt is acts = trees_rest l k x a u (omega (arith, lt)) is acts
+
+pub trees_step : (l : List Plain) (k : ℕ) (x : Plain) (a : Action) (u : TreeState) → k < length l → x ≡ get_or l k x → a ≡ action_of x
+    → all_trees (map action_of (drop (k + 1) l)) (trees_after a u) ≡ all_trees (map action_of (drop k l)) u
+trees_step l k x a u lt is acts =
+    let next : suc k ≡ k + 1 = omega arith in
+    ap (λ j. all_trees (map action_of (drop j l)) (trees_after a u)) (sym next) ∙ trees_rest l k x a u lt is acts
