@@ -1,6 +1,8 @@
 use Rattle.std.proofs.Common.{rules, ℕ, All, sym, arith, ◌∙◌, ◌≤◌, length, drop}
 use Rattle.std.proofs.lemmas.List.{take-append-le}
 use Rattle.std.proofs.lemmas.List.Elements.{All-head, All-rest, All-same, All-take}
+use Rattle.term_table.specs.declared.pass.Pass.{Pass}
+use Rattle.steal_pool.specs.Members.{IsMember}
 use Rattle.steal_pool.specs.declared.pool.Station.{Station}
 use Rattle.steal_pool.proofs.Places.{nothing_placed}
 use Rattle.steal_pool.proofs.pool.run.Goals as goal
@@ -29,3 +31,13 @@ loop-station-preserved g c =
     let S : Station g.row.J-Out.Denot → Type 0 = λ s. All D s.done.items in
     let was = c.loop-station.invariant in
     (All-rest S _ _ _ c.in-Some.ensures.steps.0 was.0, omega (arith, c.put_done.ensures.len, was.1), c.put_done.ensures.right)
+
+pub stations-stations-requires-clause-members : goal.stations-stations-requires-clause-members
+stations-stations-requires-clause-members g c κs within = c.in-Ok.ensures.each
+
+pub do_all-requires-clause-ready : goal.do_all-requires-clause-ready
+do_all-requires-clause-ready g c κs within =
+    let P : Pass → Type 0 = λ p. g.J.Job.suits c.args.job.now p in
+    let D : ℕ × g.row.J-Out.Denot → Type 0 = λ d. g.J.Job.right c.args.job.now d.0 d.1 in
+    let S : Station g.row.J-Out.Denot → Type 0 = λ s. IsMember s.member × P s.pass × All D s.done.items in
+    All-same S _ _ c.as_mut_slice.ensures.value c.stations-stations.ensures
