@@ -1,4 +1,4 @@
-use Rattle.std.proofs.Common.{rules, ◌≡◌, ℕ, ◌+◌, ◌-◌, List, [], ◌∷◌, ◌++◌, Some, Vec, Global, length, length-append, map, slice_get, subst, sym, ap, ◌∙◌, arith}
+use Rattle.std.proofs.Common.{rules, ◌≡◌, ℕ, ◌+◌, ◌-◌, List, [], ◌∷◌, ◌++◌, Some, Vec, Global, length, length-append, map, slice_get, refl, subst, sym, ap, ◌∙◌, arith}
 use Rattle.crossbeam_deque.specs.Handles.{worker_deque}
 use Rattle.steal_pool.specs.declared.victim.Victim.{Victim}
 use Rattle.steal_pool.specs.Starts.{AreFilled, AreVictims, AreWays}
@@ -42,3 +42,26 @@ returns-clause-ways g c =
     let ds = map (λ d. worker_deque d) c.loop-w.workers.items in
     let all : length c.args.workers.now.items ≡ c.args.workers.now.len = search rules in
     subst (λ m. AreWays m c.args.n ds c.loop-w.ways.items) all c.loop-w.invariant.3
+
+pub loop-w-init : goal.loop-w-init
+loop-w-init g c =
+    let zs = c.args.workers.now.items in
+    let all : c.args.workers.now.len ≡ length zs = search rules in
+    let none = c.new-ways.ensures.items in
+    let ds = map (λ d. worker_deque d) zs in (
+      refl,
+      subst (λ m. AreFilled m c.args.n zs) all c.requires.filled,
+      omega (arith, ap length none, c.len-w.ensures, all),
+      subst (AreWays (length zs) c.args.n ds) (sym none) (λ k w v at e. absurd (cc at)),
+    )
+
+pub victims_of-requires-clause-filled : goal.victims_of-requires-clause-filled
+victims_of-requires-clause-filled g c =
+    let was = c.loop-w.invariant in
+    let long : c.loop-w.workers.len ≡ length c.args.workers.now.items = search rules in
+    subst (λ m. AreFilled m c.args.n c.loop-w.workers.items) (sym long) was.1
+
+pub returns-clause-filled : goal.returns-clause-filled
+returns-clause-filled g c =
+    let all : c.args.workers.now.len ≡ length c.args.workers.now.items = search rules in
+    subst (λ m. AreFilled m c.args.n c.loop-w.workers.items) (sym all) c.loop-w.invariant.1
