@@ -3,7 +3,7 @@ use Rattle.std.specs.Prelude.{IfOk}
 use Rattle.sym_terms.specs.NormalForms.{address_of, tree_plus}
 use Rattle.sym_exec.specs.MipsTerms.{HasTree}
 use Rattle.sym_exec.specs.Symbolic.{register_tree}
-use Rattle.sym_exec.proofs.Tickets.{get_seen, get_tree}
+use Rattle.sym_exec.proofs.Tickets.{get_seen, get_tree, goes_on, goes_more, interns_by}
 use Rattle.sym_exec.proofs.Reading.{address-is}
 use Rattle.sym_exec.proofs.registers.TermRegisters.address.Goals as goal
 
@@ -17,3 +17,7 @@ returns-clause-tree c = λ t h.
     subst (λ y. IfOk c.plus_term.result (λ k. HasTree c.plus_term.new.terms.pass.now k y)) (sym (address-is x c.args.offset))
     (subst (λ n. IfOk c.plus_term.result (λ k. HasTree c.plus_term.new.terms.pass.now k (tree_plus (address_of x).base n))) (search rules)
     (c.plus_term.ensures.tree (address_of x).base at.base))
+
+pub returns-clause-pass : goal.returns-clause-pass
+returns-clause-pass c =
+    interns_by (goes_more c.address_at-at.ensures.pass (goes_on c.plus_term.ensures.pass)) c.plus_term.ensures.pass.full

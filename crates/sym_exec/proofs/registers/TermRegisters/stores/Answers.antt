@@ -1,6 +1,6 @@
 use Rattle.sym_exec.proofs.MipsTerms.{still_tree}
 use Rattle.sym_exec.specs.Symbolic.{register_tree, address_tree}
-use Rattle.sym_exec.proofs.Tickets.{later_more, get_seen, get_tree}
+use Rattle.sym_exec.proofs.Tickets.{later_more, get_seen, get_tree, goes_on, goes_more, interns_by}
 use Rattle.sym_exec.proofs.Reading.{address-later}
 use Rattle.sym_exec.proofs.Chains.{chain-on, memory-on}
 use Rattle.sym_exec.proofs.registers.TermRegisters.stores.Goals as goal
@@ -26,3 +26,7 @@ returns-clause-chain c =
 
 pub returns-clause-address : goal.returns-clause-address
 returns-clause-address c = λ t h. still_tree c.address_at-at.ensures.pass.later.extends (c.in_ok-address.ensures.tree t h)
+
+pub returns-clause-pass : goal.returns-clause-pass
+returns-clause-pass c =
+    interns_by (goes_more (goes_on c.in_ok-address.ensures.pass) c.address_at-at.ensures.pass) tt

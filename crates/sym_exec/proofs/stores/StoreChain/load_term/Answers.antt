@@ -4,6 +4,7 @@ use Rattle.sym_exec.specs.MipsTerms.{HasTree}
 use Rattle.sym_exec.proofs.MipsTerms.{still_tree, still_seen}
 use Rattle.sym_exec.specs.Stores.{MakeMemory}
 use Rattle.sym_exec.proofs.Chains.{chain-on}
+use Rattle.sym_exec.proofs.Tickets.{goes_on, goes_more, interns_by}
 use Rattle.sym_exec.proofs.stores.StoreChain.load_term.Goals as goal
 
 pub returns-clause-tree : goal.returns-clause-tree
@@ -19,3 +20,7 @@ binary-requires-clause-b c = still_seen c.in_ok-memory.ensures.pass.later.extend
 
 pub returns-clause-chain : goal.returns-clause-chain
 returns-clause-chain c = chain-on c.binary.ensures.pass.later c.in_ok-memory.ensures.chain
+
+pub returns-clause-pass : goal.returns-clause-pass
+returns-clause-pass c =
+    interns_by (goes_more (goes_on c.in_ok-memory.ensures.pass) (goes_on c.binary.ensures.pass)) c.binary.ensures.pass.full
