@@ -34,6 +34,9 @@ later_more {p} {q} {r} e f = record { extends = extends_more e.extends f.extends
 pub goes_on : {A E : Type 0} {i j : Interner} {x : Result A E} → Interns i x j → GoesOn i j
 goes_on {A} {E} {i} {j} {x} h = record { same_reference = h.same_reference; later = h.later }
 
+pub goes_none : (i : Interner) → GoesOn i i
+goes_none i = record { same_reference = refl; later = later_self i.pass.now }
+
 pub goes_more : {i j k : Interner} → GoesOn i j → GoesOn j k → GoesOn i k
 goes_more {i} {j} {k} e f = record { same_reference = f.same_reference ∙ e.same_reference; later = later_more e.later f.later }
 

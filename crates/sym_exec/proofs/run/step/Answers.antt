@@ -7,7 +7,7 @@ use Rattle.sym_exec.specs.declared.state.Guard.TheVariants.{Address, Division}
 use Rattle.sym_exec.specs.Symbolic.{AtAddress, AtDivision, register_tree, address_tree, trees_after}
 use Rattle.sym_exec.specs.Standing.{Hold, with_halves}
 use Rattle.sym_exec.specs.Stores.{MakeMemory, IsChain, Tracks}
-use Rattle.sym_exec.proofs.Tickets.{later_self, get_tree, known_on, hold_on, hold_put, hold_same, on_ok, ok_always}
+use Rattle.sym_exec.proofs.Tickets.{later_self, goes_none, goes_on, interns_by, get_tree, known_on, known_put, hold_on, hold_put, hold_same, on_ok, ok_always}
 use Rattle.sym_exec.proofs.Chains.{chain-on, memory-on}
 use Rattle.sym_exec.proofs.Tracking.{tracks_on, tracks_guard, room_guard}
 use Rattle.sym_exec.proofs.run.step.Goals as goal
@@ -122,3 +122,46 @@ returns-in_ok-put_halves-in-Divides-clause-room c =
     let few = c.requires.room.few in
     room_guard c.args.lists.now c.push_guard-in-Divides.new.self c.args.lists.now.chain c.requires.room c.requires.room.chain (omega (arith, few))
     c.push_guard-in-Divides.ensures.count c.push_guard-in-Divides.ensures.capacity c.push_guard-in-Divides.ensures.chain
+
+pub returns-in_ok-address-in-Loads-clause-chain : goal.returns-in_ok-address-in-Loads-clause-chain
+returns-in_ok-address-in-Loads-clause-chain c =
+    subst (IsChain c.loads.new.terms.pass.now) (sym c.push_guard.ensures.chain) c.in_ok-address-in-Loads.ensures.chain
+
+pub returns-in_ok-address-in-Stores-clause-chain : goal.returns-in_ok-address-in-Stores-clause-chain
+returns-in_ok-address-in-Stores-clause-chain c =
+    subst (IsChain c.stores.new.terms.pass.now) (sym c.push_guard-in-Stores.ensures.chain) c.in_ok-address-in-Stores.ensures.chain
+
+pub returns-in_ok-address-in-Loads-clause-pass : goal.returns-in_ok-address-in-Loads-clause-pass
+returns-in_ok-address-in-Loads-clause-pass c = interns_by (goes_on c.in_ok-address-in-Loads.ensures.pass) tt
+
+pub returns-in_ok-address-in-Stores-clause-pass : goal.returns-in_ok-address-in-Stores-clause-pass
+returns-in_ok-address-in-Stores-clause-pass c = interns_by (goes_on c.in_ok-address-in-Stores.ensures.pass) tt
+
+pub returns-in_ok-put_halves-in-Divides-clause-pass : goal.returns-in_ok-put_halves-in-Divides-clause-pass
+returns-in_ok-put_halves-in-Divides-clause-pass c = interns_by (goes_on c.in_ok-put_halves-in-Divides.ensures.pass) tt
+
+pub returns-in-MovesHigh-clause-pass : goal.returns-in-MovesHigh-clause-pass
+returns-in-MovesHigh-clause-pass c = interns_by (goes_none c.args.terms.now) tt
+
+pub returns-in-MovesLow-clause-pass : goal.returns-in-MovesLow-clause-pass
+returns-in-MovesLow-clause-pass c = interns_by (goes_none c.args.terms.now) tt
+
+pub returns-in-MovesHigh-clause-known : goal.returns-in-MovesHigh-clause-known
+returns-in-MovesHigh-clause-known c =
+    let known = c.requires.known in
+    known_put c.in-MovesHigh.d c.args.registers.now.hi known known.hi c.set.ensures.value c.set.ensures.range c.set.ensures.count
+
+pub returns-in-MovesLow-clause-known : goal.returns-in-MovesLow-clause-known
+returns-in-MovesLow-clause-known c =
+    let known = c.requires.known in
+    let put = c.set-in-MovesLow.ensures in
+    known_put c.in-MovesLow.d c.args.registers.now.lo known known.lo put.value put.range put.count
+
+pub returns-in-Computes-clause-room : goal.returns-in-Computes-clause-room
+returns-in-Computes-clause-room c = ok_always c.computes.result c.requires.room
+
+pub returns-in-Sets-clause-room : goal.returns-in-Sets-clause-room
+returns-in-Sets-clause-room c = ok_always c.put_leaf.result c.requires.room
+
+pub returns-in-Multiplies-clause-room : goal.returns-in-Multiplies-clause-room
+returns-in-Multiplies-clause-room c = ok_always c.put_halves.result c.requires.room
