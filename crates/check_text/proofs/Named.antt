@@ -1,5 +1,5 @@
 -- The mnemonic or the exit that a word names, looked up among all.
-use Rattle.std.proofs.Common.{◌≡◌, ℕ, Bool, true, false, List, [], ◌∷◌, Option, Some, None, if◌then◌else◌, refl, sym, ap, ◌∙◌, bytes_eq, IfSome}
+use Rattle.std.proofs.Common.{◌≡◌, ℕ, zero, suc, ◌<◌, ◌+◌, Bool, true, false, length, drop, get_or, arith, List, [], ◌∷◌, Option, Some, None, if◌then◌else◌, refl, sym, ap, ◌∙◌, bytes_eq, IfSome}
 use Rattle.std.proofs.lemmas.Option.{same_Some, none-some}
 use Rattle.std.proofs.lemmas.Slice.Eq.{bytes_eq-Decides}
 use Rattle.words.specs.declared.sign.Sign.TheVariants.{Signed, Unsigned}
@@ -89,3 +89,24 @@ pub found : {A : Type 0} (name : A → List ℕ) (word : List ℕ) (ns : List A)
     → IfSome o (λ n. word ≡ name n)
 found name word ns None e = tt
 found name word ns (Some n) e = is_found name word ns n (sym e)
+
+-- what is named among those from a place on: the one there, or one of the others
+named_rest : {A : Type 0} (name : A → List ℕ) (word : List ℕ) (l : List A) (k : ℕ) (x : A) → k < length l → x ≡ get_or l k x
+    → bytes_eq word (name x) ≡ false → first_named name word (drop (suc k) l) ≡ first_named name word (drop k l)
+named_rest name word [] k x lt is other = absurd (omega (arith, lt))
+named_rest name word (y ∷ l) zero x lt is other =
+    sym (ap (λ (b : Bool). if b then Some y else first_named name word l) (ap (λ z. bytes_eq word (name z)) (sym is) ∙ other))
+named_rest name word (y ∷ l) (suc k) x lt is other = named_rest name word l k x (omega (arith, lt)) is other
+
+pub named_step : {A : Type 0} (name : A → List ℕ) (word : List ℕ) (l : List A) (k : ℕ) (x : A) → k < length l → x ≡ get_or l k x
+    → bytes_eq word (name x) ≡ false → first_named name word (drop (k + 1) l) ≡ first_named name word (drop k l)
+named_step name word l k x lt is other =
+    let next : suc k ≡ k + 1 = omega arith in
+    ap (λ j. first_named name word (drop j l)) (sym next) ∙ named_rest name word l k x lt is other
+
+pub named_here : {A : Type 0} (name : A → List ℕ) (word : List ℕ) (l : List A) (k : ℕ) (x : A) → k < length l → x ≡ get_or l k x
+    → bytes_eq word (name x) ≡ true → first_named name word (drop k l) ≡ Some x
+named_here name word [] k x lt is here = absurd (omega (arith, lt))
+named_here name word (y ∷ l) zero x lt is here =
+    ap (λ (b : Bool). if b then Some y else first_named name word l) (ap (λ z. bytes_eq word (name z)) (sym is) ∙ here) ∙ ap Some (sym is)
+named_here name word (y ∷ l) (suc k) x lt is here = named_here name word l k x (omega (arith, lt)) is here
