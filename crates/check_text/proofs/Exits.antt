@@ -1,5 +1,5 @@
 -- Lines that spell an exit.
-use Rattle.std.proofs.Common.{◌≡◌, ◌∙◌, ◌++◌, ◌∷◌, ℕ, List, Option, Some, None, codes, ◌==◌, get_or, refl, sym, ap, ap₂, true, false, true≢false, eq-eqb, IfSome}
+use Rattle.std.proofs.Common.{◌≡◌, ◌∙◌, ◌++◌, ◌∷◌, ℕ, List, Option, Some, None, codes, ◌==◌, get_or, refl, sym, ap, ap₂, false, true≢false, eq-eqb, IfSome}
 use Rattle.mips_isa.specs.declared.inst.PairTest.TheVariants.{Equal, NotEqual}
 use Rattle.mips_isa.specs.declared.inst.ZeroTest.TheVariants.{AtMostZero, AboveZero, BelowZero, AtLeastZero}
 use Rattle.mblock.specs.declared.exit.Exit.{Exit}

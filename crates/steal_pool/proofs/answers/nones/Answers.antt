@@ -1,5 +1,5 @@
 -- A place that is pushed is empty, as those before it are.
-use Rattle.std.proofs.Common.{All, Bool, List, Option, None, not, refl, sym, subst, ap, ◌≡◌, ◌+◌, ◌++◌, ◌∷◌, [], ◌∙◌, vec_len}
+use Rattle.std.proofs.Common.{All, Bool, None, not, refl, sym, subst, ap, ◌≡◌, ◌+◌, ◌++◌, ◌∷◌, [], ◌∙◌, vec_len}
 use Rattle.std.specs.Prelude.{if◌then◌else◌}
 use Rattle.std.proofs.lemmas.List.Elements.{All-push}
 use Rattle.steal_pool.proofs.answers.nones.Goals as goal

@@ -1,4 +1,4 @@
-use Rattle.std.proofs.Common.{rules, ◌≡◌, ℕ, ◌+◌, ◌%◌, ◌∷◌, [], ◌++◌, List, map, length, length-set, Some, slice_get, set, subst, sym, arith, ap, refl, ◌∙◌, ◌<◌}
+use Rattle.std.proofs.Common.{rules, ◌≡◌, ℕ, ◌+◌, ◌%◌, ◌∷◌, [], ◌++◌, List, map, length, length-set, Some, slice_get, subst, sym, arith, ap, refl, ◌∙◌, ◌<◌}
 use Rattle.std.proofs.lemmas.List.{length-map}
 use Rattle.std.proofs.lemmas.List.Elements.{All-push, All-same}
 use Rattle.std.proofs.lemmas.Option.{slice_get_read}
@@ -6,7 +6,7 @@ use Rattle.crossbeam_deque.specs.Handles.{view, worker_deque, worker_view, steal
 use Rattle.steal_pool.specs.declared.victim.Victim.{Victim}
 use Rattle.steal_pool.specs.Victims.{IsVictim}
 use Rattle.steal_pool.specs.Shares.{Begins, Visits}
-use Rattle.steal_pool.specs.Starts.{IsFilled, AreFilled}
+use Rattle.steal_pool.specs.Starts.{IsFilled}
 use Rattle.steal_pool.proofs.Shares.{each_more, each_set, visits}
 use Rattle.steal_pool.proofs.Turns.{found, kept}
 use Rattle.steal_pool.proofs.Pairing.{Own}

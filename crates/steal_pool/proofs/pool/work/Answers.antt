@@ -1,4 +1,4 @@
-use Rattle.std.proofs.Common.{◌≡◌, ◌++◌, ◌∷◌, [], ℕ, All, rules}
+use Rattle.std.proofs.Common.{◌≡◌, ◌++◌, ◌∷◌, [], ℕ, rules}
 use Rattle.std.proofs.lemmas.List.Elements.{All-push, All-same}
 use Rattle.steal_pool.proofs.pool.work.Goals as goal
 
