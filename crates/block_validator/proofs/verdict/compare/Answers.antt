@@ -1,5 +1,6 @@
+use Rattle.std.proofs.Common.{rules}
 use Rattle.sym_exec.specs.Symbolic.{block_trees, order_trees}
-use Rattle.sym_exec.proofs.Tickets.{stands_for_on}
+use Rattle.sym_exec.proofs.Tickets.{later_more, stands_for_on}
 use Rattle.block_validator.proofs.Comparing.{by_trees}
 use Rattle.block_validator.proofs.verdict.compare.Goals as goal
 
@@ -9,3 +10,17 @@ returns-clause-exact c =
     (order_trees c.args.order.now)
     (stands_for_on c.in_ok-second.ensures.pass.later c.in_ok-first.ensures.trees) c.in_ok-second.ensures.trees c.first_difference.result
     c.first_difference.ensures
+
+pub returns-clause-pass : goal.returns-clause-pass
+returns-clause-pass c = record {
+  table = c.in_ok-second.ensures.pass.table;
+  later = later_more c.in_ok-first.ensures.pass.later c.in_ok-second.ensures.pass.later;
+  full = tt;
+}
+
+pub returns-in_err-second-clause-pass : goal.returns-in_err-second-clause-pass
+returns-in_err-second-clause-pass c = record {
+  table = c.in_err-second.ensures.pass.table;
+  later = later_more c.in_ok-first.ensures.pass.later c.in_err-second.ensures.pass.later;
+  full = search rules;
+}
