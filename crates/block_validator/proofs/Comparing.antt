@@ -1,5 +1,5 @@
 -- Tickets are equal in a place exactly when trees are.
-use Rattle.std.proofs.Common.{◌≡◌, ℕ, zero, suc, ◌<◌, List, [], ◌∷◌, Contains, Option, Some, None, refl, sym, ap, ap₂, ◌∙◌, subst, arith}
+use Rattle.std.proofs.Common.{◌≡◌, ℕ, zero, suc, ◌<◌, ◌==◌, Bool, true, false, not, eqb-true, true≢false, List, [], ◌∷◌, Contains, Option, Some, None, refl, sym, ap, ap₂, ◌∙◌, subst, arith}
 use Rattle.std.specs.Prelude.{slice_index, MatchOption}
 use mathlib.Core.Logic.{◌↔◌}
 use Rattle.std.proofs.lemmas.Option.{same_Some}
@@ -125,6 +125,14 @@ module _ (p : PassState) (legal : HasLegalHistory p) (a b : SymState) (x y : Cod
     differs = λ s. d.differs ((same_at r d.place).1 s);
     before = λ q is lt. (same_at q is).0 (d.before q is lt);
   }
+
+-- tickets that aren't told apart
+pub same_ticket : (x y : ℕ) → false ≡ not (x == y) → x ≡ y
+same_ticket x y same = go (x == y) refl (sym same)
+  where
+    go : (b : Bool) → (x == y) ≡ b → not b ≡ false → x ≡ y
+    go true is told = eqb-true x y is
+    go false is told = absurd (true≢false told)
 
 -- the places one by one
 pub all_places : (a b : SymState) → ((q : ℕ) → 0 < q → q < 32 → slice_index a.places.regs q ≡ slice_index b.places.regs q)
