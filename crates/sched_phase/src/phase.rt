@@ -141,8 +141,9 @@ fn one_by_one<'a, R: Reorder>(
     let blocks = unit.blocks();
     let mut progress = Progress::new(alloc, reorder, unit);
     for i in 0..blocks.len() {
-        let verdict = proposal_verdict(alloc, table, pass, reorder, &blocks[i]);
-        progress.settle(alloc, reorder, unit, &blocks[i], Some(verdict))?;
+        let block = &blocks[i];
+        let verdict = proposal_verdict(alloc, table, pass, reorder, block);
+        progress.settle(alloc, reorder, unit, block, Some(verdict))?;
     }
     Ok(progress.finish(reorder, unit))
 }
