@@ -42,6 +42,10 @@ abbrev pub Own : Type 0 → Type 0
 Own K = Worker ℕ Global View (Shared K)
 
 module _ {K : Type 0} where
+  -- the ways of all places of count, those of the first place last
+  abbrev pub AreWays : ℕ → ℕ → List (RowsId × Global) → List (Vec (Victim K) Global) → Type 0
+  AreWays count n deques ways = (k w : ℕ) (v : Vec (Victim K) Global) → slice_get ways k ≡ Some v → k + w + 1 ≡ count → AreVictims n deques w v.items
+
   abbrev pub all_deques : List (Member K) → List (Own K) → List (RowsId × Global)
   all_deques ms rest = own_deques ms ++ map (λ d. worker_deque d) rest
 

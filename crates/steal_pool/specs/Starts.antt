@@ -1,5 +1,5 @@
 -- The members of a pool before any of them takes a task.
-use Rattle.std.specs.Prelude.{◌≡◌, ◌≢◌, ℕ, ◌+◌, ◌%◌, List, All, Some, Vec, length, map, slice_get}
+use Rattle.std.specs.Prelude.{◌≡◌, ◌≢◌, ℕ, ◌+◌, ◌%◌, ◌<◌, List, All, Some, length, map, slice_get}
 use mathlib.Core.Option.{some}
 use lib.ListN.{get_elem?}
 use Rattle.crossbeam_deque.specs.Handles.{view, worker_view, worker_deque, worker_flavor, stealer_deque}
@@ -37,10 +37,6 @@ module _ {K : Type 0} where
     pub others : length ways + 1 ≡ length deques
     pub turn : (k : ℕ) (l : Victim K) → slice_get ways k ≡ Some l
         → slice_get deques ((w + 1 + k) % length deques) ≡ Some (stealer_deque l.stealer)
-
-  -- the ways of all places of count, those of the first place last
-  abbrev pub AreWays : ℕ → ℕ → List (RowsId × Global) → List (Vec (Victim K) Global) → Type 0
-  AreWays count n deques ways = (k w : ℕ) (v : Vec (Victim K) Global) → slice_get ways k ≡ Some v → k + w + 1 ≡ count → AreVictims n deques w v.items
 
   -- the member at place w of count, which are to do n tasks
   pub record StartsAt (count n : ℕ) (deques : List (RowsId × Global)) (w : ℕ) (m : Member K) : Type 0 where

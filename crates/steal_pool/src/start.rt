@@ -1,12 +1,14 @@
 //! The members of a pool at the start.
-ghost use Rattle.std.specs.Prelude.{◌≡◌, ℕ, ◌<◌, ◌≤◌, [], ◌∷◌, All, IfOk, OnOk, Some, slice_get, map, vec_len};
+ghost use Rattle.std.specs.Prelude.{◌≡◌, ℕ, ◌+◌, ◌<◌, ◌≤◌, [], ◌∷◌, All, IfOk, OnOk, Some, Vec, slice_get, map, vec_len};
+ghost use Rattle.std.specs.declared.alloc.Global.{Global};
 ghost use Rattle.crossbeam_deque.specs.Handles.{worker_deque};
 ghost use Rattle.term_table.specs.declared.limits.TheConstants.{MAX_PASSES};
+ghost use Rattle.steal_pool.specs.declared.victim.Victim.{Victim};
 ghost use Rattle.steal_pool.specs.declared.member.Member.{Member};
 ghost use Rattle.steal_pool.specs.Rule.{maker, KeptByPutting, KeptBySharing};
 ghost use Rattle.steal_pool.specs.Members.{IsMember};
 ghost use Rattle.steal_pool.specs.Rounds.{GoesRound};
-ghost use Rattle.steal_pool.specs.Starts.{AreFilled, AreWays, Start, own_deques};
+ghost use Rattle.steal_pool.specs.Starts.{AreFilled, AreVictims, Start, own_deques};
 
 use crate::deques::{filled_deque, victims_of};
 use crate::member::Member;
@@ -48,7 +50,8 @@ fn all_ways<K: Fact>(
     ensures same { OnOk result (vec_len workers.new ≡ vec_len workers.old) }
     ensures filled { OnOk result (AreFilled (vec_len workers.old) n workers.new.items) }
     ensures len { IfOk result (λ v. vec_len v ≡ vec_len workers.old) }
-    ensures ways { IfOk result (λ v. AreWays (vec_len workers.old) n (map (λ d. worker_deque d) workers.new.items) v.items) }
+    ensures ways { IfOk result (λ vs. (k w : ℕ) (v : Vec (Victim K) Global) → slice_get vs.items k ≡ Some v
+        → k + w + 1 ≡ vec_len workers.old → AreVictims n (map (λ d. worker_deque d) workers.new.items) w v.items) }
 {
     let mut ways = Vec::new(alloc);
     for w in (0..workers.len()).rev() {

@@ -1,9 +1,9 @@
 use Rattle.std.proofs.Common.{rules, ◌≡◌, ℕ, ◌+◌, ◌-◌, List, [], ◌∷◌, ◌++◌, Some, Vec, Global, length, length-append, map, slice_get, refl, subst, sym, ap, ◌∙◌, arith}
 use Rattle.crossbeam_deque.specs.Handles.{worker_deque}
 use Rattle.steal_pool.specs.declared.victim.Victim.{Victim}
-use Rattle.steal_pool.specs.Starts.{AreFilled, AreVictims, AreWays}
+use Rattle.steal_pool.specs.Starts.{AreFilled, AreVictims}
 use Rattle.steal_pool.proofs.Shares.{each_more}
-use Rattle.steal_pool.proofs.Pairing.{Own}
+use Rattle.steal_pool.proofs.Pairing.{AreWays, Own}
 use Rattle.steal_pool.proofs.start.all_ways.Goals as goal
 
 pub loop-w-preserved : goal.loop-w-preserved

@@ -1,6 +1,7 @@
 use Rattle.std.proofs.Common.{◌≡◌, ◌+◌, length, map}
 use Rattle.crossbeam_deque.specs.Handles.{worker_deque}
-use Rattle.steal_pool.specs.Starts.{AreFilled, AreWays}
+use Rattle.steal_pool.specs.Starts.{AreFilled}
+use Rattle.steal_pool.proofs.Pairing.{AreWays}
 use Rattle.steal_pool.proofs.start.all_ways.Given as goal
 
 abbrev pub invariant-loop-w : goal.invariant-loop-w

@@ -5,8 +5,8 @@ use Rattle.crossbeam_deque.specs.Handles.{worker_deque}
 use Rattle.steal_pool.specs.declared.victim.Victim.{Victim}
 use Rattle.steal_pool.specs.declared.member.Member.{Member}
 use Rattle.steal_pool.specs.Members.{IsMember}
-use Rattle.steal_pool.specs.Starts.{AreFilled, AreWays, Start}
-use Rattle.steal_pool.proofs.Pairing.{Own, Pairs, all_at, paired, begun, done}
+use Rattle.steal_pool.specs.Starts.{AreFilled, Start}
+use Rattle.steal_pool.proofs.Pairing.{AreWays, Own, Pairs, all_at, paired, begun, done}
 use Rattle.steal_pool.proofs.Rounds.{start_round}
 use Rattle.steal_pool.proofs.start.members.Goals as goal
 
