@@ -1,13 +1,18 @@
 -- One more block has its order.
-use Rattle.std.proofs.Common.{◌≡◌, ◌<◌, ℕ, zero, suc, ◌+◌, List, [], ◌∷◌, ◌++◌, length, Some, slice_get, refl, sym, ◌∙◌, subst, arith, length-append}
+use Rattle.std.proofs.Common.{◌≡◌, ◌<◌, ℕ, zero, suc, ◌+◌, List, [], ◌∷◌, ◌++◌, length, Some, slice_get, get_or, refl, sym, ap, ◌∙◌, subst, arith, length-append}
 use Rattle.std.proofs.lemmas.List.Sums.{sum_by_push}
-use Rattle.std.proofs.lemmas.Option.{same_Some, none-some, slice_get_within}
+use Rattle.std.proofs.lemmas.Option.{same_Some, none-some, slice_get_within, slice_get-get_or}
 use Rattle.std.specs.List.{sum_by}
 use Rattle.mblock.specs.Parts.{BlockParts, OrderParts}
 use Rattle.mblock.specs.Orders.{AreOrders}
 use Rattle.image.specs.Images.{CountsOf, total}
 use Rattle.sched_phase.specs.Phases.{Proposals, Kind, Counts, Suits, AreSettled, count_of}
 use Rattle.sched_phase.specs.Settling.{AddsOne, Serves}
+
+-- the element of a list at the place that a loop has come to, by another name of the list and of the place
+pub item_next : {X : Type 0} (xs ys : List X) (i n : ℕ) (x : X) → xs ≡ ys → n ≡ i → i < length xs → x ≡ get_or xs i x → slice_get ys n ≡ Some x
+item_next xs ys i n x all at lt is =
+    subst (λ (l : List _). slice_get l n ≡ Some x) all (subst (λ (k : ℕ). slice_get xs k ≡ Some x) (sym at) (slice_get-get_or xs i x lt ∙ ap Some (sym is)))
 
 snoc_last : {X : Type 0} (xs : List X) (x : X) → slice_get (xs ++ x ∷ []) (length xs) ≡ Some x
 snoc_last [] x = refl

@@ -1,5 +1,5 @@
-use Rattle.std.proofs.Common.{◌≡◌, ◌+◌, Some, slice_get, length, sym, ap, subst, ◌∙◌}
-use Rattle.std.proofs.lemmas.Option.{slice_get-get_or}
+use Rattle.std.proofs.Common.{◌≡◌, ◌+◌, ap, ◌∙◌}
+use Rattle.sched_phase.proofs.Settled.{item_next}
 use Rattle.sched_phase.proofs.phase.settle_all.Goals as goal
 
 pub loop-i-init : goal.loop-i-init
@@ -9,12 +9,8 @@ loop-i-init g c =
 
 pub settle-requires-clause-next : goal.settle-requires-clause-next
 settle-requires-clause-next g c =
-    let blocks = c.blocks-blocks.result.now in
-    let b = c.index-blocks-i.result in
-    let at : slice_get blocks c.loop-i.i ≡ Some b =
-    slice_get-get_or blocks c.loop-i.i b c.loop-i-test.true ∙ ap Some (sym c.index-blocks-i.is) in
-    subst (λ l. slice_get l (length c.loop-i.progress.orders.items) ≡ Some b) c.blocks-blocks.ensures.value
-    (subst (λ k. slice_get blocks k ≡ Some b) (sym c.loop-i.invariant.2) at)
+    item_next c.blocks-blocks.result.now _ c.loop-i.i _ c.index-blocks-i.result c.blocks-blocks.ensures.value c.loop-i.invariant.2 c.loop-i-test.true
+    c.index-blocks-i.is
 
 pub loop-i-preserved : goal.loop-i-preserved
 loop-i-preserved g c =
