@@ -7,8 +7,9 @@ ghost use Rattle.c_front.specs.Parsing.{IsLengthStuck};
 ghost use Rattle.c_front.specs.Parsing.{IsBytesRead, IsBytesStuck};
 ghost use Rattle.c_front.specs.Syntax.{IsFault};
 ghost use Rattle.c_tokens.specs.declared.token.Token.{Token};
+ghost use Rattle.c_tokens.specs.declared.token.Literal.{Literal};
 ghost use Rattle.c_tree.specs.Tree as Tree;
-ghost use Rattle.c_tree.specs.Tree.{function};
+ghost use Rattle.c_tree.specs.Tree.{array, function};
 
 use crate::cursor::{ParseStop, Parsed, expect, literal, name, split, starts, starts_bytes};
 use crate::part::{expect_after, push_part};
@@ -91,8 +92,8 @@ fn function<'a>(
     ensures err { IfErr result (IsStuck function_rest tokens.now) }
 {
     let open = expect(tokens, Mark::LeftParen)?;
-    let (given, brace) = expect_after(parameters(alloc, open), Mark::RightParen)?;
-    let start = expect(brace, Mark::LeftBrace)?;
+    let closed = expect_after(parameters(alloc, open), Mark::RightParen);
+    let (given, start) = expect_after(closed, Mark::LeftBrace)?;
     let (body, end) = expect_after(items(alloc, start), Mark::RightBrace)?;
     Ok((
         Declaration::Function(FunctionDefinition {
@@ -105,16 +106,21 @@ fn function<'a>(
     ))
 }
 
-/// The length of an array behind its opening bracket, up to the end of its declaration.
-fn array_length<'a>(tokens: &'a [Token]) -> Parsed<'a, Literal>
-    ensures ok { IfOk result (λ r. IsLengthRead tokens.now r.1.now r.0) }
+/// An array behind its name and its opening bracket: its length, up to the end of its declaration.
+fn array<'a>(
+    width: Width,
+    integer_type: IntegerType,
+    name: Identifier,
+    tokens: &'a [Token],
+) -> Parsed<'a, Declaration>
+    ensures ok { IfOk result (λ r. (n : Literal) × IsLengthRead tokens.now r.1.now n
+        × (declaration_of r.0 ≡ array width integer_type name n)) }
     ensures shorter { IfOk result (λ r. length r.1.now < length tokens.now) }
     ensures err { IfErr result (IsLengthStuck tokens.now) }
 {
-    let (length, close) = literal(tokens)?;
-    let last = expect(close, Mark::RightBracket)?;
-    let end = expect(last, Mark::Semicolon)?;
-    Ok((length, end))
+    let closed = expect_after(literal(tokens), Mark::RightBracket);
+    let (length, end) = expect_after(closed, Mark::Semicolon)?;
+    Ok((Declaration::Array(width, integer_type, name, length), end))
 }
 
 /// An array of bytes behind `unsigned char`.
@@ -123,13 +129,8 @@ fn bytes<'a>(tokens: &'a [Token]) -> Parsed<'a, Declaration>
     ensures shorter { IfOk result (λ r. length r.1.now < length tokens.now) }
     ensures err { IfErr result (IsBytesStuck tokens.now) }
 {
-    let (name, open) = name(tokens)?;
-    let start = expect(open, Mark::LeftBracket)?;
-    let (length, end) = array_length(start)?;
-    Ok((
-        Declaration::Array(Width::Byte, IntegerType::SignedInt, name, length),
-        end,
-    ))
+    let (name, start) = expect_after(name(tokens), Mark::LeftBracket)?;
+    array(Width::Byte, IntegerType::SignedInt, name, start)
 }
 
 /// What stands after the type and the name of a declaration.
@@ -151,11 +152,7 @@ fn after_global<'a>(
         return Ok((Declaration::Variable(integer_type, name, Some(given)), end));
     }
     if let Some(start) = starts(tokens, Mark::LeftBracket) {
-        let (length, end) = array_length(start)?;
-        return Ok((
-            Declaration::Array(Width::Word, integer_type, name, length),
-            end,
-        ));
+        return array(Width::Word, integer_type, name, start);
     }
     function(alloc, Some(integer_type), name, tokens)
 }

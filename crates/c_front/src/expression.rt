@@ -9,7 +9,7 @@ ghost use Rattle.c_front.specs.Parsing.{IsNoPrefix};
 ghost use Rattle.c_front.specs.Parsing.{IsClosedRead, IsClosedStuck, IsArgumentsRead, IsArgumentsStuck, StartsCall, StartsNoCall};
 ghost use Rattle.c_tokens.specs.declared.token.Token.TheVariants.{The};
 
-use crate::cursor::{ParseStop, Parsed, expect, split, starts};
+use crate::cursor::{ParseStop, Parsed, split, starts};
 use crate::part::{box_part, expect_after, push_part};
 use c_tokens::{Identifier, Mark, Token};
 use c_tree::{BinaryOp, Call, Expression, UnaryOp, Value};
@@ -206,8 +206,7 @@ pub fn arguments<'a>(alloc: Global, tokens: &'a [Token]) -> Parsed<'a, Vec<Expre
     'more: while let Some(after) = starts(rest, Mark::Comma) {
         rest = push_part(&mut all, expression(alloc, after))?;
     }
-    let end = expect(rest, Mark::RightParen)?;
-    Ok((all, end))
+    expect_after(Ok((all, rest)), Mark::RightParen)
 }
 
 /// The name of a call, and what stands after its opening parenthesis.

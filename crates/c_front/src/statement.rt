@@ -83,10 +83,7 @@ fn ended_simple<'a>(alloc: Global, tokens: &'a [Token], closing: Mark) -> Parsed
     ensures err { IfErr result (IsEndedStuck maybe_simple closing tokens.now) }
 {
     match first_name(tokens) {
-        None => {
-            let end = expect(tokens, closing)?;
-            Ok((None, end))
-        }
+        None => expect_after(Ok((None, tokens)), closing),
         Some(_) => {
             let (inner, end) = expect_after(simple(alloc, tokens), closing)?;
             Ok((Some(inner), end))
@@ -129,14 +126,8 @@ fn jump<'a>(alloc: Global, word: JumpWord, at: usize, tokens: &'a [Token]) -> Pa
     ensures err { IfErr result (IsStuck a_statement (Jump word at ∷ tokens.now)) }
 {
     match word {
-        JumpWord::Break => {
-            let end = expect(tokens, Mark::Semicolon)?;
-            Ok((Statement::Break(at), end))
-        }
-        JumpWord::Continue => {
-            let end = expect(tokens, Mark::Semicolon)?;
-            Ok((Statement::Continue(at), end))
-        }
+        JumpWord::Break => expect_after(Ok((Statement::Break(at), tokens)), Mark::Semicolon),
+        JumpWord::Continue => expect_after(Ok((Statement::Continue(at), tokens)), Mark::Semicolon),
         JumpWord::Return => {
             let (given, end) = ended_expression(alloc, tokens)?;
             Ok((Statement::Return(at, given), end))

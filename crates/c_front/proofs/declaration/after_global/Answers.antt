@@ -11,13 +11,13 @@ use Rattle.c_front.proofs.declaration.after_global.Goals as goal
 pub returns-in-Some-clause-ok : goal.returns-in-Some-clause-ok
 returns-in-Some-clause-ok c = tail-plain _ _ _ _ c.in-Some.ensures.some
 
-pub returns-in_err-length-clause-err : goal.returns-in_err-length-clause-err
-returns-in_err-length-clause-err c =
-    let h : IsStuck after_global c.args.tokens.now c.in_err-length.field-0.0 =
-    array-stuck _ _ _ c.in-Some-starts-2.ensures.some c.in_err-length.ensures.err in search rules
+pub returns-in-Some-starts-2-clause-err : goal.returns-in-Some-starts-2-clause-err
+returns-in-Some-starts-2-clause-err c =
+    IfErr-weaker c.array.result _ _ (λ s h. array-stuck _ _ _ c.in-Some-starts-2.ensures.some h) c.array.ensures.err
 
 pub returns-in-Some-starts-2-clause-ok : goal.returns-in-Some-starts-2-clause-ok
-returns-in-Some-starts-2-clause-ok c = tail-array _ _ _ _ _ _ c.in-Some-starts-2.ensures.some c.in_ok-length.ensures.ok
+returns-in-Some-starts-2-clause-ok c =
+    IfOk-weaker c.array.result _ _ (λ r d. rw d.2 (tail-array _ _ _ _ _ _ c.in-Some-starts-2.ensures.some d.1)) c.array.ensures.ok
 
 pub returns-clause-ok : goal.returns-clause-ok
 returns-clause-ok c =

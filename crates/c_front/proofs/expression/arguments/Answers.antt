@@ -1,6 +1,7 @@
 use Rattle.std.proofs.Common.{rules, arith, ◌≡◌, ◌<◌, suc, length, ap}
-use Rattle.std.proofs.lemmas.Result.{IfOk-at_ok}
-use Rattle.c_front.proofs.Ends.{stops}
+use Rattle.std.proofs.lemmas.Result.{IfOk-at_ok, IfOk-weaker, IfErr-weaker}
+use Rattle.c_front.proofs.Ends.{stops, plain-ended, plain-unended}
+use Rattle.c_tokens.specs.declared.token.Mark.TheVariants.{RightParen}
 use Rattle.c_front.specs.Parsing.{IsArgumentsStuck}
 use Rattle.c_front.proofs.Simply.{no-arguments-read, first-argument-stuck, arguments-first, arguments-more, next-argument-stuck, arguments-read}
 use Rattle.c_front.proofs.Simply.{arguments-end-stuck}
@@ -35,10 +36,19 @@ more-preserved c =
     arguments-more _ _ _ _ _ _ _ c.more.invariant c.in-Some-starts.ensures.some (IfOk-at_ok _ r.1 c.expression-in-Some-starts.ensures.ok)
     (omega (arith, e, d, f)) r.2
 
-pub returns-in_err-end-clause-err : goal.returns-in_err-end-clause-err
-returns-in_err-end-clause-err c =
-    let h : IsArgumentsStuck c.args.tokens.now c.in_err-end.field-0.0 =
-    arguments-end-stuck _ _ _ _ c.more.invariant c.in_default-starts.ensures.none c.in_err-end.ensures.err in search rules
+pub returns-clause-err : goal.returns-clause-err
+returns-clause-err c =
+    IfErr-weaker c.expect_after.result _ _
+    (λ s d. arguments-end-stuck _ _ _ _ c.more.invariant c.in_default-starts.ensures.none (plain-unended RightParen s d)) c.expect_after.ensures.err
 
 pub returns-clause-ok : goal.returns-clause-ok
-returns-clause-ok c = arguments-read _ _ _ _ c.more.invariant c.in_default-starts.ensures.none c.in_ok-end.ensures.ok
+returns-clause-ok c =
+    IfOk-weaker c.expect_after.result _ _
+    (λ r d. let h = plain-ended RightParen r d in rw h.0 (arguments-read _ _ _ _ c.more.invariant c.in_default-starts.ensures.none h.1)) c.expect_after.ensures.ok
+
+pub returns-clause-shorter : goal.returns-clause-shorter
+returns-clause-shorter c =
+    IfOk-weaker c.expect_after.result _ _
+    (λ r d.
+    let e : length c.more.rest.now ≡ suc (length r.1.now) = ap length (plain-ended RightParen r d).1 in
+    omega (arith, e, c.more.invariant.shorter)) c.expect_after.ensures.ok

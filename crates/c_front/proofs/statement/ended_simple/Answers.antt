@@ -1,18 +1,20 @@
 use Rattle.std.proofs.Common.{rules}
+use Rattle.std.proofs.lemmas.Result.{IfOk-weaker, IfErr-weaker}
 use Rattle.c_front.specs.Parsing.{IsEndedStuck}
 use Rattle.c_front.specs.Grammar.{maybe_simple, simple}
 use Rattle.c_front.proofs.StatementPaths.{ended-none-read, ended-none-stuck, ended-some-read, ended-some-stuck}
 use Rattle.c_tree.specs.Shape.{simple_of}
-use Rattle.c_front.proofs.Ends.{ended-read, ended-stuck}
+use Rattle.c_front.proofs.Ends.{plain-ended, plain-unended, ended-read, ended-stuck}
 use Rattle.c_front.proofs.statement.ended_simple.Goals as goal
 
-pub returns-in_err-end-in-None-clause-err : goal.returns-in_err-end-in-None-clause-err
-returns-in_err-end-in-None-clause-err c =
-    let h : IsEndedStuck maybe_simple c.args.closing c.args.tokens.now c.in_err-end-in-None.field-0.0 =
-    ended-none-stuck _ _ _ c.in-None.ensures.none c.in_err-end-in-None.ensures.err in search rules
+pub returns-in-None-clause-err : goal.returns-in-None-clause-err
+returns-in-None-clause-err c =
+    IfErr-weaker c.expect_after.result _ _ (λ s d. ended-none-stuck _ _ _ c.in-None.ensures.none (plain-unended c.args.closing s d)) c.expect_after.ensures.err
 
-pub returns-in_ok-end-in-None-clause-ok : goal.returns-in_ok-end-in-None-clause-ok
-returns-in_ok-end-in-None-clause-ok c = ended-none-read _ _ _ c.in-None.ensures.none c.in_ok-end-in-None.ensures.ok
+pub returns-in-None-clause-ok : goal.returns-in-None-clause-ok
+returns-in-None-clause-ok c =
+    IfOk-weaker c.expect_after.result _ _
+    (λ r d. let h = plain-ended c.args.closing r d in rw h.0 (ended-none-read _ _ _ c.in-None.ensures.none h.1)) c.expect_after.ensures.ok
 
 pub returns-in_err-inner-in-Some-clause-err : goal.returns-in_err-inner-in-Some-clause-err
 returns-in_err-inner-in-Some-clause-err c =
