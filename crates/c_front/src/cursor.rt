@@ -8,7 +8,7 @@ use c_tokens::{Identifier, Literal, Mark, Token};
 use std::alloc::{AllocError, AllocFailed};
 
 /// Why parsing stopped: the tokens from the first wrong one on, or want of memory.
-#[derive(Drop)]
+#[derive(Clone, Copy)]
 pub enum ParseStop<'a> {
     Syntax(&'a [Token]),
     NoMemory,
