@@ -208,12 +208,6 @@ no-simple None h after = refl
 no-simple (Some (Name x)) h after = absurd (h x refl)
 no-simple (Some _) h after = refl
 
-pub simple-name-stuck : (ts : List Token) (s : ParseStop) → IsNameMissing ts s → IsStuck simple ts s
-simple-name-stuck ts (Syntax rest) h = λ symbols.
-    let P : List Token → Type 0 = λ x. Stuck (N simple ∷ symbols) ts x in
-    subst P (sym h.0) (stuck_phrase (no-simple (first ts) h.1))
-simple-name-stuck ts NoMemory h = tt
-
 two : (ts rest after : List Token) (t u : Token) → ts ≡ t ∷ rest → rest ≡ u ∷ after → ts ≡ t ∷ u ∷ after
 two ts rest after t u e f = e ∙ ap (λ (x : List Token). t ∷ x) f
 

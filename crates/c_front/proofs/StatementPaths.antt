@@ -214,6 +214,10 @@ no-simple (Some _) h = refl
 no-simple-read : (ts : List Token) → StartsUnnamed ts → IsRead maybe_simple ts ts None
 no-simple-read ts h = whole simple_none (no-simple (first ts) h) read_nothing
 
+pub unnamed : (ts : List Token) (s : ParseStop) → IsNameMissing ts s → StartsUnnamed ts
+unnamed ts (Syntax rest) h = h.1
+unnamed ts NoMemory h = elim h [ ]
+
 pub ended-none-read : (u : Mark) (ts rest : List Token) → StartsUnnamed ts → StartsWith u ts rest → IsEndedRead maybe_simple u ts rest None
 ended-none-read u ts rest h e = followed (no-simple-read ts h) (mark-end e)
 

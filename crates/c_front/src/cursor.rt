@@ -2,7 +2,7 @@
 ghost use Rattle.std.specs.Prelude.{◌≡◌, ◌∷◌, [], IfOk, IfErr, IfSome, IfNone};
 ghost use Rattle.c_front.specs.Parsing.{IsMissing, StartsWith, StartsWithout, StartsWithName, IsNameMissing, StartsWithConstant};
 ghost use Rattle.c_front.specs.Parsing.{IsConstantMissing};
-ghost use Rattle.c_front.specs.Parsing.{StartsNamed, StartsUnnamed, StartsBytes, StartsNoBytes};
+ghost use Rattle.c_front.specs.Parsing.{StartsBytes, StartsNoBytes};
 
 use c_tokens::{Identifier, Literal, Mark, Token};
 use std::alloc::{AllocError, AllocFailed};
@@ -92,16 +92,5 @@ pub fn literal<'a>(tokens: &'a [Token]) -> Parsed<'a, Literal>
     match split(tokens) {
         Some((Token::Constant(literal), rest)) => Ok((literal, rest)),
         _ => Err(ParseStop::Syntax(tokens)),
-    }
-}
-
-/// The name that stands here, if one does.
-pub fn first_name(tokens: &[Token]) -> Option<Identifier>
-    ensures none { IfNone result (StartsUnnamed tokens.now) }
-    ensures some { IfSome result (λ x. StartsNamed tokens.now x) }
-{
-    match split(tokens)? {
-        (Token::Name(name), _) => Some(name),
-        _ => None,
     }
 }

@@ -7,13 +7,13 @@ ghost use Rattle.c_tree.specs.Shape.{statement_of};
 ghost use Rattle.c_tree.specs.Shape.{item_of, items_of};
 ghost use Rattle.c_front.specs.Parsing.{IsRead, IsStuck, IsConditionRead, IsConditionStuck, IsAssignedRead, IsAssignedStuck, IsBranchRead};
 ghost use Rattle.c_front.specs.Parsing.{IsBranchStuck, IsEndedRead, IsEndedStuck, IsHeadRead, IsHeadStuck, HasNoType};
-ghost use Rattle.c_tokens.specs.declared.token.Token.TheVariants.{The, Jump};
+ghost use Rattle.c_tokens.specs.declared.token.Token.TheVariants.{The, Jump, Name};
 ghost use Rattle.c_tokens.specs.declared.token.Mark.TheVariants.{While, For, Semicolon};
 
-use crate::cursor::{ParseStop, Parsed, expect, first_name, name, split, starts};
+use crate::cursor::{ParseStop, Parsed, expect, name, split, starts};
 use crate::expression::{arguments, closed_expression, expression, value};
 use crate::part::{box_part, expect_after, join_part, push_part};
-use c_tokens::{IntegerType, JumpWord, Mark, Token};
+use c_tokens::{Identifier, IntegerType, JumpWord, Mark, Token};
 use c_tree::{Call, Expression, ForParts, Item, Simple, Statement, Value};
 use std::alloc::{AllocError, AllocFailed, Global};
 
@@ -27,18 +27,17 @@ fn assigned_value<'a>(alloc: Global, tokens: &'a [Token]) -> Parsed<'a, Value>
     value(alloc, start)
 }
 
-/// An assignment, an indexed assignment or a call.
-fn simple<'a>(alloc: Global, tokens: &'a [Token]) -> Parsed<'a, Simple>
-    ensures ok { IfOk result (λ r. IsRead simple tokens.now r.1.now (simple_of r.0)) }
+/// An assignment, an indexed assignment or a call, behind the name with which it begins.
+fn simple<'a>(alloc: Global, name: Identifier, tokens: &'a [Token]) -> Parsed<'a, Simple>
+    ensures ok { IfOk result (λ r. IsRead simple (Name name ∷ tokens.now) r.1.now (simple_of r.0)) }
     ensures shorter { IfOk result (λ r. length r.1.now < length tokens.now) }
-    ensures err { IfErr result (IsStuck simple tokens.now) }
+    ensures err { IfErr result (IsStuck simple (Name name ∷ tokens.now)) }
 {
-    let (name, rest) = name(tokens)?;
-    if let Some(after) = starts(rest, Mark::LeftParen) {
+    if let Some(after) = starts(tokens, Mark::LeftParen) {
         let (arguments, end) = arguments(alloc, after)?;
         return Ok((Simple::CallStatement(Call { name, arguments }), end));
     }
-    if let Some(after) = starts(rest, Mark::LeftBracket) {
+    if let Some(after) = starts(tokens, Mark::LeftBracket) {
         let (index, start) = expect_after(
             closed_expression(alloc, after, Mark::RightBracket),
             Mark::Assign,
@@ -46,7 +45,7 @@ fn simple<'a>(alloc: Global, tokens: &'a [Token]) -> Parsed<'a, Simple>
         let (given, end) = expression(alloc, start)?;
         return Ok((Simple::AssignAt(name, index, given), end));
     }
-    let (given, end) = assigned_value(alloc, rest)?;
+    let (given, end) = assigned_value(alloc, tokens)?;
     Ok((Simple::Assign(name, given), end))
 }
 
@@ -82,12 +81,12 @@ fn ended_simple<'a>(alloc: Global, tokens: &'a [Token], closing: Mark) -> Parsed
     ensures shorter { IfOk result (λ r. length r.1.now < length tokens.now) }
     ensures err { IfErr result (IsEndedStuck maybe_simple closing tokens.now) }
 {
-    match first_name(tokens) {
-        None => expect_after(Ok((None, tokens)), closing),
-        Some(_) => {
-            let (inner, end) = expect_after(simple(alloc, tokens), closing)?;
+    match name(tokens) {
+        Ok((name, rest)) => {
+            let (inner, end) = expect_after(simple(alloc, name, rest), closing)?;
             Ok((Some(inner), end))
         }
+        Err(_) => expect_after(Ok((None, tokens)), closing),
     }
 }
 
@@ -146,8 +145,8 @@ fn statement<'a>(alloc: Global, tokens: &'a [Token]) -> Parsed<'a, Statement>
         return Err(ParseStop::Syntax(tokens));
     };
     match token {
-        Token::Name(_) => {
-            let (inner, end) = expect_after(simple(alloc, tokens), Mark::Semicolon)?;
+        Token::Name(name) => {
+            let (inner, end) = expect_after(simple(alloc, name, rest), Mark::Semicolon)?;
             Ok((Statement::Simply(inner), end))
         }
         Token::The(mark) => match mark {

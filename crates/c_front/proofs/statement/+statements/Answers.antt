@@ -143,16 +143,15 @@ statement-returns-in_ok-all-in-LeftBrace-clause-ok t c =
 
 pub statement-returns-in_err-inner-in-Name-clause-err : goal.statement-returns-in_err-inner-in-Name-clause-err
 statement-returns-in_err-inner-in-Name-clause-err t c =
-    let k : IsEndedStuck simple Semicolon c.args.tokens.now c.in_err-inner-in-Name.field-0.0 =
-    ended-stuck c.simple.result Semicolon _ simple simple_of _ c.in_err-inner-in-Name.ensures.err c.simple.ensures.ok c.simple.ensures.err in
+    let k = ended-stuck c.simple.result Semicolon _ simple simple_of _ c.in_err-inner-in-Name.ensures.err c.simple.ensures.ok c.simple.ensures.err in
     let h : IsStuck a_statement c.args.tokens.now c.in_err-inner-in-Name.field-0.0 =
-    simply-stuck _ _ _ _ (c.in-Some.ensures.some ∙ ap (λ (x : Token). x ∷ c.in-Some.rest.now) c.in-Name.is) k in search rules
+    rw (c.in-Some.ensures.some ∙ ap (λ (x : Token). x ∷ c.in-Some.rest.now) c.in-Name.is) (simply-stuck _ _ _ _ refl k) in search rules
 
 pub statement-returns-in_ok-inner-in-Name-clause-ok : goal.statement-returns-in_ok-inner-in-Name-clause-ok
 statement-returns-in_ok-inner-in-Name-clause-ok t c =
-    simply-read _ _ _ _ _ (c.in-Some.ensures.some ∙ ap (λ (x : Token). x ∷ c.in-Some.rest.now) c.in-Name.is)
+    rw (c.in-Some.ensures.some ∙ ap (λ (x : Token). x ∷ c.in-Some.rest.now) c.in-Name.is) (simply-read _ _ _ _ _ refl
     (ended-read c.simple.result Semicolon _ simple simple_of (c.in_ok-inner-in-Name.inner, c.in_ok-inner-in-Name.end)
-    c.in_ok-inner-in-Name.ensures.ok c.simple.ensures.ok)
+    c.in_ok-inner-in-Name.ensures.ok c.simple.ensures.ok))
 
 pub statement-returns-in-If-clause-ok : goal.statement-returns-in-If-clause-ok
 statement-returns-in-If-clause-ok t c =
