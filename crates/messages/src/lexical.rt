@@ -99,20 +99,8 @@ const ESCAPES: &[Told] = &[
     (b"\"", "34"),
 ];
 
-/// Signs that no comment may have, and how a comment begins and ends.
+/// Signs that no comment may have.
 const NOT_IN_COMMENTS: &[&[u8]] = &[b"\\", b"??"];
-
-const OPENINGS: &[&[u8]] = &[b"/*", b"//"];
-
-const CLOSING: &[u8] = b"*/";
-
-const COMMENT: &[u8] = b"/*";
-
-const STRING: &[u8] = b"\"";
-
-const DIRECTIVE: &[u8] = b"#";
-
-const QUOTE: &[u8] = b"'";
 
 /// What is said of a word or a sign that C has and the subset leaves out.
 const LEFT_OUT_HERE: &str = "isn't in this subset of C";
@@ -192,10 +180,10 @@ fn is_in_comment(source: &Source<'_>, at: usize) -> bool {
     let from = if last == NO_TOKEN { 0 } else { source.at(last) };
     let mut is_inside = false;
     for pair in back(front(source.text, at), from).windows(2) {
-        if OPENINGS.contains(&pair) {
-            is_inside = true;
-        } else if pair == CLOSING {
-            is_inside = false;
+        match pair {
+            [b'/', b'*' | b'/'] => is_inside = true,
+            [b'*', b'/'] => is_inside = false,
+            _ => {}
         }
     }
     is_inside
@@ -230,22 +218,18 @@ fn is_forbidden(source: &Source<'_>, sign: &[u8], at: usize) -> bool {
 
 /// What is said where no token begins.
 pub(crate) fn say_token(said: &mut Said, source: &Source<'_>, at: usize) {
-    let sign = spelled_at(source.text, at);
-    if sign == COMMENT {
-        said.say_both("this comment isn't closed", "write */ where it ends");
-    } else if sign == STRING {
-        said.say_both(
+    match spelled_at(source.text, at) {
+        [b'/', b'*'] => said.say_both("this comment isn't closed", "write */ where it ends"),
+        [b'"'] => said.say_both(
             "a string isn't in this subset of C",
             "out(e); prints a word; bytes stand in an array of unsigned char at file scope",
-        );
-    } else if is_forbidden(source, sign, at) {
-        said.say_name(shown_text(sign), "can't stand in a comment");
-        said.hint("leave it out: C may read what follows as code");
-    } else if sign == DIRECTIVE {
-        say_directive(said, source.text, at);
-    } else if sign == QUOTE {
-        say_quoted(said, source.text, at);
-    } else {
-        say_sign(said, source, at);
+        ),
+        [b'#'] => say_directive(said, source.text, at),
+        [b'\''] => say_quoted(said, source.text, at),
+        sign if is_forbidden(source, sign, at) => {
+            said.say_name(shown_text(sign), "can't stand in a comment");
+            said.hint("leave it out: C may read what follows as code");
+        }
+        _ => say_sign(said, source, at),
     }
 }

@@ -312,7 +312,7 @@ const HINTS: &[(&[Fact], &str)] = &[
 ];
 
 /// Where a token stands that can't stand there.
-#[derive(Drop)]
+#[derive(Clone, Copy)]
 struct Found<'s, 't> {
     source: &'s Source<'t>,
     token: usize,
