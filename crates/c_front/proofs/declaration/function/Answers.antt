@@ -20,8 +20,8 @@ returns-in_err-given-clause-err c =
           (ended-stuck c.parameters.result RightParen _ parameters (λ ps. ps.items) _ (IfErr-at_err _ e c.expect_after-closed.ensures.err)
           c.parameters.ensures.ok c.parameters.ensures.err)
       | inr m ↦ function-brace-stuck _ _ _ _ _ c.in_ok-open.ensures.ok
-          (ended-read c.parameters.result RightParen _ parameters (λ ps. ps.items) (m.0, m.1) (IfOk-at_ok _ m.2 c.expect_after-closed.ensures.ok)
-          c.parameters.ensures.ok) m.3
+          (ended-read c.parameters.result RightParen _ parameters (λ ps. ps.items) (m.0, m.1)
+          (IfOk-at_ok _ m.2 c.expect_after-closed.ensures.ok) c.parameters.ensures.ok) m.3
     ] in search rules
 
 pub returns-in_err-body-clause-err : goal.returns-in_err-body-clause-err
@@ -31,8 +31,8 @@ returns-in_err-body-clause-err c =
     (IfOk-at_ok _ r.1 c.expect_after-closed.ensures.ok) c.parameters.ensures.ok in
     let k : IsEndedStuck items RightBrace c.in_ok-given.start.now c.in_err-body.field-0.0 =
     ended-stuck c.items.result RightBrace _ items (λ is. items_of is.items) _ c.in_err-body.ensures.err c.items.ensures.ok c.items.ensures.err in
-    let h : IsStuck function_rest c.args.tokens.now c.in_err-body.field-0.0 = function-body-stuck _ _ _ _ _ _ c.in_ok-open.ensures.ok given r.2 k in
-    search rules
+    let h : IsStuck function_rest c.args.tokens.now c.in_err-body.field-0.0 =
+    function-body-stuck _ _ _ _ _ _ c.in_ok-open.ensures.ok given r.2 k in search rules
 
 pub returns-clause-ok : goal.returns-clause-ok
 returns-clause-ok c =

@@ -39,12 +39,14 @@ more-preserved c =
 pub returns-clause-err : goal.returns-clause-err
 returns-clause-err c =
     IfErr-weaker c.expect_after.result _ _
-    (λ s d. arguments-end-stuck _ _ _ _ c.more.invariant c.in_default-starts.ensures.none (plain-unended RightParen s d)) c.expect_after.ensures.err
+    (λ s d. arguments-end-stuck _ _ _ _ c.more.invariant c.in_default-starts.ensures.none (plain-unended RightParen s d))
+    c.expect_after.ensures.err
 
 pub returns-clause-ok : goal.returns-clause-ok
 returns-clause-ok c =
     IfOk-weaker c.expect_after.result _ _
-    (λ r d. let h = plain-ended RightParen r d in rw h.0 (arguments-read _ _ _ _ c.more.invariant c.in_default-starts.ensures.none h.1)) c.expect_after.ensures.ok
+    (λ r d. let h = plain-ended RightParen r d in rw h.0 (arguments-read _ _ _ _ c.more.invariant c.in_default-starts.ensures.none h.1))
+    c.expect_after.ensures.ok
 
 pub returns-clause-shorter : goal.returns-clause-shorter
 returns-clause-shorter c =

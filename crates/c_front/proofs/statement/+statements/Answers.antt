@@ -143,7 +143,8 @@ statement-returns-in_ok-all-in-LeftBrace-clause-ok t c =
 
 pub statement-returns-in_err-inner-in-Name-clause-err : goal.statement-returns-in_err-inner-in-Name-clause-err
 statement-returns-in_err-inner-in-Name-clause-err t c =
-    let k = ended-stuck c.simple.result Semicolon _ simple simple_of _ c.in_err-inner-in-Name.ensures.err c.simple.ensures.ok c.simple.ensures.err in
+    let k = ended-stuck c.simple.result Semicolon _ simple simple_of _ c.in_err-inner-in-Name.ensures.err c.simple.ensures.ok
+    c.simple.ensures.err in
     let h : IsStuck a_statement c.args.tokens.now c.in_err-inner-in-Name.field-0.0 =
     rw (c.in-Some.ensures.some ∙ ap (λ (x : Token). x ∷ c.in-Some.rest.now) c.in-Name.is) (simply-stuck _ _ _ _ refl k) in search rules
 

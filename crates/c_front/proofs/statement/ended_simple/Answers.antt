@@ -20,7 +20,8 @@ returns-in-Err-clause-ok c =
 
 pub returns-in_err-inner-in-Ok-clause-err : goal.returns-in_err-inner-in-Ok-clause-err
 returns-in_err-inner-in-Ok-clause-err c =
-    let k = ended-stuck c.simple.result c.args.closing _ simple simple_of _ c.in_err-inner-in-Ok.ensures.err c.simple.ensures.ok c.simple.ensures.err in
+    let k = ended-stuck c.simple.result c.args.closing _ simple simple_of _ c.in_err-inner-in-Ok.ensures.err c.simple.ensures.ok
+    c.simple.ensures.err in
     let h : IsEndedStuck maybe_simple c.args.closing c.args.tokens.now c.in_err-inner-in-Ok.field-0.0 =
     rw c.in-Ok.ensures.ok (ended-some-stuck _ _ _ _ refl k) in search rules
 

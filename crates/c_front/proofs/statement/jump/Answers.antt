@@ -8,17 +8,19 @@ use Rattle.c_front.proofs.statement.jump.Goals as goal
 
 pub returns-in-Break-clause-err : goal.returns-in-Break-clause-err
 returns-in-Break-clause-err c =
-    IfErr-weaker c.expect_after.result _ _ (λ s d. rw c.in-Break.is (plain-jump-stuck statement_break _ _ _ (plain-unended Semicolon s d) refl))
-    c.expect_after.ensures.err
+    IfErr-weaker c.expect_after.result _ _
+    (λ s d. rw c.in-Break.is (plain-jump-stuck statement_break _ _ _ (plain-unended Semicolon s d) refl)) c.expect_after.ensures.err
 
 pub returns-in-Break-clause-ok : goal.returns-in-Break-clause-ok
 returns-in-Break-clause-ok c =
     IfOk-weaker c.expect_after.result _ _
-    (λ r d. let h = plain-ended Semicolon r d in rw (c.in-Break.is, h.0) (plain-jump-read statement_break _ _ _ h.1 refl)) c.expect_after.ensures.ok
+    (λ r d. let h = plain-ended Semicolon r d in rw (c.in-Break.is, h.0) (plain-jump-read statement_break _ _ _ h.1 refl))
+    c.expect_after.ensures.ok
 
 pub returns-in-Continue-clause-err : goal.returns-in-Continue-clause-err
 returns-in-Continue-clause-err c =
-    IfErr-weaker c.expect_after-in-Continue.result _ _ (λ s d. rw c.in-Continue.is (plain-jump-stuck statement_continue _ _ _ (plain-unended Semicolon s d) refl))
+    IfErr-weaker c.expect_after-in-Continue.result _ _
+    (λ s d. rw c.in-Continue.is (plain-jump-stuck statement_continue _ _ _ (plain-unended Semicolon s d) refl))
     c.expect_after-in-Continue.ensures.err
 
 pub returns-in-Continue-clause-ok : goal.returns-in-Continue-clause-ok
