@@ -5,7 +5,7 @@ use Rattle.std.proofs.lemmas.Option.{same_Some, none-some, slice_get_within, sli
 use Rattle.std.specs.List.{sum_by}
 use Rattle.mblock.specs.Parts.{BlockParts, OrderParts}
 use Rattle.mblock.specs.Orders.{AreOrders}
-use Rattle.image.specs.Images.{CountsOf, total}
+use Rattle.image.specs.Images.{CountsOf}
 use Rattle.sched_phase.specs.Phases.{Proposals, Kind, Counts, Suits, AreSettled, count_of}
 use Rattle.sched_phase.specs.Settling.{AddsOne, Serves}
 

@@ -1,5 +1,5 @@
 -- How the blocks of a unit came to their orders, and how they are counted.
-use Rattle.std.specs.Prelude.{◌≡◌, ℕ, ◌+◌, List, Some, length, slice_get}
+use Rattle.std.specs.Prelude.{◌≡◌, ℕ, List, Some, length, slice_get}
 use Rattle.std.specs.List.{sum_by}
 use Rattle.mblock.specs.Parts.{BlockParts, OrderParts}
 use Rattle.mblock.specs.PlainOrders.{plain_order_of}

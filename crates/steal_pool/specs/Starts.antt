@@ -1,5 +1,5 @@
 -- The members of a pool before any of them takes a task.
-use Rattle.std.specs.Prelude.{◌≡◌, ◌≢◌, ℕ, ◌+◌, ◌%◌, ◌<◌, List, All, Some, length, map, slice_get}
+use Rattle.std.specs.Prelude.{◌≡◌, ◌≢◌, ℕ, ◌+◌, ◌%◌, List, All, Some, length, map, slice_get}
 use mathlib.Core.Option.{some}
 use lib.ListN.{get_elem?}
 use Rattle.crossbeam_deque.specs.Handles.{view, worker_view, worker_deque, worker_flavor, stealer_deque}

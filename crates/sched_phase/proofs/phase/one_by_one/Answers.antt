@@ -1,4 +1,4 @@
-use Rattle.std.proofs.Common.{◌≡◌, ◌+◌, ap, refl, ◌∙◌}
+use Rattle.std.proofs.Common.{◌+◌, ap, refl, ◌∙◌}
 use Rattle.sched_phase.proofs.Settled.{item_next}
 use Rattle.sched_phase.proofs.phase.one_by_one.Goals as goal
 

@@ -1,4 +1,4 @@
-use Rattle.std.proofs.Common.{◌≡◌, ◌+◌, ap, ◌∙◌}
+use Rattle.std.proofs.Common.{◌+◌, ap, ◌∙◌}
 use Rattle.sched_phase.proofs.Settled.{item_next}
 use Rattle.sched_phase.proofs.phase.settle_all.Goals as goal
 

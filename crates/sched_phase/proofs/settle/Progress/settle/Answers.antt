@@ -1,4 +1,4 @@
-use Rattle.std.proofs.Common.{rules, ◌≡◌, List, [], ◌∷◌, ◌++◌, length, ℕ, ◌+◌, length-append, sym, ap, subst, ◌∙◌, arith}
+use Rattle.std.proofs.Common.{rules, ◌≡◌, [], ◌∷◌, ◌++◌, length, ◌+◌, length-append, sym, ap, subst, ◌∙◌}
 use Rattle.mblock.specs.Parts.{OrderParts}
 use Rattle.image.specs.Views.{counts_of}
 use Rattle.sched_phase.specs.Phases.{AreSettled}
