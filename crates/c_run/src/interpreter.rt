@@ -121,8 +121,7 @@ fn leave(
     let Some(v) = result_word else {
         return Ok(Reached::Failed);
     };
-    let r = put_at(program, interpreter, place, v)?;
-    Ok(r)
+    put_at(program, interpreter, place, v)
 }
 
 // `place = e`
@@ -187,8 +186,7 @@ fn call_function<'a>(
     let Some(values) = values else {
         return Ok(Reached::Failed);
     };
-    let r = enter(alloc, program, depth, interpreter, function, values, to)?;
-    Ok(r)
+    enter(alloc, program, depth, interpreter, function, values, to)
 }
 
 // `out(e)`
@@ -254,14 +252,12 @@ fn return_word(
         IfOk result (λ r. DoesAtAnyDepth (program_of program.now) statement interpreter.old r interpreter.new) }
 {
     let Some(e) = e else {
-        let r = leave(program, interpreter, None)?;
-        return Ok(r);
+        return leave(program, interpreter, None);
     };
     let Some(v) = value(e, &interpreter.frame.locals, &interpreter.globals) else {
         return Ok(Reached::Failed);
     };
-    let r = leave(program, interpreter, Some(v))?;
-    Ok(r)
+    leave(program, interpreter, Some(v))
 }
 
 // A statement that was first is done.
@@ -313,6 +309,5 @@ pub(crate) fn step<'a>(
     let Head::Statement(s) = head else {
         return Ok(Reached::Failed);
     };
-    let r = act(alloc, program, depth, interpreter, s)?;
-    Ok(r)
+    act(alloc, program, depth, interpreter, s)
 }

@@ -97,8 +97,7 @@ impl<'a> Scopes<'a> {
     ) -> Result<(), AllocError>
         ensures { OnOk result (scopes_of self.new ≡ with_declared program.now.text.items (scopes_of self.old) name named) }
     {
-        self.declare_spelling(program.spelling(name), named)?;
-        Ok(())
+        self.declare_spelling(program.spelling(name), named)
     }
 
     /// Puts a local into the innermost scope; it has the next number.

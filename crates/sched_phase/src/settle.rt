@@ -19,8 +19,7 @@ fn plain_order(alloc: Global, block: &Block) -> Result<Order, AllocError>
     ensures is { IfOk result (λ o. o ≡ plain_order_of block.now) }
     ensures serves { IfOk result (Serves block.now) }
 {
-    let order = plain(alloc, block)?;
-    Ok(order)
+    plain(alloc, block)
 }
 
 // The order that was checked.
@@ -56,27 +55,13 @@ fn order_by_verdict<'a, R: Reorder>(
             report.same += 1;
             return Ok(checked_order(block, checked));
         }
-        Some(Verdict::Unclean(_)) => {
-            report.unclean += 1;
-            return Ok(plain_order(alloc, block)?);
-        }
-        Some(Verdict::Differs(_)) => {
-            report.differs += 1;
-            return Ok(plain_order(alloc, block)?);
-        }
-        Some(Verdict::Full) => {
-            report.full += 1;
-            return Ok(plain_order(alloc, block)?);
-        }
-        Some(Verdict::NoMemory) => {
-            report.no_memory += 1;
-            return Ok(plain_order(alloc, block)?);
-        }
-        None => {
-            report.missed += 1;
-            return Ok(plain_order(alloc, block)?);
-        }
+        Some(Verdict::Unclean(_)) => report.unclean += 1,
+        Some(Verdict::Differs(_)) => report.differs += 1,
+        Some(Verdict::Full) => report.full += 1,
+        Some(Verdict::NoMemory) => report.no_memory += 1,
+        None => report.missed += 1,
     }
+    plain_order(alloc, block)
 }
 
 /// The orders of the first blocks of a unit, and what these blocks came to.
