@@ -9,13 +9,14 @@ use anyhow::bail;
 use c_front::read;
 use delay_filler::FilledOrder;
 use driver::{BuildOpts, Built, build, build_one, build_plain};
-use image::read_image;
+use image::{Counts, read_image};
 use list_scheduler::ListOrder;
 use sched_phase::PhaseOpts;
-use std::fs;
+use std::alloc::Global;
 use std::sync::Wait;
 use std::thread::Threads;
 use std::time::{Clock, Instant};
+use std::{fs, io};
 use steal_pool::Open;
 
 /// For so many active calls at most.
@@ -57,10 +58,53 @@ fn built<R: Threads + Wait + Sync + AllocGlobal>(
     match way {
         Way::Plain => Ok(build_plain(alloc, text, DEPTH)?),
         Way::Scheduled { workers } => {
+            let options = options(workers)?;
             let scheduler = FilledOrder(ListOrder);
-            Ok(build(rt, alloc, text, &options(workers)?, &scheduler, &Open)?)
+            Ok(build(rt, alloc, text, &options, &scheduler, &Open)?)
         }
     }
+}
+
+/// What a build came to: its blocks, the bytes of its image, what became of the blocks, and how many microseconds it took.
+#[derive(Clone, Copy)]
+struct Figures {
+    blocks: usize,
+    bytes: usize,
+    report: Counts,
+    microseconds: u128,
+}
+
+fn measured<R: Threads + Wait + Sync + Clock + AllocGlobal>(
+    rt: &R,
+    text: &[u8],
+    way: Way,
+) -> anyhow::Result<Figures> {
+    let start = Instant::now(rt)?;
+    let built = built(rt, text, way)?;
+    let microseconds = start.elapsed(rt)?.as_micros();
+    Ok(Figures {
+        blocks: built.blocks,
+        bytes: built.image.len(),
+        report: built.report,
+        microseconds,
+    })
+}
+
+fn print<R: Print>(rt: &R, way: Way, built: Figures, figures: bool) -> io::Result<()> {
+    let (blocks, bytes) = (built.blocks, built.bytes);
+    match way {
+        Way::Plain => println!(rt; "plain: {blocks} blocks, {bytes} bytes")?,
+        Way::Scheduled { workers } => {
+            println!(rt;
+                "{workers} workers: {blocks} blocks, {bytes} bytes, {}",
+                built.report
+            )?;
+        }
+    }
+    if figures {
+        println!(rt; "  {} microseconds", built.microseconds)?;
+    }
+    Ok(())
 }
 
 /// What each way of building comes to, and with figures how long it took.
@@ -71,34 +115,31 @@ pub(crate) fn show<R: Threads + Wait + Sync + Clock + Print + AllocGlobal>(
     let length = if figures { 1_048_576 } else { 16_384 };
     let text = program_text(rt.alloc(), length)?;
     for &way in WAYS {
-        let start = Instant::now(rt)?;
-        let built = built(rt, text.as_bytes(), way)?;
-        let took = start.elapsed(rt)?;
-        let (blocks, bytes, report) = (built.blocks, built.image.len(), built.report);
-        match way {
-            Way::Plain => println!(rt; "plain: {blocks} blocks, {bytes} bytes")?,
-            Way::Scheduled { workers } => {
-                println!(rt; "{workers} workers: {blocks} blocks, {bytes} bytes, {report}")?;
-            }
-        }
-        if figures {
-            println!(rt; "  {} microseconds", took.as_micros())?;
-        }
+        let built = measured(rt, text.as_bytes(), way)?;
+        print(rt, way, built, figures)?;
     }
     Ok(())
 }
 
+/// How many words of code an image has.
+fn words_of_code(alloc: Global, built: &Built) -> anyhow::Result<usize> {
+    Ok(read_image(alloc, built.image.as_slice())?.code().len())
+}
+
+/// How many words of code a text becomes, plain and scheduled.
+fn words_of(alloc: Global, text: &[u8]) -> anyhow::Result<(usize, usize)> {
+    let options = options(1)?;
+    let plain = words_of_code(alloc, &build_plain(alloc, text, DEPTH)?)?;
+    let scheduled = build_one(alloc, text, &options, &FilledOrder(ListOrder))?;
+    Ok((plain, words_of_code(alloc, &scheduled)?))
+}
+
 /// How many words of code each file of C becomes, plain and scheduled, and how many statements it has.
 pub(crate) fn files(rt: &HostRuntime, names: &[String]) -> anyhow::Result<()> {
-    let alloc = rt.alloc();
     for name in names {
         let bytes = fs::read(rt, name.as_str())?;
-        let text = bytes.as_slice();
-        let statements = in_program(&read(alloc, text)?);
-        let plain = build_plain(alloc, text, DEPTH)?;
-        let scheduled = build_one(alloc, text, &options(1)?, &FilledOrder(ListOrder))?;
-        let before = read_image(alloc, plain.image.as_slice())?.code().len();
-        let after = read_image(alloc, scheduled.image.as_slice())?.code().len();
+        let statements = in_program(&read(rt.alloc(), &bytes)?);
+        let (before, after) = words_of(rt.alloc(), &bytes)?;
         println!(rt;
             "{name}: {statements} statements, {before} words of code plain, {after} scheduled"
         )?;

@@ -120,7 +120,27 @@ fn fastest<R: Clock>(
     Ok(best)
 }
 
-/// The verdict on a text, with figures the fastest of five runs and the ratio to the shorter text's time.
+/// How long a check took, the ratio to the shorter text's time, and how many terms the text links.
+fn show_figures(
+    rt: &HostRuntime,
+    text: &str,
+    count: u32,
+    took: u128,
+    shorter: u128,
+) -> io::Result<()> {
+    println!(rt; "  {} microseconds", took / 1000)?;
+    if count == 512 {
+        let tenths = took.saturating_mul(10) / shorter.max(1);
+        let (whole, tenth) = (tenths / 10, tenths % 10);
+        println!(rt; "  {whole}.{tenth} times as long as the shorter text")?;
+    }
+    match terms(rt.alloc(), text) {
+        Some(linked) => println!(rt; "  {linked} terms"),
+        None => Ok(()),
+    }
+}
+
+/// The verdict on a text, with figures the fastest of five runs; how many nanoseconds it took.
 fn show_text(
     rt: &HostRuntime,
     kind: Kind,
@@ -142,19 +162,9 @@ fn show_text(
         println!(rt; "{count} {name}: no verdict")?;
         return Ok(shorter);
     };
-    let ordered = 4 * count;
-    println!(rt; "{count} and {ordered} {name}: {answer}")?;
+    println!(rt; "{count} and {} {name}: {answer}", 4 * count)?;
     if figures {
-        let micros = took / 1000;
-        let tenths = took.saturating_mul(10) / shorter.max(1);
-        let (whole, tenth) = (tenths / 10, tenths % 10);
-        println!(rt; "  {micros} microseconds")?;
-        if count == 512 {
-            println!(rt; "  {whole}.{tenth} times as long as the shorter text")?;
-        }
-        if let Some(linked) = terms(rt.alloc(), text.as_str()) {
-            println!(rt; "  {linked} terms")?;
-        }
+        show_figures(rt, text.as_str(), count, took, shorter)?;
     }
     Ok(took)
 }

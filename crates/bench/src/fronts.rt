@@ -56,21 +56,21 @@ pub(crate) fn nested(rt: &HostRuntime, shape: &str, depth: usize) -> anyhow::Res
     Ok(())
 }
 
+/// Whether the text of at most so many bytes is read, how many it has, and how many microseconds it took.
+fn measured(rt: &HostRuntime, length: usize) -> anyhow::Result<(bool, usize, u128)> {
+    let text = functions(rt.alloc(), length)?;
+    let start = Instant::now(rt)?;
+    let accepted = read(rt.alloc(), &text).is_ok();
+    Ok((accepted, text.len(), start.elapsed(rt)?.as_micros()))
+}
+
 /// Whether the two texts are read, and with figures how long each took.
 pub(crate) fn show(rt: &HostRuntime, figures: bool) -> anyhow::Result<()> {
-    let alloc = rt.alloc();
     for length in [65_536, 1_048_576] {
-        let text = functions(alloc, length)?;
-        let start = Instant::now(rt)?;
-        let accepted = read(alloc, &text).is_ok();
-        let took = start.elapsed(rt)?;
+        let (accepted, bytes, microseconds) = measured(rt, length)?;
         println!(rt; "{length} bytes of C: read {accepted}")?;
         if figures {
-            println!(rt;
-                "  {} bytes in {} microseconds",
-                text.len(),
-                took.as_micros()
-            )?;
+            println!(rt; "  {bytes} bytes in {microseconds} microseconds")?;
         }
     }
     Ok(())

@@ -35,7 +35,7 @@ pub(crate) fn program_text(alloc: Global, length: usize) -> Result<String, Alloc
 
 /// The size of a program of RTL: its blocks, its instructions (an exit is one too), and the most pseudo-registers of a
 /// function.
-#[derive(Clone, Copy, Debug)]
+#[derive(Clone, Copy)]
 struct Sizes {
     blocks: usize,
     insts: usize,
@@ -88,31 +88,52 @@ fn measured(program: &Rtl) -> Sizes {
     all
 }
 
-/// Lowers a text, selects its code and says what came of it, with figures how long it took.
-fn show_text(rt: &HostRuntime, name: &str, text: &[u8], figures: bool) -> anyhow::Result<()> {
+/// What a text became: the size of its RTL, how many blocks of instructions were selected, and how many microseconds it took
+/// to be read and typed, lowered, and selected.
+#[derive(Clone, Copy)]
+struct Outcome {
+    sizes: Sizes,
+    selected: usize,
+    microseconds: [u128; 3],
+}
+
+/// Lowers a text and selects its code.
+fn became(rt: &HostRuntime, text: &[u8]) -> anyhow::Result<Outcome> {
     let alloc = rt.alloc();
     let start = Instant::now(rt)?;
     let typed = check(alloc, read(alloc, text)?)?;
-    let front = start.elapsed(rt)?;
-    let begun = Instant::now(rt)?;
+    let front = start.elapsed(rt)?.as_micros();
     let lowered = lower(alloc, &typed)?;
-    let took = begun.elapsed(rt)?;
-    let Sizes {
-        blocks,
-        insts,
-        registers,
-    } = measured(&lowered);
-    println!(rt; "{name}: {blocks} blocks, {insts} instructions, {registers} pseudo-registers")?;
-    let then = Instant::now(rt)?;
+    let behind_lowering = start.elapsed(rt)?.as_micros();
     let unit = select(alloc, &lowered, DEPTH)?;
-    let selected = then.elapsed(rt)?;
-    println!(rt; "  {} blocks of instructions", unit.blocks().len())?;
+    let behind_selection = start.elapsed(rt)?.as_micros();
+    Ok(Outcome {
+        sizes: measured(&lowered),
+        selected: unit.blocks().len(),
+        microseconds: [
+            front,
+            behind_lowering.saturating_sub(front),
+            behind_selection.saturating_sub(behind_lowering),
+        ],
+    })
+}
+
+/// Lowers a text, selects its code and says what came of it, with figures how long it took.
+fn show_text(rt: &HostRuntime, name: &str, text: &[u8], figures: bool) -> anyhow::Result<()> {
+    let Outcome {
+        sizes: Sizes {
+            blocks,
+            insts,
+            registers,
+        },
+        selected,
+        microseconds: [front, lowering, selection],
+    } = became(rt, text)?;
+    println!(rt; "{name}: {blocks} blocks, {insts} instructions, {registers} pseudo-registers")?;
+    println!(rt; "  {selected} blocks of instructions")?;
     if figures {
         println!(rt;
-            "  read and typed in {} microseconds, lowered in {}, selected in {}",
-            front.as_micros(),
-            took.as_micros(),
-            selected.as_micros()
+            "  read and typed in {front} microseconds, lowered in {lowering}, selected in {selection}"
         )?;
     }
     Ok(())

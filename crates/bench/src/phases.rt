@@ -1,7 +1,7 @@
 // How fast blocks are checked: units of blocks of 16 to 512 instructions, whose scheduler proposes each block's plain order,
 // by 1, 2 and 4 workers over one table of one size. Each block begins with a number of its own, so that most of its terms are its own.
 
-ghost use Rattle.std.specs.Prelude.{⊤};
+ghost use Rattle.std.specs.Prelude.{◌<◌, ⊤};
 
 use anyhow::bail;
 use image::Counts;
@@ -83,27 +83,42 @@ fn fastest<R: Threads + Wait + Sync + Clock + AllocGlobal>(
     Ok((counts, least))
 }
 
+/// What the check of a unit of blocks of this length comes to by so many workers.
+fn show_phase<R: Threads + Wait + Sync + Clock + Print + AllocGlobal>(
+    rt: &R,
+    unit: &Unit,
+    length: u32,
+    workers: u64,
+    figures: bool,
+) -> anyhow::Result<()>
+    requires { 0 < workers }
+{
+    let (nodes, rounds) = if figures { (1_048_576, 7) } else { (16_384, 1) };
+    let Some(options) = PhaseOpts::new(workers, nodes / workers, 65_536) else {
+        bail!("{workers} workers are out of range");
+    };
+    let (counts, microseconds) = fastest(rt, unit, options, rounds)?;
+    println!(rt; "blocks of {length} instructions, {workers} workers: {counts}")?;
+    if figures {
+        println!(rt; "  {microseconds} microseconds")?;
+    }
+    Ok(())
+}
+
+const LENGTHS: &[u32] = &[16, 64, 256, 512];
+
+const WORKERS: &[u64] = &[1, 2, 4];
+
 /// What the checks of units of blocks of each length come to, and with figures how long the fastest of seven took.
 pub(crate) fn show<R: Threads + Wait + Sync + Clock + Print + AllocGlobal>(
     rt: &R,
     figures: bool,
 ) -> anyhow::Result<()> {
-    let (all, nodes, rounds) = if figures {
-        (262_144, 1_048_576, 7)
-    } else {
-        (2_048, 16_384, 1)
-    };
-    for length in [16, 64, 256, 512] {
+    let all = if figures { 262_144 } else { 2_048 };
+    for &length in LENGTHS {
         let unit = unit_of(rt.alloc(), all / length, length / 4)?;
-        for (workers, share) in [(1, nodes), (2, nodes / 2), (4, nodes / 4)] {
-            let Some(options) = PhaseOpts::new(workers, share, 65_536) else {
-                bail!("{workers} workers are out of range");
-            };
-            let (counts, microseconds) = fastest(rt, &unit, options, rounds)?;
-            println!(rt; "blocks of {length} instructions, {workers} workers: {counts}")?;
-            if figures {
-                println!(rt; "  {microseconds} microseconds")?;
-            }
+        for &workers in WORKERS {
+            show_phase(rt, &unit, length, workers, figures)?;
         }
     }
     Ok(())

@@ -7,6 +7,7 @@ use rtl_lower::lower;
 use runs::End;
 use std::alloc::{AllocError, Global};
 use std::fmt::Write;
+use std::io;
 use std::time::Instant;
 
 const SUM: &str = "s = s * 3 + i;";
@@ -40,39 +41,63 @@ fn program_text(
     Ok(text)
 }
 
-/// The same of the program lowered to RTL.
-fn show_lowered(rt: &HostRuntime, typed: &Typed, figures: bool) -> anyhow::Result<()> {
-    let lowered = lower(rt.alloc(), typed)?;
+/// What a run came to, and how many microseconds it took.
+#[derive(Clone, Copy)]
+struct Figures {
+    is_done: bool,
+    words: usize,
+    microseconds: u128,
+}
+
+/// The run of a program as its text says.
+fn interpreted(rt: &HostRuntime, typed: &Typed) -> anyhow::Result<Figures> {
     let start = Instant::now(rt)?;
-    let ran = rtl::run(rt.alloc(), &lowered, 2, u64::MAX)?;
-    let took = start.elapsed(rt)?;
-    let done = ran.end == End::Done(0);
-    println!(rt; "  lowered: done {done}, {} words out", ran.output.len())?;
+    let ran = run(rt.alloc(), typed, 2, u64::MAX)?;
+    let microseconds = start.elapsed(rt)?.as_micros();
+    Ok(Figures {
+        is_done: ran.end == End::Done(0),
+        words: ran.output.len(),
+        microseconds,
+    })
+}
+
+/// The run of the program lowered to RTL.
+fn lowered(rt: &HostRuntime, typed: &Typed) -> anyhow::Result<Figures> {
+    let program = lower(rt.alloc(), typed)?;
+    let start = Instant::now(rt)?;
+    let ran = rtl::run(rt.alloc(), &program, 2, u64::MAX)?;
+    let microseconds = start.elapsed(rt)?.as_micros();
+    Ok(Figures {
+        is_done: ran.end == End::Done(0),
+        words: ran.output.len(),
+        microseconds,
+    })
+}
+
+/// Both.
+fn both(rt: &HostRuntime, text: &[u8]) -> anyhow::Result<(Figures, Figures)> {
+    let typed = check(rt.alloc(), read(rt.alloc(), text)?)?;
+    let first = interpreted(rt, &typed)?;
+    Ok((first, lowered(rt, &typed)?))
+}
+
+fn print(rt: &HostRuntime, what: &str, ran: Figures, figures: bool) -> io::Result<()> {
+    println!(rt; "{what}: done {}, {} words out", ran.is_done, ran.words)?;
     if figures {
-        println!(rt; "  {} microseconds", took.as_micros())?;
+        println!(rt; "  {} microseconds", ran.microseconds)?;
     }
     Ok(())
 }
 
 /// What each program comes to, and with figures how long the run took.
 pub(crate) fn show(rt: &HostRuntime, figures: bool) -> anyhow::Result<()> {
-    let alloc = rt.alloc();
     let turns = if figures { 2_000_000 } else { 20_000 };
     for (number, &(functions, words, statement)) in PROGRAMS.iter().enumerate() {
-        let text = program_text(alloc, functions, words, statement, turns)?;
-        let typed = check(alloc, read(alloc, text.as_bytes())?)?;
-        let start = Instant::now(rt)?;
-        let ran = run(alloc, &typed, 2, u64::MAX)?;
-        let took = start.elapsed(rt)?;
-        let done = ran.end == End::Done(0);
-        println!(rt;
-            "program {number}: done {done}, {} words out",
-            ran.output.len()
-        )?;
-        if figures {
-            println!(rt; "  {} microseconds", took.as_micros())?;
-        }
-        show_lowered(rt, &typed, figures)?;
+        let text = program_text(rt.alloc(), functions, words, statement, turns)?;
+        let (ran, ran_lowered) = both(rt, text.as_bytes())?;
+        let name = format!(in rt.alloc(); "program {number}")?;
+        print(rt, name.as_str(), ran, figures)?;
+        print(rt, "  lowered", ran_lowered, figures)?;
     }
     Ok(())
 }
