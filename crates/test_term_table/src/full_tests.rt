@@ -55,8 +55,8 @@ fn has_room(rt: &impl Abort, alloc: Global, table: &TermTable, pass: &mut Pass, 
 #[test]
 fn a_block_of_too_many_terms_is_full(rt: HostRuntime) {
     let (table, mut pass) = alone(&rt, rt.alloc(), 40, 1);
-    assert!(rt; !has_room(&rt, rt.alloc(), &table, &mut pass, 5));
-    assert_eq!(rt; pass.linked(), 40);
+    let is_run = has_room(&rt, rt.alloc(), &table, &mut pass, 5);
+    assert!(rt; !is_run && pass.linked() == 40);
     let block = block_of(&rt, rt.alloc(), 5);
     let order = order_of(&rt, rt.alloc(), 5);
     let verdict = validate(rt.alloc(), &table, &mut pass, &block, order);
@@ -66,10 +66,9 @@ fn a_block_of_too_many_terms_is_full(rt: HostRuntime) {
 #[test]
 fn a_full_pass_still_runs_what_it_knows(rt: HostRuntime) {
     let (table, mut pass) = alone(&rt, rt.alloc(), 35, 1);
-    assert!(rt; has_room(&rt, rt.alloc(), &table, &mut pass, 0));
-    assert_eq!(rt; pass.linked(), 35);
-    assert_eq!(rt; pass.room(), 0);
-    assert!(rt; !has_room(&rt, rt.alloc(), &table, &mut pass, 1));
-    assert_eq!(rt; pass.linked(), 35);
-    assert!(rt; has_room(&rt, rt.alloc(), &table, &mut pass, 0));
+    let is_run = has_room(&rt, rt.alloc(), &table, &mut pass, 0);
+    assert!(rt; is_run && pass.linked() == 35 && pass.room() == 0);
+    let is_longer_run = has_room(&rt, rt.alloc(), &table, &mut pass, 1);
+    let is_run_again = has_room(&rt, rt.alloc(), &table, &mut pass, 0);
+    assert!(rt; !is_longer_run && is_run_again && pass.linked() == 35);
 }
