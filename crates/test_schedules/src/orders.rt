@@ -29,6 +29,8 @@ enum By {
     List,
     Filled,
     Kind(Hostile),
+    // Who fills the slot of the order of UNFILLED.
+    Refilled,
 }
 
 fn proposed(alloc: Global, by: By, block: &Block) -> Option<Order> {
@@ -37,6 +39,7 @@ fn proposed(alloc: Global, by: By, block: &Block) -> Option<Order> {
         By::List => ListOrder.reorder(alloc, block).ok(),
         By::Filled => FilledOrder(ListOrder).reorder(alloc, block).ok(),
         By::Kind(kind) => kind.reorder(alloc, block).ok(),
+        By::Refilled => fill(alloc, block, text_of(alloc, UNFILLED)?.order).ok(),
     }
 }
 
@@ -49,13 +52,16 @@ enum Said {
     Exit,
     // They differ in the register of this number.
     Register(u8),
-    // It isn't asked.
-    Nothing,
+    // One thing or another.
+    Anything,
+    // There is no order to ask it of.
+    NoOrder,
 }
 
 // Whether that is the verdict.
 fn is_said(verdict: &Verdict, said: Said) -> bool {
     match (said, verdict) {
+        (Said::Anything, _) => true,
         (Said::Same, Verdict::Same(_)) => true,
         (Said::Unclean(rule), Verdict::Unclean(broken)) => rule == *broken,
         (Said::Memory, Verdict::Differs(place)) => *place == Place::Memory,
@@ -67,21 +73,20 @@ fn is_said(verdict: &Verdict, said: Said) -> bool {
     }
 }
 
-// Whether the validator says that; None where memory is refused.
-fn says(alloc: Global, block: &Block, order: Order, said: Said) -> Option<bool> {
+// Whether the order is that of the text, and the validator says that of it; None where memory is refused.
+fn is_awaited(alloc: Global, text: &Text, order: Order, said: Said) -> Option<bool> {
+    let is_same = is_equal(&order, &text.order);
     let (table, mut pass) = opened(alloc)?;
-    let verdict = validate(alloc, &table, &mut pass, block, order);
-    Some(is_said(&verdict, said))
+    let verdict = validate(alloc, &table, &mut pass, &text.block, order);
+    Some(is_same && is_said(&verdict, said))
 }
 
-// Whether the order of the text is proposed for its block, and the validator says that of it.
+// Whether the order of the text is proposed for its block, and the validator says that of it; or whether none is, as it should be.
 fn is_proposed(alloc: Global, by: By, text: &str, said: Said) -> Option<bool> {
     let pair = text_of(alloc, text)?;
-    let order = proposed(alloc, by, &pair.block)?;
-    let same = is_equal(&order, &pair.order);
-    match said {
-        Said::Nothing => Some(same),
-        _ => Some(same && says(alloc, &pair.block, order, said)?),
+    match proposed(alloc, by, &pair.block) {
+        Some(order) => is_awaited(alloc, &pair, order, said),
+        None => Some(matches!(said, Said::NoOrder)),
     }
 }
 
@@ -257,73 +262,69 @@ const PROPOSED: &[(By, Said, &str)] = &[
     // The Nop behind the load stays.
     (
         By::Kind(Hostile::Drop),
-        Said::Nothing,
+        Said::Anything,
         "block\naddiu $8,$8,1\nlw $9,0($4)\nreturn\norder\naddiu $8,$8,1\nnop\nreturn\nslot nop\n",
     ),
     (
         By::Kind(Hostile::Swap),
-        Said::Nothing,
+        Said::Anything,
         "block\naddiu $8,$8,1\nhalt\norder\naddiu $8,$8,1\nhalt\n",
     ),
     // Register 0, none, register 31, register 30.
     (
         By::Kind(Hostile::Rename),
-        Said::Nothing,
+        Said::Anything,
         "block\naddu $0,$8,$9\nsw $8,0($4)\nori $31,$31,4\nmflo $30\nreturn\n\
          order\naddu $0,$8,$9\nsw $8,0($4)\nori $31,$31,4\nmflo $31\nnop\nnop\nreturn\nslot nop\n",
     ),
     (
         By::Kind(Hostile::Rename),
-        Said::Nothing,
+        Said::Anything,
         "block\nsll $1,$2,3\nlui $8,1\nreturn\norder\nsll $2,$2,3\nlui $8,1\nreturn\nslot nop\n",
     ),
     (
         By::Kind(Hostile::Exit),
-        Said::Nothing,
+        Said::Anything,
         "block\nblez $8,1,2\norder\nblez $8,2,1\nslot nop\n",
     ),
     (
         By::Kind(Hostile::Exit),
-        Said::Nothing,
+        Said::Anything,
         "block\ngoto 1\norder\ngoto 1\nslot nop\n",
     ),
     // Nops of the block are left out as well.
     (
         By::Kind(Hostile::Slot),
-        Said::Nothing,
+        Said::Anything,
         "block\nnop\nmflo $8\naddiu $9,$9,1\nreturn\norder\nmflo $8\nreturn\nslot addiu $9,$9,1\n",
     ),
     (
         By::Kind(Hostile::Slot),
-        Said::Nothing,
+        Said::Anything,
         "block\nlw $8,0($4)\nsw $8,4($4)\nhalt\norder\nlw $8,0($4)\nnop\nsw $8,4($4)\nhalt\n",
     ),
     (
         By::Kind(Hostile::Foreign),
-        Said::Nothing,
+        Said::Anything,
         "block\nout 1\norder\nsw $0,0($29)\nout 1\n",
     ),
     // Empty blocks keep their order.
-    (By::Kind(Hostile::Drop), Said::Nothing, EMPTY),
-    (By::Kind(Hostile::Double), Said::Nothing, EMPTY),
-    (By::Kind(Hostile::Swap), Said::Nothing, EMPTY),
-    (By::Kind(Hostile::Rename), Said::Nothing, EMPTY),
-    (By::Kind(Hostile::Exit), Said::Nothing, EMPTY),
-    (By::Kind(Hostile::Slot), Said::Nothing, EMPTY),
+    (By::Kind(Hostile::Drop), Said::Anything, EMPTY),
+    (By::Kind(Hostile::Double), Said::Anything, EMPTY),
+    (By::Kind(Hostile::Swap), Said::Anything, EMPTY),
+    (By::Kind(Hostile::Rename), Said::Anything, EMPTY),
+    (By::Kind(Hostile::Exit), Said::Anything, EMPTY),
+    (By::Kind(Hostile::Slot), Said::Anything, EMPTY),
+    // Nothing is proposed.
+    (By::Kind(Hostile::Silent), Said::NoOrder, EMPTY),
+    (By::Kind(Hostile::Silent), Said::NoOrder, DROPPED),
 ];
 
 #[test]
 fn worked_orders_are_proposed(rt: HostRuntime) {
     for &(by, said, text) in PROPOSED {
-        assert_eq!(rt;
-            is_proposed(rt.alloc(), by, text, said),
-            Some(true),
-            "at {text}"
-        );
-    }
-    for text in [EMPTY, DROPPED] {
-        let got = is_proposed(rt.alloc(), By::Kind(Hostile::Silent), text, Said::Nothing);
-        assert_eq!(rt; got, None, "at {text}");
+        let is_proposed = is_proposed(rt.alloc(), by, text, said);
+        assert!(rt; is_proposed == Some(true), "at {text}");
     }
 }
 
@@ -336,18 +337,10 @@ const OCCUPIED: &str =
     "block\naddiu $12,$12,1\nlw $8,0($29)\naddiu $10,$10,1\nslt $9,$8,$11\nbne $9,$0,1,2\n\
                         order\nlw $8,0($29)\naddiu $10,$10,1\nslt $9,$8,$11\nbne $9,$0,1,2\nslot addiu $12,$12,1\n";
 
-// Whether the slot is filled as it should be, and the validator accepts that.
-fn is_filled(alloc: Global) -> Option<bool> {
-    let Text { block, order } = text_of(alloc, UNFILLED)?;
-    let occupied = text_of(alloc, OCCUPIED)?;
-    let filled = fill(alloc, &block, order).ok()?;
-    let same = is_equal(&filled, &occupied.order);
-    Some(same && says(alloc, &block, filled, Said::Same)?)
-}
-
 #[test]
 fn the_next_one_is_tried(rt: HostRuntime) {
-    assert_eq!(rt; is_filled(rt.alloc()), Some(true));
+    let is_proposed = is_proposed(rt.alloc(), By::Refilled, OCCUPIED, Said::Same);
+    assert!(rt; is_proposed == Some(true));
 }
 
 // How long the plain order is of so many times `mflo $8`.
@@ -362,5 +355,5 @@ fn plain_length(alloc: Global, count: usize) -> Option<usize> {
 
 #[test]
 fn the_longest_plain_order_is_three_times_its_block(rt: HostRuntime) {
-    assert_eq!(rt; plain_length(rt.alloc(), 512), Some(1536));
+    assert!(rt; plain_length(rt.alloc(), 512) == Some(1536));
 }

@@ -1,13 +1,14 @@
 //! Phases over a unit of three blocks.
 use crate::pool::Meeting;
 use image::{Counts, NO_COUNTS};
-use list_scheduler::{Hostile, ListOrder};
+use list_scheduler::{Hostile, ListOrder, Reorder};
 use mblock::{Block, BlockNumber, Exit, Unit};
 use mips_isa::{Plain, Reg};
-use sched_phase::{PhaseOpts, schedule_all, schedule_one};
-use std::alloc::Global;
-use std::test::Fail;
-use steal_pool::Open;
+use sched_phase::{PhaseOpts, Scheduled, schedule_all, schedule_one};
+use std::alloc::{AllocError, Global};
+use std::sync::Wait;
+use std::thread::Threads;
+use steal_pool::{Gate, Open};
 
 // Returns, behind so many instructions with terms of their own.
 fn returning(alloc: Global, count: u8) -> Option<Block> {
@@ -25,106 +26,100 @@ fn returning(alloc: Global, count: u8) -> Option<Block> {
 // A function of three blocks: the second has ten terms beside those of the start.
 fn three(alloc: Global) -> Option<Unit> {
     let mut blocks = Vec::new(alloc);
-    let mut owner = Vec::new(alloc);
-    for count in [0, 10, 0] {
+    for &count in [0, 10, 0].as_slice() {
         blocks.push(returning(alloc, count)?).ok()?;
-        owner.push(BlockNumber::new(0)?).ok()?;
     }
+    let owner = vec![in alloc; BlockNumber::new(0)?; 3].ok()?;
     Unit::new(blocks, owner, Vec::new(alloc))
 }
 
-#[test]
-fn two_workers_share_one_table(rt: HostRuntime) -> Result<(), Fail> {
-    let unit = three(rt.alloc()).expect(&rt, "a unit");
-    let options = PhaseOpts::new(2, 40, 1).expect(&rt, "options");
-    let gate = Meeting::between(1, 2);
-    let scheduled = schedule_all(&rt, rt.alloc(), &unit, options, &ListOrder, &gate)?;
-    assert!(rt; !gate.is_late());
-    assert_eq!(rt;
-        scheduled.report(),
-        Counts {
-            same: 3,
-            ..NO_COUNTS
-        }
-    );
-    Ok(())
+// How many workers a phase has, and its nodes and heads.
+type Sizes = (u64, u64, u64);
+
+// The options of these sizes; None where there are none such.
+fn options_of((workers, nodes, heads): Sizes) -> Option<PhaseOpts> {
+    PhaseOpts::new(workers, nodes, heads)
 }
 
-// What one worker counts, where each block is listed, or nothing is proposed; None where memory is refused.
-fn counted(alloc: Global, options: PhaseOpts, listed: bool) -> Option<Counts> {
-    let unit = three(alloc)?;
-    let scheduled = if listed {
-        schedule_one(alloc, &unit, options, &ListOrder).ok()?
-    } else {
-        schedule_one(alloc, &unit, options, &Hostile::Silent).ok()?
-    };
-    Some(scheduled.report())
+// What is counted, and how many orders there are; None where memory was refused.
+fn counts_of(scheduled: Result<Scheduled<'_>, AllocError>) -> Option<(Counts, usize)> {
+    let scheduled = scheduled.ok()?;
+    Some((scheduled.report(), scheduled.orders().len()))
 }
+
+// The same of a phase by workers.
+fn counted_by_workers<T: Threads + Wait + Sync, R: Reorder + Sync, G: Gate + Sync>(
+    threads: &T,
+    alloc: Global,
+    sizes: Sizes,
+    reorder: &R,
+    gate: &G,
+) -> Option<(Counts, usize)> {
+    let options = options_of(sizes)?;
+    let unit = three(alloc)?;
+    counts_of(schedule_all(threads, alloc, &unit, options, reorder, gate))
+}
+
+const SAME: Counts = Counts {
+    same: 3,
+    ..NO_COUNTS
+};
+
+#[test]
+fn two_workers_share_one_table(rt: HostRuntime) {
+    let gate = Meeting::between(1, 2);
+    let counted = counted_by_workers(&rt, rt.alloc(), (2, 40, 1), &ListOrder, &gate);
+    assert!(rt; !gate.is_late() && counted == Some((SAME, 3)));
+}
+
+// The same of a phase by one worker without threads.
+fn counted<R: Reorder>(alloc: Global, sizes: Sizes, reorder: &R) -> Option<(Counts, usize)> {
+    let options = options_of(sizes)?;
+    let unit = three(alloc)?;
+    counts_of(schedule_one(alloc, &unit, options, reorder))
+}
+
+const FULL: Counts = Counts {
+    same: 2,
+    full: 1,
+    ..NO_COUNTS
+};
 
 const SILENT: Counts = Counts {
     no_memory: 3,
     ..NO_COUNTS
 };
 
-// The sizes of a phase, whether blocks are listed, and what is counted.
-const COUNTED: &[(u64, u64, u64, bool, Counts)] = &[
-    (
-        64,
-        40,
-        1,
-        true,
-        Counts {
-            same: 2,
-            full: 1,
-            ..NO_COUNTS
-        },
-    ),
-    (
-        1,
-        65536,
-        1024,
-        true,
-        Counts {
-            same: 3,
-            ..NO_COUNTS
-        },
-    ),
-    (1, 65536, 1024, false, SILENT),
-];
-
 #[test]
 fn each_block_is_counted_once(rt: HostRuntime) {
-    for &(workers, nodes, heads, listed, want) in COUNTED {
-        let options = PhaseOpts::new(workers, nodes, heads).expect(&rt, "options");
-        assert_eq!(rt; counted(rt.alloc(), options, listed), Some(want));
-    }
+    let small = counted(rt.alloc(), (64, 40, 1), &ListOrder);
+    let large = counted(rt.alloc(), (1, 65536, 1024), &ListOrder);
+    let silent = counted(rt.alloc(), (1, 65536, 1024), &Hostile::Silent);
+    assert!(rt;
+        small == Some((FULL, 3)) && large == Some((SAME, 3)) && silent == Some((SILENT, 3))
+    );
 }
 
 #[test]
-fn silent_phases_have_plain_orders(rt: HostRuntime) -> Result<(), Fail> {
-    let unit = three(rt.alloc()).expect(&rt, "a unit");
-    let options = PhaseOpts::new(64, 40, 1).expect(&rt, "options");
-    let silent = schedule_all(&rt, rt.alloc(), &unit, options, &Hostile::Silent, &Open)?;
-    assert_eq!(rt; silent.report(), SILENT);
-    assert_eq!(rt; silent.orders().len(), 3);
-    Ok(())
+fn silent_phases_have_plain_orders(rt: HostRuntime) {
+    let counted = counted_by_workers(&rt, rt.alloc(), (64, 40, 1), &Hostile::Silent, &Open);
+    assert!(rt; counted == Some((SILENT, 3)));
 }
 
 // Sizes of phases, and whether there are such.
-const SIZES: &[(u64, u64, u64, bool)] = &[
-    (64, 1048576, 65536, true),
-    (0, 1, 1, false),
-    (65, 1, 1, false),
-    (1, 0, 1, false),
-    (1, 1048577, 1, false),
-    (1, 1, 0, false),
-    (1, 1, 65537, false),
+const SIZES: &[(Sizes, bool)] = &[
+    ((64, 1048576, 65536), true),
+    ((0, 1, 1), false),
+    ((65, 1, 1), false),
+    ((1, 0, 1), false),
+    ((1, 1048577, 1), false),
+    ((1, 1, 0), false),
+    ((1, 1, 65537), false),
 ];
 
 #[test]
 fn options_have_their_ranges(rt: HostRuntime) {
-    for &(workers, nodes, heads, want) in SIZES {
-        let options = PhaseOpts::new(workers, nodes, heads);
-        assert_eq!(rt; options.is_some(), want);
+    for &(sizes, want) in SIZES {
+        assert!(rt; options_of(sizes).is_some() == want);
     }
 }

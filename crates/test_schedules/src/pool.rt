@@ -95,27 +95,6 @@ impl Gate for Count {
     }
 }
 
-// The answers of n tasks by so many workers; None where memory is refused.
-fn answers<G: Gate + Sync, R: Threads + Wait + Sync>(
-    rt: &R,
-    alloc: Global,
-    workers: u64,
-    n: usize,
-    gate: &G,
-) -> Option<Vec<Option<u64>>> {
-    let Ok((table, passes)) = TermTable::open(alloc, workers, 128, 64) else {
-        return None;
-    };
-    Some(run(rt, alloc, n, passes, &Twice { table }, gate))
-}
-
-// Whether two workers do n tasks, of which the first and another wait for each other.
-fn meets<R: Threads + Wait + Sync>(rt: &R, alloc: Global, other: usize, n: usize) -> Option<bool> {
-    let gate = Meeting::between(0, other);
-    let all = answers(rt, alloc, 2, n, &gate)?;
-    Some(!gate.is_late() && are_twice(all.as_slice(), n))
-}
-
 // Whether each of n tasks has twice its number.
 fn are_twice(all: &[Option<u64>], n: usize) -> bool {
     let mut same = all.len() == n;
@@ -125,15 +104,34 @@ fn are_twice(all: &[Option<u64>], n: usize) -> bool {
     same
 }
 
+// Whether each of n tasks by so many workers has twice its number; None where memory is refused.
+fn are_done<G: Gate + Sync, R: Threads + Wait + Sync>(
+    rt: &R,
+    alloc: Global,
+    workers: u64,
+    n: usize,
+    gate: &G,
+) -> Option<bool> {
+    let Ok((table, passes)) = TermTable::open(alloc, workers, 128, 64) else {
+        return None;
+    };
+    let all = run(rt, alloc, n, passes, &Twice { table }, gate);
+    Some(are_twice(all.as_slice(), n))
+}
+
+// Whether two workers do n tasks, of which the first and another wait for each other.
+fn meets<R: Threads + Wait + Sync>(rt: &R, alloc: Global, other: usize, n: usize) -> Option<bool> {
+    let gate = Meeting::between(0, other);
+    let are_done = are_done(rt, alloc, 2, n, &gate)?;
+    Some(are_done && !gate.is_late())
+}
+
 // Of two tasks that wait for each other, one has to be done beside the other; of three, the third is stolen from a worker that waits.
 #[test]
 fn tasks_that_meet_are_done_at_once(rt: HostRuntime) {
-    for (other, n) in [(1, 2), (2, 3)] {
-        assert_eq!(rt;
-            meets(&rt, rt.alloc(), other, n),
-            Some(true),
-            "of {n} tasks"
-        );
+    for &(other, n) in [(1, 2), (2, 3)].as_slice() {
+        let meets = meets(&rt, rt.alloc(), other, n);
+        assert!(rt; meets == Some(true), "of {n} tasks");
     }
 }
 
@@ -142,19 +140,20 @@ fn begun<R: Threads + Wait + Sync>(rt: &R, alloc: Global, workers: u64, n: usize
     let gate = Count {
         begun: AtomicU64::new(0),
     };
-    let all = answers(rt, alloc, workers, n, &gate)?;
-    if are_twice(all.as_slice(), n) {
+    if are_done(rt, alloc, workers, n, &gate)? {
         Some(gate.begun.load(Ordering::SeqCst))
     } else {
         None
     }
 }
 
+// How many workers, and how many tasks.
+const POOLS: &[(u64, usize)] = &[(1, 100), (3, 100), (64, 100), (2, 0)];
+
 #[test]
 fn each_task_is_done_once(rt: HostRuntime) {
-    for workers in [1, 3, 64] {
-        let begun = begun(&rt, rt.alloc(), workers, 100);
-        assert_eq!(rt; begun, Some(100), "with {workers} workers");
+    for &(workers, n) in POOLS {
+        let begun = begun(&rt, rt.alloc(), workers, n);
+        assert!(rt; begun == Some(n as u64), "with {workers} workers");
     }
-    assert_eq!(rt; begun(&rt, rt.alloc(), 2, 0), Some(0));
 }

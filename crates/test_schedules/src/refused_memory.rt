@@ -40,5 +40,5 @@ fn goes_on(alloc: Global) -> Option<bool> {
 
 #[test]
 fn a_pass_whose_verdict_was_refused_memory_can_go_on(rt: HostRuntime) {
-    assert_eq!(rt; goes_on(rt.alloc()), Some(true));
+    assert!(rt; goes_on(rt.alloc()) == Some(true));
 }
