@@ -1,21 +1,27 @@
 // What words of the command line ask for.
 
-use driver::{Command, words};
+use driver::{AskedBuild, Command, words};
 use std::alloc::Global;
-use std::test::Fail;
 
-#[test]
-fn words_give_the_file(rt: HostRuntime) -> Result<(), Fail> {
-    let args = ["mcc", "check", "a text"];
-    let Ok(Command::Check { file, explain }) = words(rt.alloc(), args.as_slice()) else {
-        panic!(rt; "no command")
-    };
-    assert_eq!(rt; file, "a text");
-    assert_eq!(rt; explain, false);
-    Ok(())
+const CHECK: &[&str] = &["mcc", "check", "a text"];
+
+// Whether the words ask for the verdict on the file `a text`, without reasons.
+fn checks_the_text(alloc: Global, line: &[&str]) -> bool {
+    matches!(
+        words(alloc, line),
+        Ok(Command::Check {
+            file: "a text",
+            explain: false
+        })
+    )
 }
 
-const BOUNDS: [(&[&str], (u32, u64)); 2] = [
+#[test]
+fn words_give_the_file(rt: HostRuntime) {
+    assert!(rt; checks_the_text(rt.alloc(), CHECK));
+}
+
+const BOUNDS: &[(&[&str], (u32, u64))] = &[
     (
         &[
             "mcc",
@@ -46,11 +52,10 @@ fn bounds(alloc: Global, line: &[&str]) -> Option<(u32, u64)> {
 }
 
 #[test]
-fn words_give_the_bounds(rt: HostRuntime) -> Result<(), Fail> {
-    for (line, want) in BOUNDS {
-        assert_eq!(rt; bounds(rt.alloc(), line), Some(want));
+fn words_give_the_bounds(rt: HostRuntime) {
+    for &(line, want) in BOUNDS {
+        assert!(rt; bounds(rt.alloc(), line) == Some(want));
     }
-    Ok(())
 }
 
 // In each row whether the build is plain, and depth, workers, nodes and heads.
@@ -75,58 +80,77 @@ const BUILDS: &[(&[&str], bool, [u32; 4])] = &[
 // What the words ask for a build of `a` into `b`.
 fn asked(alloc: Global, line: &[&str]) -> Option<(bool, [u32; 4])> {
     match words(alloc, line) {
-        Ok(Command::Build(b)) if b.source == "a" && b.image == "b" => {
-            Some((b.plain, [b.depth, b.workers, b.nodes, b.heads]))
-        }
+        Ok(
+            Command::Build(
+                AskedBuild {
+                    source: "a",
+                    image: "b",
+                    plain,
+                    depth,
+                    workers,
+                    nodes,
+                    heads,
+                },
+            ),
+        ) => Some((plain, [depth, workers, nodes, heads])),
         _ => None,
     }
 }
 
 #[test]
-fn words_give_a_build(rt: HostRuntime) -> Result<(), Fail> {
+fn words_give_a_build(rt: HostRuntime) {
     for &(line, plain, numbers) in BUILDS {
-        assert_eq!(rt; asked(rt.alloc(), line), Some((plain, numbers)));
+        assert!(rt; asked(rt.alloc(), line) == Some((plain, numbers)));
     }
-    Ok(())
+}
+
+const RUN: &[&str] = &["mcc", "run", "x"];
+
+// Whether the words ask for a run of `x` of 1,000,000 steps.
+fn runs_the_image(alloc: Global, line: &[&str]) -> bool {
+    matches!(
+        words(alloc, line),
+        Ok(Command::Run {
+            image: "x",
+            steps: 1_000_000
+        })
+    )
+}
+
+const LIST: &[&str] = &["mcc", "list", "--asm", "x"];
+
+// Whether the words ask for assembler source of `x`.
+fn lists_the_image(alloc: Global, line: &[&str]) -> bool {
+    matches!(
+        words(alloc, line),
+        Ok(Command::List {
+            image: "x",
+            asm: true
+        })
+    )
 }
 
 #[test]
-fn words_name_the_image(rt: HostRuntime) -> Result<(), Fail> {
-    let run = ["mcc", "run", "x"];
-    let Ok(Command::Run { image, steps }) = words(rt.alloc(), run.as_slice()) else {
-        panic!(rt; "no command")
-    };
-    assert_eq!(rt; image, "x");
-    assert_eq!(rt; steps, 1_000_000);
-    let list = ["mcc", "list", "--asm", "x"];
-    let Ok(Command::List { image, asm }) = words(rt.alloc(), list.as_slice()) else {
-        panic!(rt; "no command")
-    };
-    assert_eq!(rt; image, "x");
-    assert_eq!(rt; asm, true);
-    Ok(())
+fn words_name_the_image(rt: HostRuntime) {
+    assert!(rt; runs_the_image(rt.alloc(), RUN) && lists_the_image(rt.alloc(), LIST));
+}
+
+const SHOW: &[&str] = &["mcc", "show", "x.c", "--function", "f", "--stage=terms"];
+
+// Whether the words ask for the terms of `f` in `x.c`.
+fn shows_the_terms(alloc: Global, line: &[&str]) -> bool {
+    matches!(
+        words(alloc, line),
+        Ok(Command::Show {
+            source: "x.c",
+            stage: Some("terms"),
+            function: Some("f"),
+            dot: false,
+        },)
+    )
 }
 
 #[test]
-fn words_name_the_stage(rt: HostRuntime) -> Result<(), Fail> {
-    let show = ["mcc", "show", "x.c", "--function", "f", "--stage=terms"];
-    let Ok(
-        Command::Show {
-            source,
-            stage,
-            function,
-            dot,
-        },
-    ) = words(rt.alloc(), show.as_slice())
-    else {
-        panic!(rt; "no command")
-    };
-    assert_eq!(rt; source, "x.c");
-    let (Some(stage), Some(function)) = (stage, function) else {
-        panic!(rt; "no stage or no function")
-    };
-    assert_eq!(rt; stage, "terms");
-    assert_eq!(rt; function, "f");
-    assert_eq!(rt; dot, false);
-    Ok(())
+fn words_name_the_stage(rt: HostRuntime) {
+    assert!(rt; shows_the_terms(rt.alloc(), SHOW));
 }

@@ -14,19 +14,27 @@ use mips_steps::Ending;
 use scarce_memory::AllMemory;
 use sched_phase::PhaseOpts;
 use stand_ins::COUNTS;
-use std::alloc::{AllocError, Global};
+use std::alloc::Global;
 use std::sync::Wait;
-use std::test::Fail;
 use std::thread::Threads;
 use steal_pool::Open;
 
 const MOVED: &str = "block\nlw $8,0($29)\naddu $9,$8,$8\naddiu $10,$10,1\nreturn\n\
                      order\nlw $8,0($29)\naddiu $10,$10,1\naddu $9,$8,$8\nreturn\nslot nop\n";
 
+/// How many blocks are given back: of 4 KB, and last one of 64 MB.
+pub const BLOCKS: usize = 1000;
+
+/// All memory that can be had, with these blocks to give back.
+pub fn all_memory(alloc: Global) -> Option<AllMemory> {
+    AllMemory::take(alloc, BLOCKS, 0x400_0000).ok()
+}
+
 // How often a check is refused memory before it answers; None where it answers another thing.
-fn check_refusals(alloc: Global, memory: &mut AllMemory) -> Option<u32> {
+fn check_refusals(alloc: Global) -> Option<u32> {
+    let mut memory = all_memory(alloc)?;
     let mut refusals: u32 = 0;
-    for _ in 0..=1000 {
+    for _ in 0..=BLOCKS {
         match check(alloc, MOVED.as_bytes()) {
             Ok(CheckAnswer::Same) => break,
             Err(CheckFault::NoMemory) => {}
@@ -39,14 +47,10 @@ fn check_refusals(alloc: Global, memory: &mut AllMemory) -> Option<u32> {
 }
 
 #[test]
-fn checks_tell_refused_memory_alone(rt: HostRuntime) -> Result<(), Fail> {
-    let alloc = rt.alloc();
-    let mut memory = AllMemory::take(alloc, 1000, 0x400_0000)?;
-    let refusals = check_refusals(alloc, &mut memory);
-    drop(memory);
-    assert!(rt; refusals.is_some_and(|n| n > 0));
-    assert!(rt; check(alloc, MOVED.as_bytes()) == Ok(CheckAnswer::Same));
-    Ok(())
+fn checks_tell_refused_memory_alone(rt: HostRuntime) {
+    let refusals = check_refusals(rt.alloc());
+    let answer = check(rt.alloc(), MOVED.as_bytes());
+    assert!(rt; matches!(refusals, Some(1..)) && answer == Ok(CheckAnswer::Same));
 }
 
 // Whether the words are refused for want of memory; None where they are wrong.
@@ -64,9 +68,10 @@ fn is_refused(alloc: Global) -> Option<bool> {
 }
 
 // How often the words are refused memory before they are read; None where they are wrong.
-fn word_refusals(alloc: Global, memory: &mut AllMemory) -> Option<u32> {
+fn word_refusals(alloc: Global) -> Option<u32> {
+    let mut memory = all_memory(alloc)?;
     let mut refusals: u32 = 0;
-    for _ in 0..=1000 {
+    for _ in 0..=BLOCKS {
         if !is_refused(alloc)? {
             break;
         }
@@ -77,14 +82,9 @@ fn word_refusals(alloc: Global, memory: &mut AllMemory) -> Option<u32> {
 }
 
 #[test]
-fn words_tell_refused_memory_alone(rt: HostRuntime) -> Result<(), Fail> {
-    let alloc = rt.alloc();
-    let mut memory = AllMemory::take(alloc, 1000, 0x400_0000)?;
-    let refusals = word_refusals(alloc, &mut memory);
-    drop(memory);
-    assert!(rt; refusals.is_some_and(|n| n > 0));
-    assert_eq!(rt; is_refused(alloc), Some(false));
-    Ok(())
+fn words_tell_refused_memory_alone(rt: HostRuntime) {
+    let refusals = word_refusals(rt.alloc());
+    assert!(rt; matches!(refusals, Some(1..)) && is_refused(rt.alloc()) == Some(false));
 }
 
 /// Whether each block has a verdict or was missed, and none met a full table.
@@ -121,6 +121,16 @@ pub fn prints_three(alloc: Global, image: &[u8]) -> bool {
     }
 }
 
+/// Whether there are images, and each prints 3 and ends with 0.
+pub fn print_three(alloc: Global, images: &[Vec<u8>]) -> bool {
+    for image in images {
+        if !prints_three(alloc, image.as_slice()) {
+            return false;
+        }
+    }
+    !images.is_empty()
+}
+
 // A build by two workers, of which a refusal is None; a fault of another kind, or a count that is off, is an Err.
 fn by_two<T: Threads + Wait + Sync>(
     threads: &T,
@@ -149,53 +159,43 @@ fn by_two<T: Threads + Wait + Sync>(
 fn builds_until_whole<T: Threads + Wait + Sync>(
     threads: &T,
     alloc: Global,
-    memory: &mut AllMemory,
     images: &mut Vec<Vec<u8>>,
-) -> Result<Option<u32>, AllocError> {
+) -> Option<u32> {
+    let mut memory = all_memory(alloc)?;
     let mut refusals: u32 = 0;
-    for _ in 0..=memory.blocks.len() {
-        let Ok(answer) = by_two(threads, alloc) else {
-            return Ok(None);
-        };
-        match answer {
-            Some(built) => {
-                if !has_each_block(&built) {
-                    return Ok(None);
-                }
+    for _ in 0..=BLOCKS {
+        match by_two(threads, alloc) {
+            Ok(Some(built)) => {
                 let is_whole = built.report.same as usize == built.blocks;
-                images.push(built.image)?;
+                if !has_each_block(&built) || images.push(built.image).is_err() {
+                    return None;
+                }
                 if is_whole {
                     break;
                 }
             }
-            None => refusals = refusals.wrapping_add(1),
+            Ok(None) => refusals = refusals.wrapping_add(1),
+            Err(_) => return None,
         }
         memory.give_back();
     }
-    Ok(Some(refusals))
+    Some(refusals)
 }
 
 // A block whose order or verdict is refused memory, or that no worker comes to, has its own order.
 #[test]
-fn builds_by_workers_tell_refused_memory_or_run(rt: HostRuntime) -> Result<(), Fail> {
-    let alloc = rt.alloc();
-    let mut images = Vec::with_capacity(alloc, 1002)?;
-    let mut memory = AllMemory::take(alloc, 1000, 0x400_0000)?;
-    let refusals = builds_until_whole(&rt, alloc, &mut memory, &mut images)?;
-    drop(memory);
-    assert!(rt; refusals.is_some_and(|n| n > 0));
-    assert!(rt; !images.is_empty());
-    for image in images.as_slice() {
-        assert!(rt; prints_three(alloc, image.as_slice()));
-    }
-    Ok(())
+fn builds_by_workers_tell_refused_memory_or_run(rt: HostRuntime) {
+    let mut images = Vec::with_capacity(rt.alloc(), 1002).expect(&rt, "memory");
+    let refusals = builds_until_whole(&rt, rt.alloc(), &mut images);
+    assert!(rt; matches!(refusals, Some(1..)) && print_three(rt.alloc(), images.as_slice()));
 }
 
 const SEVENS: &str = "int main(void){while(1)out(7);}";
 
 // Steps of a machine, as many as it is refused memory or 2,000, with one block given back behind each refusal; how many were
 // refused, None where it ends.
-fn step_on(machine: &mut Machine<'_>, memory: &mut AllMemory) -> Option<u32> {
+fn step_on(alloc: Global, machine: &mut Machine<'_>) -> Option<u32> {
+    let mut memory = all_memory(alloc)?;
     let mut refusals: u32 = 0;
     for _ in 0..400_000 {
         match machine.step() {
@@ -210,22 +210,26 @@ fn step_on(machine: &mut Machine<'_>, memory: &mut AllMemory) -> Option<u32> {
     Some(refusals)
 }
 
-// Whether the machine is refused memory, goes on, and prints 7 over and over.
-fn goes_on(machine: &mut Machine<'_>, memory: &mut AllMemory) -> bool {
-    let refusals = step_on(machine, memory);
+fn are_sevens(output: &[u32]) -> bool {
+    for &word in output {
+        if word != 7 {
+            return false;
+        }
+    }
+    true
+}
+
+// Whether the machine of an image is refused memory, goes on, and prints 7 over and over; None where there is none.
+fn goes_on(alloc: Global, image: &[u8]) -> Option<bool> {
+    let image = read_image(alloc, image).ok()?;
+    let mut machine = load(alloc, &image).ok()?;
+    let refusals = step_on(alloc, &mut machine);
     let output = machine.output();
-    refusals.is_some_and(|n| n > 0) && output.len() > 1000 && output.iter().all(|word| *word == 7)
+    Some(matches!(refusals, Some(1..)) && output.len() > 1000 && are_sevens(output))
 }
 
 #[test]
-fn a_machine_goes_on_behind_refused_memory(rt: HostRuntime) -> Result<(), Fail> {
-    let alloc = rt.alloc();
-    let built = build_plain(alloc, SEVENS.as_bytes(), 1)?;
-    let image = read_image(alloc, built.image.as_slice())?;
-    let mut machine = load(alloc, &image)?;
-    let mut memory = AllMemory::take(alloc, 1000, 0x400_0000)?;
-    let goes_on = goes_on(&mut machine, &mut memory);
-    drop(memory);
-    assert!(rt; goes_on);
-    Ok(())
+fn a_machine_goes_on_behind_refused_memory(rt: HostRuntime) {
+    let built = build_plain(rt.alloc(), SEVENS.as_bytes(), 1).expect(&rt, "an image");
+    assert!(rt; goes_on(rt.alloc(), built.image.as_slice()) == Some(true));
 }

@@ -9,7 +9,6 @@ use list_scheduler::{Hostile, Reorder};
 use mblock::{Block, Order, plain};
 use std::alloc::{AllocError, Global};
 use std::sync::Wait;
-use std::test::Fail;
 use std::thread::Threads;
 
 const KINDS: &[Hostile] = &[
@@ -40,13 +39,19 @@ fn misses_none(built: &Option<Built>) -> bool {
 }
 
 #[test]
-fn images_by_one_worker_run_as_their_source(rt: HostRuntime) -> Result<(), Fail> {
+fn images_by_one_worker_run_as_their_source(rt: HostRuntime) {
     for kind in KINDS {
         let built = built_by_one(rt.alloc(), LOOP.text, kind);
-        assert!(rt; runs(rt.alloc(), &built, LOOP.output), "{kind:?}");
-        assert!(rt; misses_none(&built), "{kind:?}");
+        assert!(rt;
+            runs(rt.alloc(), &built, LOOP.output) && misses_none(&built),
+            "{kind:?}"
+        );
     }
-    Ok(())
+}
+
+// The programs of these tests, and those of `c_programs`.
+fn all_programs() -> [&'static [Program]; 2] {
+    [OWN, PROGRAMS]
 }
 
 // The first of the programs whose image by two workers doesn't run as its source.
@@ -66,14 +71,13 @@ fn first_wrong<T: Threads + Wait + Sync, R: Reorder + Sync>(
 }
 
 #[test]
-fn images_by_two_workers_run_as_their_source(rt: HostRuntime) -> Result<(), Fail> {
+fn images_by_two_workers_run_as_their_source(rt: HostRuntime) {
     for kind in KINDS {
-        for &programs in [OWN, PROGRAMS].as_slice() {
+        for &programs in all_programs().as_slice() {
             let wrong = first_wrong(&rt, rt.alloc(), programs, kind);
-            assert_eq!(rt; wrong, None, "{kind:?}");
+            assert!(rt; wrong.is_none(), "{kind:?}, {wrong:?}");
         }
     }
-    Ok(())
 }
 
 // Whether each block was refused memory.
@@ -91,9 +95,9 @@ fn first_ordered<T: Threads + Wait + Sync>(
     programs: &[Program],
 ) -> Option<&'static str> {
     for program in programs {
-        let one = built_by_one(alloc, program.text, &Hostile::Silent);
-        let two = built(threads, alloc, program.text, 2, NODES, &Hostile::Silent);
-        if !is_silent(&one) || !is_silent(&two) {
+        let one = is_silent(&built_by_one(alloc, program.text, &Hostile::Silent));
+        let two = is_silent(&built(threads, alloc, program.text, 2, NODES, &Hostile::Silent));
+        if !one || !two {
             return Some(program.name);
         }
     }
@@ -101,10 +105,10 @@ fn first_ordered<T: Threads + Wait + Sync>(
 }
 
 #[test]
-fn refused_memory_is_counted_as_that(rt: HostRuntime) -> Result<(), Fail> {
-    assert_eq!(rt; first_ordered(&rt, rt.alloc(), OWN), None);
-    assert_eq!(rt; first_ordered(&rt, rt.alloc(), PROGRAMS), None);
-    Ok(())
+fn refused_memory_is_counted_as_that(rt: HostRuntime) {
+    for &programs in all_programs().as_slice() {
+        assert_eq!(rt; first_ordered(&rt, rt.alloc(), programs), None);
+    }
 }
 
 // Proposes the plain order.
@@ -127,17 +131,24 @@ fn is_accepted(built: &Option<Built>) -> bool {
 }
 
 #[test]
-fn plain_orders_are_accepted(rt: HostRuntime) -> Result<(), Fail> {
+fn plain_orders_are_accepted(rt: HostRuntime) {
     for program in OWN {
-        let built = built_by_one(rt.alloc(), program.text, &Own);
-        assert!(rt; is_accepted(&built), "{}", program.name);
+        let is_accepted = is_accepted(&built_by_one(rt.alloc(), program.text, &Own));
+        assert!(rt; is_accepted, "{}", program.name);
     }
-    Ok(())
 }
 
-// Whether there are two images, which are equal, as their reports are.
-fn are_equal(one: &Option<Built>, other: &Option<Built>) -> bool {
-    match (one, other) {
+// Whether there is an image of the text, and so many workers make it too, with the same report.
+fn is_made<T: Threads + Wait + Sync>(
+    threads: &T,
+    alloc: Global,
+    text: &str,
+    workers: u64,
+    nodes: u64,
+    image: &Option<Built>,
+) -> bool {
+    let other = built(threads, alloc, text, workers, nodes, &SCHEDULER);
+    match (image, &other) {
         (Some(one), Some(other)) => {
             one.image.as_slice() == other.image.as_slice() && one.report == other.report
         }
@@ -156,8 +167,7 @@ fn first_unequal<T: Threads + Wait + Sync>(
     for program in programs {
         let one = built_by_one(alloc, program.text, &SCHEDULER);
         for &workers in WORKERS {
-            let other = built(threads, alloc, program.text, workers, 8_192, &SCHEDULER);
-            if !are_equal(&one, &other) {
+            if !is_made(threads, alloc, program.text, workers, 8_192, &one) {
                 return Some((program.name, workers));
             }
         }
@@ -166,10 +176,10 @@ fn first_unequal<T: Threads + Wait + Sync>(
 }
 
 #[test]
-fn images_are_equal_for_any_number_of_workers(rt: HostRuntime) -> Result<(), Fail> {
-    assert_eq!(rt; first_unequal(&rt, rt.alloc(), OWN), None);
-    assert_eq!(rt; first_unequal(&rt, rt.alloc(), PROGRAMS), None);
-    Ok(())
+fn images_are_equal_for_any_number_of_workers(rt: HostRuntime) {
+    for &programs in all_programs().as_slice() {
+        assert_eq!(rt; first_unequal(&rt, rt.alloc(), programs), None);
+    }
 }
 
 // How many of so many builds make the image of the first.
@@ -177,8 +187,7 @@ fn equal_builds<T: Threads + Wait + Sync>(threads: &T, alloc: Global, count: u32
     let first = built(threads, alloc, LOOP.text, 4, 1024, &SCHEDULER);
     let mut equal: u32 = 0;
     for _ in 0..count {
-        let other = built(threads, alloc, LOOP.text, 4, 1024, &SCHEDULER);
-        if are_equal(&first, &other) {
+        if is_made(threads, alloc, LOOP.text, 4, 1024, &first) {
             equal = equal.wrapping_add(1);
         }
     }
@@ -186,7 +195,6 @@ fn equal_builds<T: Threads + Wait + Sync>(threads: &T, alloc: Global, count: u32
 }
 
 #[test]
-fn a_thousand_builds_give_one_image(rt: HostRuntime) -> Result<(), Fail> {
+fn a_thousand_builds_give_one_image(rt: HostRuntime) {
     assert_eq!(rt; equal_builds(&rt, rt.alloc(), 999), 999);
-    Ok(())
 }

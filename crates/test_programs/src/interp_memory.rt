@@ -1,14 +1,11 @@
 // Memory that is really refused to `mcc interp`: each test is a process of its own, and takes all that
 // it can get. With each block that it gives back the program comes further.
 
+use crate::build_memory::{BLOCKS, all_memory};
+use crate::image_memory::told_before;
 use driver::{InterpFault, SourceFault, interp};
 use runs::End;
-use scarce_memory::AllMemory;
-use stand_ins::Desk;
 use std::alloc::{AllocError, Global};
-use std::sync::Wait;
-use std::test::Fail;
-use std::thread::Threads;
 
 // The statements take the types 300 KB more than they take the reader, and the array takes the run a
 // megabyte, so that each is refused many times.
@@ -18,7 +15,7 @@ fn program(alloc: Global) -> Result<String, AllocError> {
 }
 
 // Who was refused memory, or that none was.
-#[derive(Clone, Copy, PartialEq, Eq)]
+#[derive(Clone, Copy)]
 enum Refused {
     Reading,
     Types,
@@ -50,74 +47,35 @@ fn prints_three(alloc: Global, text: &[u8]) -> bool {
     }
 }
 
-#[test]
-fn interp_tells_refused_memory_alone(rt: HostRuntime) -> Result<(), Fail> {
-    let alloc = rt.alloc();
-    let text = program(alloc)?;
-    let mut memory = AllMemory::take(alloc, 1000, 4096)?;
+// Whether each of the three is refused memory before the text is run; None where another fault is told.
+fn each_is_refused(alloc: Global, text: &[u8]) -> Option<bool> {
+    let mut memory = all_memory(alloc)?;
     let mut read = false;
     let mut typed = false;
     let mut run = false;
-    for k in 0..1000 {
-        match who_was_refused(alloc, text.as_bytes()) {
-            Some(Refused::Reading) => read = true,
-            Some(Refused::Types) => typed = true,
-            Some(Refused::Run) => run = true,
-            Some(Refused::Nobody) => break,
-            None => panic!(rt; "another fault after {k} blocks"),
+    for _ in 0..BLOCKS {
+        match who_was_refused(alloc, text)? {
+            Refused::Reading => read = true,
+            Refused::Types => typed = true,
+            Refused::Run => run = true,
+            Refused::Nobody => break,
         }
         memory.give_back();
     }
-    drop(memory);
-    // Each of the three has been refused memory.
-    assert!(rt; read && typed && run);
-    assert!(rt; prints_three(alloc, text.as_bytes()));
-    Ok(())
-}
-
-// How `mcc interp` told refused memory before it had status 0: with a place, and without; None where it told another thing,
-// or printed before.
-fn refusals<T: Threads + Wait + Sync>(
-    threads: &T,
-    alloc: Global,
-    desk: &mut Desk<'_>,
-    placed: &str,
-    memory: &mut AllMemory,
-) -> Option<(bool, bool)> {
-    let mut with_place = false;
-    let mut without = false;
-    for _ in 0..1000 {
-        desk.err.clear();
-        let status = desk.status(threads, alloc, ["mcc", "interp", "x"].as_slice());
-        if status == 0 {
-            return Some((with_place, without));
-        }
-        if status != 1 {
-            return None;
-        }
-        if desk.is_refused(placed) {
-            with_place = true;
-        } else if desk.is_refused("fault 30 NoMemory\n") {
-            without = true;
-        } else {
-            return None;
-        }
-        memory.give_back();
-    }
-    None
+    Some(read && typed && run)
 }
 
 #[test]
-fn mcc_tells_refused_memory_alone(rt: HostRuntime) -> Result<(), Fail> {
-    let alloc = rt.alloc();
-    let text = program(alloc)?;
-    let placed = format!(in alloc; "fault 30 NoMemory at {}\n", text.len())?;
-    let mut desk = Desk::of(alloc, text.as_bytes())?;
-    let mut memory = AllMemory::take(alloc, 1000, 4096)?;
-    let told = refusals(&rt, alloc, &mut desk, placed.as_str(), &mut memory);
-    drop(memory);
-    assert_eq!(rt; told, Some((true, true)));
-    assert_eq!(rt; desk.out.as_slice(), b"3\ndone 0\n".as_slice());
-    assert!(rt; desk.err.is_empty());
-    Ok(())
+fn interp_tells_refused_memory_alone(rt: HostRuntime) {
+    let text = program(rt.alloc()).expect(&rt, "a text");
+    let is_refused = each_is_refused(rt.alloc(), text.as_bytes());
+    assert!(rt; is_refused == Some(true) && prints_three(rt.alloc(), text.as_bytes()));
+}
+
+#[test]
+fn mcc_tells_refused_memory_alone(rt: HostRuntime) {
+    let text = program(rt.alloc()).expect(&rt, "a text");
+    let words = ["mcc", "interp", "x"].as_slice();
+    let told = told_before(&rt, rt.alloc(), text.as_bytes(), words, "3\ndone 0\n", &[]);
+    assert!(rt; told == Some((true, true)));
 }

@@ -1,22 +1,23 @@
 // Files and streams that fail, also half way.
 
 use driver::{FileFault, mcc};
-use stand_ins::{OneFile, told_by, told_with_shut_err, told_with_shut_out};
-use std::alloc::{AllocError, Global};
+use stand_ins::{OneFile, Written, told_by, told_with_shut_err, told_with_shut_out};
+use std::alloc::Global;
 use std::io::{self, Write};
 use std::sync::Wait;
-use std::test::Fail;
 use std::thread::Threads;
 
-const TEXT: &str = "block\naddiu $10,$10,1\nreturn\norder\nreturn\nslot addiu $10,$10,1\n";
+const TEXT: &[u8] = b"block\naddiu $10,$10,1\nreturn\norder\nreturn\nslot addiu $10,$10,1\n";
 
-const THREE: &str = "int main(void){out(10);out(200);out(3000);}";
+const THREE: &[u8] = b"int main(void){out(10);out(200);out(3000);}";
 
 const CHECK: &[&str] = &["mcc", "check", "x"];
 
 const INTERP: &[&str] = &["mcc", "interp", "x"];
 
 const PLAIN: &[&str] = &["mcc", "build", "x", "y", "--plain"];
+
+const SCHEDULED: &[&str] = &["mcc", "build", "x", "y"];
 
 const RUN: &[&str] = &["mcc", "run", "x"];
 
@@ -44,74 +45,103 @@ const FILES: &[FileRow] = &[
     (PLAIN, Some(FileFault::NoMemory), None, NO_MEMORY),
     (PLAIN, None, Some(FileFault::Failed), CANNOT_WRITE),
     (PLAIN, None, Some(FileFault::NoMemory), NO_MEMORY),
-    (
-        &["mcc", "build", "x", "y"],
-        None,
-        Some(FileFault::Failed),
-        CANNOT_WRITE,
-    ),
-    (
-        &["mcc", "build", "x", "y"],
-        Some(FileFault::Failed),
-        None,
-        CANNOT_READ,
-    ),
+    (SCHEDULED, None, Some(FileFault::Failed), CANNOT_WRITE),
+    (SCHEDULED, Some(FileFault::Failed), None, CANNOT_READ),
     (RUN, Some(FileFault::Failed), None, CANNOT_READ),
     (RUN, Some(FileFault::NoMemory), None, NO_MEMORY),
     (LIST, Some(FileFault::Failed), None, CANNOT_READ),
     (LIST, Some(FileFault::NoMemory), None, NO_MEMORY),
 ];
 
+// What `mcc` with these words does where reads and writes have these faults, and how often it writes a file.
+fn told_by_failing<T: Threads + Wait + Sync>(
+    threads: &T,
+    alloc: Global,
+    read_fault: Option<FileFault>,
+    write_fault: Option<FileFault>,
+    words: &[&str],
+) -> (Written, u32) {
+    let mut files = OneFile::of(alloc, THREE);
+    files.read_fault = read_fault;
+    files.write_fault = write_fault;
+    let told = told_by(threads, alloc, &mut files, words);
+    (told, files.writes)
+}
+
 #[test]
-fn files_that_fail_are_told(rt: HostRuntime) -> Result<(), Fail> {
+fn files_that_fail_are_told(rt: HostRuntime) {
     for &(words, read, written, line) in FILES {
-        let mut files = OneFile::of(rt.alloc(), THREE.as_bytes());
-        files.read_fault = read;
-        files.write_fault = written;
-        let got = told_by(&rt, rt.alloc(), &mut files, words);
-        assert!(rt; got.is(1, "", line), "{got}, not {line}");
-        assert_eq!(rt; files.writes, 0);
+        let (got, writes) = told_by_failing(&rt, rt.alloc(), read, written, words);
+        assert!(rt; got.is(1, "", line) && writes == 0, "{got}, not {line}");
     }
-    Ok(())
 }
 
 // The image of THREE, and the line that its build prints.
 fn image_of<T: Threads + Wait + Sync>(threads: &T, alloc: Global) -> (Vec<u8>, Vec<u8>) {
-    let mut file = OneFile::of(alloc, THREE.as_bytes());
+    let mut file = OneFile::of(alloc, THREE);
     let built = told_by(threads, alloc, &mut file, PLAIN);
     (file.written, built.out)
 }
 
-#[test]
-fn standard_output_that_takes_nothing_is_a_fault(rt: HostRuntime) -> Result<(), Fail> {
-    let (image, _) = image_of(&rt, rt.alloc());
-    for (words, bytes, writes) in [
-        (CHECK, TEXT.as_bytes(), 0),
-        (["mcc", "--help"].as_slice(), TEXT.as_bytes(), 0),
-        (INTERP, THREE.as_bytes(), 0),
-        (PLAIN, THREE.as_bytes(), 1),
-        (["mcc", "build", "x", "y"].as_slice(), THREE.as_bytes(), 1),
-        (RUN, image.as_slice(), 0),
-        (LIST, image.as_slice(), 0),
-    ] {
-        let mut files = OneFile::of(rt.alloc(), bytes);
-        let got = told_with_shut_out(&rt, rt.alloc(), &mut files, words);
-        assert!(rt; got.is(1, "", CANNOT_WRITE), "{got}");
-        assert_eq!(rt; files.writes, writes);
-    }
-    Ok(())
+// What `mcc` with these words does over these bytes where standard output takes nothing, and how often it writes a file.
+fn told_by_shut<T: Threads + Wait + Sync>(
+    threads: &T,
+    alloc: Global,
+    bytes: &[u8],
+    words: &[&str],
+) -> (Written, u32) {
+    let mut files = OneFile::of(alloc, bytes);
+    let told = told_with_shut_out(threads, alloc, &mut files, words);
+    (told, files.writes)
 }
 
-const COMPLAINING: [(&[&str], u8); 2] = [(CHECK, 1), (&["mcc", "frob"], 2)];
+// The file of a command.
+#[derive(Clone, Copy)]
+enum Read {
+    Text,
+    Three,
+    // The image of THREE.
+    Image,
+}
+
+fn bytes_of(read: Read, image: &[u8]) -> &[u8] {
+    match read {
+        Read::Text => TEXT,
+        Read::Three => THREE,
+        Read::Image => image,
+    }
+}
+
+// The words of a command, its file, and how often it writes one.
+const SHUT: &[(&[&str], Read, u32)] = &[
+    (CHECK, Read::Text, 0),
+    (&["mcc", "--help"], Read::Text, 0),
+    (INTERP, Read::Three, 0),
+    (PLAIN, Read::Three, 1),
+    (SCHEDULED, Read::Three, 1),
+    (RUN, Read::Image, 0),
+    (LIST, Read::Image, 0),
+];
 
 #[test]
-fn standard_error_that_takes_nothing_keeps_the_status(rt: HostRuntime) -> Result<(), Fail> {
-    for (args, status) in COMPLAINING {
-        let mut files = OneFile::of(rt.alloc(), &[]);
-        let got = told_with_shut_err(&rt, rt.alloc(), &mut files, args);
+fn standard_output_that_takes_nothing_is_a_fault(rt: HostRuntime) {
+    let (image, _) = image_of(&rt, rt.alloc());
+    for &(words, read, writes) in SHUT {
+        let bytes = bytes_of(read, image.as_slice());
+        let (got, count) = told_by_shut(&rt, rt.alloc(), bytes, words);
+        assert!(rt; got.is(1, "", CANNOT_WRITE) && count == writes, "{got}");
+    }
+}
+
+const COMPLAINING: &[(&[&str], u8)] = &[(CHECK, 1), (&["mcc", "frob"], 2)];
+
+#[test]
+fn standard_error_that_takes_nothing_keeps_the_status(rt: HostRuntime) {
+    for &(args, status) in COMPLAINING {
+        let files = &mut OneFile::of(rt.alloc(), &[]);
+        let got = told_with_shut_err(&rt, rt.alloc(), files, args);
         assert!(rt; got.is(status, "", ""), "{got}");
     }
-    Ok(())
 }
 
 // A writer that takes so many bytes and no more, and that can't be flushed where it took them all.
@@ -148,7 +178,7 @@ fn breaks_off<T: Threads + Wait + Sync>(
     words: &[&str],
     printed: &[u8],
     room: usize,
-) -> Result<bool, AllocError> {
+) -> bool {
     let mut out = Short {
         room,
         taken: Vec::new(alloc),
@@ -157,24 +187,46 @@ fn breaks_off<T: Threads + Wait + Sync>(
     let mut files = OneFile::of(alloc, bytes);
     let status = mcc(threads, alloc, words, &mut files, &mut out, &mut err);
     let is_told = status == 1 && err.as_slice() == CANNOT_WRITE.as_bytes();
-    Ok(is_told && out.taken.len() == room && printed.starts_with(out.taken.as_slice()))
+    is_told && out.taken.len() == room && printed.starts_with(out.taken.as_slice())
 }
 
-#[test]
-fn output_that_breaks_off_is_told(rt: HostRuntime) -> Result<(), Fail> {
-    let (image, line) = image_of(&rt, rt.alloc());
-    assert!(rt; line.as_slice().ends_with(b" plain\n"));
-    let printed = b"10\n200\n3000\ndone 0\n".as_slice();
-    for (bytes, words, printed) in [
-        (TEXT.as_bytes(), CHECK, b"same\n".as_slice()),
-        (THREE.as_bytes(), INTERP, printed),
-        (image.as_slice(), RUN, printed),
-        (THREE.as_bytes(), PLAIN, line.as_slice()),
-    ] {
-        for room in 0..=printed.len() {
-            let is_told = breaks_off(&rt, rt.alloc(), bytes, words, printed, room)?;
-            assert!(rt; is_told, "after {room} bytes");
+// The first number of bytes behind which `mcc` with these words doesn't tell that.
+fn first_untold<T: Threads + Wait + Sync>(
+    threads: &T,
+    alloc: Global,
+    bytes: &[u8],
+    words: &[&str],
+    printed: &[u8],
+) -> Option<usize> {
+    for room in 0..=printed.len() {
+        if !breaks_off(threads, alloc, bytes, words, printed, room) {
+            return Some(room);
         }
     }
-    Ok(())
+    None
+}
+
+const PRINTED: &[u8] = b"10\n200\n3000\ndone 0\n";
+
+// The words of a command, its file, and what is printed, where that isn't the line of a build.
+const BROKEN: &[(&[&str], Read, Option<&[u8]>)] = &[
+    (CHECK, Read::Text, Some(b"same\n")),
+    (INTERP, Read::Three, Some(PRINTED)),
+    (RUN, Read::Image, Some(PRINTED)),
+    (PLAIN, Read::Three, None),
+];
+
+#[test]
+fn output_that_breaks_off_is_told(rt: HostRuntime) {
+    let (image, line) = image_of(&rt, rt.alloc());
+    let is_line = line.as_slice().ends_with(b" plain\n");
+    for &(words, read, printed) in BROKEN {
+        let bytes = bytes_of(read, image.as_slice());
+        let printed = match printed {
+            Some(printed) => printed,
+            None => line.as_slice(),
+        };
+        let untold = first_untold(&rt, rt.alloc(), bytes, words, printed);
+        assert!(rt; is_line && untold.is_none(), "after {untold:?} bytes");
+    }
 }
