@@ -6,15 +6,26 @@ use std::alloc::Global;
 use std::test::Fail;
 use std::thread::Builder;
 
+// So many times a statement and what stands behind it, all of that so many times.
+fn runs(
+    alloc: Global,
+    statement: &str,
+    count: usize,
+    behind: &str,
+    times: usize,
+) -> Option<String> {
+    let statements = statement.repeat(alloc, count).ok()?;
+    let run = format!(in alloc; "{statements}{behind}").ok()?;
+    run.repeat(alloc, times).ok()
+}
+
 // A run of tokens holds 255 times `if(1)`; each `for(;0;)` and each brace begins a new run.
 fn nest(alloc: Global, statement: &str, loops: usize) -> Option<String> {
-    let most = statement.repeat(alloc, 254).ok()?;
-    let looped = format!(in alloc; "{most}for(;0;)").ok()?;
-    let braced = format!(in alloc; "{most}{statement}{{").ok()?;
-    let loops = looped.repeat(alloc, loops).ok()?;
-    let braces = braced.repeat(alloc, 127).ok()?;
+    let loops = runs(alloc, statement, 254, "for(;0;)", loops)?;
+    let braces = runs(alloc, statement, 255, "{", 127)?;
+    let last = runs(alloc, statement, 255, ";", 1)?;
     let ends = "}".repeat(alloc, 128).ok()?;
-    format!(in alloc; "int main(void){{{loops}{braces}{most}{statement};{ends}").ok()
+    format!(in alloc; "int main(void){{{loops}{braces}{last}{ends}").ok()
 }
 
 // The end of what a text is lowered to; None where it has a fault.
@@ -23,15 +34,24 @@ fn end(alloc: Global, text: &str) -> Option<End> {
     Some(rtl::run(alloc, &lowered, 1, 16_000_000).ok()?.end)
 }
 
+// The end of such a nest.
+fn end_of_nest(alloc: Global, statement: &str, loops: usize) -> Option<End> {
+    let text = nest(alloc, statement, loops)?;
+    end(alloc, text.as_str())
+}
+
+// A statement, and the most loops of a nest of it.
+const NESTS: &[(&str, usize)] = &[("if(1)", 512), ("while(0)", 370)];
+
 #[test]
 fn statements(rt: HostRuntime) -> Result<(), Fail> {
     let alloc = rt.alloc();
-    for (statement, loops) in [("if(1)", 512), ("while(0)", 370)] {
-        let text = nest(alloc, statement, loops).expect(&rt, "a text");
+    for &(statement, loops) in NESTS {
         let runner = Builder::new()
             .stack_size(0x4000_0000)
-            .spawn(&rt, move || end(alloc, &text))?;
-        assert_eq!(rt; runner.join(&rt), Some(End::Done(0)), "with {loops} loops");
+            .spawn(&rt, move || end_of_nest(alloc, statement, loops))?;
+        let end = runner.join(&rt);
+        assert!(rt; end == Some(End::Done(0)), "with {loops} loops");
     }
     Ok(())
 }

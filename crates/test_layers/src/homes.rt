@@ -12,14 +12,16 @@ use std::alloc::Global;
 // A function, and the homes, the saved registers and the slots of its frame.
 type Row = (Function<'static>, &'static [Home], &'static [u8], u32);
 
+// 0 is mentioned twice, 1 three times, 2 twice: more mentions come first, and then lower numbers.
+const SUM: Row = (
+    WRITES_A_SUM,
+    &[Home::Reg(17), Home::Reg(16), Home::Reg(18)],
+    &[16, 17, 18],
+    0,
+);
+
 const FRAMES: &[Row] = &[
-    // 0 is mentioned twice, 1 three times, 2 twice: more mentions come first, and then lower numbers
-    (
-        WRITES_A_SUM,
-        &[Home::Reg(17), Home::Reg(16), Home::Reg(18)],
-        &[16, 17, 18],
-        0,
-    ),
+    SUM,
     // 0 is a parameter that isn't mentioned, 9 is mentioned three times, 1 to 8 once: all but eight live in slots
     (
         (
@@ -75,15 +77,17 @@ fn frames_are_chosen_by_mentions(rt: HostRuntime) {
 
 // Whether there are so many frames, the last of which is the row's.
 fn ends_with_frame(homed: &Homed<'_>, count: usize, (_, wants, saved, slots): Row) -> bool {
-    let last = homed.frames.last();
-    homed.frames.len() == count && last.is_some_and(|frame| is_frame(frame, wants, saved, slots))
+    match homed.frames.last() {
+        Some(frame) => homed.frames.len() == count && is_frame(frame, wants, saved, slots),
+        None => false,
+    }
 }
 
 #[test]
 fn a_program_has_homes(rt: HostRuntime) {
     let sum = program(rt.alloc(), &[WRITES_A_SUM], &[], 0).expect(&rt, "a program");
     let homed = homes(rt.alloc(), &sum).ok().expect(&rt, "homes");
-    assert!(&rt; ends_with_frame(&homed, 1, FRAMES[0]));
+    assert!(&rt; ends_with_frame(&homed, 1, SUM));
     each_homed_run_is_the_run();
 }
 
@@ -276,12 +280,17 @@ const PLACED: &[Row] = &[
 // Function 0, so that others may be called functions with parameters.
 const NOTHING: Function<'static> = (0, &[(&[], Ends::Return(None))]);
 
+// Whether the row's function has its frame, where what is local to blocks is placed.
+fn is_placed(alloc: Global, row: Row) -> Option<bool> {
+    let both = program(alloc, &[NOTHING, row.0], &[], 0)?;
+    let placed = place(alloc, &both).ok()?;
+    Some(ends_with_frame(&placed, 2, row))
+}
+
 #[test]
 fn what_is_local_to_blocks_needs_no_home(rt: HostRuntime) {
     for (k, &row) in PLACED.iter().enumerate() {
-        let both = program(rt.alloc(), &[NOTHING, row.0], &[], 0).expect(&rt, "a program");
-        let placed = place(rt.alloc(), &both).ok().expect(&rt, "homes");
-        assert!(&rt; ends_with_frame(&placed, 2, row), "row {k}");
+        assert!(rt; is_placed(rt.alloc(), row) == Some(true), "row {k}");
     }
     each_choice_never_forgets();
 }

@@ -68,9 +68,11 @@ fn read_with_changes(alloc: Global, words: &[u32]) -> Option<(u32, u32)> {
 // Of a count, with a sum of at most 2^20, the two low bytes can be changed, and the four low bits of the next one.
 #[test]
 fn changed_bytes_are_refused_or_written_again(rt: HostRuntime) {
-    for (words, same) in [(FIRST, 20 * 9 + 2), (SECOND, 16 * 9 + 1 + 6 * (9 + 9 + 4))] {
-        assert_eq!(rt; read_with_changes(rt.alloc(), words), Some((same, 0)));
-    }
+    let first = read_with_changes(rt.alloc(), FIRST);
+    let second = read_with_changes(rt.alloc(), SECOND);
+    assert!(rt;
+        first == Some((20 * 9 + 2, 0)) && second == Some((16 * 9 + 1 + 6 * (9 + 9 + 4), 0))
+    );
 }
 
 // Images of version 1 without data, by their code: `lw` and its use, a load of a byte and its use, a move and a product, jumps, a
@@ -124,6 +126,6 @@ fn reads_code(alloc: Global, code: &[u32]) -> Option<bool> {
 #[test]
 fn images_are_written_as_they_are_read(rt: HostRuntime) {
     for (k, code) in CODES.iter().enumerate() {
-        assert_eq!(rt; reads_code(rt.alloc(), code), Some(true), "row {k}");
+        assert!(rt; reads_code(rt.alloc(), code) == Some(true), "row {k}");
     }
 }

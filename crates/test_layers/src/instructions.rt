@@ -92,7 +92,7 @@ fn words_are_branches_and_jumps(rt: HostRuntime) {
     }
 }
 
-const PAIR_TESTS: [(PairTest, &str); 2] = [
+const PAIR_TESTS: &[(PairTest, &str)] = &[
     (PairTest::Equal, "beq $8,$9,1048575,0"),
     (PairTest::NotEqual, "bne $8,$9,1048575,0"),
 ];
@@ -125,31 +125,46 @@ fn branch_zero(test: ZeroTest, then: BlockNumber, other: BlockNumber) -> Exit {
     }
 }
 
+fn is_exit(text: &str, exit: Exit) -> bool {
+    exit_of(text.as_bytes()) == Some(exit)
+}
+
+// The first text of a branch by two registers that is read as another exit, or as none.
+fn other_pair(far: BlockNumber, near: BlockNumber) -> Option<&'static str> {
+    for &(test, text) in PAIR_TESTS {
+        if !is_exit(text, branch_pair(test, far, near)) {
+            return Some(text);
+        }
+    }
+    None
+}
+
+// The same of a branch by one register.
+fn other_zero(far: BlockNumber, near: BlockNumber) -> Option<&'static str> {
+    for &(test, text) in ZERO_TESTS {
+        if !is_exit(text, branch_zero(test, far, near)) {
+            return Some(text);
+        }
+    }
+    None
+}
+
+// Whether the texts of the exits that test no register are these exits.
+fn are_others(function: BlockNumber, next: BlockNumber) -> bool {
+    is_exit("goto 1048575", Exit::Goto(function))
+        && is_exit("call 1048575,0", Exit::Call { function, next })
+        && is_exit("return", Exit::Return)
+        && is_exit("out 0", Exit::Out(next))
+        && is_exit("halt", Exit::Halt)
+}
+
 #[test]
 fn texts_are_exits(rt: HostRuntime) {
     let far = BlockNumber::new(1048575).expect(&rt, "the last block");
     let near = BlockNumber::new(0).expect(&rt, "the first block");
-    for (test, text) in PAIR_TESTS {
-        let exit = branch_pair(test, far, near);
-        assert!(rt; exit_of(text.as_bytes()) == Some(exit), "at {text}");
-    }
-    for &(test, text) in ZERO_TESTS {
-        let exit = branch_zero(test, far, near);
-        assert!(rt; exit_of(text.as_bytes()) == Some(exit), "at {text}");
-    }
-    for (exit, text) in [
-        (Exit::Goto(far), "goto 1048575"),
-        (
-            Exit::Call {
-                function: far,
-                next: near,
-            },
-            "call 1048575,0",
-        ),
-        (Exit::Return, "return"),
-        (Exit::Out(near), "out 0"),
-        (Exit::Halt, "halt"),
-    ] {
-        assert!(rt; exit_of(text.as_bytes()) == Some(exit), "at {text}");
-    }
+    let other = other_pair(far, near).or(other_zero(far, near));
+    assert!(rt;
+        are_others(far, near) && other.is_none(),
+        "other: {other:?}"
+    );
 }

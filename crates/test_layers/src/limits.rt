@@ -13,9 +13,9 @@ fn nops(alloc: Global, count: usize, exit: Exit) -> Option<Block> {
 
 #[test]
 fn a_block_has_at_most_512_instructions(rt: HostRuntime) {
-    for (count, want) in [(512, true), (513, false)] {
-        assert_eq!(rt; nops(rt.alloc(), count, Exit::Return).is_some(), want);
-    }
+    let is_block = nops(rt.alloc(), 512, Exit::Return).is_some();
+    let is_longer_block = nops(rt.alloc(), 513, Exit::Return).is_some();
+    assert!(rt; is_block && !is_longer_block);
 }
 
 // The number of the block behind so many.
@@ -77,6 +77,6 @@ fn is_within(alloc: Global, count: usize, last: usize) -> Option<bool> {
 fn code_has_limits(rt: HostRuntime) {
     for &(count, last, want) in LENGTHS {
         let got = is_within(rt.alloc(), count, last);
-        assert_eq!(rt; got, Some(want), "{count} functions and {last} words");
+        assert!(rt; got == Some(want), "{count} functions and {last} words");
     }
 }

@@ -38,17 +38,22 @@ enum Call<'a> {
     Assemble(&'a Scheduled<'a>, usize),
 }
 
+// Whether the call gave what its caller awaits.
+fn done(is_awaited: bool) -> Attempt {
+    if is_awaited {
+        Attempt::Done
+    } else {
+        Attempt::Wrong
+    }
+}
+
 // Memory is refused at the text's end, or the text is a program, which the types take: it isn't let go of here.
 fn reading(alloc: Global, text: &[u8]) -> Attempt {
     match read(alloc, text) {
         Ok(program) => {
             let is_whole = program.text.len() == text.len();
             let _typed = check(alloc, program);
-            if is_whole {
-                Attempt::Done
-            } else {
-                Attempt::Wrong
-            }
+            done(is_whole)
         }
         Err(fault) if fault.kind.number() == 30 && fault.at == text.len() => Attempt::Refused,
         Err(_) => Attempt::Wrong,
@@ -64,19 +69,17 @@ fn attempt(alloc: Global, call: &Call<'_>) -> Attempt {
             Err(_) => Attempt::Wrong,
         },
         Call::Write(image, bytes) => match write_image(alloc, image) {
-            Ok(written) if written.as_slice() == bytes => Attempt::Done,
-            Ok(_) => Attempt::Wrong,
+            Ok(written) => done(written.as_slice() == bytes),
             Err(_) => Attempt::Refused,
         },
         Call::List(image, ample) => match list(alloc, image) {
-            Ok(text) if text.as_str() == ample => Attempt::Done,
-            Ok(_) => Attempt::Wrong,
+            Ok(text) => done(text.as_str() == ample),
             Err(_) => Attempt::Refused,
         },
         Call::Assemble(scheduled, words) => match assemble(alloc, scheduled) {
-            Ok(image) if image.code().len() == words => Attempt::Done,
+            Ok(image) => done(image.code().len() == words),
             Err(AsmFault::NoMemory) => Attempt::Refused,
-            _ => Attempt::Wrong,
+            Err(_) => Attempt::Wrong,
         },
     }
 }
@@ -84,7 +87,7 @@ fn attempt(alloc: Global, call: &Call<'_>) -> Attempt {
 // Whether the call is refused memory, and is done once it gets it.
 fn tells_refusals(alloc: Global, call: &Call<'_>) -> bool {
     let refusals = refusals(alloc, BLOCKS, LAST, || attempt(alloc, call));
-    matches!(refusals, Ok(Some(count)) if count > 0) && attempt(alloc, call) == Attempt::Done
+    matches!(refusals, Ok(Some(1..))) && attempt(alloc, call) == Attempt::Done
 }
 
 #[test]
@@ -116,8 +119,7 @@ fn listing_tells_refused_memory_alone(rt: HostRuntime) {
     let image = read_image(alloc, &bytes).ok().expect(&rt, "an image");
     let ample = list(alloc, &image).ok().expect(&rt, "a listing");
     // 10,000 lines of code with 33 bytes each and their ends, and one of data
-    assert_eq!(rt; ample.len(), 340_026);
-    assert!(rt; tells_refusals(alloc, &Call::List(&image, &ample)));
+    assert!(rt; ample.len() == 340_026 && tells_refusals(alloc, &Call::List(&image, &ample)));
 }
 
 #[test]
@@ -163,13 +165,20 @@ fn step_refusals(machine: &mut Machine<'_>, steps: u32, memory: &mut AllMemory) 
     None
 }
 
+fn are_sevens(output: &[u32]) -> bool {
+    for &word in output {
+        if word != 7 {
+            return false;
+        }
+    }
+    true
+}
+
 // Whether the machine takes 500,000 steps, some of which are refused memory and taken again, and prints 7 in each fifth.
 fn goes_on(machine: &mut Machine<'_>, memory: &mut AllMemory) -> bool {
     let refusals = step_refusals(machine, 500_000, memory);
     let output = machine.output();
-    refusals.is_some_and(|count| count > 0)
-        && output.len() == 100_000
-        && output.iter().all(|word| *word == 7)
+    matches!(refusals, Some(1..)) && output.len() == 100_000 && are_sevens(output)
 }
 
 // The same of the image of these words; None where memory is refused before.
@@ -183,5 +192,5 @@ fn sevens_go_on(alloc: Global) -> Option<bool> {
 
 #[test]
 fn a_refused_step_can_be_taken_again(rt: HostRuntime) {
-    assert_eq!(rt; sevens_go_on(rt.alloc()), Some(true));
+    assert!(rt; sevens_go_on(rt.alloc()) == Some(true));
 }

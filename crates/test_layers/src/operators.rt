@@ -67,7 +67,7 @@ const RESULTS: &[(Op, u32, u32, Option<u32>)] = &[
 #[test]
 fn operators_have_their_results(rt: HostRuntime) {
     for &(op, x, y, want) in RESULTS {
-        assert_eq!(rt; op.result(x, y), want, "at {op:?} {x} {y}");
+        assert!(rt; op.result(x, y) == want, "at {op:?} {x} {y}");
     }
     operators_compute_as_c();
 }
@@ -149,6 +149,6 @@ const VALUES: &[(Operator, u32, u32, Option<u32>)] = &[
 #[test]
 fn operators_have_their_values(rt: HostRuntime) {
     for &(op, a, b, want) in VALUES {
-        assert_eq!(rt; op.value(a, b), want, "at {op:?} {a} {b}");
+        assert!(rt; op.value(a, b) == want, "at {op:?} {a} {b}");
     }
 }

@@ -5,7 +5,7 @@ ghost use Rattle.test_layers.specs.Alone.{halting};
 
 use crate::units::{comes_to, first_version};
 use check_text::exit_of;
-use mblock::{BlockNumber, Exit, Unit};
+use mblock::{Block, BlockNumber, Exit, Unit};
 use mips_isa::{ImmOp, Plain, Reg};
 use mips_split::{LongBlock, SelectFault, split, split_unit};
 use mips_steps::Ending;
@@ -61,13 +61,16 @@ fn long_blocks(alloc: Global, lengths: Lengths) -> Option<Vec<LongBlock>> {
     Some(blocks)
 }
 
+fn is_piece(piece: &Block, count: usize, exit: &str) -> bool {
+    piece.insts().len() == count && exit_of(exit.as_bytes()) == Some(piece.exit())
+}
+
 // Whether the pieces of blocks of the first lengths have the second.
 fn are_pieces(alloc: Global, lengths: Lengths, wants: Lengths) -> Option<bool> {
     let pieces = split(alloc, long_blocks(alloc, lengths)?).ok()?;
     let mut same = pieces.len() == wants.len();
     for (piece, &(count, exit)) in pieces.iter().zip(wants) {
-        let ends = exit_of(exit.as_bytes()) == Some(piece.exit());
-        same = same && ends && piece.insts().len() == count;
+        same = is_piece(piece, count, exit) && same;
     }
     Some(same)
 }
@@ -75,11 +78,8 @@ fn are_pieces(alloc: Global, lengths: Lengths, wants: Lengths) -> Option<bool> {
 #[test]
 fn long_blocks_are_cut_into_pieces(rt: HostRuntime) {
     for (k, &(lengths, wants)) in PIECES.iter().enumerate() {
-        assert_eq!(rt;
-            are_pieces(rt.alloc(), lengths, wants),
-            Some(true),
-            "row {k}"
-        );
+        let are_wanted = are_pieces(rt.alloc(), lengths, wants);
+        assert!(rt; are_wanted == Some(true), "row {k}");
     }
 }
 
@@ -109,16 +109,20 @@ fn counting(alloc: Global, count: usize) -> Option<Unit> {
     split_unit(alloc, blocks, owner.as_slice(), Vec::new(alloc)).ok()
 }
 
+// Whether 1300 additions are three blocks, which run one after another: with two jumps and their slots, and the two words of
+// the end.
+fn runs_in_pieces(alloc: Global) -> Option<bool> {
+    let unit = counting(alloc, 1300)?;
+    let image = first_version(alloc, &unit)?.ok()?;
+    let has_lengths = unit.blocks().len() == 3 && image.code().len() == 1306;
+    let ends = comes_to(alloc, &image, 1306, Ending::Halt(1300), &[]);
+    let goes_on = comes_to(alloc, &image, 1305, Ending::More, &[]);
+    Some(has_lengths && ends && goes_on)
+}
+
 #[test]
 fn a_long_block_runs_in_its_pieces(rt: HostRuntime) {
-    let unit = counting(rt.alloc(), 1300).expect(&rt, "a unit");
-    assert_eq!(rt; unit.blocks().len(), 3);
-    let image = first_version(rt.alloc(), &unit).and_then(|image| image.ok());
-    let image = image.expect(&rt, "an image");
-    // two jumps with their slots, and the two words of the end
-    assert_eq!(rt; image.code().len(), 1306);
-    assert!(rt; comes_to(rt.alloc(), &image, 1306, Ending::Halt(1300), &[]));
-    assert!(rt; comes_to(rt.alloc(), &image, 1305, Ending::More, &[]));
+    assert!(rt; runs_in_pieces(rt.alloc()) == Some(true));
 }
 
 // Whether so many blocks without instructions are within a unit's; None where memory is refused.
@@ -138,6 +142,7 @@ fn are_few(alloc: Global, count: usize) -> Option<bool> {
 
 #[test]
 fn more_pieces_than_a_unit_has_are_refused(rt: HostRuntime) {
-    assert_eq!(rt; are_few(rt.alloc(), 1_048_576), Some(true));
-    assert_eq!(rt; are_few(rt.alloc(), 1_048_577), Some(false));
+    let most = are_few(rt.alloc(), 1_048_576);
+    let more = are_few(rt.alloc(), 1_048_577);
+    assert!(rt; most == Some(true) && more == Some(false));
 }

@@ -11,13 +11,16 @@ const TAKES_NONE: Function<'static> = (0, &[RETURNS]);
 
 const TAKES_ONE: Function<'static> = (1, &[RETURNS]);
 
+// Whether the program of a function and a global has them; None where it is no program.
+fn has_its_parts(alloc: Global) -> Option<bool> {
+    let program = program(alloc, &[TAKES_NONE], &[(Width::Word, 2, &[5, 6])], 0)?;
+    let (functions, globals) = (program.functions(), program.globals());
+    Some(functions.len() == 1 && globals.len() == 1 && program.main() == 0)
+}
+
 #[test]
 fn a_program_has_its_parts(rt: HostRuntime) {
-    let program = program(rt.alloc(), &[TAKES_NONE], &[(Width::Word, 2, &[5, 6])], 0);
-    let program = program.expect(&rt, "a program");
-    assert_eq!(&rt; program.functions().len(), 1);
-    assert_eq!(&rt; program.globals().len(), 1);
-    assert_eq!(&rt; program.main(), 0);
+    assert!(rt; has_its_parts(rt.alloc()) == Some(true));
 }
 
 // The block of a `main` beside a function of one parameter and a global of one word, and whether they make a program.
@@ -85,8 +88,8 @@ fn what_is_named_exists(rt: HostRuntime) {
     for (k, &(block, want)) in BLOCKS.iter().enumerate() {
         let main = [block];
         let functions = [(0, main.as_slice()), TAKES_ONE];
-        let got = program(rt.alloc(), &functions, &[(Width::Word, 1, &[0])], 0);
-        assert_eq!(rt; got.is_some(), want, "row {k}");
+        let is_program = program(rt.alloc(), &functions, &[(Width::Word, 1, &[0])], 0).is_some();
+        assert!(rt; is_program == want, "row {k}");
     }
 }
 
@@ -117,8 +120,8 @@ const PARTS: &[Parts] = &[
 #[test]
 fn parts_are_a_program(rt: HostRuntime) {
     for (k, &(functions, arrays, main, want)) in PARTS.iter().enumerate() {
-        let got = program(rt.alloc(), functions, arrays, main);
-        assert_eq!(rt; got.is_some(), want, "row {k}");
+        let is_program = program(rt.alloc(), functions, arrays, main).is_some();
+        assert!(rt; is_program == want, "row {k}");
     }
 }
 
@@ -178,10 +181,7 @@ fn are_sizes(alloc: Global, blocks: [usize; 2], elements: [u32; 2]) -> Option<bo
 #[test]
 fn programs_have_sizes(rt: HostRuntime) {
     for (k, &(blocks, elements, want)) in SIZES.iter().enumerate() {
-        assert_eq!(rt;
-            are_sizes(rt.alloc(), blocks, elements),
-            Some(want),
-            "row {k}"
-        );
+        let got = are_sizes(rt.alloc(), blocks, elements);
+        assert!(rt; got == Some(want), "row {k}");
     }
 }

@@ -403,10 +403,10 @@ fn is_wrong_at(alloc: Global, step: u64, insts: &[RInst], ends: Ends) -> Option<
 fn what_is_unset_or_outside_is_wrong(rt: HostRuntime) {
     for &(first, wrong) in WRONG {
         let is_wrong = is_wrong_at(rt.alloc(), 2, &[first, wrong], Ends::Return(Some(2)));
-        assert_eq!(rt; is_wrong, Some(true), "{wrong:?}");
+        assert!(rt; is_wrong == Some(true), "{wrong:?}");
     }
     for &ends in WRONG_EXITS {
-        assert_eq!(rt; is_wrong_at(rt.alloc(), 1, &[], ends), Some(true));
+        assert!(rt; is_wrong_at(rt.alloc(), 1, &[], ends) == Some(true));
     }
 }
 
@@ -422,9 +422,10 @@ fn first_wrong(alloc: Global, rows: &[Row]) -> Option<&'static str> {
 
 #[test]
 fn programs_come_to_their_ends(rt: HostRuntime) {
-    assert_eq!(rt; first_wrong(rt.alloc(), ALONE), None);
-    assert_eq!(rt; first_wrong(rt.alloc(), CALLS), None);
-    assert_eq!(rt; first_wrong(rt.alloc(), GLOBALS), None);
+    let alone = first_wrong(rt.alloc(), ALONE);
+    let calls = first_wrong(rt.alloc(), CALLS);
+    let globals = first_wrong(rt.alloc(), GLOBALS);
+    assert_eq!(rt; alone.or(calls).or(globals), None);
     values_are_words();
     runs_go_on_from_where_they_are();
 }
