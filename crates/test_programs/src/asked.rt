@@ -146,7 +146,7 @@ fn shows_the_terms(alloc: Global, line: &[&str]) -> bool {
             stage: Some("terms"),
             function: Some("f"),
             dot: false,
-        },)
+        })
     )
 }
 

@@ -4,8 +4,8 @@ use clap::error::ErrorKind;
 use command_line::words;
 use delay_filler::FilledOrder;
 use driver::{
-    BuildFault, BuildOpts, Built, CheckAnswer, CheckFault, SourceFault, build, build_plain, check,
-    run_image,
+    BuildFault, BuildOpts, Built, CheckAnswer, CheckFault, SourceFault, build, build_one,
+    build_plain, check, run_image,
 };
 use image::read_image;
 use list_scheduler::ListOrder;
@@ -87,8 +87,8 @@ fn words_tell_refused_memory_alone(rt: HostRuntime) {
     assert!(rt; matches!(refusals, Some(1..)) && is_refused(rt.alloc()) == Some(false));
 }
 
-/// Whether each block has a verdict or was missed, and none met a full table.
-pub fn has_each_block(built: &Built) -> bool {
+// Whether each block has a verdict or was missed, and none met a full table.
+fn has_each_block(built: &Built) -> bool {
     let report = built.report;
     let mut counted: u64 = 0;
     for count in [
@@ -121,8 +121,8 @@ pub fn prints_three(alloc: Global, image: &[u8]) -> bool {
     }
 }
 
-/// Whether there are images, and each prints 3 and ends with 0.
-pub fn print_three(alloc: Global, images: &[Vec<u8>]) -> bool {
+// Whether there are images, and each prints 3 and ends with 0.
+fn print_three(alloc: Global, images: &[Vec<u8>]) -> bool {
     for image in images {
         if !prints_three(alloc, image.as_slice()) {
             return false;
@@ -131,47 +131,50 @@ pub fn print_three(alloc: Global, images: &[Vec<u8>]) -> bool {
     !images.is_empty()
 }
 
-// A build by two workers, of which a refusal is None; a fault of another kind, or a count that is off, is an Err.
-fn by_two<T: Threads + Wait + Sync>(
+// A build by so many workers, by one without threads, of which a refusal is None; a fault of another kind is an Err.
+fn attempt<T: Threads + Wait + Sync>(
     threads: &T,
     alloc: Global,
+    workers: u64,
 ) -> Result<Option<Built>, BuildFault> {
-    let Some(phase) = PhaseOpts::new(2, 2000, 16) else {
+    let Some(phase) = PhaseOpts::new(workers, 2000, 16) else {
         return Err(BuildFault::NoMemory);
     };
+    let text = COUNTS.as_bytes();
     let options = BuildOpts { depth: 1, phase };
     let scheduler = FilledOrder(ListOrder);
-    match build(
-        threads,
-        alloc,
-        COUNTS.as_bytes(),
-        &options,
-        &scheduler,
-        &Open,
-    ) {
+    let built = if workers == 1 {
+        build_one(alloc, text, &options, &scheduler)
+    } else {
+        build(threads, alloc, text, &options, &scheduler, &Open)
+    };
+    match built {
         Ok(built) => Ok(Some(built)),
         Err(fault) if is_refusal(fault) => Ok(None),
         Err(fault) => Err(fault),
     }
 }
 
-// Gives memory back until a build has a verdict for each block, and keeps each image on the way; how many builds were refused.
+// Gives memory back until each block of a build is found the same, and keeps each image on the way; how many builds were refused.
+// None where a build tells another fault or counts a block twice or not at all, where one worker misses a block, or none is whole.
 fn builds_until_whole<T: Threads + Wait + Sync>(
     threads: &T,
     alloc: Global,
+    workers: u64,
     images: &mut Vec<Vec<u8>>,
 ) -> Option<u32> {
     let mut memory = all_memory(alloc)?;
     let mut refusals: u32 = 0;
     for _ in 0..=BLOCKS {
-        match by_two(threads, alloc) {
+        match attempt(threads, alloc, workers) {
             Ok(Some(built)) => {
                 let is_whole = built.report.same as usize == built.blocks;
-                if !has_each_block(&built) || images.push(built.image).is_err() {
+                let is_missed = workers == 1 && built.report.missed > 0;
+                if is_missed || !has_each_block(&built) || images.push(built.image).is_err() {
                     return None;
                 }
                 if is_whole {
-                    break;
+                    return Some(refusals);
                 }
             }
             Ok(None) => refusals = refusals.wrapping_add(1),
@@ -179,15 +182,25 @@ fn builds_until_whole<T: Threads + Wait + Sync>(
         }
         memory.give_back();
     }
-    Some(refusals)
+    None
+}
+
+/// Whether builds by so many workers are refused memory, and each image that is made before one is whole prints 3; None where they
+/// do another thing.
+pub fn scarce_builds_run<T: Threads + Wait + Sync>(
+    threads: &T,
+    alloc: Global,
+    workers: u64,
+) -> Option<bool> {
+    let mut images = Vec::with_capacity(alloc, BLOCKS + 1).ok()?;
+    let refusals = builds_until_whole(threads, alloc, workers, &mut images)?;
+    Some(refusals > 0 && print_three(alloc, images.as_slice()))
 }
 
 // A block whose order or verdict is refused memory, or that no worker comes to, has its own order.
 #[test]
 fn builds_by_workers_tell_refused_memory_or_run(rt: HostRuntime) {
-    let mut images = Vec::with_capacity(rt.alloc(), 1002).expect(&rt, "memory");
-    let refusals = builds_until_whole(&rt, rt.alloc(), &mut images);
-    assert!(rt; matches!(refusals, Some(1..)) && print_three(rt.alloc(), images.as_slice()));
+    assert!(rt; scarce_builds_run(&rt, rt.alloc(), 2) == Some(true));
 }
 
 const SEVENS: &str = "int main(void){while(1)out(7);}";

@@ -1,13 +1,8 @@
 // Memory that is really refused to builds, runs and listings: each test is a process of its own, and takes all that it can
 // get. With each block that it gives back the program comes further.
 
-use crate::build_memory::{
-    BLOCKS, all_memory, has_each_block, is_refusal, print_three, prints_three,
-};
-use delay_filler::FilledOrder;
-use driver::{BuildOpts, build_one, build_plain};
-use list_scheduler::ListOrder;
-use sched_phase::PhaseOpts;
+use crate::build_memory::{BLOCKS, all_memory, is_refusal, prints_three, scarce_builds_run};
+use driver::build_plain;
 use stand_ins::{COUNTS, Desk};
 use std::alloc::Global;
 use std::sync::Wait;
@@ -36,39 +31,10 @@ fn plain_builds_tell_refused_memory_alone(rt: HostRuntime) {
     assert!(rt; matches!(refusals, Some(1..)) && prints_three(rt.alloc(), ample.image.as_slice()));
 }
 
-// How many builds by the scheduler of `mcc build` are refused memory until one has no block that was; each image on the way is
-// kept. None where a build tells another fault, counts a block twice or not at all, or no build is without refusals.
-fn scarce_builds(alloc: Global, images: &mut Vec<Vec<u8>>) -> Option<u32> {
-    let phase = PhaseOpts::new(1, 2000, 16)?;
-    let options = BuildOpts { depth: 1, phase };
-    let mut memory = all_memory(alloc)?;
-    let mut refusals: u32 = 0;
-    for _ in 1..BLOCKS {
-        match build_one(alloc, COUNTS.as_bytes(), &options, &FilledOrder(ListOrder)) {
-            Ok(built) => {
-                let is_whole = built.report.no_memory == 0;
-                let is_counted = built.report.missed == 0 && has_each_block(&built);
-                if !is_counted || images.push(built.image).is_err() {
-                    return None;
-                }
-                if is_whole {
-                    return Some(refusals);
-                }
-            }
-            Err(fault) if is_refusal(fault) => refusals = refusals.wrapping_add(1),
-            Err(_) => return None,
-        }
-        memory.give_back();
-    }
-    None
-}
-
 // A block whose order or verdict is refused memory has its own order, and the image still does what the text says.
 #[test]
 fn scheduled_builds_tell_refused_memory_or_run(rt: HostRuntime) {
-    let mut images = Vec::with_capacity(rt.alloc(), BLOCKS).expect(&rt, "memory");
-    let refusals = scarce_builds(rt.alloc(), &mut images);
-    assert!(rt; matches!(refusals, Some(1..)) && print_three(rt.alloc(), images.as_slice()));
+    assert!(rt; scarce_builds_run(&rt, rt.alloc(), 1) == Some(true));
 }
 
 // How `mcc` tells refused memory before it has status 0: with a place, and without; None where it tells another thing first.

@@ -104,6 +104,7 @@ enum Read {
     Image,
 }
 
+// The bytes of the file, where this is the image.
 fn bytes_of(read: Read, image: &[u8]) -> &[u8] {
     match read {
         Read::Text => TEXT,
