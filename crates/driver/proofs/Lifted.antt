@@ -1,17 +1,23 @@
--- What a check of several files did, as what the program did with its words.
+-- What a command did, as what the program did with its words: what it told beside its answer, and checks of several files.
 use Rattle.std.proofs.Common.{◌≡◌, ◌≢◌, ◌⊎◌, ℕ, List, [], ◌∷◌, ◌==◌, ◌||◌, if◌then◌else◌, Bool, true, false, Option, map, fold, max, refl, sym, subst, inl, inr}
 use Rattle.std.specs.declared.vec.Vec.{Vec}
 use Rattle.std.specs.declared.alloc.Global.{Global}
 use Rattle.std.specs.Borrow.{Bor}
 use Rattle.std.specs.List.{FoldsTo, flat_map}
-use Rattle.commands.specs.Requests.{Request, Asks, Does, TellsLine}
+use Rattle.commands.specs.Requests.{Request, Asks, Does, TellsBeside, TellsLine}
 use Rattle.check_report.specs.Several.{BreaksOff, CheckedFile, ChecksAll, ChecksEach, worse, status_of, faults_of, lines_of, request_of}
 use Rattle.check_report.specs.Several.CheckedFile.{Answered, Unexplained, Faulty, Unread}
 use Rattle.command_line.specs.Commands.{IsCommand}
-use Rattle.command_line.specs.Programs.{IsStopped}
+use Rattle.command_line.specs.Programs.{IsRemark, IsStopped}
+use Rattle.command_line.specs.declared.command.Command.{Command}
 use Rattle.command_line.specs.declared.command.Command.TheVariants.{CheckEach}
 use Rattle.command_line.proofs.Programs.{stopped_by}
-use Rattle.driver.specs.Program.{HasFaultyFile, Stops}
+use Rattle.driver.specs.Program.{HasFaultyFile, Remarks, Stops}
+
+-- what a command told beside its answer, as what the program did
+pub remarked : {E : Type 0} (tells : E → List ℕ → E → Type 0) (words : List (List ℕ)) (status : ℕ) (command : Command) → IsCommand words command
+    → (p q : E) → TellsBeside tells p (Remarks command status) q → TellsBeside tells p (IsRemark Remarks words status) q
+remarked tells words status command entered p q (told, folds, says) = (told, folds, (command, entered, says))
 
 one_or : (b : Bool) (n : ℕ) → (if b || true then 1 else n) ≡ 1
 one_or true n = refl

@@ -2,9 +2,12 @@
 ghost use Rattle.std.specs.Prelude.{◌≡◌, ◌≢◌, ◌≤◌, ◌⊎◌, map, true};
 ghost use Rattle.clap.specs.Words.{takes};
 ghost use Rattle.command_line.specs.Commands.{mcc_app};
-ghost use Rattle.commands.specs.Requests.{Asks, Does, IsSent, TellsBeside, TellsLine};
+ghost use Rattle.commands.specs.Requests.{Asks, Does, IsNothing, IsSent, TellsBeside, TellsLine};
 ghost use Rattle.command_line.specs.Programs.{IsAnswered, IsRemark, IsStopped};
-ghost use Rattle.driver.specs.Program.{Answers, HasFaultyFile, Remarks, Stops};
+ghost use Rattle.check_command.specs.Command.{StopsCheck};
+ghost use Rattle.check_command.specs.Texts.{IsCheckStatus};
+ghost use Rattle.command_line.specs.declared.command.Command.TheVariants.{Check};
+ghost use Rattle.driver.specs.Program.{Answers, HasFaultyFile, Remarks, Shows, Stops, StopsShow};
 ghost use Rattle.driver.specs.Texts.{end_status, interp_fault_text};
 
 use crate::image_commands::ImageCommand;
@@ -123,6 +126,49 @@ impl FileCommand for InterpCommand {
     }
 }
 
+/// `mcc check FILE`, with `--explain` or without.
+fn check_one<F: Files, W: Output, E: Complaints>(
+    alloc: Global,
+    file: &str,
+    explain: bool,
+    files: &mut F,
+    out: &mut W,
+    err: &mut E,
+) -> u8
+    ensures answered { result ≢ 1 → Does F.answers files.old files.new (W.contents out.old) (W.contents out.new)
+        (Answers (Check file.entry explain) result) }
+    ensures possible { IsCheckStatus result }
+    ensures sent { result ≢ 1 → IsSent W.sends out.new }
+    ensures quiet { result ≢ 1 → err.new ≡ err.old }
+    ensures stopped { result ≡ 1 → Asks F.answers files.old files.new E.tells err.old err.new (StopsCheck file.now) }
+{
+    if explain {
+        answer_check(alloc, &ExplainedAnswer, file, files, out, err)
+    } else {
+        check_file(alloc, file, files, out, err)
+    }
+}
+
+/// `mcc show SOURCE`, with what is asked for.
+fn show_source<F: Files, W: Output, E: Complaints>(
+    alloc: Global,
+    asked: Asked<'_>,
+    source: &str,
+    files: &mut F,
+    out: &mut W,
+    err: &mut E,
+) -> u8
+    ensures answered { result ≢ 1 → Does F.answers files.old files.new (W.contents out.old) (W.contents out.new)
+        (Shows source.now result) }
+    ensures most { result ≤ 1 }
+    ensures sent { result ≢ 1 → IsSent W.sends out.new }
+    ensures beside { result ≢ 1 → TellsBeside E.tells err.old IsNothing err.new }
+    ensures stopped { result ≡ 1 → Asks F.answers files.old files.new E.tells err.old err.new (StopsShow source.now) }
+{
+    let command = Paged(ShowCommand { asked });
+    answer_file(alloc, &command, source, files, out, err)
+}
+
 /// The whole program over its words (the first is its name), its files and two writers; a build and a check of several files
 /// start threads. The answer is the exit status: 0 for `same`, `done`, a build, a listing, stages and help, 1 for a fault, 2 for
 /// wrong words, 4 for `more`, 3 for any other answer; of several check texts the worst.
@@ -148,13 +194,7 @@ pub fn mcc<T: Threads + Wait + Sync, F: Files, W: Output, E: Complaints>(
         (map (λ s. s.now) args.entry.now) }
 {
     match words(alloc, args) {
-        Ok(Command::Check { file, explain }) => {
-            if explain {
-                answer_check(alloc, &ExplainedAnswer, file, files, out, err)
-            } else {
-                check_file(alloc, file, files, out, err)
-            }
-        }
+        Ok(Command::Check { file, explain }) => check_one(alloc, file, explain, files, out, err),
         Ok(
             Command::CheckEach {
                 files: names,
@@ -193,8 +233,7 @@ pub fn mcc<T: Threads + Wait + Sync, F: Files, W: Output, E: Complaints>(
                 function,
                 dot,
             };
-            let command = Paged(ShowCommand { asked });
-            answer_file(alloc, &command, source, files, out, err)
+            show_source(alloc, asked, source, files, out, err)
         }
         Err(error) => tell_words(&error, out, err),
     }

@@ -1,22 +1,28 @@
 use Rattle.std.proofs.Common.{refl, inl, map, subst}
 use Rattle.command_line.specs.Commands.{IsCommand}
 use Rattle.command_line.specs.declared.command.Command.TheVariants.{Check, CheckEach, Interp, Build, Run, List as Listing, Show}
-use Rattle.command_line.proofs.Programs.{answered_by, silent, stopped_before}
-use Rattle.driver.proofs.Lifted.{all_answered, all_silent, all_stopped}
+use Rattle.command_line.proofs.Programs.{answered_by, silent, stopped_by, stopped_before}
+use Rattle.driver.proofs.Lifted.{all_answered, all_silent, all_stopped, remarked}
 use Rattle.driver.specs.Program.{Answers, Remarks, Stops}
 use Rattle.driver.proofs.program.mcc.Goals as goal
 
-pub returns-then-explain-clause-quiet : goal.returns-then-explain-clause-quiet
-returns-then-explain-clause-quiet g c = λ taken other.
-    silent Remarks g.E.Complaints.tells (map (λ s. s.now) c.args.args.now) c.answer_check.result (Check c.in-Ok-Check.file c.in-Ok-Check.explain)
+pub returns-in-Ok-Check-clause-answered : goal.returns-in-Ok-Check-clause-answered
+returns-in-Ok-Check-clause-answered g c = λ taken other.
+    answered_by Answers g.F.Files.answers (map (λ s. s.now) c.args.args.now) c.check_one.result (Check c.in-Ok-Check.file c.in-Ok-Check.explain)
     (subst (IsCommand (map (λ s. s.now) c.args.args.now)) c.in-Ok-Check.field-0-is c.in-Ok-Check.ensures.command)
-    _ _ refl (c.answer_check.ensures.quiet other)
+    _ _ _ _ (c.check_one.ensures.answered other)
 
-pub returns-else-explain-clause-quiet : goal.returns-else-explain-clause-quiet
-returns-else-explain-clause-quiet g c = λ taken other.
-    silent Remarks g.E.Complaints.tells (map (λ s. s.now) c.args.args.now) c.check_file.result (Check c.in-Ok-Check.file c.in-Ok-Check.explain)
+pub returns-in-Ok-Check-clause-quiet : goal.returns-in-Ok-Check-clause-quiet
+returns-in-Ok-Check-clause-quiet g c = λ taken other.
+    silent Remarks g.E.Complaints.tells (map (λ s. s.now) c.args.args.now) c.check_one.result (Check c.in-Ok-Check.file c.in-Ok-Check.explain)
     (subst (IsCommand (map (λ s. s.now) c.args.args.now)) c.in-Ok-Check.field-0-is c.in-Ok-Check.ensures.command)
-    _ _ refl (c.check_file.ensures.quiet other)
+    _ _ refl (c.check_one.ensures.quiet other)
+
+pub returns-in-Ok-Check-clause-stopped : goal.returns-in-Ok-Check-clause-stopped
+returns-in-Ok-Check-clause-stopped g c = λ one.
+    inl (stopped_by Stops g.F.Files.answers g.E.Complaints.tells (map (λ s. s.now) c.args.args.now) (Check c.in-Ok-Check.file c.in-Ok-Check.explain)
+    (subst (IsCommand (map (λ s. s.now) c.args.args.now)) c.in-Ok-Check.field-0-is c.in-Ok-Check.ensures.command)
+    _ _ _ _ (c.check_one.ensures.stopped one))
 
 pub returns-in-Ok-CheckEach-clause-answered : goal.returns-in-Ok-CheckEach-clause-answered
 returns-in-Ok-CheckEach-clause-answered g c = λ taken other.
@@ -45,11 +51,35 @@ returns-in-Ok-Interp-clause-answered g c = λ taken other.
     (subst (IsCommand (map (λ s. s.now) c.args.args.now)) c.in-Ok-Interp.field-0-is c.in-Ok-Interp.ensures.command)
     _ _ _ _ (c.answer_file.ensures.answered other)
 
+pub returns-in-Ok-Interp-clause-quiet : goal.returns-in-Ok-Interp-clause-quiet
+returns-in-Ok-Interp-clause-quiet g c = λ taken other.
+    remarked g.E.Complaints.tells (map (λ s. s.now) c.args.args.now) c.answer_file.result (Interp c.in-Ok-Interp.source c.in-Ok-Interp.depth c.in-Ok-Interp.steps)
+    (subst (IsCommand (map (λ s. s.now) c.args.args.now)) c.in-Ok-Interp.field-0-is c.in-Ok-Interp.ensures.command)
+    _ _ (c.answer_file.ensures.beside other)
+
+pub returns-in-Ok-Interp-clause-stopped : goal.returns-in-Ok-Interp-clause-stopped
+returns-in-Ok-Interp-clause-stopped g c = λ one.
+    inl (stopped_by Stops g.F.Files.answers g.E.Complaints.tells (map (λ s. s.now) c.args.args.now) (Interp c.in-Ok-Interp.source c.in-Ok-Interp.depth c.in-Ok-Interp.steps)
+    (subst (IsCommand (map (λ s. s.now) c.args.args.now)) c.in-Ok-Interp.field-0-is c.in-Ok-Interp.ensures.command)
+    _ _ _ _ (c.answer_file.ensures.stopped one))
+
+pub returns-in-Ok-Build-clause-answered : goal.returns-in-Ok-Build-clause-answered
+returns-in-Ok-Build-clause-answered g c = λ taken other.
+    answered_by Answers g.F.Files.answers (map (λ s. s.now) c.args.args.now) c.build_file.result (Build c.in-Ok-Build.asked)
+    (subst (IsCommand (map (λ s. s.now) c.args.args.now)) c.in-Ok-Build.field-0-is c.in-Ok-Build.ensures.command)
+    _ _ _ _ (c.build_file.ensures.answered other)
+
 pub returns-in-Ok-Build-clause-quiet : goal.returns-in-Ok-Build-clause-quiet
 returns-in-Ok-Build-clause-quiet g c = λ taken other.
     silent Remarks g.E.Complaints.tells (map (λ s. s.now) c.args.args.now) c.build_file.result (Build c.in-Ok-Build.asked)
     (subst (IsCommand (map (λ s. s.now) c.args.args.now)) c.in-Ok-Build.field-0-is c.in-Ok-Build.ensures.command)
     _ _ refl (c.build_file.ensures.quiet other)
+
+pub returns-in-Ok-Build-clause-stopped : goal.returns-in-Ok-Build-clause-stopped
+returns-in-Ok-Build-clause-stopped g c = λ one.
+    inl (stopped_by Stops g.F.Files.answers g.E.Complaints.tells (map (λ s. s.now) c.args.args.now) (Build c.in-Ok-Build.asked)
+    (subst (IsCommand (map (λ s. s.now) c.args.args.now)) c.in-Ok-Build.field-0-is c.in-Ok-Build.ensures.command)
+    _ _ _ _ (c.build_file.ensures.stopped one))
 
 pub returns-in-Ok-Run-clause-answered : goal.returns-in-Ok-Run-clause-answered
 returns-in-Ok-Run-clause-answered g c = λ taken other.
@@ -57,17 +87,53 @@ returns-in-Ok-Run-clause-answered g c = λ taken other.
     (subst (IsCommand (map (λ s. s.now) c.args.args.now)) c.in-Ok-Run.field-0-is c.in-Ok-Run.ensures.command)
     _ _ _ _ (c.run_file.ensures.answered other)
 
+pub returns-in-Ok-Run-clause-quiet : goal.returns-in-Ok-Run-clause-quiet
+returns-in-Ok-Run-clause-quiet g c = λ taken other.
+    remarked g.E.Complaints.tells (map (λ s. s.now) c.args.args.now) c.run_file.result (Run c.in-Ok-Run.image c.in-Ok-Run.steps)
+    (subst (IsCommand (map (λ s. s.now) c.args.args.now)) c.in-Ok-Run.field-0-is c.in-Ok-Run.ensures.command)
+    _ _ (c.run_file.ensures.beside other)
+
+pub returns-in-Ok-Run-clause-stopped : goal.returns-in-Ok-Run-clause-stopped
+returns-in-Ok-Run-clause-stopped g c = λ one.
+    inl (stopped_by Stops g.F.Files.answers g.E.Complaints.tells (map (λ s. s.now) c.args.args.now) (Run c.in-Ok-Run.image c.in-Ok-Run.steps)
+    (subst (IsCommand (map (λ s. s.now) c.args.args.now)) c.in-Ok-Run.field-0-is c.in-Ok-Run.ensures.command)
+    _ _ _ _ (c.run_file.ensures.stopped one))
+
 pub returns-in-Ok-List-clause-answered : goal.returns-in-Ok-List-clause-answered
 returns-in-Ok-List-clause-answered g c = λ taken other.
     answered_by Answers g.F.Files.answers (map (λ s. s.now) c.args.args.now) c.answer_file-in-Ok-List.result (Listing c.in-Ok-List.image c.in-Ok-List.asm)
     (subst (IsCommand (map (λ s. s.now) c.args.args.now)) c.in-Ok-List.field-0-is c.in-Ok-List.ensures.command)
     _ _ _ _ (c.answer_file-in-Ok-List.ensures.answered other)
 
+pub returns-in-Ok-List-clause-quiet : goal.returns-in-Ok-List-clause-quiet
+returns-in-Ok-List-clause-quiet g c = λ taken other.
+    remarked g.E.Complaints.tells (map (λ s. s.now) c.args.args.now) c.answer_file-in-Ok-List.result (Listing c.in-Ok-List.image c.in-Ok-List.asm)
+    (subst (IsCommand (map (λ s. s.now) c.args.args.now)) c.in-Ok-List.field-0-is c.in-Ok-List.ensures.command)
+    _ _ (c.answer_file-in-Ok-List.ensures.beside other)
+
+pub returns-in-Ok-List-clause-stopped : goal.returns-in-Ok-List-clause-stopped
+returns-in-Ok-List-clause-stopped g c = λ one.
+    inl (stopped_by Stops g.F.Files.answers g.E.Complaints.tells (map (λ s. s.now) c.args.args.now) (Listing c.in-Ok-List.image c.in-Ok-List.asm)
+    (subst (IsCommand (map (λ s. s.now) c.args.args.now)) c.in-Ok-List.field-0-is c.in-Ok-List.ensures.command)
+    _ _ _ _ (c.answer_file-in-Ok-List.ensures.stopped one))
+
 pub returns-in-Ok-Show-clause-answered : goal.returns-in-Ok-Show-clause-answered
 returns-in-Ok-Show-clause-answered g c = λ taken other.
-    answered_by Answers g.F.Files.answers (map (λ s. s.now) c.args.args.now) c.answer_file-in-Ok-Show.result (Show c.in-Ok-Show.source c.in-Ok-Show.stage c.in-Ok-Show.function c.in-Ok-Show.dot)
+    answered_by Answers g.F.Files.answers (map (λ s. s.now) c.args.args.now) c.show_source.result (Show c.in-Ok-Show.source c.in-Ok-Show.stage c.in-Ok-Show.function c.in-Ok-Show.dot)
     (subst (IsCommand (map (λ s. s.now) c.args.args.now)) c.in-Ok-Show.field-0-is c.in-Ok-Show.ensures.command)
-    _ _ _ _ (c.answer_file-in-Ok-Show.ensures.answered other)
+    _ _ _ _ (c.show_source.ensures.answered other)
+
+pub returns-in-Ok-Show-clause-quiet : goal.returns-in-Ok-Show-clause-quiet
+returns-in-Ok-Show-clause-quiet g c = λ taken other.
+    remarked g.E.Complaints.tells (map (λ s. s.now) c.args.args.now) c.show_source.result (Show c.in-Ok-Show.source c.in-Ok-Show.stage c.in-Ok-Show.function c.in-Ok-Show.dot)
+    (subst (IsCommand (map (λ s. s.now) c.args.args.now)) c.in-Ok-Show.field-0-is c.in-Ok-Show.ensures.command)
+    _ _ (c.show_source.ensures.beside other)
+
+pub returns-in-Ok-Show-clause-stopped : goal.returns-in-Ok-Show-clause-stopped
+returns-in-Ok-Show-clause-stopped g c = λ one.
+    inl (stopped_by Stops g.F.Files.answers g.E.Complaints.tells (map (λ s. s.now) c.args.args.now) (Show c.in-Ok-Show.source c.in-Ok-Show.stage c.in-Ok-Show.function c.in-Ok-Show.dot)
+    (subst (IsCommand (map (λ s. s.now) c.args.args.now)) c.in-Ok-Show.field-0-is c.in-Ok-Show.ensures.command)
+    _ _ _ _ (c.show_source.ensures.stopped one))
 
 pub returns-in-Err-clause-stopped : goal.returns-in-Err-clause-stopped
 returns-in-Err-clause-stopped g c = λ one.
