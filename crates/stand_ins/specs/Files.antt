@@ -1,5 +1,5 @@
 -- What a request does to files of one row of bytes.
-use Rattle.std.specs.Prelude.{◌≡◌, ◌++◌, ⊤}
+use Rattle.std.specs.Prelude.{◌≡◌, ◌++◌}
 use Rattle.commands.specs.Requests.{Request}
 use Rattle.commands.specs.Requests.Request.{Read, NotRead, Written, NotWritten}
 use Rattle.stand_ins.specs.declared.files.OneFile.{OneFile}

@@ -29,16 +29,6 @@ impl Written {
             && self.out.as_slice() == out.as_bytes()
             && self.err.as_slice() == err.as_bytes()
     }
-
-    /// Whether it has this status, nothing on standard output, and this part on standard error.
-    pub fn complains(&self, status: u8, part: &str) -> bool {
-        self.status == status && self.out.is_empty() && text_of(&self.err).contains(part)
-    }
-
-    /// Whether it has status 0, this part on standard output, and nothing on standard error.
-    pub fn shows(&self, part: &str) -> bool {
-        self.status == 0 && text_of(&self.out).contains(part) && self.err.is_empty()
-    }
 }
 
 fn text_of(bytes: &[u8]) -> &str {
@@ -68,23 +58,6 @@ pub fn told_by<T: Threads + Wait + Sync>(
     let mut err = Vec::new(alloc);
     let status = mcc(threads, alloc, words, files, &mut out, &mut err);
     Written { status, out, err }
-}
-
-/// The same where every file has this text.
-pub fn told<T: Threads + Wait + Sync>(
-    threads: &T,
-    alloc: Global,
-    text: &str,
-    words: &[&str],
-) -> Written
-    ensures { result.status ≤ 4 }
-{
-    told_by(
-        threads,
-        alloc,
-        &mut OneFile::of(alloc, text.as_bytes()),
-        words,
-    )
 }
 
 /// The same where standard output takes nothing.

@@ -3,22 +3,66 @@
 use driver::{AskedBuild, Command, words};
 use std::alloc::Global;
 
-const CHECK: &[&str] = &["mcc", "check", "a text"];
+// What words ask for, where it is one of these.
+#[derive(Clone, Copy, PartialEq, Eq)]
+enum Wanted {
+    // The verdict on the file `a text`, without reasons.
+    Verdict,
+    // A run of `x` of 1,000,000 steps.
+    Run,
+    // Assembler source of `x`.
+    Source,
+    // The terms of `f` in `x.c`.
+    Terms,
+}
 
-// Whether the words ask for the verdict on the file `a text`, without reasons.
-fn checks_the_text(alloc: Global, line: &[&str]) -> bool {
-    matches!(
-        words(alloc, line),
-        Ok(Command::Check {
-            file: "a text",
-            explain: false
-        })
-    )
+const WANTED: &[(&[&str], Wanted)] = &[
+    (&["mcc", "check", "a text"], Wanted::Verdict),
+    (&["mcc", "run", "x"], Wanted::Run),
+    (&["mcc", "list", "--asm", "x"], Wanted::Source),
+    (
+        &["mcc", "show", "x.c", "--function", "f", "--stage=terms"],
+        Wanted::Terms,
+    ),
+];
+
+fn wanted_by(alloc: Global, line: &[&str]) -> Option<Wanted> {
+    match words(alloc, line) {
+        Ok(
+            Command::Check {
+                file: "a text",
+                explain: false,
+            },
+        ) => Some(Wanted::Verdict),
+        Ok(
+            Command::Run {
+                image: "x",
+                steps: 1_000_000,
+            },
+        ) => Some(Wanted::Run),
+        Ok(
+            Command::List {
+                image: "x",
+                asm: true,
+            },
+        ) => Some(Wanted::Source),
+        Ok(
+            Command::Show {
+                source: "x.c",
+                stage: Some("terms"),
+                function: Some("f"),
+                dot: false,
+            },
+        ) => Some(Wanted::Terms),
+        _ => None,
+    }
 }
 
 #[test]
-fn words_give_the_file(rt: HostRuntime) {
-    assert!(rt; checks_the_text(rt.alloc(), CHECK));
+fn words_are_commands(rt: HostRuntime) {
+    for (k, &(line, want)) in WANTED.iter().enumerate() {
+        assert!(rt; wanted_by(rt.alloc(), line) == Some(want), "row {k}");
+    }
 }
 
 const BOUNDS: &[(&[&str], (u32, u64))] = &[
@@ -102,55 +146,4 @@ fn words_give_a_build(rt: HostRuntime) {
     for &(line, plain, numbers) in BUILDS {
         assert!(rt; asked(rt.alloc(), line) == Some((plain, numbers)));
     }
-}
-
-const RUN: &[&str] = &["mcc", "run", "x"];
-
-// Whether the words ask for a run of `x` of 1,000,000 steps.
-fn runs_the_image(alloc: Global, line: &[&str]) -> bool {
-    matches!(
-        words(alloc, line),
-        Ok(Command::Run {
-            image: "x",
-            steps: 1_000_000
-        })
-    )
-}
-
-const LIST: &[&str] = &["mcc", "list", "--asm", "x"];
-
-// Whether the words ask for assembler source of `x`.
-fn lists_the_image(alloc: Global, line: &[&str]) -> bool {
-    matches!(
-        words(alloc, line),
-        Ok(Command::List {
-            image: "x",
-            asm: true
-        })
-    )
-}
-
-#[test]
-fn words_name_the_image(rt: HostRuntime) {
-    assert!(rt; runs_the_image(rt.alloc(), RUN) && lists_the_image(rt.alloc(), LIST));
-}
-
-const SHOW: &[&str] = &["mcc", "show", "x.c", "--function", "f", "--stage=terms"];
-
-// Whether the words ask for the terms of `f` in `x.c`.
-fn shows_the_terms(alloc: Global, line: &[&str]) -> bool {
-    matches!(
-        words(alloc, line),
-        Ok(Command::Show {
-            source: "x.c",
-            stage: Some("terms"),
-            function: Some("f"),
-            dot: false,
-        })
-    )
-}
-
-#[test]
-fn words_name_the_stage(rt: HostRuntime) {
-    assert!(rt; shows_the_terms(rt.alloc(), SHOW));
 }

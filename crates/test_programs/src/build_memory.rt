@@ -1,5 +1,6 @@
 //! Memory that is really refused to `check`, to the words of the command line, to builds by workers and to a machine's steps:
 //! each test is a process of its own, and takes all that it can get. With each block that it gives back the call comes further.
+use crate::builds::LOOP;
 use clap::error::ErrorKind;
 use command_line::words;
 use delay_filler::FilledOrder;
@@ -11,9 +12,8 @@ use image::read_image;
 use list_scheduler::ListOrder;
 use mips_machine::{Machine, load};
 use mips_steps::Ending;
-use scarce_memory::AllMemory;
+use scarce_memory::{AllMemory, Attempt, refusals};
 use sched_phase::PhaseOpts;
-use stand_ins::COUNTS;
 use std::alloc::Global;
 use std::sync::Wait;
 use std::thread::Threads;
@@ -25,66 +25,42 @@ const MOVED: &str = "block\nlw $8,0($29)\naddu $9,$8,$8\naddiu $10,$10,1\nreturn
 /// How many blocks are given back: of 4 KB, and last one of 64 MB.
 pub const BLOCKS: usize = 1000;
 
+const LAST: usize = 0x400_0000;
+
 /// All memory that can be had, with these blocks to give back.
 pub fn all_memory(alloc: Global) -> Option<AllMemory> {
-    AllMemory::take(alloc, BLOCKS, 0x400_0000).ok()
+    AllMemory::take(alloc, BLOCKS, LAST).ok()
 }
 
-// How often a check is refused memory before it answers; None where it answers another thing.
-fn check_refusals(alloc: Global) -> Option<u32> {
-    let mut memory = all_memory(alloc)?;
-    let mut refusals: u32 = 0;
-    for _ in 0..=BLOCKS {
-        match check(alloc, MOVED.as_bytes()) {
-            Ok(CheckAnswer::Same) => break,
-            Err(CheckFault::NoMemory) => {}
-            _ => return None,
-        }
-        refusals = refusals.wrapping_add(1);
-        memory.give_back();
+fn check_once(alloc: Global) -> Attempt {
+    match check(alloc, MOVED.as_bytes()) {
+        Ok(CheckAnswer::Same) => Attempt::Done,
+        Err(CheckFault::NoMemory) => Attempt::Refused,
+        _ => Attempt::Wrong,
     }
-    Some(refusals)
 }
 
 #[test]
 fn checks_tell_refused_memory_alone(rt: HostRuntime) {
-    let refusals = check_refusals(rt.alloc());
-    let answer = check(rt.alloc(), MOVED.as_bytes());
-    assert!(rt; matches!(refusals, Some(1..)) && answer == Ok(CheckAnswer::Same));
+    let alloc = rt.alloc();
+    let refusals = refusals(alloc, BLOCKS, LAST, || check_once(alloc));
+    assert!(rt; matches!(refusals, Ok(Some(1..))) && check_once(alloc) == Attempt::Done);
 }
 
-// Whether the words are refused for want of memory; None where they are wrong.
-fn is_refused(alloc: Global) -> Option<bool> {
+fn read_words(alloc: Global) -> Attempt {
     let args = ["mcc", "check", "x"];
-    let error = match words(alloc, args.as_slice()) {
-        Ok(_command) => return Some(false),
-        Err(error) => error,
-    };
-    if error.kind() == ErrorKind::OutOfMemory {
-        Some(true)
-    } else {
-        None
+    match words(alloc, args.as_slice()) {
+        Ok(_command) => Attempt::Done,
+        Err(error) if error.kind() == ErrorKind::OutOfMemory => Attempt::Refused,
+        Err(_) => Attempt::Wrong,
     }
-}
-
-// How often the words are refused memory before they are read; None where they are wrong.
-fn word_refusals(alloc: Global) -> Option<u32> {
-    let mut memory = all_memory(alloc)?;
-    let mut refusals: u32 = 0;
-    for _ in 0..=BLOCKS {
-        if !is_refused(alloc)? {
-            break;
-        }
-        refusals = refusals.wrapping_add(1);
-        memory.give_back();
-    }
-    Some(refusals)
 }
 
 #[test]
 fn words_tell_refused_memory_alone(rt: HostRuntime) {
-    let refusals = word_refusals(rt.alloc());
-    assert!(rt; matches!(refusals, Some(1..)) && is_refused(rt.alloc()) == Some(false));
+    let alloc = rt.alloc();
+    let refusals = refusals(alloc, BLOCKS, LAST, || read_words(alloc));
+    assert!(rt; matches!(refusals, Ok(Some(1..))) && read_words(alloc) == Attempt::Done);
 }
 
 // Whether each block has a verdict or was missed, and none met a full table.
@@ -140,7 +116,7 @@ fn attempt<T: Threads + Wait + Sync>(
     let Some(phase) = PhaseOpts::new(workers, 2000, 16) else {
         return Err(BuildFault::NoMemory);
     };
-    let text = COUNTS.as_bytes();
+    let text = LOOP.text.as_bytes();
     let options = BuildOpts { depth: 1, phase };
     let scheduler = FilledOrder(ListOrder);
     let built = if workers == 1 {

@@ -2,8 +2,9 @@
 // get. With each block that it gives back the program comes further.
 
 use crate::build_memory::{BLOCKS, all_memory, is_refusal, prints_three, scarce_builds_run};
+use crate::builds::LOOP;
 use driver::build_plain;
-use stand_ins::{COUNTS, Desk};
+use stand_ins::Desk;
 use std::alloc::Global;
 use std::sync::Wait;
 use std::thread::Threads;
@@ -13,7 +14,7 @@ fn plain_refusals(alloc: Global, ample: &[u8]) -> Option<u32> {
     let mut memory = all_memory(alloc)?;
     let mut count: u32 = 0;
     for _ in 1..BLOCKS {
-        match build_plain(alloc, COUNTS.as_bytes(), 1) {
+        match build_plain(alloc, LOOP.text.as_bytes(), 1) {
             Ok(built) => return (built.image.as_slice() == ample).then_some(count),
             Err(fault) if is_refusal(fault) => {}
             Err(_) => return None,
@@ -26,7 +27,7 @@ fn plain_refusals(alloc: Global, ample: &[u8]) -> Option<u32> {
 
 #[test]
 fn plain_builds_tell_refused_memory_alone(rt: HostRuntime) {
-    let ample = build_plain(rt.alloc(), COUNTS.as_bytes(), 1).expect(&rt, "an image");
+    let ample = build_plain(rt.alloc(), LOOP.text.as_bytes(), 1).expect(&rt, "an image");
     let refusals = plain_refusals(rt.alloc(), ample.image.as_slice());
     assert!(rt; matches!(refusals, Some(1..)) && prints_three(rt.alloc(), ample.image.as_slice()));
 }
@@ -86,12 +87,12 @@ const PLAIN: &[&str] = &["mcc", "build", "x", "y", "--plain"];
 
 // The same of `mcc build`, which prints and writes what a plain build makes.
 fn told_by_build<T: Threads + Wait + Sync>(threads: &T, alloc: Global) -> Option<(bool, bool)> {
-    let ample = build_plain(alloc, COUNTS.as_bytes(), 256).ok()?;
+    let ample = build_plain(alloc, LOOP.text.as_bytes(), 256).ok()?;
     let printed = format!(in alloc; "blocks {} plain\n", ample.blocks).ok()?;
     told_before(
         threads,
         alloc,
-        COUNTS.as_bytes(),
+        LOOP.text.as_bytes(),
         PLAIN,
         printed.as_str(),
         ample.image.as_slice(),

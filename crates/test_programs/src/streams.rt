@@ -170,14 +170,20 @@ impl Write for Short {
     }
 }
 
-// Whether `mcc` with these words tells that it can't write, and leaves the beginning of what it has to print, where standard
-// output takes so many bytes.
+// The words of a command, its file's bytes, and what it has to print.
+#[derive(Clone, Copy)]
+struct Printing<'a> {
+    words: &'a [&'a str],
+    bytes: &'a [u8],
+    printed: &'a [u8],
+}
+
+// Whether `mcc` tells that it can't write, and leaves the beginning of what it has to print, where standard output takes so many
+// bytes.
 fn breaks_off<T: Threads + Wait + Sync>(
     threads: &T,
     alloc: Global,
-    bytes: &[u8],
-    words: &[&str],
-    printed: &[u8],
+    printing: &Printing<'_>,
     room: usize,
 ) -> bool {
     let mut out = Short {
@@ -185,22 +191,27 @@ fn breaks_off<T: Threads + Wait + Sync>(
         taken: Vec::new(alloc),
     };
     let mut err = Vec::new(alloc);
-    let mut files = OneFile::of(alloc, bytes);
-    let status = mcc(threads, alloc, words, &mut files, &mut out, &mut err);
+    let mut files = OneFile::of(alloc, printing.bytes);
+    let status = mcc(
+        threads,
+        alloc,
+        printing.words,
+        &mut files,
+        &mut out,
+        &mut err,
+    );
     let is_told = status == 1 && err.as_slice() == CANNOT_WRITE.as_bytes();
-    is_told && out.taken.len() == room && printed.starts_with(out.taken.as_slice())
+    is_told && out.taken.len() == room && printing.printed.starts_with(out.taken.as_slice())
 }
 
-// The first number of bytes behind which `mcc` with these words doesn't tell that.
+// The first number of bytes behind which `mcc` doesn't tell that.
 fn first_untold<T: Threads + Wait + Sync>(
     threads: &T,
     alloc: Global,
-    bytes: &[u8],
-    words: &[&str],
-    printed: &[u8],
+    printing: &Printing<'_>,
 ) -> Option<usize> {
-    for room in 0..=printed.len() {
-        if !breaks_off(threads, alloc, bytes, words, printed, room) {
+    for room in 0..=printing.printed.len() {
+        if !breaks_off(threads, alloc, printing, room) {
             return Some(room);
         }
     }
@@ -222,12 +233,15 @@ fn output_that_breaks_off_is_told(rt: HostRuntime) {
     let (image, line) = image_of(&rt, rt.alloc());
     let is_line = line.as_slice().ends_with(b" plain\n");
     for &(words, read, printed) in BROKEN {
-        let bytes = bytes_of(read, image.as_slice());
-        let printed = match printed {
-            Some(printed) => printed,
-            None => line.as_slice(),
+        let printing = Printing {
+            words,
+            bytes: bytes_of(read, image.as_slice()),
+            printed: match printed {
+                Some(printed) => printed,
+                None => line.as_slice(),
+            },
         };
-        let untold = first_untold(&rt, rt.alloc(), bytes, words, printed);
+        let untold = first_untold(&rt, rt.alloc(), &printing);
         assert!(rt; is_line && untold.is_none(), "after {untold:?} bytes");
     }
 }
