@@ -8,7 +8,7 @@ use Rattle.c_tokens.specs.declared.token.Mark.TheVariants.{Comma, LeftParen, Rig
 use Rattle.c_front.specs.Grammar.{a_name, the, Nonterminal, simple, value, a_call, arguments, more_arguments, an_expression, Symbol, T, N, PhraseTrees, Rule}
 use Rattle.c_front.specs.Grammar.{simple_assign, simple_assign_at, simple_call, value_plain, value_call, call_rule, arguments_none, arguments_some}
 use Rattle.c_front.specs.Grammar.{more_arguments_end, more_arguments_more, first, second, is_name, is_the}
-use Rattle.c_front.specs.Reading.{Reads, read_nothing, read_token, read_phrase, Stuck, stuck_past, stuck_phrase, stuck_inside, CanRead, can_read}
+use Rattle.c_front.specs.Reading.{Reads, read_nothing, read_token, read_phrase, Stuck, stuck_past, stuck_inside, CanRead, can_read}
 use Rattle.c_front.specs.Choosing.{Choice, one_choice, chosen_rule, Peeks, EndsArguments}
 use Rattle.c_front.specs.declared.cursor.ParseStop.{ParseStop}
 use Rattle.c_front.specs.declared.cursor.ParseStop.TheVariants.{Syntax, NoMemory}
@@ -16,7 +16,7 @@ use Rattle.c_tree.specs.declared.tree.Expression.{Expression}
 use Rattle.c_tree.specs.Tree as Tree
 use Rattle.c_tree.specs.Tree.{call, Value, plain, called, assign, assign_at, call_statement}
 use Rattle.c_tree.specs.Shape.{expression_of, expressions_of}
-use Rattle.c_front.specs.Parsing.{StartsWith, StartsWithout, IsRead, AreStuck, IsStuck, IsMissing, StartsWithName, IsNameMissing, IsClosedRead, IsClosedStuck}
+use Rattle.c_front.specs.Parsing.{StartsWith, StartsWithout, IsRead, AreStuck, IsStuck, IsMissing, StartsWithName, IsClosedRead, IsClosedStuck}
 use Rattle.c_front.specs.Parsing.{IsArgumentsRead, IsArgumentsStuck, IsAssignedRead, IsAssignedStuck, StartsCall, StartsNoCall}
 use Rattle.c_front.proofs.Reading.{stuck_after, stuck-within, Before, before_here, before_past, StuckAt, stuck_at, dead}
 use Rattle.c_front.proofs.Completing.{name-expression}
