@@ -98,7 +98,7 @@ struct Outcome {
 }
 
 /// Lowers a text and selects its code.
-fn became(rt: &HostRuntime, text: &[u8]) -> anyhow::Result<Outcome> {
+fn outcome_of(rt: &HostRuntime, text: &[u8]) -> anyhow::Result<Outcome> {
     let alloc = rt.alloc();
     let start = Instant::now(rt)?;
     let typed = check(alloc, read(alloc, text)?)?;
@@ -128,7 +128,7 @@ fn show_text(rt: &HostRuntime, name: &str, text: &[u8], figures: bool) -> anyhow
         },
         selected,
         microseconds: [front, lowering, selection],
-    } = became(rt, text)?;
+    } = outcome_of(rt, text)?;
     println!(rt; "{name}: {blocks} blocks, {insts} instructions, {registers} pseudo-registers")?;
     println!(rt; "  {selected} blocks of instructions")?;
     if figures {

@@ -4,7 +4,7 @@ use c_front::read;
 use c_run::run;
 use c_types::{Typed, check};
 use rtl_lower::lower;
-use runs::End;
+use runs::{End, Ran};
 use std::alloc::{AllocError, Global};
 use std::fmt::Write;
 use std::io;
@@ -49,16 +49,19 @@ struct Figures {
     microseconds: u128,
 }
 
+fn figures_of(ran: &Ran, microseconds: u128) -> Figures {
+    Figures {
+        is_done: ran.end == End::Done(0),
+        words: ran.output.len(),
+        microseconds,
+    }
+}
+
 /// The run of a program as its text says.
 fn interpreted(rt: &HostRuntime, typed: &Typed) -> anyhow::Result<Figures> {
     let start = Instant::now(rt)?;
     let ran = run(rt.alloc(), typed, 2, u64::MAX)?;
-    let microseconds = start.elapsed(rt)?.as_micros();
-    Ok(Figures {
-        is_done: ran.end == End::Done(0),
-        words: ran.output.len(),
-        microseconds,
-    })
+    Ok(figures_of(&ran, start.elapsed(rt)?.as_micros()))
 }
 
 /// The run of the program lowered to RTL.
@@ -66,12 +69,7 @@ fn lowered(rt: &HostRuntime, typed: &Typed) -> anyhow::Result<Figures> {
     let program = lower(rt.alloc(), typed)?;
     let start = Instant::now(rt)?;
     let ran = rtl::run(rt.alloc(), &program, 2, u64::MAX)?;
-    let microseconds = start.elapsed(rt)?.as_micros();
-    Ok(Figures {
-        is_done: ran.end == End::Done(0),
-        words: ran.output.len(),
-        microseconds,
-    })
+    Ok(figures_of(&ran, start.elapsed(rt)?.as_micros()))
 }
 
 /// Both.

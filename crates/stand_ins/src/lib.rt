@@ -1,6 +1,7 @@
 //! What stands in for files and streams in tests of `driver::mcc`, and what it does over them.
 //!
-//! `told_by` is the one call: the status of `mcc` with some words over files, and all that it wrote. The status is at most 4.
+//! `told_by` gives the status of `mcc` with some words over files, and all that it wrote; `told_with_shut_out` and
+//! `told_with_shut_err` do so where a stream takes nothing, and a `Desk` where memory is scarce. The status is at most 4.
 #![tactic(auto)]
 
 mod files;
