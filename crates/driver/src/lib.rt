@@ -38,10 +38,10 @@
 //!   order, results are arguments, and bytes are written in an inner loop; that each block of all these gets the order
 //!   that was proposed, and so does each of three texts whose loads and stores meet; that 1, 2, 4 and 64 workers give
 //!   equal images; builds whose table is full; `mcc build` by its words; and (tests/images) images that are cut or
-//!   changed. And (test_programs): the same programs under each kind of `Hostile`, that `build_one` and many workers
+//!   changed. And (test_calls): the same programs under each kind of `Hostile`, that `build_one` and many workers
 //!   give equal images, and 1,000 builds one image.
 //! - Only tested: that every image prints what the interpreter prints, wherever that isn't `wrong`; 1 MiB of C and the
-//!   deepest texts built and run, the deepest nest of statements refused for its size. And (test_programs): what each
+//!   deepest texts built and run, the deepest nest of statements refused for its size. And (test_calls): what each
 //!   command does where a read or a write fails, standard output at any byte, and memory that is really refused to
 //!   `build` with two workers, `build_one`, `build_plain`, `check`, the words of the command line, a machine's steps,
 //!   and to `mcc build --plain`, `run`, `list` and `interp`. `.ci/refuse` refuses each growth of each command of the

@@ -11,7 +11,7 @@
 //!   stuck (`RunsAsUnit`); Limit exactly where a function has more than 32,000 words or the code more than 1,048,576.
 //!   `list` gives exactly `listing` of an image.
 //! - Only tested: each rule M1 to M9 and each refusal of an image by worked words and bytes; ten million words; the
-//!   texts of instructions, branches and jumps in listings. And (test_layers): each byte of two images changed in nine
+//!   texts of instructions, branches and jumps in listings. And (test_calls): each byte of two images changed in nine
 //!   ways, which is refused or an image of exactly those bytes; memory that is really refused to reading, writing,
 //!   listing, assembling and to a step, which can be taken again; a unit with a call and data as an image in both
 //!   versions, its 24 words as GNU as gives them, read back and run; a scheduled unit's bytes and its whole listing; a

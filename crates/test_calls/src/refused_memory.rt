@@ -1,0 +1,44 @@
+//! A verdict that is refused memory: the test is a process of its own, and takes all that it can get.
+ghost use Rattle.std.specs.Prelude.{IfSome};
+ghost use Rattle.term_table.specs.Passes.{IsOf};
+
+use crate::orders::text_of;
+use block_validator::{Verdict, validate};
+use check_text::Text;
+use crate::scarce_memory::AllMemory;
+use std::alloc::Global;
+use term_table::{Pass, TermTable};
+
+const PAIR: &str = "block\nlw $8,0($29)\naddu $9,$8,$8\naddiu $10,$10,1\nreturn\n\
+                    order\nlw $8,0($29)\naddiu $10,$10,1\naddu $9,$8,$8\nreturn\nslot nop\n";
+
+/// A table and its pass.
+pub fn opened(alloc: Global) -> Option<(TermTable, Pass)>
+    ensures { IfSome result (λ t. IsOf t.0 t.1) }
+{
+    let Ok((table, mut passes)) = TermTable::open(alloc, 1, 256, 16) else {
+        return None;
+    };
+    let Some(pass) = passes.pop() else {
+        return None;
+    };
+    Some((table, pass))
+}
+
+// Whether a verdict is refused memory, and the pass then gives another; None where there is no table or no text.
+fn goes_on(alloc: Global) -> Option<bool> {
+    let (table, mut pass) = opened(alloc)?;
+    let Text { block, order } = text_of(alloc, PAIR)?;
+    let given = text_of(alloc, PAIR)?;
+    let memory = AllMemory::take(alloc, 0, 0).ok()?;
+    let first = validate(alloc, &table, &mut pass, &block, order);
+    drop(memory);
+    let is_refused = matches!(first, Verdict::NoMemory) && pass.linked() == 0;
+    let second = validate(alloc, &table, &mut pass, &block, given.order);
+    Some(is_refused && matches!(second, Verdict::Same(_)))
+}
+
+#[test]
+fn a_pass_whose_verdict_was_refused_memory_can_go_on(rt: HostRuntime) {
+    assert!(rt; goes_on(rt.alloc()) == Some(true));
+}

@@ -1,0 +1,136 @@
+// What `mcc` writes to its two streams.
+ghost use Rattle.std.specs.Prelude.{◌≡◌, ◌≢◌, ◌≤◌, [], Some, map, true};
+ghost use Rattle.clap.specs.Words.{takes};
+ghost use Rattle.command_line.specs.Commands.{mcc_app};
+ghost use Rattle.commands.specs.Requests.{Does};
+ghost use Rattle.command_line.specs.Programs.{IsAnswered};
+ghost use Rattle.driver.specs.Program.{Answers as AnswersCommand};
+ghost use Rattle.test_calls.specs.Files.{Answers};
+
+use crate::files::{OneFile, Shut};
+use driver::mcc;
+use std::alloc::{AllocError, Global};
+use std::fmt;
+use std::sync::Wait;
+use std::thread::Threads;
+
+/// What `mcc` wrote to its two streams, and its status.
+#[derive(Drop)]
+pub struct Written {
+    pub status: u8,
+    pub out: Vec<u8>,
+    pub err: Vec<u8>,
+}
+
+impl Written {
+    /// Whether it has this status, and the streams have just these texts.
+    pub fn is(&self, status: u8, out: &str, err: &str) -> bool {
+        self.status == status
+            && self.out.as_slice() == out.as_bytes()
+            && self.err.as_slice() == err.as_bytes()
+    }
+}
+
+fn text_of(bytes: &[u8]) -> &str {
+    str::from_utf8(bytes).unwrap_or("no text")
+}
+
+impl fmt::Display for Written {
+    fn fmt<W: fmt::Write>(&self, f: &mut fmt::Formatter<W>) -> fmt::Result {
+        let (out, err) = (text_of(&self.out), text_of(&self.err));
+        write!(f, "status {}, out {out:?}, err {err:?}", self.status)
+    }
+}
+
+/// What `mcc` does with these words over these files.
+pub fn told_by<T: Threads + Wait + Sync>(
+    threads: &T,
+    alloc: Global,
+    files: &mut OneFile<'_>,
+    words: &[&str],
+) -> Written
+    ensures most { result.status ≤ 4 }
+    ensures answered { takes mcc_app (map (λ s. s.now) words.entry.now) ≡ true → result.status ≢ 1
+        → Does Answers files.old files.new (Some []) (Some result.out.items)
+        (IsAnswered AnswersCommand (map (λ s. s.now) words.entry.now) result.status) }
+{
+    let mut out = Vec::new(alloc);
+    let mut err = Vec::new(alloc);
+    let status = mcc(threads, alloc, words, files, &mut out, &mut err);
+    Written { status, out, err }
+}
+
+/// The same where standard output takes nothing.
+pub fn told_with_shut_out<T: Threads + Wait + Sync>(
+    threads: &T,
+    alloc: Global,
+    files: &mut OneFile<'_>,
+    words: &[&str],
+) -> Written
+    ensures { result.status ≤ 4 }
+{
+    let mut err = Vec::new(alloc);
+    let status = mcc(threads, alloc, words, files, &mut Shut, &mut err);
+    let out = Vec::new(alloc);
+    Written { status, out, err }
+}
+
+/// The same where standard error takes nothing.
+pub fn told_with_shut_err<T: Threads + Wait + Sync>(
+    threads: &T,
+    alloc: Global,
+    files: &mut OneFile<'_>,
+    words: &[&str],
+) -> Written
+    ensures { result.status ≤ 4 }
+{
+    let mut out = Vec::new(alloc);
+    let status = mcc(threads, alloc, words, files, &mut out, &mut Shut);
+    let err = Vec::new(alloc);
+    Written { status, out, err }
+}
+
+/// A file, and what `mcc` prints and tells, in room that is there already.
+#[derive(Drop)]
+pub struct Desk<'a> {
+    pub files: OneFile<'a>,
+    pub out: Vec<u8>,
+    pub err: Vec<u8>,
+}
+
+impl<'a> Desk<'a> {
+    /// The desk of a file of these bytes.
+    pub fn of(alloc: Global, bytes: &'a [u8]) -> Result<Desk<'a>, AllocError> {
+        let mut files = OneFile::of(alloc, bytes);
+        files.written.reserve(4096)?;
+        let out = Vec::with_capacity(alloc, 4096)?;
+        let err = Vec::with_capacity(alloc, 256)?;
+        Ok(Desk { files, out, err })
+    }
+
+    /// The status of `mcc` with these words; what it writes comes behind what is there.
+    pub fn status<T: Threads + Wait + Sync>(
+        &mut self,
+        threads: &T,
+        alloc: Global,
+        words: &[&str],
+    ) -> u8
+        ensures { result ≤ 4 }
+    {
+        mcc(
+            threads,
+            alloc,
+            words,
+            &mut self.files,
+            &mut self.out,
+            &mut self.err,
+        )
+    }
+
+    /// Whether standard error has just this line, and nothing was printed or written.
+    pub fn is_refused(&self, line: &str) -> bool {
+        self.err.as_slice() == line.as_bytes()
+            && self.out.is_empty()
+            && self.files.written.is_empty()
+    }
+}
