@@ -1,11 +1,11 @@
-// Answers the words of mcc's command line by the module of a page: node serve.mjs PAGE SOCKET. Beside it `mcc` stands for the
-// program, and hands its words on; so tests/run runs its cases on the module.
+// Answers the words of mcc's command line by the module of a page: node serve.mjs PAGE FILE. It writes to FILE the number of the
+// port at which it listens. Beside it `mcc` stands for the program, and hands its words on; so tests/run runs its cases on the module.
 import fs from 'node:fs';
 import net from 'node:net';
 import path from 'node:path';
 import { mccOf } from './module.mjs';
 
-const [, , page, socket] = process.argv;
+const [, , page, file] = process.argv;
 const mcc = mccOf(page);
 const STEPS = 100_000_000;
 
@@ -47,21 +47,22 @@ function told({ status, text }, words, folder) {
   return { status, out: '', err: text.replace(/^(program\.c|order\.check)(?=:\d+:\d+:)/m, wordsOf(words).files[0]) };
 }
 
-// The status, the length of standard output's bytes, and these before those of standard error.
+// A line with the status and the length of standard output's bytes, and these before those of standard error.
 function send(stream, { status, out, err }) {
-  stream.end(`${status} ${Buffer.byteLength(out)} ${out}${err}`);
+  stream.end(`${status} ${Buffer.byteLength(out)}\n${out}${err}`);
 }
 
-net.createServer(stream => {
+const server = net.createServer(stream => {
   let asked = '';
   stream.setEncoding('utf8').on('data', text => {
     asked += text;
     if (!asked.endsWith('\n')) return;
-    const [folder, ...words] = asked.slice(0, -1).split('\0');
+    const [folder, ...words] = asked.slice(0, -2).split('\0');
     try {
       send(stream, told(answer(words, folder), words, folder));
     } catch (error) {
       send(stream, { status: 99, out: '', err: String(error) + '\n' });
     }
   });
-}).listen(socket);
+});
+server.listen(0, '127.0.0.1', () => fs.writeFileSync(file, `${server.address().port}\n`));
